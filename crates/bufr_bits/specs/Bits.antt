@@ -1,0 +1,21 @@
+-- Octets as bits, most significant first, and bits as a number. (WMO-No. 306, Volume I.2, FM 94: binary numbers are written most significant bit first)
+use Rattle.std.specs.Prelude.{ℕ, ◌+◌, ◌*◌, ◌/◌, ◌%◌, ◌==◌, Bool, if◌then◌else◌, List, [], ◌∷◌, ◌++◌}
+
+-- the eight bits of an octet
+abbrev pub bits_of_octet : ℕ → List Bool
+bits_of_octet n =
+    (n / 128 % 2 == 1) ∷ (n / 64 % 2 == 1) ∷ (n / 32 % 2 == 1) ∷ (n / 16 % 2 == 1) ∷ (n / 8 % 2 == 1) ∷ (n / 4 % 2 == 1) ∷ (n / 2 % 2 == 1) ∷ (n % 2 == 1) ∷ []
+
+-- the bits of octets, one octet after another
+unfoldable pub bits_of : List ℕ → List Bool
+bits_of [] = []
+bits_of (octet ∷ more) = bits_of_octet octet ++ bits_of more
+
+-- the number that bits write behind a number that was written before them
+abbrev pub number_behind : ℕ → List Bool → ℕ
+number_behind n [] = n
+number_behind n (bit ∷ bits) = number_behind (2 * n + (if bit then 1 else 0)) bits
+
+-- the number that bits write
+abbrev pub number_of : List Bool → ℕ
+number_of bits = number_behind 0 bits

@@ -1,0 +1,18 @@
+-- The counts that a device keeps of its calls. (a choice of this project)
+use Rattle.std.specs.Prelude.{ℕ, zero, suc, ◌+◌, ◌-◌, ◌^◌, min, max, List, [], ◌∷◌, Result, Ok, Err}
+
+-- a count that has gone up by some, and stops at the greatest u64
+abbrev pub counted : (count by : ℕ) → ℕ
+counted count by = max count (min (count + by) (2 ^ 64 - 1))
+
+-- the count of failures after a call: an `Err` adds one, an `Ok` leaves it
+abbrev pub failures_after : {A E : Type 0} → ℕ → Result A E → ℕ
+failures_after count (Ok x) = count
+failures_after count (Err e) = counted count 1
+
+-- the count of empty writes after a write of these octets: one more where there were octets and none was taken
+abbrev pub empty_writes_after : {E : Type 0} → ℕ → List ℕ → Result ℕ E → ℕ
+empty_writes_after count octets (Err e) = count
+empty_writes_after count octets (Ok (suc taken)) = count
+empty_writes_after count [] (Ok zero) = count
+empty_writes_after count (octet ∷ more) (Ok zero) = counted count 1

@@ -1,0 +1,4 @@
+pub mod BitSlice
+pub mod Bits
+pub mod Counts
+pub mod Device

@@ -1,0 +1,155 @@
+//! Readers and writers that count their failures, and the readers and writers of `std` as such.
+ghost use Rattle.std.specs.Prelude.{◌≡◌, ◌≤◌, ℕ, List, Option, length, IfOk};
+ghost use Rattle.std.specs.Io.KnownBytes.{ReadConsumes, WriteAppends, Keeps};
+ghost use Rattle.bufr_bits.specs.Counts.{counted, failures_after, empty_writes_after};
+
+use std::io::{Read, Write};
+use thiserror::Error;
+
+/// A call of a device failed. An interrupted call is a failed one too, and nothing is tried again.
+#[derive(Clone, Copy, Debug, PartialEq, Eq, Error)]
+#[error("the device failed")]
+pub struct Failed;
+
+/// A reader of octets that counts its calls.
+///
+/// Its contract speaks of three values that no code holds: the octets that are left, where the
+/// device under it tells them; how many calls failed; and how many were made. Both counts stop
+/// at the greatest `u64`.
+pub trait Source {
+    /// The octets that reads will give from here on, where they are known.
+    ghost left: { Self → Option (List ℕ) };
+
+    /// How many reads failed.
+    ghost failures: { Self → ℕ };
+
+    /// How many reads were made.
+    ghost reads: { Self → ℕ };
+
+    /// Reads octets into the front of `buf` and answers how many; none only at the end of the
+    /// input, or where `buf` is empty.
+    ///
+    /// # Errors
+    ///
+    /// [`Failed`] where the device failed; it has then given no octet.
+    fn read(&mut self, buf: &mut [u8]) -> Result<usize, Failed>
+        ensures bound { IfOk result (λ n. n ≤ length buf.new) }
+        ensures octets { ReadConsumes (left self.old) (left self.new) result buf.new }
+        ensures failed { failures self.new ≡ failures_after (failures self.old) result }
+        ensures made { reads self.new ≡ counted (reads self.old) 1 };
+}
+
+/// A writer of octets that counts its calls.
+///
+/// Its contract speaks of three values that no code holds: the octets taken so far, where the
+/// device under it tells them; how many calls failed; and how many writes took none of the octets
+/// that they were given. Both counts stop at the greatest `u64`.
+pub trait Sink {
+    /// The octets taken so far, where they are known.
+    ghost taken: { Self → Option (List ℕ) };
+
+    /// How many writes and flushes failed.
+    ghost failures: { Self → ℕ };
+
+    /// How many writes took none of the octets that they were given.
+    ghost empty_writes: { Self → ℕ };
+
+    /// Takes octets from the front of `buf` and answers how many.
+    ///
+    /// # Errors
+    ///
+    /// [`Failed`] where the device failed; it has then taken nothing.
+    fn write(&mut self, buf: &[u8]) -> Result<usize, Failed>
+        ensures bound { IfOk result (λ n. n ≤ length buf.now) }
+        ensures octets { WriteAppends (taken self.old) (taken self.new) result buf.now }
+        ensures failed { failures self.new ≡ failures_after (failures self.old) result }
+        ensures empty { empty_writes self.new ≡ empty_writes_after (empty_writes self.old) buf.now result };
+
+    /// Hands on what was taken.
+    ///
+    /// # Errors
+    ///
+    /// [`Failed`] where the device failed.
+    fn flush(&mut self) -> Result<(), Failed>
+        ensures octets { Keeps (taken self.old) (taken self.new) }
+        ensures failed { failures self.new ≡ failures_after (failures self.old) result }
+        ensures empty { empty_writes self.new ≡ empty_writes self.old };
+}
+
+/// A reader or writer of `std` as a [`Source`] or a [`Sink`].
+#[derive(Drop)]
+pub struct Device<T> {
+    inner: T,
+    failures: u64,
+    reads: u64,
+    empty_writes: u64,
+}
+
+impl<T> Device<T> {
+    ghost use Rattle.std.specs.Prelude.{◌≡◌};
+    ghost use Rattle.bufr_bits.specs.Device.{fresh_device};
+
+    /// The device over `inner`, which has made no call.
+    pub fn new(inner: T) -> Device<T>
+        ensures { result ≡ fresh_device inner }
+    {
+        Device {
+            inner,
+            failures: 0,
+            reads: 0,
+            empty_writes: 0,
+        }
+    }
+}
+
+impl<T: Read> Source for Device<T> {
+    ghost left = { λ d. T.remaining d.inner };
+
+    ghost failures = { λ d. d.failures };
+
+    ghost reads = { λ d. d.reads };
+
+    fn read(&mut self, buf: &mut [u8]) -> Result<usize, Failed> {
+        self.reads = self.reads.saturating_add(1);
+        match self.inner.read(buf) {
+            Ok(n) => Ok(n),
+            Err(_) => {
+                self.failures = self.failures.saturating_add(1);
+                Err(Failed)
+            }
+        }
+    }
+}
+
+impl<T: Write> Sink for Device<T> {
+    ghost taken = { λ d. T.contents d.inner };
+
+    ghost failures = { λ d. d.failures };
+
+    ghost empty_writes = { λ d. d.empty_writes };
+
+    fn write(&mut self, buf: &[u8]) -> Result<usize, Failed> {
+        match self.inner.write(buf) {
+            Ok(n) => {
+                if n == 0 && !buf.is_empty() {
+                    self.empty_writes = self.empty_writes.saturating_add(1);
+                }
+                Ok(n)
+            }
+            Err(_) => {
+                self.failures = self.failures.saturating_add(1);
+                Err(Failed)
+            }
+        }
+    }
+
+    fn flush(&mut self) -> Result<(), Failed> {
+        match self.inner.flush() {
+            Ok(()) => Ok(()),
+            Err(_) => {
+                self.failures = self.failures.saturating_add(1);
+                Err(Failed)
+            }
+        }
+    }
+}

@@ -1,0 +1,10 @@
+//! The ground of `bufr`: devices that read and write octets, and octets read as bits.
+//!
+//! A device is a [`Source`] or a [`Sink`]. Bits are counted from 0, most significant first.
+#![tactic(auto)]
+
+mod bit_slice;
+mod device;
+
+pub use bit_slice::BitSlice;
+pub use device::{Device, Failed, Sink, Source};
