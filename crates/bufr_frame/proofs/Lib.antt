@@ -1,0 +1,3 @@
+pub mod ScanLemmas
+pub mod SectionLemmas
+pub mod WordLemmas

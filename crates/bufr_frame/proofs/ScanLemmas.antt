@@ -1,0 +1,114 @@
+-- How a scan goes on.
+use Rattle.std.proofs.Common.{◌≡◌, ℕ, zero, suc, ◌+◌, ◌-◌, ◌<◌, ◌≤◌, Bool, true, false, List, [], ◌∷◌, ◌++◌, length, take, drop, codes, refl, sym, ◌∙◌, ap, subst, arith, add-zero, length-take, length-drop, Option, Some, None}
+use Rattle.std.proofs.Math.Seq.{drop-nil, drop-length}
+use Rattle.std.proofs.lemmas.Bool.{false_from_ne_true}
+use Rattle.std.proofs.lemmas.Slice.Eq.{bytes_eq-Decides}
+use Rattle.std.proofs.lemmas.Grind.{common_steps}
+use Rattle.std.specs.Prelude.{MatchOption, nat_lt, not, ◌≢◌, if◌then◌else◌}
+use Rattle.memchr.specs.Find.{OccursAt, FindsNeedle}
+use Rattle.memchr.proofs.lemmas.MatchLemmas.{OccursAt-from_part, OccursAt-part}
+use Rattle.bufr_frame.specs.declared.search.Verdict.{Verdict}
+use Rattle.bufr_frame.specs.declared.search.Verdict.TheVariants.{Nothing, Stray, Frame}
+use Rattle.bufr_frame.specs.declared.fault.Cause.TheVariants.{Cut, ShortLength, NoEnd}
+use Rattle.bufr_frame.specs.Scan.{scan_from, verdict, stands, stated, happening, taken}
+
+pub scan_from-nil : (k at : ℕ) → scan_from k at [] ≡ []
+unfolding scan_from
+scan_from-nil k at = refl
+
+-- what is passed over is dropped
+pub scan_from-skip : (k at : ℕ) (m : List ℕ) → scan_from k at m ≡ scan_from 0 (at + k) (drop k m)
+unfolding scan_from
+scan_from-skip k at [] = rw drop-nil refl
+scan_from-skip zero at (x ∷ m) = rw add-zero refl
+scan_from-skip (suc k) at (x ∷ m) = scan_from-skip k (at + 1) m ∙ ap (λ n. scan_from 0 n (drop k m)) (omega arith)
+
+one-on : (k at x : ℕ) (m : List ℕ) → 0 < k → scan_from 0 (at + 1 + (k - 1)) (drop (k - 1) m) ≡ scan_from 0 (at + k) (drop k (x ∷ m))
+one-on zero at x m goes = absurd (omega arith)
+one-on (suc k) at x m goes = let e : suc k - 1 ≡ k = omega arith in rw e (ap (λ n. scan_from 0 n (drop k m)) (omega arith))
+
+-- the first event, and the rest
+pub scan_from-here : (at : ℕ) (m : List ℕ) → 0 < length m → 0 < taken m (verdict m) → scan_from 0 at m ≡ happening at m (verdict m) ++ scan_from 0 (at + taken m (verdict m)) (drop (taken m (verdict m)) m)
+unfolding scan_from
+scan_from-here at [] some _ = absurd (omega arith)
+scan_from-here at (x ∷ m) some goes =
+    let k = taken (x ∷ m) (verdict (x ∷ m)) in
+    ap (λ t. happening at (x ∷ m) (verdict (x ∷ m)) ++ t)
+    (scan_from-skip (k - 1) (at + 1) m ∙ one-on k at x m goes)
+
+-- where nothing is, the scan goes on one octet further
+pub scan_from-nothing : (at x : ℕ) (m : List ℕ) → verdict (x ∷ m) ≡ Nothing → scan_from 0 at (x ∷ m) ≡ scan_from 0 (at + 1) m
+unfolding scan_from
+scan_from-nothing at x m nothing =
+    let P : Verdict → Type 0 = λ v. happening at (x ∷ m) v ++ scan_from (taken (x ∷ m) v - 1) (at + 1) m ≡ scan_from 0 (at + 1) m in
+    subst P (sym nothing) refl
+
+-- nothing is at the first k places
+pub scan_from-past : (k at : ℕ) (m : List ℕ) → k ≤ length m → ((j : ℕ) → j < k → verdict (drop j m) ≡ Nothing) → scan_from 0 at m ≡ scan_from 0 (at + k) (drop k m)
+scan_from-past zero at m within none = rw add-zero refl
+scan_from-past (suc k) at [] within none = absurd (omega arith)
+scan_from-past (suc k) at (x ∷ m) within none =
+    scan_from-nothing at x m (none 0 (omega arith))
+    ∙ scan_from-past k (at + 1) m (omega arith) (λ j below. none (suc j) (omega arith))
+    ∙ ap (λ n. scan_from 0 n (drop k m)) (omega arith)
+
+-- where `BUFR` doesn't stand, nothing is
+pub verdict-nothing : (m : List ℕ) → stands (codes "BUFR") 0 m ≡ false → verdict m ≡ Nothing
+verdict-nothing m absent = rw absent refl
+
+pub verdict-elsewhere : (s : List ℕ) (j : ℕ) → (OccursAt s (codes "BUFR") j → ⊥) → verdict (drop j s) ≡ Nothing
+verdict-elsewhere s j absent = verdict-nothing (drop j s) (false_from_ne_true _ (λ yes.
+    let same : take 4 (drop j s) ≡ codes "BUFR" = (bytes_eq-Decides (take 4 (drop j s)) (codes "BUFR")).0 yes in
+    absent (OccursAt-from_part s (codes "BUFR") j (omega (arith, length-take {A = ℕ}, length-drop {A = ℕ}, ap length same)) same)))
+
+pub drop-twice : (a b : ℕ) (s : List ℕ) → drop a (drop b s) ≡ drop (b + a) s
+drop-twice a b s = grind (arith, common_steps)
+
+-- what a search in a rest says of a scan
+pub scan_from-found : (s : List ℕ) (r : Option ℕ) → FindsNeedle s (codes "BUFR") 0 r → (at : ℕ) → MatchOption r (scan_from 0 at s ≡ []) (λ k. scan_from 0 at s ≡ scan_from 0 (at + k) (drop k s))
+scan_from-found s None found at =
+    scan_from-past (length s) at s (omega arith) (λ j below. verdict-elsewhere s j (found j (omega arith) (omega arith)))
+    ∙ rw (drop-length) (scan_from-nil 0 (at + length s))
+scan_from-found s (Some k) found at =
+    scan_from-past k at s (omega (arith, found.1.fits)) (λ j below. verdict-elsewhere s j (found.0.before j (omega arith) below))
+
+pub tail-of : (n : ℕ) (s : List ℕ) → take (length s - n) (drop n s) ≡ drop n s
+tail-of n s = grind (arith, common_steps)
+
+-- the same of a search in `&s[from..]`
+pub scan_from-search : (s : List ℕ) (from : ℕ) (r : Option ℕ) → FindsNeedle (take (length s - from) (drop from s)) (codes "BUFR") 0 r → (at : ℕ) → MatchOption r (scan_from 0 at (drop from s) ≡ []) (λ k. scan_from 0 at (drop from s) ≡ scan_from 0 (at + k) (drop (from + k) s))
+scan_from-search s from None found at =
+    let P : List ℕ → Type 0 = λ m. FindsNeedle m (codes "BUFR") 0 None in
+    scan_from-found (drop from s) None (subst P (tail-of from s) found) at
+scan_from-search s from (Some k) found at =
+    let P : List ℕ → Type 0 = λ m. FindsNeedle m (codes "BUFR") 0 (Some k) in
+    scan_from-found (drop from s) (Some k) (subst P (tail-of from s) found) at ∙ ap (scan_from 0 (at + k)) (drop-twice k from s)
+
+not-nothing : (a b c d : Bool) → (if a then Stray Cut else if b then Stray Cut else if c then Stray ShortLength else if d then Stray NoEnd else Frame) ≢ Nothing
+not-nothing true b c d e = cc
+not-nothing false true c d e = cc
+not-nothing false false true d e = cc
+not-nothing false false false true e = cc
+not-nothing false false false false e = cc
+
+verdict-some : (m : List ℕ) → stands (codes "BUFR") 0 m ≡ true → verdict m ≢ Nothing
+verdict-some m here = rw here (not-nothing (nat_lt (length m) 8) (nat_lt (length m) (stated m)) (nat_lt (stated m) 12) (not (stands (codes "7777") (stated m - 4) m)))
+
+pub verdict-there : (s : List ℕ) (j : ℕ) → OccursAt s (codes "BUFR") j → verdict (drop j s) ≢ Nothing
+verdict-there s j occurs = verdict-some (drop j s) ((bytes_eq-Decides (take 4 (drop j s)) (codes "BUFR")).1 (OccursAt-part s (codes "BUFR") j occurs))
+
+pub verdict-search : (s : List ℕ) (from k : ℕ) → OccursAt (take (length s - from) (drop from s)) (codes "BUFR") k → verdict (drop (from + k) s) ≢ Nothing
+verdict-search s from k occurs =
+    let P : List ℕ → Type 0 = λ m. OccursAt m (codes "BUFR") k in
+    let Q : List ℕ → Type 0 = λ m. verdict m ≢ Nothing in
+    subst Q (drop-twice k from s) (verdict-there (drop from s) k (subst P (tail-of from s) occurs))
+
+-- the event at a place, and the rest of the scan behind it
+pub scan_from-front : (s : List ℕ) (at place k : ℕ) → place < length s → k ≡ taken (drop place s) (verdict (drop place s)) → 0 < k
+    → scan_from 0 at (drop place s) ≡ happening at (drop place s) (verdict (drop place s)) ++ scan_from 0 (at + k) (drop (place + k) s)
+scan_from-front s at place k within is goes =
+    let m = drop place s in
+    let Q : ℕ → Type 0 = λ n. 0 < n in
+    let P : ℕ → Type 0 = λ n. scan_from 0 at m ≡ happening at m (verdict m) ++ scan_from 0 (at + n) (drop n m) in
+    subst P (sym is) (scan_from-here at m (omega (arith, length-drop {A = ℕ})) (subst Q is goes))
+    ∙ ap (λ t. happening at m (verdict m) ++ scan_from 0 (at + k) t) (drop-twice k place s)

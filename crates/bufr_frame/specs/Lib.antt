@@ -1,0 +1,5 @@
+pub mod Octets
+pub mod Scan
+pub mod Sections
+pub mod Layout
+pub mod Words

@@ -1,0 +1,29 @@
+-- Numbers and words in octets, most significant octet first. (WMO-No. 306, Volume I.2, FM 94)
+use Rattle.std.specs.Prelude.{ℕ, ◌+◌, ◌*◌, ◌/◌, ◌%◌, List, [], ◌∷◌, slice_index}
+
+-- the number that three octets from place p write
+abbrev pub three : List ℕ → ℕ → ℕ
+three m p = 65536 * slice_index m p + 256 * slice_index m (p + 1) + slice_index m (p + 2)
+
+-- the number that two octets from place p write
+abbrev pub two : List ℕ → ℕ → ℕ
+two m p = 256 * slice_index m p + slice_index m (p + 1)
+
+-- the whole words of two octets; an octet left over is ignored, a choice of this project
+abbrev pub words : List ℕ → List ℕ
+words [] = []
+words (a ∷ []) = []
+words (a ∷ b ∷ more) = (256 * a + b) ∷ words more
+
+-- the three octets that write a number under 2^24
+abbrev pub three_octets : ℕ → List ℕ
+three_octets n = n / 65536 ∷ n / 256 % 256 ∷ n % 256 ∷ []
+
+-- the two octets that write a number under 2^16
+abbrev pub two_octets : ℕ → List ℕ
+two_octets n = n / 256 ∷ n % 256 ∷ []
+
+-- words, two octets each
+abbrev pub octets_of_words : List ℕ → List ℕ
+octets_of_words [] = []
+octets_of_words (word ∷ more) = word / 256 ∷ word % 256 ∷ octets_of_words more

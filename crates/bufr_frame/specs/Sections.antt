@@ -1,0 +1,90 @@
+-- The sections of a message of edition 4. (WMO-No. 306, Volume I.2, FM 94: sections 0 to 5)
+-- Octets count from 0 here: section 1 begins at 8.
+use Rattle.std.specs.Prelude.{◌≡◌, ℕ, ◌+◌, ◌-◌, ◌%◌, ◌==◌, Bool, not, nat_lt, nat_le, List, Option, Some, None, Result, Ok, Err, length, slice_index, slice_range, if◌then◌else◌}
+use Rattle.bufr_frame.specs.Octets.{three, two, words}
+use Rattle.bufr_frame.specs.declared.head.Head.{Head}
+use Rattle.bufr_frame.specs.declared.fault.SectionFault.{SectionFault}
+use Rattle.bufr_frame.specs.declared.fault.SectionFault.TheVariants.{Edition, SectionShort, SectionPast, SectionsEnd}
+
+-- what a message consists of
+pub record Sections : Type 0 where
+  pub head : Head
+  -- section 1 from its octet 23 on
+  pub local1 : List ℕ
+  -- section 2 from its octet 5 on
+  pub section2 : Option (List ℕ)
+  -- the words of the whole descriptors
+  pub descriptors : List ℕ
+  pub subsets : ℕ
+  pub observed : Bool
+  pub compressed : Bool
+  -- section 4 from its octet 5 on
+  pub payload : List ℕ
+  -- how many octets the message has
+  pub size : ℕ
+
+infixl 10 ◌>>=◌
+abbrev pub ◌>>=◌ : {A B : Type 0} → Result A SectionFault → (A → Result B SectionFault) → Result B SectionFault
+(Ok x) >>= f = f x
+(Err e) >>= f = Err e
+
+-- where section k ends, which begins at p and has at least `least` octets; the last four octets are section 5
+unfoldable pub section_end : List ℕ → (k least p : ℕ) → Result ℕ SectionFault
+section_end m k least p =
+    if nat_lt (length m - 4) (p + 3) then Err (SectionPast k)
+    else if nat_lt (three m p) least then Err (SectionShort k)
+    else if nat_lt (length m - 4) (p + three m p) then Err (SectionPast k)
+    else Ok (p + three m p)
+
+-- bit 1 of octet 10 of section 1: there is a section 2
+abbrev pub has_section2 : List ℕ → Bool
+has_section2 m = nat_le 128 (slice_index m 17)
+
+-- what octet 8 of section 0 and octets 4 to 22 of section 1 say
+abbrev pub head_of : List ℕ → Head
+head_of m = record {
+  edition = slice_index m 7;
+  master = slice_index m 11;
+  centre = two m 12;
+  subcentre = two m 14;
+  update = slice_index m 16;
+  category = slice_index m 18;
+  subcategory = slice_index m 19;
+  local_subcategory = slice_index m 20;
+  master_version = slice_index m 21;
+  local_version = slice_index m 22;
+  year = two m 23;
+  month = slice_index m 25;
+  day = slice_index m 26;
+  hour = slice_index m 27;
+  minute = slice_index m 28;
+  second = slice_index m 29;
+}
+
+-- the parts, where sections 1 to 4 end at p1 to p4 (section 2 is empty where there is none)
+abbrev pub parts : List ℕ → (p1 p2 p3 p4 : ℕ) → Sections
+parts m p1 p2 p3 p4 = record {
+  head = head_of m;
+  local1 = slice_range m 30 p1;
+  section2 = if has_section2 m then Some (slice_range m (p1 + 4) p2) else None;
+  descriptors = words (slice_range m (p2 + 7) p3);
+  subsets = two m (p2 + 4);
+  observed = nat_le 128 (slice_index m (p2 + 6));
+  compressed = nat_le 64 (slice_index m (p2 + 6) % 128);
+  payload = slice_range m (p3 + 4) p4;
+  size = length m;
+}
+
+-- the sections of a message, or the first fault: the edition goes before all, then the sections in their order, then the end
+unfoldable pub sections_of : List ℕ → Result Sections SectionFault
+sections_of m = if not (slice_index m 7 == 4) then Err (Edition (slice_index m 7)) else do
+  p1 ← section_end m 1 22 8
+  p2 ← (if has_section2 m then section_end m 2 4 p1 else Ok p1)
+  p3 ← section_end m 3 7 p2
+  p4 ← section_end m 4 4 p3
+  if p4 == (length m - 4) then Ok (parts m p1 p2 p3 p4) else Err SectionsEnd
+
+-- what a function answers, seen by view, is what is stated
+abbrev pub Gives : {X Y : Type 0} → (X → Y) → Result X SectionFault → Result Y SectionFault → Type 0
+Gives view (Ok x) stated = stated ≡ Ok (view x)
+Gives view (Err e) stated = stated ≡ Err e

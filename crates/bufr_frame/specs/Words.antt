@@ -1,0 +1,8 @@
+-- What an iterator of words has left.
+use Rattle.std.specs.Prelude.{ℕ, List}
+use Rattle.bufr_frame.specs.Octets.{words}
+use Rattle.bufr_frame.specs.declared.words.Words.{Words}
+
+-- the words that are left
+abbrev pub words_left : Words → List ℕ
+words_left w = words w.octets.now

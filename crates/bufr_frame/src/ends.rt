@@ -1,0 +1,94 @@
+//! Where the sections of a message end.
+ghost use Rattle.std.specs.Prelude.{◌≡◌, ◌≤◌, ◌<◌, ◌+◌, ◌-◌, ◌^◌, ℕ, length, Ok, IfOk, IsTrue, if◌then◌else◌};
+ghost use Rattle.bufr_frame.specs.Octets.{three};
+ghost use Rattle.bufr_frame.specs.Sections.{section_end, sections_of, parts, Gives, has_section2};
+
+use crate::fault::SectionFault;
+
+/// The places behind the last octets of sections 1 to 4, from 0. A section 2 that is not there
+/// ends where section 1 does.
+#[derive(Clone, Copy, Debug)]
+pub(crate) struct Ends {
+    pub(crate) first: usize,
+    pub(crate) second: usize,
+    pub(crate) third: usize,
+    pub(crate) fourth: usize,
+    ghost ordered: { (30 ≤ first) × (first ≤ second) × (second + 7 ≤ third) × (third + 4 ≤ fourth) },
+    ghost near: { fourth < 2 ^ 34 },
+}
+
+/// The number that the three octets from `p` write.
+fn three_at(m: &[u8], p: usize) -> usize
+    requires { p + 3 ≤ length m.now }
+    ensures value { result ≡ three m.now p }
+    ensures most { result < 2 ^ 24 }
+{
+    65536 * (m[p] as usize) + 256 * (m[p + 1] as usize) + m[p + 2] as usize
+}
+
+/// Where section `k` ends, which begins at `p` and has at least `least` octets.
+#[tactic(auto, unfolding(crate::specs::Sections::section_end))]
+fn section_end_at(m: &[u8], k: u8, least: usize, p: usize) -> Result<usize, SectionFault>
+    requires long { 12 ≤ length m.now }
+    requires near { p < 2 ^ 33 }
+    ensures value { result ≡ section_end m.now k least p }
+    ensures end { IfOk result (λ q. q ≤ length m.now - 4) }
+    ensures least { IfOk result (λ q. p + least ≤ q) }
+    ensures most { IfOk result (λ q. q < p + 2 ^ 24) }
+{
+    let end = m.len() - 4;
+    if end < p + 3 {
+        return Err(SectionFault::SectionPast(k));
+    }
+    let len = three_at(m, p);
+    if len < least {
+        return Err(SectionFault::SectionShort(k));
+    }
+    if end < p + len {
+        return Err(SectionFault::SectionPast(k));
+    }
+    Ok(p + len)
+}
+
+/// Where section 2 ends, if there is one, or else section 1.
+fn second_end(m: &[u8], first: usize) -> Result<usize, SectionFault>
+    requires long { 18 ≤ length m.now }
+    requires near { first < 2 ^ 31 }
+    ensures value { result ≡ (if has_section2 m.now then section_end m.now 2 4 first else Ok first) }
+    ensures end { first ≤ length m.now - 4 → IfOk result (λ q. q ≤ length m.now - 4) }
+    ensures least { IfOk result (λ q. first ≤ q) }
+    ensures section2 { IsTrue (has_section2 m.now) → IfOk result (λ q. first + 4 ≤ q) }
+    ensures most { IfOk result (λ q. q < 2 ^ 32) }
+{
+    if m[17] >= 128 {
+        section_end_at(m, 2, 4, first)
+    } else {
+        Ok(first)
+    }
+}
+
+/// Where the sections of `m` end, or the first fault.
+#[tactic(auto, unfolding(crate::specs::Sections::sections_of))]
+pub(crate) fn ends_of(m: &[u8]) -> Result<Ends, SectionFault>
+    requires long { 12 ≤ length m.now }
+    ensures value { Gives (λ e. parts m.now e.first e.second e.third e.fourth) result (sections_of m.now) }
+    ensures within { IfOk result (λ e. e.fourth ≤ length m.now - 4) }
+    ensures section2 { IfOk result (λ e. IsTrue (has_section2 m.now) → e.first + 4 ≤ e.second) }
+{
+    if m[7] != 4 {
+        return Err(SectionFault::Edition(m[7]));
+    }
+    let first = section_end_at(m, 1, 22, 8)?;
+    let second = second_end(m, first)?;
+    let third = section_end_at(m, 3, 7, second)?;
+    let fourth = section_end_at(m, 4, 4, third)?;
+    if fourth != m.len() - 4 {
+        return Err(SectionFault::SectionsEnd);
+    }
+    Ok(Ends {
+        first,
+        second,
+        third,
+        fourth,
+    })
+}

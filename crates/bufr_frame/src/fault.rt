@@ -1,0 +1,87 @@
+//! What can be wrong with a stream, with a message, and with a run.
+//!
+//! The numbers and texts of the fault lines that name these stand where the lines are written.
+
+use std::alloc::AllocError;
+use thiserror::Error;
+
+/// Why no message begins at a place where `BUFR` stands.
+#[derive(Clone, Copy, Debug, PartialEq, Eq, Error)]
+pub enum Cause {
+    /// The stream ends before the eight octets of section 0 do, or before the stated length does.
+    #[error("the stream ends inside the message")]
+    Cut,
+    /// The stated length is under 12 octets.
+    #[error("the stated length is too short for a message")]
+    ShortLength,
+    /// `7777` does not stand where the stated length ends.
+    #[error("7777 does not stand at the end of the message")]
+    NoEnd,
+}
+
+/// Why a message cannot be taken apart.
+#[derive(Clone, Copy, Debug, PartialEq, Eq, Error)]
+pub enum SectionFault {
+    /// The edition is another one than 4.
+    #[error("edition {0} is not read")]
+    Edition(u8),
+    /// This section is shorter than its fixed octets.
+    #[error("section {0} is shorter than its fixed octets")]
+    SectionShort(u8),
+    /// This section, or its length, reaches past the place of section 5.
+    #[error("section {0} reaches past the end")]
+    SectionPast(u8),
+    /// Section 4 does not end where section 5 begins.
+    #[error("section 4 does not end where section 5 begins")]
+    SectionsEnd,
+}
+
+/// What ends a run.
+#[derive(Clone, Copy, Debug, PartialEq, Eq, Error)]
+pub enum RunFault {
+    /// A read failed.
+    #[error("a read failed")]
+    Read,
+    /// A write or a flush failed, or a write took nothing.
+    #[error("a write failed")]
+    Write,
+    /// The input has not ended after 2^32 reads.
+    #[error("the input does not end within 2^32 reads")]
+    InputTooLong,
+    /// Memory ran out.
+    #[error("out of memory")]
+    Memory,
+}
+
+/// Why a message cannot be written.
+#[derive(Clone, Copy, Debug, PartialEq, Eq, Error)]
+pub enum WriteFault {
+    /// The message would have more than 16,777,215 octets.
+    #[error("the message is too long")]
+    TooLong,
+    /// Memory ran out.
+    #[error("out of memory")]
+    Memory,
+}
+
+impl From<AllocError> for RunFault {
+    ghost use Rattle.std.specs.Prelude.{◌≡◌};
+    ghost use Rattle.bufr_frame.specs.declared.fault.RunFault.TheVariants.{Memory};
+
+    ghost from_gives = { λ _ e. e ≡ Memory };
+
+    fn from(_fault: AllocError) -> RunFault {
+        RunFault::Memory
+    }
+}
+
+impl From<AllocError> for WriteFault {
+    ghost use Rattle.std.specs.Prelude.{◌≡◌};
+    ghost use Rattle.bufr_frame.specs.declared.fault.WriteFault.TheVariants.{Memory};
+
+    ghost from_gives = { λ _ e. e ≡ Memory };
+
+    fn from(_fault: AllocError) -> WriteFault {
+        WriteFault::Memory
+    }
+}

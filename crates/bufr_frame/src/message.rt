@@ -1,0 +1,219 @@
+//! A message taken apart into its sections.
+ghost use Rattle.std.specs.Prelude.{◌≡◌, ◌≤◌, ◌+◌, length, IsTrue, Some, None, slice_range, if◌then◌else◌};
+ghost use Rattle.std.specs.Option.{option_map};
+ghost use Rattle.bufr_frame.specs.Octets.{two};
+ghost use Rattle.bufr_frame.specs.Sections.{head_of, has_section2};
+
+use crate::ends::{Ends, ends_of};
+use crate::fault::SectionFault;
+use crate::head::Head;
+use crate::words::Words;
+use bufr_bits::BitSlice;
+use std::marker::Model;
+
+/// A message of edition 4, taken apart. It borrows its octets.
+///
+/// (WMO-No. 306, Volume I.2, FM 94, sections 0 to 5)
+#[derive(Debug, Drop)]
+pub struct Message<'a> {
+    octets: &'a [u8],
+    head: Head,
+    local1: &'a [u8],
+    section2: Option<&'a [u8]>,
+    descriptors: &'a [u8],
+    subsets: u16,
+    observed: bool,
+    compressed: bool,
+    payload: &'a [u8],
+}
+
+impl<'a> Model for Message<'a> {
+    ghost use Rattle.std.specs.Prelude.{◌≤◌, ◌^◌, length};
+    ghost use Rattle.std.specs.Option.{option_map};
+    ghost use Rattle.bufr_frame.specs.Octets.{words};
+    ghost use Rattle.bufr_frame.specs.Sections.{Sections};
+
+    ghost Value = { Sections };
+
+    ghost view = { λ m. record {
+      head = m.head;
+      local1 = m.local1.now;
+      section2 = option_map (λ s. s.now) m.section2;
+      descriptors = words m.descriptors.now;
+      subsets = m.subsets;
+      observed = m.observed;
+      compressed = m.compressed;
+      payload = m.payload.now;
+      size = length m.octets.now;
+    } };
+
+    ghost invariant = { λ m. length m.payload.now ≤ 2 ^ 60 };
+}
+
+/// The number that the two octets from `p` write.
+fn two_at(m: &[u8], p: usize) -> u16
+    requires { p + 2 ≤ length m.now }
+    ensures { result ≡ two m.now p }
+{
+    256 * (m[p] as u16) + m[p + 1] as u16
+}
+
+/// What octet 8 of section 0 and octets 4 to 22 of section 1 say.
+fn head_at(m: &[u8]) -> Head
+    requires { 30 ≤ length m.now }
+    ensures { result ≡ head_of m.now }
+{
+    Head {
+        edition: m[7],
+        master: m[11],
+        centre: two_at(m, 12),
+        subcentre: two_at(m, 14),
+        update: m[16],
+        category: m[18],
+        subcategory: m[19],
+        local_subcategory: m[20],
+        master_version: m[21],
+        local_version: m[22],
+        year: two_at(m, 23),
+        month: m[25],
+        day: m[26],
+        hour: m[27],
+        minute: m[28],
+        second: m[29],
+    }
+}
+
+/// The octets of section 2 from its octet 5 on, where it is there.
+fn section2_of(m: &[u8], first: usize, second: usize) -> Option<&[u8]>
+    requires long { 18 ≤ length m.now }
+    requires within { second ≤ length m.now }
+    requires section2 { IsTrue (has_section2 m.now) → first + 4 ≤ second }
+    ensures { option_map (λ s. s.now) result ≡ (if has_section2 m.now then Some (slice_range m.now (first + 4) second) else None) }
+{
+    if m[17] >= 128 {
+        Some(&m[first + 4..second])
+    } else {
+        None
+    }
+}
+
+impl<'a> Message<'a> {
+    ghost use Rattle.std.specs.Prelude.{◌≡◌, ◌≤◌, length, slice_get};
+    ghost use Rattle.std.specs.Option.{option_map};
+    ghost use Rattle.bufr_bits.specs.BitSlice.{octets_of};
+    ghost use Rattle.bufr_frame.specs.Sections.{sections_of, parts};
+    ghost use Rattle.bufr_frame.specs.Words.{words_left};
+
+    /// Takes a message of at least 12 octets apart. Octet 8 is examined, and the octets from 9 to
+    /// the last four; the rest is taken as it stands. It takes no memory.
+    ///
+    /// # Errors
+    ///
+    /// The first that holds: [`SectionFault::Edition`] for another edition than 4; then for
+    /// sections 1, 2 (where bit 1 of octet 10 of section 1 is set), 3 and 4 in turn
+    /// [`SectionFault::SectionPast`] where the section's length octets or its octets reach past
+    /// the last four octets, and [`SectionFault::SectionShort`] where its length is under 22, 4, 7
+    /// or 4; at last [`SectionFault::SectionsEnd`] where section 4 does not end at the last four
+    /// octets.
+    pub fn parse(octets: &'a [u8]) -> Result<Message<'a>, SectionFault>
+        requires { 12 ≤ length octets.now }
+        ensures { result ≡ sections_of octets.now }
+    {
+        let ends = ends_of(octets)?;
+        Ok(Message::between(octets, ends))
+    }
+
+    /// The message whose sections end there.
+    fn between(octets: &'a [u8], ends: Ends) -> Message<'a>
+        requires within { ends.fourth ≤ length octets.now }
+        requires section2 { IsTrue (has_section2 octets.now) → ends.first + 4 ≤ ends.second }
+        ensures { result ≡ parts octets.now ends.first ends.second ends.third ends.fourth }
+    {
+        let flags = octets[ends.second + 6];
+        Message {
+            octets,
+            head: head_at(octets),
+            local1: &octets[30..ends.first],
+            section2: section2_of(octets, ends.first, ends.second),
+            descriptors: &octets[ends.second + 7..ends.third],
+            subsets: two_at(octets, ends.second + 4),
+            observed: flags >= 128,
+            compressed: flags % 128 >= 64,
+            payload: &octets[ends.third + 4..ends.fourth],
+        }
+    }
+
+    /// The edition and what octets 4 to 22 of section 1 say.
+    pub fn head(&self) -> Head
+        ensures { result ≡ self.now.head }
+    {
+        self.head
+    }
+
+    /// The octets of section 1 for local use, from its octet 23 on.
+    pub fn local1(&self) -> &'a [u8]
+        ensures { result.now ≡ self.now.local1 }
+    {
+        self.local1
+    }
+
+    /// The octets of section 2 from its octet 5 on, where there is a section 2.
+    pub fn section2(&self) -> Option<&'a [u8]>
+        ensures { option_map (λ s. s.now) result ≡ self.now.section2 }
+    {
+        self.section2
+    }
+
+    /// The word of descriptor `i` of section 3, from 0, where there is one. An octet left over
+    /// after the last whole descriptor is ignored.
+    pub fn descriptor(&self, i: usize) -> Option<u16>
+        ensures { result ≡ slice_get self.now.descriptors i }
+    {
+        if i >= self.descriptors.len() / 2 {
+            return None;
+        }
+        Some(two_at(self.descriptors, 2 * i))
+    }
+
+    /// The words of the descriptors of section 3, in order.
+    pub fn descriptors(&self) -> Words<'a>
+        ensures { words_left result ≡ self.now.descriptors }
+    {
+        Words::new(self.descriptors)
+    }
+
+    /// The number of subsets.
+    pub fn subsets(&self) -> u16
+        ensures { result ≡ self.now.subsets }
+    {
+        self.subsets
+    }
+
+    /// Whether the data are observed ones, bit 1 of octet 7 of section 3.
+    pub fn observed(&self) -> bool
+        ensures { result ≡ self.now.observed }
+    {
+        self.observed
+    }
+
+    /// Whether the data are compressed, bit 2 of octet 7 of section 3.
+    pub fn compressed(&self) -> bool
+        ensures { result ≡ self.now.compressed }
+    {
+        self.compressed
+    }
+
+    /// The data and what pads them: section 4 from its octet 5 on.
+    pub fn payload(&self) -> BitSlice<'a>
+        ensures { octets_of result ≡ self.now.payload }
+    {
+        BitSlice::new(self.payload)
+    }
+
+    /// The number of octets of the message.
+    pub fn length(&self) -> u64
+        ensures { result ≡ self.now.size }
+    {
+        self.octets.len() as u64
+    }
+}

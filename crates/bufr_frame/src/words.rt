@@ -1,0 +1,43 @@
+//! The words of two octets, one after another.
+
+/// An iterator over the words of two octets each, most significant octet first. An octet left over
+/// at the end is ignored.
+#[derive(Debug, Drop)]
+pub struct Words<'a> {
+    octets: &'a [u8],
+}
+
+impl<'a> Words<'a> {
+    ghost use Rattle.std.specs.Prelude.{◌≡◌};
+    ghost use Rattle.bufr_frame.specs.Octets.{words};
+    ghost use Rattle.bufr_frame.specs.Words.{words_left};
+
+    /// The words of `octets`.
+    pub(crate) fn new(octets: &'a [u8]) -> Words<'a>
+        ensures { words_left result ≡ words octets.now }
+    {
+        Words { octets }
+    }
+}
+
+impl<'a> Iterator for Words<'a> {
+    ghost use Rattle.std.specs.Iterator.{YieldsFirst, item_count};
+    ghost use Rattle.bufr_frame.specs.Words.{words_left};
+
+    type Item = u16;
+
+    ghost next_gives = { YieldsFirst words_left };
+
+    ghost remaining = { item_count words_left };
+
+    fn next(&mut self) -> Option<u16> {
+        match self.octets {
+            [first, second, rest @ ..] => {
+                let word = 256 * u16::from(*first) + u16::from(*second);
+                self.octets = rest;
+                Some(word)
+            }
+            _ => None,
+        }
+    }
+}
