@@ -1,3 +1,4 @@
+pub mod InputLemmas
 pub mod ScanLemmas
 pub mod SectionLemmas
 pub mod WordLemmas

@@ -5,6 +5,7 @@
 mod ends;
 mod fault;
 mod head;
+mod input;
 mod message;
 mod search;
 mod words;

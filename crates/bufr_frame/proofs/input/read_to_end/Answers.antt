@@ -1,0 +1,73 @@
+use Rattle.std.proofs.Common.{◌≡◌, ◌≤◌, ◌-◌, ◌∙◌, Ok, Err, ap, sym, refl, arith}
+use Rattle.std.proofs.lemmas.Result.{err_from_is_err_and}
+use Rattle.bufr_bits.proofs.CountLemmas.{counted-none}
+use Rattle.bufr_bits.specs.Counts.{counted}
+use Rattle.bufr_frame.specs.Input.{InputEnds}
+use Rattle.bufr_frame.specs.Runs.{read_failures_after}
+use Rattle.bufr_frame.proofs.InputLemmas.{read-none, read-more, reads-input, counted-one-more, read-fault, read-end}
+use Rattle.bufr_frame.proofs.input.read_to_end.Goals as goal
+
+pub loop-reads-init : goal.loop-reads-init
+loop-reads-init g c = record {
+  so_far = read-none _ _;
+  failed = refl;
+  made = let e : c.args.reads.now - c.args.reads.now ≡ 0 = omega arith in rw e (sym (counted-none _));
+  within = omega (arith, c.requires);
+}
+
+pub returns-in_err-reserve : goal.returns-in_err-reserve
+returns-in_err-reserve g c =
+    let p = err_from_is_err_and c.from_residual.result c.from_residual.ensures.1 in
+    let is = p.1 ∙ ap Err p.2 in
+    let before = c.loop-reads.invariant in record {
+      read = reads-input _ _ _ _ _ c.from_residual.result (rw (c.reserve.ensures.items) before.so_far) (rw is tt);
+      failed = rw is before.failed;
+      made = before.made;
+      within = before.within;
+    }
+
+pub returns-in_err-read_once : goal.returns-in_err-read_once
+returns-in_err-read_once g c =
+    let p = err_from_is_err_and c.from_residual-in_err-read_once.result c.from_residual-in_err-read_once.ensures.1 in
+    let once = c.read_once.ensures.read.1 in
+    let fault = read-fault _ _ _ _ _ c.read_once.result _ c.in_err-read_once.was once in
+    let is = p.1 ∙ ap Err (p.2 ∙ fault) in
+    let before = c.loop-reads.invariant in
+    let failed = rw (c.in_err-read_once.was, fault) at c.read_once.ensures.failed in record {
+      read = reads-input _ _ _ _ _ c.from_residual-in_err-read_once.result (read-more _ _ _ _ c.reserve.new.self.items _ _ c.read_once.result (rw (c.reserve.ensures.items) before.so_far) once) (rw is tt);
+      failed = rw is (failed ∙ ap (λ n. counted n 1) before.failed);
+      made = counted-one-more _ _ _ _ _ before.made c.read_once.ensures.made before.within.0;
+      within = omega (arith, before.within, c.loop-reads-test.true);
+    }
+
+pub returns-then-branch-eq0 : goal.returns-then-branch-eq0
+returns-then-branch-eq0 g c =
+    let once = c.read_once.ensures.read.1 in
+    let end = read-end _ _ _ _ _ c.read_once.result _ c.in_ok-read_once.was c.if-branch-eq0.true once in
+    let before = c.loop-reads.invariant in
+    let failed = rw c.in_ok-read_once.was at c.read_once.ensures.failed in record {
+      read = reads-input _ _ _ _ _ _ (read-more _ _ _ _ c.reserve.new.self.items _ _ c.read_once.result (rw (c.reserve.ensures.items) before.so_far) once) end;
+      failed = failed ∙ before.failed;
+      made = counted-one-more _ _ _ _ _ before.made c.read_once.ensures.made before.within.0;
+      within = omega (arith, before.within, c.loop-reads-test.true);
+    }
+
+pub loop-reads-preserved : goal.loop-reads-preserved
+loop-reads-preserved g c =
+    let once = c.read_once.ensures.read.1 in
+    let before = c.loop-reads.invariant in
+    let failed = rw c.in_ok-read_once.was at c.read_once.ensures.failed in record {
+      so_far = read-more _ _ _ _ c.reserve.new.self.items _ _ c.read_once.result (rw (c.reserve.ensures.items) before.so_far) once;
+      failed = failed ∙ before.failed;
+      made = counted-one-more _ _ _ _ _ before.made c.read_once.ensures.made before.within.0;
+      within = omega (arith, before.within, c.loop-reads-test.true);
+    }
+
+pub returns : goal.returns
+returns g c =
+    let before = c.loop-reads.invariant in record {
+      read = reads-input _ _ _ _ _ _ before.so_far (omega (arith, before.within, c.loop-reads-test.false));
+      failed = before.failed;
+      made = before.made;
+      within = before.within;
+    }

@@ -1,0 +1,17 @@
+use Rattle.std.proofs.Common.{◌≡◌, ◌≤◌, ◌-◌}
+use Rattle.bufr_bits.specs.Counts.{counted}
+use Rattle.bufr_frame.specs.Runs.{most_reads}
+use Rattle.bufr_frame.proofs.InputLemmas.{ReadSoFar}
+use Rattle.bufr_frame.proofs.input.read_to_end.Given as goal
+
+-- octets were read and are held, by reads that were counted and did not fail
+abbrev pub invariant-loop-reads : goal.invariant-loop-reads
+invariant-loop-reads g l = record {
+  so_far : ReadSoFar (g.R.Source.left l.fn.r) (g.R.Source.left l.r) l.fn.octets.items l.octets.items;
+  failed : g.R.Source.failures l.r ≡ g.R.Source.failures l.fn.r;
+  made : g.R.Source.reads l.r ≡ counted (g.R.Source.reads l.fn.r) (l.reads - l.fn.reads);
+  within : (l.fn.reads ≤ l.reads) × (l.reads ≤ most_reads);
+}
+
+abbrev pub decreases-loop-reads : goal.decreases-loop-reads
+decreases-loop-reads g l = most_reads - l.reads

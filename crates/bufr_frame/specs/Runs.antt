@@ -1,0 +1,17 @@
+-- What a call that reads leaves of its reader's counts. (a choice of this project)
+use Rattle.std.specs.Prelude.{ℕ, Result, Ok, Err}
+use Rattle.bufr_bits.specs.Counts.{counted}
+use Rattle.bufr_frame.specs.declared.fault.RunFault.{RunFault}
+use Rattle.bufr_frame.specs.declared.fault.RunFault.TheVariants.{Read, Write, InputTooLong, Memory}
+
+-- the reader's count of failures after a call: a read fault is one more failure, and nothing else changes it
+abbrev pub read_failures_after : {X : Type 0} → ℕ → Result X RunFault → ℕ
+read_failures_after count (Ok x) = count
+read_failures_after count (Err Read) = counted count 1
+read_failures_after count (Err Write) = count
+read_failures_after count (Err InputTooLong) = count
+read_failures_after count (Err Memory) = count
+
+-- the most reads that are made of one input
+abbrev pub most_reads : ℕ
+most_reads = 4294967296

@@ -1,0 +1,65 @@
+//! An input read to its end.
+ghost use Rattle.std.specs.Prelude.{◌≡◌, ◌≤◌, ◌<◌, ◌+◌, ◌-◌, ℕ, List, ◌++◌, length, Ok, IfOk, IfErr, vec_len, vec_capacity};
+ghost use Rattle.std.specs.Io.KnownBytes.{Consumes, IsAtEnd};
+ghost use Rattle.bufr_bits.specs.Counts.{counted};
+ghost use Rattle.bufr_frame.specs.Runs.{read_failures_after, most_reads};
+ghost use Rattle.bufr_frame.specs.Input.{ReadsOnce, ReadsInput};
+
+use crate::fault::RunFault;
+use bufr_bits::Source;
+
+/// The most reads that are made of one input; the next one is not made.
+const MOST_READS: u64 = 1 << 32;
+
+/// How many octets one read asks for.
+const CHUNK: usize = 65536;
+
+/// Reads once, behind the octets that are held. `chunk` is room to read into.
+fn read_once<R: Source>(
+    r: &mut R,
+    octets: &mut Vec<u8>,
+    chunk: &mut [u8],
+) -> Result<usize, RunFault>
+    requires some { 0 < length chunk.old }
+    requires room { vec_len octets.old + length chunk.old ≤ vec_capacity octets.old }
+    ensures read { (bs : List ℕ) × ReadsOnce (R.left r.old) (R.left r.new) octets.old.items octets.new.items result bs }
+    ensures failed { R.failures r.new ≡ read_failures_after (R.failures r.old) result }
+    ensures made { R.reads r.new ≡ counted (R.reads r.old) 1 }
+{
+    match r.read(chunk) {
+        Ok(n) => {
+            octets.extend_from_slice(&chunk[..n]).unwrap();
+            Ok(n)
+        }
+        Err(_) => Err(RunFault::Read),
+    }
+}
+
+/// Reads an input to its end, behind the octets that are held. `reads` counts the reads that are
+/// made of the input; after 2^32 of them no other one is made.
+///
+/// # Errors
+///
+/// [`RunFault::Read`] where a read failed, [`RunFault::InputTooLong`] where the end was not
+/// reached in 2^32 reads, and [`RunFault::Memory`]. The octets read before are held.
+pub fn read_to_end<R: Source>(
+    r: &mut R,
+    octets: &mut Vec<u8>,
+    reads: &mut u64,
+) -> Result<(), RunFault>
+    requires { reads.old ≤ most_reads }
+    ensures read { (bs : List ℕ) × ReadsInput (R.left r.old) (R.left r.new) octets.old.items octets.new.items reads.new result bs }
+    ensures failed { R.failures r.new ≡ read_failures_after (R.failures r.old) result }
+    ensures made { R.reads r.new ≡ counted (R.reads r.old) (reads.new - reads.old) }
+    ensures within { (reads.old ≤ reads.new) × (reads.new ≤ most_reads) }
+{
+    let mut chunk = [0; CHUNK];
+    while *reads < MOST_READS {
+        octets.reserve(CHUNK)?;
+        *reads += 1;
+        if read_once(r, octets, &mut chunk)? == 0 {
+            return Ok(());
+        }
+    }
+    Err(RunFault::InputTooLong)
+}
