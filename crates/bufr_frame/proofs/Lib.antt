@@ -1,4 +1,5 @@
 pub mod InputLemmas
+pub mod LookLemmas
 pub mod ScanLemmas
 pub mod SectionLemmas
 pub mod WordLemmas

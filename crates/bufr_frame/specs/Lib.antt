@@ -1,5 +1,9 @@
+pub mod Events
+pub mod Finding
 pub mod Input
 pub mod Layout
+pub mod Look
+pub mod Next
 pub mod Octets
 pub mod Runs
 pub mod Scan

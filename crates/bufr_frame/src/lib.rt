@@ -4,13 +4,17 @@
 
 mod ends;
 mod fault;
+mod finder;
 mod head;
 mod input;
+pub mod law;
 mod message;
 mod search;
 mod words;
 
 pub use fault::{Cause, RunFault, SectionFault, WriteFault};
+pub use finder::Event;
 pub use head::Head;
+pub use input::read_to_end;
 pub use message::Message;
 pub use words::Words;

@@ -1,9 +1,11 @@
 //! The search for the next place where `BUFR` stands.
 ghost use Rattle.std.specs.Prelude.{◌≡◌, ◌≢◌, ◌≤◌, ◌<◌, ◌+◌, ◌-◌, ◌^◌, ℕ, List, [], ◌∷◌, ◌++◌, length, take, drop, codes, IfOk, IfSome, MatchOption, vec_len, Some, None};
 ghost use Rattle.bufr_frame.specs.Octets.{three};
-ghost use Rattle.bufr_frame.specs.Scan.{verdict, stated, scan, scan_from};
+ghost use Rattle.bufr_frame.specs.Scan.{verdict, stated};
+ghost use Rattle.bufr_frame.specs.Look.{LooksSo};
 
 use crate::fault::Cause;
+use memchr::memmem;
 
 /// What is at the front of the octets that are left.
 #[derive(Clone, Copy, Debug, PartialEq, Eq)]
@@ -14,6 +16,15 @@ pub(crate) enum Verdict {
     Stray(Cause),
     /// A message begins there.
     Frame,
+}
+
+/// The first event of some octets.
+#[derive(Clone, Copy, Debug)]
+pub(crate) struct Found {
+    /// The place where `BUFR` stands, from 0.
+    pub(crate) place: usize,
+    /// What is there.
+    pub(crate) here: Verdict,
 }
 
 /// The octets from `place` on.
@@ -56,16 +67,15 @@ pub(crate) fn judge(m: &[u8]) -> Verdict
     Verdict::Frame
 }
 
-/// The least place at or after `from` where `BUFR` stands.
-pub(crate) fn place_from(s: &[u8], from: usize) -> Option<usize>
-    requires { from ≤ length s.now }
-    ensures found { IfSome result (λ place. (from ≤ place) × (place + 4 ≤ length s.now)) }
-    ensures stands { IfSome result (λ place. verdict (drop place s.now) ≢ Verdict.Nothing) }
-    ensures same { (at : ℕ) → MatchOption result (scan_from 0 at (drop from s.now) ≡ []) (λ place.
-        scan_from 0 at (drop from s.now) ≡ scan_from 0 (at + (place - from)) (drop place s.now)) }
+/// The first event of `rest`, behind which nothing comes.
+pub(crate) fn look(rest: &[u8]) -> Option<Found>
+    ensures { LooksSo rest.now result }
 {
-    match memchr::memmem::find(&s[from..], b"BUFR") {
+    match memmem::find(rest, b"BUFR") {
         None => None,
-        Some(k) => Some(from + k),
+        Some(place) => Some(Found {
+            place,
+            here: judge(behind(rest, place)),
+        }),
     }
 }

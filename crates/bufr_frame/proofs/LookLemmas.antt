@@ -1,0 +1,242 @@
+-- What comes behind doesn't change what was certain.
+use Rattle.std.proofs.Common.{◌≡◌, ◌⊎◌, inl, inr, ℕ, zero, suc, ◌+◌, ◌-◌, ◌*◌, ◌<◌, ◌≤◌, Bool, true, false, List, [], ◌∷◌, ◌++◌, length, take, drop, codes, refl, sym, ◌∙◌, ap, subst, arith, rules, Option, Some, None, length-drop, append_assoc, length-append, length-take, lit≤, ◌^◌, get_or, append-nil}
+use Rattle.std.specs.Prelude.{◌≢◌, if◌then◌else◌, min, max, nat_lt, not, take_while}
+use Rattle.std.specs.List.{list_all, prefix_len}
+use Rattle.std.specs.Str.{bytes_eq}
+use Rattle.std.proofs.lemmas.Slice.Eq.{bytes_eq-Decides}
+use Rattle.std.proofs.lemmas.Bool.Decides.{nat_tests}
+use Rattle.std.proofs.lemmas.List.{get_or_append_left, take-append-le, drop-append-le}
+use Rattle.std.proofs.lemmas.Grind.{common_steps}
+use Rattle.std.proofs.lemmas.List.Folds.{list_all-append}
+use Rattle.memchr.specs.Find.{OccursAt, FindsNeedle}
+use Rattle.memchr.proofs.lemmas.MatchLemmas.{OccursAt-part}
+use Rattle.std.proofs.lemmas.Bool.{true≢false, cases_Bool, cases_lt, and_parts}
+use Rattle.bufr_frame.specs.declared.search.Verdict.{Verdict}
+use Rattle.bufr_frame.specs.declared.search.Verdict.TheVariants.{Nothing, Stray, Frame}
+use Rattle.bufr_frame.specs.declared.fault.Cause.TheVariants.{Cut, ShortLength, NoEnd}
+use Rattle.bufr_frame.specs.Octets.{three}
+use Rattle.bufr_frame.specs.Scan.{Happening, Framed, Strayed, scan, open_scan, scan_from, verdict, stands, stated, happening, taken, is_decided}
+use Rattle.bufr_frame.specs.Look.{Advances, NoneDecided, FoundSo}
+use Rattle.bufr_frame.proofs.ScanLemmas.{scan_from-nothing, verdict-nothing, scan_from-here, scan_from-past, verdict-elsewhere, verdict-there, scan_from-found, scan_from-front, drop-twice}
+
+stands-front : (text : List ℕ) (p : ℕ) (m t : List ℕ) → p + 4 ≤ length m → stands text p (m ++ t) ≡ stands text p m
+stands-front text p m t long =
+    ap (λ l. bytes_eq (take 4 l) text) (drop-append-le p m t (omega arith))
+    ∙ ap (λ l. bytes_eq l text) (take-append-le 4 (drop p m) t (omega (arith, length-drop {A = ℕ})))
+
+stated-front : (m t : List ℕ) → 8 ≤ length m → stated (m ++ t) ≡ stated m
+stated-front m t long =
+    ap (λ n. 65536 * n + 256 * get_or (m ++ t) 5 0 + get_or (m ++ t) 6 0) (get_or_append_left m t 0 4 (omega arith))
+    ∙ ap (λ n. 65536 * get_or m 4 0 + 256 * n + get_or (m ++ t) 6 0) (get_or_append_left m t 0 5 (omega arith))
+    ∙ ap (λ n. 65536 * get_or m 4 0 + 256 * get_or m 5 0 + n) (get_or_append_left m t 0 6 (omega arith))
+
+-- what is certain stays so
+verdict-front : (m t : List ℕ) → 8 ≤ length m → stated m ≤ length m → verdict (m ++ t) ≡ verdict m
+verdict-front m t long whole =
+    let a : stands (codes "BUFR") 0 (m ++ t) ≡ stands (codes "BUFR") 0 m = stands-front (codes "BUFR") 0 m t (omega arith) in
+    let l : stated (m ++ t) ≡ stated m = stated-front m t long in
+    let b : nat_lt (length (m ++ t)) 8 ≡ nat_lt (length m) 8 = grind (arith, nat_tests, length-append m t) in
+    let c : nat_lt (length (m ++ t)) (stated m) ≡ nat_lt (length m) (stated m) = grind (arith, nat_tests, length-append m t) in
+    let d : stands (codes "7777") (stated m - 4) (m ++ t) ≡ stands (codes "7777") (stated m - 4) m = stands-front (codes "7777") (stated m - 4) m t (omega arith) in
+    cc
+
+nothing-front : (m t : List ℕ) (j : ℕ) → j + 4 ≤ length m → (OccursAt m (codes "BUFR") j → ⊥) → verdict (drop j (m ++ t)) ≡ Nothing
+nothing-front m t j long absent =
+    verdict-elsewhere (m ++ t) j (λ occurs. absent (record {
+      fits = long;
+      reads = λ i below. sym (get_or_append_left m t 0 (j + i) (omega arith)) ∙ occurs.reads i below;
+    }))
+
+-- the places before k have nothing, whatever comes behind
+past-front : (k : ℕ) (m t : List ℕ) → ((j : ℕ) → j < k → j + 4 ≤ length m) → k ≤ length m → ((j : ℕ) → j < k → OccursAt m (codes "BUFR") j → ⊥)
+    → (at : ℕ) → scan_from 0 at (m ++ t) ≡ scan_from 0 (at + k) (drop k m ++ t)
+past-front k m t long within absent at =
+    scan_from-past k at (m ++ t) (omega (arith, length-append m t)) (λ j below. nothing-front m t j (long j below) (absent j below))
+    ∙ ap (scan_from 0 (at + k)) (drop-append-le k m t within)
+
+chain : (a b c d : Bool) → Verdict
+chain a b c d = if a then Stray Cut else if b then Stray Cut else if c then Stray ShortLength else if d then Stray NoEnd else Frame
+
+chain-bounds : (a b c d : Bool) (m : List ℕ) → 4 ≤ length m → (b ≡ false → stated m ≤ length m) → (c ≡ false → 12 ≤ stated m)
+    → (4 ≤ taken m (chain a b c d)) × (taken m (chain a b c d) ≤ length m)
+unfolding chain
+chain-bounds true b c d m four whole least = (omega arith, four)
+chain-bounds false true c d m four whole least = (omega arith, four)
+chain-bounds false false true d m four whole least = (omega arith, four)
+chain-bounds false false false true m four whole least = (omega arith, four)
+chain-bounds false false false false m four whole least = (omega (arith, least refl), whole refl)
+
+chain-decided : (c d : Bool) (at : ℕ) (m : List ℕ) → list_all is_decided (happening at m (chain false false c d)) ≡ true
+unfolding chain
+chain-decided true d at m = refl
+chain-decided false true at m = refl
+chain-decided false false at m = refl
+
+chain-cut : (b c d : Bool) → chain true b c d ≡ Stray Cut
+unfolding chain
+chain-cut b c d = refl
+
+chain-cut-second : (a c d : Bool) → chain a true c d ≡ Stray Cut
+unfolding chain
+chain-cut-second true c d = refl
+chain-cut-second false c d = refl
+
+is-chain : (m : List ℕ) → stands (codes "BUFR") 0 m ≡ true → verdict m ≡ chain (nat_lt (length m) 8) (nat_lt (length m) (stated m)) (nat_lt (stated m) 12) (not (stands (codes "7777") (stated m - 4) m))
+unfolding chain
+is-chain m here = rw here refl
+
+four-long : (m : List ℕ) → stands (codes "BUFR") 0 m ≡ true → 4 ≤ length m
+four-long m here =
+    let same : take 4 m ≡ codes "BUFR" = (bytes_eq-Decides (take 4 m) (codes "BUFR")).0 here in
+    omega (arith, length-take {A = ℕ}, ap length same)
+
+pub taken-bounds : (m : List ℕ) → stands (codes "BUFR") 0 m ≡ true → (4 ≤ taken m (verdict m)) × (taken m (verdict m) ≤ length m)
+taken-bounds m here =
+    let P : Verdict → Type 0 = λ v. (4 ≤ taken m v) × (taken m v ≤ length m) in
+    subst P (sym (is-chain m here)) (chain-bounds _ _ _ _ m (four-long m here) (λ whole. grind (arith, nat_tests, whole)) (λ least. grind (arith, nat_tests, least)))
+
+pub certain : (m : List ℕ) (at : ℕ) → stands (codes "BUFR") 0 m ≡ true → 8 ≤ length m → stated m ≤ length m → list_all is_decided (happening at m (verdict m)) ≡ true
+certain m at here long whole =
+    let a : nat_lt (length m) 8 ≡ false = grind (arith, nat_tests) in
+    let b : nat_lt (length m) (stated m) ≡ false = grind (arith, nat_tests) in
+    rw (is-chain m here, a, b) (chain-decided _ _ at m)
+
+happening-front : (at : ℕ) (m t : List ℕ) (v : Verdict) → 8 ≤ length m → stated m ≤ length m → happening at (m ++ t) v ≡ happening at m v
+happening-front at m t Nothing long whole = refl
+happening-front at m t (Stray cause) long whole = refl
+happening-front at m t Frame long whole = rw (stated-front m t long, take-append-le (stated m) m t whole) refl
+
+taken-front : (m t : List ℕ) (v : Verdict) → 8 ≤ length m → taken (m ++ t) v ≡ taken m v
+taken-front m t Nothing long = refl
+taken-front m t (Stray cause) long = refl
+taken-front m t Frame long = stated-front m t long
+
+-- the event at the front, whatever comes behind
+pub found-front : (m t : List ℕ) (at : ℕ) → stands (codes "BUFR") 0 m ≡ true → 8 ≤ length m → stated m ≤ length m
+    → scan_from 0 at (m ++ t) ≡ happening at m (verdict m) ++ scan_from 0 (at + taken m (verdict m)) (drop (taken m (verdict m)) m ++ t)
+found-front m t at here long whole =
+    let bounds = taken-bounds m here in
+    let v : verdict (m ++ t) ≡ verdict m = verdict-front m t long whole in
+    let k : taken (m ++ t) (verdict (m ++ t)) ≡ taken m (verdict m) = ap (taken (m ++ t)) v ∙ taken-front m t (verdict m) long in
+    let h : happening at (m ++ t) (verdict (m ++ t)) ≡ happening at m (verdict m) = ap (happening at (m ++ t)) v ∙ happening-front at m t (verdict m) long whole in
+    let P : ℕ → Type 0 = λ n. 0 < n in
+    scan_from-here at (m ++ t) (omega (arith, length-append m t)) (subst P (sym k) (omega (arith, bounds.0)))
+    ∙ ap (λ e. e ++ scan_from 0 (at + taken (m ++ t) (verdict (m ++ t))) (drop (taken (m ++ t) (verdict (m ++ t))) (m ++ t))) h
+    ∙ ap (λ n. happening at m (verdict m) ++ scan_from 0 (at + n) (drop n (m ++ t))) k
+    ∙ ap (λ l. happening at m (verdict m) ++ scan_from 0 (at + taken m (verdict m)) l) (drop-append-le (taken m (verdict m)) m t bounds.1)
+
+pub stands-there : (s : List ℕ) (j : ℕ) → OccursAt s (codes "BUFR") j → stands (codes "BUFR") 0 (drop j s) ≡ true
+stands-there s j occurs = (bytes_eq-Decides (take 4 (drop j s)) (codes "BUFR")).1 (OccursAt-part s (codes "BUFR") j occurs)
+
+-- the places before the first `BUFR`
+to-first : (s : List ℕ) (place : ℕ) → FindsNeedle s (codes "BUFR") 0 (Some place) → (t : List ℕ) (at : ℕ) → scan_from 0 at (s ++ t) ≡ scan_from 0 (at + place) (drop place s ++ t)
+to-first s place found t at =
+    past-front place s t (λ j below. omega (arith, found.1.fits)) (omega (arith, found.1.fits)) (λ j below. found.0.before j (omega arith) below) at
+
+-- behind the end nothing comes
+pub found-so-end : (s : List ℕ) (place : ℕ) → FindsNeedle s (codes "BUFR") 0 (Some place) → FoundSo s place (verdict (drop place s))
+found-so-end s place found =
+    let m = drop place s in
+    let k = taken m (verdict m) in
+    let here = stands-there s place found.1 in
+    let bounds = taken-bounds m here in
+    record {
+      some = verdict-there s place found.1;
+      moves = bounds.0;
+      within = omega (arith, found.1.fits, bounds.1, length-drop place s);
+      advances = λ at. record {
+        whole = λ t none.
+            let e : t ≡ [] = none refl in
+            let P : List ℕ → Type 0 = λ t'. scan_from 0 at (s ++ t') ≡ happening (at + place) m (verdict m) ++ scan_from 0 (at + place + k) (drop (place + k) s ++ t') in
+            subst P (sym e) (rw (append-nil, append-nil) (scan_from-found s (Some place) found at ∙ scan_from-front s (at + place) place k (omega (arith, found.1.fits)) refl (omega (arith, bounds.0))));
+        decided = λ going. absurd (true≢false going);
+      };
+    }
+
+none-cut : (at : ℕ) (m : List ℕ) → 0 < length m → verdict m ≡ Stray Cut → NoneDecided at m
+none-cut at m some cut =
+    let P : Verdict → Type 0 = λ v. 0 < taken m v in
+    let Q : Verdict → Type 0 = λ v. take_while is_decided (happening at m v ++ scan_from 0 (at + taken m v) (drop (taken m v) m)) ≡ [] in
+    let goes : 0 < taken m (Stray Cut) = omega arith in
+    ap (take_while is_decided) (scan_from-here at m some (subst P (sym cut) goes)) ∙ subst Q (sym cut) refl
+
+pub cut-so : (m : List ℕ) → stands (codes "BUFR") 0 m ≡ true → ((length m < 8) ⊎ (length m < stated m)) → verdict m ≡ Stray Cut
+cut-so m here (inl short) =
+    let a : nat_lt (length m) 8 ≡ true = grind (arith, nat_tests) in
+    rw (is-chain m here, a) (chain-cut _ _ _)
+cut-so m here (inr short) =
+    let a : nat_lt (length m) (stated m) ≡ true = grind (arith, nat_tests) in
+    rw (is-chain m here, a) (chain-cut-second _ _ _)
+
+-- what is certain of a stream, and where it stands then
+pub record Certain (at : ℕ) (s : List ℕ) : Type 0 where
+  pub events : List Happening
+  pub at' : ℕ
+  pub rest : List ℕ
+  pub advances : Advances false at s events at' rest
+  pub none : NoneDecided at' rest
+
+-- fewer than four octets hold no `BUFR`
+short-none : (at : ℕ) (s : List ℕ) → length s < 4 → NoneDecided at s
+short-none at s short = ap (take_while is_decided) (scan_from-found s None (λ j _ _ occurs. absurd (omega (arith, occurs.fits))) at)
+
+stays : (at : ℕ) (s : List ℕ) → NoneDecided at s → Certain at s
+stays at s none = record { events = []; at' = at; rest = s; advances = record { whole = λ t _. refl; decided = λ _. refl }; none = none }
+
+-- events, and then what is certain of the rest
+after : (at at1 : ℕ) (s s1 : List ℕ) (es : List Happening) → Advances false at s es at1 s1 → Certain at1 s1 → Certain at s
+after at at1 s s1 es one c = record {
+  events = es ++ c.events;
+  at' = c.at';
+  rest = c.rest;
+  advances = record {
+    whole = λ t none. one.whole t none ∙ ap (λ l. es ++ l) (c.advances.whole t none) ∙ sym (append_assoc es c.events (scan_from 0 c.at' (c.rest ++ t)));
+    decided = λ going. list_all-append is_decided es c.events ∙ rw (one.decided going, c.advances.decided going) refl;
+  };
+  none = c.none;
+}
+
+certain-within : (n at : ℕ) (s : List ℕ) → length s ≤ n → Certain at s
+certain-within zero at s within = stays at s (short-none at s (omega arith))
+certain-within (suc n) at [] within = stays at [] (short-none at [] (omega arith))
+certain-within (suc n) at (x ∷ m) within =
+    elim (cases_lt (length (x ∷ m)) 4) [
+      | inl short ↦ stays at (x ∷ m) (short-none at (x ∷ m) short)
+      | inr long ↦ elim (cases_Bool (stands (codes "BUFR") 0 (x ∷ m))) [
+        | inr absent ↦ after at (at + 1) (x ∷ m) m [] (record {
+          whole = λ t _. scan_from-nothing at x (m ++ t) (verdict-nothing (x ∷ (m ++ t)) (stands-front (codes "BUFR") 0 (x ∷ m) t long ∙ absent));
+          decided = λ _. refl;
+        }) (certain-within n (at + 1) m (omega arith))
+        | inl here ↦ elim (cases_lt (length (x ∷ m)) 8) [
+          | inl short ↦ stays at (x ∷ m) (none-cut at (x ∷ m) (omega arith) (cut-so (x ∷ m) here (inl short)))
+          | inr eight ↦ elim (cases_lt (length (x ∷ m)) (stated (x ∷ m))) [
+            | inl short ↦ stays at (x ∷ m) (none-cut at (x ∷ m) (omega arith) (cut-so (x ∷ m) here (inr short)))
+            | inr whole ↦ after at (at + taken (x ∷ m) (verdict (x ∷ m))) (x ∷ m) (drop (taken (x ∷ m) (verdict (x ∷ m))) (x ∷ m)) (happening at (x ∷ m) (verdict (x ∷ m))) (record {
+              whole = λ t _. found-front (x ∷ m) t at here eight whole;
+              decided = λ _. certain (x ∷ m) at here eight whole;
+            }) (certain-within n (at + taken (x ∷ m) (verdict (x ∷ m))) (drop (taken (x ∷ m) (verdict (x ∷ m))) (x ∷ m)) (omega (arith, length-drop (taken (x ∷ m) (verdict (x ∷ m))) (x ∷ m), (taken-bounds (x ∷ m) here).0)))
+          ]
+        ]
+      ]
+    ]
+
+pub take_while-all : (xs ys : List Happening) → list_all is_decided xs ≡ true → take_while is_decided (xs ++ ys) ≡ xs ++ take_while is_decided ys
+take_while-all [] ys all = refl
+take_while-all (x ∷ xs) ys all =
+    let both : (is_decided x ≡ true) × (list_all is_decided xs ≡ true) = and_parts (is_decided x) (list_all is_decided xs) all in
+    let one : 1 + prefix_len is_decided (xs ++ ys) ≡ suc (prefix_len is_decided (xs ++ ys)) = omega arith in
+    rw (both.0, one) (ap (λ l. x ∷ l) (take_while-all xs ys both.1))
+
+-- what was certain stays the front, whatever comes behind
+pub open-front : (s t : List ℕ) → (more : List Happening) × (scan (s ++ t) ≡ open_scan s ++ more)
+open-front s t =
+    let c = certain-within (length s) 0 s (omega arith) in
+    let whole : scan s ≡ c.events ++ scan_from 0 c.at' c.rest = ap (scan_from 0 0) (sym (append-nil s)) ∙ c.advances.whole [] (λ _. refl) ∙ ap (λ l. c.events ++ scan_from 0 c.at' l) (append-nil c.rest) in
+    let open' : open_scan s ≡ c.events = ap (take_while is_decided) whole ∙ take_while-all c.events (scan_from 0 c.at' c.rest) (c.advances.decided refl) ∙ ap (λ l. c.events ++ l) c.none ∙ append-nil c.events in
+    (scan_from 0 c.at' (c.rest ++ t), c.advances.whole t (λ end. absurd (true≢false (sym end))) ∙ ap (λ l. l ++ scan_from 0 c.at' (c.rest ++ t)) (sym open'))
+
+-- the same, as it is read
+pub found-here : (s m : List ℕ) (place : ℕ) (v : Verdict) → FindsNeedle s (codes "BUFR") 0 (Some place) → m ≡ drop place s → v ≡ verdict m → FoundSo s place v
+found-here s m place v found is here =
+    let V : Verdict → Type 0 = λ v'. FoundSo s place v' in
+    subst V (sym (here ∙ ap verdict is)) (found-so-end s place found)

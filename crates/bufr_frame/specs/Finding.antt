@@ -1,0 +1,95 @@
+-- What a finder does, call by call.
+use Rattle.std.specs.Prelude.{◌≡◌, ◌≢◌, ℕ, ◌+◌, ◌-◌, ◌<◌, ◌≤◌, ◌^◌, Bool, true, false, List, [], ◌∷◌, ◌++◌, Option, Some, None, IfSome, Result, Ok, Err, length, drop}
+use Rattle.std.specs.Io.KnownBytes.{Consumes, IsAtEnd}
+use Rattle.bufr_bits.specs.Counts.{counted}
+use Rattle.bufr_frame.specs.Scan.{Happening, Framed, Strayed, scan_from}
+use Rattle.bufr_frame.specs.Look.{Advances}
+use Rattle.bufr_frame.specs.Runs.{most_reads}
+use Rattle.bufr_frame.specs.declared.fault.RunFault.{RunFault}
+use Rattle.bufr_frame.specs.declared.fault.RunFault.TheVariants.{Read, Write, InputTooLong, Memory}
+use Rattle.bufr_frame.specs.declared.search.Verdict.{Verdict}
+use Rattle.bufr_frame.specs.declared.search.Verdict.TheVariants.{Nothing, Stray, Frame}
+use Rattle.bufr_frame.specs.declared.finder.Passed.{Passed}
+use Rattle.bufr_frame.specs.declared.finder.Phase.{Phase}
+use Rattle.bufr_frame.specs.declared.finder.Phase.TheVariants as phase
+
+-- what a finder stands for
+pub record State : Type 0 where
+  -- the octets that were passed and are still held
+  pub before : List ℕ
+  -- the octets that were read and are left
+  pub rest : List ℕ
+  -- the offset of the first of them
+  pub at : ℕ
+  -- whether the end was reached
+  pub ended : Bool
+  -- the fault that stopped it
+  pub fault : Option RunFault
+  -- how many reads it made
+  pub reads : ℕ
+
+-- a finder that has read nothing
+abbrev pub fresh : State
+fresh = record { before = []; rest = []; at = 0; ended = false; fault = None; reads = 0 }
+
+-- the end was reached
+abbrev pub ended_in : Phase → Bool
+ended_in phase.Unread = false
+ended_in phase.Whole = true
+ended_in (phase.Stopped fault) = false
+
+-- the fault that stopped it
+abbrev pub fault_in : Phase → Option RunFault
+fault_in phase.Unread = None
+fault_in phase.Whole = None
+fault_in (phase.Stopped fault) = Some fault
+
+-- A call read octets, passed events, and holds what is left.
+pub record StepSo (left left' : Option (List ℕ)) (old new : State) (bs : List ℕ) (events : List Happening) : Type 0 where
+  pub read : Consumes left left' bs
+  pub advances : Advances new.ended old.at (old.rest ++ bs) events new.at new.rest
+  pub kept : old.ended ≡ true → (new.ended ≡ true) × (bs ≡ []) × (new.reads ≡ old.reads)
+  pub end : (old.ended ≡ true → IsAtEnd left) → new.ended ≡ true → IsAtEnd left'
+
+-- The reads of a call are counted, by the reader and by the finder.
+pub record CountsReads (reads reads' : ℕ) (old new : State) : Type 0 where
+  pub made : reads' ≡ counted reads (new.reads - old.reads)
+  pub order : old.reads ≤ new.reads
+  pub most : new.reads ≤ most_reads
+
+-- nothing more is in what is held
+abbrev pub IsDone : State → Type 0
+IsDone s = (s.ended ≡ true) × ((at : ℕ) → scan_from 0 at s.rest ≡ [])
+
+-- how a fault leaves a finder: it is kept; never is it one of a write; an input is too long only after 2^32 reads
+abbrev pub StopsSo : State → RunFault → Type 0
+StopsSo new Read = new.fault ≡ Some Read
+StopsSo new Write = ⊥
+StopsSo new InputTooLong = (new.fault ≡ Some InputTooLong) × (new.reads ≡ most_reads)
+StopsSo new Memory = new.fault ≡ Some Memory
+
+-- the event that was passed last
+abbrev pub event_by : State → (offset len : ℕ) → Verdict → List Happening
+event_by s offset len Nothing = []
+event_by s offset len (Stray cause) = Strayed offset cause ∷ []
+event_by s offset len Frame = Framed offset (drop (length s.before - len) s.before) ∷ []
+
+abbrev pub passed_events : State → Passed → List Happening
+passed_events s p = event_by s p.offset p.len p.here
+
+-- the events of a call that goes on
+abbrev pub events_by : State → Result (Option Passed) RunFault → List Happening
+events_by s (Ok (Some passed)) = passed_events s passed
+events_by s (Ok None) = []
+events_by s (Err fault) = []
+
+-- how a call that goes on leaves a finder; for now the whole input is read before the first event
+abbrev pub OutcomeSo : State → State → Result (Option Passed) RunFault → Type 0
+OutcomeSo old new (Ok (Some passed)) = (new.fault ≡ None) × (new.ended ≡ true) × (old.at < new.at) × (passed.len ≤ length new.before) × (passed.here ≢ Nothing)
+OutcomeSo old new (Ok None) = (new.fault ≡ None) × IsDone new
+OutcomeSo old new (Err fault) = (old.ended ≡ false) × (old.fault ≡ None → StopsSo new fault)
+
+-- how reading the input leaves a finder
+abbrev pub ReadSo : State → State → Result (Unit {0}) RunFault → Type 0
+ReadSo old new (Ok u) = (new.fault ≡ None) × (new.ended ≡ true)
+ReadSo old new (Err fault) = (old.ended ≡ false) × (old.fault ≡ None → StopsSo new fault)
