@@ -1,3 +1,4 @@
+pub mod FindingLemmas
 pub mod InputLemmas
 pub mod LookLemmas
 pub mod ScanLemmas

@@ -1,12 +1,11 @@
 -- What comes behind doesn't change what was certain.
-use Rattle.std.proofs.Common.{◌≡◌, ◌⊎◌, inl, inr, ℕ, zero, suc, ◌+◌, ◌-◌, ◌*◌, ◌<◌, ◌≤◌, Bool, true, false, List, [], ◌∷◌, ◌++◌, length, take, drop, codes, refl, sym, ◌∙◌, ap, subst, arith, rules, Option, Some, None, length-drop, append_assoc, length-append, length-take, lit≤, ◌^◌, get_or, append-nil}
-use Rattle.std.specs.Prelude.{◌≢◌, if◌then◌else◌, min, max, nat_lt, not, take_while}
+use Rattle.std.proofs.Common.{◌≡◌, ◌⊎◌, inl, inr, ℕ, zero, suc, ◌+◌, ◌-◌, ◌*◌, ◌<◌, ◌≤◌, Bool, true, false, List, [], ◌∷◌, ◌++◌, length, take, drop, codes, refl, sym, ◌∙◌, ap, subst, arith, Some, None, length-drop, append_assoc, length-append, length-take, get_or, append-nil}
+use Rattle.std.specs.Prelude.{if◌then◌else◌, nat_lt, not, take_while}
 use Rattle.std.specs.List.{list_all, prefix_len}
 use Rattle.std.specs.Str.{bytes_eq}
 use Rattle.std.proofs.lemmas.Slice.Eq.{bytes_eq-Decides}
 use Rattle.std.proofs.lemmas.Bool.Decides.{nat_tests}
 use Rattle.std.proofs.lemmas.List.{get_or_append_left, take-append-le, drop-append-le}
-use Rattle.std.proofs.lemmas.Grind.{common_steps}
 use Rattle.std.proofs.lemmas.List.Folds.{list_all-append}
 use Rattle.memchr.specs.Find.{OccursAt, FindsNeedle}
 use Rattle.memchr.proofs.lemmas.MatchLemmas.{OccursAt-part}
@@ -14,10 +13,9 @@ use Rattle.std.proofs.lemmas.Bool.{true≢false, cases_Bool, cases_lt, and_parts
 use Rattle.bufr_frame.specs.declared.search.Verdict.{Verdict}
 use Rattle.bufr_frame.specs.declared.search.Verdict.TheVariants.{Nothing, Stray, Frame}
 use Rattle.bufr_frame.specs.declared.fault.Cause.TheVariants.{Cut, ShortLength, NoEnd}
-use Rattle.bufr_frame.specs.Octets.{three}
-use Rattle.bufr_frame.specs.Scan.{Happening, Framed, Strayed, scan, open_scan, scan_from, verdict, stands, stated, happening, taken, is_decided}
+use Rattle.bufr_frame.specs.Scan.{Happening, scan, open_scan, scan_from, verdict, stands, stated, happening, taken, is_decided}
 use Rattle.bufr_frame.specs.Look.{Advances, NoneDecided, FoundSo}
-use Rattle.bufr_frame.proofs.ScanLemmas.{scan_from-nothing, verdict-nothing, scan_from-here, scan_from-past, verdict-elsewhere, verdict-there, scan_from-found, scan_from-front, drop-twice}
+use Rattle.bufr_frame.proofs.ScanLemmas.{scan_from-nothing, verdict-nothing, scan_from-here, scan_from-past, verdict-elsewhere, verdict-there, scan_from-found, scan_from-front}
 
 stands-front : (text : List ℕ) (p : ℕ) (m t : List ℕ) → p + 4 ≤ length m → stands text p (m ++ t) ≡ stands text p m
 stands-front text p m t long =
@@ -141,6 +139,7 @@ found-so-end s place found =
     let here = stands-there s place found.1 in
     let bounds = taken-bounds m here in
     record {
+      is = refl;
       some = verdict-there s place found.1;
       moves = bounds.0;
       within = omega (arith, found.1.fits, bounds.1, length-drop place s);

@@ -1,5 +1,5 @@
 -- What a finder does, call by call.
-use Rattle.std.specs.Prelude.{◌≡◌, ◌≢◌, ℕ, ◌+◌, ◌-◌, ◌<◌, ◌≤◌, ◌^◌, Bool, true, false, List, [], ◌∷◌, ◌++◌, Option, Some, None, IfSome, Result, Ok, Err, length, drop}
+use Rattle.std.specs.Prelude.{◌≡◌, ◌≢◌, ℕ, ◌-◌, ◌<◌, ◌≤◌, Bool, true, false, List, [], ◌∷◌, ◌++◌, Option, Some, None, Result, Ok, Err, length, drop}
 use Rattle.std.specs.Io.KnownBytes.{Consumes, IsAtEnd}
 use Rattle.bufr_bits.specs.Counts.{counted}
 use Rattle.bufr_frame.specs.Scan.{Happening, Framed, Strayed, scan_from}
@@ -93,3 +93,9 @@ OutcomeSo old new (Err fault) = (old.ended ≡ false) × (old.fault ≡ None →
 abbrev pub ReadSo : State → State → Result (Unit {0}) RunFault → Type 0
 ReadSo old new (Ok u) = (new.fault ≡ None) × (new.ended ≡ true)
 ReadSo old new (Err fault) = (old.ended ≡ false) × (old.fault ≡ None → StopsSo new fault)
+
+-- the end, the fault and the reads stay
+pub record KeepsRun (old new : State) : Type 0 where
+  pub ended : new.ended ≡ old.ended
+  pub fault : new.fault ≡ old.fault
+  pub reads : new.reads ≡ old.reads

@@ -17,6 +17,7 @@ NoneDecided at rest = take_while is_decided (scan_from 0 at rest) ≡ []
 
 -- The first event of octets behind which nothing comes.
 pub record FoundSo (rest : List ℕ) (place : ℕ) (here : Verdict) : Type 0 where
+  pub is : here ≡ verdict (drop place rest)
   pub some : here ≢ Nothing
   pub moves : 4 ≤ taken (drop place rest) here
   pub within : place + taken (drop place rest) here ≤ length rest

@@ -1,5 +1,5 @@
 -- What a call of `Finder::next` answers.
-use Rattle.std.specs.Prelude.{◌≡◌, ℕ, ◌<◌, ◌^◌, List, [], Bool, true, false, Option, Some, None, IfSome, Result, Ok, Err}
+use Rattle.std.specs.Prelude.{◌≡◌, ℕ, ◌<◌, ◌^◌, List, [], true, false, Option, None, IfSome, Result, Ok, Err}
 use Rattle.bufr_frame.specs.Scan.{Happening}
 use Rattle.bufr_frame.specs.Events.{told}
 use Rattle.bufr_frame.specs.Finding.{State, StepSo, CountsReads, IsDone, StopsSo}

@@ -13,7 +13,7 @@ mod search;
 mod words;
 
 pub use fault::{Cause, RunFault, SectionFault, WriteFault};
-pub use finder::Event;
+pub use finder::{Event, Finder};
 pub use head::Head;
 pub use input::read_to_end;
 pub use message::Message;

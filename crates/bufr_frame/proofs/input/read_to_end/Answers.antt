@@ -1,9 +1,7 @@
-use Rattle.std.proofs.Common.{◌≡◌, ◌≤◌, ◌-◌, ◌∙◌, Ok, Err, ap, sym, refl, arith}
+use Rattle.std.proofs.Common.{◌≡◌, ◌-◌, ◌∙◌, Err, ap, sym, refl, arith}
 use Rattle.std.proofs.lemmas.Result.{err_from_is_err_and}
 use Rattle.bufr_bits.proofs.CountLemmas.{counted-none}
 use Rattle.bufr_bits.specs.Counts.{counted}
-use Rattle.bufr_frame.specs.Input.{InputEnds}
-use Rattle.bufr_frame.specs.Runs.{read_failures_after}
 use Rattle.bufr_frame.proofs.InputLemmas.{read-none, read-more, reads-input, counted-one-more, read-fault, read-end}
 use Rattle.bufr_frame.proofs.input.read_to_end.Goals as goal
 

@@ -1,6 +1,4 @@
-use Rattle.std.proofs.Common.{◌≡◌, ◌∙◌, ℕ, None, ap, sym, subst}
-use Rattle.bufr_frame.specs.Scan.{verdict}
-use Rattle.bufr_frame.specs.Look.{FoundSo}
+use Rattle.std.proofs.Common.{None}
 use Rattle.bufr_frame.proofs.ScanLemmas.{scan_from-found}
 use Rattle.bufr_frame.proofs.LookLemmas.{found-here}
 use Rattle.bufr_frame.proofs.search.look.Goals as goal

@@ -1,0 +1,12 @@
+use Rattle.std.proofs.Common.{ℕ, subst, sym}
+use Rattle.bufr_frame.specs.Finding.{event_by}
+use Rattle.bufr_frame.specs.Look.{Advances}
+use Rattle.bufr_frame.proofs.FindingLemmas.{found-step}
+use Rattle.bufr_frame.proofs.finder.Finder.pass_event.Goals as goal
+
+pub returns-clause-advances : goal.returns-clause-advances
+returns-clause-advances c =
+    let old = c.args.self.now in
+    let s' = c.pass-2.new.self in
+    let O : ℕ → Type 0 = λ o. Advances s'.ended old.at old.rest (event_by s' o c.event_len-len.result c.args.found.here) s'.at s'.rest in
+    subst O (sym c.offset-offset.ensures.value) (found-step old c.pass.new.self s' c.args.found.place c.event_len-len.result c.args.found.here c.requires.ended c.requires.found c.pass.ensures c.event_len-len.ensures c.pass-2.ensures)
