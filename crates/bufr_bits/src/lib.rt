@@ -10,3 +10,6 @@ mod script;
 pub use bit_slice::BitSlice;
 pub use device::{Device, Failed, Sink, Source};
 pub use script::{End, ScriptIn, ScriptOut};
+
+#[cfg(test)]
+mod tests;
