@@ -1,5 +1,5 @@
 -- Octets as bits, most significant first, and bits as a number. (WMO-No. 306, Volume I.2, FM 94: binary numbers are written most significant bit first)
-use Rattle.std.specs.Prelude.{ℕ, ◌+◌, ◌*◌, ◌/◌, ◌%◌, ◌==◌, Bool, if◌then◌else◌, List, [], ◌∷◌, ◌++◌}
+use Rattle.std.specs.Prelude.{ℕ, ◌+◌, ◌*◌, ◌/◌, ◌%◌, ◌==◌, Bool, if◌then◌else◌, List, [], ◌∷◌, ◌++◌, take, drop}
 
 -- the eight bits of an octet
 abbrev pub bits_of_octet : ℕ → List Bool
@@ -19,3 +19,7 @@ number_behind n (bit ∷ bits) = number_behind (2 * n + (if bit then 1 else 0)) 
 -- the number that bits write
 abbrev pub number_of : List Bool → ℕ
 number_of bits = number_behind 0 bits
+
+-- so many of the bits of octets, from a place on
+abbrev pub bits_at : (octets : List ℕ) (at width : ℕ) → List Bool
+bits_at octets at width = take width (drop at (bits_of octets))

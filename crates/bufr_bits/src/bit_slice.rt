@@ -1,5 +1,5 @@
 //! Octets read as bits, most significant first.
-ghost use Rattle.std.specs.Prelude.{◌≤◌, ◌^◌, length};
+ghost use Rattle.std.specs.Prelude.{◌≡◌, ◌≤◌, ◌<◌, ◌+◌, ◌-◌, ◌/◌, ◌%◌, ◌^◌, length};
 
 /// Octets that are read as bits, at most 2^60 octets. Bits are counted from 0, most significant
 /// first.
@@ -10,7 +10,8 @@ pub struct BitSlice<'a> {
 }
 
 impl<'a> BitSlice<'a> {
-    ghost use Rattle.std.specs.Prelude.{◌≡◌, ◌≤◌, ◌+◌, ◌*◌, ◌^◌, length};
+    ghost use Rattle.std.specs.Prelude.{◌≡◌, ◌≤◌, ◌+◌, ◌*◌, ◌^◌, ◌<◌, length, SomeIff, IfSome};
+    ghost use Rattle.bufr_bits.specs.Bits.{number_of, bits_at};
     ghost use Rattle.bufr_bits.specs.BitSlice.{octets_of};
 
     /// The bits of `octets`.
@@ -27,4 +28,46 @@ impl<'a> BitSlice<'a> {
     {
         8 * self.octets.len() as u64
     }
+
+    /// The number that `width` bits write from bit `at` on, most significant first; `None` exactly
+    /// where they go past the end. No bits write 0.
+    pub fn get(&self, at: u64, width: u32) -> Option<u64>
+        requires { width ≤ 63 }
+        ensures value { SomeIff result (at + width ≤ 8 * length (octets_of self.now)) (number_of (bits_at (octets_of self.now) at width)) }
+        ensures below { IfSome result (λ value. value < 2 ^ width) }
+    {
+        let len = self.len_bits();
+        if at > len || u64::from(width) > len - at {
+            return None;
+        }
+        let mut value = 0u64;
+        let mut done = 0u32;
+        while done < width {
+            let place = at + u64::from(done);
+            let from = (place % 8) as u32;
+            let taken = (8 - from).min(width - done);
+            let octet = self.octets[(place / 8) as usize];
+            value = (value << taken) + part_of(octet, from, taken);
+            done += taken;
+        }
+        Some(value)
+    }
+
+    /// The eight bits from bit `at` on as an octet; `None` exactly where they go past the end.
+    pub fn octet(&self, at: u64) -> Option<u8>
+        ensures { SomeIff result (at + 8 ≤ 8 * length (octets_of self.now)) (number_of (bits_at (octets_of self.now) at 8)) }
+    {
+        let octet = self.get(at, 8)?;
+        Some(octet as u8)
+    }
+}
+
+/// `width` bits of an octet from bit `from` on, as a number.
+fn part_of(octet: u8, from: u32, width: u32) -> u64
+    requires some { 0 < width }
+    requires within { from + width ≤ 8 }
+    ensures value { result ≡ octet / 2 ^ (8 - from - width) % 2 ^ width }
+    ensures octet { octet < 2 ^ 8 }
+{
+    u64::from(octet >> (8 - from - width)) % (1 << width)
 }

@@ -5,6 +5,11 @@
 
 mod bit_slice;
 mod device;
+mod script;
 
 pub use bit_slice::BitSlice;
 pub use device::{Device, Failed, Sink, Source};
+pub use script::{End, ScriptIn, ScriptOut};
+
+#[cfg(test)]
+mod tests;
