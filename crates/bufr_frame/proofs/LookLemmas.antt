@@ -93,6 +93,19 @@ taken-bounds m here =
     let P : Verdict → Type 0 = λ v. (4 ≤ taken m v) × (taken m v ≤ length m) in
     subst P (sym (is-chain m here)) (chain-bounds _ _ _ _ m (four-long m here) (λ whole. grind (arith, nat_tests, whole)) (λ least. grind (arith, nat_tests, least)))
 
+chain-frame : (a b c d : Bool) → chain a b c d ≡ Frame → c ≡ false
+unfolding chain
+chain-frame true b c d is = cc
+chain-frame false true c d is = cc
+chain-frame false false true d is = cc
+chain-frame false false false d is = refl
+
+-- a message has at least 12 octets
+frame-long : (m : List ℕ) → stands (codes "BUFR") 0 m ≡ true → verdict m ≡ Frame → 12 ≤ stated m
+frame-long m here is =
+    let least : nat_lt (stated m) 12 ≡ false = chain-frame _ _ _ _ (sym (is-chain m here) ∙ is) in
+    grind (arith, nat_tests, least)
+
 pub certain : (m : List ℕ) (at : ℕ) → stands (codes "BUFR") 0 m ≡ true → 8 ≤ length m → stated m ≤ length m → list_all is_decided (happening at m (verdict m)) ≡ true
 certain m at here long whole =
     let a : nat_lt (length m) 8 ≡ false = grind (arith, nat_tests) in
@@ -141,6 +154,7 @@ found-so-end s place found =
     record {
       is = refl;
       some = verdict-there s place found.1;
+      frame = frame-long m here;
       moves = bounds.0;
       within = omega (arith, found.1.fits, bounds.1, length-drop place s);
       advances = λ at. record {

@@ -85,7 +85,7 @@ events_by s (Err fault) = []
 
 -- how a call that goes on leaves a finder; for now the whole input is read before the first event
 abbrev pub OutcomeSo : State → State → Result (Option Passed) RunFault → Type 0
-OutcomeSo old new (Ok (Some passed)) = (new.fault ≡ None) × (new.ended ≡ true) × (old.at < new.at) × (passed.len ≤ length new.before) × (passed.here ≢ Nothing)
+OutcomeSo old new (Ok (Some passed)) = (new.fault ≡ None) × (new.ended ≡ true) × (old.at < new.at) × (passed.len ≤ length new.before) × (passed.here ≢ Nothing) × (passed.here ≡ Frame → 12 ≤ passed.len)
 OutcomeSo old new (Ok None) = (new.fault ≡ None) × IsDone new
 OutcomeSo old new (Err fault) = (old.ended ≡ false) × (old.fault ≡ None → StopsSo new fault)
 

@@ -1,9 +1,9 @@
 -- How a scan goes on behind its first events.
 use Rattle.std.specs.Prelude.{◌≡◌, ◌≢◌, ℕ, ◌+◌, ◌≤◌, Bool, true, false, List, [], ◌++◌, Option, Some, None, length, drop, take_while}
 use Rattle.std.specs.List.{list_all}
-use Rattle.bufr_frame.specs.Scan.{Happening, scan_from, verdict, happening, taken, is_decided}
+use Rattle.bufr_frame.specs.Scan.{Happening, scan_from, verdict, happening, taken, stated, is_decided}
 use Rattle.bufr_frame.specs.declared.search.Verdict.{Verdict}
-use Rattle.bufr_frame.specs.declared.search.Verdict.TheVariants.{Nothing}
+use Rattle.bufr_frame.specs.declared.search.Verdict.TheVariants.{Nothing, Frame}
 use Rattle.bufr_frame.specs.declared.search.Found.{Found}
 
 -- The scan of `rest` begins with `events` and goes on at `rest'`, whatever comes behind; behind the end nothing does.
@@ -19,6 +19,7 @@ NoneDecided at rest = take_while is_decided (scan_from 0 at rest) ≡ []
 pub record FoundSo (rest : List ℕ) (place : ℕ) (here : Verdict) : Type 0 where
   pub is : here ≡ verdict (drop place rest)
   pub some : here ≢ Nothing
+  pub frame : here ≡ Frame → 12 ≤ stated (drop place rest)
   pub moves : 4 ≤ taken (drop place rest) here
   pub within : place + taken (drop place rest) here ≤ length rest
   pub advances : (at : ℕ) → Advances true at rest (happening (at + place) (drop place rest) here)

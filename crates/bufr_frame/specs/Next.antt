@@ -1,5 +1,5 @@
 -- What a call of `Finder::next` answers.
-use Rattle.std.specs.Prelude.{◌≡◌, ℕ, ◌<◌, ◌^◌, List, [], true, false, Option, None, IfSome, Result, Ok, Err}
+use Rattle.std.specs.Prelude.{◌≡◌, ℕ, ◌<◌, ◌≤◌, ◌^◌, length, List, [], true, false, Option, None, IfSome, Result, Ok, Err}
 use Rattle.bufr_frame.specs.Scan.{Happening}
 use Rattle.bufr_frame.specs.Events.{told}
 use Rattle.bufr_frame.specs.Finding.{State, StepSo, CountsReads, IsDone, StopsSo}
@@ -13,7 +13,7 @@ told_by (Err fault) = []
 
 -- how a call leaves the finder; for now the whole input is read before the first event, so a fault comes before all events
 abbrev pub EndsSo : State → State → Result Event RunFault → Type 0
-EndsSo old new (Ok (Frame offset octets)) = (new.fault ≡ None) × (new.ended ≡ true) × (old.at < new.at)
+EndsSo old new (Ok (Frame offset octets)) = (new.fault ≡ None) × (new.ended ≡ true) × (old.at < new.at) × (12 ≤ length octets.now)
 EndsSo old new (Ok (Stray offset cause)) = (new.fault ≡ None) × (new.ended ≡ true) × (old.at < new.at)
 EndsSo old new (Ok Done) = (new.fault ≡ None) × IsDone new
 EndsSo old new (Err fault) = (old.ended ≡ false) × (old.fault ≡ None → StopsSo new fault)

@@ -164,6 +164,7 @@ impl Finder {
         ensures same { KeepsRun self.old self.new }
         ensures within { result.len ≤ length self.new.before }
         ensures event { result.here ≢ Verdict.Nothing }
+        ensures frame { result.here ≡ Verdict.Frame → 12 ≤ result.len }
         ensures moves { self.old.at < self.new.at }
         ensures near { self.new.at < 2 ^ 63 }
     {
@@ -209,6 +210,7 @@ impl Finder {
     fn event(&self, passed: Passed) -> Event<'_>
         requires within { passed.len ≤ length self.now.before }
         requires some { passed.here ≢ Verdict.Nothing }
+        requires frame { passed.here ≡ Verdict.Frame → 12 ≤ passed.len }
         ensures told { told result ≡ passed_events self.now passed }
         ensures event { IsEvent result }
     {
