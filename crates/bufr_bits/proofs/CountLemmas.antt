@@ -1,6 +1,7 @@
 -- Counts that go up more than once.
-use Rattle.std.proofs.Common.{◌≡◌, ℕ, ◌+◌, ◌-◌, ◌^◌, arith, min, max}
-use Rattle.bufr_bits.specs.Counts.{counted}
+use Rattle.std.proofs.Common.{◌≡◌, ℕ, zero, suc, ◌+◌, ◌-◌, ◌^◌, ◌<◌, List, [], ◌∷◌, length, Ok, arith, refl, min, max}
+use Rattle.std.specs.Prelude.{Result}
+use Rattle.bufr_bits.specs.Counts.{counted, empty_writes_after}
 
 twice : (count a b most : ℕ) → max (max count (min (count + a) most)) (min (max count (min (count + a) most) + b) most) ≡ max count (min (count + (a + b)) most)
 twice count a b most = omega arith
@@ -15,3 +16,19 @@ none count most = omega arith
 -- a count that stays
 pub counted-none : (count : ℕ) → counted count 0 ≡ count
 counted-none count = none count (2 ^ 64 - 1)
+
+-- a write that took octets is no empty one
+pub empty_writes_after-some : {E : Type 0} (count : ℕ) (octets : List ℕ) (r : Result ℕ E) (n : ℕ) → r ≡ Ok n → 0 < n → empty_writes_after {E = E} count octets r ≡ count
+empty_writes_after-some {E} count octets r n is some = rw is (at n some)
+  where
+    at : (n : ℕ) → 0 < n → (let x : Result ℕ E = Ok n in empty_writes_after count octets x ≡ count)
+    at zero some = absurd (omega arith)
+    at (suc n) some = refl
+
+-- a write that took none of some octets is an empty one
+pub empty_writes_after-none : {E : Type 0} (count : ℕ) (octets : List ℕ) (r : Result ℕ E) (n : ℕ) → r ≡ Ok n → n ≡ 0 → 0 < length octets → empty_writes_after {E = E} count octets r ≡ counted count 1
+empty_writes_after-none {E} count octets r n is none some = rw (is, none) (at octets some)
+  where
+    at : (octets : List ℕ) → 0 < length octets → (let x : Result ℕ E = Ok 0 in empty_writes_after count octets x ≡ counted count 1)
+    at [] some = absurd (omega arith)
+    at (octet ∷ more) some = refl

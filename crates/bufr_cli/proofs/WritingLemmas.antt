@@ -1,0 +1,76 @@
+-- Texts that are written one after another.
+use Rattle.std.proofs.Common.{zero, suc, get_or, ◌≡◌, ℕ, ◌+◌, ◌-◌, ◌<◌, ◌≤◌, List, [], ◌∷◌, ◌++◌, length, take, drop, refl, sym, ◌∙◌, ap, subst, arith, Option, Ok, Err, append_assoc, append-nil, length-drop, length-take, length-append}
+use Rattle.std.specs.Prelude.{Result, flat_map, replicate}
+use Rattle.std.specs.Io.KnownBytes.{Appends, WriteAppends}
+use Rattle.std.proofs.KnownBytes.{Appends-trans}
+use Rattle.std.proofs.lemmas.List.{take-append-drop}
+use Rattle.bufr_frame.specs.declared.fault.RunFault.{RunFault}
+use Rattle.bufr_cli.specs.Writing.{Writes, GrowsByFront, part_text}
+use Rattle.bufr_cli.specs.declared.part.Part.{Part}
+use Rattle.std.proofs.Math.Seq.{drop-cons}
+use Rattle.std.proofs.lemmas.Grind.{flat_map-append}
+
+module _ (a b c : Option (List ℕ)) (s t : List ℕ) where
+  -- the first was written, and then the second
+  pub Writes-then : {X : Type 0} (r : Result X RunFault) → Appends a b s → Writes b c t r → Writes a c (s ++ t) r
+  Writes-then (Ok x) first second = Appends-trans a b c s t first second
+  Writes-then (Err f) first second = (
+    second.0,
+    record {
+      front = s ++ second.1.front;
+      back = second.1.back;
+      parts = ap (λ l. s ++ l) second.1.parts ∙ sym (append_assoc s second.1.front second.1.back);
+      gains = Appends-trans a b c s second.1.front first second.1.gains;
+    },
+  )
+
+front-more : (a b : Option (List ℕ)) (s t : List ℕ) → GrowsByFront a b s → GrowsByFront a b (s ++ t)
+front-more a b s t first = record {
+  front = first.front;
+  back = first.back ++ t;
+  parts = ap (λ l. l ++ t) first.parts ∙ append_assoc first.front first.back t;
+  gains = first.gains;
+}
+
+-- the first failed
+pub Writes-stop : {X Y : Type 0} (a b : Option (List ℕ)) (s t : List ℕ) (first : Result X RunFault) (r : Result Y RunFault) (f : RunFault) → first ≡ Err f → r ≡ Err f → Writes a b s first → Writes a b (s ++ t) r
+Writes-stop a b s t first r f is same writes =
+    let here = rw is at writes in
+    rw same (here.0, front-more a b s t here.1)
+
+-- a front of the octets was written, and the rest is left
+pub record WrittenSoFar (old now : Option (List ℕ)) (octets rest : List ℕ) : Type 0 where
+  pub front : List ℕ
+  pub parts : octets ≡ front ++ rest
+  pub gains : Appends old now front
+
+-- one more write of the rest
+pub more-written : (a b c : Option (List ℕ)) (octets rest rest' : List ℕ) (n : ℕ) → WrittenSoFar a b octets rest → n ≤ length rest → Appends b c (take n rest) → rest' ≡ drop n rest
+    → WrittenSoFar a c octets rest'
+more-written a b c octets rest rest' n before within more is = record {
+  front = before.front ++ take n rest;
+  parts = before.parts ∙ ap (λ l. before.front ++ l) (sym (take-append-drop n rest) ∙ ap (λ l. take n rest ++ l) (sym is)) ∙ sym (append_assoc before.front (take n rest) rest');
+  gains = Appends-trans a b c before.front (take n rest) before.gains more;
+}
+
+-- zeros from a literal
+pub take-zeros : (n : ℕ) → n ≤ 4 → take {A = ℕ} n (48 ∷ 48 ∷ 48 ∷ 48 ∷ []) ≡ replicate n 48
+take-zeros zero h = refl
+take-zeros (suc zero) h = refl
+take-zeros (suc (suc zero)) h = refl
+take-zeros (suc (suc (suc zero))) h = refl
+take-zeros (suc (suc (suc (suc zero)))) h = refl
+take-zeros (suc (suc (suc (suc (suc n))))) h = absurd (omega arith)
+
+-- a piece failed
+pub parts-stop : {X Y : Type 0} (a b c : Option (List ℕ)) (parts : List Part) (i : ℕ) (d : Part) (first : Result X RunFault) (r : Result Y RunFault) (f : RunFault)
+    → i < length parts → Appends a b (flat_map part_text (take i parts)) → Writes b c (part_text (get_or parts i d)) first → first ≡ Err f → r ≡ Err f
+    → Writes a c (flat_map part_text parts) r
+parts-stop a b c parts i d first r f within before writes is same =
+    let split : parts ≡ take i parts ++ (get_or parts i d ∷ drop (suc i) parts) = sym (take-append-drop i parts) ∙ ap (λ l. take i parts ++ l) (drop-cons parts i d within) in
+    let text : flat_map part_text parts ≡ (flat_map part_text (take i parts) ++ part_text (get_or parts i d)) ++ flat_map part_text (drop (suc i) parts) =
+    ap (flat_map part_text) split ∙ flat_map-append part_text (take i parts) (get_or parts i d ∷ drop (suc i) parts)
+    ∙ sym (append_assoc (flat_map part_text (take i parts)) (part_text (get_or parts i d)) (flat_map part_text (drop (suc i) parts))) in
+    let P : List ℕ → Type 0 = λ t. Writes a c t r in
+    subst P (sym text) (Writes-stop a c (flat_map part_text (take i parts) ++ part_text (get_or parts i d)) (flat_map part_text (drop (suc i) parts)) first r f is same
+    (Writes-then a b c (flat_map part_text (take i parts)) (part_text (get_or parts i d)) first before writes))

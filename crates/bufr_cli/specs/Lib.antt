@@ -1,0 +1,5 @@
+pub mod Writing
+pub mod LsLine
+pub mod FaultLine
+pub mod Pieces
+pub mod Running

@@ -1,0 +1,46 @@
+-- What a run writes on which writer, in order. (a choice of this project)
+use Rattle.std.specs.Prelude.{ℕ, ◌+◌, Bool, true, false, List, [], map, flat_map, Result, Ok, Err}
+use Rattle.bufr_frame.specs.Scan.{Happening, Framed, Strayed, scan}
+use Rattle.bufr_frame.specs.Sections.{Sections, sections_of}
+use Rattle.bufr_frame.specs.declared.fault.SectionFault.{SectionFault}
+use Rattle.bufr_cli.specs.LsLine.{ls_line}
+use Rattle.bufr_cli.specs.FaultLine.{fault_line, cause_text, section_fault_text}
+
+-- a text for the output, or one for the errors
+pub data Piece : Type 0 where
+  OnOutput : (text : List ℕ) → Piece
+  OnErrors : (text : List ℕ) → Piece
+
+-- what a piece puts on the output
+abbrev pub output_of : Piece → List ℕ
+output_of (OnOutput text) = text
+output_of (OnErrors text) = []
+
+-- what a piece puts on the errors
+abbrev pub errors_of : Piece → List ℕ
+errors_of (OnOutput text) = []
+errors_of (OnErrors text) = text
+
+-- it goes to the output
+abbrev pub is_accepted : Piece → Bool
+is_accepted (OnOutput text) = true
+is_accepted (OnErrors text) = false
+
+-- it goes to the errors
+abbrev pub is_refused : Piece → Bool
+is_refused (OnOutput text) = false
+is_refused (OnErrors text) = true
+
+-- the line of a message that was taken apart, or the fault line
+abbrev pub listed : ℕ → Result Sections SectionFault → Piece
+listed offset (Ok sections) = OnOutput (ls_line offset sections)
+listed offset (Err fault) = OnErrors (fault_line offset (section_fault_text fault))
+
+-- what `ls` writes for an event
+abbrev pub ls_piece : Happening → Piece
+ls_piece (Framed offset octets) = listed offset (sections_of octets)
+ls_piece (Strayed offset cause) = OnErrors (fault_line offset (cause_text cause))
+
+-- what `ls` writes for a whole input
+abbrev pub ls_pieces : List ℕ → List Piece
+ls_pieces s = map ls_piece (scan s)
