@@ -7,12 +7,12 @@ use Rattle.bufr_frame.specs.declared.fault.SectionFault.TheVariants.{Edition, Se
 use Rattle.bufr_cli.specs.Writing.{joined}
 
 -- the number and the text of a stray word
-abbrev pub cause_text : Cause → List (List ℕ)
-cause_text Cut = codes "1 cut" ∷ []
-cause_text ShortLength = codes "2 short length" ∷ []
-cause_text NoEnd = codes "3 no end" ∷ []
+abbrev pub cause_text : Cause → List ℕ
+cause_text Cut = codes "1 cut"
+cause_text ShortLength = codes "2 short length"
+cause_text NoEnd = codes "3 no end"
 
--- the number and the text of a section fault
+-- the number and the text of a section fault, in parts
 abbrev pub section_fault_text : SectionFault → List (List ℕ)
 section_fault_text (Edition edition) = codes "10 edition " ∷ decimal edition ∷ []
 section_fault_text (SectionShort section) = codes "11 section " ∷ decimal section ∷ codes " short" ∷ []

@@ -1,5 +1,5 @@
 -- What a run writes on which writer, in order. (a choice of this project)
-use Rattle.std.specs.Prelude.{ℕ, ◌+◌, Bool, true, false, List, [], map, flat_map, Result, Ok, Err}
+use Rattle.std.specs.Prelude.{ℕ, ◌+◌, Bool, true, false, List, [], ◌∷◌, map, flat_map, Result, Ok, Err}
 use Rattle.bufr_frame.specs.Scan.{Happening, Framed, Strayed, scan}
 use Rattle.bufr_frame.specs.Sections.{Sections, sections_of}
 use Rattle.bufr_frame.specs.declared.fault.SectionFault.{SectionFault}
@@ -39,7 +39,7 @@ listed offset (Err fault) = OnErrors (fault_line offset (section_fault_text faul
 -- what `ls` writes for an event
 abbrev pub ls_piece : Happening → Piece
 ls_piece (Framed offset octets) = listed offset (sections_of octets)
-ls_piece (Strayed offset cause) = OnErrors (fault_line offset (cause_text cause))
+ls_piece (Strayed offset cause) = OnErrors (fault_line offset (cause_text cause ∷ []))
 
 -- what `ls` writes for a whole input
 abbrev pub ls_pieces : List ℕ → List Piece

@@ -1,5 +1,5 @@
 -- The words of octets, one by one.
-use Rattle.std.proofs.Common.{◌≡◌, ℕ, zero, suc, ◌+◌, ◌*◌, ◌<◌, ◌≤◌, List, [], ◌∷◌, length, refl, ◌∙◌, ap, sym, arith, Some, None, slice_get}
+use Rattle.std.proofs.Common.{◌≡◌, ℕ, zero, suc, ◌+◌, ◌*◌, ◌/◌, ◌<◌, ◌≤◌, List, [], ◌∷◌, length, refl, ◌∙◌, ap, sym, arith, Some, None, slice_get}
 use Rattle.bufr_frame.specs.Octets.{two, words}
 
 two-behind : (a b i : ℕ) (m : List ℕ) → two (a ∷ b ∷ m) (2 * suc i) ≡ two m (2 * i)
@@ -20,3 +20,15 @@ words-some [] i within = absurd (omega arith)
 words-some (a ∷ []) i within = absurd (omega arith)
 words-some (a ∷ b ∷ m) zero within = refl
 words-some (a ∷ b ∷ m) (suc i) within = words-some m i (omega arith) ∙ ap Some (sym (two-behind a b i m))
+
+-- two octets a word
+pub length-words : (m : List ℕ) → length (words m) ≡ length m / 2
+length-words [] = refl
+length-words (a ∷ []) = refl
+length-words (a ∷ b ∷ m) = omega (arith, length-words m)
+
+-- fewer than two octets hold no word
+pub words-empty : (m : List ℕ) → length m < 2 → words m ≡ []
+words-empty [] short = refl
+words-empty (a ∷ []) short = refl
+words-empty (a ∷ b ∷ m) short = absurd (omega arith)

@@ -8,7 +8,7 @@ pub struct Words<'a> {
 }
 
 impl<'a> Words<'a> {
-    ghost use Rattle.std.specs.Prelude.{◌≡◌};
+    ghost use Rattle.std.specs.Prelude.{◌≡◌, ◌↔◌, [], length, IsTrue};
     ghost use Rattle.bufr_frame.specs.Octets.{words};
     ghost use Rattle.bufr_frame.specs.Words.{words_left};
 
@@ -17,6 +17,20 @@ impl<'a> Words<'a> {
         ensures { words_left result ≡ words octets.now }
     {
         Words { octets }
+    }
+
+    /// How many words are left.
+    pub fn len(&self) -> usize
+        ensures { result ≡ length (words_left self.now) }
+    {
+        self.octets.len() / 2
+    }
+
+    /// Whether no word is left.
+    pub fn is_empty(&self) -> bool
+        ensures { IsTrue result ↔ (words_left self.now ≡ []) }
+    {
+        self.octets.len() < 2
     }
 }
 

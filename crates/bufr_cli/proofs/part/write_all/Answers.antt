@@ -10,8 +10,10 @@ pub returns-in-Ok-eq0-clause-counts : goal.returns-in-Ok-eq0-clause-counts
 returns-in-Ok-eq0-clause-counts g c =
     let before = c.loop-rest.invariant in
     let some : 0 < length c.loop-rest.rest.now = grind (arith, nat_tests, c.loop-rest-test.ensures) in
-    inr (c.in-Ok-eq0.ensures.failed ∙ before.failures,
-    c.write.ensures.empty ∙ empty_writes_after-none _ _ c.write.result _ c.in-Ok-eq0.is c.in-Ok-eq0.field-0-test some ∙ ap (λ n. counted n 1) before.empty)
+    inr (
+      c.in-Ok-eq0.ensures.failed ∙ before.failures,
+      c.write.ensures.empty ∙ empty_writes_after-none _ _ c.write.result _ c.in-Ok-eq0.is c.in-Ok-eq0.field-0-test some ∙ ap (λ n. counted n 1) before.empty,
+    )
 
 pub returns-in-Err-clause-counts : goal.returns-in-Err-clause-counts
 returns-in-Err-clause-counts g c =
