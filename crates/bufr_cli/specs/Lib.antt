@@ -1,5 +1,6 @@
-pub mod Writing
-pub mod LsLine
 pub mod FaultLine
+pub mod LsLine
 pub mod Pieces
+pub mod ReadAll
 pub mod Running
+pub mod Writing

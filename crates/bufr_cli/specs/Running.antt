@@ -1,5 +1,5 @@
 -- What a run leaves, by its answer. (a choice of this project)
-use Rattle.std.specs.Prelude.{◌≡◌, ◌⊎◌, ℕ, List, [], ◌∷◌, ◌++◌, Option, Result, Ok, Err, flat_map, count_by}
+use Rattle.std.specs.Prelude.{◌≡◌, ◌⊎◌, ℕ, ◌+◌, List, [], ◌∷◌, ◌++◌, Option, Result, Ok, Err, flat_map, count_by}
 use Rattle.std.specs.Io.KnownBytes.{Consumes, Appends, IsAtEnd}
 use Rattle.bufr_bits.specs.Counts.{counted}
 use Rattle.bufr_frame.specs.Runs.{most_reads}
@@ -30,3 +30,47 @@ pub record WrittenInPart (w w' e e' : Option (List ℕ)) (pieces : List Piece) :
 pub record Tallies (tally : Tally) (pieces : List Piece) : Type 0 where
   pub accepted : tally.accepted ≡ count_by is_accepted pieces
   pub refused : tally.refused ≡ count_by is_refused pieces
+
+-- The input was read to its end, its pieces were written and counted.
+pub record RunDone (pieces_of : List ℕ → List Piece) (left left' w w' e e' : Option (List ℕ)) (bs : List ℕ) (tally : Tally) : Type 0 where
+  pub read : Consumes left left' bs
+  pub end : IsAtEnd left'
+  pub written : Written w w' e e' (pieces_of bs)
+  pub tallies : Tallies tally (pieces_of bs)
+
+-- The run stopped before anything was written.
+pub record RunStopped (left left' w w' e e' : Option (List ℕ)) (bs : List ℕ) : Type 0 where
+  pub read : Consumes left left' bs
+  pub written : Written w w' e e' []
+
+-- The input was read to its end, and a writer failed.
+pub record RunCut (pieces_of : List ℕ → List Piece) (left left' w w' e e' : Option (List ℕ)) (bs : List ℕ) : Type 0 where
+  pub read : Consumes left left' bs
+  pub end : IsAtEnd left'
+  pub written : WrittenInPart w w' e e' (pieces_of bs)
+
+-- what a run leaves that reads these octets; for now the input is read whole before anything is written
+abbrev pub RunSo : (pieces_of : List ℕ → List Piece) → (left left' w w' e e' : Option (List ℕ)) → List ℕ → Result Tally RunFault → Type 0
+RunSo pieces_of left left' w w' e e' bs (Ok tally) = RunDone pieces_of left left' w w' e e' bs tally
+RunSo pieces_of left left' w w' e e' bs (Err Read) = RunStopped left left' w w' e e' bs
+RunSo pieces_of left left' w w' e e' bs (Err InputTooLong) = RunStopped left left' w w' e e' bs
+RunSo pieces_of left left' w w' e e' bs (Err Memory) = RunStopped left left' w w' e e' bs
+RunSo pieces_of left left' w w' e e' bs (Err Write) = RunCut pieces_of left left' w w' e e' bs
+
+-- pieces were written, or a front of them where a writer failed
+abbrev pub WritesPieces : {X : Type 0} → (w w' e e' : Option (List ℕ)) → List Piece → Result X RunFault → Type 0
+WritesPieces w w' e e' pieces (Ok x) = Written w w' e e' pieces
+WritesPieces w w' e e' pieces (Err fault) =
+    (fault ≡ Write) × GrowsByFront w w' (flat_map output_of pieces) × GrowsByFront e e' (flat_map errors_of pieces)
+
+-- a write fault comes from one of the two writers; without one both stay
+abbrev pub BlamesWriter : {X : Type 0} → Result X RunFault → (output_stays output_fails errors_stays errors_fails : Type 0) → Type 0
+BlamesWriter (Ok x) output_stays output_fails errors_stays errors_fails = output_stays × errors_stays
+BlamesWriter (Err Read) output_stays output_fails errors_stays errors_fails = output_stays × errors_stays
+BlamesWriter (Err InputTooLong) output_stays output_fails errors_stays errors_fails = output_stays × errors_stays
+BlamesWriter (Err Memory) output_stays output_fails errors_stays errors_fails = output_stays × errors_stays
+BlamesWriter (Err Write) output_stays output_fails errors_stays errors_fails = (output_fails × errors_stays) ⊎ (output_stays × errors_fails)
+
+-- one more piece in a tally
+abbrev pub tally_after : Tally → List Piece → Tally
+tally_after tally pieces = record { accepted = tally.accepted + count_by is_accepted pieces; refused = tally.refused + count_by is_refused pieces }

@@ -19,11 +19,18 @@ abbrev pub Writes : {X : Type 0} → Option (List ℕ) → Option (List ℕ) →
 Writes old new text (Ok x) = Appends old new text
 Writes old new text (Err fault) = (fault ≡ Write) × GrowsByFront old new text
 
--- a write fault comes only from a call that the writer counts as a failure or as an empty write; nothing else changes the counts
+-- no call of the writer failed or took nothing
+abbrev pub Stays : (failures failures' empty empty' : ℕ) → Type 0
+Stays failures failures' empty empty' = (failures' ≡ failures) × (empty' ≡ empty)
+
+-- one call of the writer failed, or one write took nothing
+abbrev pub Fails : (failures failures' empty empty' : ℕ) → Type 0
+Fails failures failures' empty empty' = ((failures' ≡ counted failures 1) × (empty' ≡ empty)) ⊎ ((failures' ≡ failures) × (empty' ≡ counted empty 1))
+
+-- a write fault comes only from a call that the writer counts; nothing else changes its counts
 abbrev pub CountsWrites : {X : Type 0} → (failures failures' empty empty' : ℕ) → Result X RunFault → Type 0
-CountsWrites failures failures' empty empty' (Ok x) = (failures' ≡ failures) × (empty' ≡ empty)
-CountsWrites failures failures' empty empty' (Err fault) =
-    ((failures' ≡ counted failures 1) × (empty' ≡ empty)) ⊎ ((failures' ≡ failures) × (empty' ≡ counted empty 1))
+CountsWrites failures failures' empty empty' (Ok x) = Stays failures failures' empty empty'
+CountsWrites failures failures' empty empty' (Err fault) = Fails failures failures' empty empty'
 
 -- decimal digits, at least so many, zeros in front
 abbrev pub padded : (least n : ℕ) → List ℕ

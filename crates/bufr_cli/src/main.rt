@@ -4,6 +4,8 @@
 mod fault_line;
 mod ls_line;
 mod part;
+mod read_all;
+mod run_ls;
 mod tally;
 
 fn main() {}
