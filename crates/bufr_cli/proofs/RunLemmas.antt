@@ -1,12 +1,27 @@
 -- What a run writes, event by event.
-use Rattle.std.proofs.Common.{◌≡◌, ◌∙◌, ℕ, ◌+◌, List, [], ◌∷◌, ◌++◌, refl, sym, ap, subst, Option, Ok, Err, append-nil}
-use Rattle.std.specs.Prelude.{Result, flat_map}
-use Rattle.std.specs.Io.KnownBytes.{Appends}
-use Rattle.std.proofs.KnownBytes.{Appends-nil}
+use Rattle.std.proofs.Common.{◌≡◌, ◌∙◌, ◌⊎◌, ◌≤◌, ◌<◌, ◌^◌, ℕ, ◌+◌, ◌-◌, Bool, true, false, List, [], ◌∷◌, ◌++◌, refl, sym, ap, subst, arith, Option, Some, None, Ok, Err, append-nil, append_assoc}
+use Rattle.std.specs.Prelude.{Result, flat_map, map, count_by, IfSome, IfOk}
+use Rattle.std.specs.Io.KnownBytes.{Appends, Consumes, IsAtEnd, Keeps}
+use Rattle.std.proofs.KnownBytes.{Appends-nil, Appends-trans, Appends-kept, Consumes-nil, Consumes-trans, Consumes-whole}
+use Rattle.std.proofs.lemmas.Bool.{true≢false, false≢true, cases_Bool}
+use Rattle.std.proofs.lemmas.Grind.{common_steps, flat_map-append}
+use Rattle.bufr_bits.specs.Counts.{counted}
+use Rattle.bufr_bits.proofs.CountLemmas.{counted-counted, counted-none}
 use Rattle.bufr_frame.specs.declared.fault.RunFault.{RunFault}
+use Rattle.bufr_frame.specs.declared.fault.RunFault.TheVariants.{Read, Write, InputTooLong, Memory}
+use Rattle.bufr_frame.specs.declared.finder.Event.{Event}
+use Rattle.bufr_frame.specs.declared.finder.Event.TheVariants.{Frame, Stray, Done}
+use Rattle.bufr_frame.specs.Scan.{Happening, scan, scan_from}
+use Rattle.bufr_frame.specs.Look.{Advances}
+use Rattle.bufr_frame.specs.Events.{told, IsEvent}
+use Rattle.bufr_frame.specs.Runs.{most_reads}
+use Rattle.bufr_frame.specs.Finding.{State, StepSo, CountsReads, IsDone, StopsSo, fresh}
+use Rattle.bufr_frame.specs.Next.{NextSo, EndsSo}
+use Rattle.bufr_frame.proofs.FindingLemmas.{Advances-then, Advances-none}
 use Rattle.bufr_cli.specs.Writing.{Writes, GrowsByFront}
-use Rattle.bufr_cli.specs.Pieces.{Piece, OnOutput, OnErrors, output_of, errors_of}
-use Rattle.bufr_cli.specs.Running.{Written, WritesPieces}
+use Rattle.bufr_cli.specs.Pieces.{Piece, OnOutput, OnErrors, output_of, errors_of, is_accepted, is_refused}
+use Rattle.bufr_cli.specs.Running.{Written, WrittenInPart, WritesPieces, Tallies, tally_after, RunSo, RunDone, RunStopped, RunCut}
+use Rattle.bufr_cli.specs.declared.tally.Tally.{Tally}
 
 pub grows-nil : (w : Option (List ℕ)) → GrowsByFront w w []
 grows-nil w = record { front = []; back = []; parts = refl; gains = Appends-nil w }
@@ -18,3 +33,216 @@ errors-stop w e e' text first r f is same writes =
     let here = rw is at writes in
     let P : List ℕ → Type 0 = λ t. GrowsByFront e e' t in
     rw same (here.0, grows-nil w, subst P (sym (append-nil text)) here.1)
+
+-- one step of a finder after others
+StepSo-then : (left mid left' : Option (List ℕ)) (s s' : State) (bs bs' : List ℕ) (events es : List Happening)
+    → StepSo left mid fresh s bs events → StepSo mid left' s s' bs' es → StepSo left left' fresh s' (bs ++ bs') (events ++ es)
+StepSo-then left mid left' s s' bs bs' events es one two = record {
+  read = Consumes-trans left mid left' bs bs' one.read two.read;
+  advances = Advances-then s.ended s'.ended 0 s.at s'.at bs s.rest s'.rest bs' events es (λ end. ((two.kept end).0, (two.kept end).1)) one.advances two.advances;
+  kept = λ end. absurd (false≢true end);
+  end = λ before. two.end (one.end before);
+}
+
+-- the reads of more calls
+CountsReads-then : (a b c : ℕ) (s s' : State) → CountsReads a b fresh s → CountsReads b c s s' → CountsReads a c fresh s'
+CountsReads-then a b c s s' one two = record {
+  made = two.made ∙ ap (λ n. counted n (s'.reads - s.reads)) one.made ∙ counted-counted a (s.reads - 0) (s'.reads - s.reads)
+      ∙ (let e : s.reads - 0 + (s'.reads - s.reads) ≡ s'.reads - 0 = omega (arith, two.order) in ap (counted a) e);
+  order = omega arith;
+  most = two.most;
+}
+
+Written-then : (w w' w'' e e' e'' : Option (List ℕ)) (pieces more : List Piece) → Written w w' e e' pieces → Written w' w'' e' e'' more → Written w w'' e e'' (pieces ++ more)
+Written-then w w' w'' e e' e'' pieces more one two = record {
+  output = rw flat_map-append (Appends-trans w w' w'' (flat_map output_of pieces) (flat_map output_of more) one.output two.output);
+  errors = rw flat_map-append (Appends-trans e e' e'' (flat_map errors_of pieces) (flat_map errors_of more) one.errors two.errors);
+}
+
+Written-nil : (w e : Option (List ℕ)) → Written w w e e []
+Written-nil w e = record { output = Appends-nil w; errors = Appends-nil e }
+
+-- What a run has done so far.
+pub record Ran (piece : Happening → Piece) (left mid : Option (List ℕ)) (reads reads' : ℕ) (w w' e e' : Option (List ℕ)) (s : State) (tally : Tally) : Type 0 where
+  pub octets : List ℕ
+  pub events : List Happening
+  pub step : StepSo left mid fresh s octets events
+  pub counts : CountsReads reads reads' fresh s
+  pub written : Written w w' e e' (map piece events)
+  pub tallies : Tallies tally (map piece events)
+  pub none : s.ended ≡ false → events ≡ []
+  pub sound : s.fault ≡ None
+  pub few : tally.accepted + tally.refused ≤ s.at
+  pub near : s.at < 2 ^ 63
+
+-- nothing was done yet
+pub ran-fresh : (piece : Happening → Piece) (left : Option (List ℕ)) (reads : ℕ) (w e : Option (List ℕ)) (s : State) (tally : Tally)
+    → s ≡ fresh → tally.accepted ≡ 0 → tally.refused ≡ 0 → Ran piece left left reads reads w w e e s tally
+ran-fresh piece left reads w e s tally is accepted refused =
+    let P : State → Type 0 = λ x. Ran piece left left reads reads w w e e x tally in
+    subst P (sym is) (record {
+      octets = [];
+      events = [];
+      step = record {
+        read = Consumes-nil left;
+        advances = Advances-none false 0 [];
+        kept = λ end. absurd (false≢true end);
+        end = λ _ end. absurd (false≢true end);
+      };
+      counts = record { made = sym (counted-none reads); order = omega arith; most = omega arith };
+      written = Written-nil w e;
+      tallies = record { accepted = accepted; refused = refused };
+      none = λ _. refl;
+      sound = refl;
+      few = omega arith;
+      near = omega arith;
+    })
+
+-- an event that is not the end
+pub is-event : (s s' : State) (event : Event) → EndsSo s s' (Ok event) → (event ≡ Done → ⊥) → IsEvent event
+is-event s s' (Frame offset octets) ends not_done = ends.3
+is-event s s' (Stray offset cause) ends not_done = tt
+is-event s s' Done ends not_done = not_done refl
+
+goes-on : (s s' : State) (event : Event) → EndsSo s s' (Ok event) → IsEvent event → (s'.fault ≡ None) × (s'.ended ≡ true) × (s.at < s'.at)
+goes-on s s' (Frame offset octets) ends some = (ends.0, ends.1, ends.2)
+goes-on s s' (Stray offset cause) ends some = ends
+goes-on s s' Done ends some = absurd some
+
+-- the scan of what was read is the events so far and those of what is left
+whole-scan : (left left' : Option (List ℕ)) (s : State) (bs : List ℕ) (events : List Happening) → StepSo left left' fresh s bs events → scan bs ≡ events ++ scan_from 0 s.at s.rest
+whole-scan left left' s bs events step =
+    ap (scan_from 0 0) (sym (append-nil bs)) ∙ step.advances.whole [] (λ _. refl) ∙ ap (λ l. events ++ scan_from 0 s.at l) (append-nil s.rest)
+
+map-append : (piece : Happening → Piece) (xs ys : List Happening) → map piece (xs ++ ys) ≡ map piece xs ++ map piece ys
+map-append piece xs ys = grind (arith, common_steps)
+
+count-append : (p : Piece → Bool) (xs ys : List Piece) → count_by p (xs ++ ys) ≡ count_by p xs + count_by p ys
+count-append p xs ys = grind (arith, common_steps)
+
+module _ (piece : Happening → Piece) (left mid left' : Option (List ℕ)) (reads reads1 reads2 : ℕ) (w w1 e e1 : Option (List ℕ)) (s s' : State) (tally : Tally) (result : Result Event RunFault)
+    (ran : Ran piece left mid reads reads1 w w1 e e1 s tally) (next : NextSo mid left' reads1 reads2 s s' result) where
+  -- an event's lines were written
+  pub turn : (w2 e2 : Option (List ℕ)) (tally' : Tally) (event : Event) → result ≡ Ok event → IsEvent event → Written w1 w2 e1 e2 (map piece (told event))
+      → tally' ≡ tally_after tally (map piece (told event)) → tally'.accepted + tally'.refused ≡ tally.accepted + tally.refused + 1
+      → Ran piece left left' reads reads2 w w2 e e2 s' tally'
+  turn w2 e2 tally' event is some writes tallies one =
+      let steps = rw is at next.steps in
+      let on = goes-on s s' event (rw is at next.ends) some in
+      let W : List Piece → Type 0 = λ l. Written w w2 e e2 l in
+      record {
+        octets = ran.octets ++ steps.0;
+        events = ran.events ++ told event;
+        step = StepSo-then left mid left' s s' ran.octets steps.0 ran.events (told event) ran.step steps.1;
+        counts = CountsReads-then reads reads1 reads2 s s' ran.counts next.counts;
+        written = subst W (sym (map-append piece ran.events (told event))) (Written-then w w1 w2 e e1 e2 (map piece ran.events) (map piece (told event)) ran.written writes);
+        tallies = record {
+          accepted = ap (λ t. t.accepted) tallies ∙ ap (λ n. n + count_by is_accepted (map piece (told event))) ran.tallies.accepted
+              ∙ sym (count-append is_accepted (map piece ran.events) (map piece (told event))) ∙ ap (count_by is_accepted) (sym (map-append piece ran.events (told event)));
+          refused = ap (λ t. t.refused) tallies ∙ ap (λ n. n + count_by is_refused (map piece (told event))) ran.tallies.refused
+              ∙ sym (count-append is_refused (map piece ran.events) (map piece (told event))) ∙ ap (count_by is_refused) (sym (map-append piece ran.events (told event)));
+        };
+        none = λ open'. absurd (true≢false (sym on.1 ∙ open'));
+        sound = on.0;
+        few = omega (arith, ran.few, on.2, one);
+        near = next.within;
+      }
+
+  -- the finder stopped
+  pub stop-next : (f : RunFault) (r : Result Tally RunFault) → result ≡ Err f → r ≡ Err f → (bs : List ℕ) × RunSo (λ l. map piece (scan l)) left left' w w1 e e1 bs r
+  stop-next f r is same =
+      let steps = rw is at next.steps in
+      let ends = rw is at next.ends in
+      let nothing : map piece ran.events ≡ [] = ap (map piece) (ran.none ends.0) in
+      let W : List Piece → Type 0 = λ l. Written w w1 e e1 l in
+      let stopped : RunStopped left left' w w1 e e1 (ran.octets ++ steps.0) = record {
+        read = Consumes-trans left mid left' ran.octets steps.0 ran.step.read steps.1.read;
+        written = subst W nothing ran.written;
+      } in
+      let P : Result Tally RunFault → Type 0 = λ x. RunSo (λ l. map piece (scan l)) left left' w w1 e e1 (ran.octets ++ steps.0) x in
+      (ran.octets ++ steps.0, subst P (sym same) (by f (ends.1 ran.sound) stopped))
+    where
+      by : (f : RunFault) → StopsSo s' f → {bs : List ℕ} → RunStopped left left' w w1 e e1 bs → RunSo (λ l. map piece (scan l)) left left' w w1 e e1 bs (Err f)
+      by Read so stopped = stopped
+      by InputTooLong so stopped = stopped
+      by Memory so stopped = stopped
+      by Write so stopped = absurd so
+
+  -- a writer failed at the lines of an event
+  pub stop-write : (w2 e2 : Option (List ℕ)) (event : Event) (X : Type 0) (wrote : Result X RunFault) (f : RunFault) (r : Result Tally RunFault) → result ≡ Ok event → IsEvent event
+      → WritesPieces w1 w2 e1 e2 (map piece (told event)) wrote → wrote ≡ Err f → r ≡ Err f → (bs : List ℕ) × RunSo (λ l. map piece (scan l)) left left' w w2 e e2 bs r
+  stop-write w2 e2 event X wrote f r is some writes fails same =
+      let steps = rw is at next.steps in
+      let on = goes-on s s' event (rw is at next.ends) some in
+      let lines = rw fails at writes in
+      let bs = ran.octets ++ steps.0 in
+      let step = StepSo-then left mid left' s s' ran.octets steps.0 ran.events (told event) ran.step steps.1 in
+      let rest = scan_from 0 s'.at s'.rest in
+      let P : Result Tally RunFault → Type 0 = λ x. RunSo (λ l. map piece (scan l)) left left' w w2 e e2 bs x in (
+        bs,
+        subst P (sym (same ∙ ap Err lines.0)) (record {
+          read = step.read;
+          end = step.end (λ end. absurd (false≢true end)) on.1;
+          written = record {
+            given = map piece ran.events;
+            last = map piece (told event);
+            rest = map piece rest;
+            parts = ap (map piece) (whole-scan left left' s' bs (ran.events ++ told event) step)
+                ∙ map-append piece (ran.events ++ told event) rest ∙ ap (λ l. l ++ map piece rest) (map-append piece ran.events (told event));
+            between_output = w1;
+            between_errors = e1;
+            whole = ran.written;
+            output = lines.1;
+            errors = lines.2;
+          };
+        }),
+      )
+
+  -- all was read and written, and then flushed
+  module _ (is : result ≡ Ok Done) (w2 e2 : Option (List ℕ)) (kept_w : Keeps w1 w2) (kept_e : Keeps e1 e2) where
+    pub flushed : (bs : List ℕ) × RunDone (λ l. map piece (scan l)) left left' w w2 e e2 bs tally
+    flushed =
+        let steps = rw is at next.steps in
+        let done = (rw is at next.ends).1 in
+        let bs = ran.octets ++ steps.0 in
+        let step = StepSo-then left mid left' s s' ran.octets steps.0 ran.events [] ran.step steps.1 in
+        let all : scan bs ≡ ran.events = whole-scan left left' s' bs (ran.events ++ []) step ∙ ap (λ l. (ran.events ++ []) ++ l) (done.1 s'.at) ∙ append-nil (ran.events ++ []) ∙ append-nil ran.events in
+        let W : List Happening → Type 0 = λ l. Written w w2 e e2 (map piece l) in
+        let T : List Happening → Type 0 = λ l. Tallies tally (map piece l) in (
+          bs,
+          record {
+            read = step.read;
+            end = step.end (λ end. absurd (false≢true end)) done.0;
+            written = subst W (sym all) (record { output = Appends-kept w w1 w2 (flat_map output_of (map piece ran.events)) ran.written.output kept_w; errors = Appends-kept e e1 e2 (flat_map errors_of (map piece ran.events)) ran.written.errors kept_e });
+            tallies = subst T (sym all) ran.tallies;
+          },
+        )
+
+    -- a flush failed
+    pub stop-flush : (f : RunFault) (r : Result Tally RunFault) → f ≡ Write → r ≡ Err f → (bs : List ℕ) × RunSo (λ l. map piece (scan l)) left left' w w2 e e2 bs r
+    stop-flush f r write same =
+        let P : Result Tally RunFault → Type 0 = λ x. RunSo (λ l. map piece (scan l)) left left' w w2 e e2 flushed.0 x in
+        let all = map piece (scan flushed.0) in (
+          flushed.0,
+          subst P (sym (same ∙ ap Err write)) (record {
+            read = flushed.1.read;
+            end = flushed.1.end;
+            written = record {
+              given = all;
+              last = [];
+              rest = [];
+              parts = sym (append-nil (all ++ []) ∙ append-nil all);
+              between_output = w2;
+              between_errors = e2;
+              whole = flushed.1.written;
+              output = grows-nil w2;
+              errors = grows-nil e2;
+            };
+          }),
+        )
+
+-- the octets that a reader tells are those that were read to its end
+pub all-known : (pieces_of : List ℕ → List Piece) (left left' w w' e e' : Option (List ℕ)) (tally : Tally) → ((bs : List ℕ) × RunDone pieces_of left left' w w' e e' bs tally)
+    → IfSome left (λ s. Written w w' e e' (pieces_of s) × Tallies tally (pieces_of s))
+all-known pieces_of left left' w w' e e' tally (bs, done) =
+    Consumes-whole left left' bs (λ s. Written w w' e e' (pieces_of s) × Tallies tally (pieces_of s)) done.read done.end (done.written, done.tallies)

@@ -51,6 +51,65 @@ fn list_event<W: Sink, E: Sink>(
             tally.refused += 1;
             Ok(())
         }
-        Event::Done => Ok(()),
+        Event::Done => unreachable!(),
     }
+}
+
+/// Hands on what was written.
+fn flush<W: Sink>(w: &mut W) -> Result<(), RunFault>
+    ensures keeps { Keeps (W.taken w.old) (W.taken w.new) }
+    ensures err { IfErr result (λ fault. fault ≡ RunFault.Write) }
+    ensures counts { CountsWrites (W.failures w.old) (W.failures w.new) (W.empty_writes w.old) (W.empty_writes w.new) result }
+{
+    match w.flush() {
+        Ok(()) => Ok(()),
+        Err(_) => Err(RunFault::Write),
+    }
+}
+
+/// Lists the messages of `r`: for each a line on `w`, and for each stray `BUFR` and each message
+/// that cannot be taken apart a fault line on `e`, in the order of the stream. At the end `w`, then
+/// `e` is flushed. For now the input is read whole before anything is written.
+///
+/// # Errors
+///
+/// [`RunFault::Read`], [`RunFault::InputTooLong`] and [`RunFault::Memory`] as [`Finder::next`]
+/// gives them; nothing was written then. [`RunFault::Write`] where a writer failed or took nothing:
+/// a front of the lines was written.
+pub fn run_ls<R: Source, W: Sink, E: Sink>(
+    alloc: Global,
+    r: &mut R,
+    w: &mut W,
+    e: &mut E,
+) -> Result<Tally, RunFault>
+    // At `Ok` the writers hold exactly the lines of the whole input, and the tally counts them.
+    ensures whole { IfOk result (λ tally. IfSome (R.left r.old) (λ s.
+        Written (W.taken w.old) (W.taken w.new) (E.taken e.old) (E.taken e.new) (ls_pieces s) × Tallies tally (ls_pieces s))) }
+    // The same over the octets that were read, and what a fault leaves.
+    ensures run { (bs : List ℕ) × RunSo ls_pieces (R.left r.old) (R.left r.new) (W.taken w.old) (W.taken w.new) (E.taken e.old) (E.taken e.new) bs result }
+
+    // Each fault comes only where its device failed in this call.
+    ensures reader { R.failures r.new ≡ read_failures_after (R.failures r.old) result }
+    ensures too_long { result ≡ Err RunFault.InputTooLong → R.reads r.new ≡ counted (R.reads r.old) most_reads }
+    ensures writers { BlamesWriter result
+        (Stays (W.failures w.old) (W.failures w.new) (W.empty_writes w.old) (W.empty_writes w.new))
+        (Fails (W.failures w.old) (W.failures w.new) (W.empty_writes w.old) (W.empty_writes w.new))
+        (Stays (E.failures e.old) (E.failures e.new) (E.empty_writes e.old) (E.empty_writes e.new))
+        (Fails (E.failures e.old) (E.failures e.new) (E.empty_writes e.old) (E.empty_writes e.new)) }
+{
+    let mut finder = Finder::new(alloc);
+    let mut tally = Tally {
+        accepted: 0,
+        refused: 0,
+    };
+    loop {
+        let event = finder.next(r)?;
+        if let Event::Done = event {
+            break;
+        }
+        list_event(event, &mut tally, w, e)?;
+    }
+    flush(w)?;
+    flush(e)?;
+    Ok(tally)
 }
