@@ -1,4 +1,6 @@
 pub mod FaultLine
+pub mod Finish
+pub mod Line
 pub mod LsLine
 pub mod Pieces
 pub mod ReadAll
