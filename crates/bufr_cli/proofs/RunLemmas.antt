@@ -1,9 +1,9 @@
 -- What a run writes, event by event.
-use Rattle.std.proofs.Common.{◌≡◌, ◌∙◌, ◌⊎◌, ◌≤◌, ◌<◌, ◌^◌, ℕ, ◌+◌, ◌-◌, Bool, true, false, List, [], ◌∷◌, ◌++◌, refl, sym, ap, subst, arith, Option, Some, None, Ok, Err, append-nil, append_assoc}
-use Rattle.std.specs.Prelude.{Result, flat_map, map, count_by, IfSome, IfOk}
-use Rattle.std.specs.Io.KnownBytes.{Appends, Consumes, IsAtEnd, Keeps}
+use Rattle.std.proofs.Common.{◌≡◌, ◌∙◌, ◌≤◌, ◌<◌, ◌^◌, ℕ, ◌+◌, ◌-◌, Bool, true, false, List, [], ◌∷◌, ◌++◌, refl, sym, ap, subst, arith, Option, None, Ok, Err, append-nil}
+use Rattle.std.specs.Prelude.{Result, flat_map, map, count_by, IfSome}
+use Rattle.std.specs.Io.KnownBytes.{Keeps}
 use Rattle.std.proofs.KnownBytes.{Appends-nil, Appends-trans, Appends-kept, Consumes-nil, Consumes-trans, Consumes-whole}
-use Rattle.std.proofs.lemmas.Bool.{true≢false, false≢true, cases_Bool}
+use Rattle.std.proofs.lemmas.Bool.{true≢false, false≢true}
 use Rattle.std.proofs.lemmas.Grind.{common_steps, flat_map-append}
 use Rattle.bufr_bits.specs.Counts.{counted}
 use Rattle.bufr_bits.proofs.CountLemmas.{counted-counted, counted-none}
@@ -12,15 +12,13 @@ use Rattle.bufr_frame.specs.declared.fault.RunFault.TheVariants.{Read, Write, In
 use Rattle.bufr_frame.specs.declared.finder.Event.{Event}
 use Rattle.bufr_frame.specs.declared.finder.Event.TheVariants.{Frame, Stray, Done}
 use Rattle.bufr_frame.specs.Scan.{Happening, scan, scan_from}
-use Rattle.bufr_frame.specs.Look.{Advances}
 use Rattle.bufr_frame.specs.Events.{told, IsEvent}
-use Rattle.bufr_frame.specs.Runs.{most_reads}
-use Rattle.bufr_frame.specs.Finding.{State, StepSo, CountsReads, IsDone, StopsSo, fresh}
+use Rattle.bufr_frame.specs.Finding.{State, StepSo, CountsReads, StopsSo, fresh}
 use Rattle.bufr_frame.specs.Next.{NextSo, EndsSo}
 use Rattle.bufr_frame.proofs.FindingLemmas.{Advances-then, Advances-none}
 use Rattle.bufr_cli.specs.Writing.{Writes, GrowsByFront}
-use Rattle.bufr_cli.specs.Pieces.{Piece, OnOutput, OnErrors, output_of, errors_of, is_accepted, is_refused}
-use Rattle.bufr_cli.specs.Running.{Written, WrittenInPart, WritesPieces, Tallies, tally_after, RunSo, RunDone, RunStopped, RunCut}
+use Rattle.bufr_cli.specs.Pieces.{Piece, OnErrors, output_of, errors_of, is_accepted, is_refused}
+use Rattle.bufr_cli.specs.Running.{Written, WritesPieces, Tallies, tally_after, RunSo, RunDone, RunStopped}
 use Rattle.bufr_cli.specs.declared.tally.Tally.{Tally}
 
 pub grows-nil : (w : Option (List ℕ)) → GrowsByFront w w []

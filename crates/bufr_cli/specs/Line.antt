@@ -1,5 +1,5 @@
 -- The command line of `bufr`, as clap reads it. (a choice of this project)
-use Rattle.std.specs.Prelude.{◌≡◌, ℕ, List, Option, Some, None, true, codes, option_map}
+use Rattle.std.specs.Prelude.{◌≡◌, List, Option, Some, None, true, codes, option_map}
 use Rattle.clap.specs.Words.{App, Row, Text, first_of, new_app, new_rule, with_rule, with_subcommand}
 use Rattle.bufr_cli.specs.declared.job.Job.{Job}
 use Rattle.bufr_cli.specs.declared.job.Subcommand.{Subcommand}

@@ -1,5 +1,5 @@
 -- What a run writes on which writer, in order. (a choice of this project)
-use Rattle.std.specs.Prelude.{ℕ, ◌+◌, Bool, true, false, List, [], ◌∷◌, map, flat_map, Result, Ok, Err}
+use Rattle.std.specs.Prelude.{ℕ, Bool, true, false, List, [], ◌∷◌, map, Result, Ok, Err}
 use Rattle.bufr_frame.specs.Scan.{Happening, Framed, Strayed, scan}
 use Rattle.bufr_frame.specs.Sections.{Sections, sections_of}
 use Rattle.bufr_frame.specs.declared.fault.SectionFault.{SectionFault}

@@ -20,6 +20,9 @@ use std::io::{BufReader, BufWriter, Read};
 use std::process::ExitCode;
 use tally::Tally;
 
+#[cfg(test)]
+mod tests;
+
 /// Runs the command line, and answers the exit status of [`finish`], or 0 for help.
 fn main(rt: HostRuntime) -> ExitCode {
     let status = match BufWriter::new(rt.alloc(), rt.stderr()) {

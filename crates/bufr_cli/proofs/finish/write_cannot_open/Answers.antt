@@ -1,4 +1,4 @@
-use Rattle.std.proofs.Common.{◌∷◌, ◌++◌, ℕ, List, [], codes, subst}
+use Rattle.std.proofs.Common.{◌∷◌, ℕ, List, [], codes, subst}
 use Rattle.bufr_cli.specs.Writing.{Writes, joined}
 use Rattle.bufr_cli.proofs.finish.write_cannot_open.Goals as goal
 

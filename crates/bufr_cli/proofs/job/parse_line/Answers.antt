@@ -1,5 +1,5 @@
-use Rattle.std.proofs.Common.{rules, ◌≡◌, ℕ, List, subst, refl, codes, map}
-use Rattle.clap.specs.Words.{App, HasMatchesOf, app_of}
+use Rattle.std.proofs.Common.{rules, ◌≡◌, subst, refl, codes, map}
+use Rattle.clap.specs.Words.{App, HasMatchesOf}
 use Rattle.bufr_cli.specs.Line.{bufr_app}
 use Rattle.bufr_cli.proofs.LineLemmas.{job-is}
 use Rattle.bufr_cli.proofs.job.parse_line.Goals as goal

@@ -1,4 +1,4 @@
-use Rattle.std.proofs.Common.{◌≡◌, ℕ, List, subst}
+use Rattle.std.proofs.Common.{ℕ, List, subst}
 use Rattle.bufr_cli.specs.Writing.{Writes}
 use Rattle.bufr_cli.proofs.LsLineLemmas.{ls_text-is}
 use Rattle.bufr_cli.proofs.ls_line.write_ls.Goals as goal

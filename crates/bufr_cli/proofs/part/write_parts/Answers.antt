@@ -1,4 +1,4 @@
-use Rattle.std.proofs.Common.{◌≡◌, ◌∙◌, Err, ap}
+use Rattle.std.proofs.Common.{◌∙◌, Err, ap}
 use Rattle.std.proofs.lemmas.Result.{err_from_is_err_and}
 use Rattle.bufr_cli.proofs.WritingLemmas.{parts-stop}
 use Rattle.bufr_cli.proofs.part.write_parts.Goals as goal

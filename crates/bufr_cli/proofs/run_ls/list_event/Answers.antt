@@ -1,4 +1,4 @@
-use Rattle.std.proofs.Common.{◌≡◌, ◌∙◌, Err, ap}
+use Rattle.std.proofs.Common.{◌∙◌, Err, ap}
 use Rattle.std.proofs.lemmas.Result.{err_from_is_err_and}
 use Rattle.bufr_cli.proofs.RunLemmas.{errors-stop}
 use Rattle.bufr_cli.proofs.run_ls.list_event.Goals as goal

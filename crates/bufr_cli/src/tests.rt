@@ -1,0 +1,440 @@
+//! The worked examples, run.
+
+use crate::finish::{Outcome, finish};
+use crate::job::{LineFault, Subcommand, parse_line};
+use crate::read_all::read_all;
+use crate::run_ls::run_ls;
+use crate::tally::Tally;
+use bufr_bits::{Device, End, ScriptIn, ScriptOut};
+use bufr_frame::RunFault;
+use std::process::Abort;
+use std::test::Fail;
+
+/// A message of edition 4 with one block number, 48 octets.
+const ONE_BLOCK_NUMBER: [u8; 48] = [
+    0x42, 0x55, 0x46, 0x52, 0x00, 0x00, 0x30, 0x04, 0x00, 0x00, 0x16, 0x00, 0x00, 0x62, 0x00, 0x00,
+    0x00, 0x00, 0x00, 0x00, 0x00, 0x0E, 0x00, 0x07, 0xE8, 0x01, 0x02, 0x03, 0x04, 0x05, 0x00, 0x00,
+    0x09, 0x00, 0x00, 0x01, 0x80, 0x01, 0x01, 0x00, 0x00, 0x05, 0x00, 0x14, 0x37, 0x37, 0x37, 0x37,
+];
+
+/// Its line behind the offset.
+const LINE: &str =
+    " length=48 edition=4 centre=98/0 update=0 category=0/0/0 tables=0/14/0 time=2024-01-02T03:04:05 subsets=1 observed=1 compressed=0 optional=0 descriptors=1\n";
+
+/// A stream made of that message, and what `ls` makes of it.
+struct Listing {
+    name: &'static str,
+    /// Octets before the message.
+    before: &'static [u8],
+    /// The message's octets that are others, by place from 0.
+    edits: &'static [(usize, u8)],
+    /// Octets behind the message.
+    behind: &'static [u8],
+    /// The offsets of the messages that are listed.
+    listed: &'static [&'static str],
+    /// The fault lines.
+    errors: &'static str,
+    refused: u64,
+}
+
+static LISTINGS: [Listing; 13] = [
+    Listing {
+        name: "one block number",
+        before: b"",
+        edits: &[],
+        behind: b"",
+        listed: &["0"],
+        errors: "",
+        refused: 0,
+    },
+    Listing {
+        name: "edition 3, then 4",
+        before: b"",
+        edits: &[(7, 3)],
+        behind: &ONE_BLOCK_NUMBER,
+        listed: &["48"],
+        errors: "offset 0: 10 edition 3\n",
+        refused: 1,
+    },
+    Listing {
+        name: "no end",
+        before: b"",
+        edits: &[(47, 0x36)],
+        behind: b"",
+        listed: &[],
+        errors: "offset 0: 3 no end\n",
+        refused: 1,
+    },
+    Listing {
+        name: "a stray word in front of a message",
+        before: b"BUFR\x00\x00\x40\x04",
+        edits: &[],
+        behind: b"\x00\x00\x00\x00\x00\x00\x00\x00",
+        listed: &["8"],
+        errors: "offset 0: 3 no end\n",
+        refused: 1,
+    },
+    Listing {
+        name: "a stated length of 11 octets",
+        before: b"",
+        edits: &[],
+        behind: b"BUFR\x00\x00\x0B\x04abcd",
+        listed: &["0"],
+        errors: "offset 48: 2 short length\n",
+        refused: 1,
+    },
+    Listing {
+        name: "a length past the end is told before a short one",
+        before: b"",
+        edits: &[],
+        behind: b"BUFR\x00\x00\x0B\x04ab",
+        listed: &["0"],
+        errors: "offset 48: 1 cut\n",
+        refused: 1,
+    },
+    Listing {
+        name: "octets between messages are passed over",
+        before: b"IUSX40 ECMW\r\r\nBUBUF",
+        edits: &[],
+        behind: b"\r\r\nBUF",
+        listed: &["19"],
+        errors: "",
+        refused: 0,
+    },
+    Listing {
+        name: "section 1 short",
+        before: b"",
+        edits: &[(10, 21)],
+        behind: b"",
+        listed: &[],
+        errors: "offset 0: 11 section 1 short\n",
+        refused: 1,
+    },
+    Listing {
+        name: "section 1 past the end",
+        before: b"",
+        edits: &[(10, 40)],
+        behind: b"",
+        listed: &[],
+        errors: "offset 0: 12 section 1 past the end\n",
+        refused: 1,
+    },
+    Listing {
+        name: "sections that do not meet the end",
+        before: b"",
+        edits: &[(41, 4)],
+        behind: b"",
+        listed: &[],
+        errors: "offset 0: 13 sections do not meet the end\n",
+        refused: 1,
+    },
+    Listing {
+        name: "a section 2 that is too short",
+        before: b"",
+        edits: &[(17, 0x80), (32, 3)],
+        behind: b"",
+        listed: &[],
+        errors: "offset 0: 11 section 2 short\n",
+        refused: 1,
+    },
+    Listing {
+        name: "another edition is told before a section fault",
+        before: b"",
+        edits: &[(7, 2), (10, 21)],
+        behind: b"",
+        listed: &[],
+        errors: "offset 0: 10 edition 2\n",
+        refused: 1,
+    },
+    Listing {
+        name: "no word at all",
+        before: b"",
+        edits: &[(0, 0)],
+        behind: b"",
+        listed: &[],
+        errors: "",
+        refused: 0,
+    },
+];
+
+/// Lists `input`, and asserts what comes of it.
+fn assert_listed(
+    rt: &(impl Abort + AllocGlobal),
+    name: &str,
+    input: &[u8],
+    output: &[u8],
+    errors: &[u8],
+    tally: Tally,
+) -> Result<(), Fail> {
+    for step in [1, 7, 4096] {
+        let mut r = ScriptIn::new(input, step, None);
+        let mut w = ScriptOut::new(rt.alloc(), 4096, step, End::Fail)?;
+        let mut e = ScriptOut::new(rt.alloc(), 65536, step, End::Fail)?;
+        let ran = run_ls(rt.alloc(), &mut r, &mut w, &mut e);
+        assert!(rt; ran == Ok(tally), "{name}: {ran:?}");
+        assert_eq!(rt; w.taken(), output, "{name}");
+        assert_eq!(rt; e.taken(), errors, "{name}");
+    }
+    Ok(())
+}
+
+#[test]
+fn lists_worked_examples(rt: HostRuntime) -> Result<(), Fail> {
+    for listing in &LISTINGS {
+        let mut message = ONE_BLOCK_NUMBER;
+        for (place, octet) in listing.edits {
+            assert!(rt; *place < 48);
+            message[*place] = *octet;
+        }
+        let mut input = Vec::new(rt.alloc());
+        input.extend_from_slice(listing.before)?;
+        input.extend_from_slice(&message)?;
+        input.extend_from_slice(listing.behind)?;
+        let mut output = String::new(rt.alloc());
+        let mut accepted = 0u64;
+        for offset in listing.listed {
+            output.push_str("offset=")?;
+            output.push_str(offset)?;
+            output.push_str(LINE)?;
+            accepted = accepted.saturating_add(1);
+        }
+        let tally = Tally {
+            accepted,
+            refused: listing.refused,
+        };
+        assert_listed(
+            &rt,
+            listing.name,
+            &input,
+            output.as_bytes(),
+            listing.errors.as_bytes(),
+            tally,
+        )?;
+    }
+    Ok(())
+}
+
+/// A message with octets for local use in section 1 and a section 2, 56 octets.
+const LOCAL_USE: [u8; 56] = [
+    0x42, 0x55, 0x46, 0x52, 0x00, 0x00, 0x38, 0x04, 0x00, 0x00, 0x18, 0x00, 0x00, 0x62, 0x00, 0x00,
+    0x00, 0x80, 0x00, 0x00, 0x00, 0x0E, 0x00, 0x07, 0xE8, 0x01, 0x02, 0x03, 0x04, 0x05, 0xAB, 0xCD,
+    0x00, 0x00, 0x06, 0x00, 0x01, 0x02, 0x00, 0x00, 0x09, 0x00, 0x00, 0x01, 0x80, 0x01, 0x01, 0x00,
+    0x00, 0x05, 0x00, 0x14, 0x37, 0x37, 0x37, 0x37,
+];
+
+/// A compressed message with two subsets, 50 octets.
+const COMPRESSED: [u8; 50] = [
+    0x42, 0x55, 0x46, 0x52, 0x00, 0x00, 0x32, 0x04, 0x00, 0x00, 0x16, 0x00, 0x00, 0x62, 0x00, 0x00,
+    0x00, 0x00, 0x00, 0x00, 0x00, 0x0E, 0x00, 0x07, 0xE8, 0x01, 0x02, 0x03, 0x04, 0x05, 0x00, 0x00,
+    0x09, 0x00, 0x00, 0x02, 0xC0, 0x0C, 0x65, 0x00, 0x00, 0x07, 0x00, 0x70, 0x8F, 0x05, 0x37, 0x37,
+    0x37, 0x37,
+];
+
+#[test]
+fn lists_optional_and_compressed(rt: HostRuntime) -> Result<(), Fail> {
+    let one = Tally {
+        accepted: 1,
+        refused: 0,
+    };
+    assert_listed(
+        &rt,
+        "local use",
+        &LOCAL_USE,
+        b"offset=0 length=56 edition=4 centre=98/0 update=0 category=0/0/0 tables=0/14/0 time=2024-01-02T03:04:05 subsets=1 observed=1 compressed=0 optional=1 descriptors=1\n",
+        b"",
+        one,
+    )?;
+    assert_listed(
+        &rt,
+        "compressed",
+        &COMPRESSED,
+        b"offset=0 length=50 edition=4 centre=98/0 update=0 category=0/0/0 tables=0/14/0 time=2024-01-02T03:04:05 subsets=2 observed=1 compressed=1 optional=0 descriptors=1\n",
+        b"",
+        one,
+    )
+}
+
+#[test]
+fn cut_anywhere(rt: HostRuntime) -> Result<(), Fail> {
+    for len in 0..48 {
+        let (errors, refused): (&[u8], u64) = if len < 4 {
+            (b"", 0)
+        } else {
+            (b"offset 0: 1 cut\n", 1)
+        };
+        let tally = Tally {
+            accepted: 0,
+            refused,
+        };
+        assert_listed(&rt, "cut", &ONE_BLOCK_NUMBER[..len], b"", errors, tally)?;
+    }
+    Ok(())
+}
+
+#[test]
+fn words_only(rt: HostRuntime) -> Result<(), Fail> {
+    let mut input = Vec::new(rt.alloc());
+    let mut errors = String::new(rt.alloc());
+    for i in 0..1024 {
+        input.extend_from_slice(b"BUFR")?;
+        errors.push_str(format!(in rt.alloc(); "offset {}: 1 cut\n", 4 * i)?.as_str())?;
+    }
+    let tally = Tally {
+        accepted: 0,
+        refused: 1024,
+    };
+    assert_listed(&rt, "words only", &input, b"", errors.as_bytes(), tally)
+}
+
+/// A read that fails leaves nothing written, wherever it comes.
+#[test]
+fn stops_at_a_failed_read(rt: HostRuntime) -> Result<(), Fail> {
+    for place in 0..48 {
+        let mut r = ScriptIn::new(&ONE_BLOCK_NUMBER, 7, Some(place));
+        let mut w = ScriptOut::new(rt.alloc(), 4096, 7, End::Fail)?;
+        let mut e = ScriptOut::new(rt.alloc(), 4096, 7, End::Fail)?;
+        let ran = run_ls(rt.alloc(), &mut r, &mut w, &mut e);
+        assert!(rt; ran == Err(RunFault::Read), "{place}: {ran:?}");
+        assert!(rt; w.taken().is_empty() && e.taken().is_empty(), "{place}");
+    }
+    Ok(())
+}
+
+/// A writer that fails, takes nothing, or cannot be flushed has taken a front of the line.
+#[test]
+fn stops_at_a_failed_write(rt: HostRuntime) -> Result<(), Fail> {
+    let mut line = String::from_str(rt.alloc(), "offset=0")?;
+    line.push_str(LINE)?;
+    let whole = line.len();
+    for end in [End::Fail, End::Zero, End::Flush] {
+        for room in [0, 1, 9, whole.saturating_sub(1), whole] {
+            let mut r = ScriptIn::new(&ONE_BLOCK_NUMBER, 4096, None);
+            let mut w = ScriptOut::new(rt.alloc(), room, 5, end)?;
+            let mut e = ScriptOut::new(rt.alloc(), 0, 5, End::Fail)?;
+            let ran = run_ls(rt.alloc(), &mut r, &mut w, &mut e);
+            let fails = room < whole || end == End::Flush;
+            assert!(rt; ran.is_err() == fails, "{room} of {end:?}: {ran:?}");
+            if fails {
+                assert!(rt; ran == Err(RunFault::Write), "{room} of {end:?}: {ran:?}");
+            }
+            assert!(rt; room <= whole);
+            assert_eq!(rt; w.taken(), &line.as_bytes()[..room], "{end:?}");
+        }
+    }
+    Ok(())
+}
+
+#[test]
+fn reads_all(rt: HostRuntime) -> Result<(), Fail> {
+    let mut r = ScriptIn::new(&ONE_BLOCK_NUMBER, 7, None);
+    let octets = read_all(rt.alloc(), &mut r).expect(&rt, "the octets");
+    assert_eq!(rt; octets.as_slice(), ONE_BLOCK_NUMBER.as_slice());
+    let mut r = ScriptIn::new(&ONE_BLOCK_NUMBER, 7, Some(20));
+    assert!(rt; matches!(read_all(rt.alloc(), &mut r), Err(RunFault::Read)));
+    Ok(())
+}
+
+#[test]
+fn parses_lines(rt: HostRuntime) -> Result<(), Fail> {
+    let words = ["bufr", "ls"];
+    let job = parse_line(rt.alloc(), words.as_slice()).expect(&rt, "a job");
+    assert!(rt; job.command == Subcommand::Ls && job.file == None);
+    let words = ["bufr", "ls", "bulletins.bufr"];
+    let job = parse_line(rt.alloc(), words.as_slice()).expect(&rt, "a job");
+    assert!(rt; job.command == Subcommand::Ls && job.file == Some("bulletins.bufr"));
+    Ok(())
+}
+
+#[test]
+fn refuses_lines(rt: HostRuntime) -> Result<(), Fail> {
+    static REFUSED: [(&[&str], &str); 4] = [
+        (&["bufr"], "Usage: bufr <COMMAND>"),
+        (&["bufr", "lst"], "unrecognized subcommand 'lst'"),
+        (&["bufr", "ls", "a", "b"], "unexpected argument 'b' found"),
+        (
+            &["bufr", "ls", "--long"],
+            "unexpected argument '--long' found",
+        ),
+    ];
+    for (words, part) in &REFUSED {
+        match parse_line(rt.alloc(), *words) {
+            Err(LineFault::Usage(text)) => assert!(rt; text.as_str().contains(*part), "{text}"),
+            other => assert!(rt; false, "{other:?}"),
+        }
+    }
+    for words in [
+        ["bufr", "--help"].as_slice(),
+        ["bufr", "ls", "--help"].as_slice(),
+    ] {
+        match parse_line(rt.alloc(), words) {
+            Err(LineFault::Help(text)) => assert!(rt;
+                text.as_str().contains("Usage: bufr"),
+                "{text}"
+            ),
+            other => assert!(rt; false, "{other:?}"),
+        }
+    }
+    Ok(())
+}
+
+#[test]
+fn finishes(rt: HostRuntime) -> Result<(), Fail> {
+    let clean = Tally {
+        accepted: 3,
+        refused: 0,
+    };
+    let refusing = Tally {
+        accepted: 3,
+        refused: 1,
+    };
+    let outcomes: [(Outcome<'_>, &str, u8); 8] = [
+        (Outcome::Ran(clean), "", 0),
+        (Outcome::Ran(refusing), "", 1),
+        (
+            Outcome::Usage("error: no command\n"),
+            "error: no command\n",
+            2,
+        ),
+        (
+            Outcome::CannotOpen("x.bufr"),
+            "bufr: cannot open x.bufr\n",
+            2,
+        ),
+        (Outcome::Run(RunFault::Read), "bufr: 70 read failed\n", 2),
+        (Outcome::Run(RunFault::Write), "bufr: 71 write failed\n", 2),
+        (
+            Outcome::Run(RunFault::InputTooLong),
+            "bufr: 72 input too long\n",
+            2,
+        ),
+        (
+            Outcome::Run(RunFault::Memory),
+            "bufr: 73 out of memory\n",
+            2,
+        ),
+    ];
+    for (outcome, line, status) in outcomes {
+        let mut e = ScriptOut::new(rt.alloc(), 100, 3, End::Fail)?;
+        assert_eq!(rt; finish(&outcome, &mut e), status, "{line}");
+        assert_eq!(rt; e.taken(), line.as_bytes(), "{line}");
+        let mut e = ScriptOut::new(rt.alloc(), 4, 3, End::Zero)?;
+        assert_eq!(rt; finish(&outcome, &mut e), status, "{line}");
+    }
+    Ok(())
+}
+
+/// An empty input gives nothing, also through a reader and writers of std.
+#[test]
+fn lists_nothing(rt: HostRuntime) -> Result<(), Fail> {
+    let input: &[u8] = b"";
+    let mut r = Device::new(input);
+    let mut w = Device::new(Vec::new(rt.alloc()));
+    let mut e = Device::new(Vec::new(rt.alloc()));
+    let ran = run_ls(rt.alloc(), &mut r, &mut w, &mut e);
+    let nothing = Tally {
+        accepted: 0,
+        refused: 0,
+    };
+    assert!(rt; ran == Ok(nothing), "{ran:?}");
+    assert_listed(&rt, "nothing", b"", b"", b"", nothing)
+}
