@@ -11,6 +11,7 @@ pub mod law;
 mod message;
 mod search;
 mod words;
+mod write;
 
 pub use fault::{Cause, RunFault, SectionFault, WriteFault};
 pub use finder::{Event, Finder};
@@ -18,3 +19,4 @@ pub use head::Head;
 pub use input::read_to_end;
 pub use message::Message;
 pub use words::Words;
+pub use write::write_message;

@@ -1,0 +1,130 @@
+-- The definitions computed on worked examples.
+use Rattle.std.proofs.Common.{◌≡◌, ℕ, zero, suc, Bool, true, false, List, [], ◌∷◌, ◌++◌, refl, take, drop, length, codes, Option, Some, None, Ok, Err}
+use Rattle.std.specs.Prelude.{Result, slice_set, ◌==◌, ◌&&◌, ◌+◌}
+use Rattle.bufr_frame.specs.Scan.{Happening, Framed, Strayed, scan, scan_from, open_scan}
+use Rattle.bufr_frame.specs.Sections.{sections_of, section_end, Sections}
+use Rattle.bufr_frame.specs.Layout.{Parts, parts_of, message_octets}
+use Rattle.bufr_frame.specs.declared.head.Head.{Head}
+use Rattle.bufr_frame.specs.declared.fault.Cause.TheVariants.{Cut, ShortLength, NoEnd}
+use Rattle.bufr_frame.specs.declared.fault.SectionFault.{SectionFault}
+use Rattle.bufr_frame.specs.declared.fault.SectionFault.TheVariants.{Edition, SectionShort, SectionPast, SectionsEnd}
+
+-- a message with one block number, 48 octets
+abbrev one_block_number : List ℕ
+one_block_number = 0x42 ∷ 0x55 ∷ 0x46 ∷ 0x52 ∷ 0x00 ∷ 0x00 ∷ 0x30 ∷ 0x04 ∷
+    0x00 ∷ 0x00 ∷ 0x16 ∷ 0x00 ∷ 0x00 ∷ 0x62 ∷ 0x00 ∷ 0x00 ∷ 0x00 ∷ 0x00 ∷ 0x00 ∷ 0x00 ∷ 0x00 ∷ 0x0E ∷ 0x00 ∷ 0x07 ∷ 0xE8 ∷ 0x01 ∷ 0x02 ∷ 0x03 ∷ 0x04 ∷ 0x05 ∷
+    0x00 ∷ 0x00 ∷ 0x09 ∷ 0x00 ∷ 0x00 ∷ 0x01 ∷ 0x80 ∷ 0x01 ∷ 0x01 ∷
+    0x00 ∷ 0x00 ∷ 0x05 ∷ 0x00 ∷ 0x14 ∷
+    0x37 ∷ 0x37 ∷ 0x37 ∷ 0x37 ∷ []
+
+-- a message with local use and a section 2, 56 octets
+abbrev local_use : List ℕ
+local_use = 0x42 ∷ 0x55 ∷ 0x46 ∷ 0x52 ∷ 0x00 ∷ 0x00 ∷ 0x38 ∷ 0x04 ∷
+    0x00 ∷ 0x00 ∷ 0x18 ∷ 0x00 ∷ 0x00 ∷ 0x62 ∷ 0x00 ∷ 0x00 ∷ 0x00 ∷ 0x80 ∷ 0x00 ∷ 0x00 ∷ 0x00 ∷ 0x0E ∷ 0x00 ∷ 0x07 ∷ 0xE8 ∷ 0x01 ∷ 0x02 ∷ 0x03 ∷ 0x04 ∷ 0x05 ∷ 0xAB ∷ 0xCD ∷
+    0x00 ∷ 0x00 ∷ 0x06 ∷ 0x00 ∷ 0x01 ∷ 0x02 ∷
+    0x00 ∷ 0x00 ∷ 0x09 ∷ 0x00 ∷ 0x00 ∷ 0x01 ∷ 0x80 ∷ 0x01 ∷ 0x01 ∷
+    0x00 ∷ 0x00 ∷ 0x05 ∷ 0x00 ∷ 0x14 ∷
+    0x37 ∷ 0x37 ∷ 0x37 ∷ 0x37 ∷ []
+
+abbrev the_head : Head
+the_head = record { edition = 4; master = 0; centre = 98; subcentre = 0; update = 0; category = 0; subcategory = 0; local_subcategory = 0; master_version = 14; local_version = 0; year = 2024; month = 1; day = 2; hour = 3; minute = 4; second = 5 }
+
+abbrev the_parts : List ℕ → Option (List ℕ) → Parts
+the_parts local1 section2 = parts_of local1 section2 (257 ∷ []) 1 true false (0x14 ∷ [])
+
+abbrev the_sections : List ℕ → Option (List ℕ) → ℕ → Sections
+the_sections local1 section2 size = record { head = the_head; local1 = local1; section2 = section2; descriptors = 257 ∷ []; subsets = 1; observed = true; compressed = false; payload = 0x14 ∷ []; size = size }
+
+one-laid-out : message_octets the_head (the_parts [] None) ≡ one_block_number
+one-laid-out = refl
+
+local-laid-out : message_octets the_head (the_parts (0xAB ∷ 0xCD ∷ []) (Some (1 ∷ 2 ∷ []))) ≡ local_use
+local-laid-out = refl
+
+one-sections : sections_of one_block_number ≡ Ok (the_sections [] None 48)
+unfolding sections_of section_end
+one-sections = refl
+
+local-sections : sections_of local_use ≡ Ok (the_sections (0xAB ∷ 0xCD ∷ []) (Some (1 ∷ 2 ∷ [])) 56)
+unfolding sections_of section_end
+local-sections = refl
+
+-- the section faults: another edition, a section short, a section past the end, sections that do not meet the end
+edition-3 : sections_of (slice_set one_block_number 7 3) ≡ Err (Edition 3)
+unfolding sections_of section_end
+edition-3 = refl
+
+first-short : sections_of (slice_set one_block_number 10 21) ≡ Err (SectionShort 1)
+unfolding sections_of section_end
+first-short = refl
+
+first-past : sections_of (slice_set one_block_number 10 40) ≡ Err (SectionPast 1)
+unfolding sections_of section_end
+first-past = refl
+
+no-meeting : sections_of (slice_set one_block_number 41 4) ≡ Err SectionsEnd
+unfolding sections_of section_end
+no-meeting = refl
+
+second-short : sections_of (slice_set (slice_set one_block_number 17 128) 32 3) ≡ Err (SectionShort 2)
+unfolding sections_of section_end
+second-short = refl
+
+-- the events: one message, two, a message without its end, a stray word in front, short and cut lengths
+one-event : scan one_block_number ≡ Framed 0 one_block_number ∷ []
+unfolding scan_from
+one-event = refl
+
+two-events : scan (one_block_number ++ one_block_number) ≡ Framed 0 one_block_number ∷ Framed 48 one_block_number ∷ []
+unfolding scan_from
+two-events = refl
+
+no-end : scan (slice_set one_block_number 47 54) ≡ Strayed 0 NoEnd ∷ []
+unfolding scan_from
+no-end = refl
+
+stray-in-front : scan (codes "BUFR" ++ 0 ∷ 0 ∷ 64 ∷ 4 ∷ one_block_number ++ 0 ∷ 0 ∷ 0 ∷ 0 ∷ 0 ∷ 0 ∷ 0 ∷ 0 ∷ []) ≡ Strayed 0 NoEnd ∷ Framed 8 one_block_number ∷ []
+unfolding scan_from
+stray-in-front = refl
+
+short-length : scan (codes "BUFR" ++ 0 ∷ 0 ∷ 11 ∷ 4 ∷ codes "abcd") ≡ Strayed 0 ShortLength ∷ []
+unfolding scan_from
+short-length = refl
+
+cut-before-short : scan (codes "BUFR" ++ 0 ∷ 0 ∷ 11 ∷ 4 ∷ codes "ab") ≡ Strayed 0 Cut ∷ []
+unfolding scan_from
+cut-before-short = refl
+
+cut-at-47 : scan (take 47 one_block_number) ≡ Strayed 0 Cut ∷ []
+unfolding scan_from
+cut-at-47 = refl
+
+cut-at-4 : scan (take 4 one_block_number) ≡ Strayed 0 Cut ∷ []
+unfolding scan_from
+cut-at-4 = refl
+
+cut-at-3 : scan (take 3 one_block_number) ≡ []
+unfolding scan_from
+cut-at-3 = refl
+
+open-before-the-cut : open_scan (one_block_number ++ take 47 one_block_number) ≡ Framed 0 one_block_number ∷ []
+unfolding scan_from
+open-before-the-cut = refl
+
+-- 4,096 octets of the word alone
+abbrev words_only : ℕ → List ℕ
+words_only zero = []
+words_only (suc n) = codes "BUFR" ++ words_only n
+
+abbrev are_cut : ℕ → List Happening → Bool
+are_cut at [] = true
+are_cut at (Strayed offset Cut ∷ more) = (offset == at) && are_cut (at + 4) more
+are_cut at (event ∷ more) = false
+
+words-only : length (scan (words_only 1024)) ≡ 1024
+unfolding scan_from
+words-only = refl
+
+words-only-cut : are_cut 0 (scan (words_only 1024)) ≡ true
+unfolding scan_from
+words-only-cut = refl
