@@ -275,9 +275,11 @@ fn cut_anywhere(rt: HostRuntime) -> Result<(), Fail> {
 fn words_only(rt: HostRuntime) -> Result<(), Fail> {
     let mut input = Vec::new(rt.alloc());
     let mut errors = String::new(rt.alloc());
-    for i in 0..1024 {
+    let mut at = 0u64;
+    for _ in 0..1024 {
         input.extend_from_slice(b"BUFR")?;
-        errors.push_str(format!(in rt.alloc(); "offset {}: 1 cut\n", 4 * i)?.as_str())?;
+        errors.push_str(format!(in rt.alloc(); "offset {at}: 1 cut\n")?.as_str())?;
+        at = at.saturating_add(4);
     }
     let tally = Tally {
         accepted: 0,

@@ -20,3 +20,6 @@ pub use input::read_to_end;
 pub use message::Message;
 pub use words::Words;
 pub use write::write_message;
+
+#[cfg(test)]
+mod tests;

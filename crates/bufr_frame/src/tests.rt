@@ -1,0 +1,235 @@
+//! The worked examples, run.
+
+use crate::{
+    Cause, Event, Finder, Message, RunFault, SectionFault, WriteFault, law, read_to_end,
+    write_message,
+};
+use bufr_bits::ScriptIn;
+use std::alloc::Global;
+use std::process::Abort;
+use std::test::Fail;
+
+/// A message of edition 4 with one block number, 48 octets.
+const ONE_BLOCK_NUMBER: [u8; 48] = [
+    0x42, 0x55, 0x46, 0x52, 0x00, 0x00, 0x30, 0x04, 0x00, 0x00, 0x16, 0x00, 0x00, 0x62, 0x00, 0x00,
+    0x00, 0x00, 0x00, 0x00, 0x00, 0x0E, 0x00, 0x07, 0xE8, 0x01, 0x02, 0x03, 0x04, 0x05, 0x00, 0x00,
+    0x09, 0x00, 0x00, 0x01, 0x80, 0x01, 0x01, 0x00, 0x00, 0x05, 0x00, 0x14, 0x37, 0x37, 0x37, 0x37,
+];
+
+/// A message with octets for local use in section 1 and a section 2, 56 octets.
+const LOCAL_USE: [u8; 56] = [
+    0x42, 0x55, 0x46, 0x52, 0x00, 0x00, 0x38, 0x04, 0x00, 0x00, 0x18, 0x00, 0x00, 0x62, 0x00, 0x00,
+    0x00, 0x80, 0x00, 0x00, 0x00, 0x0E, 0x00, 0x07, 0xE8, 0x01, 0x02, 0x03, 0x04, 0x05, 0xAB, 0xCD,
+    0x00, 0x00, 0x06, 0x00, 0x01, 0x02, 0x00, 0x00, 0x09, 0x00, 0x00, 0x01, 0x80, 0x01, 0x01, 0x00,
+    0x00, 0x05, 0x00, 0x14, 0x37, 0x37, 0x37, 0x37,
+];
+
+/// A compressed message with two subsets, 50 octets.
+const COMPRESSED: [u8; 50] = [
+    0x42, 0x55, 0x46, 0x52, 0x00, 0x00, 0x32, 0x04, 0x00, 0x00, 0x16, 0x00, 0x00, 0x62, 0x00, 0x00,
+    0x00, 0x00, 0x00, 0x00, 0x00, 0x0E, 0x00, 0x07, 0xE8, 0x01, 0x02, 0x03, 0x04, 0x05, 0x00, 0x00,
+    0x09, 0x00, 0x00, 0x02, 0xC0, 0x0C, 0x65, 0x00, 0x00, 0x07, 0x00, 0x70, 0x8F, 0x05, 0x37, 0x37,
+    0x37, 0x37,
+];
+
+/// The octets that the parts of a message give when they are written.
+fn written_again(alloc: Global, octets: &[u8]) -> Result<Option<Vec<u8>>, Fail> {
+    if octets.len() < 12 {
+        return Ok(None);
+    }
+    let Ok(message) = Message::parse(octets) else {
+        return Ok(None);
+    };
+    let head = message.head();
+    if head.edition != 4 {
+        return Ok(None);
+    }
+    let mut descriptors = Vec::new(alloc);
+    for word in message.descriptors() {
+        descriptors.push(word)?;
+    }
+    // the payload's octets, by its bits
+    let bits = message.payload();
+    let mut payload = Vec::new(alloc);
+    for i in 0..octets.len() as u64 {
+        let Some(octet) = bits.octet(i.saturating_mul(8)) else {
+            break;
+        };
+        payload.push(octet)?;
+    }
+    let octets = write_message(
+        alloc,
+        &head,
+        message.local1(),
+        message.section2(),
+        &descriptors,
+        message.subsets(),
+        message.observed(),
+        message.compressed(),
+        &payload,
+    )?;
+    Ok(Some(octets))
+}
+
+#[test]
+fn parts_written_again(rt: HostRuntime) -> Result<(), Fail> {
+    for octets in [
+        ONE_BLOCK_NUMBER.as_slice(),
+        LOCAL_USE.as_slice(),
+        COMPRESSED.as_slice(),
+    ] {
+        let again = written_again(rt.alloc(), octets)?.expect(&rt, "a message");
+        assert_eq!(rt; again.as_slice(), octets);
+    }
+    Ok(())
+}
+
+#[test]
+fn too_long(rt: HostRuntime) -> Result<(), Fail> {
+    let message = Message::parse(&ONE_BLOCK_NUMBER).expect(&rt, "a message");
+    let head = message.head();
+    assert!(rt; head.edition == 4);
+    let local1 = vec![in rt.alloc(); 0u8; 16_777_215]?;
+    let most: usize = 16_777_215 - 45;
+    for (len, fits) in [(16_777_215usize, false), (most + 1, false), (most, true)] {
+        assert!(rt; len <= local1.len());
+        let ran = write_message(
+            rt.alloc(),
+            &head,
+            &local1[..len],
+            None,
+            &[],
+            1,
+            true,
+            false,
+            b"",
+        );
+        match ran {
+            Ok(octets) => assert!(rt; fits && octets.len() == 16_777_215, "{len}"),
+            Err(fault) => assert!(rt; !fits && fault == WriteFault::TooLong, "{len}: {fault:?}"),
+        }
+    }
+    Ok(())
+}
+
+#[test]
+fn reads_a_message(rt: HostRuntime) -> Result<(), Fail> {
+    let message = Message::parse(&LOCAL_USE).expect(&rt, "a message");
+    let head = message.head();
+    assert!(rt; head.edition == 4 && head.master == 0 && head.centre == 98 && head.subcentre == 0);
+    assert!(rt; head.update == 0 && head.category == 0 && head.subcategory == 0);
+    assert!(rt;
+        head.local_subcategory == 0 && head.master_version == 14 && head.local_version == 0
+    );
+    assert!(rt; head.year == 2024 && head.month == 1 && head.day == 2);
+    assert!(rt; head.hour == 3 && head.minute == 4 && head.second == 5);
+    assert_eq!(rt; message.local1(), b"\xAB\xCD".as_slice());
+    assert!(rt; message.section2() == Some(b"\x01\x02".as_slice()));
+    assert!(rt; message.descriptor(0) == Some(0x0101) && message.descriptor(1) == None);
+    let words = message.descriptors();
+    assert!(rt; words.len() == 1 && !words.is_empty());
+    assert!(rt; message.descriptors().next() == Some(0x0101));
+    assert!(rt; message.subsets() == 1 && message.observed() && !message.compressed());
+    assert!(rt; message.payload().len_bits() == 8 && message.payload().octet(0) == Some(0x14));
+    assert!(rt; message.length() == 56);
+    let message = Message::parse(&COMPRESSED).expect(&rt, "a message");
+    assert!(rt; message.subsets() == 2 && message.compressed() && message.section2() == None);
+    Ok(())
+}
+
+#[test]
+fn refuses_a_message(rt: HostRuntime) -> Result<(), Fail> {
+    let faults: [(&[(usize, u8)], SectionFault); 8] = [
+        (&[(7, 3)], SectionFault::Edition(3)),
+        (&[(10, 21)], SectionFault::SectionShort(1)),
+        (&[(10, 40)], SectionFault::SectionPast(1)),
+        (&[(41, 4)], SectionFault::SectionsEnd),
+        (&[(17, 0x80), (32, 3)], SectionFault::SectionShort(2)),
+        (&[(17, 0x80), (32, 15)], SectionFault::SectionPast(2)),
+        (&[(32, 6)], SectionFault::SectionShort(3)),
+        (&[(41, 6)], SectionFault::SectionPast(4)),
+    ];
+    for (edits, fault) in faults {
+        let mut octets = ONE_BLOCK_NUMBER;
+        for (place, octet) in edits {
+            assert!(rt; *place < 48);
+            octets[*place] = *octet;
+        }
+        match Message::parse(&octets) {
+            Ok(_) => assert!(rt; false, "{fault:?}"),
+            Err(told) => assert!(rt; told == fault, "{fault:?}: {told:?}"),
+        }
+    }
+    Ok(())
+}
+
+/// Asserts the events of `stream`, however it is read, and that the last one comes again.
+fn assert_events(
+    rt: &(impl Abort + AllocGlobal),
+    stream: &[u8],
+    events: &[(u64, Option<Cause>)],
+) -> Result<(), Fail> {
+    for step in [1, 3, 65536] {
+        let mut r = ScriptIn::new(stream, step, None);
+        let mut finder = Finder::new(rt.alloc());
+        for (offset, cause) in events {
+            match finder.next(&mut r) {
+                Ok(Event::Frame(place, octets)) => {
+                    assert!(rt; place == *offset && *cause == None, "{place}");
+                    assert!(rt; octets == ONE_BLOCK_NUMBER.as_slice(), "{place}");
+                }
+                Ok(Event::Stray(place, why)) => {
+                    assert!(rt; place == *offset && *cause == Some(why), "{place} {why:?}");
+                }
+                Ok(Event::Done) => assert!(rt; false, "done before {offset}"),
+                Err(fault) => assert!(rt; false, "{fault:?}"),
+            }
+        }
+        for _ in 0..3 {
+            assert!(rt; matches!(finder.next(&mut r), Ok(Event::Done)));
+        }
+    }
+    Ok(())
+}
+
+#[test]
+fn finds_messages(rt: HostRuntime) -> Result<(), Fail> {
+    let mut stream = Vec::new(rt.alloc());
+    assert_events(&rt, &stream, &[])?;
+    stream.extend_from_slice(b"BUFR\x00\x00\x40\x04")?;
+    stream.extend_from_slice(&ONE_BLOCK_NUMBER)?;
+    stream.extend_from_slice(b"xyBUF")?;
+    stream.extend_from_slice(&ONE_BLOCK_NUMBER)?;
+    stream.extend_from_slice(b"BUFR\x00\x00\x0B\x04abcBUFR")?;
+    let events = [
+        (0, Some(Cause::NoEnd)),
+        (8, None),
+        (61, None),
+        (109, Some(Cause::ShortLength)),
+        (120, Some(Cause::Cut)),
+    ];
+    assert_events(&rt, &stream, &events)
+}
+
+/// A fault comes before any event, and again at each later call.
+#[test]
+fn says_a_fault_again(rt: HostRuntime) -> Result<(), Fail> {
+    let mut r = ScriptIn::new(&ONE_BLOCK_NUMBER, 7, Some(20));
+    let mut finder = Finder::new(rt.alloc());
+    for _ in 0..3 {
+        assert!(rt; matches!(finder.next(&mut r), Err(RunFault::Read)));
+    }
+    Ok(())
+}
+
+#[test]
+fn reads_to_the_end(rt: HostRuntime) -> Result<(), Fail> {
+    let mut r = ScriptIn::new(&LOCAL_USE, 9, None);
+    let mut octets = Vec::new(rt.alloc());
+    let mut reads = 0;
+    let ran = read_to_end(&mut r, &mut octets, &mut reads);
+    assert!(rt; ran == Ok(()) && reads == 8, "{reads}");
+    assert_eq!(rt; octets.as_slice(), LOCAL_USE.as_slice());
+    law::open_scan_is_front();
+    Ok(())
+}
