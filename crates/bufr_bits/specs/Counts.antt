@@ -1,5 +1,5 @@
 -- The counts that a device keeps of its calls. (a choice of this project)
-use Rattle.std.specs.Prelude.{ℕ, zero, suc, ◌+◌, ◌-◌, ◌^◌, min, max, List, [], ◌∷◌, Result, Ok, Err}
+use Rattle.std.specs.Prelude.{ℕ, zero, suc, ◌+◌, ◌-◌, ◌^◌, min, max, Bool, true, false, List, [], ◌∷◌, Result, Ok, Err}
 
 -- a count that has gone up by some, and stops at the greatest u64
 abbrev pub counted : (count by : ℕ) → ℕ
@@ -16,3 +16,14 @@ empty_writes_after count octets (Err e) = count
 empty_writes_after count octets (Ok (suc taken)) = count
 empty_writes_after count [] (Ok zero) = count
 empty_writes_after count (octet ∷ more) (Ok zero) = counted count 1
+
+-- all octets that were taken were handed on, after a write: not if it took some
+abbrev pub handed_on_after_write : {E : Type 0} → Bool → Result ℕ E → Bool
+handed_on_after_write before (Err e) = before
+handed_on_after_write before (Ok zero) = before
+handed_on_after_write before (Ok (suc taken)) = false
+
+-- the same after a flush: they were, if it went through
+abbrev pub handed_on_after_flush : {A E : Type 0} → Bool → Result A E → Bool
+handed_on_after_flush before (Ok x) = true
+handed_on_after_flush before (Err e) = before

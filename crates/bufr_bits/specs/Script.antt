@@ -1,5 +1,5 @@
 -- What the test devices in memory are about to do. (a choice of this project)
-use Rattle.std.specs.Prelude.{ℕ, zero, suc, ◌-◌, min, List, Option, None, Some, option_map, Result, Ok, Err, vec_len}
+use Rattle.std.specs.Prelude.{ℕ, zero, suc, ◌-◌, min, Bool, List, Option, None, Some, option_map, Result, Ok, Err, vec_len}
 use Rattle.bufr_bits.specs.declared.device.Failed.{Failed}
 use Rattle.bufr_bits.specs.declared.script.ScriptIn.{ScriptIn}
 use Rattle.bufr_bits.specs.declared.script.ScriptOut.{ScriptOut}
@@ -52,6 +52,14 @@ out_failures_of s = s.failures
 -- how many writes to it took none of the octets that they were given
 abbrev pub out_empty_writes_of : ScriptOut → ℕ
 out_empty_writes_of s = s.empty_writes
+
+-- how many flushes of it were made
+abbrev pub out_flushes_of : ScriptOut → ℕ
+out_flushes_of s = s.flushes
+
+-- all octets that it took were handed on
+abbrev pub has_handed_on : ScriptOut → Bool
+has_handed_on s = s.handed_on
 
 -- how many octets a writer still takes
 abbrev pub left_of : ScriptOut → ℕ

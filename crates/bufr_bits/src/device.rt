@@ -1,7 +1,7 @@
 //! Readers and writers that count their failures, and the readers and writers of `std` as such.
-ghost use Rattle.std.specs.Prelude.{◌≡◌, ◌≤◌, ℕ, List, Option, length, IfOk};
+ghost use Rattle.std.specs.Prelude.{◌≡◌, ◌≤◌, ℕ, Bool, List, Option, length, IfOk};
 ghost use Rattle.std.specs.Io.KnownBytes.{ReadConsumes, WriteAppends, Keeps};
-ghost use Rattle.bufr_bits.specs.Counts.{counted, failures_after, empty_writes_after};
+ghost use Rattle.bufr_bits.specs.Counts.{counted, failures_after, empty_writes_after, handed_on_after_write, handed_on_after_flush};
 
 use std::io::{Read, Write};
 use thiserror::Error;
@@ -41,9 +41,10 @@ pub trait Source {
 
 /// A writer of octets that counts its calls.
 ///
-/// Its contract speaks of three values that no code holds: the octets taken so far, where the
-/// device under it tells them; how many calls failed; and how many writes took none of the octets
-/// that they were given. Both counts stop at the greatest `u64`.
+/// Its contract speaks of values that no code holds: the octets taken so far, where the device
+/// under it tells them; how many calls failed; how many writes took none of the octets that they
+/// were given; how many flushes were made; and whether all that was taken was handed on by a
+/// flush. The counts stop at the greatest `u64`.
 pub trait Sink {
     /// The octets taken so far, where they are known.
     ghost taken: { Self → Option (List ℕ) };
@@ -54,6 +55,12 @@ pub trait Sink {
     /// How many writes took none of the octets that they were given.
     ghost empty_writes: { Self → ℕ };
 
+    /// How many flushes were made.
+    ghost flushes: { Self → ℕ };
+
+    /// Whether all octets that were taken were handed on.
+    ghost handed_on: { Self → Bool };
+
     /// Takes octets from the front of `buf` and answers how many.
     ///
     /// # Errors
@@ -63,7 +70,9 @@ pub trait Sink {
         ensures bound { IfOk result (λ n. n ≤ length buf.now) }
         ensures octets { WriteAppends (taken self.old) (taken self.new) result buf.now }
         ensures failed { failures self.new ≡ failures_after (failures self.old) result }
-        ensures empty { empty_writes self.new ≡ empty_writes_after (empty_writes self.old) buf.now result };
+        ensures empty { empty_writes self.new ≡ empty_writes_after (empty_writes self.old) buf.now result }
+        ensures flushed { flushes self.new ≡ flushes self.old }
+        ensures handed { handed_on self.new ≡ handed_on_after_write (handed_on self.old) result };
 
     /// Hands on what was taken.
     ///
@@ -73,7 +82,9 @@ pub trait Sink {
     fn flush(&mut self) -> Result<(), Failed>
         ensures octets { Keeps (taken self.old) (taken self.new) }
         ensures failed { failures self.new ≡ failures_after (failures self.old) result }
-        ensures empty { empty_writes self.new ≡ empty_writes self.old };
+        ensures empty { empty_writes self.new ≡ empty_writes self.old }
+        ensures flushed { flushes self.new ≡ counted (flushes self.old) 1 }
+        ensures handed { handed_on self.new ≡ handed_on_after_flush (handed_on self.old) result };
 }
 
 /// A reader or writer of `std` as a [`Source`] or a [`Sink`].
@@ -83,6 +94,8 @@ pub struct Device<T> {
     failures: u64,
     reads: u64,
     empty_writes: u64,
+    flushes: u64,
+    handed_on: bool,
 }
 
 impl<T> Device<T> {
@@ -98,6 +111,8 @@ impl<T> Device<T> {
             failures: 0,
             reads: 0,
             empty_writes: 0,
+            flushes: 0,
+            handed_on: true,
         }
     }
 }
@@ -128,12 +143,20 @@ impl<T: Write> Sink for Device<T> {
 
     ghost empty_writes = { λ d. d.empty_writes };
 
+    ghost flushes = { λ d. d.flushes };
+
+    ghost handed_on = { λ d. d.handed_on };
+
     fn write(&mut self, buf: &[u8]) -> Result<usize, Failed> {
         match self.inner.write(buf) {
-            Ok(n) => {
-                if n == 0 && !buf.is_empty() {
+            Ok(0) => {
+                if !buf.is_empty() {
                     self.empty_writes = self.empty_writes.saturating_add(1);
                 }
+                Ok(0)
+            }
+            Ok(n) => {
+                self.handed_on = false;
                 Ok(n)
             }
             Err(_) => {
@@ -144,8 +167,12 @@ impl<T: Write> Sink for Device<T> {
     }
 
     fn flush(&mut self) -> Result<(), Failed> {
+        self.flushes = self.flushes.saturating_add(1);
         match self.inner.flush() {
-            Ok(()) => Ok(()),
+            Ok(()) => {
+                self.handed_on = true;
+                Ok(())
+            }
             Err(_) => {
                 self.failures = self.failures.saturating_add(1);
                 Err(Failed)

@@ -99,14 +99,16 @@ pub struct ScriptOut {
     end: End,
     failures: u64,
     empty_writes: u64,
+    flushes: u64,
+    handed_on: bool,
     ghost has_step: { 0 < step },
     ghost within_room: { vec_len taken ≤ room },
     ghost reserved: { room ≤ vec_capacity taken },
 }
 
 impl ScriptOut {
-    ghost use Rattle.std.specs.Prelude.{◌≡◌, ◌<◌, [], IfOk};
-    ghost use Rattle.bufr_bits.specs.Script.{taken_of, left_of, out_step_of, end_of, out_failures_of, out_empty_writes_of};
+    ghost use Rattle.std.specs.Prelude.{◌≡◌, ◌<◌, [], IfOk, true};
+    ghost use Rattle.bufr_bits.specs.Script.{taken_of, left_of, out_step_of, end_of, out_failures_of, out_empty_writes_of, out_flushes_of, has_handed_on};
 
     /// A writer that takes `room` octets in all and at most `step` per write. It reserves the room
     /// here, so that no write can want memory.
@@ -122,6 +124,8 @@ impl ScriptOut {
         ensures end { IfOk result (λ s. end_of s ≡ end) }
         ensures failures { IfOk result (λ s. out_failures_of s ≡ 0) }
         ensures empty_writes { IfOk result (λ s. out_empty_writes_of s ≡ 0) }
+        ensures flushes { IfOk result (λ s. out_flushes_of s ≡ 0) }
+        ensures handed_on { IfOk result (λ s. has_handed_on s ≡ true) }
     {
         let taken = Vec::with_capacity(alloc, room)?;
         Ok(ScriptOut {
@@ -131,6 +135,8 @@ impl ScriptOut {
             end,
             failures: 0,
             empty_writes: 0,
+            flushes: 0,
+            handed_on: true,
         })
     }
 
@@ -145,8 +151,8 @@ impl ScriptOut {
 impl Sink for ScriptOut {
     ghost use Rattle.std.specs.Prelude.{◌≡◌, ◌≤◌, ◌-◌, Some, length, IfOk};
     ghost use Rattle.std.specs.Io.KnownBytes.{WriteAppends, Keeps};
-    ghost use Rattle.bufr_bits.specs.Counts.{failures_after, empty_writes_after};
-    ghost use Rattle.bufr_bits.specs.Script.{taken_of, left_of, out_step_of, end_of, out_failures_of, out_empty_writes_of, write_answer, flush_answer, moved};
+    ghost use Rattle.bufr_bits.specs.Counts.{counted, failures_after, empty_writes_after, handed_on_after_write, handed_on_after_flush};
+    ghost use Rattle.bufr_bits.specs.Script.{taken_of, left_of, out_step_of, end_of, out_failures_of, out_empty_writes_of, out_flushes_of, has_handed_on, write_answer, flush_answer, moved};
 
     ghost taken = { λ s. Some s.taken.items };
 
@@ -154,11 +160,17 @@ impl Sink for ScriptOut {
 
     ghost empty_writes = { λ s. s.empty_writes };
 
+    ghost flushes = { λ s. s.flushes };
+
+    ghost handed_on = { λ s. s.handed_on };
+
     fn write(&mut self, buf: &[u8]) -> Result<usize, Failed>
         ensures bound { IfOk result (λ n. n ≤ length buf.now) }
         ensures octets { WriteAppends (Some (taken_of self.old)) (Some (taken_of self.new)) result buf.now }
         ensures failed { out_failures_of self.new ≡ failures_after (out_failures_of self.old) result }
         ensures empty { out_empty_writes_of self.new ≡ empty_writes_after (out_empty_writes_of self.old) buf.now result }
+        ensures flushed { out_flushes_of self.new ≡ out_flushes_of self.old }
+        ensures handed { has_handed_on self.new ≡ handed_on_after_write (has_handed_on self.old) result }
         // The script is kept to: the answer, the room left, the step and the end.
         ensures answer { result ≡ write_answer (end_of self.old) (out_step_of self.old) (left_of self.old) (length buf.now) }
         ensures left { left_of self.new ≡ left_of self.old - moved result }
@@ -174,6 +186,7 @@ impl Sink for ScriptOut {
         if n == 0 && !buf.is_empty() {
             self.empty_writes = self.empty_writes.saturating_add(1);
         }
+        self.handed_on = self.handed_on && n == 0;
         match self.taken.extend_from_slice(&buf[..n]) {
             Ok(()) => Ok(n),
             Err(_) => unreachable!(),
@@ -184,15 +197,19 @@ impl Sink for ScriptOut {
         ensures octets { Keeps (Some (taken_of self.old)) (Some (taken_of self.new)) }
         ensures failed { out_failures_of self.new ≡ failures_after (out_failures_of self.old) result }
         ensures empty { out_empty_writes_of self.new ≡ out_empty_writes_of self.old }
+        ensures flushed { out_flushes_of self.new ≡ counted (out_flushes_of self.old) 1 }
+        ensures handed { has_handed_on self.new ≡ handed_on_after_flush (has_handed_on self.old) result }
         ensures answer { result ≡ flush_answer (end_of self.old) }
         ensures left { left_of self.new ≡ left_of self.old }
         ensures step { out_step_of self.new ≡ out_step_of self.old }
         ensures end { end_of self.new ≡ end_of self.old }
     {
+        self.flushes = self.flushes.saturating_add(1);
         if self.end == End::Flush {
             self.failures = self.failures.saturating_add(1);
             return Err(Failed);
         }
+        self.handed_on = true;
         Ok(())
     }
 }
