@@ -1,6 +1,7 @@
 -- What a run writes, event by event.
-use Rattle.std.proofs.Common.{◌≡◌, ◌∙◌, ◌≤◌, ◌<◌, ◌^◌, ℕ, ◌+◌, ◌-◌, Bool, true, false, List, [], ◌∷◌, ◌++◌, refl, sym, ap, subst, arith, Option, None, Ok, Err, append-nil}
-use Rattle.std.specs.Prelude.{Result, flat_map, map, count_by, IfSome}
+use Rattle.bufr_frame.specs.Runs.{MakesReads, most_reads}
+use Rattle.std.proofs.Common.{◌≡◌, ◌∙◌, ◌≤◌, ◌<◌, ◌^◌, ℕ, ◌+◌, ◌-◌, Bool, true, false, List, [], ◌∷◌, ◌++◌, refl, sym, ap, subst, arith, Option, None, Ok, Err, append-nil, Some, append_assoc}
+use Rattle.std.specs.Prelude.{Result, flat_map, map, count_by, IfSome, ◌≢◌}
 use Rattle.std.specs.Io.KnownBytes.{Keeps}
 use Rattle.std.proofs.KnownBytes.{Appends-nil, Appends-trans, Appends-kept, Consumes-nil, Consumes-trans, Consumes-whole}
 use Rattle.std.proofs.lemmas.Bool.{true≢false, false≢true}
@@ -11,11 +12,11 @@ use Rattle.bufr_frame.specs.declared.fault.RunFault.{RunFault}
 use Rattle.bufr_frame.specs.declared.fault.RunFault.TheVariants.{Read, Write, InputTooLong, Memory}
 use Rattle.bufr_frame.specs.declared.finder.Event.{Event}
 use Rattle.bufr_frame.specs.declared.finder.Event.TheVariants.{Frame, Stray, Done}
-use Rattle.bufr_frame.specs.Scan.{Happening, scan, scan_from}
+use Rattle.bufr_frame.specs.Scan.{Happening, Framed, Strayed, scan, scan_from}
 use Rattle.bufr_frame.specs.Events.{told, IsEvent}
 use Rattle.bufr_frame.specs.Finding.{State, StepSo, CountsReads, StopsSo, fresh}
 use Rattle.bufr_frame.specs.Next.{NextSo, EndsSo}
-use Rattle.bufr_frame.proofs.FindingLemmas.{Advances-then, Advances-none}
+use Rattle.bufr_frame.proofs.FindingLemmas.{Advances-none, StepSo-then, CountsReads-then, whole-scan}
 use Rattle.bufr_cli.specs.Writing.{Writes, GrowsByFront}
 use Rattle.bufr_cli.specs.Pieces.{Piece, OnErrors, output_of, errors_of, is_accepted, is_refused}
 use Rattle.bufr_cli.specs.Running.{Written, WritesPieces, Tallies, tally_after, RunSo, RunDone, RunStopped}
@@ -31,25 +32,6 @@ errors-stop w e e' text first r f is same writes =
     let here = rw is at writes in
     let P : List ℕ → Type 0 = λ t. GrowsByFront e e' t in
     rw same (here.0, grows-nil w, subst P (sym (append-nil text)) here.1)
-
--- one step of a finder after others
-StepSo-then : (left mid left' : Option (List ℕ)) (s s' : State) (bs bs' : List ℕ) (events es : List Happening)
-    → StepSo left mid fresh s bs events → StepSo mid left' s s' bs' es → StepSo left left' fresh s' (bs ++ bs') (events ++ es)
-StepSo-then left mid left' s s' bs bs' events es one two = record {
-  read = Consumes-trans left mid left' bs bs' one.read two.read;
-  advances = Advances-then s.ended s'.ended 0 s.at s'.at bs s.rest s'.rest bs' events es (λ end. ((two.kept end).0, (two.kept end).1)) one.advances two.advances;
-  kept = λ end. absurd (false≢true end);
-  end = λ before. two.end (one.end before);
-}
-
--- the reads of more calls
-CountsReads-then : (a b c : ℕ) (s s' : State) → CountsReads a b fresh s → CountsReads b c s s' → CountsReads a c fresh s'
-CountsReads-then a b c s s' one two = record {
-  made = two.made ∙ ap (λ n. counted n (s'.reads - s.reads)) one.made ∙ counted-counted a (s.reads - 0) (s'.reads - s.reads)
-      ∙ (let e : s.reads - 0 + (s'.reads - s.reads) ≡ s'.reads - 0 = omega (arith, two.order) in ap (counted a) e);
-  order = omega arith;
-  most = two.most;
-}
 
 Written-then : (w w' w'' e e' e'' : Option (List ℕ)) (pieces more : List Piece) → Written w w' e e' pieces → Written w' w'' e' e'' more → Written w w'' e e'' (pieces ++ more)
 Written-then w w' w'' e e' e'' pieces more one two = record {
@@ -96,21 +78,27 @@ ran-fresh piece left reads w e s tally is accepted refused =
       near = omega arith;
     })
 
+-- it is one happening
+told-one : (event : Event) → IsEvent event → (here : Happening) × (told event ≡ here ∷ [])
+told-one (Frame offset octets) some = (Framed offset octets.now, refl)
+told-one (Stray offset cause) some = (Strayed offset cause, refl)
+told-one Done some = absurd some
+
 -- an event that is not the end
 pub is-event : (s s' : State) (event : Event) → EndsSo s s' (Ok event) → (event ≡ Done → ⊥) → IsEvent event
-is-event s s' (Frame offset octets) ends not_done = ends.3
+is-event s s' (Frame offset octets) ends not_done = ends.2
 is-event s s' (Stray offset cause) ends not_done = tt
 is-event s s' Done ends not_done = not_done refl
 
-goes-on : (s s' : State) (event : Event) → EndsSo s s' (Ok event) → IsEvent event → (s'.fault ≡ None) × (s'.ended ≡ true) × (s.at < s'.at)
-goes-on s s' (Frame offset octets) ends some = (ends.0, ends.1, ends.2)
+goes-on : (s s' : State) (event : Event) → EndsSo s s' (Ok event) → IsEvent event → (s'.fault ≡ None) × (s.at < s'.at)
+goes-on s s' (Frame offset octets) ends some = (ends.0, ends.1)
 goes-on s s' (Stray offset cause) ends some = ends
 goes-on s s' Done ends some = absurd some
 
--- the scan of what was read is the events so far and those of what is left
-whole-scan : (left left' : Option (List ℕ)) (s : State) (bs : List ℕ) (events : List Happening) → StepSo left left' fresh s bs events → scan bs ≡ events ++ scan_from 0 s.at s.rest
-whole-scan left left' s bs events step =
-    ap (scan_from 0 0) (sym (append-nil bs)) ∙ step.advances.whole [] (λ _. refl) ∙ ap (λ l. events ++ scan_from 0 s.at l) (append-nil s.rest)
+is-told : (event : Event) → IsEvent event → told event ≢ []
+is-told (Frame offset octets) some = λ none. cc
+is-told (Stray offset cause) some = λ none. cc
+is-told Done some = absurd some
 
 map-append : (piece : Happening → Piece) (xs ys : List Happening) → map piece (xs ++ ys) ≡ map piece xs ++ map piece ys
 map-append piece xs ys = grind (arith, common_steps)
@@ -127,6 +115,7 @@ module _ (piece : Happening → Piece) (left mid left' : Option (List ℕ)) (rea
   turn w2 e2 tally' event is some writes tallies one =
       let steps = rw is at next.steps in
       let on = goes-on s s' event (rw is at next.ends) some in
+      let ended : s'.ended ≡ true = next.whole (rw is (is-told event some)) in
       let W : List Piece → Type 0 = λ l. Written w w2 e e2 l in
       record {
         octets = ran.octets ++ steps.0;
@@ -140,15 +129,15 @@ module _ (piece : Happening → Piece) (left mid left' : Option (List ℕ)) (rea
           refused = ap (λ t. t.refused) tallies ∙ ap (λ n. n + count_by is_refused (map piece (told event))) ran.tallies.refused
               ∙ sym (count-append is_refused (map piece ran.events) (map piece (told event))) ∙ ap (count_by is_refused) (sym (map-append piece ran.events (told event)));
         };
-        none = λ open'. absurd (true≢false (sym on.1 ∙ open'));
+        none = λ open'. absurd (true≢false (sym ended ∙ open'));
         sound = on.0;
-        few = omega (arith, ran.few, on.2, one);
-        near = next.within;
+        few = omega (arith, ran.few, on.1, one);
+        near = next.near;
       }
 
   -- the finder stopped
-  pub stop-next : (f : RunFault) (r : Result Tally RunFault) → result ≡ Err f → r ≡ Err f → (bs : List ℕ) × RunSo (λ l. map piece (scan l)) left left' w w1 e e1 bs r
-  stop-next f r is same =
+  pub stop-next : (unflushed : Type 0) (f : RunFault) (r : Result Tally RunFault) → result ≡ Err f → r ≡ Err f → (bs : List ℕ) × RunSo (λ l. map piece (scan l)) left left' w w1 e e1 unflushed bs r
+  stop-next unflushed f r is same =
       let steps = rw is at next.steps in
       let ends = rw is at next.ends in
       let nothing : map piece ran.events ≡ [] = ap (map piece) (ran.none ends.0) in
@@ -157,42 +146,48 @@ module _ (piece : Happening → Piece) (left mid left' : Option (List ℕ)) (rea
         read = Consumes-trans left mid left' ran.octets steps.0 ran.step.read steps.1.read;
         written = subst W nothing ran.written;
       } in
-      let P : Result Tally RunFault → Type 0 = λ x. RunSo (λ l. map piece (scan l)) left left' w w1 e e1 (ran.octets ++ steps.0) x in
+      let P : Result Tally RunFault → Type 0 = λ x. RunSo (λ l. map piece (scan l)) left left' w w1 e e1 unflushed (ran.octets ++ steps.0) x in
       (ran.octets ++ steps.0, subst P (sym same) (by f (ends.1 ran.sound) stopped))
     where
-      by : (f : RunFault) → StopsSo s' f → {bs : List ℕ} → RunStopped left left' w w1 e e1 bs → RunSo (λ l. map piece (scan l)) left left' w w1 e e1 bs (Err f)
+      by : (f : RunFault) → StopsSo s' f → {bs : List ℕ} → RunStopped left left' w w1 e e1 bs → RunSo (λ l. map piece (scan l)) left left' w w1 e e1 unflushed bs (Err f)
       by Read so stopped = stopped
       by InputTooLong so stopped = stopped
       by Memory so stopped = stopped
       by Write so stopped = absurd so
 
   -- a writer failed at the lines of an event
-  pub stop-write : (w2 e2 : Option (List ℕ)) (event : Event) (X : Type 0) (wrote : Result X RunFault) (f : RunFault) (r : Result Tally RunFault) → result ≡ Ok event → IsEvent event
-      → WritesPieces w1 w2 e1 e2 (map piece (told event)) wrote → wrote ≡ Err f → r ≡ Err f → (bs : List ℕ) × RunSo (λ l. map piece (scan l)) left left' w w2 e e2 bs r
-  stop-write w2 e2 event X wrote f r is some writes fails same =
+  pub stop-write : (unflushed : Type 0) → unflushed → (w2 e2 : Option (List ℕ)) (event : Event) (X : Type 0) (wrote : Result X RunFault) (f : RunFault) (r : Result Tally RunFault) → result ≡ Ok event → IsEvent event
+      → WritesPieces w1 w2 e1 e2 (map piece (told event)) wrote → wrote ≡ Err f → r ≡ Err f → (bs : List ℕ) × RunSo (λ l. map piece (scan l)) left left' w w2 e e2 unflushed bs r
+  stop-write unflushed kept w2 e2 event X wrote f r is some writes fails same =
       let steps = rw is at next.steps in
       let on = goes-on s s' event (rw is at next.ends) some in
       let lines = rw fails at writes in
       let bs = ran.octets ++ steps.0 in
       let step = StepSo-then left mid left' s s' ran.octets steps.0 ran.events (told event) ran.step steps.1 in
       let rest = scan_from 0 s'.at s'.rest in
-      let P : Result Tally RunFault → Type 0 = λ x. RunSo (λ l. map piece (scan l)) left left' w w2 e e2 bs x in (
+      let one = told-one event some in
+      let O : List Happening → Type 0 = λ l. GrowsByFront w1 w2 (flat_map output_of (map piece l)) in
+      let E : List Happening → Type 0 = λ l. GrowsByFront e1 e2 (flat_map errors_of (map piece l)) in
+      let P : Result Tally RunFault → Type 0 = λ x. RunSo (λ l. map piece (scan l)) left left' w w2 e e2 unflushed bs x in (
         bs,
         subst P (sym (same ∙ ap Err lines.0)) (record {
           read = step.read;
-          end = step.end (λ end. absurd (false≢true end)) on.1;
+          end = step.end (λ end. absurd (false≢true end)) (next.whole (rw is (is-told event some)));
           written = record {
             given = map piece ran.events;
-            last = map piece (told event);
+            next = Some (piece one.0);
             rest = map piece rest;
-            parts = ap (map piece) (whole-scan left left' s' bs (ran.events ++ told event) step)
-                ∙ map-append piece (ran.events ++ told event) rest ∙ ap (λ l. l ++ map piece rest) (map-append piece ran.events (told event));
+            parts = ap (map piece) (whole-scan s'.ended bs s'.rest (ran.events ++ told event) s'.at step.advances)
+                ∙ map-append piece (ran.events ++ told event) rest ∙ ap (λ l. l ++ map piece rest) (map-append piece ran.events (told event))
+                ∙ append_assoc (map piece ran.events) (map piece (told event)) (map piece rest)
+                ∙ ap (λ l. map piece ran.events ++ (map piece l ++ map piece rest)) one.1;
             between_output = w1;
             between_errors = e1;
             whole = ran.written;
-            output = lines.1;
-            errors = lines.2;
+            output = subst O one.1 lines.1;
+            errors = subst E one.1 lines.2;
           };
+          flushed = λ not. absurd (not kept);
         }),
       )
 
@@ -204,7 +199,7 @@ module _ (piece : Happening → Piece) (left mid left' : Option (List ℕ)) (rea
         let done = (rw is at next.ends).1 in
         let bs = ran.octets ++ steps.0 in
         let step = StepSo-then left mid left' s s' ran.octets steps.0 ran.events [] ran.step steps.1 in
-        let all : scan bs ≡ ran.events = whole-scan left left' s' bs (ran.events ++ []) step ∙ ap (λ l. (ran.events ++ []) ++ l) (done.1 s'.at) ∙ append-nil (ran.events ++ []) ∙ append-nil ran.events in
+        let all : scan bs ≡ ran.events = whole-scan s'.ended bs s'.rest (ran.events ++ []) s'.at step.advances ∙ ap (λ l. (ran.events ++ []) ++ l) (done.1 s'.at) ∙ append-nil (ran.events ++ []) ∙ append-nil ran.events in
         let W : List Happening → Type 0 = λ l. Written w w2 e e2 (map piece l) in
         let T : List Happening → Type 0 = λ l. Tallies tally (map piece l) in (
           bs,
@@ -217,9 +212,9 @@ module _ (piece : Happening → Piece) (left mid left' : Option (List ℕ)) (rea
         )
 
     -- a flush failed
-    pub stop-flush : (f : RunFault) (r : Result Tally RunFault) → f ≡ Write → r ≡ Err f → (bs : List ℕ) × RunSo (λ l. map piece (scan l)) left left' w w2 e e2 bs r
-    stop-flush f r write same =
-        let P : Result Tally RunFault → Type 0 = λ x. RunSo (λ l. map piece (scan l)) left left' w w2 e e2 flushed.0 x in
+    pub stop-flush : (unflushed : Type 0) (f : RunFault) (r : Result Tally RunFault) → f ≡ Write → r ≡ Err f → (bs : List ℕ) × RunSo (λ l. map piece (scan l)) left left' w w2 e e2 unflushed bs r
+    stop-flush unflushed f r write same =
+        let P : Result Tally RunFault → Type 0 = λ x. RunSo (λ l. map piece (scan l)) left left' w w2 e e2 unflushed flushed.0 x in
         let all = map piece (scan flushed.0) in (
           flushed.0,
           subst P (sym (same ∙ ap Err write)) (record {
@@ -227,15 +222,16 @@ module _ (piece : Happening → Piece) (left mid left' : Option (List ℕ)) (rea
             end = flushed.1.end;
             written = record {
               given = all;
-              last = [];
+              next = None;
               rest = [];
-              parts = sym (append-nil (all ++ []) ∙ append-nil all);
+              parts = sym (append-nil all);
               between_output = w2;
               between_errors = e2;
               whole = flushed.1.written;
               output = grows-nil w2;
               errors = grows-nil e2;
             };
+            flushed = λ _. flushed.1.written;
           }),
         )
 
@@ -244,3 +240,18 @@ pub all-known : (pieces_of : List ℕ → List Piece) (left left' w w' e e' : Op
     → IfSome left (λ s. Written w w' e e' (pieces_of s) × Tallies tally (pieces_of s))
 all-known pieces_of left left' w w' e e' tally (bs, done) =
     Consumes-whole left left' bs (λ s. Written w w' e e' (pieces_of s) × Tallies tally (pieces_of s)) done.read done.end (done.written, done.tallies)
+
+-- the reads of a run
+pub makes-reads : {X : Type 0} (reads reads' : ℕ) (s : State) (r : Result X RunFault) → CountsReads reads reads' fresh s → (r ≡ Err InputTooLong → s.reads ≡ most_reads) → MakesReads reads reads' r
+makes-reads reads reads' s r counts long =
+    let e : s.reads - 0 ≡ s.reads = omega arith in
+    (s.reads, counts.most, counts.made ∙ ap (counted reads) e, long)
+
+-- where the finder stopped
+pub makes-reads-stop : (reads mid reads' : ℕ) (mid_left left' : Option (List ℕ)) (s s' : State) (result : Result Event RunFault) (f : RunFault) (r : Result Tally RunFault)
+    → CountsReads reads mid fresh s → NextSo mid_left left' mid reads' s s' result → s.fault ≡ None → result ≡ Err f → r ≡ Err f → MakesReads reads reads' r
+makes-reads-stop reads mid reads' mid_left left' s s' result f r before next sound is same =
+    makes-reads reads reads' s' r (CountsReads-then reads mid reads' s s' before next.counts) (λ long.
+    let f_is : f ≡ InputTooLong = cc in
+    let stops = (rw (is, f_is) at next.ends).1 sound in
+    stops.1)

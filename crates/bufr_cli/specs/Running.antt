@@ -1,5 +1,5 @@
 -- What a run leaves, by its answer. (a choice of this project)
-use Rattle.std.specs.Prelude.{◌≡◌, ◌⊎◌, ℕ, ◌+◌, List, [], ◌++◌, Option, Result, Ok, Err, flat_map, count_by}
+use Rattle.std.specs.Prelude.{◌≡◌, ◌⊎◌, ℕ, ◌+◌, List, [], ◌++◌, Option, Result, Ok, Err, flat_map, count_by, option_to_list}
 use Rattle.std.specs.Io.KnownBytes.{Consumes, Appends, IsAtEnd}
 use Rattle.bufr_frame.specs.declared.fault.RunFault.{RunFault}
 use Rattle.bufr_frame.specs.declared.fault.RunFault.TheVariants.{Read, Write, InputTooLong, Memory}
@@ -12,17 +12,17 @@ pub record Written (w w' e e' : Option (List ℕ)) (pieces : List Piece) : Type 
   pub output : Appends w w' (flat_map output_of pieces)
   pub errors : Appends e e' (flat_map errors_of pieces)
 
--- The first pieces were written, and of the next one a front.
+-- The first pieces were written whole, and of the next one a front.
 pub record WrittenInPart (w w' e e' : Option (List ℕ)) (pieces : List Piece) : Type 0 where
   pub given : List Piece
-  pub last : List Piece
+  pub next : Option Piece
   pub rest : List Piece
-  pub parts : pieces ≡ given ++ last ++ rest
+  pub parts : pieces ≡ given ++ (option_to_list next ++ rest)
   pub between_output : Option (List ℕ)
   pub between_errors : Option (List ℕ)
   pub whole : Written w between_output e between_errors given
-  pub output : GrowsByFront between_output w' (flat_map output_of last)
-  pub errors : GrowsByFront between_errors e' (flat_map errors_of last)
+  pub output : GrowsByFront between_output w' (flat_map output_of (option_to_list next))
+  pub errors : GrowsByFront between_errors e' (flat_map errors_of (option_to_list next))
 
 -- The tally counts the pieces on each writer.
 pub record Tallies (tally : Tally) (pieces : List Piece) : Type 0 where
@@ -41,19 +41,20 @@ pub record RunStopped (left left' w w' e e' : Option (List ℕ)) (bs : List ℕ)
   pub read : Consumes left left' bs
   pub written : Written w w' e e' []
 
--- The input was read to its end, and a writer failed.
-pub record RunCut (pieces_of : List ℕ → List Piece) (left left' w w' e e' : Option (List ℕ)) (bs : List ℕ) : Type 0 where
+-- The input was read to its end, and a writer failed; where a flush was tried, all stands.
+pub record RunCut (pieces_of : List ℕ → List Piece) (left left' w w' e e' : Option (List ℕ)) (unflushed : Type 0) (bs : List ℕ) : Type 0 where
   pub read : Consumes left left' bs
   pub end : IsAtEnd left'
   pub written : WrittenInPart w w' e e' (pieces_of bs)
+  pub flushed : ¬ unflushed → Written w w' e e' (pieces_of bs)
 
 -- what a run leaves that reads these octets; for now the input is read whole before anything is written
-abbrev pub RunSo : (pieces_of : List ℕ → List Piece) → (left left' w w' e e' : Option (List ℕ)) → List ℕ → Result Tally RunFault → Type 0
-RunSo pieces_of left left' w w' e e' bs (Ok tally) = RunDone pieces_of left left' w w' e e' bs tally
-RunSo pieces_of left left' w w' e e' bs (Err Read) = RunStopped left left' w w' e e' bs
-RunSo pieces_of left left' w w' e e' bs (Err InputTooLong) = RunStopped left left' w w' e e' bs
-RunSo pieces_of left left' w w' e e' bs (Err Memory) = RunStopped left left' w w' e e' bs
-RunSo pieces_of left left' w w' e e' bs (Err Write) = RunCut pieces_of left left' w w' e e' bs
+abbrev pub RunSo : (pieces_of : List ℕ → List Piece) → (left left' w w' e e' : Option (List ℕ)) → (unflushed : Type 0) → List ℕ → Result Tally RunFault → Type 0
+RunSo pieces_of left left' w w' e e' unflushed bs (Ok tally) = RunDone pieces_of left left' w w' e e' bs tally
+RunSo pieces_of left left' w w' e e' unflushed bs (Err Read) = RunStopped left left' w w' e e' bs
+RunSo pieces_of left left' w w' e e' unflushed bs (Err InputTooLong) = RunStopped left left' w w' e e' bs
+RunSo pieces_of left left' w w' e e' unflushed bs (Err Memory) = RunStopped left left' w w' e e' bs
+RunSo pieces_of left left' w w' e e' unflushed bs (Err Write) = RunCut pieces_of left left' w w' e e' unflushed bs
 
 -- pieces were written, or a front of them where a writer failed
 abbrev pub WritesPieces : {X : Type 0} → (w w' e e' : Option (List ℕ)) → List Piece → Result X RunFault → Type 0

@@ -26,6 +26,7 @@ fn text_of(cause: Cause) -> &'static [u8]
 pub fn write_stray<E: Sink>(offset: u64, cause: Cause, e: &mut E) -> Result<(), RunFault>
     ensures writes { Writes (E.taken e.old) (E.taken e.new) (fault_line offset (cause_text cause ∷ [])) result }
     ensures counts { CountsWrites (E.failures e.old) (E.failures e.new) (E.empty_writes e.old) (E.empty_writes e.new) result }
+    ensures flushes { E.flushes e.new ≡ E.flushes e.old }
 {
     let parts = [
         Part::Text(b"offset "),
@@ -50,6 +51,7 @@ pub fn write_section_fault<E: Sink>(
 ) -> Result<(), RunFault>
     ensures writes { Writes (E.taken e.old) (E.taken e.new) (fault_line offset (section_fault_text fault)) result }
     ensures counts { CountsWrites (E.failures e.old) (E.failures e.new) (E.empty_writes e.old) (E.empty_writes e.new) result }
+    ensures flushes { E.flushes e.new ≡ E.flushes e.old }
 {
     match fault {
         SectionFault::Edition(edition) => write_numbered(offset, b"10 edition ", edition, b"", e),
@@ -84,6 +86,7 @@ fn write_numbered<'a, E: Sink>(
 ) -> Result<(), RunFault>
     ensures writes { Writes (E.taken e.old) (E.taken e.new) (fault_line offset (before.now ∷ decimal number ∷ after.now ∷ [])) result }
     ensures counts { CountsWrites (E.failures e.old) (E.failures e.new) (E.empty_writes e.old) (E.empty_writes e.new) result }
+    ensures flushes { E.flushes e.new ≡ E.flushes e.old }
 {
     let parts = [
         Part::Text(b"offset "),

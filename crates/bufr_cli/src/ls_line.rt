@@ -1,4 +1,5 @@
 //! The line that lists a message.
+ghost use Rattle.std.specs.Prelude.{◌≡◌};
 ghost use Rattle.bufr_cli.specs.Writing.{Writes, CountsWrites};
 ghost use Rattle.bufr_cli.specs.LsLine.{ls_line};
 
@@ -14,6 +15,7 @@ use bufr_frame::{Message, RunFault};
 pub fn write_ls<W: Sink>(offset: u64, message: &Message<'_>, w: &mut W) -> Result<(), RunFault>
     ensures writes { Writes (W.taken w.old) (W.taken w.new) (ls_line offset message.now) result }
     ensures counts { CountsWrites (W.failures w.old) (W.failures w.new) (W.empty_writes w.old) (W.empty_writes w.new) result }
+    ensures flushes { W.flushes w.new ≡ W.flushes w.old }
 {
     let head = message.head();
     let parts = [

@@ -16,7 +16,7 @@ use finish::{Outcome, finish};
 use job::{Job, LineFault, Subcommand, parse_line};
 use run_ls::run_ls;
 use std::fs;
-use std::io::{BufReader, BufWriter, Read};
+use std::io::{BufReader, BufWriter, ErrorKind, Read};
 use std::process::ExitCode;
 use tally::Tally;
 
@@ -44,7 +44,7 @@ fn main(rt: HostRuntime) -> ExitCode {
 fn run<E: Sink>(rt: &HostRuntime, errors: &mut E) -> u8 {
     let words: Vec<String> = match words(rt) {
         Ok(words) => words,
-        Err(fault) => return finish(&Outcome::Run(fault), errors),
+        Err(outcome) => return finish(&outcome, errors),
     };
     match parse_line(rt.alloc(), words.as_slice()) {
         Ok(job) => {
@@ -60,11 +60,20 @@ fn run<E: Sink>(rt: &HostRuntime, errors: &mut E) -> u8 {
     }
 }
 
-/// The words of the command line.
-fn words(rt: &HostRuntime) -> Result<Vec<String>, RunFault> {
+/// The words of the command line, or how the call came out without them.
+fn words(rt: &HostRuntime) -> Result<Vec<String>, Outcome<'static>> {
     match std::env::args(rt) {
-        Ok(words) => Ok(words.collect(rt.alloc())?),
-        Err(_) => Err(RunFault::Memory),
+        Ok(words) => match words.collect(rt.alloc()) {
+            Ok(words) => Ok(words),
+            Err(_) => Err(Outcome::Run(RunFault::Memory)),
+        },
+        Err(error) => {
+            if error.kind() == ErrorKind::OutOfMemory {
+                Err(Outcome::Run(RunFault::Memory))
+            } else {
+                Err(Outcome::Usage("error: an argument is not UTF-8\n"))
+            }
+        }
     }
 }
 

@@ -44,6 +44,7 @@ fn zeros(n: usize) -> &'static [u8]
 pub fn write_all<W: Sink>(octets: &[u8], w: &mut W) -> Result<(), RunFault>
     ensures writes { Writes (W.taken w.old) (W.taken w.new) octets.now result }
     ensures counts { CountsWrites (W.failures w.old) (W.failures w.new) (W.empty_writes w.old) (W.empty_writes w.new) result }
+    ensures flushes { W.flushes w.new ≡ W.flushes w.old }
 {
     let mut rest = octets;
     while !rest.is_empty() {
@@ -61,6 +62,7 @@ fn write_padded<W: Sink>(value: u64, least: usize, w: &mut W) -> Result<(), RunF
     requires { least ≤ 4 }
     ensures writes { Writes (W.taken w.old) (W.taken w.new) (padded least value) result }
     ensures counts { CountsWrites (W.failures w.old) (W.failures w.new) (W.empty_writes w.old) (W.empty_writes w.new) result }
+    ensures flushes { W.flushes w.new ≡ W.flushes w.old }
 {
     let mut buffer = Buffer::new();
     let digits = buffer.format(value).as_bytes();
@@ -72,6 +74,7 @@ fn write_padded<W: Sink>(value: u64, least: usize, w: &mut W) -> Result<(), RunF
 fn write_decimal<W: Sink>(value: u64, w: &mut W) -> Result<(), RunFault>
     ensures writes { Writes (W.taken w.old) (W.taken w.new) (decimal value) result }
     ensures counts { CountsWrites (W.failures w.old) (W.failures w.new) (W.empty_writes w.old) (W.empty_writes w.new) result }
+    ensures flushes { W.flushes w.new ≡ W.flushes w.old }
 {
     let mut buffer = Buffer::new();
     write_all(buffer.format(value).as_bytes(), w)
@@ -82,6 +85,7 @@ fn write_part<W: Sink>(part: Part<'_>, w: &mut W) -> Result<(), RunFault>
     requires { IsShort part }
     ensures writes { Writes (W.taken w.old) (W.taken w.new) (part_text part.entry) result }
     ensures counts { CountsWrites (W.failures w.old) (W.failures w.new) (W.empty_writes w.old) (W.empty_writes w.new) result }
+    ensures flushes { W.flushes w.new ≡ W.flushes w.old }
 {
     match part {
         Part::Text(octets) => write_all(octets, w),
@@ -100,6 +104,7 @@ pub fn write_parts<W: Sink>(parts: &[Part<'_>], w: &mut W) -> Result<(), RunFaul
     requires { AllByRecursion IsShort parts.now }
     ensures writes { Writes (W.taken w.old) (W.taken w.new) (flat_map part_text parts.now) result }
     ensures counts { CountsWrites (W.failures w.old) (W.failures w.new) (W.empty_writes w.old) (W.empty_writes w.new) result }
+    ensures flushes { W.flushes w.new ≡ W.flushes w.old }
 {
     for part in parts {
         write_part(*part, w)?;

@@ -1,8 +1,6 @@
 //! An input read whole.
-ghost use Rattle.std.specs.Prelude.{◌≡◌, ℕ, List, Err, IfOk, MatchResult};
-ghost use Rattle.std.specs.Io.KnownBytes.{Consumes, IsAtEnd};
-ghost use Rattle.bufr_bits.specs.Counts.{counted};
-ghost use Rattle.bufr_frame.specs.Runs.{read_failures_after, most_reads};
+ghost use Rattle.std.specs.Prelude.{◌≡◌, ℕ, List};
+ghost use Rattle.bufr_frame.specs.Runs.{read_failures_after, MakesReads};
 ghost use Rattle.bufr_cli.specs.ReadAll.{ReadsAll};
 
 use bufr_bits::Source;
@@ -18,7 +16,7 @@ use std::alloc::Global;
 pub fn read_all<R: Source>(alloc: Global, r: &mut R) -> Result<Vec<u8>, RunFault>
     ensures read { (bs : List ℕ) × ReadsAll (R.left r.old) (R.left r.new) result bs }
     ensures failed { R.failures r.new ≡ read_failures_after (R.failures r.old) result }
-    ensures too_long { result ≡ Err RunFault.InputTooLong → R.reads r.new ≡ counted (R.reads r.old) most_reads }
+    ensures reads { MakesReads (R.reads r.old) (R.reads r.new) result }
 {
     let mut octets = Vec::new(alloc);
     let mut reads = 0;

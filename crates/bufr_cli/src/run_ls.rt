@@ -1,9 +1,9 @@
 //! `bufr ls`: lists the messages of a stream.
-ghost use Rattle.std.specs.Prelude.{◌≡◌, ◌≤◌, ◌<◌, ◌+◌, ◌^◌, ℕ, List, Err, IfOk, OnOk, IfErr, IfSome, map};
+ghost use Rattle.std.specs.Prelude.{◌≡◌, ◌≤◌, ◌<◌, ◌+◌, ◌^◌, ℕ, List, true, IfOk, OnOk, IfErr, IfSome, map};
 ghost use Rattle.std.specs.Io.KnownBytes.{Keeps};
 ghost use Rattle.bufr_bits.specs.Counts.{counted};
 ghost use Rattle.bufr_frame.specs.Events.{told, IsEvent};
-ghost use Rattle.bufr_frame.specs.Runs.{read_failures_after, most_reads};
+ghost use Rattle.bufr_frame.specs.Runs.{read_failures_after, MakesReads};
 ghost use Rattle.bufr_cli.specs.Writing.{Stays, Fails, CountsWrites};
 ghost use Rattle.bufr_cli.specs.Pieces.{ls_piece, ls_pieces};
 ghost use Rattle.bufr_cli.specs.Running.{RunSo, Written, WritesPieces, BlamesWriter, Tallies, tally_after};
@@ -30,6 +30,8 @@ fn list_event<W: Sink, E: Sink>(
         (Fails (W.failures w.old) (W.failures w.new) (W.empty_writes w.old) (W.empty_writes w.new))
         (Stays (E.failures e.old) (E.failures e.new) (E.empty_writes e.old) (E.empty_writes e.new))
         (Fails (E.failures e.old) (E.failures e.new) (E.empty_writes e.old) (E.empty_writes e.new)) }
+    ensures output_flushes { W.flushes w.new ≡ W.flushes w.old }
+    ensures errors_flushes { E.flushes e.new ≡ E.flushes e.old }
     ensures tally { OnOk result (tally.new ≡ tally_after tally.old (map ls_piece (told event.entry))) }
     ensures few { OnOk result (tally.new.accepted + tally.new.refused ≡ tally.old.accepted + tally.old.refused + 1) }
 {
@@ -58,6 +60,8 @@ fn list_event<W: Sink, E: Sink>(
 /// Hands on what was written.
 fn flush<W: Sink>(w: &mut W) -> Result<(), RunFault>
     ensures keeps { Keeps (W.taken w.old) (W.taken w.new) }
+    ensures flushes { W.flushes w.new ≡ counted (W.flushes w.old) 1 }
+    ensures handed_on { OnOk result (W.handed_on w.new ≡ true) }
     ensures err { IfErr result (λ fault. fault ≡ RunFault.Write) }
     ensures counts { CountsWrites (W.failures w.old) (W.failures w.new) (W.empty_writes w.old) (W.empty_writes w.new) result }
 {
@@ -85,12 +89,14 @@ pub fn run_ls<R: Source, W: Sink, E: Sink>(
     // At `Ok` the writers hold exactly the lines of the whole input, and the tally counts them.
     ensures whole { IfOk result (λ tally. IfSome (R.left r.old) (λ s.
         Written (W.taken w.old) (W.taken w.new) (E.taken e.old) (E.taken e.new) (ls_pieces s) × Tallies tally (ls_pieces s))) }
+    ensures flushed { OnOk result ((W.handed_on w.new ≡ true) × (E.handed_on e.new ≡ true)) }
     // The same over the octets that were read, and what a fault leaves.
-    ensures run { (bs : List ℕ) × RunSo ls_pieces (R.left r.old) (R.left r.new) (W.taken w.old) (W.taken w.new) (E.taken e.old) (E.taken e.new) bs result }
+    ensures run { (bs : List ℕ) × RunSo ls_pieces (R.left r.old) (R.left r.new) (W.taken w.old) (W.taken w.new) (E.taken e.old) (E.taken e.new)
+        ((W.flushes w.new ≡ W.flushes w.old) × (E.flushes e.new ≡ E.flushes e.old)) bs result }
 
     // Each fault comes only where its device failed in this call.
     ensures reader { R.failures r.new ≡ read_failures_after (R.failures r.old) result }
-    ensures too_long { result ≡ Err RunFault.InputTooLong → R.reads r.new ≡ counted (R.reads r.old) most_reads }
+    ensures reads { MakesReads (R.reads r.old) (R.reads r.new) result }
     ensures writers { BlamesWriter result
         (Stays (W.failures w.old) (W.failures w.new) (W.empty_writes w.old) (W.empty_writes w.new))
         (Fails (W.failures w.old) (W.failures w.new) (W.empty_writes w.old) (W.empty_writes w.new))

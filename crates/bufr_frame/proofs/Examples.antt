@@ -70,6 +70,27 @@ second-short : sections_of (slice_set (slice_set one_block_number 17 128) 32 3) 
 unfolding sections_of section_end
 second-short = refl
 
+second-past : sections_of (slice_set (slice_set one_block_number 17 128) 32 15) ≡ Err (SectionPast 2)
+unfolding sections_of section_end
+second-past = refl
+
+third-short : sections_of (slice_set one_block_number 32 6) ≡ Err (SectionShort 3)
+unfolding sections_of section_end
+third-short = refl
+
+-- section 1 of 34 octets leaves no three octets before the last four for the length of section 3
+third-past : sections_of (slice_set one_block_number 10 34) ≡ Err (SectionPast 3)
+unfolding sections_of section_end
+third-past = refl
+
+fourth-short : sections_of (slice_set one_block_number 41 3) ≡ Err (SectionShort 4)
+unfolding sections_of section_end
+fourth-short = refl
+
+fourth-past : sections_of (slice_set one_block_number 41 6) ≡ Err (SectionPast 4)
+unfolding sections_of section_end
+fourth-past = refl
+
 -- the events: one message, two, a message without its end, a stray word in front, short and cut lengths
 one-event : scan one_block_number ≡ Framed 0 one_block_number ∷ []
 unfolding scan_from

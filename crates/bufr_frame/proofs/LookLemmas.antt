@@ -14,7 +14,7 @@ use Rattle.bufr_frame.specs.declared.search.Verdict.{Verdict}
 use Rattle.bufr_frame.specs.declared.search.Verdict.TheVariants.{Nothing, Stray, Frame}
 use Rattle.bufr_frame.specs.declared.fault.Cause.TheVariants.{Cut, ShortLength, NoEnd}
 use Rattle.bufr_frame.specs.Scan.{Happening, scan, open_scan, scan_from, verdict, stands, stated, happening, taken, is_decided}
-use Rattle.bufr_frame.specs.Look.{Advances, NoneDecided, FoundSo}
+use Rattle.bufr_frame.specs.Look.{Advances, FoundSo}
 use Rattle.bufr_frame.proofs.ScanLemmas.{scan_from-nothing, verdict-nothing, scan_from-here, scan_from-past, verdict-elsewhere, verdict-there, scan_from-found, scan_from-front}
 
 stands-front : (text : List ℕ) (p : ℕ) (m t : List ℕ) → p + 4 ≤ length m → stands text p (m ++ t) ≡ stands text p m
@@ -165,6 +165,10 @@ found-so-end s place found =
         decided = λ going. absurd (true≢false going);
       };
     }
+
+-- no event is certain yet
+abbrev pub NoneDecided : ℕ → List ℕ → Type 0
+NoneDecided at rest = take_while is_decided (scan_from 0 at rest) ≡ []
 
 none-cut : (at : ℕ) (m : List ℕ) → 0 < length m → verdict m ≡ Stray Cut → NoneDecided at m
 none-cut at m some cut =

@@ -4,7 +4,9 @@ pub mod Input
 pub mod Layout
 pub mod Look
 pub mod Next
+pub mod Numbers
 pub mod Octets
+pub mod Passing
 pub mod Runs
 pub mod Scan
 pub mod Sections

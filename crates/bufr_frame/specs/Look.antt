@@ -9,11 +9,8 @@ use Rattle.bufr_frame.specs.declared.search.Found.{Found}
 -- The scan of `rest` begins with `events` and goes on at `rest'`, whatever comes behind; behind the end nothing does.
 pub record Advances (ended : Bool) (at : ℕ) (rest : List ℕ) (events : List Happening) (at' : ℕ) (rest' : List ℕ) : Type 0 where
   pub whole : (t : List ℕ) → (ended ≡ true → t ≡ []) → scan_from 0 at (rest ++ t) ≡ events ++ scan_from 0 at' (rest' ++ t)
+  -- while the end is not known, only events are told in which it has no part
   pub decided : ended ≡ false → list_all is_decided events ≡ true
-
--- no event is certain yet
-abbrev pub NoneDecided : ℕ → List ℕ → Type 0
-NoneDecided at rest = take_while is_decided (scan_from 0 at rest) ≡ []
 
 -- The first event of octets behind which nothing comes.
 pub record FoundSo (rest : List ℕ) (place : ℕ) (here : Verdict) : Type 0 where

@@ -1,6 +1,6 @@
 //! What can be wrong with a stream, with a message, and with a run.
 //!
-//! The numbers and texts of the fault lines that name these stand where the lines are written.
+//! Each has its number; the text of its fault line stands where the line is written.
 
 use std::alloc::AllocError;
 use thiserror::Error;
@@ -62,6 +62,71 @@ pub enum WriteFault {
     /// Memory ran out.
     #[error("out of memory")]
     Memory,
+}
+
+impl Cause {
+    ghost use Rattle.std.specs.Prelude.{◌≡◌};
+    ghost use Rattle.bufr_frame.specs.Numbers.{number_of_cause};
+
+    /// Its number, 1 to 3.
+    pub fn number(self) -> u8
+        ensures { result ≡ number_of_cause self }
+    {
+        match self {
+            Cause::Cut => 1,
+            Cause::ShortLength => 2,
+            Cause::NoEnd => 3,
+        }
+    }
+}
+
+impl SectionFault {
+    ghost use Rattle.std.specs.Prelude.{◌≡◌};
+    ghost use Rattle.bufr_frame.specs.Numbers.{number_of_section_fault};
+
+    /// Its number, 10 to 13.
+    pub fn number(self) -> u8
+        ensures { result ≡ number_of_section_fault self }
+    {
+        match self {
+            SectionFault::Edition(_) => 10,
+            SectionFault::SectionShort(_) => 11,
+            SectionFault::SectionPast(_) => 12,
+            SectionFault::SectionsEnd => 13,
+        }
+    }
+}
+
+impl RunFault {
+    ghost use Rattle.std.specs.Prelude.{◌≡◌};
+    ghost use Rattle.bufr_frame.specs.Numbers.{number_of_run_fault};
+
+    /// Its number, 70 to 73.
+    pub fn number(self) -> u8
+        ensures { result ≡ number_of_run_fault self }
+    {
+        match self {
+            RunFault::Read => 70,
+            RunFault::Write => 71,
+            RunFault::InputTooLong => 72,
+            RunFault::Memory => 73,
+        }
+    }
+}
+
+impl WriteFault {
+    ghost use Rattle.std.specs.Prelude.{◌≡◌};
+    ghost use Rattle.bufr_frame.specs.Numbers.{number_of_write_fault};
+
+    /// Its number, 60 or 73.
+    pub fn number(self) -> u8
+        ensures { result ≡ number_of_write_fault self }
+    {
+        match self {
+            WriteFault::TooLong => 60,
+            WriteFault::Memory => 73,
+        }
+    }
 }
 
 impl From<AllocError> for RunFault {

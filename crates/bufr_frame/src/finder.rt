@@ -77,7 +77,8 @@ impl Finder {
     ghost use Rattle.bufr_frame.specs.Events.{told, IsEvent};
     ghost use Rattle.bufr_frame.specs.Look.{LooksSo, FoundSo, Advances};
     ghost use Rattle.bufr_frame.specs.Runs.{read_failures_after};
-    ghost use Rattle.bufr_frame.specs.Finding.{State, StepSo, CountsReads, OutcomeSo, IsDone, fresh, passed_events, events_by, ReadSo, KeepsRun};
+    ghost use Rattle.bufr_frame.specs.Finding.{State, StepSo, CountsReads, IsDone, fresh};
+    ghost use Rattle.bufr_frame.specs.Passing.{OutcomeSo, ReadSo, KeepsRun, events_by, passed_events};
     ghost use Rattle.bufr_frame.specs.Next.{NextSo, AgainSo, told_by};
 
     /// A finder that has read nothing.
@@ -189,6 +190,7 @@ impl Finder {
         ensures failed { self.old.fault ≡ None → R.failures r.new ≡ read_failures_after (R.failures r.old) result }
         ensures again { IfSome self.old.fault (λ fault. result ≡ Err fault) }
         ensures same { IfSome self.old.fault (λ _. r.new ≡ r.old) }
+        ensures same_self { IfSome self.old.fault (λ _. self.new ≡ self.old) }
         ensures near { self.new.at < 2 ^ 63 }
     {
         self.read_input(r)?;

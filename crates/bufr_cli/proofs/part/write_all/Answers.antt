@@ -26,4 +26,5 @@ loop-rest-preserved g c =
       so_far = more-written _ _ _ c.args.octets.now c.loop-rest.rest.now _ c.in-Ok.n before.so_far c.in-Ok.ensures.bound c.in-Ok.ensures.octets c.behind-rest.ensures;
       failures = c.in-Ok.ensures.failed ∙ before.failures;
       empty = c.write.ensures.empty ∙ empty_writes_after-some _ _ c.write.result _ c.in-Ok.is some ∙ before.empty;
+      flushes = c.in-Ok.ensures.flushed ∙ before.flushes;
     }

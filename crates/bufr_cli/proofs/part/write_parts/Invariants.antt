@@ -10,4 +10,5 @@ invariant-loop-part g l = record {
   written : Appends (g.W.Sink.taken l.fn.w) (g.W.Sink.taken l.w) (flat_map part_text (take l.part-index l.parts));
   failures : g.W.Sink.failures l.w ≡ g.W.Sink.failures l.fn.w;
   empty : g.W.Sink.empty_writes l.w ≡ g.W.Sink.empty_writes l.fn.w;
+  flushes : g.W.Sink.flushes l.w ≡ g.W.Sink.flushes l.fn.w;
 }

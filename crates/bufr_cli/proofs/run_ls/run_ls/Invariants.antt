@@ -10,6 +10,8 @@ invariant-loop-finder g l = record {
   ran : Ran ls_piece (g.R.Source.left l.fn.r) (g.R.Source.left l.r) (g.R.Source.reads l.fn.r) (g.R.Source.reads l.r)
       (g.W.Sink.taken l.fn.w) (g.W.Sink.taken l.w) (g.E.Sink.taken l.fn.e) (g.E.Sink.taken l.e) l.finder l.tally;
   reader : g.R.Source.failures l.r ≡ g.R.Source.failures l.fn.r;
+  output_flushes : g.W.Sink.flushes l.w ≡ g.W.Sink.flushes l.fn.w;
+  errors_flushes : g.E.Sink.flushes l.e ≡ g.E.Sink.flushes l.fn.e;
   output : Stays (g.W.Sink.failures l.fn.w) (g.W.Sink.failures l.w) (g.W.Sink.empty_writes l.fn.w) (g.W.Sink.empty_writes l.w);
   errors : Stays (g.E.Sink.failures l.fn.e) (g.E.Sink.failures l.e) (g.E.Sink.empty_writes l.fn.e) (g.E.Sink.empty_writes l.e);
 }

@@ -1,5 +1,5 @@
 use Rattle.std.proofs.Common.{ℕ, subst, sym}
-use Rattle.bufr_frame.specs.Finding.{event_by}
+use Rattle.bufr_frame.specs.Passing.{event_by}
 use Rattle.bufr_frame.specs.Look.{Advances}
 use Rattle.bufr_frame.proofs.FindingLemmas.{found-step}
 use Rattle.bufr_frame.proofs.finder.Finder.pass_event.Goals as goal
