@@ -326,6 +326,27 @@ fn stops_at_a_failed_write(rt: HostRuntime) -> Result<(), Fail> {
     Ok(())
 }
 
+/// The errors' writer fails, takes nothing, or cannot be flushed.
+#[test]
+fn stops_at_a_failed_write_of_errors(rt: HostRuntime) -> Result<(), Fail> {
+    let line = b"offset 0: 1 cut\n";
+    for end in [End::Fail, End::Zero, End::Flush] {
+        for room in [0, 1, 9, 15, 16] {
+            let mut r = ScriptIn::new(&ONE_BLOCK_NUMBER[..20], 4096, None);
+            let mut w = ScriptOut::new(rt.alloc(), 0, 5, End::Fail)?;
+            let mut e = ScriptOut::new(rt.alloc(), room, 5, end)?;
+            let ran = run_ls(rt.alloc(), &mut r, &mut w, &mut e);
+            let fails = room < 16 || end == End::Flush;
+            assert!(rt; ran.is_err() == fails, "{room} of {end:?}: {ran:?}");
+            if fails {
+                assert!(rt; ran == Err(RunFault::Write), "{room} of {end:?}: {ran:?}");
+            }
+            assert_eq!(rt; e.taken(), &line[..room], "{end:?}");
+        }
+    }
+    Ok(())
+}
+
 #[test]
 fn reads_all(rt: HostRuntime) -> Result<(), Fail> {
     let mut r = ScriptIn::new(&ONE_BLOCK_NUMBER, 7, None);
