@@ -62,10 +62,12 @@ fn ls_command<'a>(alloc: Global) -> Result<clap::Command<'a>, AllocError>
 fn bufr_command<'a>(alloc: Global) -> Result<clap::Command<'a>, AllocError>
     ensures { IfOk result (λ c. app_of c ≡ bufr_app) }
 {
+    let ls = ls_command(alloc)?;
     clap::Command::new(alloc, "bufr")
+        .bin_name("bufr")?
         .about("Lists messages of FM 94 BUFR")
         .subcommand_required(true)
-        .subcommand(ls_command(alloc)?)
+        .subcommand(ls)
 }
 
 /// The fault that an error of clap stands for, with its text.

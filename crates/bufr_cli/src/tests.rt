@@ -370,8 +370,9 @@ fn parses_lines(rt: HostRuntime) -> Result<(), Fail> {
 
 #[test]
 fn refuses_lines(rt: HostRuntime) -> Result<(), Fail> {
-    static REFUSED: [(&[&str], &str); 4] = [
+    static REFUSED: [(&[&str], &str); 5] = [
         (&["bufr"], "Usage: bufr <COMMAND>"),
+        (&["/usr/bin/other"], "Usage: bufr <COMMAND>"),
         (&["bufr", "lst"], "unrecognized subcommand 'lst'"),
         (&["bufr", "ls", "a", "b"], "unexpected argument 'b' found"),
         (

@@ -10,5 +10,5 @@ top = record (new_app (codes "bufr")) { top = record ((new_app (codes "bufr")).t
 pub returns : goal.returns
 returns c =
     let above : app_of c.subcommand_required.result ≡ top = search rules in
-    let below : app_of c.in_ok-ls_command.field-0 ≡ ls_app = c.in_ok-ls_command.ensures.app in
-    IfOk-weaker c.subcommand.result _ _ (λ r adds. adds.shape c.in_ok-ls_command.ensures.local ∙ ap₂ with_subcommand above (ap (λ (a : App). a.top) below)) c.subcommand.ensures
+    let below : app_of c.in_ok-ls.ls ≡ ls_app = c.in_ok-ls.ensures.app in
+    IfOk-weaker c.subcommand.result _ _ (λ r adds. adds.shape c.in_ok-ls.ensures.local ∙ ap₂ with_subcommand above (ap (λ (a : App). a.top) below)) c.subcommand.ensures
