@@ -1,2 +1,6 @@
 pub mod BitLemmas
 pub mod OnesLemmas
+mod Examples
+pub mod DecimalLemmas
+pub mod ScaledLemmas
+pub mod TextLemmas

@@ -74,7 +74,7 @@ ones_not_first xs at front width a h ha no_ones =
     let parts = ap (λ (m : ℕ). all_set (bits_at xs at m)) w ∙ all_set-more xs at front (width - front) in
     sym (parts ∙ ap (λ (b : Bool). b && all_set (bits_at xs (at + front) (width - front))) (sym ha ∙ no_ones))
 
-and_false : (a : Bool) → (a && false) ≡ false
+pub and_false : (a : Bool) → (a && false) ≡ false
 and_false true = refl
 and_false false = refl
 

@@ -1,6 +1,8 @@
 pub mod BitSlice
 pub mod Bits
+pub mod Capped
 pub mod Counts
-pub mod Decimal
+pub mod DecimalText
+pub mod DecimalValue
 pub mod Device
 pub mod Script

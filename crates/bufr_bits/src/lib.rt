@@ -4,10 +4,12 @@
 #![tactic(auto)]
 
 mod bit_slice;
+mod decimal;
 mod device;
 mod script;
 
 pub use bit_slice::BitSlice;
+pub use decimal::{NumberFault, decimal_read, decimal_text};
 pub use device::{Device, Failed, Sink, Source};
 pub use script::{End, ScriptIn, ScriptOut};
 
