@@ -36,7 +36,7 @@ tells_digits : IsDigitsTest (λ ds. all_digits ds ≡ true)
 tells_digits = search rules
 
 -- digits write less than the power of ten of their count
-own : IsNumeralModel (λ ds. all_digits ds ≡ true) (digits_value 10)
+pub own : IsNumeralModel (λ ds. all_digits ds ≡ true) (digits_value 10)
 own = numerals_by_value (λ ds. all_digits ds ≡ true) tells_digits
 
 pub value-below : (ds : List ℕ) → all_digits ds ≡ true → digits_value 10 ds < 10 ^ length ds
@@ -55,7 +55,7 @@ up_product a c d p q u = omega arith
 down_product : (a b d l f : ℕ) → (a * l + b) * f + d ≡ a * (f * l) + (b * f + d)
 down_product a b d l f = omega arith
 
-ten_pos : (k : ℕ) → 0 < 10 ^ k
+pub ten_pos : (k : ℕ) → 0 < 10 ^ k
 ten_pos k = one-le-pow k 10 (omega arith)
 
 product_zero : (d p : ℕ) → 0 < p → (d * p == 0) ≡ (d == 0)

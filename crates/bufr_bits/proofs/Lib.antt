@@ -4,3 +4,4 @@ mod Examples
 pub mod DecimalLemmas
 pub mod ScaledLemmas
 pub mod TextLemmas
+pub mod RoundLemmas

@@ -11,11 +11,11 @@ use Rattle.bufr_bits.specs.declared.decimal.NumberFault.TheVariants.{Syntax, Ine
 use Rattle.bufr_bits.proofs.OnesLemmas.{list_all-append}
 use Rattle.bufr_bits.proofs.DecimalLemmas.{value-append, value_after-is, value-below, zero_value, exact_up, exact_down}
 
-and_first : (a b : Bool) → (a && b) ≡ true → a ≡ true
+pub and_first : (a b : Bool) → (a && b) ≡ true → a ≡ true
 and_first true b h = refl
 and_first false b h = h
 
-and_second : (a b : Bool) → (a && b) ≡ true → b ≡ true
+pub and_second : (a b : Bool) → (a && b) ≡ true → b ≡ true
 and_second true b h = h
 and_second false b h = absurd cc
 

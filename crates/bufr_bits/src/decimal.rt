@@ -249,3 +249,9 @@ fn with_sign(negative: bool, number: u128) -> Result<i128, NumberFault>
     };
     signed.ok_or(NumberFault::Large)
 }
+
+/// Law: the text of a number at a scale, read at that scale, is the number.
+pub fn decimal_reads_back(v: i128, scale: i16)
+    ensures { decimal_value_of (decimal_text_of v scale) scale ≡ Ok v }
+{
+}

@@ -9,7 +9,7 @@ mod device;
 mod script;
 
 pub use bit_slice::BitSlice;
-pub use decimal::{NumberFault, decimal_read, decimal_text};
+pub use decimal::{NumberFault, decimal_read, decimal_reads_back, decimal_text};
 pub use device::{Device, Failed, Sink, Source};
 pub use script::{End, ScriptIn, ScriptOut};
 
