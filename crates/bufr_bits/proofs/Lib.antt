@@ -5,3 +5,5 @@ pub mod DecimalLemmas
 pub mod ScaledLemmas
 pub mod TextLemmas
 pub mod RoundLemmas
+pub mod PushLemmas
+pub mod WriterLemmas

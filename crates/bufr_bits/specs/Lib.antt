@@ -6,3 +6,4 @@ pub mod DecimalText
 pub mod DecimalValue
 pub mod Device
 pub mod Script
+pub mod Writing

@@ -1,11 +1,12 @@
 //! Numbers with a decimal scale as text, and back: the number v at scale s stands for v / 10^s.
-ghost use Rattle.std.specs.Prelude.{◌≡◌, ◌≤◌, ◌<◌, ◌+◌, ◌*◌, ◌^◌, ◌++◌, ◌==◌, if◌then◌else◌, ℕ, ℤ, true, false, length, replicate, unsigned_abs, vec_len, vec_capacity, MatchOption, OnOk, OnErr};
+ghost use Rattle.std.specs.Prelude.{◌≡◌, ◌≤◌, ◌<◌, ◌+◌, ◌*◌, ◌^◌, ◌++◌, ◌==◌, if◌then◌else◌, ℕ, ℤ, true, false, length, unsigned_abs, vec_len, vec_capacity, MatchOption, OnOk, OnErr};
 ghost use Rattle.std.specs.List.{list_all, position};
 ghost use Rattle.std.specs.Str.Parse.{digits_value, digits_value_after, starts_with_minus};
 ghost use Rattle.bufr_bits.specs.Capped.{capped, capped_ok};
 ghost use Rattle.bufr_bits.specs.DecimalText.{decimal_text_of, pointed, sign_of};
 ghost use Rattle.bufr_bits.specs.DecimalValue.{decimal_value_of, unsigned_part, is_unsigned, all_digits, is_digits, IsParts, power_up, power_down, whole_quotient, signed};
 
+use crate::append::{put, put_zeros};
 use itoa::Buffer;
 use std::alloc::AllocError;
 use thiserror::Error;
@@ -78,31 +79,6 @@ fn put_sign(out: &mut Vec<u8>, v: i128)
 {
     if v < 0 {
         put(out, b"-");
-    }
-}
-
-/// Appends octets for which there is room.
-fn put(out: &mut Vec<u8>, octets: &[u8])
-    requires { vec_len out.old + length octets.now ≤ vec_capacity out.old }
-    ensures items { out.new.items ≡ out.old.items ++ octets.now }
-    ensures len { vec_len out.new ≡ vec_len out.old + length octets.now }
-    ensures capacity { vec_capacity out.old ≤ vec_capacity out.new }
-{
-    if out.extend_from_slice(octets).is_err() {
-        unreachable!();
-    }
-}
-
-/// Appends zeros for which there is room.
-fn put_zeros(out: &mut Vec<u8>, count: usize)
-    requires { vec_len out.old + count ≤ vec_capacity out.old }
-    ensures items { out.new.items ≡ out.old.items ++ replicate count 48 }
-    ensures len { vec_len out.new ≡ vec_len out.old + count }
-    ensures capacity { vec_capacity out.old ≤ vec_capacity out.new }
-{
-    let len = out.len();
-    if out.resize(len + count, b'0').is_err() {
-        unreachable!();
     }
 }
 
