@@ -43,7 +43,7 @@ number_of-below (x ∷ xs) =
     let small = below_twice (bit x) (2 ^ length xs) (number_of xs) (bit-le x) below in
     omega (arith, small, alone, p)
 
-bit_of_test : (n : ℕ) → bit (n % 2 == 1) ≡ n % 2
+pub bit_of_test : (n : ℕ) → bit (n % 2 == 1) ≡ n % 2
 bit_of_test n = grind (arith, nat_tests)
 
 -- a number is twice its half and its last bit

@@ -1,11 +1,11 @@
 -- A number as bits, in parts and by octets.
-use Rattle.std.proofs.Common.{◌≡◌, ℕ, zero, suc, min, ◌+◌, ◌-◌, ◌*◌, ◌/◌, ◌%◌, ◌^◌, ◌<◌, ◌≤◌, ◌==◌, eqb, Bool, true, false, if◌then◌else◌, List, [], ◌∷◌, ◌++◌, length, take, drop, replicate, refl, sym, ap, ◌∙◌, subst, arith, append_assoc, append-nil, drop-drop}
-use Rattle.std.proofs.lemmas.Nat.{shr_high, shr_split, shr_le, mod_below, mod_low, shr-shr, pow-add, pow_pos}
-use Rattle.std.proofs.lemmas.List.{take_all}
+use Rattle.std.proofs.Common.{◌≡◌, ℕ, zero, suc, min, ◌+◌, ◌-◌, ◌*◌, ◌/◌, ◌%◌, ◌^◌, ◌<◌, ◌≤◌, ◌==◌, eqb, Bool, true, false, if◌then◌else◌, List, [], ◌∷◌, ◌++◌, length, take, drop, replicate, refl, sym, ap, ◌∙◌, subst, arith, append_assoc, append-nil, drop-drop, mod-eq_of_lt}
+use Rattle.std.proofs.lemmas.Nat.{mod-pow-add, shr_high, shr_split, shr_le, mod_below, mod_low, shr-shr, pow-add, pow_pos}
+use Rattle.std.proofs.lemmas.List.{take_all, take_at, drop_at}
 use Rattle.std.specs.Int.{to_be_bytes, bytes_high_first, byte_at, w64}
 use Rattle.std.proofs.Math.Nat.{pow-suc}
-use Rattle.bufr_bits.specs.Bits.{bits_of_octet, bits_of, bits_in, number_of, number_behind}
-use Rattle.bufr_bits.proofs.BitLemmas.{bit}
+use Rattle.bufr_bits.specs.Bits.{bits_of_octet, bits_of, bits_in, number_of, number_behind, bits_at}
+use Rattle.bufr_bits.proofs.BitLemmas.{bit, bit_of_test, number_behind-is}
 
 pub length-bits_in : (v w : ℕ) → length (bits_in v w) ≡ w
 unfolding bits_in
@@ -107,3 +107,21 @@ low_bytes whole n bytes h e =
     let eight : 8 ≡ j + whole = omega arith in
     let dropped : drop j bytes ≡ bytes_high_first whole n = ap (drop j) (e ∙ ap (λ (k : ℕ). bytes_high_first k n) eight) ∙ drop-bytes j whole n in
     ap (take (8 - j)) dropped ∙ take_all (8 - j) (bytes_high_first whole n) (omega (arith, length-bytes whole n))
+
+-- the bits of a number in a width write the number
+pub number_of-bits_in : (v w : ℕ) → number_of (bits_in v w) ≡ v % 2 ^ w
+unfolding bits_in
+number_of-bits_in v zero = omega arith
+number_of-bits_in v (suc w) =
+    let first = v / 2 ^ w % 2 in
+    let behind : number_of (bits_in v (suc w)) ≡ bit (first == 1) * 2 ^ length (bits_in v w) + number_of (bits_in v w) = number_behind-is (0 + bit (first == 1)) (bits_in v w) ∙ ap (λ (m : ℕ). m * 2 ^ length (bits_in v w) + number_of (bits_in v w)) (omega arith) in
+    let one : suc w ≡ 1 + w = omega arith in
+    behind ∙ ap (λ (m : ℕ). m * 2 ^ length (bits_in v w) + number_of (bits_in v w)) (bit_of_test (v / 2 ^ w)) ∙ ap (λ (m : ℕ). first * 2 ^ m + number_of (bits_in v w)) (length-bits_in v w) ∙ ap (λ (m : ℕ). first * 2 ^ w + m) (number_of-bits_in v w) ∙ sym (mod-pow-add v 1 w) ∙ ap (λ (m : ℕ). v % 2 ^ m) (sym one)
+
+-- bits among others are found where they stand
+pub found_between : (before behind : List Bool) (octets : List ℕ) (v w : ℕ) → v < 2 ^ w → bits_of octets ≡ before ++ bits_in v w ++ behind → number_of (bits_at octets (length before) w) ≡ v
+found_between before behind octets v w h e =
+    let turned : bits_of octets ≡ before ++ (bits_in v w ++ behind) = e ∙ append_assoc before (bits_in v w) behind in
+    let there : drop (length before) (bits_of octets) ≡ bits_in v w ++ behind = ap (drop (length before)) turned ∙ drop_at before (bits_in v w ++ behind) (length before) refl in
+    let found : bits_at octets (length before) w ≡ bits_in v w = ap (take w) there ∙ take_at (bits_in v w) behind w (length-bits_in v w) in
+    ap number_of found ∙ number_of-bits_in v w ∙ mod-eq_of_lt h

@@ -1,6 +1,6 @@
 //! Bits written behind each other, most significant first.
-ghost use Rattle.std.specs.Prelude.{◌≡◌, ◌≤◌, ◌<◌, ◌+◌, ◌*◌, ◌/◌, ◌%◌, ◌^◌, ◌++◌, [], length, vec_len, vec_capacity, OnOk, OnErr};
-ghost use Rattle.bufr_bits.specs.Bits.{bits_of, bits_in, padding};
+ghost use Rattle.std.specs.Prelude.{◌≡◌, ◌≤◌, ◌<◌, ◌+◌, ◌*◌, ◌/◌, ◌%◌, ◌^◌, ◌++◌, [], Bool, List, ℕ, length, vec_len, vec_capacity, OnOk, OnErr};
+ghost use Rattle.bufr_bits.specs.Bits.{bits_of, bits_in, bits_at, number_of, padding};
 
 use crate::append::put;
 use std::alloc::{AllocError, Global};
@@ -136,4 +136,12 @@ fn put_behind(out: &mut Vec<u8>, last: u8, count: u32, octets: &[u8]) -> u8
         behind = (both % (1 << count)) as u8;
     }
     behind
+}
+
+/// Law: where octets have the bits that write a value, with any bits before and behind, the number
+/// that [`BitSlice::get`](crate::BitSlice::get) answers for them is the value.
+pub fn pushed_reads_back(value: u64, width: u32)
+    requires { value < 2 ^ width }
+    ensures { (before behind : List Bool) (octets : List ℕ) → bits_of octets ≡ before ++ bits_in value width ++ behind → number_of (bits_at octets (length before) width) ≡ value }
+{
 }
