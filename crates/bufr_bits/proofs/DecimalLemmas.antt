@@ -1,19 +1,18 @@
 -- The number that digits write, in parts, and its quotient by a power of ten.
-use Rattle.std.proofs.Common.{◌≡◌, ℕ, zero, suc, min, ◌+◌, ◌-◌, ◌*◌, ◌/◌, ◌%◌, ◌^◌, ◌<◌, ◌≤◌, ◌==◌, ◌&&◌, eqb, nat_lt, nat_le, Bool, true, false, if◌then◌else◌, List, [], ◌∷◌, ◌++◌, length, take, drop, get_or, Result, Ok, Err, refl, sym, ap, ◌∙◌, subst, ⊎_elim, rules, arith, length-append, length-drop, length-take-le, take-append-drop, zero-le}
+use Rattle.std.proofs.Common.{◌≡◌, ℕ, zero, suc, min, ◌+◌, ◌-◌, ◌*◌, ◌^◌, ◌<◌, ◌≤◌, ◌==◌, ◌&&◌, Bool, true, if◌then◌else◌, List, [], ◌∷◌, ◌++◌, length, take, get_or, Ok, Err, refl, sym, ap, ◌∙◌, subst, ⊎_elim, rules, arith}
 use Rattle.std.specs.List.{list_all}
 use Rattle.std.specs.Char.{digit_value}
 use Rattle.std.specs.Str.Parse.{digits_value, digits_value_after}
 use Rattle.std.proofs.lemmas.Str.Parse.{IsNumeralModel, numerals_by_value, IsDigitsTest, digits_value_short, digit_at}
 use Rattle.std.proofs.lemmas.Str.{digit_value_digit}
-use Rattle.std.proofs.lemmas.Nat.{pow-add, mul-lt, div-mul-add, mod-mul-add}
+use Rattle.std.proofs.lemmas.Nat.{pow-add, div-mul-add, mod-mul-add}
 use Rattle.std.proofs.lemmas.Bool.{cases_lt}
 use Rattle.std.proofs.lemmas.Bool.Decides.{nat_tests}
 use Rattle.std.proofs.Math.Nat.{pow-suc, one-le-pow, mul-le-mul_right, pow-le-pow_right}
-use Rattle.std.proofs.lemmas.List.{take_more, take_all}
+use Rattle.std.proofs.lemmas.List.{take_more}
 use Rattle.bufr_bits.specs.Capped.{capped}
-use Rattle.bufr_bits.specs.DecimalValue.{all_digits, whole_quotient, signed}
-use Rattle.bufr_bits.specs.declared.decimal.NumberFault.{NumberFault}
-use Rattle.bufr_bits.specs.declared.decimal.NumberFault.TheVariants.{Syntax, Inexact, Large}
+use Rattle.bufr_bits.specs.DecimalValue.{all_digits, whole_quotient}
+use Rattle.bufr_bits.specs.declared.decimal.NumberFault.TheVariants.{Inexact}
 
 -- digits behind a number: the number moves up by as many places
 move_up : (n d p q r : ℕ) → q ≡ p * 10 → (n * 10 + d) * p + r ≡ n * q + ((0 * 10 + d) * p + r)
@@ -75,19 +74,19 @@ left_small : (d f k up : ℕ) → k ≡ min up f → d < 10 ^ (f - k) → d * 10
 left_small d f k up e h =
     ⊎_elim
     (λ (many : f < up).
-      let none : f - k ≡ 0 = omega arith in
-      let below : d < 10 ^ 0 = subst (λ (m : ℕ). d < 10 ^ m) none h in
-      let zero_left : d ≡ 0 = omega arith in
-      let some = ten_pos f in
-      let product : d * 10 ^ up ≡ 0 = rw zero_left (omega arith) in
-      omega (arith, product, some))
+    let none : f - k ≡ 0 = omega arith in
+    let below : d < 10 ^ 0 = subst (λ (m : ℕ). d < 10 ^ m) none h in
+    let zero_left : d ≡ 0 = omega arith in
+    let some = ten_pos f in
+    let product : d * 10 ^ up ≡ 0 = rw zero_left (omega arith) in
+    omega (arith, product, some))
     (λ (few : up ≤ f).
-      let same : k ≡ up = omega arith in
-      let below : d < 10 ^ (f - up) = subst (λ (m : ℕ). d < 10 ^ (f - m)) same h in
-      let most = mul-le-mul_right (10 ^ up) below in
-      let some = ten_pos up in
-      let whole : 10 ^ f ≡ 10 ^ (f - up) * 10 ^ up = ten_split f (f - up) up (omega arith) in
-      omega (arith, most, some, whole))
+    let same : k ≡ up = omega arith in
+    let below : d < 10 ^ (f - up) = subst (λ (m : ℕ). d < 10 ^ (f - m)) same h in
+    let most = mul-le-mul_right (10 ^ up) below in
+    let some = ten_pos up in
+    let whole : 10 ^ f ≡ 10 ^ (f - up) * 10 ^ up = ten_split f (f - up) up (omega arith) in
+    omega (arith, most, some, whole))
     (cases_lt f up)
 
 pub exact_up : (a c d f k up : ℕ) → k ≡ min up f → d < 10 ^ (f - k) → whole_quotient ((a * 10 ^ f + (c * 10 ^ (f - k) + d)) * 10 ^ up) (10 ^ (f + 0)) ≡ (if d == 0 then Ok ((a * 10 ^ k + c) * 10 ^ (up - k)) else Err Inexact)

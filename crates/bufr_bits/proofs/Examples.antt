@@ -1,11 +1,10 @@
 -- The worked examples, computed from the definitions.
-use Rattle.std.proofs.Common.{◌≡◌, ℕ, true, false, None, Some, Ok, Err, pos, negsuc, List, [], ◌∷◌, refl, replicate}
+use Rattle.std.proofs.Common.{◌≡◌, true, false, Ok, Err, pos, negsuc, [], ◌∷◌, ◌++◌, refl, replicate}
 use Rattle.std.specs.Prelude.{codes}
 use Rattle.std.specs.Fmt.{digits}
 use Rattle.bufr_bits.specs.DecimalText.{decimal_text_of, unsigned_text}
 use Rattle.bufr_bits.specs.DecimalValue.{decimal_value_of}
-use Rattle.bufr_bits.specs.Bits.{bits_of, bits_in, bits_at, number_of, all_set}
-use Rattle.bufr_bits.specs.declared.decimal.NumberFault.{NumberFault}
+use Rattle.bufr_bits.specs.Bits.{bits_of, bits_in, bits_at, number_of, all_set, padding}
 use Rattle.bufr_bits.specs.declared.decimal.NumberFault.TheVariants.{Syntax, Inexact, Large}
 
 -- -0.05, 28800, 0.00, 0
@@ -83,6 +82,10 @@ value_of_long_zeros = refl
 bits_pushed : number_of (bits_at (181 ∷ 96 ∷ []) 3 8) ≡ 171
 unfolding bits_of
 bits_pushed = refl
+
+writer_example : bits_in 5 3 ++ bits_of (171 ∷ []) ++ padding 11 ≡ bits_of (181 ∷ 96 ∷ [])
+unfolding bits_of bits_in
+writer_example = refl
 
 ones_yes : all_set (bits_at (255 ∷ 254 ∷ []) 0 15) ≡ true
 unfolding bits_of

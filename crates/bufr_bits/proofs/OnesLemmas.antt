@@ -1,12 +1,11 @@
 -- Bits that are all ones: of a list in parts, of the number that they write, and of whole octets.
-use Rattle.std.proofs.Common.{◌≡◌, ℕ, zero, suc, min, ◌+◌, ◌-◌, ◌*◌, ◌/◌, ◌%◌, ◌^◌, ◌<◌, ◌≤◌, ◌==◌, ◌&&◌, eqb, Bool, true, false, if◌then◌else◌, List, [], ◌∷◌, ◌++◌, length, take, drop, get_or, Option, None, Some, SomeIff, nat_eq, refl, sym, ap, ◌∙◌, subst, arith, take-add, drop-drop}
+use Rattle.std.proofs.Common.{◌≡◌, ℕ, suc, ◌+◌, ◌-◌, ◌*◌, ◌^◌, ◌<◌, ◌≤◌, ◌==◌, ◌&&◌, eqb, Bool, true, false, List, [], ◌∷◌, ◌++◌, length, take, drop, get_or, Option, None, Some, SomeIff, nat_eq, refl, sym, ap, ◌∙◌, arith, take-add, drop-drop}
 use Rattle.std.specs.List.{list_all}
 use Rattle.std.specs.Option.{option_eq}
-use Rattle.std.proofs.lemmas.Nat.{pow_pos}
 use Rattle.std.proofs.lemmas.Bool.Decides.{nat_tests}
 use Rattle.std.proofs.Math.Nat.{pow-suc}
-use Rattle.bufr_bits.specs.Bits.{bits_of_octet, bits_of, number_of, number_behind, bits_at, all_set}
-use Rattle.bufr_bits.proofs.BitLemmas.{bit, number_behind-is, number_of-below, number-bits_of_octet, length-bits_at, drop-bits_of, take-bits_of}
+use Rattle.bufr_bits.specs.Bits.{bits_of_octet, bits_of, number_of, bits_at, all_set}
+use Rattle.bufr_bits.proofs.BitLemmas.{number_behind-is, number_of-below, number-bits_of_octet, length-bits_at, drop-bits_of, take-bits_of}
 
 and_assoc : (a b c : Bool) → (a && (b && c)) ≡ (a && b && c)
 and_assoc true b c = refl

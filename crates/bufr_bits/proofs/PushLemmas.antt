@@ -1,10 +1,10 @@
 -- A number as bits, in parts and by octets.
-use Rattle.std.proofs.Common.{◌≡◌, ℕ, zero, suc, min, ◌+◌, ◌-◌, ◌*◌, ◌/◌, ◌%◌, ◌^◌, ◌<◌, ◌≤◌, ◌==◌, eqb, Bool, true, false, if◌then◌else◌, List, [], ◌∷◌, ◌++◌, length, take, drop, replicate, refl, sym, ap, ◌∙◌, subst, arith, append_assoc, append-nil, drop-drop, mod-eq_of_lt}
-use Rattle.std.proofs.lemmas.Nat.{mod-pow-add, shr_high, shr_split, shr_le, mod_below, mod_low, shr-shr, pow-add, pow_pos}
+use Rattle.std.proofs.Common.{◌≡◌, ℕ, zero, suc, ◌+◌, ◌-◌, ◌*◌, ◌/◌, ◌%◌, ◌^◌, ◌<◌, ◌≤◌, ◌==◌, Bool, false, List, [], ◌∷◌, ◌++◌, length, take, drop, replicate, refl, sym, ap, ◌∙◌, arith, append_assoc, mod-eq_of_lt}
+use Rattle.std.proofs.lemmas.Nat.{mod-pow-add, shr_high, shr_split, shr_le, mod_below, shr-shr, pow-add, pow_pos}
 use Rattle.std.proofs.lemmas.List.{take_all, take_at, drop_at}
-use Rattle.std.specs.Int.{to_be_bytes, bytes_high_first, byte_at, w64}
+use Rattle.std.specs.Int.{bytes_high_first, byte_at}
 use Rattle.std.proofs.Math.Nat.{pow-suc}
-use Rattle.bufr_bits.specs.Bits.{bits_of_octet, bits_of, bits_in, number_of, number_behind, bits_at}
+use Rattle.bufr_bits.specs.Bits.{bits_of_octet, bits_of, bits_in, number_of, bits_at}
 use Rattle.bufr_bits.proofs.BitLemmas.{bit, bit_of_test, number_behind-is}
 
 pub length-bits_in : (v w : ℕ) → length (bits_in v w) ≡ w

@@ -1,20 +1,19 @@
 -- Decimal text that is read again with the same scale.
-use Rattle.std.proofs.Common.{◌≡◌, ℕ, zero, suc, min, ◌+◌, ◌-◌, ◌*◌, ◌/◌, ◌%◌, ◌^◌, ◌<◌, ◌≤◌, ◌==◌, ◌&&◌, not, nat_lt, nat_le, ltb, Bool, true, false, if◌then◌else◌, cond, List, [], ◌∷◌, ◌++◌, length, take, drop, replicate, get_or, Option, Some, None, Result, Ok, Err, ℤ, pos, negsuc, neg_ℤ, refl, sym, ap, ◌∙◌, subst, arith, length-append, length-drop, length-take-le, take-append-drop, drop-drop, lt-ltb, le-ltb, le-leb, append-nil, length-take}
-use Rattle.std.specs.Prelude.{is_some, unsigned_abs}
+use Rattle.std.proofs.Common.{◌≡◌, ℕ, zero, suc, ◌+◌, ◌-◌, ◌*◌, ◌^◌, ◌<◌, ◌==◌, ◌&&◌, nat_lt, nat_le, Bool, true, false, List, [], ◌∷◌, ◌++◌, length, take, drop, replicate, get_or, Ok, ℤ, pos, negsuc, refl, sym, ap, ◌∙◌, arith, length-append, length-drop, take-append-drop, drop-drop, lt-ltb, le-ltb, le-leb, append-nil, length-take}
+use Rattle.std.specs.Prelude.{is_some}
 use lib.Signed.{mag}
-use Rattle.std.specs.List.{list_all, position, position_or_len, prefix_len, before_first, after_first}
-use Rattle.std.specs.Char.{is_ascii_digit, digit_value}
+use Rattle.std.specs.List.{position, position_or_len}
+use Rattle.std.specs.Char.{is_ascii_digit}
 use Rattle.std.specs.Fmt.{decimal}
-use Rattle.std.specs.Str.Parse.{digits_value, digits_value_after, starts_with_minus}
+use Rattle.std.specs.Str.Parse.{digits_value, starts_with_minus}
 use Rattle.std.proofs.lemmas.Bool.Decides.{nat_tests}
 use Rattle.std.proofs.lemmas.Fmt.{decimal_is_IsNumeral_wide}
 use Rattle.std.proofs.lemmas.List.{take_all, drop_all, take_at, drop_at, length-replicate}
-use Rattle.bufr_bits.specs.DecimalText.{decimal_text_of, unsigned_text, pointed, sign_of}
-use Rattle.bufr_bits.specs.DecimalValue.{all_digits, is_digits, is_unsigned, whole_part, fraction_part, unsigned_part, whole_quotient, scaled, signed, and_then, decimal_value_of, power_up, power_down}
-use Rattle.bufr_bits.specs.declared.decimal.NumberFault.{NumberFault}
+use Rattle.bufr_bits.specs.DecimalText.{decimal_text_of, unsigned_text, pointed}
+use Rattle.bufr_bits.specs.DecimalValue.{all_digits, is_digits, is_unsigned, whole_part, fraction_part, whole_quotient, scaled, signed, decimal_value_of, power_up, power_down}
 use Rattle.bufr_bits.proofs.OnesLemmas.{list_all-append}
 use Rattle.bufr_bits.proofs.ScaledLemmas.{and_first, and_second, all_digits-take, all_digits-drop}
-use Rattle.bufr_bits.proofs.DecimalLemmas.{own, value-append, quotient_is, ten_pos, digit_at_place}
+use Rattle.bufr_bits.proofs.DecimalLemmas.{own, value-append, quotient_is, ten_pos}
 
 -- a digit is no point and no minus
 digit_no_point : (c : ℕ) → is_ascii_digit c ≡ true → (c == 46) ≡ false
@@ -107,14 +106,14 @@ text_with_point : (whole fraction : List ℕ) (n : ℕ) (places : ℕ) → 0 < l
 text_with_point whole fraction n places sw sf hw hf len e = record {
   form = form_with_point whole fraction sw sf hw hf;
   value = rw (whole_with_point whole fraction hw, fraction_with_point whole fraction hw, e) (exact_quotient n places (length fraction + 0) (omega arith));
-  first = first_digit whole (46 ∷ fraction) sw hw
+  first = first_digit whole (46 ∷ fraction) sw hw;
 }
 
 text_alone : (whole : List ℕ) (n k : ℕ) (scale : ℤ) → 0 < length whole → all_digits whole ≡ true → digits_value 10 whole * 10 ^ power_up scale ≡ n * 10 ^ k → power_down scale ≡ k → IsTextOf whole n scale
 text_alone whole n k scale sw hw e d = record {
   form = form_alone whole sw hw;
   value = rw (whole_alone whole hw, fraction_alone whole hw, append-nil whole, e) (exact_quotient n k (0 + power_down scale) (omega arith));
-  first = rw append-nil at (first_digit whole [] sw hw)
+  first = rw append-nil at (first_digit whole [] sw hw);
 }
 
 decimal_digits : (n : ℕ) → n < 10 ^ 64 → all_digits (decimal n) ≡ true

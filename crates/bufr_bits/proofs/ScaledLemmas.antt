@@ -1,5 +1,5 @@
 -- The number of a decimal text at a scale, by the digits that are kept and those that ten divides away.
-use Rattle.std.proofs.Common.{◌≡◌, ℕ, zero, suc, min, ◌+◌, ◌-◌, ◌*◌, ◌/◌, ◌%◌, ◌^◌, ◌<◌, ◌≤◌, ◌==◌, ◌&&◌, Bool, true, false, if◌then◌else◌, List, [], ◌∷◌, ◌++◌, length, take, drop, Result, Ok, Err, ℤ, refl, sym, ap, ◌∙◌, subst, arith, length-append, length-drop, length-take-le, take-append-drop}
+use Rattle.std.proofs.Common.{◌≡◌, ℕ, zero, suc, min, ◌+◌, ◌-◌, ◌*◌, ◌^◌, ◌<◌, ◌==◌, ◌&&◌, Bool, true, false, if◌then◌else◌, List, [], ◌++◌, length, take, drop, Result, Ok, Err, ℤ, refl, sym, ap, ◌∙◌, subst, arith, length-drop, length-take-le, take-append-drop}
 use Rattle.std.specs.List.{list_all}
 use Rattle.std.specs.Char.{is_ascii_digit}
 use Rattle.std.specs.Str.Parse.{digits_value, digits_value_after, starts_with_minus}
@@ -111,7 +111,7 @@ are_kept whole fraction up down n m kept cut moved left hn hm a b c d = record {
   kept_is = a ∙ ap (λ (k : ℕ). take k whole) hn;
   cut_is = b ∙ ap (λ (k : ℕ). drop k whole) hn;
   moved_is = c ∙ ap (λ (k : ℕ). take k fraction) hm;
-  left_is = d ∙ ap (λ (k : ℕ). drop k fraction) hm
+  left_is = d ∙ ap (λ (k : ℕ). drop k fraction) hm;
 }
 
 capped_err : (q : Result ℕ NumberFault) (fault : NumberFault) → Err fault ≡ capped_ok q → q ≡ Err fault

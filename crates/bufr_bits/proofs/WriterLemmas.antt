@@ -1,12 +1,12 @@
 -- What a writer of bits stands for, after each of its calls.
-use Rattle.std.proofs.Common.{◌≡◌, ℕ, zero, suc, min, ◌+◌, ◌-◌, ◌*◌, ◌/◌, ◌%◌, ◌^◌, ◌<◌, ◌≤◌, Bool, true, false, List, [], ◌∷◌, ◌++◌, length, take, drop, replicate, get_or, refl, sym, ap, ◌∙◌, subst, arith, append_assoc, append-nil, length-append, pow_mono}
-use Rattle.std.proofs.lemmas.Nat.{shr_high, shr_split, mod_below, mod_low, pow-add, pow_pos, shl_whole, shl_below, shr_below}
+use Rattle.std.proofs.Common.{◌≡◌, ℕ, ◌+◌, ◌-◌, ◌*◌, ◌/◌, ◌%◌, ◌^◌, ◌<◌, ◌≤◌, Bool, false, List, [], ◌∷◌, ◌++◌, length, take, replicate, get_or, refl, sym, ap, ◌∙◌, subst, arith, append_assoc, append-nil, length-append, pow_mono}
+use Rattle.std.proofs.lemmas.Nat.{shr_high, shr_split, mod_below, mod_low, pow-add, pow_pos, shl_whole, shr_below}
 use Rattle.std.proofs.Math.Nat.{mul-le-mul_right}
-use Rattle.std.proofs.lemmas.List.{take_more, take_all}
+use Rattle.std.proofs.lemmas.List.{take_more}
 use Rattle.std.specs.Int.{bytes_high_first}
 use Rattle.bufr_bits.specs.Bits.{bits_of_octet, bits_of, bits_in, padding}
 use Rattle.bufr_bits.proofs.BitLemmas.{length-bits_of}
-use Rattle.bufr_bits.proofs.PushLemmas.{length-bits_in, bits_in-none, bits_in-split, bits_in-join, bits_in-above, bits_in-zero, bits_in-octet, bits_of-bytes, drop-bytes, quotient-above}
+use Rattle.bufr_bits.proofs.PushLemmas.{length-bits_in, bits_in-none, bits_in-split, bits_in-join, bits_in-above, bits_in-zero, bits_in-octet, bits_of-bytes, quotient-above}
 
 pub length-written : (xs : List ℕ) (last count : ℕ) → length (bits_of xs ++ bits_in last count) ≡ 8 * length xs + count
 length-written xs last count = length-append (bits_of xs) (bits_in last count) ∙ ap (λ (m : ℕ). m + length (bits_in last count)) (length-bits_of xs) ∙ ap (λ (m : ℕ). 8 * length xs + m) (length-bits_in last count)

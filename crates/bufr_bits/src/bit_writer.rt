@@ -56,6 +56,7 @@ impl BitWriter {
         requires value { value < 2 ^ width }
         requires room { length self.old + width ≤ 2 ^ 63 }
         ensures ok { OnOk result (self.new ≡ self.old ++ bits_in value width) }
+        ensures len { OnOk result (length self.new ≡ length self.old + width) }
         ensures err { OnErr result (self.new ≡ self.old) }
     {
         let total = self.count + width;
@@ -77,6 +78,7 @@ impl BitWriter {
     pub fn push_octets(&mut self, octets: &[u8]) -> Result<(), AllocError>
         requires { length self.old + 8 * length octets.now ≤ 2 ^ 63 }
         ensures ok { OnOk result (self.new ≡ self.old ++ bits_of octets.now) }
+        ensures len { OnOk result (length self.new ≡ length self.old + 8 * length octets.now) }
         ensures err { OnErr result (self.new ≡ self.old) }
     {
         self.octets.reserve(octets.len() + 1)?;
@@ -90,9 +92,14 @@ impl BitWriter {
 
     /// The octets of the bits, with zero bits up to the next octet.
     pub fn into_octets(self) -> Vec<u8>
-        ensures { bits_of result.items ≡ self ++ padding (length self) }
+        ensures bits { bits_of result.items ≡ self ++ padding (length self) }
+        ensures len { vec_len result ≡ (length self + 7) / 8 }
     {
-        let BitWriter { mut octets, last, count } = self;
+        let BitWriter {
+            mut octets,
+            last,
+            count,
+        } = self;
         if count > 0 {
             put(&mut octets, &[last << (8 - count)]);
         }
@@ -143,5 +150,4 @@ fn put_behind(out: &mut Vec<u8>, last: u8, count: u32, octets: &[u8]) -> u8
 pub fn pushed_reads_back(value: u64, width: u32)
     requires { value < 2 ^ width }
     ensures { (before behind : List Bool) (octets : List ℕ) → bits_of octets ≡ before ++ bits_in value width ++ behind → number_of (bits_at octets (length before) width) ≡ value }
-{
-}
+{}

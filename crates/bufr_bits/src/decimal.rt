@@ -198,7 +198,9 @@ fn read_on(number: u128, digits: &[u8]) -> u128
 {
     let mut value = number;
     for digit in digits {
-        value = value.saturating_mul(10).saturating_add(u128::from(*digit - b'0'));
+        value = value
+            .saturating_mul(10)
+            .saturating_add(u128::from(*digit - b'0'));
     }
     value
 }
@@ -229,5 +231,4 @@ fn with_sign(negative: bool, number: u128) -> Result<i128, NumberFault>
 /// Law: the text of a number at a scale, read at that scale, is the number.
 pub fn decimal_reads_back(v: i128, scale: i16)
     ensures { decimal_value_of (decimal_text_of v scale) scale ≡ Ok v }
-{
-}
+{}

@@ -1,8 +1,6 @@
-use Rattle.std.proofs.Common.{◌≡◌, ℕ, ◌+◌, ◌*◌, ◌/◌, ◌%◌, ◌^◌, ◌<◌, ◌++◌, [], List, length, take, get_or, refl, sym, ap, ◌∙◌, arith, append-nil}
-use Rattle.std.proofs.lemmas.List.{take_all}
+use Rattle.std.proofs.Common.{◌+◌, ◌*◌, ◌%◌, ◌^◌, ◌<◌, get_or, refl, arith}
 use Rattle.std.proofs.lemmas.Nat.{mod_below, pow_pos}
-use Rattle.bufr_bits.specs.Bits.{bits_of, bits_in}
-use Rattle.bufr_bits.proofs.WriterLemmas.{behind_step, head_octet, tail_octet, nothing_behind}
+use Rattle.bufr_bits.proofs.WriterLemmas.{behind_step, tail_octet, nothing_behind}
 use Rattle.bufr_bits.proofs.bit_writer.put_behind.Goals as goal
 
 pub loop-octet-init : goal.loop-octet-init
@@ -10,7 +8,7 @@ loop-octet-init c = record {
   bits = nothing_behind c.args.out.now.items c.args.last c.args.count;
   low = c.requires.low;
   len = omega arith;
-  capacity = omega arith
+  capacity = omega arith;
 }
 
 pub loop-octet-preserved : goal.loop-octet-preserved
@@ -25,5 +23,5 @@ loop-octet-preserved c =
       bits = rw (behind, octet) (behind_step c.args.out.now.items c.loop-octet.out.items c.put.new.out.items c.args.octets.now c.args.last c.loop-octet.behind c.args.count _ c.loop-octet.octet-index c.requires.few c.loop-octet.invariant.low c.loop-octet-test.true small c.loop-octet.invariant.bits (rw (behind, octet) at c.put.ensures.items) refl);
       low = rw (tail_octet both c.args.count c.requires.few) (mod_below both (2 ^ c.args.count) (pow_pos c.args.count));
       len = omega arith;
-      capacity = omega arith
+      capacity = omega arith;
     }

@@ -1,6 +1,4 @@
-use Rattle.std.proofs.Common.{◌≡◌, ℕ, ◌-◌, ◌==◌, ◌&&◌, true, false, List, length, take, drop, refl, sym, ap, ◌∙◌, arith}
-use Rattle.std.specs.List.{list_all}
-use Rattle.std.specs.Str.Parse.{digits_value}
+use Rattle.std.proofs.Common.{refl, sym, ◌∙◌, arith}
 use Rattle.bufr_bits.proofs.OnesLemmas.{and_false}
 use Rattle.bufr_bits.proofs.ScaledLemmas.{are_kept, answer_ok, answer_inexact}
 use Rattle.bufr_bits.proofs.decimal.scaled.Goals as goal

@@ -1,6 +1,3 @@
-use Rattle.std.proofs.Common.{◌≡◌, ℕ, ◌+◌, ◌*◌, ◌^◌, ap, ◌∙◌, arith}
-use Rattle.std.proofs.Math.Nat.{pow-suc}
-use Rattle.bufr_bits.specs.Capped.{capped}
 use Rattle.bufr_bits.proofs.DecimalLemmas.{capped_ten, ten_more}
 use Rattle.bufr_bits.proofs.decimal.times_ten.Goals as goal
 

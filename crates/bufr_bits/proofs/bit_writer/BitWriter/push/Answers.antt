@@ -1,7 +1,8 @@
-use Rattle.std.proofs.Common.{◌≡◌, ◌+◌, ◌-◌, ◌*◌, ◌/◌, ◌%◌, ◌^◌, arith, length, take, drop, ap, sym, ◌∙◌}
+use Rattle.std.proofs.Common.{◌≡◌, ℕ, length-append, ◌+◌, ◌-◌, ◌*◌, ◌/◌, ◌%◌, arith, length, take, drop, ap, sym, ◌∙◌}
 use Rattle.std.proofs.lemmas.Nat.{mod_below, pow_pos}
 use Rattle.std.specs.Int.{bytes_high_first}
-use Rattle.bufr_bits.proofs.PushLemmas.{low_bytes, length-bytes}
+use Rattle.bufr_bits.proofs.PushLemmas.{low_bytes, length-bytes, length-bits_in}
+use Rattle.bufr_bits.specs.Bits.{bits_in}
 use Rattle.bufr_bits.proofs.WriterLemmas.{length-written, written}
 use Rattle.bufr_bits.proofs.bit_writer.BitWriter.push.Goals as goal
 
@@ -24,7 +25,7 @@ invariant_of-self-2 c =
       few = omega arith;
       low = rw c.joined-head.ensures.tail (mod_below _ _ (pow_pos kept));
       fits = omega (arith, c.self.inside.octets.ok.0, c.requires.room);
-      room = omega arith
+      room = omega arith;
     }
 
 pub returns-clause-ok : goal.returns-clause-ok
@@ -32,3 +33,6 @@ returns-clause-ok c =
     let whole = (c.self.inside.count + c.args.width) / 8 in
     let kept = (c.self.inside.count + c.args.width) % 8 in
     written c.self.inside.octets.items c.put.new.out.items _ c.self.inside.last c.self.inside.count c.args.value c.args.width c.joined-head.result.0 c.joined-head.result.1 whole kept c.args.self.now c.self.view_is c.requires.value (omega arith) c.joined-head.ensures.head c.joined-head.ensures.tail (bytes c) (rw (← c.in_ok-reserve.ensures.items) c.put.ensures.items)
+
+pub returns-clause-len : goal.returns-clause-len
+returns-clause-len c = ap length (returns-clause-ok c) ∙ length-append c.args.self.now (bits_in c.args.value c.args.width) ∙ ap (λ (m : ℕ). length c.args.self.now + m) (length-bits_in c.args.value c.args.width)
