@@ -3,7 +3,28 @@ use crate::{
     BitSlice, BitWriter, Device, End, Failed, NumberFault, ScriptIn, ScriptOut, Sink, Source,
     decimal_read, decimal_text,
 };
+use std::io::{self, Read, Write};
 use std::test::Fail;
+
+/// A reader and writer whose every call is interrupted.
+#[derive(Drop)]
+struct Broken;
+
+impl Read for Broken {
+    fn read(&mut self, _buf: &mut [u8]) -> io::Result<usize> {
+        Err(io::ErrorKind::Interrupted.into())
+    }
+}
+
+impl Write for Broken {
+    fn write(&mut self, _buf: &[u8]) -> io::Result<usize> {
+        Err(io::ErrorKind::Interrupted.into())
+    }
+
+    fn flush(&mut self) -> io::Result<()> {
+        Err(io::ErrorKind::Interrupted.into())
+    }
+}
 
 const NINE: [u8; 9] = [0x01, 0x23, 0x45, 0x67, 0x89, 0xAB, 0xCD, 0xEF, 0x01];
 
@@ -92,9 +113,17 @@ fn device_reads_and_writes(rt: HostRuntime) -> Result<(), Fail> {
     assert_eq!(rt; source.read(&mut buf), Ok(1));
     assert_eq!(rt; source.read(&mut buf), Ok(0));
     let mut sink = Device::new(Vec::new(rt.alloc()));
-    assert_eq!(rt; sink.write(b"abc"), Ok(3));
-    assert_eq!(rt; sink.flush(), Ok(()));
+    assert_eq!(rt; Sink::write(&mut sink, b"abc"), Ok(3));
+    assert_eq!(rt; Sink::flush(&mut sink), Ok(()));
     Ok(())
+}
+
+#[test]
+fn device_fails_where_its_reader_or_writer_does(rt: HostRuntime) {
+    let mut device = Device::new(Broken);
+    assert_eq!(rt; Source::read(&mut device, &mut [0u8; 2]), Err(Failed));
+    assert_eq!(rt; Sink::write(&mut device, b"abc"), Err(Failed));
+    assert_eq!(rt; Sink::flush(&mut device), Err(Failed));
 }
 
 #[test]
