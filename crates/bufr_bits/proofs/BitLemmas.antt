@@ -2,11 +2,12 @@
 use Rattle.std.proofs.Common.{◌≡◌, ℕ, zero, suc, min, ◌+◌, ◌-◌, ◌*◌, ◌/◌, ◌%◌, ◌^◌, ◌<◌, ◌≤◌, ◌==◌, Bool, true, false, if◌then◌else◌, List, [], ◌∷◌, ◌++◌, length, take, drop, get_or, refl, sym, ap, ◌∙◌, subst, arith, length-drop, take-append-drop, length-take-le, take-add, drop-drop, pow-add, pow_mono}
 use Rattle.std.proofs.lemmas.Nat.{shr_high, mod_low, shl_whole}
 use Rattle.std.proofs.lemmas.Bool.Decides.{nat_tests}
-use Rattle.std.proofs.lemmas.List.{drop-append-le, take-append-le, drop_more, drop_all}
+use Rattle.std.proofs.lemmas.List.{drop-append-le, take-append-le, take_all, drop_more, drop_all}
 use Rattle.std.proofs.Math.Nat.{pow-suc, mul-le-mul_right}
 use Rattle.bufr_bits.specs.Bits.{bits_of_octet, bits_of, number_behind, number_of, bits_at}
 
-abbrev bit : Bool → ℕ
+-- a bit as a number
+abbrev pub bit : Bool → ℕ
 bit b = if b then 1 else 0
 
 shift_once : (n b p q r : ℕ) → q ≡ p * 2 → (2 * n + b) * p + r ≡ n * q + ((2 * 0 + b) * p + r)
@@ -42,7 +43,7 @@ number_of-below (x ∷ xs) =
     let small = below_twice (bit x) (2 ^ length xs) (number_of xs) (bit-le x) below in
     omega (arith, small, alone, p)
 
-bit_of_test : (n : ℕ) → bit (n % 2 == 1) ≡ n % 2
+pub bit_of_test : (n : ℕ) → bit (n % 2 == 1) ≡ n % 2
 bit_of_test n = grind (arith, nat_tests)
 
 -- a number is twice its half and its last bit
@@ -102,6 +103,14 @@ drop-bits_of (suc i) [] = drop_all (8 * suc i) [] (omega arith)
 drop-bits_of (suc i) (x ∷ xs) =
     let e : 8 * suc i ≡ 8 + 8 * i = omega arith in
     rw (e, ← drop-drop (8 * i) 8 (bits_of (x ∷ xs))) (drop-bits_of i xs)
+
+pub take-bits_of : (i : ℕ) (xs : List ℕ) → take (8 * i) (bits_of xs) ≡ bits_of (take i xs)
+unfolding bits_of
+take-bits_of zero xs = refl
+take-bits_of (suc i) [] = take_all (8 * suc i) [] (omega arith)
+take-bits_of (suc i) (x ∷ xs) =
+    let e : 8 * suc i ≡ 8 + 8 * i = omega arith in
+    rw (e, take-add 8 (8 * i) (bits_of (x ∷ xs))) (ap (λ (ys : List Bool). bits_of_octet x ++ ys) (take-bits_of i xs))
 
 -- some bits within one octet write a part of the octet
 pub number_of_part : (xs : List ℕ) (i from width : ℕ) → i < length xs → get_or xs i 0 < 256 → from + width ≤ 8 → number_of (bits_at xs (8 * i + from) width) ≡ get_or xs i 0 / 2 ^ (8 - from - width) % 2 ^ width

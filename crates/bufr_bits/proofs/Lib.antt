@@ -1,2 +1,10 @@
+mod Examples
 pub mod BitLemmas
 pub mod CountLemmas
+pub mod DecimalLemmas
+pub mod OnesLemmas
+pub mod PushLemmas
+pub mod RoundLemmas
+pub mod ScaledLemmas
+pub mod TextLemmas
+pub mod WriterLemmas

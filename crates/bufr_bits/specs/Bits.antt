@@ -1,5 +1,6 @@
 -- Octets as bits, most significant first, and bits as a number. (WMO-No. 306, Volume I.2, FM 94: binary numbers are written most significant bit first)
-use Rattle.std.specs.Prelude.{ℕ, ◌+◌, ◌*◌, ◌/◌, ◌%◌, ◌==◌, Bool, if◌then◌else◌, List, [], ◌∷◌, ◌++◌, take, drop}
+use Rattle.std.specs.Prelude.{ℕ, zero, suc, ◌+◌, ◌-◌, ◌*◌, ◌^◌, ◌/◌, ◌%◌, ◌==◌, Bool, false, if◌then◌else◌, List, [], ◌∷◌, ◌++◌, take, drop, replicate}
+use Rattle.std.specs.List.{list_all}
 
 -- the eight bits of an octet
 abbrev pub bits_of_octet : ℕ → List Bool
@@ -23,3 +24,16 @@ number_of bits = number_behind 0 bits
 -- so many of the bits of octets, from a place on
 abbrev pub bits_at : (octets : List ℕ) (at width : ℕ) → List Bool
 bits_at octets at width = take width (drop at (bits_of octets))
+
+-- whether all bits are ones
+abbrev pub all_set : List Bool → Bool
+all_set bits = list_all (λ bit. bit) bits
+
+-- the bits by which a number is written in a width: its last ones, the most significant first
+unfoldable pub bits_in : (value width : ℕ) → List Bool
+bits_in value zero = []
+bits_in value (suc width) = (value / 2 ^ width % 2 == 1) ∷ bits_in value width
+
+-- the bits that fill the last octet: zeros up to a multiple of eight
+abbrev pub padding : (length : ℕ) → List Bool
+padding length = replicate ((8 - length % 8) % 8) false

@@ -1,5 +1,6 @@
 //! Octets read as bits, most significant first.
-ghost use Rattle.std.specs.Prelude.{◌≡◌, ◌≤◌, ◌<◌, ◌+◌, ◌-◌, ◌/◌, ◌%◌, ◌^◌, length};
+ghost use Rattle.std.specs.Prelude.{◌≡◌, ◌≤◌, ◌<◌, ◌+◌, ◌-◌, ◌/◌, ◌%◌, ◌^◌, ◌==◌, ℕ, length, slice_index};
+ghost use Rattle.std.specs.List.{list_all};
 
 /// Octets that are read as bits, at most 2^60 octets. Bits are counted from 0, most significant
 /// first.
@@ -11,7 +12,7 @@ pub struct BitSlice<'a> {
 
 impl<'a> BitSlice<'a> {
     ghost use Rattle.std.specs.Prelude.{◌≡◌, ◌≤◌, ◌+◌, ◌*◌, ◌^◌, ◌<◌, length, SomeIff, IfSome};
-    ghost use Rattle.bufr_bits.specs.Bits.{number_of, bits_at};
+    ghost use Rattle.bufr_bits.specs.Bits.{number_of, bits_at, all_set};
     ghost use Rattle.bufr_bits.specs.BitSlice.{octets_of};
 
     /// The bits of `octets`.
@@ -60,6 +61,64 @@ impl<'a> BitSlice<'a> {
         let octet = self.get(at, 8)?;
         Some(octet as u8)
     }
+
+    /// Whether `width` bits from bit `at` on are all ones; `None` exactly where they go past the
+    /// end. No bits are all ones.
+    pub fn all_ones(&self, at: u64, width: u32) -> Option<bool>
+        ensures { SomeIff result (at + width ≤ 8 * length (octets_of self.now)) (all_set (bits_at (octets_of self.now) at width)) }
+    {
+        let len = self.len_bits();
+        if at > len || u64::from(width) > len - at {
+            return None;
+        }
+        Some(self.are_ones(at, width))
+    }
+
+    /// Whether `width` bits from bit `at` on, which do not go past the end, are all ones: those up
+    /// to the next octet, the whole octets, and those behind them.
+    fn are_ones(&self, at: u64, width: u32) -> bool
+        requires { at + width ≤ 8 * length (octets_of self.now) }
+        ensures { result ≡ all_set (bits_at (octets_of self.now) at width) }
+    {
+        if width < 8 {
+            return self.few_are_ones(at, width);
+        }
+        let front = (8 - at % 8) % 8;
+        let rest = u64::from(width) - front;
+        let whole = rest / 8;
+        if !self.few_are_ones(at, front as u32) {
+            return false;
+        }
+        if !self.octets_are_ones(((at + front) / 8) as usize, whole as usize) {
+            return false;
+        }
+        self.few_are_ones(at + front + 8 * whole, (rest % 8) as u32)
+    }
+
+    /// The same of less than eight bits.
+    fn few_are_ones(&self, at: u64, width: u32) -> bool
+        requires few { width < 8 }
+        requires within { at + width ≤ 8 * length (octets_of self.now) }
+        ensures { result ≡ all_set (bits_at (octets_of self.now) at width) }
+    {
+        self.get(at, width) == Some((1 << width) - 1)
+    }
+
+    /// The same of whole octets.
+    fn octets_are_ones(&self, first: usize, count: usize) -> bool
+        requires { first + count ≤ length (octets_of self.now) }
+        ensures { result ≡ all_set (bits_at (octets_of self.now) (8 * first) (8 * count)) }
+    {
+        are_full(&self.octets[first..first + count])
+    }
+}
+
+/// Whether all octets are 255.
+fn are_full(octets: &[u8]) -> bool
+    ensures full { result ≡ list_all (λ octet. octet == 255) octets.now }
+    ensures octets { (k : ℕ) → slice_index octets.now k < 2 ^ 8 }
+{
+    octets.iter().all(|octet| *octet == 255)
 }
 
 /// `width` bits of an octet from bit `from` on, as a number.

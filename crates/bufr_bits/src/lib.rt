@@ -3,11 +3,16 @@
 //! A device is a [`Source`] or a [`Sink`]. Bits are counted from 0, most significant first.
 #![tactic(auto)]
 
+mod append;
 mod bit_slice;
+mod bit_writer;
+mod decimal;
 mod device;
 mod script;
 
 pub use bit_slice::BitSlice;
+pub use bit_writer::{BitWriter, pushed_reads_back};
+pub use decimal::{NumberFault, decimal_read, decimal_reads_back, decimal_text};
 pub use device::{Device, Failed, Sink, Source};
 pub use script::{End, ScriptIn, ScriptOut};
 

@@ -1,6 +1,30 @@
 //! The worked examples, each public call once on its happy path, and `get` against single bits.
-use crate::{BitSlice, Device, End, Failed, ScriptIn, ScriptOut, Sink, Source};
+use crate::{
+    BitSlice, BitWriter, Device, End, Failed, NumberFault, ScriptIn, ScriptOut, Sink, Source,
+    decimal_read, decimal_text,
+};
+use std::io::{self, Read, Write};
 use std::test::Fail;
+
+/// A reader and writer whose every call is interrupted.
+#[derive(Drop)]
+struct Broken;
+
+impl Read for Broken {
+    fn read(&mut self, _buf: &mut [u8]) -> io::Result<usize> {
+        Err(io::ErrorKind::Interrupted.into())
+    }
+}
+
+impl Write for Broken {
+    fn write(&mut self, _buf: &[u8]) -> io::Result<usize> {
+        Err(io::ErrorKind::Interrupted.into())
+    }
+
+    fn flush(&mut self) -> io::Result<()> {
+        Err(io::ErrorKind::Interrupted.into())
+    }
+}
 
 const NINE: [u8; 9] = [0x01, 0x23, 0x45, 0x67, 0x89, 0xAB, 0xCD, 0xEF, 0x01];
 
@@ -89,7 +113,201 @@ fn device_reads_and_writes(rt: HostRuntime) -> Result<(), Fail> {
     assert_eq!(rt; source.read(&mut buf), Ok(1));
     assert_eq!(rt; source.read(&mut buf), Ok(0));
     let mut sink = Device::new(Vec::new(rt.alloc()));
-    assert_eq!(rt; sink.write(b"abc"), Ok(3));
-    assert_eq!(rt; sink.flush(), Ok(()));
+    assert_eq!(rt; Sink::write(&mut sink, b"abc"), Ok(3));
+    assert_eq!(rt; Sink::flush(&mut sink), Ok(()));
     Ok(())
+}
+
+#[test]
+fn device_fails_where_its_reader_or_writer_does(rt: HostRuntime) {
+    let mut device = Device::new(Broken);
+    assert_eq!(rt; Source::read(&mut device, &mut [0u8; 2]), Err(Failed));
+    assert_eq!(rt; Sink::write(&mut device, b"abc"), Err(Failed));
+    assert_eq!(rt; Sink::flush(&mut device), Err(Failed));
+}
+
+#[test]
+fn all_ones_at_any_width(rt: HostRuntime) -> Result<(), Fail> {
+    let bits = BitSlice::new(&[0xFF, 0xFE]);
+    assert_eq!(rt; bits.all_ones(0, 15), Some(true));
+    assert_eq!(rt; bits.all_ones(0, 16), Some(false));
+    assert_eq!(rt; bits.all_ones(1, 16), None);
+    assert_eq!(rt; bits.all_ones(16, 0), Some(true));
+    assert_eq!(rt; bits.all_ones(u64::MAX, u32::MAX), None);
+    // One zero bit among ones: it is found wherever it stands.
+    let mut octets = vec![in rt.alloc(); 0xFFu8; 40]?;
+    assert_eq!(rt; octets.len(), 40);
+    assert_eq!(rt; BitSlice::new(&octets).all_ones(3, 317), Some(true));
+    if let Some(octet) = octets.get_mut(20) {
+        *octet = 0xF7;
+    }
+    assert_eq!(rt; octets.len(), 40);
+    for at in 0..172 {
+        for width in 0..148 {
+            let ones = at + u64::from(width) <= 164 || at > 164;
+            assert_eq!(rt;
+                BitSlice::new(&octets).all_ones(at, width),
+                Some(ones),
+                "at {at}, {width} bits"
+            );
+        }
+    }
+    Ok(())
+}
+
+#[test]
+fn bits_are_pushed(rt: HostRuntime) -> Result<(), Fail> {
+    let mut writer = BitWriter::new(rt.alloc());
+    writer.push(5, 3)?;
+    writer.push_octets(&[0xAB])?;
+    assert_eq!(rt; writer.len_bits(), 11);
+    let octets = writer.into_octets();
+    assert_eq!(rt; octets.as_slice(), [0xB5, 0x60].as_slice());
+    assert_eq!(rt; octets.len(), 2);
+    let bits = BitSlice::new(&octets);
+    assert_eq!(rt; bits.get(3, 8), Some(171));
+    assert_eq!(rt; bits.get(16, 0), Some(0));
+    assert_eq!(rt; bits.get(16, 1), None);
+    Ok(())
+}
+
+#[test]
+fn pushes_of_every_width(rt: HostRuntime) -> Result<(), Fail> {
+    let mut writer = BitWriter::new(rt.alloc());
+    for width in 0..64u32 {
+        for value in [0, 1, (1 << width) - 1, 0x5A5A_5A5A_5A5A_5A5A] {
+            assert!(rt; writer.len_bits() < 100_000);
+            writer.push(value % (1 << width), width)?;
+        }
+        assert!(rt; writer.len_bits() < 100_000);
+        writer.push_octets(&NINE)?;
+    }
+    let length = writer.len_bits();
+    let octets = writer.into_octets();
+    assert_eq!(rt; octets.len() as u64, length.div_ceil(8));
+    assert!(rt; octets.len() < 100_000);
+    let bits = BitSlice::new(&octets);
+    let mut at = 0u64;
+    for width in 0..64u32 {
+        for value in [0, 1, (1 << width) - 1, 0x5A5A_5A5A_5A5A_5A5A] {
+            assert_eq!(rt;
+                bits.get(at, width),
+                Some(value % (1 << width)),
+                "{width} bits"
+            );
+            at = at.saturating_add(u64::from(width));
+        }
+        for octet in NINE {
+            assert_eq!(rt; bits.octet(at), Some(octet));
+            at = at.saturating_add(8);
+        }
+    }
+    assert_eq!(rt; at, length);
+    Ok(())
+}
+
+#[test]
+fn decimal_texts(rt: HostRuntime) -> Result<(), Fail> {
+    let rows: [(i128, i16, &[u8]); 12] = [
+        (-5, 2, b"-0.05"),
+        (288, -2, b"28800"),
+        (0, 2, b"0.00"),
+        (0, -2, b"0"),
+        (0, 0, b"0"),
+        (28815, 2, b"288.15"),
+        (28800, 2, b"288.00"),
+        (100, 2, b"1.00"),
+        (99, 2, b"0.99"),
+        (-1, -3, b"-1000"),
+        (i128::MIN, 0, b"-170141183460469231731687303715884105728"),
+        (i128::MAX, 38, b"1.70141183460469231731687303715884105727"),
+    ];
+    for (v, scale, want) in rows {
+        let mut out = Vec::new(rt.alloc());
+        decimal_text(v, scale, &mut out)?;
+        assert_eq!(rt; out.as_slice(), want, "{v} at {scale}");
+        decimal_text(v, scale, &mut out)?;
+        assert_eq!(rt; out.len() / 2, want.len(), "{v} at {scale}");
+        assert_eq!(rt; decimal_read(want, scale), Ok(v), "{v} at {scale}");
+    }
+    Ok(())
+}
+
+#[test]
+fn decimal_texts_at_the_ends(rt: HostRuntime) -> Result<(), Fail> {
+    let rows: [(i128, &[u8], &[u8]); 2] = [
+        (i128::MIN, b"-", b"170141183460469231731687303715884105728"),
+        (i128::MAX, b"", b"170141183460469231731687303715884105727"),
+    ];
+    for (v, sign, digits) in rows {
+        let mut whole = Vec::from_slice(rt.alloc(), sign)?;
+        whole.extend_from_slice(digits)?;
+        whole.resize(sign.len() + 339, b'0')?;
+        let mut fraction = Vec::from_slice(rt.alloc(), sign)?;
+        fraction.extend_from_slice(b"0.")?;
+        fraction.resize(sign.len() + 263, b'0')?;
+        fraction.extend_from_slice(digits)?;
+        for (scale, want) in [(-300, &whole), (300, &fraction)] {
+            let mut out = Vec::new(rt.alloc());
+            decimal_text(v, scale, &mut out)?;
+            assert_eq!(rt; out.as_slice(), want.as_slice(), "{v} at {scale}");
+            assert_eq!(rt; decimal_read(&out, scale), Ok(v), "{v} at {scale}");
+        }
+    }
+    Ok(())
+}
+
+#[test]
+fn decimal_readings(rt: HostRuntime) {
+    let rows: [(&[u8], i16, Result<i128, NumberFault>); 30] = [
+        (b"28850", -2, Err(NumberFault::Inexact)),
+        (b"28800", -2, Ok(288)),
+        (b"1e3", 0, Err(NumberFault::Syntax)),
+        (&[b'9'; 40], 0, Err(NumberFault::Large)),
+        (&[b'9'; 40], -1, Err(NumberFault::Inexact)),
+        (b"-0", 0, Ok(0)),
+        (b"-0.00", 2, Ok(0)),
+        (b"007.50", 1, Ok(75)),
+        (
+            b"0000000000000000000000000000000000000000000000000000001",
+            0,
+            Ok(1),
+        ),
+        (b"-", 0, Err(NumberFault::Syntax)),
+        (b"", 0, Err(NumberFault::Syntax)),
+        (b"--1", 0, Err(NumberFault::Syntax)),
+        (b"+1", 0, Err(NumberFault::Syntax)),
+        (b" 1", 0, Err(NumberFault::Syntax)),
+        (b"1.", 0, Err(NumberFault::Syntax)),
+        (b".5", 1, Err(NumberFault::Syntax)),
+        (b".", 0, Err(NumberFault::Syntax)),
+        (b"1.2.3", 2, Err(NumberFault::Syntax)),
+        (b"1.x", 1, Err(NumberFault::Syntax)),
+        (b"288.15", 2, Ok(28815)),
+        (b"288.155", 2, Err(NumberFault::Inexact)),
+        (b"288.1500", 2, Ok(28815)),
+        (b"5", 300, Err(NumberFault::Large)),
+        (b"0", 300, Ok(0)),
+        (b"1", -300, Err(NumberFault::Inexact)),
+        (b"0.0", -300, Ok(0)),
+        (b"170141183460469231731687303715884105727", 0, Ok(i128::MAX)),
+        (
+            b"170141183460469231731687303715884105728",
+            0,
+            Err(NumberFault::Large),
+        ),
+        (
+            b"-170141183460469231731687303715884105728",
+            0,
+            Ok(i128::MIN),
+        ),
+        (
+            b"-170141183460469231731687303715884105729",
+            0,
+            Err(NumberFault::Large),
+        ),
+    ];
+    for (text, scale, want) in rows {
+        assert_eq!(rt; decimal_read(text, scale), want, "{text:?} at {scale}");
+    }
 }

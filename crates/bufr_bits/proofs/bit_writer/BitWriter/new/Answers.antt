@@ -1,0 +1,5 @@
+use Rattle.bufr_bits.proofs.WriterLemmas.{nothing_written}
+use Rattle.bufr_bits.proofs.bit_writer.BitWriter.new.Goals as goal
+
+pub returns : goal.returns
+returns c = nothing_written c.new.result.items c.new.ensures.items

@@ -1,0 +1,234 @@
+//! Numbers with a decimal scale as text, and back: the number v at scale s stands for v / 10^s.
+ghost use Rattle.std.specs.Prelude.{◌≡◌, ◌≤◌, ◌<◌, ◌+◌, ◌*◌, ◌^◌, ◌++◌, ◌==◌, if◌then◌else◌, ℕ, ℤ, true, false, length, unsigned_abs, vec_len, vec_capacity, MatchOption, OnOk, OnErr};
+ghost use Rattle.std.specs.List.{list_all, position};
+ghost use Rattle.std.specs.Str.Parse.{digits_value, digits_value_after, starts_with_minus};
+ghost use Rattle.bufr_bits.specs.Capped.{capped, capped_ok};
+ghost use Rattle.bufr_bits.specs.DecimalText.{decimal_text_of, pointed, sign_of};
+ghost use Rattle.bufr_bits.specs.DecimalValue.{decimal_value_of, unsigned_part, is_unsigned, all_digits, is_digits, IsParts, power_up, power_down, whole_quotient, signed};
+
+use crate::append::{put, put_zeros};
+use itoa::Buffer;
+use std::alloc::AllocError;
+use thiserror::Error;
+
+/// Why a text is no number at a scale. The first that fits is told.
+#[derive(Clone, Copy, Debug, PartialEq, Eq, Error)]
+pub enum NumberFault {
+    /// Not an optional `-`, one or more digits, and optionally a point and one or more digits.
+    #[error("not a decimal number")]
+    Syntax,
+    /// The number times ten to the scale is not whole.
+    #[error("more places than the scale has")]
+    Inexact,
+    /// The number times ten to the scale is outside `i128`.
+    #[error("too large")]
+    Large,
+}
+
+/// Appends the text of `v` at `scale` to `out`: at a scale above 0 a point before the last `scale`
+/// digits, with zeros in front so that one digit stands before it; at one below 0 as many zeros
+/// behind the digits, except that zero is `0`. A negative number begins with `-`.
+///
+/// # Errors
+///
+/// [`AllocError`] where `out` could not grow; it is then unchanged.
+pub fn decimal_text(v: i128, scale: i16, out: &mut Vec<u8>) -> Result<(), AllocError>
+    ensures ok { OnOk result (out.new.items ≡ out.old.items ++ decimal_text_of v scale) }
+    ensures err { OnErr result (out.new.items ≡ out.old.items) }
+{
+    let size = v.unsigned_abs();
+    let mut buffer = Buffer::new();
+    let digits = buffer.format(size).as_bytes();
+    let (places, power) = powers_of(scale);
+    let zeros = zeros_behind(size, power);
+    out.reserve(digits.len() + places + zeros + 3)?;
+    put_sign(out, v);
+    if places > 0 {
+        put_pointed(out, digits, places);
+    } else {
+        put(out, digits);
+        put_zeros(out, zeros);
+    }
+    Ok(())
+}
+
+/// How many zeros stand behind the digits of a number that ten multiplies so often: none behind 0.
+fn zeros_behind(size: u128, power: usize) -> usize
+    ensures value { result ≡ (if size == 0 then 0 else power) }
+    ensures few { result ≤ power }
+{
+    if size == 0 { 0 } else { power }
+}
+
+/// How often ten multiplies and how often it divides a number at a scale.
+fn powers_of(scale: i16) -> (usize, usize)
+    ensures up { result.0 ≡ power_up scale }
+    ensures down { result.1 ≡ power_down scale }
+    ensures few { result.0 + result.1 ≤ 2 ^ 15 }
+{
+    let size = scale.unsigned_abs() as usize;
+    if scale < 0 { (0, size) } else { (size, 0) }
+}
+
+/// Appends the sign of a number, for which there is room.
+fn put_sign(out: &mut Vec<u8>, v: i128)
+    requires { vec_len out.old + 1 ≤ vec_capacity out.old }
+    ensures items { out.new.items ≡ out.old.items ++ sign_of v }
+    ensures len { vec_len out.new ≤ vec_len out.old + 1 }
+    ensures capacity { vec_capacity out.old ≤ vec_capacity out.new }
+{
+    if v < 0 {
+        put(out, b"-");
+    }
+}
+
+/// Appends digits with a point before the last `places` of them.
+fn put_pointed(out: &mut Vec<u8>, digits: &[u8], places: usize)
+    requires { vec_len out.old + length digits.now + places + 2 ≤ vec_capacity out.old }
+    ensures { out.new.items ≡ out.old.items ++ pointed places digits.now }
+{
+    if digits.len() <= places {
+        put(out, b"0.");
+        put_zeros(out, places - digits.len());
+        put(out, digits);
+    } else {
+        let (whole, fraction) = digits.split_at(digits.len() - places);
+        put(out, whole);
+        put(out, b".");
+        put(out, fraction);
+    }
+}
+
+/// Reads the text of a number at `scale`: an optional `-`, one or more digits, and optionally a
+/// point and one or more digits. The answer is the number that the text writes times 10^`scale`.
+/// It takes no memory.
+///
+/// # Errors
+///
+/// The first that fits of [`NumberFault::Syntax`], [`NumberFault::Inexact`] where the answer is not
+/// whole, and [`NumberFault::Large`] where it is outside `i128`.
+pub fn decimal_read(text: &[u8], scale: i16) -> Result<i128, NumberFault>
+    ensures { result ≡ decimal_value_of text.now scale }
+{
+    let (negative, body) = without_sign(text);
+    let Some((whole, fraction)) = parts_of(body) else {
+        return Err(NumberFault::Syntax);
+    };
+    let (up, down) = powers_of(scale);
+    let number = scaled(whole, fraction, up, down)?;
+    with_sign(negative, number)
+}
+
+/// Whether a text begins with a minus sign, and what stands behind that.
+fn without_sign(text: &[u8]) -> (bool, &[u8])
+    ensures sign { result.0 ≡ starts_with_minus text.now }
+    ensures body { result.1.now ≡ unsigned_part text.now }
+{
+    match text {
+        [b'-', body @ ..] => (true, body),
+        _ => (false, text),
+    }
+}
+
+/// The digits before and behind the point, or `None` where the text is not of that form.
+fn parts_of(body: &[u8]) -> Option<(&[u8], &[u8])>
+    ensures { MatchOption result (is_unsigned body.now ≡ false) (λ parts. IsParts body.now parts.0.now parts.1.now) }
+{
+    match point_of(body) {
+        Some(point) => {
+            let (whole, fraction) = (&body[..point], &body[point + 1..]);
+            (is_digits(whole) && is_digits(fraction)).then_some((whole, fraction))
+        }
+        None => is_digits(body).then_some((body, &[])),
+    }
+}
+
+/// The place of the first point.
+fn point_of(body: &[u8]) -> Option<usize>
+    ensures { result ≡ position (λ c. c == 46) body.now }
+{
+    body.iter().position(|c| *c == b'.')
+}
+
+/// Whether a text is one or more digits.
+fn is_digits(text: &[u8]) -> bool
+    ensures { result ≡ is_digits text.now }
+{
+    !text.is_empty() && all_digits(text)
+}
+
+/// Whether a text is digits alone.
+fn all_digits(text: &[u8]) -> bool
+    ensures { result ≡ all_digits text.now }
+{
+    text.iter().all(|c| c.is_ascii_digit())
+}
+
+/// The number that digits with a point among them write, times ten to `up` and by ten to `down`,
+/// one of which is 0. The digits that ten divides away must be zeros.
+fn scaled(whole: &[u8], fraction: &[u8], up: usize, down: usize) -> Result<u128, NumberFault>
+    requires whole { all_digits whole.now ≡ true }
+    requires fraction { all_digits fraction.now ≡ true }
+    requires one { 0 < down → up ≡ 0 }
+    ensures { result ≡ capped_ok (whole_quotient (digits_value 10 (whole.now ++ fraction.now) * 10 ^ up) (10 ^ (length fraction.now + down))) }
+{
+    let (kept, cut) = whole.split_at(whole.len().saturating_sub(down));
+    let (moved, left) = fraction.split_at(up.min(fraction.len()));
+    if !are_zeros(cut) {
+        return Err(NumberFault::Inexact);
+    }
+    if !are_zeros(left) {
+        return Err(NumberFault::Inexact);
+    }
+    let number = read_on(read_on(0, kept), moved);
+    Ok(times_ten(number, up - moved.len()))
+}
+
+/// Whether all digits are zeros.
+fn are_zeros(digits: &[u8]) -> bool
+    ensures { result ≡ list_all (λ d. d == 48) digits.now }
+{
+    digits.iter().all(|digit| *digit == b'0')
+}
+
+/// The number that digits write behind a number, up to the greatest `u128`.
+fn read_on(number: u128, digits: &[u8]) -> u128
+    requires { all_digits digits.now ≡ true }
+    ensures { (n : ℕ) → number ≡ capped n → result ≡ capped (digits_value_after 10 n digits.now) }
+{
+    let mut value = number;
+    for digit in digits {
+        value = value
+            .saturating_mul(10)
+            .saturating_add(u128::from(*digit - b'0'));
+    }
+    value
+}
+
+/// A number times ten so often, up to the greatest `u128`.
+fn times_ten(number: u128, times: usize) -> u128
+    ensures { (n : ℕ) → number ≡ capped n → result ≡ capped (n * 10 ^ times) }
+{
+    let mut value = number;
+    'turns: for _turn in 0..times {
+        value = value.saturating_mul(10);
+    }
+    value
+}
+
+/// A number with its sign, if it is within `i128`.
+fn with_sign(negative: bool, number: u128) -> Result<i128, NumberFault>
+    ensures { (n : ℕ) → number ≡ capped n → result ≡ signed negative n }
+{
+    let signed = if negative {
+        0i128.checked_sub_unsigned(number)
+    } else {
+        0i128.checked_add_unsigned(number)
+    };
+    signed.ok_or(NumberFault::Large)
+}
+
+/// Law: the text of a number at a scale, read at that scale, is the number.
+pub fn decimal_reads_back(v: i128, scale: i16)
+    ensures { decimal_value_of (decimal_text_of v scale) scale ≡ Ok v }
+{}
