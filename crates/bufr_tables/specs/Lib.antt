@@ -1,0 +1,14 @@
+pub mod Expander
+pub mod Expansion
+pub mod Fxy
+pub mod Growing
+pub mod Growth
+pub mod Operators
+pub mod Planted
+pub mod Sound
+pub mod Stub
+pub mod StubD
+pub mod TableB
+pub mod TableD
+pub mod TemplateTables
+pub mod Tree
