@@ -3,5 +3,7 @@ pub mod GrowingLemmas
 pub mod ListLemmas
 pub mod PartLemmas
 pub mod PlantedLemmas
+pub mod SoundLemmas
 pub mod TemplateExamples
 pub mod TreeLemmas
+pub mod WholeLemmas

@@ -1,3 +1,4 @@
+pub mod Counted
 pub mod Expander
 pub mod Expansion
 pub mod Fxy
@@ -12,3 +13,4 @@ pub mod TableB
 pub mod TableD
 pub mod TemplateTables
 pub mod Tree
+pub mod TreeCode

@@ -1,7 +1,7 @@
 // What a descriptor is by its digits alone.
 ghost use Rattle.std.specs.Prelude.{◌≡◌, ◌≤◌, length, take, drop};
 ghost use Rattle.bufr_tables.specs.Operators.{is_legal_operator as operator_is_legal, gives_width as width_is_given};
-ghost use Rattle.bufr_tables.specs.Expansion.{is_factor as factor_is, begins_with_element as element_begins};
+ghost use Rattle.bufr_tables.specs.Expansion.{is_factor as factor_is, begins_with_element as element_begins, first_of as first_of_list};
 
 use crate::fxy::Fxy;
 
@@ -19,6 +19,16 @@ pub fn before(list: &[Fxy], count: usize) -> &[Fxy]
     ensures { result.now ≡ take count list.now }
 {
     list.split_at(count).0
+}
+
+/// The first descriptor, or 000000.
+pub fn first_of(list: &[Fxy]) -> Fxy
+    ensures { result ≡ first_of_list list.now }
+{
+    match list.split_first() {
+        Some((fxy, _)) => *fxy,
+        None => Fxy::from_word(0),
+    }
 }
 
 /// Whether it is a factor of delayed replication: 0 31 000, 0 31 001 or 0 31 002.
