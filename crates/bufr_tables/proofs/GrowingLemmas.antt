@@ -1,5 +1,5 @@
 -- Depth and consumption of nodes with one more behind them.
-use Rattle.std.proofs.Common.{◌≡◌, ◌≢◌, ℕ, ◌+◌, ◌==◌, max, Bool, true, false, ◌||◌, List, ◌∷◌, [], ◌++◌, refl, sym, ◌∙◌, ap, arith}
+use Rattle.std.proofs.Common.{◌≡◌, ℕ, ◌+◌, ◌==◌, max, Bool, true, false, ◌||◌, refl, sym, ◌∙◌, ap, arith}
 use Rattle.std.specs.Prelude.{Vec}
 use Rattle.std.specs.declared.alloc.Global.{Global}
 use Rattle.bufr_tables.specs.declared.template.node.Node.{Node}
@@ -8,7 +8,7 @@ use Rattle.bufr_tables.specs.Fxy.{x_of}
 use Rattle.bufr_tables.specs.Tree.{Tree, bare, element, operator, fixed, delayed, join, depth, consumes}
 use Rattle.bufr_tables.specs.Planted.{grown, planted}
 use Rattle.bufr_tables.proofs.TreeLemmas.{depth-join, consumes-join}
-use Rattle.bufr_tables.proofs.PlantedLemmas.{planted-push, grown_element, grown_operator, grown_fixed, grown_delayed}
+use Rattle.bufr_tables.proofs.PlantedLemmas.{grown_element, grown_operator, grown_fixed, grown_delayed}
 
 or_true : (a : Bool) → (a || true) ≡ true
 or_true true = refl

@@ -1,6 +1,6 @@
 pub mod ExpansionLemmas
 pub mod GrowingLemmas
-pub mod ListLemmas
+pub mod LevelLemmas
 pub mod PartLemmas
 pub mod PlantedLemmas
 pub mod SoundLemmas

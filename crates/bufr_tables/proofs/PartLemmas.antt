@@ -1,13 +1,13 @@
 -- The definition of one part, at what the code has found out.
-use Rattle.std.proofs.Common.{◌≡◌, ◌≢◌, ℕ, zero, suc, ◌+◌, ◌-◌, ◌<◌, ◌≤◌, Bool, true, false, List, [], ◌∷◌, length, take, Option, Some, None, Result, Ok, Err, refl, sym, ◌∙◌, ap, subst, arith}
+use Rattle.std.proofs.Common.{◌≡◌, ◌≢◌, ℕ, zero, suc, ◌+◌, ◌-◌, ◌<◌, ◌≤◌, Bool, true, false, List, length, take, Option, Some, Result, Ok, Err, refl, sym, ◌∙◌, ap, subst}
 use Rattle.std.proofs.lemmas.Bool.{le-leb}
-use Rattle.std.specs.Prelude.{nat_le, ok_or}
+use Rattle.std.specs.Prelude.{ok_or}
 use Rattle.bufr_tables.specs.declared.template.fault.TemplateFault.{TemplateFault}
 use Rattle.bufr_tables.specs.declared.template.fault.TemplateFault.TheVariants as fault
 use Rattle.bufr_tables.specs.Fxy.{f_of, x_of}
 use Rattle.bufr_tables.specs.Tree.{Tree, bare, join, consumes}
 use Rattle.bufr_tables.specs.Expansion.{Tables, Expansion, Part, part, ◌>>=◌, unless, opened, with_places, body_of, sequence_part, element_part, group_part, operator_part, part_by, part_of, level, inner_of}
-use Rattle.bufr_tables.specs.Growth.{Growth, growth, grow, PutsTree, PutsPart, Refuses, GivesPart, GivesTree}
+use Rattle.bufr_tables.specs.Growth.{Growth, growth, grow, PutsTree, PutsPart, Refuses, GivesPart}
 use Rattle.bufr_tables.proofs.ExpansionLemmas.{inner_of-room, inner_of-none}
 
 -- a part under another name

@@ -1,5 +1,5 @@
 -- What is true of each tree that the expansion gives.
-use Rattle.std.proofs.Common.{◌≡◌, ◌≢◌, ℕ, zero, suc, ◌+◌, ◌<◌, ◌≤◌, ◌==◌, max, Bool, true, false, not, ◌&&◌, ◌||◌, List, [], ◌∷◌, length, take, Option, Some, None, Result, Ok, Err, refl, sym, ◌∙◌, ap, subst, arith}
+use Rattle.std.proofs.Common.{◌≡◌, ◌≢◌, ℕ, zero, suc, ◌+◌, ◌<◌, ◌≤◌, ◌==◌, Bool, true, false, not, ◌&&◌, ◌||◌, List, [], ◌∷◌, length, take, Option, Some, None, Result, Ok, Err, refl, sym, ◌∙◌, ap, subst, arith}
 use Rattle.std.proofs.lemmas.Bool.{ne_eqb, eqb-true}
 use Rattle.std.specs.Prelude.{nat_le, nat_lt, ok_or}
 use Rattle.bufr_tables.specs.declared.template.fault.TemplateFault.{TemplateFault}
@@ -7,7 +7,7 @@ use Rattle.bufr_tables.specs.declared.template.fault.TemplateFault.TheVariants a
 use Rattle.bufr_tables.specs.Fxy.{f_of, x_of, y_of}
 use Rattle.bufr_tables.specs.Operators.{is_legal_operator, gives_width}
 use Rattle.bufr_tables.specs.Tree.{Tree, bare, element, operator, fixed, delayed, join, size, depth, consumes}
-use Rattle.bufr_tables.specs.Expansion.{Tables, Expansion, Part, part, ◌>>=◌, unless, with_places, opened, is_factor, begins_with_element, element_part, operator_part, body_of, fixed_part, delayed_part, group_by, group_part, sequence_part, part_by, part_of, level, inner_of, tree_of, first_of, MOST_OPEN}
+use Rattle.bufr_tables.specs.Expansion.{Tables, Expansion, Part, part, ◌>>=◌, unless, with_places, is_factor, begins_with_element, element_part, operator_part, body_of, fixed_part, delayed_part, group_by, group_part, sequence_part, part_by, part_of, level, inner_of, tree_of, first_of, MOST_OPEN}
 use Rattle.bufr_tables.specs.Sound.{GroupsConsume, IsSound, IsKnownAfter, IsKnown, IsLegal, begins_with_element_node}
 use Rattle.bufr_tables.proofs.TreeLemmas.{depth-join}
 use Rattle.bufr_tables.proofs.PartLemmas.{part-element}
@@ -239,7 +239,7 @@ level_fine tables room inner fine given zero places (d ∷ after) tree h =
     let two = steps (level tables inner (gives_width d) one.middle.taken (places + size one.middle.tree) after) (λ rest. Ok (join one.middle.tree rest)) tree one.then_is in
     let more = level_fine tables room inner fine (gives_width d) one.middle.taken (places + size one.middle.tree) after two.middle two.first_is in
     let begins : begins_with_element after ≡ true → one.middle.taken ≡ 0 → begins_with_element_node two.middle ≡ true =
-        λ b none. level_begins tables inner (gives_width d) (places + size one.middle.tree) after two.middle b (ap (λ k. level tables inner (gives_width d) k (places + size one.middle.tree) after) (sym none) ∙ two.first_is) in
+    λ b none. level_begins tables inner (gives_width d) (places + size one.middle.tree) after two.middle b (ap (λ k. level tables inner (gives_width d) k (places + size one.middle.tree) after) (sym none) ∙ two.first_is) in
     subst (IsFine tables.known room given) (tree_is (join one.middle.tree two.middle) tree two.then_is)
     (part_by_joins (f_of d) tables room inner fine given places d after one.middle two.middle refl one.first_is begins more)
 

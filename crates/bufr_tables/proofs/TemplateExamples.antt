@@ -1,8 +1,8 @@
 -- Worked examples of the expansion, computed.
-use Rattle.std.proofs.Common.{◌≡◌, ℕ, zero, suc, ◌+◌, ◌*◌, ◌==◌, ◌||◌, Bool, true, false, cond, List, [], ◌∷◌, Option, Some, None, Result, Ok, Err, refl}
+use Rattle.std.proofs.Common.{◌≡◌, ℕ, zero, suc, ◌+◌, ◌*◌, ◌==◌, ◌||◌, Bool, false, cond, List, [], ◌∷◌, Some, None, Result, Ok, Err, refl}
 use Rattle.bufr_tables.specs.declared.template.fault.TemplateFault.{TemplateFault}
 use Rattle.bufr_tables.specs.declared.template.fault.TemplateFault.TheVariants as fault
-use Rattle.bufr_tables.specs.Tree.{Tree, bare, element, operator, fixed, delayed, places, depth}
+use Rattle.bufr_tables.specs.Tree.{Tree, bare, element, operator, delayed, places, depth}
 use Rattle.bufr_tables.specs.Expansion.{Tables, tree_of, inner_of, level, part_of, ◌>>=◌}
 
 -- a descriptor of six digits
@@ -18,7 +18,7 @@ tables : Tables
 unfolding is_one_of
 tables = record {
   known = is_one_of (fxy 0 1 1 ∷ fxy 0 1 15 ∷ fxy 0 5 2 ∷ fxy 0 12 101 ∷ fxy 0 20 3 ∷ fxy 0 31 0 ∷ fxy 0 31 1 ∷ fxy 0 31 2 ∷ []);
-  members = λ d. cond (d == fxy 3 60 192) (Some (fxy 0 1 1 ∷ fxy 0 12 101 ∷ [])) None
+  members = λ d. cond (d == fxy 3 60 192) (Some (fxy 0 1 1 ∷ fxy 0 12 101 ∷ [])) None;
 }
 
 given : List ℕ → Result Tree TemplateFault

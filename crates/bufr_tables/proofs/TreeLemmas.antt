@@ -1,5 +1,5 @@
 -- Trees one behind another.
-use Rattle.std.proofs.Common.{◌≡◌, ℕ, ◌+◌, ◌≤◌, max, Bool, true, false, ◌||◌, refl, sym, ◌∙◌, ap, arith}
+use Rattle.std.proofs.Common.{◌≡◌, ◌+◌, ◌≤◌, max, Bool, true, false, ◌||◌, refl, ◌∙◌, ap, arith}
 use Rattle.bufr_tables.specs.Tree.{Tree, bare, element, operator, fixed, delayed, join, size, depth, consumes, is_inserted_text}
 
 pub join_assoc : (a b c : Tree) → join (join a b) c ≡ join a (join b c)

@@ -1,8 +1,8 @@
 -- The expansion of a whole list.
-use Rattle.std.proofs.Common.{◌≡◌, ◌≢◌, ℕ, ◌+◌, ◌≤◌, Bool, true, false, List, Result, Ok, Err, sym, ◌∙◌, ap, arith}
+use Rattle.std.proofs.Common.{◌≡◌, ℕ, ◌+◌, ◌≤◌, Bool, true, false, List, Result, Ok, Err, sym, ◌∙◌, ap, arith}
 use Rattle.bufr_tables.specs.declared.template.fault.TemplateFault.{TemplateFault}
 use Rattle.bufr_tables.specs.declared.template.fault.TemplateFault.TheVariants as fault
-use Rattle.bufr_tables.specs.Tree.{Tree, bare, join, size, depth, consumes}
+use Rattle.bufr_tables.specs.Tree.{Tree, bare, size, depth, consumes}
 use Rattle.bufr_tables.specs.Counted.{IsCounted}
 use Rattle.bufr_tables.specs.Expansion.{Tables, ◌>>=◌, unless, level, inner_of, first_of, tree_of, MOST_OPEN}
 use Rattle.bufr_tables.specs.Growth.{Growth, growth, grow, PutsTree, Refuses}

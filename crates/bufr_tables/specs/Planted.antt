@@ -1,5 +1,5 @@
 -- The tree that a list of nodes stands for.
-use Rattle.std.specs.Prelude.{ℕ, List, [], ◌∷◌, map}
+use Rattle.std.specs.Prelude.{List, [], ◌∷◌, map}
 use Rattle.bufr_tables.specs.declared.template.node.Node.{Node}
 use Rattle.bufr_tables.specs.declared.template.node.Node.TheOpen.{Node-F, Element, Operator, Fixed, Delayed}
 use Rattle.bufr_tables.specs.declared.template.node.Node.TheFolds.{fold-Node}

@@ -1,7 +1,7 @@
 -- What is true of the tree of every template, whatever its list and tables
 -- (WMO-No. 306 Volume I.2, FM 94 BUFR, regulation 94.5.4 and Table C; that each group takes bits is a choice of this project).
-use Rattle.std.specs.Prelude.{ℕ, ◌≡◌, ◌<◌, ◌≤◌, ◌||◌, Bool, true, false, IsTrue}
-use Rattle.bufr_tables.specs.Fxy.{f_of, x_of}
+use Rattle.std.specs.Prelude.{ℕ, ◌≡◌, ◌<◌, ◌||◌, Bool, true, false}
+use Rattle.bufr_tables.specs.Fxy.{f_of}
 use Rattle.bufr_tables.specs.Operators.{is_legal_operator, gives_width}
 use Rattle.bufr_tables.specs.Tree.{Tree, bare, element, operator, fixed, delayed, consumes}
 use Rattle.bufr_tables.specs.Expansion.{is_factor}

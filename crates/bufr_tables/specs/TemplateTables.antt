@@ -1,5 +1,5 @@
 -- What Tables B and D tell the expansion.
-use Rattle.std.specs.Prelude.{ℕ, List, is_some}
+use Rattle.std.specs.Prelude.{List, is_some}
 use Rattle.bufr_tables.specs.TableB.{Row, entry_of}
 use Rattle.bufr_tables.specs.TableD.{Sequence, members_of}
 use Rattle.bufr_tables.specs.Expansion.{Tables}

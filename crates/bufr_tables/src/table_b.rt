@@ -2,7 +2,9 @@
 ghost use Rattle.std.specs.Prelude.{◌≡◌, option_map};
 ghost use Rattle.bufr_tables.specs.TableB.{Row, entry_of};
 
+use crate::fault::TableFault;
 use crate::fxy::Fxy;
+use std::alloc::Global;
 use std::marker::Model;
 
 /// A row.
@@ -45,6 +47,18 @@ impl TableB {
         ensures { result ≡ map row_of_line lines.items }
     {
         TableB { lines }
+    }
+
+    /// A table of records (stub).
+    pub fn read(alloc: Global, text: &[u8]) -> Result<TableB, TableFault> {
+        let mut lines = Vec::new(alloc);
+        for record in text.split(|octet| *octet == b'\n') {
+            let fields = record.split_at(record.len().min(6)).0;
+            if let Some(fxy) = Fxy::read(fields) {
+                lines.push(Line { fxy, width: 0 })?;
+            }
+        }
+        Ok(TableB { lines })
     }
 
     /// The entry of a descriptor.

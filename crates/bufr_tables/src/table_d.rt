@@ -1,7 +1,9 @@
 // Table D (stub).
 ghost use Rattle.std.specs.Prelude.{◌≡◌, option_map};
 
+use crate::fault::TableFault;
 use crate::fxy::Fxy;
+use std::alloc::Global;
 use std::marker::Model;
 
 /// A sequence.
@@ -38,6 +40,31 @@ impl TableD {
         ensures { result ≡ map sequence_of sequences.items }
     {
         TableD { sequences }
+    }
+
+    /// A table of records (stub).
+    pub fn read(alloc: Global, text: &[u8]) -> Result<TableD, TableFault> {
+        let mut sequences: Vec<Members> = Vec::new(alloc);
+        for record in text.split(|octet| *octet == b'\n') {
+            let (first, rest) = record.split_at(record.len().min(6));
+            let second = rest.split_at(rest.len().min(1)).1;
+            if let (Some(fxy), Some(member)) = (Fxy::read(first), Fxy::read(second)) {
+                let begins = match sequences.last() {
+                    Some(last) => last.fxy != fxy,
+                    None => true,
+                };
+                if begins {
+                    sequences.push(Members {
+                        fxy,
+                        members: Vec::new(alloc),
+                    })?;
+                }
+                if let Some(last) = sequences.last_mut() {
+                    last.members.push(member)?;
+                }
+            }
+        }
+        Ok(TableD { sequences })
     }
 
     /// The members of a sequence.

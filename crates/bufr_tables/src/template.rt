@@ -12,18 +12,16 @@ mod fault;
 mod growing;
 mod node;
 mod shapes;
-
 #[cfg(test)]
 mod tests;
-
-pub use fault::TemplateFault;
-pub use node::Node;
 
 use crate::fxy::Fxy;
 use crate::table_b::TableB;
 use crate::table_d::TableD;
 use expander::Expander;
+pub use fault::TemplateFault;
 use growing::Growing;
+pub use node::Node;
 use shapes::first_of;
 use std::alloc::Global;
 use std::marker::Model;
@@ -79,8 +77,10 @@ impl Template {
         table_b: &TableB,
         table_d: &TableD,
     ) -> Result<Template, TemplateFault>
-        ensures tree { IfOk result (λ template. tree_of (tables_of table_b.now table_d.now) descriptors.now ≡ Ok template) }
-        ensures fault { IfErr result (λ why. why ≢ TemplateFault.Memory → tree_of (tables_of table_b.now table_d.now) descriptors.now ≡ Err why) }
+        ensures tree { IfOk result
+            (λ template. tree_of (tables_of table_b.now table_d.now) descriptors.now ≡ Ok template) }
+        ensures fault { IfErr result
+            (λ why. why ≢ TemplateFault.Memory → tree_of (tables_of table_b.now table_d.now) descriptors.now ≡ Err why) }
 
         // What the walk over a template relies on.
         ensures known { IfOk result (λ template. IsKnown (λ fxy. is_some (entry_of table_b.now fxy)) template) }

@@ -1,22 +1,28 @@
 // The expansion of descriptors, depth first, from left to right.
-ghost use Rattle.std.specs.Prelude.{◌≡◌, ◌+◌, ◌<◌, ◌≤◌, false, Ok, length, IfOk, MatchResult};
+//
+// Each descriptor that is looked at takes a place, opens a group or a sequence, or is a fault. A sequence has a member at
+// least, and at most 32 groups and sequences are open together, so that few are looked at for each place, and 65,535
+// places are the most: a hostile list is refused soon, whatever the tables hold. The recursion ends by `room` alone.
+ghost use Rattle.std.specs.Prelude.{◌≡◌, ◌+◌, ◌<◌, ◌≤◌, Ok, length, IfOk, MatchResult};
 ghost use Rattle.bufr_tables.specs.Fxy.{x_of};
 ghost use Rattle.bufr_tables.specs.Tree.{size};
 ghost use Rattle.bufr_tables.specs.Planted.{planted};
-ghost use Rattle.bufr_tables.specs.Expansion.{Tables, inner_of, level, part_of, element_part, operator_part, group_part, fixed_part, delayed_part, sequence_part, body_of};
+ghost use Rattle.bufr_tables.specs.Expansion.{Tables, part_of, element_part, operator_part, group_part, fixed_part, delayed_part, sequence_part, body_of};
 ghost use Rattle.bufr_tables.specs.Growth.{GivesTree, GivesPart, Refuses};
 ghost use Rattle.bufr_tables.specs.Growing.{growth_of};
-ghost use Rattle.bufr_tables.specs.Expander.{tables_in};
+ghost use Rattle.bufr_tables.specs.Expander.{tables_in, inner_in, list_in};
 
 use super::fault::TemplateFault;
 use super::growing::{Growing, with_places};
-use super::shapes::{before, begins_with_element, behind, gives_width, is_factor, is_legal_operator};
+use super::shapes::{
+    before, begins_with_element, behind, gives_width, is_factor, is_legal_operator,
+};
 use crate::fxy::Fxy;
 use crate::table_b::TableB;
 use crate::table_d::TableD;
 use std::alloc::Global;
 
-/// The two tables, and where nodes are allocated.
+/// The two tables, and the allocator of the nodes.
 #[derive(Drop)]
 pub struct Expander<'a> {
     pub alloc: Global,
@@ -34,13 +40,10 @@ impl Expander<'_> {
 
     /// Expands a list behind what has grown, with room to open so many groups and sequences more.
     #[cycle(expansion)]
-    pub fn list(
-        &self,
-        list: &[Fxy],
-        room: u32,
-        growing: &mut Growing,
-    ) -> Result<(), TemplateFault>
-        ensures { GivesTree (growth_of growing.old) (level (tables_in self.now) (inner_of (tables_in self.now) room) false 0 growing.old.places list.now) result (growth_of growing.new) }
+    pub fn list(&self, list: &[Fxy], room: u32, growing: &mut Growing) -> Result<(), TemplateFault>
+        ensures { GivesTree (growth_of growing.old)
+            (list_in self.now room growing.old.places list.now)
+            result (growth_of growing.new) }
     {
         let mut rest = list;
         let mut width_given = false;
@@ -62,7 +65,9 @@ impl Expander<'_> {
         room: u32,
         growing: &mut Growing,
     ) -> Result<usize, TemplateFault>
-        ensures gives { GivesPart (growth_of growing.old) (part_of (tables_in self.now) (inner_of (tables_in self.now) room) width_given growing.old.places fxy after.now) result (growth_of growing.new) }
+        ensures gives { GivesPart (growth_of growing.old)
+            (part_of (tables_in self.now) (inner_in self.now room) width_given growing.old.places fxy after.now)
+            result (growth_of growing.new) }
         ensures within { IfOk result (λ taken. taken ≤ length after.now) }
     {
         match fxy.f() {
@@ -80,7 +85,9 @@ impl Expander<'_> {
         width_given: bool,
         growing: &mut Growing,
     ) -> Result<usize, TemplateFault>
-        ensures gives { GivesPart (growth_of growing.old) (element_part (tables_in self.now) width_given growing.old.places fxy) result (growth_of growing.new) }
+        ensures gives { GivesPart (growth_of growing.old)
+            (element_part (tables_in self.now) width_given growing.old.places fxy)
+            result (growth_of growing.new) }
         ensures none { IfOk result (λ taken. taken ≡ 0) }
     {
         if !width_given && !self.knows(fxy) {
@@ -99,7 +106,9 @@ impl Expander<'_> {
         room: u32,
         growing: &mut Growing,
     ) -> Result<usize, TemplateFault>
-        ensures gives { GivesPart (growth_of growing.old) (group_part (tables_in self.now) (inner_of (tables_in self.now) room) growing.old.places fxy after.now) result (growth_of growing.new) }
+        ensures gives { GivesPart (growth_of growing.old)
+            (group_part (tables_in self.now) (inner_in self.now room) growing.old.places fxy after.now)
+            result (growth_of growing.new) }
         ensures within { IfOk result (λ taken. taken ≤ length after.now) }
     {
         if fxy.x() == 0 {
@@ -121,7 +130,9 @@ impl Expander<'_> {
         room: u32,
         growing: &mut Growing,
     ) -> Result<usize, TemplateFault>
-        ensures gives { GivesPart (growth_of growing.old) (fixed_part (inner_of (tables_in self.now) room) growing.old.places fxy after.now) result (growth_of growing.new) }
+        ensures gives { GivesPart (growth_of growing.old)
+            (fixed_part (inner_in self.now room) growing.old.places fxy after.now)
+            result (growth_of growing.new) }
         ensures within { IfOk result (λ taken. taken ≤ length after.now) }
     {
         let body = self.body(fxy, after, 2, room, growing.places)?;
@@ -138,7 +149,9 @@ impl Expander<'_> {
         room: u32,
         growing: &mut Growing,
     ) -> Result<usize, TemplateFault>
-        ensures gives { GivesPart (growth_of growing.old) (delayed_part (tables_in self.now) (inner_of (tables_in self.now) room) growing.old.places fxy after.now) result (growth_of growing.new) }
+        ensures gives { GivesPart (growth_of growing.old)
+            (delayed_part (tables_in self.now) (inner_in self.now room) growing.old.places fxy after.now)
+            result (growth_of growing.new) }
         ensures within { IfOk result (λ taken. taken ≤ length after.now) }
     {
         let Some((factor, behind_factor)) = after.split_first() else {
@@ -168,7 +181,8 @@ impl Expander<'_> {
         requires within { places ≤ 65535 }
         requires least { 2 ≤ own }
         requires most { own ≤ 3 }
-        ensures body { MatchResult result (λ body. body_of (inner_of (tables_in self.now) room) places own fxy after.now ≡ Ok (planted body.nodes.items)) (λ why. Refuses (body_of (inner_of (tables_in self.now) room) places own fxy after.now) why) }
+        ensures body { let defined = body_of (inner_in self.now room) places own fxy after.now in
+            MatchResult result (λ body. defined ≡ Ok (planted body.nodes.items)) (λ why. Refuses defined why) }
         ensures places { IfOk result (λ body. body.places ≡ places + own + size (planted body.nodes.items)) }
         ensures taken { IfOk result (λ _. x_of fxy ≤ length after.now) }
     {
@@ -189,13 +203,10 @@ impl Expander<'_> {
 
     /// A sequence: its members stand in its place.
     #[cycle(expansion)]
-    fn sequence(
-        &self,
-        fxy: Fxy,
-        room: u32,
-        growing: &mut Growing,
-    ) -> Result<usize, TemplateFault>
-        ensures gives { GivesPart (growth_of growing.old) (sequence_part (tables_in self.now) (inner_of (tables_in self.now) room) growing.old.places fxy) result (growth_of growing.new) }
+    fn sequence(&self, fxy: Fxy, room: u32, growing: &mut Growing) -> Result<usize, TemplateFault>
+        ensures gives { GivesPart (growth_of growing.old)
+            (sequence_part (tables_in self.now) (inner_in self.now room) growing.old.places fxy)
+            result (growth_of growing.new) }
         ensures none { IfOk result (λ taken. taken ≡ 0) }
     {
         let Some(members) = self.table_d.members(fxy) else {
@@ -211,7 +222,9 @@ impl Expander<'_> {
 
 /// An operator; one that gives a width stands before an element.
 fn operator(fxy: Fxy, after: &[Fxy], growing: &mut Growing) -> Result<usize, TemplateFault>
-    ensures gives { GivesPart (growth_of growing.old) (operator_part growing.old.places fxy after.now) result (growth_of growing.new) }
+    ensures gives { GivesPart (growth_of growing.old)
+        (operator_part growing.old.places fxy after.now)
+        result (growth_of growing.new) }
     ensures none { IfOk result (λ taken. taken ≡ 0) }
 {
     if !is_legal_operator(fxy) {

@@ -3,7 +3,7 @@ use crate::fxy::Fxy;
 use thiserror::Error;
 
 /// Why a list of descriptors makes no template: the first fault met when the list is expanded depth first, from left to right.
-#[derive(Debug, Drop, PartialEq, Eq, Error)]
+#[derive(Clone, Copy, Debug, PartialEq, Eq, Drop, Error)]
 pub enum TemplateFault {
     /// Table B lacks the element, or the replication factor.
     #[error("20 unknown element {0}")]

@@ -25,7 +25,7 @@ pub struct Growing {
     pub ghost consuming: { consumes ≡ Tree_consumes (planted nodes.items) },
 }
 
-/// So many places and these, or the fault of the descriptor that asks for more than there are.
+/// The places and so many more, or the fault of the descriptor that asks for more than there are.
 pub fn with_places(places: u32, more: u32, fxy: Fxy) -> Result<u32, TemplateFault>
     requires within { places ≤ 65535 }
     requires few { more ≤ 3 }
@@ -92,7 +92,9 @@ impl Growing {
     /// Puts a group of so many passes behind the nodes, with the nodes of its body, whose places follow theirs.
     pub fn push_fixed(&mut self, count: u8, body: Growing) -> Result<(), TemplateFault>
         requires { body.depth < 65535 }
-        ensures { GivesGrowth (Ok (growth (join (planted self.old.nodes.items) (fixed count (planted body.nodes.items) bare)) body.places)) result (growth_of self.new) }
+        ensures { GivesGrowth
+            (Ok (growth (join (planted self.old.nodes.items) (fixed count (planted body.nodes.items) bare)) body.places))
+            result (growth_of self.new) }
     {
         let Growing {
             nodes,
@@ -110,7 +112,9 @@ impl Growing {
     /// Puts a group of as many passes as its factor tells behind the nodes, with the nodes of its body, whose places follow theirs.
     pub fn push_delayed(&mut self, factor: Fxy, body: Growing) -> Result<(), TemplateFault>
         requires { body.depth < 65535 }
-        ensures { GivesGrowth (Ok (growth (join (planted self.old.nodes.items) (delayed factor (planted body.nodes.items) bare)) body.places)) result (growth_of self.new) }
+        ensures { GivesGrowth
+            (Ok (growth (join (planted self.old.nodes.items) (delayed factor (planted body.nodes.items) bare)) body.places))
+            result (growth_of self.new) }
     {
         let Growing {
             nodes,

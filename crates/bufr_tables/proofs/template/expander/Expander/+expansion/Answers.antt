@@ -1,13 +1,11 @@
-use Rattle.std.proofs.Common.{◌≡◌, ◌≢◌, ℕ, ◌+◌, ◌-◌, ◌<◌, ◌≤◌, Bool, false, List, take, sym, ◌∙◌, ap, subst, arith}
+use Rattle.std.proofs.Common.{◌≢◌, ℕ, List, sym, subst, arith}
 use Rattle.std.proofs.lemmas.Result.{err_from_is_err_and}
 use Rattle.bufr_tables.specs.Planted.{planted}
-use Rattle.bufr_tables.specs.Tree.{Tree, consumes}
-use Rattle.bufr_tables.specs.Expansion.{inner_of, level}
-use Rattle.bufr_tables.specs.Growth.{PutsTree, Refuses}
+use Rattle.bufr_tables.specs.Expansion.{inner_of}
 use Rattle.bufr_tables.specs.Growing.{growth_of}
 use Rattle.bufr_tables.specs.Expander.{tables_in}
 use Rattle.bufr_tables.proofs.TreeLemmas.{depth-le-size}
-use Rattle.bufr_tables.proofs.ListLemmas.{Came, came_none, came_part, came_fault, came_end}
+use Rattle.bufr_tables.proofs.LevelLemmas.{Came, came_none, came_part, came_fault, came_end}
 use Rattle.bufr_tables.proofs.PartLemmas.{gives_same, part-element, part-group, part-operator, part-sequence, body-depth, body-places, body-list-fault, body-list-empty, body-list-ok, sequence-depth, sequence-fault, sequence-ok}
 use Rattle.bufr_tables.proofs.template.expander.Expander.+expansion.Goals as goal
 

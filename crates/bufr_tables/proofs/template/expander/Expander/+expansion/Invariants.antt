@@ -2,7 +2,7 @@ use Rattle.std.proofs.Common.{◌+◌, ◌*◌, length}
 use Rattle.bufr_tables.specs.Expansion.{inner_of}
 use Rattle.bufr_tables.specs.Growing.{growth_of}
 use Rattle.bufr_tables.specs.Expander.{tables_in}
-use Rattle.bufr_tables.proofs.ListLemmas.{Came}
+use Rattle.bufr_tables.proofs.LevelLemmas.{Came}
 use Rattle.bufr_tables.proofs.template.expander.Expander.+expansion.Given as goal
 
 abbrev pub decreases-list : goal.decreases-list

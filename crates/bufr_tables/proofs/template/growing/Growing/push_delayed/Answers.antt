@@ -1,5 +1,4 @@
-use Rattle.std.proofs.Common.{rules, ap, ◌∙◌}
-use Rattle.bufr_tables.specs.Planted.{planted}
+use Rattle.std.proofs.Common.{◌∙◌}
 use Rattle.bufr_tables.proofs.GrowingLemmas.{deep_delayed, consuming_delayed}
 use Rattle.bufr_tables.proofs.template.growing.Growing.push_delayed.Goals as goal
 

@@ -1,5 +1,4 @@
-use Rattle.std.proofs.Common.{rules, ap, ◌∙◌}
-use Rattle.bufr_tables.specs.Planted.{planted}
+use Rattle.std.proofs.Common.{◌∙◌}
 use Rattle.bufr_tables.proofs.GrowingLemmas.{deep_fixed, consuming_fixed}
 use Rattle.bufr_tables.proofs.template.growing.Growing.push_fixed.Goals as goal
 

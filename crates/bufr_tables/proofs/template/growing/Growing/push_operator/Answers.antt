@@ -1,5 +1,4 @@
-use Rattle.std.proofs.Common.{arith, rules}
-use Rattle.bufr_tables.specs.Planted.{planted}
+use Rattle.std.proofs.Common.{arith}
 use Rattle.bufr_tables.proofs.GrowingLemmas.{deep_operator, consuming_operator}
 use Rattle.bufr_tables.proofs.template.growing.Growing.push_operator.Goals as goal
 

@@ -1,9 +1,9 @@
 -- How far the expansion of one list has come.
-use Rattle.std.proofs.Common.{◌≡◌, ◌≢◌, ℕ, ◌+◌, Bool, false, List, [], ◌∷◌, length, drop, Option, Result, Ok, Err, refl, sym, ◌∙◌, ap, arith}
+use Rattle.std.proofs.Common.{◌≡◌, ℕ, ◌+◌, Bool, false, List, [], ◌∷◌, length, drop, Option, Ok, refl, sym, ◌∙◌, ap, arith}
 use Rattle.bufr_tables.specs.declared.template.fault.TemplateFault.{TemplateFault}
 use Rattle.bufr_tables.specs.Operators.{gives_width}
 use Rattle.bufr_tables.specs.Tree.{Tree, bare, join, size}
-use Rattle.bufr_tables.specs.Expansion.{Tables, Expansion, part, part_of, level}
+use Rattle.bufr_tables.specs.Expansion.{Tables, Expansion, part_of, level}
 use Rattle.bufr_tables.specs.Growth.{Growth, growth, grow, PutsTree, PutsPart, Refuses}
 use Rattle.bufr_tables.proofs.TreeLemmas.{join-bare, join_assoc, size-join}
 use Rattle.bufr_tables.proofs.ExpansionLemmas.{prefixed, prefixed-prefixed, prefixed-bare, level-part, level-fault}
