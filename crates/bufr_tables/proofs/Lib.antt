@@ -1,5 +1,6 @@
 pub mod ExpansionLemmas
 pub mod GrowingLemmas
+pub mod LeavesLemmas
 pub mod LevelLemmas
 pub mod PartLemmas
 pub mod PlantedLemmas

@@ -107,7 +107,7 @@ known_plainly known given rest e = subst (λ g. IsKnownAfter known g rest) e
 fine_plainly : (known : ℕ → Bool) (room : ℕ) (given : Bool) (rest : Tree) → given ≡ false → IsFine known room given rest → IsFine known room false rest
 fine_plainly known room given rest e = subst (λ g. IsFine known room g rest) e
 
-part_is : (a b : Part) → ◌≡◌ {A = Result Part TemplateFault} (Ok a) (Ok b) → a ≡ b
+pub part_is : (a b : Part) → ◌≡◌ {A = Result Part TemplateFault} (Ok a) (Ok b) → a ≡ b
 part_is a b h = cc
 
 -- an element, and the rest behind it
@@ -141,7 +141,7 @@ pub record IsFineBody (known : ℕ → Bool) (room : ℕ) (body : Tree) : Type 0
   pub deeper : 1 + depth body ≤ room
   pub full : consumes body ≡ true
 
-tree_is : (a b : Tree) → ◌≡◌ {A = Result Tree TemplateFault} (Ok a) (Ok b) → a ≡ b
+pub tree_is : (a b : Tree) → ◌≡◌ {A = Result Tree TemplateFault} (Ok a) (Ok b) → a ≡ b
 tree_is a b h = cc
 
 body_fine : (known : ℕ → Bool) (room : ℕ) (inner : Option Expansion) → IsInnerFine known room inner → (places own d : ℕ) (after : List ℕ) (body : Tree) → body_of inner places own d after ≡ Ok body → IsFineBody known room body

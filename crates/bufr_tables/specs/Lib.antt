@@ -4,6 +4,7 @@ pub mod Expansion
 pub mod Fxy
 pub mod Growing
 pub mod Growth
+pub mod Leaves
 pub mod Operators
 pub mod Planted
 pub mod Sound

@@ -1,7 +1,9 @@
 // Templates: descriptor lists expanded to a tree (WMO-No. 306 Volume I.2, FM 94 BUFR, regulation 94.5).
 ghost use Rattle.std.specs.Prelude.{◌≡◌, ◌≢◌, ◌≤◌, Ok, Err, IfOk, IfErr, is_some};
 ghost use Rattle.bufr_tables.specs.TableB.{entry_of};
+ghost use Rattle.bufr_tables.specs.TableD.{members_of};
 ghost use Rattle.bufr_tables.specs.Tree.{places as places_of, depth as depth_of};
+ghost use Rattle.bufr_tables.specs.Leaves.{leaves, Says};
 ghost use Rattle.bufr_tables.specs.Planted.{planted};
 ghost use Rattle.bufr_tables.specs.Sound.{IsSound, IsKnown, IsLegal};
 ghost use Rattle.bufr_tables.specs.Expansion.{tree_of};
@@ -81,6 +83,9 @@ impl Template {
             (λ template. tree_of (tables_of table_b.now table_d.now) descriptors.now ≡ Ok template) }
         ensures fault { IfErr result
             (λ why. why ≢ TemplateFault.Memory → tree_of (tables_of table_b.now table_d.now) descriptors.now ≡ Err why) }
+
+        // No element, operator or factor of the list is lost, added or moved.
+        ensures leaves { IfOk result (λ template. Says (members_of table_d.now) descriptors.now (leaves template)) }
 
         // What the walk over a template relies on.
         ensures known { IfOk result (λ template. IsKnown (λ fxy. is_some (entry_of table_b.now fxy)) template) }

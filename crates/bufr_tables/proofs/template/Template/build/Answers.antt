@@ -4,6 +4,7 @@ use Rattle.bufr_tables.specs.Planted.{planted}
 use Rattle.bufr_tables.specs.Expansion.{tree_of}
 use Rattle.bufr_tables.specs.TemplateTables.{tables_of}
 use Rattle.bufr_tables.specs.Growing.{growth_of}
+use Rattle.bufr_tables.proofs.LeavesLemmas.{tree_says}
 use Rattle.bufr_tables.proofs.SoundLemmas.{tree_fine}
 use Rattle.bufr_tables.proofs.WholeLemmas.{whole-fault, whole-empty, whole-ok, whole-places, whole-counted}
 use Rattle.bufr_tables.proofs.template.Template.build.Goals as goal
@@ -29,6 +30,9 @@ invariant_of-result c =
 
 pub returns-clause-tree : goal.returns-clause-tree
 returns-clause-tree c = defined c
+
+pub returns-clause-leaves : goal.returns-clause-leaves
+returns-clause-leaves c = tree_says (tables_of c.args.table_b.now c.args.table_d.now) c.args.descriptors.now (planted c.list.new.growing.nodes.items) (defined c)
 
 pub returns-clause-known : goal.returns-clause-known
 returns-clause-known c = (tree_fine (tables_of c.args.table_b.now c.args.table_d.now) c.args.descriptors.now (planted c.list.new.growing.nodes.items) (defined c)).is_known
