@@ -9,7 +9,7 @@ use Rattle.bufr_tables.specs.Fxy.{f_of, x_of, y_of}
 use Rattle.bufr_tables.specs.Operators.{is_legal_operator, gives_width}
 use Rattle.bufr_tables.specs.Tree.{Tree, bare, element, operator, fixed, delayed, join, size, consumes}
 use Rattle.bufr_tables.specs.Leaves.{leaves, Says, says_nothing, says_itself, says_replication, says_sequence}
-use Rattle.bufr_tables.specs.Expansion.{Tables, Expansion, Part, part, ◌>>=◌, unless, with_places, is_factor, begins_with_element, element_part, operator_part, body_of, fixed_part, delayed_part, group_by, group_part, sequence_part, part_by, part_of, level, inner_of, tree_of, first_of, MOST_OPEN}
+use Rattle.bufr_tables.specs.Expansion.{Tables, Expansion, Part, part, ◌>>=◌, unless, with_places, is_factor, begins_with_element, element_part, operator_part, body_of, fixed_part, delayed_part, group_by, group_part, sequence_part, part_by, part_of, level, inner_of, tree_of, first_of, most_open}
 use Rattle.bufr_tables.proofs.SoundLemmas.{steps, tested, part_is, tree_is}
 
 pub leaves-join : (a b : Tree) → leaves (join a b) ≡ leaves a ++ leaves b
@@ -145,7 +145,7 @@ pub tree_says : (tables : Tables) (list : List ℕ) (tree : Tree) → tree_of ta
 unfolding tree_of
 tree_says tables list tree h =
     let k : Tree → Result Tree TemplateFault = λ tree. unless (consumes tree) (fault.EmptyGroup (first_of list)) >>= λ _. Ok tree in
-    let one = steps (level tables (inner_of tables MOST_OPEN) false 0 1 list) k tree h in
+    let one = steps (level tables (inner_of tables most_open) false 0 1 list) k tree h in
     let full = tested (consumes one.middle) (fault.EmptyGroup (first_of list)) (Ok one.middle) tree one.then_is in
     subst (λ t. Says tables.members list (leaves t)) (tree_is one.middle tree full.then_is)
-    (level_says tables (inner_of tables MOST_OPEN) (inner_says tables MOST_OPEN) false 0 1 list one.middle one.first_is)
+    (level_says tables (inner_of tables most_open) (inner_says tables most_open) false 0 1 list one.middle one.first_is)

@@ -16,10 +16,10 @@ join_step (Fixed count body) rest more = refl
 join_step (Delayed factor body) rest more = refl
 
 -- a node is made of a layer
-layered : (node : Node) (P : (Tree → Tree) → Type 0) → ((layer : Node-F (Tree → Tree)) → P (grown_step layer)) → P (grown node)
+pub layered : (node : Node) (P : (Tree → Tree) → Type 0) → ((layer : Node-F (Tree → Tree)) → P (grown_step layer)) → P (grown node)
 layered node P h = subst P (sym (fold_out-Node (Tree → Tree) grown_step node)) (h _)
 
-join-grown : (node : Node) (rest more : Tree) → join (grown node rest) more ≡ grown node (join rest more)
+pub join-grown : (node : Node) (rest more : Tree) → join (grown node rest) more ≡ grown node (join rest more)
 join-grown node rest more = layered node (λ f. join (f rest) more ≡ f (join rest more)) (λ layer. join_step layer rest more)
 
 pub planted-push : (nodes : List Node) (node : Node) → planted (nodes ++ node ∷ []) ≡ join (planted nodes) (grown node bare)

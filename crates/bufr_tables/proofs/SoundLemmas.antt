@@ -7,8 +7,10 @@ use Rattle.bufr_tables.specs.declared.template.fault.TemplateFault.TheVariants a
 use Rattle.bufr_tables.specs.Fxy.{f_of, x_of, y_of}
 use Rattle.bufr_tables.specs.Operators.{is_legal_operator, gives_width}
 use Rattle.bufr_tables.specs.Tree.{Tree, bare, element, operator, fixed, delayed, join, size, depth, consumes}
-use Rattle.bufr_tables.specs.Expansion.{Tables, Expansion, Part, part, ◌>>=◌, unless, with_places, is_factor, begins_with_element, element_part, operator_part, body_of, fixed_part, delayed_part, group_by, group_part, sequence_part, part_by, part_of, level, inner_of, tree_of, first_of, MOST_OPEN}
-use Rattle.bufr_tables.specs.Sound.{GroupsConsume, IsSound, IsKnownAfter, IsKnown, IsLegal, begins_with_element_node}
+use Rattle.bufr_tables.specs.Expansion.{Tables, Expansion, Part, part, ◌>>=◌, unless, with_places, is_factor, begins_with_element, element_part, operator_part, body_of, fixed_part, delayed_part, group_by, group_part, sequence_part, part_by, part_of, level, inner_of, tree_of, first_of, most_open}
+use Rattle.bufr_tables.specs.Known.{IsKnownAfter, IsKnown}
+use Rattle.bufr_tables.specs.Legal.{IsLegal, is_element_first}
+use Rattle.bufr_tables.specs.Sound.{GroupsConsume, IsSound}
 use Rattle.bufr_tables.proofs.TreeLemmas.{depth-join}
 use Rattle.bufr_tables.proofs.PartLemmas.{part-element}
 
@@ -71,7 +73,7 @@ groups-join (operator fxy rest) b h more = groups-join rest b h more
 groups-join (fixed count body rest) b h more = (h.0, (h.1.0, (h.1.1.0, groups-join rest b h.1.1.1 more)))
 groups-join (delayed factor body rest) b h more = (h.0, (h.1.0, groups-join rest b h.1.1 more))
 
-begins-join : (a b : Tree) → begins_with_element_node a ≡ true → begins_with_element_node (join a b) ≡ true
+begins-join : (a b : Tree) → is_element_first a ≡ true → is_element_first (join a b) ≡ true
 begins-join bare b h = absurd cc
 begins-join (element fxy rest) b h = refl
 begins-join (operator fxy rest) b h = absurd cc
@@ -125,13 +127,13 @@ or_met true begins h e = h
 or_met false begins h e = absurd cc
 
 -- an operator, and the rest behind it
-operator_joins : (known : ℕ → Bool) (room : ℕ) (given : Bool) (places d : ℕ) (after : List ℕ) (first : Part) (rest : Tree) → f_of d ≡ 2 → operator_part places d after ≡ Ok first → (begins_with_element after ≡ true → first.taken ≡ 0 → begins_with_element_node rest ≡ true) → IsFine known room (gives_width d) rest → IsFine known room given (join first.tree rest)
+operator_joins : (known : ℕ → Bool) (room : ℕ) (given : Bool) (places d : ℕ) (after : List ℕ) (first : Part) (rest : Tree) → f_of d ≡ 2 → operator_part places d after ≡ Ok first → (begins_with_element after ≡ true → first.taken ≡ 0 → is_element_first rest ≡ true) → IsFine known room (gives_width d) rest → IsFine known room given (join first.tree rest)
 operator_joins known room given places d after first rest f h begins fine =
     let legal = tested (is_legal_operator d) (fault.Operator d) (unless (not (gives_width d) || begins_with_element after) (fault.LocalShape d) >>= λ _. with_places places 1 d >>= λ _. Ok (part (operator d bare) 0)) first h in
     let shaped = tested (not (gives_width d) || begins_with_element after) (fault.LocalShape d) (with_places places 1 d >>= λ _. Ok (part (operator d bare) 0)) first legal.then_is in
     let sized = tested (nat_le (places + 1) 65535) (fault.TemplateSize d) (Ok (part (operator d bare) 0)) first shaped.then_is in
     let e = part_is (part (operator d bare) 0) first sized.then_is in
-    let begin : gives_width d ≡ true → begins_with_element_node rest ≡ true = λ gives. begins (or_met (gives_width d) (begins_with_element after) shaped.met gives) (ap (λ (p : Part). p.taken) (sym e)) in
+    let begin : gives_width d ≡ true → is_element_first rest ≡ true = λ gives. begins (or_met (gives_width d) (begins_with_element after) shaped.met gives) (ap (λ (p : Part). p.taken) (sym e)) in
     subst (λ (p : Part). IsFine known room given (join p.tree rest)) e
     (record { groups = fine.groups; is_known = fine.is_known; legal = (f, (legal.met, (begin, fine.legal))); shallow = fine.shallow })
 
@@ -207,14 +209,14 @@ sequence_joins tables room (Some expand) fine given places d first rest h plain 
     let own : IsFine tables.known room given two.middle = record { groups = inside.groups; is_known = known_given tables.known given two.middle inside.is_known; legal = inside.legal; shallow = omega (arith, inside.shallow, fine.1) } in
     subst (λ (p : Part). IsFine tables.known room given (join p.tree rest)) e (fine-join tables.known room given two.middle rest own plain)
 
-part_by_joins : (f : ℕ) (tables : Tables) (room : ℕ) (inner : Option Expansion) → IsInnerFine tables.known room inner → (given : Bool) (places d : ℕ) (after : List ℕ) (first : Part) (rest : Tree) → f ≡ f_of d → part_by f tables inner given places d after ≡ Ok first → (begins_with_element after ≡ true → first.taken ≡ 0 → begins_with_element_node rest ≡ true) → IsFine tables.known room (gives_width d) rest → IsFine tables.known room given (join first.tree rest)
+part_by_joins : (f : ℕ) (tables : Tables) (room : ℕ) (inner : Option Expansion) → IsInnerFine tables.known room inner → (given : Bool) (places d : ℕ) (after : List ℕ) (first : Part) (rest : Tree) → f ≡ f_of d → part_by f tables inner given places d after ≡ Ok first → (begins_with_element after ≡ true → first.taken ≡ 0 → is_element_first rest ≡ true) → IsFine tables.known room (gives_width d) rest → IsFine tables.known room given (join first.tree rest)
 part_by_joins zero tables room inner fine given places d after first rest e h begins more = element_joins tables room given places d first rest (sym e) h more
 part_by_joins (suc zero) tables room inner fine given places d after first rest e h begins more = group_joins tables room inner fine given places d after first rest h (fine_plainly tables.known room (gives_width d) rest (no_width d 1 e (omega arith)) more)
 part_by_joins (suc (suc zero)) tables room inner fine given places d after first rest e h begins more = operator_joins tables.known room given places d after first rest (sym e) h begins more
 part_by_joins (suc (suc (suc f))) tables room inner fine given places d after first rest e h begins more = sequence_joins tables room inner fine given places d first rest h (fine_plainly tables.known room (gives_width d) rest (no_width d (suc (suc (suc f))) e (omega arith)) more)
 
 -- a list that begins with an element gives a tree that does
-level_begins : (tables : Tables) (inner : Option Expansion) (given : Bool) (places : ℕ) (after : List ℕ) (rest : Tree) → begins_with_element after ≡ true → level tables inner given 0 places after ≡ Ok rest → begins_with_element_node rest ≡ true
+level_begins : (tables : Tables) (inner : Option Expansion) (given : Bool) (places : ℕ) (after : List ℕ) (rest : Tree) → begins_with_element after ≡ true → level tables inner given 0 places after ≡ Ok rest → is_element_first rest ≡ true
 unfolding level
 level_begins tables inner given places [] rest b h = absurd cc
 level_begins tables inner given places (d ∷ after) rest b h =
@@ -226,7 +228,7 @@ level_begins tables inner given places (d ∷ after) rest b h =
     let sized = tested (nat_le (places + 1) 65535) (fault.TemplateSize d) (Ok (part (element d bare) 0)) one.middle known.then_is in
     let e = part_is (part (element d bare) 0) one.middle sized.then_is in
     let t = tree_is (join one.middle.tree two.middle) rest two.then_is in
-    ap begins_with_element_node (sym t) ∙ ap (λ (p : Part). begins_with_element_node (join p.tree two.middle)) (sym e)
+    ap is_element_first (sym t) ∙ ap (λ (p : Part). is_element_first (join p.tree two.middle)) (sym e)
 
 -- what a list gives is fine
 level_fine : (tables : Tables) (room : ℕ) (inner : Option Expansion) → IsInnerFine tables.known room inner → (given : Bool) (skip places : ℕ) (list : List ℕ) (tree : Tree) → level tables inner given skip places list ≡ Ok tree → IsFine tables.known room given tree
@@ -238,7 +240,7 @@ level_fine tables room inner fine given zero places (d ∷ after) tree h =
     let one = steps (part_of tables inner given places d after) k tree h in
     let two = steps (level tables inner (gives_width d) one.middle.taken (places + size one.middle.tree) after) (λ rest. Ok (join one.middle.tree rest)) tree one.then_is in
     let more = level_fine tables room inner fine (gives_width d) one.middle.taken (places + size one.middle.tree) after two.middle two.first_is in
-    let begins : begins_with_element after ≡ true → one.middle.taken ≡ 0 → begins_with_element_node two.middle ≡ true =
+    let begins : begins_with_element after ≡ true → one.middle.taken ≡ 0 → is_element_first two.middle ≡ true =
     λ b none. level_begins tables inner (gives_width d) (places + size one.middle.tree) after two.middle b (ap (λ k. level tables inner (gives_width d) k (places + size one.middle.tree) after) (sym none) ∙ two.first_is) in
     subst (IsFine tables.known room given) (tree_is (join one.middle.tree two.middle) tree two.then_is)
     (part_by_joins (f_of d) tables room inner fine given places d after one.middle two.middle refl one.first_is begins more)
@@ -259,8 +261,8 @@ pub tree_fine : (tables : Tables) (list : List ℕ) (tree : Tree) → tree_of ta
 unfolding tree_of
 tree_fine tables list tree h =
     let k : Tree → Result Tree TemplateFault = λ tree. unless (consumes tree) (fault.EmptyGroup (first_of list)) >>= λ _. Ok tree in
-    let one = steps (level tables (inner_of tables MOST_OPEN) false 0 1 list) k tree h in
+    let one = steps (level tables (inner_of tables most_open) false 0 1 list) k tree h in
     let full = tested (consumes one.middle) (fault.EmptyGroup (first_of list)) (Ok one.middle) tree one.then_is in
-    let fine = level_fine tables MOST_OPEN (inner_of tables MOST_OPEN) (inner_fine tables MOST_OPEN) false 0 1 list one.middle one.first_is in
+    let fine = level_fine tables most_open (inner_of tables most_open) (inner_fine tables most_open) false 0 1 list one.middle one.first_is in
     subst (IsFineWhole tables.known) (tree_is one.middle tree full.then_is)
     (record { sound = (fine.groups, full.met); is_known = fine.is_known; legal = fine.legal; shallow = fine.shallow })

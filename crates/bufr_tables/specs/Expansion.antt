@@ -1,5 +1,5 @@
 -- The tree that a list of descriptors stands for, or the first fault on the way
--- (WMO-No. 306 Volume I.2, FM 94 BUFR, regulations 94.5.3 and 94.5.4; the faults, their order and the limits are a choice of this project).
+-- (WMO-No. 306, Volume I.2, FM 94: section 3, replications, Tables C and D; the faults, their order and the limits are a choice of this project)
 use Rattle.std.specs.Prelude.{ℕ, zero, suc, ◌+◌, ◌==◌, nat_lt, nat_le, not, ◌&&◌, ◌||◌, Bool, true, false, List, [], ◌∷◌, length, take, Option, Some, None, Result, Ok, Err, ok_or}
 use Rattle.bufr_tables.specs.declared.template.fault.TemplateFault.{TemplateFault}
 use Rattle.bufr_tables.specs.declared.template.fault.TemplateFault.TheVariants as fault
@@ -13,12 +13,12 @@ pub record Tables : Type 0 where
   pub members : ℕ → Option (List ℕ)
 
 -- the most places that a template may take
-abbrev pub MOST_PLACES : ℕ
-MOST_PLACES = 65535
+abbrev pub most_places : ℕ
+most_places = 65535
 
 -- the most groups and sequences that may be open together
-abbrev pub MOST_OPEN : ℕ
-MOST_OPEN = 32
+abbrev pub most_open : ℕ
+most_open = 32
 
 -- one step after another, up to the first fault
 infixl 10 ◌>>=◌
@@ -33,7 +33,7 @@ unless false why = Err why
 
 -- a fault, where so many places more are too many
 abbrev pub with_places : (places more d : ℕ) → Result (Unit {0}) TemplateFault
-with_places places more d = unless (nat_le (places + more) MOST_PLACES) (fault.TemplateSize d)
+with_places places more d = unless (nat_le (places + more) most_places) (fault.TemplateSize d)
 
 -- what a list of descriptors stands for behind so many places
 abbrev pub Expansion : Type 0
@@ -152,6 +152,6 @@ first_of (d ∷ after) = d
 -- a whole list: the end of the template is its first place, and some node takes bits
 unfoldable pub tree_of : Tables → List ℕ → Result Tree TemplateFault
 tree_of tables list = do
-  tree ← level tables (inner_of tables MOST_OPEN) false 0 1 list
+  tree ← level tables (inner_of tables most_open) false 0 1 list
   _ ← unless (consumes tree) (fault.EmptyGroup (first_of list))
   Ok tree

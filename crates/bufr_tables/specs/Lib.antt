@@ -4,7 +4,9 @@ pub mod Expansion
 pub mod Fxy
 pub mod Growing
 pub mod Growth
+pub mod Known
 pub mod Leaves
+pub mod Legal
 pub mod Operators
 pub mod Planted
 pub mod Sound

@@ -1,5 +1,5 @@
 -- A template as a tree: elements, operators and groups, each group with a body of its own
--- (WMO-No. 306 Volume I.2, FM 94 BUFR, regulation 94.5.4; the form as a tree is a choice of this project).
+-- (WMO-No. 306, Volume I.2, FM 94: section 3, replications; the form as a tree, and its places, are a choice of this project)
 use Rattle.std.specs.Prelude.{ℕ, ◌+◌, ◌==◌, Bool, true, false, ◌||◌, max}
 use Rattle.bufr_tables.specs.Fxy.{x_of}
 

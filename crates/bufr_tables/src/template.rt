@@ -1,11 +1,13 @@
-// Templates: descriptor lists expanded to a tree (WMO-No. 306 Volume I.2, FM 94 BUFR, regulation 94.5).
+// Templates: descriptor lists expanded to a tree (WMO-No. 306, Volume I.2, FM 94: section 3, Tables C and D).
 ghost use Rattle.std.specs.Prelude.{◌≡◌, ◌≢◌, ◌≤◌, Ok, Err, IfOk, IfErr, is_some};
 ghost use Rattle.bufr_tables.specs.TableB.{entry_of};
 ghost use Rattle.bufr_tables.specs.TableD.{members_of};
 ghost use Rattle.bufr_tables.specs.Tree.{places as places_of, depth as depth_of};
 ghost use Rattle.bufr_tables.specs.Leaves.{leaves, Says};
 ghost use Rattle.bufr_tables.specs.Planted.{planted};
-ghost use Rattle.bufr_tables.specs.Sound.{IsSound, IsKnown, IsLegal};
+ghost use Rattle.bufr_tables.specs.Known.{IsKnown};
+ghost use Rattle.bufr_tables.specs.Legal.{IsLegal};
+ghost use Rattle.bufr_tables.specs.Sound.{IsSound};
 ghost use Rattle.bufr_tables.specs.Expansion.{tree_of};
 ghost use Rattle.bufr_tables.specs.TemplateTables.{tables_of};
 
@@ -32,10 +34,10 @@ use std::marker::Model;
 const MOST_OPEN: u32 = 32;
 
 /// A template: the tree of elements, operators and groups that a list of descriptors stands for, sequences replaced by
-/// their members (WMO-No. 306 Volume I.2, FM 94 BUFR, regulations 94.5.3 and 94.5.4). A clause sees it as that tree.
+/// their members (WMO-No. 306, Volume I.2, FM 94: section 3, Table D). A clause sees it as that tree.
 ///
 /// Some node of each group's body, and of the whole, takes bits of the data, so that a pass of a group is never free.
-#[derive(Drop)]
+#[derive(Debug, Drop)]
 pub struct Template {
     nodes: Vec<Node>,
     places: u32,
