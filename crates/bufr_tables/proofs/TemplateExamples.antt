@@ -1,8 +1,9 @@
 -- Worked examples of the expansion, computed.
-use Rattle.std.proofs.Common.{◌≡◌, ℕ, zero, suc, ◌+◌, ◌*◌, ◌==◌, ◌||◌, Bool, false, cond, List, [], ◌∷◌, Some, None, Result, Ok, Err, refl}
+use Rattle.std.proofs.Common.{◌≡◌, ℕ, Option, zero, suc, ◌+◌, ◌*◌, ◌==◌, ◌||◌, Bool, false, cond, List, [], ◌∷◌, Some, None, Result, Ok, Err, refl}
 use Rattle.bufr_tables.specs.declared.template.fault.TemplateFault.{TemplateFault}
 use Rattle.bufr_tables.specs.declared.template.fault.TemplateFault.TheVariants as fault
-use Rattle.bufr_tables.specs.Tree.{Tree, bare, element, operator, delayed, places, depth}
+use Rattle.bufr_tables.specs.Fxy.{f_of, y_of}
+use Rattle.bufr_tables.specs.Tree.{Tree, bare, element, operator, fixed, delayed, places, depth}
 use Rattle.bufr_tables.specs.Expansion.{Tables, tree_of, inner_of, level, part_of, ◌>>=◌}
 
 -- a descriptor of six digits
@@ -109,3 +110,27 @@ unknown_sequence = refl
 delayed_in_delayed : measured (given (fxy 1 3 0 ∷ fxy 0 31 1 ∷ fxy 1 1 0 ∷ fxy 0 31 1 ∷ fxy 0 1 1 ∷ [])) ≡ Ok (8, 2)
 unfolding given measured
 delayed_in_delayed = refl
+
+inserted_text_in_a_group : measured (given (fxy 1 1 2 ∷ fxy 2 5 4 ∷ [])) ≡ Ok (4, 1)
+unfolding given measured
+inserted_text_in_a_group = refl
+
+width_at_the_end_of_a_group : given (fxy 1 1 2 ∷ fxy 2 6 12 ∷ fxy 0 63 255 ∷ []) ≡ Err (fault.LocalShape (fxy 2 6 12))
+unfolding given
+width_at_the_end_of_a_group = refl
+
+group_past_the_group : given (fxy 1 1 2 ∷ fxy 1 1 2 ∷ fxy 0 1 1 ∷ []) ≡ Err (fault.GroupShape (fxy 1 1 2))
+unfolding given
+group_past_the_group = refl
+
+group_of_a_sequence : given (fxy 1 1 2 ∷ fxy 3 60 192 ∷ fxy 0 20 3 ∷ []) ≡ Ok (fixed 2 (element (fxy 0 1 1) (element (fxy 0 12 101) bare)) (element (fxy 0 20 3) bare))
+unfolding given
+group_of_a_sequence = refl
+
+-- a chain of seventeen sequences that each hold the next one twice, and the last one an element twice
+doubled : ℕ → Option (List ℕ)
+doubled d = cond (f_of d == 3) (cond (y_of d == 17) (Some (fxy 0 1 1 ∷ fxy 0 1 1 ∷ [])) (Some ((d + 1) ∷ (d + 1) ∷ []))) None
+
+doubling_sequences : tree_of (record { known = λ d. d == fxy 0 1 1; members = doubled }) (fxy 3 0 1 ∷ []) ≡ Err (fault.TemplateSize (fxy 0 1 1))
+unfolding doubled tree_of inner_of level part_of
+doubling_sequences = refl
