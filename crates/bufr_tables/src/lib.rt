@@ -1,0 +1,8 @@
+//! The tables of FM 94 BUFR: descriptors, and Tables B and D read from CSV.
+//!
+//! A descriptor ([`Fxy`]) is looked up in [`TableB`], the elements, or in [`TableD`], the sequences.
+#![tactic(auto)]
+
+mod fxy;
+
+pub use fxy::Fxy;
