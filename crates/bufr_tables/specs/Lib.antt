@@ -1,1 +1,3 @@
 pub mod Fxy
+pub mod Kind
+pub mod Number

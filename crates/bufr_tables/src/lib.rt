@@ -4,5 +4,8 @@
 #![tactic(auto)]
 
 mod fxy;
+mod kind;
+mod number;
 
 pub use fxy::Fxy;
+pub use kind::Kind;
