@@ -1,5 +1,5 @@
 -- Digits one after another, and numbers past their bits.
-use Rattle.std.proofs.Common.{◌≡◌, ◌≢◌, ℕ, ◌+◌, ◌-◌, ◌*◌, ◌^◌, ◌<◌, ◌≤◌, min, true, false, nat_lt, List, [], ◌∷◌, ◌++◌, length, take, get_or, refl, arith, Option, Some, None, ℤ, pos, negsuc, option_map, drop, sym, ◌∙◌, inl, inr, ◌==◌, suc, zero, ap, rules, tests}
+use Rattle.std.proofs.Common.{◌≡◌, ℕ, ◌+◌, ◌-◌, ◌*◌, ◌^◌, ◌<◌, ◌≤◌, min, true, false, nat_lt, List, [], ◌∷◌, ◌++◌, length, take, get_or, refl, arith, Option, Some, None, ℤ, pos, negsuc, option_map, drop, sym, ◌∙◌, inl, inr, ◌==◌, suc, zero, ap, rules, tests}
 use Rattle.std.specs.Prelude.{option_and_then}
 use Rattle.std.proofs.lemmas.List.{take_more}
 use Rattle.std.proofs.lemmas.Bool.{cases_lt}

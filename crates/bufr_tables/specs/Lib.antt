@@ -1,3 +1,5 @@
 pub mod Fxy
 pub mod Kind
 pub mod Number
+pub mod Records
+pub mod Reading

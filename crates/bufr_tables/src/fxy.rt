@@ -5,6 +5,7 @@ ghost use Rattle.std.specs.Char.{is_ascii_digit};
 ghost use Rattle.std.specs.List.{list_all};
 ghost use Rattle.bufr_tables.specs.Fxy.{f_of, x_of, y_of, fxy_text, fxy_of, number_at};
 
+use std::fmt;
 use std::marker::Model;
 
 /// A descriptor F X Y of section 3: two, six and eight bits (WMO-No. 306, Volume I.2, FM 94).
@@ -96,6 +97,12 @@ impl Fxy {
         Some(Fxy {
             word: f * 16384 + x * 256 + y,
         })
+    }
+}
+
+impl fmt::Display for Fxy {
+    fn fmt<W: fmt::Write>(&self, f: &mut fmt::Formatter<W>) -> fmt::Result {
+        write!(f, "{}{:02}{:03}", self.f(), self.x(), self.y())
     }
 }
 

@@ -3,9 +3,12 @@
 //! A descriptor ([`Fxy`]) is looked up in [`TableB`], the elements, or in [`TableD`], the sequences.
 #![tactic(auto)]
 
+mod fault;
 mod fxy;
 mod kind;
 mod number;
+mod records;
 
+pub use fault::TableFault;
 pub use fxy::Fxy;
 pub use kind::Kind;
