@@ -3,3 +3,4 @@ pub mod Kind
 pub mod Number
 pub mod Records
 pub mod Reading
+pub mod Directory
