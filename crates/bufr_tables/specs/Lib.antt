@@ -4,3 +4,6 @@ pub mod Number
 pub mod Records
 pub mod Reading
 pub mod Directory
+pub mod Steps
+pub mod TableB
+pub mod Entry

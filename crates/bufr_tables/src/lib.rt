@@ -9,7 +9,9 @@ mod fxy;
 mod kind;
 mod number;
 mod records;
+mod table_b;
 
 pub use fault::TableFault;
 pub use fxy::Fxy;
 pub use kind::Kind;
+pub use table_b::Entry;

@@ -5,6 +5,7 @@ ghost use Rattle.bufr_tables.specs.Reading.{GivesNext, IsBetween, record_given, 
 ghost use Rattle.bufr_tables.specs.Records.{field_of, records_of};
 ghost use Rattle.bufr_tables.specs.declared.fault.TableFault.TheVariants.{Memory};
 ghost use Rattle.csv.specs.Records.{fields_of};
+ghost use Rattle.std.specs.Str.{bytes_eq};
 
 use crate::fault::TableFault;
 use csv::{ByteRecord, ErrorKind, Reader, ReaderBuilder};
@@ -76,4 +77,11 @@ pub(crate) fn field(record: &ByteRecord, place: usize) -> &[u8]
     ensures { result.now ≡ field_of (fields_of record.now) place }
 {
     record.get(place).unwrap_or(&[])
+}
+
+// Whether a field of a record is this text.
+pub(crate) fn has_field(record: &ByteRecord, place: usize, text: &[u8]) -> bool
+    ensures { result ≡ bytes_eq (field_of (fields_of record.now) place) text.now }
+{
+    field(record, place) == text
 }
