@@ -1,10 +1,11 @@
 -- A list of keys with one more key, and how many keys there are.
 use Rattle.std.proofs.Common.{◌≡◌, ◌≢◌, ℕ, ◌+◌, ◌-◌, ◌<◌, ◌≤◌, Bool, true, false, List, [], ◌∷◌, ◌++◌, length, Option, Some, None, refl, sym, ap, ◌∙◌, arith, suc, eqb, inl, inr, option_map, get_or, set, length-append, rules, tests}
-use Rattle.std.specs.Prelude.{nat_eq, ◌==◌, ◌||◌, if◌then◌else◌, IfSome}
-use Rattle.std.specs.List.{AllByRecursion, IsDistinct, list_any}
+use Rattle.std.specs.Prelude.{cond, map, nat_eq, ◌==◌, ◌||◌, if◌then◌else◌, IfSome}
+use Rattle.std.specs.List.{AllByRecursion, IsDistinct, find, list_any}
 use Rattle.std.proofs.lemmas.Bool.{cases_eq, eqb-true}
 use Rattle.std.proofs.lemmas.List.{get_or-set_same, get_or-set_other}
 use Rattle.std.proofs.lemmas.Map.Steps.{length-le_from_distinct_below}
+use Rattle.std.proofs.lemmas.Option.{same_Some}
 use Rattle.bufr_tables.specs.Directory.{mark_of, place_of}
 
 -- a key that is not in the list is not its first, and not in the rest
@@ -97,3 +98,40 @@ mark-inside keys key mark is some = by (place_of keys key) (place_of-inside keys
     by : (o : Option ℕ) → IfSome o (λ place. place < length keys) → mark ≡ mark_of o → mark - 1 < length keys
     by None inside is = absurd (some is)
     by (Some place) inside is = omega (arith, inside)
+
+-- a search for what f makes of the elements of a list, where the test looks for a key: the directory of the keys answers it
+module _ (X Y : Type 0) (f : X → Y) (p : Y → Bool) (k : X → ℕ) (key : ℕ) (same : (x : X) → p (f x) ≡ (k x == key)) where
+  pub find-absent : (xs : List X) → place_of (map k xs) key ≡ None → find p (map f xs) ≡ None
+  find-absent [] absent = refl
+  find-absent (x ∷ xs) absent =
+      let parts = absent-parts (k x) (map k xs) key absent in
+      rw (same x, parts.first) (find-absent xs parts.rest)
+
+  pub place-absent : (xs : List X) → find p (map f xs) ≡ None → place_of (map k xs) key ≡ None
+  place-absent [] absent = refl
+  place-absent (x ∷ xs) absent = by (k x == key) (rw (same x) at absent) (place-absent xs)
+    where
+      by : (b : Bool) → cond b (Some (f x)) (find p (map f xs)) ≡ None → (find p (map f xs) ≡ None → place_of (map k xs) key ≡ None)
+          → (if b then Some 0 else option_map suc (place_of (map k xs) key)) ≡ None
+      by true absent more = cc absent
+      by false absent more = rw (more absent) refl
+
+  pub find-found : (xs : List X) (place : ℕ) (d : X) → place_of (map k xs) key ≡ Some place → find p (map f xs) ≡ Some (f (get_or xs place d))
+  find-found [] place d found = cc found
+  find-found (x ∷ xs) place d found = rw (same x) (by (k x == key) (place_of (map k xs) key) refl found (find-found xs))
+    where
+      by : (b : Bool) (o : Option ℕ) → place_of (map k xs) key ≡ o → (if b then Some 0 else option_map suc o) ≡ Some place
+          → ((place : ℕ) (d : X) → place_of (map k xs) key ≡ Some place → find p (map f xs) ≡ Some (f (get_or xs place d)))
+          → cond b (Some (f x)) (find p (map f xs)) ≡ Some (f (get_or (x ∷ xs) place d))
+      by true o e found more = rw (← same_Some _ _ found) refl
+      by false None e found more = cc found
+      by false (Some at) e found more = rw (← same_Some _ _ found) (more at d e)
+
+-- what a search finds passes its test
+pub find-passes : (Y : Type 0) (p : Y → Bool) (ys : List Y) (y : Y) → find p ys ≡ Some y → p y ≡ true
+find-passes Y p [] y found = cc found
+find-passes Y p (z ∷ ys) y found = by (p z) refl found (find-passes Y p ys y)
+  where
+    by : (b : Bool) → p z ≡ b → cond b (Some z) (find p ys) ≡ Some y → (find p ys ≡ Some y → p y ≡ true) → p y ≡ true
+    by true e found more = rw (← same_Some _ _ found) e
+    by false e found more = more found

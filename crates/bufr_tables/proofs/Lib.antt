@@ -1,3 +1,6 @@
 pub mod NumberLemmas
 pub mod ReadingLemmas
 pub mod DirectoryLemmas
+pub mod KeptLemmas
+pub mod StepsLemmas
+pub mod TableBLemmas

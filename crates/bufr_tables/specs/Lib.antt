@@ -7,3 +7,4 @@ pub mod Directory
 pub mod Steps
 pub mod TableB
 pub mod Entry
+pub mod Kept

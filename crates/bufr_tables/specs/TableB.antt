@@ -1,6 +1,6 @@
 -- Table B, the elements, as a text of CSV writes it: a header, and a row for each element. (WMO-No. 306, Volume I.2, FM 94:
 -- Table B. The text's form, its limits and its faults are a choice of this project)
-use Rattle.std.specs.Prelude.{◌≡◌, ℕ, ◌+◌, ◌%◌, ◌==◌, ◌&&◌, ◌||◌, Bool, true, false, not, nat_le, if◌then◌else◌, ℤ, pos, negsuc, List, [], ◌∷◌, ◌++◌, length, codes, Option, Some, None, is_some, Result, Ok, Err}
+use Rattle.std.specs.Prelude.{ℕ, ◌+◌, ◌%◌, ◌==◌, ◌&&◌, Bool, true, false, not, nat_le, if◌then◌else◌, ℤ, pos, negsuc, List, [], ◌∷◌, ◌++◌, length, codes, Option, Some, None, is_some, Result, Ok, Err}
 use Rattle.std.specs.List.{find, list_all}
 use Rattle.std.specs.Int.RustNames.{unsigned_abs}
 use Rattle.std.specs.Str.{bytes_eq}
@@ -11,7 +11,7 @@ use Rattle.bufr_tables.specs.declared.kind.Kind.TheVariants.{Character, Coded, N
 use Rattle.bufr_tables.specs.Fxy.{f_of, fxy_of}
 use Rattle.bufr_tables.specs.Kind.{kind_of}
 use Rattle.bufr_tables.specs.Number.{i64_of}
-use Rattle.bufr_tables.specs.Records.{Record, field_of, records_of}
+use Rattle.bufr_tables.specs.Records.{Record, field_of}
 use Rattle.bufr_tables.specs.Steps.{◌>>=◌, and_then, only_if}
 
 -- an element of the table: its descriptor, and what its row says of it; the width is in bits

@@ -1,6 +1,6 @@
 // Finds a descriptor by its X and Y in one step.
 
-ghost use Rattle.std.specs.Prelude.{◌≡◌, ◌<◌, [], ◌∷◌, ◌++◌, length, None, IfOk, OnOk, OnErr, IfSome};
+ghost use Rattle.std.specs.Prelude.{◌≡◌, ◌<◌, [], ◌∷◌, ◌++◌, length, None, IfOk, IfSome};
 ghost use Rattle.bufr_tables.specs.Directory.{place_of};
 
 use std::alloc::{AllocError, Global};
@@ -12,6 +12,7 @@ const KEYS: usize = 16384;
 // A list of keys, each the 14 bits of X and Y, with the place of each key in the list. A clause sees the list.
 #[derive(Drop)]
 pub(crate) struct Directory {
+    // There is room for all keys.
     keys: Vec<u16>,
     // For each key 0 where the list lacks it, and else its place and one more.
     marks: Vec<u16>,
@@ -36,7 +37,7 @@ impl Directory {
     {
         let marks = vec![in alloc; 0u16; KEYS]?;
         Ok(Directory {
-            keys: Vec::new(alloc),
+            keys: Vec::with_capacity(alloc, KEYS)?,
             marks,
         })
     }
@@ -54,15 +55,13 @@ impl Directory {
     }
 
     // Adds a key behind the others.
-    pub(crate) fn add(&mut self, key: u16) -> Result<(), AllocError>
+    pub(crate) fn add(&mut self, key: u16)
         requires small { key < 16384 }
         requires absent { place_of self.old key ≡ None }
-        ensures ok { OnOk result (self.new ≡ self.old ++ key ∷ []) }
-        ensures err { OnErr result (self.new ≡ self.old) }
+        ensures { self.new ≡ self.old ++ key ∷ [] }
     {
         let mark = self.keys.len() as u16 + 1;
-        self.keys.push(key)?;
+        self.keys.push(key).unwrap();
         self.marks[usize::from(key)] = mark;
-        Ok(())
     }
 }

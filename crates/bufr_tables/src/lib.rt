@@ -14,4 +14,4 @@ mod table_b;
 pub use fault::TableFault;
 pub use fxy::Fxy;
 pub use kind::Kind;
-pub use table_b::Entry;
+pub use table_b::{Entry, TableB};
