@@ -100,25 +100,29 @@ mark-inside keys key mark is some = by (place_of keys key) (place_of-inside keys
     by (Some place) inside is = omega (arith, inside)
 
 -- a search for what f makes of the elements of a list, where the test looks for a key: the directory of the keys answers it
-module _ (X Y : Type 0) (f : X → Y) (p : Y → Bool) (k : X → ℕ) (key : ℕ) (same : (x : X) → p (f x) ≡ (k x == key)) where
-  pub find-absent : (xs : List X) → place_of (map k xs) key ≡ None → find p (map f xs) ≡ None
-  find-absent [] absent = refl
-  find-absent (x ∷ xs) absent =
-      let parts = absent-parts (k x) (map k xs) key absent in
-      rw (same x, parts.first) (find-absent xs parts.rest)
+module _ (X Y : Type 0) (f : X → Y) (p : Y → Bool) (k : X → ℕ) (key : ℕ) where
+  -- the test of each element is that of its key
+  abbrev pub Same : List X → Type 0
+  Same xs = AllByRecursion (λ x. p (f x) ≡ (k x == key)) xs
 
-  pub place-absent : (xs : List X) → find p (map f xs) ≡ None → place_of (map k xs) key ≡ None
-  place-absent [] absent = refl
-  place-absent (x ∷ xs) absent = by (k x == key) (rw (same x) at absent) (place-absent xs)
+  pub find-absent : (xs : List X) → Same xs → place_of (map k xs) key ≡ None → find p (map f xs) ≡ None
+  find-absent [] same absent = refl
+  find-absent (x ∷ xs) same absent =
+      let parts = absent-parts (k x) (map k xs) key absent in
+      rw (same.0, parts.first) (find-absent xs same.1 parts.rest)
+
+  pub place-absent : (xs : List X) → Same xs → find p (map f xs) ≡ None → place_of (map k xs) key ≡ None
+  place-absent [] same absent = refl
+  place-absent (x ∷ xs) same absent = by (k x == key) (rw same.0 at absent) (place-absent xs same.1)
     where
       by : (b : Bool) → cond b (Some (f x)) (find p (map f xs)) ≡ None → (find p (map f xs) ≡ None → place_of (map k xs) key ≡ None)
           → (if b then Some 0 else option_map suc (place_of (map k xs) key)) ≡ None
       by true absent more = cc absent
       by false absent more = rw (more absent) refl
 
-  pub find-found : (xs : List X) (place : ℕ) (d : X) → place_of (map k xs) key ≡ Some place → find p (map f xs) ≡ Some (f (get_or xs place d))
-  find-found [] place d found = cc found
-  find-found (x ∷ xs) place d found = rw (same x) (by (k x == key) (place_of (map k xs) key) refl found (find-found xs))
+  pub find-found : (xs : List X) (place : ℕ) (d : X) → Same xs → place_of (map k xs) key ≡ Some place → find p (map f xs) ≡ Some (f (get_or xs place d))
+  find-found [] place d same found = cc found
+  find-found (x ∷ xs) place d same found = rw same.0 (by (k x == key) (place_of (map k xs) key) refl found (λ at d. find-found xs at d same.1))
     where
       by : (b : Bool) (o : Option ℕ) → place_of (map k xs) key ≡ o → (if b then Some 0 else option_map suc o) ≡ Some place
           → ((place : ℕ) (d : X) → place_of (map k xs) key ≡ Some place → find p (map f xs) ≡ Some (f (get_or xs place d)))

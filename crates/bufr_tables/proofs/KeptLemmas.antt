@@ -16,16 +16,20 @@ use Rattle.bufr_tables.specs.declared.table_b.Stored.{Stored}
 abbrev pub fxys_of : List Stored → List ℕ
 fxys_of stored = map (λ s. s.fxy) stored
 
+all-same : (octets : List ℕ) (fxy : ℕ) (stored : List Stored) → AllByRecursion (λ s. ((row_kept octets s).fxy == fxy) ≡ (s.fxy == fxy)) stored
+all-same octets fxy [] = tt
+all-same octets fxy (s ∷ stored) = (refl, all-same octets fxy stored)
+
 -- the directory has a descriptor exactly where the rows have it
 pub entry-absent : (octets : List ℕ) (stored : List Stored) (fxy : ℕ) → place_of (fxys_of stored) fxy ≡ None → entry_of (rows_kept octets stored) fxy ≡ None
-entry-absent octets stored fxy = find-absent Stored Row (row_kept octets) (λ row. row.fxy == fxy) (λ s. s.fxy) fxy (λ s. refl) stored
+entry-absent octets stored fxy = find-absent Stored Row (row_kept octets) (λ row. row.fxy == fxy) (λ s. s.fxy) fxy stored (all-same octets fxy stored)
 
 pub place-lacking : (octets : List ℕ) (stored : List Stored) (fxy : ℕ) → entry_of (rows_kept octets stored) fxy ≡ None → place_of (fxys_of stored) fxy ≡ None
-place-lacking octets stored fxy = place-absent Stored Row (row_kept octets) (λ row. row.fxy == fxy) (λ s. s.fxy) fxy (λ s. refl) stored
+place-lacking octets stored fxy = place-absent Stored Row (row_kept octets) (λ row. row.fxy == fxy) (λ s. s.fxy) fxy stored (all-same octets fxy stored)
 
 pub entry-found : (octets : List ℕ) (stored : List Stored) (fxy place : ℕ) (d : Stored) → place_of (fxys_of stored) fxy ≡ Some place
     → entry_of (rows_kept octets stored) fxy ≡ Some (row_kept octets (get_or stored place d))
-entry-found octets stored fxy = find-found Stored Row (row_kept octets) (λ row. row.fxy == fxy) (λ s. s.fxy) fxy (λ s. refl) stored
+entry-found octets stored fxy place d = find-found Stored Row (row_kept octets) (λ row. row.fxy == fxy) (λ s. s.fxy) fxy stored place d (all-same octets fxy stored)
 
 unlike : (a b : ℕ) → a < 16384 → 16384 ≤ b → (a == b) ≡ false
 unlike a b small large = search (rules, tests)

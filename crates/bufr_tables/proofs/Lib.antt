@@ -4,3 +4,4 @@ pub mod DirectoryLemmas
 pub mod KeptLemmas
 pub mod StepsLemmas
 pub mod TableBLemmas
+pub mod RunsLemmas

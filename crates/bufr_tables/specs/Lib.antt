@@ -8,3 +8,6 @@ pub mod Steps
 pub mod TableB
 pub mod Entry
 pub mod Kept
+pub mod TableD
+pub mod Runs
+pub mod MemberRow

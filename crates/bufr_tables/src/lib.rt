@@ -10,8 +10,10 @@ mod kind;
 mod number;
 mod records;
 mod table_b;
+mod table_d;
 
 pub use fault::TableFault;
 pub use fxy::Fxy;
 pub use kind::Kind;
 pub use table_b::{Entry, TableB};
+pub use table_d::TableD;

@@ -1,0 +1,172 @@
+// Table D, the sequences, read from CSV.
+
+ghost use Rattle.std.specs.Prelude.{◌≡◌, ◌≢◌, ◌≤◌, ◌<◌, [], ◌∷◌, ◌++◌, None, true, OnOk, IfErr, IfSome, option_map, Ok, Err};
+ghost use Rattle.csv.specs.Records.{fields_of};
+ghost use Rattle.bufr_tables.specs.declared.fault.TableFault.TheVariants.{Memory};
+ghost use Rattle.bufr_tables.specs.MemberRow.{row_with};
+ghost use Rattle.bufr_tables.specs.Records.{records_of};
+ghost use Rattle.bufr_tables.specs.Steps.{Gives};
+ghost use Rattle.bufr_tables.specs.TableD.{extended, is_header, is_last, member_of, members_of, sequence_of, table_d_of, with_record};
+
+use crate::directory::Directory;
+use crate::fault::TableFault;
+use crate::fxy::Fxy;
+use crate::records::{RecordReader, field, has_field};
+use csv::ByteRecord;
+use std::alloc::{AllocError, Global};
+use std::marker::Model;
+
+// How many rows the table may have.
+const ROWS: u64 = 65536;
+
+// The word of the first sequence, 3 00 000.
+const FIRST: u16 = 49152;
+
+// The descriptor of a sequence.
+#[tactic(auto, unfolding(crate::specs::TableD::sequence_of))]
+fn sequence(text: &[u8]) -> Option<Fxy>
+    ensures value { result ≡ sequence_of text.now }
+    ensures sequence { IfSome result (λ fxy. (49152 ≤ fxy) × (fxy < 65536)) }
+{
+    let fxy = Fxy::read(text)?;
+    if fxy.f() != 3 {
+        return None;
+    }
+    Some(fxy)
+}
+
+// The sequence and the member that a record writes, where it writes a row.
+#[tactic(auto, unfolding(crate::specs::TableD::member_of))]
+fn row(record: &ByteRecord) -> Option<(Fxy, Fxy)>
+    ensures value { option_map (λ p. row_with p.0 p.1) result ≡ member_of (fields_of record.now) }
+    ensures sequence { IfSome result (λ p. (49152 ≤ p.0) × (p.0 < 65536)) }
+{
+    let sequence = sequence(field(record, 0))?;
+    let member = Fxy::read(field(record, 1))?;
+    Some((sequence, member))
+}
+
+// Whether a record is the header.
+#[tactic(auto, unfolding(crate::specs::TableD::is_header))]
+fn is_header(record: &ByteRecord) -> bool
+    ensures { result ≡ is_header (fields_of record.now) }
+{
+    record.len() == 2 && has_field(record, 0, b"fxy") && has_field(record, 1, b"member")
+}
+
+// The members of a sequence, from `start` to `end` of all members.
+#[derive(Clone, Copy)]
+struct Run {
+    fxy: Fxy,
+    start: usize,
+    end: usize,
+}
+
+/// Table D: the sequences, by their descriptors.
+///
+/// A clause sees the table as the list of its sequences, in the order of the file.
+#[derive(Drop)]
+pub struct TableD {
+    // The members of all sequences, one after another.
+    members: Vec<Fxy>,
+    runs: Vec<Run>,
+    // X and Y of the sequences of `runs`.
+    directory: Directory,
+}
+
+impl Model for TableD {
+    ghost use Rattle.std.specs.Prelude.{List};
+    ghost use Rattle.bufr_tables.specs.TableD.{Sequence};
+
+    ghost Value = { List Sequence };
+
+    ghost use Rattle.bufr_tables.specs.Runs.{IsKept, table_kept};
+
+    ghost view = { table_kept };
+
+    ghost invariant = { IsKept };
+}
+
+impl TableD {
+    /// The members of a sequence in order, if the table has it.
+    pub fn members(&self, fxy: Fxy) -> Option<&[Fxy]>
+        ensures { option_map (λ s. s.now) result ≡ members_of self.now fxy }
+    {
+        let directory = &self.directory;
+        if fxy.f() != 3 {
+            return None;
+        }
+        let place = directory.place(fxy.word() - FIRST)?;
+        let run = &self.runs[place];
+        Some(&self.members[run.start..run.end])
+    }
+
+    // Adds the row of record `number`.
+    #[tactic(auto, unfolding(crate::specs::TableD::with_record, crate::specs::TableD::added))]
+    fn add(&mut self, number: u64, record: &ByteRecord) -> Result<(), TableFault>
+        ensures ok { OnOk result (with_record number self.old (fields_of record.now) ≡ Ok self.new) }
+        ensures err { IfErr result (λ e. (e ≢ Memory) → with_record number self.old (fields_of record.now) ≡ Err e) }
+    {
+        if record.len() != 2 {
+            return Err(TableFault::Csv);
+        }
+        let Some((sequence, member)) = row(record) else {
+            return Err(TableFault::Row(number));
+        };
+        let continues = self.is_last(sequence);
+        if !continues && self.members(sequence).is_some() {
+            return Err(TableFault::Duplicate(sequence));
+        }
+        if number.saturating_sub(2) >= ROWS {
+            return Err(TableFault::TableSize);
+        }
+        if continues {
+            self.extend(member)?;
+        } else {
+            self.begin(sequence, member)?;
+        }
+        Ok(())
+    }
+
+    // Whether the last sequence is this one.
+    fn is_last(&self, sequence: Fxy) -> bool
+        ensures { result ≡ is_last self.now sequence }
+    {
+        match self.runs.last() {
+            Some(run) => run.fxy == sequence,
+            None => false,
+        }
+    }
+
+    // Adds a member to the last sequence.
+    fn extend(&mut self, member: Fxy) -> Result<(), AllocError>
+        requires { self.old ≢ [] }
+        ensures ok { OnOk result (self.new ≡ extended self.old member) }
+    {
+        let last = self.runs.len() - 1;
+        self.members.push(member)?;
+        self.runs[last].end += 1;
+        Ok(())
+    }
+
+    // Adds a sequence that the table lacks, with one member.
+    fn begin(&mut self, sequence: Fxy, member: Fxy) -> Result<(), AllocError>
+        requires low { 49152 ≤ sequence }
+        requires high { sequence < 65536 }
+        requires absent { members_of self.old sequence ≡ None }
+        ensures ok { OnOk result (self.new ≡ self.old ++ record { fxy = sequence; members = member ∷ [] } ∷ []) }
+    {
+        self.runs.reserve(1)?;
+        let start = self.members.len();
+        self.members.push(member)?;
+        self.runs
+            .push(Run {
+                fxy: sequence,
+                start,
+                end: start + 1,
+            })
+            .unwrap();
+        self.directory.add(sequence.word() - FIRST);
+        Ok(())
+    }
+}
