@@ -19,6 +19,7 @@ absent-parts k keys key absent = by (k == key) refl absent
     none : (o : Option ℕ) → option_map {U = ℕ} suc o ≡ None → o ≡ None
     none None e = refl
     none (Some place) e = cc e
+
     by : (b : Bool) → (k == key) ≡ b → (if b then Some 0 else option_map suc (place_of keys key)) ≡ None → Absent k keys key
     by true e absent = cc absent
     by false e absent = record { first = e; rest = none _ absent }

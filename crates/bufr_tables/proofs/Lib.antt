@@ -5,3 +5,5 @@ pub mod KeptLemmas
 pub mod StepsLemmas
 pub mod TableBLemmas
 pub mod RunsLemmas
+pub mod CycleLemmas
+pub mod TableDLemmas

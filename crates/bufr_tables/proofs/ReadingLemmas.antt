@@ -110,7 +110,7 @@ found-next a b xs ys fields between next = by (next_record default_config a [] [
         let less : length read.2 < length xs = left.fewer between in
         rw (next.1, next.2, next.3) (record {
           records = rw (add-one, e) (ap (λ (rest : List Record). read.0 ∷ rest)
-            (records_from-enough default_config (length xs) (length read.2 + 1) read.1 read.2 left.between (omega arith) (omega arith)));
+              (records_from-enough default_config (length xs) (length read.2 + 1) read.1 read.2 left.between (omega arith) (omega arith)));
           known = refl;
           between = left.between;
           fewer = less;
@@ -157,7 +157,7 @@ pending-is reader begun = rw begun refl
 module _ (old new : RecordReader) (was : IsBetween old) (read : ReadRecord (λ s. Some s.now) old.reader new.reader true (record_given new)) where
   pub reader-found : Found (reader_state old.reader) (text_left old.reader) (reader_state new.reader) (text_left new.reader) (record_given new)
   reader-found =
-    rw (pending-is new.reader read.1) (found-record _ _ _ _ _ was.between was.known (rw was.config at read.0))
+      rw (pending-is new.reader read.1) (found-record _ _ _ _ _ was.between was.known (rw was.config at read.0))
 
   pub number-fits : old.number + 1 < 2 ^ 64
   number-fits = omega (arith, was.counted, reader-found.fewer)

@@ -1,6 +1,6 @@
 -- What Table D keeps of its sequences.
 use Rattle.std.proofs.Common.{◌≡◌, ◌≢◌, ℕ, ◌+◌, ◌-◌, ◌/◌, ◌<◌, ◌≤◌, false, List, [], ◌∷◌, ◌++◌, length, take, drop, map, set, Option, Some, None, refl, ap, ◌∙◌, arith, suc, zero, get_or, option_map, length-append, rules, tests}
-use Rattle.std.specs.Prelude.{◌==◌, slice_range}
+use Rattle.std.specs.Prelude.{◌==◌, slice_index, slice_range}
 use Rattle.std.specs.List.{AllByRecursion}
 use Rattle.std.proofs.lemmas.List.{take_all, drop-append-le, drop_at, length-drop, map-append}
 use Rattle.std.proofs.lemmas.Bool.Decides.{nat_tests}
@@ -9,7 +9,7 @@ use Rattle.bufr_tables.proofs.KeptLemmas.{range-append}
 use Rattle.bufr_tables.specs.Directory.{place_of}
 use Rattle.bufr_tables.specs.Fxy.{f_of}
 use Rattle.bufr_tables.specs.Runs.{IsRun, LastEnds, key_of, sequence_kept, sequences_kept}
-use Rattle.bufr_tables.specs.TableD.{Sequence, extended, is_last, members_of}
+use Rattle.bufr_tables.specs.TableD.{Sequence, extended, fxys_of, is_last, members_of}
 use Rattle.bufr_tables.specs.declared.table_d.Run.{Run}
 
 abbrev pub IsSequence : Run → Type 0
@@ -149,8 +149,15 @@ sequences_kept-begun members member runs run fxy inside is =
     let one : take (length members + 1 - length members) (member ∷ []) ≡ member ∷ [] = take_all (length members + 1 - length members) (member ∷ []) (omega arith) in
     let range : slice_range (members ++ member ∷ []) (length members) (length members + 1) ≡ member ∷ [] = rw (back, one) refl in
     rw is (map-append (sequence_kept (members ++ member ∷ [])) runs (record { fxy = fxy; start = length members; end = length members + 1 } ∷ [])
-      ∙ rw (sequences_kept-append members (member ∷ []) runs inside) (ap (λ (ms : List ℕ). sequences_kept members runs ++ alone fxy ms) range))
+    ∙ rw (sequences_kept-append members (member ∷ []) runs inside) (ap (λ (ms : List ℕ). sequences_kept members runs ++ alone fxy ms) range))
 
 pub some-runs : (members : List ℕ) (runs : List Run) → sequences_kept members runs ≢ [] → 0 < length runs
 some-runs members [] some = absurd (some refl)
 some-runs members (run ∷ runs) some = omega arith
+
+-- the descriptor at a place
+pub fxy-at : (members : List ℕ) (runs : List Run) (place : ℕ) (run : Run) → place < length (sequences_kept members runs) → run ≡ get_or runs place run
+    → run.fxy ≡ slice_index (fxys_of (sequences_kept members runs)) place
+fxy-at members [] place run inside at = absurd (omega arith)
+fxy-at members (r ∷ runs) zero run inside at = ap (λ (q : Run). q.fxy) at
+fxy-at members (r ∷ runs) (suc place) run inside at = fxy-at members runs place run (omega arith) at

@@ -11,3 +11,5 @@ pub mod Kept
 pub mod TableD
 pub mod Runs
 pub mod MemberRow
+pub mod Chain
+pub mod Cycle

@@ -1,6 +1,6 @@
 -- Table D, the sequences, as a text of CSV writes it: a header, and a row for each member of a sequence. (WMO-No. 306,
 -- Volume I.2, FM 94: Table D. The text's form, its limits and its faults are a choice of this project)
-use Rattle.std.specs.Prelude.{ℕ, ◌+◌, ◌-◌, ◌==◌, ◌&&◌, Bool, false, not, nat_le, if◌then◌else◌, List, [], ◌∷◌, ◌++◌, length, codes, Option, Some, None, is_some, option_map, Result, Ok, Err}
+use Rattle.std.specs.Prelude.{ℕ, ◌+◌, ◌-◌, ◌==◌, ◌&&◌, Bool, false, not, nat_le, if◌then◌else◌, List, [], ◌∷◌, ◌++◌, length, map, codes, Option, Some, None, is_some, option_map, Result, Ok, Err}
 use Rattle.std.specs.List.{find}
 use Rattle.std.specs.Str.{bytes_eq}
 use Rattle.bufr_tables.specs.declared.fault.TableFault.{TableFault}
@@ -33,6 +33,10 @@ member_of r = do
   sequence ← sequence_of (field_of r 0)
   fxy ← fxy_of (field_of r 1)
   Some (record { sequence = sequence; fxy = fxy })
+
+-- the descriptors of the sequences, in the order of the file
+abbrev pub fxys_of : List Sequence → List ℕ
+fxys_of table = map (λ s. s.fxy) table
 
 -- the members of a sequence
 abbrev pub members_of : List Sequence → ℕ → Option (List ℕ)

@@ -3,6 +3,7 @@
 //! A descriptor ([`Fxy`]) is looked up in [`TableB`], the elements, or in [`TableD`], the sequences.
 #![tactic(auto)]
 
+mod cycle;
 mod directory;
 mod fault;
 mod fxy;

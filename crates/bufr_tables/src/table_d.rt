@@ -1,13 +1,15 @@
 // Table D, the sequences, read from CSV.
 
-ghost use Rattle.std.specs.Prelude.{◌≡◌, ◌≢◌, ◌≤◌, ◌<◌, [], ◌∷◌, ◌++◌, None, true, OnOk, IfErr, IfSome, option_map, Ok, Err};
+ghost use Rattle.std.specs.Prelude.{◌≡◌, ◌≢◌, ◌≤◌, ◌<◌, [], ◌∷◌, ◌++◌, None, length, slice_index, OnOk, IfErr, IfSome, option_map, Ok, Err};
 ghost use Rattle.csv.specs.Records.{fields_of};
 ghost use Rattle.bufr_tables.specs.declared.fault.TableFault.TheVariants.{Memory};
+ghost use Rattle.bufr_tables.specs.Chain.{Reads};
 ghost use Rattle.bufr_tables.specs.MemberRow.{row_with};
 ghost use Rattle.bufr_tables.specs.Records.{records_of};
 ghost use Rattle.bufr_tables.specs.Steps.{Gives};
-ghost use Rattle.bufr_tables.specs.TableD.{extended, is_header, is_last, member_of, members_of, sequence_of, table_d_of, with_record};
+ghost use Rattle.bufr_tables.specs.TableD.{extended, fxys_of, is_header, is_last, member_of, members_of, sequence_of, table_d_of, with_record};
 
+use crate::cycle::first_cycle;
 use crate::directory::Directory;
 use crate::fault::TableFault;
 use crate::fxy::Fxy;
@@ -88,6 +90,46 @@ impl Model for TableD {
 }
 
 impl TableD {
+    /// Reads Table D from the octets of a CSV file.
+    ///
+    /// Its header is `fxy,member`. Each further record is one member of a sequence: `fxy` six digits of a sequence, `member`
+    /// six digits of any descriptor. The rows of one sequence stand together, in the order of its members. There are at most
+    /// 65,536 rows.
+    ///
+    /// # Errors
+    ///
+    /// [`TableFault::Header`], and of the first record at fault [`TableFault::Csv`], [`TableFault::Row`],
+    /// [`TableFault::Duplicate`] or [`TableFault::TableSize`], in this order; after all records [`TableFault::Cycle`];
+    /// [`TableFault::Memory`] where memory ran out.
+    pub fn read(alloc: Global, text: &[u8]) -> Result<TableD, TableFault>
+        ensures { Reads (records_of text.now) result }
+    {
+        let table = TableD::read_rows(alloc, text)?;
+        match first_cycle(alloc, &table)? {
+            Some(sequence) => Err(TableFault::Cycle(sequence)),
+            None => Ok(table),
+        }
+    }
+
+    // Reads the rows, whatever sequences reach themselves.
+    fn read_rows(alloc: Global, text: &[u8]) -> Result<TableD, TableFault>
+        ensures { Gives (table_d_of (records_of text.now)) result }
+    {
+        let mut records = RecordReader::new(alloc, text);
+        if !records.advance()? || !is_header(records.record()) {
+            return Err(TableFault::Header);
+        }
+        let mut table = TableD {
+            members: Vec::new(alloc),
+            runs: Vec::new(alloc),
+            directory: Directory::new(alloc)?,
+        };
+        while records.advance()? {
+            table.add(records.number(), records.record())?;
+        }
+        Ok(table)
+    }
+
     /// The members of a sequence in order, if the table has it.
     pub fn members(&self, fxy: Fxy) -> Option<&[Fxy]>
         ensures { option_map (λ s. s.now) result ≡ members_of self.now fxy }
@@ -99,6 +141,28 @@ impl TableD {
         let place = directory.place(fxy.word() - FIRST)?;
         let run = &self.runs[place];
         Some(&self.members[run.start..run.end])
+    }
+
+    // How many sequences the table has.
+    pub(crate) fn count(&self) -> usize
+        ensures { result ≡ length self.now }
+    {
+        self.runs.len()
+    }
+
+    // How many turns it takes at most to look at every row and every sequence.
+    pub(crate) fn turns(&self) -> usize {
+        self.members
+            .len()
+            .saturating_add(self.runs.len().saturating_mul(2))
+    }
+
+    // The descriptor of the sequence at a place of the file, counted from 0.
+    pub(crate) fn sequence_at(&self, place: usize) -> Fxy
+        requires { place < length self.now }
+        ensures { result ≡ slice_index (fxys_of self.now) place }
+    {
+        self.runs[place].fxy
     }
 
     // Adds the row of record `number`.

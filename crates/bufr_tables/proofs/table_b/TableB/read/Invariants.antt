@@ -7,7 +7,7 @@ use Rattle.bufr_tables.proofs.table_b.TableB.read.Given as goal
 abbrev pub invariant-loop-table : goal.invariant-loop-table
 invariant-loop-table l = record {
   between : IsBetween l.records;
-  same : table_b_of (records_of l.fn.text) ≡ rows_from (l.records.number + 1) l.table (records_left l.records)
+  same : table_b_of (records_of l.fn.text) ≡ rows_from (l.records.number + 1) l.table (records_left l.records);
 }
 
 abbrev pub decreases-loop-table : goal.decreases-loop-table
