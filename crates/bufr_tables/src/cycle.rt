@@ -1,15 +1,16 @@
 // Finds the first sequence of Table D that reaches itself.
 //
-// First every sequence is settled whose members are all settled: such a sequence does not reach itself. This takes time in
-// proportion to the rows, and where there is no cycle it settles them all. Else each sequence that is left is searched from,
-// in the order of the file. There is no recursion.
+// A sequence whose rank is above those of its members does not reach itself, where no rank is below that of a member. The
+// others are searched from, in the order of the file: the first of them is the answer, unless the ranks are wrong. So the
+// time grows with the rows, and there is no recursion.
 
-ghost use Rattle.std.specs.Prelude.{◌≡◌, length, IfOk, OnOk, IsTrue, MatchOption, ◌↔◌, is_some};
+ghost use Rattle.std.specs.Prelude.{◌≡◌, ◌≤◌, ◌<◌, length, slice_index, IfOk, OnOk, IsTrue, MatchOption, ◌↔◌, is_some};
 ghost use Rattle.bufr_tables.specs.Chain.{HasNoCycle, IsFirstCycle, ReachesItself};
-ghost use Rattle.bufr_tables.specs.Cycle.{AreSettled, IsSettling, IsVisited, listed};
+ghost use Rattle.bufr_tables.specs.Cycle.{IsAbove, IsVisited, NeverRises, listed, rank_of};
 ghost use Rattle.bufr_tables.specs.TableD.{members_of};
 
 use crate::fxy::Fxy;
+use crate::ranks::{key_of, ranks};
 use crate::table_d::TableD;
 use std::alloc::{AllocError, Global};
 
@@ -20,142 +21,87 @@ const WORDS: usize = 65536;
 pub(crate) fn first_cycle(alloc: Global, table: &TableD) -> Result<Option<Fxy>, AllocError>
     ensures { IfOk result (λ o. MatchOption o (HasNoCycle table.now) (IsFirstCycle table.now)) }
 {
-    let mut settled = settle(alloc, table)?;
+    let ranks = ranks(alloc, table)?;
+    let never_rises = never_rises(table, &ranks);
     for place in 0..table.count() {
         let sequence = table.sequence_at(place);
-        let word = usize::from(sequence.word());
-        if !settled[word] {
-            if reaches_itself(alloc, table, sequence, &settled)? {
-                return Ok(Some(sequence));
-            }
-            settled[word] = true;
+        if never_rises && is_above(table, sequence, &ranks) {
+            continue;
+        }
+        if reaches_itself(alloc, table, sequence)? {
+            return Ok(Some(sequence));
         }
     }
     Ok(None)
 }
 
-// Flags of sequences that surely do not reach themselves.
-fn settle(alloc: Global, table: &TableD) -> Result<Vec<bool>, AllocError>
-    ensures flags { IfOk result (λ v. length v.items ≡ 65536) }
-    ensures settled { IfOk result (λ v. AreSettled table.now v.items) }
+// Whether no sequence has a rank below that of a member.
+fn never_rises(table: &TableD, ranks: &[u32]) -> bool
+    requires { length ranks.now ≡ 16384 }
+    ensures { IsTrue result → NeverRises table.now ranks.now }
 {
-    let mut settling = Settling::new(alloc, table)?;
     for place in 0..table.count() {
-        settling.begin(table, table.sequence_at(place))?;
-        // A turn settles a sequence, begins one or looks at a member.
-        for _turn in 0..table.turns() {
-            if !settling.turn(table)? {
-                break;
-            }
+        let sequence = table.sequence_at(place);
+        if highest(table, sequence, ranks) > ranks[key_of(sequence)] {
+            return false;
         }
     }
-    Ok(settling.done)
+    true
 }
 
-// The settling of sequences whose members are all settled, depth first.
-#[derive(Drop)]
-struct Settling {
-    done: Vec<bool>,
-    begun: Vec<bool>,
-    // For each sequence how many of its first members are settled or no sequences.
-    looked: Vec<usize>,
-    // The sequences that wait for a member, each begun by the one before it.
-    path: Vec<Fxy>,
+// Whether the rank of a sequence is above those of its members.
+fn is_above(table: &TableD, sequence: Fxy, ranks: &[u32]) -> bool
+    requires { length ranks.now ≡ 16384 }
+    ensures { IsTrue result → NeverRises table.now ranks.now → ¬ ReachesItself table.now sequence }
+{
+    highest(table, sequence, ranks) < ranks[key_of(sequence)]
 }
 
-impl Settling {
-    fn new(alloc: Global, table: &TableD) -> Result<Settling, AllocError>
-        ensures { IfOk result (λ s. IsSettling table.now s) }
-    {
-        Ok(Settling {
-            done: vec![in alloc; false; WORDS]?,
-            begun: vec![in alloc; false; WORDS]?,
-            looked: vec![in alloc; 0usize; WORDS]?,
-            path: Vec::new(alloc),
-        })
+// The highest rank of the members of a sequence that are sequences, or 0.
+fn highest(table: &TableD, sequence: Fxy, ranks: &[u32]) -> u32
+    requires { length ranks.now ≡ 16384 }
+    ensures { IsAbove table.now ranks.now sequence result }
+{
+    let mut most = 0;
+    for member in listed(table, sequence) {
+        if is_sequence(table, *member) {
+            let rank = ranks[key_of(*member)];
+            most = most.max(rank);
+        }
     }
-
-    // Begins with a sequence, unless it was begun.
-    fn begin(&mut self, table: &TableD, sequence: Fxy) -> Result<(), AllocError>
-        requires { IsSettling table.now self.old }
-        ensures { OnOk result (IsSettling table.now self.new) }
-    {
-        let word = usize::from(sequence.word());
-        if !self.begun[word] {
-            self.path.push(sequence)?;
-            self.begun[word] = true;
-        }
-        Ok(())
-    }
-
-    // Takes one turn with the last sequence of the path; false where there is none, or where it waits for itself.
-    fn turn(&mut self, table: &TableD) -> Result<bool, AllocError>
-        requires { IsSettling table.now self.old }
-        ensures { OnOk result (IsSettling table.now self.new) }
-    {
-        let Some(sequence) = self.path.last().copied() else {
-            return Ok(false);
-        };
-        let word = usize::from(sequence.word());
-        let members = listed(table, sequence);
-        let looked = self.looked[word];
-        if looked >= members.len() {
-            self.done[word] = true;
-            let _ = self.path.pop();
-            return Ok(true);
-        }
-        let member = members[looked];
-        if !is_sequence(table, member) || self.done[usize::from(member.word())] {
-            self.looked[word] = looked + 1;
-            return Ok(true);
-        }
-        if self.begun[usize::from(member.word())] {
-            return Ok(false);
-        }
-        self.begin(table, member)?;
-        Ok(true)
-    }
+    most
 }
 
-// Whether a sequence reaches itself; chains through settled sequences are not followed, since they lead nowhere back.
-fn reaches_itself(
-    alloc: Global,
-    table: &TableD,
-    sequence: Fxy,
-    settled: &[bool],
-) -> Result<bool, AllocError>
-    requires flags { length settled.now ≡ 65536 }
-    requires settled { AreSettled table.now settled.now }
+// Whether a sequence reaches itself.
+fn reaches_itself(alloc: Global, table: &TableD, sequence: Fxy) -> Result<bool, AllocError>
     ensures { IfOk result (λ yes. IsTrue yes ↔ ReachesItself table.now sequence) }
 {
     let mut seen = vec![in alloc; false; WORDS]?;
     let mut queue = Vec::new(alloc);
-    visit(table, sequence, settled, &mut seen, &mut queue)?;
+    visit(table, sequence, &mut seen, &mut queue)?;
     let mut next = 0;
     while next < queue.len() {
         let member = queue[next];
-        visit(table, member, settled, &mut seen, &mut queue)?;
+        visit(table, member, &mut seen, &mut queue)?;
         next += 1;
     }
     Ok(seen[usize::from(sequence.word())])
 }
 
-// Puts the members of a sequence that are sequences behind the queue, but for those that are settled or were seen.
+// Puts the members of a sequence that are sequences behind the queue, but for those that were seen.
 fn visit(
     table: &TableD,
     sequence: Fxy,
-    settled: &[bool],
     seen: &mut [bool],
     queue: &mut Vec<Fxy>,
 ) -> Result<(), AllocError>
-    requires flags { length settled.now ≡ 65536 }
-    requires seen { length seen.old ≡ 65536 }
+    requires { length seen.old ≡ 65536 }
     ensures { OnOk result
-        (IsVisited table.now settled.now sequence (length (listed table.now sequence)) seen.old queue.old.items seen.new queue.new.items) }
+        (IsVisited table.now sequence (length (listed table.now sequence)) seen.old queue.old.items seen.new queue.new.items) }
 {
     for member in listed(table, sequence) {
         let word = usize::from(member.word());
-        if is_sequence(table, *member) && !settled[word] && !seen[word] {
+        if is_sequence(table, *member) && !seen[word] {
             queue.push(*member)?;
             seen[word] = true;
         }

@@ -9,6 +9,7 @@ mod fault;
 mod fxy;
 mod kind;
 mod number;
+mod ranks;
 mod records;
 mod table_b;
 mod table_d;
@@ -18,3 +19,6 @@ pub use fxy::Fxy;
 pub use kind::Kind;
 pub use table_b::{Entry, TableB};
 pub use table_d::TableD;
+
+#[cfg(test)]
+mod tests;
