@@ -1,3 +1,12 @@
+pub mod NumberLemmas
+pub mod ReadingLemmas
+pub mod DirectoryLemmas
+pub mod KeptLemmas
+pub mod StepsLemmas
+pub mod TableBLemmas
+pub mod RunsLemmas
+pub mod CycleLemmas
+pub mod TableDLemmas
 pub mod ExpansionLemmas
 pub mod GrowingLemmas
 pub mod LeavesLemmas
