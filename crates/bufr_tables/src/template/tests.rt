@@ -15,6 +15,11 @@ const TABLE_B: &[u8] = b"\
     031001,DELAYED DESCRIPTOR REPLICATION FACTOR,Numeric,0,0,8\n\
     031002,EXTENDED DELAYED DESCRIPTOR REPLICATION FACTOR,Numeric,0,0,16\n";
 
+// A table without the factors of delayed replication.
+const NO_FACTORS: &[u8] = b"\
+    fxy,name,unit,scale,reference,width\n\
+    001001,WMO BLOCK NUMBER,Numeric,0,0,7\n";
+
 // 3 60 192 holds two elements. 3 00 001 to 3 00 017 hold the next one twice, and 3 10 001 to 3 10 016 hold two passes of
 // the next one twice. 3 20 001 to 3 20 033 hold the next one. 3 30 001 to 3 30 003 end before what their last one needs,
 // or hold an operator alone.
@@ -239,5 +244,15 @@ fn nodes_of_groups(rt: HostRuntime) -> Result<(), Fail> {
         Node::Fixed(255, fixed),
     ]?;
     assert_eq!(rt; template.nodes(), nodes.as_slice());
+    Ok(())
+}
+
+#[test]
+fn factor_that_table_b_lacks(rt: HostRuntime) -> Result<(), Fail> {
+    let table_b = TableB::read(rt.alloc(), NO_FACTORS)?;
+    let table_d = TableD::read(rt.alloc(), TABLE_D)?;
+    let descriptors = descriptors_of(rt.alloc(), "105000 031001 001001")?;
+    let told = told(rt.alloc(), &descriptors, &table_b, &table_d)?;
+    assert_eq!(rt; told.as_str(), "20 unknown element 031001");
     Ok(())
 }
