@@ -7,3 +7,4 @@ pub mod TableBLemmas
 pub mod RunsLemmas
 pub mod CycleLemmas
 pub mod TableDLemmas
+mod Examples
