@@ -1,17 +1,16 @@
 -- Worked examples, computed from the definitions.
-use Rattle.std.proofs.Common.{◌≡◌, ℕ, ◌∷◌, [], ◌++◌, List, codes, refl, Option, Some, None, Ok, Err, pos, negsuc, arith, lit<}
+use Rattle.std.proofs.Common.{◌≡◌, ℕ, ◌∷◌, [], ◌++◌, List, codes, refl, Some, None, Ok, Err, pos, negsuc, arith, lit<}
 use Rattle.std.specs.Prelude.{⊤}
 use Rattle.csv.specs.Machine.{next_record}
 use Rattle.csv.specs.Reading.{records_from, strip_bom}
 use Rattle.csv.specs.Records.{field_at}
-use Rattle.bufr_tables.specs.Chain.{Chain, HasNoCycle, IsFirstCycle, Leads, Reads, one, more}
-use Rattle.bufr_tables.specs.Fxy.{f_of, fxy_of, fxy_text, x_of, y_of}
+use Rattle.bufr_tables.specs.Chain.{IsFirstCycle, Leads, one, more}
+use Rattle.bufr_tables.specs.Fxy.{fxy_of, fxy_text}
 use Rattle.bufr_tables.specs.Kind.{begins_with, is_words, kind_of, names_table}
 use Rattle.bufr_tables.specs.Number.{fitting, i64_of, integer_of, natural_of}
 use Rattle.bufr_tables.specs.Records.{records_of}
 use Rattle.bufr_tables.specs.TableB as b
 use Rattle.bufr_tables.specs.TableD as d
-use Rattle.bufr_tables.specs.declared.fault.TableFault.{TableFault}
 use Rattle.bufr_tables.specs.declared.fault.TableFault.TheVariants.{Header, Row, Duplicate, TableSize, Csv}
 use Rattle.bufr_tables.specs.declared.kind.Kind.TheVariants.{Character, Coded, Numeric}
 

@@ -8,7 +8,7 @@ ghost use Rattle.bufr_tables.specs.Entry.{row_with};
 ghost use Rattle.bufr_tables.specs.Kept.{Grows, IsInside, IsStored, row_kept};
 ghost use Rattle.bufr_tables.specs.Records.{records_of};
 ghost use Rattle.bufr_tables.specs.Steps.{Gives};
-ghost use Rattle.bufr_tables.specs.TableB.{Row, element_of, entry_of, fits_factor, factor_width, is_header, is_printed, plain_of, row_of, scale_of, table_b_of, width_of, with_record};
+ghost use Rattle.bufr_tables.specs.TableB.{AreRows, Row, element_of, entry_of, fits_factor, factor_width, is_header, is_printed, plain_of, row_of, scale_of, table_b_of, width_of, with_record};
 
 use crate::directory::Directory;
 use crate::fault::TableFault;
@@ -215,7 +215,8 @@ impl TableB {
     /// [`TableFault::Header`], and of the first record at fault [`TableFault::Csv`], [`TableFault::Row`] or
     /// [`TableFault::Duplicate`], in this order; [`TableFault::Memory`] where memory ran out.
     pub fn read(alloc: Global, text: &[u8]) -> Result<TableB, TableFault>
-        ensures { Gives (table_b_of (records_of text.now)) result }
+        ensures read { Gives (table_b_of (records_of text.now)) result }
+        ensures rows { IfOk result (AreRows (records_of text.now)) }
     {
         let mut records = RecordReader::new(alloc, text);
         if !records.advance()? || !is_header(records.record()) {
