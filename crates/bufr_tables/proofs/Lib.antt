@@ -17,3 +17,4 @@ pub mod SoundLemmas
 pub mod TemplateExamples
 pub mod TreeLemmas
 pub mod WholeLemmas
+mod Examples

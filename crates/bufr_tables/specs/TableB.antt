@@ -1,7 +1,7 @@
 -- Table B, the elements, as a text of CSV writes it: a header, and a row for each element. (WMO-No. 306, Volume I.2, FM 94:
 -- Table B. The text's form, its limits and its faults are a choice of this project)
-use Rattle.std.specs.Prelude.{ℕ, ◌+◌, ◌%◌, ◌==◌, ◌&&◌, Bool, true, false, not, nat_le, if◌then◌else◌, ℤ, pos, negsuc, List, [], ◌∷◌, ◌++◌, length, codes, Option, Some, None, is_some, Result, Ok, Err}
-use Rattle.std.specs.List.{find, list_all}
+use Rattle.std.specs.Prelude.{◌≡◌, ℕ, ◌+◌, ◌%◌, ◌==◌, ◌&&◌, Bool, true, false, not, nat_le, if◌then◌else◌, ℤ, pos, negsuc, List, [], ◌∷◌, ◌++◌, length, map, nat_eq, codes, Option, Some, None, is_some, Result, Ok, Err}
+use Rattle.std.specs.List.{IsDistinct, find, list_all}
 use Rattle.std.specs.Int.RustNames.{unsigned_abs}
 use Rattle.std.specs.Str.{bytes_eq}
 use Rattle.bufr_tables.specs.declared.fault.TableFault.{TableFault}
@@ -107,3 +107,12 @@ rows_from n rows (r ∷ rs) = and_then (with_record n rows r) (λ more. rows_fro
 unfoldable pub table_b_of : List Record → Result (List Row) TableFault
 table_b_of [] = Err Header
 table_b_of (first ∷ rest) = if is_header first then rows_from 2 [] rest else Err Header
+
+-- the rows of a table are those that the records under the header write, in order, and no descriptor is there twice
+pub record AreRows (records : List Record) (table : List Row) : Type 0 where
+  pub first : Record
+  pub rest : List Record
+  pub stands : records ≡ first ∷ rest
+  pub header : is_header first ≡ true
+  pub rows : map row_of rest ≡ map Some table
+  pub distinct : IsDistinct nat_eq (map (λ row. row.fxy) table)

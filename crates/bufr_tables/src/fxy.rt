@@ -100,6 +100,7 @@ impl Fxy {
     }
 }
 
+/// Writes the six digits.
 impl fmt::Display for Fxy {
     fn fmt<W: fmt::Write>(&self, f: &mut fmt::Formatter<W>) -> fmt::Result {
         write!(f, "{}{:02}{:03}", self.f(), self.x(), self.y())

@@ -73,15 +73,15 @@ impl<'a> RecordReader<'a> {
 }
 
 // A field of a record, counted from 0, or no octets where there is none.
-pub(crate) fn field(record: &ByteRecord, place: usize) -> &[u8]
-    ensures { result.now ≡ field_of (fields_of record.now) place }
+pub(crate) fn field(fields: &ByteRecord, place: usize) -> &[u8]
+    ensures { result.now ≡ field_of (fields_of fields.now) place }
 {
-    record.get(place).unwrap_or(&[])
+    fields.get(place).unwrap_or(&[])
 }
 
 // Whether a field of a record is this text.
-pub(crate) fn has_field(record: &ByteRecord, place: usize, text: &[u8]) -> bool
-    ensures { result ≡ bytes_eq (field_of (fields_of record.now) place) text.now }
+pub(crate) fn has_field(fields: &ByteRecord, place: usize, text: &[u8]) -> bool
+    ensures { result ≡ bytes_eq (field_of (fields_of fields.now) place) text.now }
 {
-    field(record, place) == text
+    field(fields, place) == text
 }

@@ -8,7 +8,7 @@ ghost use Rattle.bufr_tables.specs.Entry.{row_with};
 ghost use Rattle.bufr_tables.specs.Kept.{Grows, IsInside, IsStored, row_kept};
 ghost use Rattle.bufr_tables.specs.Records.{records_of};
 ghost use Rattle.bufr_tables.specs.Steps.{Gives};
-ghost use Rattle.bufr_tables.specs.TableB.{Row, element_of, entry_of, fits_factor, factor_width, is_header, is_printed, plain_of, row_of, scale_of, table_b_of, width_of, with_record};
+ghost use Rattle.bufr_tables.specs.TableB.{AreRows, Row, element_of, entry_of, fits_factor, factor_width, is_header, is_printed, plain_of, row_of, scale_of, table_b_of, width_of, with_record};
 
 use crate::directory::Directory;
 use crate::fault::TableFault;
@@ -125,17 +125,17 @@ fn fits_factor(fxy: Fxy, entry: &Entry) -> bool
 
 // The element that a record writes, where it writes one.
 #[tactic(auto, unfolding(crate::specs::TableB::row_of))]
-fn row(record: &ByteRecord) -> Option<(Fxy, Entry<'_>)>
-    ensures value { option_map (λ p. row_with p.0 p.1) result ≡ row_of (fields_of record.now) }
+fn row(fields: &ByteRecord) -> Option<(Fxy, Entry<'_>)>
+    ensures value { option_map (λ p. row_with p.0 p.1) result ≡ row_of (fields_of fields.now) }
     ensures element { IfSome result (λ p. p.0 < 16384) }
 {
-    let fxy = element(field(record, 0))?;
-    let name = plain(field(record, 1))?;
-    let unit = plain(field(record, 2))?;
-    let scale = scale(field(record, 3))?;
-    let reference = integer(field(record, 4))?;
+    let fxy = element(field(fields, 0))?;
+    let name = plain(field(fields, 1))?;
+    let unit = plain(field(fields, 2))?;
+    let scale = scale(field(fields, 3))?;
+    let reference = integer(field(fields, 4))?;
     let kind = Kind::of(unit);
-    let width = width(kind, field(record, 5))?;
+    let width = width(kind, field(fields, 5))?;
     let entry = Entry {
         name,
         unit,
@@ -152,16 +152,16 @@ fn row(record: &ByteRecord) -> Option<(Fxy, Entry<'_>)>
 
 // Whether a record is the header.
 #[tactic(auto, unfolding(crate::specs::TableB::is_header))]
-fn is_header(record: &ByteRecord) -> bool
-    ensures { result ≡ is_header (fields_of record.now) }
+fn is_header(fields: &ByteRecord) -> bool
+    ensures { result ≡ is_header (fields_of fields.now) }
 {
-    record.len() == 6
-        && has_field(record, 0, b"fxy")
-        && has_field(record, 1, b"name")
-        && has_field(record, 2, b"unit")
-        && has_field(record, 3, b"scale")
-        && has_field(record, 4, b"reference")
-        && has_field(record, 5, b"width")
+    fields.len() == 6
+        && has_field(fields, 0, b"fxy")
+        && has_field(fields, 1, b"name")
+        && has_field(fields, 2, b"unit")
+        && has_field(fields, 3, b"scale")
+        && has_field(fields, 4, b"reference")
+        && has_field(fields, 5, b"width")
 }
 
 // An element as the table keeps it: its name goes from `start` to `middle`, and its unit on to `end`.
@@ -215,7 +215,8 @@ impl TableB {
     /// [`TableFault::Header`], and of the first record at fault [`TableFault::Csv`], [`TableFault::Row`] or
     /// [`TableFault::Duplicate`], in this order; [`TableFault::Memory`] where memory ran out.
     pub fn read(alloc: Global, text: &[u8]) -> Result<TableB, TableFault>
-        ensures { Gives (table_b_of (records_of text.now)) result }
+        ensures read { Gives (table_b_of (records_of text.now)) result }
+        ensures rows { IfOk result (AreRows (records_of text.now)) }
     {
         let mut records = RecordReader::new(alloc, text);
         if !records.advance()? || !is_header(records.record()) {
@@ -248,14 +249,14 @@ impl TableB {
 
     // Adds the element of record `number`.
     #[tactic(auto, unfolding(crate::specs::TableB::with_record))]
-    fn add(&mut self, number: u64, record: &ByteRecord) -> Result<(), TableFault>
-        ensures ok { OnOk result (with_record number self.old (fields_of record.now) ≡ Ok self.new) }
-        ensures err { IfErr result (λ e. (e ≢ Memory) → with_record number self.old (fields_of record.now) ≡ Err e) }
+    fn add(&mut self, number: u64, fields: &ByteRecord) -> Result<(), TableFault>
+        ensures ok { OnOk result (with_record number self.old (fields_of fields.now) ≡ Ok self.new) }
+        ensures err { IfErr result (λ e. (e ≢ Memory) → with_record number self.old (fields_of fields.now) ≡ Err e) }
     {
-        if record.len() != 6 {
+        if fields.len() != 6 {
             return Err(TableFault::Csv);
         }
-        let Some((fxy, entry)) = row(record) else {
+        let Some((fxy, entry)) = row(fields) else {
             return Err(TableFault::Row(number));
         };
         if self.get(fxy).is_some() {

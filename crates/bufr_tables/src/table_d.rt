@@ -39,21 +39,21 @@ fn sequence(text: &[u8]) -> Option<Fxy>
 
 // The sequence and the member that a record writes, where it writes a row.
 #[tactic(auto, unfolding(crate::specs::TableD::member_of))]
-fn row(record: &ByteRecord) -> Option<(Fxy, Fxy)>
-    ensures value { option_map (λ p. row_with p.0 p.1) result ≡ member_of (fields_of record.now) }
+fn row(fields: &ByteRecord) -> Option<(Fxy, Fxy)>
+    ensures value { option_map (λ p. row_with p.0 p.1) result ≡ member_of (fields_of fields.now) }
     ensures sequence { IfSome result (λ p. (49152 ≤ p.0) × (p.0 < 65536)) }
 {
-    let sequence = sequence(field(record, 0))?;
-    let member = Fxy::read(field(record, 1))?;
+    let sequence = sequence(field(fields, 0))?;
+    let member = Fxy::read(field(fields, 1))?;
     Some((sequence, member))
 }
 
 // Whether a record is the header.
 #[tactic(auto, unfolding(crate::specs::TableD::is_header))]
-fn is_header(record: &ByteRecord) -> bool
-    ensures { result ≡ is_header (fields_of record.now) }
+fn is_header(fields: &ByteRecord) -> bool
+    ensures { result ≡ is_header (fields_of fields.now) }
 {
-    record.len() == 2 && has_field(record, 0, b"fxy") && has_field(record, 1, b"member")
+    fields.len() == 2 && has_field(fields, 0, b"fxy") && has_field(fields, 1, b"member")
 }
 
 // The members of a sequence, from `start` to `end` of all members.
@@ -167,14 +167,14 @@ impl TableD {
 
     // Adds the row of record `number`.
     #[tactic(auto, unfolding(crate::specs::TableD::with_record, crate::specs::TableD::added))]
-    fn add(&mut self, number: u64, record: &ByteRecord) -> Result<(), TableFault>
-        ensures ok { OnOk result (with_record number self.old (fields_of record.now) ≡ Ok self.new) }
-        ensures err { IfErr result (λ e. (e ≢ Memory) → with_record number self.old (fields_of record.now) ≡ Err e) }
+    fn add(&mut self, number: u64, fields: &ByteRecord) -> Result<(), TableFault>
+        ensures ok { OnOk result (with_record number self.old (fields_of fields.now) ≡ Ok self.new) }
+        ensures err { IfErr result (λ e. (e ≢ Memory) → with_record number self.old (fields_of fields.now) ≡ Err e) }
     {
-        if record.len() != 2 {
+        if fields.len() != 2 {
             return Err(TableFault::Csv);
         }
-        let Some((sequence, member)) = row(record) else {
+        let Some((sequence, member)) = row(fields) else {
             return Err(TableFault::Row(number));
         };
         let continues = self.is_last(sequence);

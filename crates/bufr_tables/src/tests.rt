@@ -20,7 +20,7 @@ const TABLE_D: &[u8] = b"fxy,member
 
 // The descriptors with these words and their texts.
 #[test]
-fn descriptors(rt: HostRuntime) {
+fn descriptors(rt: HostRuntime) -> Result<(), Fail> {
     for (word, text) in [
         (0x0101u16, b"001001"),
         (0x0c65, b"012101"),
@@ -33,9 +33,43 @@ fn descriptors(rt: HostRuntime) {
         let fxy = Fxy::from_word(word);
         assert_eq!(rt; fxy.word(), word);
         assert_eq!(rt; fxy.text().as_slice(), text.as_slice());
+        let shown = format!(in rt.alloc(); "{fxy}")?;
+        assert_eq!(rt; shown.as_bytes(), text.as_slice());
     }
     let fxy = Fxy::from_word(0xfcc0);
     assert_eq!(rt; (fxy.f(), fxy.x(), fxy.y()), (3, 60, 192));
+    Ok(())
+}
+
+// Each fault as text.
+#[test]
+fn fault_texts(rt: HostRuntime) -> Result<(), Fail> {
+    let local = Fxy::from_word(0x0101);
+    for (fault, text) in [
+        (
+            TableFault::Header,
+            "the first record is not the header of the table",
+        ),
+        (TableFault::Row(2), "record 2 does not read as a row"),
+        (
+            TableFault::Duplicate(local),
+            "001001 is in the table already",
+        ),
+        (
+            TableFault::Cycle(Fxy::from_word(0xc001)),
+            "sequence 300001 reaches itself",
+        ),
+        (TableFault::TableSize, "the table has too many rows"),
+        (
+            TableFault::Csv,
+            "a record has another number of fields than the header",
+        ),
+        (TableFault::Memory, "out of memory"),
+    ] {
+        let shown = format!(in rt.alloc(); "{fault}")?;
+        assert_eq!(rt; shown.as_str(), text);
+    }
+    Ok(())
 }
 
 // Text of rows under a header.
@@ -378,6 +412,39 @@ fn long_chains(rt: HostRuntime) -> Result<(), Fail> {
         assert!(rt; fault_d(rt.alloc(), &text).is_none());
         let text = long_chain(rt.alloc(), back, true)?;
         assert!(rt; fault_d(rt.alloc(), &text) == Some(TableFault::Cycle(Fxy::from_word(0xffff))));
+    }
+    Ok(())
+}
+
+// A table of as many elements and rows as the WMO's tables have, and more.
+#[test]
+fn tables_of_usual_size(rt: HostRuntime) -> Result<(), Fail> {
+    let mut elements = Vec::from_slice(rt.alloc(), HEADER_B)?;
+    for word in 0..2000u16 {
+        elements.extend_from_slice(&Fxy::from_word(word * 3).text())?;
+        elements.extend_from_slice(b",A NAME OF SOME THIRTY OCTETS,degree true,2,-9000,16\n")?;
+    }
+    let table = TableB::read(rt.alloc(), &elements)?;
+    for word in 0..2000u16 {
+        assert!(rt; table.get(Fxy::from_word(word * 3)).is_some());
+        assert!(rt; table.get(Fxy::from_word(word * 3 + 1)).is_none());
+    }
+    let mut rows = Vec::from_slice(rt.alloc(), HEADER_D)?;
+    for key in 0..1500u16 {
+        for place in 0..10u16 {
+            push_row(
+                &mut rows,
+                0xc000 + key,
+                if place == 0 { 0xc001 + key } else { place },
+            )?;
+        }
+    }
+    let table = TableD::read(rt.alloc(), &rows)?;
+    for key in 0..1500u16 {
+        let members = table
+            .members(Fxy::from_word(0xc000 + key))
+            .ok_or("lacks a sequence")?;
+        assert_eq!(rt; members.len(), 10);
     }
     Ok(())
 }
