@@ -1,0 +1,301 @@
+-- Chains of members, and what the search for a cycle knows of them.
+use Rattle.std.proofs.Common.{◌≡◌, ℕ, ◌+◌, ◌-◌, ◌<◌, ◌≤◌, ◌⊎◌, inl, inr, Bool, true, false, List, [], ◌∷◌, ◌++◌, length, set, take, drop, Option, Some, None, refl, sym, ap, ◌∙◌, arith, suc, zero, get_or, length-append, replicate}
+use Rattle.std.specs.Prelude.{◌==◌, cond, option_map, slice_index, IsSome, Contains}
+use Rattle.std.proofs.lemmas.Bool.{eqb-true}
+use Rattle.std.proofs.lemmas.List.{append-nil, append_assoc, get_or_append_left, get_or-set_same, get_or_default, length-set, drop_more, take-append-drop, get_or-map, get_or-take, length-take-le}
+use Rattle.std.proofs.lemmas.List.Elements.{Contains-append_cases, Contains-append_left, Contains-append_right, Contains-push, Contains-push_cases, Contains-get_or}
+use Rattle.std.specs.List.{find}
+use borrow.Author.Count.{below_more}
+use Rattle.bufr_tables.specs.Chain.{Chain, HasNoCycle, IsFirstCycle, Leads, ReachesItself, one, more}
+use Rattle.bufr_tables.specs.Cycle.{AreSeen, IsAbove, IsAboveFirst, IsPassed, IsSearched, IsSet, IsVisited, NeverRises, NeverRisesFirst, listed, rank_of, unset}
+use Rattle.bufr_tables.specs.TableD.{Sequence, fxys_of, members_of}
+
+-- chains one after another
+pub chain-append : {table : List Sequence} {a b c : ℕ} → Chain table a b → Chain table b c → Chain table a c
+chain-append (one l) d = more l d
+chain-append (more l rest) d = more l (chain-append rest d)
+
+-- flags
+pub set-keeps : (flags : List Bool) (x y : ℕ) → IsSet flags y → IsSet (set flags x true) y
+set-keeps [] x y is = is
+set-keeps (flag ∷ flags) zero zero is = refl
+set-keeps (flag ∷ flags) zero (suc y) is = is
+set-keeps (flag ∷ flags) (suc x) zero is = is
+set-keeps (flag ∷ flags) (suc x) (suc y) is = set-keeps flags x y is
+
+pub set-is : (flags : List Bool) (x : ℕ) → x < length flags → IsSet (set flags x true) x
+set-is flags x inside = get_or-set_same flags x true false inside
+
+pub set-cases : (flags : List Bool) (x y : ℕ) → IsSet (set flags x true) y → (y ≡ x) ⊎ IsSet flags y
+set-cases [] x y is = inr is
+set-cases (flag ∷ flags) zero zero is = inl refl
+set-cases (flag ∷ flags) zero (suc y) is = inr is
+set-cases (flag ∷ flags) (suc x) zero is = inr is
+set-cases (flag ∷ flags) (suc x) (suc y) is = elim (set-cases flags x y is) [ inl e ↦ inl (ap suc e) | inr old ↦ inr old ]
+
+pub unset-set : (flags : List Bool) (x : ℕ) → x < length flags → get_or flags x false ≡ false → unset (set flags x true) + 1 ≡ unset flags
+unset-set [] x inside is = absurd (omega arith)
+unset-set (flag ∷ flags) zero inside is = rw is (omega arith)
+unset-set (flag ∷ flags) (suc x) inside is = omega (arith, unset-set flags x (omega arith) is)
+
+-- a member that is a sequence has a place among the members
+pub record Listed (table : List Sequence) (from to : ℕ) : Type 0 where
+  pub place : ℕ
+  pub inside : place < length (listed table from)
+  pub at : slice_index (listed table from) place ≡ to
+  pub sequence : IsSome (members_of table to)
+
+pub listed-leads : (table : List Sequence) (from to : ℕ) → Leads table from to → Listed table from to
+listed-leads table from to l =
+    let same : listed table from ≡ l.members = rw l.has refl in
+    let (k, inside, at) = l.member in
+    record { place = k; inside = rw same inside; at = rw same (get_or_default l.members k 0 to inside ∙ at); sequence = l.sequence }
+
+pub leads-listed : (table : List Sequence) (from k : ℕ) → k < length (listed table from) → IsSome (members_of table (slice_index (listed table from) k))
+    → Leads table from (slice_index (listed table from) k)
+leads-listed table from k inside sequence = by (members_of table from) refl
+  where
+    by : (o : Option (List ℕ)) → members_of table from ≡ o → Leads table from (slice_index (listed table from) k)
+    by None e = absurd (empty (rw e at inside))
+      where
+        empty : k < length {A = ℕ} [] → ⊥
+        empty h = omega arith
+    by (Some members) e =
+        let same : listed table from ≡ members = rw e refl in
+        record { members = members; has = e; member = rw same (Contains-get_or members k 0 (rw same at inside)); sequence = sequence }
+
+-- ranks that never rise along a chain
+pub chain-falls : (table : List Sequence) (ranks : List ℕ) → NeverRises table ranks → {a b : ℕ} → Chain table a b → rank_of ranks b ≤ rank_of ranks a
+chain-falls table ranks never (one l) = never _ _ l
+chain-falls table ranks never (more l rest) =
+    let first = never _ _ l in
+    let last = chain-falls table ranks never rest in
+    omega arith
+
+-- a sequence above its members does not reach itself
+pub falls-none : (table : List Sequence) (ranks : List ℕ) (fxy rank : ℕ) → NeverRises table ranks → IsAbove table ranks fxy rank → rank < rank_of ranks fxy → ReachesItself table fxy → ⊥
+falls-none table ranks fxy rank never above below chain = let least : rank_of ranks fxy ≤ rank = by refl chain in omega arith
+  where
+    by : {a b : ℕ} → a ≡ fxy → Chain table a b → rank_of ranks b ≤ rank
+    by e (one l) = above _ (rw e at l)
+    by e (more l rest) =
+        let first = above _ (rw e at l) in
+        let last = chain-falls table ranks never rest in
+        omega arith
+
+-- the members of a sequence, one after another
+pub above-start : (table : List Sequence) (ranks : List ℕ) (fxy rank : ℕ) → IsAboveFirst table ranks fxy rank 0
+above-start table ranks fxy rank k below = absurd (omega arith)
+
+pub above-all : (table : List Sequence) (ranks : List ℕ) (fxy rank count : ℕ) → IsAboveFirst table ranks fxy rank count → length (listed table fxy) ≤ count → IsAbove table ranks fxy rank
+above-all table ranks fxy rank count above all to l =
+    let at = listed-leads table fxy to l in
+    rw at.at at (above at.place (omega (arith, at.inside)) at.inside (rw at.at at.sequence))
+
+pub above-more : (table : List Sequence) (ranks : List ℕ) (fxy old new i : ℕ) → IsAboveFirst table ranks fxy old i → old ≤ new
+    → (IsSome (members_of table (slice_index (listed table fxy) i)) → rank_of ranks (slice_index (listed table fxy) i) ≤ new) → IsAboveFirst table ranks fxy new (i + 1)
+above-more table ranks fxy old new i above grows here =
+    below_more (λ k. k < length (listed table fxy) → IsSome (members_of table (slice_index (listed table fxy) k)) → rank_of ranks (slice_index (listed table fxy) k) ≤ new) i
+    (λ k below inside some. let h = above k below inside some in omega arith)
+    (λ inside some. here some)
+
+-- a visit of one sequence
+module _ (table : List Sequence) (fxy : ℕ) (old : List Bool) (queue : List ℕ) where
+  pub visited-start : IsVisited table fxy 0 old queue old queue
+  visited-start = record {
+    more = [];
+    queued = sym (append-nil queue);
+    flags = refl;
+    leads = λ to has. absurd (none to has);
+    kept = λ to is. is;
+    news = λ to is. inl is;
+    balance = omega arith;
+    seen = λ k below. absurd (omega arith);
+  }
+    where
+      none : (to : ℕ) → Contains [] to → ⊥
+      none to has = let h : has.0 < 0 = has.1 in omega arith
+
+  module _ (i : ℕ) (new : List Bool) (longer : List ℕ) (was : IsVisited table fxy i old queue new longer) where
+    -- a member was seen, where it is a sequence
+    abbrev pub SeenAt : List Bool → ℕ → Type 0
+    SeenAt flags k = k < length (listed table fxy) → IsSome (members_of table (slice_index (listed table fxy) k))
+        → IsSet flags (slice_index (listed table fxy) k)
+
+    -- a member that is no sequence or was seen
+    pub visited-pass : SeenAt new i → IsVisited table fxy (i + 1) old queue new longer
+    visited-pass here = record {
+      more = was.more;
+      queued = was.queued;
+      flags = was.flags;
+      leads = was.leads;
+      kept = was.kept;
+      news = was.news;
+      balance = was.balance;
+      seen = below_more (SeenAt new) i was.seen here;
+    }
+
+    -- another, which is put behind the queue
+    pub visited-push : (x : ℕ) → x ≡ slice_index (listed table fxy) i → i < length (listed table fxy) → IsSome (members_of table x) → get_or new x false ≡ false → x < length new
+        → IsVisited table fxy (i + 1) old queue (set new x true) (longer ++ x ∷ [])
+    visited-push x at inside sequence unseen small = record {
+      more = was.more ++ x ∷ [];
+      queued = rw was.queued (append_assoc queue was.more (x ∷ []));
+      flags = length-set new x true ∙ was.flags;
+      leads = λ to has. leads to (Contains-push_cases was.more x to has);
+      kept = λ to is. set-keeps new x to (was.kept to is);
+      news = λ to is. news to (set-cases new x to is);
+      balance = omega (arith, unset-set new x small unseen, was.balance, length-append was.more (x ∷ []));
+      seen = below_more (SeenAt (set new x true)) i (λ k below inside sequence. set-keeps new x _ (was.seen k below inside sequence)) (λ inside sequence. rw (← at) (set-is new x small));
+    }
+      where
+        leads : (to : ℕ) → Contains was.more to ⊎ (x ≡ to) → Leads table fxy to
+        leads to (inl has) = was.leads to has
+        leads to (inr e) = rw (← e, at) (leads-listed table fxy i inside (rw (← at) sequence))
+
+        news : (to : ℕ) → (to ≡ x) ⊎ IsSet new to → IsSet old to ⊎ Contains (was.more ++ x ∷ []) to
+        news to (inl e) = inr (rw e (Contains-push was.more x))
+        news to (inr is) = wider to (was.news to is)
+          where
+            wider : (to : ℕ) → IsSet old to ⊎ Contains was.more to → IsSet old to ⊎ Contains (was.more ++ x ∷ []) to
+            wider to (inl is) = inl is
+            wider to (inr has) = inr (Contains-append_left was.more (x ∷ []) to has)
+
+  -- all members of a sequence
+  pub visited-all : (new : List Bool) (longer : List ℕ) → IsVisited table fxy (length (listed table fxy)) old queue new longer → AreSeen table new fxy
+  visited-all new longer v to l =
+      let at = listed-leads table fxy to l in
+      rw at.at at (v.seen at.place at.inside at.inside (rw at.at at.sequence))
+
+pub seen-kept : (table : List Sequence) (old new : List Bool) (fxy : ℕ) → ((to : ℕ) → IsSet old to → IsSet new to) → AreSeen table old fxy → AreSeen table new fxy
+seen-kept table old new fxy kept seen to l = kept to (seen to l)
+
+-- the search from a sequence
+module _ (table : List Sequence) (start : ℕ) where
+  pub searched-start : (none seen : List Bool) (queue : List ℕ) → length none ≡ 65536 → ((to : ℕ) → IsSet none to → ⊥)
+      → IsVisited table start (length (listed table start)) none [] seen queue → IsSearched table start seen queue 0
+  searched-start none seen queue size empty v = record {
+    flags = v.flags ∙ size;
+    inside = omega arith;
+    chains = λ to has. one (v.leads to (rw v.queued at has));
+    queued = λ to is. queued to (v.news to is);
+    first = visited-all table start none [] seen queue v;
+    visited = λ k below. absurd (omega arith);
+  }
+    where
+      queued : (to : ℕ) → IsSet none to ⊎ Contains v.more to → Contains queue to
+      queued to (inl is) = absurd (empty to is)
+      queued to (inr has) = rw v.queued has
+
+  module _ (old new : List Bool) (queue longer : List ℕ) (next : ℕ) (was : IsSearched table start old queue next) (below : next < length queue)
+      (v : IsVisited table (slice_index queue next) (length (listed table (slice_index queue next))) old queue new longer) where
+    next-chain : (to : ℕ) → Contains queue to ⊎ Contains v.more to → Chain table start to
+    next-chain to (inl has) = was.chains to has
+    next-chain to (inr has) = chain-append (was.chains (slice_index queue next) (Contains-get_or queue next 0 below)) (one (v.leads to has))
+
+    next-queued : (to : ℕ) → IsSet old to ⊎ Contains v.more to → Contains (queue ++ v.more) to
+    next-queued to (inl is) = Contains-append_left queue v.more to (was.queued to is)
+    next-queued to (inr has) = Contains-append_right queue v.more to has
+
+    pub searched-more : IsSearched table start new longer (next + 1)
+    searched-more = record {
+      flags = v.flags ∙ was.flags;
+      inside = rw v.queued (omega (arith, length-append queue v.more));
+      chains = λ to has. next-chain to (Contains-append_cases queue v.more to (rw v.queued at has));
+      queued = λ to is. rw v.queued (next-queued to (v.news to is));
+      first = seen-kept table old new start v.kept was.first;
+      visited = below_more (λ k. AreSeen table new (slice_index longer k)) next
+          (λ k under. rw (v.queued, get_or_append_left queue v.more 0 k (omega arith)) (seen-kept table old new (slice_index queue k) v.kept (was.visited k under)))
+          (rw (v.queued, get_or_append_left queue v.more 0 next below) (visited-all table (slice_index queue next) old queue new longer v));
+    }
+
+    -- fewer turns are left
+    pub searched-fewer : unset new + (length longer - (next + 1)) < unset old + (length queue - next)
+    searched-fewer = rw v.queued (omega (arith, v.balance, length-append queue v.more))
+
+  module _ (seen : List Bool) (queue : List ℕ) (next : ℕ) (s : IsSearched table start seen queue next) (all : length queue ≤ next) where
+    -- what was seen has its members seen
+    all-seen : (x : ℕ) → IsSet seen x → AreSeen table seen x
+    all-seen x is =
+        let (k, inside, at) = s.queued x is in
+        rw (get_or_default queue k 0 x inside ∙ at) at (s.visited k (omega arith))
+
+    -- a chain from what was seen goes on in what was seen
+    walk : {x y : ℕ} → AreSeen table seen x → Chain table x y → IsSet seen y
+    walk here (one l) = here _ l
+    walk here (more l rest) = walk (all-seen _ (here _ l)) rest
+
+    pub searched-end : ReachesItself table start → IsSet seen start
+    searched-end chain = walk s.first chain
+
+    pub searched-chain : IsSet seen start → ReachesItself table start
+    searched-chain is = s.chains start (s.queued start is)
+
+-- no flag is set yet
+pub none-set : (n fxy : ℕ) → IsSet (replicate n false) fxy → ⊥
+none-set zero fxy is = cc is
+none-set (suc n) zero is = cc is
+none-set (suc n) (suc fxy) is = none-set n fxy is
+
+-- a chain begins with a sequence of the table
+chain-sequence : (table : List Sequence) → {a b : ℕ} → Chain table a b → IsSome (members_of table a)
+chain-sequence table (one l) = rw l.has refl
+chain-sequence table (more l rest) = rw l.has refl
+
+-- and this has its place in the file
+place-in : (table : List Sequence) (fxy : ℕ) → IsSome (members_of table fxy) → (k : ℕ) × (k < length table) × (slice_index (fxys_of table) k ≡ fxy)
+place-in [] fxy some = cc some
+place-in (s ∷ table) fxy some = by (s.fxy == fxy) refl some (place-in table fxy)
+  where
+    later : (k : ℕ) × (k < length table) × (slice_index (fxys_of table) k ≡ fxy) → (k : ℕ) × (k < suc (length table)) × (slice_index (fxys_of (s ∷ table)) k ≡ fxy)
+    later found = (suc found.0, omega (arith, found.1), found.2)
+
+    by : (b : Bool) → (s.fxy == fxy) ≡ b → IsSome (option_map (λ (q : Sequence). q.members) (cond b (Some s) (find (λ q. q.fxy == fxy) table)))
+        → (IsSome (members_of table fxy) → (k : ℕ) × (k < length table) × (slice_index (fxys_of table) k ≡ fxy))
+        → (k : ℕ) × (k < suc (length table)) × (slice_index (fxys_of (s ∷ table)) k ≡ fxy)
+    by true e some on = (0, omega arith, eqb-true s.fxy fxy e)
+    by false e some on = later (on some)
+
+-- all sequences of the file
+pub rises-all : (table : List Sequence) (ranks : List ℕ) (count : ℕ) → NeverRisesFirst table ranks count → length table ≤ count → NeverRises table ranks
+rises-all table ranks count never all fxy to l =
+    let (k, inside, at) = place-in table fxy (chain-sequence table (one l)) in
+    let above = rw at at (never k (omega arith) inside) in
+    above to l
+
+-- the first sequences of the file
+module _ (table : List Sequence) (place : ℕ) (was : IsPassed table place) where
+  -- one more that does not reach itself
+  pub passed-more : (fxy : ℕ) → fxy ≡ slice_index (fxys_of table) place → (ReachesItself table fxy → ⊥) → IsPassed table (place + 1)
+  passed-more fxy at none = below_more (λ k. k < length table → ReachesItself table (slice_index (fxys_of table) k) → ⊥) place was (λ inside. rw (← at) none)
+
+  -- the first that reaches itself
+  pub passed-first : (fxy : ℕ) → fxy ≡ slice_index (fxys_of table) place → place < length table → ReachesItself table fxy → IsFirstCycle table fxy
+  passed-first fxy at inside chain =
+      let d : Sequence = record { fxy = fxy; members = [] } in
+      record {
+        before = take place table;
+        sequence = get_or table place d;
+        after = drop (place + 1) table;
+        stands = sym (take-append-drop place table) ∙ ap (λ (rest : List Sequence). take place table ++ rest) (drop_more table place d inside);
+        named = sym (get_or-map (λ (s : Sequence). s.fxy) table place d 0 inside) ∙ sym at;
+        reaches = chain;
+        first = λ k e below. earlier k e (omega (arith, length-take-le place table (omega arith)));
+      }
+    where
+      earlier : (k : ℕ) (e : Sequence) → k < place → ReachesItself table (get_or (take place table) k e).fxy → ⊥
+      earlier k e under again =
+          was k under (omega arith) (rw (get_or-map (λ (s : Sequence). s.fxy) table k e 0 (omega arith), ← get_or-take place table k e under) again)
+
+  -- none reaches itself
+  pub passed-all : length table ≤ place → HasNoCycle table
+  passed-all all fxy chain =
+      let (k, inside, at) = place-in table fxy (chain-sequence table chain) in
+      was k (omega arith) inside (rw at chain)
+
+-- one sequence more
+pub rises-more : (table : List Sequence) (ranks : List ℕ) (place fxy rank : ℕ) → NeverRisesFirst table ranks place → fxy ≡ slice_index (fxys_of table) place
+    → IsAbove table ranks fxy rank → rank ≤ rank_of ranks fxy → NeverRisesFirst table ranks (place + 1)
+rises-more table ranks place fxy rank never at above most =
+    below_more (λ k. k < length table → IsAbove table ranks (slice_index (fxys_of table) k) (rank_of ranks (slice_index (fxys_of table) k))) place never
+    (λ inside. rw (← at) (λ to l. let h = above to l in omega arith))

@@ -1,0 +1,96 @@
+-- What Table B keeps of its elements.
+use Rattle.std.proofs.Common.{◌≡◌, ◌≢◌, ℕ, ◌-◌, ◌/◌, ◌<◌, ◌≤◌, false, List, [], ◌∷◌, ◌++◌, length, drop, map, Some, None, refl, ap, ◌∙◌, arith, suc, zero, get_or, length-append, rules, tests}
+use Rattle.std.specs.Prelude.{◌==◌, slice_range}
+use Rattle.std.specs.List.{AllByRecursion}
+use Rattle.std.proofs.lemmas.Bool.{eqb-true}
+use Rattle.std.proofs.lemmas.List.{take-append-le, drop-append-le, length-drop, map-append}
+use Rattle.bufr_tables.specs.Directory.{place_of}
+use Rattle.bufr_tables.proofs.DirectoryLemmas.{find-absent, find-found, find-passes, place-absent}
+use Rattle.bufr_tables.specs.Entry.{row_with}
+use Rattle.bufr_tables.specs.Fxy.{f_of}
+use Rattle.bufr_tables.specs.Kept.{Grows, IsInside, IsStored, row_kept, rows_kept}
+use Rattle.bufr_tables.specs.TableB.{Row, entry_of}
+use Rattle.bufr_tables.specs.declared.table_b.Entry.{Entry}
+use Rattle.bufr_tables.specs.declared.table_b.Stored.{Stored}
+
+abbrev pub fxys_of : List Stored → List ℕ
+fxys_of stored = map (λ s. s.fxy) stored
+
+all-same : (octets : List ℕ) (fxy : ℕ) (stored : List Stored) → AllByRecursion (λ s. ((row_kept octets s).fxy == fxy) ≡ (s.fxy == fxy)) stored
+all-same octets fxy [] = tt
+all-same octets fxy (s ∷ stored) = (refl, all-same octets fxy stored)
+
+-- the directory has a descriptor exactly where the rows have it
+pub entry-absent : (octets : List ℕ) (stored : List Stored) (fxy : ℕ) → place_of (fxys_of stored) fxy ≡ None → entry_of (rows_kept octets stored) fxy ≡ None
+entry-absent octets stored fxy = find-absent Stored Row (row_kept octets) (λ row. row.fxy == fxy) (λ s. s.fxy) fxy stored (all-same octets fxy stored)
+
+pub place-lacking : (octets : List ℕ) (stored : List Stored) (fxy : ℕ) → entry_of (rows_kept octets stored) fxy ≡ None → place_of (fxys_of stored) fxy ≡ None
+place-lacking octets stored fxy = place-absent Stored Row (row_kept octets) (λ row. row.fxy == fxy) (λ s. s.fxy) fxy stored (all-same octets fxy stored)
+
+pub entry-found : (octets : List ℕ) (stored : List Stored) (fxy place : ℕ) (d : Stored) → place_of (fxys_of stored) fxy ≡ Some place
+    → entry_of (rows_kept octets stored) fxy ≡ Some (row_kept octets (get_or stored place d))
+entry-found octets stored fxy place d = find-found Stored Row (row_kept octets) (λ row. row.fxy == fxy) (λ s. s.fxy) fxy stored place d (all-same octets fxy stored)
+
+unlike : (a b : ℕ) → a < 16384 → 16384 ≤ b → (a == b) ≡ false
+unlike a b small large = search (rules, tests)
+
+-- all are elements, so no other descriptor is there
+pub entry-other : (octets : List ℕ) (stored : List Stored) (fxy : ℕ) → AllByRecursion (λ s. s.fxy < 16384) stored → 16384 ≤ fxy → entry_of (rows_kept octets stored) fxy ≡ None
+entry-other octets [] fxy elements large = refl
+entry-other octets (s ∷ stored) fxy elements large =
+    let here : (s.fxy == fxy) ≡ false = unlike s.fxy fxy elements.0 large in
+    rw here (entry-other octets stored fxy elements.1 large)
+
+-- octets behind the block leave the rows as they are
+pub range-append : (xs ys : List ℕ) (i j : ℕ) → i ≤ j → j ≤ length xs → slice_range (xs ++ ys) i j ≡ slice_range xs i j
+range-append xs ys i j before inside =
+    rw (drop-append-le i xs ys (omega arith), take-append-le (j - i) (drop i xs) ys (omega (arith, length-drop i xs))) refl
+
+pub rows_kept-append : (octets more : List ℕ) (stored : List Stored) → AllByRecursion (IsInside (length octets)) stored → rows_kept (octets ++ more) stored ≡ rows_kept octets stored
+rows_kept-append octets more [] inside = refl
+rows_kept-append octets more (s ∷ stored) inside =
+    let name = range-append octets more s.start s.middle inside.0.0 (omega (arith, inside.0.1, inside.0.2)) in
+    let unit = range-append octets more s.middle s.end inside.0.1 inside.0.2 in
+    let rest = rows_kept-append octets more stored inside.1 in
+    cc
+
+pub inside-more : (n m : ℕ) (stored : List Stored) → n ≤ m → AllByRecursion (IsInside n) stored → AllByRecursion (IsInside m) stored
+inside-more n m [] more inside = tt
+inside-more n m (s ∷ stored) more inside = ((inside.0.0, inside.0.1, omega (arith, inside.0.2)), inside-more n m stored more inside.1)
+
+pub inside-push : (P : Stored → Type 0) (stored : List Stored) (s : Stored) → AllByRecursion P stored → P s → AllByRecursion P (stored ++ s ∷ [])
+inside-push P [] s all here = (here, tt)
+inside-push P (t ∷ stored) s all here = (all.0, inside-push P stored s all.1 here)
+
+pub inside-at : (P : Stored → Type 0) (stored : List Stored) (place : ℕ) (d : Stored) → AllByRecursion P stored → place < length stored → P (get_or stored place d)
+inside-at P [] place d all inside = absurd (omega arith)
+inside-at P (s ∷ stored) zero d all inside = all.0
+inside-at P (s ∷ stored) (suc place) d all inside = inside-at P stored place d all.1 (omega arith)
+
+pub entry-fxy : (rows : List Row) (fxy : ℕ) (row : Row) → entry_of rows fxy ≡ Some row → row.fxy ≡ fxy
+entry-fxy rows fxy row found = eqb-true row.fxy fxy (find-passes Row (λ r. r.fxy == fxy) rows row found)
+
+-- a descriptor that is not of an element has no row
+pub entry-not_element : (octets : List ℕ) (stored : List Stored) (fxy : ℕ) → AllByRecursion (λ s. s.fxy < 16384) stored → f_of fxy ≢ 0 → entry_of (rows_kept octets stored) fxy ≡ None
+entry-not_element octets stored fxy elements other = entry-other octets stored fxy elements (large fxy other)
+  where
+    large : (n : ℕ) → n / 16384 ≢ 0 → 16384 ≤ n
+    large n h = omega arith
+
+-- the row that is found is that of the element at its place
+pub entry-row : (octets : List ℕ) (stored : List Stored) (fxy place : ℕ) (s : Stored) (entry : Entry) → place_of (fxys_of stored) fxy ≡ Some place
+    → s ≡ get_or stored place s → row_with s.fxy entry ≡ row_kept octets s → Some (row_with fxy entry) ≡ entry_of (rows_kept octets stored) fxy
+entry-row octets stored fxy place s entry found at is =
+    let row : entry_of (rows_kept octets stored) fxy ≡ Some (row_kept octets s) = rw (← at) at (entry-found octets stored fxy place s found) in
+    let same : s.fxy ≡ fxy = entry-fxy (rows_kept octets stored) fxy (row_kept octets s) row in
+    rw (row, ← is, same) refl
+
+-- the rows with one more element
+pub rows_kept-push : (old new : List ℕ) (stored : List Stored) (s : Stored) (fxy : ℕ) (entry : Entry) → AllByRecursion (IsInside (length old)) stored → Grows old new
+    → IsStored new fxy entry s → rows_kept new (stored ++ s ∷ []) ≡ rows_kept old stored ++ row_with fxy entry ∷ []
+rows_kept-push old new stored s fxy entry inside grows is =
+    map-append (row_kept new) stored (s ∷ [])
+    ∙ rw (is.row, grows.1) (ap (λ (rows : List Row). rows ++ row_with fxy entry ∷ []) (rows_kept-append old grows.0 stored inside))
+
+pub inside-grown : (old new : List ℕ) (stored : List Stored) → AllByRecursion (IsInside (length old)) stored → Grows old new → AllByRecursion (IsInside (length new)) stored
+inside-grown old new stored inside grows = inside-more (length old) (length new) stored (rw grows.1 (omega (arith, length-append old grows.0))) inside

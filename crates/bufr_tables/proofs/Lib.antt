@@ -1,0 +1,20 @@
+pub mod NumberLemmas
+pub mod ReadingLemmas
+pub mod DirectoryLemmas
+pub mod KeptLemmas
+pub mod StepsLemmas
+pub mod TableBLemmas
+pub mod RunsLemmas
+pub mod CycleLemmas
+pub mod TableDLemmas
+pub mod ExpansionLemmas
+pub mod GrowingLemmas
+pub mod LeavesLemmas
+pub mod LevelLemmas
+pub mod PartLemmas
+pub mod PlantedLemmas
+pub mod SoundLemmas
+pub mod TemplateExamples
+pub mod TreeLemmas
+pub mod WholeLemmas
+mod Examples

@@ -1,0 +1,136 @@
+-- Worked examples of the expansion, computed.
+use Rattle.std.proofs.Common.{◌≡◌, ℕ, Option, zero, suc, ◌+◌, ◌*◌, ◌==◌, ◌||◌, Bool, false, cond, List, [], ◌∷◌, Some, None, Result, Ok, Err, refl}
+use Rattle.bufr_tables.specs.declared.template.fault.TemplateFault.{TemplateFault}
+use Rattle.bufr_tables.specs.declared.template.fault.TemplateFault.TheVariants as fault
+use Rattle.bufr_tables.specs.Fxy.{f_of, y_of}
+use Rattle.bufr_tables.specs.Tree.{Tree, bare, element, operator, fixed, delayed, places, depth}
+use Rattle.bufr_tables.specs.Expansion.{Tables, tree_of, inner_of, level, part_of, ◌>>=◌}
+
+-- a descriptor of six digits
+abbrev fxy : ℕ → ℕ → ℕ → ℕ
+fxy f x y = f * 16384 + (x * 256 + y)
+
+is_one_of : List ℕ → ℕ → Bool
+is_one_of [] d = false
+is_one_of (e ∷ es) d = d == e || is_one_of es d
+
+-- the sequence 3 60 192, and a chain of those that hold the next one twice
+tables : Tables
+unfolding is_one_of
+tables = record {
+  known = is_one_of (fxy 0 1 1 ∷ fxy 0 1 15 ∷ fxy 0 5 2 ∷ fxy 0 12 101 ∷ fxy 0 20 3 ∷ fxy 0 31 0 ∷ fxy 0 31 1 ∷ fxy 0 31 2 ∷ []);
+  members = λ d. cond (d == fxy 3 60 192) (Some (fxy 0 1 1 ∷ fxy 0 12 101 ∷ [])) None;
+}
+
+given : List ℕ → Result Tree TemplateFault
+unfolding tables tree_of inner_of level part_of is_one_of
+given list = tree_of tables list
+
+-- how many places, and how many groups round one node
+measured : Result Tree TemplateFault → Result (ℕ × ℕ) TemplateFault
+measured tree = tree >>= λ t. Ok (places t, depth t)
+
+-- so many replications, each of one pass over all that is left of so many descriptors, and an element
+nested : ℕ → List ℕ
+nested zero = fxy 0 1 1 ∷ []
+nested (suc n) = fxy 1 (n + 1) 1 ∷ nested n
+
+one_block_number : given (fxy 0 1 1 ∷ []) ≡ Ok (element (fxy 0 1 1) bare)
+unfolding given
+one_block_number = refl
+
+delayed_twice : given (fxy 1 1 0 ∷ fxy 0 31 1 ∷ fxy 0 1 1 ∷ []) ≡ Ok (delayed (fxy 0 31 1) (element (fxy 0 1 1) bare) bare)
+unfolding given
+delayed_twice = refl
+
+delayed_twice_is_measured : measured (given (fxy 1 1 0 ∷ fxy 0 31 1 ∷ fxy 0 1 1 ∷ [])) ≡ Ok (5, 1)
+unfolding given measured
+delayed_twice_is_measured = refl
+
+short_factor : given (fxy 1 1 0 ∷ fxy 0 31 0 ∷ fxy 0 1 1 ∷ []) ≡ Ok (delayed (fxy 0 31 0) (element (fxy 0 1 1) bare) bare)
+unfolding given
+short_factor = refl
+
+empty_group_of_operators : given (fxy 1 1 255 ∷ fxy 2 1 0 ∷ []) ≡ Err (fault.EmptyGroup (fxy 1 1 255))
+unfolding given
+empty_group_of_operators = refl
+
+empty_whole : given (fxy 2 1 0 ∷ []) ≡ Err (fault.EmptyGroup (fxy 2 1 0))
+unfolding given
+empty_whole = refl
+
+empty_list : given [] ≡ Err (fault.EmptyGroup 0)
+unfolding given
+empty_list = refl
+
+sequence_of_two : given (fxy 3 60 192 ∷ []) ≡ Ok (element (fxy 0 1 1) (element (fxy 0 12 101) bare))
+unfolding given
+sequence_of_two = refl
+
+sequence_of_two_is_measured : measured (given (fxy 3 60 192 ∷ [])) ≡ Ok (3, 0)
+unfolding given measured
+sequence_of_two_is_measured = refl
+
+local_descriptor : given (fxy 2 6 12 ∷ fxy 0 63 255 ∷ []) ≡ Ok (operator (fxy 2 6 12) (element (fxy 0 63 255) bare))
+unfolding given
+local_descriptor = refl
+
+local_descriptor_alone : given (fxy 0 63 255 ∷ []) ≡ Err (fault.UnknownElement (fxy 0 63 255))
+unfolding given
+local_descriptor_alone = refl
+
+thirty_two_groups : measured (given (nested 32)) ≡ Ok (66, 32)
+unfolding given measured nested
+thirty_two_groups = refl
+
+thirty_three_groups : given (nested 33) ≡ Err (fault.Depth (fxy 1 1 1))
+unfolding given nested
+thirty_three_groups = refl
+
+group_past_the_list : given (fxy 1 2 2 ∷ fxy 0 1 1 ∷ []) ≡ Err (fault.GroupShape (fxy 1 2 2))
+unfolding given
+group_past_the_list = refl
+
+no_factor : given (fxy 1 1 0 ∷ fxy 0 1 1 ∷ []) ≡ Err (fault.NoFactor (fxy 1 1 0))
+unfolding given
+no_factor = refl
+
+local_shape : given (fxy 2 6 12 ∷ fxy 2 1 0 ∷ []) ≡ Err (fault.LocalShape (fxy 2 6 12))
+unfolding given
+local_shape = refl
+
+unknown_operator : given (fxy 2 4 1 ∷ []) ≡ Err (fault.Operator (fxy 2 4 1))
+unfolding given
+unknown_operator = refl
+
+unknown_sequence : given (fxy 3 0 1 ∷ []) ≡ Err (fault.UnknownSequence (fxy 3 0 1))
+unfolding given
+unknown_sequence = refl
+
+delayed_in_delayed : measured (given (fxy 1 3 0 ∷ fxy 0 31 1 ∷ fxy 1 1 0 ∷ fxy 0 31 1 ∷ fxy 0 1 1 ∷ [])) ≡ Ok (8, 2)
+unfolding given measured
+delayed_in_delayed = refl
+
+inserted_text_in_a_group : measured (given (fxy 1 1 2 ∷ fxy 2 5 4 ∷ [])) ≡ Ok (4, 1)
+unfolding given measured
+inserted_text_in_a_group = refl
+
+width_at_the_end_of_a_group : given (fxy 1 1 2 ∷ fxy 2 6 12 ∷ fxy 0 63 255 ∷ []) ≡ Err (fault.LocalShape (fxy 2 6 12))
+unfolding given
+width_at_the_end_of_a_group = refl
+
+group_past_the_group : given (fxy 1 1 2 ∷ fxy 1 1 2 ∷ fxy 0 1 1 ∷ []) ≡ Err (fault.GroupShape (fxy 1 1 2))
+unfolding given
+group_past_the_group = refl
+
+group_of_a_sequence : given (fxy 1 1 2 ∷ fxy 3 60 192 ∷ fxy 0 20 3 ∷ []) ≡ Ok (fixed 2 (element (fxy 0 1 1) (element (fxy 0 12 101) bare)) (element (fxy 0 20 3) bare))
+unfolding given
+group_of_a_sequence = refl
+
+-- a chain of seventeen sequences that each hold the next one twice, and the last one an element twice
+doubled : ℕ → Option (List ℕ)
+doubled d = cond (f_of d == 3) (cond (y_of d == 17) (Some (fxy 0 1 1 ∷ fxy 0 1 1 ∷ [])) (Some ((d + 1) ∷ (d + 1) ∷ []))) None
+
+doubling_sequences : tree_of (record { known = λ d. d == fxy 0 1 1; members = doubled }) (fxy 3 0 1 ∷ []) ≡ Err (fault.TemplateSize (fxy 0 1 1))
+unfolding doubled tree_of inner_of level part_of
+doubling_sequences = refl

@@ -1,0 +1,27 @@
+use Rattle.std.proofs.Common.{◌<◌, refl}
+use Rattle.std.proofs.lemmas.List.{map-append}
+use Rattle.bufr_tables.proofs.KeptLemmas.{inside-grown, inside-push, place-lacking, rows_kept-push}
+use Rattle.bufr_tables.proofs.table_b.TableB.push.Goals as goal
+
+pub add-requires-clause-absent : goal.add-requires-clause-absent
+add-requires-clause-absent c =
+    let old = c.self.inside in
+    rw (c.word.ensures, c.self.invariant.listed) (place-lacking old.octets.items old.stored.items c.args.fxy (rw c.self.view_is c.requires.absent))
+
+pub invariant_of-self-2 : goal.invariant_of-self-2
+invariant_of-self-2 c =
+    let old = c.self.inside in
+    let kept = c.self.invariant in
+    let made = c.in_ok-stored.ensures in
+    let items = c.in_ok-push.ensures.items in
+    record {
+      inside = rw items (inside-push _ old.stored.items c.in_ok-stored.stored (inside-grown _ _ old.stored.items kept.inside made.grows) made.ok.inside);
+      elements = rw items (inside-push (λ s. s.fxy < 16384) old.stored.items c.in_ok-stored.stored kept.elements (rw made.ok.descriptor c.requires.element));
+      listed = rw (items, c.add.ensures, c.word.ensures, kept.listed) (rw (map-append, made.ok.descriptor) refl);
+    }
+
+pub returns : goal.returns
+returns c =
+    let old = c.self.inside in
+    let made = c.in_ok-stored.ensures in
+    rw (c.in_ok-push.ensures.items, ← c.self.view_is) (record { ok = rows_kept-push old.octets.items _ old.stored.items c.in_ok-stored.stored c.args.fxy c.args.entry.now c.self.invariant.inside made.grows made.ok })

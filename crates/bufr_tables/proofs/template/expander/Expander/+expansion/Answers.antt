@@ -1,0 +1,81 @@
+use Rattle.std.proofs.Common.{◌≢◌, ℕ, List, sym, subst, arith}
+use Rattle.std.proofs.lemmas.Result.{err_from_is_err_and}
+use Rattle.bufr_tables.specs.Planted.{planted}
+use Rattle.bufr_tables.specs.Expansion.{inner_of}
+use Rattle.bufr_tables.specs.Growing.{growth_of}
+use Rattle.bufr_tables.specs.Expander.{tables_in}
+use Rattle.bufr_tables.proofs.TreeLemmas.{depth-le-size}
+use Rattle.bufr_tables.proofs.LevelLemmas.{Came, came_none, came_part, came_fault, came_end}
+use Rattle.bufr_tables.proofs.PartLemmas.{gives_same, part-element, part-group, part-operator, part-sequence, body-depth, body-places, body-list-fault, body-list-empty, body-list-ok, sequence-depth, sequence-fault, sequence-ok}
+use Rattle.bufr_tables.proofs.template.expander.Expander.+expansion.Goals as goal
+
+pub list-loop-fxy-init : goal.list-loop-fxy-init
+list-loop-fxy-init t c = came_none _ _ _ _
+
+pub list-loop-fxy-preserved : goal.list-loop-fxy-preserved
+list-loop-fxy-preserved t c =
+    let came = subst (λ (l : List ℕ). Came (tables_in c.args.self.now) (inner_of (tables_in c.args.self.now) c.args.room) c.args.list.now (growth_of c.args.growing.now) c.loop-fxy.width_given l (growth_of c.loop-fxy.growing)) c.in-Some.ensures.cases.0 c.loop-fxy.invariant in
+    rw (c.gives_width-width_given.ensures, c.behind-rest.ensures) (came_part _ _ _ _ _ _ _ _ _ _ came c.in_ok-taken.ensures.gives)
+
+pub list-returns : goal.list-returns
+list-returns t c = came_end _ _ _ _ _ _ _ c.in_default.ensures.cases c.loop-fxy.invariant
+
+pub list-returns-in_err-taken : goal.list-returns-in_err-taken
+list-returns-in_err-taken t c =
+    let came = subst (λ (l : List ℕ). Came (tables_in c.args.self.now) (inner_of (tables_in c.args.self.now) c.args.room) c.args.list.now (growth_of c.args.growing.now) c.loop-fxy.width_given l (growth_of c.loop-fxy.growing)) c.in-Some.ensures.cases.0 c.loop-fxy.invariant in
+    let p = err_from_is_err_and c.from_residual.result c.from_residual.ensures.1 in
+    rw (p.1, p.2) (came_fault _ _ _ _ _ _ _ _ _ came c.in_err-taken.ensures.gives)
+
+pub part-returns-in-0-clause-gives : goal.part-returns-in-0-clause-gives
+part-returns-in-0-clause-gives t c = gives_same _ _ _ _ _ (part-element _ _ _ _ _ _ _ c.f.ensures.value c.in-0.is) c.element.ensures.gives
+
+pub part-returns-in-1-clause-gives : goal.part-returns-in-1-clause-gives
+part-returns-in-1-clause-gives t c = gives_same _ _ _ _ _ (part-group _ _ _ _ _ _ _ c.f.ensures.value c.in-1.is) c.group.ensures.gives
+
+pub part-returns-in-2-clause-gives : goal.part-returns-in-2-clause-gives
+part-returns-in-2-clause-gives t c = gives_same _ _ _ _ _ (part-operator _ _ _ _ _ _ _ c.f.ensures.value c.in-2.is) c.operator.ensures.gives
+
+pub part-returns-in_default-clause-gives : goal.part-returns-in_default-clause-gives
+part-returns-in_default-clause-gives t c =
+    let not_element : c.f.result ≢ 0 = omega arith in
+    let not_group : c.f.result ≢ 1 = omega arith in
+    let not_operator : c.f.result ≢ 2 = omega arith in
+    gives_same _ _ _ _ _ (part-sequence _ _ _ _ _ _ _ c.f.ensures.value not_element not_group not_operator) c.sequence.ensures.gives
+
+pub fixed-push_fixed-requires : goal.fixed-push_fixed-requires
+fixed-push_fixed-requires t c = omega (arith, c.in_ok-body.body.deep, c.in_ok-body.body.within, c.in_ok-body.ensures.places, depth-le-size (planted c.in_ok-body.body.nodes.items))
+
+pub delayed-push_delayed-requires : goal.delayed-push_delayed-requires
+delayed-push_delayed-requires t c = omega (arith, c.in_ok-body.body.deep, c.in_ok-body.body.within, c.in_ok-body.ensures.places, depth-le-size (planted c.in_ok-body.body.nodes.items))
+
+pub body-returns-then-room-eq0-clause-body : goal.body-returns-then-room-eq0-clause-body
+body-returns-then-room-eq0-clause-body t c = λ other. body-depth _ _ _ _ _ _ c.if-room-eq0.true (omega arith)
+
+pub body-returns-in_err-with_places-clause-body : goal.body-returns-in_err-with_places-clause-body
+body-returns-in_err-with_places-clause-body t c =
+    let p = err_from_is_err_and c.from_residual.result c.from_residual.ensures.1 in
+    rw (p.1, p.2) (λ other. body-places _ _ _ _ _ _ _ (omega arith) (omega arith) c.in_err-with_places.ensures.gives)
+
+pub body-returns-in_err-list-clause-body : goal.body-returns-in_err-list-clause-body
+body-returns-in_err-list-clause-body t c =
+    let p = err_from_is_err_and c.from_residual-in_err-list.result c.from_residual-in_err-list.ensures.1 in
+    rw (p.1, p.2) (body-list-fault (tables_in c.args.self.now) c.args.room c.args.places c.args.own c.args.fxy c.args.after.now _ (growth_of c.new-body.result) _ _ _ _ (omega arith) (omega arith) c.in_ok-with_places.ensures.gives c.new-body.ensures c.in_ok-with_places.ensures.sum.0 c.before-2.ensures c.from-count.ensures c.x.ensures.value c.in_err-list.ensures)
+
+pub body-returns-then-not-body-clause-body : goal.body-returns-then-not-body-clause-body
+body-returns-then-not-body-clause-body t c = λ other.
+    body-list-empty (tables_in c.args.self.now) c.args.room c.args.places c.args.own c.args.fxy c.args.after.now (growth_of c.list.new.growing) (growth_of c.new-body.result) _ _ _ _ _ (omega arith) (omega arith) c.in_ok-with_places.ensures.gives c.new-body.ensures c.in_ok-with_places.ensures.sum.0 c.before-2.ensures c.from-count.ensures c.x.ensures.value c.in_ok-list.ensures c.list.new.growing.consuming c.if-not-body.true
+
+pub body-returns-clause-body : goal.body-returns-clause-body
+body-returns-clause-body t c =
+    body-list-ok (tables_in c.args.self.now) c.args.room c.args.places c.args.own c.args.fxy c.args.after.now (growth_of c.list.new.growing) (growth_of c.new-body.result) _ _ _ _ _ (omega arith) (omega arith) c.in_ok-with_places.ensures.gives c.new-body.ensures c.in_ok-with_places.ensures.sum.0 c.before-2.ensures c.from-count.ensures c.x.ensures.value c.in_ok-list.ensures c.list.new.growing.consuming c.if-not-body.false
+
+pub sequence-returns-then-room-eq0-clause-gives : goal.sequence-returns-then-room-eq0-clause-gives
+sequence-returns-then-room-eq0-clause-gives t c = λ other. sequence-depth (tables_in c.args.self.now) c.args.room c.args.growing.now.places c.args.fxy c.in-Some.members.now c.if-room-eq0.true (sym c.in-Some.ensures)
+
+pub sequence-returns-in_err-list-clause-gives : goal.sequence-returns-in_err-list-clause-gives
+sequence-returns-in_err-list-clause-gives t c =
+    let p = err_from_is_err_and c.from_residual.result c.from_residual.ensures.1 in
+    rw (p.1, p.2) (sequence-fault (tables_in c.args.self.now) c.args.room c.args.growing.now.places c.args.fxy c.in-Some.members.now _ (omega arith) (sym c.in-Some.ensures) c.in_err-list.ensures)
+
+pub sequence-returns-clause-gives : goal.sequence-returns-clause-gives
+sequence-returns-clause-gives t c = sequence-ok (tables_in c.args.self.now) c.args.room c.args.fxy c.in-Some.members.now (growth_of c.args.growing.now) (growth_of c.list.new.growing) (omega arith) (sym c.in-Some.ensures) c.in_ok-list.ensures

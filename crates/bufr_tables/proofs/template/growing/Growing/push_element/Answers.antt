@@ -1,0 +1,10 @@
+use Rattle.std.proofs.Common.{arith}
+use Rattle.bufr_tables.proofs.GrowingLemmas.{deep_element, consuming_element}
+use Rattle.bufr_tables.proofs.template.growing.Growing.push_element.Goals as goal
+
+pub invariant_of-self-2 : goal.invariant_of-self-2
+invariant_of-self-2 c = record {
+  within = omega (arith, c.in_ok-places.ensures.sum);
+  deep = deep_element _ _ c.args.fxy _ c.args.self.now.deep c.in_ok-push_node.ensures.ok;
+  consuming = consuming_element _ _ c.args.fxy c.in_ok-push_node.ensures.ok;
+}

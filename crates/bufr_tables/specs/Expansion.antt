@@ -1,0 +1,157 @@
+-- The tree that a list of descriptors stands for, or the first fault on the way
+-- (WMO-No. 306, Volume I.2, FM 94: section 3, replications, Tables C and D; the faults, their order and the limits are a choice of this project)
+use Rattle.std.specs.Prelude.{ℕ, zero, suc, ◌+◌, ◌==◌, nat_lt, nat_le, not, ◌&&◌, ◌||◌, Bool, true, false, List, [], ◌∷◌, length, take, Option, Some, None, Result, Ok, Err, ok_or}
+use Rattle.bufr_tables.specs.declared.template.fault.TemplateFault.{TemplateFault}
+use Rattle.bufr_tables.specs.declared.template.fault.TemplateFault.TheVariants as fault
+use Rattle.bufr_tables.specs.Fxy.{f_of, x_of, y_of}
+use Rattle.bufr_tables.specs.Operators.{is_legal_operator, gives_width}
+use Rattle.bufr_tables.specs.Tree.{Tree, bare, element, operator, fixed, delayed, join, size, consumes}
+
+-- what the tables tell: which elements Table B knows, and the members of a sequence of Table D
+pub record Tables : Type 0 where
+  pub known : ℕ → Bool
+  pub members : ℕ → Option (List ℕ)
+
+-- the most places that a template may take
+abbrev pub most_places : ℕ
+most_places = 65535
+
+-- the most groups and sequences that may be open together
+abbrev pub most_open : ℕ
+most_open = 32
+
+-- one step after another, up to the first fault
+infixl 10 ◌>>=◌
+abbrev pub ◌>>=◌ : {A B : Type 0} → Result A TemplateFault → (A → Result B TemplateFault) → Result B TemplateFault
+(Ok a) >>= next = next a
+(Err why) >>= next = Err why
+
+-- a fault, unless a test is met
+abbrev pub unless : Bool → TemplateFault → Result (Unit {0}) TemplateFault
+unless true why = Ok tt
+unless false why = Err why
+
+-- a fault, where so many places more are too many
+abbrev pub with_places : (places more d : ℕ) → Result (Unit {0}) TemplateFault
+with_places places more d = unless (nat_le (places + more) most_places) (fault.TemplateSize d)
+
+-- what a list of descriptors stands for behind so many places
+abbrev pub Expansion : Type 0
+Expansion = (places : ℕ) → List ℕ → Result Tree TemplateFault
+
+-- what one descriptor stands for, and how many of those behind it it takes
+pub record Part : Type 0 where
+  pub tree : Tree
+  pub taken : ℕ
+
+abbrev pub part : Tree → ℕ → Part
+part tree taken = record { tree = tree; taken = taken }
+
+-- how one more group or sequence is expanded, where there is room for it
+abbrev pub opened : Option Expansion → ℕ → Result Expansion TemplateFault
+opened None d = Err (fault.Depth d)
+opened (Some inner) d = Ok inner
+
+-- the factors of delayed replication: 0 31 000, 0 31 001 and 0 31 002
+abbrev pub is_factor : ℕ → Bool
+is_factor d = f_of d == 0 && (x_of d == 31 && nat_le (y_of d) 2)
+
+-- whether a list begins with an element
+abbrev pub begins_with_element : List ℕ → Bool
+begins_with_element [] = false
+begins_with_element (d ∷ after) = f_of d == 0
+
+-- an element: known to Table B, or of a width that the operator before it gives
+abbrev pub element_part : Tables → Bool → ℕ → ℕ → Result Part TemplateFault
+element_part tables width_given places d = do
+  _ ← unless (width_given || tables.known d) (fault.UnknownElement d)
+  _ ← with_places places 1 d
+  Ok (part (element d bare) 0)
+
+-- an operator; one that gives a width stands before an element
+abbrev pub operator_part : ℕ → ℕ → List ℕ → Result Part TemplateFault
+operator_part places d after = do
+  _ ← unless (is_legal_operator d) (fault.Operator d)
+  _ ← unless (not (gives_width d) || begins_with_element after) (fault.LocalShape d)
+  _ ← with_places places 1 d
+  Ok (part (operator d bare) 0)
+
+-- the body of a group: the next X descriptors, behind the group's own places; some node of it takes bits
+abbrev pub body_of : Option Expansion → (places own d : ℕ) → List ℕ → Result Tree TemplateFault
+body_of inner places own d after = do
+  _ ← unless (nat_le (x_of d) (length after)) (fault.GroupShape d)
+  expand ← opened inner d
+  _ ← with_places places own d
+  body ← expand (places + own) (take (x_of d) after)
+  _ ← unless (consumes body) (fault.EmptyGroup d)
+  Ok body
+
+-- a group of Y passes
+abbrev pub fixed_part : Option Expansion → ℕ → ℕ → List ℕ → Result Part TemplateFault
+fixed_part inner places d after = do
+  body ← body_of inner places 2 d after
+  Ok (part (fixed (y_of d) body bare) (x_of d))
+
+-- a group of as many passes as its factor tells, which stands before the X descriptors
+abbrev pub delayed_part : Tables → Option Expansion → ℕ → ℕ → List ℕ → Result Part TemplateFault
+delayed_part tables inner places d [] = Err (fault.NoFactor d)
+delayed_part tables inner places d (factor ∷ after) = do
+  _ ← unless (is_factor factor) (fault.NoFactor d)
+  _ ← unless (tables.known factor) (fault.UnknownElement factor)
+  body ← body_of inner places 3 d after
+  Ok (part (delayed factor body bare) (1 + x_of d))
+
+-- a group, by its Y
+abbrev pub group_by : ℕ → Tables → Option Expansion → ℕ → ℕ → List ℕ → Result Part TemplateFault
+group_by zero tables inner places d after = delayed_part tables inner places d after
+group_by (suc count) tables inner places d after = fixed_part inner places d after
+
+-- a replication
+abbrev pub group_part : Tables → Option Expansion → ℕ → ℕ → List ℕ → Result Part TemplateFault
+group_part tables inner places d after = do
+  _ ← unless (nat_lt 0 (x_of d)) (fault.GroupShape d)
+  group_by (y_of d) tables inner places d after
+
+-- a sequence: its members stand in its place
+abbrev pub sequence_part : Tables → Option Expansion → ℕ → ℕ → Result Part TemplateFault
+sequence_part tables inner places d = do
+  members ← ok_or (tables.members d) (fault.UnknownSequence d)
+  expand ← opened inner d
+  tree ← expand places members
+  Ok (part tree 0)
+
+-- one descriptor, by its F
+abbrev pub part_by : ℕ → Tables → Option Expansion → Bool → ℕ → ℕ → List ℕ → Result Part TemplateFault
+part_by zero tables inner width_given places d after = element_part tables width_given places d
+part_by (suc zero) tables inner width_given places d after = group_part tables inner places d after
+part_by (suc (suc zero)) tables inner width_given places d after = operator_part places d after
+part_by _ tables inner width_given places d after = sequence_part tables inner places d
+
+unfoldable pub part_of : Tables → Option Expansion → Bool → ℕ → ℕ → List ℕ → Result Part TemplateFault
+part_of tables inner width_given places d after = part_by (f_of d) tables inner width_given places d after
+
+-- one list, from left to right, but for so many descriptors that a group has taken
+unfoldable pub level : Tables → Option Expansion → Bool → ℕ → Expansion
+level tables inner width_given skip places [] = Ok bare
+level tables inner width_given (suc skip) places (d ∷ after) = level tables inner width_given skip places after
+level tables inner width_given zero places (d ∷ after) = do
+  first ← part_of tables inner width_given places d after
+  rest ← level tables inner (gives_width d) first.taken (places + size first.tree) after
+  Ok (join first.tree rest)
+
+-- how one more group or sequence is expanded, where so many more may be open
+unfoldable pub inner_of : Tables → ℕ → Option Expansion
+inner_of tables zero = None
+inner_of tables (suc room) = Some (level tables (inner_of tables room) false 0)
+
+-- the first descriptor of a list, or 000000
+abbrev pub first_of : List ℕ → ℕ
+first_of [] = 0
+first_of (d ∷ after) = d
+
+-- a whole list: the end of the template is its first place, and some node takes bits
+unfoldable pub tree_of : Tables → List ℕ → Result Tree TemplateFault
+tree_of tables list = do
+  tree ← level tables (inner_of tables most_open) false 0 1 list
+  _ ← unless (consumes tree) (fault.EmptyGroup (first_of list))
+  Ok tree

@@ -1,0 +1,37 @@
+-- How Table D is kept: all members one after another, and for each sequence the places of its own.
+use Rattle.std.specs.Prelude.{◌≡◌, ℕ, ◌-◌, ◌≤◌, ◌<◌, List, [], ◌∷◌, length, map, slice_range, ⊤}
+use Rattle.std.specs.List.{AllByRecursion}
+use Rattle.bufr_tables.specs.TableD.{Sequence}
+use Rattle.bufr_tables.specs.declared.table_d.Run.{Run}
+use Rattle.bufr_tables.specs.declared.table_d.TableD.TheInside.{Inside}
+
+-- the sequence of a run of members
+abbrev pub sequence_kept : List ℕ → Run → Sequence
+sequence_kept members run = record { fxy = run.fxy; members = slice_range members run.start run.end }
+
+abbrev pub sequences_kept : List ℕ → List Run → List Sequence
+sequences_kept members runs = map (sequence_kept members) runs
+
+-- a run lies inside the members
+abbrev pub IsRun : ℕ → Run → Type 0
+IsRun size run = (run.start ≤ run.end) × (run.end ≤ size)
+
+-- X and Y of a sequence
+abbrev pub key_of : Run → ℕ
+key_of run = run.fxy - 49152
+
+-- the last run goes on to the end of the members
+abbrev pub LastEnds : ℕ → List Run → Type 0
+LastEnds size [] = ⊤
+LastEnds size (run ∷ []) = run.end ≡ size
+LastEnds size (run ∷ next ∷ rest) = LastEnds size (next ∷ rest)
+
+-- every run lies inside the members, and the directory has the sequences' X and Y
+pub record IsKept (a : Inside) : Type 0 where
+  pub inside : AllByRecursion (IsRun (length a.members.items)) a.runs.items
+  pub sequences : AllByRecursion (λ run. (49152 ≤ run.fxy) × (run.fxy < 65536)) a.runs.items
+  pub listed : a.directory ≡ map key_of a.runs.items
+  pub last : LastEnds (length a.members.items) a.runs.items
+
+abbrev pub table_kept : Inside → List Sequence
+table_kept a = sequences_kept a.members.items a.runs.items

@@ -1,0 +1,85 @@
+-- Table D, the sequences, as a text of CSV writes it: a header, and a row for each member of a sequence. (WMO-No. 306,
+-- Volume I.2, FM 94: Table D. The text's form, its limits and its faults are a choice of this project)
+use Rattle.std.specs.Prelude.{ℕ, ◌+◌, ◌-◌, ◌==◌, ◌&&◌, Bool, false, not, nat_le, if◌then◌else◌, List, [], ◌∷◌, ◌++◌, length, map, codes, Option, Some, None, is_some, option_map, Result, Ok, Err}
+use Rattle.std.specs.List.{find}
+use Rattle.std.specs.Str.{bytes_eq}
+use Rattle.bufr_tables.specs.declared.fault.TableFault.{TableFault}
+use Rattle.bufr_tables.specs.declared.fault.TableFault.TheVariants.{Header, Row as RowFault, Duplicate, TableSize, Csv}
+use Rattle.bufr_tables.specs.Fxy.{f_of, fxy_of}
+use Rattle.bufr_tables.specs.Records.{Record, field_of}
+use Rattle.bufr_tables.specs.Steps.{◌>>=◌, and_then, only_if}
+
+-- a sequence of the table: its descriptor, and its members in order
+pub record Sequence : Type 0 where
+  pub fxy : ℕ
+  pub members : List ℕ
+
+-- a row: a member of a sequence
+pub record Member : Type 0 where
+  pub sequence : ℕ
+  pub fxy : ℕ
+
+-- the header has these two fields
+unfoldable pub is_header : Record → Bool
+is_header r = (length r == 2) && bytes_eq (field_of r 0) (codes "fxy") && bytes_eq (field_of r 1) (codes "member")
+
+-- the descriptor of a sequence
+unfoldable pub sequence_of : List ℕ → Option ℕ
+sequence_of text = fxy_of text >>= λ fxy. only_if (f_of fxy == 3) fxy
+
+-- the row that a record writes, where it writes one
+unfoldable pub member_of : Record → Option Member
+member_of r = do
+  sequence ← sequence_of (field_of r 0)
+  fxy ← fxy_of (field_of r 1)
+  Some (record { sequence = sequence; fxy = fxy })
+
+-- the descriptors of the sequences, in the order of the file
+abbrev pub fxys_of : List Sequence → List ℕ
+fxys_of table = map (λ s. s.fxy) table
+
+-- the members of a sequence
+abbrev pub members_of : List Sequence → ℕ → Option (List ℕ)
+members_of table fxy = option_map (λ s. s.members) (find (λ s. s.fxy == fxy) table)
+
+-- the last sequence has this descriptor
+abbrev pub is_last : List Sequence → ℕ → Bool
+is_last [] fxy = false
+is_last (s ∷ []) fxy = s.fxy == fxy
+is_last (s ∷ t ∷ rest) fxy = is_last (t ∷ rest) fxy
+
+-- the last sequence has one member more
+abbrev pub extended : List Sequence → ℕ → List Sequence
+extended [] member = []
+extended (s ∷ []) member = record { fxy = s.fxy; members = s.members ++ member ∷ [] } ∷ []
+extended (s ∷ t ∷ rest) member = s ∷ extended (t ∷ rest) member
+
+-- the rows of one sequence stand together: a row belongs to the last sequence, or begins one
+unfoldable pub added : List Sequence → Member → List Sequence
+added table row =
+    if is_last table row.sequence then extended table row.fxy
+    else table ++ record { fxy = row.sequence; members = row.fxy ∷ [] } ∷ []
+
+-- a row begins a second run of rows of its sequence
+abbrev pub begins_again : List Sequence → Member → Bool
+begins_again table row = not (is_last table row.sequence) && is_some (members_of table row.sequence)
+
+-- the sequences so far with the row of record n, or what is at fault with this record; n - 2 rows stand before it
+abbrev pub with_member : ℕ → List Sequence → Option Member → Result (List Sequence) TableFault
+with_member n table None = Err (RowFault n)
+with_member n table (Some row) =
+    if begins_again table row then Err (Duplicate row.sequence)
+    else if nat_le 65536 (n - 2) then Err TableSize else Ok (added table row)
+
+unfoldable pub with_record : ℕ → List Sequence → Record → Result (List Sequence) TableFault
+with_record n table r = if length r == 2 then with_member n table (member_of r) else Err Csv
+
+-- the sequences so far with the rows of the records from record n on, or the first fault of these
+unfoldable pub sequences_from : ℕ → List Sequence → List Record → Result (List Sequence) TableFault
+sequences_from n table [] = Ok table
+sequences_from n table (r ∷ rs) = and_then (with_record n table r) (λ more. sequences_from (n + 1) more rs)
+
+-- the table of these records, or the first of them at fault: the header is record 1
+unfoldable pub table_d_of : List Record → Result (List Sequence) TableFault
+table_d_of [] = Err Header
+table_d_of (first ∷ rest) = if is_header first then sequences_from 2 [] rest else Err Header

@@ -1,0 +1,125 @@
+// A descriptor, as section 3 of a message, a template and the tables have it.
+
+ghost use Rattle.std.specs.Prelude.{◌≡◌, ◌<◌, ◌≤◌, IsTrue, Some, length};
+ghost use Rattle.std.specs.Char.{is_ascii_digit};
+ghost use Rattle.std.specs.List.{list_all};
+ghost use Rattle.bufr_tables.specs.Fxy.{f_of, x_of, y_of, fxy_text, fxy_of, number_at};
+
+use std::fmt;
+use std::marker::Model;
+
+/// A descriptor F X Y of section 3: two, six and eight bits (WMO-No. 306, Volume I.2, FM 94).
+///
+/// F is 0 for an element of Table B, 1 for a replication, 2 for an operator and 3 for a sequence of Table D.
+/// A clause sees a descriptor as the number that its 16 bits write.
+#[derive(Clone, Copy, Debug, PartialEq, Eq)]
+pub struct Fxy {
+    word: u16,
+}
+
+impl Model for Fxy {
+    ghost use Rattle.std.specs.Prelude.{ℕ};
+
+    ghost Value = { ℕ };
+
+    ghost view = { λ d. d.word };
+
+    ghost inverse = { λ n. record { word = n } };
+}
+
+impl Fxy {
+    /// The descriptor with these 16 bits.
+    pub const fn from_word(word: u16) -> Fxy
+        ensures { result ≡ word }
+    {
+        Fxy { word }
+    }
+
+    /// The 16 bits.
+    pub const fn word(self) -> u16
+        ensures { result ≡ self }
+    {
+        self.word
+    }
+
+    /// F, from 0 to 3.
+    pub const fn f(self) -> u8
+        ensures value { result ≡ f_of self }
+        ensures most { result ≤ 3 }
+    {
+        (self.word / 16384) as u8
+    }
+
+    /// X, the class, from 0 to 63.
+    pub const fn x(self) -> u8
+        ensures value { result ≡ x_of self }
+        ensures most { result ≤ 63 }
+    {
+        (self.word / 256 % 64) as u8
+    }
+
+    /// Y, the place in the class, from 0 to 255.
+    pub const fn y(self) -> u8
+        ensures { result ≡ y_of self }
+    {
+        (self.word % 256) as u8
+    }
+
+    /// The six digits, as `012101`.
+    pub const fn text(self) -> [u8; 6]
+        ensures value { result ≡ fxy_text self }
+        ensures reads_back { fxy_of result ≡ Some self }
+    {
+        let (x, y) = (self.x(), self.y());
+        [
+            b'0' + self.f(),
+            b'0' + x / 10,
+            b'0' + x % 10,
+            b'0' + y / 100,
+            b'0' + y / 10 % 10,
+            b'0' + y % 10,
+        ]
+    }
+
+    // The descriptor that six digits write, where F, X and Y fit their bits.
+    pub(crate) fn read(text: &[u8]) -> Option<Fxy>
+        ensures { result ≡ fxy_of text.now }
+    {
+        if text.len() != 6 || !are_digits(text) {
+            return None;
+        }
+        let f = digit_at(text, 0);
+        let x = 10 * digit_at(text, 1) + digit_at(text, 2);
+        let y = 100 * digit_at(text, 3) + 10 * digit_at(text, 4) + digit_at(text, 5);
+        if f > 3 || x > 63 || y > 255 {
+            return None;
+        }
+        Some(Fxy {
+            word: f * 16384 + x * 256 + y,
+        })
+    }
+}
+
+/// Writes the six digits.
+impl fmt::Display for Fxy {
+    fn fmt<W: fmt::Write>(&self, f: &mut fmt::Formatter<W>) -> fmt::Result {
+        write!(f, "{}{:02}{:03}", self.f(), self.x(), self.y())
+    }
+}
+
+// The number of the digit at a place of a text of digits.
+fn digit_at(text: &[u8], place: usize) -> u16
+    requires digits { IsTrue (list_all is_ascii_digit text.now) }
+    requires inside { place < length text.now }
+    ensures value { result ≡ number_at text.now place }
+    ensures most { result ≤ 9 }
+{
+    u16::from(text[place] - b'0')
+}
+
+// Whether each octet is a digit.
+pub(crate) fn are_digits(text: &[u8]) -> bool
+    ensures { result ≡ list_all is_ascii_digit text.now }
+{
+    text.iter().all(|octet| octet.is_ascii_digit())
+}

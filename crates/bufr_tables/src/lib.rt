@@ -1,0 +1,27 @@
+//! The tables of FM 94 BUFR: descriptors, and Tables B and D read from CSV.
+//!
+//! A descriptor ([`Fxy`]) is looked up in [`TableB`], the elements, or in [`TableD`], the sequences.
+//! A list of descriptors is expanded to a [`Template`], the tree that says what a message's data hold.
+#![tactic(auto)]
+
+mod cycle;
+mod directory;
+mod fault;
+mod fxy;
+mod kind;
+mod number;
+mod ranks;
+mod records;
+mod table_b;
+mod table_d;
+mod template;
+
+pub use fault::TableFault;
+pub use fxy::Fxy;
+pub use kind::Kind;
+pub use table_b::{Entry, TableB};
+pub use table_d::TableD;
+pub use template::{Node, Template, TemplateFault};
+
+#[cfg(test)]
+mod tests;

@@ -1,0 +1,317 @@
+// Table B, the elements, read from CSV.
+
+ghost use Rattle.std.specs.Prelude.{◌≡◌, ◌≢◌, ◌<◌, [], ◌∷◌, ◌++◌, None, length, OnOk, IfErr, IfOk, IfSome, option_map, Ok, Err};
+ghost use Rattle.std.specs.List.{list_all};
+ghost use Rattle.csv.specs.Records.{fields_of};
+ghost use Rattle.bufr_tables.specs.declared.fault.TableFault.TheVariants.{Memory};
+ghost use Rattle.bufr_tables.specs.Entry.{row_with};
+ghost use Rattle.bufr_tables.specs.Kept.{Grows, IsInside, IsStored, row_kept};
+ghost use Rattle.bufr_tables.specs.Records.{records_of};
+ghost use Rattle.bufr_tables.specs.Steps.{Gives};
+ghost use Rattle.bufr_tables.specs.TableB.{AreRows, Row, element_of, entry_of, fits_factor, factor_width, is_header, is_printed, plain_of, row_of, scale_of, table_b_of, width_of, with_record};
+
+use crate::directory::Directory;
+use crate::fault::TableFault;
+use crate::fxy::Fxy;
+use crate::kind::Kind;
+use crate::number::integer;
+use crate::records::{RecordReader, field, has_field};
+use csv::ByteRecord;
+use std::alloc::{AllocError, Global};
+use std::marker::Model;
+
+/// What Table B says of an element.
+#[derive(Clone, Copy, Debug, PartialEq, Eq)]
+pub struct Entry<'a> {
+    /// The name, as octets: the text of the table is not taken for UTF-8.
+    pub name: &'a [u8],
+    /// The unit, as octets.
+    pub unit: &'a [u8],
+    /// What the values are, by the unit.
+    pub kind: Kind,
+    /// The scale, from -127 to 127: a value is (raw + reference) / 10^scale.
+    pub scale: i16,
+    /// The reference value.
+    pub reference: i64,
+    /// The width in bits: 1 to 63, and for text 8 to 2,040 in whole octets.
+    pub width: u32,
+}
+
+// The descriptor of an element.
+#[tactic(auto, unfolding(crate::specs::TableB::element_of))]
+fn element(text: &[u8]) -> Option<Fxy>
+    ensures value { result ≡ element_of text.now }
+    ensures element { IfSome result (λ fxy. fxy < 16384) }
+{
+    let fxy = Fxy::read(text)?;
+    if fxy.f() != 0 {
+        return None;
+    }
+    Some(fxy)
+}
+
+// A name or a unit.
+#[tactic(auto, unfolding(crate::specs::TableB::plain_of))]
+fn plain(text: &[u8]) -> Option<&[u8]>
+    ensures { option_map (λ s. s.now) result ≡ plain_of text.now }
+{
+    if text.len() > 512 || !are_printed(text) {
+        return None;
+    }
+    Some(text)
+}
+
+// Whether no octet is a control character of ASCII.
+fn are_printed(text: &[u8]) -> bool
+    ensures { result ≡ list_all is_printed text.now }
+{
+    text.iter().all(|octet| is_printed(*octet))
+}
+
+// Whether an octet is no control character of ASCII.
+fn is_printed(octet: u8) -> bool
+    ensures { result ≡ is_printed octet }
+{
+    octet >= 32 && octet != 127
+}
+
+// A scale.
+#[tactic(auto, unfolding(crate::specs::TableB::scale_of))]
+fn scale(text: &[u8]) -> Option<i16>
+    ensures { result ≡ scale_of text.now }
+{
+    let scale = integer(text)?;
+    if scale < -127 || scale > 127 {
+        return None;
+    }
+    Some(scale as i16)
+}
+
+// The width of an element of this kind, in bits.
+#[tactic(auto, unfolding(crate::specs::TableB::width_of))]
+fn width(kind: Kind, text: &[u8]) -> Option<u32>
+    ensures { result ≡ width_of kind text.now }
+{
+    let width = integer(text)?;
+    let (least, most) = match kind {
+        Kind::Character => (8, 2040),
+        Kind::Coded | Kind::Numeric => (1, 63),
+    };
+    if width < least || width > most {
+        return None;
+    }
+    let width = width as u32;
+    if kind == Kind::Character && width % 8 != 0 {
+        return None;
+    }
+    Some(width)
+}
+
+// Whether a replication factor may have this entry; another element may have any.
+fn fits_factor(fxy: Fxy, entry: &Entry) -> bool
+    ensures { result ≡ fits_factor (factor_width fxy) (row_with fxy entry.now) }
+{
+    let width = match fxy.word() {
+        0x1f00 => 1,
+        0x1f01 => 8,
+        0x1f02 => 16,
+        _ => return true,
+    };
+    entry.width == width
+        && entry.scale == 0
+        && entry.reference == 0
+        && entry.kind != Kind::Character
+}
+
+// The element that a record writes, where it writes one.
+#[tactic(auto, unfolding(crate::specs::TableB::row_of))]
+fn row(fields: &ByteRecord) -> Option<(Fxy, Entry<'_>)>
+    ensures value { option_map (λ p. row_with p.0 p.1) result ≡ row_of (fields_of fields.now) }
+    ensures element { IfSome result (λ p. p.0 < 16384) }
+{
+    let fxy = element(field(fields, 0))?;
+    let name = plain(field(fields, 1))?;
+    let unit = plain(field(fields, 2))?;
+    let scale = scale(field(fields, 3))?;
+    let reference = integer(field(fields, 4))?;
+    let kind = Kind::of(unit);
+    let width = width(kind, field(fields, 5))?;
+    let entry = Entry {
+        name,
+        unit,
+        kind,
+        scale,
+        reference,
+        width,
+    };
+    if !fits_factor(fxy, &entry) {
+        return None;
+    }
+    Some((fxy, entry))
+}
+
+// Whether a record is the header.
+#[tactic(auto, unfolding(crate::specs::TableB::is_header))]
+fn is_header(fields: &ByteRecord) -> bool
+    ensures { result ≡ is_header (fields_of fields.now) }
+{
+    fields.len() == 6
+        && has_field(fields, 0, b"fxy")
+        && has_field(fields, 1, b"name")
+        && has_field(fields, 2, b"unit")
+        && has_field(fields, 3, b"scale")
+        && has_field(fields, 4, b"reference")
+        && has_field(fields, 5, b"width")
+}
+
+// An element as the table keeps it: its name goes from `start` to `middle`, and its unit on to `end`.
+#[derive(Clone, Copy)]
+struct Stored {
+    fxy: Fxy,
+    start: usize,
+    middle: usize,
+    end: usize,
+    kind: Kind,
+    scale: i16,
+    reference: i64,
+    width: u32,
+}
+
+/// Table B: the elements, by their descriptors.
+///
+/// A clause sees the table as the list of its rows, in the order of the file.
+#[derive(Drop)]
+pub struct TableB {
+    // Names and units, one after another.
+    octets: Vec<u8>,
+    stored: Vec<Stored>,
+    // The descriptors of `stored`.
+    directory: Directory,
+}
+
+impl Model for TableB {
+    ghost use Rattle.std.specs.Prelude.{List};
+    ghost use Rattle.bufr_tables.specs.TableB.{Row};
+
+    ghost Value = { List Row };
+
+    ghost use Rattle.bufr_tables.specs.Kept.{IsKept, table_kept};
+
+    ghost view = { table_kept };
+
+    ghost invariant = { IsKept };
+}
+
+impl TableB {
+    /// Reads Table B from the octets of a CSV file.
+    ///
+    /// Its header is `fxy,name,unit,scale,reference,width`. Each further record is one element: `fxy` six digits of an
+    /// element, name and unit at most 512 octets without control characters, the others whole numbers, in the limits that
+    /// [`Entry`] states. The factors of delayed replications, 031000, 031001 and 031002, must be unsigned numbers of 1, 8
+    /// and 16 bits with scale and reference 0.
+    ///
+    /// # Errors
+    ///
+    /// [`TableFault::Header`], and of the first record at fault [`TableFault::Csv`], [`TableFault::Row`] or
+    /// [`TableFault::Duplicate`], in this order; [`TableFault::Memory`] where memory ran out.
+    pub fn read(alloc: Global, text: &[u8]) -> Result<TableB, TableFault>
+        ensures read { Gives (table_b_of (records_of text.now)) result }
+        ensures rows { IfOk result (AreRows (records_of text.now)) }
+    {
+        let mut records = RecordReader::new(alloc, text);
+        if !records.advance()? || !is_header(records.record()) {
+            return Err(TableFault::Header);
+        }
+        let mut table = TableB {
+            octets: Vec::new(alloc),
+            stored: Vec::new(alloc),
+            directory: Directory::new(alloc)?,
+        };
+        while records.advance()? {
+            table.add(records.number(), records.record())?;
+        }
+        Ok(table)
+    }
+
+    /// What the table says of an element, if it has it.
+    pub fn get(&self, fxy: Fxy) -> Option<Entry<'_>>
+        ensures { option_map (row_with fxy) result ≡ entry_of self.now fxy }
+    {
+        let directory = &self.directory;
+        if fxy.f() != 0 {
+            return None;
+        }
+        let place = directory.place(fxy.word())?;
+        let octets = self.octets.as_slice();
+        let stored = &self.stored[place];
+        Some(entry_kept(octets, stored))
+    }
+
+    // Adds the element of record `number`.
+    #[tactic(auto, unfolding(crate::specs::TableB::with_record))]
+    fn add(&mut self, number: u64, fields: &ByteRecord) -> Result<(), TableFault>
+        ensures ok { OnOk result (with_record number self.old (fields_of fields.now) ≡ Ok self.new) }
+        ensures err { IfErr result (λ e. (e ≢ Memory) → with_record number self.old (fields_of fields.now) ≡ Err e) }
+    {
+        if fields.len() != 6 {
+            return Err(TableFault::Csv);
+        }
+        let Some((fxy, entry)) = row(fields) else {
+            return Err(TableFault::Row(number));
+        };
+        if self.get(fxy).is_some() {
+            return Err(TableFault::Duplicate(fxy));
+        }
+        self.push(fxy, &entry)?;
+        Ok(())
+    }
+
+    // Adds an element that the table lacks.
+    fn push(&mut self, fxy: Fxy, entry: &Entry) -> Result<(), AllocError>
+        requires element { fxy < 16384 }
+        requires absent { entry_of self.old fxy ≡ None }
+        ensures ok { OnOk result (self.new ≡ self.old ++ row_with fxy entry.now ∷ []) }
+    {
+        let stored = store(&mut self.octets, fxy, entry)?;
+        self.stored.push(stored)?;
+        self.directory.add(fxy.word());
+        Ok(())
+    }
+}
+
+// Puts the name and the unit of an entry behind a block of octets.
+fn store(octets: &mut Vec<u8>, fxy: Fxy, entry: &Entry) -> Result<Stored, AllocError>
+    ensures grows { Grows octets.old.items octets.new.items }
+    ensures ok { IfOk result (λ s. IsStored octets.new.items fxy entry.now s) }
+{
+    let start = octets.len();
+    octets.extend_from_slice(entry.name)?;
+    let middle = octets.len();
+    octets.extend_from_slice(entry.unit)?;
+    let end = octets.len();
+    Ok(Stored {
+        fxy,
+        start,
+        middle,
+        end,
+        kind: entry.kind,
+        scale: entry.scale,
+        reference: entry.reference,
+        width: entry.width,
+    })
+}
+
+// The entry of an element that is kept in this block of octets.
+fn entry_kept<'a>(octets: &'a [u8], stored: &Stored) -> Entry<'a>
+    requires { IsInside (length octets.now) stored.now }
+    ensures { row_with stored.now.fxy result ≡ row_kept octets.now stored.now }
+{
+    Entry {
+        name: &octets[stored.start..stored.middle],
+        unit: &octets[stored.middle..stored.end],
+        kind: stored.kind,
+        scale: stored.scale,
+        reference: stored.reference,
+        width: stored.width,
+    }
+}

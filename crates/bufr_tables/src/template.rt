@@ -1,0 +1,147 @@
+// Templates: descriptor lists expanded to a tree (WMO-No. 306, Volume I.2, FM 94: section 3, Tables C and D).
+ghost use Rattle.std.specs.Prelude.{◌≡◌, ◌≢◌, ◌≤◌, Ok, Err, IfOk, IfErr, is_some};
+ghost use Rattle.bufr_tables.specs.TableB.{entry_of};
+ghost use Rattle.bufr_tables.specs.TableD.{members_of};
+ghost use Rattle.bufr_tables.specs.Tree.{places as places_of, depth as depth_of};
+ghost use Rattle.bufr_tables.specs.Leaves.{leaves, Says};
+ghost use Rattle.bufr_tables.specs.Planted.{planted};
+ghost use Rattle.bufr_tables.specs.Known.{IsKnown};
+ghost use Rattle.bufr_tables.specs.Legal.{IsLegal};
+ghost use Rattle.bufr_tables.specs.Sound.{IsSound};
+ghost use Rattle.bufr_tables.specs.Expansion.{tree_of};
+ghost use Rattle.bufr_tables.specs.TemplateTables.{tables_of};
+
+mod expander;
+mod fault;
+mod growing;
+mod node;
+mod shapes;
+#[cfg(test)]
+mod tests;
+
+use crate::fxy::Fxy;
+use crate::table_b::TableB;
+use crate::table_d::TableD;
+use expander::Expander;
+pub use fault::TemplateFault;
+use growing::Growing;
+pub use node::Node;
+use shapes::first_of;
+use std::alloc::Global;
+use std::marker::Model;
+
+/// The most groups and sequences that may be open together.
+const MOST_OPEN: u32 = 32;
+
+/// A template: the tree of elements, operators and groups that a list of descriptors stands for, sequences replaced by
+/// their members (WMO-No. 306, Volume I.2, FM 94: section 3, Table D). A clause sees it as that tree.
+///
+/// Some node of each group's body, and of the whole, takes bits of the data, so that a pass of a group is never free.
+#[derive(Debug, Drop)]
+pub struct Template {
+    nodes: Vec<Node>,
+    places: u32,
+    depth: u32,
+}
+
+impl Model for Template {
+    ghost use Rattle.bufr_tables.specs.Tree.{Tree};
+    ghost use Rattle.bufr_tables.specs.TreeCode.{tree_code};
+
+    ghost Value = { Tree };
+
+    ghost coded = { tree_code };
+
+    ghost use Rattle.bufr_tables.specs.Planted.{planted};
+    ghost use Rattle.bufr_tables.specs.Counted.{IsCounted};
+
+    ghost view = { λ a. planted a.nodes.items };
+
+    ghost invariant = { λ a. IsCounted (planted a.nodes.items) a.places a.depth };
+}
+
+impl Template {
+    /// Expands a list of descriptors, depth first, from left to right. The first fault counts:
+    ///
+    /// - at a replication 1 X Y: `GroupShape` where X is 0; `NoFactor` where Y is 0 and no factor follows (0 31 000,
+    ///   0 31 001 or 0 31 002), `UnknownElement` with the factor where Table B lacks it; `GroupShape` where fewer than X
+    ///   descriptors are left in the same list, the factor not among them; then `Depth`, `TemplateSize`, the faults of
+    ///   its body, and `EmptyGroup` where no node of the body takes bits of the data;
+    /// - at a sequence: `UnknownSequence` where Table D lacks it, then `Depth`, then the faults of its members;
+    /// - at an element: `UnknownElement` where Table B lacks it, unless 2 06 Y stands before it; then `TemplateSize`;
+    /// - at an operator: `Operator` where it, or its operand, is none that a template may hold; `LocalShape` where 2 06 Y
+    ///   is not followed by an element in the same list; then `TemplateSize`;
+    /// - at the end: `EmptyGroup` with the first descriptor (000000 where there is none) where no node takes bits.
+    ///
+    /// At most 32 groups and sequences are open together, and a template takes at most 65,535 places (`places` counts
+    /// them), so a list that would expand to more is refused after that many. `Memory` where memory runs out.
+    pub fn build(
+        alloc: Global,
+        descriptors: &[Fxy],
+        table_b: &TableB,
+        table_d: &TableD,
+    ) -> Result<Template, TemplateFault>
+        ensures tree { IfOk result
+            (λ template. tree_of (tables_of table_b.now table_d.now) descriptors.now ≡ Ok template) }
+        ensures fault { IfErr result
+            (λ why. why ≢ TemplateFault.Memory → tree_of (tables_of table_b.now table_d.now) descriptors.now ≡ Err why) }
+
+        // No element, operator or factor of the list is lost, added or moved.
+        ensures leaves { IfOk result (λ template. Says (members_of table_d.now) descriptors.now (leaves template)) }
+
+        // What the walk over a template relies on.
+        ensures known { IfOk result (λ template. IsKnown (λ fxy. is_some (entry_of table_b.now fxy)) template) }
+        ensures sound { IfOk result IsSound }
+        ensures legal { IfOk result IsLegal }
+        ensures within { IfOk result (λ template. places_of template ≤ 65535) }
+        ensures shallow { IfOk result (λ template. depth_of template ≤ 32) }
+    {
+        let expander = Expander {
+            alloc,
+            table_b,
+            table_d,
+        };
+        let mut growing = Growing::new(alloc, 1);
+        expander.list(descriptors, MOST_OPEN, &mut growing)?;
+        if !growing.consumes {
+            return Err(TemplateFault::EmptyGroup(first_of(descriptors)));
+        }
+        let Growing {
+            nodes,
+            places,
+            depth,
+            consumes: _,
+        } = growing;
+        Ok(Template {
+            nodes,
+            places,
+            depth,
+        })
+    }
+
+    /// How many places it takes, from 2 to 65,535: one for its end, one for each element and operator, two for a group
+    /// of a fixed count and three for a delayed group, its factor among them. Takes no memory.
+    pub fn places(&self) -> u32
+        ensures value { result ≡ places_of self.now }
+        ensures most { result ≤ 65535 }
+    {
+        self.places
+    }
+
+    /// The greatest number of groups open at one place, from 0 to 32. Takes no memory.
+    pub fn depth(&self) -> u32
+        ensures value { result ≡ depth_of self.now }
+        ensures most { result ≤ 32 }
+    {
+        self.depth
+    }
+
+    /// Its nodes, the outermost ones, in the order of the data. Takes no memory.
+    pub fn nodes(&self) -> &[Node]
+        ensures value { planted result.now ≡ self.now }
+        ensures sound { IsSound self.now }
+        ensures legal { IsLegal self.now }
+    {
+        self.nodes.as_slice()
+    }
+}

@@ -1,0 +1,450 @@
+use crate::{Entry, Fxy, Kind, TableB, TableD, TableFault};
+use std::alloc::{AllocError, Global};
+use std::test::Fail;
+
+const TABLE_B: &[u8] = b"fxy,name,unit,scale,reference,width
+001001,WMO BLOCK NUMBER,Numeric,0,0,7
+001015,STATION OR SITE NAME,CCITT IA5,0,0,160
+005002,LATITUDE (COARSE ACCURACY),degree,2,-9000,15
+012101,AIR TEMPERATURE,K,2,0,16
+020003,PRESENT WEATHER,Code table,0,0,9
+031000,SHORT DELAYED DESCRIPTOR REPLICATION FACTOR,Numeric,0,0,1
+031001,DELAYED DESCRIPTOR REPLICATION FACTOR,Numeric,0,0,8
+031002,EXTENDED DELAYED DESCRIPTOR REPLICATION FACTOR,Numeric,0,0,16
+";
+
+const TABLE_D: &[u8] = b"fxy,member
+360192,001001
+360192,012101
+";
+
+// The descriptors with these words and their texts.
+#[test]
+fn descriptors(rt: HostRuntime) -> Result<(), Fail> {
+    for (word, text) in [
+        (0x0101u16, b"001001"),
+        (0x0c65, b"012101"),
+        (0x3fff, b"063255"),
+        (0x41ff, b"101255"),
+        (0x8184, b"201132"),
+        (0xfcc0, b"360192"),
+        (0xffff, b"363255"),
+    ] {
+        let fxy = Fxy::from_word(word);
+        assert_eq!(rt; fxy.word(), word);
+        assert_eq!(rt; fxy.text().as_slice(), text.as_slice());
+        let shown = format!(in rt.alloc(); "{fxy}")?;
+        assert_eq!(rt; shown.as_bytes(), text.as_slice());
+    }
+    let fxy = Fxy::from_word(0xfcc0);
+    assert_eq!(rt; (fxy.f(), fxy.x(), fxy.y()), (3, 60, 192));
+    Ok(())
+}
+
+// Each fault as text.
+#[test]
+fn fault_texts(rt: HostRuntime) -> Result<(), Fail> {
+    let local = Fxy::from_word(0x0101);
+    for (fault, text) in [
+        (
+            TableFault::Header,
+            "the first record is not the header of the table",
+        ),
+        (TableFault::Row(2), "record 2 does not read as a row"),
+        (
+            TableFault::Duplicate(local),
+            "001001 is in the table already",
+        ),
+        (
+            TableFault::Cycle(Fxy::from_word(0xc001)),
+            "sequence 300001 reaches itself",
+        ),
+        (TableFault::TableSize, "the table has too many rows"),
+        (
+            TableFault::Csv,
+            "a record has another number of fields than the header",
+        ),
+        (TableFault::Memory, "out of memory"),
+    ] {
+        let shown = format!(in rt.alloc(); "{fault}")?;
+        assert_eq!(rt; shown.as_str(), text);
+    }
+    Ok(())
+}
+
+// Text of rows under a header.
+fn under(alloc: Global, header: &[u8], rows: &[u8]) -> Result<Vec<u8>, AllocError> {
+    let mut text = Vec::from_slice(alloc, header)?;
+    text.extend_from_slice(rows)?;
+    Ok(text)
+}
+
+fn fault_b(alloc: Global, text: &[u8]) -> Option<TableFault> {
+    TableB::read(alloc, text).err()
+}
+
+fn fault_d(alloc: Global, text: &[u8]) -> Option<TableFault> {
+    TableD::read(alloc, text).err()
+}
+
+const HEADER_B: &[u8] = b"fxy,name,unit,scale,reference,width\n";
+
+const HEADER_D: &[u8] = b"fxy,member\n";
+
+#[test]
+fn elements(rt: HostRuntime) -> Result<(), Fail> {
+    let table = TableB::read(rt.alloc(), TABLE_B)?;
+    let temperature = Entry {
+        name: b"AIR TEMPERATURE",
+        unit: b"K",
+        kind: Kind::Numeric,
+        scale: 2,
+        reference: 0,
+        width: 16,
+    };
+    assert!(rt; table.get(Fxy::from_word(0x0c65)) == Some(temperature));
+    let latitude = Entry {
+        name: b"LATITUDE (COARSE ACCURACY)",
+        unit: b"degree",
+        kind: Kind::Numeric,
+        scale: 2,
+        reference: -9000,
+        width: 15,
+    };
+    assert!(rt; table.get(Fxy::from_word(0x0502)) == Some(latitude));
+    for (word, kind, width) in [
+        (0x0101u16, Kind::Numeric, 7u32),
+        (0x010f, Kind::Character, 160),
+        (0x1403, Kind::Coded, 9),
+        (0x1f00, Kind::Numeric, 1),
+        (0x1f01, Kind::Numeric, 8),
+        (0x1f02, Kind::Numeric, 16),
+    ] {
+        let entry = table.get(Fxy::from_word(word)).ok_or("lacks an element")?;
+        assert_eq!(rt; (entry.kind, entry.width), (kind, width), "at {word}");
+    }
+    // An element that is not there, and descriptors that are no elements.
+    for word in [0x3fffu16, 0x4c65, 0x8c65, 0xcc65] {
+        assert!(rt; table.get(Fxy::from_word(word)).is_none(), "at {word}");
+    }
+    Ok(())
+}
+
+#[test]
+fn faults_of_table_b(rt: HostRuntime) -> Result<(), Fail> {
+    let wind = Fxy::from_word(0x0101);
+    let row = |n: u64| Some(TableFault::Row(n));
+    for (rows, want) in [
+        (b"".as_slice(), None),
+        (b"\n\n\r\n", None),
+        (b"001001,A,K,0,0", Some(TableFault::Csv)),
+        (b"001001,A,K,0,0,7,", Some(TableFault::Csv)),
+        (b"001001,A,K,0,0,7\n001001,A", Some(TableFault::Csv)),
+        (b"001001,A,K,0,0,64", row(2)),
+        (b"001001,A,K,0,0,63", None),
+        (b"001001,A,K,0,0,1", None),
+        (b"001001,A,K,0,0,0", row(2)),
+        (b"001001,A,K,0,0,-7", row(2)),
+        (b"001001,A,K,0,0,+7", row(2)),
+        (b"001001,A,K,0,0, 7", row(2)),
+        (b"001001,A,K,0,0,", row(2)),
+        (
+            b"001001,A,K,0,0,00000000000000000000000000000000000000007",
+            None,
+        ),
+        (b"001001,A,K,0,0,18446744073709551623", row(2)),
+        (b"001001,A,K,-127,-9223372036854775808,7", None),
+        (b"001001,A,K,127,9223372036854775807,7", None),
+        (b"001001,A,K,128,0,7", row(2)),
+        (b"001001,A,K,-128,0,7", row(2)),
+        (b"001001,A,K,-,0,7", row(2)),
+        (b"001001,A,K,-0,-0,7", None),
+        (b"001001,A,K,0,9223372036854775808,7", row(2)),
+        (b"001001,A,K,0,-9223372036854775809,7", row(2)),
+        (b"001001,A,K,0,-18446744073709551616,7", row(2)),
+        (b"001001,A,K,0,1.5,7", row(2)),
+        (b"001001,A,ccitt ia5,0,0,12", row(2)),
+        (b"001001,A,ccitt ia5,0,0,16", None),
+        (b"001001,A,CCITT IA5,0,0,0", row(2)),
+        (b"001001,A,CCITT IA5,0,0,8", None),
+        (b"001001,A,CCITT IA5,0,0,2040", None),
+        (b"001001,A,CCITT IA5,0,0,2048", row(2)),
+        (b"001001,A,CCITT IA5,200,0,8", row(2)),
+        (b"001001,\"A\nB\",K,0,0,7", row(2)),
+        (b"001001,\"A,B\",K,0,0,7", None),
+        (b"001001,A\tB,K,0,0,7", row(2)),
+        (b"001001,A\x7fB,K,0,0,7", row(2)),
+        (b"001001,A,K\x1f,0,0,7", row(2)),
+        (b"001001,\xff\x80,\xb0C,0,0,7", None),
+        (b"001001,,,0,0,7", None),
+        (b"00100,A,K,0,0,7", row(2)),
+        (b"0010010,A,K,0,0,7", row(2)),
+        (b" 01001,A,K,0,0,7", row(2)),
+        (b"063255,A,K,0,0,7", None),
+        (b"064001,A,K,0,0,7", row(2)),
+        (b"001256,A,K,0,0,7", row(2)),
+        (b"101001,A,K,0,0,7", row(2)),
+        (b"301001,A,K,0,0,7", row(2)),
+        (b"401001,A,K,0,0,7", row(2)),
+        (b"031000,A,Numeric,0,0,8", row(2)),
+        (b"031001,A,Numeric,0,0,16", row(2)),
+        (b"031002,A,Numeric,0,0,8", row(2)),
+        (b"031001,A,Numeric,1,0,8", row(2)),
+        (b"031001,A,Numeric,0,-1,8", row(2)),
+        (b"031001,A,CCITT IA5,0,0,8", row(2)),
+        (b"031001,A,Code table,0,0,8", None),
+        (b"031003,A,Numeric,1,1,9", None),
+        (
+            b"001001,A,K,0,0,7\n001001,A,K,0,0,7",
+            Some(TableFault::Duplicate(wind)),
+        ),
+        (b"001001,A,K,0,0,7\n001001,A,K,0,0,x", row(3)),
+        (b"001001,A,K,0,0,7\n\n\n001002,A,K,0,0,x", row(3)),
+        (b"001001,A,K,0,0,x\n001001,A", row(2)),
+    ] {
+        let text = under(rt.alloc(), HEADER_B, rows)?;
+        assert!(rt;
+            fault_b(rt.alloc(), &text) == want,
+            "{:?} for {rows:?}",
+            fault_b(rt.alloc(), &text)
+        );
+    }
+    for text in [
+        b"".as_slice(),
+        b"\n",
+        b"fxy,name,unit,scale,reference\n",
+        b"fxy,name,unit,scale,reference,Width\n",
+        b"fxy,name,unit,scale,reference, width\n",
+        b"fxy,member\n",
+    ] {
+        assert!(rt;
+            fault_b(rt.alloc(), text) == Some(TableFault::Header),
+            "{text:?}"
+        );
+    }
+    Ok(())
+}
+
+#[test]
+fn kinds(rt: HostRuntime) -> Result<(), Fail> {
+    for (unit, kind) in [
+        (b"CCITT IA5".as_slice(), Kind::Character),
+        (b"Ccitt iA5", Kind::Character),
+        (b"CCITT IA5 ", Kind::Numeric),
+        (b"CCITT IA", Kind::Numeric),
+        (b"Code table", Kind::Coded),
+        (b"CODE TABLE 0 20 003", Kind::Coded),
+        (b"code tabl", Kind::Numeric),
+        (b"Common code table C-1", Kind::Coded),
+        (b"cOMMON CODE TABLE", Kind::Coded),
+        (b"flag table", Kind::Coded),
+        (b" Flag table", Kind::Numeric),
+        (b"Numeric", Kind::Numeric),
+        (b"", Kind::Numeric),
+    ] {
+        let mut text = Vec::from_slice(rt.alloc(), HEADER_B)?;
+        text.extend_from_slice(b"001001,A,")?;
+        text.extend_from_slice(unit)?;
+        text.extend_from_slice(b",0,0,8\n")?;
+        let table = TableB::read(rt.alloc(), &text)?;
+        let entry = table
+            .get(Fxy::from_word(0x0101))
+            .ok_or("lacks the element")?;
+        assert_eq!(rt; entry.kind, kind, "for {unit:?}");
+    }
+    Ok(())
+}
+
+#[test]
+fn sequences(rt: HostRuntime) -> Result<(), Fail> {
+    let table = TableD::read(rt.alloc(), TABLE_D)?;
+    let members = table
+        .members(Fxy::from_word(0xfcc0))
+        .ok_or("lacks the sequence")?;
+    assert!(rt; members == [Fxy::from_word(0x0101), Fxy::from_word(0x0c65)].as_slice());
+    for word in [0xc001u16, 0x3cc0, 0x0101] {
+        assert!(rt; table.members(Fxy::from_word(word)).is_none(), "at {word}");
+    }
+    Ok(())
+}
+
+#[test]
+fn faults_of_table_d(rt: HostRuntime) -> Result<(), Fail> {
+    let first = Fxy::from_word(0xc001);
+    let row = |n: u64| Some(TableFault::Row(n));
+    let cycle = |word: u16| Some(TableFault::Cycle(Fxy::from_word(word)));
+    for (rows, want) in [
+        (b"".as_slice(), None),
+        (b"300001", Some(TableFault::Csv)),
+        (b"300001,001001,", Some(TableFault::Csv)),
+        (b"300001,x", row(2)),
+        (b"200001,001001", row(2)),
+        (b"300001,401001", row(2)),
+        (b"300001,101000\n300001,031001\n300001,201132", None),
+        (b"363255,363254\n363255,001001", None),
+        // A cycle is named by the first sequence of the file that reaches itself.
+        (b"300001,300001", cycle(0xc001)),
+        (b"300001,001001\n300001,300001", cycle(0xc001)),
+        (b"300001,300002\n300002,300001", cycle(0xc001)),
+        (b"300002,300001\n300001,300002", cycle(0xc002)),
+        (
+            b"300001,300002\n300002,300003\n300003,300002",
+            cycle(0xc002),
+        ),
+        (
+            b"300001,300002\n300002,300003\n300003,300003",
+            cycle(0xc003),
+        ),
+        (
+            b"300001,300002\n300002,300003\n300003,300004\n300004,300002\n300004,300001",
+            cycle(0xc001),
+        ),
+        (
+            b"300002,300003\n300003,300004\n300004,300003\n300001,300001",
+            cycle(0xc003),
+        ),
+        // The same members twice, and a member that the table lacks, are no cycle.
+        (
+            b"300001,300002\n300001,300002\n300002,300003\n300002,300003\n300003,001001",
+            None,
+        ),
+        (b"300001,300002\n300002,300003", None),
+        // A second run of rows goes before a cycle.
+        (
+            b"300001,300002\n300002,300001\n300001,001001",
+            Some(TableFault::Duplicate(first)),
+        ),
+        (b"300001,300001\n300002,x", row(3)),
+    ] {
+        let text = under(rt.alloc(), HEADER_D, rows)?;
+        assert!(rt;
+            fault_d(rt.alloc(), &text) == want,
+            "{:?} for {rows:?}",
+            fault_d(rt.alloc(), &text)
+        );
+    }
+    for text in [b"".as_slice(), b"fxy\n", b"fxy,members\n", HEADER_B] {
+        assert!(rt;
+            fault_d(rt.alloc(), text) == Some(TableFault::Header),
+            "{text:?}"
+        );
+    }
+    Ok(())
+}
+
+// A name or a unit of this many octets.
+fn long_name(alloc: Global, octets: usize, as_unit: bool) -> Result<Option<TableFault>, Fail> {
+    let mut text = Vec::from_slice(alloc, HEADER_B)?;
+    text.extend_from_slice(if as_unit {
+        b"001001,A,".as_slice()
+    } else {
+        b"001001,"
+    })?;
+    for _ in 0..octets {
+        text.push(b'x')?;
+    }
+    text.extend_from_slice(if as_unit {
+        b",0,0,8\n".as_slice()
+    } else {
+        b",K,0,0,8\n"
+    })?;
+    Ok(fault_b(alloc, &text))
+}
+
+#[test]
+fn long_names(rt: HostRuntime) -> Result<(), Fail> {
+    for as_unit in [false, true] {
+        assert!(rt; long_name(rt.alloc(), 512, as_unit)?.is_none());
+        assert!(rt; long_name(rt.alloc(), 513, as_unit)? == Some(TableFault::Row(2)));
+    }
+    Ok(())
+}
+
+// A row of Table D.
+fn push_row(text: &mut Vec<u8>, sequence: u16, member: u16) -> Result<(), AllocError> {
+    text.extend_from_slice(&Fxy::from_word(sequence).text())?;
+    text.push(b',')?;
+    text.extend_from_slice(&Fxy::from_word(member).text())?;
+    text.push(b'\n')?;
+    Ok(())
+}
+
+#[test]
+fn as_many_rows_as_may_be(rt: HostRuntime) -> Result<(), Fail> {
+    let mut text = Vec::from_slice(rt.alloc(), HEADER_D)?;
+    for _ in 0..65536u32 {
+        push_row(&mut text, 0xc001, 0x0101)?;
+    }
+    let table = TableD::read(rt.alloc(), &text)?;
+    let members = table
+        .members(Fxy::from_word(0xc001))
+        .ok_or("lacks the sequence")?;
+    assert_eq!(rt; members.len(), 65536);
+    push_row(&mut text, 0xc001, 0x0101)?;
+    assert!(rt; fault_d(rt.alloc(), &text) == Some(TableFault::TableSize));
+    push_row(&mut text, 0xc002, 0x0101)?;
+    assert!(rt; fault_d(rt.alloc(), &text) == Some(TableFault::TableSize));
+    Ok(())
+}
+
+// Every sequence that there is, each of four rows that name the one after it, or with `back` the one before it; the last
+// ends the chain, or with `cycle` holds itself.
+fn long_chain(alloc: Global, back: bool, cycle: bool) -> Result<Vec<u8>, AllocError> {
+    let mut text = Vec::from_slice(alloc, HEADER_D)?;
+    for key in 0..16384u16 {
+        let sequence = if back { 0xffff - key } else { 0xc000 + key };
+        let member = if sequence == 0xffff {
+            if cycle { 0xffff } else { 0x0101 }
+        } else {
+            sequence + 1
+        };
+        for _ in 0..4u8 {
+            push_row(&mut text, sequence, member)?;
+        }
+    }
+    Ok(text)
+}
+
+#[test]
+fn long_chains(rt: HostRuntime) -> Result<(), Fail> {
+    for back in [false, true] {
+        let text = long_chain(rt.alloc(), back, false)?;
+        assert!(rt; fault_d(rt.alloc(), &text).is_none());
+        let text = long_chain(rt.alloc(), back, true)?;
+        assert!(rt; fault_d(rt.alloc(), &text) == Some(TableFault::Cycle(Fxy::from_word(0xffff))));
+    }
+    Ok(())
+}
+
+// A table of as many elements and rows as the WMO's tables have, and more.
+#[test]
+fn tables_of_usual_size(rt: HostRuntime) -> Result<(), Fail> {
+    let mut elements = Vec::from_slice(rt.alloc(), HEADER_B)?;
+    for word in 0..2000u16 {
+        elements.extend_from_slice(&Fxy::from_word(word * 3).text())?;
+        elements.extend_from_slice(b",A NAME OF SOME THIRTY OCTETS,degree true,2,-9000,16\n")?;
+    }
+    let table = TableB::read(rt.alloc(), &elements)?;
+    for word in 0..2000u16 {
+        assert!(rt; table.get(Fxy::from_word(word * 3)).is_some());
+        assert!(rt; table.get(Fxy::from_word(word * 3 + 1)).is_none());
+    }
+    let mut rows = Vec::from_slice(rt.alloc(), HEADER_D)?;
+    for key in 0..1500u16 {
+        for place in 0..10u16 {
+            push_row(
+                &mut rows,
+                0xc000 + key,
+                if place == 0 { 0xc001 + key } else { place },
+            )?;
+        }
+    }
+    let table = TableD::read(rt.alloc(), &rows)?;
+    for key in 0..1500u16 {
+        let members = table
+            .members(Fxy::from_word(0xc000 + key))
+            .ok_or("lacks a sequence")?;
+        assert_eq!(rt; members.len(), 10);
+    }
+    Ok(())
+}
