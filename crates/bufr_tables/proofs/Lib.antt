@@ -8,3 +8,4 @@ pub mod RunsLemmas
 pub mod CycleLemmas
 pub mod TableDLemmas
 mod Examples
+pub mod SequencesLemmas
