@@ -103,9 +103,11 @@ row-added table row distinct fresh = by (is_last table row.sequence) refl (membe
   where
     new : Sequence
     new = record { fxy = row.sequence; members = row.fxy ∷ [] }
+
     gone : (o : Option Sequence) → option_map (λ (q : Sequence). q.members) o ≡ None → o ≡ None
     gone None e = refl
     gone (Some q) e = cc e
+
     by : (b : Bool) → is_last table row.sequence ≡ b → (o : Option (List ℕ)) → members_of table row.sequence ≡ o → (not b && is_some o) ≡ false → Added table row
     by true e o m fresh = record {
       members = λ fxy. rw e (extended-listed table row.sequence row.fxy fxy e distinct);
@@ -114,8 +116,8 @@ row-added table row distinct fresh = by (is_last table row.sequence) refl (membe
     by false e None m fresh = record {
       members = λ fxy. rw e (begun-listed table (record { fxy = row.sequence; members = row.fxy ∷ [] }) fxy m);
       distinct =
-        let absent = place-absent Sequence Sequence (λ s. s) (λ s. s.fxy == row.sequence) (λ s. s.fxy) row.sequence table (same-keys row.sequence table) (rw map-id (gone _ m)) in
-        rw (e, map-append) (distinct-added (fxys_of table) row.sequence distinct absent);
+          let absent = place-absent Sequence Sequence (λ s. s) (λ s. s.fxy == row.sequence) (λ s. s.fxy) row.sequence table (same-keys row.sequence table) (rw map-id (gone _ m)) in
+          rw (e, map-append) (distinct-added (fxys_of table) row.sequence distinct absent);
     }
     by false e (Some members) m fresh = cc fresh
 
@@ -138,6 +140,7 @@ record-adds n table r longer is = by (length r == 2) (member_of r) refl is
     found row true large e written is = cc is
     found row false true e written is = cc is
     found row false false e written is = record { row = row; written = written; added' = sym (same_Ok _ _ is); fresh = e }
+
     by : (b : Bool) (o : Option Member) → member_of r ≡ o → (if b then with_member n table o else Err Csv) ≡ Ok longer → AddsRow table r longer
     by false o e is = cc is
     by true None e is = cc is
@@ -176,11 +179,11 @@ rows-add n before (r ∷ rs) table is distinct = by (with_record n before r) ref
           rows = adds.row ∷ rest.rows;
           written = rw adds.written (ap (λ (os : List (Option Member)). Some adds.row ∷ os) rest.written);
           members = λ fxy.
-            rest.members fxy
-            ∙ ap (λ (q : List Sequence). listed q fxy ++ members_in rest.rows fxy) adds.added'
-            ∙ ap (λ (ms : List ℕ). ms ++ members_in rest.rows fxy) (more.members fxy)
-            ∙ append_assoc (listed before fxy) (only adds.row.sequence (adds.row.fxy ∷ []) fxy) (members_in rest.rows fxy)
-            ∙ ap (λ (ms : List ℕ). listed before fxy ++ ms) (only-more adds.row rest.rows fxy);
+              rest.members fxy
+              ∙ ap (λ (q : List Sequence). listed q fxy ++ members_in rest.rows fxy) adds.added'
+              ∙ ap (λ (ms : List ℕ). ms ++ members_in rest.rows fxy) (more.members fxy)
+              ∙ append_assoc (listed before fxy) (only adds.row.sequence (adds.row.fxy ∷ []) fxy) (members_in rest.rows fxy)
+              ∙ ap (λ (ms : List ℕ). listed before fxy ++ ms) (only-more adds.row rest.rows fxy);
         }
 
 pub sequences-law : (records : List Record) (table : List Sequence) → table_d_of records ≡ Ok table → AreSequences records table
