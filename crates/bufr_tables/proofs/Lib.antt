@@ -18,3 +18,4 @@ pub mod TemplateExamples
 pub mod TreeLemmas
 pub mod WholeLemmas
 mod Examples
+pub mod SequencesLemmas

@@ -61,6 +61,7 @@ record-adds n rows r longer is = by (length r == 6) (row_of r) refl is
     found : (row : Row) (o : Option Row) → entry_of rows row.fxy ≡ o → row_of r ≡ Some row → (if is_some o then Err (Duplicate row.fxy) else Ok (rows ++ row ∷ [])) ≡ Ok longer → AddsRow rows r longer
     found row (Some other) e written is = cc is
     found row None e written is = record { row = row; written = written; added = sym (same_Ok _ _ is); absent = e }
+
     by : (b : Bool) (o : Option Row) → row_of r ≡ o → (if b then with_row n rows o else Err Csv) ≡ Ok longer → AddsRow rows r longer
     by false o e is = cc is
     by true None e is = cc is

@@ -1,6 +1,6 @@
 -- Table D, the sequences, as a text of CSV writes it: a header, and a row for each member of a sequence. (WMO-No. 306,
 -- Volume I.2, FM 94: Table D. The text's form, its limits and its faults are a choice of this project)
-use Rattle.std.specs.Prelude.{ℕ, ◌+◌, ◌-◌, ◌==◌, ◌&&◌, Bool, false, not, nat_le, if◌then◌else◌, List, [], ◌∷◌, ◌++◌, length, map, codes, Option, Some, None, is_some, option_map, Result, Ok, Err}
+use Rattle.std.specs.Prelude.{◌≡◌, ℕ, ◌+◌, ◌-◌, ◌==◌, ◌&&◌, Bool, true, false, not, nat_le, if◌then◌else◌, List, [], ◌∷◌, ◌++◌, length, map, codes, Option, Some, None, is_some, option_map, unwrap_or, Result, Ok, Err}
 use Rattle.std.specs.List.{find}
 use Rattle.std.specs.Str.{bytes_eq}
 use Rattle.bufr_tables.specs.declared.fault.TableFault.{TableFault}
@@ -83,3 +83,18 @@ sequences_from n table (r ∷ rs) = and_then (with_record n table r) (λ more. s
 unfoldable pub table_d_of : List Record → Result (List Sequence) TableFault
 table_d_of [] = Err Header
 table_d_of (first ∷ rest) = if is_header first then sequences_from 2 [] rest else Err Header
+
+-- the members that rows give a sequence, in order
+abbrev pub members_in : List Member → ℕ → List ℕ
+members_in [] fxy = []
+members_in (row ∷ rows) fxy = if row.sequence == fxy then row.fxy ∷ members_in rows fxy else members_in rows fxy
+
+-- a sequence of a table has the members that the records under the header give it, in order
+pub record AreSequences (records : List Record) (table : List Sequence) : Type 0 where
+  pub first : Record
+  pub rest : List Record
+  pub stands : records ≡ first ∷ rest
+  pub header : is_header first ≡ true
+  pub rows : List Member
+  pub written : map member_of rest ≡ map Some rows
+  pub members : (fxy : ℕ) → unwrap_or (members_of table fxy) [] ≡ members_in rows fxy

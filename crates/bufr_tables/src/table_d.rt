@@ -1,13 +1,13 @@
 // Table D, the sequences, read from CSV.
 
-ghost use Rattle.std.specs.Prelude.{◌≡◌, ◌≢◌, ◌≤◌, ◌<◌, [], ◌∷◌, ◌++◌, None, length, slice_index, OnOk, IfErr, IfSome, option_map, Ok, Err};
+ghost use Rattle.std.specs.Prelude.{◌≡◌, ◌≢◌, ◌≤◌, ◌<◌, [], ◌∷◌, ◌++◌, None, length, slice_index, OnOk, IfErr, IfOk, IfSome, option_map, Ok, Err};
 ghost use Rattle.csv.specs.Records.{fields_of};
 ghost use Rattle.bufr_tables.specs.declared.fault.TableFault.TheVariants.{Memory};
 ghost use Rattle.bufr_tables.specs.Chain.{Reads};
 ghost use Rattle.bufr_tables.specs.MemberRow.{row_with};
 ghost use Rattle.bufr_tables.specs.Records.{records_of};
 ghost use Rattle.bufr_tables.specs.Steps.{Gives};
-ghost use Rattle.bufr_tables.specs.TableD.{extended, fxys_of, is_header, is_last, member_of, members_of, sequence_of, table_d_of, with_record};
+ghost use Rattle.bufr_tables.specs.TableD.{AreSequences, extended, fxys_of, is_header, is_last, member_of, members_of, sequence_of, table_d_of, with_record};
 
 use crate::cycle::first_cycle;
 use crate::directory::Directory;
@@ -102,7 +102,8 @@ impl TableD {
     /// [`TableFault::Duplicate`] or [`TableFault::TableSize`], in this order; after all records [`TableFault::Cycle`];
     /// [`TableFault::Memory`] where memory ran out.
     pub fn read(alloc: Global, text: &[u8]) -> Result<TableD, TableFault>
-        ensures { Reads (records_of text.now) result }
+        ensures read { Reads (records_of text.now) result }
+        ensures rows { IfOk result (AreSequences (records_of text.now)) }
     {
         let table = TableD::read_rows(alloc, text)?;
         match first_cycle(alloc, &table)? {
