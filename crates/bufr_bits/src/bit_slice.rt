@@ -15,7 +15,7 @@ impl<'a> BitSlice<'a> {
     ghost use Rattle.bufr_bits.specs.Bits.{number_of, bits_at, all_set};
     ghost use Rattle.bufr_bits.specs.BitSlice.{octets_of};
 
-    /// The bits of `octets`.
+    /// The bits of `octets`, of which there are at most 2^60.
     pub fn new(octets: &'a [u8]) -> BitSlice<'a>
         requires { length octets.now ≤ 2 ^ 60 }
         ensures { octets_of result ≡ octets.now }
@@ -30,8 +30,8 @@ impl<'a> BitSlice<'a> {
         8 * self.octets.len() as u64
     }
 
-    /// The number that `width` bits write from bit `at` on, most significant first; `None` exactly
-    /// where they go past the end. No bits write 0.
+    /// The number that `width` bits, at most 63, write from bit `at` on, most significant first;
+    /// `None` exactly where they go past the end. No bits write 0.
     pub fn get(&self, at: u64, width: u32) -> Option<u64>
         requires { width ≤ 63 }
         ensures value { SomeIff result (at + width ≤ 8 * length (octets_of self.now)) (number_of (bits_at (octets_of self.now) at width)) }
@@ -62,8 +62,8 @@ impl<'a> BitSlice<'a> {
         Some(octet as u8)
     }
 
-    /// Whether `width` bits from bit `at` on are all ones; `None` exactly where they go past the
-    /// end. No bits are all ones.
+    /// Whether `width` bits, of any number, are all ones from bit `at` on; `None` exactly where they
+    /// go past the end. Where there are no bits they are.
     pub fn all_ones(&self, at: u64, width: u32) -> Option<bool>
         ensures { SomeIff result (at + width ≤ 8 * length (octets_of self.now)) (all_set (bits_at (octets_of self.now) at width)) }
     {

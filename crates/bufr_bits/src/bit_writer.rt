@@ -46,7 +46,8 @@ impl BitWriter {
         8 * self.octets.len() as u64 + u64::from(self.count)
     }
 
-    /// Appends the `width` bits that write `value`.
+    /// Appends the `width` bits that write `value`, most significant first. The width is at most
+    /// 63, the value is below 2^`width`, and afterwards there are at most 2^63 bits.
     ///
     /// # Errors
     ///
@@ -70,7 +71,7 @@ impl BitWriter {
         Ok(())
     }
 
-    /// Appends the bits of octets.
+    /// Appends the bits of octets. Afterwards there are at most 2^63 bits.
     ///
     /// # Errors
     ///
@@ -90,7 +91,7 @@ impl BitWriter {
         Ok(())
     }
 
-    /// The octets of the bits, with zero bits up to the next octet.
+    /// The octets of the bits, with zero bits up to the next octet. It takes no memory.
     pub fn into_octets(self) -> Vec<u8>
         ensures bits { bits_of result.items ≡ self ++ padding (length self) }
         ensures len { vec_len result ≡ (length self + 7) / 8 }

@@ -20,8 +20,8 @@ impl<'a> ScriptIn<'a> {
     ghost use Rattle.std.specs.Prelude.{◌≡◌, ◌<◌};
     ghost use Rattle.bufr_bits.specs.Script.{unread_of, step_of, fails_after, failures_of, reads_of};
 
-    /// A reader of `octets` that gives at most `step` octets per read. With `fails_at` it gives
-    /// none past that many octets, and each read from there on fails.
+    /// A reader of `octets` that gives at most `step` octets per read, which is at least 1. With
+    /// `fails_at` it gives none past that many octets, and each read from there on fails.
     pub fn new(octets: &'a [u8], step: usize, fails_at: Option<usize>) -> ScriptIn<'a>
         requires { 0 < step }
         ensures octets { unread_of result ≡ octets.now }
@@ -110,8 +110,9 @@ impl ScriptOut {
     ghost use Rattle.std.specs.Prelude.{◌≡◌, ◌<◌, [], IfOk, true};
     ghost use Rattle.bufr_bits.specs.Script.{taken_of, left_of, out_step_of, end_of, out_failures_of, out_empty_writes_of, out_flushes_of, has_handed_on};
 
-    /// A writer that takes `room` octets in all and at most `step` per write. It reserves the room
-    /// here, so that no write can want memory.
+    /// A writer that takes `room` octets in all and at most `step`, which is at least 1, per write.
+    /// It reserves the room here, so that no write can want memory. While room is left a write of
+    /// no octets takes 0; with none left it does as any other.
     ///
     /// # Errors
     ///
