@@ -7,3 +7,4 @@ pub mod TextLemmas
 pub mod RoundLemmas
 pub mod PushLemmas
 pub mod WriterLemmas
+pub mod WindowLemmas
