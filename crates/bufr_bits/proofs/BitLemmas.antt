@@ -158,3 +158,6 @@ fits_in_63 xs at width n inside short e =
     let below = bits_at-below xs at width inside in
     let most : 2 ^ width ≤ 2 ^ 63 = pow_mono short in
     omega arith
+
+pub below_width : (xs : List ℕ) (at width n : ℕ) → at + width ≤ 8 * length xs → n ≡ number_of (bits_at xs at width) → n < 2 ^ width
+below_width xs at width n inside e = subst (λ (m : ℕ). m < 2 ^ width) (sym e) (bits_at-below xs at width inside)

@@ -8,3 +8,4 @@ pub mod RoundLemmas
 pub mod ScaledLemmas
 pub mod TextLemmas
 pub mod WriterLemmas
+pub mod WindowLemmas

@@ -6,4 +6,5 @@ pub mod DecimalText
 pub mod DecimalValue
 pub mod Device
 pub mod Script
+pub mod Window
 pub mod Writing

@@ -1,6 +1,8 @@
 //! Octets read as bits, most significant first.
-ghost use Rattle.std.specs.Prelude.{◌≡◌, ◌≤◌, ◌<◌, ◌+◌, ◌-◌, ◌/◌, ◌%◌, ◌^◌, ◌==◌, ℕ, length, slice_index};
+ghost use Rattle.std.specs.Prelude.{◌≡◌, ◌≤◌, ◌<◌, ◌+◌, ◌-◌, ◌/◌, ◌%◌, ◌^◌, ◌==◌, ℕ, MatchOption, length, slice_index};
 ghost use Rattle.std.specs.List.{list_all};
+ghost use Rattle.bufr_bits.specs.Bits.{bits_of, all_set};
+ghost use Rattle.bufr_bits.specs.Window.{IsWindow};
 
 /// Octets that are read as bits, at most 2^60 octets. Bits are counted from 0, most significant
 /// first.
@@ -11,9 +13,10 @@ pub struct BitSlice<'a> {
 }
 
 impl<'a> BitSlice<'a> {
-    ghost use Rattle.std.specs.Prelude.{◌≡◌, ◌≤◌, ◌+◌, ◌*◌, ◌^◌, ◌<◌, length, SomeIff, IfSome};
+    ghost use Rattle.std.specs.Prelude.{◌≡◌, ◌≤◌, ◌+◌, ◌*◌, ◌/◌, ◌^◌, ◌<◌, length, SomeIff, IfSome, MatchOption};
     ghost use Rattle.bufr_bits.specs.Bits.{number_of, bits_at, all_set};
     ghost use Rattle.bufr_bits.specs.BitSlice.{octets_of};
+    ghost use Rattle.bufr_bits.specs.Window.{IsWindow};
 
     /// The bits of `octets`, of which there are at most 2^60.
     pub fn new(octets: &'a [u8]) -> BitSlice<'a>
@@ -41,6 +44,47 @@ impl<'a> BitSlice<'a> {
         if at > len || u64::from(width) > len - at {
             return None;
         }
+        if width == 0 {
+            return Some(0);
+        }
+        match self.window_at((at / 8) as usize) {
+            Some(window) => Some(self.by_window(window, at, width)),
+            None => Some(self.by_octets(at, width)),
+        }
+    }
+
+    /// The number that eight octets write, or `None` where fewer are left.
+    fn window_at(&self, first: usize) -> Option<u64>
+        requires { first ≤ length (octets_of self.now) }
+        ensures { MatchOption result (length (octets_of self.now) < first + 8) (λ window. IsWindow window first (octets_of self.now)) }
+    {
+        first_window(&self.octets[first..])
+    }
+
+    /// The number of some bits by the eight octets that begin with bit `at`, and the ninth where
+    /// the bits reach into it.
+    fn by_window(&self, window: u64, at: u64, width: u32) -> u64
+        requires some { 0 < width }
+        requires few { width ≤ 63 }
+        requires within { at + width ≤ 8 * length (octets_of self.now) }
+        requires window { IsWindow window (at / 8) (octets_of self.now) }
+        ensures { result ≡ number_of (bits_at (octets_of self.now) at width) }
+    {
+        let from = (at % 8) as u32;
+        if from + width <= 64 {
+            return (window >> (64 - from - width)) % (1 << width);
+        }
+        let over = from + width - 64;
+        let ninth = self.octets[(at / 8) as usize + 8];
+        ((window % (1 << (64 - from))) << over) + part_of(ninth, 0, over)
+    }
+
+    /// The number of some bits, octet by octet.
+    fn by_octets(&self, at: u64, width: u32) -> u64
+        requires few { width ≤ 63 }
+        requires within { at + width ≤ 8 * length (octets_of self.now) }
+        ensures { result ≡ number_of (bits_at (octets_of self.now) at width) }
+    {
         let mut value = 0u64;
         let mut done = 0u32;
         while done < width {
@@ -51,7 +95,7 @@ impl<'a> BitSlice<'a> {
             value = (value << taken) + part_of(octet, from, taken);
             done += taken;
         }
-        Some(value)
+        value
     }
 
     /// The eight bits from bit `at` on as an octet; `None` exactly where they go past the end.
@@ -80,7 +124,7 @@ impl<'a> BitSlice<'a> {
         requires { at + width ≤ 8 * length (octets_of self.now) }
         ensures { result ≡ all_set (bits_at (octets_of self.now) at width) }
     {
-        if width < 8 {
+        if width < 64 {
             return self.few_are_ones(at, width);
         }
         let front = (8 - at % 8) % 8;
@@ -95,9 +139,9 @@ impl<'a> BitSlice<'a> {
         self.few_are_ones(at + front + 8 * whole, (rest % 8) as u32)
     }
 
-    /// The same of less than eight bits.
+    /// The same of so few bits that they are one number.
     fn few_are_ones(&self, at: u64, width: u32) -> bool
-        requires few { width < 8 }
+        requires few { width < 64 }
         requires within { at + width ≤ 8 * length (octets_of self.now) }
         ensures { result ≡ all_set (bits_at (octets_of self.now) at width) }
     {
@@ -113,8 +157,32 @@ impl<'a> BitSlice<'a> {
     }
 }
 
-/// Whether all octets are 255.
+/// The number that the first eight octets write, or `None` where there are fewer.
+fn first_window(octets: &[u8]) -> Option<u64>
+    ensures { MatchOption result (length octets.now < 8) (λ window. IsWindow window 0 octets.now) }
+{
+    match octets.first_chunk::<8>() {
+        Some(window) => Some(u64::from_be_bytes(*window)),
+        None => None,
+    }
+}
+
+/// Whether all bits of octets are ones, eight octets at a time.
 fn are_full(octets: &[u8]) -> bool
+    ensures { result ≡ all_set (bits_of octets.now) }
+{
+    let mut rest = octets;
+    while let Some(window) = first_window(rest) {
+        if window != u64::MAX {
+            return false;
+        }
+        rest = &rest[8..];
+    }
+    are_each_full(rest)
+}
+
+/// Whether all octets are 255.
+fn are_each_full(octets: &[u8]) -> bool
     ensures full { result ≡ list_all (λ octet. octet == 255) octets.now }
     ensures octets { (k : ℕ) → slice_index octets.now k < 2 ^ 8 }
 {

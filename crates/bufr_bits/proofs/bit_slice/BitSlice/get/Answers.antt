@@ -1,23 +1,9 @@
-use Rattle.std.proofs.Common.{arith, ℕ, ◌<◌, sym, subst, ◌≡◌, ◌+◌, ◌*◌, ◌%◌, ◌^◌}
-use Rattle.bufr_bits.specs.Bits.{number_of, bits_at}
-use Rattle.bufr_bits.proofs.BitLemmas.{next_part, fits_in_63, bits_at-below}
+use Rattle.std.proofs.Common.{arith}
+use Rattle.bufr_bits.proofs.BitLemmas.{below_width}
 use Rattle.bufr_bits.proofs.bit_slice.BitSlice.get.Goals as goal
 
-next_value : (c : goal.After-part_of) → c.loop-done.value * 2 ^ c.min-taken.result % 18446744073709551616 + c.part_of.result ≡ number_of (bits_at c.args.self.now.octets.now c.args.at (c.loop-done.done + c.min-taken.result))
-next_value c =
-    let done = c.from-in-loop-done.ensures in
-    next_part c.args.self.now.octets.now c.args.at c.args.width c.loop-done.done c.min-taken.result c.loop-done.value c.part_of.result (omega arith) (omega arith) (omega arith) (omega arith) c.loop-done.invariant.so_far (rw done at c.part_of.ensures.octet) (rw done at c.part_of.ensures.value)
+pub returns-in-Some-clause-below : goal.returns-in-Some-clause-below
+returns-in-Some-clause-below c = below_width c.args.self.now.octets.now c.args.at c.args.width c.by_window.result (omega arith) c.by_window.ensures
 
-pub overflow_add-value : goal.overflow_add-value
-overflow_add-value c =
-    let fits = fits_in_63 c.args.self.now.octets.now c.args.at (c.loop-done.done + c.min-taken.result) _ (omega arith) (omega arith) (next_value c) in
-    omega arith
-
-pub loop-done-preserved : goal.loop-done-preserved
-loop-done-preserved c = record { within = omega arith; inside = omega arith; so_far = next_value c }
-
-pub returns-clause-below : goal.returns-clause-below
-returns-clause-below c =
-    let done : c.loop-done.done ≡ c.args.width = omega arith in
-    let below = bits_at-below c.args.self.now.octets.now c.args.at c.loop-done.done (omega arith) in
-    subst (λ (m : ℕ). c.loop-done.value < 2 ^ m) done (subst (λ (m : ℕ). m < 2 ^ c.loop-done.done) (sym c.loop-done.invariant.so_far) below)
+pub returns-in-None-clause-below : goal.returns-in-None-clause-below
+returns-in-None-clause-below c = below_width c.args.self.now.octets.now c.args.at c.args.width c.by_octets.result (omega arith) c.by_octets.ensures

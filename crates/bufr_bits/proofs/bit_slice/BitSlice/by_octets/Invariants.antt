@@ -1,6 +1,6 @@
 use Rattle.std.proofs.Common.{◌-◌, ◌≡◌, ◌≤◌, ◌+◌, ◌*◌, length}
 use Rattle.bufr_bits.specs.Bits.{number_of, bits_at}
-use Rattle.bufr_bits.proofs.bit_slice.BitSlice.get.Given as goal
+use Rattle.bufr_bits.proofs.bit_slice.BitSlice.by_octets.Given as goal
 
 abbrev pub invariant-loop-done : goal.invariant-loop-done
 invariant-loop-done l = record {
