@@ -81,18 +81,18 @@ module _ (members : List ℕ) (member : ℕ) where
   sequences_kept-extended [] i run last at inside end = absurd (omega arith)
   sequences_kept-extended (r ∷ []) zero run last at inside end =
       let same : run ≡ r = at in
-      rw same (ap (alone r.fxy) (range-push members member r.start r.end inside.0.0 end))
+      rw same (ap (alone r.fxy) (range-push members member r.start r.end (omega (arith, inside.0.0)) end))
   sequences_kept-extended (r ∷ []) (suc i) run last at inside end = absurd (omega arith)
   sequences_kept-extended (r ∷ t ∷ runs) zero run last at inside end = absurd (omega arith)
   sequences_kept-extended (r ∷ t ∷ runs) (suc i) run last at inside end =
-      let here = range-append members (member ∷ []) r.start r.end inside.0.0 inside.0.1 in
+      let here = range-append members (member ∷ []) r.start r.end (omega (arith, inside.0.0)) inside.0.1 in
       let rest = sequences_kept-extended (t ∷ runs) i run (omega arith) at inside.1 end in
       cc
 
 pub sequences_kept-append : (members more : List ℕ) (runs : List Run) → AllByRecursion (IsRun (length members)) runs → sequences_kept (members ++ more) runs ≡ sequences_kept members runs
 sequences_kept-append members more [] inside = refl
 sequences_kept-append members more (r ∷ runs) inside =
-    let here = range-append members more r.start r.end inside.0.0 inside.0.1 in
+    let here = range-append members more r.start r.end (omega (arith, inside.0.0)) inside.0.1 in
     let rest = sequences_kept-append members more runs inside.1 in
     cc
 

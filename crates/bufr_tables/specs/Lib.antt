@@ -27,3 +27,4 @@ pub mod Sound
 pub mod TemplateTables
 pub mod Tree
 pub mod TreeCode
+pub mod FaultNumber

@@ -12,9 +12,9 @@ sequence_kept members run = record { fxy = run.fxy; members = slice_range member
 abbrev pub sequences_kept : List ℕ → List Run → List Sequence
 sequences_kept members runs = map (sequence_kept members) runs
 
--- a run lies inside the members
+-- a run lies inside the members, and has one at least
 abbrev pub IsRun : ℕ → Run → Type 0
-IsRun size run = (run.start ≤ run.end) × (run.end ≤ size)
+IsRun size run = (run.start < run.end) × (run.end ≤ size)
 
 -- X and Y of a sequence
 abbrev pub key_of : Run → ℕ

@@ -36,6 +36,26 @@ pub enum TableFault {
     Memory,
 }
 
+impl TableFault {
+    ghost use Rattle.std.specs.Prelude.{◌≡◌};
+    ghost use Rattle.bufr_tables.specs.FaultNumber.{number_of_table_fault};
+
+    /// Its number: 40 to 45, or 73.
+    pub fn number(self) -> u8
+        ensures { result ≡ number_of_table_fault self }
+    {
+        match self {
+            TableFault::Header => 40,
+            TableFault::Row(_) => 41,
+            TableFault::Duplicate(_) => 42,
+            TableFault::Cycle(_) => 43,
+            TableFault::TableSize => 44,
+            TableFault::Csv => 45,
+            TableFault::Memory => 73,
+        }
+    }
+}
+
 impl<T: Drop> From<AllocFailed<T>> for TableFault {
     ghost from_gives = { λ _ e. e ≡ Memory };
 

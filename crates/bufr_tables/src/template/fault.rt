@@ -36,3 +36,26 @@ pub enum TemplateFault {
     #[error("73 out of memory")]
     Memory,
 }
+
+impl TemplateFault {
+    ghost use Rattle.std.specs.Prelude.{◌≡◌};
+    ghost use Rattle.bufr_tables.specs.FaultNumber.{number_of_template_fault};
+
+    /// Its number: 20 to 28, or 73.
+    pub fn number(self) -> u8
+        ensures { result ≡ number_of_template_fault self }
+    {
+        match self {
+            TemplateFault::UnknownElement(_) => 20,
+            TemplateFault::UnknownSequence(_) => 21,
+            TemplateFault::Operator(_) => 22,
+            TemplateFault::GroupShape(_) => 23,
+            TemplateFault::NoFactor(_) => 24,
+            TemplateFault::EmptyGroup(_) => 25,
+            TemplateFault::Depth(_) => 26,
+            TemplateFault::TemplateSize(_) => 27,
+            TemplateFault::LocalShape(_) => 28,
+            TemplateFault::Memory => 73,
+        }
+    }
+}

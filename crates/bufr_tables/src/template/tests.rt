@@ -1,5 +1,6 @@
 // What is shown by running: the worked lists, each fault, the limits.
 use super::*;
+use crate::TableFault;
 use std::alloc::AllocError;
 use std::test::Fail;
 
@@ -254,5 +255,49 @@ fn factor_that_table_b_lacks(rt: HostRuntime) -> Result<(), Fail> {
     let descriptors = descriptors_of(rt.alloc(), "105000 031001 001001")?;
     let told = told(rt.alloc(), &descriptors, &table_b, &table_d)?;
     assert_eq!(rt; told.as_str(), "20 unknown element 031001");
+    Ok(())
+}
+
+// A sequence that Table D lacks, and the numbers of the faults.
+#[test]
+fn faults_have_numbers(rt: HostRuntime) -> Result<(), Fail> {
+    let table_b = TableB::read(rt.alloc(), TABLE_B)?;
+    let table_d = TableD::read(rt.alloc(), b"fxy,member\n360192,001001\n360192,012101\n")?;
+    let sequence = Fxy::from_word(0xC001);
+    match Template::build(rt.alloc(), &[sequence], &table_b, &table_d) {
+        Ok(_) => assert!(rt; false, "a template"),
+        Err(fault) => {
+            assert!(rt;
+                fault == TemplateFault::UnknownSequence(sequence),
+                "{fault:?}"
+            );
+            assert_eq!(rt; fault.number(), 21);
+        }
+    }
+    for (fault, number) in [
+        (TemplateFault::UnknownElement(sequence), 20),
+        (TemplateFault::UnknownSequence(sequence), 21),
+        (TemplateFault::Operator(sequence), 22),
+        (TemplateFault::GroupShape(sequence), 23),
+        (TemplateFault::NoFactor(sequence), 24),
+        (TemplateFault::EmptyGroup(sequence), 25),
+        (TemplateFault::Depth(sequence), 26),
+        (TemplateFault::TemplateSize(sequence), 27),
+        (TemplateFault::LocalShape(sequence), 28),
+        (TemplateFault::Memory, 73),
+    ] {
+        assert_eq!(rt; fault.number(), number);
+    }
+    for (fault, number) in [
+        (TableFault::Header, 40),
+        (TableFault::Row(2), 41),
+        (TableFault::Duplicate(sequence), 42),
+        (TableFault::Cycle(sequence), 43),
+        (TableFault::TableSize, 44),
+        (TableFault::Csv, 45),
+        (TableFault::Memory, 73),
+    ] {
+        assert_eq!(rt; fault.number(), number);
+    }
     Ok(())
 }
