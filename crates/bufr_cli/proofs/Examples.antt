@@ -1,15 +1,14 @@
 -- The lines computed on worked examples.
-use Rattle.std.proofs.Common.{◌≡◌, ℕ, true, false, List, [], ◌∷◌, ◌++◌, refl, codes, Option, Some, None, Ok, Err}
+use Rattle.std.proofs.Common.{◌≡◌, ℕ, true, false, List, [], ◌∷◌, ◌++◌, refl, codes, Some}
 use Rattle.std.specs.Prelude.{slice_set}
 use Rattle.std.specs.Fmt.{digits}
 use Rattle.bufr_frame.specs.Scan.{scan_from}
 use Rattle.bufr_frame.specs.Sections.{sections_of, section_end, Sections}
-use Rattle.bufr_frame.specs.declared.head.Head.{Head}
 use Rattle.bufr_frame.specs.declared.fault.Cause.TheVariants.{Cut, ShortLength, NoEnd}
 use Rattle.bufr_frame.specs.declared.fault.SectionFault.TheVariants.{Edition, SectionShort, SectionPast, SectionsEnd}
 use Rattle.bufr_cli.specs.LsLine.{ls_line}
 use Rattle.bufr_cli.specs.FaultLine.{fault_line, cause_text, section_fault_text}
-use Rattle.bufr_cli.specs.Pieces.{Piece, OnOutput, OnErrors, ls_pieces}
+use Rattle.bufr_cli.specs.Pieces.{OnOutput, OnErrors, ls_pieces}
 
 -- a message with one block number, 48 octets
 abbrev one_block_number : List ℕ

@@ -1,12 +1,11 @@
 -- The definitions computed on worked examples.
-use Rattle.std.proofs.Common.{◌≡◌, ℕ, zero, suc, Bool, true, false, List, [], ◌∷◌, ◌++◌, refl, take, drop, length, codes, Option, Some, None, Ok, Err}
-use Rattle.std.specs.Prelude.{Result, slice_set, ◌==◌, ◌&&◌, ◌+◌}
+use Rattle.std.proofs.Common.{◌≡◌, ℕ, zero, suc, Bool, true, false, List, [], ◌∷◌, ◌++◌, refl, take, length, codes, Option, Some, None, Ok, Err}
+use Rattle.std.specs.Prelude.{slice_set, ◌==◌, ◌&&◌, ◌+◌}
 use Rattle.bufr_frame.specs.Scan.{Happening, Framed, Strayed, scan, scan_from, open_scan}
 use Rattle.bufr_frame.specs.Sections.{sections_of, section_end, Sections}
 use Rattle.bufr_frame.specs.Layout.{Parts, parts_of, message_octets}
 use Rattle.bufr_frame.specs.declared.head.Head.{Head}
 use Rattle.bufr_frame.specs.declared.fault.Cause.TheVariants.{Cut, ShortLength, NoEnd}
-use Rattle.bufr_frame.specs.declared.fault.SectionFault.{SectionFault}
 use Rattle.bufr_frame.specs.declared.fault.SectionFault.TheVariants.{Edition, SectionShort, SectionPast, SectionsEnd}
 
 -- a message with one block number, 48 octets

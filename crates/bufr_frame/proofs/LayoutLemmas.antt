@@ -1,15 +1,13 @@
 -- A message that was laid out, read again.
-use Rattle.std.proofs.Common.{◌≡◌, ◌∙◌, ◌==◌, ℕ, zero, suc, ◌+◌, ◌-◌, ◌*◌, ◌/◌, ◌%◌, ◌<◌, ◌≤◌, ◌^◌, Bool, true, false, List, [], ◌∷◌, ◌++◌, length, take, drop, refl, ap, sym, subst, arith, Option, Some, None, Ok, Err, get_or, codes, append_assoc, append-nil, length-append, eq-eqb}
+use Rattle.std.proofs.Common.{◌≡◌, ◌∙◌, ℕ, ◌+◌, ◌-◌, ◌*◌, ◌/◌, ◌%◌, ◌≤◌, Bool, true, false, List, [], ◌∷◌, ◌++◌, length, take, refl, ap, sym, arith, Option, Some, None, Ok, get_or, codes, append_assoc, length-append}
 use Rattle.std.proofs.Math.Seq.{get_or-append_right, take-length}
 use Rattle.std.proofs.lemmas.List.{drop_at, take-append-le}
-use Rattle.std.specs.Prelude.{Result, if◌then◌else◌, nat_lt, nat_le, is_some, slice_range}
+use Rattle.std.specs.Prelude.{if◌then◌else◌, nat_lt, nat_le, is_some, slice_range}
 use Rattle.std.proofs.lemmas.Bool.Decides.{nat_tests}
-use Rattle.std.proofs.lemmas.Grind.{common_steps}
 use Rattle.bufr_frame.specs.Octets.{three, two, words, three_octets, two_octets, octets_of_words}
 use Rattle.bufr_frame.specs.Sections.{sections_of, section_end, parts, has_section2, head_of, Sections}
-use Rattle.bufr_frame.specs.Layout.{Parts, message_octets, message_size, section0, section1, section2, section2_size, section3, section4, data_flags, sections_from, head_octets, size_from, most_octets}
+use Rattle.bufr_frame.specs.Layout.{Parts, message_octets, message_size, section0, section1, section2, section2_size, section3, section4, data_flags, sections_from, head_octets}
 use Rattle.bufr_frame.specs.declared.head.Head.{Head}
-use Rattle.bufr_frame.specs.declared.fault.SectionFault.{SectionFault}
 use Rattle.bufr_frame.proofs.SectionLemmas.{sections-are}
 
 -- octets write their number

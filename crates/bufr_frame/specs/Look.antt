@@ -1,5 +1,5 @@
 -- How a scan goes on behind its first events.
-use Rattle.std.specs.Prelude.{◌≡◌, ◌≢◌, ℕ, ◌+◌, ◌≤◌, Bool, true, false, List, [], ◌++◌, Option, Some, None, length, drop, take_while}
+use Rattle.std.specs.Prelude.{◌≡◌, ◌≢◌, ℕ, ◌+◌, ◌≤◌, Bool, true, false, List, [], ◌++◌, Option, Some, None, length, drop}
 use Rattle.std.specs.List.{list_all}
 use Rattle.bufr_frame.specs.Scan.{Happening, scan_from, verdict, happening, taken, stated, is_decided}
 use Rattle.bufr_frame.specs.declared.search.Verdict.{Verdict}

@@ -1,4 +1,4 @@
-use Rattle.std.proofs.Common.{◌≡◌, ◌∙◌, ap, ◌++◌}
+use Rattle.std.proofs.Common.{◌∙◌, ap, ◌++◌}
 use Rattle.bufr_frame.proofs.WriteLemmas.{three-parts}
 use Rattle.bufr_frame.proofs.write.push_section1.Goals as goal
 

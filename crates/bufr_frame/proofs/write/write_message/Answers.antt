@@ -1,4 +1,4 @@
-use Rattle.std.proofs.Common.{◌≡◌, ◌∙◌, ℕ, List, ap, arith}
+use Rattle.std.proofs.Common.{◌≡◌, ◌∙◌, ap, arith}
 use Rattle.bufr_frame.specs.Sections.{sections_of}
 use Rattle.bufr_frame.specs.Layout.{Parts, parts_of, message_octets}
 use Rattle.std.specs.Prelude.{option_map}
