@@ -8,11 +8,11 @@ pub mod RunsLemmas
 pub mod CycleLemmas
 pub mod TableDLemmas
 pub mod ExpansionLemmas
-pub mod GrowingLemmas
+pub mod GrowthLemmas
+pub mod Laying
 pub mod LeavesLemmas
 pub mod LevelLemmas
 pub mod PartLemmas
-pub mod PlantedLemmas
 pub mod SoundLemmas
 pub mod TemplateExamples
 pub mod TreeLemmas

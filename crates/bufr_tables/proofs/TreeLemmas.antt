@@ -30,7 +30,7 @@ depth-join (operator fxy rest) b = depth-join rest b
 depth-join (fixed count body rest) b = omega (arith, depth-join rest b)
 depth-join (delayed factor body rest) b = omega (arith, depth-join rest b)
 
-or_assoc : (a b c : Bool) → (a || (b || c)) ≡ ((a || b) || c)
+pub or_assoc : (a b c : Bool) → (a || (b || c)) ≡ ((a || b) || c)
 or_assoc true b c = refl
 or_assoc false b c = refl
 

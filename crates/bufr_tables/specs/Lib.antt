@@ -13,7 +13,7 @@ pub mod Runs
 pub mod MemberRow
 pub mod Chain
 pub mod Cycle
-pub mod Counted
+pub mod Cells
 pub mod Expander
 pub mod Expansion
 pub mod Growing
@@ -22,7 +22,7 @@ pub mod Known
 pub mod Leaves
 pub mod Legal
 pub mod Operators
-pub mod Planted
+pub mod Passes
 pub mod Sound
 pub mod TemplateTables
 pub mod Tree
