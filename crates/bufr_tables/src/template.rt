@@ -61,20 +61,31 @@ impl Model for Template {
 }
 
 impl Template {
-    /// Expands a list of descriptors, depth first, from left to right. The first fault counts:
+    /// Expands a list of descriptors, depth first, from left to right, and lays the tree out in cells.
     ///
-    /// - at a replication 1 X Y: `GroupShape` where X is 0; `NoFactor` where Y is 0 and no factor follows (0 31 000,
-    ///   0 31 001 or 0 31 002), `UnknownElement` with the factor where Table B lacks it; `GroupShape` where fewer than X
-    ///   descriptors are left in the same list, the factor not among them; then `Depth`, `TemplateSize`, the faults of
-    ///   its body, and `EmptyGroup` where no node of the body takes bits of the data;
-    /// - at a sequence: `UnknownSequence` where Table D lacks it, then `Depth`, then the faults of its members;
-    /// - at an element: `UnknownElement` where Table B lacks it, unless 2 06 Y stands before it; then `TemplateSize`;
-    /// - at an operator: `Operator` where it, or its operand, is none that a template may hold; `LocalShape` where 2 06 Y
-    ///   is not followed by an element in the same list; then `TemplateSize`;
-    /// - at the end: `EmptyGroup` with the first descriptor (000000 where there is none) where no node takes bits.
+    /// At most 32 groups and sequences are open together, and a template takes at most 65,535 places ([`Template::places`]
+    /// counts them), so a list that would expand to more is refused after that many.
     ///
-    /// At most 32 groups and sequences are open together, and a template takes at most 65,535 places (`places` counts
-    /// them), so a list that would expand to more is refused after that many. `Memory` where memory runs out.
+    /// # Errors
+    ///
+    /// The first fault that is met:
+    ///
+    /// - at a replication 1 X Y: [`TemplateFault::GroupShape`] where X is 0; [`TemplateFault::NoFactor`] where Y is 0 and no
+    ///   factor follows (0 31 000, 0 31 001 or 0 31 002), [`TemplateFault::UnknownElement`] with the factor where Table B
+    ///   lacks it; [`TemplateFault::GroupShape`] where fewer than X descriptors are left in the same list, the factor not
+    ///   among them; then [`TemplateFault::Depth`], [`TemplateFault::TemplateSize`], the faults of its body, and
+    ///   [`TemplateFault::EmptyGroup`] where no node of the body takes bits of the data;
+    /// - at a sequence: [`TemplateFault::UnknownSequence`] where Table D lacks it, then [`TemplateFault::Depth`], then the
+    ///   faults of its members;
+    /// - at an element: [`TemplateFault::UnknownElement`] where Table B lacks it, unless 2 06 Y stands before it; then
+    ///   [`TemplateFault::TemplateSize`];
+    /// - at an operator: [`TemplateFault::Operator`] where it, or its operand, is none that a template may hold;
+    ///   [`TemplateFault::LocalShape`] where 2 06 Y is not followed by an element in the same list; then
+    ///   [`TemplateFault::TemplateSize`];
+    /// - at the end: [`TemplateFault::EmptyGroup`] with the first descriptor (000000 where there is none) where no node
+    ///   takes bits.
+    ///
+    /// [`TemplateFault::Memory`] where memory runs out, at any growth.
     pub fn build(
         alloc: Global,
         descriptors: &[Fxy],
@@ -129,7 +140,9 @@ impl Template {
         self.depth
     }
 
-    /// Its cells, `places` of them, in the order of the data. Takes no memory.
+    /// Its cells in the order of the data, as many as [`Template::places`] tells. The cells of a group are
+    /// [`Cell::Fixed`], or [`Cell::Delayed`] and [`Cell::Factor`], then those of its body, then [`Cell::PassEnd`]; the
+    /// last cell is [`Cell::Finish`]. Takes no memory.
     pub fn cells(&self) -> &[Cell]
         ensures laid { IsLaid result.now self.now }
         ensures count { length result.now ≡ places_of self.now }

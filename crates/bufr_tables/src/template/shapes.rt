@@ -1,4 +1,4 @@
-// What a descriptor is by its digits alone.
+//! What a descriptor is by its digits alone, and lists of descriptors.
 ghost use Rattle.std.specs.Prelude.{◌≡◌, ◌≤◌, length, take, drop};
 ghost use Rattle.bufr_tables.specs.Operators.{is_legal_operator as operator_is_legal, gives_width as width_is_given};
 ghost use Rattle.bufr_tables.specs.Expansion.{is_factor as factor_is, begins_with_element as element_begins, first_of as first_of_list};
@@ -6,7 +6,7 @@ ghost use Rattle.bufr_tables.specs.Expansion.{is_factor as factor_is, begins_wit
 use crate::fxy::Fxy;
 
 /// The descriptors behind the first so many.
-pub fn behind(list: &[Fxy], count: usize) -> &[Fxy]
+pub(crate) fn behind(list: &[Fxy], count: usize) -> &[Fxy]
     requires { count ≤ length list.now }
     ensures { result.now ≡ drop count list.now }
 {
@@ -14,7 +14,7 @@ pub fn behind(list: &[Fxy], count: usize) -> &[Fxy]
 }
 
 /// The first so many descriptors.
-pub fn before(list: &[Fxy], count: usize) -> &[Fxy]
+pub(crate) fn before(list: &[Fxy], count: usize) -> &[Fxy]
     requires { count ≤ length list.now }
     ensures { result.now ≡ take count list.now }
 {
@@ -22,7 +22,7 @@ pub fn before(list: &[Fxy], count: usize) -> &[Fxy]
 }
 
 /// The first descriptor, or 000000.
-pub fn first_of(list: &[Fxy]) -> Fxy
+pub(crate) fn first_of(list: &[Fxy]) -> Fxy
     ensures { result ≡ first_of_list list.now }
 {
     match list.split_first() {
@@ -46,7 +46,7 @@ pub fn gives_width(fxy: Fxy) -> bool
 }
 
 /// Whether a list begins with an element.
-pub fn begins_with_element(list: &[Fxy]) -> bool
+pub(crate) fn begins_with_element(list: &[Fxy]) -> bool
     ensures { result ≡ element_begins list.now }
 {
     match list.split_first() {
