@@ -26,9 +26,6 @@ raised_lay t = ap first_tree (read_lay t 0 (cell.Finish ∷ []) bare [] refl) �
 pub raised_laid : (cells : List Cell) (t : Tree) → IsLaid cells t → raised cells ≡ t
 raised_laid cells t h = ap raised h.laid ∙ raised_lay t
 
-pub laid_raised : (cells : List Cell) (t : Tree) → IsLaid cells t → IsLaid cells (raised cells)
-laid_raised cells t h = subst (IsLaid cells) (sym (raised_laid cells t h)) h
-
 pub kept_raised : (cells : List Cell) (depth_told : ℕ) (t : Tree) → IsKept cells depth_told t → IsKept cells depth_told (raised cells)
 kept_raised cells depth_told t h = subst (IsKept cells depth_told) (sym (raised_laid cells t h.is_laid)) h
 
