@@ -68,27 +68,15 @@ const ROWS: &[(&str, &str, &str)] = &[
         "207001 012101 020003",
         "places 4 depth 0",
     ),
-    (
-        "empty_group",
-        "101255 201000",
-        "25 no part of 101255 takes bits of the data",
-    ),
-    (
-        "empty_whole",
-        "201000",
-        "25 no part of 201000 takes bits of the data",
-    ),
-    (
-        "empty_list",
-        "",
-        "25 no part of 000000 takes bits of the data",
-    ),
+    ("empty_group", "101255 201000", "25 empty group 101255"),
+    ("empty_whole", "201000", "25 empty group 201000"),
+    ("empty_list", "", "25 empty group 000000"),
     ("sequence_of_two", "360192", "places 3 depth 0"),
     ("local_descriptor", "206012 063255", "places 3 depth 0"),
     (
         "local_descriptor_alone",
         "063255",
-        "20 Table B lacks 063255",
+        "20 unknown element 063255",
     ),
     ("inserted_text", "205004", "places 2 depth 0"),
     (
@@ -113,14 +101,10 @@ const ROWS: &[(&str, &str, &str)] = &[
             124001 123001 122001 121001 120001 119001 118001 117001 116001 \
             115001 114001 113001 112001 111001 110001 109001 108001 107001 \
             106001 105001 104001 103001 102001 101001 001001",
-        "26 101001 would be open inside 32 others",
+        "26 depth 101001",
     ),
     ("thirty_two_sequences", "320002", "places 2 depth 0"),
-    (
-        "thirty_three_sequences",
-        "320001",
-        "26 320033 would be open inside 32 others",
-    ),
+    ("thirty_three_sequences", "320001", "26 depth 320033"),
     (
         "delayed_in_delayed",
         "103000 031001 101000 031001 001001",
@@ -129,101 +113,73 @@ const ROWS: &[(&str, &str, &str)] = &[
     (
         "too_few_descriptors",
         "102002 001001",
-        "23 102002 has no descriptors, or too few",
+        "23 group shape 102002",
     ),
-    (
-        "no_descriptors",
-        "100002 001001",
-        "23 100002 has no descriptors, or too few",
-    ),
+    ("no_descriptors", "100002 001001", "23 group shape 100002"),
     (
         "too_few_behind_the_factor",
         "101000 031001",
-        "23 101000 has no descriptors, or too few",
+        "23 group shape 101000",
     ),
     (
         "too_few_in_a_sequence",
         "330002 001001",
-        "23 101002 has no descriptors, or too few",
+        "23 group shape 101002",
     ),
     (
         "too_few_in_a_group",
         "101002 101002 001001",
-        "23 101002 has no descriptors, or too few",
+        "23 group shape 101002",
     ),
     (
         "element_for_a_factor",
         "101000 001001",
-        "24 no factor follows 101000",
+        "24 no factor 101000",
     ),
-    ("no_factor_left", "101000", "24 no factor follows 101000"),
+    ("no_factor_left", "101000", "24 no factor 101000"),
     (
         "local_width_before_an_operator",
         "206012 201000",
-        "28 no element follows 206012",
+        "28 local shape 206012",
     ),
-    (
-        "local_width_at_the_end",
-        "206012",
-        "28 no element follows 206012",
-    ),
+    ("local_width_at_the_end", "206012", "28 local shape 206012"),
     (
         "local_width_at_the_end_of_a_group",
         "101002 206012 063255",
-        "28 no element follows 206012",
+        "28 local shape 206012",
     ),
     (
         "local_width_at_the_end_of_a_sequence",
         "330001 063255",
-        "28 no element follows 206012",
+        "28 local shape 206012",
     ),
     (
         "local_width_before_a_group",
         "206012 101001 001001",
-        "28 no element follows 206012",
+        "28 local shape 206012",
     ),
-    (
-        "associated_field",
-        "204001",
-        "22 no template may hold 204001",
-    ),
+    ("associated_field", "204001", "22 operator 204001"),
     (
         "wrong_width_of_references",
         "203064 012101",
-        "22 no template may hold 203064",
+        "22 operator 203064",
     ),
-    (
-        "wrong_precision",
-        "207019 012101",
-        "22 no template may hold 207019",
-    ),
-    ("no_text", "205000", "22 no template may hold 205000"),
-    (
-        "no_width",
-        "206000 001001",
-        "22 no template may hold 206000",
-    ),
-    ("unknown_sequence", "300099", "21 Table D lacks 300099"),
+    ("wrong_precision", "207019 012101", "22 operator 207019"),
+    ("no_text", "205000", "22 operator 205000"),
+    ("no_width", "206000 001001", "22 operator 206000"),
+    ("unknown_sequence", "300099", "21 unknown sequence 300099"),
     (
         "group_of_a_sequence_of_operators",
         "102002 330003 201000 001001",
-        "25 no part of 102002 takes bits of the data",
+        "25 empty group 102002",
     ),
-    (
-        "doubling_sequences",
-        "300001",
-        "27 001001 takes the template over 65,535 places",
-    ),
+    ("doubling_sequences", "300001", "27 template size 001001"),
     (
         "doubling_sequences_that_fit",
         "300003",
         "places 32769 depth 0",
     ),
-    (
-        "doubling_groups",
-        "310001",
-        "27 102002 takes the template over 65,535 places",
-    ),
+    ("doubling_groups", "310001", "27 template size 102002"),
     (
         "doubling_groups_that_fit",
         "310003",
@@ -347,7 +303,7 @@ fn factor_that_table_b_lacks(rt: HostRuntime) -> Result<(), Fail> {
     let table_d = TableD::read(rt.alloc(), TABLE_D)?;
     let descriptors = descriptors_of(rt.alloc(), "105000 031001 001001")?;
     let told = told(rt.alloc(), &descriptors, &table_b, &table_d)?;
-    assert_eq!(rt; told.as_str(), "20 Table B lacks 031001");
+    assert_eq!(rt; told.as_str(), "20 unknown element 031001");
     Ok(())
 }
 
@@ -357,7 +313,7 @@ fn lacks_a_sequence(rt: HostRuntime) -> Result<(), Fail> {
     let table_d = TableD::read(rt.alloc(), b"fxy,member\n360192,001001\n360192,012101\n")?;
     let sequence = Fxy::from_word(0xC001);
     let told = told(rt.alloc(), &[sequence], &table_b, &table_d)?;
-    assert_eq!(rt; told.as_str(), "21 Table D lacks 300001");
+    assert_eq!(rt; told.as_str(), "21 unknown sequence 300001");
     Ok(())
 }
 
