@@ -34,16 +34,23 @@ is_header r =
 unfoldable pub element_of : List ℕ → Option ℕ
 element_of text = fxy_of text >>= λ fxy. only_if (f_of fxy == 0) fxy
 
--- a name or a unit: at most 512 octets, and none of them a control character of ASCII
+-- no control character of ASCII
 abbrev pub is_printed : ℕ → Bool
 is_printed octet = nat_le 32 octet && not (octet == 127)
 
+-- a name or a unit: at most 512 octets, and none of them a control character of ASCII
+abbrev pub is_plain : List ℕ → Bool
+is_plain text = nat_le (length text) 512 && list_all is_printed text
+
 unfoldable pub plain_of : List ℕ → Option (List ℕ)
-plain_of text = only_if (nat_le (length text) 512 && list_all is_printed text) text
+plain_of text = only_if (is_plain text) text
 
 -- a scale, from -127 to 127
+abbrev pub allows_scale : ℤ → Bool
+allows_scale scale = nat_le (unsigned_abs scale) 127
+
 unfoldable pub scale_of : List ℕ → Option ℤ
-scale_of text = i64_of text >>= λ scale. only_if (nat_le (unsigned_abs scale) 127) scale
+scale_of text = i64_of text >>= λ scale. only_if (allows_scale scale) scale
 
 -- the widths that an element may have, in bits: whole octets for text
 abbrev pub allows_width : Kind → ℕ → Bool
@@ -85,6 +92,16 @@ row_of r = do
   width ← width_of (kind_of unit) (field_of r 5)
   let row : Row = record { fxy = fxy; name = name; unit = unit; kind = kind_of unit; scale = scale; reference = reference; width = width }
   only_if (fits_factor (factor_width fxy) row) row
+
+-- the limits of each row of a table: a plain name and unit, the kind that the unit says, a scale and a width that such an element
+-- may have, and for a factor of delayed replications its own width
+pub record IsRow (row : Row) : Type 0 where
+  pub name : is_plain row.name ≡ true
+  pub unit : is_plain row.unit ≡ true
+  pub kind : row.kind ≡ kind_of row.unit
+  pub scale : allows_scale row.scale ≡ true
+  pub width : allows_width row.kind row.width ≡ true
+  pub factor : fits_factor (factor_width row.fxy) row ≡ true
 
 -- the element of a descriptor
 abbrev pub entry_of : List Row → ℕ → Option Row

@@ -8,7 +8,7 @@ ghost use Rattle.bufr_tables.specs.Entry.{row_with};
 ghost use Rattle.bufr_tables.specs.Kept.{Grows, IsInside, IsStored, row_kept};
 ghost use Rattle.bufr_tables.specs.Records.{records_of};
 ghost use Rattle.bufr_tables.specs.Steps.{Gives};
-ghost use Rattle.bufr_tables.specs.TableB.{AreRows, Row, element_of, entry_of, fits_factor, factor_width, is_header, is_printed, plain_of, row_of, scale_of, table_b_of, width_of, with_record};
+ghost use Rattle.bufr_tables.specs.TableB.{AreRows, IsRow, Row, element_of, entry_of, fits_factor, factor_width, is_header, is_printed, plain_of, row_of, scale_of, table_b_of, width_of, with_record};
 
 use crate::directory::Directory;
 use crate::fault::TableFault;
@@ -21,13 +21,16 @@ use std::alloc::{AllocError, Global};
 use std::marker::Model;
 
 /// What Table B says of an element.
+///
+/// [`TableB::get`] promises the limits that stand here. The factors of delayed replications, 031000, 031001 and 031002,
+/// are no text and have 1, 8 and 16 bits, scale 0 and reference 0.
 #[derive(Clone, Copy, Debug, PartialEq, Eq)]
 pub struct Entry<'a> {
-    /// The name, as octets: the text of the table is not taken for UTF-8.
+    /// The name: at most 512 octets, none of them a control character of ASCII. They are not taken for UTF-8.
     pub name: &'a [u8],
-    /// The unit, as octets.
+    /// The unit, within the same limits.
     pub unit: &'a [u8],
-    /// What the values are, by the unit.
+    /// What the values are, as the unit says.
     pub kind: Kind,
     /// The scale, from -127 to 127: a value is (raw + reference) / 10^scale.
     pub scale: i16,
@@ -125,7 +128,7 @@ fn fits_factor(fxy: Fxy, entry: &Entry) -> bool
 
 // The element that a record writes, where it writes one.
 #[tactic(auto, unfolding(crate::specs::TableB::row_of))]
-fn row(fields: &ByteRecord) -> Option<(Fxy, Entry<'_>)>
+fn written(fields: &ByteRecord) -> Option<(Fxy, Entry<'_>)>
     ensures value { option_map (λ p. row_with p.0 p.1) result ≡ row_of (fields_of fields.now) }
     ensures element { IfSome result (λ p. p.0 < 16384) }
 {
@@ -148,6 +151,15 @@ fn row(fields: &ByteRecord) -> Option<(Fxy, Entry<'_>)>
         return None;
     }
     Some((fxy, entry))
+}
+
+// The same element, which is within the limits of a row.
+fn row(fields: &ByteRecord) -> Option<(Fxy, Entry<'_>)>
+    ensures value { option_map (λ p. row_with p.0 p.1) result ≡ row_of (fields_of fields.now) }
+    ensures element { IfSome result (λ p. p.0 < 16384) }
+    ensures limits { IfSome result (λ p. IsRow (row_with p.0 p.1)) }
+{
+    written(fields)
 }
 
 // Whether a record is the header.
@@ -233,9 +245,10 @@ impl TableB {
         Ok(table)
     }
 
-    /// What the table says of an element, if it has it.
+    /// What the table says of an element, if it has it, within the limits that [`Entry`] states.
     pub fn get(&self, fxy: Fxy) -> Option<Entry<'_>>
-        ensures { option_map (row_with fxy) result ≡ entry_of self.now fxy }
+        ensures value { option_map (row_with fxy) result ≡ entry_of self.now fxy }
+        ensures limits { IfSome result (λ e. IsRow (row_with fxy e)) }
     {
         let directory = &self.directory;
         if fxy.f() != 0 {
@@ -270,6 +283,7 @@ impl TableB {
     fn push(&mut self, fxy: Fxy, entry: &Entry) -> Result<(), AllocError>
         requires element { fxy < 16384 }
         requires absent { entry_of self.old fxy ≡ None }
+        requires limits { IsRow (row_with fxy entry.now) }
         ensures ok { OnOk result (self.new ≡ self.old ++ row_with fxy entry.now ∷ []) }
     {
         let stored = store(&mut self.octets, fxy, entry)?;
