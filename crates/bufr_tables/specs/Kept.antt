@@ -1,4 +1,5 @@
 -- How Table B is kept: names and units one after another in one block of octets, and for each element the places in it.
+-- Cited by private steps only.
 use Rattle.std.specs.Prelude.{◌≡◌, ℕ, ◌≤◌, ◌<◌, List, ◌++◌, length, map}
 use Rattle.std.specs.List.{AllByRecursion}
 use Rattle.std.specs.Prelude.{slice_range}
