@@ -1,5 +1,5 @@
 -- The limits of each row of Table B.
-use Rattle.std.proofs.Common.{◌≡◌, ℕ, ◌+◌, ◌<◌, nat_eq, Bool, true, false, ℤ, List, [], ◌∷◌, ◌++◌, sym, subst, refl, ◌∙◌, ap, Some, None, Option}
+use Rattle.std.proofs.Common.{◌≡◌, ℕ, nat_eq, Bool, true, false, ℤ, List, [], ◌∷◌, ◌++◌, sym, subst, refl, Some, None, Option}
 use Rattle.std.specs.Prelude.{IfSome, if◌then◌else◌, length, option_map}
 use Rattle.std.specs.List.{AllByRecursion}
 use Rattle.std.proofs.lemmas.Option.{option_and_then_some}
@@ -13,7 +13,7 @@ use Rattle.bufr_tables.specs.declared.table_b.Entry.{Entry}
 use Rattle.bufr_tables.specs.Kept.{Grows, IsInside, rows_kept}
 use Rattle.bufr_tables.specs.declared.table_b.Stored.{Stored}
 use Rattle.bufr_tables.proofs.KeptLemmas.{rows_kept-append}
-use Rattle.bufr_tables.specs.TableB.{IsRow, Row, allows_scale, allows_width, element_of, entry_of, factor_width, fits_factor, is_plain, natural_part, plain_of, row_of, scale_of, width_of}
+use Rattle.bufr_tables.specs.TableB.{IsRow, Row, allows_scale, allows_width, element_of, entry_of, is_plain, natural_part, plain_of, row_of, scale_of, width_of}
 
 -- a test that was passed, and the value behind it
 passed : {A P : Type 0} (test : Bool) (x y : A) → only_if test x ≡ Some y → (test ≡ true → x ≡ y → P) → P

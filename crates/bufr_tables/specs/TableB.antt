@@ -1,7 +1,7 @@
 -- Table B, the elements, as a text of CSV writes it: a header, and a row for each element. (WMO-No. 306, Volume I.2, FM 94:
 -- Table B. The text's form, its limits and its faults are a choice of this project)
 -- Cited by public contracts.
-use Rattle.std.specs.Prelude.{◌≡◌, ℕ, ◌+◌, ◌%◌, ◌==◌, ◌&&◌, Bool, true, false, not, nat_le, if◌then◌else◌, ℤ, pos, negsuc, List, [], ◌∷◌, ◌++◌, length, map, nat_eq, codes, Option, Some, None, is_some, Result, Ok, Err}
+use Rattle.std.specs.Prelude.{◌≡◌, ℕ, ◌%◌, ◌==◌, ◌&&◌, Bool, true, false, not, nat_le, if◌then◌else◌, ℤ, pos, negsuc, List, [], ◌∷◌, ◌++◌, length, map, nat_eq, codes, Option, Some, None, is_some, Result, Ok, Err}
 use Rattle.std.specs.List.{IsDistinct, find, list_all}
 use Rattle.std.specs.Int.RustNames.{unsigned_abs}
 use Rattle.bufr_tables.specs.declared.fault.TableFault.{TableFault}
