@@ -3,10 +3,11 @@ pub mod ReadingLemmas
 pub mod DirectoryLemmas
 pub mod KeptLemmas
 pub mod StepsLemmas
+pub mod TableLemmas
 pub mod TableBLemmas
+pub mod RowLemmas
 pub mod RunsLemmas
 pub mod CycleLemmas
-pub mod TableDLemmas
 pub mod ExpansionLemmas
 pub mod GrowthLemmas
 pub mod Laying

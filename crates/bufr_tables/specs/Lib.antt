@@ -5,6 +5,7 @@ pub mod Records
 pub mod Reading
 pub mod Directory
 pub mod Steps
+pub mod Table
 pub mod TableB
 pub mod Entry
 pub mod Kept

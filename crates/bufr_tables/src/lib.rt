@@ -24,4 +24,6 @@ pub use table_d::TableD;
 pub use template::{Cell, Template, TemplateFault};
 
 #[cfg(test)]
+mod test_tables;
+#[cfg(test)]
 mod tests;

@@ -13,9 +13,7 @@ ghost use Rattle.bufr_tables.specs.Expander.{tables_in, inner_in, list_in, group
 use super::fault::TemplateFault;
 use super::growing::Growing;
 use super::passes::Passes;
-use super::shapes::{
-    before, begins_with_element, behind, gives_width, is_factor, is_legal_operator,
-};
+use super::shapes::{before, begins_with_element, behind};
 use crate::fxy::Fxy;
 use crate::table_b::TableB;
 use crate::table_d::TableD;
@@ -51,7 +49,7 @@ impl Expander<'_> {
         let mut width_given = false;
         while let Some((fxy, after)) = rest.split_first() {
             let taken = self.part(*fxy, after, width_given, room, growing)?;
-            width_given = gives_width(*fxy);
+            width_given = fxy.gives_width();
             rest = behind(after, taken);
         }
         Ok(())
@@ -159,7 +157,7 @@ impl Expander<'_> {
         let Some((factor, behind_factor)) = after.split_first() else {
             return Err(TemplateFault::NoFactor(fxy));
         };
-        if !is_factor(*factor) {
+        if !factor.is_factor() {
             return Err(TemplateFault::NoFactor(fxy));
         }
         if !self.knows(*factor) {
@@ -226,10 +224,10 @@ fn operator(fxy: Fxy, after: &[Fxy], growing: &mut Growing) -> Result<usize, Tem
         result (growth_of growing.new) }
     ensures none { IfOk result (λ taken. taken ≡ 0) }
 {
-    if !is_legal_operator(fxy) {
+    if !fxy.is_legal_operator() {
         return Err(TemplateFault::Operator(fxy));
     }
-    if gives_width(fxy) && !begins_with_element(after) {
+    if fxy.gives_width() && !begins_with_element(after) {
         return Err(TemplateFault::LocalShape(fxy));
     }
     growing.push_operator(fxy)?;

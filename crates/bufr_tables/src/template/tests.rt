@@ -1,20 +1,9 @@
 //! What is shown by running: the worked lists, their cells, each fault, the limits.
 use super::*;
 use crate::TableFault;
+use crate::test_tables::TABLE_B;
 use std::alloc::AllocError;
 use std::test::Fail;
-
-// Test data, not WMO's.
-const TABLE_B: &[u8] = b"\
-    fxy,name,unit,scale,reference,width\n\
-    001001,WMO BLOCK NUMBER,Numeric,0,0,7\n\
-    001015,STATION OR SITE NAME,CCITT IA5,0,0,160\n\
-    005002,LATITUDE (COARSE ACCURACY),degree,2,-9000,15\n\
-    012101,AIR TEMPERATURE,K,2,0,16\n\
-    020003,PRESENT WEATHER,Code table,0,0,9\n\
-    031000,SHORT DELAYED DESCRIPTOR REPLICATION FACTOR,Numeric,0,0,1\n\
-    031001,DELAYED DESCRIPTOR REPLICATION FACTOR,Numeric,0,0,8\n\
-    031002,EXTENDED DELAYED DESCRIPTOR REPLICATION FACTOR,Numeric,0,0,16\n";
 
 // A table without the factors of delayed replication.
 const NO_FACTORS: &[u8] = b"\
