@@ -18,7 +18,7 @@ use crate::fxy::Fxy;
 use crate::table_b::TableB;
 use crate::table_d::TableD;
 
-/// The two tables, and the allocator of the cells.
+/// What expands lists: the two tables.
 #[derive(Drop)]
 pub(crate) struct Expander<'a> {
     pub(crate) table_b: &'a TableB,
