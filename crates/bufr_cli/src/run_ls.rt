@@ -72,13 +72,13 @@ fn flush<W: Sink>(w: &mut W) -> Result<(), RunFault>
 }
 
 /// Lists the messages of `r`: for each a line on `w`, and for each stray `BUFR` and each message
-/// that cannot be taken apart a fault line on `e`, in the order of the stream. At the end `w`, then
-/// `e` is flushed. For now the input is read whole before anything is written.
+/// that cannot be taken apart a fault line on `e`, in the order of the stream, each as soon as it is
+/// certain. At the end `w`, then `e` is flushed.
 ///
 /// # Errors
 ///
 /// [`RunFault::Read`], [`RunFault::InputTooLong`] and [`RunFault::Memory`] as [`Finder::next`]
-/// gives them; nothing was written then. [`RunFault::Write`] where a writer failed or took nothing:
+/// gives them; the lines of all that was certain were written then. [`RunFault::Write`] where a writer failed or took nothing:
 /// a front of the lines was written.
 pub fn run_ls<R: Source, W: Sink, E: Sink>(
     alloc: Global,
@@ -91,7 +91,7 @@ pub fn run_ls<R: Source, W: Sink, E: Sink>(
         Written (W.taken w.old) (W.taken w.new) (E.taken e.old) (E.taken e.new) (ls_pieces s) × Tallies tally (ls_pieces s))) }
     ensures flushed { OnOk result ((W.handed_on w.new ≡ true) × (E.handed_on e.new ≡ true)) }
     // The same over the octets that were read, and what a fault leaves.
-    ensures run { (bs : List ℕ) × RunSo ls_pieces (R.left r.old) (R.left r.new) (W.taken w.old) (W.taken w.new) (E.taken e.old) (E.taken e.new)
+    ensures run { (bs : List ℕ) × RunSo (map ls_piece) (R.left r.old) (R.left r.new) (W.taken w.old) (W.taken w.new) (E.taken e.old) (E.taken e.new)
         ((W.flushes w.new ≡ W.flushes w.old) × (E.flushes e.new ≡ E.flushes e.old)) bs result }
 
     // Each fault comes only where its device failed in this call.

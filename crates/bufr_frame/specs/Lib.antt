@@ -1,7 +1,9 @@
+pub mod Buffer
 pub mod Events
 pub mod Finding
 pub mod Input
 pub mod Layout
+pub mod Longest
 pub mod Look
 pub mod Next
 pub mod Numbers

@@ -1,7 +1,12 @@
 //! Laws about the events of a stream.
-ghost use Rattle.std.specs.Prelude.{◌≡◌, List, [], ◌++◌, ℕ, true, false};
+ghost use Rattle.std.specs.Prelude.{◌≡◌, List, [], ◌+◌, ◌++◌, ℕ, Option, Result, length, true, false};
 ghost use Rattle.bufr_frame.specs.Scan.{Happening, scan, scan_from, open_scan};
-ghost use Rattle.bufr_frame.specs.Look.{Advances};
+ghost use Rattle.bufr_frame.specs.Look.{Advances, NoneDecided};
+ghost use Rattle.bufr_frame.specs.Longest.{longest_of, first_event};
+ghost use Rattle.bufr_frame.specs.Finding.{State, fresh, StepSo, SeesSo};
+ghost use Rattle.bufr_frame.specs.Next.{NextSo, HoldsSo};
+ghost use Rattle.bufr_frame.specs.declared.fault.RunFault.{RunFault};
+ghost use Rattle.bufr_frame.specs.declared.finder.Event.{Event};
 
 /// The events that are certain while the end is not known stay the first ones, whatever comes
 /// behind.
@@ -19,4 +24,28 @@ pub fn events_to_the_end_are_the_scan()
 /// certain.
 pub fn events_before_the_end_are_certain()
     ensures { (s rest : List ℕ) (events : List Happening) (at : ℕ) → Advances false 0 s events at rest → (more : List Happening) × (open_scan s ≡ events ++ more) }
+{}
+
+/// The events that calls of a finder gave are all that are certain, where nothing that is left is.
+pub fn events_at_a_fault_are_the_open_scan()
+    ensures { (s rest : List ℕ) (events : List Happening) (at : ℕ) → Advances false 0 s events at rest → NoneDecided at rest → open_scan s ≡ events }
+{}
+
+/// The octets that were read from an event's place on are held.
+pub fn octets_from_an_event_on_are_held()
+    ensures { (left left' : Option (List ℕ)) (reads reads' : ℕ) (old new : State) (result : Result Event RunFault) → (next : NextSo left left' reads reads' old new result) → HoldsSo (old.at + length (old.rest ++ next.steps.0)) new result }
+{}
+
+/// The greatest length after a call is that of all events given so far.
+pub fn longest_is_that_of_the_events()
+    ensures { (left mid left' : Option (List ℕ)) (s s' : State) (bs bs' : List ℕ) (events es : List Happening)
+        → StepSo left mid fresh s bs events → s.longest ≡ longest_of 0 bs events → StepSo mid left' s s' bs' es → SeesSo s s' bs' es
+        → s'.longest ≡ longest_of 0 (bs ++ bs') (events ++ es) }
+{}
+
+/// After a fault the first event that is left counts too.
+pub fn longest_at_a_fault_counts_the_open_word()
+    ensures { (left mid left' : Option (List ℕ)) (s s' : State) (bs bs' : List ℕ) (events : List Happening)
+        → StepSo left mid fresh s bs events → s.longest ≡ longest_of 0 bs events → StepSo mid left' s s' bs' [] → SeesSo s s' bs' (first_event (scan_from 0 s'.at s'.rest))
+        → s'.longest ≡ longest_of 0 (bs ++ bs') (events ++ first_event (scan_from 0 s'.at s'.rest)) }
 {}

@@ -2,6 +2,7 @@
 //! and writes one from its parts.
 #![tactic(auto)]
 
+mod buffer;
 mod ends;
 mod fault;
 mod finder;

@@ -1,8 +1,10 @@
 //! The search for the next place where `BUFR` stands.
 ghost use Rattle.std.specs.Prelude.{◌≡◌, ◌≢◌, ◌≤◌, ◌<◌, ◌+◌, ◌-◌, ◌^◌, ℕ, List, [], ◌∷◌, ◌++◌, length, take, drop, codes, IfOk, IfSome, MatchOption, vec_len, Some, None};
+ghost use Rattle.memchr.specs.Find.{FindsNeedle};
 ghost use Rattle.bufr_frame.specs.Octets.{three};
 ghost use Rattle.bufr_frame.specs.Scan.{verdict, stated};
 ghost use Rattle.bufr_frame.specs.Look.{LooksSo};
+ghost use Rattle.bufr_frame.specs.Longest.{length_here};
 
 use crate::fault::Cause;
 use memchr::memmem;
@@ -18,13 +20,35 @@ pub(crate) enum Verdict {
     Frame,
 }
 
-/// The first event of some octets.
+/// The next event of some octets, which is certain.
 #[derive(Clone, Copy, Debug)]
 pub(crate) struct Found {
     /// The place where `BUFR` stands, from 0.
     pub(crate) place: usize,
     /// What is there.
     pub(crate) here: Verdict,
+    /// The length that is stated there, 0 where its octets are not there.
+    pub(crate) stated: usize,
+}
+
+/// The place before which no event is.
+#[derive(Clone, Copy, Debug)]
+pub(crate) struct Wanted {
+    /// The place, from 0.
+    pub(crate) place: usize,
+    /// The length that is stated there, 0 where none is.
+    pub(crate) stated: usize,
+}
+
+/// What the octets at hand show.
+#[derive(Clone, Copy, Debug)]
+pub(crate) enum Sight {
+    /// An event.
+    Decided(Found),
+    /// More octets are needed to tell.
+    Open(Wanted),
+    /// No event any more.
+    End,
 }
 
 /// The octets from `place` on.
@@ -42,6 +66,14 @@ pub(crate) fn stated_len(m: &[u8]) -> usize
     ensures most { result < 2 ^ 24 }
 {
     65536 * (m[4] as usize) + 256 * (m[5] as usize) + m[6] as usize
+}
+
+/// The length that octets 5 to 7 state, or 0 where there are not eight octets.
+pub(crate) fn len_here(m: &[u8]) -> usize
+    ensures value { result ≡ length_here m.now }
+    ensures most { result < 2 ^ 24 }
+{
+    if m.len() < 8 { 0 } else { stated_len(m) }
 }
 
 /// What is at the front of `m`.
@@ -67,15 +99,46 @@ pub(crate) fn judge(m: &[u8]) -> Verdict
     Verdict::Frame
 }
 
-/// The first event of `rest`, behind which nothing comes.
-pub(crate) fn look(rest: &[u8]) -> Option<Found>
-    ensures { LooksSo rest.now result }
+/// What `rest` shows, behind which more octets may come unless the end was reached.
+pub(crate) fn look(word: &memmem::Finder<'_>, rest: &[u8], ended: bool) -> Sight
+    requires { word.now ≡ codes "BUFR" }
+    ensures { LooksSo ended rest.now result }
 {
-    match memmem::find(rest, b"BUFR") {
-        None => None,
-        Some(place) => Some(Found {
-            place,
-            here: judge(behind(rest, place)),
-        }),
+    match word.find(rest) {
+        None => {
+            if ended {
+                Sight::End
+            } else {
+                Sight::Open(Wanted {
+                    place: rest.len() - rest.len().min(3),
+                    stated: 0,
+                })
+            }
+        }
+        Some(place) => look_at(rest, place, ended),
     }
+}
+
+/// The same, where `BUFR` stands first at `place`.
+fn look_at(rest: &[u8], place: usize, ended: bool) -> Sight
+    requires { FindsNeedle rest.now (codes "BUFR") 0 (Some place) }
+    ensures { LooksSo ended rest.now result }
+{
+    let m = behind(rest, place);
+    let stated = len_here(m);
+    if ended {
+        return Sight::Decided(Found {
+            place,
+            here: judge(m),
+            stated,
+        });
+    }
+    if m.len() < stated.max(8) {
+        return Sight::Open(Wanted { place, stated });
+    }
+    Sight::Decided(Found {
+        place,
+        here: judge(m),
+        stated,
+    })
 }

@@ -233,3 +233,66 @@ fn reads_to_the_end(rt: HostRuntime) -> Result<(), Fail> {
     law::open_scan_is_front();
     Ok(())
 }
+
+/// The octets held stay within the bound, and a lent frame is held whole.
+#[test]
+fn holds_no_more_than_stated(rt: HostRuntime) -> Result<(), Fail> {
+    let mut stream = Vec::new(rt.alloc());
+    for _ in 0..10_000 {
+        stream.push(0)?;
+    }
+    stream.extend_from_slice(&ONE_BLOCK_NUMBER)?;
+    for step in [1, 3, 5000, 65536] {
+        let mut r = ScriptIn::new(&stream, step, None);
+        let mut finder = Finder::new(rt.alloc());
+        assert!(rt; finder.held() == 0 && finder.longest() == 0);
+        assert!(rt; matches!(finder.next(&mut r), Ok(Event::Frame(10_000, _))));
+        assert!(rt; finder.held() >= 48 && finder.held() <= 4096 && finder.longest() == 48);
+        assert!(rt; matches!(finder.next(&mut r), Ok(Event::Done)));
+        assert!(rt; finder.held() <= 4096 && finder.longest() == 48);
+    }
+    Ok(())
+}
+
+/// A message longer than the least room is held alone.
+#[test]
+fn holds_a_long_message(rt: HostRuntime) -> Result<(), Fail> {
+    let mut stream = Vec::new(rt.alloc());
+    stream.extend_from_slice(b"BUFR\x00\x13\xB8\x04")?;
+    for _ in 0..5036 {
+        stream.push(0)?;
+    }
+    stream.extend_from_slice(b"7777")?;
+    for _ in 0..9000 {
+        stream.push(0)?;
+    }
+    stream.extend_from_slice(&ONE_BLOCK_NUMBER)?;
+    for step in [1, 7, 65536] {
+        let mut r = ScriptIn::new(&stream, step, None);
+        let mut finder = Finder::new(rt.alloc());
+        assert!(rt; matches!(finder.next(&mut r), Ok(Event::Frame(0, _))));
+        assert!(rt; finder.held() == 5048 && finder.longest() == 5048);
+        assert!(rt; matches!(finder.next(&mut r), Ok(Event::Frame(14_048, _))));
+        assert!(rt; matches!(finder.next(&mut r), Ok(Event::Done)));
+        assert!(rt; finder.held() <= 5048 && finder.longest() == 5048);
+    }
+    Ok(())
+}
+
+/// Events that are certain come before a fault; the word that is open counts.
+#[test]
+fn gives_what_is_certain(rt: HostRuntime) -> Result<(), Fail> {
+    let mut stream = Vec::new(rt.alloc());
+    stream.extend_from_slice(&ONE_BLOCK_NUMBER)?;
+    stream.extend_from_slice(b"xxBUFR\x00\x01\x00\x04abc")?;
+    for step in [1, 7, 65536] {
+        let mut r = ScriptIn::new(&stream, step, Some(60));
+        let mut finder = Finder::new(rt.alloc());
+        assert!(rt; matches!(finder.next(&mut r), Ok(Event::Frame(0, _))));
+        for _ in 0..3 {
+            assert!(rt; matches!(finder.next(&mut r), Err(RunFault::Read)));
+            assert!(rt; finder.longest() == 256);
+        }
+    }
+    Ok(())
+}

@@ -21,7 +21,7 @@ loop-finder-init g c = record {
 pub returns-in_err-event-clause-run : goal.returns-in_err-event-clause-run
 returns-in_err-event-clause-run g c =
     let p = err_from_is_err_and c.from_residual.result c.from_residual.ensures.1 in
-    stop-next ls_piece _ _ _ _ _ _ _ _ _ _ _ _ _ _ c.loop-finder.invariant.ran c.next.follows.holds-at-none _ _ c.from_residual.result c.in_err-event.was (p.1 ∙ ap Err p.2)
+    stop-next ls_piece _ _ _ _ _ _ _ _ _ _ _ _ _ _ c.loop-finder.invariant.ran c.next.follows.holds-at-none _ (c.loop-finder.invariant.output_flushes, c.loop-finder.invariant.errors_flushes) _ c.from_residual.result c.in_err-event.was (p.1 ∙ ap Err p.2)
 
 pub loop-finder-preserved : goal.loop-finder-preserved
 loop-finder-preserved g c =
@@ -62,7 +62,7 @@ returns-in_err-flush-2-clause-run g c =
 
 pub returns-clause-whole : goal.returns-clause-whole
 returns-clause-whole g c =
-    all-known (λ l. map ls_piece (scan l)) _ _ _ _ _ _ _ (flushed ls_piece _ _ _ _ _ _ _ _ _ _ _ _ _ c.next.result c.loop-finder.invariant.ran c.next.follows.holds-at-none (c.in_ok-event.was ∙ ap Ok c.in-Done.is) _ _
+    all-known (map ls_piece) _ _ _ _ _ _ _ (flushed ls_piece _ _ _ _ _ _ _ _ _ _ _ _ _ c.next.result c.loop-finder.invariant.ran c.next.follows.holds-at-none (c.in_ok-event.was ∙ ap Ok c.in-Done.is) _ _
     c.flush.ensures.keeps c.flush-2.ensures.keeps)
 
 pub returns-clause-run : goal.returns-clause-run
