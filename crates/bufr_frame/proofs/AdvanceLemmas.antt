@@ -13,7 +13,7 @@ use Rattle.bufr_frame.specs.Scan.{Happening, scan_from}
 use Rattle.bufr_frame.specs.Look.{OpenSo, StatedSo, NoneDecided}
 use Rattle.bufr_frame.specs.Longest.{length_here, first_event}
 use Rattle.bufr_frame.specs.Runs.{most_reads}
-use Rattle.bufr_frame.specs.Finding.{State, StepSo, SeesSo, Follows, CountsReads, Raised, StopsSo, fault_in}
+use Rattle.bufr_frame.specs.Finding.{State, StepSo, SeesSo, Follows, CountsReads, Raised, StopsSo, WantsSo, fault_in}
 use Rattle.bufr_frame.specs.Passing.{gone_to, PassedSo, ReadSo, ReadEnds}
 use Rattle.bufr_frame.proofs.FindingLemmas.{turn-pass, turn-stop, read-step}
 use Rattle.bufr_frame.proofs.LongestLemmas.{open-sees, raised-open, raised-read}
@@ -132,3 +132,13 @@ module _ (left mid : Option (List ℕ)) (old s s1 : State) (place size : ℕ) (s
         by Write ends kept = absurd ends
         by InputTooLong ends kept = absurd ends
         by Memory ends kept = (kept, ended, none)
+
+    -- memory was refused where the room was too small
+    pub wants-read : (s3 : State) (fault : RunFault) → result ≡ Err fault → s3 ≡ record s2 { fault = Some fault } → old.room ≤ s.room → WantsSo old s3 fault
+    wants-read s3 fault same stops room = by fault (rw same at next.1.ends)
+      where
+        by : (f : RunFault) → ReadEnds left' s1 s2 next.0 (Err f) → WantsSo old s3 f
+        by Read ends = tt
+        by Write ends = tt
+        by InputTooLong ends = tt
+        by Memory ends = omega (arith, ends.3, room, ap (λ x. x.room) is, next.1.longest, ap (λ x. x.longest) stops)

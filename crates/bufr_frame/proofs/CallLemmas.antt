@@ -13,8 +13,8 @@ use Rattle.bufr_frame.specs.declared.finder.Event.TheVariants as event
 use Rattle.bufr_frame.specs.Scan.{Happening, Framed, Strayed, scan, scan_from, open_scan, stands, stated, verdict, happening, taken, is_decided}
 use Rattle.bufr_frame.specs.Longest.{length_here, longest_of, offset_of, first_event}
 use Rattle.bufr_frame.specs.Look.{Advances, NoneDecided}
-use Rattle.bufr_frame.specs.Finding.{State, held, fresh, StepSo, SeesSo, Follows}
-use Rattle.bufr_frame.specs.Next.{NextSo, HoldsSo}
+use Rattle.bufr_frame.specs.Finding.{State, held, fresh, StepSo, SeesSo, Follows, IsDone}
+use Rattle.bufr_frame.specs.Next.{NextSo, EndsSo, HoldsSo, told_by}
 use Rattle.bufr_frame.proofs.ScanLemmas.{drop-twice, scan_from-nil, scan_from-here, scan_from-nothing, verdict-nothing}
 use Rattle.bufr_frame.proofs.LookLemmas.{take_while-all, taken-bounds, cut-so, length-eight, stated-front}
 use Rattle.bufr_frame.proofs.FindingLemmas.{whole-scan}
@@ -153,3 +153,20 @@ longest-stopped left mid left' s s' bs bs' events one known two grown =
     more-longest s s' bs bs' events es left mid one known (λ end. (two.kept end).1)
     (placed-wider s.at s'.at (s.rest ++ bs') s'.rest es (omega (arith, f.offset)) (omega (arith, f.offset, f.within, ap length f.left, length-drop f.passed (s.rest ++ bs')))
     (placed-first s'.at s'.rest (scan_from 0 s'.at s'.rest) (scan-placed (length s'.rest) s'.at s'.rest (omega arith)))) grown
+
+-- after the end no event comes, and no fault
+pub done-again : (left left' : Option (List ℕ)) (reads reads' : ℕ) (old new : State) (result : Result Event RunFault)
+    → NextSo left left' reads reads' old new result → IsDone old → (result ≡ Ok event.Done) × (new.reads ≡ old.reads)
+done-again left left' reads reads' old new result next done = (only result next.steps.1.advances next.ends, kept.2)
+  where
+    kept : (new.ended ≡ true) × (next.steps.0 ≡ []) × (new.reads ≡ old.reads)
+    kept = next.steps.1.kept done.0
+
+    none : (events : List Happening) → Advances new.ended old.at (old.rest ++ next.steps.0) events new.at new.rest → events ++ scan_from 0 new.at (new.rest ++ []) ≡ []
+    none events advances = sym (advances.whole [] (λ _. refl)) ∙ ap (scan_from 0 old.at) (append-nil (old.rest ++ next.steps.0) ∙ ap (λ l. old.rest ++ l) kept.1 ∙ append-nil old.rest) ∙ done.1 old.at
+
+    only : (r : Result Event RunFault) → Advances new.ended old.at (old.rest ++ next.steps.0) (told_by r) new.at new.rest → EndsSo old new r → r ≡ Ok event.Done
+    only (Ok (event.Frame offset octets)) advances ends = absurd (let e = none (Framed offset octets.now ∷ []) advances in cc)
+    only (Ok (event.Stray offset cause)) advances ends = absurd (let e = none (Strayed offset cause ∷ []) advances in cc)
+    only (Ok event.Done) advances ends = refl
+    only (Err fault) advances ends = absurd (true≢false (sym done.0 ∙ ends.0))

@@ -195,15 +195,27 @@ events-are-certain s rest events at advances = (
 )
 
 -- one step of a finder after others
+pub steps-compose : (left mid left' : Option (List ℕ)) (old s s' : State) (bs bs' : List ℕ) (events es : List Happening)
+    → StepSo left mid old s bs events → StepSo mid left' s s' bs' es → StepSo left left' old s' (bs ++ bs') (events ++ es)
+steps-compose left mid left' old s s' bs bs' events es one two =
+    let whole : (old.rest ++ bs) ++ bs' ≡ old.rest ++ (bs ++ bs') = append_assoc old.rest bs bs' in
+    let A : List ℕ → Type 0 = λ l. Advances s'.ended old.at l (events ++ es) s'.at s'.rest in
+    let F : List ℕ → Type 0 = λ l. Follows old.at l s'.at s'.rest in
+    record {
+      read = Consumes-trans left mid left' bs bs' one.read two.read;
+      advances = subst A whole (Advances-then s.ended s'.ended old.at s.at s'.at (old.rest ++ bs) s.rest s'.rest bs' events es (λ end. ((two.kept end).0, (two.kept end).1)) one.advances two.advances);
+      follows = subst F whole (Follows-then old.at s.at s'.at (old.rest ++ bs) s.rest s'.rest bs' one.follows two.follows);
+      kept = λ end.
+          let a = one.kept end in
+          let b = two.kept a.0 in
+          (b.0, ap (λ l. l ++ bs') a.1 ∙ b.1, b.2 ∙ a.2);
+      end = λ before. two.end (one.end before);
+    }
+
+-- the same from the beginning
 pub StepSo-then : (left mid left' : Option (List ℕ)) (s s' : State) (bs bs' : List ℕ) (events es : List Happening)
     → StepSo left mid fresh s bs events → StepSo mid left' s s' bs' es → StepSo left left' fresh s' (bs ++ bs') (events ++ es)
-StepSo-then left mid left' s s' bs bs' events es one two = record {
-  read = Consumes-trans left mid left' bs bs' one.read two.read;
-  advances = Advances-then s.ended s'.ended 0 s.at s'.at bs s.rest s'.rest bs' events es (λ end. ((two.kept end).0, (two.kept end).1)) one.advances two.advances;
-  follows = Follows-then 0 s.at s'.at bs s.rest s'.rest bs' one.follows two.follows;
-  kept = λ end. absurd (false≢true end);
-  end = λ before. two.end (one.end before);
-}
+StepSo-then left mid left' = steps-compose left mid left' fresh
 
 -- the reads of more calls
 pub CountsReads-then : (a b c : ℕ) (s s' : State) → CountsReads a b fresh s → CountsReads b c s s' → CountsReads a c fresh s'

@@ -1,4 +1,5 @@
 pub mod AdvanceLemmas
+pub mod AgainLemmas
 pub mod BufferLemmas
 pub mod CallLemmas
 mod Examples

@@ -1,5 +1,5 @@
 -- What a finder does, call by call.
-use Rattle.std.specs.Prelude.{◌≡◌, ◌⊎◌, ℕ, ◌+◌, ◌-◌, ◌<◌, ◌≤◌, max, Bool, true, false, List, [], ◌++◌, Option, Some, None, length, drop}
+use Rattle.std.specs.Prelude.{◌≡◌, ◌⊎◌, ℕ, ◌+◌, ◌-◌, ◌*◌, ◌<◌, ◌≤◌, max, Bool, true, false, List, [], ◌++◌, Option, Some, None, length, drop}
 use Rattle.std.specs.Io.KnownBytes.{Consumes, IsAtEnd}
 use Rattle.bufr_bits.specs.Counts.{counted}
 use Rattle.bufr_frame.specs.Scan.{Happening, scan_from, stated}
@@ -27,6 +27,8 @@ pub record State : Type 0 where
   pub reads : ℕ
   -- the greatest length that was stated
   pub longest : ℕ
+  -- how many octets there is room for without taking memory
+  pub room : ℕ
 
 -- how many octets are held
 abbrev pub held : State → ℕ
@@ -34,7 +36,7 @@ held s = length s.before + length s.rest
 
 -- a finder that has read nothing
 abbrev pub fresh : State
-fresh = record { before = []; rest = []; at = 0; ended = false; fault = None; reads = 0; longest = 0 }
+fresh = record { before = []; rest = []; at = 0; ended = false; fault = None; reads = 0; longest = 0; room = 0 }
 
 -- the end was reached
 abbrev pub ended_in : Phase → Bool
@@ -87,6 +89,13 @@ StopsSo new Read = IsOpen new Read
 StopsSo new Write = ⊥
 StopsSo new InputTooLong = IsOpen new InputTooLong × (new.reads ≡ most_reads)
 StopsSo new Memory = IsOpen new Memory
+
+-- memory is wanted only where the room was less than twice the octets that may be held
+abbrev pub WantsSo : State → State → RunFault → Type 0
+WantsSo old new Read = Unit {0}
+WantsSo old new Write = Unit {0}
+WantsSo old new InputTooLong = Unit {0}
+WantsSo old new Memory = old.room < 2 * max 4096 new.longest
 
 -- how the greatest length has grown since it was `old`: by the length that the word at the front states, or not
 abbrev pub Raised : (old now : ℕ) → List ℕ → Type 0

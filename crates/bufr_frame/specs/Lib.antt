@@ -9,6 +9,7 @@ pub mod Next
 pub mod Numbers
 pub mod Octets
 pub mod Passing
+pub mod Plain
 pub mod Runs
 pub mod Scan
 pub mod Sections

@@ -2,7 +2,7 @@
 use Rattle.std.specs.Prelude.{◌≡◌, ◌≢◌, ℕ, ◌+◌, ◌<◌, ◌≤◌, ◌^◌, max, length, List, [], ◌++◌, true, false, Option, None, IfSome, Result, Ok, Err}
 use Rattle.bufr_frame.specs.Scan.{Happening, scan_from}
 use Rattle.bufr_frame.specs.Events.{told}
-use Rattle.bufr_frame.specs.Finding.{State, held, StepSo, SeesSo, CountsReads, IsDone, StopsSo}
+use Rattle.bufr_frame.specs.Finding.{State, held, StepSo, SeesSo, CountsReads, IsDone, StopsSo, WantsSo}
 use Rattle.bufr_frame.specs.Longest.{first_event}
 use Rattle.bufr_frame.specs.declared.fault.RunFault.{RunFault}
 use Rattle.bufr_frame.specs.declared.finder.Event.{Event}
@@ -23,7 +23,7 @@ abbrev pub EndsSo : State → State → Result Event RunFault → Type 0
 EndsSo old new (Ok (Frame offset octets)) = (new.fault ≡ None) × (old.at < new.at) × (12 ≤ length octets.now) × (new.at ≡ offset + length octets.now) × (length octets.now ≤ length new.before)
 EndsSo old new (Ok (Stray offset cause)) = (new.fault ≡ None) × (old.at < new.at) × (new.at ≡ offset + 4)
 EndsSo old new (Ok Done) = (new.fault ≡ None) × IsDone new
-EndsSo old new (Err fault) = (old.ended ≡ false) × (old.fault ≡ None → StopsSo new fault)
+EndsSo old new (Err fault) = (old.ended ≡ false) × (old.fault ≡ None → StopsSo new fault) × (old.fault ≡ None → WantsSo old new fault)
 
 -- A call reads some octets, and the scan of what was left and of these begins with the event that it answers.
 pub record NextSo (left left' : Option (List ℕ)) (reads reads' : ℕ) (old new : State) (result : Result Event RunFault) : Type 0 where

@@ -1,8 +1,8 @@
 -- What the steps of a finder do, one by one.
-use Rattle.std.specs.Prelude.{◌≡◌, ◌≢◌, ℕ, ◌+◌, ◌-◌, ◌<◌, ◌≤◌, Bool, true, false, List, [], ◌∷◌, ◌++◌, Option, Some, None, Result, Ok, Err, length, take, drop, max}
+use Rattle.std.specs.Prelude.{◌≡◌, ◌≢◌, ℕ, ◌+◌, ◌-◌, ◌*◌, ◌<◌, ◌≤◌, Bool, true, false, List, [], ◌∷◌, ◌++◌, Option, Some, None, Result, Ok, Err, length, take, drop, max}
 use Rattle.std.specs.Io.KnownBytes.{Consumes, IsAtEnd}
 use Rattle.bufr_frame.specs.Scan.{Happening, Framed, Strayed, scan_from}
-use Rattle.bufr_frame.specs.Finding.{State, IsDone, StopsSo, SeesSo}
+use Rattle.bufr_frame.specs.Finding.{State, IsDone, StopsSo, WantsSo}
 use Rattle.bufr_frame.specs.Longest.{first_event, length_here}
 use Rattle.bufr_frame.specs.declared.fault.RunFault.{RunFault}
 use Rattle.bufr_frame.specs.declared.fault.RunFault.TheVariants.{Read, Write, InputTooLong, Memory}
@@ -45,7 +45,7 @@ pub record PassedSo (old new : State) (passed : Passed) : Type 0 where
 abbrev pub OutcomeSo : State → State → Result (Option Passed) RunFault → Type 0
 OutcomeSo old new (Ok (Some passed)) = PassedSo old new passed
 OutcomeSo old new (Ok None) = (new.fault ≡ None) × IsDone new
-OutcomeSo old new (Err fault) = (old.ended ≡ false) × (old.fault ≡ None → StopsSo new fault)
+OutcomeSo old new (Err fault) = (old.ended ≡ false) × (old.fault ≡ None → StopsSo new fault) × (old.fault ≡ None → WantsSo old new fault)
 
 -- how a read ends: octets came, or the end was reached, or it failed, or memory was refused before it
 abbrev pub ReadEnds : (left' : Option (List ℕ)) → State → State → List ℕ → Result (Unit {0}) RunFault → Type 0
@@ -53,7 +53,7 @@ ReadEnds left' old new bs (Ok u) = (new.reads ≡ old.reads + 1) × (new.ended �
 ReadEnds left' old new bs (Err Read) = (new.reads ≡ old.reads + 1) × (bs ≡ []) × (new.ended ≡ false)
 ReadEnds left' old new bs (Err Write) = ⊥
 ReadEnds left' old new bs (Err InputTooLong) = ⊥
-ReadEnds left' old new bs (Err Memory) = (new.reads ≡ old.reads) × (bs ≡ []) × (new.ended ≡ false)
+ReadEnds left' old new bs (Err Memory) = (new.reads ≡ old.reads) × (bs ≡ []) × (new.ended ≡ false) × (old.room < 2 * max 4096 old.longest)
 
 -- One read: octets come behind those that are left, or the end was reached.
 pub record ReadSo (left left' : Option (List ℕ)) (old new : State) (result : Result (Unit {0}) RunFault) (bs : List ℕ) : Type 0 where
@@ -62,6 +62,7 @@ pub record ReadSo (left left' : Option (List ℕ)) (old new : State) (result : R
   pub at : new.at ≡ old.at
   pub fault : new.fault ≡ None
   pub longest : new.longest ≡ old.longest
+  pub room : old.room ≤ new.room
   pub ends : ReadEnds left' old new bs result
 
 -- the end, the fault and the reads stay

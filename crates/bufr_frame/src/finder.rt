@@ -2,24 +2,22 @@
 
 use crate::buffer::{make_room, read_behind};
 use crate::fault::{Cause, RunFault};
+use crate::input::MOST_READS;
 use crate::search::{Found, Sight, Verdict, look, stated_len};
 use bufr_bits::Source;
 use memchr::memmem;
 use std::alloc::Global;
 use std::marker::Model;
 
-/// The most reads that are made of one input; the next one is not made.
-const MOST_READS: u64 = 1 << 32;
-
-/// The octets that are held while no greater length is stated.
+/// How many octets may be held while no greater length is stated.
 const LEAST_HELD: usize = 4096;
 
-/// What a stream has at an offset, in octets from 0.
+/// What comes next in a stream. Offsets are in octets, from 0.
 #[derive(Clone, Copy, Debug)]
 pub enum Event<'a> {
-    /// A message: where it begins, and its octets.
+    /// A message: where it begins, and its octets, from `BUFR` to `7777`.
     Frame(u64, &'a [u8]),
-    /// `BUFR` stands there, and no message begins there.
+    /// A place where `BUFR` stands and no message begins, and why none does.
     Stray(u64, Cause),
     /// The end of the stream.
     Done,
@@ -44,27 +42,46 @@ enum Phase {
     Stopped(RunFault),
 }
 
-/// Finds the messages of a stream: each place where `BUFR` stands gives a frame or a stray.
+/// Finds the messages of a stream. Each place where `BUFR` stands gives a frame or a stray; behind a
+/// frame the search goes on, and behind the four octets of a stray word.
 ///
-/// It reads only while the next event is not certain. It holds no more octets than 4,096 or, where
-/// that is more, the longest length that the stream has stated so far.
+/// It reads only while the next event is not certain, so the first message is told before the
+/// second is read. It holds at most 4,096 octets or, where that is more, the greatest length that
+/// the stream has stated so far; its memory is about twice that.
+///
+/// ```
+/// let mut finder = Finder::new(rt.alloc());
+/// loop {
+///     match finder.next(&mut input)? {
+///         Event::Frame(offset, octets) => list(offset, octets),
+///         Event::Stray(offset, cause) => refuse(offset, cause),
+///         Event::Done => break,
+///     }
+/// }
+/// ```
+///
+/// (Section 0: WMO-No. 306, Volume I.2, FM 94. What is done with a stray word is a choice of this
+/// project.)
 #[derive(Drop)]
 pub struct Finder {
+    /// The search for `BUFR`.
     word: memmem::Finder<'static>,
+    /// Its octets from `start` to `filled` are held, of which those from `place` on are left.
     buffer: Vec<u8>,
-    // the octets from `start` to `filled` are held, those from `place` on are left
     start: usize,
     place: usize,
     filled: usize,
-    // the offset of the buffer's first octet
+    /// The offset of the buffer's first octet.
     base: u64,
     phase: Phase,
+    /// How many reads were made.
     reads: u64,
+    /// The greatest length that was stated.
     longest: usize,
 }
 
 impl Model for Finder {
-    ghost use Rattle.std.specs.Prelude.{◌≡◌, ◌≤◌, ◌<◌, ◌+◌, ◌-◌, ◌*◌, ◌^◌, max, codes, slice_range, vec_len};
+    ghost use Rattle.std.specs.Prelude.{◌≡◌, ◌≤◌, ◌<◌, ◌+◌, ◌-◌, ◌*◌, ◌^◌, max, codes, slice_range, vec_len, vec_capacity};
     ghost use Rattle.bufr_frame.specs.Finding.{State, ended_in, fault_in};
     ghost use Rattle.bufr_frame.specs.Runs.{most_reads};
 
@@ -78,6 +95,7 @@ impl Model for Finder {
       fault = fault_in f.phase;
       reads = f.reads;
       longest = f.longest;
+      room = vec_capacity f.buffer;
     } };
 
     ghost invariant = { λ f. (f.start ≤ f.place) × (f.place ≤ f.filled) × (f.filled ≤ vec_len f.buffer) × (f.base + f.filled ≤ f.reads * 2 ^ 24) × (f.reads ≤ most_reads) × (f.filled - f.start ≤ max 4096 f.longest) × (f.longest < 2 ^ 24) × (f.word ≡ codes "BUFR") };
@@ -115,7 +133,8 @@ impl Finder {
         }
     }
 
-    /// How many octets are held: those that are left, and before them a frame that is lent.
+    /// How many octets are held: those that were read and are left, and before them a frame that is
+    /// lent. At most 4,096 or, where that is more, [`Finder::longest`].
     pub fn held(&self) -> usize
         ensures value { result ≡ held self.now }
         ensures bound { result ≤ max 4096 self.now.longest }
@@ -123,7 +142,9 @@ impl Finder {
         self.filled - self.start
     }
 
-    /// The greatest length that the stream has stated so far, 0 at first.
+    /// The greatest length in octets that was stated where `BUFR` stood, 0 at first. After an event
+    /// it is that of all events so far. After a fault the word counts too that was not yet certain,
+    /// where its length was read.
     pub fn longest(&self) -> usize
         ensures { result ≡ self.now.longest }
     {
@@ -143,7 +164,7 @@ impl Finder {
         )
     }
 
-    /// Goes on behind the first `n` octets that are left, where a length is stated.
+    /// Passes the first `n` octets that are left. `stated` is a length that was stated, or 0.
     fn go_to(&mut self, n: usize, stated: usize)
         requires within { n ≤ length self.old.rest }
         requires most { stated < 2 ^ 24 }
@@ -161,7 +182,7 @@ impl Finder {
         self.base + self.place as u64
     }
 
-    /// How many octets an event takes that stands first.
+    /// How many octets the event takes that stands first.
     fn event_len(&self, here: Verdict) -> usize
         requires whole { here ≡ Verdict.Frame → 8 ≤ length self.now.rest }
         requires some { here ≢ Verdict.Nothing }
@@ -174,7 +195,7 @@ impl Finder {
         }
     }
 
-    /// Goes on behind an event.
+    /// Passes an event.
     fn pass_event(&mut self, found: Found) -> Passed
         requires sound { self.old.fault ≡ None }
         requires found { FoundSo self.old.ended self.old.rest found.place found.here }
@@ -193,7 +214,7 @@ impl Finder {
         let offset = self.offset();
         let len = self.event_len(found.here);
         self.go_to(len, 0);
-        // the model of the struct is known where a field is used
+        // the struct's model is known only where one of its fields is used
         let _ = &self.buffer;
         Passed {
             offset,
@@ -202,7 +223,7 @@ impl Finder {
         }
     }
 
-    /// Reads once behind the octets that are left. Those that were passed are no longer held.
+    /// Reads once, behind the octets that are left. Those that were passed are let go.
     fn read_more<R: Source>(&mut self, r: &mut R) -> Result<(), RunFault>
         requires room { length self.old.rest < max 4096 self.old.longest }
         requires few { self.old.reads < most_reads }
@@ -241,7 +262,7 @@ impl Finder {
         fault
     }
 
-    /// Goes on to the next event, where there is one.
+    /// Goes on behind the next event, where there is one.
     fn advance<R: Source>(&mut self, r: &mut R) -> Result<Option<Passed>, RunFault>
         ensures steps { (bs : List ℕ) × StepSo (R.left r.old) (R.left r.new) self.old self.new bs (events_by self.new result) × (self.old.fault ≡ None → SeesSo self.old self.new bs (seen_by self.new result)) }
         ensures counts { CountsReads (R.reads r.old) (R.reads r.new) self.old self.new }
@@ -296,14 +317,15 @@ impl Finder {
         }
     }
 
-    /// The next event of the stream `r`, which is the same at each call. A frame is lent until the
-    /// next call. After [`Event::Done`] it comes again.
+    /// The next event of the stream `r`, which is to be the same at each call. A frame is lent until
+    /// the next call. After [`Event::Done`] it comes again.
     ///
     /// # Errors
     ///
-    /// [`RunFault::Read`] where a read failed, [`RunFault::InputTooLong`] where the end was not
-    /// reached in 2^32 reads, and [`RunFault::Memory`]. All events that were certain then were
-    /// given before. After a fault each call answers the same one, and reads nothing.
+    /// [`RunFault::Read`] where a read failed in this call, [`RunFault::InputTooLong`] where the end
+    /// was not reached in 2^32 reads, and [`RunFault::Memory`] where the buffer had to grow and was
+    /// refused. All events that were certain then were given before. After a fault each call answers
+    /// the same one, and reads nothing.
     pub fn next<R: Source>(&mut self, r: &mut R) -> Result<Event<'_>, RunFault>
         ensures failed { self.old.fault ≡ None → R.failures r.new ≡ read_failures_after (R.failures r.old) result }
         ensures again { AgainSo self.old result }

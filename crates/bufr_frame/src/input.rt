@@ -9,7 +9,7 @@ use crate::fault::RunFault;
 use bufr_bits::Source;
 
 /// The most reads that are made of one input; the next one is not made.
-const MOST_READS: u64 = 1 << 32;
+pub(crate) const MOST_READS: u64 = 1 << 32;
 
 /// How many octets one read asks for.
 const CHUNK: usize = 65536;

@@ -1,10 +1,12 @@
-//! Laws about the events of a stream.
-ghost use Rattle.std.specs.Prelude.{◌≡◌, List, [], ◌+◌, ◌++◌, ℕ, Option, Result, length, true, false};
+//! Laws on what calls say together: the events of a stream, and messages written again.
+ghost use Rattle.std.specs.Prelude.{◌≡◌, List, [], ◌+◌, ◌++◌, ℕ, Option, Result, Ok, ◌≤◌, length, true, false};
 ghost use Rattle.bufr_frame.specs.Scan.{Happening, scan, scan_from, open_scan};
 ghost use Rattle.bufr_frame.specs.Look.{Advances, NoneDecided};
 ghost use Rattle.bufr_frame.specs.Longest.{longest_of, first_event};
-ghost use Rattle.bufr_frame.specs.Finding.{State, fresh, StepSo, SeesSo};
+ghost use Rattle.bufr_frame.specs.Finding.{State, fresh, StepSo, SeesSo, IsDone};
 ghost use Rattle.bufr_frame.specs.Next.{NextSo, HoldsSo};
+ghost use Rattle.bufr_frame.specs.Layout.{parts_in, message_size};
+ghost use Rattle.bufr_frame.specs.Sections.{Sections, sections_of};
 ghost use Rattle.bufr_frame.specs.declared.fault.RunFault.{RunFault};
 ghost use Rattle.bufr_frame.specs.declared.finder.Event.{Event};
 
@@ -48,4 +50,22 @@ pub fn longest_at_a_fault_counts_the_open_word()
     ensures { (left mid left' : Option (List ℕ)) (s s' : State) (bs bs' : List ℕ) (events : List Happening)
         → StepSo left mid fresh s bs events → s.longest ≡ longest_of 0 bs events → StepSo mid left' s s' bs' [] → SeesSo s s' bs' (first_event (scan_from 0 s'.at s'.rest))
         → s'.longest ≡ longest_of 0 (bs ++ bs') (events ++ first_event (scan_from 0 s'.at s'.rest)) }
+{}
+
+/// Steps of a finder, one after another, are a step: what several calls read and told follows from
+/// what each did.
+pub fn steps_compose()
+    ensures { (left mid left' : Option (List ℕ)) (old s s' : State) (bs bs' : List ℕ) (events es : List Happening)
+        → StepSo left mid old s bs events → StepSo mid left' s s' bs' es → StepSo left left' old s' (bs ++ bs') (events ++ es) }
+{}
+
+/// After the end was told it is told again, and nothing is read.
+pub fn done_comes_again()
+    ensures { (left left' : Option (List ℕ)) (reads reads' : ℕ) (old new : State) (result : Result Event RunFault)
+        → NextSo left left' reads reads' old new result → IsDone old → (result ≡ Ok Event.Done) × (new.reads ≡ old.reads) }
+{}
+
+/// A message that is written from the parts of another one is no longer than it.
+pub fn written_again_is_no_longer()
+    ensures { (m : List ℕ) (s : Sections) → sections_of m ≡ Ok s → message_size (parts_in s) ≤ length m }
 {}

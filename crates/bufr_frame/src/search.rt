@@ -1,13 +1,17 @@
 //! The search for the next place where `BUFR` stands.
 ghost use Rattle.std.specs.Prelude.{◌≡◌, ◌≢◌, ◌≤◌, ◌<◌, ◌+◌, ◌-◌, ◌^◌, ℕ, List, [], ◌∷◌, ◌++◌, length, take, drop, codes, IfOk, IfSome, MatchOption, vec_len, Some, None};
 ghost use Rattle.memchr.specs.Find.{FindsNeedle};
-ghost use Rattle.bufr_frame.specs.Octets.{three};
 ghost use Rattle.bufr_frame.specs.Scan.{verdict, stated};
 ghost use Rattle.bufr_frame.specs.Look.{LooksSo};
 ghost use Rattle.bufr_frame.specs.Longest.{length_here};
 
 use crate::fault::Cause;
+use crate::least::{SECTION_0, SECTION_5};
+use crate::octets::three_at;
 use memchr::memmem;
+
+/// Where octets 5 to 7 of a message stand, which state its length.
+const LENGTH: usize = 4;
 
 /// What is at the front of the octets that are left.
 #[derive(Clone, Copy, Debug, PartialEq, Eq)]
@@ -65,7 +69,7 @@ pub(crate) fn stated_len(m: &[u8]) -> usize
     ensures value { result ≡ stated m.now }
     ensures most { result < 2 ^ 24 }
 {
-    65536 * (m[4] as usize) + 256 * (m[5] as usize) + m[6] as usize
+    three_at(m, LENGTH)
 }
 
 /// The length that octets 5 to 7 state, or 0 where there are not eight octets.
@@ -73,7 +77,11 @@ pub(crate) fn len_here(m: &[u8]) -> usize
     ensures value { result ≡ length_here m.now }
     ensures most { result < 2 ^ 24 }
 {
-    if m.len() < 8 { 0 } else { stated_len(m) }
+    if m.len() < SECTION_0 {
+        0
+    } else {
+        stated_len(m)
+    }
 }
 
 /// What is at the front of `m`.
@@ -83,17 +91,17 @@ pub(crate) fn judge(m: &[u8]) -> Verdict
     if !m.starts_with(b"BUFR") {
         return Verdict::Nothing;
     }
-    if m.len() < 8 {
+    if m.len() < SECTION_0 {
         return Verdict::Stray(Cause::Cut);
     }
     let len = stated_len(m);
     if m.len() < len {
         return Verdict::Stray(Cause::Cut);
     }
-    if len < 12 {
+    if len < SECTION_0 + SECTION_5 {
         return Verdict::Stray(Cause::ShortLength);
     }
-    if !m[len - 4..].starts_with(b"7777") {
+    if !m[len - SECTION_5..].starts_with(b"7777") {
         return Verdict::Stray(Cause::NoEnd);
     }
     Verdict::Frame
@@ -133,7 +141,7 @@ fn look_at(rest: &[u8], place: usize, ended: bool) -> Sight
             stated,
         });
     }
-    if m.len() < stated.max(8) {
+    if m.len() < stated.max(SECTION_0) {
         return Sight::Open(Wanted { place, stated });
     }
     Sight::Decided(Found {

@@ -1,10 +1,10 @@
 use Rattle.std.proofs.Common.{◌≡◌, ◌∙◌, ◌≤◌, ◌<◌, ℕ, List, [], ◌++◌, Err, Some, ap, sym, subst, refl, inl, arith}
 use Rattle.bufr_frame.specs.Passing.{passed_events, event_by}
-use Rattle.bufr_frame.specs.Finding.{StopsSo, SeesSo}
+use Rattle.bufr_frame.specs.Finding.{StopsSo, WantsSo, SeesSo}
 use Rattle.bufr_frame.specs.declared.search.Verdict.{Verdict}
 use Rattle.bufr_frame.specs.Runs.{most_reads}
 use Rattle.bufr_frame.specs.declared.fault.RunFault.{RunFault}
-use Rattle.bufr_frame.proofs.AdvanceLemmas.{stopped-told, sound-unless, counts-none, counts-same, counts-read, reads-grow, passed-from, stop-open, none-open, turn-on, raised-on, stop-read, stops-read, open-room}
+use Rattle.bufr_frame.proofs.AdvanceLemmas.{stopped-told, sound-unless, counts-none, counts-same, counts-read, reads-grow, passed-from, stop-open, none-open, turn-on, raised-on, stop-read, stops-read, wants-read, open-room}
 use Rattle.bufr_frame.proofs.LongestLemmas.{found-sees}
 use Rattle.bufr_frame.proofs.FindingLemmas.{step-none, still-open, pass-step}
 use Rattle.bufr_frame.proofs.finder.Finder.advance.Goals as goal
@@ -20,6 +20,7 @@ loop-found-init g c = record {
   counts = counts-none _ _ (omega (arith, c.self.invariant, ap (λ s. s.reads) c.self.view_is));
   failed = refl;
   sound = sym (ap (λ s. s.fault) c.self.view_is) ∙ sound-unless c.self.inside.phase c.in_default.not-Stopped;
+  room = omega arith;
   raised = inl refl;
 }
 
@@ -59,9 +60,11 @@ returns-in-Err-clause-steps g c =
 pub returns-in-Err-clause-outcome : goal.returns-in-Err-clause-outcome
 returns-in-Err-clause-outcome g c =
     let before = c.loop-found.invariant in
-    let S : RunFault → Type 0 = λ f. StopsSo c.stop-in-Err.new.self f in (
+    let S : RunFault → Type 0 = λ f. StopsSo c.stop-in-Err.new.self f in
+    let W : RunFault → Type 0 = λ f. WantsSo c.args.self.now c.stop-in-Err.new.self f in (
       still-open _ _ (λ end. (before.steps.1.kept end).0) c.in-Open.ensures.looks.0,
       λ _. subst S (sym c.stop-in-Err.ensures.value) (stops-read _ _ c.args.self.now c.loop-found.self c.go_to.new.self _ _ before.steps before.raised c.in-Open.ensures.looks c.go_to.ensures _ c.read_more.new.self c.read_more.result c.read_more.ensures.read c.stop-in-Err.new.self _ c.in-Err.is c.stop-in-Err.ensures.new),
+      λ _. subst W (sym c.stop-in-Err.ensures.value) (wants-read _ _ c.args.self.now c.loop-found.self c.go_to.new.self _ _ before.steps before.raised c.in-Open.ensures.looks c.go_to.ensures _ c.read_more.new.self c.read_more.result c.read_more.ensures.read c.stop-in-Err.new.self _ c.in-Err.is c.stop-in-Err.ensures.new before.room),
     )
 
 pub loop-found-preserved : goal.loop-found-preserved
@@ -76,5 +79,6 @@ loop-found-preserved g c =
       counts = counts-read _ _ _ c.args.self.now c.go_to.new.self c.read_more.new.self (counts-same _ _ _ c.loop-found.self c.go_to.new.self before.counts reads) c.read_more.ensures.made grow.0 grow.1;
       failed = (rw c.in_default-read_more.is at c.read_more.ensures.failed) ∙ before.failed;
       sound = next.1.fault;
+      room = omega (arith, before.room, next.1.room, ap (λ s. s.room) c.go_to.ensures);
       raised = raised-on _ _ c.args.self.now c.loop-found.self c.go_to.new.self _ _ before.steps before.raised c.in-Open.ensures.looks c.go_to.ensures _ c.read_more.new.self c.read_more.result next;
     }

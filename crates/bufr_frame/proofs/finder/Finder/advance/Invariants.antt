@@ -10,6 +10,7 @@ invariant-loop-found g l = record {
   counts : CountsReads (g.R.Source.reads l.fn.r) (g.R.Source.reads l.r) l.fn.self l.self;
   failed : g.R.Source.failures l.r ≡ g.R.Source.failures l.fn.r;
   sound : l.self.fault ≡ None;
+  room : l.fn.self.room ≤ l.self.room;
   raised : Raised l.fn.self.longest l.self.longest l.self.rest;
 }
 

@@ -10,7 +10,7 @@ returns-in_err-n-clause-read g c =
     let p = err_from_is_err_and c.from_residual-in_err-n.result c.from_residual-in_err-n.ensures.1 in
     let v = c.self.inside in
     let slid = c.in_ok-slid.slid in
-    let room = c.in_ok-slid.ensures in
+    let room = c.in_ok-slid.ensures.made in
     let once = c.read_behind.ensures.read in
     let out = rw c.in_err-n.was at once.1.outcome in
     let is = p.1 ∙ ap Err (p.2 ∙ out.0) in
@@ -24,6 +24,7 @@ returns-in_err-n-clause-read g c =
         at = omega (arith, room.0, ap (λ s. s.at) c.self.view_is);
         fault = ap (λ s. s.fault) c.self.view_is ∙ c.requires.sound;
         longest = ap (λ s. s.longest) c.self.view_is;
+        room = omega (arith, ap (λ s. s.room) c.self.view_is, c.make_room.ensures.room, c.read_behind.ensures.room);
         ends = rw is (ap (λ s. s.reads + 1) c.self.view_is, out.1, ap (λ s. s.ended) c.self.view_is ∙ c.requires.going);
       },
     )
@@ -32,7 +33,7 @@ pub returns-then-n-eq0-clause-read : goal.returns-then-n-eq0-clause-read
 returns-then-n-eq0-clause-read g c =
     let v = c.self.inside in
     let slid = c.in_ok-slid.slid in
-    let room = c.in_ok-slid.ensures in
+    let room = c.in_ok-slid.ensures.made in
     let once = c.read_behind.ensures.read in
     let out = rw c.in_ok-n.was at once.1.outcome in (
       once.0,
@@ -43,6 +44,7 @@ returns-then-n-eq0-clause-read g c =
         at = omega (arith, room.0, ap (λ s. s.at) c.self.view_is);
         fault = refl;
         longest = ap (λ s. s.longest) c.self.view_is;
+        room = omega (arith, ap (λ s. s.room) c.self.view_is, c.make_room.ensures.room, c.read_behind.ensures.room);
         ends = (ap (λ s. s.reads + 1) c.self.view_is, λ _. (empty-of once.0 (sym out.0 ∙ c.if-n-eq0.true), out.1 c.if-n-eq0.true));
       },
     )
@@ -51,7 +53,7 @@ pub returns-else-n-eq0-clause-read : goal.returns-else-n-eq0-clause-read
 returns-else-n-eq0-clause-read g c =
     let v = c.self.inside in
     let slid = c.in_ok-slid.slid in
-    let room = c.in_ok-slid.ensures in
+    let room = c.in_ok-slid.ensures.made in
     let once = c.read_behind.ensures.read in
     let out = rw c.in_ok-n.was at once.1.outcome in
     let going = ap (λ s. s.ended) c.self.view_is ∙ c.requires.going in (
@@ -63,6 +65,7 @@ returns-else-n-eq0-clause-read g c =
         at = omega (arith, room.0, ap (λ s. s.at) c.self.view_is);
         fault = ap (λ s. s.fault) c.self.view_is ∙ c.requires.sound;
         longest = ap (λ s. s.longest) c.self.view_is;
+        room = omega (arith, ap (λ s. s.room) c.self.view_is, c.make_room.ensures.room, c.read_behind.ensures.room);
         ends = (ap (λ s. s.reads + 1) c.self.view_is, λ end. absurd (true≢false (sym end ∙ going)));
       },
     )
