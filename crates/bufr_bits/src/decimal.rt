@@ -6,7 +6,7 @@ ghost use Rattle.bufr_bits.specs.Capped.{capped, capped_ok};
 ghost use Rattle.bufr_bits.specs.DecimalText.{decimal_text_of, pointed, sign_of};
 ghost use Rattle.bufr_bits.specs.DecimalValue.{decimal_value_of, unsigned_part, is_unsigned, all_digits, is_digits, IsParts, power_up, power_down, whole_quotient, signed};
 
-use crate::append::{put, put_zeros};
+use crate::append::{put, put_zero_digits};
 use itoa::Buffer;
 use std::alloc::AllocError;
 use thiserror::Error;
@@ -55,7 +55,7 @@ pub fn decimal_text(v: i128, scale: i16, out: &mut Vec<u8>) -> Result<(), AllocE
         put_pointed(out, digits, places);
     } else {
         put(out, digits);
-        put_zeros(out, zeros);
+        put_zero_digits(out, zeros);
     }
     Ok(())
 }
@@ -97,7 +97,7 @@ fn put_pointed(out: &mut Vec<u8>, digits: &[u8], places: usize)
 {
     if digits.len() <= places {
         put(out, b"0.");
-        put_zeros(out, places - digits.len());
+        put_zero_digits(out, places - digits.len());
         put(out, digits);
     } else {
         let (whole, fraction) = digits.split_at(digits.len() - places);

@@ -177,7 +177,7 @@ module _ (piece : Happening → Piece) (left mid left' : Option (List ℕ)) (rea
       by bs step Read so = stopped bs step Read so
       by bs step InputTooLong so = stopped bs step InputTooLong so.0
       by bs step Write so = absurd so
-      by bs step Memory so = cut bs step Memory so
+      by bs step Memory so = cut bs step Memory so.0
 
   -- a writer failed at the lines of an event
   pub stop-write : (unflushed : Type 0) → unflushed → (w2 e2 : Option (List ℕ)) (event : Event) (X : Type 0) (wrote : Result X RunFault) (f : RunFault) (r : Result Tally RunFault) → result ≡ Ok event → IsEvent event
@@ -269,16 +269,21 @@ all-known pieces_of left left' w w' e e' tally (bs, done) =
     Consumes-whole left left' bs (λ s. Written w w' e e' (pieces_of (scan s)) × Tallies tally (pieces_of (scan s))) done.read done.end (done.written, done.tallies)
 
 -- the reads of a run
-pub makes-reads : {X : Type 0} (reads reads' : ℕ) (s : State) (r : Result X RunFault) → CountsReads reads reads' fresh s → (r ≡ Err InputTooLong → s.reads ≡ most_reads) → MakesReads reads reads' r
-makes-reads reads reads' s r counts long =
+pub makes-reads : {X : Type 0} (reads reads' : ℕ) (s : State) (r : Result X RunFault) → CountsReads reads reads' fresh s → (r ≡ Err InputTooLong → s.reads ≡ most_reads) → (r ≡ Err Memory → s.reads < most_reads) → MakesReads reads reads' r
+makes-reads reads reads' s r counts long wanted =
     let e : s.reads - 0 ≡ s.reads = omega arith in
-    (s.reads, counts.most, counts.made ∙ ap (counted reads) e, long)
+    (s.reads, counts.most, counts.made ∙ ap (counted reads) e, long, wanted)
 
 -- where the finder stopped
 pub makes-reads-stop : (reads mid reads' : ℕ) (mid_left left' : Option (List ℕ)) (s s' : State) (result : Result Event RunFault) (f : RunFault) (r : Result Tally RunFault)
     → CountsReads reads mid fresh s → NextSo mid_left left' mid reads' s s' result → s.fault ≡ None → result ≡ Err f → r ≡ Err f → MakesReads reads reads' r
 makes-reads-stop reads mid reads' mid_left left' s s' result f r before next sound is same =
-    makes-reads reads reads' s' r (CountsReads-then reads mid reads' s s' before next.counts) (λ long.
+    makes-reads reads reads' s' r (CountsReads-then reads mid reads' s s' before next.counts)
+    (λ long.
     let f_is : f ≡ InputTooLong = cc in
+    let stops = (rw (is, f_is) at next.ends).1 sound in
+    stops.1)
+    (λ wanted.
+    let f_is : f ≡ Memory = cc in
     let stops = (rw (is, f_is) at next.ends).1 sound in
     stops.1)

@@ -1,5 +1,5 @@
 //! `bufr ls`: lists the messages of a stream.
-ghost use Rattle.std.specs.Prelude.{◌≡◌, ◌≤◌, ◌<◌, ◌+◌, ◌^◌, ℕ, List, true, IfOk, OnOk, IfErr, IfSome, map};
+ghost use Rattle.std.specs.Prelude.{◌≡◌, ◌≢◌, ◌≤◌, ◌<◌, ◌+◌, ◌^◌, ℕ, List, true, IfOk, OnOk, IfErr, IfSome, map};
 ghost use Rattle.std.specs.Io.KnownBytes.{Keeps};
 ghost use Rattle.bufr_bits.specs.Counts.{counted};
 ghost use Rattle.bufr_frame.specs.Events.{told, IsEvent};
@@ -89,6 +89,8 @@ pub fn run_ls<R: Source, W: Sink, E: Sink>(
     // At `Ok` the writers hold exactly the lines of the whole input, and the tally counts them.
     ensures whole { IfOk result (λ tally. IfSome (R.left r.old) (λ s.
         Written (W.taken w.old) (W.taken w.new) (E.taken e.old) (E.taken e.new) (ls_pieces s) × Tallies tally (ls_pieces s))) }
+    // The errors are flushed only where the output was before.
+    ensures order { E.flushes e.new ≢ E.flushes e.old → W.handed_on w.new ≡ true }
     ensures flushed { OnOk result ((W.handed_on w.new ≡ true) × (E.handed_on e.new ≡ true)) }
     // The same over the octets that were read, and what a fault leaves.
     ensures run { (bs : List ℕ) × RunSo (map ls_piece) (R.left r.old) (R.left r.new) (W.taken w.old) (W.taken w.new) (E.taken e.old) (E.taken e.new)

@@ -118,8 +118,8 @@ module _ (left mid : Option (List ℕ)) (old s s1 : State) (place size : ℕ) (s
               (ap (λ x. x.at) stops ∙ next.1.at ∙ ap (λ x. x.at) is) rest_is (ap (λ x. x.longest) stops ∙ next.1.longest ∙ ap (λ x. x.longest) is)),
         )
 
-    pub stops-read : (s3 : State) (fault : RunFault) → result ≡ Err fault → s3 ≡ record s2 { fault = Some fault } → StopsSo s3 fault
-    stops-read s3 fault same stops = by fault (rw same at next.1.ends) (ap (λ x. x.fault) stops)
+    pub stops-read : (s3 : State) (fault : RunFault) → s1.reads < most_reads → result ≡ Err fault → s3 ≡ record s2 { fault = Some fault } → StopsSo s3 fault
+    stops-read s3 fault few same stops = by fault (rw same at next.1.ends) (ap (λ x. x.fault) stops)
       where
         ended : s3.ended ≡ false
         ended = ap (λ x. x.ended) stops ∙ (nothing-read fault same).1
@@ -131,7 +131,7 @@ module _ (left mid : Option (List ℕ)) (old s s1 : State) (place size : ℕ) (s
         by Read ends kept = (kept, ended, none)
         by Write ends kept = absurd ends
         by InputTooLong ends kept = absurd ends
-        by Memory ends kept = (kept, ended, none)
+        by Memory ends kept = ((kept, ended, none), omega (arith, few, ap (λ x. x.reads) stops, ends.0))
 
     -- memory was refused where the room was too small
     pub wants-read : (s3 : State) (fault : RunFault) → result ≡ Err fault → s3 ≡ record s2 { fault = Some fault } → old.room ≤ s.room → WantsSo old s3 fault

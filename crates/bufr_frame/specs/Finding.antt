@@ -83,12 +83,12 @@ IsDone s = (s.ended ≡ true) × ((at : ℕ) → scan_from 0 at s.rest ≡ [])
 abbrev pub IsOpen : State → RunFault → Type 0
 IsOpen s fault = (s.fault ≡ Some fault) × (s.ended ≡ false) × ((at : ℕ) → NoneDecided at s.rest)
 
--- how a fault leaves a finder: never is it one of a write; an input is too long only after 2^32 reads
+-- how a fault leaves a finder: never is it one of a write; an input is too long only after 2^32 reads, and memory is wanted only before
 abbrev pub StopsSo : State → RunFault → Type 0
 StopsSo new Read = IsOpen new Read
 StopsSo new Write = ⊥
 StopsSo new InputTooLong = IsOpen new InputTooLong × (new.reads ≡ most_reads)
-StopsSo new Memory = IsOpen new Memory
+StopsSo new Memory = IsOpen new Memory × (new.reads < most_reads)
 
 -- memory is wanted only where the room was less than twice the octets that may be held
 abbrev pub WantsSo : State → State → RunFault → Type 0

@@ -81,23 +81,23 @@ returns-in_err-list_event-clause-reads g c =
     let p = err_from_is_err_and c.from_residual-in_err-list_event.result c.from_residual-in_err-list_event.ensures.1 in
     let next = c.next.follows.holds-at-none in
     let f : c.from_residual-in_err-list_event.result ≡ Err Write = p.1 ∙ ap Err (p.2 ∙ (rw c.in_err-list_event.was at c.list_event.ensures.writes).0) in
-    makes-reads _ _ c.next.follows.lender-at-none c.from_residual-in_err-list_event.result (CountsReads-then _ _ _ _ _ c.loop-finder.invariant.ran.counts next.counts) (λ long. cc)
+    makes-reads _ _ c.next.follows.lender-at-none c.from_residual-in_err-list_event.result (CountsReads-then _ _ _ _ _ c.loop-finder.invariant.ran.counts next.counts) (λ long. cc) (λ wanted. cc)
 
 pub returns-in_err-flush-clause-reads : goal.returns-in_err-flush-clause-reads
 returns-in_err-flush-clause-reads g c =
     let p = err_from_is_err_and c.from_residual-in_err-flush.result c.from_residual-in_err-flush.ensures.1 in
     let next = c.next.follows.holds-at-none in
     let f : c.from_residual-in_err-flush.result ≡ Err Write = p.1 ∙ ap Err (p.2 ∙ (rw c.in_err-flush.was at c.flush.ensures.err)) in
-    makes-reads _ _ c.next.follows.lender-at-none c.from_residual-in_err-flush.result (CountsReads-then _ _ _ _ _ c.loop-finder.invariant.ran.counts next.counts) (λ long. cc)
+    makes-reads _ _ c.next.follows.lender-at-none c.from_residual-in_err-flush.result (CountsReads-then _ _ _ _ _ c.loop-finder.invariant.ran.counts next.counts) (λ long. cc) (λ wanted. cc)
 
 pub returns-in_err-flush-2-clause-reads : goal.returns-in_err-flush-2-clause-reads
 returns-in_err-flush-2-clause-reads g c =
     let p = err_from_is_err_and c.from_residual-in_err-flush-2.result c.from_residual-in_err-flush-2.ensures.1 in
     let next = c.next.follows.holds-at-none in
     let f : c.from_residual-in_err-flush-2.result ≡ Err Write = p.1 ∙ ap Err (p.2 ∙ (rw c.in_err-flush-2.was at c.flush-2.ensures.err)) in
-    makes-reads _ _ c.next.follows.lender-at-none c.from_residual-in_err-flush-2.result (CountsReads-then _ _ _ _ _ c.loop-finder.invariant.ran.counts next.counts) (λ long. cc)
+    makes-reads _ _ c.next.follows.lender-at-none c.from_residual-in_err-flush-2.result (CountsReads-then _ _ _ _ _ c.loop-finder.invariant.ran.counts next.counts) (λ long. cc) (λ wanted. cc)
 
 pub returns-clause-reads : goal.returns-clause-reads
 returns-clause-reads g c =
     let next = c.next.follows.holds-at-none in
-    makes-reads _ _ c.next.follows.lender-at-none _ (CountsReads-then _ _ _ _ _ c.loop-finder.invariant.ran.counts next.counts) (λ long. cc)
+    makes-reads _ _ c.next.follows.lender-at-none _ (CountsReads-then _ _ _ _ _ c.loop-finder.invariant.ran.counts next.counts) (λ long. cc) (λ wanted. cc)

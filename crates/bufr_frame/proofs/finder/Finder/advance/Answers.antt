@@ -60,10 +60,11 @@ returns-in-Err-clause-steps g c =
 pub returns-in-Err-clause-outcome : goal.returns-in-Err-clause-outcome
 returns-in-Err-clause-outcome g c =
     let before = c.loop-found.invariant in
+    let few : c.go_to.new.self.reads < most_reads = omega (arith, c.if-self-eq-MOST_READS.false, ap (λ s. s.reads) c.self-in-Open.view_is, ap (λ s. s.reads) c.go_to.ensures, before.counts.most) in
     let S : RunFault → Type 0 = λ f. StopsSo c.stop-in-Err.new.self f in
     let W : RunFault → Type 0 = λ f. WantsSo c.args.self.now c.stop-in-Err.new.self f in (
       still-open _ _ (λ end. (before.steps.1.kept end).0) c.in-Open.ensures.looks.0,
-      λ _. subst S (sym c.stop-in-Err.ensures.value) (stops-read _ _ c.args.self.now c.loop-found.self c.go_to.new.self _ _ before.steps before.raised c.in-Open.ensures.looks c.go_to.ensures _ c.read_more.new.self c.read_more.result c.read_more.ensures.read c.stop-in-Err.new.self _ c.in-Err.is c.stop-in-Err.ensures.new),
+      λ _. subst S (sym c.stop-in-Err.ensures.value) (stops-read _ _ c.args.self.now c.loop-found.self c.go_to.new.self _ _ before.steps before.raised c.in-Open.ensures.looks c.go_to.ensures _ c.read_more.new.self c.read_more.result c.read_more.ensures.read c.stop-in-Err.new.self _ few c.in-Err.is c.stop-in-Err.ensures.new),
       λ _. subst W (sym c.stop-in-Err.ensures.value) (wants-read _ _ c.args.self.now c.loop-found.self c.go_to.new.self _ _ before.steps before.raised c.in-Open.ensures.looks c.go_to.ensures _ c.read_more.new.self c.read_more.result c.read_more.ensures.read c.stop-in-Err.new.self _ c.in-Err.is c.stop-in-Err.ensures.new before.room),
     )
 
