@@ -389,6 +389,7 @@ fn lists_while_it_reads(rt: HostRuntime) -> Result<(), Fail> {
 }
 
 /// An input of one file and of standard input.
+#[derive(Drop)]
 struct Shelf {
     name: &'static str,
     file: &'static [u8],
