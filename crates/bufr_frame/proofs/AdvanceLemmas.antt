@@ -10,10 +10,11 @@ use Rattle.bufr_frame.specs.declared.finder.Phase.{Phase}
 use Rattle.bufr_frame.specs.declared.finder.Phase.TheVariants as phase
 use Rattle.bufr_frame.specs.declared.finder.Passed.{Passed}
 use Rattle.bufr_frame.specs.Scan.{Happening, scan_from}
-use Rattle.bufr_frame.specs.Look.{OpenSo, StatedSo, NoneDecided}
+use Rattle.bufr_frame.specs.Look.{NoneDecided}
+use Rattle.bufr_frame.specs.Sights.{OpenSo, StatedSo, Raised}
 use Rattle.bufr_frame.specs.Longest.{length_here, first_event}
 use Rattle.bufr_frame.specs.Runs.{most_reads}
-use Rattle.bufr_frame.specs.Finding.{State, StepSo, SeesSo, Follows, CountsReads, Raised, StopsSo, WantsSo, fault_in}
+use Rattle.bufr_frame.specs.Finding.{State, StepSo, SeesSo, Follows, CountsReads, StopsSo, WantsSo, fault_in}
 use Rattle.bufr_frame.specs.Passing.{gone_to, PassedSo, ReadSo, ReadEnds}
 use Rattle.bufr_frame.proofs.FindingLemmas.{turn-pass, turn-stop, read-step}
 use Rattle.bufr_frame.proofs.LongestLemmas.{open-sees, raised-open, raised-read}

@@ -14,7 +14,8 @@ use Rattle.bufr_bits.proofs.CountLemmas.{counted-counted}
 use Rattle.bufr_frame.specs.declared.search.Verdict.{Verdict}
 use Rattle.bufr_frame.specs.declared.search.Verdict.TheVariants.{Nothing, Stray, Frame}
 use Rattle.bufr_frame.specs.Scan.{Happening, Framed, scan, scan_from, open_scan, stated, happening, taken, is_decided}
-use Rattle.bufr_frame.specs.Look.{Advances, FoundSo, OpenSo}
+use Rattle.bufr_frame.specs.Look.{Advances}
+use Rattle.bufr_frame.specs.Sights.{FoundSo, OpenSo}
 use Rattle.bufr_frame.specs.Finding.{State, StepSo, Follows, CountsReads, fresh}
 use Rattle.bufr_frame.specs.Passing.{event_by, gone_to, ReadSo, ReadEnds}
 use Rattle.bufr_frame.proofs.ScanLemmas.{drop-twice}
@@ -153,11 +154,6 @@ module _ (old s s' : State) (place len size : ℕ) (here : Verdict) (found : Fou
       let B : ℕ → Type 0 = λ n. Follows old.at old.rest (s.at + n) (drop n s.rest) in
       let C : State → Type 0 = λ x. Follows old.at old.rest (x.at + taken x.rest here) (drop (taken x.rest here) x.rest) in
       subst A (sym is') (subst B (sym takes) (subst C (sym is) (record { passed = place + k; within = found.within; offset = omega arith; left = drop-twice k place old.rest })))
-
-pub stray-four : (m : List ℕ) (v : Verdict) → v ≢ Nothing → v ≢ Frame → taken m v ≡ 4
-stray-four m Nothing some other = absurd (some refl)
-stray-four m (Stray cause) some other = refl
-stray-four m Frame some other = absurd (other refl)
 
 module _ (left mid : Option (List ℕ)) (old s s' : State) (bs : List ℕ) (step : StepSo left mid old s bs []) where
   -- a turn that needs more octets passes those that are no event's

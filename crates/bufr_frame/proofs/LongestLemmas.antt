@@ -8,8 +8,8 @@ use Rattle.bufr_frame.specs.declared.search.Verdict.TheVariants.{Nothing, Stray,
 use Rattle.bufr_frame.specs.declared.fault.Cause.TheVariants.{Cut}
 use Rattle.bufr_frame.specs.Scan.{Happening, Framed, Strayed, scan_from, stated, verdict, happening, taken}
 use Rattle.bufr_frame.specs.Longest.{length_here, longest_of, first_event}
-use Rattle.bufr_frame.specs.Look.{IsWord, OpenSo, EndSo, FoundSo, StatedSo}
-use Rattle.bufr_frame.specs.Finding.{State, Follows, SeesSo, Raised}
+use Rattle.bufr_frame.specs.Sights.{IsWord, OpenSo, EndSo, FoundSo, StatedSo, Raised}
+use Rattle.bufr_frame.specs.Finding.{State, Follows, SeesSo}
 use Rattle.bufr_frame.specs.Passing.{event_by, gone_to}
 use Rattle.bufr_frame.proofs.ScanLemmas.{drop-twice, scan_from-here, scan_from-found}
 use Rattle.bufr_frame.proofs.LookLemmas.{stands-front, stated-front, length-eight, cut-here, four-long}
@@ -93,8 +93,3 @@ open-sees old s s' bs place size follows raised open' is at left grown =
     let L : List ℕ → Type 0 = λ l. longest_of old.at (old.rest ++ bs) (first_event (scan_from 0 s'.at l)) ≡ size in
     grown ∙ raise old.longest s.longest place size s.rest raised open'.first is
     ∙ ap (max old.longest) (sym (subst L (sym left) (first-open s'.at old.at size m (old.rest ++ bs) (place-in old.at s.at place s'.at (old.rest ++ bs) s.rest follows at) open'.here is open'.few)))
-
--- nothing is left
-pub end-sees : (old s : State) (bs : List ℕ) → Raised old.longest s.longest s.rest → EndSo s.rest → SeesSo old s bs []
-end-sees old s bs (inl same) end = omega (arith, same)
-end-sees old s bs (inr (word, long, grown)) end = absurd (end.word word)

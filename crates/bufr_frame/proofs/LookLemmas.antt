@@ -14,7 +14,8 @@ use Rattle.bufr_frame.specs.declared.search.Verdict.{Verdict}
 use Rattle.bufr_frame.specs.declared.search.Verdict.TheVariants.{Nothing, Stray, Frame}
 use Rattle.bufr_frame.specs.declared.fault.Cause.TheVariants.{Cut, ShortLength, NoEnd}
 use Rattle.bufr_frame.specs.Scan.{Happening, scan, open_scan, scan_from, verdict, stands, stated, happening, taken, is_decided}
-use Rattle.bufr_frame.specs.Look.{Advances, NoneDecided, IsWord, FoundSo, OpenSo, EndSo}
+use Rattle.bufr_frame.specs.Look.{Advances, NoneDecided}
+use Rattle.bufr_frame.specs.Sights.{IsWord, FoundSo, OpenSo, EndSo}
 use Rattle.bufr_frame.specs.Longest.{length_here}
 use Rattle.bufr_frame.proofs.ScanLemmas.{scan_from-nothing, verdict-nothing, scan_from-here, scan_from-past, verdict-elsewhere, verdict-there, scan_from-found, scan_from-front, drop-twice}
 

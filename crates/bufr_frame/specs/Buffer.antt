@@ -1,4 +1,5 @@
 -- A buffer that slides over a stream. (a choice of this project)
+-- Cited by private steps only.
 use Rattle.std.specs.Prelude.{◌≡◌, ℕ, ◌-◌, ◌<◌, ◌≤◌, List, Result, Ok, Err, slice_range}
 use Rattle.bufr_frame.specs.declared.fault.RunFault.{RunFault}
 use Rattle.bufr_frame.specs.declared.fault.RunFault.TheVariants.{Memory}

@@ -1,9 +1,10 @@
 -- What a finder does, call by call.
-use Rattle.std.specs.Prelude.{◌≡◌, ◌⊎◌, ℕ, ◌+◌, ◌-◌, ◌*◌, ◌<◌, ◌≤◌, max, Bool, true, false, List, [], ◌++◌, Option, Some, None, length, drop}
+-- Cited by public contracts.
+use Rattle.std.specs.Prelude.{◌≡◌, ℕ, ◌+◌, ◌-◌, ◌*◌, ◌<◌, ◌≤◌, max, Bool, true, false, List, [], ◌++◌, Option, Some, None, length, drop}
 use Rattle.std.specs.Io.KnownBytes.{Consumes, IsAtEnd}
 use Rattle.bufr_bits.specs.Counts.{counted}
-use Rattle.bufr_frame.specs.Scan.{Happening, scan_from, stated}
-use Rattle.bufr_frame.specs.Look.{Advances, NoneDecided, IsWord}
+use Rattle.bufr_frame.specs.Scan.{Happening, scan_from}
+use Rattle.bufr_frame.specs.Look.{Advances, NoneDecided}
 use Rattle.bufr_frame.specs.Longest.{longest_of}
 use Rattle.bufr_frame.specs.Runs.{most_reads}
 use Rattle.bufr_frame.specs.declared.fault.RunFault.{RunFault}
@@ -96,7 +97,3 @@ WantsSo old new Read = Unit {0}
 WantsSo old new Write = Unit {0}
 WantsSo old new InputTooLong = Unit {0}
 WantsSo old new Memory = old.room < 2 * max 4096 new.longest
-
--- how the greatest length has grown since it was `old`: by the length that the word at the front states, or not
-abbrev pub Raised : (old now : ℕ) → List ℕ → Type 0
-Raised old now rest = (now ≡ old) ⊎ (IsWord rest × (8 ≤ length rest) × (now ≡ max old (stated rest)))

@@ -1,4 +1,5 @@
 -- What reading an input to its end gives. (a choice of this project)
+-- Cited by public contracts.
 use Rattle.std.specs.Prelude.{◌≡◌, ◌<◌, ℕ, List, [], ◌++◌, length, Option, Result, Ok, Err, MatchResult}
 use Rattle.std.specs.Io.KnownBytes.{Consumes, IsAtEnd}
 use Rattle.bufr_frame.specs.Runs.{most_reads}

@@ -1,4 +1,5 @@
 -- How a message of edition 4 is laid out. (WMO-No. 306, Volume I.2, FM 94: sections 0 to 5)
+-- Cited by public contracts.
 -- Lengths are the least that hold the parts; reserved octets and bits are zero, a choice of this project.
 use Rattle.std.specs.Prelude.{ℕ, ◌+◌, ◌*◌, Bool, List, [], ◌∷◌, ◌++◌, Option, Some, None, length, codes, is_some, if◌then◌else◌}
 use Rattle.bufr_frame.specs.Octets.{three_octets, two_octets, octets_of_words}

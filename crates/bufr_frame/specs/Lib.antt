@@ -13,4 +13,5 @@ pub mod Plain
 pub mod Runs
 pub mod Scan
 pub mod Sections
+pub mod Sights
 pub mod Words

@@ -1,4 +1,5 @@
 -- The greatest length that was stated. (a choice of this project)
+-- Cited by public contracts.
 use Rattle.std.specs.Prelude.{ℕ, ◌-◌, max, nat_lt, List, [], ◌∷◌, length, drop, if◌then◌else◌}
 use Rattle.bufr_frame.specs.Scan.{Happening, Framed, Strayed, stated, scan_from}
 

@@ -1,4 +1,5 @@
 -- What a call of `Finder::next` answers. (a choice of this project)
+-- Cited by public contracts.
 use Rattle.std.specs.Prelude.{◌≡◌, ◌≢◌, ℕ, ◌+◌, ◌<◌, ◌≤◌, ◌^◌, max, length, List, [], ◌++◌, true, false, Option, None, IfSome, Result, Ok, Err}
 use Rattle.bufr_frame.specs.Scan.{Happening, scan_from}
 use Rattle.bufr_frame.specs.Events.{told}

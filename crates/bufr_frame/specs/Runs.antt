@@ -1,4 +1,5 @@
 -- What a call that reads leaves of its reader's counts. (a choice of this project)
+-- Cited by public contracts.
 use Rattle.std.specs.Prelude.{◌≡◌, ℕ, ◌<◌, ◌≤◌, ◌^◌, Result, Ok, Err}
 use Rattle.bufr_bits.specs.Counts.{counted}
 use Rattle.bufr_frame.specs.declared.fault.RunFault.{RunFault}

@@ -109,7 +109,8 @@ impl Finder {
     ghost use Rattle.bufr_frame.specs.contracts.finder.Finder.{the_row};
     ghost use Rattle.bufr_frame.specs.Scan.{taken, scan_from};
     ghost use Rattle.bufr_frame.specs.Events.{told, IsEvent};
-    ghost use Rattle.bufr_frame.specs.Look.{LooksSo, FoundSo, Advances};
+    ghost use Rattle.bufr_frame.specs.Look.{Advances};
+    ghost use Rattle.bufr_frame.specs.Sights.{LooksSo, FoundSo};
     ghost use Rattle.bufr_frame.specs.Longest.{length_here};
     ghost use Rattle.bufr_frame.specs.Runs.{read_failures_after, most_reads};
     ghost use Rattle.bufr_frame.specs.Finding.{State, held, StepSo, SeesSo, Follows, CountsReads, IsDone, fresh};

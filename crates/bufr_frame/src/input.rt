@@ -35,8 +35,9 @@ fn read_once<R: Source>(
     }
 }
 
-/// Reads an input to its end, behind the octets that are held. `reads` counts the reads that are
-/// made of the input; after 2^32 of them no other one is made.
+/// Reads an input to its end, behind the octets that are held: for an input that is wanted whole, as
+/// a table. `reads` counts the reads that are made of the input; after 2^32 of them no other one is
+/// made. A stream of messages is read by [`crate::Finder`].
 ///
 /// # Errors
 ///

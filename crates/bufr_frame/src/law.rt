@@ -5,7 +5,8 @@ ghost use Rattle.bufr_frame.specs.Look.{Advances, NoneDecided};
 ghost use Rattle.bufr_frame.specs.Longest.{longest_of, first_event};
 ghost use Rattle.bufr_frame.specs.Finding.{State, fresh, StepSo, SeesSo, IsDone};
 ghost use Rattle.bufr_frame.specs.Next.{NextSo, HoldsSo};
-ghost use Rattle.bufr_frame.specs.Layout.{parts_in, message_size};
+ghost use Rattle.bufr_frame.specs.Layout.{parts_in, message_size, message_octets};
+ghost use Rattle.bufr_frame.specs.Plain.{IsPlain};
 ghost use Rattle.bufr_frame.specs.Sections.{Sections, sections_of};
 ghost use Rattle.bufr_frame.specs.declared.fault.RunFault.{RunFault};
 ghost use Rattle.bufr_frame.specs.declared.finder.Event.{Event};
@@ -68,4 +69,10 @@ pub fn done_comes_again()
 /// A message that is written from the parts of another one is no longer than it.
 pub fn written_again_is_no_longer()
     ensures { (m : List ℕ) (s : Sections) → sections_of m ≡ Ok s → message_size (parts_in s) ≤ length m }
+{}
+
+/// A message whose reserved octets and bits are zero, and in whose section 3 no octet is left over,
+/// has the same octets when it is written from its own parts.
+pub fn plain_messages_are_written_again()
+    ensures { (m : List ℕ) (s : Sections) → IsPlain m → sections_of m ≡ Ok s → message_octets s.head (parts_in s) ≡ m }
 {}

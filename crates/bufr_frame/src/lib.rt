@@ -25,4 +25,6 @@ pub use words::Words;
 pub use write::write_message;
 
 #[cfg(test)]
+mod stream_tests;
+#[cfg(test)]
 mod tests;

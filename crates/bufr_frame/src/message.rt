@@ -14,6 +14,16 @@ use std::marker::Model;
 
 /// A message of edition 4, taken apart. It borrows its octets.
 ///
+/// ```
+/// if let Event::Frame(offset, octets) = finder.next(&mut input)? {
+///     let message = Message::parse(octets)?;
+///     let centre = message.head().centre;
+///     for word in message.descriptors() {
+///         // ..
+///     }
+/// }
+/// ```
+///
 /// (WMO-No. 306, Volume I.2, FM 94, sections 0 to 5)
 #[derive(Debug, Drop)]
 pub struct Message<'a> {

@@ -2,7 +2,7 @@
 ghost use Rattle.std.specs.Prelude.{◌≡◌, ◌≢◌, ◌≤◌, ◌<◌, ◌+◌, ◌-◌, ◌^◌, ℕ, List, [], ◌∷◌, ◌++◌, length, take, drop, codes, IfOk, IfSome, MatchOption, vec_len, Some, None};
 ghost use Rattle.memchr.specs.Find.{FindsNeedle};
 ghost use Rattle.bufr_frame.specs.Scan.{verdict, stated};
-ghost use Rattle.bufr_frame.specs.Look.{LooksSo};
+ghost use Rattle.bufr_frame.specs.Sights.{LooksSo};
 ghost use Rattle.bufr_frame.specs.Longest.{length_here};
 
 use crate::fault::Cause;
@@ -35,7 +35,7 @@ pub(crate) struct Found {
     pub(crate) stated: usize,
 }
 
-/// The place before which no event is.
+/// A place before which no event is; more octets are needed to tell what is there.
 #[derive(Clone, Copy, Debug)]
 pub(crate) struct Wanted {
     /// The place, from 0.
@@ -84,7 +84,7 @@ pub(crate) fn len_here(m: &[u8]) -> usize
     }
 }
 
-/// What is at the front of `m`.
+/// What is at the front of `m`, behind which nothing comes: the first case that holds counts.
 pub(crate) fn judge(m: &[u8]) -> Verdict
     ensures { result ≡ verdict m.now }
 {
@@ -107,7 +107,8 @@ pub(crate) fn judge(m: &[u8]) -> Verdict
     Verdict::Frame
 }
 
-/// What `rest` shows, behind which more octets may come unless the end was reached.
+/// What `rest` shows, behind which more octets may come unless the end was reached. `word` searches
+/// for `BUFR`.
 pub(crate) fn look(word: &memmem::Finder<'_>, rest: &[u8], ended: bool) -> Sight
     requires { word.now ≡ codes "BUFR" }
     ensures { LooksSo ended rest.now result }
@@ -117,6 +118,7 @@ pub(crate) fn look(word: &memmem::Finder<'_>, rest: &[u8], ended: bool) -> Sight
             if ended {
                 Sight::End
             } else {
+                // the last three octets may begin a word
                 Sight::Open(Wanted {
                     place: rest.len() - rest.len().min(3),
                     stated: 0,

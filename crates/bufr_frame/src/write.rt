@@ -155,7 +155,16 @@ fn push_section0(octets: &mut Vec<u8>, size: usize, edition: u8) -> Result<(), A
 /// Writes a message of edition 4 from its parts: `BUFR` first, its length in octets 5 to 7, the
 /// sections with the least lengths that hold the parts, reserved octets and bits zero, `7777` last.
 /// `local1` stands in section 1 from its octet 23 on, `section2` in section 2 from its octet 5 on,
-/// `payload` in section 4 from its octet 5 on. (WMO-No. 306, Volume I.2, FM 94, sections 0 to 5)
+/// `payload` in section 4 from its octet 5 on. The condition is that `head.edition` is 4.
+/// (WMO-No. 306, Volume I.2, FM 94, sections 0 to 5)
+///
+/// ```
+/// let message = Message::parse(octets)?;
+/// let without_section2 = write_message(
+///     alloc, &message.head(), message.local1(), None, &descriptors,
+///     message.subsets(), message.observed(), message.compressed(), &payload,
+/// )?;
+/// ```
 ///
 /// # Errors
 ///

@@ -1,5 +1,6 @@
 use Rattle.std.proofs.Common.{◌≡◌, ◌-◌, ◌≤◌, ℕ, List, [], None}
-use Rattle.bufr_frame.specs.Finding.{State, StepSo, CountsReads, Raised}
+use Rattle.bufr_frame.specs.Finding.{State, StepSo, CountsReads}
+use Rattle.bufr_frame.specs.Sights.{Raised}
 use Rattle.bufr_frame.specs.Runs.{most_reads}
 use Rattle.bufr_frame.proofs.finder.Finder.advance.Given as goal
 
