@@ -125,9 +125,15 @@ fn fault_of(alloc: Global, error: &Error) -> LineFault {
 
 /// What the words of a command line ask for; the first is the program's name.
 ///
+/// ```
+/// let words = ["bufr", "ls", "bulletins.bufr"];
+/// let job = parse_line(rt.alloc(), words.as_slice())?;
+/// assert!(rt; job.command == Subcommand::Ls && job.file == Some("bulletins.bufr"));
+/// ```
+///
 /// # Errors
 ///
-/// [`LineFault::Help`] where help is asked for, [`LineFault::Usage`] where the words are not
+/// [`LineFault::Help`] where help or the version is asked for, [`LineFault::Usage`] where the words are not
 /// understood or no command is among them, and [`LineFault::Memory`].
 pub fn parse_line<'a, S: AsStr>(alloc: Global, words: &'a [S]) -> Result<Job<'a>, LineFault>
     ensures { IfOk result (λ job. IsJobOf (subcommand_of bufr_app (map S.text words.entry.now)) job) }

@@ -75,11 +75,19 @@ fn flush<W: Sink>(w: &mut W) -> Result<(), RunFault>
 /// that cannot be taken apart a fault line on `e`, in the order of the stream, each as soon as it is
 /// certain. At the end `w`, then `e` is flushed.
 ///
+/// ```
+/// let mut r = Device::new(b"BUFR".as_slice());
+/// let mut w = Device::new(Vec::new(rt.alloc()));
+/// let mut e = Device::new(Vec::new(rt.alloc()));
+/// let tally = run_ls(rt.alloc(), &mut r, &mut w, &mut e)?; // `offset 0: 1 cut` is on `e`
+/// assert_eq!(rt; tally.refused, 1);
+/// ```
+///
 /// # Errors
 ///
 /// [`RunFault::Read`], [`RunFault::InputTooLong`] and [`RunFault::Memory`] as [`Finder::next`]
-/// gives them; the lines of all that was certain were written then. [`RunFault::Write`] where a writer failed or took nothing:
-/// a front of the lines was written.
+/// gives them; the lines of all that was certain were written then. [`RunFault::Write`] where a
+/// writer failed or took nothing: a front of the lines was written.
 pub fn run_ls<R: Source, W: Sink, E: Sink>(
     alloc: Global,
     r: &mut R,

@@ -390,28 +390,28 @@ fn lists_while_it_reads(rt: HostRuntime) -> Result<(), Fail> {
 
 /// An input of one file and of standard input.
 #[derive(Drop)]
-struct Shelf {
-    name: &'static str,
-    file: &'static [u8],
-    standard: &'static [u8],
+struct Shelf<'a> {
+    name: &'a str,
+    file: &'a [u8],
+    standard: &'a [u8],
 }
 
-impl Inputs for Shelf {
+impl<'a> Inputs for Shelf<'a> {
     ghost use Rattle.std.specs.Prelude.{Some};
 
-    type Standard = &'static [u8];
+    type Standard = &'a [u8];
 
-    type File = &'static [u8];
+    type File = &'a [u8];
 
     ghost standard_octets = { λ s. Some s.standard.now };
 
     ghost file_octets = { λ s _. Some s.file.now };
 
-    fn standard(&self) -> &'static [u8] {
+    fn standard(&self) -> &'a [u8] {
         self.standard
     }
 
-    fn open(&self, name: &str) -> Result<&'static [u8], Unopened> {
+    fn open(&self, name: &str) -> Result<&'a [u8], Unopened> {
         if name == self.name {
             Ok(self.file)
         } else {
@@ -448,9 +448,12 @@ fn runs_lines(rt: HostRuntime) -> Result<(), Fail> {
             "unexpected argument 'two.bufr' found",
         ),
     ];
+    let mut file = Vec::new(rt.alloc());
+    file.extend_from_slice(b"BUFR")?;
+    file.extend_from_slice(&ONE_BLOCK_NUMBER)?;
     let shelf = Shelf {
         name: "one.bufr",
-        file: b"BUFRBUFR\x00\x00\x30\x04\x00\x00\x16\x00\x00\x62\x00\x00\x00\x00\x00\x00\x00\x0E\x00\x07\xE8\x01\x02\x03\x04\x05\x00\x00\x09\x00\x00\x01\x80\x01\x01\x00\x00\x05\x00\x147777",
+        file: &file,
         standard: &ONE_BLOCK_NUMBER,
     };
     for (words, status, output, errors) in &ROWS {
