@@ -1,6 +1,6 @@
 -- What a run leaves, by its answer. (a choice of this project)
 -- Cited by public contracts.
-use Rattle.std.specs.Prelude.{◌≡◌, ◌⊎◌, ℕ, ◌+◌, Bool, true, false, List, [], ◌++◌, Option, Result, Ok, Err, flat_map, count_by, option_to_list}
+use Rattle.std.specs.Prelude.{◌≡◌, ◌⊎◌, ℕ, ◌+◌, Bool, true, false, List, ◌++◌, Option, Result, Ok, Err, flat_map, count_by, option_to_list}
 use Rattle.std.specs.Io.KnownBytes.{Consumes, Appends, IsAtEnd}
 use Rattle.bufr_frame.specs.Scan.{Happening, scan, open_scan}
 use Rattle.bufr_frame.specs.declared.fault.RunFault.{RunFault}

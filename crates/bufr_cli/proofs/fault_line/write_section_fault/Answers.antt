@@ -1,4 +1,4 @@
-use Rattle.std.proofs.Common.{◌∙◌, ℕ, List, [], ◌∷◌, ap, codes, subst}
+use Rattle.std.proofs.Common.{◌∙◌, ℕ, [], ◌∷◌, ap, codes, subst}
 use Rattle.std.specs.Prelude.{decimal}
 use Rattle.bufr_frame.specs.Numbers.{number_of_section_fault}
 use Rattle.bufr_cli.specs.FaultLine.{fault_line}

@@ -1,7 +1,6 @@
-use Rattle.std.proofs.Common.{◌≡◌, [], take}
-use Rattle.std.specs.Prelude.{flat_map, Ok}
-use Rattle.bufr_cli.specs.Writing.{Composes, part_text}
-use Rattle.bufr_frame.specs.declared.fault.RunFault.{RunFault}
+use Rattle.std.proofs.Common.{◌≡◌, take}
+use Rattle.std.specs.Prelude.{flat_map}
+use Rattle.bufr_cli.specs.Writing.{part_text}
 use Rattle.bufr_cli.proofs.WritingLemmas.{ComposedSoFar}
 use Rattle.bufr_cli.proofs.part.write_parts.Given as goal
 
