@@ -4,6 +4,7 @@ pub mod DirectoryLemmas
 pub mod KeptLemmas
 pub mod StepsLemmas
 pub mod TableBLemmas
+pub mod RowLemmas
 pub mod RunsLemmas
 pub mod CycleLemmas
 pub mod TableDLemmas

@@ -86,6 +86,15 @@ row_of r = do
   let row : Row = record { fxy = fxy; name = name; unit = unit; kind = kind_of unit; scale = scale; reference = reference; width = width }
   only_if (fits_factor (factor_width fxy) row) row
 
+-- what each row of a table keeps to
+pub record IsRow (row : Row) : Type 0 where
+  pub width : allows_width row.kind row.width ≡ true
+  pub scale : nat_le (unsigned_abs row.scale) 127 ≡ true
+  pub kind : row.kind ≡ kind_of row.unit
+  pub name : plain_of row.name ≡ Some row.name
+  pub unit : plain_of row.unit ≡ Some row.unit
+  pub factor : fits_factor (factor_width row.fxy) row ≡ true
+
 -- the element of a descriptor
 abbrev pub entry_of : List Row → ℕ → Option Row
 entry_of rows fxy = find (λ row. row.fxy == fxy) rows

@@ -8,7 +8,7 @@ ghost use Rattle.bufr_tables.specs.Entry.{row_with};
 ghost use Rattle.bufr_tables.specs.Kept.{Grows, IsInside, IsStored, row_kept};
 ghost use Rattle.bufr_tables.specs.Records.{records_of};
 ghost use Rattle.bufr_tables.specs.Steps.{Gives};
-ghost use Rattle.bufr_tables.specs.TableB.{AreRows, Row, element_of, entry_of, fits_factor, factor_width, is_header, is_printed, plain_of, row_of, scale_of, table_b_of, width_of, with_record};
+ghost use Rattle.bufr_tables.specs.TableB.{AreRows, IsRow, Row, element_of, entry_of, fits_factor, factor_width, is_header, is_printed, plain_of, row_of, scale_of, table_b_of, width_of, with_record};
 
 use crate::directory::Directory;
 use crate::fault::TableFault;
@@ -125,7 +125,7 @@ fn fits_factor(fxy: Fxy, entry: &Entry) -> bool
 
 // The element that a record writes, where it writes one.
 #[tactic(auto, unfolding(crate::specs::TableB::row_of))]
-fn row(fields: &ByteRecord) -> Option<(Fxy, Entry<'_>)>
+fn written(fields: &ByteRecord) -> Option<(Fxy, Entry<'_>)>
     ensures value { option_map (λ p. row_with p.0 p.1) result ≡ row_of (fields_of fields.now) }
     ensures element { IfSome result (λ p. p.0 < 16384) }
 {
@@ -148,6 +148,16 @@ fn row(fields: &ByteRecord) -> Option<(Fxy, Entry<'_>)>
         return None;
     }
     Some((fxy, entry))
+}
+
+// That element, which is within the limits.
+
+fn row(fields: &ByteRecord) -> Option<(Fxy, Entry<'_>)>
+    ensures value { option_map (λ p. row_with p.0 p.1) result ≡ row_of (fields_of fields.now) }
+    ensures element { IfSome result (λ p. p.0 < 16384) }
+    ensures limits { IfSome result (λ p. IsRow (row_with p.0 p.1)) }
+{
+    written(fields)
 }
 
 // Whether a record is the header.
@@ -235,7 +245,8 @@ impl TableB {
 
     /// What the table says of an element, if it has it.
     pub fn get(&self, fxy: Fxy) -> Option<Entry<'_>>
-        ensures { option_map (row_with fxy) result ≡ entry_of self.now fxy }
+        ensures value { option_map (row_with fxy) result ≡ entry_of self.now fxy }
+        ensures limits { IfSome result (λ e. IsRow (row_with fxy e)) }
     {
         let directory = &self.directory;
         if fxy.f() != 0 {
@@ -270,6 +281,7 @@ impl TableB {
     fn push(&mut self, fxy: Fxy, entry: &Entry) -> Result<(), AllocError>
         requires element { fxy < 16384 }
         requires absent { entry_of self.old fxy ≡ None }
+        requires limits { IsRow (row_with fxy entry.now) }
         ensures ok { OnOk result (self.new ≡ self.old ++ row_with fxy entry.now ∷ []) }
     {
         let stored = store(&mut self.octets, fxy, entry)?;

@@ -1,0 +1,11 @@
+mod Examples
+pub mod OneOutcome
+pub mod Laying
+pub mod SpecLemmas
+pub mod WaysLemmas
+pub mod FieldWays
+pub mod FlatWeights
+pub mod FlatTurns
+pub mod Bound
+pub mod PlainLemmas
+pub mod Readings
