@@ -1,16 +1,18 @@
 -- What a reading keeps of its items.
 -- Cited by private steps only.
-use Rattle.std.specs.Prelude.{ℕ, ◌≡◌, ◌≤◌, ◌*◌, List, length}
+use Rattle.std.specs.Prelude.{ℕ, ◌≡◌, ◌≤◌, ◌*◌, true, List, length}
+use Rattle.std.specs.List.{list_all}
 use Rattle.bufr_walk.specs.declared.read_packed.KeptItem.{KeptItem}
 use Rattle.bufr_walk.specs.declared.reading.Kept.{Kept}
 use Rattle.bufr_walk.specs.declared.reading.Kept.TheVariants as kept
 use Rattle.bufr_walk.specs.Content.{Content}
+use Rattle.bufr_walk.specs.PackedIn.{items_at, stands_at}
 use Rattle.bufr_walk.specs.Reading.{Item, Data, Values, apart, together, IsReading}
 use Rattle.bufr_walk.specs.Outcome.{Read, course_of}
 
--- one entry for each item of compressed data
+-- one entry for each item of compressed data, which stands at the entry's place
 abbrev pub AreKept : Data → List KeptItem → List (Item (List Content)) → Type 0
-AreKept d entries items = length entries ≡ length items
+AreKept d entries items = (items_at d.bits d.subsets entries ≡ items) × (list_all (stands_at d.bits d.subsets) entries ≡ true)
 
 -- how many items are kept
 abbrev pub held_of : Kept → ℕ

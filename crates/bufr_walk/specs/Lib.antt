@@ -6,6 +6,7 @@ pub mod Course
 pub mod Content
 pub mod PlainField
 pub mod PackedField
+pub mod PackedBits
 pub mod Reading
 pub mod Refusal
 pub mod Fault
@@ -24,4 +25,5 @@ pub mod Walked
 pub mod Ways
 pub mod Flat
 pub mod PlainIn
+pub mod PackedIn
 pub mod Passes

@@ -6,10 +6,12 @@ mod fault;
 pub mod fields;
 pub mod in_force;
 mod message;
+pub mod packed_in;
 pub mod plain_in;
 mod read_packed;
 mod read_plain;
 mod reading;
+mod show_packed;
 pub mod spec;
 pub mod steps;
 mod visitor;
@@ -19,3 +21,6 @@ pub use fault::{ShowFault, Spot, WalkFault};
 pub use message::read_message;
 pub use reading::Reading;
 pub use visitor::{ItemView, Value, Visitor};
+
+#[cfg(test)]
+mod packed_tests;

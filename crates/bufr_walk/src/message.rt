@@ -1,5 +1,5 @@
 // The reading of a message's data.
-ghost use Rattle.std.specs.Prelude.{◌≡◌, ◌≤◌, ◌+◌, ◌*◌, false, length, IfOk, IfErr};
+ghost use Rattle.std.specs.Prelude.{◌≡◌, ◌≤◌, ◌+◌, ◌*◌, length, IfOk, IfErr};
 ghost use Rattle.bufr_tables.specs.Tree.{places};
 ghost use Rattle.bufr_walk.specs.Course.{next_item};
 ghost use Rattle.bufr_walk.specs.Fault.{bits_before};
@@ -33,7 +33,6 @@ pub fn read_message<'a>(
     table: &'a TableB,
     steps: &mut Steps,
 ) -> Result<Reading<'a>, WalkFault>
-    requires { message.now.compressed ≡ false }
     ensures reading { IfOk result (λ r. IsReadingOf table.now template.now (data_of message.now) r steps.new) }
     ensures fault { IfErr result (λ why. IsFault (next_item table.now template.now) (data_of message.now) why steps.new) }
     ensures accepted { IfOk result (λ r. steps.new ≤ places template.now * r.bits) }

@@ -39,7 +39,7 @@ impl<'a> Model for PlainIn<'a> {
 }
 
 /// The number that bits write which are there.
-fn number_at(bits: &BitSlice<'_>, at: u64, width: u32) -> u64
+pub(crate) fn number_at(bits: &BitSlice<'_>, at: u64, width: u32) -> u64
     requires few { width ≤ 63 }
     requires within { at + width ≤ 8 * length (octets_of bits.now) }
     ensures value { result ≡ number_of (bits_at (octets_of bits.now) at width) }
@@ -62,7 +62,7 @@ fn signed(sign: u64, size: u64) -> i64
 
 /// The number whose first bit is its sign.
 #[tactic(auto, using(crate::proofs::PlainLemmas::signed_parts, crate::proofs::PlainLemmas::small_power))]
-fn signed_at(bits: &BitSlice<'_>, at: u64, width: u32) -> i64
+pub(crate) fn signed_at(bits: &BitSlice<'_>, at: u64, width: u32) -> i64
     requires some { 1 ≤ width }
     requires few { width ≤ 63 }
     requires within { at + width ≤ 8 * length (octets_of bits.now) }
@@ -75,7 +75,7 @@ fn signed_at(bits: &BitSlice<'_>, at: u64, width: u32) -> i64
 
 /// What a field that is there tells.
 #[tactic(auto, using(crate::proofs::PlainLemmas::told_element, crate::proofs::PlainLemmas::told_inserted, crate::proofs::PlainLemmas::told_factor, crate::proofs::PlainLemmas::told_reference, crate::proofs::PlainLemmas::some_width, crate::proofs::PlainLemmas::factor_width, crate::proofs::PlainLemmas::reference_width))]
-fn told_at(bits: &BitSlice<'_>, at: u64, spec: &Spec) -> Taken
+pub(crate) fn told_at(bits: &BitSlice<'_>, at: u64, spec: &Spec) -> Taken
     requires { at + spec.now.width ≤ 8 * length (octets_of bits.now) }
     ensures value { result ≡ told spec.now (content_in spec.now (bits_at (octets_of bits.now) at spec.now.width)) }
     ensures shape { IsFor spec.now result }

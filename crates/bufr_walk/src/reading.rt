@@ -1,7 +1,7 @@
 // What a message's data were read as.
 use crate::cells::Template;
 use crate::fault::WalkFault;
-use crate::read_packed::KeptItem;
+use crate::read_packed::{KeptItem, read_packed};
 use crate::read_plain::read_plain;
 use crate::steps::Steps;
 use bufr_bits::BitSlice;
@@ -48,15 +48,15 @@ impl<'a> Model for Reading<'a> {
 }
 
 impl<'a> Reading<'a> {
-    ghost use Rattle.std.specs.Prelude.{◌≡◌, ◌≤◌, ◌+◌, ◌*◌, false, length, IfOk, IfErr};
+    ghost use Rattle.std.specs.Prelude.{◌≡◌, ◌≤◌, ◌+◌, ◌*◌, false, true, length, IfOk, IfErr};
     ghost use Rattle.bufr_tables.specs.Tree.{places};
     ghost use Rattle.bufr_walk.specs.Course.{next_item};
     ghost use Rattle.bufr_walk.specs.Fault.{bits_before};
     ghost use Rattle.bufr_walk.specs.Outcome.{data_of, IsFault, IsReadingOf};
 
-    /// Reads the data of a message by its template.
+    /// Reads data that are not compressed.
     #[tactic(auto, using(crate::proofs::ReadingLemmas::plain_held))]
-    pub(crate) fn read(
+    fn read_apart(
         alloc: Global,
         message: &Message<'a>,
         template: &'a Template,
@@ -82,6 +82,55 @@ impl<'a> Reading<'a> {
             used,
             kept: Kept::Apart,
         })
+    }
+
+    /// Reads compressed data.
+    fn read_together(
+        alloc: Global,
+        message: &Message<'a>,
+        template: &'a Template,
+        table: &'a TableB,
+        steps: &mut Steps,
+    ) -> Result<Reading<'a>, WalkFault>
+        requires { message.now.compressed ≡ true }
+        ensures reading { IfOk result (λ r. IsReadingOf table.now template.now (data_of message.now) r steps.new) }
+        ensures fault { IfErr result (λ why. IsFault (next_item table.now template.now) (data_of message.now) why steps.new) }
+        ensures accepted { IfOk result (λ r. steps.new ≤ places template.now * r.bits) }
+        ensures refused { IfErr result (λ why. steps.new ≤ places template.now * (bits_before why (length (data_of message.now).bits) + 1)) }
+    {
+        *steps = Steps::new();
+        let bits = message.payload();
+        let subsets = message.subsets();
+        let read = read_packed(alloc, bits, subsets, template, table, steps)?;
+        Ok(Reading {
+            bits,
+            template,
+            table,
+            compressed: true,
+            subsets,
+            used: read.used,
+            kept: Kept::Together(read.kept),
+        })
+    }
+
+    /// Reads the data of a message by its template.
+    pub(crate) fn read(
+        alloc: Global,
+        message: &Message<'a>,
+        template: &'a Template,
+        table: &'a TableB,
+        steps: &mut Steps,
+    ) -> Result<Reading<'a>, WalkFault>
+        ensures reading { IfOk result (λ r. IsReadingOf table.now template.now (data_of message.now) r steps.new) }
+        ensures fault { IfErr result (λ why. IsFault (next_item table.now template.now) (data_of message.now) why steps.new) }
+        ensures accepted { IfOk result (λ r. steps.new ≤ places template.now * r.bits) }
+        ensures refused { IfErr result (λ why. steps.new ≤ places template.now * (bits_before why (length (data_of message.now).bits) + 1)) }
+    {
+        if message.compressed() {
+            Reading::read_together(alloc, message, template, table, steps)
+        } else {
+            Reading::read_apart(alloc, message, template, table, steps)
+        }
     }
 
     /// The number of subsets.

@@ -1,6 +1,6 @@
 use Rattle.bufr_bits.specs.BitSlice.{octets_of}
 use Rattle.bufr_walk.proofs.ReadingLemmas.{plain_held, plain_is, same_data}
-use Rattle.bufr_walk.proofs.reading.Reading.read.Goals as goal
+use Rattle.bufr_walk.proofs.reading.Reading.read_apart.Goals as goal
 
 pub invariant_of-result : goal.invariant_of-result
 invariant_of-result c = plain_held c.args.table.now c.args.template.now c.subsets-subsets.result (octets_of c.payload-bits.result) c.in_ok-used.used c.read_plain.new.steps c.in_ok-used.ensures.reading
