@@ -1,0 +1,234 @@
+-- Worked examples, computed from the definitions.
+use Rattle.std.proofs.Common.{◌≡◌, ℕ, zero, suc, ◌+◌, ◌*◌, Bool, true, false, List, [], ◌∷◌, ◌++◌, length, map, Result, Ok, Err, ℤ, pos, negsuc, refl}
+use Rattle.bufr_bits.specs.Bits.{bits_of, bits_in}
+use Rattle.bufr_tables.specs.declared.kind.Kind.{Kind}
+use Rattle.bufr_tables.specs.declared.kind.Kind.TheVariants as kind
+use Rattle.bufr_tables.specs.TableB.{Row}
+use Rattle.bufr_tables.specs.Tree.{Tree, bare, element, operator, delayed}
+use Rattle.bufr_walk.specs.declared.spec.Refusal.{Refusal}
+use Rattle.bufr_walk.specs.declared.spec.Refusal.TheVariants as refusal
+use Rattle.bufr_walk.specs.declared.spec.Taken.{Taken}
+use Rattle.bufr_walk.specs.Asked.{Asked}
+use Rattle.bufr_walk.specs.Course.{Course, Next, take_next, at_end, astray, refused, next_item}
+use Rattle.bufr_walk.specs.Content.{Content, number, Shown, shown_number, shown_text, shown_missing, shown_reference, shown}
+use Rattle.bufr_walk.specs.PlainField.{FieldFault, data_end, increment, unequal_factor, Found}
+use Rattle.bufr_walk.specs.declared.spec.Role.TheVariants as role
+use Rattle.bufr_walk.specs.Reading.{Item, Form, plain, packed, ReadsSubsets}
+use Rattle.std.specs.Prelude.{take, codes}
+use Rattle.bufr_bits.specs.DecimalValue.{decimal_value_of}
+
+fxy : ℕ → ℕ → ℕ → ℕ
+fxy f x y = f * 16384 + (x * 256 + y)
+
+row : ℕ → Kind → ℤ → ℤ → ℕ → Row
+row d k s r w = record { fxy = d; name = []; unit = []; kind = k; scale = s; reference = r; width = w }
+
+table : List Row
+unfolding fxy row
+table =
+    row (fxy 0 1 1) kind.Numeric (pos 0) (pos 0) 7 ∷ row (fxy 0 1 15) kind.Character (pos 0) (pos 0) 160 ∷ row (fxy 0 5 2) kind.Numeric (pos 2) (negsuc 8999) 15
+    ∷ row (fxy 0 12 101) kind.Numeric (pos 2) (pos 0) 16 ∷ row (fxy 0 20 3) kind.Coded (pos 0) (pos 0) 9
+    ∷ row (fxy 0 31 0) kind.Numeric (pos 0) (pos 0) 1 ∷ row (fxy 0 31 1) kind.Numeric (pos 0) (pos 0) 8 ∷ row (fxy 0 31 2) kind.Numeric (pos 0) (pos 0) 16 ∷ row (fxy 0 31 21) kind.Coded (pos 0) (pos 0) 6 ∷ []
+
+-- how a pass ended: with so many bits left, or at a fault of the walk or of a field
+data Ending : Type 0 where
+  done : (left turns : ℕ) → Ending
+  walk_fault : (why : Refusal) (left turns : ℕ) → Ending
+  field_fault : (fxy : ℕ) (why : FieldFault) (left turns : ℕ) → Ending
+  unknown : Ending
+
+-- one pass: what each item shows, by its descriptor, and how it ended
+record Pass (C : Type 0) : Type 0 where
+  items : List (ℕ × C)
+  ending : Ending
+
+begun : {C : Type 0} → ℕ × C → Pass C → Pass C
+begun i p = record { items = i ∷ p.items; ending = p.ending }
+
+ended : {C : Type 0} → Ending → Pass C
+ended e = record { items = []; ending = e }
+
+module _ {C V : Type 0} (form : Form C) (shows : Asked → C → V) (course : Course) where
+  field_pass : Asked → ℕ → ℕ → Result (Found C) FieldFault → (C → List Bool → Pass V) → Pass V
+  unfolding begun ended
+  field_pass spec left turns (Err why) go = ended (field_fault spec.fxy why left turns)
+  field_pass spec left turns (Ok f) go = begun (spec.fxy, shows spec f.content) (go f.content f.behind)
+
+  next_pass : Next → ℕ → ℕ → (Asked → Pass V) → Pass V
+  unfolding begun ended
+  next_pass at_end left turns go = ended (done left turns)
+  next_pass (refused why) left turns go = ended (walk_fault why left turns)
+  next_pass (take_next spec) left turns go = go spec
+  next_pass astray left turns go = ended unknown
+
+  pass : ℕ → List Taken → List Bool → Pass V
+  unfolding next_pass field_pass ended
+  pass zero told bits = ended unknown
+  pass (suc more) told bits =
+      let a = course told in
+      next_pass a.next (length bits) a.turns (λ spec. field_pass spec (length bits) a.turns (form.field spec bits) (λ c behind. pass more (told ++ form.tells spec c ∷ []) behind))
+
+-- one subset of data that are not compressed
+one : Tree → List ℕ → Pass Shown
+unfolding table pass next_item bits_of
+one tree octets = pass plain shown (next_item table tree) 40 [] (bits_of octets)
+
+-- all of so many subsets that are
+together : ℕ → Tree → List ℕ → Pass (List Shown)
+unfolding table pass next_item bits_of
+together n tree octets = pass (packed n) (λ spec cs. map (shown spec) cs) (next_item table tree) 40 [] (bits_of octets)
+
+gives : {V : Type 0} → List (ℕ × V) → Ending → Pass V
+gives items ending = record { items = items; ending = ending }
+
+one_temperature : one (element (fxy 0 12 101) bare) (112 ∷ 143 ∷ []) ≡ gives ((3173, shown_number (pos 28815) (pos 2)) ∷ []) (done 0 2)
+unfolding one gives fxy
+one_temperature = refl
+
+one_temperature_missing : one (element (fxy 0 12 101) bare) (255 ∷ 255 ∷ []) ≡ gives ((3173, shown_missing) ∷ []) (done 0 2)
+unfolding one gives fxy
+one_temperature_missing = refl
+
+delayed_blocks : Tree
+unfolding fxy
+delayed_blocks = delayed (fxy 0 31 1) (element (fxy 0 1 1) bare) bare
+
+delayed_twice : one delayed_blocks (2 ∷ 20 ∷ 44 ∷ []) ≡ gives ((7937, shown_number (pos 2) (pos 0)) ∷ (257, shown_number (pos 10) (pos 0)) ∷ (257, shown_number (pos 11) (pos 0)) ∷ []) (done 2 7)
+unfolding one gives delayed_blocks
+delayed_twice = refl
+
+delayed_none : one delayed_blocks (0 ∷ []) ≡ gives ((7937, shown_number (pos 0) (pos 0)) ∷ []) (done 0 3)
+unfolding one gives delayed_blocks
+delayed_none = refl
+
+-- the data end at bit 22 of 24
+delayed_past_the_end : one delayed_blocks (255 ∷ 20 ∷ 44 ∷ []) ≡ gives ((7937, shown_number (pos 255) (pos 0)) ∷ (257, shown_number (pos 10) (pos 0)) ∷ (257, shown_number (pos 11) (pos 0)) ∷ []) (field_fault 257 data_end 2 7)
+unfolding one gives delayed_blocks
+delayed_past_the_end = refl
+
+short_factor : one (delayed (fxy 0 31 0) (element (fxy 0 1 1) bare) bare) (138 ∷ []) ≡ gives ((7936, shown_number (pos 1) (pos 0)) ∷ (257, shown_number (pos 10) (pos 0)) ∷ []) (done 0 5)
+unfolding one gives fxy
+short_factor = refl
+
+width_and_scale_changed : one
+    (operator (fxy 2 1 132) (operator (fxy 2 2 129) (element (fxy 0 12 101) (operator (fxy 2 1 0) (operator (fxy 2 2 0) (element (fxy 0 12 101) bare))))))
+    (70 ∷ 89 ∷ 151 ∷ 8 ∷ 240 ∷ []) ≡ gives ((3173, shown_number (pos 288153) (pos 3)) ∷ (3173, shown_number (pos 28815) (pos 2)) ∷ []) (done 4 7)
+unfolding one gives fxy
+width_and_scale_changed = refl
+
+redefined_reference : one
+    (operator (fxy 2 3 10) (element (fxy 0 12 101) (operator (fxy 2 3 255) (element (fxy 0 12 101) bare))))
+    (228 ∷ 28 ∷ 35 ∷ 192 ∷ []) ≡ gives ((3173, shown_reference (negsuc 399)) ∷ (3173, shown_number (pos 28415) (pos 2)) ∷ []) (done 6 5)
+unfolding one gives fxy
+redefined_reference = refl
+
+increased_precision : one (operator (fxy 2 7 1) (element (fxy 0 12 101) (element (fxy 0 20 3) bare))) (70 ∷ 89 ∷ 144 ∷ 40 ∷ [])
+    ≡ gives ((3173, shown_number (pos 288153) (pos 3)) ∷ (5123, shown_number (pos 5) (pos 0)) ∷ []) (done 3 4)
+unfolding one gives fxy
+increased_precision = refl
+
+width_refused : one (operator (fxy 2 1 121) (element (fxy 0 1 1) bare)) (0 ∷ []) ≡ gives [] (walk_fault (refusal.Width 257) 8 2)
+unfolding one gives fxy
+width_refused = refl
+
+width_of_one : one (operator (fxy 2 1 122) (element (fxy 0 1 1) bare)) (0 ∷ []) ≡ gives ((257, shown_number (pos 0) (pos 0)) ∷ []) (done 7 3)
+unfolding one gives fxy
+width_of_one = refl
+
+width_of_one_missing : one (operator (fxy 2 1 122) (element (fxy 0 1 1) bare)) (128 ∷ []) ≡ gives ((257, shown_missing) ∷ []) (done 7 3)
+unfolding one gives fxy
+width_of_one_missing = refl
+
+local_descriptor : one (operator (fxy 2 6 12) (element (fxy 0 63 255) bare)) (15 ∷ 80 ∷ []) ≡ gives ((16383, shown_number (pos 245) (pos 0)) ∷ []) (done 4 3)
+unfolding one gives fxy
+local_descriptor = refl
+
+inserted_text : one (operator (fxy 2 5 4) bare) (34 ∷ 92 ∷ 10 ∷ 254 ∷ []) ≡ gives ((34052, shown_text (34 ∷ 92 ∷ 10 ∷ 254 ∷ [])) ∷ []) (done 0 2)
+unfolding one gives fxy
+inserted_text = refl
+
+negative_latitude : one (element (fxy 0 5 2) bare) (70 ∷ 70 ∷ []) ≡ gives ((1282, shown_number (negsuc 4) (pos 2)) ∷ []) (done 1 2)
+unfolding one gives fxy
+negative_latitude = refl
+
+defining_text : one (operator (fxy 2 3 10) (element (fxy 0 1 15) bare)) (0 ∷ 0 ∷ []) ≡ gives [] (walk_fault (refusal.Defining 271) 16 2)
+unfolding one gives fxy
+defining_text = refl
+
+text_width_changed : one (operator (fxy 2 8 3) (element (fxy 0 1 15) bare)) (65 ∷ 66 ∷ 67 ∷ []) ≡ gives ((271, shown_text (65 ∷ 66 ∷ 67 ∷ [])) ∷ []) (done 0 3)
+unfolding one gives fxy
+text_width_changed = refl
+
+compressed_missing : together 2 (element (fxy 0 12 101) bare) (112 ∷ 143 ∷ 5 ∷ []) ≡ gives ((3173, shown_number (pos 28815) (pos 2) ∷ shown_missing ∷ []) ∷ []) (done 0 2)
+unfolding together gives fxy
+compressed_missing = refl
+
+zeros : ℕ → List ℕ → List ℕ
+zeros zero more = more
+zeros (suc n) more = 0 ∷ zeros n more
+
+spaces : ℕ → List ℕ
+spaces zero = []
+spaces (suc n) = 32 ∷ spaces n
+
+compressed_name : together 2 (element (fxy 0 1 15) bare) (zeros 20 (17 ∷ 5 ∷ 9 ∷ 12 ∷ 131 ∷ 255 ∷ 255 ∷ 255 ∷ 252 ∷ []))
+    ≡ gives ((271, shown_text (65 ∷ 66 ∷ 67 ∷ spaces 17) ∷ shown_missing ∷ []) ∷ []) (done 2 2)
+unfolding together gives fxy zeros spaces
+compressed_name = refl
+
+compressed_name_shorter : together 2 (element (fxy 0 1 15) bare) (zeros 20 (13 ∷ 5 ∷ 9 ∷ 15 ∷ 255 ∷ 255 ∷ 252 ∷ []))
+    ≡ gives ((271, shown_text (65 ∷ 66 ∷ 67 ∷ spaces 17) ∷ shown_missing ∷ []) ∷ []) (done 2 2)
+unfolding together gives fxy zeros spaces
+compressed_name_shorter = refl
+
+factors_differ : together 2 delayed_blocks (1 ∷ 5 ∷ []) ≡ gives [] (field_fault 7937 unequal_factor 16 2)
+unfolding together gives delayed_blocks
+factors_differ = refl
+
+increment_past_the_width : together 2 (element (fxy 0 1 1) bare) (252 ∷ 17 ∷ 0 ∷ []) ≡ gives [] (field_fault 257 increment 24 1)
+unfolding together gives fxy
+increment_past_the_width = refl
+
+increment_to_all_ones : together 2 (element (fxy 0 1 1) bare) (252 ∷ 16 ∷ 128 ∷ []) ≡ gives ((257, shown_number (pos 126) (pos 0) ∷ shown_missing ∷ []) ∷ []) (done 7 2)
+unfolding together gives fxy
+increment_to_all_ones = refl
+
+minus_zero : one
+    (operator (fxy 2 3 10) (element (fxy 0 12 101) (operator (fxy 2 3 255) (element (fxy 0 12 101) bare))))
+    (128 ∷ 28 ∷ 35 ∷ 192 ∷ []) ≡ gives ((3173, shown_reference (pos 0)) ∷ (3173, shown_number (pos 28815) (pos 2)) ∷ []) (done 6 5)
+unfolding one gives fxy
+minus_zero = refl
+
+-- two subsets, each from the beginning of the template
+widened_again : Tree
+unfolding fxy
+widened_again = element (fxy 0 12 101) (operator (fxy 2 1 132) bare)
+
+as_quantity : Asked
+as_quantity = record { fxy = 3173; role = role.Element; kind = kind.Numeric; width = 16; scale = pos 2; reference = pos 0; may_be_missing = true; listed = true }
+
+at_288_15 : Item Content
+at_288_15 = record { spec = as_quantity; content = number 28815 }
+
+each_from_the_beginning : ReadsSubsets (next_item table widened_again) ((at_288_15 ∷ []) ∷ (at_288_15 ∷ []) ∷ []) (bits_of (112 ∷ 143 ∷ 112 ∷ 143 ∷ [])) []
+unfolding table widened_again as_quantity at_288_15 next_item bits_of
+each_from_the_beginning =
+    (bits_of (112 ∷ 143 ∷ []), ((bits_of (112 ∷ 143 ∷ []), refl, refl, refl), refl), ([], (([], refl, refl, refl), refl), refl))
+
+-- a given width holds for one descriptor
+given_width_is_used_up : one (operator (fxy 2 6 12) (element (fxy 0 63 255) (element (fxy 0 1 1) bare))) (15 ∷ 81 ∷ 64 ∷ [])
+    ≡ gives ((16383, shown_number (pos 245) (pos 0)) ∷ (257, shown_number (pos 10) (pos 0)) ∷ []) (done 5 4)
+unfolding one gives fxy
+given_width_is_used_up = refl
+
+-- figures take a redefined reference as it is, and no other change; 2 03 000 drops it
+figures_take_a_reference : one
+    (operator (fxy 2 7 1) (operator (fxy 2 1 132) (operator (fxy 2 3 10) (element (fxy 0 20 3) (operator (fxy 2 3 255) (element (fxy 0 20 3) (operator (fxy 2 3 0) (element (fxy 0 20 3) bare))))))))
+    (228 ∷ 0 ∷ 160 ∷ 80 ∷ []) ≡ gives ((5123, shown_reference (negsuc 399)) ∷ (5123, shown_number (negsuc 394) (pos 0)) ∷ (5123, shown_number (pos 5) (pos 0)) ∷ []) (done 4 9)
+unfolding one gives fxy
+figures_take_a_reference = refl
+
+-- figures of class 31 are never missing
+figures_never_missing : one (operator (fxy 2 1 132) (element (fxy 0 31 21) bare)) (252 ∷ []) ≡ gives ((7957, shown_number (pos 63) (pos 0)) ∷ []) (done 2 3)
+unfolding one gives fxy
+figures_never_missing = refl
