@@ -1,3 +1,4 @@
+mod ExampleTables
 mod Examples
 pub mod OneOutcome
 pub mod Laying
