@@ -11,14 +11,14 @@ use Rattle.bufr_walk.specs.PlainField.{data_end}
 use Rattle.bufr_walk.specs.Reading.{Item, IsPlainReading, IsPlainRefused, Stop, field_stop}
 use Rattle.bufr_walk.proofs.ExampleTables.{fxy, table, done, field_fault, one, two, gives}
 
--- A group of so many passes leaves what its passes set in force: refused where a pass or a group ends a change, where it is passed once, or where turns are counted otherwise.
+-- A group of so many passes leaves what its passes set in force: fails where a pass or a group ends a change, where it is passed once, or where turns are counted otherwise.
 fixed_group : one (fixed 2 (element (fxy 0 1 1) (operator (fxy 2 1 129) bare)) bare) (20 ∷ 22 ∷ [])
     ≡ gives ((257, shown_number (pos 10) (pos 0)) ∷ (257, shown_number (pos 11) (pos 0)) ∷ []) (done 1 8)
 unfolding one gives fxy
 fixed_group = refl
 
 -- Counts are told in the order of the data, an inner one anew in each pass of the outer, and none for a group that is not entered:
--- refused where the counts of inner and outer groups are mixed up, or where one count serves all passes.
+-- fails where the counts of inner and outer groups are mixed up, or where one count serves all passes.
 group_in_a_group : one (delayed (fxy 0 31 1) (delayed (fxy 0 31 1) (element (fxy 0 1 1) bare) bare) bare) (2 ∷ 1 ∷ 20 ∷ 4 ∷ 44 ∷ 96 ∷ [])
     ≡ gives ((7937, shown_number (pos 2) (pos 0)) ∷ (7937, shown_number (pos 1) (pos 0)) ∷ (257, shown_number (pos 10) (pos 0)) ∷ (7937, shown_number (pos 2) (pos 0)) ∷ (257, shown_number (pos 11) (pos 0)) ∷ (257, shown_number (pos 12) (pos 0)) ∷ []) (done 3 15)
 unfolding one gives fxy
@@ -34,7 +34,7 @@ group_behind_no_pass : one (delayed (fxy 0 31 1) (delayed (fxy 0 31 1) (element 
 unfolding one gives fxy
 group_behind_no_pass = refl
 
--- The data may end at a factor, or at the first or the last item of a group: refused where an earlier item is dropped, or where the place is another.
+-- The data may end at a factor, or at the first or the last item of a group: fails where an earlier item is dropped, or where the place is another.
 data_end_at_a_factor : one (delayed (fxy 0 31 1) (element (fxy 0 1 1) bare) bare) [] ≡ gives [] (field_fault 7937 data_end 0 2)
 unfolding one gives fxy
 data_end_at_a_factor = refl
@@ -47,7 +47,7 @@ data_end_at_the_last_pass : one (delayed (fxy 0 31 1) (element (fxy 0 1 1) bare)
 unfolding one gives fxy
 data_end_at_the_last_pass = refl
 
--- What is in force ends with its subset: refused where a width, a scale, a precision or a reference reaches the next one.
+-- What is in force ends with its subset: fails where a width, a scale, a precision or a reference reaches the next one.
 changed_behind : Tree
 unfolding fxy
 changed_behind = element (fxy 0 12 101) (operator (fxy 2 1 132) (operator (fxy 2 2 129) (operator (fxy 2 7 1) (operator (fxy 2 3 10) (element (fxy 0 12 101) (operator (fxy 2 3 255) bare))))))
@@ -58,7 +58,7 @@ changes_end_with_the_subset : two changed_behind (112 ∷ 143 ∷ 228 ∷ 28 ∷
 unfolding two gives changed_behind
 changes_end_with_the_subset = refl
 
--- So does a definition of references: refused where the next subset begins within it.
+-- So does a definition of references: fails where the next subset begins within it.
 defining_behind : Tree
 unfolding fxy
 defining_behind = element (fxy 0 1 1) (operator (fxy 2 3 10) (element (fxy 0 1 1) bare))
@@ -69,7 +69,7 @@ definitions_end_with_the_subset : two defining_behind (21 ∷ 200 ∷ 10 ∷ 228
 unfolding two gives defining_behind
 definitions_end_with_the_subset = refl
 
--- So does a text width: refused where the second text has two octets.
+-- So does a text width: fails where the second text has two octets.
 text_width_behind : Tree
 unfolding fxy
 text_width_behind = element (fxy 0 31 250) (operator (fxy 2 8 2) bare)
@@ -79,7 +79,7 @@ text_width_ends_with_the_subset : two text_width_behind (65 ∷ 66 ∷ [])
 unfolding two gives text_width_behind
 text_width_ends_with_the_subset = refl
 
--- The data may end in a later subset: refused where the rest of the first is read as one.
+-- The data may end in a later subset: fails where the rest of the first is read as one.
 data_end_in_second_subset : two (element (fxy 0 1 1) bare) (20 ∷ []) ≡ gives ((257, shown_number (pos 10) (pos 0)) ∷ []) (done 1 2) ∷ gives [] (field_fault 257 data_end 1 1) ∷ []
 unfolding two gives fxy
 data_end_in_second_subset = refl
@@ -143,7 +143,7 @@ reading_of_letters : IsPlainReading 2 (next_item table text_width_behind) ((lett
 unfolding table text_width_behind letter next_item bits_of
 reading_of_letters = ((bits_of (66 ∷ []), ((bits_of (66 ∷ []), refl, refl, refl), refl), ([], (([], refl, refl, refl), refl), refl)), refl)
 
--- A refusal names its subset from 1 on, and the bits before it from the first subset on: refused where the bits are counted in the subset, or the subsets from nought.
+-- A refusal names its subset from 1 on, and the bits before it from the first subset on: fails where the bits are counted in the subset, or the subsets from 0.
 refused_in_second_subset : IsPlainRefused 65535 (next_item table (element (fxy 0 1 1) bare)) (bits_of (20 ∷ [])) (field_stop 257 data_end) 2 7
 unfolding table block_10 next_item bits_of fxy
 refused_in_second_subset = record {
@@ -159,7 +159,7 @@ refused_in_second_subset = record {
   place = refl;
 }
 
--- With no subset nothing is read, and nothing is refused: refused where a first subset is read all the same.
+-- With no subset nothing is read, and nothing is refused: fails where a first subset is read all the same.
 no_subset : IsPlainReading 0 (next_item table (element (fxy 0 1 1) bare)) [] (bits_of (20 ∷ [])) (bits_of (20 ∷ []))
 no_subset = (refl, refl)
 
