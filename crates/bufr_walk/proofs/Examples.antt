@@ -1,22 +1,16 @@
 -- Worked examples, computed from the definitions.
-use Rattle.std.proofs.Common.{◌≡◌, ℕ, zero, suc, ◌+◌, ◌*◌, Bool, true, false, List, [], ◌∷◌, ◌++◌, length, map, Result, Ok, Err, ℤ, pos, negsuc, refl}
-use Rattle.bufr_bits.specs.Bits.{bits_of, bits_in}
-use Rattle.bufr_tables.specs.declared.kind.Kind.{Kind}
+use Rattle.std.proofs.Common.{◌≡◌, ℕ, zero, suc, true, List, [], ◌∷◌, pos, negsuc, refl}
+use Rattle.bufr_bits.specs.Bits.{bits_of}
 use Rattle.bufr_tables.specs.declared.kind.Kind.TheVariants as kind
-use Rattle.bufr_tables.specs.TableB.{Row}
 use Rattle.bufr_tables.specs.Tree.{Tree, bare, element, operator, delayed}
-use Rattle.bufr_walk.specs.declared.spec.Refusal.{Refusal}
 use Rattle.bufr_walk.specs.declared.spec.Refusal.TheVariants as refusal
-use Rattle.bufr_walk.specs.declared.spec.Taken.{Taken}
-use Rattle.bufr_walk.specs.Asked.{Asked}
-use Rattle.bufr_walk.specs.Course.{Course, Next, take_next, at_end, astray, refused, next_item}
-use Rattle.bufr_walk.specs.Content.{Content, number, Shown, shown_number, shown_text, shown_missing, shown_reference, shown}
-use Rattle.bufr_walk.specs.PlainField.{FieldFault, data_end, increment, unequal_factor, Found}
 use Rattle.bufr_walk.specs.declared.spec.Role.TheVariants as role
-use Rattle.bufr_walk.specs.Reading.{Item, Form, plain, packed, ReadsSubsets}
-use Rattle.std.specs.Prelude.{take, codes}
-use Rattle.bufr_bits.specs.DecimalValue.{decimal_value_of}
-use Rattle.bufr_walk.proofs.ExampleTables.{fxy, table, Ending, done, walk_fault, field_fault, Pass, one, together, gives}
+use Rattle.bufr_walk.specs.Asked.{Asked}
+use Rattle.bufr_walk.specs.Course.{next_item}
+use Rattle.bufr_walk.specs.Content.{Content, number, shown_number, shown_text, shown_missing, shown_reference}
+use Rattle.bufr_walk.specs.PlainField.{data_end, increment, unequal_factor}
+use Rattle.bufr_walk.specs.Reading.{Item, ReadsSubsets}
+use Rattle.bufr_walk.proofs.ExampleTables.{fxy, table, done, walk_fault, field_fault, one, together, gives}
 
 one_temperature : one (element (fxy 0 12 101) bare) (112 ∷ 143 ∷ []) ≡ gives ((3173, shown_number (pos 28815) (pos 2)) ∷ []) (done 0 2)
 unfolding one gives fxy

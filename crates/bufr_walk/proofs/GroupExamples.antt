@@ -163,5 +163,5 @@ refused_in_second_subset = record {
 no_subset : IsPlainReading 0 (next_item table (element (fxy 0 1 1) bare)) [] (bits_of (20 ∷ [])) (bits_of (20 ∷ []))
 no_subset = (refl, refl)
 
-no_subset_is_refused : (course : Course) (bits : List Bool) (stop : Stop) (subset before : ℕ) → IsPlainRefused 0 course bits stop subset before → ⊥
-no_subset_is_refused course bits stop subset before h = omega (arith, h.number, h.within)
+no_subset_is_never_refused : (course : Course) (bits : List Bool) (stop : Stop) (subset before : ℕ) → IsPlainRefused 0 course bits stop subset before → ⊥
+no_subset_is_never_refused course bits stop subset before h = omega (arith, h.number, h.within)

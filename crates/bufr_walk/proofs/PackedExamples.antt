@@ -198,5 +198,5 @@ refused_at_its_item = record { items = []; left = bits_of (252 ∷ 17 ∷ 0 ∷ 
 no_subset_together : IsPackedReading 0 (next_item table (element (fxy 0 1 1) bare)) [] (bits_of (20 ∷ [])) (bits_of (20 ∷ []))
 no_subset_together = (refl, refl)
 
-no_subset_is_refused : (course : Course) (bits : List Bool) (stop : Stop) (before : ℕ) → IsPackedRefused 0 course bits stop before → ⊥
-no_subset_is_refused course bits stop before h = omega (arith, h.some)
+no_subset_together_is_never_refused : (course : Course) (bits : List Bool) (stop : Stop) (before : ℕ) → IsPackedRefused 0 course bits stop before → ⊥
+no_subset_together_is_never_refused course bits stop before h = omega (arith, h.some)
