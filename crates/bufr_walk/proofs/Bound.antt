@@ -15,7 +15,7 @@ use Rattle.bufr_walk.specs.Course.{Next, take_next, refused, at_end, astray, Ahe
 use Rattle.bufr_walk.specs.Taking.{Turn, Takes}
 use Rattle.bufr_walk.specs.declared.walk.WalkStop.{WalkStop}
 use Rattle.bufr_walk.specs.declared.walk.WalkStop.TheVariants as stops
-use Rattle.bufr_walk.specs.Ways.{oks, told_by, StopsAt, Walked}
+use Rattle.bufr_walk.specs.Walked.{oks, told_by, StopsAt, Walked}
 use Rattle.bufr_walk.specs.Ticks.{ticked}
 
 module _ (table : List Row) (n : ℕ) where

@@ -20,7 +20,8 @@ use Rattle.bufr_walk.specs.Turns.{finish, open_end, operator_turn, Rest, unroll,
 use Rattle.bufr_walk.specs.Course.{Course, Ahead, asked, operated, ahead, counts_of, counted, later, stop, at_end, refused}
 use Rattle.bufr_walk.specs.declared.walk.WalkStop.{WalkStop}
 use Rattle.bufr_walk.specs.declared.walk.WalkStop.TheVariants as stops
-use Rattle.bufr_walk.specs.Ways.{told_by, course, Goes, Stops, StopsAt, Took, Came, StopsIn, Walked}
+use Rattle.bufr_walk.specs.Walked.{told_by, StopsAt, Walked}
+use Rattle.bufr_walk.specs.Ways.{course, Goes, Stops, Took, Came, StopsIn}
 use Rattle.bufr_walk.specs.Stop.{stop_by}
 use Rattle.bufr_walk.specs.Ticks.{ticked}
 use Rattle.bufr_walk.proofs.WaysLemmas.{ticked_twice, later_twice, later_none, goes_turn}

@@ -19,7 +19,8 @@ use Rattle.bufr_walk.specs.declared.walk.Frame.{Frame}
 use Rattle.bufr_walk.specs.declared.cells.Cell.{Cell}
 use Rattle.bufr_walk.specs.declared.cells.Cell.TheVariants as cell
 use Rattle.bufr_walk.specs.Cells.{lay, IsLaid}
-use Rattle.bufr_walk.specs.Ways.{course, Came, StopsIn, Walked, Took}
+use Rattle.bufr_walk.specs.Walked.{Walked}
+use Rattle.bufr_walk.specs.Ways.{course, Came, StopsIn, Took}
 use Rattle.bufr_walk.specs.Stop.{stop_by}
 use Rattle.bufr_walk.specs.Ticks.{ticked}
 use Rattle.bufr_walk.specs.Flat.{Seen, frames_of, behind, tail_of, AllStand, StandsAt, Stands, costs, owed, weight, Turned}

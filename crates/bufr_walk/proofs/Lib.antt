@@ -17,3 +17,5 @@ pub mod FlatTurns
 pub mod Bound
 pub mod PlainLemmas
 pub mod Readings
+pub mod PlainSubsets
+pub mod ReadingLemmas

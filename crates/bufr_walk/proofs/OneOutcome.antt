@@ -3,7 +3,8 @@ use Rattle.std.proofs.Common.{◌≡◌, ℕ, suc, ◌+◌, ◌<◌, Bool, false
 use Rattle.bufr_walk.specs.Asked.{Asked}
 use Rattle.bufr_walk.specs.Course.{Course, Next, take_next, at_end, astray, refused}
 use Rattle.bufr_walk.specs.PlainField.{FieldFault, Found, found}
-use Rattle.bufr_walk.specs.Reading.{Item, Form, Reads, next_after, after, Stop, stop_at, field_stop_of}
+use Rattle.bufr_walk.specs.Reading.{Item, Form, Reads, next_after, after}
+use Rattle.bufr_walk.specs.Refusal.{Stop, stop_at, field_stop_of}
 
 -- how a pass ends
 pub data Outcome : Type 0 where

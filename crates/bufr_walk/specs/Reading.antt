@@ -1,9 +1,9 @@
--- The reading of data by a template.
-use Rattle.std.specs.Prelude.{ℕ, zero, suc, ◌≡◌, ◌+◌, ◌*◌, ◌≤◌, nat_lt, Bool, true, false, List, [], ◌∷◌, length, Option, Some, None, Result, Ok, Err}
+-- The reading of data by a template: items one after another, each as what comes next asks (WMO-No. 306, Volume I.2, FM 94: sections 3 and 4).
+-- Cited by public contracts.
+use Rattle.std.specs.Prelude.{ℕ, zero, suc, ◌≡◌, ◌+◌, ◌*◌, ◌≤◌, Bool, true, false, List, [], ◌∷◌, length, drop, Result, Ok}
 use Rattle.bufr_walk.specs.declared.spec.Taken.{Taken}
-use Rattle.bufr_walk.specs.declared.spec.Refusal.{Refusal}
 use Rattle.bufr_walk.specs.Asked.{Asked}
-use Rattle.bufr_walk.specs.Course.{Course, Next, take_next, at_end, refused}
+use Rattle.bufr_walk.specs.Course.{Course, Next, take_next, at_end}
 use Rattle.bufr_walk.specs.Content.{Content, told}
 use Rattle.bufr_walk.specs.PlainField.{FieldFault, Found, found, plain_field}
 use Rattle.bufr_walk.specs.PackedField.{packed_field, told_first}
@@ -49,6 +49,16 @@ next_after form course (i ∷ items) = next_after form (after form course i) ite
 abbrev pub ReadsAll : {C : Type 0} → Form C → Course → List (Item C) → (bits behind : List Bool) → Type 0
 ReadsAll form course items bits behind = Reads form course items bits behind × (next_after form course items ≡ at_end)
 
+-- the turns of a pass with these items, up to what comes after them
+abbrev pub turns_after : {C : Type 0} → Form C → Course → List (Item C) → ℕ
+turns_after form course [] = (course []).turns
+turns_after form course (i ∷ items) = turns_after form (after form course i) items
+
+-- the turns of some whole subsets
+abbrev pub turns_in : Course → List (List (Item Content)) → ℕ
+turns_in course [] = 0
+turns_in course (items ∷ subsets) = turns_after plain course items + turns_in course subsets
+
 -- subsets one after another, each from the beginning of the template
 abbrev pub ReadsSubsets : Course → List (List (Item Content)) → (bits behind : List Bool) → Type 0
 ReadsSubsets course [] bits behind = bits ≡ behind
@@ -68,44 +78,30 @@ IsPackedReading (suc n) course items bits behind = ReadsAll (packed (suc n)) cou
 abbrev pub IsPlainReading : (subsets : ℕ) → Course → List (List (Item Content)) → (bits behind : List Bool) → Type 0
 IsPlainReading n course subsets bits behind = ReadsSubsets course subsets bits behind × (length subsets ≡ n)
 
--- ---- refusals
+-- what is read: so many subsets, compressed or not, and the bits that hold them
+pub record Data : Type 0 where
+  pub compressed : Bool
+  pub subsets : ℕ
+  pub bits : List Bool
 
--- why a reading stops: the walk is refused, there would be too many values, or a field cannot be read
-pub data Stop : Type 0 where
-  walk_stop : (why : Refusal) → Stop
-  too_many : (fxy : ℕ) → Stop
-  field_stop : (fxy : ℕ) → (why : FieldFault) → Stop
+-- the items of the data: those of each subset, or, where they are compressed, those of all subsets together
+pub data Values : Type 0 where
+  apart : (subsets : List (List (Item Content))) → Values
+  together : (items : List (Item (List Content))) → Values
 
-abbrev pub field_stop_of : {C : Type 0} → ℕ → Result (Found C) FieldFault → Option Stop
-field_stop_of fxy (Ok f) = None
-field_stop_of fxy (Err why) = Some (field_stop fxy why)
+-- the items of the data, and how many bits they take
+abbrev pub IsReading : Course → Data → Values → (used : ℕ) → Type 0
+IsReading course d (apart subsets) used =
+    (d.compressed ≡ false) × (used ≤ length d.bits) × IsPlainReading d.subsets course subsets d.bits (drop used d.bits)
+IsReading course d (together items) used =
+    (d.compressed ≡ true) × (used ≤ length d.bits) × IsPackedReading d.subsets course items d.bits (drop used d.bits)
 
--- what stops at what comes next, if anything does
-abbrev pub stop_at : {C : Type 0} → Form C → (many : Bool) → Next → List Bool → Option Stop
-stop_at form many (refused why) bits = Some (walk_stop why)
-stop_at form true (take_next spec) bits = Some (too_many spec.fxy)
-stop_at form false (take_next spec) bits = field_stop_of spec.fxy (form.field spec bits)
-stop_at form many _ bits = None
+-- the turns of one pass for so many subsets; with none there is no pass
+abbrev pub turns_together : (subsets : ℕ) → Course → List (Item (List Content)) → ℕ
+turns_together zero course items = 0
+turns_together (suc n) course items = turns_after (packed (suc n)) course items
 
--- data that are not compressed are refused in a subset, counted from 1, after so many bits
-pub record IsPlainRefused (subsets : ℕ) (course : Course) (bits : List Bool) (stop : Stop) (subset before : ℕ) : Type 0 where
-  pub done : List (List (Item Content))
-  pub items : List (Item Content)
-  pub mid : List Bool
-  pub left : List Bool
-  pub whole : ReadsSubsets course done bits mid
-  pub reads : Reads plain course items mid left
-  pub stops : stop_at plain false (next_after plain course items) left ≡ Some stop
-  pub number : subset ≡ length done + 1
-  pub within : subset ≤ subsets
-  pub place : before + length left ≡ length bits
-
--- compressed data are refused after so many bits
-pub record IsPackedRefused (subsets : ℕ) (course : Course) (bits : List Bool) (stop : Stop) (before : ℕ) : Type 0 where
-  pub items : List (Item (List Content))
-  pub left : List Bool
-  pub some : 1 ≤ subsets
-  pub reads : Reads (packed subsets) course items bits left
-  pub few : length items * subsets ≤ most_values
-  pub stops : stop_at (packed subsets) (nat_lt most_values ((length items + 1) * subsets)) (next_after (packed subsets) course items) left ≡ Some stop
-  pub place : before + length left ≡ length bits
+-- the turns of a reading
+abbrev pub turns_of : Course → Data → Values → ℕ
+turns_of course d (apart subsets) = turns_in course subsets
+turns_of course d (together items) = turns_together d.subsets course items

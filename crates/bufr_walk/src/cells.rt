@@ -20,11 +20,11 @@ pub enum Cell {
 
 /// The cells of a template. A clause sees the tree.
 #[derive(Drop)]
-pub struct Cells {
+pub struct Template {
     cells: Vec<Cell>,
 }
 
-impl Model for Cells {
+impl Model for Template {
     ghost use Rattle.bufr_tables.specs.Tree.{Tree};
     ghost use Rattle.bufr_tables.specs.TreeCode.{tree_code};
 
@@ -39,14 +39,14 @@ impl Model for Cells {
     ghost invariant = { λ a. IsLaid a.cells.items (raised a.cells.items) };
 }
 
-impl Cells {
+impl Template {
     /// These cells, which are the layout of a tree.
     #[tactic(auto, using(crate::proofs::Laying::raised_laid, crate::proofs::Laying::laid_raised))]
-    pub fn new(cells: Vec<Cell>) -> Cells
+    pub fn new(cells: Vec<Cell>) -> Template
         requires { (tree : Tree) × IsLaid cells.items tree }
         ensures { (tree : Tree) → IsLaid cells.items tree → result ≡ tree }
     {
-        Cells { cells }
+        Template { cells }
     }
 
     /// The cells, without memory.

@@ -2,9 +2,20 @@
 #![tactic(auto)]
 
 pub mod cells;
+mod fault;
 pub mod fields;
 pub mod in_force;
+mod message;
 pub mod plain_in;
+mod read_packed;
+mod read_plain;
+mod reading;
 pub mod spec;
 pub mod steps;
+mod visitor;
 pub mod walk;
+
+pub use fault::{ShowFault, Spot, WalkFault};
+pub use message::read_message;
+pub use reading::Reading;
+pub use visitor::{ItemView, Value, Visitor};

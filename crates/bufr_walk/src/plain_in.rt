@@ -1,31 +1,22 @@
 // Fields that are read from bits, for data that are not compressed.
-ghost use Rattle.std.specs.Prelude.{◌≡◌, ◌≤◌, ◌<◌, ◌+◌, ◌-◌, ◌*◌, ◌^◌, length, IfOk, Ok, Err, MatchResult, if◌then◌else◌, ◌==◌, pos, neg_ℤ};
-ghost use Rattle.bufr_bits.specs.Bits.{number_of, bits_at, bits_of};
+ghost use Rattle.std.specs.Prelude.{◌≡◌, ◌≤◌, ◌<◌, ◌+◌, ◌-◌, ◌*◌, ◌^◌, length, Ok, Err, if◌then◌else◌, ◌==◌, pos, neg_ℤ};
+ghost use Rattle.bufr_bits.specs.Bits.{number_of, bits_at};
 ghost use Rattle.bufr_bits.specs.BitSlice.{octets_of};
-ghost use Rattle.bufr_walk.specs.Asked.{IsFor, IsSpec};
+ghost use Rattle.bufr_walk.specs.Asked.{IsFor};
 ghost use Rattle.bufr_walk.specs.Content.{told, content_in, signed_by};
-ghost use Rattle.bufr_walk.specs.PlainIn.{PlainTakes, past};
-ghost use Rattle.std.specs.Prelude.{◌≢◌, List, drop, IfErr};
-ghost use Rattle.bufr_walk.specs.PlainIn.{IsStopped};
-ghost use Rattle.bufr_walk.specs.declared.walk.WalkStop.TheVariants as stops;
-ghost use Rattle.bufr_tables.specs.Tree.{places};
-ghost use Rattle.bufr_walk.specs.Content.{Content};
-ghost use Rattle.bufr_walk.specs.Course.{next_item};
-ghost use Rattle.bufr_walk.specs.Reading.{Item, ReadsAll, plain};
 
-use crate::cells::Cells;
 use crate::fields::Fields;
 use crate::spec::{Role, Spec, Taken};
-use crate::steps::Steps;
-use crate::walk::{WalkStop, walk};
 use bufr_bits::BitSlice;
-use bufr_tables::TableB;
-use std::alloc::Global;
+use bufr_tables::Fxy;
 use std::marker::Model;
 
 /// The data end inside a field.
-#[derive(Clone, Copy)]
-pub struct DataEnd;
+#[derive(Clone, Copy, Debug, PartialEq, Eq)]
+pub struct DataEnd {
+    /// The field's descriptor.
+    pub fxy: Fxy,
+}
 
 /// Bits, and how many of them were read.
 #[derive(Drop)]
@@ -111,6 +102,15 @@ impl<'a> PlainIn<'a> {
         PlainIn { bits, at: 0 }
     }
 
+    /// How many bits were read.
+    pub(crate) fn place(&self) -> u64
+        ensures value { result ≡ self.now.at }
+        ensures within { self.now.at ≤ length self.now.bits }
+    {
+        let _ = &self.bits;
+        self.at
+    }
+
     /// What the next field tells, without going past it.
     #[tactic(auto, using(crate::proofs::PlainLemmas::taken_here, crate::proofs::PlainLemmas::ends_here, crate::proofs::PlainLemmas::bits_length))]
     pub fn peek(&self, spec: &Spec) -> Result<Taken, DataEnd>
@@ -121,7 +121,7 @@ impl<'a> PlainIn<'a> {
     {
         let width = spec.width();
         if self.bits.len_bits() - self.at < u64::from(width) {
-            return Err(DataEnd);
+            return Err(DataEnd { fxy: spec.fxy() });
         }
         Ok(told_at(&self.bits, self.at, spec))
     }
@@ -139,7 +139,7 @@ impl<'a> Fields for PlainIn<'a> {
 
     ghost advances = { λ s spec t next h. Prim.omega (arith, h.some, ap (λ c. c.at) h.next) };
 
-    ghost refuses = { λ s spec e next h. ap (λ c. c.at) h.1 };
+    ghost refuses = { λ s spec e next h. ap (λ c. c.at) h.2 };
 
     fn take(&mut self, spec: &Spec) -> Result<Taken, DataEnd> {
         let told = self.peek(spec)?;
@@ -149,24 +149,5 @@ impl<'a> Fields for PlainIn<'a> {
 
     fn bits(&self) -> u64 {
         self.at
-    }
-}
-
-/// Reads one subset, and answers how many bits it took.
-pub fn read_pass(
-    alloc: Global,
-    bits: BitSlice<'_>,
-    template: &Cells,
-    table: &TableB,
-    steps: &mut Steps,
-) -> Result<u64, WalkStop<DataEnd>>
-    ensures reading { IfOk result (λ used. (read : List (Item Content)) × ReadsAll plain (next_item table.now template.now) read (bits_of (octets_of bits.entry)) (drop used (bits_of (octets_of bits.entry)))) }
-    ensures refused { IfErr result (λ why. why ≢ stops.Memory → IsStopped (next_item table.now template.now) (bits_of (octets_of bits.entry)) why) }
-    ensures bound { IfOk result (λ used. steps.new ≤ steps.old + places template.now * used) }
-{
-    let mut fields = PlainIn::new(bits);
-    match walk(alloc, template, table, &mut fields, steps) {
-        Ok(()) => Ok(fields.bits()),
-        Err(why) => Err(why),
     }
 }

@@ -8,9 +8,10 @@ ghost use Rattle.bufr_walk.specs.Turns.{Rest};
 ghost use Rattle.bufr_walk.specs.Cells.{IsLaid};
 ghost use Rattle.bufr_walk.specs.Flat.{Stands, Turned};
 ghost use Rattle.bufr_walk.specs.Ticks.{ticked};
-ghost use Rattle.bufr_walk.specs.Ways.{Took, Walked};
+ghost use Rattle.bufr_walk.specs.Walked.{Walked};
+ghost use Rattle.bufr_walk.specs.Ways.{Took};
 
-use crate::cells::{Cell, Cells, cell_at};
+use crate::cells::{Cell, Template, cell_at};
 use crate::fields::Fields;
 use crate::in_force::InForce;
 use crate::spec::{Refusal, Spec, Taken};
@@ -185,7 +186,7 @@ fn walk_cells<S: Fields>(
 /// Walks over a template's cells once, field by field. No turn is free: each field that is taken pays for at most as many turns as there are places.
 pub fn walk<S: Fields>(
     alloc: Global,
-    template: &Cells,
+    template: &Template,
     table: &TableB,
     fields: &mut S,
     steps: &mut Steps,
