@@ -8,7 +8,8 @@ use Rattle.bufr_walk.specs.declared.spec.Role.TheVariants as role
 use Rattle.bufr_walk.specs.Course.{Course, next_item}
 use Rattle.bufr_walk.specs.Content.{Content, reference, number, text, shown_number, shown_text, shown_reference}
 use Rattle.bufr_walk.specs.PlainField.{data_end}
-use Rattle.bufr_walk.specs.Reading.{Item, IsPlainReading, IsPlainRefused, Stop, field_stop}
+use Rattle.bufr_walk.specs.Reading.{Item, turns_in, IsPlainReading}
+use Rattle.bufr_walk.specs.Refusal.{Stop, field_stop, IsPlainRefused}
 use Rattle.bufr_walk.proofs.ExampleTables.{fxy, table, done, field_fault, one, two, gives}
 
 -- A group of so many passes leaves what its passes set in force: fails where a pass or a group ends a change, where it is passed once, or where turns are counted otherwise.
@@ -143,25 +144,35 @@ reading_of_letters : IsPlainReading 2 (next_item table text_width_behind) ((lett
 unfolding table text_width_behind letter next_item bits_of
 reading_of_letters = ((bits_of (66 ∷ []), ((bits_of (66 ∷ []), refl, refl, refl), refl), ([], (([], refl, refl, refl), refl), refl)), refl)
 
--- A refusal names its subset from 1 on, and the bits before it from the first subset on: fails where the bits are counted in the subset, or the subsets from 0.
-refused_in_second_subset : IsPlainRefused 65535 (next_item table (element (fxy 0 1 1) bare)) (bits_of (20 ∷ [])) (field_stop 257 data_end) 2 7
+-- The turns are those of all subsets: fails where they begin anew.
+turns_of_both : turns_in (next_item table changed_behind) ((at_288_15 ∷ minus_400 3173 ∷ []) ∷ (at_288_15 ∷ minus_400 3173 ∷ []) ∷ []) ≡ 16
+unfolding table changed_behind at_288_15 minus_400 next_item
+turns_of_both = refl
+
+-- A refusal names its subset from 1 on, and the bits and the turns before it from the first subset on: fails where they are counted in the subset, or the subsets from 0.
+refused_in_second_subset : IsPlainRefused 65535 (next_item table (element (fxy 0 1 1) bare)) (bits_of (20 ∷ [])) (field_stop 257 data_end) 2 7 3
 unfolding table block_10 next_item bits_of fxy
-refused_in_second_subset = record {
-  done = (block_10 ∷ []) ∷ [];
-  items = [];
-  mid = drop 7 (bits_of (20 ∷ []));
-  left = drop 7 (bits_of (20 ∷ []));
-  whole = (drop 7 (bits_of (20 ∷ [])), ((drop 7 (bits_of (20 ∷ [])), refl, refl, refl), refl), refl);
-  reads = refl;
-  stops = refl;
-  number = refl;
-  within = omega arith;
-  place = refl;
-}
+refused_in_second_subset = (
+  (next_item table (element (fxy 0 1 1) bare) []).next,
+  drop 7 (bits_of (20 ∷ [])),
+  record {
+    done = (block_10 ∷ []) ∷ [];
+    items = [];
+    mid = drop 7 (bits_of (20 ∷ []));
+    whole = (drop 7 (bits_of (20 ∷ [])), ((drop 7 (bits_of (20 ∷ [])), refl, refl, refl), refl), refl);
+    reads = refl;
+    next_is = refl;
+    number = refl;
+    within = omega arith;
+    place = refl;
+    turns_are = refl;
+  },
+  refl,
+)
 
 -- With no subset nothing is read, and nothing is refused: fails where a first subset is read all the same.
 no_subset : IsPlainReading 0 (next_item table (element (fxy 0 1 1) bare)) [] (bits_of (20 ∷ [])) (bits_of (20 ∷ []))
 no_subset = (refl, refl)
 
-no_subset_is_never_refused : (course : Course) (bits : List Bool) (stop : Stop) (subset before : ℕ) → IsPlainRefused 0 course bits stop subset before → ⊥
-no_subset_is_never_refused course bits stop subset before h = omega (arith, h.number, h.within)
+no_subset_is_never_refused : (course : Course) (bits : List Bool) (stop : Stop) (subset before turns : ℕ) → IsPlainRefused 0 course bits stop subset before turns → ⊥
+no_subset_is_never_refused course bits stop subset before turns h = omega (arith, h.2.number, h.2.within)

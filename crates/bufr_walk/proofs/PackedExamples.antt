@@ -8,7 +8,8 @@ use Rattle.bufr_walk.specs.declared.spec.Taken.TheVariants as taken
 use Rattle.bufr_walk.specs.Course.{Course, next_item}
 use Rattle.bufr_walk.specs.Content.{shown_number, shown_text, shown_missing, shown_reference}
 use Rattle.bufr_walk.specs.PlainField.{data_end, increment}
-use Rattle.bufr_walk.specs.Reading.{packed, IsPackedReading, IsPackedRefused, most_values, Stop, walk_stop, too_many, field_stop, stop_at}
+use Rattle.bufr_walk.specs.Reading.{packed, turns_together, IsPackedReading, most_values}
+use Rattle.bufr_walk.specs.Refusal.{Stop, walk_stop, too_many, field_stop, stop_at, IsPackedRefused}
 use Rattle.bufr_walk.proofs.ExampleTables.{fxy, table, done, walk_fault, field_fault, together, gives}
 
 -- A base of all ones is missing in all subsets, whatever the increments are, but the increments must be there: fails where the base is a number,
@@ -181,22 +182,25 @@ just_not_too_many = refl
 just_too_many : nat_lt most_values (4096 * 32768 + 1) ≡ true
 just_too_many = refl
 
-refused_as_too_many : IsPackedRefused 134217729 (next_item table (element (fxy 0 12 101) bare)) [] (too_many 3173) 0
+refused_as_too_many : IsPackedRefused 134217729 (next_item table (element (fxy 0 12 101) bare)) [] (too_many 3173) 0 1
 unfolding table next_item fxy
-refused_as_too_many = record { items = []; left = []; some = omega arith; reads = refl; few = omega arith; stops = refl; place = refl }
+refused_as_too_many = (0, (next_item table (element (fxy 0 12 101) bare) []).next, [], record { items = []; some = omega arith; reads = refl; few = omega arith; count = refl; next_is = refl; place = refl; turns_are = refl }, refl)
 
-refused_as_past_the_data : IsPackedRefused 134217728 (next_item table (element (fxy 0 12 101) bare)) [] (field_stop 3173 data_end) 0
+refused_as_past_the_data : IsPackedRefused 134217728 (next_item table (element (fxy 0 12 101) bare)) [] (field_stop 3173 data_end) 0 1
 unfolding table next_item fxy
-refused_as_past_the_data = record { items = []; left = []; some = omega arith; reads = refl; few = omega arith; stops = refl; place = refl }
+refused_as_past_the_data = (0, (next_item table (element (fxy 0 12 101) bare) []).next, [], record { items = []; some = omega arith; reads = refl; few = omega arith; count = refl; next_is = refl; place = refl; turns_are = refl }, refl)
 
 -- A refusal is at the bits before its item: fails where the base is counted too.
-refused_at_its_item : IsPackedRefused 2 (next_item table (element (fxy 0 1 1) bare)) (bits_of (252 ∷ 17 ∷ 0 ∷ [])) (field_stop 257 increment) 0
+refused_at_its_item : IsPackedRefused 2 (next_item table (element (fxy 0 1 1) bare)) (bits_of (252 ∷ 17 ∷ 0 ∷ [])) (field_stop 257 increment) 0 1
 unfolding table next_item fxy bits_of
-refused_at_its_item = record { items = []; left = bits_of (252 ∷ 17 ∷ 0 ∷ []); some = omega arith; reads = refl; few = omega arith; stops = refl; place = refl }
+refused_at_its_item = (0, (next_item table (element (fxy 0 1 1) bare) []).next, bits_of (252 ∷ 17 ∷ 0 ∷ []), record { items = []; some = omega arith; reads = refl; few = omega arith; count = refl; next_is = refl; place = refl; turns_are = refl }, refl)
 
 -- With no subset nothing is read, and nothing is refused: fails where the items are read all the same.
 no_subset_together : IsPackedReading 0 (next_item table (element (fxy 0 1 1) bare)) [] (bits_of (20 ∷ [])) (bits_of (20 ∷ []))
 no_subset_together = (refl, refl)
 
-no_subset_together_is_never_refused : (course : Course) (bits : List Bool) (stop : Stop) (before : ℕ) → IsPackedRefused 0 course bits stop before → ⊥
-no_subset_together_is_never_refused course bits stop before h = omega (arith, h.some)
+no_turns_together : turns_together 0 (next_item table (element (fxy 0 1 1) bare)) [] ≡ 0
+no_turns_together = refl
+
+no_subset_together_is_never_refused : (course : Course) (bits : List Bool) (stop : Stop) (before turns : ℕ) → IsPackedRefused 0 course bits stop before turns → ⊥
+no_subset_together_is_never_refused course bits stop before turns h = omega (arith, h.3.some)
