@@ -1,85 +1,16 @@
 -- Worked examples, computed from the definitions.
-use Rattle.std.proofs.Common.{◌≡◌, ℕ, zero, suc, ◌+◌, ◌*◌, Bool, true, false, List, [], ◌∷◌, ◌++◌, length, map, Result, Ok, Err, ℤ, pos, negsuc, refl}
-use Rattle.bufr_bits.specs.Bits.{bits_of, bits_in}
-use Rattle.bufr_tables.specs.declared.kind.Kind.{Kind}
+use Rattle.std.proofs.Common.{◌≡◌, ℕ, zero, suc, true, List, [], ◌∷◌, pos, negsuc, refl}
+use Rattle.bufr_bits.specs.Bits.{bits_of}
 use Rattle.bufr_tables.specs.declared.kind.Kind.TheVariants as kind
-use Rattle.bufr_tables.specs.TableB.{Row}
 use Rattle.bufr_tables.specs.Tree.{Tree, bare, element, operator, delayed}
-use Rattle.bufr_walk.specs.declared.spec.Refusal.{Refusal}
 use Rattle.bufr_walk.specs.declared.spec.Refusal.TheVariants as refusal
-use Rattle.bufr_walk.specs.declared.spec.Taken.{Taken}
-use Rattle.bufr_walk.specs.Asked.{Asked}
-use Rattle.bufr_walk.specs.Course.{Course, Next, take_next, at_end, astray, refused, next_item}
-use Rattle.bufr_walk.specs.Content.{Content, number, Shown, shown_number, shown_text, shown_missing, shown_reference, shown}
-use Rattle.bufr_walk.specs.PlainField.{FieldFault, data_end, increment, unequal_factor, Found}
 use Rattle.bufr_walk.specs.declared.spec.Role.TheVariants as role
-use Rattle.bufr_walk.specs.Reading.{Item, Form, plain, packed, ReadsSubsets}
-use Rattle.std.specs.Prelude.{take, codes}
-use Rattle.bufr_bits.specs.DecimalValue.{decimal_value_of}
-
-fxy : ℕ → ℕ → ℕ → ℕ
-fxy f x y = f * 16384 + (x * 256 + y)
-
-row : ℕ → Kind → ℤ → ℤ → ℕ → Row
-row d k s r w = record { fxy = d; name = []; unit = []; kind = k; scale = s; reference = r; width = w }
-
-table : List Row
-unfolding fxy row
-table =
-    row (fxy 0 1 1) kind.Numeric (pos 0) (pos 0) 7 ∷ row (fxy 0 1 15) kind.Character (pos 0) (pos 0) 160 ∷ row (fxy 0 5 2) kind.Numeric (pos 2) (negsuc 8999) 15
-    ∷ row (fxy 0 12 101) kind.Numeric (pos 2) (pos 0) 16 ∷ row (fxy 0 20 3) kind.Coded (pos 0) (pos 0) 9
-    ∷ row (fxy 0 31 0) kind.Numeric (pos 0) (pos 0) 1 ∷ row (fxy 0 31 1) kind.Numeric (pos 0) (pos 0) 8 ∷ row (fxy 0 31 2) kind.Numeric (pos 0) (pos 0) 16 ∷ row (fxy 0 31 21) kind.Coded (pos 0) (pos 0) 6 ∷ []
-
--- how a pass ended: with so many bits left, or at a fault of the walk or of a field
-data Ending : Type 0 where
-  done : (left turns : ℕ) → Ending
-  walk_fault : (why : Refusal) (left turns : ℕ) → Ending
-  field_fault : (fxy : ℕ) (why : FieldFault) (left turns : ℕ) → Ending
-  unknown : Ending
-
--- one pass: what each item shows, by its descriptor, and how it ended
-record Pass (C : Type 0) : Type 0 where
-  items : List (ℕ × C)
-  ending : Ending
-
-begun : {C : Type 0} → ℕ × C → Pass C → Pass C
-begun i p = record { items = i ∷ p.items; ending = p.ending }
-
-ended : {C : Type 0} → Ending → Pass C
-ended e = record { items = []; ending = e }
-
-module _ {C V : Type 0} (form : Form C) (shows : Asked → C → V) (course : Course) where
-  field_pass : Asked → ℕ → ℕ → Result (Found C) FieldFault → (C → List Bool → Pass V) → Pass V
-  unfolding begun ended
-  field_pass spec left turns (Err why) go = ended (field_fault spec.fxy why left turns)
-  field_pass spec left turns (Ok f) go = begun (spec.fxy, shows spec f.content) (go f.content f.behind)
-
-  next_pass : Next → ℕ → ℕ → (Asked → Pass V) → Pass V
-  unfolding begun ended
-  next_pass at_end left turns go = ended (done left turns)
-  next_pass (refused why) left turns go = ended (walk_fault why left turns)
-  next_pass (take_next spec) left turns go = go spec
-  next_pass astray left turns go = ended unknown
-
-  pass : ℕ → List Taken → List Bool → Pass V
-  unfolding next_pass field_pass ended
-  pass zero told bits = ended unknown
-  pass (suc more) told bits =
-      let a = course told in
-      next_pass a.next (length bits) a.turns (λ spec. field_pass spec (length bits) a.turns (form.field spec bits) (λ c behind. pass more (told ++ form.tells spec c ∷ []) behind))
-
--- one subset of data that are not compressed
-one : Tree → List ℕ → Pass Shown
-unfolding table pass next_item bits_of
-one tree octets = pass plain shown (next_item table tree) 40 [] (bits_of octets)
-
--- all of so many subsets that are
-together : ℕ → Tree → List ℕ → Pass (List Shown)
-unfolding table pass next_item bits_of
-together n tree octets = pass (packed n) (λ spec cs. map (shown spec) cs) (next_item table tree) 40 [] (bits_of octets)
-
-gives : {V : Type 0} → List (ℕ × V) → Ending → Pass V
-gives items ending = record { items = items; ending = ending }
+use Rattle.bufr_walk.specs.Asked.{Asked}
+use Rattle.bufr_walk.specs.Course.{next_item}
+use Rattle.bufr_walk.specs.Content.{Content, number, shown_number, shown_text, shown_missing, shown_reference}
+use Rattle.bufr_walk.specs.PlainField.{data_end, increment, unequal_factor}
+use Rattle.bufr_walk.specs.Reading.{Item, ReadsSubsets}
+use Rattle.bufr_walk.proofs.ExampleTables.{fxy, table, done, walk_fault, field_fault, one, together, gives}
 
 one_temperature : one (element (fxy 0 12 101) bare) (112 ∷ 143 ∷ []) ≡ gives ((3173, shown_number (pos 28815) (pos 2)) ∷ []) (done 0 2)
 unfolding one gives fxy

@@ -1,4 +1,12 @@
+mod ExampleTables
 mod Examples
+mod OperatorExamples
+mod ReferenceExamples
+mod GivenWidthExamples
+mod TextExamples
+mod GroupExamples
+mod PackedExamples
+mod ListedExamples
 pub mod OneOutcome
 pub mod Laying
 pub mod SpecLemmas
