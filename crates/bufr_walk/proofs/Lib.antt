@@ -8,7 +8,6 @@ mod GroupExamples
 mod PackedExamples
 mod ListedExamples
 pub mod OneOutcome
-pub mod Laying
 pub mod SpecLemmas
 pub mod WaysLemmas
 pub mod FieldWays

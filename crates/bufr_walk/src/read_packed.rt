@@ -12,14 +12,13 @@ ghost use Rattle.bufr_walk.specs.PackedIn.{packed_fault};
 ghost use Rattle.bufr_walk.specs.Reading.{Item, together};
 ghost use Rattle.bufr_walk.specs.declared.walk.WalkStop.TheVariants as stops;
 
-use crate::cells::Template;
 use crate::fault::{Spot, WalkFault};
 use crate::packed_in::{PackedFault, PackedIn};
 use crate::spec::Spec;
 use crate::steps::Steps;
 use crate::walk::{WalkStop, walk};
 use bufr_bits::BitSlice;
-use bufr_tables::TableB;
+use bufr_tables::{TableB, Template};
 use std::alloc::Global;
 
 /// An item of compressed data that is kept: how it was read, the bit where it begins, and its k.

@@ -1,12 +1,11 @@
 // What a message's data were read as.
-use crate::cells::Template;
 use crate::fault::WalkFault;
 use crate::read_packed::{KeptItem, read_packed};
 use crate::read_plain::read_plain;
 use crate::steps::Steps;
 use bufr_bits::BitSlice;
 use bufr_frame::Message;
-use bufr_tables::TableB;
+use bufr_tables::{TableB, Template};
 use std::alloc::Global;
 use std::marker::Model;
 

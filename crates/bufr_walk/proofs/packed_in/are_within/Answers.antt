@@ -1,4 +1,4 @@
-use Rattle.std.proofs.Common.{arith, ◌≡◌, ◌-◌, ◌+◌, sym, ap, ◌∙◌}
+use Rattle.std.proofs.Common.{arith, ◌-◌, ◌+◌, sym}
 use Rattle.bufr_bits.specs.Bits.{bits_of, number_of}
 use Rattle.bufr_bits.specs.BitSlice.{octets_of}
 use Rattle.bufr_walk.specs.PackedBits.{stays_within}
