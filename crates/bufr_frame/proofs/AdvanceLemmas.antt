@@ -1,7 +1,6 @@
 -- How a finder goes on, turn by turn.
-use Rattle.std.proofs.Common.{◌≡◌, ℕ, ◌+◌, ◌-◌, ◌<◌, ◌≤◌, Bool, true, false, List, [], ◌∷◌, ◌++◌, length, take, drop, refl, sym, ◌∙◌, ap, subst, arith, Option, append-nil}
-use Rattle.std.specs.Prelude.{Result, Ok, Err, Some, None, max}
-use Rattle.std.specs.Io.KnownBytes.{IsAtEnd}
+use Rattle.std.proofs.Common.{inl, inr, ◌⊎◌, ◌≡◌, ℕ, ◌+◌, ◌-◌, ◌<◌, ◌≤◌, false, List, [], ◌++◌, length, drop, refl, sym, ◌∙◌, ap, subst, arith, Option, append-nil}
+use Rattle.std.specs.Prelude.{Result, Ok, Err, Some, None, max, take_while}
 use Rattle.bufr_bits.specs.Counts.{counted}
 use Rattle.bufr_bits.proofs.CountLemmas.{counted-counted, counted-none}
 use Rattle.bufr_frame.specs.declared.fault.RunFault.{RunFault}
@@ -9,12 +8,12 @@ use Rattle.bufr_frame.specs.declared.fault.RunFault.TheVariants.{Read, Write, In
 use Rattle.bufr_frame.specs.declared.finder.Phase.{Phase}
 use Rattle.bufr_frame.specs.declared.finder.Phase.TheVariants as phase
 use Rattle.bufr_frame.specs.declared.finder.Passed.{Passed}
-use Rattle.bufr_frame.specs.Scan.{Happening, scan_from}
+use Rattle.bufr_frame.specs.Scan.{scan_from, is_decided}
 use Rattle.bufr_frame.specs.Look.{NoneDecided}
 use Rattle.bufr_frame.specs.Sights.{OpenSo, StatedSo, Raised}
-use Rattle.bufr_frame.specs.Longest.{length_here, first_event}
+use Rattle.bufr_frame.specs.Longest.{first_event}
 use Rattle.bufr_frame.specs.Runs.{most_reads}
-use Rattle.bufr_frame.specs.Finding.{State, StepSo, SeesSo, Follows, CountsReads, StopsSo, WantsSo, fault_in}
+use Rattle.bufr_frame.specs.Finding.{State, StepSo, SeesSo, Follows, CountsReads, StopsSo, WaitsSo, WantsSo, fault_in}
 use Rattle.bufr_frame.specs.Passing.{gone_to, PassedSo, ReadSo, ReadEnds}
 use Rattle.bufr_frame.proofs.FindingLemmas.{turn-pass, turn-stop, read-step}
 use Rattle.bufr_frame.proofs.LongestLemmas.{open-sees, raised-open, raised-read}
@@ -26,6 +25,20 @@ pub sound-unless : (p : Phase) → ((f : RunFault) → p ≡ phase.Stopped f →
 sound-unless phase.Reading not = refl
 sound-unless phase.Ended not = refl
 sound-unless (phase.Stopped f) not = absurd (not f refl)
+
+-- no event is certain in what was left, where nothing was read so far or none was then
+pub waits-by : (old s s' : State) → ((s ≡ old) ⊎ NoneDecided old.at old.rest) → s'.reads ≡ s.reads → WaitsSo old s'
+waits-by old s s' (inl same) reads more = absurd (more (sym (reads ∙ ap (λ x. x.reads) same)))
+waits-by old s s' (inr none) reads more = none
+
+pub waits-open : (old s : State) (place size : ℕ) → ((s ≡ old) ⊎ NoneDecided old.at old.rest) → OpenSo s.rest place size → NoneDecided old.at old.rest
+waits-open old s place size (inr none) open' = none
+waits-open old s place size (inl same) open' =
+    let N : State → Type 0 = λ x. NoneDecided x.at x.rest in
+    let D : List ℕ → Type 0 = λ l. NoneDecided (s.at + place) l in
+    let moved : scan_from 0 s.at s.rest ≡ scan_from 0 (s.at + place) (drop place s.rest) =
+    ap (scan_from 0 s.at) (sym (append-nil s.rest)) ∙ (open'.advances s.at).whole [] (λ _. refl) ∙ ap (scan_from 0 (s.at + place)) (append-nil (drop place s.rest)) in
+    subst N same (ap (take_while is_decided) moved ∙ open'.none (s.at + place))
 
 -- the reads of a turn
 pub counts-none : (a : ℕ) (s : State) → s.reads ≤ most_reads → CountsReads a a s s

@@ -1,19 +1,19 @@
 -- What calls of a finder say together.
-use Rattle.std.proofs.Common.{inl, inr, ◌≡◌, ℕ, zero, suc, ◌+◌, ◌-◌, ◌<◌, ◌≤◌, Bool, true, false, List, [], ◌∷◌, ◌++◌, length, take, drop, codes, refl, sym, ◌∙◌, ap, subst, arith, Option, length-drop, length-append, append-nil}
+use Rattle.std.proofs.Common.{inl, inr, ◌≡◌, ℕ, zero, suc, ◌+◌, ◌-◌, ◌≤◌, true, false, List, [], ◌∷◌, ◌++◌, length, drop, codes, refl, sym, ◌∙◌, ap, subst, arith, Option, length-drop, length-append, append-nil}
 use Rattle.std.specs.Prelude.{Result, Ok, Err, max, take_while}
 use Rattle.std.specs.List.{list_all}
 use Rattle.std.proofs.lemmas.Bool.{true≢false, false≢true, cases_lt, cases_Bool, and_parts}
 use Rattle.std.proofs.lemmas.List.{drop-append-le}
 use Rattle.bufr_frame.specs.declared.search.Verdict.{Verdict}
 use Rattle.bufr_frame.specs.declared.search.Verdict.TheVariants.{Nothing, Stray, Frame}
-use Rattle.bufr_frame.specs.declared.fault.Cause.TheVariants.{Cut, ShortLength, NoEnd}
+use Rattle.bufr_frame.specs.declared.fault.Cause.TheVariants.{Cut}
 use Rattle.bufr_frame.specs.declared.fault.RunFault.{RunFault}
 use Rattle.bufr_frame.specs.declared.finder.Event.{Event}
 use Rattle.bufr_frame.specs.declared.finder.Event.TheVariants as event
-use Rattle.bufr_frame.specs.Scan.{Happening, Framed, Strayed, scan, scan_from, open_scan, stands, stated, verdict, happening, taken, is_decided}
+use Rattle.bufr_frame.specs.Scan.{Happening, Framed, Strayed, scan_from, open_scan, stands, verdict, happening, taken, is_decided}
 use Rattle.bufr_frame.specs.Longest.{length_here, longest_of, offset_of, first_event}
 use Rattle.bufr_frame.specs.Look.{Advances, NoneDecided}
-use Rattle.bufr_frame.specs.Finding.{State, held, fresh, StepSo, SeesSo, Follows, IsDone}
+use Rattle.bufr_frame.specs.Finding.{State, fresh, StepSo, SeesSo, IsDone}
 use Rattle.bufr_frame.specs.Next.{NextSo, EndsSo, HoldsSo, told_by}
 use Rattle.bufr_frame.proofs.ScanLemmas.{drop-twice, scan_from-nil, scan_from-here, scan_from-nothing, verdict-nothing}
 use Rattle.bufr_frame.proofs.LookLemmas.{take_while-all, taken-bounds, cut-so, length-eight, stated-front}

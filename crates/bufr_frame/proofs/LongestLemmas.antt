@@ -1,16 +1,16 @@
 -- The greatest length that was stated.
-use Rattle.std.proofs.Common.{inl, inr, ◌⊎◌, ◌≡◌, ℕ, ◌+◌, ◌-◌, ◌<◌, ◌≤◌, Bool, true, false, List, [], ◌∷◌, ◌++◌, length, take, drop, codes, refl, sym, ◌∙◌, ap, subst, arith, Option, Some, None, length-drop, length-append}
-use Rattle.std.specs.Prelude.{◌≢◌, max, nat_lt, if◌then◌else◌}
+use Rattle.std.proofs.Common.{inl, inr, ◌⊎◌, ◌≡◌, ℕ, ◌+◌, ◌-◌, ◌<◌, true, List, [], ◌++◌, length, drop, codes, refl, sym, ◌∙◌, ap, subst, arith, None, length-append}
+use Rattle.std.specs.Prelude.{◌≢◌, max, nat_lt}
 use Rattle.std.proofs.lemmas.Bool.{cases_lt}
 use Rattle.std.proofs.lemmas.Bool.Decides.{nat_tests}
 use Rattle.bufr_frame.specs.declared.search.Verdict.{Verdict}
 use Rattle.bufr_frame.specs.declared.search.Verdict.TheVariants.{Nothing, Stray, Frame}
 use Rattle.bufr_frame.specs.declared.fault.Cause.TheVariants.{Cut}
-use Rattle.bufr_frame.specs.Scan.{Happening, Framed, Strayed, scan_from, stated, verdict, happening, taken}
+use Rattle.bufr_frame.specs.Scan.{scan_from, stated, happening, taken}
 use Rattle.bufr_frame.specs.Longest.{length_here, longest_of, first_event}
-use Rattle.bufr_frame.specs.Sights.{IsWord, OpenSo, EndSo, FoundSo, StatedSo, Raised}
+use Rattle.bufr_frame.specs.Sights.{IsWord, OpenSo, FoundSo, Raised}
 use Rattle.bufr_frame.specs.Finding.{State, Follows, SeesSo}
-use Rattle.bufr_frame.specs.Passing.{event_by, gone_to}
+use Rattle.bufr_frame.specs.Passing.{event_by}
 use Rattle.bufr_frame.proofs.ScanLemmas.{drop-twice, scan_from-here, scan_from-found}
 use Rattle.bufr_frame.proofs.LookLemmas.{stands-front, stated-front, length-eight, cut-here, four-long}
 

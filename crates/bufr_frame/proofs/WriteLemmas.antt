@@ -1,8 +1,6 @@
 -- Octets appended, part by part.
-use Rattle.std.proofs.Common.{◌≡◌, ◌∙◌, ℕ, suc, ◌/◌, ◌%◌, ◌<◌, List, [], ◌∷◌, ◌++◌, length, drop, ap, sym, get_or, Ok, Err, append_assoc}
+use Rattle.std.proofs.Common.{◌≡◌, ◌∙◌, ℕ, List, ◌++◌, ap, Ok, Err, append_assoc}
 use Rattle.std.specs.Prelude.{Result, OnOk, is_ok, if◌then◌else◌}
-use Rattle.std.proofs.Math.Seq.{drop-cons}
-use Rattle.bufr_frame.specs.Octets.{octets_of_words}
 
 -- three parts, the last of which may be refused
 pub three-parts : {X E : Type 0} (r : Result X E) (old a b c one two new : List ℕ) → one ≡ old ++ a → two ≡ one ++ b → new ≡ (if is_ok r then two ++ c else two) → OnOk r (new ≡ old ++ (a ++ (b ++ c)))

@@ -1,6 +1,6 @@
 -- What a finder does, call by call.
 -- Cited by public contracts.
-use Rattle.std.specs.Prelude.{◌≡◌, ℕ, ◌+◌, ◌-◌, ◌*◌, ◌<◌, ◌≤◌, max, Bool, true, false, List, [], ◌++◌, Option, Some, None, length, drop}
+use Rattle.std.specs.Prelude.{◌≡◌, ◌≢◌, ℕ, ◌+◌, ◌-◌, ◌*◌, ◌<◌, ◌≤◌, max, Bool, true, false, List, [], ◌++◌, Option, Some, None, length, drop}
 use Rattle.std.specs.Io.KnownBytes.{Consumes, IsAtEnd}
 use Rattle.bufr_bits.specs.Counts.{counted}
 use Rattle.bufr_frame.specs.Scan.{Happening, scan_from}
@@ -90,6 +90,10 @@ StopsSo new Read = IsOpen new Read
 StopsSo new Write = ⊥
 StopsSo new InputTooLong = IsOpen new InputTooLong × (new.reads ≡ most_reads)
 StopsSo new Memory = IsOpen new Memory × (new.reads < most_reads)
+
+-- a read is made only where no event is certain in what is left
+abbrev pub WaitsSo : State → State → Type 0
+WaitsSo old new = old.reads ≢ new.reads → NoneDecided old.at old.rest
 
 -- memory is wanted only where the room was less than twice the octets that may be held
 abbrev pub WantsSo : State → State → RunFault → Type 0

@@ -1,7 +1,7 @@
 -- The greatest length that was stated. (a choice of this project)
 -- Cited by public contracts.
 use Rattle.std.specs.Prelude.{ℕ, ◌-◌, max, nat_lt, List, [], ◌∷◌, length, drop, if◌then◌else◌}
-use Rattle.bufr_frame.specs.Scan.{Happening, Framed, Strayed, stated, scan_from}
+use Rattle.bufr_frame.specs.Scan.{Happening, Framed, Strayed, stated}
 
 -- the length that is stated at the front, where eight octets are there
 abbrev pub length_here : List ℕ → ℕ

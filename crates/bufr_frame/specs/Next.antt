@@ -1,9 +1,9 @@
 -- What a call of `Finder::next` answers. (a choice of this project)
 -- Cited by public contracts.
-use Rattle.std.specs.Prelude.{◌≡◌, ◌≢◌, ℕ, ◌+◌, ◌<◌, ◌≤◌, ◌^◌, max, length, List, [], ◌++◌, true, false, Option, None, IfSome, Result, Ok, Err}
+use Rattle.std.specs.Prelude.{◌≡◌, ℕ, ◌+◌, ◌<◌, ◌≤◌, ◌^◌, max, length, List, [], false, Option, None, IfSome, Result, Ok, Err}
 use Rattle.bufr_frame.specs.Scan.{Happening, scan_from}
 use Rattle.bufr_frame.specs.Events.{told}
-use Rattle.bufr_frame.specs.Finding.{State, held, StepSo, SeesSo, CountsReads, IsDone, StopsSo, WantsSo}
+use Rattle.bufr_frame.specs.Finding.{State, held, StepSo, SeesSo, CountsReads, IsDone, StopsSo, WaitsSo, WantsSo}
 use Rattle.bufr_frame.specs.Longest.{first_event}
 use Rattle.bufr_frame.specs.declared.fault.RunFault.{RunFault}
 use Rattle.bufr_frame.specs.declared.finder.Event.{Event}
@@ -31,6 +31,7 @@ pub record NextSo (left left' : Option (List ℕ)) (reads reads' : ℕ) (old new
   pub steps : (bs : List ℕ) × StepSo left left' old new bs (told_by result) × (old.fault ≡ None → SeesSo old new bs (seen_at new result))
   pub ends : EndsSo old new result
   pub counts : CountsReads reads reads' old new
+  pub waits : WaitsSo old new
   pub near : new.at < 2 ^ 63
   -- no more octets are held than the longest length that was stated asks for
   pub bound : held new ≤ max 4096 new.longest

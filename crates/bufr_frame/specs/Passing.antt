@@ -1,10 +1,10 @@
 -- What the steps of a finder do, one by one.
 -- Cited by private steps only.
-use Rattle.std.specs.Prelude.{◌≡◌, ◌≢◌, ℕ, ◌+◌, ◌-◌, ◌*◌, ◌<◌, ◌≤◌, Bool, true, false, List, [], ◌∷◌, ◌++◌, Option, Some, None, Result, Ok, Err, length, take, drop, max}
+use Rattle.std.specs.Prelude.{◌≡◌, ◌≢◌, ℕ, ◌+◌, ◌-◌, ◌*◌, ◌<◌, ◌≤◌, true, false, List, [], ◌∷◌, ◌++◌, Option, Some, None, Result, Ok, Err, length, take, drop, max}
 use Rattle.std.specs.Io.KnownBytes.{Consumes, IsAtEnd}
 use Rattle.bufr_frame.specs.Scan.{Happening, Framed, Strayed, scan_from}
 use Rattle.bufr_frame.specs.Finding.{State, IsDone, StopsSo, WantsSo}
-use Rattle.bufr_frame.specs.Longest.{first_event, length_here}
+use Rattle.bufr_frame.specs.Longest.{first_event}
 use Rattle.bufr_frame.specs.declared.fault.RunFault.{RunFault}
 use Rattle.bufr_frame.specs.declared.fault.RunFault.TheVariants.{Read, Write, InputTooLong, Memory}
 use Rattle.bufr_frame.specs.declared.search.Verdict.{Verdict}

@@ -6,7 +6,6 @@ use Rattle.bufr_frame.specs.Look.{Advances, NoneDecided}
 use Rattle.bufr_frame.specs.Longest.{length_here}
 use Rattle.bufr_frame.specs.declared.search.Verdict.{Verdict}
 use Rattle.bufr_frame.specs.declared.search.Verdict.TheVariants.{Nothing, Frame}
-use Rattle.bufr_frame.specs.declared.search.Found.{Found}
 use Rattle.bufr_frame.specs.declared.search.Sight.{Sight}
 use Rattle.bufr_frame.specs.declared.search.Sight.TheVariants.{Decided, Open, End}
 

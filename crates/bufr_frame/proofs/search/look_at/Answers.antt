@@ -1,4 +1,4 @@
-use Rattle.std.proofs.Common.{◌≡◌, ◌∙◌, ℕ, ◌<◌, List, length, max, arith, ap, subst, sym}
+use Rattle.std.proofs.Common.{◌∙◌, ℕ, ◌<◌, List, length, max, arith, ap, subst}
 use Rattle.bufr_frame.specs.Longest.{length_here}
 use Rattle.bufr_frame.proofs.LookLemmas.{found-at-end, found-whole, open-so}
 use Rattle.bufr_frame.proofs.search.look_at.Goals as goal

@@ -1,10 +1,10 @@
-use Rattle.std.proofs.Common.{◌≡◌, ◌∙◌, ◌≤◌, ◌<◌, ℕ, List, [], ◌++◌, Err, Some, ap, sym, subst, refl, inl, arith}
+use Rattle.std.proofs.Common.{◌∙◌, ◌<◌, [], ◌++◌, ap, sym, subst, refl, inl, inr, arith}
 use Rattle.bufr_frame.specs.Passing.{passed_events, event_by}
 use Rattle.bufr_frame.specs.Finding.{StopsSo, WantsSo, SeesSo}
 use Rattle.bufr_frame.specs.declared.search.Verdict.{Verdict}
 use Rattle.bufr_frame.specs.Runs.{most_reads}
 use Rattle.bufr_frame.specs.declared.fault.RunFault.{RunFault}
-use Rattle.bufr_frame.proofs.AdvanceLemmas.{stopped-told, sound-unless, counts-none, counts-same, counts-read, reads-grow, passed-from, stop-open, none-open, turn-on, raised-on, stop-read, stops-read, wants-read, open-room}
+use Rattle.bufr_frame.proofs.AdvanceLemmas.{stopped-told, sound-unless, counts-none, counts-same, counts-read, reads-grow, passed-from, stop-open, turn-on, raised-on, stop-read, stops-read, wants-read, waits-by, waits-open}
 use Rattle.bufr_frame.proofs.LongestLemmas.{found-sees}
 use Rattle.bufr_frame.proofs.FindingLemmas.{step-none, still-open, pass-step}
 use Rattle.bufr_frame.proofs.finder.Finder.advance.Goals as goal
@@ -21,6 +21,7 @@ loop-found-init g c = record {
   failed = refl;
   sound = sym (ap (λ s. s.fault) c.self.view_is) ∙ sound-unless c.self.inside.phase c.in_default.not-Stopped;
   room = omega arith;
+  waits = inl refl;
   raised = inl refl;
 }
 
@@ -57,6 +58,17 @@ returns-in-Err-clause-steps g c =
     let s = stop-read _ _ c.args.self.now c.loop-found.self c.go_to.new.self _ _ before.steps before.raised c.in-Open.ensures.looks c.go_to.ensures _ c.read_more.new.self c.read_more.result c.read_more.ensures.read c.stop-in-Err.new.self _ c.in-Err.is c.stop-in-Err.ensures.new in
     (s.0, s.1, λ _. s.2)
 
+pub returns-in-Err-clause-counts : goal.returns-in-Err-clause-counts
+returns-in-Err-clause-counts g c =
+    let before = c.loop-found.invariant in
+    let next = c.read_more.ensures.read in
+    let reads = ap (λ s. s.reads) c.go_to.ensures in
+    let few : c.go_to.new.self.reads < most_reads = omega (arith, c.if-self-eq-MOST_READS.false, ap (λ s. s.reads) c.self-in-Open.view_is, reads, before.counts.most) in
+    let grow = reads-grow _ c.go_to.new.self c.read_more.new.self next.0 c.read_more.result next.1.ends few in
+    counts-same _ _ _ c.read_more.new.self c.stop-in-Err.new.self
+    (counts-read _ _ _ c.args.self.now c.go_to.new.self c.read_more.new.self (counts-same _ _ _ c.loop-found.self c.go_to.new.self before.counts reads) c.read_more.ensures.made grow.0 grow.1)
+    (ap (λ s. s.reads) c.stop-in-Err.ensures.new)
+
 pub returns-in-Err-clause-outcome : goal.returns-in-Err-clause-outcome
 returns-in-Err-clause-outcome g c =
     let before = c.loop-found.invariant in
@@ -67,6 +79,18 @@ returns-in-Err-clause-outcome g c =
       λ _. subst S (sym c.stop-in-Err.ensures.value) (stops-read _ _ c.args.self.now c.loop-found.self c.go_to.new.self _ _ before.steps before.raised c.in-Open.ensures.looks c.go_to.ensures _ c.read_more.new.self c.read_more.result c.read_more.ensures.read c.stop-in-Err.new.self _ few c.in-Err.is c.stop-in-Err.ensures.new),
       λ _. subst W (sym c.stop-in-Err.ensures.value) (wants-read _ _ c.args.self.now c.loop-found.self c.go_to.new.self _ _ before.steps before.raised c.in-Open.ensures.looks c.go_to.ensures _ c.read_more.new.self c.read_more.result c.read_more.ensures.read c.stop-in-Err.new.self _ c.in-Err.is c.stop-in-Err.ensures.new before.room),
     )
+
+pub returns-in-End-clause-waits : goal.returns-in-End-clause-waits
+returns-in-End-clause-waits g c = waits-by c.args.self.now c.loop-found.self c.loop-found.self c.loop-found.invariant.waits refl
+
+pub returns-in-Decided-clause-waits : goal.returns-in-Decided-clause-waits
+returns-in-Decided-clause-waits g c = waits-by c.args.self.now c.loop-found.self c.pass_event.new.self c.loop-found.invariant.waits c.pass_event.ensures.same.reads
+
+pub returns-then-self-eq-MOST_READS-clause-waits : goal.returns-then-self-eq-MOST_READS-clause-waits
+returns-then-self-eq-MOST_READS-clause-waits g c = λ _. waits-open c.args.self.now c.loop-found.self _ _ c.loop-found.invariant.waits c.in-Open.ensures.looks.1
+
+pub returns-in-Err-clause-waits : goal.returns-in-Err-clause-waits
+returns-in-Err-clause-waits g c = λ _. waits-open c.args.self.now c.loop-found.self _ _ c.loop-found.invariant.waits c.in-Open.ensures.looks.1
 
 pub loop-found-preserved : goal.loop-found-preserved
 loop-found-preserved g c =
@@ -81,5 +105,6 @@ loop-found-preserved g c =
       failed = (rw c.in_default-read_more.is at c.read_more.ensures.failed) ∙ before.failed;
       sound = next.1.fault;
       room = omega (arith, before.room, next.1.room, ap (λ s. s.room) c.go_to.ensures);
+      waits = inr (waits-open c.args.self.now c.loop-found.self _ _ before.waits c.in-Open.ensures.looks.1);
       raised = raised-on _ _ c.args.self.now c.loop-found.self c.go_to.new.self _ _ before.steps before.raised c.in-Open.ensures.looks c.go_to.ensures _ c.read_more.new.self c.read_more.result next;
     }

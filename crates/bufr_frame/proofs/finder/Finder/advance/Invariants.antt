@@ -1,6 +1,7 @@
-use Rattle.std.proofs.Common.{◌≡◌, ◌-◌, ◌≤◌, ℕ, List, [], None}
-use Rattle.bufr_frame.specs.Finding.{State, StepSo, CountsReads}
+use Rattle.std.proofs.Common.{◌⊎◌, ◌≡◌, ◌-◌, ◌≤◌, ℕ, List, [], None}
+use Rattle.bufr_frame.specs.Finding.{StepSo, CountsReads}
 use Rattle.bufr_frame.specs.Sights.{Raised}
+use Rattle.bufr_frame.specs.Look.{NoneDecided}
 use Rattle.bufr_frame.specs.Runs.{most_reads}
 use Rattle.bufr_frame.proofs.finder.Finder.advance.Given as goal
 
@@ -12,6 +13,7 @@ invariant-loop-found g l = record {
   failed : g.R.Source.failures l.r ≡ g.R.Source.failures l.fn.r;
   sound : l.self.fault ≡ None;
   room : l.fn.self.room ≤ l.self.room;
+  waits : (l.self ≡ l.fn.self) ⊎ NoneDecided l.fn.self.at l.fn.self.rest;
   raised : Raised l.fn.self.longest l.self.longest l.self.rest;
 }
 
