@@ -50,10 +50,6 @@ quotient_is n d q r e h =
 up_product : (a c d p q u : ℕ) → (a * (p * q) + (c * p + d)) * (u * q) ≡ (a * q + c) * u * (p * q) + d * (u * q)
 up_product a c d p q u = omega arith
 
--- ten divides: digits before the point come behind it
-down_product : (a b d l f : ℕ) → (a * l + b) * f + d ≡ a * (f * l) + (b * f + d)
-down_product a b d l f = omega arith
-
 pub ten_pos : (k : ℕ) → 0 < 10 ^ k
 ten_pos k = one-le-pow k 10 (omega arith)
 

@@ -1,11 +1,11 @@
 -- A number as bits, in parts and by octets.
-use Rattle.std.proofs.Common.{◌≡◌, ℕ, zero, suc, ◌+◌, ◌-◌, ◌*◌, ◌/◌, ◌%◌, ◌^◌, ◌<◌, ◌≤◌, ◌==◌, Bool, false, List, [], ◌∷◌, ◌++◌, length, take, drop, replicate, refl, sym, ap, ◌∙◌, arith, append_assoc, mod-eq_of_lt}
+use Rattle.std.proofs.Common.{◌≡◌, ℕ, zero, suc, ◌+◌, ◌-◌, ◌*◌, ◌/◌, ◌%◌, ◌^◌, ◌<◌, ◌≤◌, ◌==◌, Bool, false, List, [], ◌∷◌, ◌++◌, length, take, drop, replicate, get_or, refl, sym, ap, ◌∙◌, arith, append_assoc, drop-drop, mod-eq_of_lt}
 use Rattle.std.proofs.lemmas.Nat.{mod-pow-add, shr_high, shr_split, shr_le, mod_below, shr-shr, pow-add, pow_pos}
-use Rattle.std.proofs.lemmas.List.{take_all, take_at, drop_at}
+use Rattle.std.proofs.lemmas.List.{take_all, take_at, drop_at, drop-append-le, drop_more}
 use Rattle.std.specs.Int.{bytes_high_first, byte_at}
 use Rattle.std.proofs.Math.Nat.{pow-suc}
 use Rattle.bufr_bits.specs.Bits.{bits_of_octet, bits_of, bits_in, number_of, bits_at}
-use Rattle.bufr_bits.proofs.BitLemmas.{bit, bit_of_test, number_behind-is}
+use Rattle.bufr_bits.proofs.BitLemmas.{bit, bit_of_test, number_behind-is, length-bits_of, drop-bits_of, number-bits_of_octet}
 
 pub length-bits_in : (v w : ℕ) → length (bits_in v w) ≡ w
 unfolding bits_in
@@ -125,3 +125,21 @@ found_between before behind octets v w h e =
     let there : drop (length before) (bits_of octets) ≡ bits_in v w ++ behind = ap (drop (length before)) turned ∙ drop_at before (bits_in v w ++ behind) (length before) refl in
     let found : bits_at octets (length before) w ≡ bits_in v w = ap (take w) there ∙ take_at (bits_in v w) behind w (length-bits_in v w) in
     ap number_of found ∙ number_of-bits_in v w ∙ mod-eq_of_lt h
+
+module _ (before behind : List Bool) (among xs : List ℕ) (e : bits_of among ≡ before ++ bits_of xs ++ behind) where
+  -- behind the first bits
+  there : drop (length before) (bits_of among) ≡ bits_of xs ++ behind
+  there = ap (drop (length before)) (e ∙ append_assoc before (bits_of xs) behind) ∙ drop_at before (bits_of xs ++ behind) (length before) refl
+
+  -- the bits of octets among others are found where they stand
+  pub bits_between : bits_at among (length before) (8 * length xs) ≡ bits_of xs
+  bits_between = ap (take (8 * length xs)) there ∙ take_at (bits_of xs) behind (8 * length xs) (length-bits_of xs)
+
+  -- and so is each octet
+  pub octet_between : (k : ℕ) → k < length xs → get_or xs k 0 < 256 → number_of (bits_at among (length before + 8 * k) 8) ≡ get_or xs k 0
+  unfolding bits_of
+  octet_between k h small =
+      let past : drop (length before + 8 * k) (bits_of among) ≡ drop (8 * k) (bits_of xs ++ behind) = sym (drop-drop (8 * k) (length before) (bits_of among)) ∙ ap (drop (8 * k)) there in
+      let inside : drop (8 * k) (bits_of xs ++ behind) ≡ bits_of (drop k xs) ++ behind = drop-append-le (8 * k) (bits_of xs) behind (omega (arith, length-bits_of xs)) ∙ ap (λ (ys : List Bool). ys ++ behind) (drop-bits_of k xs) in
+      let first : bits_of (drop k xs) ≡ bits_of_octet (get_or xs k 0) ++ bits_of (drop (k + 1) xs) = ap bits_of (drop_more xs k 0 h) in
+      ap (λ (ys : List Bool). number_of (take 8 ys)) (past ∙ inside ∙ ap (λ (ys : List Bool). ys ++ behind) first) ∙ number-bits_of_octet (get_or xs k 0) small

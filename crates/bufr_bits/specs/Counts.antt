@@ -1,4 +1,5 @@
 -- The counts that a device keeps of its calls. (a choice of this project)
+-- Cited by public contracts.
 use Rattle.std.specs.Prelude.{ℕ, zero, suc, ◌+◌, ◌-◌, ◌^◌, min, max, Bool, true, false, List, [], ◌∷◌, Result, Ok, Err}
 
 -- a count that has gone up by some, and stops at the greatest u64

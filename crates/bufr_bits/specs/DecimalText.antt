@@ -1,4 +1,5 @@
 -- Numbers as decimal text with a scale: the number v at scale s is written as v / 10^s. (a choice of this project)
+-- Cited by public contracts.
 use Rattle.std.specs.Prelude.{ℕ, zero, suc, ◌+◌, ◌-◌, List, [], ◌∷◌, ◌++◌, length, take, drop, replicate, ℤ, pos, negsuc, unsigned_abs}
 use Rattle.std.specs.Fmt.{decimal}
 

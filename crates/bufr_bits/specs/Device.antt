@@ -1,4 +1,5 @@
 -- A device over a reader or a writer of std.
+-- Cited by public contracts.
 use Rattle.std.specs.Prelude.{true}
 use Rattle.bufr_bits.specs.declared.device.Device.{Device}
 

@@ -1,4 +1,5 @@
 -- What the test devices in memory are about to do. (a choice of this project)
+-- Cited by public contracts.
 use Rattle.std.specs.Prelude.{ℕ, zero, suc, ◌-◌, min, Bool, List, Option, None, Some, option_map, Result, Ok, Err, vec_len}
 use Rattle.bufr_bits.specs.declared.device.Failed.{Failed}
 use Rattle.bufr_bits.specs.declared.script.ScriptIn.{ScriptIn}

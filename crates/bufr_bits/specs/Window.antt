@@ -1,4 +1,5 @@
 -- Eight octets read as one number. (a choice of this project)
+-- Cited by private steps only.
 use Rattle.std.specs.Prelude.{◌≡◌, ℕ, ◌+◌, ◌^◌, ◌<◌, ◌≤◌, List, length, take, drop}
 use Rattle.bufr_bits.specs.Bits.{bits_of, bits_in}
 

@@ -13,8 +13,8 @@ pub fn put(out: &mut Vec<u8>, octets: &[u8])
     }
 }
 
-/// Appends zeros for which there is room.
-pub fn put_zeros(out: &mut Vec<u8>, count: usize)
+/// Appends digits `0` for which there is room.
+pub fn put_zero_digits(out: &mut Vec<u8>, count: usize)
     requires { vec_len out.old + count ≤ vec_capacity out.old }
     ensures items { out.new.items ≡ out.old.items ++ replicate count 48 }
     ensures len { vec_len out.new ≡ vec_len out.old + count }

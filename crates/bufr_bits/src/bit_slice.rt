@@ -6,6 +6,13 @@ ghost use Rattle.bufr_bits.specs.Window.{IsWindow};
 
 /// Octets that are read as bits, at most 2^60 octets. Bits are counted from 0, most significant
 /// first.
+///
+/// ```
+/// let bits = BitSlice::new(&[0x46, 0x59]);
+/// assert_eq!(rt; bits.get(4, 8), Some(0x65));
+/// assert_eq!(rt; bits.get(9, 8), None);
+/// assert_eq!(rt; bits.all_ones(5, 2), Some(true));
+/// ```
 #[derive(Clone, Copy, Debug)]
 pub struct BitSlice<'a> {
     octets: &'a [u8],

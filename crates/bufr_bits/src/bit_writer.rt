@@ -1,5 +1,5 @@
 //! Bits written behind each other, most significant first.
-ghost use Rattle.std.specs.Prelude.{◌≡◌, ◌≤◌, ◌<◌, ◌+◌, ◌*◌, ◌/◌, ◌%◌, ◌^◌, ◌++◌, [], Bool, List, ℕ, length, vec_len, vec_capacity, OnOk, OnErr};
+ghost use Rattle.std.specs.Prelude.{◌≡◌, ◌≤◌, ◌<◌, ◌+◌, ◌*◌, ◌/◌, ◌%◌, ◌^◌, ◌++◌, [], Bool, List, ℕ, length, slice_index, vec_len, vec_capacity, OnOk, OnErr};
 ghost use Rattle.bufr_bits.specs.Bits.{bits_of, bits_in, bits_at, number_of, padding};
 
 use crate::append::put;
@@ -8,6 +8,14 @@ use std::marker::Model;
 
 /// Bits that are written behind each other. A contract sees the list of the bits; there are at
 /// most 2^63 of them.
+///
+/// ```
+/// let mut bits = BitWriter::new(rt.alloc());
+/// bits.push(5, 3)?;
+/// bits.push_octets(&[0xFF])?;
+/// assert_eq!(rt; bits.len_bits(), 11);
+/// assert_eq!(rt; bits.into_octets().as_slice(), [0xBF, 0xE0].as_slice());
+/// ```
 #[derive(Drop)]
 pub struct BitWriter {
     octets: Vec<u8>,
@@ -151,4 +159,11 @@ fn put_behind(out: &mut Vec<u8>, last: u8, count: u32, octets: &[u8]) -> u8
 pub fn pushed_reads_back(value: u64, width: u32)
     requires { value < 2 ^ width }
     ensures { (before behind : List Bool) (octets : List ℕ) → bits_of octets ≡ before ++ bits_in value width ++ behind → number_of (bits_at octets (length before) width) ≡ value }
+{}
+
+/// Law: where octets have the bits of other octets, with any bits before and behind, each of these
+/// is the number that [`BitSlice::octet`](crate::BitSlice::octet) answers at its place.
+pub fn pushed_octets_read_back(octets: &[u8])
+    ensures bits { (before behind : List Bool) (among : List ℕ) → bits_of among ≡ before ++ bits_of octets.now ++ behind → bits_at among (length before) (8 * length octets.now) ≡ bits_of octets.now }
+    ensures octets { (before behind : List Bool) (among : List ℕ) → bits_of among ≡ before ++ bits_of octets.now ++ behind → (k : ℕ) → k < length octets.now → number_of (bits_at among (length before + 8 * k) 8) ≡ slice_index octets.now k }
 {}

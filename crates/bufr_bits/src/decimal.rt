@@ -6,7 +6,7 @@ ghost use Rattle.bufr_bits.specs.Capped.{capped, capped_ok};
 ghost use Rattle.bufr_bits.specs.DecimalText.{decimal_text_of, pointed, sign_of};
 ghost use Rattle.bufr_bits.specs.DecimalValue.{decimal_value_of, unsigned_part, is_unsigned, all_digits, is_digits, IsParts, power_up, power_down, whole_quotient, signed};
 
-use crate::append::{put, put_zeros};
+use crate::append::{put, put_zero_digits};
 use itoa::Buffer;
 use std::alloc::AllocError;
 use thiserror::Error;
@@ -27,8 +27,15 @@ pub enum NumberFault {
 
 /// Appends the text of `v` at `scale` to `out`: at a scale above 0 a point before the last `scale`
 /// digits, with zeros in front so that one digit stands before it; at one below 0 as many zeros
-/// behind the digits, except that zero is `0`. A negative number begins with `-`. So -5 at scale 2
-/// is `-0.05`, and 288 at scale -2 is `28800`.
+/// behind the digits, except that zero is `0`. A negative number begins with `-`.
+///
+/// ```
+/// let mut out = Vec::new(rt.alloc());
+/// decimal_text(-5, 2, &mut out)?;
+/// out.push(b' ')?;
+/// decimal_text(288, -2, &mut out)?;
+/// assert_eq!(rt; out.as_slice(), b"-0.05 28800".as_slice());
+/// ```
 ///
 /// # Errors
 ///
@@ -48,7 +55,7 @@ pub fn decimal_text(v: i128, scale: i16, out: &mut Vec<u8>) -> Result<(), AllocE
         put_pointed(out, digits, places);
     } else {
         put(out, digits);
-        put_zeros(out, zeros);
+        put_zero_digits(out, zeros);
     }
     Ok(())
 }
@@ -90,7 +97,7 @@ fn put_pointed(out: &mut Vec<u8>, digits: &[u8], places: usize)
 {
     if digits.len() <= places {
         put(out, b"0.");
-        put_zeros(out, places - digits.len());
+        put_zero_digits(out, places - digits.len());
         put(out, digits);
     } else {
         let (whole, fraction) = digits.split_at(digits.len() - places);
@@ -101,8 +108,14 @@ fn put_pointed(out: &mut Vec<u8>, digits: &[u8], places: usize)
 }
 
 /// Reads the text of a number at `scale`: an optional `-`, one or more digits, and optionally a
-/// point and one or more digits. The answer is the number that the text writes times 10^`scale`:
-/// `288.15` at scale 2 is 28815, and `28800` at scale -2 is 288. It takes no memory.
+/// point and one or more digits. The answer is the number that the text writes times 10^`scale`. It
+/// takes no memory.
+///
+/// ```
+/// assert_eq!(rt; decimal_read(b"288.15", 2), Ok(28815));
+/// assert_eq!(rt; decimal_read(b"28800", -2), Ok(288));
+/// assert_eq!(rt; decimal_read(b"288.155", 2), Err(NumberFault::Inexact));
+/// ```
 ///
 /// # Errors
 ///

@@ -6,6 +6,7 @@ use Rattle.bufr_frame.specs.Scan.{scan_from}
 use Rattle.bufr_frame.specs.Sections.{sections_of, section_end, Sections}
 use Rattle.bufr_frame.specs.declared.fault.Cause.TheVariants.{Cut, ShortLength, NoEnd}
 use Rattle.bufr_frame.specs.declared.fault.SectionFault.TheVariants.{Edition, SectionShort, SectionPast, SectionsEnd}
+use Rattle.bufr_frame.specs.Numbers.{number_of_cause, number_of_section_fault}
 use Rattle.bufr_cli.specs.LsLine.{ls_line}
 use Rattle.bufr_cli.specs.FaultLine.{fault_line, cause_text, section_fault_text}
 use Rattle.bufr_cli.specs.Pieces.{OnOutput, OnErrors, ls_pieces}
@@ -42,31 +43,31 @@ unfolding digits
 different-listed = refl
 
 -- the fault lines
-cut-line : fault_line 0 (cause_text Cut ∷ []) ≡ codes "offset 0: 1 cut\n"
+cut-line : fault_line 0 (number_of_cause Cut) (cause_text Cut ∷ []) ≡ codes "offset 0: 1 cut\n"
 unfolding digits
 cut-line = refl
 
-short-line : fault_line 12 (cause_text ShortLength ∷ []) ≡ codes "offset 12: 2 short length\n"
+short-line : fault_line 12 (number_of_cause ShortLength) (cause_text ShortLength ∷ []) ≡ codes "offset 12: 2 short length\n"
 unfolding digits
 short-line = refl
 
-no-end-line : fault_line 8 (cause_text NoEnd ∷ []) ≡ codes "offset 8: 3 no end\n"
+no-end-line : fault_line 8 (number_of_cause NoEnd) (cause_text NoEnd ∷ []) ≡ codes "offset 8: 3 no end\n"
 unfolding digits
 no-end-line = refl
 
-edition-line : fault_line 0 (section_fault_text (Edition 3)) ≡ codes "offset 0: 10 edition 3\n"
+edition-line : fault_line 0 (number_of_section_fault (Edition 3)) (section_fault_text (Edition 3)) ≡ codes "offset 0: 10 edition 3\n"
 unfolding digits
 edition-line = refl
 
-section-short-line : fault_line 0 (section_fault_text (SectionShort 1)) ≡ codes "offset 0: 11 section 1 short\n"
+section-short-line : fault_line 0 (number_of_section_fault (SectionShort 1)) (section_fault_text (SectionShort 1)) ≡ codes "offset 0: 11 section 1 short\n"
 unfolding digits
 section-short-line = refl
 
-section-past-line : fault_line 0 (section_fault_text (SectionPast 4)) ≡ codes "offset 0: 12 section 4 past the end\n"
+section-past-line : fault_line 0 (number_of_section_fault (SectionPast 4)) (section_fault_text (SectionPast 4)) ≡ codes "offset 0: 12 section 4 past the end\n"
 unfolding digits
 section-past-line = refl
 
-sections-end-line : fault_line 0 (section_fault_text SectionsEnd) ≡ codes "offset 0: 13 sections do not meet the end\n"
+sections-end-line : fault_line 0 (number_of_section_fault SectionsEnd) (section_fault_text SectionsEnd) ≡ codes "offset 0: 13 sections do not meet the end\n"
 unfolding digits
 sections-end-line = refl
 

@@ -1,10 +1,10 @@
 -- What a run writes, event by event.
 use Rattle.bufr_frame.specs.Runs.{MakesReads, most_reads}
 use Rattle.std.proofs.Common.{◌≡◌, ◌∙◌, ◌≤◌, ◌<◌, ◌^◌, ℕ, ◌+◌, ◌-◌, Bool, true, false, List, [], ◌∷◌, ◌++◌, refl, sym, ap, subst, arith, Option, None, Ok, Err, append-nil, Some, append_assoc}
-use Rattle.std.specs.Prelude.{Result, flat_map, map, count_by, IfSome, ◌≢◌}
+use Rattle.std.specs.Prelude.{Result, flat_map, map, count_by, IfSome}
 use Rattle.std.specs.Io.KnownBytes.{Keeps}
-use Rattle.std.proofs.KnownBytes.{Appends-nil, Appends-trans, Appends-kept, Consumes-nil, Consumes-trans, Consumes-whole}
-use Rattle.std.proofs.lemmas.Bool.{true≢false, false≢true}
+use Rattle.std.proofs.KnownBytes.{Appends-nil, Appends-trans, Appends-kept, Consumes-nil, Consumes-whole}
+use Rattle.std.proofs.lemmas.Bool.{false≢true}
 use Rattle.std.proofs.lemmas.Grind.{common_steps, flat_map-append}
 use Rattle.bufr_bits.specs.Counts.{counted}
 use Rattle.bufr_bits.proofs.CountLemmas.{counted-none}
@@ -12,14 +12,16 @@ use Rattle.bufr_frame.specs.declared.fault.RunFault.{RunFault}
 use Rattle.bufr_frame.specs.declared.fault.RunFault.TheVariants.{Read, Write, InputTooLong, Memory}
 use Rattle.bufr_frame.specs.declared.finder.Event.{Event}
 use Rattle.bufr_frame.specs.declared.finder.Event.TheVariants.{Frame, Stray, Done}
-use Rattle.bufr_frame.specs.Scan.{Happening, Framed, Strayed, scan, scan_from}
+use Rattle.bufr_frame.specs.Scan.{Happening, Framed, Strayed, scan, scan_from, open_scan}
+use Rattle.bufr_frame.specs.Look.{Advances}
+use Rattle.bufr_frame.proofs.CallLemmas.{events-are-open}
 use Rattle.bufr_frame.specs.Events.{told, IsEvent}
-use Rattle.bufr_frame.specs.Finding.{State, StepSo, CountsReads, StopsSo, fresh}
+use Rattle.bufr_frame.specs.Finding.{State, StepSo, CountsReads, StopsSo, IsOpen, fresh}
 use Rattle.bufr_frame.specs.Next.{NextSo, EndsSo}
-use Rattle.bufr_frame.proofs.FindingLemmas.{Advances-none, StepSo-then, CountsReads-then, whole-scan}
+use Rattle.bufr_frame.proofs.FindingLemmas.{Advances-none, Follows-none, StepSo-then, CountsReads-then, whole-scan, events-are-certain}
 use Rattle.bufr_cli.specs.Writing.{Writes, GrowsByFront}
 use Rattle.bufr_cli.specs.Pieces.{Piece, OnErrors, output_of, errors_of, is_accepted, is_refused}
-use Rattle.bufr_cli.specs.Running.{Written, WritesPieces, Tallies, tally_after, RunSo, RunDone, RunStopped}
+use Rattle.bufr_cli.specs.Running.{Written, WritesPieces, Tallies, tally_after, RunSo, RunDone, RunStopped, RunCut, read_events}
 use Rattle.bufr_cli.specs.declared.tally.Tally.{Tally}
 
 pub grows-nil : (w : Option (List ℕ)) → GrowsByFront w w []
@@ -50,7 +52,6 @@ pub record Ran (piece : Happening → Piece) (left mid : Option (List ℕ)) (rea
   pub counts : CountsReads reads reads' fresh s
   pub written : Written w w' e e' (map piece events)
   pub tallies : Tallies tally (map piece events)
-  pub none : s.ended ≡ false → events ≡ []
   pub sound : s.fault ≡ None
   pub few : tally.accepted + tally.refused ≤ s.at
   pub near : s.at < 2 ^ 63
@@ -66,13 +67,13 @@ ran-fresh piece left reads w e s tally is accepted refused =
       step = record {
         read = Consumes-nil left;
         advances = Advances-none false 0 [];
+        follows = Follows-none 0 [];
         kept = λ end. absurd (false≢true end);
         end = λ _ end. absurd (false≢true end);
       };
       counts = record { made = sym (counted-none reads); order = omega arith; most = omega arith };
       written = Written-nil w e;
       tallies = record { accepted = accepted; refused = refused };
-      none = λ _. refl;
       sound = refl;
       few = omega arith;
       near = omega arith;
@@ -92,13 +93,13 @@ is-event s s' Done ends not_done = not_done refl
 
 goes-on : (s s' : State) (event : Event) → EndsSo s s' (Ok event) → IsEvent event → (s'.fault ≡ None) × (s.at < s'.at)
 goes-on s s' (Frame offset octets) ends some = (ends.0, ends.1)
-goes-on s s' (Stray offset cause) ends some = ends
+goes-on s s' (Stray offset cause) ends some = (ends.0, ends.1)
 goes-on s s' Done ends some = absurd some
 
-is-told : (event : Event) → IsEvent event → told event ≢ []
-is-told (Frame offset octets) some = λ none. cc
-is-told (Stray offset cause) some = λ none. cc
-is-told Done some = absurd some
+-- the events so far are the first of what was read
+read-front : (ended : Bool) (s rest : List ℕ) (events : List Happening) (at : ℕ) → Advances ended 0 s events at rest → (more : List Happening) × (read_events ended s ≡ events ++ more)
+read-front true s rest events at advances = (scan_from 0 at rest, whole-scan true s rest events at advances)
+read-front false s rest events at advances = events-are-certain s rest events at advances
 
 map-append : (piece : Happening → Piece) (xs ys : List Happening) → map piece (xs ++ ys) ≡ map piece xs ++ map piece ys
 map-append piece xs ys = grind (arith, common_steps)
@@ -115,7 +116,6 @@ module _ (piece : Happening → Piece) (left mid left' : Option (List ℕ)) (rea
   turn w2 e2 tally' event is some writes tallies one =
       let steps = rw is at next.steps in
       let on = goes-on s s' event (rw is at next.ends) some in
-      let ended : s'.ended ≡ true = next.whole (rw is (is-told event some)) in
       let W : List Piece → Type 0 = λ l. Written w w2 e e2 l in
       record {
         octets = ran.octets ++ steps.0;
@@ -129,55 +129,81 @@ module _ (piece : Happening → Piece) (left mid left' : Option (List ℕ)) (rea
           refused = ap (λ t. t.refused) tallies ∙ ap (λ n. n + count_by is_refused (map piece (told event))) ran.tallies.refused
               ∙ sym (count-append is_refused (map piece ran.events) (map piece (told event))) ∙ ap (count_by is_refused) (sym (map-append piece ran.events (told event)));
         };
-        none = λ open'. absurd (true≢false (sym ended ∙ open'));
         sound = on.0;
         few = omega (arith, ran.few, on.1, one);
         near = next.near;
       }
 
   -- the finder stopped
-  pub stop-next : (unflushed : Type 0) (f : RunFault) (r : Result Tally RunFault) → result ≡ Err f → r ≡ Err f → (bs : List ℕ) × RunSo (λ l. map piece (scan l)) left left' w w1 e e1 unflushed bs r
-  stop-next unflushed f r is same =
+  pub stop-next : (unflushed : Type 0) → unflushed → (f : RunFault) (r : Result Tally RunFault) → result ≡ Err f → r ≡ Err f → (bs : List ℕ) × RunSo (map piece) left left' w w1 e e1 unflushed bs r
+  stop-next unflushed kept f r is same =
       let steps = rw is at next.steps in
       let ends = rw is at next.ends in
-      let nothing : map piece ran.events ≡ [] = ap (map piece) (ran.none ends.0) in
-      let W : List Piece → Type 0 = λ l. Written w w1 e e1 l in
-      let stopped : RunStopped left left' w w1 e e1 (ran.octets ++ steps.0) = record {
-        read = Consumes-trans left mid left' ran.octets steps.0 ran.step.read steps.1.read;
-        written = subst W nothing ran.written;
-      } in
-      let P : Result Tally RunFault → Type 0 = λ x. RunSo (λ l. map piece (scan l)) left left' w w1 e e1 unflushed (ran.octets ++ steps.0) x in
-      (ran.octets ++ steps.0, subst P (sym same) (by f (ends.1 ran.sound) stopped))
+      let bs = ran.octets ++ steps.0 in
+      let step = StepSo-then left mid left' s s' ran.octets steps.0 ran.events [] ran.step steps.1 in
+      let P : Result Tally RunFault → Type 0 = λ x. RunSo (map piece) left left' w w1 e e1 unflushed bs x in
+      (bs, subst P (sym same) (by bs step f (ends.1 ran.sound)))
     where
-      by : (f : RunFault) → StopsSo s' f → {bs : List ℕ} → RunStopped left left' w w1 e e1 bs → RunSo (λ l. map piece (scan l)) left left' w w1 e e1 unflushed bs (Err f)
-      by Read so stopped = stopped
-      by InputTooLong so stopped = stopped
-      by Memory so stopped = stopped
-      by Write so stopped = absurd so
+      opens : (bs : List ℕ) → StepSo left left' fresh s' bs (ran.events ++ []) → (g : RunFault) → IsOpen s' g → map piece (open_scan bs) ≡ map piece ran.events
+      opens bs step g so =
+          let E : Bool → Type 0 = λ x. Advances x 0 bs (ran.events ++ []) s'.at s'.rest in
+          ap (map piece) (events-are-open bs s'.rest (ran.events ++ []) s'.at (subst E so.1 step.advances) (so.2 s'.at) ∙ append-nil ran.events)
+
+      stopped : (bs : List ℕ) → StepSo left left' fresh s' bs (ran.events ++ []) → (g : RunFault) → IsOpen s' g → RunStopped (map piece) left left' w w1 e e1 bs
+      stopped bs step g so =
+          let W : List Piece → Type 0 = λ l. Written w w1 e e1 l in
+          record { read = step.read; written = subst W (sym (opens bs step g so)) ran.written }
+
+      cut : (bs : List ℕ) → StepSo left left' fresh s' bs (ran.events ++ []) → (g : RunFault) → IsOpen s' g → RunCut (map piece) left left' w w1 e e1 unflushed bs
+      cut bs step g so = record {
+        read = step.read;
+        ended = false;
+        end = λ end. absurd (false≢true end);
+        written = record {
+          given = map piece ran.events;
+          next = None;
+          rest = [];
+          parts = opens bs step g so ∙ sym (append-nil (map piece ran.events));
+          between_output = w1;
+          between_errors = e1;
+          whole = ran.written;
+          output = grows-nil w1;
+          errors = grows-nil e1;
+        };
+        flushed = λ not. absurd (not kept);
+      }
+
+      by : (bs : List ℕ) → StepSo left left' fresh s' bs (ran.events ++ []) → (g : RunFault) → StopsSo s' g → RunSo (map piece) left left' w w1 e e1 unflushed bs (Err g)
+      by bs step Read so = stopped bs step Read so
+      by bs step InputTooLong so = stopped bs step InputTooLong so.0
+      by bs step Write so = absurd so
+      by bs step Memory so = cut bs step Memory so.0
 
   -- a writer failed at the lines of an event
   pub stop-write : (unflushed : Type 0) → unflushed → (w2 e2 : Option (List ℕ)) (event : Event) (X : Type 0) (wrote : Result X RunFault) (f : RunFault) (r : Result Tally RunFault) → result ≡ Ok event → IsEvent event
-      → WritesPieces w1 w2 e1 e2 (map piece (told event)) wrote → wrote ≡ Err f → r ≡ Err f → (bs : List ℕ) × RunSo (λ l. map piece (scan l)) left left' w w2 e e2 unflushed bs r
+      → WritesPieces w1 w2 e1 e2 (map piece (told event)) wrote → wrote ≡ Err f → r ≡ Err f → (bs : List ℕ) × RunSo (map piece) left left' w w2 e e2 unflushed bs r
   stop-write unflushed kept w2 e2 event X wrote f r is some writes fails same =
       let steps = rw is at next.steps in
       let on = goes-on s s' event (rw is at next.ends) some in
       let lines = rw fails at writes in
       let bs = ran.octets ++ steps.0 in
       let step = StepSo-then left mid left' s s' ran.octets steps.0 ran.events (told event) ran.step steps.1 in
-      let rest = scan_from 0 s'.at s'.rest in
+      let front = read-front s'.ended bs s'.rest (ran.events ++ told event) s'.at step.advances in
+      let rest = front.0 in
       let one = told-one event some in
       let O : List Happening → Type 0 = λ l. GrowsByFront w1 w2 (flat_map output_of (map piece l)) in
       let E : List Happening → Type 0 = λ l. GrowsByFront e1 e2 (flat_map errors_of (map piece l)) in
-      let P : Result Tally RunFault → Type 0 = λ x. RunSo (λ l. map piece (scan l)) left left' w w2 e e2 unflushed bs x in (
+      let P : Result Tally RunFault → Type 0 = λ x. RunSo (map piece) left left' w w2 e e2 unflushed bs x in (
         bs,
         subst P (sym (same ∙ ap Err lines.0)) (record {
           read = step.read;
-          end = step.end (λ end. absurd (false≢true end)) (next.whole (rw is (is-told event some)));
+          ended = s'.ended;
+          end = step.end (λ end. absurd (false≢true end));
           written = record {
             given = map piece ran.events;
             next = Some (piece one.0);
             rest = map piece rest;
-            parts = ap (map piece) (whole-scan s'.ended bs s'.rest (ran.events ++ told event) s'.at step.advances)
+            parts = ap (map piece) front.1
                 ∙ map-append piece (ran.events ++ told event) rest ∙ ap (λ l. l ++ map piece rest) (map-append piece ran.events (told event))
                 ∙ append_assoc (map piece ran.events) (map piece (told event)) (map piece rest)
                 ∙ ap (λ l. map piece ran.events ++ (map piece l ++ map piece rest)) one.1;
@@ -193,7 +219,7 @@ module _ (piece : Happening → Piece) (left mid left' : Option (List ℕ)) (rea
 
   -- all was read and written, and then flushed
   module _ (is : result ≡ Ok Done) (w2 e2 : Option (List ℕ)) (kept_w : Keeps w1 w2) (kept_e : Keeps e1 e2) where
-    pub flushed : (bs : List ℕ) × RunDone (λ l. map piece (scan l)) left left' w w2 e e2 bs tally
+    pub flushed : (bs : List ℕ) × RunDone (map piece) left left' w w2 e e2 bs tally
     flushed =
         let steps = rw is at next.steps in
         let done = (rw is at next.ends).1 in
@@ -212,14 +238,15 @@ module _ (piece : Happening → Piece) (left mid left' : Option (List ℕ)) (rea
         )
 
     -- a flush failed
-    pub stop-flush : (unflushed : Type 0) (f : RunFault) (r : Result Tally RunFault) → f ≡ Write → r ≡ Err f → (bs : List ℕ) × RunSo (λ l. map piece (scan l)) left left' w w2 e e2 unflushed bs r
+    pub stop-flush : (unflushed : Type 0) (f : RunFault) (r : Result Tally RunFault) → f ≡ Write → r ≡ Err f → (bs : List ℕ) × RunSo (map piece) left left' w w2 e e2 unflushed bs r
     stop-flush unflushed f r write same =
-        let P : Result Tally RunFault → Type 0 = λ x. RunSo (λ l. map piece (scan l)) left left' w w2 e e2 unflushed flushed.0 x in
+        let P : Result Tally RunFault → Type 0 = λ x. RunSo (map piece) left left' w w2 e e2 unflushed flushed.0 x in
         let all = map piece (scan flushed.0) in (
           flushed.0,
           subst P (sym (same ∙ ap Err write)) (record {
             read = flushed.1.read;
-            end = flushed.1.end;
+            ended = true;
+            end = λ _. flushed.1.end;
             written = record {
               given = all;
               next = None;
@@ -231,27 +258,32 @@ module _ (piece : Happening → Piece) (left mid left' : Option (List ℕ)) (rea
               output = grows-nil w2;
               errors = grows-nil e2;
             };
-            flushed = λ _. flushed.1.written;
+            flushed = λ _. (refl, flushed.1.written);
           }),
         )
 
 -- the octets that a reader tells are those that were read to its end
-pub all-known : (pieces_of : List ℕ → List Piece) (left left' w w' e e' : Option (List ℕ)) (tally : Tally) → ((bs : List ℕ) × RunDone pieces_of left left' w w' e e' bs tally)
-    → IfSome left (λ s. Written w w' e e' (pieces_of s) × Tallies tally (pieces_of s))
+pub all-known : (pieces_of : List Happening → List Piece) (left left' w w' e e' : Option (List ℕ)) (tally : Tally) → ((bs : List ℕ) × RunDone pieces_of left left' w w' e e' bs tally)
+    → IfSome left (λ s. Written w w' e e' (pieces_of (scan s)) × Tallies tally (pieces_of (scan s)))
 all-known pieces_of left left' w w' e e' tally (bs, done) =
-    Consumes-whole left left' bs (λ s. Written w w' e e' (pieces_of s) × Tallies tally (pieces_of s)) done.read done.end (done.written, done.tallies)
+    Consumes-whole left left' bs (λ s. Written w w' e e' (pieces_of (scan s)) × Tallies tally (pieces_of (scan s))) done.read done.end (done.written, done.tallies)
 
 -- the reads of a run
-pub makes-reads : {X : Type 0} (reads reads' : ℕ) (s : State) (r : Result X RunFault) → CountsReads reads reads' fresh s → (r ≡ Err InputTooLong → s.reads ≡ most_reads) → MakesReads reads reads' r
-makes-reads reads reads' s r counts long =
+pub makes-reads : {X : Type 0} (reads reads' : ℕ) (s : State) (r : Result X RunFault) → CountsReads reads reads' fresh s → (r ≡ Err InputTooLong → s.reads ≡ most_reads) → (r ≡ Err Memory → s.reads < most_reads) → MakesReads reads reads' r
+makes-reads reads reads' s r counts long wanted =
     let e : s.reads - 0 ≡ s.reads = omega arith in
-    (s.reads, counts.most, counts.made ∙ ap (counted reads) e, long)
+    (s.reads, counts.most, counts.made ∙ ap (counted reads) e, long, wanted)
 
 -- where the finder stopped
 pub makes-reads-stop : (reads mid reads' : ℕ) (mid_left left' : Option (List ℕ)) (s s' : State) (result : Result Event RunFault) (f : RunFault) (r : Result Tally RunFault)
     → CountsReads reads mid fresh s → NextSo mid_left left' mid reads' s s' result → s.fault ≡ None → result ≡ Err f → r ≡ Err f → MakesReads reads reads' r
 makes-reads-stop reads mid reads' mid_left left' s s' result f r before next sound is same =
-    makes-reads reads reads' s' r (CountsReads-then reads mid reads' s s' before next.counts) (λ long.
+    makes-reads reads reads' s' r (CountsReads-then reads mid reads' s s' before next.counts)
+    (λ long.
     let f_is : f ≡ InputTooLong = cc in
+    let stops = (rw (is, f_is) at next.ends).1 sound in
+    stops.1)
+    (λ wanted.
+    let f_is : f ≡ Memory = cc in
     let stops = (rw (is, f_is) at next.ends).1 sound in
     stops.1)

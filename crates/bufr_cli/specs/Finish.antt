@@ -1,24 +1,26 @@
 -- What the program says at its end, and its exit status. (a choice of this project)
-use Rattle.std.specs.Prelude.{ℕ, zero, suc, List, [], ◌∷◌, codes}
+-- Cited by public contracts.
+use Rattle.std.specs.Prelude.{ℕ, zero, suc, List, [], ◌∷◌, codes, decimal}
 use Rattle.bufr_frame.specs.declared.fault.RunFault.{RunFault}
 use Rattle.bufr_frame.specs.declared.fault.RunFault.TheVariants.{Read, Write, InputTooLong, Memory}
+use Rattle.bufr_frame.specs.Numbers.{number_of_run_fault}
 use Rattle.bufr_cli.specs.Writing.{joined}
 use Rattle.bufr_cli.specs.declared.finish.Outcome.{Outcome}
 use Rattle.bufr_cli.specs.declared.finish.Outcome.TheVariants.{Ran, Usage, CannotOpen, Run}
 
--- the line of a fault that ends a run
-abbrev pub run_fault_line : RunFault → List ℕ
-run_fault_line Read = codes "bufr: 70 read failed\n"
-run_fault_line Write = codes "bufr: 71 write failed\n"
-run_fault_line InputTooLong = codes "bufr: 72 input too long\n"
-run_fault_line Memory = codes "bufr: 73 out of memory\n"
+-- the text of a fault that ends a run
+abbrev pub run_fault_text : RunFault → List ℕ
+run_fault_text Read = codes "read failed"
+run_fault_text Write = codes "write failed"
+run_fault_text InputTooLong = codes "input too long"
+run_fault_text Memory = codes "out of memory"
 
 -- the line before status 2, or the usage text; nothing where the run went through
 abbrev pub last_line : Outcome → List ℕ
 last_line (Ran tally) = []
 last_line (Usage text) = text.now
 last_line (CannotOpen name) = joined (codes "bufr: cannot open " ∷ name.now ∷ codes "\n" ∷ [])
-last_line (Run fault) = run_fault_line fault
+last_line (Run fault) = joined (codes "bufr: " ∷ decimal (number_of_run_fault fault) ∷ codes " " ∷ run_fault_text fault ∷ codes "\n" ∷ [])
 
 -- 0 where nothing was refused, 1 where something was
 abbrev pub ran_status : (refused : ℕ) → ℕ

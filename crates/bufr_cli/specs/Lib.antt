@@ -3,6 +3,7 @@ pub mod Finish
 pub mod Line
 pub mod LsLine
 pub mod Pieces
+pub mod Program
 pub mod ReadAll
 pub mod Running
 pub mod Writing

@@ -1,6 +1,8 @@
 -- What a run writes on which writer, in order. (a choice of this project)
+-- Cited by public contracts.
 use Rattle.std.specs.Prelude.{ℕ, Bool, true, false, List, [], ◌∷◌, map, Result, Ok, Err}
 use Rattle.bufr_frame.specs.Scan.{Happening, Framed, Strayed, scan}
+use Rattle.bufr_frame.specs.Numbers.{number_of_cause, number_of_section_fault}
 use Rattle.bufr_frame.specs.Sections.{Sections, sections_of}
 use Rattle.bufr_frame.specs.declared.fault.SectionFault.{SectionFault}
 use Rattle.bufr_cli.specs.LsLine.{ls_line}
@@ -34,12 +36,12 @@ is_refused (OnErrors text) = true
 -- the line of a message that was taken apart, or the fault line
 abbrev pub listed : ℕ → Result Sections SectionFault → Piece
 listed offset (Ok sections) = OnOutput (ls_line offset sections)
-listed offset (Err fault) = OnErrors (fault_line offset (section_fault_text fault))
+listed offset (Err fault) = OnErrors (fault_line offset (number_of_section_fault fault) (section_fault_text fault))
 
 -- what `ls` writes for an event
 abbrev pub ls_piece : Happening → Piece
 ls_piece (Framed offset octets) = listed offset (sections_of octets)
-ls_piece (Strayed offset cause) = OnErrors (fault_line offset (cause_text cause ∷ []))
+ls_piece (Strayed offset cause) = OnErrors (fault_line offset (number_of_cause cause) (cause_text cause ∷ []))
 
 -- what `ls` writes for a whole input
 abbrev pub ls_pieces : List ℕ → List Piece

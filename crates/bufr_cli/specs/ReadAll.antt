@@ -1,4 +1,5 @@
 -- What reading a whole input answers. (a choice of this project)
+-- Cited by public contracts.
 use Rattle.std.specs.Prelude.{◌≡◌, ℕ, List, Option, Result, Ok, Err, Vec}
 use Rattle.std.specs.Global.{Global}
 use Rattle.std.specs.Io.KnownBytes.{Consumes, IsAtEnd}

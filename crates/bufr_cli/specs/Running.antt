@@ -1,6 +1,8 @@
 -- What a run leaves, by its answer. (a choice of this project)
-use Rattle.std.specs.Prelude.{◌≡◌, ◌⊎◌, ℕ, ◌+◌, List, [], ◌++◌, Option, Result, Ok, Err, flat_map, count_by, option_to_list}
+-- Cited by public contracts.
+use Rattle.std.specs.Prelude.{◌≡◌, ◌⊎◌, ℕ, ◌+◌, Bool, true, false, List, ◌++◌, Option, Result, Ok, Err, flat_map, count_by, option_to_list}
 use Rattle.std.specs.Io.KnownBytes.{Consumes, Appends, IsAtEnd}
+use Rattle.bufr_frame.specs.Scan.{Happening, scan, open_scan}
 use Rattle.bufr_frame.specs.declared.fault.RunFault.{RunFault}
 use Rattle.bufr_frame.specs.declared.fault.RunFault.TheVariants.{Read, Write, InputTooLong, Memory}
 use Rattle.bufr_cli.specs.Writing.{GrowsByFront}
@@ -30,30 +32,36 @@ pub record Tallies (tally : Tally) (pieces : List Piece) : Type 0 where
   pub refused : tally.refused ≡ count_by is_refused pieces
 
 -- The input was read to its end, its pieces were written and counted.
-pub record RunDone (pieces_of : List ℕ → List Piece) (left left' w w' e e' : Option (List ℕ)) (bs : List ℕ) (tally : Tally) : Type 0 where
+pub record RunDone (pieces_of : List Happening → List Piece) (left left' w w' e e' : Option (List ℕ)) (bs : List ℕ) (tally : Tally) : Type 0 where
   pub read : Consumes left left' bs
   pub end : IsAtEnd left'
-  pub written : Written w w' e e' (pieces_of bs)
-  pub tallies : Tallies tally (pieces_of bs)
+  pub written : Written w w' e e' (pieces_of (scan bs))
+  pub tallies : Tallies tally (pieces_of (scan bs))
 
--- The run stopped before anything was written.
-pub record RunStopped (left left' w w' e e' : Option (List ℕ)) (bs : List ℕ) : Type 0 where
+-- The run stopped before the end, and the pieces of all that was certain were written.
+pub record RunStopped (pieces_of : List Happening → List Piece) (left left' w w' e e' : Option (List ℕ)) (bs : List ℕ) : Type 0 where
   pub read : Consumes left left' bs
-  pub written : Written w w' e e' []
+  pub written : Written w w' e e' (pieces_of (open_scan bs))
 
--- The input was read to its end, and a writer failed; where a flush was tried, all stands.
-pub record RunCut (pieces_of : List ℕ → List Piece) (left left' w w' e e' : Option (List ℕ)) (unflushed : Type 0) (bs : List ℕ) : Type 0 where
+-- the events of the octets that were read: all, where the end was reached, and else those that are certain
+abbrev pub read_events : (ended : Bool) → List ℕ → List Happening
+read_events true bs = scan bs
+read_events false bs = open_scan bs
+
+-- A writer failed, or memory was refused: of what was read a front was written; where a flush was tried, all stands.
+pub record RunCut (pieces_of : List Happening → List Piece) (left left' w w' e e' : Option (List ℕ)) (unflushed : Type 0) (bs : List ℕ) : Type 0 where
   pub read : Consumes left left' bs
-  pub end : IsAtEnd left'
-  pub written : WrittenInPart w w' e e' (pieces_of bs)
-  pub flushed : ¬ unflushed → Written w w' e e' (pieces_of bs)
+  pub ended : Bool
+  pub end : ended ≡ true → IsAtEnd left'
+  pub written : WrittenInPart w w' e e' (pieces_of (read_events ended bs))
+  pub flushed : ¬ unflushed → (ended ≡ true) × Written w w' e e' (pieces_of (scan bs))
 
--- what a run leaves that reads these octets; for now the input is read whole before anything is written
-abbrev pub RunSo : (pieces_of : List ℕ → List Piece) → (left left' w w' e e' : Option (List ℕ)) → (unflushed : Type 0) → List ℕ → Result Tally RunFault → Type 0
+-- what a run leaves that reads these octets
+abbrev pub RunSo : (pieces_of : List Happening → List Piece) → (left left' w w' e e' : Option (List ℕ)) → (unflushed : Type 0) → List ℕ → Result Tally RunFault → Type 0
 RunSo pieces_of left left' w w' e e' unflushed bs (Ok tally) = RunDone pieces_of left left' w w' e e' bs tally
-RunSo pieces_of left left' w w' e e' unflushed bs (Err Read) = RunStopped left left' w w' e e' bs
-RunSo pieces_of left left' w w' e e' unflushed bs (Err InputTooLong) = RunStopped left left' w w' e e' bs
-RunSo pieces_of left left' w w' e e' unflushed bs (Err Memory) = RunStopped left left' w w' e e' bs
+RunSo pieces_of left left' w w' e e' unflushed bs (Err Read) = RunStopped pieces_of left left' w w' e e' bs
+RunSo pieces_of left left' w w' e e' unflushed bs (Err InputTooLong) = RunStopped pieces_of left left' w w' e e' bs
+RunSo pieces_of left left' w w' e e' unflushed bs (Err Memory) = RunCut pieces_of left left' w w' e e' unflushed bs
 RunSo pieces_of left left' w w' e e' unflushed bs (Err Write) = RunCut pieces_of left left' w w' e e' unflushed bs
 
 -- pieces were written, or a front of them where a writer failed

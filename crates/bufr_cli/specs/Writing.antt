@@ -1,4 +1,5 @@
 -- What a writer gains, whole or in part, and what it counts. (a choice of this project)
+-- Cited by public contracts.
 use Rattle.std.specs.Prelude.{◌≡◌, ◌⊎◌, ℕ, ◌-◌, ◌≤◌, Bool, List, [], ◌∷◌, ◌++◌, Option, Result, Ok, Err, codes, decimal, length, replicate, if◌then◌else◌}
 use Rattle.std.specs.Io.KnownBytes.{Appends}
 use Rattle.bufr_bits.specs.Counts.{counted}
@@ -18,6 +19,11 @@ pub record GrowsByFront (old new : Option (List ℕ)) (text : List ℕ) : Type 0
 abbrev pub Writes : {X : Type 0} → Option (List ℕ) → Option (List ℕ) → List ℕ → Result X RunFault → Type 0
 Writes old new text (Ok x) = Appends old new text
 Writes old new text (Err fault) = (fault ≡ Write) × GrowsByFront old new text
+
+-- a text was added to a line; what the line held before and does not hold now was written, or a front of it all where the writer failed
+abbrev pub Composes : {X : Type 0} → (old new : Option (List ℕ)) → (line line' text : List ℕ) → Result X RunFault → Type 0
+Composes old new line line' text (Ok x) = (written : List ℕ) × Appends old new written × (line ++ text ≡ written ++ line')
+Composes old new line line' text (Err fault) = (fault ≡ Write) × GrowsByFront old new (line ++ text)
 
 -- no call of the writer failed or took nothing
 abbrev pub Stays : (failures failures' empty empty' : ℕ) → Type 0

@@ -1,20 +1,21 @@
 //! The lines that tell the faults of a stream and of a message.
-ghost use Rattle.std.specs.Prelude.{◌≡◌, [], ◌∷◌, decimal};
-ghost use Rattle.bufr_cli.specs.Writing.{Writes, CountsWrites};
+ghost use Rattle.std.specs.Prelude.{◌≡◌, [], ◌∷◌};
+ghost use Rattle.bufr_frame.specs.Numbers.{number_of_cause, number_of_section_fault};
+ghost use Rattle.bufr_cli.specs.Writing.{Writes, CountsWrites, part_text, IsShort};
 ghost use Rattle.bufr_cli.specs.FaultLine.{fault_line, cause_text, section_fault_text};
 
 use crate::part::{Part, write_parts};
 use bufr_bits::Sink;
 use bufr_frame::{Cause, RunFault, SectionFault};
 
-/// The number and the text of a stray word.
+/// The text of a stray word.
 fn text_of(cause: Cause) -> &'static [u8]
     ensures { result.now ≡ cause_text cause }
 {
     match cause {
-        Cause::Cut => b"1 cut",
-        Cause::ShortLength => b"2 short length",
-        Cause::NoEnd => b"3 no end",
+        Cause::Cut => b"cut",
+        Cause::ShortLength => b"short length",
+        Cause::NoEnd => b"no end",
     }
 }
 
@@ -24,18 +25,12 @@ fn text_of(cause: Cause) -> &'static [u8]
 ///
 /// [`RunFault::Write`] where the writer fails or takes nothing; a front of the line was taken.
 pub fn write_stray<E: Sink>(offset: u64, cause: Cause, e: &mut E) -> Result<(), RunFault>
-    ensures writes { Writes (E.taken e.old) (E.taken e.new) (fault_line offset (cause_text cause ∷ [])) result }
+    ensures writes { Writes (E.taken e.old) (E.taken e.new) (fault_line offset (number_of_cause cause) (cause_text cause ∷ [])) result }
     ensures counts { CountsWrites (E.failures e.old) (E.failures e.new) (E.empty_writes e.old) (E.empty_writes e.new) result }
     ensures flushes { E.flushes e.new ≡ E.flushes e.old }
 {
-    let parts = [
-        Part::Text(b"offset "),
-        Part::Decimal(offset),
-        Part::Text(b": "),
-        Part::Text(text_of(cause)),
-        Part::Text(b"\n"),
-    ];
-    write_parts(&parts, e)
+    let number = cause.number();
+    write_fault(offset, number, text_of(cause), Part::Text(b""), b"", e)
 }
 
 /// Writes the line of a message at `offset`, in octets from 0, that cannot be taken apart. It takes
@@ -49,42 +44,43 @@ pub fn write_section_fault<E: Sink>(
     fault: SectionFault,
     e: &mut E,
 ) -> Result<(), RunFault>
-    ensures writes { Writes (E.taken e.old) (E.taken e.new) (fault_line offset (section_fault_text fault)) result }
+    ensures writes { Writes (E.taken e.old) (E.taken e.new) (fault_line offset (number_of_section_fault fault) (section_fault_text fault)) result }
     ensures counts { CountsWrites (E.failures e.old) (E.failures e.new) (E.empty_writes e.old) (E.empty_writes e.new) result }
     ensures flushes { E.flushes e.new ≡ E.flushes e.old }
 {
+    let number = fault.number();
     match fault {
-        SectionFault::Edition(edition) => write_numbered(offset, b"10 edition ", edition, b"", e),
-        SectionFault::SectionShort(k) => write_numbered(offset, b"11 section ", k, b" short", e),
-        SectionFault::SectionPast(k) => write_numbered(
-            offset,
-            b"12 section ",
-            k,
-            b" past the end",
-            e,
-        ),
+        SectionFault::Edition(edition) => {
+            let edition = Part::Decimal(u64::from(edition));
+            write_fault(offset, number, b"edition ", edition, b"", e)
+        }
+        SectionFault::SectionShort(section) => {
+            let section = Part::Decimal(u64::from(section));
+            write_fault(offset, number, b"section ", section, b" short", e)
+        }
+        SectionFault::SectionPast(section) => {
+            let section = Part::Decimal(u64::from(section));
+            write_fault(offset, number, b"section ", section, b" past the end", e)
+        }
         SectionFault::SectionsEnd => {
-            let parts = [
-                Part::Text(b"offset "),
-                Part::Decimal(offset),
-                Part::Text(b": "),
-                Part::Text(b"13 sections do not meet the end"),
-                Part::Text(b"\n"),
-            ];
-            write_parts(&parts, e)
+            let text = b"sections do not meet the end";
+            write_fault(offset, number, text, Part::Text(b""), b"", e)
         }
     }
 }
 
-/// Writes a fault line whose text is a number between two texts.
-fn write_numbered<'a, E: Sink>(
+/// Writes a fault line: where `BUFR` stands, the fault's number, and its text, a value between two
+/// texts.
+fn write_fault<'a, E: Sink>(
     offset: u64,
-    before: &'a [u8],
     number: u8,
+    before: &'a [u8],
+    value: Part<'a>,
     after: &'a [u8],
     e: &mut E,
 ) -> Result<(), RunFault>
-    ensures writes { Writes (E.taken e.old) (E.taken e.new) (fault_line offset (before.now ∷ decimal number ∷ after.now ∷ [])) result }
+    requires { IsShort value }
+    ensures writes { Writes (E.taken e.old) (E.taken e.new) (fault_line offset number (before.entry.now ∷ part_text value.entry ∷ after.entry.now ∷ [])) result }
     ensures counts { CountsWrites (E.failures e.old) (E.failures e.new) (E.empty_writes e.old) (E.empty_writes e.new) result }
     ensures flushes { E.flushes e.new ≡ E.flushes e.old }
 {
@@ -92,8 +88,10 @@ fn write_numbered<'a, E: Sink>(
         Part::Text(b"offset "),
         Part::Decimal(offset),
         Part::Text(b": "),
-        Part::Text(before),
         Part::Decimal(u64::from(number)),
+        Part::Text(b" "),
+        Part::Text(before),
+        value,
         Part::Text(after),
         Part::Text(b"\n"),
     ];

@@ -2,7 +2,7 @@
 ghost use Rattle.std.specs.Prelude.{◌≡◌, ◌<◌, ◌-◌, ◌^◌};
 ghost use Rattle.std.specs.Io.KnownBytes.{Appends};
 ghost use Rattle.bufr_cli.specs.Writing.{CountsWrites, GrowsByFront, Stays, Writes};
-ghost use Rattle.bufr_cli.specs.Finish.{last_line, run_fault_line, status_of};
+ghost use Rattle.bufr_cli.specs.Finish.{last_line, run_fault_text, status_of};
 
 use crate::part::{Part, write_all, write_parts};
 use crate::tally::Tally;
@@ -22,15 +22,15 @@ pub enum Outcome<'a> {
     Run(RunFault),
 }
 
-/// The line of a fault that ends a run.
-fn fault_text(fault: RunFault) -> &'static [u8]
-    ensures { result.now ≡ run_fault_line fault }
+/// The text of a fault that ends a run.
+fn text_of(fault: RunFault) -> &'static [u8]
+    ensures { result.now ≡ run_fault_text fault }
 {
     match fault {
-        RunFault::Read => b"bufr: 70 read failed\n",
-        RunFault::Write => b"bufr: 71 write failed\n",
-        RunFault::InputTooLong => b"bufr: 72 input too long\n",
-        RunFault::Memory => b"bufr: 73 out of memory\n",
+        RunFault::Read => b"read failed",
+        RunFault::Write => b"write failed",
+        RunFault::InputTooLong => b"input too long",
+        RunFault::Memory => b"out of memory",
     }
 }
 
@@ -58,6 +58,21 @@ fn write_cannot_open<E: Sink>(name: &str, e: &mut E) -> Result<(), RunFault>
     write_parts(&parts, e)
 }
 
+/// Writes the number and the text of a fault that ended the run.
+fn write_run_fault<E: Sink>(fault: RunFault, e: &mut E) -> Result<(), RunFault>
+    ensures writes { Writes (E.taken e.old) (E.taken e.new) (last_line (Outcome.Run fault)) result }
+    ensures counts { CountsWrites (E.failures e.old) (E.failures e.new) (E.empty_writes e.old) (E.empty_writes e.new) result }
+{
+    let parts = [
+        Part::Text(b"bufr: "),
+        Part::Decimal(u64::from(fault.number())),
+        Part::Text(b" "),
+        Part::Text(text_of(fault)),
+        Part::Text(b"\n"),
+    ];
+    write_parts(&parts, e)
+}
+
 /// Writes the line that goes before status 2, or the usage text, or nothing.
 fn write_last<E: Sink>(outcome: &Outcome<'_>, e: &mut E) -> Result<(), RunFault>
     ensures writes { Writes (E.taken e.old) (E.taken e.new) (last_line outcome.now) result }
@@ -67,7 +82,7 @@ fn write_last<E: Sink>(outcome: &Outcome<'_>, e: &mut E) -> Result<(), RunFault>
         Outcome::Ran(_) => Ok(()),
         Outcome::Usage(text) => write_all(text.as_bytes(), e),
         Outcome::CannotOpen(name) => write_cannot_open(name, e),
-        Outcome::Run(fault) => write_all(fault_text(*fault), e),
+        Outcome::Run(fault) => write_run_fault(*fault, e),
     }
 }
 

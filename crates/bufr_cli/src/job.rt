@@ -26,15 +26,48 @@ pub struct Job<'a> {
 }
 
 /// Why a command line gives no job.
-#[derive(Debug, Drop)]
+#[derive(Debug, Drop, thiserror::Error)]
 pub enum LineFault {
-    /// It asks for help: this text, for standard output.
+    /// It asks for help or for the version: this text, for standard output.
+    #[error("help was asked for")]
     Help(String),
     /// It is not understood: this text, for standard error.
+    #[error("the command line is not understood")]
     Usage(String),
     /// Memory ran out.
+    #[error("out of memory")]
     Memory,
 }
+
+/// The version that `bufr --version` tells.
+const VERSION: &str = "0.1.0";
+
+/// What stands under the help of the program.
+const PROGRAM_NOTES: &str = "\
+Exit status:
+  0  nothing was refused
+  1  a message was refused, or a BUFR begins none
+  2  the command line, a file, reading, writing or memory failed
+
+Example:
+  bufr ls bulletins.bufr";
+
+/// What stands under the help of `ls`.
+const LS_NOTES: &str = "\
+A line for each message goes to standard output, and a line for each fault to
+standard error, with its offset in octets and its number:
+  1-3    a BUFR that begins no message: cut, a length under 12, no 7777
+  10     another edition than 4
+  11-13  sections that do not fit the message
+  70-73  reading, writing, an endless input, memory
+
+Exit status:
+  0  nothing was refused
+  1  a message was refused, or a BUFR begins none
+  2  the command line, the file, reading, writing or memory failed
+
+Example:
+  bufr ls bulletins.bufr 2> faults.txt";
 
 impl From<AllocError> for LineFault {
     ghost use Rattle.std.specs.Prelude.{◌≡◌};
@@ -55,6 +88,7 @@ fn ls_command<'a>(alloc: Global) -> Result<clap::Command<'a>, AllocError>
     let file = Arg::new(alloc, "FILE").help("The file to list; standard input without it");
     clap::Command::new(alloc, "ls")
         .about("Lists each BUFR message on a line")
+        .after_help(LS_NOTES)
         .arg(file)
 }
 
@@ -66,6 +100,8 @@ fn bufr_command<'a>(alloc: Global) -> Result<clap::Command<'a>, AllocError>
     clap::Command::new(alloc, "bufr")
         .bin_name("bufr")?
         .about("Lists messages of FM 94 BUFR")
+        .after_help(PROGRAM_NOTES)
+        .version(VERSION)
         .subcommand_required(true)
         .subcommand(ls)
 }
@@ -89,9 +125,15 @@ fn fault_of(alloc: Global, error: &Error) -> LineFault {
 
 /// What the words of a command line ask for; the first is the program's name.
 ///
+/// ```
+/// let words = ["bufr", "ls", "bulletins.bufr"];
+/// let job = parse_line(rt.alloc(), words.as_slice())?;
+/// assert!(rt; job.command == Subcommand::Ls && job.file == Some("bulletins.bufr"));
+/// ```
+///
 /// # Errors
 ///
-/// [`LineFault::Help`] where help is asked for, [`LineFault::Usage`] where the words are not
+/// [`LineFault::Help`] where help or the version is asked for, [`LineFault::Usage`] where the words are not
 /// understood or no command is among them, and [`LineFault::Memory`].
 pub fn parse_line<'a, S: AsStr>(alloc: Global, words: &'a [S]) -> Result<Job<'a>, LineFault>
     ensures { IfOk result (λ job. IsJobOf (subcommand_of bufr_app (map S.text words.entry.now)) job) }

@@ -6,6 +6,7 @@ mod finish;
 mod job;
 mod ls_line;
 mod part;
+mod program;
 mod read_all;
 mod run_ls;
 mod tally;
@@ -13,105 +14,75 @@ mod tally;
 use bufr_bits::{Device, Sink};
 use bufr_frame::RunFault;
 use finish::{Outcome, finish};
-use job::{Job, LineFault, Subcommand, parse_line};
-use run_ls::run_ls;
-use std::fs;
-use std::io::{BufReader, BufWriter, ErrorKind, Read};
+use program::{BUFFERED, Inputs, Unopened, run};
+use std::fs::{self, File};
+use std::io::{BufWriter, ErrorKind, Stdin};
 use std::process::ExitCode;
-use tally::Tally;
 
 #[cfg(test)]
 mod tests;
 
-/// Runs the command line, and answers the exit status of [`finish`], or 0 for help.
-fn main(rt: HostRuntime) -> ExitCode {
-    let status = match BufWriter::new(rt.alloc(), rt.stderr()) {
-        Ok(errors) => {
-            let mut errors = Device::new(errors);
-            let status = run(&rt, &mut errors);
-            let _ = errors.flush();
-            status
+/// The inputs of the process, of whose octets nothing is known before they are read.
+impl Inputs for HostRuntime {
+    ghost use Rattle.std.specs.Prelude.{None};
+
+    type Standard = Stdin;
+
+    type File = File;
+
+    ghost standard_octets = { λ _. None };
+
+    ghost file_octets = { λ _ _. None };
+
+    fn standard(&self) -> Stdin {
+        self.stdin()
+    }
+
+    fn open(&self, name: &str) -> Result<File, Unopened> {
+        match fs::open(self, name) {
+            Ok(file) => Ok(file),
+            Err(_) => Err(Unopened),
         }
-        Err(_) => finish(
+    }
+}
+
+/// Runs the command line over the process's own inputs and writers.
+fn main(rt: HostRuntime) -> ExitCode {
+    ExitCode::from(status(&rt))
+}
+
+/// The exit status of the process.
+fn status(rt: &HostRuntime) -> u8 {
+    let Ok(errors) = BufWriter::with_capacity(rt.alloc(), BUFFERED, rt.stderr()) else {
+        return finish(
             &Outcome::Run(RunFault::Memory),
             &mut Device::new(rt.stderr()),
-        ),
+        );
     };
-    ExitCode::from(status)
+    let mut e = Device::new(errors);
+    let status = match BufWriter::with_capacity(rt.alloc(), BUFFERED, rt.stdout()) {
+        Ok(output) => run_words(rt, &mut Device::new(output), &mut e),
+        Err(_) => finish(&Outcome::Run(RunFault::Memory), &mut e),
+    };
+    let _ = e.flush();
+    status
 }
 
-/// Reads the words, and does what they ask for.
-fn run<E: Sink>(rt: &HostRuntime, errors: &mut E) -> u8 {
-    let words: Vec<String> = match words(rt) {
-        Ok(words) => words,
-        Err(outcome) => return finish(&outcome, errors),
-    };
-    match parse_line(rt.alloc(), words.as_slice()) {
-        Ok(job) => {
-            let outcome = run_job(rt, job, errors);
-            finish(&outcome, errors)
-        }
-        Err(LineFault::Help(text)) => match rt.print(text) {
-            Ok(()) => 0,
-            Err(_) => finish(&Outcome::Run(RunFault::Write), errors),
-        },
-        Err(LineFault::Usage(text)) => finish(&Outcome::Usage(text.as_str()), errors),
-        Err(LineFault::Memory) => finish(&Outcome::Run(RunFault::Memory), errors),
-    }
-}
-
-/// The words of the command line, or how the call came out without them.
-fn words(rt: &HostRuntime) -> Result<Vec<String>, Outcome<'static>> {
-    match std::env::args(rt) {
-        Ok(words) => match words.collect(rt.alloc()) {
-            Ok(words) => Ok(words),
-            Err(_) => Err(Outcome::Run(RunFault::Memory)),
-        },
+/// Runs the words of the command line.
+fn run_words<W: Sink, E: Sink>(rt: &HostRuntime, w: &mut W, e: &mut E) -> u8 {
+    let words: Result<Vec<String>, _> = match std::env::args(rt) {
+        Ok(words) => words.collect(rt.alloc()),
         Err(error) => {
-            if error.kind() == ErrorKind::OutOfMemory {
-                Err(Outcome::Run(RunFault::Memory))
+            let outcome = if error.kind() == ErrorKind::OutOfMemory {
+                Outcome::Run(RunFault::Memory)
             } else {
-                Err(Outcome::Usage("error: an argument is not UTF-8\n"))
-            }
+                Outcome::Usage("error: an argument is not UTF-8\n")
+            };
+            return finish(&outcome, e);
         }
+    };
+    match words {
+        Ok(words) => run(rt.alloc(), words.as_slice(), rt, w, e),
+        Err(_) => finish(&Outcome::Run(RunFault::Memory), e),
     }
-}
-
-/// Opens the input and does the job over it.
-fn run_job<'a, E: Sink>(rt: &HostRuntime, job: Job<'a>, errors: &mut E) -> Outcome<'a> {
-    let Job {
-        command: Subcommand::Ls,
-        file,
-    } = job;
-    let ran = match file {
-        None => list(rt, rt.stdin(), errors),
-        Some(name) => match fs::open(rt, name) {
-            Ok(input) => list(rt, input, errors),
-            Err(_) => return Outcome::CannotOpen(name),
-        },
-    };
-    match ran {
-        Ok(tally) => Outcome::Ran(tally),
-        Err(fault) => Outcome::Run(fault),
-    }
-}
-
-/// Lists the messages of an input on standard output.
-fn list<R: Read + Drop, E: Sink>(
-    rt: &HostRuntime,
-    input: R,
-    errors: &mut E,
-) -> Result<Tally, RunFault> {
-    let Ok(input) = BufReader::new(rt.alloc(), input) else {
-        return Err(RunFault::Memory);
-    };
-    let Ok(output) = BufWriter::new(rt.alloc(), rt.stdout()) else {
-        return Err(RunFault::Memory);
-    };
-    let mut input = Device::new(input);
-    let mut output = Device::new(output);
-    let ran = run_ls(rt.alloc(), &mut input, &mut output, errors);
-    // after a fault, what was written is handed on too
-    let _ = output.flush();
-    ran
 }

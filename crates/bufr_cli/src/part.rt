@@ -1,8 +1,9 @@
-//! Texts written in parts, with nothing allocated.
+//! Texts put together from parts and written whole, with nothing allocated.
 ghost use Rattle.std.specs.Prelude.{◌≡◌, ◌≤◌, ◌-◌, length, drop, flat_map, decimal, replicate};
 ghost use Rattle.std.specs.List.{AllByRecursion};
-ghost use Rattle.bufr_cli.specs.Writing.{Writes, CountsWrites, part_text, padded, IsShort};
+ghost use Rattle.bufr_cli.specs.Writing.{Writes, Composes, CountsWrites, part_text, padded, IsShort};
 
+use arrayvec::ArrayVec;
 use bufr_bits::Sink;
 use bufr_frame::RunFault;
 use itoa::Buffer;
@@ -20,6 +21,12 @@ pub enum Part<'a> {
     Flag(bool),
 }
 
+/// The octets that a line is put together in; the longest listing line has 226.
+const LINE: usize = 256;
+
+/// A line, or its first part, before it is written.
+type Line = ArrayVec<u8, LINE>;
+
 /// The octets from `n` on.
 fn behind(s: &[u8], n: usize) -> &[u8]
     requires { n ≤ length s.now }
@@ -28,8 +35,8 @@ fn behind(s: &[u8], n: usize) -> &[u8]
     &s[n..]
 }
 
-/// So many zeros.
-fn zeros(n: usize) -> &'static [u8]
+/// So many digits `0`.
+fn zero_digits(n: usize) -> &'static [u8]
     requires { n ≤ 4 }
     ensures { result.now ≡ replicate n 48 }
 {
@@ -57,45 +64,60 @@ pub fn write_all<W: Sink>(octets: &[u8], w: &mut W) -> Result<(), RunFault>
     Ok(())
 }
 
-/// Writes a number in at least `least` digits.
-fn write_padded<W: Sink>(value: u64, least: usize, w: &mut W) -> Result<(), RunFault>
+/// Adds octets to the line; where they do not fit, the line so far and they are written.
+fn add<W: Sink>(octets: &[u8], line: &mut Line, w: &mut W) -> Result<(), RunFault>
+    ensures composes { Composes (W.taken w.old) (W.taken w.new) line.old.items line.new.items octets.now result }
+    ensures counts { CountsWrites (W.failures w.old) (W.failures w.new) (W.empty_writes w.old) (W.empty_writes w.new) result }
+    ensures flushes { W.flushes w.new ≡ W.flushes w.old }
+{
+    if line.try_extend_from_slice(octets).is_ok() {
+        return Ok(());
+    }
+    write_all(line.as_slice(), w)?;
+    line.clear();
+    write_all(octets, w)
+}
+
+/// Adds a number in at least `least` digits to the line.
+fn add_padded<W: Sink>(value: u64, least: usize, line: &mut Line, w: &mut W) -> Result<(), RunFault>
     requires { least ≤ 4 }
-    ensures writes { Writes (W.taken w.old) (W.taken w.new) (padded least value) result }
+    ensures composes { Composes (W.taken w.old) (W.taken w.new) line.old.items line.new.items (padded least value) result }
     ensures counts { CountsWrites (W.failures w.old) (W.failures w.new) (W.empty_writes w.old) (W.empty_writes w.new) result }
     ensures flushes { W.flushes w.new ≡ W.flushes w.old }
 {
     let mut buffer = Buffer::new();
     let digits = buffer.format(value).as_bytes();
-    write_all(zeros(least.saturating_sub(digits.len())), w)?;
-    write_all(digits, w)
+    add(zero_digits(least.saturating_sub(digits.len())), line, w)?;
+    add(digits, line, w)
 }
 
-/// Writes a number.
-fn write_decimal<W: Sink>(value: u64, w: &mut W) -> Result<(), RunFault>
-    ensures writes { Writes (W.taken w.old) (W.taken w.new) (decimal value) result }
+/// Adds a number to the line.
+fn add_decimal<W: Sink>(value: u64, line: &mut Line, w: &mut W) -> Result<(), RunFault>
+    ensures composes { Composes (W.taken w.old) (W.taken w.new) line.old.items line.new.items (decimal value) result }
     ensures counts { CountsWrites (W.failures w.old) (W.failures w.new) (W.empty_writes w.old) (W.empty_writes w.new) result }
     ensures flushes { W.flushes w.new ≡ W.flushes w.old }
 {
     let mut buffer = Buffer::new();
-    write_all(buffer.format(value).as_bytes(), w)
+    add(buffer.format(value).as_bytes(), line, w)
 }
 
-/// Writes a part.
-fn write_part<W: Sink>(part: Part<'_>, w: &mut W) -> Result<(), RunFault>
+/// Adds a part to the line.
+fn add_part<W: Sink>(part: Part<'_>, line: &mut Line, w: &mut W) -> Result<(), RunFault>
     requires { IsShort part }
-    ensures writes { Writes (W.taken w.old) (W.taken w.new) (part_text part.entry) result }
+    ensures composes { Composes (W.taken w.old) (W.taken w.new) line.old.items line.new.items (part_text part.entry) result }
     ensures counts { CountsWrites (W.failures w.old) (W.failures w.new) (W.empty_writes w.old) (W.empty_writes w.new) result }
     ensures flushes { W.flushes w.new ≡ W.flushes w.old }
 {
     match part {
-        Part::Text(octets) => write_all(octets, w),
-        Part::Decimal(value) => write_decimal(value, w),
-        Part::Padded(value, least) => write_padded(value, least, w),
-        Part::Flag(on) => write_all(if on { b"1" } else { b"0" }, w),
+        Part::Text(octets) => add(octets, line, w),
+        Part::Decimal(value) => add_decimal(value, line, w),
+        Part::Padded(value, least) => add_padded(value, least, line, w),
+        Part::Flag(on) => add(if on { b"1" } else { b"0" }, line, w),
     }
 }
 
-/// Writes parts, one after another.
+/// Writes parts, one after another. They are put together first, so that a text of at most 256
+/// octets, as each listing and fault line is, goes to the writer in one write.
 ///
 /// # Errors
 ///
@@ -106,8 +128,9 @@ pub fn write_parts<W: Sink>(parts: &[Part<'_>], w: &mut W) -> Result<(), RunFaul
     ensures counts { CountsWrites (W.failures w.old) (W.failures w.new) (W.empty_writes w.old) (W.empty_writes w.new) result }
     ensures flushes { W.flushes w.new ≡ W.flushes w.old }
 {
+    let mut line = Line::new();
     for part in parts {
-        write_part(*part, w)?;
+        add_part(*part, &mut line, w)?;
     }
-    Ok(())
+    write_all(line.as_slice(), w)
 }

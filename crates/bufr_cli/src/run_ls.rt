@@ -1,5 +1,5 @@
 //! `bufr ls`: lists the messages of a stream.
-ghost use Rattle.std.specs.Prelude.{◌≡◌, ◌≤◌, ◌<◌, ◌+◌, ◌^◌, ℕ, List, true, IfOk, OnOk, IfErr, IfSome, map};
+ghost use Rattle.std.specs.Prelude.{◌≡◌, ◌≢◌, ◌≤◌, ◌<◌, ◌+◌, ◌^◌, ℕ, List, true, IfOk, OnOk, IfErr, IfSome, map};
 ghost use Rattle.std.specs.Io.KnownBytes.{Keeps};
 ghost use Rattle.bufr_bits.specs.Counts.{counted};
 ghost use Rattle.bufr_frame.specs.Events.{told, IsEvent};
@@ -72,14 +72,22 @@ fn flush<W: Sink>(w: &mut W) -> Result<(), RunFault>
 }
 
 /// Lists the messages of `r`: for each a line on `w`, and for each stray `BUFR` and each message
-/// that cannot be taken apart a fault line on `e`, in the order of the stream. At the end `w`, then
-/// `e` is flushed. For now the input is read whole before anything is written.
+/// that cannot be taken apart a fault line on `e`, in the order of the stream, each as soon as it is
+/// certain. At the end `w`, then `e` is flushed.
+///
+/// ```
+/// let mut r = Device::new(b"BUFR".as_slice());
+/// let mut w = Device::new(Vec::new(rt.alloc()));
+/// let mut e = Device::new(Vec::new(rt.alloc()));
+/// let tally = run_ls(rt.alloc(), &mut r, &mut w, &mut e)?; // `offset 0: 1 cut` is on `e`
+/// assert_eq!(rt; tally.refused, 1);
+/// ```
 ///
 /// # Errors
 ///
 /// [`RunFault::Read`], [`RunFault::InputTooLong`] and [`RunFault::Memory`] as [`Finder::next`]
-/// gives them; nothing was written then. [`RunFault::Write`] where a writer failed or took nothing:
-/// a front of the lines was written.
+/// gives them; the lines of all that was certain were written then. [`RunFault::Write`] where a
+/// writer failed or took nothing: a front of the lines was written.
 pub fn run_ls<R: Source, W: Sink, E: Sink>(
     alloc: Global,
     r: &mut R,
@@ -89,9 +97,11 @@ pub fn run_ls<R: Source, W: Sink, E: Sink>(
     // At `Ok` the writers hold exactly the lines of the whole input, and the tally counts them.
     ensures whole { IfOk result (λ tally. IfSome (R.left r.old) (λ s.
         Written (W.taken w.old) (W.taken w.new) (E.taken e.old) (E.taken e.new) (ls_pieces s) × Tallies tally (ls_pieces s))) }
+    // The errors are flushed only where the output was before.
+    ensures order { E.flushes e.new ≢ E.flushes e.old → W.handed_on w.new ≡ true }
     ensures flushed { OnOk result ((W.handed_on w.new ≡ true) × (E.handed_on e.new ≡ true)) }
     // The same over the octets that were read, and what a fault leaves.
-    ensures run { (bs : List ℕ) × RunSo ls_pieces (R.left r.old) (R.left r.new) (W.taken w.old) (W.taken w.new) (E.taken e.old) (E.taken e.new)
+    ensures run { (bs : List ℕ) × RunSo (map ls_piece) (R.left r.old) (R.left r.new) (W.taken w.old) (W.taken w.new) (E.taken e.old) (E.taken e.new)
         ((W.flushes w.new ≡ W.flushes w.old) × (E.flushes e.new ≡ E.flushes e.old)) bs result }
 
     // Each fault comes only where its device failed in this call.

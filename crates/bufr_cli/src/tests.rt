@@ -2,11 +2,14 @@
 
 use crate::finish::{Outcome, finish};
 use crate::job::{LineFault, Subcommand, parse_line};
+use crate::program::{Inputs, Unopened, run};
 use crate::read_all::read_all;
 use crate::run_ls::run_ls;
 use crate::tally::Tally;
 use bufr_bits::{Device, End, ScriptIn, ScriptOut};
 use bufr_frame::RunFault;
+use std::cell::Cell;
+use std::io::{self, Read, Write};
 use std::process::Abort;
 use std::test::Fail;
 
@@ -166,7 +169,7 @@ fn assert_listed(
     errors: &[u8],
     tally: Tally,
 ) -> Result<(), Fail> {
-    for step in [1, 7, 4096] {
+    for step in [1, 3, 4096] {
         let mut r = ScriptIn::new(input, step, None);
         let mut w = ScriptOut::new(rt.alloc(), 4096, step, End::Fail)?;
         let mut e = ScriptOut::new(rt.alloc(), 65536, step, End::Fail)?;
@@ -288,18 +291,217 @@ fn words_only(rt: HostRuntime) -> Result<(), Fail> {
     assert_listed(&rt, "words only", &input, b"", errors.as_bytes(), tally)
 }
 
-/// A read that fails leaves nothing written, wherever it comes.
+/// Wherever a read fails, what was certain before stands: a message that was read whole is listed.
 #[test]
 fn stops_at_a_failed_read(rt: HostRuntime) -> Result<(), Fail> {
-    for place in 0..48 {
-        let mut r = ScriptIn::new(&ONE_BLOCK_NUMBER, 7, Some(place));
+    let mut line = String::from_str(rt.alloc(), "offset=0")?;
+    line.push_str(LINE)?;
+    let mut input = Vec::new(rt.alloc());
+    input.extend_from_slice(&ONE_BLOCK_NUMBER)?;
+    input.extend_from_slice(&ONE_BLOCK_NUMBER)?;
+    for place in 0..96 {
+        let mut r = ScriptIn::new(&input, 7, Some(place));
         let mut w = ScriptOut::new(rt.alloc(), 4096, 7, End::Fail)?;
         let mut e = ScriptOut::new(rt.alloc(), 4096, 7, End::Fail)?;
         let ran = run_ls(rt.alloc(), &mut r, &mut w, &mut e);
+        let listed = if place < 48 { b"" } else { line.as_bytes() };
         assert!(rt; ran == Err(RunFault::Read), "{place}: {ran:?}");
-        assert!(rt; w.taken().is_empty() && e.taken().is_empty(), "{place}");
+        assert_eq!(rt; w.taken(), listed, "{place}");
+        assert!(rt; e.taken().is_empty(), "{place}");
     }
     Ok(())
+}
+
+/// A writer that counts what it is given.
+#[derive(Drop)]
+struct Watched<'a> {
+    octets: &'a Cell<usize>,
+    writes: &'a Cell<usize>,
+    torn: &'a Cell<bool>,
+}
+
+impl<'a> Write for Watched<'a> {
+    fn write(&mut self, buf: &[u8]) -> io::Result<usize> {
+        self.octets.set(self.octets.get().saturating_add(buf.len()));
+        self.writes.set(self.writes.get().saturating_add(1));
+        self.torn.set(self.torn.get() || !buf.ends_with(b"\n"));
+        Ok(buf.len())
+    }
+
+    fn flush(&mut self) -> io::Result<()> {
+        Ok(())
+    }
+}
+
+/// A reader that gives a message in each of two reads, and notes at each read how many octets the
+/// writer was given before it.
+#[derive(Drop)]
+struct Watching<'a> {
+    octets: &'a Cell<usize>,
+    reads: usize,
+    seen: [usize; 3],
+}
+
+impl<'a> Read for Watching<'a> {
+    fn read(&mut self, buf: &mut [u8]) -> io::Result<usize> {
+        if self.reads < 3 {
+            self.seen[self.reads] = self.octets.get();
+            self.reads += 1;
+        }
+        if self.reads == 3 || buf.len() < 48 {
+            return Ok(0);
+        }
+        buf[..48].copy_from_slice(&ONE_BLOCK_NUMBER);
+        Ok(48)
+    }
+}
+
+/// Each line is on the writer, whole and in one write, before the next message is read.
+#[test]
+fn lists_while_it_reads(rt: HostRuntime) -> Result<(), Fail> {
+    let line = LINE.len().saturating_add("offset=0".len());
+    let (octets, writes, torn) = (Cell::new(0), Cell::new(0), Cell::new(false));
+    let mut watching = Watching {
+        octets: &octets,
+        reads: 0,
+        seen: [0; 3],
+    };
+    let mut r = Device::new(&mut watching);
+    let mut w = Device::new(Watched {
+        octets: &octets,
+        writes: &writes,
+        torn: &torn,
+    });
+    let mut e = ScriptOut::new(rt.alloc(), 0, 1, End::Fail)?;
+    let ran = run_ls(rt.alloc(), &mut r, &mut w, &mut e);
+    let both = Tally {
+        accepted: 2,
+        refused: 0,
+    };
+    assert!(rt; ran == Ok(both), "{ran:?}");
+    assert_eq!(rt;
+        watching.seen,
+        [0, line, line.saturating_mul(2).saturating_add(1)]
+    );
+    assert_eq!(rt; writes.get(), 2);
+    assert!(rt; !torn.get());
+    Ok(())
+}
+
+/// An input of one file and of standard input.
+#[derive(Drop)]
+struct Shelf<'a> {
+    name: &'a str,
+    file: &'a [u8],
+    standard: &'a [u8],
+}
+
+impl<'a> Inputs for Shelf<'a> {
+    ghost use Rattle.std.specs.Prelude.{Some};
+
+    type Standard = &'a [u8];
+
+    type File = &'a [u8];
+
+    ghost standard_octets = { λ s. Some s.standard.now };
+
+    ghost file_octets = { λ s _. Some s.file.now };
+
+    fn standard(&self) -> &'a [u8] {
+        self.standard
+    }
+
+    fn open(&self, name: &str) -> Result<&'a [u8], Unopened> {
+        if name == self.name {
+            Ok(self.file)
+        } else {
+            Err(Unopened)
+        }
+    }
+}
+
+/// What comes of a command line over one file, `one.bufr`, which has the message behind a stray
+/// word, and standard input, which has the message alone.
+#[test]
+fn runs_lines(rt: HostRuntime) -> Result<(), Fail> {
+    static ROWS: [(&[&str], u8, &[&str], &str); 7] = [
+        (&["bufr", "ls"], 0, &["offset=0", LINE], ""),
+        (
+            &["bufr", "ls", "one.bufr"],
+            1,
+            &["offset=4", LINE],
+            "offset 0: 1 cut\n",
+        ),
+        (
+            &["bufr", "ls", "two.bufr"],
+            2,
+            &[],
+            "bufr: cannot open two.bufr\n",
+        ),
+        (&["bufr", "ls", "-"], 2, &[], "bufr: cannot open -\n"),
+        (&["bufr"], 2, &[], "Usage: bufr <COMMAND>"),
+        (&["bufr", "--version"], 0, &["bufr 0.1.0\n"], ""),
+        (
+            &["bufr", "ls", "one.bufr", "two.bufr"],
+            2,
+            &[],
+            "unexpected argument 'two.bufr' found",
+        ),
+    ];
+    let mut file = Vec::new(rt.alloc());
+    file.extend_from_slice(b"BUFR")?;
+    file.extend_from_slice(&ONE_BLOCK_NUMBER)?;
+    let shelf = Shelf {
+        name: "one.bufr",
+        file: &file,
+        standard: &ONE_BLOCK_NUMBER,
+    };
+    for (words, status, output, errors) in &ROWS {
+        let mut want = String::new(rt.alloc());
+        for part in *output {
+            want.push_str(part)?;
+        }
+        let mut w = ScriptOut::new(rt.alloc(), 4096, 4096, End::Fail)?;
+        let mut e = ScriptOut::new(rt.alloc(), 4096, 4096, End::Fail)?;
+        let answer = run(rt.alloc(), *words, &shelf, &mut w, &mut e);
+        assert_eq!(rt; answer, *status, "{words:?}");
+        assert_eq!(rt; w.taken(), want.as_bytes(), "{words:?}");
+        let told = str::from_utf8(e.taken()).expect(&rt, "text");
+        assert!(rt; told.contains(*errors), "{words:?}: {told}");
+        assert!(rt; told.is_empty() == errors.is_empty(), "{words:?}: {told}");
+    }
+    Ok(())
+}
+
+/// Help is handed on; where it cannot be written the status says so.
+#[test]
+fn shows_help(rt: HostRuntime) -> Result<(), Fail> {
+    let shelf = Shelf {
+        name: "",
+        file: b"",
+        standard: b"",
+    };
+    for words in [
+        ["bufr", "--help"].as_slice(),
+        ["bufr", "ls", "--help"].as_slice(),
+    ] {
+        let mut w = ScriptOut::new(rt.alloc(), 4096, 4096, End::Zero)?;
+        let mut e = ScriptOut::new(rt.alloc(), 4096, 4096, End::Zero)?;
+        assert_eq!(rt; run(rt.alloc(), words, &shelf, &mut w, &mut e), 0);
+        let told = str::from_utf8(w.taken()).expect(&rt, "text");
+        assert!(rt; told.contains("Exit status:"), "{told}");
+        assert!(rt; e.taken().is_empty());
+        let mut w = ScriptOut::new(rt.alloc(), 4096, 4096, End::Flush)?;
+        assert_eq!(rt; run(rt.alloc(), words, &shelf, &mut w, &mut e), 2);
+        assert_eq!(rt; e.taken(), b"bufr: 71 write failed\n".as_slice());
+    }
+    Ok(())
+}
+
+/// The process's own files: one that is not there cannot be opened.
+#[test]
+fn opens_files_of_the_process(rt: HostRuntime) {
+    assert!(rt; rt.open("no such file.bufr").is_err());
 }
 
 /// A writer that fails, takes nothing, or cannot be flushed has taken a front of the line.

@@ -3,7 +3,8 @@ use Rattle.std.proofs.Common.{◌≡◌, ℕ, zero, suc, Bool, true, false, List
 use Rattle.std.specs.Prelude.{slice_set, ◌==◌, ◌&&◌, ◌+◌}
 use Rattle.bufr_frame.specs.Scan.{Happening, Framed, Strayed, scan, scan_from, open_scan}
 use Rattle.bufr_frame.specs.Sections.{sections_of, section_end, Sections}
-use Rattle.bufr_frame.specs.Layout.{Parts, parts_of, message_octets}
+use Rattle.bufr_frame.specs.Layout.{Parts, parts_of, parts_in, message_octets}
+use Rattle.bufr_frame.specs.Longest.{longest_of, first_event}
 use Rattle.bufr_frame.specs.declared.head.Head.{Head}
 use Rattle.bufr_frame.specs.declared.fault.Cause.TheVariants.{Cut, ShortLength, NoEnd}
 use Rattle.bufr_frame.specs.declared.fault.SectionFault.TheVariants.{Edition, SectionShort, SectionPast, SectionsEnd}
@@ -148,3 +149,64 @@ words-only = refl
 words-only-cut : are_cut 0 (scan (words_only 1024)) ≡ true
 unfolding scan_from
 words-only-cut = refl
+
+-- words eight octets apart, each of which states 64 octets: the last seven are cut
+abbrev stating_64 : ℕ → List ℕ
+stating_64 zero = []
+stating_64 (suc n) = codes "BUFR" ++ 0 ∷ 0 ∷ 64 ∷ 4 ∷ stating_64 n
+
+abbrev no_ends : (at n : ℕ) → List Happening → List Happening
+no_ends at zero more = more
+no_ends at (suc n) more = Strayed at NoEnd ∷ no_ends (at + 8) n more
+
+abbrev cuts : (at n : ℕ) → List Happening
+cuts at zero = []
+cuts at (suc n) = Strayed at Cut ∷ cuts (at + 8) n
+
+stating-events : scan (stating_64 16) ≡ no_ends 0 9 (cuts 72 7)
+unfolding scan_from
+stating-events = refl
+
+stating-open : open_scan (stating_64 16) ≡ no_ends 0 9 []
+unfolding scan_from
+stating-open = refl
+
+stating-longest : longest_of 0 (stating_64 16) (scan (stating_64 16)) ≡ 64
+unfolding scan_from
+stating-longest = refl
+
+-- a run cut in two: the events of the first 58 octets, and what goes on behind them
+open-at-a-fault : open_scan (one_block_number ++ take 10 one_block_number) ≡ Framed 0 one_block_number ∷ []
+unfolding scan_from
+open-at-a-fault = refl
+
+goes-on : scan (one_block_number ++ one_block_number) ≡ Framed 0 one_block_number ∷ scan_from 0 48 one_block_number
+unfolding scan_from
+goes-on = refl
+
+-- the greatest length: of a message, with the word behind it that is not yet certain, and of a word without a length
+longest-of-one : longest_of 0 one_block_number (scan one_block_number) ≡ 48
+unfolding scan_from
+longest-of-one = refl
+
+longest-with-the-open-word : longest_of 0 (one_block_number ++ codes "BUFR" ++ 0 ∷ 1 ∷ 0 ∷ 4 ∷ []) (Framed 0 one_block_number ∷ first_event (scan_from 0 48 (codes "BUFR" ++ 0 ∷ 1 ∷ 0 ∷ 4 ∷ []))) ≡ 256
+unfolding scan_from
+longest-with-the-open-word = refl
+
+longest-of-a-bare-word : longest_of 0 (codes "BUFR") (scan (codes "BUFR")) ≡ 0
+unfolding scan_from
+longest-of-a-bare-word = refl
+
+-- the stray words of the worked streams, and lengths under 12
+stray-behind-messages : scan (codes "BUFR" ++ 0 ∷ 0 ∷ 64 ∷ 4 ∷ one_block_number ++ codes "xyBUF" ++ one_block_number ++ codes "BUFR" ++ 0 ∷ 0 ∷ 11 ∷ 4 ∷ codes "abcBUFR")
+    ≡ Strayed 0 NoEnd ∷ Framed 8 one_block_number ∷ Framed 61 one_block_number ∷ Strayed 109 ShortLength ∷ Strayed 120 Cut ∷ []
+unfolding scan_from
+stray-behind-messages = refl
+
+-- parts written again: the message that is plain has the same octets; one with a reserved bit set has not, and is as long
+one-again : message_octets (the_sections [] None 48).head (parts_in (the_sections [] None 48)) ≡ one_block_number
+one-again = refl
+
+reserved-bit : sections_of (slice_set one_block_number 36 129) ≡ Ok (the_sections [] None 48)
+unfolding sections_of section_end
+reserved-bit = refl

@@ -1,19 +1,23 @@
 -- Steps of a finder, one after another.
 use Rattle.std.proofs.Common.{inl, inr, ◌≡◌, ℕ, ◌+◌, ◌-◌, ◌≤◌, Bool, true, false, List, [], ◌∷◌, ◌++◌, length, take, drop, refl, sym, ◌∙◌, ap, subst, arith, Option, length-drop, length-take, length-append, append_assoc, append-nil}
-use Rattle.std.specs.Prelude.{take_while}
+use Rattle.std.specs.Prelude.{take_while, Result, Ok, Err}
+use Rattle.std.specs.Io.KnownBytes.{IsAtEnd}
 use Rattle.std.specs.List.{list_all}
-use Rattle.std.proofs.lemmas.Bool.{true≢false, false≢true, cases_Bool}
-use Rattle.std.proofs.lemmas.List.{drop_at}
+use Rattle.std.proofs.lemmas.Bool.{true≢false, cases_Bool}
+use Rattle.std.proofs.lemmas.List.{drop_at, drop-append-le}
 use Rattle.std.proofs.lemmas.Grind.{common_steps}
-use Rattle.std.proofs.KnownBytes.{Consumes-trans}
+use Rattle.std.proofs.KnownBytes.{Consumes-nil, Consumes-trans}
+use Rattle.bufr_frame.specs.declared.fault.RunFault.{RunFault}
+use Rattle.bufr_frame.specs.declared.fault.RunFault.TheVariants.{Read, Write, InputTooLong, Memory}
 use Rattle.bufr_bits.specs.Counts.{counted}
 use Rattle.bufr_bits.proofs.CountLemmas.{counted-counted}
 use Rattle.bufr_frame.specs.declared.search.Verdict.{Verdict}
 use Rattle.bufr_frame.specs.declared.search.Verdict.TheVariants.{Nothing, Stray, Frame}
 use Rattle.bufr_frame.specs.Scan.{Happening, Framed, scan, scan_from, open_scan, stated, happening, taken, is_decided}
-use Rattle.bufr_frame.specs.Look.{Advances, FoundSo}
-use Rattle.bufr_frame.specs.Finding.{State, StepSo, CountsReads, fresh}
-use Rattle.bufr_frame.specs.Passing.{event_by}
+use Rattle.bufr_frame.specs.Look.{Advances}
+use Rattle.bufr_frame.specs.Sights.{FoundSo, OpenSo}
+use Rattle.bufr_frame.specs.Finding.{State, StepSo, Follows, CountsReads, fresh}
+use Rattle.bufr_frame.specs.Passing.{event_by, gone_to, ReadSo, ReadEnds}
 use Rattle.bufr_frame.proofs.ScanLemmas.{drop-twice}
 use Rattle.bufr_frame.proofs.LookLemmas.{take_while-all}
 
@@ -39,8 +43,80 @@ Advances-then e e' at at' at'' r r' r'' bs es es' kept one two = record {
 pub Advances-none : (e : Bool) (at : ℕ) (r : List ℕ) → Advances e at r [] at r
 Advances-none e at r = record { whole = λ t _. refl; decided = λ _. refl }
 
-abbrev behind : State → ℕ → State
-behind s n = record s { before = s.before ++ take n s.rest; rest = drop n s.rest; at = s.at + n }
+-- one way behind octets after another
+pub Follows-then : (at at' at'' : ℕ) (r r' r'' bs : List ℕ) → Follows at r at' r' → Follows at' (r' ++ bs) at'' r'' → Follows at (r ++ bs) at'' r''
+Follows-then at at' at'' r r' r'' bs one two =
+    let long : length r' ≡ length r - one.passed = ap length one.left ∙ length-drop one.passed r in
+    record {
+      passed = one.passed + two.passed;
+      within = omega (arith, one.within, two.within, long, length-append r bs, length-append r' bs);
+      offset = omega (arith, one.offset, two.offset);
+      left = two.left ∙ ap (λ l. drop two.passed (l ++ bs)) one.left
+          ∙ ap (drop two.passed) (sym (drop-append-le one.passed r bs one.within)) ∙ drop-twice two.passed one.passed (r ++ bs);
+    }
+
+pub Follows-none : (at : ℕ) (r : List ℕ) → Follows at r at r
+Follows-none at r = record { passed = 0; within = omega arith; offset = omega arith; left = refl }
+
+pub step-none : (left : Option (List ℕ)) (s : State) → (bs : List ℕ) × StepSo left left s s bs []
+step-none left s =
+    let A : List ℕ → Type 0 = λ l. Advances s.ended s.at l [] s.at s.rest in
+    let F : List ℕ → Type 0 = λ l. Follows s.at l s.at s.rest in (
+      [],
+      record {
+        read = Consumes-nil left;
+        advances = subst A (sym (append-nil s.rest)) (Advances-none s.ended s.at s.rest);
+        follows = subst F (sym (append-nil s.rest)) (Follows-none s.at s.rest);
+        kept = λ end. (end, refl, refl);
+        end = λ before. before;
+      },
+    )
+
+module _ (left mid : Option (List ℕ)) (old s s' : State) (bs : List ℕ) (es : List Happening) where
+  -- events are passed, and nothing is read
+  pub pass-step : (es' : List Happening) → StepSo left mid old s bs es → s'.ended ≡ s.ended → s'.reads ≡ s.reads → Advances s'.ended s.at s.rest es' s'.at s'.rest → Follows s.at s.rest s'.at s'.rest → StepSo left mid old s' bs (es ++ es')
+  pass-step es' step same reads goes behind =
+      let E : Bool → Type 0 = λ e. Advances e old.at (old.rest ++ bs) (es ++ es') s'.at s'.rest in
+      let R : List ℕ → Type 0 = λ l. Advances s.ended s.at l es' s'.at s'.rest in
+      let I : Bool → Type 0 = λ e. Advances e s.at s.rest es' s'.at s'.rest in
+      let Q : List ℕ → Type 0 = λ l. Advances s.ended old.at l (es ++ es') s'.at s'.rest in
+      let F : List ℕ → Type 0 = λ l. Follows s.at l s'.at s'.rest in
+      let G : List ℕ → Type 0 = λ l. Follows old.at l s'.at s'.rest in
+      record {
+        read = step.read;
+        advances = subst E (sym same) (subst Q (append-nil (old.rest ++ bs)) (Advances-then s.ended s.ended old.at s.at s'.at (old.rest ++ bs) s.rest s'.rest [] es es' (λ end. (end, refl)) step.advances (subst R (sym (append-nil s.rest)) (subst I same goes))));
+        follows = subst G (append-nil (old.rest ++ bs)) (Follows-then old.at s.at s'.at (old.rest ++ bs) s.rest s'.rest [] step.follows (subst F (sym (append-nil s.rest)) behind));
+        kept = λ end. (same ∙ (step.kept end).0, (step.kept end).1, reads ∙ (step.kept end).2);
+        end = λ before ended. step.end before (sym same ∙ ended);
+      }
+
+  -- octets are read, and no event is passed
+  pub read-step : (left' : Option (List ℕ)) (result : Result (Unit {0}) RunFault) (bs' : List ℕ) → StepSo left mid old s bs es → s.ended ≡ false → ReadSo mid left' s s' result bs' → StepSo left left' old s' (bs ++ bs') es
+  read-step left' result bs' step going next =
+      let whole : old.rest ++ (bs ++ bs') ≡ (old.rest ++ bs) ++ bs' = sym (append_assoc old.rest bs bs') in
+      let F : List ℕ → Type 0 = λ l. Follows old.at l s'.at s'.rest in
+      let same : Follows s.at (s.rest ++ bs') s'.at s'.rest = record { passed = 0; within = omega arith; offset = omega (arith, next.at); left = next.rest } in
+      record {
+        read = Consumes-trans left mid left' bs bs' step.read next.read;
+        advances = record {
+          whole = λ t none.
+              ap (scan_from 0 old.at) (ap (λ l. l ++ t) whole ∙ append_assoc (old.rest ++ bs) bs' t)
+              ∙ step.advances.whole (bs' ++ t) (λ end. absurd (true≢false (sym end ∙ going)))
+              ∙ ap (λ l. es ++ scan_from 0 s.at l) (sym (append_assoc s.rest bs' t) ∙ ap (λ l. l ++ t) (sym next.rest))
+              ∙ ap (λ n. es ++ scan_from 0 n (s'.rest ++ t)) (sym next.at);
+          decided = λ _. step.advances.decided going;
+        };
+        follows = subst F (sym whole) (Follows-then old.at s.at s'.at (old.rest ++ bs) s.rest s'.rest bs' step.follows same);
+        kept = λ end. absurd (true≢false (sym (step.kept end).0 ∙ going));
+        end = λ before ended. reached result next.ends ended;
+      }
+    where
+      reached : (result : Result (Unit {0}) RunFault) → ReadEnds left' s s' bs' result → s'.ended ≡ true → IsAtEnd left'
+      reached (Ok u) out ended = (out.1 ended).1
+      reached (Err Read) out ended = absurd (true≢false (sym ended ∙ out.2))
+      reached (Err Write) out ended = absurd out
+      reached (Err InputTooLong) out ended = absurd out
+      reached (Err Memory) out ended = absurd (true≢false (sym ended ∙ out.2))
 
 last-taken : (before m : List ℕ) (k : ℕ) → k ≤ length m → drop (length (before ++ take k m) - k) (before ++ take k m) ≡ take k m
 last-taken before m k within =
@@ -55,21 +131,50 @@ event-is s m before offset Frame is within =
     ap (λ l. Framed offset (drop (length l - stated m) l) ∷ []) is ∙ ap (λ l. Framed offset l ∷ []) (last-taken before m (stated m) within)
 
 -- the event that a finder goes behind
-pub found-step : (old s s' : State) (place len : ℕ) (here : Verdict) → old.ended ≡ true → FoundSo old.rest place here
-    → s ≡ behind old place → len ≡ taken s.rest here → s' ≡ behind s len
-    → Advances s'.ended old.at old.rest (event_by s' s.at len here) s'.at s'.rest
-found-step old s s' place len here end found is takes is' =
-    let m = drop place old.rest in
-    let k = taken m here in
-    let A : State → Type 0 = λ x. Advances x.ended old.at old.rest (event_by x s.at len here) x.at x.rest in
-    let B : ℕ → Type 0 = λ n. Advances s.ended old.at old.rest (event_by (behind s n) s.at n here) (s.at + n) (drop n s.rest) in
-    let C : State → Type 0 = λ x. Advances x.ended old.at old.rest (event_by (behind x (taken x.rest here)) x.at (taken x.rest here) here) (x.at + taken x.rest here) (drop (taken x.rest here) x.rest) in
-    let D : List Happening → Type 0 = λ e. Advances old.ended old.at old.rest e (old.at + place + k) (drop k m) in
-    let E : Bool → Type 0 = λ e. Advances e old.at old.rest (happening (old.at + place) m here) (old.at + place + k) (drop k m) in
-    let R : List ℕ → Type 0 = λ l. Advances true old.at old.rest (happening (old.at + place) m here) (old.at + place + k) l in
-    subst A (sym is') (subst B (sym takes) (subst C (sym is)
-    (subst D (sym (event-is (behind (behind old place) k) m (old.before ++ take place old.rest) (old.at + place) here refl (omega (arith, found.within, length-drop place old.rest))))
-    (subst E (sym end) (subst R (sym (drop-twice k place old.rest)) (found.advances old.at))))))
+module _ (old s s' : State) (place len size : ℕ) (here : Verdict) (found : FoundSo old.ended old.rest place here)
+    (is : s ≡ gone_to old place size) (takes : len ≡ taken s.rest here) (is' : s' ≡ gone_to s len 0) where
+  pub found-step : Advances s'.ended old.at old.rest (event_by s' s.at len here) s'.at s'.rest
+  found-step =
+      let m = drop place old.rest in
+      let k = taken m here in
+      let A : State → Type 0 = λ x. Advances x.ended old.at old.rest (event_by x s.at len here) x.at x.rest in
+      let B : ℕ → Type 0 = λ n. Advances s.ended old.at old.rest (event_by (gone_to s n 0) s.at n here) (s.at + n) (drop n s.rest) in
+      let C : State → Type 0 = λ x. Advances x.ended old.at old.rest (event_by (gone_to x (taken x.rest here) 0) x.at (taken x.rest here) here) (x.at + taken x.rest here) (drop (taken x.rest here) x.rest) in
+      let D : List Happening → Type 0 = λ e. Advances old.ended old.at old.rest e (old.at + place + k) (drop k m) in
+      let R : List ℕ → Type 0 = λ l. Advances old.ended old.at old.rest (happening (old.at + place) m here) (old.at + place + k) l in
+      subst A (sym is') (subst B (sym takes) (subst C (sym is)
+      (subst D (sym (event-is (gone_to (gone_to old place size) k 0) m (old.before ++ take place old.rest) (old.at + place) here refl (omega (arith, found.within, length-drop place old.rest))))
+      (subst R (sym (drop-twice k place old.rest)) (found.advances old.at)))))
+
+  pub found-follows : Follows old.at old.rest s'.at s'.rest
+  found-follows =
+      let m = drop place old.rest in
+      let k = taken m here in
+      let A : State → Type 0 = λ x. Follows old.at old.rest x.at x.rest in
+      let B : ℕ → Type 0 = λ n. Follows old.at old.rest (s.at + n) (drop n s.rest) in
+      let C : State → Type 0 = λ x. Follows old.at old.rest (x.at + taken x.rest here) (drop (taken x.rest here) x.rest) in
+      subst A (sym is') (subst B (sym takes) (subst C (sym is) (record { passed = place + k; within = found.within; offset = omega arith; left = drop-twice k place old.rest })))
+
+module _ (left mid : Option (List ℕ)) (old s s' : State) (bs : List ℕ) (step : StepSo left mid old s bs []) where
+  -- a turn that needs more octets passes those that are no event's
+  pub turn-pass : (place size : ℕ) → s.ended ≡ false → OpenSo s.rest place size → s' ≡ gone_to s place size → StepSo left mid old s' bs []
+  turn-pass place size going open' is =
+      let A : State → Type 0 = λ x. Advances x.ended s.at s.rest [] x.at x.rest in
+      let F : State → Type 0 = λ x. Follows s.at s.rest x.at x.rest in
+      let E : Bool → Type 0 = λ e. Advances e s.at s.rest [] (s.at + place) (drop place s.rest) in
+      pass-step left mid old s s' bs [] [] step (ap (λ x. x.ended) is) (ap (λ x. x.reads) is) (subst A (sym is) (subst E (sym going) (open'.advances s.at)))
+      (subst F (sym is) (record { passed = place; within = open'.within; offset = refl; left = refl }))
+
+  pub turn-stop : (fault : Option RunFault) → s' ≡ record s { fault = fault } → StepSo left mid old s' bs []
+  turn-stop fault is =
+      let A : State → Type 0 = λ x. StepSo left mid old x bs [] in
+      let same : StepSo left mid old (record s { fault = fault }) bs [] = record { read = step.read; advances = step.advances; follows = step.follows; kept = step.kept; end = step.end } in
+      subst A (sym is) same
+
+-- an end that was reached stays
+pub still-open : (e e' : Bool) → (e ≡ true → e' ≡ true) → e' ≡ false → e ≡ false
+still-open true e' kept going = absurd (true≢false (sym (kept refl) ∙ going))
+still-open false e' kept going = refl
 
 -- the scan of octets is the events that were passed and those of what is left
 pub whole-scan : (ended : Bool) (s rest : List ℕ) (events : List Happening) (at : ℕ) → Advances ended 0 s events at rest → scan s ≡ events ++ scan_from 0 at rest
@@ -86,14 +191,27 @@ events-are-certain s rest events at advances = (
 )
 
 -- one step of a finder after others
+pub steps-compose : (left mid left' : Option (List ℕ)) (old s s' : State) (bs bs' : List ℕ) (events es : List Happening)
+    → StepSo left mid old s bs events → StepSo mid left' s s' bs' es → StepSo left left' old s' (bs ++ bs') (events ++ es)
+steps-compose left mid left' old s s' bs bs' events es one two =
+    let whole : (old.rest ++ bs) ++ bs' ≡ old.rest ++ (bs ++ bs') = append_assoc old.rest bs bs' in
+    let A : List ℕ → Type 0 = λ l. Advances s'.ended old.at l (events ++ es) s'.at s'.rest in
+    let F : List ℕ → Type 0 = λ l. Follows old.at l s'.at s'.rest in
+    record {
+      read = Consumes-trans left mid left' bs bs' one.read two.read;
+      advances = subst A whole (Advances-then s.ended s'.ended old.at s.at s'.at (old.rest ++ bs) s.rest s'.rest bs' events es (λ end. ((two.kept end).0, (two.kept end).1)) one.advances two.advances);
+      follows = subst F whole (Follows-then old.at s.at s'.at (old.rest ++ bs) s.rest s'.rest bs' one.follows two.follows);
+      kept = λ end.
+          let a = one.kept end in
+          let b = two.kept a.0 in
+          (b.0, ap (λ l. l ++ bs') a.1 ∙ b.1, b.2 ∙ a.2);
+      end = λ before. two.end (one.end before);
+    }
+
+-- the same from the beginning
 pub StepSo-then : (left mid left' : Option (List ℕ)) (s s' : State) (bs bs' : List ℕ) (events es : List Happening)
     → StepSo left mid fresh s bs events → StepSo mid left' s s' bs' es → StepSo left left' fresh s' (bs ++ bs') (events ++ es)
-StepSo-then left mid left' s s' bs bs' events es one two = record {
-  read = Consumes-trans left mid left' bs bs' one.read two.read;
-  advances = Advances-then s.ended s'.ended 0 s.at s'.at bs s.rest s'.rest bs' events es (λ end. ((two.kept end).0, (two.kept end).1)) one.advances two.advances;
-  kept = λ end. absurd (false≢true end);
-  end = λ before. two.end (one.end before);
-}
+StepSo-then left mid left' = steps-compose left mid left' fresh
 
 -- the reads of more calls
 pub CountsReads-then : (a b c : ℕ) (s s' : State) → CountsReads a b fresh s → CountsReads b c s s' → CountsReads a c fresh s'

@@ -6,7 +6,7 @@ use Rattle.std.specs.Prelude.{if◌then◌else◌, nat_lt, nat_le, is_some, slic
 use Rattle.std.proofs.lemmas.Bool.Decides.{nat_tests}
 use Rattle.bufr_frame.specs.Octets.{three, two, words, three_octets, two_octets, octets_of_words}
 use Rattle.bufr_frame.specs.Sections.{sections_of, section_end, parts, has_section2, head_of, Sections}
-use Rattle.bufr_frame.specs.Layout.{Parts, message_octets, message_size, section0, section1, section2, section2_size, section3, section4, data_flags, sections_from, head_octets}
+use Rattle.bufr_frame.specs.Layout.{Parts, message_octets, message_size, section0_octets, section1_octets, section2_octets, section2_size, section3_octets, section4_octets, data_flags, sections_from, head_octets}
 use Rattle.bufr_frame.specs.declared.head.Head.{Head}
 use Rattle.bufr_frame.proofs.SectionLemmas.{sections-are}
 
@@ -55,7 +55,7 @@ section-at m front rest k least p n is at least_n three_n within =
     let g : nat_lt (length m - 4) (p + n) ≡ false = grind (arith, nat_tests) in
     rw (e, t, f, g) refl
 
-second-at : (m front rest : List ℕ) (optional : Option (List ℕ)) (p : ℕ) → m ≡ front ++ (section2 optional ++ rest) → p ≡ length front → has_section2 m ≡ is_some optional
+second-at : (m front rest : List ℕ) (optional : Option (List ℕ)) (p : ℕ) → m ≡ front ++ (section2_octets optional ++ rest) → p ≡ length front → has_section2 m ≡ is_some optional
     → p + section2_size optional + 4 ≤ length m → (if has_section2 m then section_end m 2 4 p else Ok p) ≡ Ok (p + section2_size optional)
 second-at m front rest None p is at has within = let e : p + 0 ≡ p = omega arith in rw (has, e) refl
 second-at m front rest (Some octets) p is at has within = rw has (section-at m front (0 ∷ octets ++ rest) 2 4 p (4 + length octets) is at (omega arith) (omega arith) within)
@@ -76,12 +76,12 @@ compressed-test true false = refl
 compressed-test false true = refl
 compressed-test false false = refl
 
-length-section2 : (optional : Option (List ℕ)) → length (section2 optional) ≡ section2_size optional
-length-section2 None = refl
-length-section2 (Some octets) = omega arith
+length-section2_octets : (optional : Option (List ℕ)) → length (section2_octets optional) ≡ section2_size optional
+length-section2_octets None = refl
+length-section2_octets (Some octets) = omega arith
 
 -- section 2 read back
-second-part : (m front rest : List ℕ) (optional : Option (List ℕ)) (p q : ℕ) → m ≡ front ++ (section2 optional ++ rest) → p ≡ length front → q ≡ p + section2_size optional → has_section2 m ≡ is_some optional
+second-part : (m front rest : List ℕ) (optional : Option (List ℕ)) (p q : ℕ) → m ≡ front ++ (section2_octets optional ++ rest) → p ≡ length front → q ≡ p + section2_size optional → has_section2 m ≡ is_some optional
     → (if has_section2 m then Some (slice_range m (p + 4) q) else None) ≡ optional
 second-part m front rest None p q is at to has = rw has refl
 second-part m front rest (Some octets) p q is at to has =
@@ -124,12 +124,12 @@ made-sections h p = refl
 pub read-back : (h : Head) (p : Parts) → h.edition ≡ 4 → sections_of (message_octets h p) ≡ Ok (sections_from h p)
 read-back h p edition =
     let m = message_octets h p in
-    let s0 = section0 (message_size p) h.edition in
-    let s1 = section1 h p.local1 (is_some p.section2) in
-    let s2 = section2 p.section2 in
+    let s0 = section0_octets (message_size p) h.edition in
+    let s1 = section1_octets h p.local1 (is_some p.section2) in
+    let s2 = section2_octets p.section2 in
     let flags = data_flags p.observed p.compressed in
-    let s3 = section3 p.descriptors p.subsets flags in
-    let s4 = section4 p.payload in
+    let s3 = section3_octets p.descriptors p.subsets flags in
+    let s4 = section4_octets p.payload in
     let end = codes "7777" in
     let f2 = s0 ++ s1 in
     let f3 = f2 ++ s2 in
@@ -143,7 +143,7 @@ read-back h p edition =
     let n4 = 4 + length p.payload in
     let l0 : length s0 ≡ 8 = refl in
     let l1 : length s1 ≡ n1 = omega arith in
-    let l2 : length s2 ≡ n2 = length-section2 p.section2 in
+    let l2 : length s2 ≡ n2 = length-section2_octets p.section2 in
     let l3 : length s3 ≡ n3 = omega (arith, length-octets_of_words p.descriptors) in
     let l4 : length s4 ≡ n4 = omega arith in
     let k2 : 8 + n1 ≡ length f2 = omega (arith, length-append s0 s1) in

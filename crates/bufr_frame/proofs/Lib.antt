@@ -1,7 +1,12 @@
+pub mod AdvanceLemmas
+pub mod AgainLemmas
+pub mod BufferLemmas
+pub mod CallLemmas
 mod Examples
 pub mod FindingLemmas
 pub mod InputLemmas
 pub mod LayoutLemmas
+pub mod LongestLemmas
 pub mod LookLemmas
 pub mod ScanLemmas
 pub mod SectionLemmas

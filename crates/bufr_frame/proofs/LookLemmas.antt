@@ -1,6 +1,6 @@
 -- What comes behind doesn't change what was certain.
 use Rattle.std.proofs.Common.{◌≡◌, ◌⊎◌, inl, inr, ℕ, zero, suc, ◌+◌, ◌-◌, ◌*◌, ◌<◌, ◌≤◌, Bool, true, false, List, [], ◌∷◌, ◌++◌, length, take, drop, codes, refl, sym, ◌∙◌, ap, subst, arith, Some, None, length-drop, append_assoc, length-append, length-take, get_or, append-nil}
-use Rattle.std.specs.Prelude.{if◌then◌else◌, nat_lt, not, take_while}
+use Rattle.std.specs.Prelude.{if◌then◌else◌, nat_lt, not, take_while, min, max}
 use Rattle.std.specs.List.{list_all, prefix_len}
 use Rattle.std.specs.Str.{bytes_eq}
 use Rattle.std.proofs.lemmas.Slice.Eq.{bytes_eq-Decides}
@@ -8,21 +8,23 @@ use Rattle.std.proofs.lemmas.Bool.Decides.{nat_tests}
 use Rattle.std.proofs.lemmas.List.{get_or_append_left, take-append-le, drop-append-le}
 use Rattle.std.proofs.lemmas.List.Folds.{list_all-append}
 use Rattle.memchr.specs.Find.{OccursAt, FindsNeedle}
-use Rattle.memchr.proofs.lemmas.MatchLemmas.{OccursAt-part}
+use Rattle.memchr.proofs.lemmas.MatchLemmas.{OccursAt-part, OccursAt-from_part}
 use Rattle.std.proofs.lemmas.Bool.{true≢false, cases_Bool, cases_lt, and_parts}
 use Rattle.bufr_frame.specs.declared.search.Verdict.{Verdict}
 use Rattle.bufr_frame.specs.declared.search.Verdict.TheVariants.{Nothing, Stray, Frame}
 use Rattle.bufr_frame.specs.declared.fault.Cause.TheVariants.{Cut, ShortLength, NoEnd}
 use Rattle.bufr_frame.specs.Scan.{Happening, scan, open_scan, scan_from, verdict, stands, stated, happening, taken, is_decided}
-use Rattle.bufr_frame.specs.Look.{Advances, FoundSo}
-use Rattle.bufr_frame.proofs.ScanLemmas.{scan_from-nothing, verdict-nothing, scan_from-here, scan_from-past, verdict-elsewhere, verdict-there, scan_from-found, scan_from-front}
+use Rattle.bufr_frame.specs.Look.{Advances, NoneDecided}
+use Rattle.bufr_frame.specs.Sights.{IsWord, FoundSo, OpenSo, EndSo}
+use Rattle.bufr_frame.specs.Longest.{length_here}
+use Rattle.bufr_frame.proofs.ScanLemmas.{scan_from-nothing, verdict-nothing, scan_from-here, scan_from-past, verdict-elsewhere, verdict-there, scan_from-found, scan_from-front, drop-twice}
 
-stands-front : (text : List ℕ) (p : ℕ) (m t : List ℕ) → p + 4 ≤ length m → stands text p (m ++ t) ≡ stands text p m
+pub stands-front : (text : List ℕ) (p : ℕ) (m t : List ℕ) → p + 4 ≤ length m → stands text p (m ++ t) ≡ stands text p m
 stands-front text p m t long =
     ap (λ l. bytes_eq (take 4 l) text) (drop-append-le p m t (omega arith))
     ∙ ap (λ l. bytes_eq l text) (take-append-le 4 (drop p m) t (omega (arith, length-drop {A = ℕ})))
 
-stated-front : (m t : List ℕ) → 8 ≤ length m → stated (m ++ t) ≡ stated m
+pub stated-front : (m t : List ℕ) → 8 ≤ length m → stated (m ++ t) ≡ stated m
 stated-front m t long =
     ap (λ n. 65536 * n + 256 * get_or (m ++ t) 5 0 + get_or (m ++ t) 6 0) (get_or_append_left m t 0 4 (omega arith))
     ∙ ap (λ n. 65536 * get_or m 4 0 + 256 * n + get_or (m ++ t) 6 0) (get_or_append_left m t 0 5 (omega arith))
@@ -83,7 +85,7 @@ is-chain : (m : List ℕ) → stands (codes "BUFR") 0 m ≡ true → verdict m �
 unfolding chain
 is-chain m here = rw here refl
 
-four-long : (m : List ℕ) → stands (codes "BUFR") 0 m ≡ true → 4 ≤ length m
+pub four-long : (m : List ℕ) → stands (codes "BUFR") 0 m ≡ true → 4 ≤ length m
 four-long m here =
     let same : take 4 m ≡ codes "BUFR" = (bytes_eq-Decides (take 4 m) (codes "BUFR")).0 here in
     omega (arith, length-take {A = ℕ}, ap length same)
@@ -144,8 +146,40 @@ to-first : (s : List ℕ) (place : ℕ) → FindsNeedle s (codes "BUFR") 0 (Some
 to-first s place found t at =
     past-front place s t (λ j below. omega (arith, found.1.fits)) (omega (arith, found.1.fits)) (λ j below. found.0.before j (omega arith) below) at
 
+-- the word at the front, as a search tells it
+pub word-occurs : (s : List ℕ) → IsWord s → OccursAt s (codes "BUFR") 0
+word-occurs s here =
+    let same : take 4 (drop 0 s) ≡ codes "BUFR" = (bytes_eq-Decides (take 4 (drop 0 s)) (codes "BUFR")).0 here in
+    OccursAt-from_part s (codes "BUFR") 0 (omega (arith, length-take {A = ℕ}, length-drop {A = ℕ}, ap length same)) same
+
+-- the first place of the word is the front, where it stands there
+first-front : (s : List ℕ) (place : ℕ) → FindsNeedle s (codes "BUFR") 0 (Some place) → IsWord s → place ≡ 0
+first-front s zero found here = refl
+first-front s (suc k) found here = absurd (found.0.before 0 (omega arith) (omega arith) (word-occurs s here))
+
+pub found-so : (ended : Bool) (s : List ℕ) (place : ℕ) → FindsNeedle s (codes "BUFR") 0 (Some place)
+    → 8 ≤ length (drop place s) → stated (drop place s) ≤ length (drop place s) → FoundSo ended s place (verdict (drop place s))
+found-so ended s place found long whole =
+    let m = drop place s in
+    let k = taken m (verdict m) in
+    let here = stands-there s place found.1 in
+    let bounds = taken-bounds m here in
+    record {
+      is = refl;
+      some = verdict-there s place found.1;
+      frame = frame-long m here;
+      moves = bounds.0;
+      within = omega (arith, found.1.fits, bounds.1, length-drop place s);
+      first = first-front s place found;
+      advances = λ at. record {
+        whole = λ t _. to-first s place found t at ∙ found-front m t (at + place) here long whole
+            ∙ ap (λ l. happening (at + place) m (verdict m) ++ scan_from 0 (at + place + k) (l ++ t)) (drop-twice k place s);
+        decided = λ _. certain m (at + place) here long whole;
+      };
+    }
+
 -- behind the end nothing comes
-pub found-so-end : (s : List ℕ) (place : ℕ) → FindsNeedle s (codes "BUFR") 0 (Some place) → FoundSo s place (verdict (drop place s))
+pub found-so-end : (s : List ℕ) (place : ℕ) → FindsNeedle s (codes "BUFR") 0 (Some place) → FoundSo true s place (verdict (drop place s))
 found-so-end s place found =
     let m = drop place s in
     let k = taken m (verdict m) in
@@ -157,6 +191,7 @@ found-so-end s place found =
       frame = frame-long m here;
       moves = bounds.0;
       within = omega (arith, found.1.fits, bounds.1, length-drop place s);
+      first = first-front s place found;
       advances = λ at. record {
         whole = λ t none.
             let e : t ≡ [] = none refl in
@@ -165,10 +200,6 @@ found-so-end s place found =
         decided = λ going. absurd (true≢false going);
       };
     }
-
--- no event is certain yet
-abbrev pub NoneDecided : ℕ → List ℕ → Type 0
-NoneDecided at rest = take_while is_decided (scan_from 0 at rest) ≡ []
 
 none-cut : (at : ℕ) (m : List ℕ) → 0 < length m → verdict m ≡ Stray Cut → NoneDecided at m
 none-cut at m some cut =
@@ -184,6 +215,77 @@ cut-so m here (inl short) =
 cut-so m here (inr short) =
     let a : nat_lt (length m) (stated m) ≡ true = grind (arith, nat_tests) in
     rw (is-chain m here, a) (chain-cut-second _ _ _)
+
+pub length-eight : (m : List ℕ) → 8 ≤ length m → length_here m ≡ stated m
+length-eight m long = let a : nat_lt (length m) 8 ≡ false = grind (arith, nat_tests) in rw a refl
+
+-- the word with too few octets behind it
+pub cut-here : (m : List ℕ) (size : ℕ) → IsWord m → size ≡ length_here m → length m < max 8 size → verdict m ≡ Stray Cut
+cut-here m size here is few = elim (cases_lt (length m) 8) [
+  | inl short ↦ cut-so m here (inl short)
+  | inr long ↦ cut-so m here (inr (let e : size ≡ stated m = is ∙ length-eight m long in omega arith))
+]
+
+-- more octets are needed behind the first `BUFR`
+pub open-so : (s : List ℕ) (place size : ℕ) → FindsNeedle s (codes "BUFR") 0 (Some place) → size ≡ length_here (drop place s) → length (drop place s) < max 8 size → OpenSo s place size
+open-so s place size found is few =
+    let m = drop place s in
+    let here = stands-there s place found.1 in
+    record {
+      within = omega (arith, found.1.fits);
+      first = first-front s place found;
+      few = few;
+      here = inr here;
+      advances = λ at. record { whole = λ t _. to-first s place found t at; decided = λ _. refl };
+      none = λ at. none-cut at m (omega (arith, found.1.fits, length-drop place s)) (cut-here m size here is few);
+    }
+
+-- no `BUFR` stands there yet, but the last three octets may begin one
+pub none-so : (s : List ℕ) → FindsNeedle s (codes "BUFR") 0 None → OpenSo s (length s - min (length s) 3) 0
+none-so s found =
+    let k = length s - min (length s) 3 in
+    let moved : (t : List ℕ) (at : ℕ) → scan_from 0 at (s ++ t) ≡ scan_from 0 (at + k) (drop k s ++ t) = λ t at. past-front k s t (λ j below. omega arith) (omega arith) (λ j below. found j (omega arith) (omega arith)) at in
+    let short : length (drop k s) < 4 = omega (arith, length-drop k s) in
+    record {
+      within = omega arith;
+      first = λ here. absurd (found 0 (omega arith) (omega (arith, four-long s here)) (word-occurs s here));
+      few = omega (arith, short);
+      here = inl short;
+      advances = λ at. record { whole = λ t _. moved t at; decided = λ _. refl };
+      none = λ at. ap (take_while is_decided) (scan_from-found (drop k s) None (λ j _ _ occurs. absurd (omega (arith, occurs.fits, length-drop k s))) at);
+    }
+
+-- and they state no length
+pub none-stated : (s : List ℕ) → 0 ≡ length_here (drop (length s - min (length s) 3) s)
+none-stated s =
+    let m = drop (length s - min (length s) 3) s in
+    let short : length m < 8 = omega (arith, length-drop (length s - min (length s) 3) s) in
+    let a : nat_lt (length m) 8 ≡ true = grind (arith, nat_tests) in
+    rw a refl
+
+pub end-so : (s : List ℕ) → FindsNeedle s (codes "BUFR") 0 None → EndSo s
+end-so s found = record {
+  scan = scan_from-found s None found;
+  word = λ here. found 0 (omega arith) (omega (arith, four-long s here)) (word-occurs s here);
+}
+
+-- as the code reads them
+pub found-at-end : (ended : Bool) (s m : List ℕ) (place : ℕ) (v : Verdict) → FindsNeedle s (codes "BUFR") 0 (Some place) → ended ≡ true
+    → m ≡ drop place s → v ≡ verdict m → FoundSo ended s place v
+found-at-end ended s m place v found end is here =
+    let E : Bool → Type 0 = λ e. FoundSo e s place v in
+    let V : Verdict → Type 0 = λ v'. FoundSo true s place v' in
+    subst E (sym end) (subst V (sym (here ∙ ap verdict is)) (found-so-end s place found))
+
+pub found-whole : (ended : Bool) (s m : List ℕ) (place size : ℕ) (v : Verdict) → FindsNeedle s (codes "BUFR") 0 (Some place)
+    → size ≡ length_here m → 8 ≤ length m → size ≤ length m → m ≡ drop place s → v ≡ verdict m → FoundSo ended s place v
+found-whole ended s m place size v found states long whole is here =
+    let V : Verdict → Type 0 = λ v'. FoundSo ended s place v' in
+    let L : List ℕ → Type 0 = λ l. 8 ≤ length l in
+    let W : List ℕ → Type 0 = λ l. stated l ≤ length l in
+    let size_is : size ≡ stated m = states ∙ length-eight m long in
+    let Z : ℕ → Type 0 = λ z. z ≤ length m in
+    subst V (sym (here ∙ ap verdict is)) (found-so ended s place found (subst L is long) (subst W is (subst Z size_is whole)))
 
 -- what is certain of a stream, and where it stands then
 pub record Certain (at : ℕ) (s : List ℕ) : Type 0 where
@@ -251,9 +353,3 @@ open-front s t =
     let whole : scan s ≡ c.events ++ scan_from 0 c.at' c.rest = ap (scan_from 0 0) (sym (append-nil s)) ∙ c.advances.whole [] (λ _. refl) ∙ ap (λ l. c.events ++ scan_from 0 c.at' l) (append-nil c.rest) in
     let open' : open_scan s ≡ c.events = ap (take_while is_decided) whole ∙ take_while-all c.events (scan_from 0 c.at' c.rest) (c.advances.decided refl) ∙ ap (λ l. c.events ++ l) c.none ∙ append-nil c.events in
     (scan_from 0 c.at' (c.rest ++ t), c.advances.whole t (λ end. absurd (true≢false (sym end))) ∙ ap (λ l. l ++ scan_from 0 c.at' (c.rest ++ t)) (sym open'))
-
--- the same, as it is read
-pub found-here : (s m : List ℕ) (place : ℕ) (v : Verdict) → FindsNeedle s (codes "BUFR") 0 (Some place) → m ≡ drop place s → v ≡ verdict m → FoundSo s place v
-found-here s m place v found is here =
-    let V : Verdict → Type 0 = λ v'. FoundSo s place v' in
-    subst V (sym (here ∙ ap verdict is)) (found-so-end s place found)

@@ -72,18 +72,6 @@ scan_from-found s None found at =
 scan_from-found s (Some k) found at =
     scan_from-past k at s (omega (arith, found.1.fits)) (λ j below. verdict-elsewhere s j (found.0.before j (omega arith) below))
 
-pub tail-of : (n : ℕ) (s : List ℕ) → take (length s - n) (drop n s) ≡ drop n s
-tail-of n s = grind (arith, common_steps)
-
--- the same of a search in `&s[from..]`
-pub scan_from-search : (s : List ℕ) (from : ℕ) (r : Option ℕ) → FindsNeedle (take (length s - from) (drop from s)) (codes "BUFR") 0 r → (at : ℕ) → MatchOption r (scan_from 0 at (drop from s) ≡ []) (λ k. scan_from 0 at (drop from s) ≡ scan_from 0 (at + k) (drop (from + k) s))
-scan_from-search s from None found at =
-    let P : List ℕ → Type 0 = λ m. FindsNeedle m (codes "BUFR") 0 None in
-    scan_from-found (drop from s) None (subst P (tail-of from s) found) at
-scan_from-search s from (Some k) found at =
-    let P : List ℕ → Type 0 = λ m. FindsNeedle m (codes "BUFR") 0 (Some k) in
-    scan_from-found (drop from s) (Some k) (subst P (tail-of from s) found) at ∙ ap (scan_from 0 (at + k)) (drop-twice k from s)
-
 not-nothing : (a b c d : Bool) → (if a then Stray Cut else if b then Stray Cut else if c then Stray ShortLength else if d then Stray NoEnd else Frame) ≢ Nothing
 not-nothing true b c d e = cc
 not-nothing false true c d e = cc
@@ -96,12 +84,6 @@ verdict-some m here = rw here (not-nothing (nat_lt (length m) 8) (nat_lt (length
 
 pub verdict-there : (s : List ℕ) (j : ℕ) → OccursAt s (codes "BUFR") j → verdict (drop j s) ≢ Nothing
 verdict-there s j occurs = verdict-some (drop j s) ((bytes_eq-Decides (take 4 (drop j s)) (codes "BUFR")).1 (OccursAt-part s (codes "BUFR") j occurs))
-
-pub verdict-search : (s : List ℕ) (from k : ℕ) → OccursAt (take (length s - from) (drop from s)) (codes "BUFR") k → verdict (drop (from + k) s) ≢ Nothing
-verdict-search s from k occurs =
-    let P : List ℕ → Type 0 = λ m. OccursAt m (codes "BUFR") k in
-    let Q : List ℕ → Type 0 = λ m. verdict m ≢ Nothing in
-    subst Q (drop-twice k from s) (verdict-there (drop from s) k (subst P (tail-of from s) occurs))
 
 -- the event at a place, and the rest of the scan behind it
 pub scan_from-front : (s : List ℕ) (at place k : ℕ) → place < length s → k ≡ taken (drop place s) (verdict (drop place s)) → 0 < k

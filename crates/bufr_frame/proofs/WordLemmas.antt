@@ -26,9 +26,3 @@ pub length-words : (m : List ℕ) → length (words m) ≡ length m / 2
 length-words [] = refl
 length-words (a ∷ []) = refl
 length-words (a ∷ b ∷ m) = omega (arith, length-words m)
-
--- fewer than two octets hold no word
-pub words-empty : (m : List ℕ) → length m < 2 → words m ≡ []
-words-empty [] short = refl
-words-empty (a ∷ []) short = refl
-words-empty (a ∷ b ∷ m) short = absurd (omega arith)

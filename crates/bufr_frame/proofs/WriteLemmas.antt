@@ -1,17 +1,8 @@
 -- Octets appended, part by part.
-use Rattle.std.proofs.Common.{◌≡◌, ◌∙◌, ℕ, suc, ◌/◌, ◌%◌, ◌<◌, List, [], ◌∷◌, ◌++◌, length, drop, ap, sym, get_or, Ok, Err, append_assoc}
+use Rattle.std.proofs.Common.{◌≡◌, ◌∙◌, ℕ, List, ◌++◌, ap, Ok, Err, append_assoc}
 use Rattle.std.specs.Prelude.{Result, OnOk, is_ok, if◌then◌else◌}
-use Rattle.std.proofs.Math.Seq.{drop-cons}
-use Rattle.bufr_frame.specs.Octets.{octets_of_words}
 
 -- three parts, the last of which may be refused
 pub three-parts : {X E : Type 0} (r : Result X E) (old a b c one two new : List ℕ) → one ≡ old ++ a → two ≡ one ++ b → new ≡ (if is_ok r then two ++ c else two) → OnOk r (new ≡ old ++ (a ++ (b ++ c)))
 three-parts (Ok x) old a b c one two new p q r = r ∙ ap (λ l. l ++ c) (q ∙ ap (λ l. l ++ b) p ∙ append_assoc old a b) ∙ append_assoc old (a ++ b) c ∙ ap (λ l. old ++ l) (append_assoc a b c)
 three-parts (Err e) old a b c one two new p q r = tt
-
--- one more word
-pub word-pushed : (items items' words whole : List ℕ) (i d : ℕ) → i < length words → items' ≡ items ++ (get_or words i d / 256 ∷ get_or words i d % 256 ∷ [])
-    → items ++ octets_of_words (drop i words) ≡ whole → items' ++ octets_of_words (drop (suc i) words) ≡ whole
-word-pushed items items' words whole i d within is before =
-    ap (λ l. l ++ octets_of_words (drop (suc i) words)) is ∙ append_assoc items (get_or words i d / 256 ∷ get_or words i d % 256 ∷ []) (octets_of_words (drop (suc i) words))
-    ∙ ap (λ l. items ++ octets_of_words l) (sym (drop-cons words i d within)) ∙ before

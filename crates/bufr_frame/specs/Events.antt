@@ -1,4 +1,5 @@
 -- What an event of the code says.
+-- Cited by public contracts.
 use Rattle.std.specs.Prelude.{List, [], ◌∷◌, ◌≤◌, length}
 use Rattle.bufr_frame.specs.Scan.{Happening, Framed, Strayed}
 use Rattle.bufr_frame.specs.declared.finder.Event.{Event}

@@ -1,9 +1,11 @@
 -- What a finder does, call by call.
-use Rattle.std.specs.Prelude.{◌≡◌, ℕ, ◌-◌, ◌≤◌, Bool, true, false, List, [], ◌++◌, Option, Some, None}
+-- Cited by public contracts.
+use Rattle.std.specs.Prelude.{◌≡◌, ◌≢◌, ℕ, ◌+◌, ◌-◌, ◌*◌, ◌<◌, ◌≤◌, max, Bool, true, false, List, [], ◌++◌, Option, Some, None, length, drop}
 use Rattle.std.specs.Io.KnownBytes.{Consumes, IsAtEnd}
 use Rattle.bufr_bits.specs.Counts.{counted}
 use Rattle.bufr_frame.specs.Scan.{Happening, scan_from}
-use Rattle.bufr_frame.specs.Look.{Advances}
+use Rattle.bufr_frame.specs.Look.{Advances, NoneDecided}
+use Rattle.bufr_frame.specs.Longest.{longest_of}
 use Rattle.bufr_frame.specs.Runs.{most_reads}
 use Rattle.bufr_frame.specs.declared.fault.RunFault.{RunFault}
 use Rattle.bufr_frame.specs.declared.fault.RunFault.TheVariants.{Read, Write, InputTooLong, Memory}
@@ -24,29 +26,49 @@ pub record State : Type 0 where
   pub fault : Option RunFault
   -- how many reads it made
   pub reads : ℕ
+  -- the greatest length that was stated
+  pub longest : ℕ
+  -- how many octets there is room for without taking memory
+  pub room : ℕ
+
+-- how many octets are held
+abbrev pub held : State → ℕ
+held s = length s.before + length s.rest
 
 -- a finder that has read nothing
 abbrev pub fresh : State
-fresh = record { before = []; rest = []; at = 0; ended = false; fault = None; reads = 0 }
+fresh = record { before = []; rest = []; at = 0; ended = false; fault = None; reads = 0; longest = 0; room = 0 }
 
 -- the end was reached
 abbrev pub ended_in : Phase → Bool
-ended_in phase.Unread = false
-ended_in phase.Whole = true
+ended_in phase.Reading = false
+ended_in phase.Ended = true
 ended_in (phase.Stopped fault) = false
 
 -- the fault that stopped it
 abbrev pub fault_in : Phase → Option RunFault
-fault_in phase.Unread = None
-fault_in phase.Whole = None
+fault_in phase.Reading = None
+fault_in phase.Ended = None
 fault_in (phase.Stopped fault) = Some fault
+
+-- What is left of s, whose first octet is at offset `at`, behind its first octets.
+pub record Follows (at : ℕ) (s : List ℕ) (at' : ℕ) (rest : List ℕ) : Type 0 where
+  pub passed : ℕ
+  pub within : passed ≤ length s
+  pub offset : at' ≡ at + passed
+  pub left : rest ≡ drop passed s
 
 -- A call read octets, passed events, and holds what is left.
 pub record StepSo (left left' : Option (List ℕ)) (old new : State) (bs : List ℕ) (events : List Happening) : Type 0 where
   pub read : Consumes left left' bs
   pub advances : Advances new.ended old.at (old.rest ++ bs) events new.at new.rest
+  pub follows : Follows old.at (old.rest ++ bs) new.at new.rest
   pub kept : old.ended ≡ true → (new.ended ≡ true) × (bs ≡ []) × (new.reads ≡ old.reads)
   pub end : (old.ended ≡ true → IsAtEnd left) → new.ended ≡ true → IsAtEnd left'
+
+-- The greatest length stated so far counts those that were seen.
+abbrev pub SeesSo : State → State → List ℕ → List Happening → Type 0
+SeesSo old new bs seen = new.longest ≡ max old.longest (longest_of old.at (old.rest ++ bs) seen)
 
 -- The reads of a call are counted, by the reader and by the finder.
 pub record CountsReads (reads reads' : ℕ) (old new : State) : Type 0 where
@@ -58,9 +80,24 @@ pub record CountsReads (reads reads' : ℕ) (old new : State) : Type 0 where
 abbrev pub IsDone : State → Type 0
 IsDone s = (s.ended ≡ true) × ((at : ℕ) → scan_from 0 at s.rest ≡ [])
 
--- how a fault leaves a finder: it is kept; never is it one of a write; an input is too long only after 2^32 reads
+-- a fault is kept, and nothing that is left is certain while the end is not known
+abbrev pub IsOpen : State → RunFault → Type 0
+IsOpen s fault = (s.fault ≡ Some fault) × (s.ended ≡ false) × ((at : ℕ) → NoneDecided at s.rest)
+
+-- how a fault leaves a finder: never is it one of a write; an input is too long only after 2^32 reads, and memory is wanted only before
 abbrev pub StopsSo : State → RunFault → Type 0
-StopsSo new Read = new.fault ≡ Some Read
+StopsSo new Read = IsOpen new Read
 StopsSo new Write = ⊥
-StopsSo new InputTooLong = (new.fault ≡ Some InputTooLong) × (new.reads ≡ most_reads)
-StopsSo new Memory = new.fault ≡ Some Memory
+StopsSo new InputTooLong = IsOpen new InputTooLong × (new.reads ≡ most_reads)
+StopsSo new Memory = IsOpen new Memory × (new.reads < most_reads)
+
+-- a read is made only where no event is certain in what is left
+abbrev pub WaitsSo : State → State → Type 0
+WaitsSo old new = old.reads ≢ new.reads → NoneDecided old.at old.rest
+
+-- memory is wanted only where the room was less than twice the octets that may be held
+abbrev pub WantsSo : State → State → RunFault → Type 0
+WantsSo old new Read = Unit {0}
+WantsSo old new Write = Unit {0}
+WantsSo old new InputTooLong = Unit {0}
+WantsSo old new Memory = old.room < 2 * max 4096 new.longest

@@ -1,5 +1,6 @@
 -- What reading an input to its end gives. (a choice of this project)
-use Rattle.std.specs.Prelude.{◌≡◌, ℕ, List, [], ◌++◌, length, Option, Result, Ok, Err, MatchResult}
+-- Cited by public contracts.
+use Rattle.std.specs.Prelude.{◌≡◌, ◌<◌, ℕ, List, [], ◌++◌, length, Option, Result, Ok, Err, MatchResult}
 use Rattle.std.specs.Io.KnownBytes.{Consumes, IsAtEnd}
 use Rattle.bufr_frame.specs.Runs.{most_reads}
 use Rattle.bufr_frame.specs.declared.fault.RunFault.{RunFault}
@@ -11,13 +12,13 @@ pub record ReadsOnce (left left' : Option (List ℕ)) (old new : List ℕ) (resu
   pub held : new ≡ old ++ bs
   pub outcome : MatchResult result (λ n. (n ≡ length bs) × (n ≡ 0 → IsAtEnd left')) (λ fault. (fault ≡ Read) × (bs ≡ []))
 
--- how a reading of an input ends: at its end, or by a fault, and never by a write; it is too long only after 2^32 reads
+-- how a reading of an input ends: at its end, or by a fault, and never by a write; it is too long only after 2^32 reads, and memory is wanted only before them
 abbrev pub InputEnds : {X : Type 0} → (left : Option (List ℕ)) → (reads : ℕ) → Result X RunFault → Type 0
 InputEnds left reads (Ok x) = IsAtEnd left
 InputEnds left reads (Err Read) = Unit {0}
 InputEnds left reads (Err Write) = ⊥
 InputEnds left reads (Err InputTooLong) = reads ≡ most_reads
-InputEnds left reads (Err Memory) = Unit {0}
+InputEnds left reads (Err Memory) = reads < most_reads
 
 -- Reads to the end: their octets stand behind those that were held, and the end was reached unless there is a fault.
 pub record ReadsInput {X : Type 0} (left left' : Option (List ℕ)) (old new : List ℕ) (reads : ℕ) (result : Result X RunFault) (bs : List ℕ) : Type 0 where

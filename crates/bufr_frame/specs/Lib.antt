@@ -1,13 +1,17 @@
+pub mod Buffer
 pub mod Events
 pub mod Finding
 pub mod Input
 pub mod Layout
+pub mod Longest
 pub mod Look
 pub mod Next
 pub mod Numbers
 pub mod Octets
 pub mod Passing
+pub mod Plain
 pub mod Runs
 pub mod Scan
 pub mod Sections
+pub mod Sights
 pub mod Words

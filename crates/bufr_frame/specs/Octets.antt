@@ -1,4 +1,5 @@
 -- Numbers and words in octets, most significant octet first. (WMO-No. 306, Volume I.2, FM 94)
+-- Cited by public contracts.
 use Rattle.std.specs.Prelude.{ℕ, ◌+◌, ◌*◌, ◌/◌, ◌%◌, List, [], ◌∷◌, slice_index}
 
 -- the number that three octets from place p write

@@ -1,8 +1,12 @@
 -- What the steps of a finder do, one by one.
-use Rattle.std.specs.Prelude.{◌≡◌, ◌≢◌, ℕ, ◌-◌, ◌<◌, ◌≤◌, true, false, List, [], ◌∷◌, Option, Some, None, Result, Ok, Err, length, drop}
-use Rattle.bufr_frame.specs.Scan.{Happening, Framed, Strayed}
-use Rattle.bufr_frame.specs.Finding.{State, IsDone, StopsSo}
+-- Cited by private steps only.
+use Rattle.std.specs.Prelude.{◌≡◌, ◌≢◌, ℕ, ◌+◌, ◌-◌, ◌*◌, ◌<◌, ◌≤◌, true, false, List, [], ◌∷◌, ◌++◌, Option, Some, None, Result, Ok, Err, length, take, drop, max}
+use Rattle.std.specs.Io.KnownBytes.{Consumes, IsAtEnd}
+use Rattle.bufr_frame.specs.Scan.{Happening, Framed, Strayed, scan_from}
+use Rattle.bufr_frame.specs.Finding.{State, IsDone, StopsSo, WantsSo}
+use Rattle.bufr_frame.specs.Longest.{first_event}
 use Rattle.bufr_frame.specs.declared.fault.RunFault.{RunFault}
+use Rattle.bufr_frame.specs.declared.fault.RunFault.TheVariants.{Read, Write, InputTooLong, Memory}
 use Rattle.bufr_frame.specs.declared.search.Verdict.{Verdict}
 use Rattle.bufr_frame.specs.declared.search.Verdict.TheVariants.{Nothing, Stray, Frame}
 use Rattle.bufr_frame.specs.declared.finder.Passed.{Passed}
@@ -22,19 +26,52 @@ events_by s (Ok (Some passed)) = passed_events s passed
 events_by s (Ok None) = []
 events_by s (Err fault) = []
 
--- how a call that goes on leaves a finder; for now the whole input is read before the first event
-abbrev pub OutcomeSo : State → State → Result (Option Passed) RunFault → Type 0
-OutcomeSo old new (Ok (Some passed)) = (new.fault ≡ None) × (new.ended ≡ true) × (old.at < new.at) × (passed.len ≤ length new.before) × (passed.here ≢ Nothing) × (passed.here ≡ Frame → 12 ≤ passed.len)
-OutcomeSo old new (Ok None) = (new.fault ≡ None) × IsDone new
-OutcomeSo old new (Err fault) = (old.ended ≡ false) × (old.fault ≡ None → StopsSo new fault)
+-- the events whose stated length counts: at a fault the first that is left
+abbrev pub seen_by : State → Result (Option Passed) RunFault → List Happening
+seen_by s (Ok (Some passed)) = passed_events s passed
+seen_by s (Ok None) = []
+seen_by s (Err fault) = first_event (scan_from 0 s.at s.rest)
 
--- how reading the input leaves a finder
-abbrev pub ReadSo : State → State → Result (Unit {0}) RunFault → Type 0
-ReadSo old new (Ok u) = (new.fault ≡ None) × (new.ended ≡ true)
-ReadSo old new (Err fault) = (old.ended ≡ false) × (old.fault ≡ None → StopsSo new fault)
+-- An event was passed: it is before what is left, and it is held.
+pub record PassedSo (old new : State) (passed : Passed) : Type 0 where
+  pub sound : new.fault ≡ None
+  pub moves : old.at < new.at
+  pub place : new.at ≡ passed.offset + passed.len
+  pub within : passed.len ≤ length new.before
+  pub some : passed.here ≢ Nothing
+  pub frame : passed.here ≡ Frame → 12 ≤ passed.len
+  pub stray : passed.here ≢ Frame → passed.len ≡ 4
+
+-- how a call that goes on leaves a finder
+abbrev pub OutcomeSo : State → State → Result (Option Passed) RunFault → Type 0
+OutcomeSo old new (Ok (Some passed)) = PassedSo old new passed
+OutcomeSo old new (Ok None) = (new.fault ≡ None) × IsDone new
+OutcomeSo old new (Err fault) = (old.ended ≡ false) × (old.fault ≡ None → StopsSo new fault) × (old.fault ≡ None → WantsSo old new fault)
+
+-- how a read ends: octets came, or the end was reached, or it failed, or memory was refused before it
+abbrev pub ReadEnds : (left' : Option (List ℕ)) → State → State → List ℕ → Result (Unit {0}) RunFault → Type 0
+ReadEnds left' old new bs (Ok u) = (new.reads ≡ old.reads + 1) × (new.ended ≡ true → (bs ≡ []) × IsAtEnd left')
+ReadEnds left' old new bs (Err Read) = (new.reads ≡ old.reads + 1) × (bs ≡ []) × (new.ended ≡ false)
+ReadEnds left' old new bs (Err Write) = ⊥
+ReadEnds left' old new bs (Err InputTooLong) = ⊥
+ReadEnds left' old new bs (Err Memory) = (new.reads ≡ old.reads) × (bs ≡ []) × (new.ended ≡ false) × (old.room < 2 * max 4096 old.longest)
+
+-- One read: octets come behind those that are left, or the end was reached.
+pub record ReadSo (left left' : Option (List ℕ)) (old new : State) (result : Result (Unit {0}) RunFault) (bs : List ℕ) : Type 0 where
+  pub read : Consumes left left' bs
+  pub rest : new.rest ≡ old.rest ++ bs
+  pub at : new.at ≡ old.at
+  pub fault : new.fault ≡ None
+  pub longest : new.longest ≡ old.longest
+  pub room : old.room ≤ new.room
+  pub ends : ReadEnds left' old new bs result
 
 -- the end, the fault and the reads stay
 pub record KeepsRun (old new : State) : Type 0 where
   pub ended : new.ended ≡ old.ended
   pub fault : new.fault ≡ old.fault
   pub reads : new.reads ≡ old.reads
+
+-- behind the first n octets that are left, where a length is stated
+abbrev pub gone_to : State → (n stated : ℕ) → State
+gone_to s n stated = record s { before = s.before ++ take n s.rest; rest = drop n s.rest; at = s.at + n; longest = max s.longest stated }

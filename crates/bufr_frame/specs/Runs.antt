@@ -1,5 +1,6 @@
 -- What a call that reads leaves of its reader's counts. (a choice of this project)
-use Rattle.std.specs.Prelude.{◌≡◌, ℕ, ◌≤◌, ◌^◌, Result, Ok, Err}
+-- Cited by public contracts.
+use Rattle.std.specs.Prelude.{◌≡◌, ℕ, ◌<◌, ◌≤◌, ◌^◌, Result, Ok, Err}
 use Rattle.bufr_bits.specs.Counts.{counted}
 use Rattle.bufr_frame.specs.declared.fault.RunFault.{RunFault}
 use Rattle.bufr_frame.specs.declared.fault.RunFault.TheVariants.{Read, Write, InputTooLong, Memory}
@@ -16,6 +17,6 @@ read_failures_after count (Err Memory) = count
 abbrev pub most_reads : ℕ
 most_reads = 2 ^ 32
 
--- at most 2^32 reads were made, and an input is too long only after all of them
+-- at most 2^32 reads were made; an input is too long only after all of them, and memory is wanted only before
 abbrev pub MakesReads : {X : Type 0} → (reads reads' : ℕ) → Result X RunFault → Type 0
-MakesReads reads reads' result = (n : ℕ) × (n ≤ most_reads) × (reads' ≡ counted reads n) × (result ≡ Err InputTooLong → n ≡ most_reads)
+MakesReads reads reads' result = (n : ℕ) × (n ≤ most_reads) × (reads' ≡ counted reads n) × (result ≡ Err InputTooLong → n ≡ most_reads) × (result ≡ Err Memory → n < most_reads)

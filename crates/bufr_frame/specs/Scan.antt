@@ -1,4 +1,5 @@
 -- The events of a stream of octets: its messages, and the places where `BUFR` stands and no message does.
+-- Cited by public contracts.
 -- (The word and the length in octets 5 to 7: WMO-No. 306, Volume I.2, FM 94, section 0. What is done with a stray word is a choice of this project.)
 use Rattle.std.specs.Prelude.{ℕ, zero, suc, ◌+◌, ◌-◌, Bool, true, false, not, nat_lt, List, [], ◌∷◌, ◌++◌, length, take, drop, codes, if◌then◌else◌, take_while}
 use Rattle.std.specs.Str.{bytes_eq}

@@ -1,4 +1,5 @@
 -- The sections of a message of edition 4. (WMO-No. 306, Volume I.2, FM 94: sections 0 to 5)
+-- Cited by public contracts.
 -- Octets count from 0 here: section 1 begins at 8. That reserved octets and bits are ignored, and that bits behind
 -- the data stay in the payload, are choices of this project.
 use Rattle.std.specs.Prelude.{◌≡◌, ℕ, ◌+◌, ◌-◌, ◌%◌, ◌==◌, Bool, not, nat_lt, nat_le, List, Option, Some, None, Result, Ok, Err, length, slice_index, slice_range, if◌then◌else◌}

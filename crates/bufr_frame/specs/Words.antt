@@ -1,4 +1,5 @@
 -- What an iterator of words has left.
+-- Cited by public contracts.
 use Rattle.std.specs.Prelude.{ℕ, List}
 use Rattle.bufr_frame.specs.Octets.{words}
 use Rattle.bufr_frame.specs.declared.words.Words.{Words}

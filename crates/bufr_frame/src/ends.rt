@@ -1,9 +1,10 @@
 //! Where the sections of a message end.
 ghost use Rattle.std.specs.Prelude.{◌≡◌, ◌≤◌, ◌<◌, ◌+◌, ◌-◌, ◌^◌, ℕ, length, Ok, IfOk, IsTrue, if◌then◌else◌};
-ghost use Rattle.bufr_frame.specs.Octets.{three};
 ghost use Rattle.bufr_frame.specs.Sections.{section_end, sections_of, parts, Gives, has_section2};
 
 use crate::fault::SectionFault;
+use crate::least::{SECTION_0, SECTION_1, SECTION_2, SECTION_3, SECTION_4, SECTION_5};
+use crate::octets::three_at;
 
 /// The places behind the last octets of sections 1 to 4, from 0. A section 2 that is not there
 /// ends where section 1 does.
@@ -17,15 +18,6 @@ pub(crate) struct Ends {
     ghost near: { fourth < 2 ^ 34 },
 }
 
-/// The number that the three octets from `p` write.
-fn three_at(m: &[u8], p: usize) -> usize
-    requires { p + 3 ≤ length m.now }
-    ensures value { result ≡ three m.now p }
-    ensures most { result < 2 ^ 24 }
-{
-    65536 * (m[p] as usize) + 256 * (m[p + 1] as usize) + m[p + 2] as usize
-}
-
 /// Where section `k` ends, which begins at `p` and has at least `least` octets.
 #[tactic(auto, unfolding(crate::specs::Sections::section_end))]
 fn section_end_at(m: &[u8], k: u8, least: usize, p: usize) -> Result<usize, SectionFault>
@@ -36,7 +28,7 @@ fn section_end_at(m: &[u8], k: u8, least: usize, p: usize) -> Result<usize, Sect
     ensures least { IfOk result (λ q. p + least ≤ q) }
     ensures most { IfOk result (λ q. q < p + 2 ^ 24) }
 {
-    let end = m.len() - 4;
+    let end = m.len() - SECTION_5;
     if end < p + 3 {
         return Err(SectionFault::SectionPast(k));
     }
@@ -61,7 +53,7 @@ fn second_end(m: &[u8], first: usize) -> Result<usize, SectionFault>
     ensures most { IfOk result (λ q. q < 2 ^ 32) }
 {
     if m[17] >= 128 {
-        section_end_at(m, 2, 4, first)
+        section_end_at(m, 2, SECTION_2, first)
     } else {
         Ok(first)
     }
@@ -78,11 +70,11 @@ pub(crate) fn ends_of(m: &[u8]) -> Result<Ends, SectionFault>
     if m[7] != 4 {
         return Err(SectionFault::Edition(m[7]));
     }
-    let first = section_end_at(m, 1, 22, 8)?;
+    let first = section_end_at(m, 1, SECTION_1, SECTION_0)?;
     let second = second_end(m, first)?;
-    let third = section_end_at(m, 3, 7, second)?;
-    let fourth = section_end_at(m, 4, 4, third)?;
-    if fourth != m.len() - 4 {
+    let third = section_end_at(m, 3, SECTION_3, second)?;
+    let fourth = section_end_at(m, 4, SECTION_4, third)?;
+    if fourth != m.len() - SECTION_5 {
         return Err(SectionFault::SectionsEnd);
     }
     Ok(Ends {

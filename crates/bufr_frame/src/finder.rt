@@ -1,18 +1,23 @@
 //! The messages of a stream.
 
+use crate::buffer::{make_room, read_behind};
 use crate::fault::{Cause, RunFault};
-use crate::input::read_to_end;
-use crate::search::{Found, Verdict, look, stated_len};
+use crate::input::MOST_READS;
+use crate::search::{Found, Sight, Verdict, look, stated_len};
 use bufr_bits::Source;
+use memchr::memmem;
 use std::alloc::Global;
 use std::marker::Model;
 
-/// What a stream has at an offset, in octets from 0.
+/// How many octets may be held while no greater length is stated.
+const LEAST_HELD: usize = 4096;
+
+/// What comes next in a stream. Offsets are in octets, from 0.
 #[derive(Clone, Copy, Debug)]
 pub enum Event<'a> {
-    /// A message: where it begins, and its octets.
+    /// A message: where it begins, and its octets, from `BUFR` to `7777`.
     Frame(u64, &'a [u8]),
-    /// `BUFR` stands there, and no message begins there.
+    /// A place where `BUFR` stands and no message begins, and why none does.
     Stray(u64, Cause),
     /// The end of the stream.
     Done,
@@ -29,56 +34,87 @@ struct Passed {
 /// How far a finder has come with its input.
 #[derive(Clone, Copy, Debug)]
 enum Phase {
-    /// Nothing was read.
-    Unread,
+    /// More octets may come.
+    Reading,
     /// The input was read to its end.
-    Whole,
+    Ended,
     /// A fault came.
     Stopped(RunFault),
 }
 
-/// Finds the messages of a stream: each place where `BUFR` stands gives a frame or a stray.
+/// Finds the messages of a stream. Each place where `BUFR` stands gives a frame or a stray; behind a
+/// frame the search goes on, and behind the four octets of a stray word.
 ///
-/// For now the whole input is read at the first call of [`Finder::next`].
+/// It reads only while the next event is not certain, so the first message is told before the
+/// second is read. It holds at most 4,096 octets or, where that is more, the greatest length that
+/// the stream has stated so far; its memory is about twice that.
+///
+/// ```
+/// let mut finder = Finder::new(rt.alloc());
+/// loop {
+///     match finder.next(&mut input)? {
+///         Event::Frame(offset, octets) => list(offset, octets),
+///         Event::Stray(offset, cause) => refuse(offset, cause),
+///         Event::Done => break,
+///     }
+/// }
+/// ```
+///
+/// (Section 0: WMO-No. 306, Volume I.2, FM 94. What is done with a stray word is a choice of this
+/// project.)
 #[derive(Drop)]
 pub struct Finder {
-    octets: Vec<u8>,
+    /// The search for `BUFR`.
+    word: memmem::Finder<'static>,
+    /// Its octets from `start` to `filled` are held, of which those from `place` on are left.
+    buffer: Vec<u8>,
+    start: usize,
     place: usize,
-    reads: u64,
+    filled: usize,
+    /// The offset of the buffer's first octet.
+    base: u64,
     phase: Phase,
+    /// How many reads were made.
+    reads: u64,
+    /// The greatest length that was stated.
+    longest: usize,
 }
 
 impl Model for Finder {
-    ghost use Rattle.std.specs.Prelude.{take, drop, ◌≤◌, vec_len};
+    ghost use Rattle.std.specs.Prelude.{◌≡◌, ◌≤◌, ◌<◌, ◌+◌, ◌-◌, ◌*◌, ◌^◌, max, codes, slice_range, vec_len, vec_capacity};
     ghost use Rattle.bufr_frame.specs.Finding.{State, ended_in, fault_in};
     ghost use Rattle.bufr_frame.specs.Runs.{most_reads};
 
     ghost Value = { State };
 
     ghost view = { λ f. record {
-      before = take f.place f.octets.items;
-      rest = drop f.place f.octets.items;
-      at = f.place;
+      before = slice_range f.buffer.items f.start f.place;
+      rest = slice_range f.buffer.items f.place f.filled;
+      at = f.base + f.place;
       ended = ended_in f.phase;
       fault = fault_in f.phase;
       reads = f.reads;
+      longest = f.longest;
+      room = vec_capacity f.buffer;
     } };
 
-    ghost invariant = { λ f. (f.place ≤ vec_len f.octets) × (f.reads ≤ most_reads) };
+    ghost invariant = { λ f. (f.start ≤ f.place) × (f.place ≤ f.filled) × (f.filled ≤ vec_len f.buffer) × (f.base + f.filled ≤ f.reads * 2 ^ 24) × (f.reads ≤ most_reads) × (f.filled - f.start ≤ max 4096 f.longest) × (f.longest < 2 ^ 24) × (f.word ≡ codes "BUFR") };
 }
 
 impl Finder {
-    ghost use Rattle.std.specs.Prelude.{◌≡◌, ◌≢◌, ◌≤◌, ◌<◌, ◌+◌, ◌-◌, ◌^◌, ℕ, List, [], ◌++◌, Option, Some, None, true, false, length, take, drop, IfSome, IfNone, Err};
+    ghost use Rattle.std.specs.Prelude.{◌≡◌, ◌≢◌, ◌≤◌, ◌<◌, ◌+◌, ◌-◌, ◌^◌, ℕ, List, [], ◌++◌, Option, Some, None, true, false, max, length, take, drop, IfSome, IfNone, Err};
     ghost use Rattle.std.specs.Borrow.{sem};
     ghost use Rattle.std.specs.Io.BufRead.{Rests};
     ghost use Rattle.bufr_bits.specs.Counts.{counted};
     ghost use Rattle.bufr_frame.specs.contracts.finder.Finder.{the_row};
     ghost use Rattle.bufr_frame.specs.Scan.{taken, scan_from};
     ghost use Rattle.bufr_frame.specs.Events.{told, IsEvent};
-    ghost use Rattle.bufr_frame.specs.Look.{LooksSo, FoundSo, Advances};
-    ghost use Rattle.bufr_frame.specs.Runs.{read_failures_after};
-    ghost use Rattle.bufr_frame.specs.Finding.{State, StepSo, CountsReads, IsDone, fresh};
-    ghost use Rattle.bufr_frame.specs.Passing.{OutcomeSo, ReadSo, KeepsRun, events_by, passed_events};
+    ghost use Rattle.bufr_frame.specs.Look.{Advances};
+    ghost use Rattle.bufr_frame.specs.Sights.{LooksSo, FoundSo};
+    ghost use Rattle.bufr_frame.specs.Longest.{length_here};
+    ghost use Rattle.bufr_frame.specs.Runs.{read_failures_after, most_reads};
+    ghost use Rattle.bufr_frame.specs.Finding.{State, held, StepSo, SeesSo, Follows, CountsReads, IsDone, WaitsSo, fresh};
+    ghost use Rattle.bufr_frame.specs.Passing.{OutcomeSo, PassedSo, ReadSo, KeepsRun, events_by, seen_by, passed_events, gone_to};
     ghost use Rattle.bufr_frame.specs.Next.{NextSo, AgainSo, told_by};
 
     /// A finder that has read nothing.
@@ -86,54 +122,57 @@ impl Finder {
         ensures { result ≡ fresh }
     {
         Finder {
-            octets: Vec::new(alloc),
+            word: memmem::Finder::new(b"BUFR"),
+            buffer: Vec::new(alloc),
+            start: 0,
             place: 0,
+            filled: 0,
+            base: 0,
+            phase: Phase::Reading,
             reads: 0,
-            phase: Phase::Unread,
+            longest: 0,
         }
     }
 
-    /// Reads the input to its end, unless that was done.
-    fn read_input<R: Source>(&mut self, r: &mut R) -> Result<(), RunFault>
-        ensures read { (bs : List ℕ) × StepSo (R.left r.old) (R.left r.new) self.old self.new bs [] }
-        ensures counts { CountsReads (R.reads r.old) (R.reads r.new) self.old self.new }
-        ensures outcome { ReadSo self.old self.new result }
-        ensures failed { self.old.fault ≡ None → R.failures r.new ≡ read_failures_after (R.failures r.old) result }
-        ensures again { IfSome self.old.fault (λ fault. result ≡ Err fault) }
-        ensures same { IfSome self.old.fault (λ _. r.new ≡ r.old) }
-        ensures same_self { IfSome self.old.fault (λ _. self.new ≡ self.old) }
-        ensures at { self.new.at ≡ self.old.at }
-        ensures near { self.new.at < 2 ^ 63 }
+    /// How many octets are held: those that were read and are left, and before them a frame that is
+    /// lent. At most 4,096 or, where that is more, [`Finder::longest`].
+    pub fn held(&self) -> usize
+        ensures value { result ≡ held self.now }
+        ensures bound { result ≤ max 4096 self.now.longest }
     {
-        match self.phase {
-            Phase::Whole => Ok(()),
-            Phase::Stopped(fault) => Err(fault),
-            Phase::Unread => match read_to_end(r, &mut self.octets, &mut self.reads) {
-                Ok(()) => {
-                    self.phase = Phase::Whole;
-                    Ok(())
-                }
-                Err(fault) => {
-                    self.phase = Phase::Stopped(fault);
-                    Err(fault)
-                }
-            },
-        }
+        self.filled - self.start
     }
 
-    /// What the octets that are left show, where the end was reached.
-    fn look(&self) -> Option<Found>
-        ensures { LooksSo self.now.rest result }
+    /// The greatest length in octets that was stated where `BUFR` stood, 0 at first. After an event
+    /// it is that of all events so far. After a fault the word counts too that was not yet certain,
+    /// where its length was read.
+    pub fn longest(&self) -> usize
+        ensures { result ≡ self.now.longest }
     {
-        look(&self.octets[self.place..])
+        self.longest
     }
 
-    /// Goes on behind the first `n` octets that are left.
-    fn pass(&mut self, n: usize)
-        requires { n ≤ length self.old.rest }
-        ensures { self.new ≡ record self.old { before = self.old.before ++ take n self.old.rest; rest = drop n self.old.rest; at = self.old.at + n } }
+    /// What the octets that are left show.
+    fn look(&self) -> Sight
+        ensures looks { LooksSo self.now.ended self.now.rest result }
+        ensures near { self.now.at < 2 ^ 63 }
+        ensures bound { held self.now ≤ max 4096 self.now.longest }
+    {
+        look(
+            &self.word,
+            &self.buffer[self.place..self.filled],
+            matches!(self.phase, Phase::Ended),
+        )
+    }
+
+    /// Passes the first `n` octets that are left. `stated` is a length that was stated, or 0.
+    fn go_to(&mut self, n: usize, stated: usize)
+        requires within { n ≤ length self.old.rest }
+        requires most { stated < 2 ^ 24 }
+        ensures { self.new ≡ gone_to self.old n stated }
     {
         self.place += n;
+        self.longest = self.longest.max(stated);
     }
 
     /// The offset of the first octet that is left.
@@ -141,10 +180,10 @@ impl Finder {
         ensures value { result ≡ self.now.at }
         ensures within { result < 2 ^ 63 }
     {
-        self.place as u64
+        self.base + self.place as u64
     }
 
-    /// How many octets an event takes that stands first.
+    /// How many octets the event takes that stands first.
     fn event_len(&self, here: Verdict) -> usize
         requires whole { here ≡ Verdict.Frame → 8 ≤ length self.now.rest }
         requires some { here ≢ Verdict.Nothing }
@@ -153,28 +192,31 @@ impl Finder {
         match here {
             Verdict::Nothing => unreachable!(),
             Verdict::Stray(_) => 4,
-            Verdict::Frame => stated_len(&self.octets[self.place..]),
+            Verdict::Frame => stated_len(&self.buffer[self.place..self.filled]),
         }
     }
 
-    /// Goes on behind an event.
+    /// Passes an event.
     fn pass_event(&mut self, found: Found) -> Passed
-        requires ended { self.old.ended ≡ true }
-        requires found { FoundSo self.old.rest found.place found.here }
+        requires sound { self.old.fault ≡ None }
+        requires found { FoundSo self.old.ended self.old.rest found.place found.here }
+        requires stated { found.stated < 2 ^ 24 }
         ensures advances { Advances self.new.ended self.old.at self.old.rest (passed_events self.new result) self.new.at self.new.rest }
+        ensures follows { Follows self.old.at self.old.rest self.new.at self.new.rest }
         ensures same { KeepsRun self.old self.new }
-        ensures within { result.len ≤ length self.new.before }
-        ensures event { result.here ≢ Verdict.Nothing }
-        ensures frame { result.here ≡ Verdict.Frame → 12 ≤ result.len }
-        ensures moves { self.old.at < self.new.at }
+        ensures passed { PassedSo self.old self.new result }
+        ensures longest { self.new.longest ≡ max self.old.longest found.stated }
+        ensures offset { result.offset ≡ self.old.at + found.place }
+        ensures here { result.here ≡ found.here }
         ensures near { self.new.at < 2 ^ 63 }
+        ensures bound { held self.new ≤ max 4096 self.new.longest }
     {
-        self.pass(found.place);
+        self.go_to(found.place, found.stated);
         let offset = self.offset();
         let len = self.event_len(found.here);
-        self.pass(len);
-        // the model of the struct is known where a field is used
-        let _ = &self.octets;
+        self.go_to(len, 0);
+        // the struct's model is known only where one of its fields is used
+        let _ = &self.buffer;
         Passed {
             offset,
             here: found.here,
@@ -182,21 +224,75 @@ impl Finder {
         }
     }
 
-    /// Goes on to the next event, where there is one.
+    /// Reads once, behind the octets that are left. Those that were passed are let go.
+    fn read_more<R: Source>(&mut self, r: &mut R) -> Result<(), RunFault>
+        requires room { length self.old.rest < max 4096 self.old.longest }
+        requires few { self.old.reads < most_reads }
+        requires going { self.old.ended ≡ false }
+        requires sound { self.old.fault ≡ None }
+        ensures read { (bs : List ℕ) × ReadSo (R.left r.old) (R.left r.new) self.old self.new result bs }
+        ensures failed { R.failures r.new ≡ read_failures_after (R.failures r.old) result }
+        ensures made { R.reads r.new ≡ counted (R.reads r.old) (self.new.reads - self.old.reads) }
+    {
+        self.start = self.place;
+        let limit = self.longest.max(LEAST_HELD);
+        let slid = make_room(&mut self.buffer, self.start, self.filled, limit)?;
+        self.base += slid as u64;
+        self.start -= slid;
+        self.place -= slid;
+        self.filled -= slid;
+        self.reads += 1;
+        let most = self.buffer.len().min(self.start + limit);
+        let n = read_behind(r, &mut self.buffer, self.filled, most)?;
+        self.filled += n;
+        if n == 0 {
+            self.phase = Phase::Ended;
+        }
+        Ok(())
+    }
+
+    /// Stops for good.
+    fn stop(&mut self, fault: RunFault) -> RunFault
+        requires { self.old.ended ≡ false }
+        ensures new { self.new ≡ record self.old { fault = Some fault } }
+        ensures value { result ≡ fault }
+        ensures near { self.new.at < 2 ^ 63 }
+        ensures bound { held self.new ≤ max 4096 self.new.longest }
+    {
+        self.phase = Phase::Stopped(fault);
+        fault
+    }
+
+    /// Goes on behind the next event, where there is one.
     fn advance<R: Source>(&mut self, r: &mut R) -> Result<Option<Passed>, RunFault>
-        ensures steps { (bs : List ℕ) × StepSo (R.left r.old) (R.left r.new) self.old self.new bs (events_by self.new result) }
+        ensures steps { (bs : List ℕ) × StepSo (R.left r.old) (R.left r.new) self.old self.new bs (events_by self.new result) × (self.old.fault ≡ None → SeesSo self.old self.new bs (seen_by self.new result)) }
         ensures counts { CountsReads (R.reads r.old) (R.reads r.new) self.old self.new }
+        ensures waits { WaitsSo self.old self.new }
         ensures outcome { OutcomeSo self.old self.new result }
         ensures failed { self.old.fault ≡ None → R.failures r.new ≡ read_failures_after (R.failures r.old) result }
         ensures again { IfSome self.old.fault (λ fault. result ≡ Err fault) }
         ensures same { IfSome self.old.fault (λ _. r.new ≡ r.old) }
         ensures same_self { IfSome self.old.fault (λ _. self.new ≡ self.old) }
         ensures near { self.new.at < 2 ^ 63 }
+        ensures bound { held self.new ≤ max 4096 self.new.longest }
     {
-        self.read_input(r)?;
-        match self.look() {
-            None => Ok(None),
-            Some(found) => Ok(Some(self.pass_event(found))),
+        if let Phase::Stopped(fault) = self.phase {
+            return Err(fault);
+        }
+        loop {
+            match self.look() {
+                Sight::End => return Ok(None),
+                Sight::Decided(found) => return Ok(Some(self.pass_event(found))),
+                Sight::Open(wanted) => {
+                    self.go_to(wanted.place, wanted.stated);
+                    if self.reads == MOST_READS {
+                        return Err(self.stop(RunFault::InputTooLong));
+                    }
+                    if let Err(fault) = self.read_more(r) {
+                        return Err(self.stop(fault));
+                    }
+                }
+            }
         }
     }
 
@@ -205,7 +301,7 @@ impl Finder {
         requires { n ≤ length self.now.before }
         ensures { result.now ≡ drop (length self.now.before - n) self.now.before }
     {
-        &self.octets[self.place - n..self.place]
+        &self.buffer[self.place - n..self.place]
     }
 
     /// The event that was passed.
@@ -223,14 +319,15 @@ impl Finder {
         }
     }
 
-    /// The next event of the stream `r`, which is the same at each call. A frame is lent until the
-    /// next call. After [`Event::Done`] it comes again.
+    /// The next event of the stream `r`, which is to be the same at each call. A frame is lent until
+    /// the next call. After [`Event::Done`] it comes again.
     ///
     /// # Errors
     ///
-    /// [`RunFault::Read`] where a read failed, [`RunFault::InputTooLong`] where the end was not
-    /// reached in 2^32 reads, and [`RunFault::Memory`]. After a fault each call answers the same
-    /// one, and reads nothing.
+    /// [`RunFault::Read`] where a read failed in this call, [`RunFault::InputTooLong`] where the end
+    /// was not reached in 2^32 reads, and [`RunFault::Memory`] where the buffer had to grow and was
+    /// refused. All events that were certain then were given before. After a fault each call answers
+    /// the same one, and reads nothing.
     pub fn next<R: Source>(&mut self, r: &mut R) -> Result<Event<'_>, RunFault>
         ensures failed { self.old.fault ≡ None → R.failures r.new ≡ read_failures_after (R.failures r.old) result }
         ensures again { AgainSo self.old result }

@@ -9,7 +9,7 @@ use crate::fault::RunFault;
 use bufr_bits::Source;
 
 /// The most reads that are made of one input; the next one is not made.
-const MOST_READS: u64 = 1 << 32;
+pub(crate) const MOST_READS: u64 = 1 << 32;
 
 /// How many octets one read asks for.
 const CHUNK: usize = 65536;
@@ -35,8 +35,9 @@ fn read_once<R: Source>(
     }
 }
 
-/// Reads an input to its end, behind the octets that are held. `reads` counts the reads that are
-/// made of the input; after 2^32 of them no other one is made.
+/// Reads an input to its end, behind the octets that are held: for an input that is wanted whole, as
+/// a table. `reads` counts the reads that are made of the input; after 2^32 of them no other one is
+/// made. A stream of messages is read by [`crate::Finder`].
 ///
 /// # Errors
 ///

@@ -1,7 +1,15 @@
-//! Laws about the events of a stream.
-ghost use Rattle.std.specs.Prelude.{◌≡◌, List, [], ◌++◌, ℕ, true, false};
+//! Laws on what calls say together: the events of a stream, and messages written again.
+ghost use Rattle.std.specs.Prelude.{◌≡◌, List, [], ◌+◌, ◌++◌, ℕ, Option, Result, Ok, ◌≤◌, length, true, false};
 ghost use Rattle.bufr_frame.specs.Scan.{Happening, scan, scan_from, open_scan};
-ghost use Rattle.bufr_frame.specs.Look.{Advances};
+ghost use Rattle.bufr_frame.specs.Look.{Advances, NoneDecided};
+ghost use Rattle.bufr_frame.specs.Longest.{longest_of, first_event};
+ghost use Rattle.bufr_frame.specs.Finding.{State, fresh, StepSo, SeesSo, IsDone};
+ghost use Rattle.bufr_frame.specs.Next.{NextSo, HoldsSo};
+ghost use Rattle.bufr_frame.specs.Layout.{parts_in, message_size, message_octets};
+ghost use Rattle.bufr_frame.specs.Plain.{IsPlain};
+ghost use Rattle.bufr_frame.specs.Sections.{Sections, sections_of};
+ghost use Rattle.bufr_frame.specs.declared.fault.RunFault.{RunFault};
+ghost use Rattle.bufr_frame.specs.declared.finder.Event.{Event};
 
 /// The events that are certain while the end is not known stay the first ones, whatever comes
 /// behind.
@@ -19,4 +27,52 @@ pub fn events_to_the_end_are_the_scan()
 /// certain.
 pub fn events_before_the_end_are_certain()
     ensures { (s rest : List ℕ) (events : List Happening) (at : ℕ) → Advances false 0 s events at rest → (more : List Happening) × (open_scan s ≡ events ++ more) }
+{}
+
+/// The events that calls of a finder gave are all that are certain, where nothing that is left is.
+pub fn events_at_a_fault_are_the_open_scan()
+    ensures { (s rest : List ℕ) (events : List Happening) (at : ℕ) → Advances false 0 s events at rest → NoneDecided at rest → open_scan s ≡ events }
+{}
+
+/// The octets that were read from an event's place on are held.
+pub fn octets_from_an_event_on_are_held()
+    ensures { (left left' : Option (List ℕ)) (reads reads' : ℕ) (old new : State) (result : Result Event RunFault) → (next : NextSo left left' reads reads' old new result) → HoldsSo (old.at + length (old.rest ++ next.steps.0)) new result }
+{}
+
+/// The greatest length after a call is that of all events given so far.
+pub fn longest_is_that_of_the_events()
+    ensures { (left mid left' : Option (List ℕ)) (s s' : State) (bs bs' : List ℕ) (events es : List Happening)
+        → StepSo left mid fresh s bs events → s.longest ≡ longest_of 0 bs events → StepSo mid left' s s' bs' es → SeesSo s s' bs' es
+        → s'.longest ≡ longest_of 0 (bs ++ bs') (events ++ es) }
+{}
+
+/// After a fault the first event that is left counts too.
+pub fn longest_at_a_fault_counts_the_open_word()
+    ensures { (left mid left' : Option (List ℕ)) (s s' : State) (bs bs' : List ℕ) (events : List Happening)
+        → StepSo left mid fresh s bs events → s.longest ≡ longest_of 0 bs events → StepSo mid left' s s' bs' [] → SeesSo s s' bs' (first_event (scan_from 0 s'.at s'.rest))
+        → s'.longest ≡ longest_of 0 (bs ++ bs') (events ++ first_event (scan_from 0 s'.at s'.rest)) }
+{}
+
+/// Steps of a finder, one after another, are a step: what several calls read and told follows from
+/// what each did.
+pub fn steps_compose()
+    ensures { (left mid left' : Option (List ℕ)) (old s s' : State) (bs bs' : List ℕ) (events es : List Happening)
+        → StepSo left mid old s bs events → StepSo mid left' s s' bs' es → StepSo left left' old s' (bs ++ bs') (events ++ es) }
+{}
+
+/// After the end was told it is told again, and nothing is read.
+pub fn done_comes_again()
+    ensures { (left left' : Option (List ℕ)) (reads reads' : ℕ) (old new : State) (result : Result Event RunFault)
+        → NextSo left left' reads reads' old new result → IsDone old → (result ≡ Ok Event.Done) × (new.reads ≡ old.reads) }
+{}
+
+/// A message that is written from the parts of another one is no longer than it.
+pub fn written_again_is_no_longer()
+    ensures { (m : List ℕ) (s : Sections) → sections_of m ≡ Ok s → message_size (parts_in s) ≤ length m }
+{}
+
+/// A message whose reserved octets and bits are zero, and in whose section 3 no octet is left over,
+/// has the same octets when it is written from its own parts.
+pub fn plain_messages_are_written_again()
+    ensures { (m : List ℕ) (s : Sections) → IsPlain m → sections_of m ≡ Ok s → message_octets s.head (parts_in s) ≡ m }
 {}

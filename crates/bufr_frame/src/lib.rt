@@ -2,13 +2,16 @@
 //! and writes one from its parts.
 #![tactic(auto)]
 
+mod buffer;
 mod ends;
 mod fault;
 mod finder;
 mod head;
 mod input;
 pub mod law;
+mod least;
 mod message;
+mod octets;
 mod search;
 mod words;
 mod write;
@@ -21,5 +24,7 @@ pub use message::Message;
 pub use words::Words;
 pub use write::write_message;
 
+#[cfg(test)]
+mod stream_tests;
 #[cfg(test)]
 mod tests;

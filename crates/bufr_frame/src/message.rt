@@ -1,17 +1,28 @@
 //! A message taken apart into its sections.
 ghost use Rattle.std.specs.Prelude.{◌≡◌, ◌≤◌, ◌+◌, length, IsTrue, Some, None, slice_range, if◌then◌else◌};
 ghost use Rattle.std.specs.Option.{option_map};
-ghost use Rattle.bufr_frame.specs.Octets.{two};
 ghost use Rattle.bufr_frame.specs.Sections.{head_of, has_section2};
 
 use crate::ends::{Ends, ends_of};
 use crate::fault::SectionFault;
 use crate::head::Head;
+use crate::least::{SECTION_0, SECTION_1, SECTION_2, SECTION_3, SECTION_4};
+use crate::octets::two_at;
 use crate::words::Words;
 use bufr_bits::BitSlice;
 use std::marker::Model;
 
 /// A message of edition 4, taken apart. It borrows its octets.
+///
+/// ```
+/// if let Event::Frame(offset, octets) = finder.next(&mut input)? {
+///     let message = Message::parse(octets)?;
+///     let centre = message.head().centre;
+///     for word in message.descriptors() {
+///         // ..
+///     }
+/// }
+/// ```
 ///
 /// (WMO-No. 306, Volume I.2, FM 94, sections 0 to 5)
 #[derive(Debug, Drop)]
@@ -50,14 +61,6 @@ impl<'a> Model for Message<'a> {
     ghost invariant = { λ m. length m.payload.now ≤ 2 ^ 60 };
 }
 
-/// The number that the two octets from `p` write.
-fn two_at(m: &[u8], p: usize) -> u16
-    requires { p + 2 ≤ length m.now }
-    ensures { result ≡ two m.now p }
-{
-    256 * (m[p] as u16) + m[p + 1] as u16
-}
-
 /// What octet 8 of section 0 and octets 4 to 22 of section 1 say.
 fn head_at(m: &[u8]) -> Head
     requires { 30 ≤ length m.now }
@@ -91,7 +94,7 @@ fn section2_of(m: &[u8], first: usize, second: usize) -> Option<&[u8]>
     ensures { option_map (λ s. s.now) result ≡ (if has_section2 m.now then Some (slice_range m.now (first + 4) second) else None) }
 {
     if m[17] >= 128 {
-        Some(&m[first + 4..second])
+        Some(&m[first + SECTION_2..second])
     } else {
         None
     }
@@ -133,13 +136,13 @@ impl<'a> Message<'a> {
         Message {
             octets,
             head: head_at(octets),
-            local1: &octets[30..ends.first],
+            local1: &octets[SECTION_0 + SECTION_1..ends.first],
             section2: section2_of(octets, ends.first, ends.second),
-            descriptors: &octets[ends.second + 7..ends.third],
+            descriptors: &octets[ends.second + SECTION_3..ends.third],
             subsets: two_at(octets, ends.second + 4),
             observed: flags >= 128,
             compressed: flags % 128 >= 64,
-            payload: &octets[ends.third + 4..ends.fourth],
+            payload: &octets[ends.third + SECTION_4..ends.fourth],
         }
     }
 

@@ -1,11 +1,17 @@
 //! The search for the next place where `BUFR` stands.
 ghost use Rattle.std.specs.Prelude.{◌≡◌, ◌≢◌, ◌≤◌, ◌<◌, ◌+◌, ◌-◌, ◌^◌, ℕ, List, [], ◌∷◌, ◌++◌, length, take, drop, codes, IfOk, IfSome, MatchOption, vec_len, Some, None};
-ghost use Rattle.bufr_frame.specs.Octets.{three};
+ghost use Rattle.memchr.specs.Find.{FindsNeedle};
 ghost use Rattle.bufr_frame.specs.Scan.{verdict, stated};
-ghost use Rattle.bufr_frame.specs.Look.{LooksSo};
+ghost use Rattle.bufr_frame.specs.Sights.{LooksSo};
+ghost use Rattle.bufr_frame.specs.Longest.{length_here};
 
 use crate::fault::Cause;
+use crate::least::{SECTION_0, SECTION_5};
+use crate::octets::three_at;
 use memchr::memmem;
+
+/// Where octets 5 to 7 of a message stand, which state its length.
+const LENGTH: usize = 4;
 
 /// What is at the front of the octets that are left.
 #[derive(Clone, Copy, Debug, PartialEq, Eq)]
@@ -18,13 +24,35 @@ pub(crate) enum Verdict {
     Frame,
 }
 
-/// The first event of some octets.
+/// The next event of some octets, which is certain.
 #[derive(Clone, Copy, Debug)]
 pub(crate) struct Found {
     /// The place where `BUFR` stands, from 0.
     pub(crate) place: usize,
     /// What is there.
     pub(crate) here: Verdict,
+    /// The length that is stated there, 0 where its octets are not there.
+    pub(crate) stated: usize,
+}
+
+/// A place before which no event is; more octets are needed to tell what is there.
+#[derive(Clone, Copy, Debug)]
+pub(crate) struct Wanted {
+    /// The place, from 0.
+    pub(crate) place: usize,
+    /// The length that is stated there, 0 where none is.
+    pub(crate) stated: usize,
+}
+
+/// What the octets at hand show.
+#[derive(Clone, Copy, Debug)]
+pub(crate) enum Sight {
+    /// An event.
+    Decided(Found),
+    /// More octets are needed to tell.
+    Open(Wanted),
+    /// No event any more.
+    End,
 }
 
 /// The octets from `place` on.
@@ -41,41 +69,86 @@ pub(crate) fn stated_len(m: &[u8]) -> usize
     ensures value { result ≡ stated m.now }
     ensures most { result < 2 ^ 24 }
 {
-    65536 * (m[4] as usize) + 256 * (m[5] as usize) + m[6] as usize
+    three_at(m, LENGTH)
 }
 
-/// What is at the front of `m`.
+/// The length that octets 5 to 7 state, or 0 where there are not eight octets.
+pub(crate) fn len_here(m: &[u8]) -> usize
+    ensures value { result ≡ length_here m.now }
+    ensures most { result < 2 ^ 24 }
+{
+    if m.len() < SECTION_0 {
+        0
+    } else {
+        stated_len(m)
+    }
+}
+
+/// What is at the front of `m`, behind which nothing comes: the first case that holds counts.
 pub(crate) fn judge(m: &[u8]) -> Verdict
     ensures { result ≡ verdict m.now }
 {
     if !m.starts_with(b"BUFR") {
         return Verdict::Nothing;
     }
-    if m.len() < 8 {
+    if m.len() < SECTION_0 {
         return Verdict::Stray(Cause::Cut);
     }
     let len = stated_len(m);
     if m.len() < len {
         return Verdict::Stray(Cause::Cut);
     }
-    if len < 12 {
+    if len < SECTION_0 + SECTION_5 {
         return Verdict::Stray(Cause::ShortLength);
     }
-    if !m[len - 4..].starts_with(b"7777") {
+    if !m[len - SECTION_5..].starts_with(b"7777") {
         return Verdict::Stray(Cause::NoEnd);
     }
     Verdict::Frame
 }
 
-/// The first event of `rest`, behind which nothing comes.
-pub(crate) fn look(rest: &[u8]) -> Option<Found>
-    ensures { LooksSo rest.now result }
+/// What `rest` shows, behind which more octets may come unless the end was reached. `word` searches
+/// for `BUFR`.
+pub(crate) fn look(word: &memmem::Finder<'_>, rest: &[u8], ended: bool) -> Sight
+    requires { word.now ≡ codes "BUFR" }
+    ensures { LooksSo ended rest.now result }
 {
-    match memmem::find(rest, b"BUFR") {
-        None => None,
-        Some(place) => Some(Found {
-            place,
-            here: judge(behind(rest, place)),
-        }),
+    match word.find(rest) {
+        None => {
+            if ended {
+                Sight::End
+            } else {
+                // the last three octets may begin a word
+                Sight::Open(Wanted {
+                    place: rest.len() - rest.len().min(3),
+                    stated: 0,
+                })
+            }
+        }
+        Some(place) => look_at(rest, place, ended),
     }
+}
+
+/// The same, where `BUFR` stands first at `place`.
+fn look_at(rest: &[u8], place: usize, ended: bool) -> Sight
+    requires { FindsNeedle rest.now (codes "BUFR") 0 (Some place) }
+    ensures { LooksSo ended rest.now result }
+{
+    let m = behind(rest, place);
+    let stated = len_here(m);
+    if ended {
+        return Sight::Decided(Found {
+            place,
+            here: judge(m),
+            stated,
+        });
+    }
+    if m.len() < stated.max(SECTION_0) {
+        return Sight::Open(Wanted { place, stated });
+    }
+    Sight::Decided(Found {
+        place,
+        here: judge(m),
+        stated,
+    })
 }

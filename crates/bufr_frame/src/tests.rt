@@ -1,16 +1,12 @@
-//! The worked examples, run.
+//! The worked messages, taken apart and written.
 
-use crate::{
-    Cause, Event, Finder, Message, RunFault, SectionFault, WriteFault, law, read_to_end,
-    write_message,
-};
+use crate::{Message, SectionFault, WriteFault, read_to_end, write_message};
 use bufr_bits::ScriptIn;
 use std::alloc::Global;
-use std::process::Abort;
 use std::test::Fail;
 
 /// A message of edition 4 with one block number, 48 octets.
-const ONE_BLOCK_NUMBER: [u8; 48] = [
+pub(crate) const ONE_BLOCK_NUMBER: [u8; 48] = [
     0x42, 0x55, 0x46, 0x52, 0x00, 0x00, 0x30, 0x04, 0x00, 0x00, 0x16, 0x00, 0x00, 0x62, 0x00, 0x00,
     0x00, 0x00, 0x00, 0x00, 0x00, 0x0E, 0x00, 0x07, 0xE8, 0x01, 0x02, 0x03, 0x04, 0x05, 0x00, 0x00,
     0x09, 0x00, 0x00, 0x01, 0x80, 0x01, 0x01, 0x00, 0x00, 0x05, 0x00, 0x14, 0x37, 0x37, 0x37, 0x37,
@@ -163,65 +159,6 @@ fn refuses_a_message(rt: HostRuntime) -> Result<(), Fail> {
     Ok(())
 }
 
-/// Asserts the events of `stream`, however it is read, and that the last one comes again.
-fn assert_events(
-    rt: &(impl Abort + AllocGlobal),
-    stream: &[u8],
-    events: &[(u64, Option<Cause>)],
-) -> Result<(), Fail> {
-    for step in [1, 3, 65536] {
-        let mut r = ScriptIn::new(stream, step, None);
-        let mut finder = Finder::new(rt.alloc());
-        for (offset, cause) in events {
-            match finder.next(&mut r) {
-                Ok(Event::Frame(place, octets)) => {
-                    assert!(rt; place == *offset && *cause == None, "{place}");
-                    assert!(rt; octets == ONE_BLOCK_NUMBER.as_slice(), "{place}");
-                }
-                Ok(Event::Stray(place, why)) => {
-                    assert!(rt; place == *offset && *cause == Some(why), "{place} {why:?}");
-                }
-                Ok(Event::Done) => assert!(rt; false, "done before {offset}"),
-                Err(fault) => assert!(rt; false, "{fault:?}"),
-            }
-        }
-        for _ in 0..3 {
-            assert!(rt; matches!(finder.next(&mut r), Ok(Event::Done)));
-        }
-    }
-    Ok(())
-}
-
-#[test]
-fn finds_messages(rt: HostRuntime) -> Result<(), Fail> {
-    let mut stream = Vec::new(rt.alloc());
-    assert_events(&rt, &stream, &[])?;
-    stream.extend_from_slice(b"BUFR\x00\x00\x40\x04")?;
-    stream.extend_from_slice(&ONE_BLOCK_NUMBER)?;
-    stream.extend_from_slice(b"xyBUF")?;
-    stream.extend_from_slice(&ONE_BLOCK_NUMBER)?;
-    stream.extend_from_slice(b"BUFR\x00\x00\x0B\x04abcBUFR")?;
-    let events = [
-        (0, Some(Cause::NoEnd)),
-        (8, None),
-        (61, None),
-        (109, Some(Cause::ShortLength)),
-        (120, Some(Cause::Cut)),
-    ];
-    assert_events(&rt, &stream, &events)
-}
-
-/// A fault comes before any event, and again at each later call.
-#[test]
-fn says_a_fault_again(rt: HostRuntime) -> Result<(), Fail> {
-    let mut r = ScriptIn::new(&ONE_BLOCK_NUMBER, 7, Some(20));
-    let mut finder = Finder::new(rt.alloc());
-    for _ in 0..3 {
-        assert!(rt; matches!(finder.next(&mut r), Err(RunFault::Read)));
-    }
-    Ok(())
-}
-
 #[test]
 fn reads_to_the_end(rt: HostRuntime) -> Result<(), Fail> {
     let mut r = ScriptIn::new(&LOCAL_USE, 9, None);
@@ -230,6 +167,5 @@ fn reads_to_the_end(rt: HostRuntime) -> Result<(), Fail> {
     let ran = read_to_end(&mut r, &mut octets, &mut reads);
     assert!(rt; ran == Ok(()) && reads == 8, "{reads}");
     assert_eq!(rt; octets.as_slice(), LOCAL_USE.as_slice());
-    law::open_scan_is_front();
     Ok(())
 }

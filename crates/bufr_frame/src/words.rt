@@ -1,5 +1,7 @@
 //! The words of two octets, one after another.
 
+use crate::octets::word_of;
+
 /// An iterator over the words of two octets each, most significant octet first. An octet left over
 /// at the end is ignored.
 #[derive(Debug, Drop)]
@@ -47,7 +49,7 @@ impl<'a> Iterator for Words<'a> {
     fn next(&mut self) -> Option<u16> {
         match self.octets {
             [first, second, rest @ ..] => {
-                let word = 256 * u16::from(*first) + u16::from(*second);
+                let word = word_of(*first, *second);
                 self.octets = rest;
                 Some(word)
             }

@@ -3,10 +3,12 @@ ghost use Rattle.std.specs.Prelude.{◌≡◌, ◌≤◌, ◌<◌, ◌+◌, ◌*
 ghost use Rattle.std.specs.Option.{option_map};
 ghost use Rattle.bufr_frame.specs.Octets.{three_octets, two_octets, octets_of_words};
 ghost use Rattle.bufr_frame.specs.Sections.{sections_of};
-ghost use Rattle.bufr_frame.specs.Layout.{head_octets, data_flags, message_octets, message_size, most_octets, parts_of, sections_from, section0, section1, section2, section3, section4, section2_size, size_from};
+ghost use Rattle.bufr_frame.specs.Layout.{head_octets, data_flags, message_octets, message_size, most_octets, parts_of, sections_from, section0_octets, section1_octets, section2_octets, section3_octets, section4_octets, section2_size, size_from};
 
 use crate::fault::WriteFault;
 use crate::head::Head;
+use crate::least::{MESSAGE, SECTION_1, SECTION_2, SECTION_3, SECTION_4};
+use crate::octets::{high, low, three_octets_of};
 use std::alloc::{AllocError, Global};
 
 /// The most octets that a message has, since three octets state its length.
@@ -15,22 +17,22 @@ const MOST_OCTETS: usize = 16_777_215;
 /// How many octets the message has, where they are not too many.
 fn size_of(
     local1: &[u8],
-    optional: Option<&[u8]>,
+    section2: Option<&[u8]>,
     descriptors: &[u16],
     payload: &[u8],
 ) -> Option<usize>
-    ensures { SomeIff result (size_from (length local1.now) (option_map (λ s. s.now) optional.entry) (length descriptors.now) (length payload.now) ≤ most_octets)
-        (size_from (length local1.now) (option_map (λ s. s.now) optional.entry) (length descriptors.now) (length payload.now)) }
+    ensures { SomeIff result (size_from (length local1.now) (option_map (λ s. s.now) section2.entry) (length descriptors.now) (length payload.now) ≤ most_octets)
+        (size_from (length local1.now) (option_map (λ s. s.now) section2.entry) (length descriptors.now) (length payload.now)) }
 {
-    let second = match optional {
+    let second = match section2 {
         None => 0,
-        Some(octets) => octets.len().saturating_add(4),
+        Some(octets) => octets.len().saturating_add(SECTION_2),
     };
     let size = second
         .saturating_add(local1.len())
         .saturating_add(descriptors.len().saturating_mul(2))
         .saturating_add(payload.len())
-        .saturating_add(45);
+        .saturating_add(MESSAGE);
     if size > MOST_OCTETS { None } else { Some(size) }
 }
 
@@ -39,21 +41,7 @@ fn push_three(octets: &mut Vec<u8>, n: usize) -> Result<(), AllocError>
     requires { n < 2 ^ 24 }
     ensures { OnOk result (octets.new.items ≡ octets.old.items ++ three_octets n) }
 {
-    octets.extend_from_slice(&[(n / 65536) as u8, (n / 256 % 256) as u8, (n % 256) as u8])
-}
-
-/// The first octet of a word.
-fn high(word: u16) -> u8
-    ensures { result ≡ word / 256 }
-{
-    (word / 256) as u8
-}
-
-/// The second octet of a word.
-fn low(word: u16) -> u8
-    ensures { result ≡ word % 256 }
-{
-    (word % 256) as u8
+    octets.extend_from_slice(&three_octets_of(n))
 }
 
 /// Octets 4 to 22 of section 1.
@@ -91,9 +79,9 @@ fn push_section1(
     optional: bool,
 ) -> Result<(), AllocError>
     requires { 22 + length local1.now < 2 ^ 24 }
-    ensures { OnOk result (octets.new.items ≡ octets.old.items ++ section1 head.now local1.now optional) }
+    ensures { OnOk result (octets.new.items ≡ octets.old.items ++ section1_octets head.now local1.now optional) }
 {
-    push_three(octets, 22 + local1.len())?;
+    push_three(octets, SECTION_1 + local1.len())?;
     octets.extend_from_slice(&head_octets_of(head, optional))?;
     octets.extend_from_slice(local1)
 }
@@ -101,19 +89,19 @@ fn push_section1(
 /// Appends a section that has only its length, a reserved octet and these octets.
 fn push_plain(octets: &mut Vec<u8>, content: &[u8]) -> Result<(), AllocError>
     requires { 4 + length content.now < 2 ^ 24 }
-    ensures { OnOk result (octets.new.items ≡ octets.old.items ++ section4 content.now) }
+    ensures { OnOk result (octets.new.items ≡ octets.old.items ++ section4_octets content.now) }
 {
-    push_three(octets, 4 + content.len())?;
+    push_three(octets, SECTION_4 + content.len())?;
     octets.push(0)?;
     octets.extend_from_slice(content)
 }
 
 /// Appends section 2, where there is one.
-fn push_section2(octets: &mut Vec<u8>, optional: Option<&[u8]>) -> Result<(), AllocError>
-    requires { section2_size (option_map (λ s. s.now) optional) < 2 ^ 24 }
-    ensures { OnOk result (octets.new.items ≡ octets.old.items ++ section2 (option_map (λ s. s.now) optional.entry)) }
+fn push_section2(octets: &mut Vec<u8>, section2: Option<&[u8]>) -> Result<(), AllocError>
+    requires { section2_size (option_map (λ s. s.now) section2) < 2 ^ 24 }
+    ensures { OnOk result (octets.new.items ≡ octets.old.items ++ section2_octets (option_map (λ s. s.now) section2.entry)) }
 {
-    match optional {
+    match section2 {
         None => Ok(()),
         Some(content) => push_plain(octets, content),
     }
@@ -137,9 +125,9 @@ fn push_section3(
     flags: u8,
 ) -> Result<(), AllocError>
     requires { 7 + 2 * length descriptors.now < 2 ^ 24 }
-    ensures { OnOk result (octets.new.items ≡ octets.old.items ++ section3 descriptors.now subsets flags) }
+    ensures { OnOk result (octets.new.items ≡ octets.old.items ++ section3_octets descriptors.now subsets flags) }
 {
-    push_three(octets, 7 + 2 * descriptors.len())?;
+    push_three(octets, SECTION_3 + 2 * descriptors.len())?;
     octets.extend_from_slice(&[0, high(subsets), low(subsets), flags])?;
     push_words(octets, descriptors)
 }
@@ -156,7 +144,7 @@ fn flags_of(observed: bool, compressed: bool) -> u8
 /// Appends section 0.
 fn push_section0(octets: &mut Vec<u8>, size: usize, edition: u8) -> Result<(), AllocError>
     requires { size < 2 ^ 24 }
-    ensures { OnOk result (octets.new.items ≡ octets.old.items ++ section0 size edition) }
+    ensures { OnOk result (octets.new.items ≡ octets.old.items ++ section0_octets size edition) }
 {
     octets.extend_from_slice(b"BUFR")?;
     push_three(octets, size)?;
@@ -166,8 +154,17 @@ fn push_section0(octets: &mut Vec<u8>, size: usize, edition: u8) -> Result<(), A
 
 /// Writes a message of edition 4 from its parts: `BUFR` first, its length in octets 5 to 7, the
 /// sections with the least lengths that hold the parts, reserved octets and bits zero, `7777` last.
-/// `local1` stands in section 1 from its octet 23 on, `optional` in section 2 from its octet 5 on,
-/// `payload` in section 4 from its octet 5 on. (WMO-No. 306, Volume I.2, FM 94, sections 0 to 5)
+/// `local1` stands in section 1 from its octet 23 on, `section2` in section 2 from its octet 5 on,
+/// `payload` in section 4 from its octet 5 on. The condition is that `head.edition` is 4.
+/// (WMO-No. 306, Volume I.2, FM 94, sections 0 to 5)
+///
+/// ```
+/// let message = Message::parse(octets)?;
+/// let without_section2 = write_message(
+///     alloc, &message.head(), message.local1(), None, &descriptors,
+///     message.subsets(), message.observed(), message.compressed(), &payload,
+/// )?;
+/// ```
 ///
 /// # Errors
 ///
@@ -177,7 +174,7 @@ pub fn write_message(
     alloc: Global,
     head: &Head,
     local1: &[u8],
-    optional: Option<&[u8]>,
+    section2: Option<&[u8]>,
     descriptors: &[u16],
     subsets: u16,
     observed: bool,
@@ -186,17 +183,17 @@ pub fn write_message(
 ) -> Result<Vec<u8>, WriteFault>
     requires { head.now.edition ≡ 4 }
     // The octets as they are laid out; read as a message they have the parts again.
-    ensures layout { IfOk result (λ octets. octets.items ≡ message_octets head.now (parts_of local1.now (option_map (λ s. s.now) optional.entry) descriptors.now subsets observed compressed payload.now)) }
-    ensures read_back { IfOk result (λ octets. sections_of octets.items ≡ Ok (sections_from head.now (parts_of local1.now (option_map (λ s. s.now) optional.entry) descriptors.now subsets observed compressed payload.now))) }
-    ensures too_long { (result ≡ Err WriteFault.TooLong) ↔ (most_octets < message_size (parts_of local1.now (option_map (λ s. s.now) optional.entry) descriptors.now subsets observed compressed payload.now)) }
+    ensures layout { IfOk result (λ octets. octets.items ≡ message_octets head.now (parts_of local1.now (option_map (λ s. s.now) section2.entry) descriptors.now subsets observed compressed payload.now)) }
+    ensures read_back { IfOk result (λ octets. sections_of octets.items ≡ Ok (sections_from head.now (parts_of local1.now (option_map (λ s. s.now) section2.entry) descriptors.now subsets observed compressed payload.now))) }
+    ensures too_long { (result ≡ Err WriteFault.TooLong) ↔ (most_octets < message_size (parts_of local1.now (option_map (λ s. s.now) section2.entry) descriptors.now subsets observed compressed payload.now)) }
 {
-    let Some(size) = size_of(local1, optional, descriptors, payload) else {
+    let Some(size) = size_of(local1, section2, descriptors, payload) else {
         return Err(WriteFault::TooLong);
     };
     let mut octets = Vec::with_capacity(alloc, size)?;
     push_section0(&mut octets, size, head.edition)?;
-    push_section1(&mut octets, head, local1, optional.is_some())?;
-    push_section2(&mut octets, optional)?;
+    push_section1(&mut octets, head, local1, section2.is_some())?;
+    push_section2(&mut octets, section2)?;
     push_section3(
         &mut octets,
         descriptors,

@@ -1,8 +1,9 @@
 -- How Table B is kept: names and units one after another in one block of octets, and for each element the places in it.
+-- Cited by private steps only.
 use Rattle.std.specs.Prelude.{◌≡◌, ℕ, ◌≤◌, ◌<◌, List, ◌++◌, length, map}
 use Rattle.std.specs.List.{AllByRecursion}
 use Rattle.std.specs.Prelude.{slice_range}
-use Rattle.bufr_tables.specs.TableB.{Row}
+use Rattle.bufr_tables.specs.TableB.{Row, IsRow}
 use Rattle.bufr_tables.specs.Entry.{row_with}
 use Rattle.bufr_tables.specs.declared.table_b.Entry.{Entry}
 use Rattle.bufr_tables.specs.declared.table_b.Stored.{Stored}
@@ -29,11 +30,12 @@ pub record IsStored (octets : List ℕ) (fxy : ℕ) (entry : Entry) (s : Stored)
   pub inside : IsInside (length octets) s
   pub descriptor : s.fxy ≡ fxy
 
--- every element is kept inside the block, and the directory has their descriptors
+-- every element is kept inside the block and within the limits, and the directory has their descriptors
 pub record IsKept (a : Inside) : Type 0 where
   pub inside : AllByRecursion (IsInside (length a.octets.items)) a.stored.items
   pub elements : AllByRecursion (λ s. s.fxy < 16384) a.stored.items
   pub listed : a.directory ≡ map (λ s. s.fxy) a.stored.items
+  pub limits : AllByRecursion IsRow (rows_kept a.octets.items a.stored.items)
 
 abbrev pub table_kept : Inside → List Row
 table_kept a = rows_kept a.octets.items a.stored.items

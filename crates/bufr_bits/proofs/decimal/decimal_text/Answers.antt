@@ -19,4 +19,4 @@ returns-else-places-gt0-clause-ok c =
     let v = to_z-of_z c.ranges.v in
     let put = rw v at c.put_sign.ensures.items in
     let signed : c.put_sign.new.out.items ≡ c.args.out.now.items ++ sign_of c.args.v = put ∙ ap (λ (t : List ℕ). t ++ sign_of c.args.v) c.in_ok-reserve.ensures.items in
-    text_plain c.args.out.now.items _ _ _ _ c.args.v c.args.scale _ _ _ _ c.if-places-gt0.false (c.powers_of-places.ensures.up ∙ ap power_up scale) (c.powers_of-places.ensures.down ∙ ap power_down scale) (c.unsigned_abs-size.ensures.value ∙ ap unsigned_abs v) (c.as_bytes-digits.ensures.value ∙ c.format.ensures.text) c.zeros_behind-zeros.ensures.value signed c.put.ensures.items c.put_zeros.ensures.items
+    text_plain c.args.out.now.items _ _ _ _ c.args.v c.args.scale _ _ _ _ c.if-places-gt0.false (c.powers_of-places.ensures.up ∙ ap power_up scale) (c.powers_of-places.ensures.down ∙ ap power_down scale) (c.unsigned_abs-size.ensures.value ∙ ap unsigned_abs v) (c.as_bytes-digits.ensures.value ∙ c.format.ensures.text) c.zeros_behind-zeros.ensures.value signed c.put.ensures.items c.put_zero_digits.ensures.items

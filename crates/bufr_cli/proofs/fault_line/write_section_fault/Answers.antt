@@ -1,13 +1,18 @@
+use Rattle.std.proofs.Common.{◌∙◌, ℕ, [], ◌∷◌, ap, codes, subst}
+use Rattle.std.specs.Prelude.{decimal}
+use Rattle.bufr_frame.specs.Numbers.{number_of_section_fault}
+use Rattle.bufr_cli.specs.FaultLine.{fault_line}
+use Rattle.bufr_cli.specs.Writing.{Writes}
 use Rattle.bufr_cli.proofs.fault_line.write_section_fault.Goals as goal
 
-pub returns-in-Edition-clause-writes : goal.returns-in-Edition-clause-writes
-returns-in-Edition-clause-writes g c = rw c.in-Edition.is c.write_numbered.ensures.writes
-
-pub returns-in-SectionShort-clause-writes : goal.returns-in-SectionShort-clause-writes
-returns-in-SectionShort-clause-writes g c = rw c.in-SectionShort.is c.write_numbered-in-SectionShort.ensures.writes
-
 pub returns-in-SectionPast-clause-writes : goal.returns-in-SectionPast-clause-writes
-returns-in-SectionPast-clause-writes g c = rw c.in-SectionPast.is c.write_numbered-in-SectionPast.ensures.writes
+returns-in-SectionPast-clause-writes g c =
+    let number = c.number-number.ensures ∙ ap number_of_section_fault c.in-SectionPast.is in
+    let P : ℕ → ℕ → Type 0 = λ n k. Writes (g.E.Sink.taken c.args.e.now) (g.E.Sink.taken c.write_fault-in-SectionPast.new.e) (fault_line c.args.offset n (codes "section " ∷ decimal k ∷ codes " past the end" ∷ [])) c.write_fault-in-SectionPast.result in
+    rw c.in-SectionPast.is (subst (λ n. P n c.in-SectionPast.section) number (subst (λ k. P c.number-number.result k) c.from-in-SectionPast.ensures c.write_fault-in-SectionPast.ensures.writes))
 
 pub returns-in-SectionsEnd-clause-writes : goal.returns-in-SectionsEnd-clause-writes
-returns-in-SectionsEnd-clause-writes g c = rw c.in-SectionsEnd.is c.write_parts.ensures.writes
+returns-in-SectionsEnd-clause-writes g c =
+    let number = c.number-number.ensures ∙ ap number_of_section_fault c.in-SectionsEnd.is in
+    let P : ℕ → Type 0 = λ n. Writes (g.E.Sink.taken c.args.e.now) (g.E.Sink.taken c.write_fault-in-SectionsEnd.new.e) (fault_line c.args.offset n (codes "sections do not meet the end" ∷ [])) c.write_fault-in-SectionsEnd.result in
+    rw c.in-SectionsEnd.is (subst P number c.write_fault-in-SectionsEnd.ensures.writes)

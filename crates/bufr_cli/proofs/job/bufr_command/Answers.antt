@@ -5,7 +5,7 @@ use Rattle.bufr_cli.specs.Line.{ls_app}
 use Rattle.bufr_cli.proofs.job.bufr_command.Goals as goal
 
 abbrev top : App
-top = record (new_app (codes "bufr")) { top = record ((new_app (codes "bufr")).top) { subcommand_required = true } }
+top = record (new_app (codes "bufr")) { top = record ((new_app (codes "bufr")).top) { has_version = true; subcommand_required = true } }
 
 pub returns : goal.returns
 returns c =

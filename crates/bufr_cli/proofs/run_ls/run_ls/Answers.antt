@@ -1,5 +1,4 @@
 use Rattle.std.proofs.Common.{◌≡◌, ◌∙◌, Ok, Err, refl, ap, map}
-use Rattle.bufr_frame.specs.Scan.{scan}
 use Rattle.std.proofs.lemmas.Result.{err_from_is_err_and}
 use Rattle.std.proofs.KnownBytes.{Keeps-refl}
 use Rattle.bufr_cli.specs.Pieces.{ls_piece}
@@ -21,7 +20,7 @@ loop-finder-init g c = record {
 pub returns-in_err-event-clause-run : goal.returns-in_err-event-clause-run
 returns-in_err-event-clause-run g c =
     let p = err_from_is_err_and c.from_residual.result c.from_residual.ensures.1 in
-    stop-next ls_piece _ _ _ _ _ _ _ _ _ _ _ _ _ _ c.loop-finder.invariant.ran c.next.follows.holds-at-none _ _ c.from_residual.result c.in_err-event.was (p.1 ∙ ap Err p.2)
+    stop-next ls_piece _ _ _ _ _ _ _ _ _ _ _ _ _ _ c.loop-finder.invariant.ran c.next.follows.holds-at-none _ (c.loop-finder.invariant.output_flushes, c.loop-finder.invariant.errors_flushes) _ c.from_residual.result c.in_err-event.was (p.1 ∙ ap Err p.2)
 
 pub loop-finder-preserved : goal.loop-finder-preserved
 loop-finder-preserved g c =
@@ -62,7 +61,7 @@ returns-in_err-flush-2-clause-run g c =
 
 pub returns-clause-whole : goal.returns-clause-whole
 returns-clause-whole g c =
-    all-known (λ l. map ls_piece (scan l)) _ _ _ _ _ _ _ (flushed ls_piece _ _ _ _ _ _ _ _ _ _ _ _ _ c.next.result c.loop-finder.invariant.ran c.next.follows.holds-at-none (c.in_ok-event.was ∙ ap Ok c.in-Done.is) _ _
+    all-known (map ls_piece) _ _ _ _ _ _ _ (flushed ls_piece _ _ _ _ _ _ _ _ _ _ _ _ _ c.next.result c.loop-finder.invariant.ran c.next.follows.holds-at-none (c.in_ok-event.was ∙ ap Ok c.in-Done.is) _ _
     c.flush.ensures.keeps c.flush-2.ensures.keeps)
 
 pub returns-clause-run : goal.returns-clause-run
@@ -81,23 +80,23 @@ returns-in_err-list_event-clause-reads g c =
     let p = err_from_is_err_and c.from_residual-in_err-list_event.result c.from_residual-in_err-list_event.ensures.1 in
     let next = c.next.follows.holds-at-none in
     let f : c.from_residual-in_err-list_event.result ≡ Err Write = p.1 ∙ ap Err (p.2 ∙ (rw c.in_err-list_event.was at c.list_event.ensures.writes).0) in
-    makes-reads _ _ c.next.follows.lender-at-none c.from_residual-in_err-list_event.result (CountsReads-then _ _ _ _ _ c.loop-finder.invariant.ran.counts next.counts) (λ long. cc)
+    makes-reads _ _ c.next.follows.lender-at-none c.from_residual-in_err-list_event.result (CountsReads-then _ _ _ _ _ c.loop-finder.invariant.ran.counts next.counts) (λ long. cc) (λ wanted. cc)
 
 pub returns-in_err-flush-clause-reads : goal.returns-in_err-flush-clause-reads
 returns-in_err-flush-clause-reads g c =
     let p = err_from_is_err_and c.from_residual-in_err-flush.result c.from_residual-in_err-flush.ensures.1 in
     let next = c.next.follows.holds-at-none in
     let f : c.from_residual-in_err-flush.result ≡ Err Write = p.1 ∙ ap Err (p.2 ∙ (rw c.in_err-flush.was at c.flush.ensures.err)) in
-    makes-reads _ _ c.next.follows.lender-at-none c.from_residual-in_err-flush.result (CountsReads-then _ _ _ _ _ c.loop-finder.invariant.ran.counts next.counts) (λ long. cc)
+    makes-reads _ _ c.next.follows.lender-at-none c.from_residual-in_err-flush.result (CountsReads-then _ _ _ _ _ c.loop-finder.invariant.ran.counts next.counts) (λ long. cc) (λ wanted. cc)
 
 pub returns-in_err-flush-2-clause-reads : goal.returns-in_err-flush-2-clause-reads
 returns-in_err-flush-2-clause-reads g c =
     let p = err_from_is_err_and c.from_residual-in_err-flush-2.result c.from_residual-in_err-flush-2.ensures.1 in
     let next = c.next.follows.holds-at-none in
     let f : c.from_residual-in_err-flush-2.result ≡ Err Write = p.1 ∙ ap Err (p.2 ∙ (rw c.in_err-flush-2.was at c.flush-2.ensures.err)) in
-    makes-reads _ _ c.next.follows.lender-at-none c.from_residual-in_err-flush-2.result (CountsReads-then _ _ _ _ _ c.loop-finder.invariant.ran.counts next.counts) (λ long. cc)
+    makes-reads _ _ c.next.follows.lender-at-none c.from_residual-in_err-flush-2.result (CountsReads-then _ _ _ _ _ c.loop-finder.invariant.ran.counts next.counts) (λ long. cc) (λ wanted. cc)
 
 pub returns-clause-reads : goal.returns-clause-reads
 returns-clause-reads g c =
     let next = c.next.follows.holds-at-none in
-    makes-reads _ _ c.next.follows.lender-at-none _ (CountsReads-then _ _ _ _ _ c.loop-finder.invariant.ran.counts next.counts) (λ long. cc)
+    makes-reads _ _ c.next.follows.lender-at-none _ (CountsReads-then _ _ _ _ _ c.loop-finder.invariant.ran.counts next.counts) (λ long. cc) (λ wanted. cc)

@@ -1,0 +1,371 @@
+-- A message taken apart, and written again from its parts.
+use Rattle.std.proofs.Common.{inl, inr, ◌≡◌, ◌==◌, ◌∙◌, ℕ, zero, suc, ◌+◌, ◌-◌, ◌*◌, ◌/◌, ◌%◌, ◌<◌, ◌≤◌, Bool, true, false, List, [], ◌∷◌, ◌++◌, length, take, drop, refl, ap, sym, subst, arith, Some, None, Ok, Err, get_or, codes, append_assoc, length-take, length-drop}
+use Rattle.std.specs.Prelude.{Result, if◌then◌else◌, nat_lt, nat_le, not, is_some, slice_range, All}
+use Rattle.std.proofs.Math.Seq.{drop-cons, take-add}
+use Rattle.std.proofs.lemmas.Bool.Decides.{nat_tests}
+use Rattle.std.proofs.lemmas.Bool.{true≢false, cases_Bool}
+use Rattle.std.proofs.lemmas.List.{take-append-drop}
+use Rattle.bufr_frame.specs.declared.fault.SectionFault.{SectionFault}
+use Rattle.bufr_frame.specs.declared.fault.SectionFault.TheVariants.{SectionShort, SectionPast, SectionsEnd}
+use Rattle.bufr_frame.specs.Octets.{three, two, words, three_octets, two_octets, octets_of_words}
+use Rattle.bufr_frame.specs.Sections.{Sections, sections_of, section_end, parts, has_section2, head_of, ◌>>=◌}
+use Rattle.bufr_frame.specs.Layout.{parts_in, message_size, message_octets, section0_octets, section1_octets, section2_octets, section2_size, section3_octets, section4_octets, head_octets, data_flags}
+use Rattle.bufr_frame.proofs.WordLemmas.{length-words}
+use Rattle.std.proofs.lemmas.List.Elements.{All-take, All-drop}
+use Rattle.std.proofs.lemmas.List.Folds.{drop_split}
+use Rattle.bufr_frame.specs.Plain.{IsPlain, section2_begins, section3_begins, section4_begins}
+use Rattle.bufr_frame.proofs.ScanLemmas.{drop-twice}
+
+-- the last of three tests that a number passed
+passed-all : (a b c : Bool) (e1 e2 e3 : SectionFault) (n q : ℕ) → (if a then Err e1 else if b then Err e2 else if c then Err e3 else Ok n) ≡ Ok q
+    → (a ≡ false) × (b ≡ false) × (c ≡ false) × (n ≡ q)
+passed-all true b c e1 e2 e3 n q is = cc
+passed-all false true c e1 e2 e3 n q is = cc
+passed-all false false true e1 e2 e3 n q is = cc
+passed-all false false false e1 e2 e3 n q is = (refl, refl, refl, (cc))
+
+-- a section that ends inside the message
+pub record EndsAt (m : List ℕ) (least p q : ℕ) : Type 0 where
+  pub least_long : p + least ≤ q
+  pub long : q ≡ p + three m p
+  pub three_long : p + 3 ≤ length m - 4
+  pub within : q ≤ length m - 4
+
+section-ended : (m : List ℕ) (k least p q : ℕ) → section_end m k least p ≡ Ok q → EndsAt m least p q
+unfolding section_end
+section-ended m k least p q is =
+    let all = passed-all (nat_lt (length m - 4) (p + 3)) (nat_lt (three m p) least) (nat_lt (length m - 4) (p + three m p)) (SectionPast k) (SectionShort k) (SectionPast k) (p + three m p) q is in
+    let a : p + 3 ≤ length m - 4 = grind (arith, nat_tests, all.0) in
+    let b : least ≤ three m p = grind (arith, nat_tests, all.1) in
+    let c : p + three m p ≤ length m - 4 = grind (arith, nat_tests, all.2) in
+    record { least_long = omega (arith, b, all.3); long = sym all.3; three_long = a; within = omega (arith, c, all.3) }
+
+then-ok : {A B : Type 0} (r : Result A SectionFault) (f : A → Result B SectionFault) (y : B) → (r >>= f) ≡ Ok y → (x : A) × (r ≡ Ok x) × (f x ≡ Ok y)
+then-ok (Ok x) f y is = (x, refl, is)
+then-ok (Err e) f y is = absurd (cc)
+
+unless-ok : {B : Type 0} (b : Bool) (e : SectionFault) (r : Result B SectionFault) (y : B) → (if not b then Err e else r) ≡ Ok y → (b ≡ true) × (r ≡ Ok y)
+unless-ok true e r y is = (refl, is)
+unless-ok false e r y is = cc
+
+when-ok : {B : Type 0} (b : Bool) (e : SectionFault) (x y : B) → (if b then Ok x else Err e) ≡ Ok y → (b ≡ true) × (x ≡ y)
+when-ok true e x y is = (refl, (cc))
+when-ok false e x y is = cc
+
+-- where the sections of a message end
+pub record Ended (m : List ℕ) (s : Sections) : Type 0 where
+  pub p1 : ℕ
+  pub p2 : ℕ
+  pub p3 : ℕ
+  pub p4 : ℕ
+  pub edition : get_or m 7 0 ≡ 4
+  pub first : EndsAt m 22 8 p1
+  pub second : has_section2 m ≡ true → EndsAt m 4 p1 p2
+  pub no_second : has_section2 m ≡ false → p2 ≡ p1
+  pub third : EndsAt m 7 p2 p3
+  pub fourth : EndsAt m 4 p3 p4
+  pub last : p4 ≡ length m - 4
+  pub is : s ≡ parts m p1 p2 p3 p4
+
+second-ended : (m : List ℕ) (p q : ℕ) (b : Bool) → (if b then section_end m 2 4 p else Ok p) ≡ Ok q → (b ≡ true → EndsAt m 4 p q) × (b ≡ false → q ≡ p)
+second-ended m p q true is = (λ _. section-ended m 2 4 p q is, λ no. absurd (true≢false no))
+second-ended m p q false is = (λ yes. absurd (true≢false (sym yes)), λ _. cc)
+
+pub sections-ended : (m : List ℕ) (s : Sections) → sections_of m ≡ Ok s → Ended m s
+unfolding sections_of
+sections-ended m s is =
+    let e = unless-ok (get_or m 7 0 == 4) _ _ s is in
+    let one = then-ok (section_end m 1 22 8) _ s e.1 in
+    let two' = then-ok (if has_section2 m then section_end m 2 4 one.0 else Ok one.0) _ s one.2 in
+    let three' = then-ok (section_end m 3 7 two'.0) _ s two'.2 in
+    let four = then-ok (section_end m 4 4 three'.0) _ s three'.2 in
+    let last = when-ok (four.0 == (length m - 4)) SectionsEnd (parts m one.0 two'.0 three'.0 four.0) s four.2 in
+    let second = second-ended m one.0 two'.0 (has_section2 m) two'.1 in
+    record {
+      p1 = one.0;
+      p2 = two'.0;
+      p3 = three'.0;
+      p4 = four.0;
+      edition = grind (arith, nat_tests, e.0);
+      first = section-ended m 1 22 8 one.0 one.1;
+      second = second.0;
+      no_second = second.1;
+      third = section-ended m 3 7 two'.0 three'.0 three'.1;
+      fourth = section-ended m 4 4 three'.0 four.0 four.1;
+      last = grind (arith, nat_tests, last.0);
+      is = sym last.1;
+    }
+
+slice-long : (m : List ℕ) (a b : ℕ) → b ≤ length m → length (slice_range m a b) ≡ b - a
+slice-long m a b within = omega (arith, length-take (b - a) (drop a m), length-drop a m)
+
+second-size : (b : Bool) (m : List ℕ) (p q : ℕ) → q ≤ length m → (b ≡ true → p + 4 ≤ q) → (b ≡ false → q ≡ p)
+    → p + section2_size (if b then Some (slice_range m (p + 4) q) else None) ≡ q
+second-size true m p q within there absent = omega (arith, slice-long m (p + 4) q within, there refl)
+second-size false m p q within there absent = omega (arith, absent refl)
+
+-- the least lengths that hold the parts leave out what section 3 has left over
+sizes : (m : List ℕ) (s : Sections) (e : Ended m s) → message_size (parts_in (parts m e.p1 e.p2 e.p3 e.p4)) + (e.p3 - (e.p2 + 7)) % 2 ≡ length m
+sizes m s e =
+    let second = second-size (has_section2 m) m e.p1 e.p2 (omega (arith, e.third.three_long, e.third.least_long)) (λ there. (e.second there).least_long) e.no_second in
+    omega (
+      arith,
+      second,
+      e.first.least_long,
+      e.third.least_long,
+      e.fourth.least_long,
+      e.fourth.within,
+      e.last,
+      slice-long m 30 e.p1 (omega (arith, e.fourth.least_long, e.fourth.within, e.third.least_long, second)),
+      slice-long m (e.p2 + 7) e.p3 (omega (arith, e.fourth.least_long, e.fourth.within)),
+      length-words (slice_range m (e.p2 + 7) e.p3),
+      slice-long m (e.p3 + 4) e.p4 (omega (arith, e.fourth.within)),
+    )
+
+-- a message written again is no longer
+pub no-longer : (m : List ℕ) (s : Sections) → sections_of m ≡ Ok s → message_size (parts_in s) ≤ length m
+no-longer m s is =
+    let e = sections-ended m s is in
+    let P : Sections → Type 0 = λ x. message_size (parts_in x) ≤ length m in
+    subst P (sym e.is) (omega (arith, sizes m s e))
+
+-- octets one after another from place a
+octets_from : ℕ → ℕ → List ℕ → List ℕ
+octets_from zero a m = []
+octets_from (suc n) a m = get_or m a 0 ∷ octets_from n (a + 1) m
+
+slice-octets : (n a : ℕ) (m : List ℕ) → a + n ≤ length m → take n (drop a m) ≡ octets_from n a m
+unfolding octets_from
+slice-octets zero a m within = refl
+slice-octets (suc n) a m within =
+    let e : drop a m ≡ get_or m a 0 ∷ drop (suc a) m = drop-cons m a 0 (omega arith) in
+    let s : suc a ≡ a + 1 = omega arith in
+    ap (take (suc n)) e ∙ ap (λ l. get_or m a 0 ∷ l) (ap (λ k. take n (drop k m)) s ∙ slice-octets n (a + 1) m (omega arith))
+
+-- a slice in two parts
+slice-parts : (m : List ℕ) (a b c : ℕ) → a ≤ b → b ≤ c → slice_range m a c ≡ slice_range m a b ++ slice_range m b c
+slice-parts m a b c low high =
+    let e : c - a ≡ (b - a) + (c - b) = omega arith in
+    let f : a + (b - a) ≡ b = omega arith in
+    ap (λ k. take k (drop a m)) e ∙ take-add (b - a) (c - b) (drop a m)
+    ∙ ap (λ l. take (b - a) (drop a m) ++ take (c - b) l) (drop-twice (b - a) a m ∙ ap (λ k. drop k m) f)
+
+-- the first octets of a slice
+slice-begins : (n : ℕ) (m : List ℕ) (a c : ℕ) → a + n ≤ c → c ≤ length m → slice_range m a c ≡ octets_from n a m ++ slice_range m (a + n) c
+slice-begins n m a c fits within =
+    let e : a + n - a ≡ n = omega arith in
+    slice-parts m a (a + n) c (omega arith) fits
+    ∙ ap (λ k. take k (drop a m) ++ slice_range m (a + n) c) e
+    ∙ ap (λ l. l ++ slice_range m (a + n) c) (slice-octets n a m (omega arith))
+
+-- the octets that write a number of three octets, of two
+three-back : (a b c : ℕ) → a < 256 → b < 256 → c < 256 → three_octets (65536 * a + 256 * b + c) ≡ a ∷ b ∷ c ∷ []
+three-back a b c la lb lc =
+    let n = 65536 * a + 256 * b + c in
+    let x : n / 65536 ≡ a = omega arith in
+    let y : n / 256 ≡ 256 * a + b = omega arith in
+    let y' : n / 256 % 256 ≡ b = ap (λ k. k % 256) y ∙ omega arith in
+    let z : n % 256 ≡ c = omega arith in
+    rw (x, y', z) refl
+
+two-back : (a b : ℕ) → b < 256 → two_octets (256 * a + b) ≡ a ∷ b ∷ []
+two-back a b lb =
+    let x : (256 * a + b) / 256 ≡ a = omega arith in
+    let y : (256 * a + b) % 256 ≡ b = omega arith in
+    rw (x, y) refl
+
+words-back : (m : List ℕ) → All (λ octet. octet < 256) m → length m % 2 ≡ 0 → octets_of_words (words m) ≡ m
+words-back [] small even = refl
+words-back (a ∷ []) small even = absurd (omega (arith, even))
+words-back (a ∷ b ∷ m) small even =
+    let lb : b < 256 = small 1 0 (omega arith) in
+    let x : (256 * a + b) / 256 ≡ a = omega arith in
+    let y : (256 * a + b) % 256 ≡ b = omega arith in
+    rw (x, y) (ap (λ l. a ∷ b ∷ l) (words-back m (λ k d within. small (suc (suc k)) d (omega (arith, within))) (omega (arith, even))))
+
+flag-back : (b : Bool) (n : ℕ) → nat_le 128 n ≡ b → n < 256 → n % 128 ≡ 0 → (if b then 128 else 0) ≡ n
+flag-back true n is small zero' = let h : 128 ≤ n = grind (arith, nat_tests, is) in omega arith
+flag-back false n is small zero' = let h : n < 128 = grind (arith, nat_tests, is) in omega arith
+
+flags-back : (o c : Bool) (n : ℕ) → nat_le 128 n ≡ o → nat_le 64 (n % 128) ≡ c → n < 256 → n % 64 ≡ 0 → data_flags o c ≡ n
+flags-back true true n io ic small zero' = let h : 128 ≤ n = grind (arith, nat_tests, io) in let k : 64 ≤ n % 128 = grind (arith, nat_tests, ic) in omega arith
+flags-back true false n io ic small zero' = let h : 128 ≤ n = grind (arith, nat_tests, io) in let k : n % 128 < 64 = grind (arith, nat_tests, ic) in omega arith
+flags-back false true n io ic small zero' = let h : n < 128 = grind (arith, nat_tests, io) in let k : 64 ≤ n % 128 = grind (arith, nat_tests, ic) in omega arith
+flags-back false false n io ic small zero' = let h : n < 128 = grind (arith, nat_tests, io) in let k : n % 128 < 64 = grind (arith, nat_tests, ic) in omega arith
+
+three-at : (m : List ℕ) (p : ℕ) → octets_from 3 p m ≡ get_or m p 0 ∷ get_or m (p + 1) 0 ∷ get_or m (p + 2) 0 ∷ []
+unfolding octets_from
+three-at m p = let e : p + 1 + 1 ≡ p + 2 = omega arith in cc
+
+four-at : (m : List ℕ) (p : ℕ) → octets_from 4 p m ≡ get_or m p 0 ∷ get_or m (p + 1) 0 ∷ get_or m (p + 2) 0 ∷ get_or m (p + 3) 0 ∷ []
+unfolding octets_from
+four-at m p = let e : p + 1 + 1 ≡ p + 2 = omega arith in let f : p + 1 + 1 + 1 ≡ p + 3 = omega arith in cc
+
+seven-at : (m : List ℕ) (p : ℕ) → octets_from 7 p m
+    ≡ get_or m p 0 ∷ get_or m (p + 1) 0 ∷ get_or m (p + 2) 0 ∷ get_or m (p + 3) 0 ∷ get_or m (p + 4) 0 ∷ get_or m (p + 4 + 1) 0 ∷ get_or m (p + 6) 0 ∷ []
+unfolding octets_from
+seven-at m p =
+    let a : p + 1 + 1 ≡ p + 2 = omega arith in
+    let b : p + 1 + 1 + 1 ≡ p + 3 = omega arith in
+    let c : p + 1 + 1 + 1 + 1 ≡ p + 4 = omega arith in
+    let d : p + 1 + 1 + 1 + 1 + 1 ≡ p + 4 + 1 = omega arith in
+    let e : p + 1 + 1 + 1 + 1 + 1 + 1 ≡ p + 6 = omega arith in
+    cc
+
+module _ (m : List ℕ) (small : All (λ octet. octet < 256) m) where
+  -- the octets of a length
+  length-back : (p n : ℕ) → p + 3 ≤ length m → n ≡ three m p → three_octets n ≡ get_or m p 0 ∷ get_or m (p + 1) 0 ∷ get_or m (p + 2) 0 ∷ []
+  length-back p n within is =
+      ap three_octets is ∙ three-back (get_or m p 0) (get_or m (p + 1) 0) (get_or m (p + 2) 0) (small p 0 (omega arith)) (small (p + 1) 0 (omega arith)) (small (p + 2) 0 (omega arith))
+
+  word-back : (p : ℕ) → p + 2 ≤ length m → two_octets (two m p) ≡ get_or m p 0 ∷ get_or m (p + 1) 0 ∷ []
+  word-back p within = two-back (get_or m p 0) (get_or m (p + 1) 0) (small (p + 1) 0 (omega arith))
+
+  -- a section that is only its length, a reserved octet and its octets
+  content-back : (p q : ℕ) → p + 4 ≤ q → q ≤ length m → q ≡ p + three m p → get_or m (p + 3) 0 ≡ 0 → section4_octets (slice_range m (p + 4) q) ≡ slice_range m p q
+  content-back p q fits within long reserved =
+      let x = slice_range m (p + 4) q in
+      let n : 4 + length x ≡ three m p = omega (arith, slice-long m (p + 4) q within, long) in
+      ap (λ l. l ++ 0 ∷ x) (length-back p (4 + length x) (omega arith) n)
+      ∙ ap (λ r. get_or m p 0 ∷ get_or m (p + 1) 0 ∷ get_or m (p + 2) 0 ∷ r ∷ x) (sym reserved)
+      ∙ ap (λ l. l ++ x) (sym (four-at m p)) ∙ sym (slice-begins 4 m p q fits within)
+
+  second-back : (b : Bool) (p q : ℕ) → q ≤ length m → (b ≡ true → (p + 4 ≤ q) × (q ≡ p + three m p) × (get_or m (p + 3) 0 ≡ 0)) → (b ≡ false → q ≡ p)
+      → section2_octets (if b then Some (slice_range m (p + 4) q) else None) ≡ slice_range m p q
+  second-back true p q within there absent = let t = there refl in content-back p q t.0 within t.1 t.2
+  second-back false p q within there absent = let z : q - p ≡ 0 = omega (arith, absent refl) in ap (λ k. take k (drop p m)) (sym z)
+
+  some-back : (b : Bool) (x : List ℕ) → is_some (if b then Some x else None) ≡ b
+  some-back true x = refl
+  some-back false x = refl
+
+  -- octets 4 to 22 of section 1
+  laid : (centre subcentre year : List ℕ) (flag : ℕ) → List ℕ
+  laid centre subcentre year flag = get_or m 11 0 ∷ centre ++ subcentre ++ get_or m 16 0 ∷ flag ∷ get_or m 18 0 ∷ get_or m 19 0 ∷ get_or m 20 0 ∷ get_or m 21 0 ∷ get_or m 22 0 ∷ year
+      ++ get_or m 25 0 ∷ get_or m 26 0 ∷ get_or m 27 0 ∷ get_or m 28 0 ∷ get_or m 29 0 ∷ []
+
+  head-laid : (b : Bool) → head_octets (head_of m) b ≡ laid (two_octets (two m 12)) (two_octets (two m 14)) (two_octets (two m 23)) (if b then 128 else 0)
+  unfolding laid
+  head-laid b = refl
+
+  octets-laid : octets_from 19 11 m ≡ laid (get_or m 12 0 ∷ get_or m 13 0 ∷ []) (get_or m 14 0 ∷ get_or m 15 0 ∷ []) (get_or m 23 0 ∷ get_or m 24 0 ∷ []) (get_or m 17 0)
+  unfolding laid octets_from
+  octets-laid = refl
+
+  head-back : (b : Bool) → 30 ≤ length m → has_section2 m ≡ b → get_or m 17 0 % 128 ≡ 0 → head_octets (head_of m) b ≡ octets_from 19 11 m
+  head-back b long is reserved =
+      let c = word-back 12 (omega arith) in
+      let s = word-back 14 (omega arith) in
+      let y = word-back 23 (omega arith) in
+      let f : (if b then 128 else 0) ≡ get_or m 17 0 = flag-back b (get_or m 17 0) is (small 17 0 (omega arith)) reserved in
+      head-laid b ∙ (let e : laid (two_octets (two m 12)) (two_octets (two m 14)) (two_octets (two m 23)) (if b then 128 else 0)
+      ≡ laid (get_or m 12 0 ∷ get_or m 13 0 ∷ []) (get_or m 14 0 ∷ get_or m 15 0 ∷ []) (get_or m 23 0 ∷ get_or m 24 0 ∷ []) (get_or m 17 0) =
+      ap (λ l. laid l (two_octets (two m 14)) (two_octets (two m 23)) (if b then 128 else 0)) c
+      ∙ ap (λ l. laid (get_or m 12 0 ∷ get_or m 13 0 ∷ []) l (two_octets (two m 23)) (if b then 128 else 0)) s
+      ∙ ap (λ l. laid (get_or m 12 0 ∷ get_or m 13 0 ∷ []) (get_or m 14 0 ∷ get_or m 15 0 ∷ []) l (if b then 128 else 0)) y
+      ∙ ap (laid (get_or m 12 0 ∷ get_or m 13 0 ∷ []) (get_or m 14 0 ∷ get_or m 15 0 ∷ []) (get_or m 23 0 ∷ get_or m 24 0 ∷ [])) f
+      in e) ∙ sym octets-laid
+
+  first-back : (b : Bool) (p : ℕ) → 30 ≤ p → p ≤ length m → p ≡ 8 + three m 8 → has_section2 m ≡ b → get_or m 17 0 % 128 ≡ 0
+      → section1_octets (head_of m) (slice_range m 30 p) b ≡ slice_range m 8 p
+  first-back b p fits within long is reserved =
+      let x = slice_range m 30 p in
+      let n : 22 + length x ≡ three m 8 = omega (arith, slice-long m 30 p within, long) in
+      ap (λ l. l ++ head_octets (head_of m) b ++ x) (length-back 8 (22 + length x) (omega arith) n ∙ sym (three-at m 8))
+      ∙ ap (λ l. octets_from 3 8 m ++ l ++ x) (head-back b (omega arith) is reserved)
+      ∙ ap (λ l. l ++ octets_from 19 11 m ++ x) (sym (slice-octets 3 8 m (omega arith)))
+      ∙ ap (λ l. take 3 (drop 8 m) ++ l ++ x) (sym (slice-octets 19 11 m (omega arith)))
+      ∙ append_assoc (slice_range m 8 11) (slice_range m 11 30) x
+      ∙ ap (λ l. slice_range m 8 11 ++ l) (sym (slice-parts m 11 30 p (omega arith) fits))
+      ∙ sym (slice-parts m 8 11 p (omega arith) (omega arith))
+
+  third-back : (p q : ℕ) → p + 7 ≤ q → q ≤ length m → q ≡ p + three m p → three m p % 2 ≡ 1 → get_or m (p + 3) 0 ≡ 0 → get_or m (p + 6) 0 % 64 ≡ 0
+      → section3_octets (words (slice_range m (p + 7) q)) (two m (p + 4)) (data_flags (nat_le 128 (get_or m (p + 6) 0)) (nat_le 64 (get_or m (p + 6) 0 % 128))) ≡ slice_range m p q
+  third-back p q fits within long odd reserved flags =
+      let x = slice_range m (p + 7) q in
+      let lx = slice-long m (p + 7) q within in
+      let lw = length-words x in
+      let n : 7 + 2 * length (words x) ≡ three m p = omega (arith, lx, lw, long, odd) in
+      let even : length x % 2 ≡ 0 = omega (arith, lx, long, odd) in
+      let small_x : All (λ octet. octet < 256) x = All-take (λ octet. octet < 256) (q - (p + 7)) (drop (p + 7) m) (All-drop (λ octet. octet < 256) (p + 7) m small) in
+      let f = flags-back (nat_le 128 (get_or m (p + 6) 0)) (nat_le 64 (get_or m (p + 6) 0 % 128)) (get_or m (p + 6) 0) refl refl (small (p + 6) 0 (omega arith)) flags in
+      ap (λ l. l ++ 0 ∷ two_octets (two m (p + 4)) ++ data_flags (nat_le 128 (get_or m (p + 6) 0)) (nat_le 64 (get_or m (p + 6) 0 % 128)) ∷ octets_of_words (words x)) (length-back p (7 + 2 * length (words x)) (omega arith) n)
+      ∙ ap (λ r. get_or m p 0 ∷ get_or m (p + 1) 0 ∷ get_or m (p + 2) 0 ∷ r ∷ two_octets (two m (p + 4)) ++ data_flags (nat_le 128 (get_or m (p + 6) 0)) (nat_le 64 (get_or m (p + 6) 0 % 128)) ∷ octets_of_words (words x)) (sym reserved)
+      ∙ ap (λ l. get_or m p 0 ∷ get_or m (p + 1) 0 ∷ get_or m (p + 2) 0 ∷ get_or m (p + 3) 0 ∷ l ++ data_flags (nat_le 128 (get_or m (p + 6) 0)) (nat_le 64 (get_or m (p + 6) 0 % 128)) ∷ octets_of_words (words x)) (word-back (p + 4) (omega arith))
+      ∙ ap (λ r. get_or m p 0 ∷ get_or m (p + 1) 0 ∷ get_or m (p + 2) 0 ∷ get_or m (p + 3) 0 ∷ get_or m (p + 4) 0 ∷ get_or m (p + 4 + 1) 0 ∷ r ∷ octets_of_words (words x)) f
+      ∙ ap (λ l. get_or m p 0 ∷ get_or m (p + 1) 0 ∷ get_or m (p + 2) 0 ∷ get_or m (p + 3) 0 ∷ get_or m (p + 4) 0 ∷ get_or m (p + 4 + 1) 0 ∷ get_or m (p + 6) 0 ∷ l) (words-back x small_x even)
+      ∙ ap (λ l. l ++ x) (sym (seven-at m p)) ∙ sym (slice-begins 7 m p q fits within)
+
+-- the first eight octets
+front-back : (m : List ℕ) → All (λ octet. octet < 256) m → 8 ≤ length m → take 4 m ≡ codes "BUFR" → (n : ℕ) → n ≡ three m 4 → section0_octets n (get_or m 7 0) ≡ take 8 m
+front-back m small long word n is =
+    let four : take 4 (drop 4 m) ≡ octets_from 4 4 m = slice-octets 4 4 m (omega arith) in
+    ap (λ l. codes "BUFR" ++ l ++ get_or m 7 0 ∷ []) (length-back m small 4 n (omega arith) is)
+    ∙ ap (λ l. codes "BUFR" ++ l) (sym (four ∙ four-at m 4)) ∙ ap (λ l. l ++ take 4 (drop 4 m)) (sym word) ∙ sym (take-add 4 4 m)
+
+-- a plain message, written again, has the same octets
+module _ (m : List ℕ) (plain : IsPlain m) (s : Sections) (e : Ended m s) where
+  place2 : e.p1 ≡ section2_begins m
+  place2 = e.first.long
+
+  place3 : (b : Bool) → has_section2 m ≡ b → e.p2 ≡ (if b then section2_begins m + three m (section2_begins m) else section2_begins m)
+  place3 true is = (e.second is).long ∙ ap (λ p. p + three m p) place2
+  place3 false is = e.no_second is ∙ place2
+
+  at3 : e.p2 ≡ section3_begins m
+  at3 = place3 (has_section2 m) refl
+
+  at4 : e.p3 ≡ section4_begins m
+  at4 = e.third.long ∙ ap (λ p. p + three m p) at3
+
+  order : (8 ≤ e.p1) × (e.p1 ≤ e.p2) × (e.p2 + 7 ≤ e.p3) × (e.p3 + 4 ≤ e.p4) × (e.p4 + 4 ≡ length m)
+  order =
+      let second : e.p1 ≤ e.p2 = elim (cases_Bool (has_section2 m)) [ inl there ↦ omega (arith, (e.second there).least_long) | inr absent ↦ omega (arith, e.no_second absent) ] in
+      (omega (arith, e.first.least_long), second, e.third.least_long, e.fourth.least_long, omega (arith, e.fourth.three_long, e.last))
+
+  size : message_size (parts_in (parts m e.p1 e.p2 e.p3 e.p4)) ≡ three m 4
+  size =
+      let P : ℕ → Type 0 = λ p. three m p % 2 ≡ 1 in
+      let odd : three m e.p2 % 2 ≡ 1 = subst P (sym at3) plain.whole in
+      let even : (e.p3 - (e.p2 + 7)) % 2 ≡ 0 = omega (arith, odd, e.third.long, e.third.least_long) in
+      omega (arith, even, sizes m s e, plain.size)
+
+  pub again : message_octets (head_of m) (parts_in (parts m e.p1 e.p2 e.p3 e.p4)) ≡ m
+  again =
+      let b = has_section2 m in
+      let o = order in
+      let small = plain.octets in
+      let w = words (slice_range m (e.p2 + 7) e.p3) in
+      let P : ℕ → Type 0 = λ p. three m p % 2 ≡ 1 in
+      let R : ℕ → Type 0 = λ p. get_or m (p + 3) 0 ≡ 0 in
+      let F : ℕ → Type 0 = λ p. get_or m (p + 6) 0 % 64 ≡ 0 in
+      let s0 = front-back m small (omega (arith, o)) plain.word (message_size (parts_in (parts m e.p1 e.p2 e.p3 e.p4))) size in
+      let s1 = first-back m small b e.p1 (omega (arith, e.first.least_long)) (omega (arith, o)) e.first.long refl plain.flags in
+      let s2 = second-back m small b e.p1 e.p2 (omega (arith, o)) (λ there. ((e.second there).least_long, (e.second there).long, subst R (sym place2) (plain.section2 there))) e.no_second in
+      let s3 = third-back m small e.p2 e.p3 o.2 (omega (arith, o)) e.third.long (subst P (sym at3) plain.whole) (subst R (sym at3) plain.section3) (subst F (sym at3) plain.data_flags) in
+      let s4 = content-back m small e.p3 e.p4 o.3 (omega (arith, o)) e.fourth.long (subst R (sym at4) plain.section4) in
+      let end : drop e.p4 m ≡ codes "7777" = ap (λ n. drop n m) e.last ∙ plain.end in
+      let h = some-back m small b (slice_range m (e.p1 + 4) e.p2) in
+      let t3 = section3_octets w (two m (e.p2 + 4)) (data_flags (nat_le 128 (get_or m (e.p2 + 6) 0)) (nat_le 64 (get_or m (e.p2 + 6) 0 % 128))) in
+      let t4 = section4_octets (slice_range m (e.p3 + 4) e.p4) in
+      let t2 = section2_octets (if b then Some (slice_range m (e.p1 + 4) e.p2) else None) in
+      let t1 : Bool → List ℕ = λ x. section1_octets (head_of m) (slice_range m 30 e.p1) x in
+      let back : t1 (is_some (if b then Some (slice_range m (e.p1 + 4) e.p2) else None)) ++ (t2 ++ (t3 ++ (t4 ++ codes "7777"))) ≡ drop 8 m =
+      ap (λ x. t1 x ++ (t2 ++ (t3 ++ (t4 ++ codes "7777")))) h
+      ∙ ap (λ l. l ++ (t2 ++ (t3 ++ (t4 ++ codes "7777")))) s1
+      ∙ ap (λ l. slice_range m 8 e.p1 ++ (l ++ (t3 ++ (t4 ++ codes "7777")))) s2
+      ∙ ap (λ l. slice_range m 8 e.p1 ++ (slice_range m e.p1 e.p2 ++ (l ++ (t4 ++ codes "7777")))) s3
+      ∙ ap (λ l. slice_range m 8 e.p1 ++ (slice_range m e.p1 e.p2 ++ (slice_range m e.p2 e.p3 ++ (l ++ codes "7777")))) s4
+      ∙ ap (λ l. slice_range m 8 e.p1 ++ (slice_range m e.p1 e.p2 ++ (slice_range m e.p2 e.p3 ++ (slice_range m e.p3 e.p4 ++ l)))) (sym end)
+      ∙ ap (λ l. slice_range m 8 e.p1 ++ (slice_range m e.p1 e.p2 ++ (slice_range m e.p2 e.p3 ++ l))) (sym (drop_split m e.p3 e.p4 (omega (arith, o))))
+      ∙ ap (λ l. slice_range m 8 e.p1 ++ (slice_range m e.p1 e.p2 ++ l)) (sym (drop_split m e.p2 e.p3 (omega (arith, o))))
+      ∙ ap (λ l. slice_range m 8 e.p1 ++ l) (sym (drop_split m e.p1 e.p2 (omega (arith, o))))
+      ∙ sym (drop_split m 8 e.p1 (omega (arith, o))) in
+      ap (λ l. l ++ (t1 (is_some (if b then Some (slice_range m (e.p1 + 4) e.p2) else None)) ++ (t2 ++ (t3 ++ (t4 ++ codes "7777"))))) s0
+      ∙ ap (λ l. take 8 m ++ l) back ∙ take-append-drop 8 m
+
+pub written-again : (m : List ℕ) (s : Sections) → IsPlain m → sections_of m ≡ Ok s → message_octets s.head (parts_in s) ≡ m
+written-again m s plain is =
+    let e = sections-ended m s is in
+    let P : Sections → Type 0 = λ x. message_octets x.head (parts_in x) ≡ m in
+    subst P (sym e.is) (again m plain s e)

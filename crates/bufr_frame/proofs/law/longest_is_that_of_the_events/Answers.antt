@@ -1,0 +1,5 @@
+use Rattle.bufr_frame.proofs.CallLemmas.{longest-events}
+use Rattle.bufr_frame.proofs.law.longest_is_that_of_the_events.Goals as goal
+
+pub returns : goal.returns
+returns c = longest-events

@@ -1,0 +1,5 @@
+use Rattle.bufr_frame.proofs.FindingLemmas.{steps-compose}
+use Rattle.bufr_frame.proofs.law.steps_compose.Goals as goal
+
+pub returns : goal.returns
+returns c = steps-compose

@@ -1,0 +1,23 @@
+-- The greatest length that was stated. (a choice of this project)
+-- Cited by public contracts.
+use Rattle.std.specs.Prelude.{ℕ, ◌-◌, max, nat_lt, List, [], ◌∷◌, length, drop, if◌then◌else◌}
+use Rattle.bufr_frame.specs.Scan.{Happening, Framed, Strayed, stated}
+
+-- the length that is stated at the front, where eight octets are there
+abbrev pub length_here : List ℕ → ℕ
+length_here m = if nat_lt (length m) 8 then 0 else stated m
+
+-- where `BUFR` stands
+abbrev pub offset_of : Happening → ℕ
+offset_of (Framed offset octets) = offset
+offset_of (Strayed offset cause) = offset
+
+-- the greatest length that is stated at these events of s, whose first octet is at offset `at`
+abbrev pub longest_of : (at : ℕ) → List ℕ → List Happening → ℕ
+longest_of at s [] = 0
+longest_of at s (event ∷ more) = max (length_here (drop (offset_of event - at) s)) (longest_of at s more)
+
+-- the first event, where there is one
+abbrev pub first_event : List Happening → List Happening
+first_event [] = []
+first_event (event ∷ more) = event ∷ []

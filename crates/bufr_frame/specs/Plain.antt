@@ -1,0 +1,28 @@
+-- Messages that are written as `write_message` writes them. (WMO-No. 306, Volume I.2, FM 94: sections 0 to 5)
+-- Cited by public contracts.
+use Rattle.std.specs.Prelude.{◌≡◌, ℕ, ◌+◌, ◌-◌, ◌%◌, ◌<◌, true, List, All, length, take, drop, codes, slice_index, if◌then◌else◌}
+use Rattle.bufr_frame.specs.Octets.{three}
+use Rattle.bufr_frame.specs.Sections.{has_section2}
+
+-- where section 2 begins, or section 3 where there is no section 2
+abbrev pub section2_begins : List ℕ → ℕ
+section2_begins m = 8 + three m 8
+
+abbrev pub section3_begins : List ℕ → ℕ
+section3_begins m = if has_section2 m then section2_begins m + three m (section2_begins m) else section2_begins m
+
+abbrev pub section4_begins : List ℕ → ℕ
+section4_begins m = section3_begins m + three m (section3_begins m)
+
+-- A message as a finder gives it, with all reserved octets and bits zero and no octet left over in section 3.
+pub record IsPlain (m : List ℕ) : Type 0 where
+  pub octets : All (λ octet. octet < 256) m
+  pub word : take 4 m ≡ codes "BUFR"
+  pub size : three m 4 ≡ length m
+  pub flags : slice_index m 17 % 128 ≡ 0
+  pub section2 : has_section2 m ≡ true → slice_index m (section2_begins m + 3) ≡ 0
+  pub section3 : slice_index m (section3_begins m + 3) ≡ 0
+  pub whole : three m (section3_begins m) % 2 ≡ 1
+  pub data_flags : slice_index m (section3_begins m + 6) % 64 ≡ 0
+  pub section4 : slice_index m (section4_begins m + 3) ≡ 0
+  pub end : drop (length m - 4) m ≡ codes "7777"

@@ -1,0 +1,82 @@
+//! A buffer that slides over a stream.
+//!
+//! Its room is twice the octets that may be held at once. So it slides only when it is used up, and
+//! each octet is moved about once, whatever the stream states.
+ghost use Rattle.std.specs.Prelude.{◌≡◌, ◌≤◌, ◌<◌, ◌+◌, ◌-◌, ◌^◌, ◌*◌, ℕ, List, drop, take, length, slice_range, IfOk, OnErr, vec_len, vec_capacity};
+ghost use Rattle.std.specs.Io.KnownBytes.{ReadConsumes, Consumes, Keeps, IsAtEnd};
+ghost use Rattle.bufr_bits.specs.Counts.{counted, failures_after};
+ghost use Rattle.bufr_frame.specs.Runs.{read_failures_after};
+ghost use Rattle.bufr_frame.specs.Input.{ReadsOnce};
+ghost use Rattle.bufr_frame.specs.Buffer.{MakesRoom};
+
+use crate::fault::RunFault;
+use bufr_bits::{Failed, Source};
+
+/// Makes room behind the octets from `start` to `filled`, of which `limit` may be held, and answers
+/// how many places nearer to the front they then stand. Where the room is used up they slide to the
+/// front, or where that would give little room the buffer grows.
+pub(crate) fn make_room(
+    buffer: &mut Vec<u8>,
+    start: usize,
+    filled: usize,
+    limit: usize,
+) -> Result<usize, RunFault>
+    requires order { start ≤ filled }
+    requires within { filled ≤ vec_len buffer.old }
+    requires less { filled - start < limit }
+    requires small { limit ≤ 2 ^ 24 }
+    ensures made { MakesRoom buffer.old.items buffer.new.items (vec_len buffer.old) (vec_len buffer.new) start filled result }
+    ensures grown { OnErr result (vec_capacity buffer.old < 2 * limit) }
+    ensures room { vec_capacity buffer.old ≤ vec_capacity buffer.new }
+{
+    let len = buffer.len();
+    if filled < len {
+        return Ok(0);
+    }
+    if start > 0 && filled - start <= len / 2 {
+        buffer.copy_within(start..filled, 0);
+        return Ok(start);
+    }
+    match buffer.resize(2 * limit, 0) {
+        Ok(()) => Ok(0),
+        Err(_) => Err(RunFault::Memory),
+    }
+}
+
+/// Reads once into the octets of `buf` from the place `from` to the place `to`.
+fn read_at<R: Source>(r: &mut R, buf: &mut [u8], from: usize, to: usize) -> Result<usize, Failed>
+    requires order { from < to }
+    requires within { to ≤ length buf.old }
+    ensures front { take from buf.new ≡ take from buf.old }
+    ensures fits { IfOk result (λ n. from + n ≤ to) }
+    ensures ok { IfOk result (λ n. Consumes (R.left r.old) (R.left r.new) (take n (drop from buf.new))) }
+    ensures err { OnErr result (Keeps (R.left r.old) (R.left r.new)) }
+    ensures end { IfOk result (λ n. n ≡ 0 → IsAtEnd (R.left r.new)) }
+    ensures failed { R.failures r.new ≡ failures_after (R.failures r.old) result }
+    ensures made { R.reads r.new ≡ counted (R.reads r.old) 1 }
+{
+    r.read(&mut buf[from..to])
+}
+
+/// Reads once behind the first `filled` octets, up to the place `to`, and answers how many octets
+/// came.
+pub(crate) fn read_behind<R: Source>(
+    r: &mut R,
+    buffer: &mut Vec<u8>,
+    filled: usize,
+    to: usize,
+) -> Result<usize, RunFault>
+    requires order { filled < to }
+    requires within { to ≤ vec_len buffer.old }
+    ensures read { (bs : List ℕ) × ReadsOnce (R.left r.old) (R.left r.new) (take filled buffer.old.items) (take (filled + length bs) buffer.new.items) result bs }
+    ensures len { vec_len buffer.new ≡ vec_len buffer.old }
+    ensures room { vec_capacity buffer.new ≡ vec_capacity buffer.old }
+    ensures fits { IfOk result (λ n. filled + n ≤ to) }
+    ensures failed { R.failures r.new ≡ read_failures_after (R.failures r.old) result }
+    ensures made { R.reads r.new ≡ counted (R.reads r.old) 1 }
+{
+    match read_at(r, buffer.as_mut_slice(), filled, to) {
+        Ok(n) => Ok(n),
+        Err(_) => Err(RunFault::Read),
+    }
+}

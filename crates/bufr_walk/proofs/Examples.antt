@@ -1,0 +1,165 @@
+-- Worked examples, computed from the definitions.
+use Rattle.std.proofs.Common.{◌≡◌, ℕ, zero, suc, true, List, [], ◌∷◌, pos, negsuc, refl}
+use Rattle.bufr_bits.specs.Bits.{bits_of}
+use Rattle.bufr_tables.specs.declared.kind.Kind.TheVariants as kind
+use Rattle.bufr_tables.specs.Tree.{Tree, bare, element, operator, delayed}
+use Rattle.bufr_walk.specs.declared.spec.Refusal.TheVariants as refusal
+use Rattle.bufr_walk.specs.declared.spec.Role.TheVariants as role
+use Rattle.bufr_walk.specs.Asked.{Asked}
+use Rattle.bufr_walk.specs.Course.{next_item}
+use Rattle.bufr_walk.specs.Content.{Content, number, shown_number, shown_text, shown_missing, shown_reference}
+use Rattle.bufr_walk.specs.PlainField.{data_end, increment, unequal_factor}
+use Rattle.bufr_walk.specs.Reading.{Item, ReadsSubsets}
+use Rattle.bufr_walk.proofs.ExampleTables.{fxy, table, done, walk_fault, field_fault, one, together, gives}
+
+one_temperature : one (element (fxy 0 12 101) bare) (112 ∷ 143 ∷ []) ≡ gives ((3173, shown_number (pos 28815) (pos 2)) ∷ []) (done 0 2)
+unfolding one gives fxy
+one_temperature = refl
+
+one_temperature_missing : one (element (fxy 0 12 101) bare) (255 ∷ 255 ∷ []) ≡ gives ((3173, shown_missing) ∷ []) (done 0 2)
+unfolding one gives fxy
+one_temperature_missing = refl
+
+delayed_blocks : Tree
+unfolding fxy
+delayed_blocks = delayed (fxy 0 31 1) (element (fxy 0 1 1) bare) bare
+
+delayed_twice : one delayed_blocks (2 ∷ 20 ∷ 44 ∷ []) ≡ gives ((7937, shown_number (pos 2) (pos 0)) ∷ (257, shown_number (pos 10) (pos 0)) ∷ (257, shown_number (pos 11) (pos 0)) ∷ []) (done 2 7)
+unfolding one gives delayed_blocks
+delayed_twice = refl
+
+delayed_none : one delayed_blocks (0 ∷ []) ≡ gives ((7937, shown_number (pos 0) (pos 0)) ∷ []) (done 0 3)
+unfolding one gives delayed_blocks
+delayed_none = refl
+
+-- the data end at bit 22 of 24
+delayed_past_the_end : one delayed_blocks (255 ∷ 20 ∷ 44 ∷ []) ≡ gives ((7937, shown_number (pos 255) (pos 0)) ∷ (257, shown_number (pos 10) (pos 0)) ∷ (257, shown_number (pos 11) (pos 0)) ∷ []) (field_fault 257 data_end 2 7)
+unfolding one gives delayed_blocks
+delayed_past_the_end = refl
+
+short_factor : one (delayed (fxy 0 31 0) (element (fxy 0 1 1) bare) bare) (138 ∷ []) ≡ gives ((7936, shown_number (pos 1) (pos 0)) ∷ (257, shown_number (pos 10) (pos 0)) ∷ []) (done 0 5)
+unfolding one gives fxy
+short_factor = refl
+
+width_and_scale_changed : one
+    (operator (fxy 2 1 132) (operator (fxy 2 2 129) (element (fxy 0 12 101) (operator (fxy 2 1 0) (operator (fxy 2 2 0) (element (fxy 0 12 101) bare))))))
+    (70 ∷ 89 ∷ 151 ∷ 8 ∷ 240 ∷ []) ≡ gives ((3173, shown_number (pos 288153) (pos 3)) ∷ (3173, shown_number (pos 28815) (pos 2)) ∷ []) (done 4 7)
+unfolding one gives fxy
+width_and_scale_changed = refl
+
+redefined_reference : one
+    (operator (fxy 2 3 10) (element (fxy 0 12 101) (operator (fxy 2 3 255) (element (fxy 0 12 101) bare))))
+    (228 ∷ 28 ∷ 35 ∷ 192 ∷ []) ≡ gives ((3173, shown_reference (negsuc 399)) ∷ (3173, shown_number (pos 28415) (pos 2)) ∷ []) (done 6 5)
+unfolding one gives fxy
+redefined_reference = refl
+
+increased_precision : one (operator (fxy 2 7 1) (element (fxy 0 12 101) (element (fxy 0 20 3) bare))) (70 ∷ 89 ∷ 144 ∷ 40 ∷ [])
+    ≡ gives ((3173, shown_number (pos 288153) (pos 3)) ∷ (5123, shown_number (pos 5) (pos 0)) ∷ []) (done 3 4)
+unfolding one gives fxy
+increased_precision = refl
+
+width_refused : one (operator (fxy 2 1 121) (element (fxy 0 1 1) bare)) (0 ∷ []) ≡ gives [] (walk_fault (refusal.Width 257) 8 2)
+unfolding one gives fxy
+width_refused = refl
+
+width_of_one : one (operator (fxy 2 1 122) (element (fxy 0 1 1) bare)) (0 ∷ []) ≡ gives ((257, shown_number (pos 0) (pos 0)) ∷ []) (done 7 3)
+unfolding one gives fxy
+width_of_one = refl
+
+width_of_one_missing : one (operator (fxy 2 1 122) (element (fxy 0 1 1) bare)) (128 ∷ []) ≡ gives ((257, shown_missing) ∷ []) (done 7 3)
+unfolding one gives fxy
+width_of_one_missing = refl
+
+local_descriptor : one (operator (fxy 2 6 12) (element (fxy 0 63 255) bare)) (15 ∷ 80 ∷ []) ≡ gives ((16383, shown_number (pos 245) (pos 0)) ∷ []) (done 4 3)
+unfolding one gives fxy
+local_descriptor = refl
+
+inserted_text : one (operator (fxy 2 5 4) bare) (34 ∷ 92 ∷ 10 ∷ 254 ∷ []) ≡ gives ((34052, shown_text (34 ∷ 92 ∷ 10 ∷ 254 ∷ [])) ∷ []) (done 0 2)
+unfolding one gives fxy
+inserted_text = refl
+
+negative_latitude : one (element (fxy 0 5 2) bare) (70 ∷ 70 ∷ []) ≡ gives ((1282, shown_number (negsuc 4) (pos 2)) ∷ []) (done 1 2)
+unfolding one gives fxy
+negative_latitude = refl
+
+defining_text : one (operator (fxy 2 3 10) (element (fxy 0 1 15) bare)) (0 ∷ 0 ∷ []) ≡ gives [] (walk_fault (refusal.Defining 271) 16 2)
+unfolding one gives fxy
+defining_text = refl
+
+text_width_changed : one (operator (fxy 2 8 3) (element (fxy 0 1 15) bare)) (65 ∷ 66 ∷ 67 ∷ []) ≡ gives ((271, shown_text (65 ∷ 66 ∷ 67 ∷ [])) ∷ []) (done 0 3)
+unfolding one gives fxy
+text_width_changed = refl
+
+compressed_missing : together 2 (element (fxy 0 12 101) bare) (112 ∷ 143 ∷ 5 ∷ []) ≡ gives ((3173, shown_number (pos 28815) (pos 2) ∷ shown_missing ∷ []) ∷ []) (done 0 2)
+unfolding together gives fxy
+compressed_missing = refl
+
+zeros : ℕ → List ℕ → List ℕ
+zeros zero more = more
+zeros (suc n) more = 0 ∷ zeros n more
+
+spaces : ℕ → List ℕ
+spaces zero = []
+spaces (suc n) = 32 ∷ spaces n
+
+compressed_name : together 2 (element (fxy 0 1 15) bare) (zeros 20 (17 ∷ 5 ∷ 9 ∷ 12 ∷ 131 ∷ 255 ∷ 255 ∷ 255 ∷ 252 ∷ []))
+    ≡ gives ((271, shown_text (65 ∷ 66 ∷ 67 ∷ spaces 17) ∷ shown_missing ∷ []) ∷ []) (done 2 2)
+unfolding together gives fxy zeros spaces
+compressed_name = refl
+
+compressed_name_shorter : together 2 (element (fxy 0 1 15) bare) (zeros 20 (13 ∷ 5 ∷ 9 ∷ 15 ∷ 255 ∷ 255 ∷ 252 ∷ []))
+    ≡ gives ((271, shown_text (65 ∷ 66 ∷ 67 ∷ spaces 17) ∷ shown_missing ∷ []) ∷ []) (done 2 2)
+unfolding together gives fxy zeros spaces
+compressed_name_shorter = refl
+
+factors_differ : together 2 delayed_blocks (1 ∷ 5 ∷ []) ≡ gives [] (field_fault 7937 unequal_factor 16 2)
+unfolding together gives delayed_blocks
+factors_differ = refl
+
+increment_past_the_width : together 2 (element (fxy 0 1 1) bare) (252 ∷ 17 ∷ 0 ∷ []) ≡ gives [] (field_fault 257 increment 24 1)
+unfolding together gives fxy
+increment_past_the_width = refl
+
+increment_to_all_ones : together 2 (element (fxy 0 1 1) bare) (252 ∷ 16 ∷ 128 ∷ []) ≡ gives ((257, shown_number (pos 126) (pos 0) ∷ shown_missing ∷ []) ∷ []) (done 7 2)
+unfolding together gives fxy
+increment_to_all_ones = refl
+
+minus_zero : one
+    (operator (fxy 2 3 10) (element (fxy 0 12 101) (operator (fxy 2 3 255) (element (fxy 0 12 101) bare))))
+    (128 ∷ 28 ∷ 35 ∷ 192 ∷ []) ≡ gives ((3173, shown_reference (pos 0)) ∷ (3173, shown_number (pos 28815) (pos 2)) ∷ []) (done 6 5)
+unfolding one gives fxy
+minus_zero = refl
+
+-- two subsets, each from the beginning of the template
+widened_again : Tree
+unfolding fxy
+widened_again = element (fxy 0 12 101) (operator (fxy 2 1 132) bare)
+
+as_quantity : Asked
+as_quantity = record { fxy = 3173; role = role.Element; kind = kind.Numeric; width = 16; scale = pos 2; reference = pos 0; may_be_missing = true; listed = true }
+
+at_288_15 : Item Content
+at_288_15 = record { spec = as_quantity; content = number 28815 }
+
+each_from_the_beginning : ReadsSubsets (next_item table widened_again) ((at_288_15 ∷ []) ∷ (at_288_15 ∷ []) ∷ []) (bits_of (112 ∷ 143 ∷ 112 ∷ 143 ∷ [])) []
+unfolding table widened_again as_quantity at_288_15 next_item bits_of
+each_from_the_beginning =
+    (bits_of (112 ∷ 143 ∷ []), ((bits_of (112 ∷ 143 ∷ []), refl, refl, refl), refl), ([], (([], refl, refl, refl), refl), refl))
+
+-- a given width holds for one descriptor
+given_width_is_used_up : one (operator (fxy 2 6 12) (element (fxy 0 63 255) (element (fxy 0 1 1) bare))) (15 ∷ 81 ∷ 64 ∷ [])
+    ≡ gives ((16383, shown_number (pos 245) (pos 0)) ∷ (257, shown_number (pos 10) (pos 0)) ∷ []) (done 5 4)
+unfolding one gives fxy
+given_width_is_used_up = refl
+
+-- figures take a redefined reference as it is, and no other change; 2 03 000 drops it
+figures_take_a_reference : one
+    (operator (fxy 2 7 1) (operator (fxy 2 1 132) (operator (fxy 2 3 10) (element (fxy 0 20 3) (operator (fxy 2 3 255) (element (fxy 0 20 3) (operator (fxy 2 3 0) (element (fxy 0 20 3) bare))))))))
+    (228 ∷ 0 ∷ 160 ∷ 80 ∷ []) ≡ gives ((5123, shown_reference (negsuc 399)) ∷ (5123, shown_number (negsuc 394) (pos 0)) ∷ (5123, shown_number (pos 5) (pos 0)) ∷ []) (done 4 9)
+unfolding one gives fxy
+figures_take_a_reference = refl
+
+-- figures of class 31 are never missing
+figures_never_missing : one (operator (fxy 2 1 132) (element (fxy 0 31 21) bare)) (252 ∷ []) ≡ gives ((7957, shown_number (pos 63) (pos 0)) ∷ []) (done 2 3)
+unfolding one gives fxy
+figures_never_missing = refl

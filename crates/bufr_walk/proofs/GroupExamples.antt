@@ -1,0 +1,178 @@
+-- Worked examples of groups, of subsets one after another, and of where the data end, computed from the definitions.
+use Rattle.std.proofs.Common.{◌≡◌, ℕ, Bool, true, false, List, [], ◌∷◌, pos, negsuc, refl, arith}
+use Rattle.std.specs.Prelude.{take, drop}
+use Rattle.bufr_bits.specs.Bits.{bits_of}
+use Rattle.bufr_tables.specs.declared.kind.Kind.TheVariants as kind
+use Rattle.bufr_tables.specs.Tree.{Tree, bare, element, operator, fixed, delayed}
+use Rattle.bufr_walk.specs.declared.spec.Role.TheVariants as role
+use Rattle.bufr_walk.specs.Course.{Course, next_item}
+use Rattle.bufr_walk.specs.Content.{Content, reference, number, text, shown_number, shown_text, shown_reference}
+use Rattle.bufr_walk.specs.PlainField.{data_end}
+use Rattle.bufr_walk.specs.Reading.{Item, turns_in, IsPlainReading}
+use Rattle.bufr_walk.specs.Refusal.{Stop, field_stop, IsPlainRefused}
+use Rattle.bufr_walk.proofs.ExampleTables.{fxy, table, done, field_fault, one, two, gives}
+
+-- A group of so many passes leaves what its passes set in force: fails where a pass or a group ends a change, where it is passed once, or where turns are counted otherwise.
+fixed_group : one (fixed 2 (element (fxy 0 1 1) (operator (fxy 2 1 129) bare)) bare) (20 ∷ 22 ∷ [])
+    ≡ gives ((257, shown_number (pos 10) (pos 0)) ∷ (257, shown_number (pos 11) (pos 0)) ∷ []) (done 1 8)
+unfolding one gives fxy
+fixed_group = refl
+
+-- Counts are told in the order of the data, an inner one anew in each pass of the outer, and none for a group that is not entered:
+-- fails where the counts of inner and outer groups are mixed up, or where one count serves all passes.
+group_in_a_group : one (delayed (fxy 0 31 1) (delayed (fxy 0 31 1) (element (fxy 0 1 1) bare) bare) bare) (2 ∷ 1 ∷ 20 ∷ 4 ∷ 44 ∷ 96 ∷ [])
+    ≡ gives ((7937, shown_number (pos 2) (pos 0)) ∷ (7937, shown_number (pos 1) (pos 0)) ∷ (257, shown_number (pos 10) (pos 0)) ∷ (7937, shown_number (pos 2) (pos 0)) ∷ (257, shown_number (pos 11) (pos 0)) ∷ (257, shown_number (pos 12) (pos 0)) ∷ []) (done 3 15)
+unfolding one gives fxy
+group_in_a_group = refl
+
+group_behind_a_group : one (delayed (fxy 0 31 1) (element (fxy 0 1 1) bare) (delayed (fxy 0 31 0) (element (fxy 0 12 101) bare) bare)) (1 ∷ 21 ∷ 112 ∷ 143 ∷ [])
+    ≡ gives ((7937, shown_number (pos 1) (pos 0)) ∷ (257, shown_number (pos 10) (pos 0)) ∷ (7936, shown_number (pos 1) (pos 0)) ∷ (3173, shown_number (pos 28815) (pos 2)) ∷ []) (done 0 9)
+unfolding one gives fxy
+group_behind_a_group = refl
+
+group_behind_no_pass : one (delayed (fxy 0 31 1) (delayed (fxy 0 31 1) (element (fxy 0 1 1) bare) bare) (element (fxy 0 1 1) bare)) (0 ∷ 20 ∷ [])
+    ≡ gives ((7937, shown_number (pos 0) (pos 0)) ∷ (257, shown_number (pos 10) (pos 0)) ∷ []) (done 1 4)
+unfolding one gives fxy
+group_behind_no_pass = refl
+
+-- The data may end at a factor, or at the first or the last item of a group: fails where an earlier item is dropped, or where the place is another.
+data_end_at_a_factor : one (delayed (fxy 0 31 1) (element (fxy 0 1 1) bare) bare) [] ≡ gives [] (field_fault 7937 data_end 0 2)
+unfolding one gives fxy
+data_end_at_a_factor = refl
+
+data_end_at_the_first_pass : one (delayed (fxy 0 31 1) (element (fxy 0 1 1) bare) bare) (2 ∷ []) ≡ gives ((7937, shown_number (pos 2) (pos 0)) ∷ []) (field_fault 257 data_end 0 3)
+unfolding one gives fxy
+data_end_at_the_first_pass = refl
+
+data_end_at_the_last_pass : one (delayed (fxy 0 31 1) (element (fxy 0 1 1) bare) bare) (2 ∷ 20 ∷ []) ≡ gives ((7937, shown_number (pos 2) (pos 0)) ∷ (257, shown_number (pos 10) (pos 0)) ∷ []) (field_fault 257 data_end 1 5)
+unfolding one gives fxy
+data_end_at_the_last_pass = refl
+
+-- What is in force ends with its subset: fails where a width, a scale, a precision or a reference reaches the next one.
+changed_behind : Tree
+unfolding fxy
+changed_behind = element (fxy 0 12 101) (operator (fxy 2 1 132) (operator (fxy 2 2 129) (operator (fxy 2 7 1) (operator (fxy 2 3 10) (element (fxy 0 12 101) (operator (fxy 2 3 255) bare))))))
+
+changes_end_with_the_subset : two changed_behind (112 ∷ 143 ∷ 228 ∷ 28 ∷ 35 ∷ 249 ∷ 0 ∷ [])
+    ≡ gives ((3173, shown_number (pos 28815) (pos 2)) ∷ (3173, shown_reference (negsuc 399)) ∷ []) (done 30 8)
+    ∷ gives ((3173, shown_number (pos 28815) (pos 2)) ∷ (3173, shown_reference (negsuc 399)) ∷ []) (done 4 8) ∷ []
+unfolding two gives changed_behind
+changes_end_with_the_subset = refl
+
+-- So does a definition of references: fails where the next subset begins within it.
+defining_behind : Tree
+unfolding fxy
+defining_behind = element (fxy 0 1 1) (operator (fxy 2 3 10) (element (fxy 0 1 1) bare))
+
+definitions_end_with_the_subset : two defining_behind (21 ∷ 200 ∷ 10 ∷ 228 ∷ 0 ∷ [])
+    ≡ gives ((257, shown_number (pos 10) (pos 0)) ∷ (257, shown_reference (negsuc 399)) ∷ []) (done 23 4)
+    ∷ gives ((257, shown_number (pos 10) (pos 0)) ∷ (257, shown_reference (negsuc 399)) ∷ []) (done 6 4) ∷ []
+unfolding two gives defining_behind
+definitions_end_with_the_subset = refl
+
+-- So does a text width: fails where the second text has two octets.
+text_width_behind : Tree
+unfolding fxy
+text_width_behind = element (fxy 0 31 250) (operator (fxy 2 8 2) bare)
+
+text_width_ends_with_the_subset : two text_width_behind (65 ∷ 66 ∷ [])
+    ≡ gives ((8186, shown_text (65 ∷ [])) ∷ []) (done 8 3) ∷ gives ((8186, shown_text (66 ∷ [])) ∷ []) (done 0 3) ∷ []
+unfolding two gives text_width_behind
+text_width_ends_with_the_subset = refl
+
+-- The data may end in a later subset: fails where the rest of the first is read as one.
+data_end_in_second_subset : two (element (fxy 0 1 1) bare) (20 ∷ []) ≡ gives ((257, shown_number (pos 10) (pos 0)) ∷ []) (done 1 2) ∷ gives [] (field_fault 257 data_end 1 1) ∷ []
+unfolding two gives fxy
+data_end_in_second_subset = refl
+
+-- The same by the definition of a reading itself, of all subsets together.
+data_of_two : List Bool
+unfolding bits_of
+data_of_two = take 52 (bits_of (112 ∷ 143 ∷ 228 ∷ 28 ∷ 35 ∷ 249 ∷ 0 ∷ []))
+
+at_288_15 : Item Content
+at_288_15 = record {
+  spec = record { fxy = 3173; role = role.Element; kind = kind.Numeric; width = 16; scale = pos 2; reference = pos 0; may_be_missing = true; listed = true };
+  content = number 28815;
+}
+
+minus_400 : ℕ → Item Content
+minus_400 fxy = record {
+  spec = record { fxy = fxy; role = role.Reference; kind = kind.Numeric; width = 10; scale = pos 0; reference = pos 0; may_be_missing = false; listed = false };
+  content = reference (negsuc 399);
+}
+
+reading_of_changes : IsPlainReading 2 (next_item table changed_behind) ((at_288_15 ∷ minus_400 3173 ∷ []) ∷ (at_288_15 ∷ minus_400 3173 ∷ []) ∷ []) data_of_two []
+unfolding table changed_behind at_288_15 minus_400 next_item data_of_two
+reading_of_changes = (
+  (
+    drop 26 data_of_two,
+    ((drop 16 data_of_two, refl, refl, (drop 26 data_of_two, refl, refl, refl)), refl),
+    ([], ((drop 42 data_of_two, refl, refl, ([], refl, refl, refl)), refl), refl),
+  ),
+  refl,
+)
+
+block_10 : Item Content
+block_10 = record {
+  spec = record { fxy = 257; role = role.Element; kind = kind.Numeric; width = 7; scale = pos 0; reference = pos 0; may_be_missing = true; listed = true };
+  content = number 10;
+}
+
+data_of_definitions : List Bool
+unfolding bits_of
+data_of_definitions = bits_of (21 ∷ 200 ∷ 10 ∷ 228 ∷ 0 ∷ [])
+
+reading_of_definitions : IsPlainReading 2 (next_item table defining_behind) ((block_10 ∷ minus_400 257 ∷ []) ∷ (block_10 ∷ minus_400 257 ∷ []) ∷ []) data_of_definitions (drop 34 data_of_definitions)
+unfolding table defining_behind block_10 minus_400 next_item data_of_definitions
+reading_of_definitions = (
+  (
+    drop 17 data_of_definitions,
+    ((drop 7 data_of_definitions, refl, refl, (drop 17 data_of_definitions, refl, refl, refl)), refl),
+    (drop 34 data_of_definitions, ((drop 24 data_of_definitions, refl, refl, (drop 34 data_of_definitions, refl, refl, refl)), refl), refl),
+  ),
+  refl,
+)
+
+letter : ℕ → Item Content
+letter octet = record {
+  spec = record { fxy = 8186; role = role.Element; kind = kind.Character; width = 8; scale = pos 0; reference = pos 0; may_be_missing = true; listed = true };
+  content = text (octet ∷ []);
+}
+
+reading_of_letters : IsPlainReading 2 (next_item table text_width_behind) ((letter 65 ∷ []) ∷ (letter 66 ∷ []) ∷ []) (bits_of (65 ∷ 66 ∷ [])) []
+unfolding table text_width_behind letter next_item bits_of
+reading_of_letters = ((bits_of (66 ∷ []), ((bits_of (66 ∷ []), refl, refl, refl), refl), ([], (([], refl, refl, refl), refl), refl)), refl)
+
+-- The turns are those of all subsets: fails where they begin anew.
+turns_of_both : turns_in (next_item table changed_behind) ((at_288_15 ∷ minus_400 3173 ∷ []) ∷ (at_288_15 ∷ minus_400 3173 ∷ []) ∷ []) ≡ 16
+unfolding table changed_behind at_288_15 minus_400 next_item
+turns_of_both = refl
+
+-- A refusal names its subset from 1 on, and the bits and the turns before it from the first subset on: fails where they are counted in the subset, or the subsets from 0.
+refused_in_second_subset : IsPlainRefused 65535 (next_item table (element (fxy 0 1 1) bare)) (bits_of (20 ∷ [])) (field_stop 257 data_end) 2 7 3
+unfolding table block_10 next_item bits_of fxy
+refused_in_second_subset = (
+  (next_item table (element (fxy 0 1 1) bare) []).next,
+  drop 7 (bits_of (20 ∷ [])),
+  record {
+    done = (block_10 ∷ []) ∷ [];
+    items = [];
+    mid = drop 7 (bits_of (20 ∷ []));
+    whole = (drop 7 (bits_of (20 ∷ [])), ((drop 7 (bits_of (20 ∷ [])), refl, refl, refl), refl), refl);
+    reads = refl;
+    next_is = refl;
+    number = refl;
+    within = omega arith;
+    place = refl;
+    turns_are = refl;
+  },
+  refl,
+)
+
+-- With no subset nothing is read, and nothing is refused: fails where a first subset is read all the same.
+no_subset : IsPlainReading 0 (next_item table (element (fxy 0 1 1) bare)) [] (bits_of (20 ∷ [])) (bits_of (20 ∷ []))
+no_subset = (refl, refl)
+
+no_subset_is_never_refused : (course : Course) (bits : List Bool) (stop : Stop) (subset before turns : ℕ) → IsPlainRefused 0 course bits stop subset before turns → ⊥
+no_subset_is_never_refused course bits stop subset before turns h = omega (arith, h.2.number, h.2.within)

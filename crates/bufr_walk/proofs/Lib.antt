@@ -1,0 +1,28 @@
+mod ExampleTables
+mod Examples
+mod OperatorExamples
+mod ReferenceExamples
+mod GivenWidthExamples
+mod TextExamples
+mod GroupExamples
+mod PackedExamples
+mod ListedExamples
+pub mod OneOutcome
+pub mod SpecLemmas
+pub mod WaysLemmas
+pub mod FieldWays
+pub mod FlatWeights
+pub mod FlatTurns
+pub mod Bound
+pub mod PlainLemmas
+pub mod PackedLoops
+pub mod PackedContents
+pub mod PackedPlaces
+pub mod PackedKept
+pub mod PackedReadings
+pub mod PackedAt
+pub mod PackedShows
+pub mod Readings
+pub mod PlainSubsets
+pub mod ReadingLemmas
+pub mod PackedHeld

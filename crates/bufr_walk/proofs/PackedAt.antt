@@ -1,0 +1,236 @@
+-- What one subset has of an item of compressed data.
+use Rattle.std.proofs.Common.{◌≡◌, ℕ, zero, suc, ◌+◌, ◌-◌, ◌*◌, ◌^◌, ◌<◌, ◌≤◌, Bool, true, false, List, [], ◌∷◌, length, take, drop, map, Result, Ok, Err, refl, sym, ◌∙◌, ap, subst, arith}
+use Rattle.std.specs.Prelude.{◌==◌, ◌&&◌, ◌/◌, nat_lt, if◌then◌else◌}
+use Rattle.std.proofs.lemmas.List.{length-drop, length-take, drop-drop}
+use Rattle.std.proofs.Math.Nat.{mul-le-mul_right, pow-le-pow_right}
+use Rattle.std.proofs.lemmas.Bool.Decides.{nat_tests}
+use Rattle.bufr_bits.specs.Bits.{number_of}
+use Rattle.bufr_bits.proofs.BitLemmas.{number_of-below}
+use Rattle.bufr_bits.proofs.ScaledLemmas.{and_first, and_second}
+use Rattle.bufr_tables.specs.TableB.{is_character}
+use Rattle.bufr_tables.specs.declared.kind.Kind.{Kind}
+use Rattle.bufr_tables.specs.declared.kind.Kind.TheVariants as kind
+use Rattle.bufr_walk.specs.declared.spec.Role.{Role}
+use Rattle.bufr_walk.specs.declared.spec.Role.TheVariants as role
+use Rattle.bufr_walk.specs.declared.read_packed.KeptItem.{KeptItem}
+use Rattle.bufr_walk.specs.Asked.{Asked}
+use Rattle.bufr_walk.specs.Calls.{content_at}
+use Rattle.bufr_walk.specs.Content.{Content, content_in}
+use Rattle.bufr_walk.specs.PlainField.{FieldFault, Found, found, data_end, increment, unequal_factor}
+use Rattle.bufr_walk.specs.PackedField.{increments, step_of, text_of, varied_by, if_equal, varied, contents_of, all_same, with_behind, item_by, packed_field}
+use Rattle.bufr_walk.specs.PackedBits.{holds_by, content_from, number_from, kind_step}
+use Rattle.bufr_walk.specs.PackedIn.{contents_found, was_found, stands_at}
+use Rattle.bufr_walk.proofs.PackedContents.{varied_are, element_are, inserted_are, factor_are, wrong_reference, step_element, step_inserted, step_factor}
+
+-- an item that was found is found by its parts
+if_found : (b : Bool) (x : Result (Found (List Content)) FieldFault) → was_found (if b then Err data_end else x) ≡ true → (b ≡ false) × (was_found x ≡ true) × (contents_found (if b then Err data_end else x) ≡ contents_found x)
+if_found true x h = absurd cc
+if_found false x h = (refl, h, refl)
+
+behind_found : (r : Result (List Content) FieldFault) (bs : List Bool) → was_found (with_behind r bs) ≡ true → r ≡ Ok (contents_found (with_behind r bs))
+behind_found (Ok cs) bs h = refl
+behind_found (Err why) bs h = absurd cc
+
+at_most : (a b : ℕ) → nat_lt a b ≡ false → b ≤ a
+at_most a b h = grind (arith, nat_tests)
+
+-- where an item stands, with its contents
+pub record IsAt (bits : List Bool) (at n : ℕ) (a : Asked) (k : ℕ) (cs : List Content) : Type 0 where
+  pub within : at + (a.width + 6 + n * step_of a.role a.kind k) ≤ length bits
+  pub are : contents_of a k (take a.width (drop at bits)) (increments n (step_of a.role a.kind k) (drop (at + (a.width + 6)) bits)) ≡ Ok cs
+
+pub parts : (bits : List Bool) (at n : ℕ) (a : Asked) (k : ℕ) → was_found (packed_field n a (drop at bits)) ≡ true → k ≡ number_of (take 6 (drop (at + a.width) bits)) → IsAt bits at n a k (contents_found (packed_field n a (drop at bits)))
+parts bits at n a k h is =
+    let here = drop at bits in
+    let s = step_of a.role a.kind k in
+    let back = drop (a.width + 6) here in
+    let base = take a.width here in
+    let read = number_of (take 6 (drop a.width here)) in
+    let first = if_found (nat_lt (length here) (a.width + 6)) (item_by a n read here) h in
+    let same_k : read ≡ k = ap (λ bs. number_of (take 6 bs)) (drop-drop a.width at bits) ∙ sym is in
+    let inner : was_found (item_by a n k here) ≡ true = subst (λ x. was_found (item_by a n x here) ≡ true) same_k first.1 in
+    let second = if_found (nat_lt (length back) (n * s)) (with_behind (contents_of a k base (increments n s back)) (drop (n * s) back)) inner in
+    let are = behind_found (contents_of a k base (increments n s back)) (drop (n * s) back) second.1 in
+    let same : back ≡ drop (at + (a.width + 6)) bits = drop-drop (a.width + 6) at bits in
+    let cs = contents_found (packed_field n a here) in
+    let all : contents_found (with_behind (contents_of a k base (increments n s back)) (drop (n * s) back)) ≡ cs = sym (first.2 ∙ ap (λ x. contents_found (item_by a n x here)) same_k ∙ second.2) in
+    let long : a.width + 6 ≤ length here = at_most (length here) (a.width + 6) first.0 in
+    let room : n * s ≤ length back = at_most (length back) (n * s) second.0 in
+    record {
+      within = omega (arith, long, room, length-drop at bits, length-drop (a.width + 6) here);
+      are = subst (λ b. contents_of a k base (increments n s b) ≡ Ok cs) same (are ∙ ap Ok all);
+    }
+
+-- the parts of a kept item
+pub kept_parts : (bits : List Bool) (n : ℕ) (e : KeptItem) → stands_at bits n e ≡ true → IsAt bits e.at n e.spec e.step (contents_found (packed_field n e.spec (drop e.at bits)))
+kept_parts bits n e h =
+    parts bits e.at n e.spec e.step (and_first (was_found (packed_field n e.spec (drop e.at bits))) (e.step == number_of (take 6 (drop (e.at + e.spec.width) bits))) h)
+    (same e.step (number_of (take 6 (drop (e.at + e.spec.width) bits))) (and_second (was_found (packed_field n e.spec (drop e.at bits))) (e.step == number_of (take 6 (drop (e.at + e.spec.width) bits))) h))
+  where
+    same : (a b : ℕ) → (a == b) ≡ true → a ≡ b
+    same a b h = grind (arith, nat_tests)
+
+-- one of what is made of increments
+pub at_map : (f : List Bool → Content) (n s j : ℕ) (bits : List Bool) → j < n → content_at j (map f (increments n s bits)) ≡ f (take s (drop (j * s) bits))
+at_map f zero s j bits h = absurd (omega arith)
+at_map f (suc n) s zero bits h = ap (λ m. f (take s (drop m bits))) (nothing s)
+  where
+    nothing : (s : ℕ) → 0 ≡ 0 * s
+    nothing s = omega arith
+at_map f (suc n) s (suc j) bits h = at_map f n s j (drop s bits) (omega arith) ∙ ap (λ x. f (take s x)) (drop-drop (j * s) s bits ∙ ap (λ m. drop m bits) (next s j))
+  where
+    next : (s j : ℕ) → s + j * s ≡ suc j * s
+    next s j = omega arith
+
+-- with no increments
+pub base_at : (a : Asked) (k n j : ℕ) (base behind : List Bool) (cs : List Content) → k ≡ 0 → j < n → contents_of a k base (increments n (step_of a.role a.kind k) behind) ≡ Ok cs → content_at j cs ≡ content_in a base
+base_at a k n j base behind cs e h are =
+    let s = step_of a.role a.kind k in
+    let all : ◌≡◌ {A = Result (List Content) FieldFault} (Ok (map (λ i. content_in a base) (increments n s behind))) (Ok cs) = sym (ap (λ x. if x == 0 then Ok (map (λ i. content_in a base) (increments n s behind)) else varied a.role a x base (increments n s behind)) e) ∙ are in
+    let same : map (λ i. content_in a base) (increments n s behind) ≡ cs = cc in
+    ap (content_at j) (sym same) ∙ at_map (λ i. content_in a base) n s j behind h
+
+ok_if : (b : Bool) (xs cs : List Content) → ◌≡◌ {A = Result (List Content) FieldFault} (if b then Ok xs else Err increment) (Ok cs) → xs ≡ cs
+ok_if true xs cs h = cc
+ok_if false xs cs h = absurd cc
+
+equal_ok : (b : Bool) (xs cs : List Content) → if_equal (if b then Ok xs else Err increment) ≡ Ok cs → xs ≡ cs
+equal_ok true xs cs h = by (all_same xs) h
+  where
+    by : (t : Bool) → ◌≡◌ {A = Result (List Content) FieldFault} (if t then Ok xs else Err unequal_factor) (Ok cs) → xs ≡ cs
+    by true h = cc
+    by false h = absurd cc
+equal_ok false xs cs h = absurd cc
+
+-- with increments
+pub varied_contents : (a : Asked) (k n : ℕ) (base behind : List Bool) (cs : List Content) → 1 ≤ k → contents_of a k base (increments n (step_of a.role a.kind k) behind) ≡ Ok cs → map (content_from a.kind a k base) (increments n (kind_step a.kind k) behind) ≡ cs
+varied_contents a k n base behind cs some are = by a.role refl
+  where
+    whole : varied_by a.kind a k base (increments n (kind_step a.kind k) behind) ≡ (if holds_by a.kind a k n base behind then Ok (map (content_from a.kind a k base) (increments n (kind_step a.kind k) behind)) else Err increment)
+    whole = varied_are a.kind a k n base behind (holds_by a.kind a k n base behind) refl
+
+    by : (r : Role) → a.role ≡ r → map (content_from a.kind a k base) (increments n (kind_step a.kind k) behind) ≡ cs
+    by role.Element q = ok_if (holds_by a.kind a k n base behind) (map (content_from a.kind a k base) (increments n (kind_step a.kind k) behind)) cs (sym (element_are a k n base behind some q ∙ whole) ∙ are)
+    by role.Inserted q = ok_if (holds_by a.kind a k n base behind) (map (content_from a.kind a k base) (increments n (kind_step a.kind k) behind)) cs (sym (inserted_are a k n base behind some q ∙ whole) ∙ are)
+    by role.Factor q = equal_ok (holds_by a.kind a k n base behind) (map (content_from a.kind a k base) (increments n (kind_step a.kind k) behind)) cs (sym (factor_are a k n base behind some q ∙ ap if_equal whole) ∙ are)
+    by role.Reference q =
+        let w = wrong_reference a k n base behind a.fxy refl some q in
+        let no : ◌≡◌ {A = Result (List Content) FieldFault} (Err w.why) (Ok cs) = sym w.is ∙ are in
+        absurd cc
+
+pub varied_at : (a : Asked) (k n j : ℕ) (base behind : List Bool) (cs : List Content) → 1 ≤ k → j < n → contents_of a k base (increments n (step_of a.role a.kind k) behind) ≡ Ok cs
+    → content_at j cs ≡ content_from a.kind a k base (take (kind_step a.kind k) (drop (j * kind_step a.kind k) behind))
+varied_at a k n j base behind cs some h are =
+    ap (content_at j) (sym (varied_contents a k n base behind cs some are)) ∙ at_map (content_from a.kind a k base) n (kind_step a.kind k) j behind h
+
+-- the bits of one subset by role and kind; a redefined reference has none
+step_is : (a : Asked) (k n : ℕ) (base behind : List Bool) (cs : List Content) → 1 ≤ k → contents_of a k base (increments n (step_of a.role a.kind k) behind) ≡ Ok cs → step_of a.role a.kind k ≡ kind_step a.kind k
+step_is a k n base behind cs some are = by a.role refl
+  where
+    by : (r : Role) → a.role ≡ r → step_of a.role a.kind k ≡ kind_step a.kind k
+    by role.Element q = ap (λ r. step_of r a.kind k) q ∙ step_element a.kind k
+    by role.Inserted q = ap (λ r. step_of r a.kind k) q ∙ step_inserted a.kind k
+    by role.Factor q = ap (λ r. step_of r a.kind k) q ∙ step_factor a.kind k
+    by role.Reference q =
+        let w = wrong_reference a k n base behind a.fxy refl some q in
+        let no : ◌≡◌ {A = Result (List Content) FieldFault} (Err w.why) (Ok cs) = sym w.is ∙ are in
+        absurd cc
+
+-- so many increments reach past that of each subset
+pub reaches : (n j s : ℕ) → j < n → (j + 1) * s ≤ n * s
+reaches n j s h = mul-le-mul_right s (omega (arith, h))
+
+pub increment_within : (bits : List Bool) (n : ℕ) (e : KeptItem) (j : ℕ) → stands_at bits n e ≡ true → 1 ≤ e.step → j < n → e.at + (e.spec.width + 6) + (j + 1) * kind_step e.spec.kind e.step ≤ length bits
+increment_within bits n e j h some below =
+    let p = kept_parts bits n e h in
+    let s = kind_step e.spec.kind e.step in
+    let same : step_of e.spec.role e.spec.kind e.step ≡ s = step_is e.spec e.step n _ _ _ some p.are in
+    let far : (j + 1) * s ≤ n * s = reaches n j s below in
+    let all : e.at + (e.spec.width + 6 + n * s) ≤ length bits = subst (λ x. e.at + (e.spec.width + 6 + n * x) ≤ length bits) same p.within in
+    omega (arith, far, all)
+
+pub step_small : (bits : List Bool) (n : ℕ) (e : KeptItem) → stands_at bits n e ≡ true → e.step ≤ 63
+step_small bits n e h =
+    let six = take 6 (drop (e.at + e.spec.width) bits) in
+    let is : e.step ≡ number_of six = same e.step (number_of six) (and_second (was_found (packed_field n e.spec (drop e.at bits))) (e.step == number_of six) h) in
+    let low : number_of six < 2 ^ length six = number_of-below six in
+    let short : length six ≤ 6 = length-take-most 6 (drop (e.at + e.spec.width) bits) in
+    let top : 2 ^ length six ≤ 2 ^ 6 = pow-le-pow_right {n = 2} (omega arith) short in
+    omega (arith, is, low, top)
+  where
+    same : (a b : ℕ) → (a == b) ≡ true → a ≡ b
+    same a b h = grind (arith, nat_tests)
+
+    length-take-most : (n : ℕ) (xs : List Bool) → length (take n xs) ≤ n
+    length-take-most n xs = omega (arith, length-take n xs)
+
+-- the content of one subset, by what stands there
+pub base_content : (bits : List Bool) (n : ℕ) (e : KeptItem) (j : ℕ) → stands_at bits n e ≡ true → e.step ≡ 0 → j < n → content_at j (contents_found (packed_field n e.spec (drop e.at bits))) ≡ content_in e.spec (take e.spec.width (drop e.at bits))
+base_content bits n e j h none below = let p = kept_parts bits n e h in base_at e.spec e.step n j _ _ _ none below p.are
+
+pub varied_content : (bits : List Bool) (n : ℕ) (e : KeptItem) (j : ℕ) → stands_at bits n e ≡ true → 1 ≤ e.step → j < n
+    → content_at j (contents_found (packed_field n e.spec (drop e.at bits))) ≡ content_from e.spec.kind e.spec e.step (take e.spec.width (drop e.at bits)) (take (kind_step e.spec.kind e.step) (drop (j * kind_step e.spec.kind e.step) (drop (e.at + (e.spec.width + 6)) bits)))
+varied_content bits n e j h some below = let p = kept_parts bits n e h in varied_at e.spec e.step n j _ _ _ some below p.are
+
+-- the same of numbers and of texts
+number_kind : (kd : Kind) (a : Asked) (k j : ℕ) (base behind : List Bool) → is_character kd ≡ false → content_from kd a k base (take (kind_step kd k) (drop (j * kind_step kd k) behind)) ≡ number_from a k base (take k (drop (j * k) behind))
+number_kind kind.Character a k j base behind h = absurd cc
+number_kind kind.Coded a k j base behind h = refl
+number_kind kind.Numeric a k j base behind h = refl
+
+text_kind : (kd : Kind) (a : Asked) (k j : ℕ) (base behind : List Bool) → is_character kd ≡ true → content_from kd a k base (take (kind_step kd k) (drop (j * kind_step kd k) behind)) ≡ text_of (a.width / 8) k (take (8 * k) (drop (j * (8 * k)) behind))
+text_kind kind.Character a k j base behind h = refl
+text_kind kind.Coded a k j base behind h = absurd cc
+text_kind kind.Numeric a k j base behind h = absurd cc
+
+number_step : (kd : Kind) (k : ℕ) → is_character kd ≡ false → kind_step kd k ≡ k
+number_step kind.Character k h = absurd cc
+number_step kind.Coded k h = refl
+number_step kind.Numeric k h = refl
+
+text_step : (kd : Kind) (k : ℕ) → is_character kd ≡ true → kind_step kd k ≡ 8 * k
+text_step kind.Character k h = refl
+text_step kind.Coded k h = absurd cc
+text_step kind.Numeric k h = absurd cc
+
+pub number_content : (bits : List Bool) (n : ℕ) (e : KeptItem) (j : ℕ) → stands_at bits n e ≡ true → 1 ≤ e.step → j < n → is_character e.spec.kind ≡ false
+    → number_from e.spec e.step (take e.spec.width (drop e.at bits)) (take e.step (drop (j * e.step) (drop (e.at + (e.spec.width + 6)) bits))) ≡ content_at j (contents_found (packed_field n e.spec (drop e.at bits)))
+number_content bits n e j h some below c = sym (varied_content bits n e j h some below ∙ number_kind e.spec.kind e.spec e.step j _ _ c)
+
+pub number_within : (bits : List Bool) (n : ℕ) (e : KeptItem) (j : ℕ) → stands_at bits n e ≡ true → 1 ≤ e.step → j < n → is_character e.spec.kind ≡ false → e.at + (e.spec.width + 6) + (j + 1) * e.step ≤ length bits
+number_within bits n e j h some below c = subst (λ s. e.at + (e.spec.width + 6) + (j + 1) * s ≤ length bits) (number_step e.spec.kind e.step c) (increment_within bits n e j h some below)
+
+pub text_content : (bits : List Bool) (n : ℕ) (e : KeptItem) (j : ℕ) → stands_at bits n e ≡ true → 1 ≤ e.step → j < n → is_character e.spec.kind ≡ true
+    → text_of (e.spec.width / 8) e.step (take (8 * e.step) (drop (j * (8 * e.step)) (drop (e.at + (e.spec.width + 6)) bits))) ≡ content_at j (contents_found (packed_field n e.spec (drop e.at bits)))
+text_content bits n e j h some below c = sym (varied_content bits n e j h some below ∙ text_kind e.spec.kind e.spec e.step j _ _ c)
+
+pub text_within : (bits : List Bool) (n : ℕ) (e : KeptItem) (j : ℕ) → stands_at bits n e ≡ true → 1 ≤ e.step → j < n → is_character e.spec.kind ≡ true → e.at + (e.spec.width + 6) + (j + 1) * (8 * e.step) ≤ length bits
+text_within bits n e j h some below c = subst (λ s. e.at + (e.spec.width + 6) + (j + 1) * s ≤ length bits) (text_step e.spec.kind e.step c) (increment_within bits n e j h some below)
+
+-- the octets of a text that was found are not too many
+pub text_octets : (bits : List Bool) (n : ℕ) (e : KeptItem) → stands_at bits n e ≡ true → 1 ≤ e.step → is_character e.spec.kind ≡ true → e.step ≤ e.spec.width / 8
+text_octets bits n e h some c =
+    let p = kept_parts bits n e h in
+    by e.spec.role refl p
+  where
+    fits : (a : Asked) (k : ℕ) (cs : List Content) (kd : Kind) (base : List Bool) (is : List (List Bool)) → is_character kd ≡ true → varied_by kd a k base is ≡ Ok cs → k ≤ a.width / 8
+    fits a k cs kind.Coded base is c h = absurd cc
+    fits a k cs kind.Numeric base is c h = absurd cc
+    fits a k cs kind.Character base is c h = few (nat_lt (a.width / 8) k) refl (map (text_of (a.width / 8) k) is) h
+      where
+        few : (b : Bool) → nat_lt (a.width / 8) k ≡ b → (ys : List Content) → ◌≡◌ {A = Result (List Content) FieldFault} (if b then Err increment else Ok ys) (Ok cs) → k ≤ a.width / 8
+        few true q ys h = absurd cc
+        few false q ys h = at_most (a.width / 8) k q
+
+    inner : (r : Result (List Content) FieldFault) (cs : List Content) → if_equal r ≡ Ok cs → (xs : List Content) × (r ≡ Ok xs)
+    inner (Ok xs) cs h = (xs, refl)
+    inner (Err why) cs h = absurd cc
+
+    by : (r : Role) → e.spec.role ≡ r → IsAt bits e.at n e.spec e.step (contents_found (packed_field n e.spec (drop e.at bits))) → e.step ≤ e.spec.width / 8
+    by role.Element q p = fits e.spec e.step _ e.spec.kind _ _ c (sym (element_are e.spec e.step n _ _ some q) ∙ p.are)
+    by role.Inserted q p = fits e.spec e.step _ e.spec.kind _ _ c (sym (inserted_are e.spec e.step n _ _ some q) ∙ p.are)
+    by role.Factor q p = let x = inner _ _ (sym (factor_are e.spec e.step n _ _ some q) ∙ p.are) in fits e.spec e.step x.0 e.spec.kind _ _ c x.1
+    by role.Reference q p =
+        let w = wrong_reference e.spec e.step n _ _ e.spec.fxy refl some q in
+        let no : ◌≡◌ {A = Result (List Content) FieldFault} (Err w.why) (Ok _) = sym w.is ∙ p.are in
+        absurd cc

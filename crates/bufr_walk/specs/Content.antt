@@ -1,0 +1,94 @@
+-- What stands in a field, and what it means (WMO-No. 306, Volume I.2, FM 94: section 4).
+use Rattle.std.specs.Prelude.{ℕ, zero, suc, ◌-◌, ◌/◌, ◌&&◌, Bool, true, false, if◌then◌else◌, List, [], ◌∷◌, take, drop, replicate, ℤ, pos, negsuc, neg_ℤ, nat_abs, ◌+ℤ◌}
+use Rattle.bufr_bits.specs.Bits.{bits_of, bits_in, number_of, all_set}
+use Rattle.bufr_tables.specs.declared.kind.Kind.{Kind}
+use Rattle.bufr_tables.specs.declared.kind.Kind.TheVariants as kind
+use Rattle.bufr_walk.specs.declared.spec.Role.{Role}
+use Rattle.bufr_walk.specs.declared.spec.Role.TheVariants as role
+use Rattle.bufr_walk.specs.declared.spec.Taken.{Taken}
+use Rattle.bufr_walk.specs.declared.spec.Taken.TheVariants as taken
+use Rattle.bufr_walk.specs.Asked.{Asked}
+
+-- what stands in a field: a number before its reference is added, the octets of a text, all ones, or a redefined reference
+pub data Content : Type 0 where
+  number : (raw : ℕ) → Content
+  text : (octets : List ℕ) → Content
+  missing : Content
+  reference : (value : ℤ) → Content
+
+-- so many octets of bits, as numbers
+abbrev pub octets_in : ℕ → List Bool → List ℕ
+octets_in zero bits = []
+octets_in (suc n) bits = number_of (take 8 bits) ∷ octets_in n (drop 8 bits)
+
+-- a number whose first bit is its sign
+abbrev pub signed_by : List Bool → ℤ
+signed_by [] = pos 0
+signed_by (sign ∷ bits) = if sign then neg_ℤ (pos (number_of bits)) else pos (number_of bits)
+
+-- what bits say by kind, where they are not missing
+abbrev pub said_by : Kind → ℕ → List Bool → Content
+said_by kind.Character width bits = text (octets_in (width / 8) bits)
+said_by kind.Coded width bits = number (number_of bits)
+said_by kind.Numeric width bits = number (number_of bits)
+
+-- what the bits of a field say; all ones is missing where it may be
+abbrev pub value_in : Asked → List Bool → Content
+value_in spec bits = if all_set bits && spec.may_be_missing then missing else said_by spec.kind spec.width bits
+
+abbrev pub content_by : Role → Asked → List Bool → Content
+content_by role.Element spec bits = value_in spec bits
+content_by role.Inserted spec bits = value_in spec bits
+content_by role.Factor spec bits = value_in spec bits
+content_by role.Reference spec bits = reference (signed_by bits)
+
+abbrev pub content_in : Asked → List Bool → Content
+content_in spec bits = content_by spec.role spec bits
+
+-- a sign and a magnitude
+abbrev pub sign_bit : ℤ → Bool
+sign_bit (pos n) = false
+sign_bit (negsuc n) = true
+
+-- the bits by which a content is written; zero has the plus sign
+abbrev pub bits_for : ℕ → Content → List Bool
+bits_for width (number raw) = bits_in raw width
+bits_for width (text octets) = bits_of octets
+bits_for width missing = replicate width true
+bits_for width (reference value) = sign_bit value ∷ bits_in (nat_abs value) (width - 1)
+
+-- the count that a factor's content is
+abbrev pub count_in : Content → ℕ
+count_in (number raw) = raw
+count_in (text octets) = 0
+count_in missing = 0
+count_in (reference value) = 0
+
+abbrev pub reference_in : Content → ℤ
+reference_in (number raw) = pos 0
+reference_in (text octets) = pos 0
+reference_in missing = pos 0
+reference_in (reference value) = value
+
+-- what a field tells the walk
+abbrev pub told_by : Role → Content → Taken
+told_by role.Element c = taken.Plain
+told_by role.Inserted c = taken.Plain
+told_by role.Factor c = taken.Count (count_in c)
+told_by role.Reference c = taken.Reference (reference_in c)
+
+abbrev pub told : Asked → Content → Taken
+told spec c = told_by spec.role c
+
+-- what an item shows: a number with its scale, a text, missing, or a reference
+pub data Shown : Type 0 where
+  shown_number : (value scale : ℤ) → Shown
+  shown_text : (octets : List ℕ) → Shown
+  shown_missing : Shown
+  shown_reference : (value : ℤ) → Shown
+
+abbrev pub shown : Asked → Content → Shown
+shown spec (number raw) = shown_number (pos raw +ℤ spec.reference) spec.scale
+shown spec (text octets) = shown_text octets
+shown spec missing = shown_missing
+shown spec (reference value) = shown_reference value

@@ -1,0 +1,34 @@
+-- What a reading keeps of its items.
+-- Cited by private steps only.
+use Rattle.std.specs.Prelude.{ℕ, ◌≡◌, ◌≤◌, ◌*◌, true, List, length}
+use Rattle.std.specs.List.{list_all}
+use Rattle.bufr_walk.specs.declared.read_packed.KeptItem.{KeptItem}
+use Rattle.bufr_walk.specs.declared.reading.Kept.{Kept}
+use Rattle.bufr_walk.specs.declared.reading.Kept.TheVariants as kept
+use Rattle.bufr_walk.specs.Content.{Content}
+use Rattle.bufr_walk.specs.PackedIn.{items_at, stands_at}
+use Rattle.bufr_walk.specs.Reading.{Item, Data, Values, apart, together, IsReading}
+use Rattle.bufr_walk.specs.Outcome.{Read, course_of}
+
+-- one entry for each item of compressed data, which stands at the entry's place
+abbrev pub AreKept : Data → List KeptItem → List (Item (List Content)) → Type 0
+AreKept d entries items = (items_at d.bits d.subsets entries ≡ items) × (list_all (stands_at d.bits d.subsets) entries ≡ true)
+
+-- how many items are kept
+abbrev pub held_of : Kept → ℕ
+held_of kept.Apart = 0
+held_of (kept.Together entries) = length entries.items
+
+-- nothing is kept where each subset has bits of its own
+abbrev pub KeepsValues : Kept → Data → Values → Type 0
+KeepsValues kept.Apart d (apart subsets) = Unit {0}
+KeepsValues kept.Apart d (together items) = ⊥
+KeepsValues (kept.Together entries) d (apart subsets) = ⊥
+KeepsValues (kept.Together entries) d (together items) = AreKept d entries.items items
+
+-- a reading, and what is kept of it: each item that is kept took at least 7 bits
+pub record IsHeld (r : Read) (k : Kept) : Type 0 where
+  pub values : Values
+  pub reading : IsReading (course_of r) r.source values r.bits
+  pub keeps : KeepsValues k r.source values
+  pub few : 7 * held_of k ≤ r.bits

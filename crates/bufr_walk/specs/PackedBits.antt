@@ -1,0 +1,107 @@
+-- An item of compressed data, part by part (WMO-No. 306, Volume I.2, FM 94: section 4, compression).
+-- Cited by private steps only.
+use Rattle.std.specs.Prelude.{ℕ, ◌≡◌, ◌≤◌, ◌+◌, ◌*◌, ◌/◌, ◌==◌, ◌&&◌, ◌||◌, nat_lt, not, Bool, true, false, if◌then◌else◌, List, length, take, drop, Option, Some, None, Ok, Err}
+use Rattle.std.specs.List.{list_all}
+use Rattle.bufr_bits.specs.Bits.{number_of, all_set}
+use Rattle.bufr_tables.specs.declared.kind.Kind.{Kind}
+use Rattle.bufr_tables.specs.declared.kind.Kind.TheVariants as kind
+use Rattle.bufr_walk.specs.declared.spec.Role.{Role}
+use Rattle.bufr_walk.specs.declared.spec.Role.TheVariants as role
+use Rattle.bufr_walk.specs.declared.spec.Taken.{Taken}
+use Rattle.bufr_walk.specs.declared.packed_in.Seen.{Seen}
+use Rattle.bufr_walk.specs.declared.packed_in.PackedFault.{PackedFault}
+use Rattle.bufr_walk.specs.declared.packed_in.PackedFault.TheVariants as wrong
+use Rattle.bufr_walk.specs.Asked.{Asked}
+use Rattle.bufr_walk.specs.Content.{Content, number, missing}
+use Rattle.bufr_walk.specs.PlainField.{FieldFault, data_end, increment, unequal_factor, found}
+use Rattle.bufr_walk.specs.PackedField.{ones, increments, step_of, text_of, contents_of, packed_field, told_first}
+
+-- whether the sum of a base and an increment of k bits fits its width, where the increment is not missing
+abbrev pub stays_within : (may_be_missing : Bool) (width base k increment : ℕ) → Bool
+stays_within m width base k i = (m && (i == ones k)) || not (nat_lt (ones width) (base + i))
+
+-- the same of all increments
+abbrev pub all_within : (may_be_missing : Bool) (width base k subsets : ℕ) → List Bool → Bool
+all_within m width base k n bits = list_all (λ i. stays_within m width base k (number_of i)) (increments n k bits)
+
+-- whether all increments of k bits are the same number
+abbrev pub all_equal : (k subsets first : ℕ) → List Bool → Bool
+all_equal k n first bits = list_all (λ i. number_of i == first) (increments n k bits)
+
+-- the number that a base and an increment give, where their sum stays within the width
+abbrev pub increased_to : (may_be_missing : Bool) (width base k increment : ℕ) → Content
+increased_to m width base k i =
+    if m && (i == ones k) then missing else if m && (base + i == ones width) then missing else number (base + i)
+
+-- whether the increments of numbers can be
+abbrev pub numbers_hold : Asked → (k subsets : ℕ) → (base behind : List Bool) → Bool
+numbers_hold spec k n base behind =
+    (all_set base && spec.may_be_missing) || all_within spec.may_be_missing spec.width (number_of base) k n behind
+
+-- whether the increments of an item can be
+abbrev pub holds_by : Kind → Asked → (k subsets : ℕ) → (base behind : List Bool) → Bool
+holds_by kind.Character spec k n base behind = not (nat_lt (spec.width / 8) k)
+holds_by kind.Coded spec k n base behind = numbers_hold spec k n base behind
+holds_by kind.Numeric spec k n base behind = numbers_hold spec k n base behind
+
+-- the content that an increment gives
+abbrev pub number_from : Asked → (k : ℕ) → (base bits : List Bool) → Content
+number_from spec k base i =
+    if all_set base && spec.may_be_missing then missing
+    else increased_to spec.may_be_missing spec.width (number_of base) k (number_of i)
+
+abbrev pub content_from : Kind → Asked → (k : ℕ) → (base bits : List Bool) → Content
+content_from kind.Character spec k base i = text_of (spec.width / 8) k i
+content_from kind.Coded spec k base i = number_from spec k base i
+content_from kind.Numeric spec k base i = number_from spec k base i
+
+-- the bits of one subset by kind
+abbrev pub kind_step : Kind → ℕ → ℕ
+kind_step kind.Character k = 8 * k
+kind_step kind.Coded k = k
+kind_step kind.Numeric k = k
+
+-- the fault of a field with this descriptor
+abbrev pub wrong_of : (fxy : ℕ) → FieldFault → PackedFault
+wrong_of fxy data_end = wrong.DataEnd fxy
+wrong_of fxy increment = wrong.Increment fxy
+wrong_of fxy unequal_factor = wrong.UnequalFactor fxy
+
+-- an item with this base, k and bits behind them has contents, and tells this
+pub record IsTold (spec : Asked) (k n : ℕ) (base behind : List Bool) (t : Taken) : Type 0 where
+  pub contents : List Content
+  pub are : contents_of spec k base (increments n (step_of spec.role spec.kind k) behind) ≡ Ok contents
+  pub tells : t ≡ told_first spec contents
+
+-- or it is at fault
+pub record IsWrong (spec : Asked) (k n : ℕ) (base behind : List Bool) (e : PackedFault) : Type 0 where
+  pub why : FieldFault
+  pub is : contents_of spec k base (increments n (step_of spec.role spec.kind k) behind) ≡ Err why
+  pub fault : e ≡ wrong_of spec.fxy why
+
+-- whether a role tells nothing
+abbrev pub is_plain_role : Role → Bool
+is_plain_role role.Element = true
+is_plain_role role.Inserted = true
+is_plain_role role.Factor = false
+is_plain_role role.Reference = false
+
+-- an item stands in bits at a place: its contents, what it tells, its k, and the bit behind it
+pub record IsSeen (bits : List Bool) (at n : ℕ) (spec : Asked) (s : Seen) : Type 0 where
+  pub contents : List Content
+  pub field : packed_field n spec (drop at bits) ≡ Ok (found contents (drop s.end bits))
+  pub tells : s.told ≡ told_first spec contents
+  pub step : s.step ≡ number_of (take 6 (drop (at + spec.width) bits))
+  pub within : s.end ≤ length bits
+  pub least : at + 7 ≤ s.end
+
+-- or it is at fault
+pub record IsUnseen (bits : List Bool) (at n : ℕ) (spec : Asked) (e : PackedFault) : Type 0 where
+  pub why : FieldFault
+  pub field : packed_field n spec (drop at bits) ≡ Err why
+  pub fault : e ≡ wrong_of spec.fxy why
+
+-- a number, or missing
+abbrev pub sum_content : Option ℕ → Content
+sum_content (Some raw) = number raw
+sum_content None = missing

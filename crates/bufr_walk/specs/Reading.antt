@@ -1,0 +1,107 @@
+-- The reading of data by a template: items one after another, each as what comes next asks (WMO-No. 306, Volume I.2, FM 94: sections 3 and 4).
+-- Cited by public contracts.
+use Rattle.std.specs.Prelude.{ℕ, zero, suc, ◌≡◌, ◌+◌, ◌*◌, ◌≤◌, Bool, true, false, List, [], ◌∷◌, length, drop, Result, Ok}
+use Rattle.bufr_walk.specs.declared.spec.Taken.{Taken}
+use Rattle.bufr_walk.specs.Asked.{Asked}
+use Rattle.bufr_walk.specs.Course.{Course, Next, take_next, at_end}
+use Rattle.bufr_walk.specs.Content.{Content, told}
+use Rattle.bufr_walk.specs.PlainField.{FieldFault, Found, found, plain_field}
+use Rattle.bufr_walk.specs.PackedField.{packed_field, told_first}
+
+-- an item: what was asked, and what was found there, for one subset or for all
+pub record Item (C : Type 0) : Type 0 where
+  pub spec : Asked
+  pub content : C
+
+-- how a field is read, and what it tells the walk
+pub record Form (C : Type 0) : Type 0 where
+  pub field : Asked → List Bool → Result (Found C) FieldFault
+  pub tells : Asked → C → Taken
+
+-- one subset
+abbrev pub plain : Form Content
+plain = record { field = plain_field; tells = told }
+
+-- so many subsets together
+abbrev pub packed : ℕ → Form (List Content)
+packed n = record { field = packed_field n; tells = told_first }
+
+-- what an item tells
+abbrev pub tells_of : {C : Type 0} → Form C → Item C → Taken
+tells_of form i = form.tells i.spec i.content
+
+-- a course after one item more
+abbrev pub after : {C : Type 0} → Form C → Course → Item C → Course
+after form course i told = course (tells_of form i ∷ told)
+
+-- each item is what the field that comes next holds, at the bits behind the one before
+abbrev pub Reads : {C : Type 0} → Form C → Course → List (Item C) → (bits behind : List Bool) → Type 0
+Reads form course [] bits behind = bits ≡ behind
+Reads form course (i ∷ items) bits behind =
+    (mid : List Bool) × ((course []).next ≡ take_next i.spec) × (form.field i.spec bits ≡ Ok (found i.content mid)) × Reads form (after form course i) items mid behind
+
+-- what comes after items
+abbrev pub next_after : {C : Type 0} → Form C → Course → List (Item C) → Next
+next_after form course [] = (course []).next
+next_after form course (i ∷ items) = next_after form (after form course i) items
+
+-- one pass over a template, to its end
+abbrev pub ReadsAll : {C : Type 0} → Form C → Course → List (Item C) → (bits behind : List Bool) → Type 0
+ReadsAll form course items bits behind = Reads form course items bits behind × (next_after form course items ≡ at_end)
+
+-- the turns of a pass with these items, up to what comes after them
+abbrev pub turns_after : {C : Type 0} → Form C → Course → List (Item C) → ℕ
+turns_after form course [] = (course []).turns
+turns_after form course (i ∷ items) = turns_after form (after form course i) items
+
+-- the turns of some whole subsets
+abbrev pub turns_in : Course → List (List (Item Content)) → ℕ
+turns_in course [] = 0
+turns_in course (items ∷ subsets) = turns_after plain course items + turns_in course subsets
+
+-- subsets one after another, each from the beginning of the template
+abbrev pub ReadsSubsets : Course → List (List (Item Content)) → (bits behind : List Bool) → Type 0
+ReadsSubsets course [] bits behind = bits ≡ behind
+ReadsSubsets course (items ∷ subsets) bits behind =
+    (mid : List Bool) × ReadsAll plain course items bits mid × ReadsSubsets course subsets mid behind
+
+-- the most values of a compressed message
+abbrev pub most_values : ℕ
+most_values = 134217728
+
+-- compressed data: one pass for all subsets; with no subset nothing is read
+abbrev pub IsPackedReading : (subsets : ℕ) → Course → List (Item (List Content)) → (bits behind : List Bool) → Type 0
+IsPackedReading zero course items bits behind = (items ≡ []) × (bits ≡ behind)
+IsPackedReading (suc n) course items bits behind = ReadsAll (packed (suc n)) course items bits behind × (length items * suc n ≤ most_values)
+
+-- data that are not compressed: as many subsets as there are
+abbrev pub IsPlainReading : (subsets : ℕ) → Course → List (List (Item Content)) → (bits behind : List Bool) → Type 0
+IsPlainReading n course subsets bits behind = ReadsSubsets course subsets bits behind × (length subsets ≡ n)
+
+-- what is read: so many subsets, compressed or not, and the bits that hold them
+pub record Data : Type 0 where
+  pub compressed : Bool
+  pub subsets : ℕ
+  pub bits : List Bool
+
+-- the items of the data: those of each subset, or, where they are compressed, those of all subsets together
+pub data Values : Type 0 where
+  apart : (subsets : List (List (Item Content))) → Values
+  together : (items : List (Item (List Content))) → Values
+
+-- the items of the data, and how many bits they take
+abbrev pub IsReading : Course → Data → Values → (used : ℕ) → Type 0
+IsReading course d (apart subsets) used =
+    (d.compressed ≡ false) × (used ≤ length d.bits) × IsPlainReading d.subsets course subsets d.bits (drop used d.bits)
+IsReading course d (together items) used =
+    (d.compressed ≡ true) × (used ≤ length d.bits) × IsPackedReading d.subsets course items d.bits (drop used d.bits)
+
+-- the turns of one pass for so many subsets; with none there is no pass
+abbrev pub turns_together : (subsets : ℕ) → Course → List (Item (List Content)) → ℕ
+turns_together zero course items = 0
+turns_together (suc n) course items = turns_after (packed (suc n)) course items
+
+-- the turns of a reading
+abbrev pub turns_of : Course → Data → Values → ℕ
+turns_of course d (apart subsets) = turns_in course subsets
+turns_of course d (together items) = turns_together d.subsets course items

@@ -1,0 +1,20 @@
+-- An item view as a clause sees it.
+-- Cited by public contracts.
+use Rattle.std.specs.Prelude.{ℕ, option_map}
+use Rattle.bufr_tables.specs.Entry.{row_with}
+use Rattle.bufr_walk.specs.declared.visitor.Value.{Value}
+use Rattle.bufr_walk.specs.declared.visitor.Value.TheVariants as value
+use Rattle.bufr_walk.specs.declared.visitor.ItemView.{ItemView}
+use Rattle.bufr_walk.specs.Content.{Shown, shown_number, shown_text, shown_missing, shown_reference}
+use Rattle.bufr_walk.specs.Calls.{View}
+
+-- a value
+abbrev pub seen_value : Value → Shown
+seen_value (value.Number n scale) = shown_number n scale
+seen_value (value.Text t) = shown_text t.now
+seen_value value.Missing = shown_missing
+seen_value (value.Reference r) = shown_reference r
+
+-- an item view
+abbrev pub seen : ItemView → View
+seen v = record { fxy = v.fxy; entry = option_map (row_with v.fxy) v.entry; value = seen_value v.value }

@@ -1,0 +1,65 @@
+-- What the operators have set so far, in one subset (WMO-No. 306, Volume I.2, FM 94: Table C).
+use Rattle.std.specs.Prelude.{ℕ, ◌==◌, ◌&&◌, not, nat_lt, Bool, if◌then◌else◌, List, [], ◌∷◌, ℤ, Result, Ok, Err}
+use Rattle.bufr_tables.specs.Fxy.{x_of, y_of}
+use Rattle.bufr_walk.specs.declared.spec.Refusal.{Refusal}
+use Rattle.bufr_walk.specs.declared.spec.Refusal.TheVariants as refusal
+use Rattle.bufr_walk.specs.declared.spec.Taken.{Taken}
+use Rattle.bufr_walk.specs.declared.spec.Taken.TheVariants as taken
+
+-- a reference that the data gave to an element
+pub record Redefined : Type 0 where
+  pub fxy : ℕ
+  pub reference : ℤ
+
+-- the operand of each operator in force, 0 where none is: changed width, changed scale, references that are being defined and their width,
+-- increased precision, changed text width, and the width that is given to the next descriptor; and the references defined, the latest first
+pub record Settings : Type 0 where
+  pub widened : ℕ
+  pub rescaled : ℕ
+  pub defining : ℕ
+  pub refined : ℕ
+  pub lettered : ℕ
+  pub given : ℕ
+  pub redefined : List Redefined
+
+-- nothing is set, as at the beginning of each subset
+abbrev pub begin : Settings
+begin = record { widened = 0; rescaled = 0; defining = 0; refined = 0; lettered = 0; given = 0; redefined = [] }
+
+-- whether references are being defined
+abbrev pub is_defining : Settings → Bool
+is_defining s = nat_lt 0 s.defining
+
+-- references: 255 ends their definition, 0 drops those that were defined, else it begins
+abbrev pub with_references : ℕ → Settings → Settings
+with_references y s =
+    if y == 255 then record s { defining = 0 }
+    else if y == 0 then record s { redefined = [] }
+    else record s { defining = y }
+
+-- what the operator 2 X Y sets
+abbrev pub with_operator : (x y : ℕ) → Settings → Settings
+with_operator x y s =
+    if x == 1 then record s { widened = y }
+    else if x == 2 then record s { rescaled = y }
+    else if x == 3 then with_references y s
+    else if x == 6 then record s { given = y }
+    else if x == 7 then record s { refined = y }
+    else record s { lettered = y }
+
+-- what an operator makes of the settings; while references are being defined only their end may come
+abbrev pub after_operator : Settings → ℕ → Result Settings Refusal
+after_operator s fxy =
+    if is_defining s && not (x_of fxy == 3 && y_of fxy == 255) then Err (refusal.Defining fxy)
+    else Ok (with_operator (x_of fxy) (y_of fxy) s)
+
+-- what a field makes of the settings: a given width is used up, and a reference is kept
+abbrev pub after_field : Settings → ℕ → Taken → Settings
+after_field s fxy taken.Plain = record s { given = 0 }
+after_field s fxy (taken.Count n) = record s { given = 0 }
+after_field s fxy (taken.Reference r) = record s { given = 0; redefined = record { fxy = fxy; reference = r } ∷ s.redefined }
+
+-- the reference of an element: the latest that the data gave it, or that of Table B
+abbrev pub reference_in : List Redefined → ℕ → ℤ → ℤ
+reference_in [] fxy listed = listed
+reference_in (r ∷ more) fxy listed = if r.fxy == fxy then r.reference else reference_in more fxy listed

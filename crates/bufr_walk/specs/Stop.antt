@@ -1,0 +1,9 @@
+-- Why a walk stops, where a turn is refused.
+use Rattle.bufr_walk.specs.declared.spec.Refusal.{Refusal}
+use Rattle.bufr_walk.specs.declared.spec.Refusal.TheVariants as refusal
+use Rattle.bufr_walk.specs.declared.walk.WalkStop.{WalkStop}
+use Rattle.bufr_walk.specs.declared.walk.WalkStop.TheVariants as stops
+
+abbrev pub stop_by : {E : Type 0} → Refusal → WalkStop E
+stop_by (refusal.Width fxy) = stops.Width fxy
+stop_by (refusal.Defining fxy) = stops.Defining fxy

@@ -1,0 +1,21 @@
+-- A walk over fields, each what comes next.
+use Rattle.std.specs.Prelude.{◌≡◌, List, [], ◌∷◌}
+use Rattle.bufr_walk.specs.declared.spec.Taken.{Taken}
+use Rattle.bufr_walk.specs.Asked.{Asked}
+use Rattle.bufr_walk.specs.Course.{Course, take_next}
+
+-- what was asked for, and what it told
+pub record Turn : Type 0 where
+  pub spec : Asked
+  pub taken : Taken
+
+-- a walk's fields, each what comes next after those before it
+abbrev pub Takes : {S : Type 0} → (S → Asked → Taken → S → Type 0) → Course → S → List Turn → S → Type 0
+Takes takes course s [] s' = s' ≡ s
+Takes {S} takes course s (i ∷ items) s' =
+    (mid : S) × ((course []).next ≡ take_next i.spec) × takes s i.spec i.taken mid × Takes takes (λ told. course (i.taken ∷ told)) mid items s'
+
+-- a course after some fields
+abbrev pub course_after : Course → List Turn → Course
+course_after course [] told = course told
+course_after course (i ∷ items) told = course_after (λ more. course (i.taken ∷ more)) items told

@@ -1,0 +1,30 @@
+// What a walk asks of the data, field by field.
+ghost use Rattle.std.specs.Prelude.{◌≡◌, ℕ, ◌<◌, Result, Ok, Err, IfOk};
+ghost use Rattle.bufr_walk.specs.Asked.{Asked, IsFor};
+ghost use Rattle.bufr_walk.specs.declared.spec.Taken.{Taken};
+
+use crate::spec::{Spec, Taken};
+
+/// Data that is read or written field by field.
+pub trait Fields {
+    type Fault;
+
+    /// How many bits were used, by whole items.
+    ghost used: { Self → ℕ };
+
+    /// One call of `take` may go so: before, what is asked, the answer, after.
+    ghost takes: { Self → Asked → Result Taken Self.Fault → Self → Type 0 };
+
+    fn take(&mut self, spec: &Spec) -> Result<Taken, Self::Fault>
+        ensures step { takes self.old spec.now result self.new }
+        ensures shape { IfOk result (λ t. IsFor spec.now t) };
+
+    fn bits(&self) -> u64
+        ensures { result ≡ used self.now };
+
+    /// A field that is taken uses at least one bit.
+    ghost advances: { (s : Self) (spec : Asked) (t : Taken) (next : Self) → takes s spec (Ok t) next → used s < used next };
+
+    /// A refusal uses none.
+    ghost refuses: { (s : Self) (spec : Asked) (e : Self.Fault) (next : Self) → takes s spec (Err e) next → used next ≡ used s };
+}

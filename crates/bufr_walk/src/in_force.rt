@@ -1,0 +1,412 @@
+// What the operators have set, and how a field is read under it.
+ghost use Rattle.std.specs.Prelude.{◌≡◌, ◌≤◌, ◌<◌, ◌*◌, ◌+◌, ◌^◌, ◌+ℤ◌, ◌*ℤ◌, if◌then◌else◌, ◌==◌, pos, unsigned_abs, length, Result, Ok, Err, Some, OnOk, OnErr, IfOk, IfErr, true, false, [], ◌∷◌};
+ghost use Rattle.bufr_tables.specs.Entry.{row_with};
+ghost use Rattle.bufr_tables.specs.Operators.{is_legal_operator};
+ghost use Rattle.bufr_tables.specs.TableB.{IsRow, entry_of, is_character};
+ghost use Rattle.bufr_tables.specs.Tree.{is_inserted_text};
+ghost use Rattle.bufr_walk.specs.Rules.{fitting, quantity, figure, by_kind, defined_by, unsigned_of, given_by, element_spec, factor_by, factor_spec, inserted_spec, change_of, changed_width, extra_bits, text_width};
+ghost use Rattle.bufr_walk.specs.Settings.{Settings, begin, after_operator, after_field, reference_in};
+ghost use Rattle.bufr_walk.specs.InForce.{AreOperands, latest, set_by};
+ghost use Rattle.bufr_walk.specs.declared.in_force.Operands.{Operands};
+ghost use Rattle.bufr_tables.specs.declared.kind.Kind.TheVariants as kinds;
+
+use crate::spec::{Refusal, Role, Spec, Taken};
+use bufr_tables::{Entry, Fxy, Kind, TableB};
+use std::alloc::{AllocError, Global};
+use std::marker::Model;
+
+/// The operand of each operator in force, 0 where none is.
+#[derive(Clone, Copy)]
+pub(crate) struct Operands {
+    widened: u8,
+    rescaled: u8,
+    defining: u8,
+    refined: u8,
+    lettered: u8,
+    given: u8,
+}
+
+/// No operator is in force.
+fn nothing() -> Operands
+    ensures value { result ≡ record { widened = 0; rescaled = 0; defining = 0; refined = 0; lettered = 0; given = 0 } }
+    ensures operands { AreOperands result }
+{
+    Operands {
+        widened: 0,
+        rescaled: 0,
+        defining: 0,
+        refined: 0,
+        lettered: 0,
+        given: 0,
+    }
+}
+
+/// A reference that the data gave to an element.
+#[derive(Clone, Copy)]
+pub(crate) struct Redefinition {
+    fxy: Fxy,
+    reference: i64,
+}
+
+/// What the operators have set so far, and the references that the data gave.
+#[derive(Drop)]
+pub(crate) struct InForce {
+    operands: Operands,
+    redefined: Vec<Redefinition>,
+}
+
+impl Model for InForce {
+    ghost use Rattle.bufr_walk.specs.Settings.{Settings};
+
+    ghost Value = { Settings };
+
+    ghost use Rattle.bufr_walk.specs.InForce.{AreOperands, set_by};
+
+    ghost view = { λ a. set_by a.operands a.redefined.items };
+
+    ghost invariant = { λ a. AreOperands a.operands };
+}
+
+/// Keeps a reference that the data gave.
+#[tactic(auto, using(crate::proofs::SpecLemmas::latest_more))]
+fn redefine(redefined: &mut Vec<Redefinition>, fxy: Fxy, reference: i64) -> Result<(), AllocError>
+    ensures { OnOk result (latest redefined.new.items ≡ record { fxy = fxy; reference = reference } ∷ latest redefined.old.items) }
+{
+    redefined.push(Redefinition { fxy, reference })?;
+    Ok(())
+}
+
+/// The latest reference of an element, or the listed one.
+fn reference_of(redefined: &[Redefinition], fxy: Fxy, listed: i64) -> i64
+    ensures { result ≡ reference_in (latest redefined.now) fxy listed }
+{
+    let mut place = redefined.len();
+    while place > 0 {
+        place -= 1;
+        let given = &redefined[place];
+        if given.fxy.word() == fxy.word() {
+            return told(given);
+        }
+    }
+    listed
+}
+
+/// The reference that the data gave.
+fn told(given: &Redefinition) -> i64
+    ensures { result ≡ given.now.reference }
+{
+    given.reference
+}
+
+/// A width with the changes in force.
+fn widened(width: u32, refined: u8, widened: u8) -> u32
+    requires { width ≤ 2040 }
+    ensures { result ≡ changed_width width (extra_bits refined) widened }
+{
+    let extra = (10 * u32::from(refined) + 2) / 3;
+    if widened == 0 {
+        width + extra
+    } else {
+        (width + extra + u32::from(widened)).saturating_sub(128)
+    }
+}
+
+/// A change by Y - 128, where one is in force.
+fn change(rescaled: u8) -> i16
+    ensures value { result ≡ change_of rescaled }
+    ensures few { unsigned_abs result ≤ 128 }
+{
+    if rescaled == 0 {
+        0
+    } else {
+        i16::from(rescaled) - 128
+    }
+}
+
+/// A scale with the changes in force.
+fn rescaled(scale: i16, change: i16, refined: u8) -> i16
+    requires scale { unsigned_abs scale ≤ 127 }
+    requires change { unsigned_abs change ≤ 128 }
+    requires refined { refined ≤ 18 }
+    ensures value { result ≡ (scale +ℤ change) +ℤ pos refined }
+    ensures few { unsigned_abs result ≤ 300 }
+{
+    scale + change + i16::from(refined)
+}
+
+/// A power of ten.
+#[tactic(auto, using(crate::proofs::SpecLemmas::power_small))]
+fn power_of_ten(refined: u8) -> u64
+    requires { refined ≤ 18 }
+    ensures value { result ≡ 10 ^ refined }
+    ensures most { result ≤ 10 ^ 18 }
+{
+    10u64.pow(u32::from(refined))
+}
+
+/// A reference with the changes in force.
+#[tactic(auto, using(crate::proofs::SpecLemmas::product_small))]
+fn scaled(reference: i64, refined: u8) -> i128
+    requires { refined ≤ 18 }
+    ensures value { result ≡ reference *ℤ pos (10 ^ refined) }
+    ensures near { unsigned_abs result ≤ 2 ^ 125 }
+{
+    i128::from(reference) * i128::from(power_of_ten(refined))
+}
+
+/// A number in a quantity's unit.
+fn quantity(
+    operands: Operands,
+    redefined: &[Redefinition],
+    fxy: Fxy,
+    entry: &Entry<'_>,
+) -> Result<Spec, Refusal>
+    requires row { IsRow (row_with fxy entry.now) }
+    requires operands { AreOperands operands }
+    ensures { result ≡ fitting (quantity (set_by operands redefined.now) (row_with fxy entry.now)) }
+{
+    let reference = reference_of(redefined, fxy, entry.reference);
+    Spec::number(
+        fxy,
+        Role::Element,
+        Kind::Numeric,
+        widened(entry.width, operands.refined, operands.widened),
+        rescaled(entry.scale, change(operands.rescaled), operands.refined),
+        scaled(reference, operands.refined),
+        fxy.x() != 31,
+        true,
+    )
+}
+
+/// A figure of a code table.
+fn figure(redefined: &[Redefinition], fxy: Fxy, entry: &Entry<'_>) -> Result<Spec, Refusal>
+    requires row { IsRow (row_with fxy entry.now) }
+    ensures { (operands : Operands) → result ≡ fitting (figure (set_by operands redefined.now) (row_with fxy entry.now)) }
+{
+    let reference = reference_of(redefined, fxy, entry.reference);
+    Spec::number(
+        fxy,
+        Role::Element,
+        Kind::Coded,
+        entry.width,
+        entry.scale,
+        i128::from(reference),
+        fxy.x() != 31,
+        true,
+    )
+}
+
+/// The width of a text element.
+fn lettered(width: u32, lettered: u8) -> u32
+    ensures { result ≡ (if lettered == 0 then width else 8 * lettered) }
+{
+    if lettered == 0 {
+        width
+    } else {
+        8 * u32::from(lettered)
+    }
+}
+
+/// An element by its row.
+fn by_kind(
+    operands: Operands,
+    redefined: &[Redefinition],
+    fxy: Fxy,
+    entry: &Entry<'_>,
+) -> Result<Spec, Refusal>
+    requires row { IsRow (row_with fxy entry.now) }
+    requires operands { AreOperands operands }
+    ensures { result ≡ by_kind entry.now.kind (set_by operands redefined.now) (row_with fxy entry.now) }
+{
+    match entry.kind {
+        Kind::Numeric => quantity(operands, redefined, fxy, entry),
+        Kind::Coded => figure(redefined, fxy, entry),
+        Kind::Character => Ok(Spec::text(
+            Role::Element,
+            fxy,
+            lettered(entry.width, operands.lettered),
+            true,
+        )),
+    }
+}
+
+/// An element whose reference is being defined.
+fn defined(defining: u8, fxy: Fxy, kind: Kind) -> Result<Spec, Refusal>
+    ensures { (s : Settings) → s.defining ≡ defining → result ≡ defined_by kind s fxy }
+{
+    match kind {
+        Kind::Character => Err(Refusal::Defining(fxy)),
+        Kind::Coded | Kind::Numeric => Spec::number(
+            fxy,
+            Role::Reference,
+            Kind::Numeric,
+            u32::from(defining),
+            0,
+            0,
+            false,
+            false,
+        ),
+    }
+}
+
+/// An unsigned number of a given width.
+fn unsigned(fxy: Fxy, width: u8) -> Result<Spec, Refusal>
+    ensures { result ≡ unsigned_of fxy width }
+{
+    Spec::number(
+        fxy,
+        Role::Element,
+        Kind::Numeric,
+        u32::from(width),
+        0,
+        0,
+        fxy.x() != 31,
+        false,
+    )
+}
+
+/// An element whose width is given.
+fn given(given: u8, fxy: Fxy, entry: &Entry<'_>) -> Result<Spec, Refusal>
+    requires row { IsRow (row_with fxy entry.now) }
+    ensures { (s : Settings) → s.given ≡ given → result ≡ given_by (Some (row_with fxy entry.now)) s fxy }
+{
+    if entry.width == u32::from(given) {
+        let none: [Redefinition; 0] = [];
+        by_kind(nothing(), &none, fxy, entry)
+    } else {
+        unsigned(fxy, given)
+    }
+}
+
+/// A factor by its row.
+fn factor_by(fxy: Fxy, entry: &Entry<'_>) -> Result<Spec, Refusal>
+    requires row { IsRow (row_with fxy entry.now) }
+    ensures { result ≡ factor_by (Some (row_with fxy entry.now)) fxy }
+{
+    Spec::number(
+        fxy,
+        Role::Factor,
+        Kind::Numeric,
+        entry.width,
+        entry.scale,
+        i128::from(entry.reference),
+        false,
+        true,
+    )
+}
+
+impl InForce {
+    ghost use Rattle.std.specs.Prelude.{◌≡◌, Ok, Err, OnOk, IfErr, true, false, [], ◌∷◌};
+    ghost use Rattle.bufr_tables.specs.Operators.{is_legal_operator};
+    ghost use Rattle.bufr_tables.specs.Tree.{is_inserted_text};
+    ghost use Rattle.bufr_walk.specs.Rules.{element_spec, factor_spec, inserted_spec};
+    ghost use Rattle.bufr_walk.specs.Settings.{begin, after_operator, after_field};
+    ghost use Rattle.std.specs.Prelude.{OnErr};
+    ghost use Rattle.bufr_walk.specs.Asked.{IsForRole};
+    ghost use Rattle.bufr_walk.specs.declared.spec.Role.TheVariants as roles;
+
+    /// Nothing is set.
+    pub(crate) fn new(alloc: Global) -> InForce
+        ensures { result ≡ begin }
+    {
+        InForce {
+            operands: nothing(),
+            redefined: Vec::new(alloc),
+        }
+    }
+
+    /// How an element is read.
+    pub(crate) fn element(&self, table: &TableB, fxy: Fxy) -> Result<Spec, Refusal>
+        ensures { result ≡ element_spec table.now self.now fxy }
+    {
+        let operands = self.operands;
+        match table.get(fxy) {
+            Some(entry) => {
+                if operands.given > 0 {
+                    given(operands.given, fxy, &entry)
+                } else if operands.defining > 0 {
+                    defined(operands.defining, fxy, entry.kind)
+                } else {
+                    by_kind(operands, self.redefined.as_slice(), fxy, &entry)
+                }
+            }
+            None => {
+                if operands.given > 0 {
+                    unsigned(fxy, operands.given)
+                } else {
+                    Err(Refusal::Width(fxy))
+                }
+            }
+        }
+    }
+
+    /// How the factor of a delayed replication is read.
+    pub(crate) fn factor(&self, table: &TableB, fxy: Fxy) -> Result<Spec, Refusal>
+        ensures { result ≡ factor_spec table.now self.now fxy }
+    {
+        if self.operands.defining > 0 {
+            return Err(Refusal::Defining(fxy));
+        }
+        match table.get(fxy) {
+            Some(entry) => factor_by(fxy, &entry),
+            None => Err(Refusal::Width(fxy)),
+        }
+    }
+
+    /// How a text that stands in the template is read.
+    #[tactic(auto, using(crate::proofs::SpecLemmas::inserted_width))]
+    pub(crate) fn inserted(&self, fxy: Fxy) -> Result<Spec, Refusal>
+        requires legal { is_legal_operator fxy ≡ true }
+        requires text { is_inserted_text fxy ≡ true }
+        ensures { result ≡ inserted_spec self.now fxy }
+    {
+        if self.operands.defining > 0 {
+            return Err(Refusal::Defining(fxy));
+        }
+        Ok(Spec::text(Role::Inserted, fxy, 8 * u32::from(fxy.y()), false))
+    }
+
+    /// What an operator sets; while references are being defined only their end may come.
+    pub(crate) fn operate(&mut self, fxy: Fxy) -> Result<(), Refusal>
+        requires { is_legal_operator fxy ≡ true }
+        ensures ok { OnOk result (after_operator self.old fxy ≡ Ok self.new) }
+        ensures err { IfErr result (λ why. after_operator self.old fxy ≡ Err why) }
+    {
+        let (x, y) = (fxy.x(), fxy.y());
+        if self.operands.defining > 0 && !(x == 3 && y == 255) {
+            return Err(Refusal::Defining(fxy));
+        }
+        if x == 1 {
+            self.operands.widened = y;
+        } else if x == 2 {
+            self.operands.rescaled = y;
+        } else if x == 3 {
+            if y == 255 {
+                self.operands.defining = 0;
+            } else if y == 0 {
+                self.redefined.clear();
+            } else {
+                self.operands.defining = y;
+            }
+        } else if x == 6 {
+            self.operands.given = y;
+        } else if x == 7 {
+            self.operands.refined = y;
+        } else {
+            self.operands.lettered = y;
+        }
+        Ok(())
+    }
+
+    /// What a field makes of the settings: a given width is used up, and a reference is kept.
+    pub(crate) fn keep(&mut self, fxy: Fxy, told: Taken) -> Result<(), AllocError>
+        ensures kept { OnOk result (self.new ≡ after_field self.old fxy told) }
+        ensures reference { OnErr result (IsForRole roles.Reference told) }
+    {
+        self.operands.given = 0;
+        if let Taken::Reference(reference) = told {
+            redefine(&mut self.redefined, fxy, reference)?;
+        }
+        Ok(())
+    }
+}

@@ -1,0 +1,383 @@
+// Fields that are read from bits, for compressed data: each item stands once for all subsets.
+ghost use Rattle.std.specs.Prelude.{◌≡◌, ◌≤◌, ◌<◌, ◌+◌, ◌-◌, ◌*◌, ◌/◌, ◌^◌, length, drop, MatchResult, IfOk, false, true};
+ghost use Rattle.bufr_bits.specs.Bits.{bits_of, bits_at, number_of, all_set};
+ghost use Rattle.bufr_bits.specs.BitSlice.{octets_of};
+ghost use Rattle.bufr_tables.specs.TableB.{is_character};
+ghost use Rattle.bufr_walk.specs.Asked.{IsFor, IsForRole};
+ghost use Rattle.bufr_walk.specs.PackedField.{step_of};
+ghost use Rattle.bufr_walk.specs.declared.spec.Role.TheVariants as role;
+ghost use Rattle.bufr_walk.specs.declared.spec.Taken.TheVariants as taken;
+ghost use Rattle.bufr_walk.specs.PackedBits.{stays_within, all_within, all_equal, numbers_hold, holds_by, is_plain_role, IsTold, IsWrong, IsSeen, IsUnseen};
+
+use crate::fields::Fields;
+use crate::plain_in::{number_at, told_at};
+use crate::read_packed::{KeptItem, PackedRead};
+use crate::spec::{Role, Spec, Taken};
+use bufr_bits::BitSlice;
+use bufr_tables::{Fxy, Kind};
+use std::alloc::Global;
+use std::marker::Model;
+
+/// What is wrong with an item of compressed data, with its descriptor.
+#[derive(Clone, Copy, Debug, PartialEq, Eq)]
+pub enum PackedFault {
+    /// The data end inside the item.
+    DataEnd(Fxy),
+    /// A sum past the width of a number, more octets than a text has, or a redefined reference with increments.
+    Increment(Fxy),
+    /// The factor of a replication is not the same in all subsets.
+    UnequalFactor(Fxy),
+    /// With this item there are more than 134,217,728 values.
+    TooManyValues(Fxy),
+    /// Memory ran out.
+    Memory,
+}
+
+/// The number to which the increments of an item are added.
+#[derive(Clone, Copy)]
+pub(crate) struct Base {
+    pub(crate) value: u64,
+    pub(crate) width: u32,
+    pub(crate) may_be_missing: bool,
+}
+
+/// Whether an increment of `k` bits can be: it is missing, or the sum stays within the width.
+fn stays_within(base: Base, k: u32, increment: u64) -> bool
+    requires k { k ≤ 63 }
+    requires width { base.width ≤ 63 }
+    requires value { base.value < 2 ^ base.width }
+    requires increment { increment < 2 ^ k }
+    ensures { result ≡ stays_within base.may_be_missing base.width base.value k increment }
+{
+    if base.may_be_missing && increment == (1 << k) - 1 {
+        return true;
+    }
+    base.value + increment <= (1 << base.width) - 1
+}
+
+/// Whether all increments can be; the first begins with bit `at`.
+fn are_within(bits: &BitSlice<'_>, at: u64, subsets: u16, k: u32, base: Base) -> bool
+    requires increment { k ≤ 63 }
+    requires width { base.width ≤ 63 }
+    requires value { base.value < 2 ^ base.width }
+    requires within { at + subsets * k ≤ 8 * length (octets_of bits.now) }
+    ensures { result ≡ all_within base.may_be_missing base.width base.value k subsets (drop at (bits_of (octets_of bits.now))) }
+{
+    let mut place = at;
+    for subset in 0..subsets {
+        let stays = stays_within(base, k, number_at(bits, place, k));
+        if !stays {
+            return false;
+        }
+        place += u64::from(k);
+    }
+    true
+}
+
+/// Whether each increment of `k` bits, the first of which begins with bit `at`, is the number `first`.
+fn are_equal(bits: &BitSlice<'_>, at: u64, subsets: u16, k: u32, first: u64) -> bool
+    requires increment { k ≤ 63 }
+    requires within { at + subsets * k ≤ 8 * length (octets_of bits.now) }
+    ensures { result ≡ all_equal k subsets first (drop at (bits_of (octets_of bits.now))) }
+{
+    let mut place = at;
+    for subset in 0..subsets {
+        let increment = number_at(bits, place, k);
+        if increment != first {
+            return false;
+        }
+        place += u64::from(k);
+    }
+    true
+}
+
+/// Whether bits that are there are all ones.
+pub(crate) fn ones_at(bits: &BitSlice<'_>, at: u64, width: u32) -> bool
+    requires { at + width ≤ 8 * length (octets_of bits.now) }
+    ensures { result ≡ all_set (bits_at (octets_of bits.now) at width) }
+{
+    match bits.all_ones(at, width) {
+        Some(ones) => ones,
+        None => unreachable!(),
+    }
+}
+
+/// Whether the increments of numbers can be; a base of all ones passes over them.
+fn numbers_hold(bits: &BitSlice<'_>, at: u64, subsets: u16, spec: &Spec, k: u32) -> bool
+    requires increment { k ≤ 63 }
+    requires number { is_character spec.now.kind ≡ false }
+    requires within { at + (spec.now.width + 6) + subsets * k ≤ 8 * length (octets_of bits.now) }
+    ensures { result ≡ numbers_hold spec.now k subsets (bits_at (octets_of bits.now) at spec.now.width) (drop (at + (spec.now.width + 6)) (bits_of (octets_of bits.now))) }
+{
+    let width = spec.width();
+    let may_be_missing = spec.may_be_missing();
+    let all_missing = ones_at(bits, at, width);
+    if all_missing && may_be_missing {
+        return true;
+    }
+    let base = Base {
+        value: number_at(bits, at, width),
+        width,
+        may_be_missing,
+    };
+    are_within(bits, at + (u64::from(width) + 6), subsets, k, base)
+}
+
+/// Whether the increments of an item, or the count of octets of a text, can be.
+fn holds(bits: &BitSlice<'_>, at: u64, subsets: u16, spec: &Spec, k: u32) -> bool
+    requires increment { k ≤ 63 }
+    requires within { is_character spec.now.kind ≡ false → at + (spec.now.width + 6) + subsets * k ≤ 8 * length (octets_of bits.now) }
+    ensures { result ≡ holds_by spec.now.kind spec.now k subsets (bits_at (octets_of bits.now) at spec.now.width) (drop (at + (spec.now.width + 6)) (bits_of (octets_of bits.now))) }
+{
+    match spec.kind() {
+        Kind::Character => k <= spec.width() / 8,
+        Kind::Coded => numbers_hold(bits, at, subsets, spec, k),
+        Kind::Numeric => numbers_hold(bits, at, subsets, spec, k),
+    }
+}
+
+/// The bits of one subset behind the base and `k`.
+fn step_of(spec: &Spec, k: u32) -> u32
+    requires { k ≤ 63 }
+    ensures value { result ≡ step_of spec.now.role spec.now.kind k }
+    ensures most { result ≤ 504 }
+{
+    match spec.role() {
+        Role::Reference => 0,
+        Role::Element | Role::Inserted | Role::Factor => match spec.kind() {
+            Kind::Character => 8 * k,
+            Kind::Coded | Kind::Numeric => k,
+        },
+    }
+}
+
+/// What an item with increments tells that is no factor.
+fn plain_at(
+    bits: &BitSlice<'_>,
+    at: u64,
+    subsets: u16,
+    spec: &Spec,
+    k: u32,
+) -> Result<Taken, PackedFault>
+    requires some { 1 ≤ k }
+    requires increment { k ≤ 63 }
+    requires role { is_plain_role spec.now.role ≡ true }
+    requires within { at + (spec.now.width + 6) + subsets * step_of spec.now.role spec.now.kind k ≤ 8 * length (octets_of bits.now) }
+    ensures told { MatchResult result (λ t. IsTold spec.now k subsets (bits_at (octets_of bits.now) at spec.now.width) (drop (at + (spec.now.width + 6)) (bits_of (octets_of bits.now))) t) (λ e. IsWrong spec.now k subsets (bits_at (octets_of bits.now) at spec.now.width) (drop (at + (spec.now.width + 6)) (bits_of (octets_of bits.now))) e) }
+    ensures plain { IfOk result (λ t. t ≡ taken.Plain) }
+{
+    let can_be = holds(bits, at, subsets, spec, k);
+    if can_be {
+        Ok(Taken::Plain)
+    } else {
+        Err(PackedFault::Increment(spec.fxy()))
+    }
+}
+
+/// What a factor with increments tells: the count that all subsets have.
+fn factor_at(
+    bits: &BitSlice<'_>,
+    at: u64,
+    subsets: u16,
+    spec: &Spec,
+    k: u32,
+) -> Result<Taken, PackedFault>
+    requires some { 1 ≤ k }
+    requires increment { k ≤ 63 }
+    requires subsets { 1 ≤ subsets }
+    requires role { spec.now.role ≡ role.Factor }
+    requires within { at + (spec.now.width + 6) + subsets * k ≤ 8 * length (octets_of bits.now) }
+    ensures told { MatchResult result (λ t. IsTold spec.now k subsets (bits_at (octets_of bits.now) at spec.now.width) (drop (at + (spec.now.width + 6)) (bits_of (octets_of bits.now))) t) (λ e. IsWrong spec.now k subsets (bits_at (octets_of bits.now) at spec.now.width) (drop (at + (spec.now.width + 6)) (bits_of (octets_of bits.now))) e) }
+    ensures count { IfOk result (λ t. IsForRole role.Factor t) }
+{
+    let width = spec.width();
+    let can_be = holds(bits, at, subsets, spec, k);
+    if !can_be {
+        return Err(PackedFault::Increment(spec.fxy()));
+    }
+    let behind = at + (u64::from(width) + 6);
+    let first = number_at(bits, behind, k);
+    let equal = are_equal(bits, behind, subsets, k, first);
+    if !equal {
+        return Err(PackedFault::UnequalFactor(spec.fxy()));
+    }
+    let base = number_at(bits, at, width);
+    Ok(Taken::Count(base + first))
+}
+
+/// What an item tells whose `k` is known.
+fn told_by(
+    bits: &BitSlice<'_>,
+    at: u64,
+    subsets: u16,
+    spec: &Spec,
+    k: u32,
+) -> Result<Taken, PackedFault>
+    requires increment { k ≤ 63 }
+    requires subsets { 1 ≤ subsets }
+    requires within { at + (spec.now.width + 6) + subsets * step_of spec.now.role spec.now.kind k ≤ 8 * length (octets_of bits.now) }
+    ensures told { MatchResult result (λ t. IsTold spec.now k subsets (bits_at (octets_of bits.now) at spec.now.width) (drop (at + (spec.now.width + 6)) (bits_of (octets_of bits.now))) t) (λ e. IsWrong spec.now k subsets (bits_at (octets_of bits.now) at spec.now.width) (drop (at + (spec.now.width + 6)) (bits_of (octets_of bits.now))) e) }
+    ensures shape { IfOk result (λ t. IsFor spec.now t) }
+{
+    if k == 0 {
+        return Ok(told_at(bits, at, spec));
+    }
+    match spec.role() {
+        Role::Element => plain_at(bits, at, subsets, spec, k),
+        Role::Inserted => plain_at(bits, at, subsets, spec, k),
+        Role::Factor => factor_at(bits, at, subsets, spec, k),
+        Role::Reference => Err(PackedFault::Increment(spec.fxy())),
+    }
+}
+
+/// An item that stands in the bits: what it tells, its `k`, and the bit behind it.
+#[derive(Clone, Copy)]
+struct Seen {
+    told: Taken,
+    step: u8,
+    end: u64,
+}
+
+/// The item that begins with bit `at`.
+fn seen_at(bits: &BitSlice<'_>, at: u64, subsets: u16, spec: &Spec) -> Result<Seen, PackedFault>
+    requires subsets { 1 ≤ subsets }
+    requires within { at ≤ 8 * length (octets_of bits.now) }
+    ensures seen { MatchResult result (λ s. IsSeen (bits_of (octets_of bits.now)) at subsets spec.now s) (λ e. IsUnseen (bits_of (octets_of bits.now)) at subsets spec.now e) }
+    ensures shape { IfOk result (λ s. IsFor spec.now s.told) }
+{
+    let width = u64::from(spec.width());
+    let left = bits.len_bits() - at;
+    if left < width + 6 {
+        return Err(PackedFault::DataEnd(spec.fxy()));
+    }
+    let k = number_at(bits, at + width, 6) as u32;
+    let size = width + 6 + u64::from(subsets) * u64::from(step_of(spec, k));
+    if left < size {
+        return Err(PackedFault::DataEnd(spec.fxy()));
+    }
+    match told_by(bits, at, subsets, spec, k) {
+        Ok(told) => Ok(Seen {
+            told,
+            step: k as u8,
+            end: at + size,
+        }),
+        Err(wrong) => Err(wrong),
+    }
+}
+
+/// The most values of a compressed message.
+const MOST_VALUES: u64 = 134_217_728;
+
+/// Fields of compressed data: each item stands once for all subsets, as a base, six bits `k`, and an increment for each
+/// subset where `k` is above 0 (WMO-No. 306, Volume I.2, FM 94: section 4, compression). It keeps an entry for each item.
+#[derive(Drop)]
+pub struct PackedIn<'a> {
+    bits: BitSlice<'a>,
+    at: u64,
+    subsets: u16,
+    kept: Vec<KeptItem>,
+}
+
+impl<'a> Model for PackedIn<'a> {
+    ghost use Rattle.bufr_bits.specs.Bits.{bits_of};
+    ghost use Rattle.bufr_bits.specs.BitSlice.{octets_of};
+    ghost use Rattle.bufr_walk.specs.PackedIn.{PackedCursor, IsPackedIn, packed_view};
+
+    ghost Value = { PackedCursor };
+
+    ghost view = { λ s. packed_view (bits_of (octets_of s.bits)) s.at s.subsets s.kept.items };
+
+    ghost invariant = { λ s. IsPackedIn (bits_of (octets_of s.bits)) s.at s.subsets s.kept.items };
+}
+
+impl<'a> PackedIn<'a> {
+    ghost use Rattle.std.specs.Prelude.{◌≡◌, ◌≤◌, ◌+◌, ◌*◌, length, MatchResult, IfOk, [], true};
+    ghost use Rattle.std.specs.List.{list_all};
+    ghost use Rattle.bufr_bits.specs.Bits.{bits_of};
+    ghost use Rattle.bufr_bits.specs.BitSlice.{octets_of};
+    ghost use Rattle.bufr_walk.specs.Asked.{IsFor};
+    ghost use Rattle.bufr_walk.specs.PackedIn.{IsLooked, IsUnlooked, items_at, stands_at, packed_start};
+    ghost use Rattle.bufr_walk.specs.Reading.{most_values};
+
+    /// The bits of compressed data, from bit 0 on, for so many subsets, at least one.
+    pub fn new(alloc: Global, bits: BitSlice<'a>, subsets: u16) -> PackedIn<'a>
+        requires { 1 ≤ subsets }
+        ensures { result ≡ packed_start (bits_of (octets_of bits.entry)) subsets }
+    {
+        PackedIn {
+            bits,
+            at: 0,
+            subsets,
+            kept: Vec::new(alloc),
+        }
+    }
+
+    /// How many bits were read.
+    pub(crate) fn place(&self) -> u64
+        ensures value { result ≡ self.now.at }
+        ensures within { self.now.at ≤ length self.now.bits }
+        ensures few { length self.now.items * self.now.subsets ≤ most_values }
+    {
+        let _ = &self.bits;
+        self.at
+    }
+
+    /// The items that were read, and the bits that they take.
+    pub(crate) fn into_read(self) -> PackedRead
+        ensures used { result.used ≡ self.entry.at }
+        ensures kept { items_at self.entry.bits self.entry.subsets result.kept.items ≡ self.entry.items }
+        ensures stand { list_all (stands_at self.entry.bits self.entry.subsets) result.kept.items ≡ true }
+        ensures held { 7 * length result.kept.items ≤ result.used }
+    {
+        let PackedIn {
+            bits: _,
+            at,
+            subsets: _,
+            kept,
+        } = self;
+        PackedRead::new(at, kept)
+    }
+
+    /// The next item, without going past it.
+    fn look(&self, spec: &Spec) -> Result<Seen, PackedFault>
+        ensures seen { MatchResult result (λ s. IsLooked self.now spec.now s) (λ e. IsUnlooked self.now spec.now e) }
+        ensures shape { IfOk result (λ s. IsFor spec.now s.told) }
+    {
+        let items = self.kept.len() as u64 + 1;
+        if items * u64::from(self.subsets) > MOST_VALUES {
+            return Err(PackedFault::TooManyValues(spec.fxy()));
+        }
+        seen_at(&self.bits, self.at, self.subsets, spec)
+    }
+}
+
+impl<'a> Fields for PackedIn<'a> {
+    type Fault = PackedFault;
+
+    ghost use Rattle.std.proofs.Common.{arith, ap};
+    ghost use Rattle.bufr_walk.specs.PackedIn.{PackedTakes, refuses_packed};
+
+    ghost used = { λ s. s.at };
+
+    ghost takes = { PackedTakes };
+
+    ghost advances = { λ s spec t next h. Prim.omega (arith, h.forth) };
+
+    ghost refuses = { λ s spec e next h. ap (λ c. c.at) (refuses_packed s spec e next h) };
+
+    fn take(&mut self, spec: &Spec) -> Result<Taken, PackedFault> {
+        let seen = self.look(spec)?;
+        let item = KeptItem::new(*spec, self.at, seen.step);
+        match self.kept.push(item) {
+            Ok(()) => {
+                self.at = seen.end;
+                Ok(seen.told)
+            }
+            Err(_) => Err(PackedFault::Memory),
+        }
+    }
+
+    fn bits(&self) -> u64 {
+        self.at
+    }
+}

@@ -1,0 +1,79 @@
+// The reading of data that are not compressed: subset after subset, each from the beginning of the template.
+ghost use Rattle.std.specs.Prelude.{◌≡◌, ◌≤◌, ◌+◌, ◌-◌, ◌*◌, false, length, List, IfOk, OnOk, OnErr, IfErr};
+ghost use Rattle.bufr_bits.specs.Bits.{bits_of};
+ghost use Rattle.bufr_bits.specs.BitSlice.{octets_of};
+ghost use Rattle.bufr_tables.specs.Tree.{places};
+ghost use Rattle.bufr_walk.specs.Content.{Content};
+ghost use Rattle.bufr_walk.specs.Course.{next_item};
+ghost use Rattle.bufr_walk.specs.Fault.{bits_before};
+ghost use Rattle.bufr_walk.specs.Outcome.{data_in, IsFault, IsRead};
+ghost use Rattle.bufr_walk.specs.Passes.{PassReads, PassStops};
+ghost use Rattle.bufr_walk.specs.PlainIn.{fault_at};
+ghost use Rattle.bufr_walk.specs.Reading.{Item, apart};
+
+use crate::fault::{Spot, WalkFault};
+use crate::plain_in::{DataEnd, PlainIn};
+use crate::steps::Steps;
+use crate::walk::{WalkStop, walk};
+use bufr_bits::BitSlice;
+use bufr_tables::{TableB, Template};
+use std::alloc::Global;
+
+/// The fault that a walk's stop is.
+fn fault_at(why: WalkStop<DataEnd>, subset: u16, bit: u64) -> WalkFault
+    ensures { result ≡ fault_at why subset bit }
+{
+    match why {
+        WalkStop::Width(fxy) => WalkFault::Width(Spot::new(subset, fxy, bit)),
+        WalkStop::Defining(fxy) => WalkFault::Defining(Spot::new(subset, fxy, bit)),
+        WalkStop::Field(end) => WalkFault::DataEnd(Spot::new(subset, end.fxy, bit)),
+        WalkStop::Memory => WalkFault::Memory,
+    }
+}
+
+/// Reads one subset, of this number.
+fn read_subset(
+    alloc: Global,
+    template: &Template,
+    table: &TableB,
+    subset: u16,
+    fields: &mut PlainIn<'_>,
+    steps: &mut Steps,
+) -> Result<(), WalkFault>
+    ensures read { OnOk result (PassReads (next_item table.now template.now) fields.old steps.old fields.new steps.new) }
+    ensures fault { IfErr result (λ why. PassStops (next_item table.now template.now) fields.old steps.old subset why fields.new steps.new) }
+    ensures accepted { OnOk result (steps.new ≤ steps.old + places template.now * (fields.new.at - fields.old.at)) }
+    ensures refused { OnErr result (steps.new ≤ steps.old + places template.now * (fields.new.at - fields.old.at + 1)) }
+    ensures within { fields.new.at ≤ length fields.new.bits }
+    ensures forth { fields.old.at ≤ fields.new.at }
+{
+    match walk(alloc, template, table, fields, steps) {
+        Ok(()) => {
+            let _ = fields.place();
+            Ok(())
+        }
+        Err(why) => Err(fault_at(why, subset, fields.place())),
+    }
+}
+
+/// Reads all subsets, and answers how many bits they take.
+pub(crate) fn read_plain(
+    alloc: Global,
+    bits: BitSlice<'_>,
+    subsets: u16,
+    template: &Template,
+    table: &TableB,
+    steps: &mut Steps,
+) -> Result<u64, WalkFault>
+    requires { steps.old ≡ 0 }
+    ensures reading { IfOk result (λ used. (subsets_read : List (List (Item Content))) × IsRead (next_item table.now template.now) (data_in false subsets (octets_of bits.entry)) (apart subsets_read) used steps.new) }
+    ensures fault { IfErr result (λ why. IsFault (next_item table.now template.now) (data_in false subsets (octets_of bits.entry)) why steps.new) }
+    ensures accepted { IfOk result (λ used. steps.new ≤ places template.now * used) }
+    ensures refused { IfErr result (λ why. steps.new ≤ places template.now * (bits_before why (length (bits_of (octets_of bits.entry))) + 1)) }
+{
+    let mut fields = PlainIn::new(bits);
+    'subsets: for done in 0..subsets {
+        read_subset(alloc, template, table, done + 1, &mut fields, steps)?;
+    }
+    Ok(fields.place())
+}

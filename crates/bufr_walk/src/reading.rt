@@ -1,0 +1,160 @@
+// What a message's data were read as.
+use crate::fault::WalkFault;
+use crate::read_packed::{KeptItem, read_packed};
+use crate::read_plain::read_plain;
+use crate::steps::Steps;
+use bufr_bits::BitSlice;
+use bufr_frame::Message;
+use bufr_tables::{TableB, Template};
+use std::alloc::Global;
+use std::marker::Model;
+
+/// What a reading keeps: nothing where each subset has bits of its own, else one entry for each item.
+#[derive(Drop)]
+enum Kept {
+    Apart,
+    Together(Vec<KeptItem>),
+}
+
+/// The reading of a message's data (WMO-No. 306, Volume I.2, FM 94: section 4). It borrows the message's octets, the
+/// template and the table.
+#[derive(Drop)]
+pub struct Reading<'a> {
+    bits: BitSlice<'a>,
+    template: &'a Template,
+    table: &'a TableB,
+    compressed: bool,
+    subsets: u16,
+    used: u64,
+    kept: Kept,
+}
+
+impl<'a> Model for Reading<'a> {
+    ghost use Rattle.std.specs.Coded.{codes};
+    ghost use Rattle.bufr_bits.specs.BitSlice.{octets_of};
+    ghost use Rattle.bufr_tables.specs.TreeCode.{tree_code};
+    ghost use Rattle.bufr_walk.specs.Outcome.{data_in, read_by, Read};
+
+    ghost Value = { Read };
+
+    ghost coded = { Prim.hlevel (codes, tree_code) };
+
+    ghost use Rattle.bufr_walk.specs.Kept.{held_of, IsHeld};
+
+    ghost view = { λ r. read_by r.table.now r.template.now (data_in r.compressed r.subsets (octets_of r.bits)) r.used (held_of r.kept) };
+
+    ghost invariant = { λ r. IsHeld (read_by r.table.now r.template.now (data_in r.compressed r.subsets (octets_of r.bits)) r.used (held_of r.kept)) r.kept };
+}
+
+impl<'a> Reading<'a> {
+    ghost use Rattle.std.specs.Prelude.{◌≡◌, ◌≤◌, ◌+◌, ◌*◌, false, true, length, IfOk, IfErr};
+    ghost use Rattle.bufr_tables.specs.Tree.{places};
+    ghost use Rattle.bufr_walk.specs.Course.{next_item};
+    ghost use Rattle.bufr_walk.specs.Fault.{bits_before};
+    ghost use Rattle.bufr_walk.specs.Outcome.{data_of, IsFault, IsReadingOf};
+
+    /// Reads data that are not compressed.
+    #[tactic(auto, using(crate::proofs::ReadingLemmas::plain_held))]
+    fn read_apart(
+        alloc: Global,
+        message: &Message<'a>,
+        template: &'a Template,
+        table: &'a TableB,
+        steps: &mut Steps,
+    ) -> Result<Reading<'a>, WalkFault>
+        requires { message.now.compressed ≡ false }
+        ensures reading { IfOk result (λ r. IsReadingOf table.now template.now (data_of message.now) r steps.new) }
+        ensures fault { IfErr result (λ why. IsFault (next_item table.now template.now) (data_of message.now) why steps.new) }
+        ensures accepted { IfOk result (λ r. steps.new ≤ places template.now * r.bits) }
+        ensures refused { IfErr result (λ why. steps.new ≤ places template.now * (bits_before why (length (data_of message.now).bits) + 1)) }
+    {
+        *steps = Steps::new();
+        let bits = message.payload();
+        let subsets = message.subsets();
+        let used = read_plain(alloc, bits, subsets, template, table, steps)?;
+        Ok(Reading {
+            bits,
+            template,
+            table,
+            compressed: false,
+            subsets,
+            used,
+            kept: Kept::Apart,
+        })
+    }
+
+    /// Reads compressed data.
+    fn read_together(
+        alloc: Global,
+        message: &Message<'a>,
+        template: &'a Template,
+        table: &'a TableB,
+        steps: &mut Steps,
+    ) -> Result<Reading<'a>, WalkFault>
+        requires { message.now.compressed ≡ true }
+        ensures reading { IfOk result (λ r. IsReadingOf table.now template.now (data_of message.now) r steps.new) }
+        ensures fault { IfErr result (λ why. IsFault (next_item table.now template.now) (data_of message.now) why steps.new) }
+        ensures accepted { IfOk result (λ r. steps.new ≤ places template.now * r.bits) }
+        ensures refused { IfErr result (λ why. steps.new ≤ places template.now * (bits_before why (length (data_of message.now).bits) + 1)) }
+    {
+        *steps = Steps::new();
+        let bits = message.payload();
+        let subsets = message.subsets();
+        let read = read_packed(alloc, bits, subsets, template, table, steps)?;
+        Ok(Reading {
+            bits,
+            template,
+            table,
+            compressed: true,
+            subsets,
+            used: read.used,
+            kept: Kept::Together(read.kept),
+        })
+    }
+
+    /// Reads the data of a message by its template.
+    pub(crate) fn read(
+        alloc: Global,
+        message: &Message<'a>,
+        template: &'a Template,
+        table: &'a TableB,
+        steps: &mut Steps,
+    ) -> Result<Reading<'a>, WalkFault>
+        ensures reading { IfOk result (λ r. IsReadingOf table.now template.now (data_of message.now) r steps.new) }
+        ensures fault { IfErr result (λ why. IsFault (next_item table.now template.now) (data_of message.now) why steps.new) }
+        ensures accepted { IfOk result (λ r. steps.new ≤ places template.now * r.bits) }
+        ensures refused { IfErr result (λ why. steps.new ≤ places template.now * (bits_before why (length (data_of message.now).bits) + 1)) }
+    {
+        if message.compressed() {
+            Reading::read_together(alloc, message, template, table, steps)
+        } else {
+            Reading::read_apart(alloc, message, template, table, steps)
+        }
+    }
+
+    /// The number of subsets.
+    pub fn subsets(&self) -> u16
+        ensures { result ≡ self.now.source.subsets }
+    {
+        self.subsets
+    }
+
+    /// How many bits of the data the items take.
+    pub fn bits(&self) -> u64
+        ensures { result ≡ self.now.bits }
+    {
+        self.used
+    }
+
+    /// How many items are kept: none where the data are not compressed, else at most one for seven bits.
+    pub fn held(&self) -> u64
+        ensures value { result ≡ self.now.held }
+        ensures few { 7 * result ≤ self.now.bits }
+        ensures none { self.now.source.compressed ≡ false → result ≡ 0 }
+    {
+        match &self.kept {
+            Kept::Apart => 0,
+            Kept::Together(items) => items.len() as u64,
+        }
+    }
+}

@@ -1,0 +1,172 @@
+// How one field of the data is to be read.
+ghost use Rattle.std.specs.Prelude.{◌≡◌, ◌≤◌, ◌^◌, false, true, unsigned_abs};
+ghost use Rattle.bufr_tables.specs.TableB.{is_character};
+ghost use Rattle.bufr_tables.specs.declared.kind.Kind.TheVariants as kinds;
+ghost use Rattle.bufr_walk.specs.Asked.{HasRole, HasWidth};
+ghost use Rattle.bufr_walk.specs.Rules.{fitting, text_of};
+ghost use Rattle.bufr_walk.specs.Numbers.{number_of};
+
+use bufr_tables::{Fxy, Kind};
+use std::marker::Model;
+
+/// What a field is for.
+#[derive(Clone, Copy, PartialEq, Eq)]
+pub enum Role {
+    Element,
+    Inserted,
+    Factor,
+    Reference,
+}
+
+/// Why a turn is refused: a width that no field may have, or a turn that may not come while references are defined.
+#[derive(Clone, Copy)]
+pub enum Refusal {
+    Width(Fxy),
+    Defining(Fxy),
+}
+
+/// What a field told the walk.
+#[derive(Clone, Copy)]
+pub enum Taken {
+    Plain,
+    Count(u64),
+    Reference(i64),
+}
+
+/// How one field is to be read.
+#[derive(Clone, Copy)]
+pub struct Spec {
+    fxy: Fxy,
+    role: Role,
+    kind: Kind,
+    width: u32,
+    scale: i16,
+    reference: i128,
+    may_be_missing: bool,
+    listed: bool,
+}
+
+impl Model for Spec {
+    ghost use Rattle.bufr_walk.specs.Asked.{Asked, IsSpec};
+
+    ghost Value = { Asked };
+
+    ghost view = { λ s. record { fxy = s.fxy; role = s.role; kind = s.kind; width = s.width; scale = s.scale; reference = s.reference; may_be_missing = s.may_be_missing; listed = s.listed } };
+
+    ghost invariant = { λ s. IsSpec (record { fxy = s.fxy; role = s.role; kind = s.kind; width = s.width; scale = s.scale; reference = s.reference; may_be_missing = s.may_be_missing; listed = s.listed }) };
+
+    ghost inverse = { λ a. record { fxy = a.fxy; role = a.role; kind = a.kind; width = a.width; scale = a.scale; reference = a.reference; may_be_missing = a.may_be_missing; listed = a.listed } };
+}
+
+impl Spec {
+    ghost use Rattle.std.specs.Prelude.{◌≡◌, ◌≤◌, ◌%◌, ◌^◌, true, false, unsigned_abs};
+    ghost use Rattle.bufr_tables.specs.TableB.{is_character};
+    ghost use Rattle.bufr_tables.specs.declared.kind.Kind.TheVariants as kinds;
+    ghost use Rattle.bufr_walk.specs.Asked.{HasRole, HasWidth, IsSpec, is_reference};
+    ghost use Rattle.bufr_walk.specs.Rules.{fitting, text_of};
+    ghost use Rattle.bufr_walk.specs.Numbers.{number_of};
+
+    /// A number, where its width is 1 to 63.
+    #[tactic(auto, using(crate::proofs::SpecLemmas::number_good))]
+    pub(crate) fn number(
+        fxy: Fxy,
+        role: Role,
+        kind: Kind,
+        width: u32,
+        scale: i16,
+        reference: i128,
+        may_be_missing: bool,
+        listed: bool,
+    ) -> Result<Spec, Refusal>
+        requires number { is_character kind ≡ false }
+        requires role { HasRole role kind may_be_missing }
+        requires scale { unsigned_abs scale ≤ 300 }
+        requires reference { unsigned_abs reference ≤ 2 ^ 125 }
+        ensures { result ≡ fitting (number_of fxy role kind width scale reference may_be_missing listed) }
+    {
+        if 1 <= width && width <= 63 {
+            Ok(Spec {
+                fxy,
+                role,
+                kind,
+                width,
+                scale,
+                reference,
+                may_be_missing,
+                listed,
+            })
+        } else {
+            Err(Refusal::Width(fxy))
+        }
+    }
+
+    /// Text of so many bits.
+    #[tactic(auto, using(crate::proofs::SpecLemmas::text_good))]
+    pub(crate) fn text(role: Role, fxy: Fxy, width: u32, listed: bool) -> Spec
+        requires width { HasWidth kinds.Character width }
+        requires role { HasRole role kinds.Character true }
+        ensures { result ≡ text_of role fxy width listed }
+    {
+        Spec {
+            fxy,
+            role,
+            kind: Kind::Character,
+            width,
+            scale: 0,
+            reference: 0,
+            may_be_missing: true,
+            listed,
+        }
+    }
+
+    pub fn fxy(&self) -> Fxy
+        ensures { result ≡ self.now.fxy }
+    {
+        self.fxy
+    }
+
+    pub fn role(&self) -> Role
+        ensures { result ≡ self.now.role }
+    {
+        self.role
+    }
+
+    pub fn kind(&self) -> Kind
+        ensures { result ≡ self.now.kind }
+    {
+        self.kind
+    }
+
+    /// Its width in bits, 1 to 63, for text a multiple of 8 up to 2,040.
+    #[tactic(auto, using(crate::proofs::SpecLemmas::some_width, crate::proofs::SpecLemmas::most_width, crate::proofs::SpecLemmas::narrow_width, crate::proofs::SpecLemmas::whole_width, crate::proofs::SpecLemmas::reference_width))]
+    pub fn width(&self) -> u32
+        ensures value { result ≡ self.now.width }
+        ensures spec { IsSpec self.now }
+        ensures some { 1 ≤ self.now.width }
+        ensures most { self.now.width ≤ 2040 }
+        ensures narrow { is_character self.now.kind ≡ false → self.now.width ≤ 63 }
+        ensures whole { is_character self.now.kind ≡ true → self.now.width % 8 ≡ 0 }
+        ensures reference { is_reference self.now.role ≡ true → self.now.width ≤ 63 }
+    {
+        self.width
+    }
+
+    pub fn scale(&self) -> i16
+        ensures value { result ≡ self.now.scale }
+    {
+        self.scale
+    }
+
+    pub fn reference(&self) -> i128
+        ensures value { result ≡ self.now.reference }
+        ensures spec { IsSpec self.now }
+    {
+        self.reference
+    }
+
+    pub fn may_be_missing(&self) -> bool
+        ensures { result ≡ self.now.may_be_missing }
+    {
+        self.may_be_missing
+    }
+}

@@ -1,0 +1,37 @@
+// A counter of turns.
+ghost use Rattle.std.specs.Prelude.{◌≡◌, ℕ, ◌+◌, ◌-◌, ◌^◌, min};
+ghost use Rattle.bufr_walk.specs.Ticks.{ticked};
+
+use std::marker::Model;
+
+/// How many turns were made, up to the greatest `u64`.
+#[derive(Drop)]
+pub struct Steps {
+    count: u64,
+}
+
+impl Model for Steps {
+    ghost Value = { ℕ };
+
+    ghost view = { λ s. s.count };
+}
+
+impl Steps {
+    pub fn new() -> Self
+        ensures { result ≡ 0 }
+    {
+        Steps { count: 0 }
+    }
+
+    pub fn count(&self) -> u64
+        ensures { result ≡ self.now }
+    {
+        self.count
+    }
+
+    pub fn tick(&mut self)
+        ensures { self.new ≡ ticked self.old 1 }
+    {
+        self.count = self.count.saturating_add(1);
+    }
+}

@@ -1,0 +1,46 @@
+// Who is shown a reading.
+ghost use Rattle.std.specs.Prelude.{ℕ, Result};
+ghost use Rattle.bufr_walk.specs.Calls.{Call, subset_call, item_call};
+ghost use Rattle.bufr_walk.specs.Seen.{seen};
+
+use bufr_tables::{Entry, Fxy};
+
+/// The value of an item.
+#[derive(Clone, Copy, Debug, PartialEq, Eq)]
+pub enum Value<'a> {
+    /// A number, and its scale: the number is to be divided by that power of ten.
+    Number(i128, i16),
+    /// Text, as the octets that stand in the data, or that compressed data stand for.
+    Text(&'a [u8]),
+    /// A missing value.
+    Missing,
+    /// A reference value that the data give to the element (2 03 Y).
+    Reference(i64),
+}
+
+/// An item of the data as it is shown.
+#[derive(Clone, Copy, Debug, PartialEq, Eq)]
+pub struct ItemView<'a> {
+    /// Its descriptor: an element, a factor, or 2 05 Y.
+    pub fxy: Fxy,
+    /// What Table B says of the descriptor, where the item was read by it.
+    pub entry: Option<Entry<'a>>,
+    /// Its value.
+    pub value: Value<'a>,
+}
+
+/// Who is shown a reading, subset by subset and item by item.
+pub trait Visitor {
+    type Fault;
+
+    /// One call may go so: before, the call, the answer, after.
+    ghost sees: { Self → Call → Result (Unit {0}) Self.Fault → Self → Type 0 };
+
+    /// A subset begins, counted from 1.
+    fn subset(&mut self, number: u16) -> Result<(), Self::Fault>
+        ensures { sees self.old (subset_call number) result self.new };
+
+    /// An item of that subset.
+    fn item(&mut self, item: &ItemView<'_>) -> Result<(), Self::Fault>
+        ensures { sees self.old (item_call (seen item.now)) result self.new };
+}
