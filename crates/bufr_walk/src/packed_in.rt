@@ -296,7 +296,8 @@ impl<'a> PackedIn<'a> {
     ghost use Rattle.bufr_bits.specs.Bits.{bits_of};
     ghost use Rattle.bufr_bits.specs.BitSlice.{octets_of};
     ghost use Rattle.bufr_walk.specs.Asked.{IsFor};
-    ghost use Rattle.bufr_walk.specs.PackedIn.{IsLooked, IsUnlooked, items_at, stands_at, packed_start};
+    ghost use Rattle.bufr_walk.specs.PackedBits.{IsLooked, IsUnlooked};
+    ghost use Rattle.bufr_walk.specs.PackedIn.{items_at, stands_at, packed_start};
     ghost use Rattle.bufr_walk.specs.Reading.{most_values};
 
     /// The bits of compressed data, from bit 0 on, for so many subsets, at least one.
