@@ -11,3 +11,5 @@ pub mod PlainLemmas
 pub mod Readings
 pub mod PlainSubsets
 pub mod ReadingLemmas
+pub mod ShownLemmas
+pub mod SubsetLemmas

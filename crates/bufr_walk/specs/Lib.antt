@@ -25,3 +25,4 @@ pub mod Ways
 pub mod Flat
 pub mod PlainIn
 pub mod Passes
+pub mod Shown

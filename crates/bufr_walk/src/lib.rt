@@ -10,6 +10,7 @@ pub mod plain_in;
 mod read_packed;
 mod read_plain;
 mod reading;
+mod show_plain;
 pub mod spec;
 pub mod steps;
 mod visitor;
