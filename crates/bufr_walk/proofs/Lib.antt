@@ -19,3 +19,5 @@ pub mod Readings
 pub mod PlainSubsets
 pub mod ReadingLemmas
 pub mod PackedHeld
+pub mod ShownLemmas
+pub mod SubsetLemmas
