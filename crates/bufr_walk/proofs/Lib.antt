@@ -26,3 +26,5 @@ pub mod Readings
 pub mod PlainSubsets
 pub mod ReadingLemmas
 pub mod PackedHeld
+pub mod ShownLemmas
+pub mod SubsetLemmas

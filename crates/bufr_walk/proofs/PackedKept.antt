@@ -14,8 +14,8 @@ use Rattle.bufr_walk.specs.Asked.{Asked}
 use Rattle.bufr_walk.specs.Content.{Content}
 use Rattle.bufr_walk.specs.PlainField.{FieldFault, data_end, increment, unequal_factor, found}
 use Rattle.bufr_walk.specs.PackedField.{packed_field}
-use Rattle.bufr_walk.specs.PackedBits.{wrong_of, IsSeen, IsUnseen}
-use Rattle.bufr_walk.specs.PackedIn.{PackedCursor, packed_rest, item_with, item_at, items_at, contents_found, was_found, stands_at, packed_view, IsPackedIn, IsPackedTaken, IsPackedWrong, IsLooked, IsUnlooked, PackedTakes}
+use Rattle.bufr_walk.specs.PackedBits.{IsSeen, IsUnseen, IsLooked, IsUnlooked}
+use Rattle.bufr_walk.specs.PackedIn.{PackedCursor, packed_rest, item_with, item_at, items_at, contents_found, was_found, stands_at, packed_view, IsPackedIn, IsPackedTaken, IsPackedWrong, wrong_of, PackedTakes}
 use Rattle.bufr_walk.specs.Reading.{Item, most_values}
 
 pub length-items_at : (bits : List Bool) (n : ℕ) (kept : List KeptItem) → length (items_at bits n kept) ≡ length kept

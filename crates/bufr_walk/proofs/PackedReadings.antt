@@ -23,8 +23,7 @@ use Rattle.bufr_walk.specs.Fault.{spot, fault_of, bits_before}
 use Rattle.bufr_walk.specs.Kept.{AreKept}
 use Rattle.bufr_walk.specs.Outcome.{IsRead, IsFault, IsRefused}
 use Rattle.bufr_walk.specs.PackedField.{packed_field}
-use Rattle.bufr_walk.specs.PackedBits.{wrong_of}
-use Rattle.bufr_walk.specs.PackedIn.{items_at, stands_at, PackedCursor, packed_rest, item_with, IsPackedTaken, IsPackedWrong, PackedTakes, refuses_packed, packed_start, packed_fault}
+use Rattle.bufr_walk.specs.PackedIn.{items_at, stands_at, wrong_of, PackedCursor, packed_rest, item_with, IsPackedTaken, IsPackedWrong, PackedTakes, refuses_packed, packed_start, packed_fault}
 use Rattle.bufr_walk.specs.PlainField.{FieldFault, data_end, increment, unequal_factor, found}
 use Rattle.bufr_walk.specs.Reading.{Item, packed, Reads, ReadsAll, next_after, turns_after, after, most_values, Data, together, IsPackedReading, turns_together}
 use Rattle.bufr_walk.specs.Refusal.{Stop, walk_stop, too_many, field_stop, field_stop_of, stop_at, ComesToTogether, would_be_many, IsPackedRefused, IsPackedShort}

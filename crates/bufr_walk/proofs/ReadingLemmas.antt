@@ -1,14 +1,19 @@
 -- What a reading is made of.
-use Rattle.std.proofs.Common.{◌≡◌, ◌≤◌, ◌*◌, ℕ, false, List, refl, sym, ◌∙◌, ap, subst, arith}
+use Rattle.std.proofs.Common.{◌≡◌, ◌≤◌, ◌*◌, ℕ, Bool, true, false, List, length, drop, Vec, Result, refl, sym, ◌∙◌, ap, subst, arith}
+use Rattle.std.specs.declared.alloc.Global.{Global}
 use Rattle.bufr_frame.specs.Sections.{Sections}
 use Rattle.bufr_tables.specs.TableB.{Row}
 use Rattle.bufr_tables.specs.Tree.{Tree}
+use Rattle.bufr_walk.specs.declared.fault.ShowFault.{ShowFault}
+use Rattle.bufr_walk.specs.declared.read_packed.KeptItem.{KeptItem}
 use Rattle.bufr_walk.specs.declared.reading.Kept.TheVariants as kept
+use Rattle.bufr_walk.specs.Calls.{Call, subset_calls, calls_of, turns_shown}
+use Rattle.bufr_walk.specs.Shows.{Shows}
 use Rattle.bufr_walk.specs.Content.{Content}
 use Rattle.bufr_walk.specs.Course.{next_item}
-use Rattle.bufr_walk.specs.Kept.{IsHeld}
-use Rattle.bufr_walk.specs.Outcome.{data_in, data_of, read_by, IsRead, IsReadingOf}
-use Rattle.bufr_walk.specs.Reading.{Item, Data, apart}
+use Rattle.bufr_walk.specs.Kept.{IsHeld, KeepsValues}
+use Rattle.bufr_walk.specs.Outcome.{data_in, data_of, read_by, Read, course_of, IsRead, IsReadingOf}
+use Rattle.bufr_walk.specs.Reading.{Item, Data, Values, apart, together, IsReading, ReadsSubsets, turns_in}
 
 pub plain_held : (table : List Row) (template : Tree) (subsets : ℕ) (octets : List ℕ) (used steps : ℕ) → (read : List (List (Item Content))) × IsRead (next_item table template) (data_in false subsets octets) (apart read) used steps → IsHeld (read_by table template (data_in false subsets octets) used 0) kept.Apart
 plain_held table template subsets octets used steps h = record { values = apart h.0; reading = h.1.0; keeps = tt; few = omega arith }
@@ -20,3 +25,24 @@ same_data m subsets octets plain e f =
 
 pub plain_is : (table : List Row) (template : Tree) (m : Sections) (subsets : ℕ) (octets : List ℕ) (used steps : ℕ) → data_in false subsets octets ≡ data_of m → (read : List (List (Item Content))) × IsRead (next_item table template) (data_in false subsets octets) (apart read) used steps → IsReadingOf table template (data_of m) (read_by table template (data_in false subsets octets) used 0) steps
 plain_is table template m subsets octets used steps e h = (refl, refl, e, apart h.0, subst (λ d. IsRead (next_item table template) d (apart h.0) used steps) e h.1)
+
+-- data that are not compressed were read before, and can be shown
+pub readable_of : (r : Read) → IsHeld r kept.Apart → (all : List (List (Item Content))) × (left : List Bool) × ReadsSubsets (course_of r) all r.source.bits left × (length all ≡ r.source.subsets)
+readable_of r h = by h.values h.reading h.keeps
+  where
+    by : (values : Values) → IsReading (course_of r) r.source values r.bits → KeepsValues kept.Apart r.source values → (all : List (List (Item Content))) × (left : List Bool) × ReadsSubsets (course_of r) all r.source.bits left × (length all ≡ r.source.subsets)
+    by (apart all) k w = (all, drop r.bits r.source.bits, k.2.0, k.2.1)
+    by (together items) k w = absurd w
+
+pub together_not : (r : Read) (entries : Vec KeptItem Global) → IsHeld r (kept.Together entries) → r.source.compressed ≡ false → ⊥
+together_not r entries h plain = by h.values h.reading h.keeps
+  where
+    by : (values : Values) → IsReading (course_of r) r.source values r.bits → KeepsValues (kept.Together entries) r.source values → ⊥
+    by (apart all) k w = w
+    by (together items) k w = let e : true ≡ false = sym k.0 ∙ plain in cc
+
+pub show_is : {V E : Type 0} (sees : V → Call → Result (Unit {0}) E → V → Type 0) (r : Read) (v v' : V) (result : Result (Unit {0}) (ShowFault E)) (steps : ℕ) → r.source.compressed ≡ false
+    → ((all : List (List (Item Content))) (left : List Bool) → ReadsSubsets (course_of r) all r.source.bits left → length all ≡ r.source.subsets → Shows sees v (subset_calls r.table (course_of r) 0 1 all) (turns_in (course_of r) all) result v' steps)
+    → (values : Values) → IsReading (course_of r) r.source values r.bits → Shows sees v (calls_of r values) (turns_shown r values) result v' steps
+show_is sees r v v' result steps plain h (apart all) k = h all (drop r.bits r.source.bits) k.2.0 k.2.1
+show_is sees r v v' result steps plain h (together items) k = let e : true ≡ false = sym k.0 ∙ plain in absurd cc

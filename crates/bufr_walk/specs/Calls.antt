@@ -18,9 +18,12 @@ pub data Call : Type 0 where
   subset_call : (number : ℕ) → Call
   item_call : (item : View) → Call
 
+abbrev pub view : (fxy : ℕ) → Option Row → Shown → View
+view fxy entry value = record { fxy = fxy; entry = entry; value = value }
+
 -- the view of one field: the row of Table B only where the field was read by it
 abbrev pub view_of : List Row → Asked → Content → View
-view_of table spec c = record { fxy = spec.fxy; entry = (if spec.listed then entry_of table spec.fxy else None); value = shown spec c }
+view_of table spec c = view spec.fxy (if spec.listed then entry_of table spec.fxy else None) (shown spec c)
 
 -- a call, and how many turns are made before it
 pub record Timed : Type 0 where

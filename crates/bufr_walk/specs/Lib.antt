@@ -26,3 +26,4 @@ pub mod Flat
 pub mod PlainIn
 pub mod PackedIn
 pub mod Passes
+pub mod Shown

@@ -1,6 +1,6 @@
 -- An item of compressed data, part by part (WMO-No. 306, Volume I.2, FM 94: section 4, compression).
 -- Cited by private steps only.
-use Rattle.std.specs.Prelude.{ℕ, ◌≡◌, ◌≤◌, ◌+◌, ◌*◌, ◌/◌, ◌==◌, ◌&&◌, ◌||◌, nat_lt, not, Bool, true, false, if◌then◌else◌, List, length, take, drop, Option, Some, None, Ok, Err}
+use Rattle.std.specs.Prelude.{ℕ, ◌≡◌, ◌≤◌, ◌<◌, ◌+◌, ◌*◌, ◌/◌, ◌==◌, ◌&&◌, ◌||◌, nat_lt, not, Bool, true, false, if◌then◌else◌, List, length, take, drop, Option, Some, None, Ok, Err}
 use Rattle.std.specs.List.{list_all}
 use Rattle.bufr_bits.specs.Bits.{number_of, all_set}
 use Rattle.bufr_tables.specs.declared.kind.Kind.{Kind}
@@ -13,7 +13,9 @@ use Rattle.bufr_walk.specs.declared.packed_in.PackedFault.{PackedFault}
 use Rattle.bufr_walk.specs.declared.packed_in.PackedFault.TheVariants as wrong
 use Rattle.bufr_walk.specs.Asked.{Asked}
 use Rattle.bufr_walk.specs.Content.{Content, number, missing}
-use Rattle.bufr_walk.specs.PlainField.{FieldFault, data_end, increment, unequal_factor, found}
+use Rattle.bufr_walk.specs.PlainField.{FieldFault, found}
+use Rattle.bufr_walk.specs.PackedIn.{PackedCursor, wrong_of, IsPackedWrong}
+use Rattle.bufr_walk.specs.Reading.{most_values}
 use Rattle.bufr_walk.specs.PackedField.{ones, increments, step_of, text_of, contents_of, packed_field, told_first}
 
 -- whether the sum of a base and an increment of k bits fits its width, where the increment is not missing
@@ -61,12 +63,6 @@ kind_step kind.Character k = 8 * k
 kind_step kind.Coded k = k
 kind_step kind.Numeric k = k
 
--- the fault of a field with this descriptor
-abbrev pub wrong_of : (fxy : ℕ) → FieldFault → PackedFault
-wrong_of fxy data_end = wrong.DataEnd fxy
-wrong_of fxy increment = wrong.Increment fxy
-wrong_of fxy unequal_factor = wrong.UnequalFactor fxy
-
 -- an item with this base, k and bits behind them has contents, and tells this
 pub record IsTold (spec : Asked) (k n : ℕ) (base behind : List Bool) (t : Taken) : Type 0 where
   pub contents : List Content
@@ -105,3 +101,14 @@ pub record IsUnseen (bits : List Bool) (at n : ℕ) (spec : Asked) (e : PackedFa
 abbrev pub sum_content : Option ℕ → Content
 sum_content (Some raw) = number raw
 sum_content None = missing
+
+-- the next item stands there, and would not be one too many
+pub record IsLooked (s : PackedCursor) (spec : Asked) (found_there : Seen) : Type 0 where
+  pub few : (length s.items + 1) * s.subsets ≤ most_values
+  pub seen : IsSeen s.bits s.at s.subsets spec found_there
+
+-- or it is at fault, or there would be too many values
+abbrev pub IsUnlooked : PackedCursor → Asked → PackedFault → Type 0
+IsUnlooked s spec (wrong.TooManyValues fxy) = (fxy ≡ spec.fxy) × (most_values < (length s.items + 1) * s.subsets)
+IsUnlooked s spec wrong.Memory = ⊥
+IsUnlooked s spec e = IsPackedWrong s spec e

@@ -5,7 +5,6 @@ use Rattle.std.specs.List.{list_all}
 use Rattle.bufr_bits.specs.Bits.{number_of}
 use Rattle.bufr_walk.specs.declared.spec.Taken.{Taken}
 use Rattle.bufr_walk.specs.declared.read_packed.KeptItem.{KeptItem}
-use Rattle.bufr_walk.specs.declared.packed_in.Seen.{Seen}
 use Rattle.bufr_walk.specs.declared.packed_in.PackedFault.{PackedFault}
 use Rattle.bufr_walk.specs.declared.packed_in.PackedFault.TheVariants as wrong
 use Rattle.bufr_walk.specs.declared.walk.WalkStop.{WalkStop}
@@ -15,9 +14,8 @@ use Rattle.bufr_walk.specs.declared.fault.WalkFault.TheVariants as fault
 use Rattle.bufr_walk.specs.Fault.{spot}
 use Rattle.bufr_walk.specs.Asked.{Asked}
 use Rattle.bufr_walk.specs.Content.{Content}
-use Rattle.bufr_walk.specs.PlainField.{FieldFault, Found, found}
+use Rattle.bufr_walk.specs.PlainField.{FieldFault, data_end, increment, unequal_factor, Found, found}
 use Rattle.bufr_walk.specs.PackedField.{packed_field, told_first}
-use Rattle.bufr_walk.specs.PackedBits.{wrong_of, IsSeen}
 use Rattle.bufr_walk.specs.Reading.{Item, most_values}
 
 -- bits, how many of them were read, for how many subsets, and the items that were read
@@ -73,6 +71,12 @@ pub record IsPackedIn (bits : List Bool) (at subsets : ℕ) (kept : List KeptIte
   pub held : 7 * length kept ≤ at
   pub stand : list_all (stands_at bits subsets) kept ≡ true
 
+-- the fault of a field with this descriptor
+abbrev pub wrong_of : (fxy : ℕ) → FieldFault → PackedFault
+wrong_of fxy data_end = wrong.DataEnd fxy
+wrong_of fxy increment = wrong.Increment fxy
+wrong_of fxy unequal_factor = wrong.UnequalFactor fxy
+
 -- an item was found at the front of the rest, and told what it holds
 pub record IsPackedTaken (s : PackedCursor) (spec : Asked) (t : Taken) (s' : PackedCursor) : Type 0 where
   pub contents : List Content
@@ -90,17 +94,6 @@ pub record IsPackedWrong (s : PackedCursor) (spec : Asked) (e : PackedFault) : T
   pub few : (length s.items + 1) * s.subsets ≤ most_values
   pub field : packed_field s.subsets spec (packed_rest s) ≡ Err why
   pub fault : e ≡ wrong_of spec.fxy why
-
--- the next item stands there, and would not be one too many
-pub record IsLooked (s : PackedCursor) (spec : Asked) (found_there : Seen) : Type 0 where
-  pub few : (length s.items + 1) * s.subsets ≤ most_values
-  pub seen : IsSeen s.bits s.at s.subsets spec found_there
-
--- or it is at fault, or there would be too many values
-abbrev pub IsUnlooked : PackedCursor → Asked → PackedFault → Type 0
-IsUnlooked s spec (wrong.TooManyValues fxy) = (fxy ≡ spec.fxy) × (most_values < (length s.items + 1) * s.subsets)
-IsUnlooked s spec wrong.Memory = ⊥
-IsUnlooked s spec e = IsPackedWrong s spec e
 
 -- One call: an item was read and kept, or there would be too many values, or it is at fault, or memory ran out; then nothing is changed.
 abbrev pub PackedTakes : PackedCursor → Asked → Result Taken PackedFault → PackedCursor → Type 0

@@ -6,7 +6,7 @@ use Rattle.bufr_walk.specs.declared.visitor.Value.{Value}
 use Rattle.bufr_walk.specs.declared.visitor.Value.TheVariants as value
 use Rattle.bufr_walk.specs.declared.visitor.ItemView.{ItemView}
 use Rattle.bufr_walk.specs.Content.{Shown, shown_number, shown_text, shown_missing, shown_reference}
-use Rattle.bufr_walk.specs.Calls.{View}
+use Rattle.bufr_walk.specs.Calls.{View, view}
 
 -- a value
 abbrev pub seen_value : Value → Shown
@@ -17,4 +17,4 @@ seen_value (value.Reference r) = shown_reference r
 
 -- an item view
 abbrev pub seen : ItemView → View
-seen v = record { fxy = v.fxy; entry = option_map (row_with v.fxy) v.entry; value = seen_value v.value }
+seen v = view v.fxy (option_map (row_with v.fxy) v.entry) (seen_value v.value)

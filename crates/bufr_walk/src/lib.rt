@@ -12,6 +12,7 @@ mod read_packed;
 mod read_plain;
 mod reading;
 mod show_packed;
+mod show_plain;
 pub mod spec;
 pub mod steps;
 mod visitor;

@@ -1,6 +1,6 @@
 // Fields that are read from bits, for compressed data: each item stands once for all subsets.
 ghost use Rattle.std.specs.Prelude.{◌≡◌, ◌≤◌, ◌<◌, ◌+◌, ◌-◌, ◌*◌, ◌/◌, ◌^◌, length, drop, MatchResult, IfOk, false, true};
-ghost use Rattle.bufr_bits.specs.Bits.{bits_of, bits_at, number_of, all_set};
+ghost use Rattle.bufr_bits.specs.Bits.{bits_of, bits_at, number_of};
 ghost use Rattle.bufr_bits.specs.BitSlice.{octets_of};
 ghost use Rattle.bufr_tables.specs.TableB.{is_character};
 ghost use Rattle.bufr_walk.specs.Asked.{IsFor, IsForRole};
@@ -10,7 +10,7 @@ ghost use Rattle.bufr_walk.specs.declared.spec.Taken.TheVariants as taken;
 ghost use Rattle.bufr_walk.specs.PackedBits.{stays_within, all_within, all_equal, numbers_hold, holds_by, is_plain_role, IsTold, IsWrong, IsSeen, IsUnseen};
 
 use crate::fields::Fields;
-use crate::plain_in::{number_at, told_at};
+use crate::plain_in::{number_at, ones_at, told_at};
 use crate::read_packed::{KeptItem, PackedRead};
 use crate::spec::{Role, Spec, Taken};
 use bufr_bits::BitSlice;
@@ -89,17 +89,6 @@ fn are_equal(bits: &BitSlice<'_>, at: u64, subsets: u16, k: u32, first: u64) -> 
         place += u64::from(k);
     }
     true
-}
-
-/// Whether bits that are there are all ones.
-pub(crate) fn ones_at(bits: &BitSlice<'_>, at: u64, width: u32) -> bool
-    requires { at + width ≤ 8 * length (octets_of bits.now) }
-    ensures { result ≡ all_set (bits_at (octets_of bits.now) at width) }
-{
-    match bits.all_ones(at, width) {
-        Some(ones) => ones,
-        None => unreachable!(),
-    }
 }
 
 /// Whether the increments of numbers can be; a base of all ones passes over them.
@@ -296,7 +285,8 @@ impl<'a> PackedIn<'a> {
     ghost use Rattle.bufr_bits.specs.Bits.{bits_of};
     ghost use Rattle.bufr_bits.specs.BitSlice.{octets_of};
     ghost use Rattle.bufr_walk.specs.Asked.{IsFor};
-    ghost use Rattle.bufr_walk.specs.PackedIn.{IsLooked, IsUnlooked, items_at, stands_at, packed_start};
+    ghost use Rattle.bufr_walk.specs.PackedBits.{IsLooked, IsUnlooked};
+    ghost use Rattle.bufr_walk.specs.PackedIn.{items_at, stands_at, packed_start};
     ghost use Rattle.bufr_walk.specs.Reading.{most_values};
 
     /// The bits of compressed data, from bit 0 on, for so many subsets, at least one.

@@ -1,12 +1,13 @@
 // Fields that are read from bits, for data that are not compressed.
-ghost use Rattle.std.specs.Prelude.{◌≡◌, ◌≤◌, ◌<◌, ◌+◌, ◌-◌, ◌*◌, ◌^◌, length, Ok, Err, if◌then◌else◌, ◌==◌, pos, neg_ℤ};
-ghost use Rattle.bufr_bits.specs.Bits.{number_of, bits_at};
+ghost use Rattle.std.specs.Prelude.{◌≡◌, ◌≤◌, ◌<◌, ◌+◌, ◌-◌, ◌*◌, ◌^◌, length, take, drop, Ok, Err, if◌then◌else◌, ◌==◌, pos, neg_ℤ};
+ghost use Rattle.bufr_bits.specs.Bits.{number_of, bits_at, bits_of, all_set};
 ghost use Rattle.bufr_bits.specs.BitSlice.{octets_of};
 ghost use Rattle.bufr_walk.specs.Asked.{IsFor};
-ghost use Rattle.bufr_walk.specs.Content.{told, content_in, signed_by};
+ghost use Rattle.bufr_walk.specs.Content.{told, content_in, signed_by, octets_in};
 
 use crate::fields::Fields;
 use crate::spec::{Role, Spec, Taken};
+use crate::visitor::Value;
 use bufr_bits::BitSlice;
 use bufr_tables::Fxy;
 use std::marker::Model;
@@ -89,12 +90,57 @@ pub(crate) fn told_at(bits: &BitSlice<'_>, at: u64, spec: &Spec) -> Taken
     }
 }
 
+/// Whether bits that are there are all ones.
+pub(crate) fn ones_at(bits: &BitSlice<'_>, at: u64, width: u32) -> bool
+    requires { at + width ≤ 8 * length (octets_of bits.now) }
+    ensures { result ≡ all_set (bits_at (octets_of bits.now) at width) }
+{
+    match bits.all_ones(at, width) {
+        Some(ones) => ones,
+        None => unreachable!(),
+    }
+}
+
+/// The eight bits from a bit on, which are there.
+fn octet_at(bits: &BitSlice<'_>, at: u64) -> u8
+    requires { at + 8 ≤ 8 * length (octets_of bits.now) }
+    ensures { result ≡ number_of (take 8 (drop at (bits_of (octets_of bits.now)))) }
+{
+    match bits.octet(at) {
+        Some(octet) => octet,
+        None => unreachable!(),
+    }
+}
+
+/// Copies so many octets that begin at any bit.
+#[tactic(auto, using(crate::proofs::ShownLemmas::octet_put))]
+fn copy_octets(bits: &BitSlice<'_>, at: u64, count: usize, text: &mut [u8; 255])
+    requires few { count ≤ 255 }
+    requires within { at + 8 * count ≤ 8 * length (octets_of bits.now) }
+    ensures { take count text.new ≡ octets_in count (drop at (bits_of (octets_of bits.now))) }
+{
+    'octets: for place in 0..count {
+        text[place] = octet_at(bits, at + 8 * place as u64);
+    }
+}
+
+/// The first octets of a text.
+fn front(text: &[u8; 255], count: usize) -> &[u8]
+    requires { count ≤ 255 }
+    ensures { result.now ≡ take count text.now }
+{
+    &text[..count]
+}
+
 impl<'a> PlainIn<'a> {
-    ghost use Rattle.std.specs.Prelude.{◌≡◌, ◌≤◌, ◌<◌, ◌+◌, ◌^◌, length, MatchResult, Ok, Err, IfOk};
+    ghost use Rattle.std.specs.Prelude.{◌≡◌, ◌≤◌, ◌<◌, ◌+◌, ◌/◌, ◌^◌, true, false, length, take, MatchResult, Ok, Err, IfOk};
     ghost use Rattle.bufr_bits.specs.Bits.{bits_of};
     ghost use Rattle.bufr_bits.specs.BitSlice.{octets_of};
+    ghost use Rattle.bufr_tables.specs.TableB.{is_character};
     ghost use Rattle.bufr_walk.specs.Asked.{IsFor};
-    ghost use Rattle.bufr_walk.specs.PlainIn.{PlainTakes, past};
+    ghost use Rattle.bufr_walk.specs.Content.{content_in, octets_in, shown};
+    ghost use Rattle.bufr_walk.specs.PlainIn.{PlainTakes, past, rest_of};
+    ghost use Rattle.bufr_walk.specs.Seen.{seen_value};
 
     pub fn new(bits: BitSlice<'a>) -> PlainIn<'a>
         ensures { result ≡ record { bits = bits_of (octets_of bits.entry); at = 0 } }
@@ -124,6 +170,60 @@ impl<'a> PlainIn<'a> {
             return Err(DataEnd { fxy: spec.fxy() });
         }
         Ok(told_at(&self.bits, self.at, spec))
+    }
+
+    /// Goes past a field.
+    pub(crate) fn skip(&mut self, spec: &Spec)
+        requires within { self.old.at + spec.now.width ≤ length self.old.bits }
+        requires small { self.old.at + spec.now.width < 2 ^ 64 }
+        ensures { self.new ≡ past self.old spec.now }
+    {
+        self.at += u64::from(spec.width());
+    }
+
+    /// Copies the octets of the next field, which is text.
+    #[tactic(auto, using(crate::proofs::ShownLemmas::text_front, crate::proofs::ShownLemmas::whole_octets, crate::proofs::PlainLemmas::bits_length))]
+    pub(crate) fn copy_text(&self, spec: &Spec, text: &mut [u8; 255])
+        requires within { self.now.at + spec.now.width ≤ length self.now.bits }
+        requires text { is_character spec.now.kind ≡ true }
+        ensures { take (spec.now.width / 8) text.new ≡ octets_in (spec.now.width / 8) (take spec.now.width (rest_of self.now)) }
+    {
+        copy_octets(&self.bits, self.at, (spec.width() / 8) as usize, text)
+    }
+
+    /// The value of the next field, which is text and was copied.
+    #[tactic(auto, using(crate::proofs::ShownLemmas::text_missing_shown, crate::proofs::ShownLemmas::text_shown, crate::proofs::PlainLemmas::bits_length))]
+    pub(crate) fn text_value<'t>(&self, spec: &Spec, text: &'t [u8; 255]) -> Value<'t>
+        requires within { self.now.at + spec.now.width ≤ length self.now.bits }
+        requires text { is_character spec.now.kind ≡ true }
+        requires copied { take (spec.now.width / 8) text.now ≡ octets_in (spec.now.width / 8) (take spec.now.width (rest_of self.now)) }
+        ensures { seen_value result ≡ shown spec.now (content_in spec.now (take spec.now.width (rest_of self.now))) }
+    {
+        let width = spec.width();
+        if ones_at(&self.bits, self.at, width) {
+            Value::Missing
+        } else {
+            Value::Text(front(text, (width / 8) as usize))
+        }
+    }
+
+    /// The value of the next field, which is no text.
+    #[tactic(auto, using(crate::proofs::ShownLemmas::reference_shown, crate::proofs::ShownLemmas::missing_shown, crate::proofs::ShownLemmas::number_shown, crate::proofs::PlainLemmas::bits_length))]
+    pub(crate) fn number_value<'t>(&self, spec: &Spec) -> Value<'t>
+        requires within { self.now.at + spec.now.width ≤ length self.now.bits }
+        requires number { is_character spec.now.kind ≡ false }
+        ensures { seen_value result ≡ shown spec.now (content_in spec.now (take spec.now.width (rest_of self.now))) }
+    {
+        let width = spec.width();
+        if spec.is_reference() {
+            return Value::Reference(signed_at(&self.bits, self.at, width));
+        }
+        let missing = ones_at(&self.bits, self.at, width) && spec.may_be_missing();
+        if missing {
+            return Value::Missing;
+        }
+        let raw = number_at(&self.bits, self.at, width);
+        Value::Number(i128::from(raw) + spec.reference(), spec.scale())
     }
 }
 

@@ -1,8 +1,10 @@
 // What a message's data were read as.
-use crate::fault::WalkFault;
+use crate::fault::{ShowFault, WalkFault};
 use crate::read_packed::{KeptItem, read_packed};
 use crate::read_plain::read_plain;
+use crate::show_plain::show_plain;
 use crate::steps::Steps;
+use crate::visitor::Visitor;
 use bufr_bits::BitSlice;
 use bufr_frame::Message;
 use bufr_tables::{TableB, Template};
@@ -51,7 +53,10 @@ impl<'a> Reading<'a> {
     ghost use Rattle.bufr_tables.specs.Tree.{places};
     ghost use Rattle.bufr_walk.specs.Course.{next_item};
     ghost use Rattle.bufr_walk.specs.Fault.{bits_before};
-    ghost use Rattle.bufr_walk.specs.Outcome.{data_of, IsFault, IsReadingOf};
+    ghost use Rattle.bufr_walk.specs.Calls.{calls_of, turns_shown};
+    ghost use Rattle.bufr_walk.specs.Outcome.{course_of, data_of, IsFault, IsReadingOf};
+    ghost use Rattle.bufr_walk.specs.Reading.{Values, IsReading};
+    ghost use Rattle.bufr_walk.specs.Shows.{Shows};
 
     /// Reads data that are not compressed.
     #[tactic(auto, using(crate::proofs::ReadingLemmas::plain_held))]
@@ -155,6 +160,37 @@ impl<'a> Reading<'a> {
         match &self.kept {
             Kept::Apart => 0,
             Kept::Together(items) => items.len() as u64,
+        }
+    }
+
+    /// Shows each subset and its items to a visitor, in the order of the data, and sets the steps to those that are
+    /// made for it. It stops at the visitor's first fault.
+    ///
+    /// # Errors
+    ///
+    /// [`ShowFault::Visitor`] with the visitor's fault; [`ShowFault::Memory`] where memory runs out.
+    #[tactic(auto, using(crate::proofs::ReadingLemmas::readable_of, crate::proofs::ReadingLemmas::together_not, crate::proofs::ReadingLemmas::show_is))]
+    pub fn show<V: Visitor>(
+        &self,
+        alloc: Global,
+        visitor: &mut V,
+        steps: &mut Steps,
+    ) -> Result<(), ShowFault<V::Fault>>
+        requires { self.now.source.compressed ≡ false }
+        ensures { (values : Values) → IsReading (course_of self.now) self.now.source values self.now.bits → Shows V.sees visitor.old (calls_of self.now values) (turns_shown self.now values) result visitor.new steps.new }
+    {
+        *steps = Steps::new();
+        match &self.kept {
+            Kept::Apart => show_plain(
+                alloc,
+                self.bits,
+                self.subsets,
+                self.template,
+                self.table,
+                visitor,
+                steps,
+            ),
+            Kept::Together(_) => unreachable!(),
         }
     }
 }

@@ -12,8 +12,8 @@ ghost use Rattle.bufr_walk.specs.PackedIn.{contents_found, items_at, stands_at};
 ghost use Rattle.bufr_walk.specs.Seen.{seen_value};
 ghost use Rattle.bufr_walk.specs.Shows.{Shows};
 
-use crate::packed_in::{Base, ones_at};
-use crate::plain_in::number_at;
+use crate::packed_in::Base;
+use crate::plain_in::{number_at, ones_at};
 use crate::read_packed::KeptItem;
 use crate::spec::Spec;
 use crate::visitor::Value;

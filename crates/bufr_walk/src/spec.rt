@@ -164,6 +164,33 @@ impl Spec {
         self.reference
     }
 
+    /// Whether the field is text.
+    pub fn is_text(&self) -> bool
+        ensures { result ≡ is_character self.now.kind }
+    {
+        match self.kind {
+            Kind::Character => true,
+            Kind::Coded | Kind::Numeric => false,
+        }
+    }
+
+    /// Whether the field is a reference that is being defined.
+    pub fn is_reference(&self) -> bool
+        ensures { result ≡ is_reference self.now.role }
+    {
+        match self.role {
+            Role::Reference => true,
+            Role::Element | Role::Inserted | Role::Factor => false,
+        }
+    }
+
+    /// Whether the field is read by an entry of Table B.
+    pub fn listed(&self) -> bool
+        ensures { result ≡ self.now.listed }
+    {
+        self.listed
+    }
+
     pub fn may_be_missing(&self) -> bool
         ensures { result ≡ self.now.may_be_missing }
     {

@@ -1,7 +1,8 @@
 use Rattle.std.proofs.Common.{◌++◌, ◌∷◌, [], sym, subst, refl, ap, ◌∙◌}
 use Rattle.bufr_bits.specs.Bits.{bits_of}
 use Rattle.bufr_bits.specs.BitSlice.{octets_of}
-use Rattle.bufr_walk.specs.PackedIn.{IsLooked, IsPackedTaken, packed_view}
+use Rattle.bufr_walk.specs.PackedIn.{IsPackedTaken, packed_view}
+use Rattle.bufr_walk.specs.PackedBits.{IsLooked}
 use Rattle.bufr_walk.proofs.PackedKept.{keeps, takes_one}
 use Rattle.bufr_walk.proofs.packed_in.PackedInFields.take.Goals as goal
 

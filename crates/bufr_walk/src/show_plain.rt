@@ -1,0 +1,222 @@
+// How data that are not compressed are shown: they are read once more, and each item is handed on.
+ghost use Rattle.std.specs.Prelude.{◌≡◌, ◌≤◌, ◌<◌, ◌+◌, ◌-◌, ◌*◌, ◌/◌, ◌^◌, ◌==◌, if◌then◌else◌, true, false, length, take, drop, List, Bool, Result, Ok, Err, None, option_map, OnOk, IfOk, IfErr};
+ghost use Rattle.bufr_bits.specs.Bits.{bits_of};
+ghost use Rattle.bufr_bits.specs.BitSlice.{octets_of};
+ghost use Rattle.bufr_tables.specs.Entry.{row_with};
+ghost use Rattle.bufr_tables.specs.TableB.{entry_of, is_character};
+ghost use Rattle.bufr_tables.specs.Tree.{Tree};
+ghost use Rattle.bufr_walk.specs.Calls.{item_call, view_of, subset_calls};
+ghost use Rattle.bufr_walk.specs.Content.{Content, content_in, octets_in};
+ghost use Rattle.bufr_walk.specs.Course.{next_item};
+ghost use Rattle.bufr_walk.specs.PlainIn.{rest_of};
+ghost use Rattle.bufr_walk.specs.Reading.{Item, plain, ReadsAll, ReadsSubsets, turns_in};
+ghost use Rattle.bufr_walk.specs.Shown.{IsEnd, MayEnd, ItemsGo, SubsetGoes};
+ghost use Rattle.bufr_walk.specs.Shows.{Shows};
+
+use crate::fault::ShowFault;
+use crate::fields::Fields;
+use crate::plain_in::PlainIn;
+use crate::spec::{Spec, Taken};
+use crate::steps::Steps;
+use crate::visitor::{ItemView, Visitor};
+use crate::walk::{WalkStop, walk};
+use bufr_bits::BitSlice;
+use bufr_tables::{Entry, TableB, Template};
+use std::alloc::Global;
+
+/// What Table B says of the field's element, where the field is read by it.
+fn entry_for<'t>(table: &'t TableB, spec: &Spec) -> Option<Entry<'t>>
+    ensures { option_map (row_with spec.now.fxy) result ≡ (if spec.now.listed then entry_of table.now spec.now.fxy else None) }
+{
+    if spec.listed() {
+        table.get(spec.fxy())
+    } else {
+        None
+    }
+}
+
+/// Shows a field that is text.
+fn show_text<V: Visitor>(
+    input: &PlainIn<'_>,
+    table: &TableB,
+    spec: &Spec,
+    visitor: &mut V,
+) -> Result<(), V::Fault>
+    requires within { input.now.at + spec.now.width ≤ length input.now.bits }
+    requires text { is_character spec.now.kind ≡ true }
+    ensures { V.sees visitor.old (item_call (view_of table.now spec.now (content_in spec.now (take spec.now.width (rest_of input.now))))) result visitor.new }
+{
+    let mut text = [0u8; 255];
+    input.copy_text(spec, &mut text);
+    let fxy = spec.fxy();
+    let entry = entry_for(table, spec);
+    let value = input.text_value(spec, &text);
+    visitor.item(&ItemView { fxy, entry, value })
+}
+
+/// Shows a field.
+fn show_field<V: Visitor>(
+    input: &PlainIn<'_>,
+    table: &TableB,
+    spec: &Spec,
+    visitor: &mut V,
+) -> Result<(), V::Fault>
+    requires within { input.now.at + spec.now.width ≤ length input.now.bits }
+    ensures { V.sees visitor.old (item_call (view_of table.now spec.now (content_in spec.now (take spec.now.width (rest_of input.now))))) result visitor.new }
+{
+    if spec.is_text() {
+        return show_text(input, table, spec, visitor);
+    }
+    let fxy = spec.fxy();
+    let entry = entry_for(table, spec);
+    let value = input.number_value(spec);
+    visitor.item(&ItemView { fxy, entry, value })
+}
+
+/// Why a field is not taken.
+#[derive(Drop)]
+pub(crate) enum ShowStop<E> {
+    DataEnd,
+    Visitor(E),
+}
+
+/// Fields that are read from bits, each shown to a visitor before it is gone past.
+pub(crate) struct Showing<'i, 't, 'v, 'b, V: Visitor> {
+    input: &'i mut PlainIn<'b>,
+    table: &'t TableB,
+    visitor: &'v mut V,
+}
+
+impl<'i, 't, 'v, 'b, V: Visitor> Fields for Showing<'i, 't, 'v, 'b, V> {
+    type Fault = ShowStop<V::Fault>;
+
+    ghost use Rattle.std.specs.Prelude.{ℕ};
+    ghost use Rattle.std.proofs.Common.{arith, ap};
+    ghost use Rattle.bufr_walk.specs.Shown.{ShowingTakes, refusal_keeps, stage};
+
+    ghost used = { λ s. s.input.now.at };
+
+    ghost takes = { λ s spec r t. ShowingTakes V.sees (stage s.input.now s.visitor.now s.table.now s.input.ghost_name s.visitor.ghost_name) spec r (stage t.input.now t.visitor.now t.table.now t.input.ghost_name t.visitor.ghost_name) };
+
+    ghost advances = { λ s spec told next h. Prim.omega (arith, h.is_taken.some, ap (λ c. c.at) h.is_taken.next) };
+
+    ghost refuses = { λ s spec e next h. refusal_keeps V.sees (stage s.input.now s.visitor.now s.table.now s.input.ghost_name s.visitor.ghost_name) spec e (stage next.input.now next.visitor.now next.table.now next.input.ghost_name next.visitor.ghost_name) h };
+
+    fn take(&mut self, spec: &Spec) -> Result<Taken, ShowStop<V::Fault>> {
+        let told = match self.input.peek(spec) {
+            Ok(told) => told,
+            Err(_) => return Err(ShowStop::DataEnd),
+        };
+        match show_field(self.input, self.table, spec, self.visitor) {
+            Ok(()) => {
+                self.input.skip(spec);
+                Ok(told)
+            }
+            Err(fault) => Err(ShowStop::Visitor(fault)),
+        }
+    }
+
+    fn bits(&self) -> u64 {
+        self.input.place()
+    }
+}
+
+/// The fault that the stop of a walk over data that were read before is.
+fn fault_of<E>(why: WalkStop<ShowStop<E>>) -> ShowFault<E>
+    requires { MayEnd why }
+    ensures { IsEnd why result }
+{
+    match why {
+        WalkStop::Field(ShowStop::Visitor(fault)) => ShowFault::Visitor(fault),
+        WalkStop::Memory => ShowFault::Memory,
+        _ => unreachable!(),
+    }
+}
+
+/// Walks over one subset, and shows each item.
+fn walk_showing<V: Visitor>(
+    alloc: Global,
+    template: &Template,
+    table: &TableB,
+    fields: &mut Showing<'_, '_, '_, '_, V>,
+    steps: &mut Steps,
+) -> Result<(), ShowFault<V::Fault>>
+    requires same { fields.old.table.now ≡ table.now }
+    requires readable { (items : List (Item Content)) × (left : List Bool) × ReadsAll plain (next_item table.now template.now) items (rest_of fields.old.input.now) left }
+    ensures input { fields.new.input.ghost_name ≡ fields.old.input.ghost_name }
+    ensures visitor { fields.new.visitor.ghost_name ≡ fields.old.visitor.ghost_name }
+    ensures shown { ItemsGo V.sees table.now (next_item table.now template.now) fields.old.input.now fields.old.visitor.now steps.old result fields.new.input.now fields.new.visitor.now steps.new }
+{
+    match walk(alloc, template, table, fields, steps) {
+        Ok(()) => Ok(()),
+        Err(why) => Err(fault_of(why)),
+    }
+}
+
+/// Shows the items of one subset.
+fn show_items<V: Visitor>(
+    alloc: Global,
+    template: &Template,
+    table: &TableB,
+    input: &mut PlainIn<'_>,
+    visitor: &mut V,
+    steps: &mut Steps,
+) -> Result<(), ShowFault<V::Fault>>
+    requires readable { (items : List (Item Content)) × (left : List Bool) × ReadsAll plain (next_item table.now template.now) items (rest_of input.old) left }
+    ensures { ItemsGo V.sees table.now (next_item table.now template.now) input.old visitor.old steps.old result input.new visitor.new steps.new }
+{
+    let mut fields = Showing {
+        input,
+        table,
+        visitor,
+    };
+    let outcome = walk_showing(alloc, template, table, &mut fields, steps);
+    let Showing {
+        input: _,
+        table: _,
+        visitor: _,
+    } = fields;
+    outcome
+}
+
+/// Shows one subset, of this number.
+#[tactic(auto, using(crate::proofs::SubsetLemmas::subset_goes, crate::proofs::SubsetLemmas::subset_refused))]
+fn show_subset<V: Visitor>(
+    alloc: Global,
+    template: &Template,
+    table: &TableB,
+    number: u16,
+    input: &mut PlainIn<'_>,
+    visitor: &mut V,
+    steps: &mut Steps,
+) -> Result<(), ShowFault<V::Fault>>
+    requires readable { (items : List (Item Content)) × (left : List Bool) × ReadsAll plain (next_item table.now template.now) items (rest_of input.old) left }
+    ensures { SubsetGoes V.sees table.now (next_item table.now template.now) number input.old visitor.old steps.old result input.new visitor.new steps.new }
+{
+    match visitor.subset(number) {
+        Ok(()) => show_items(alloc, template, table, input, visitor, steps),
+        Err(fault) => Err(ShowFault::Visitor(fault)),
+    }
+}
+
+/// Shows all subsets.
+pub(crate) fn show_plain<V: Visitor>(
+    alloc: Global,
+    bits: BitSlice<'_>,
+    subsets: u16,
+    template: &Template,
+    table: &TableB,
+    visitor: &mut V,
+    steps: &mut Steps,
+) -> Result<(), ShowFault<V::Fault>>
+    requires steps { steps.old ≡ 0 }
+    requires readable { (all : List (List (Item Content))) × (left : List Bool) × ReadsSubsets (next_item table.now template.now) all (bits_of (octets_of bits)) left × (length all ≡ subsets) }
+    ensures { (all : List (List (Item Content))) (left : List Bool) → ReadsSubsets (next_item table.now template.now) all (bits_of (octets_of bits.entry)) left → length all ≡ subsets →
+        Shows V.sees visitor.old (subset_calls table.now (next_item table.now template.now) 0 1 all) (turns_in (next_item table.now template.now) all) result visitor.new steps.new }
+{
+    let mut input = PlainIn::new(bits);
+    'subsets: for done in 0..subsets {
+        show_subset(alloc, template, table, done + 1, &mut input, visitor, steps)?;
+    }
+    Ok(())
+}
