@@ -2,12 +2,12 @@
 use Rattle.std.proofs.Common.{◌≡◌, ℕ, ◌+◌, ◌-◌, ◌<◌, ◌≤◌, ◌⊎◌, inl, inr, Bool, true, false, List, [], ◌∷◌, ◌++◌, length, set, take, drop, Option, Some, None, refl, sym, ap, ◌∙◌, arith, suc, zero, get_or, length-append, replicate}
 use Rattle.std.specs.Prelude.{◌==◌, cond, option_map, slice_index, IsSome, Contains}
 use Rattle.std.proofs.lemmas.Bool.{eqb-true}
-use Rattle.std.proofs.lemmas.List.{append-nil, append_assoc, get_or_append_left, get_or-set_same, get_or_default, length-set, drop_more, take-append-drop, get_or-map, get_or-take, length-take-le}
+use Rattle.std.proofs.lemmas.List.{append_assoc, get_or_append_left, get_or-set_same, get_or_default, length-set, drop_more, take-append-drop, get_or-map, get_or-take, length-take-le}
 use Rattle.std.proofs.lemmas.List.Elements.{Contains-append_cases, Contains-append_left, Contains-append_right, Contains-push, Contains-push_cases, Contains-get_or}
 use Rattle.std.specs.List.{find}
 use borrow.Author.Count.{below_more}
 use Rattle.bufr_tables.specs.Chain.{Chain, HasNoCycle, IsFirstCycle, Leads, ReachesItself, one, more}
-use Rattle.bufr_tables.specs.Cycle.{AreSeen, IsAbove, IsAboveFirst, IsPassed, IsSearched, IsSet, IsVisited, NeverRises, NeverRisesFirst, listed, rank_of, unset}
+use Rattle.bufr_tables.specs.Cycle.{AreSeen, IsAbove, IsPassed, IsSearched, IsSet, IsVisited, NeverRises, NeverRisesFirst, listed, rank_of, unset}
 use Rattle.bufr_tables.specs.TableD.{Sequence, fxys_of, members_of}
 
 -- chains one after another
@@ -83,39 +83,8 @@ falls-none table ranks fxy rank never above below chain = let least : rank_of ra
         let last = chain-falls table ranks never rest in
         omega arith
 
--- the members of a sequence, one after another
-pub above-start : (table : List Sequence) (ranks : List ℕ) (fxy rank : ℕ) → IsAboveFirst table ranks fxy rank 0
-above-start table ranks fxy rank k below = absurd (omega arith)
-
-pub above-all : (table : List Sequence) (ranks : List ℕ) (fxy rank count : ℕ) → IsAboveFirst table ranks fxy rank count → length (listed table fxy) ≤ count → IsAbove table ranks fxy rank
-above-all table ranks fxy rank count above all to l =
-    let at = listed-leads table fxy to l in
-    rw at.at at (above at.place (omega (arith, at.inside)) at.inside (rw at.at at.sequence))
-
-pub above-more : (table : List Sequence) (ranks : List ℕ) (fxy old new i : ℕ) → IsAboveFirst table ranks fxy old i → old ≤ new
-    → (IsSome (members_of table (slice_index (listed table fxy) i)) → rank_of ranks (slice_index (listed table fxy) i) ≤ new) → IsAboveFirst table ranks fxy new (i + 1)
-above-more table ranks fxy old new i above grows here =
-    below_more (λ k. k < length (listed table fxy) → IsSome (members_of table (slice_index (listed table fxy) k)) → rank_of ranks (slice_index (listed table fxy) k) ≤ new) i
-    (λ k below inside some. let h = above k below inside some in omega arith)
-    (λ inside some. here some)
-
 -- a visit of one sequence
 module _ (table : List Sequence) (fxy : ℕ) (old : List Bool) (queue : List ℕ) where
-  pub visited-start : IsVisited table fxy 0 old queue old queue
-  visited-start = record {
-    more = [];
-    queued = sym (append-nil queue);
-    flags = refl;
-    leads = λ to has. absurd (none to has);
-    kept = λ to is. is;
-    news = λ to is. inl is;
-    balance = omega arith;
-    seen = λ k below. absurd (omega arith);
-  }
-    where
-      none : (to : ℕ) → Contains [] to → ⊥
-      none to has = let h : has.0 < 0 = has.1 in omega arith
-
   module _ (i : ℕ) (new : List Bool) (longer : List ℕ) (was : IsVisited table fxy i old queue new longer) where
     -- a member was seen, where it is a sequence
     abbrev pub SeenAt : List Bool → ℕ → Type 0

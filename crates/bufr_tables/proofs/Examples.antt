@@ -9,6 +9,7 @@ use Rattle.bufr_tables.specs.Fxy.{fxy_of, fxy_text}
 use Rattle.bufr_tables.specs.Kind.{begins_with, is_words, kind_of, names_table}
 use Rattle.bufr_tables.specs.Number.{fitting, i64_of, integer_of, natural_of}
 use Rattle.bufr_tables.specs.Records.{records_of}
+use Rattle.bufr_tables.specs.Table.{table_from, table_of}
 use Rattle.bufr_tables.specs.TableB as b
 use Rattle.bufr_tables.specs.TableD as d
 use Rattle.bufr_tables.specs.declared.fault.TableFault.TheVariants.{Header, Row, Duplicate, TableSize, Csv}
@@ -16,7 +17,7 @@ use Rattle.bufr_tables.specs.declared.kind.Kind.TheVariants.{Character, Coded, N
 
 -- what the examples compute through
 unfoldable on_literals : ⊤
-unfolding next_record records_from strip_bom field_at begins_with is_words kind_of names_table fitting i64_of integer_of natural_of b.is_header b.element_of b.plain_of b.scale_of b.width_of b.row_of b.with_record b.rows_from b.table_b_of d.is_header d.sequence_of d.member_of d.added d.with_record d.sequences_from d.table_d_of
+unfolding next_record records_from strip_bom field_at begins_with is_words kind_of names_table fitting i64_of integer_of natural_of table_from table_of b.element_of b.plain_of b.scale_of b.width_of b.row_of b.with_record d.sequence_of d.member_of d.added d.with_record
 on_literals = tt
 
 -- descriptors

@@ -1,5 +1,5 @@
 -- What Table B keeps of its elements.
-use Rattle.std.proofs.Common.{◌≡◌, ◌≢◌, ℕ, ◌-◌, ◌/◌, ◌<◌, ◌≤◌, false, List, [], ◌∷◌, ◌++◌, length, drop, map, Some, None, refl, ap, ◌∙◌, arith, suc, zero, get_or, length-append, rules, tests}
+use Rattle.std.proofs.Common.{◌≡◌, ◌≢◌, ℕ, ◌-◌, ◌/◌, ◌<◌, ◌≤◌, false, List, [], ◌∷◌, ◌++◌, length, drop, map, Some, None, refl, ap, ◌∙◌, arith, get_or, length-append, rules, tests}
 use Rattle.std.specs.Prelude.{◌==◌, slice_range}
 use Rattle.std.specs.List.{AllByRecursion}
 use Rattle.std.proofs.lemmas.Bool.{eqb-true}
@@ -7,7 +7,7 @@ use Rattle.std.proofs.lemmas.List.{take-append-le, drop-append-le, length-drop, 
 use Rattle.bufr_tables.specs.Directory.{place_of}
 use Rattle.bufr_tables.proofs.DirectoryLemmas.{find-absent, find-found, find-passes, place-absent}
 use Rattle.bufr_tables.specs.Entry.{row_with}
-use Rattle.bufr_tables.specs.Fxy.{f_of}
+use Rattle.bufr_tables.specs.Fxy.{f_of, key_of}
 use Rattle.bufr_tables.specs.Kept.{Grows, IsInside, IsStored, row_kept, rows_kept}
 use Rattle.bufr_tables.specs.TableB.{Row, entry_of}
 use Rattle.bufr_tables.specs.declared.table_b.Entry.{Entry}
@@ -62,13 +62,12 @@ pub inside-push : (P : Stored → Type 0) (stored : List Stored) (s : Stored) �
 inside-push P [] s all here = (here, tt)
 inside-push P (t ∷ stored) s all here = (all.0, inside-push P stored s all.1 here)
 
-pub inside-at : (P : Stored → Type 0) (stored : List Stored) (place : ℕ) (d : Stored) → AllByRecursion P stored → place < length stored → P (get_or stored place d)
-inside-at P [] place d all inside = absurd (omega arith)
-inside-at P (s ∷ stored) zero d all inside = all.0
-inside-at P (s ∷ stored) (suc place) d all inside = inside-at P stored place d all.1 (omega arith)
-
 pub entry-fxy : (rows : List Row) (fxy : ℕ) (row : Row) → entry_of rows fxy ≡ Some row → row.fxy ≡ fxy
 entry-fxy rows fxy row found = eqb-true row.fxy fxy (find-passes Row (λ r. r.fxy == fxy) rows row found)
+
+-- an element is its X and Y
+pub element-key : (fxy : ℕ) → fxy < 16384 → key_of fxy ≡ fxy
+element-key fxy small = omega arith
 
 -- a descriptor that is not of an element has no row
 pub entry-not_element : (octets : List ℕ) (stored : List Stored) (fxy : ℕ) → AllByRecursion (λ s. s.fxy < 16384) stored → f_of fxy ≢ 0 → entry_of (rows_kept octets stored) fxy ≡ None

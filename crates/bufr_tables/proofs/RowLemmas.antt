@@ -1,36 +1,33 @@
--- What each row of Table B keeps to.
-use Rattle.std.proofs.Common.{◌≡◌, ℕ, ◌+◌, ◌<◌, nat_eq, Bool, true, false, ℤ, List, [], ◌∷◌, ◌++◌, sym, subst, refl, ◌∙◌, ap, Some, None, Option}
-use Rattle.std.specs.Prelude.{if◌then◌else◌, nat_le, ◌&&◌, length}
-use Rattle.std.specs.List.{AllByRecursion, list_all}
-use Rattle.std.specs.Int.RustNames.{unsigned_abs}
+-- The limits of each row of Table B.
+use Rattle.std.proofs.Common.{◌≡◌, ℕ, nat_eq, Bool, true, false, ℤ, List, [], ◌∷◌, ◌++◌, sym, subst, refl, Some, None, Option}
+use Rattle.std.specs.Prelude.{IfSome, if◌then◌else◌, length, option_map}
+use Rattle.std.specs.List.{AllByRecursion}
 use Rattle.std.proofs.lemmas.Option.{option_and_then_some}
-use Rattle.bufr_tables.specs.Fxy.{f_of, fxy_of}
 use Rattle.bufr_tables.specs.Kind.{kind_of}
 use Rattle.bufr_tables.specs.Number.{i64_of}
 use Rattle.bufr_tables.specs.Records.{Record, field_of}
 use Rattle.bufr_tables.specs.Steps.{only_if}
 use Rattle.bufr_tables.specs.declared.kind.Kind.{Kind}
-use Rattle.std.specs.Prelude.{IfSome, option_map}
 use Rattle.bufr_tables.specs.Entry.{row_with}
 use Rattle.bufr_tables.specs.declared.table_b.Entry.{Entry}
 use Rattle.bufr_tables.specs.Kept.{Grows, IsInside, rows_kept}
 use Rattle.bufr_tables.specs.declared.table_b.Stored.{Stored}
 use Rattle.bufr_tables.proofs.KeptLemmas.{rows_kept-append}
-use Rattle.bufr_tables.specs.TableB.{IsRow, Row, allows_width, element_of, entry_of, factor_width, fits_factor, is_printed, natural_part, plain_of, row_of, scale_of, width_of}
+use Rattle.bufr_tables.specs.TableB.{IsRow, Row, allows_scale, allows_width, element_of, entry_of, is_plain, natural_part, plain_of, row_of, scale_of, width_of}
 
 -- a test that was passed, and the value behind it
 passed : {A P : Type 0} (test : Bool) (x y : A) → only_if test x ≡ Some y → (test ≡ true → x ≡ y → P) → P
 passed true x y is go = go refl (cc is)
 passed false x y is go = absurd (cc is)
 
-plain-plain : (text name : List ℕ) → plain_of text ≡ Some name → plain_of name ≡ Some name
+name-plain : (text name : List ℕ) → plain_of text ≡ Some name → is_plain name ≡ true
 unfolding plain_of
-plain-plain text name is = passed _ text name is (λ test same. subst (λ t. plain_of t ≡ Some name) same is)
+name-plain text name is = passed _ text name is (λ test same. subst (λ t. is_plain t ≡ true) same test)
 
-scale-small : (text : List ℕ) (scale : ℤ) → scale_of text ≡ Some scale → nat_le (unsigned_abs scale) 127 ≡ true
+scale-allowed : (text : List ℕ) (scale : ℤ) → scale_of text ≡ Some scale → allows_scale scale ≡ true
 unfolding scale_of
-scale-small text scale is =
-    option_and_then_some _ (i64_of text) scale is (λ z read is. passed _ z scale is (λ test same. subst (λ z. nat_le (unsigned_abs z) 127 ≡ true) same test))
+scale-allowed text scale is =
+    option_and_then_some _ (i64_of text) scale is (λ z read is. passed _ z scale is (λ test same. subst (λ z. allows_scale z ≡ true) same test))
 
 width-allowed : (kind : Kind) (text : List ℕ) (width : ℕ) → width_of kind text ≡ Some width → allows_width kind width ≡ true
 unfolding width_of
@@ -40,7 +37,7 @@ width-allowed kind text width is =
     passed _ n width is (λ test same. subst (λ n. allows_width kind n ≡ true) same test)))
 
 -- a row that a record writes
-pub row-limits : (r : Record) (row : Row) → row_of r ≡ Some row → IsRow row
+row-limits : (r : Record) (row : Row) → row_of r ≡ Some row → IsRow row
 unfolding row_of
 row-limits r row is =
     option_and_then_some _ (element_of (field_of r 0)) row is (λ fxy fxy_is is.
@@ -50,23 +47,24 @@ row-limits r row is =
     option_and_then_some _ (i64_of (field_of r 4)) row is (λ reference reference_is is.
     option_and_then_some _ (width_of (kind_of unit) (field_of r 5)) row is (λ width width_is is.
     passed _ _ row is (λ test same. subst IsRow same (record {
-      width = width-allowed (kind_of unit) (field_of r 5) width width_is;
-      scale = scale-small (field_of r 3) scale scale_is;
+      name = name-plain (field_of r 1) name name_is;
+      unit = name-plain (field_of r 2) unit unit_is;
       kind = refl;
-      name = plain-plain (field_of r 1) name name_is;
-      unit = plain-plain (field_of r 2) unit unit_is;
+      scale = scale-allowed (field_of r 3) scale scale_is;
+      width = width-allowed (kind_of unit) (field_of r 5) width width_is;
       factor = test;
     }))))))))
 
-pub written_limits : (r : Record) (o : Option (ℕ × Entry)) → option_map (λ p. row_with p.0 p.1) o ≡ row_of r → IfSome o (λ p. IsRow (row_with p.0 p.1))
-written_limits r None is = tt
-written_limits r (Some p) is = row-limits r (row_with p.0 p.1) (sym is)
+pub written-limits : (r : Record) (o : Option (ℕ × Entry)) → option_map (λ p. row_with p.0 p.1) o ≡ row_of r → IfSome o (λ p. IsRow (row_with p.0 p.1))
+written-limits r None is = tt
+written-limits r (Some p) is = row-limits r (row_with p.0 p.1) (sym is)
 
+-- one row more within the limits
 pub rows-push : (rows : List Row) (row : Row) → AllByRecursion IsRow rows → IsRow row → AllByRecursion IsRow (rows ++ row ∷ [])
 rows-push [] row all here = (here, tt)
 rows-push (first ∷ rows) row all here = (all.0, rows-push rows row all.1 here)
 
--- octets behind the block leave the limits as they are
+-- octets behind the block leave the rows within the limits
 pub limits-grown : (old new : List ℕ) (stored : List Stored) → AllByRecursion (IsInside (length old)) stored → Grows old new → AllByRecursion IsRow (rows_kept old stored) → AllByRecursion IsRow (rows_kept new stored)
 limits-grown old new stored inside grows all = rw (grows.1, rows_kept-append old grows.0 stored inside) all
 

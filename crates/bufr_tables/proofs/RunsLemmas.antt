@@ -7,41 +7,48 @@ use Rattle.std.proofs.lemmas.Bool.Decides.{nat_tests}
 use Rattle.bufr_tables.proofs.DirectoryLemmas.{find-absent, find-found, place-absent}
 use Rattle.bufr_tables.proofs.KeptLemmas.{range-append}
 use Rattle.bufr_tables.specs.Directory.{place_of}
-use Rattle.bufr_tables.specs.Fxy.{f_of}
-use Rattle.bufr_tables.specs.Runs.{IsRun, LastEnds, key_of, sequence_kept, sequences_kept}
+use Rattle.bufr_tables.specs.Fxy.{f_of, key_of}
+use Rattle.bufr_tables.specs.Runs.{IsRun, LastEnds, run_key, sequence_kept, sequences_kept}
 use Rattle.bufr_tables.specs.TableD.{Sequence, extended, fxys_of, is_last, members_of}
 use Rattle.bufr_tables.specs.declared.table_d.Run.{Run}
 
 abbrev pub IsSequence : Run → Type 0
 IsSequence run = (49152 ≤ run.fxy) × (run.fxy < 65536)
 
-same-key : (a b : ℕ) → 49152 ≤ a → 49152 ≤ b → (a == b) ≡ (a - 49152 == b - 49152)
-same-key a b low high = grind (arith, nat_tests)
+-- sequences differ in X and Y alone
+key-is : (a : ℕ) → 49152 ≤ a → a < 65536 → key_of a ≡ a - 49152
+key-is a low high = omega arith
 
-all-same : (members : List ℕ) (fxy : ℕ) (runs : List Run) → 49152 ≤ fxy → AllByRecursion IsSequence runs
-    → AllByRecursion (λ run. ((sequence_kept members run).fxy == fxy) ≡ (key_of run == fxy - 49152)) runs
-all-same members fxy [] low all = tt
-all-same members fxy (run ∷ runs) low all = (same-key run.fxy fxy all.0.0 low, all-same members fxy runs low all.1)
+same-difference : (a b : ℕ) → 49152 ≤ a → 49152 ≤ b → (a == b) ≡ (a - 49152 == b - 49152)
+same-difference a b low high = grind (arith, nat_tests)
+
+same-key : (a b : ℕ) → 49152 ≤ a → a < 65536 → 49152 ≤ b → b < 65536 → (a == b) ≡ (key_of a == key_of b)
+same-key a b a_low a_high b_low b_high = rw (key-is a a_low a_high, key-is b b_low b_high) (same-difference a b a_low b_low)
+
+all-same : (members : List ℕ) (fxy : ℕ) (runs : List Run) → 49152 ≤ fxy → fxy < 65536 → AllByRecursion IsSequence runs
+    → AllByRecursion (λ run. ((sequence_kept members run).fxy == fxy) ≡ (run_key run == key_of fxy)) runs
+all-same members fxy [] low high all = tt
+all-same members fxy (run ∷ runs) low high all = (same-key run.fxy fxy all.0.0 all.0.1 low high, all-same members fxy runs low high all.1)
 
 -- the directory has a descriptor exactly where the table has it
 module _ (members : List ℕ) (runs : List Run) (fxy : ℕ) (all : AllByRecursion IsSequence runs) where
-  pub members-absent : 49152 ≤ fxy → place_of (map key_of runs) (fxy - 49152) ≡ None → members_of (sequences_kept members runs) fxy ≡ None
-  members-absent low absent =
+  pub members-absent : 49152 ≤ fxy → fxy < 65536 → place_of (map run_key runs) (key_of fxy) ≡ None → members_of (sequences_kept members runs) fxy ≡ None
+  members-absent low high absent =
       ap (λ (o : Option Sequence). option_map (λ s. s.members) o)
-      (find-absent Run Sequence (sequence_kept members) (λ s. s.fxy == fxy) key_of (fxy - 49152) runs (all-same members fxy runs low all) absent)
+      (find-absent Run Sequence (sequence_kept members) (λ s. s.fxy == fxy) run_key (key_of fxy) runs (all-same members fxy runs low high all) absent)
 
-  pub place-lacking : 49152 ≤ fxy → members_of (sequences_kept members runs) fxy ≡ None → place_of (map key_of runs) (fxy - 49152) ≡ None
-  place-lacking low absent =
-      place-absent Run Sequence (sequence_kept members) (λ s. s.fxy == fxy) key_of (fxy - 49152) runs (all-same members fxy runs low all) (none _ absent)
+  pub place-lacking : 49152 ≤ fxy → fxy < 65536 → members_of (sequences_kept members runs) fxy ≡ None → place_of (map run_key runs) (key_of fxy) ≡ None
+  place-lacking low high absent =
+      place-absent Run Sequence (sequence_kept members) (λ s. s.fxy == fxy) run_key (key_of fxy) runs (all-same members fxy runs low high all) (none _ absent)
     where
       none : (o : Option Sequence) → option_map (λ s. s.members) o ≡ None → o ≡ None
       none None e = refl
       none (Some s) e = cc e
 
-  pub members-found : (place : ℕ) (run : Run) → 49152 ≤ fxy → place_of (map key_of runs) (fxy - 49152) ≡ Some place → run ≡ get_or runs place run
+  pub members-found : (place : ℕ) (run : Run) → 49152 ≤ fxy → fxy < 65536 → place_of (map run_key runs) (key_of fxy) ≡ Some place → run ≡ get_or runs place run
       → Some (slice_range members run.start run.end) ≡ members_of (sequences_kept members runs) fxy
-  members-found place run low found at =
-      let row = find-found Run Sequence (sequence_kept members) (λ s. s.fxy == fxy) key_of (fxy - 49152) runs place run (all-same members fxy runs low all) found in
+  members-found place run low high found at =
+      let row = find-found Run Sequence (sequence_kept members) (λ s. s.fxy == fxy) run_key (key_of fxy) runs place run (all-same members fxy runs low high all) found in
       rw (row, ← at) refl
 
 -- a descriptor that is not of a sequence has no members
@@ -115,10 +122,10 @@ all-at P [] i run all inside at = absurd (omega arith)
 all-at P (r ∷ runs) zero run all inside at = rw at all.0
 all-at P (r ∷ runs) (suc i) run all inside at = all-at P runs i run all.1 (omega arith) at
 
-pub keys-set : (runs : List Run) (i : ℕ) (run : Run) → run ≡ get_or runs i run → map key_of (set runs i (longer run)) ≡ map key_of runs
+pub keys-set : (runs : List Run) (i : ℕ) (run : Run) → run ≡ get_or runs i run → map run_key (set runs i (longer run)) ≡ map run_key runs
 keys-set [] i run at = refl
 keys-set (r ∷ runs) zero run at = rw at refl
-keys-set (r ∷ runs) (suc i) run at = ap (λ (ks : List ℕ). key_of r ∷ ks) (keys-set runs i run at)
+keys-set (r ∷ runs) (suc i) run at = ap (λ (ks : List ℕ). run_key r ∷ ks) (keys-set runs i run at)
 
 pub last-set : (n : ℕ) (runs : List Run) (i : ℕ) (run : Run) → i + 1 ≡ length runs → run.end ≡ n → LastEnds n (set runs i run)
 last-set n [] i run last end = tt

@@ -8,7 +8,8 @@ use Rattle.bufr_tables.proofs.DirectoryLemmas.{distinct-added, distinct-none, pl
 use Rattle.bufr_tables.specs.Cycle.{listed}
 use Rattle.bufr_tables.specs.Records.{Record}
 use Rattle.bufr_tables.specs.Steps.{and_then}
-use Rattle.bufr_tables.specs.TableD.{AreSequences, Member, Sequence, added, begins_again, extended, fxys_of, is_header, is_last, member_of, members_in, members_of, sequences_from, table_d_of, with_member, with_record}
+use Rattle.bufr_tables.specs.Table.{has_fields, table_from, table_of}
+use Rattle.bufr_tables.specs.TableD.{AreSequences, Member, Sequence, added, begins_again, extended, fxys_of, header, is_last, member_of, members_in, members_of, table_d_of, with_member, with_record}
 use Rattle.bufr_tables.specs.declared.fault.TableFault.{TableFault}
 use Rattle.bufr_tables.specs.declared.fault.TableFault.TheVariants.{Csv, Duplicate, Header, TableSize}
 
@@ -159,15 +160,15 @@ only-more row rows fxy = by (row.sequence == fxy)
     by true = refl
     by false = refl
 
-rows-add : (n : ℕ) (before : List Sequence) (rs : List Record) (table : List Sequence) → sequences_from n before rs ≡ Ok table → IsDistinct nat_eq (fxys_of before) → AddRows before rs table
-unfolding sequences_from
+rows-add : (n : ℕ) (before : List Sequence) (rs : List Record) (table : List Sequence) → table_from with_record n before rs ≡ Ok table → IsDistinct nat_eq (fxys_of before) → AddRows before rs table
+unfolding table_from
 rows-add n before [] table is distinct =
     let same : before ≡ table = same_Ok _ _ is in
     record { rows = []; written = refl; members = λ fxy. rw (← same) (sym (append-nil (listed before fxy))) }
 rows-add n before (r ∷ rs) table is distinct = by (with_record n before r) refl is (λ longer. rows-add (n + 1) longer rs table)
   where
-    by : (o : Result (List Sequence) TableFault) → with_record n before r ≡ o → and_then o (λ longer. sequences_from (n + 1) longer rs) ≡ Ok table
-        → ((longer : List Sequence) → sequences_from (n + 1) longer rs ≡ Ok table → IsDistinct nat_eq (fxys_of longer) → AddRows longer rs table)
+    by : (o : Result (List Sequence) TableFault) → with_record n before r ≡ o → and_then o (λ longer. table_from with_record (n + 1) longer rs) ≡ Ok table
+        → ((longer : List Sequence) → table_from with_record (n + 1) longer rs ≡ Ok table → IsDistinct nat_eq (fxys_of longer) → AddRows longer rs table)
         → AddRows before (r ∷ rs) table
     by (Err fault) e is on = cc is
     by (Ok longer) e is on =
@@ -187,12 +188,12 @@ rows-add n before (r ∷ rs) table is distinct = by (with_record n before r) ref
         }
 
 pub sequences-law : (records : List Record) (table : List Sequence) → table_d_of records ≡ Ok table → AreSequences records table
-unfolding table_d_of
+unfolding table_of
 sequences-law [] table is = cc is
-sequences-law (first ∷ rest) table is = by (is_header first) refl is
+sequences-law (first ∷ rest) table is = by (has_fields header first) refl is
   where
-    by : (b : Bool) → is_header first ≡ b → (if b then sequences_from 2 [] rest else Err Header) ≡ Ok table → AreSequences (first ∷ rest) table
+    by : (b : Bool) → has_fields header first ≡ b → (if b then table_from with_record 2 [] rest else Err Header) ≡ Ok table → AreSequences (first ∷ rest) table
     by false e is = cc is
     by true e is =
         let add = rows-add 2 [] rest table is distinct-none in
-        record { first = first; rest = rest; stands = refl; header = e; rows = add.rows; written = add.written; members = add.members }
+        record { first = first; rest = rest; stands = refl; named = e; rows = add.rows; written = add.written; members = add.members }

@@ -24,10 +24,6 @@ pub steps : {A B : Type 0} (first : Result A TemplateFault) (then : A → Result
 steps (Ok a) then last h = record { middle = a; first_is = refl; then_is = h }
 steps (Err why) then last h = absurd cc
 
-pub test_met : (b : Bool) (why : TemplateFault) (u : Unit {0}) → unless b why ≡ Ok u → b ≡ true
-test_met true why u h = refl
-test_met false why u h = absurd cc
-
 -- a step that is a test
 pub record Tested {B : Type 0} (test : Bool) (then : Result B TemplateFault) (last : B) : Type 0 where
   pub met : test ≡ true
@@ -102,9 +98,6 @@ IsInnerFine known room (Some expand) = (room' : ℕ) × (room' < room) × ((plac
 
 no_width : (d f : ℕ) → f ≡ f_of d → f ≢ 2 → gives_width d ≡ false
 no_width d f e h = ap (λ b. b && x_of d == 6) (ne_eqb (f_of d) 2 (λ two. h (e ∙ two)))
-
-known_plainly : (known : ℕ → Bool) (given : Bool) (rest : Tree) → given ≡ false → IsKnownAfter known given rest → IsKnownAfter known false rest
-known_plainly known given rest e = subst (λ g. IsKnownAfter known g rest) e
 
 fine_plainly : (known : ℕ → Bool) (room : ℕ) (given : Bool) (rest : Tree) → given ≡ false → IsFine known room given rest → IsFine known room false rest
 fine_plainly known room given rest e = subst (λ g. IsFine known room g rest) e

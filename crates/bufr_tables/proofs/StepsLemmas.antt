@@ -4,7 +4,8 @@ use Rattle.std.specs.Prelude.{if◌then◌else◌, ◌==◌, nat_le}
 use Rattle.bufr_tables.specs.Chain.{Reads}
 use Rattle.bufr_tables.specs.Records.{Record}
 use Rattle.bufr_tables.specs.Steps.{Gives, and_then}
-use Rattle.bufr_tables.specs.TableD.{Member, Sequence, added, begins_again, is_header, member_of, sequences_from, table_d_of, with_member, with_record}
+use Rattle.bufr_tables.specs.Table.{has_fields, table_from, table_of}
+use Rattle.bufr_tables.specs.TableD.{Member, Sequence, added, begins_again, header, member_of, table_d_of, with_member, with_record}
 use Rattle.bufr_tables.specs.declared.fault.TableFault.{TableFault}
 use Rattle.bufr_tables.specs.declared.fault.TableFault.TheVariants.{Header, Row, Duplicate, Cycle, TableSize, Csv, Memory}
 
@@ -36,22 +37,22 @@ record-no_cycle n table r fxy e = by (length r == 2) e
     by true e = member-no_cycle n table (member_of r) fxy e
     by false e = cc e
 
-rows-no_cycle : (n : ℕ) (table : List Sequence) (rs : List Record) (fxy : ℕ) → sequences_from n table rs ≡ Err (Cycle fxy) → ⊥
-unfolding sequences_from
+rows-no_cycle : (n : ℕ) (table : List Sequence) (rs : List Record) (fxy : ℕ) → table_from with_record n table rs ≡ Err (Cycle fxy) → ⊥
+unfolding table_from
 rows-no_cycle n table [] fxy e = cc e
 rows-no_cycle n table (r ∷ rs) fxy e = by (with_record n table r) refl e (λ longer. rows-no_cycle (n + 1) longer rs fxy)
   where
-    by : (row : Result (List Sequence) TableFault) → with_record n table r ≡ row → and_then row (λ longer. sequences_from (n + 1) longer rs) ≡ Err (Cycle fxy)
-        → ((longer : List Sequence) → sequences_from (n + 1) longer rs ≡ Err (Cycle fxy) → ⊥) → ⊥
+    by : (row : Result (List Sequence) TableFault) → with_record n table r ≡ row → and_then row (λ longer. table_from with_record (n + 1) longer rs) ≡ Err (Cycle fxy)
+        → ((longer : List Sequence) → table_from with_record (n + 1) longer rs ≡ Err (Cycle fxy) → ⊥) → ⊥
     by (Ok longer) is e on = on longer e
     by (Err fault) is e on = record-no_cycle n table r fxy (is ∙ e)
 
 table-no_cycle : (records : List Record) (fxy : ℕ) → table_d_of records ≡ Err (Cycle fxy) → ⊥
-unfolding table_d_of
+unfolding table_of
 table-no_cycle [] fxy e = cc e
-table-no_cycle (first ∷ rest) fxy e = by (is_header first) e
+table-no_cycle (first ∷ rest) fxy e = by (has_fields header first) e
   where
-    by : (b : Bool) → (if b then sequences_from 2 [] rest else Err Header) ≡ Err (Cycle fxy) → ⊥
+    by : (b : Bool) → (if b then table_from with_record 2 [] rest else Err Header) ≡ Err (Cycle fxy) → ⊥
     by true e = rows-no_cycle 2 [] rest fxy e
     by false e = cc e
 

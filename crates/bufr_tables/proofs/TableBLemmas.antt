@@ -6,43 +6,10 @@ use Rattle.std.proofs.lemmas.List.{append-nil, append_assoc, map-append, map-id}
 use Rattle.bufr_tables.proofs.DirectoryLemmas.{distinct-added, distinct-none, place-absent}
 use Rattle.bufr_tables.specs.Records.{Record}
 use Rattle.bufr_tables.specs.Steps.{and_then}
-use Rattle.bufr_tables.specs.Reading.{GivesNext, record_given, records_left}
-use Rattle.bufr_tables.specs.TableB.{AreRows, Row, entry_of, is_header, row_of, rows_from, table_b_of, with_record, with_row}
+use Rattle.bufr_tables.specs.Table.{has_fields, table_from, table_of}
+use Rattle.bufr_tables.specs.TableB.{AreRows, Row, entry_of, header, row_of, table_b_of, with_record, with_row}
 use Rattle.bufr_tables.specs.declared.fault.TableFault.{TableFault}
 use Rattle.bufr_tables.specs.declared.fault.TableFault.TheVariants.{Csv, Duplicate, Header}
-use Rattle.bufr_tables.specs.declared.records.RecordReader.{RecordReader}
-
-module _ (old new : RecordReader) (found : Bool) (step : GivesNext old new found) where
-  -- the first record is the header
-  pub table-start : old.number ≡ 0 → found ≡ true → is_header (record_given new) ≡ true → table_b_of (records_left old) ≡ rows_from (new.number + 1) [] (records_left new)
-  unfolding table_b_of
-  table-start none is header =
-      rw (step.number is, none) (rw step.next (rw (is, header) refl))
-
-  -- there is no header
-  pub table-empty : found ≡ false → table_b_of (records_left old) ≡ Err Header
-  unfolding table_b_of
-  table-empty is = rw step.next (rw is refl)
-
-  pub table-other : found ≡ true → is_header (record_given new) ≡ false → table_b_of (records_left old) ≡ Err Header
-  unfolding table_b_of
-  table-other is other = rw step.next (rw (is, other) refl)
-
-  module _ (answer : Result (List Row) TableFault) (rows : List Row) (so_far : answer ≡ rows_from (old.number + 1) rows (records_left old)) where
-    -- one record more
-    pub table-more : (more : List Row) → found ≡ true → with_record new.number rows (record_given new) ≡ Ok more → answer ≡ rows_from (new.number + 1) more (records_left new)
-    unfolding rows_from
-    table-more more is row = so_far ∙ rw step.next (rw (is, ← step.number is, row) refl)
-
-    -- a record at fault
-    pub table-fault : (fault : TableFault) → found ≡ true → with_record new.number rows (record_given new) ≡ Err fault → answer ≡ Err fault
-    unfolding rows_from
-    table-fault fault is row = so_far ∙ rw step.next (rw (is, ← step.number is, row) refl)
-
-    -- the end
-    pub table-end : found ≡ false → answer ≡ Ok rows
-    unfolding rows_from
-    table-end is = so_far ∙ rw step.next (rw is refl)
 
 same_Ok : (x y : List Row) → ◌≡◌ {A = Result (List Row) TableFault} (Ok x) (Ok y) → x ≡ y
 same_Ok x y e = cc e
@@ -78,15 +45,15 @@ pub record AddRows (rows : List Row) (rs : List Record) (table : List Row) : Typ
   pub written : map row_of rs ≡ map Some more
   pub distinct : IsDistinct nat_eq (map (λ row. row.fxy) table)
 
-rows-add : (n : ℕ) (rows : List Row) (rs : List Record) (table : List Row) → rows_from n rows rs ≡ Ok table → IsDistinct nat_eq (map (λ row. row.fxy) rows) → AddRows rows rs table
-unfolding rows_from
+rows-add : (n : ℕ) (rows : List Row) (rs : List Record) (table : List Row) → table_from with_record n rows rs ≡ Ok table → IsDistinct nat_eq (map (λ row. row.fxy) rows) → AddRows rows rs table
+unfolding table_from
 rows-add n rows [] table is distinct =
     let same : rows ≡ table = same_Ok _ _ is in
     record { more = []; longer = sym same ∙ sym (append-nil rows); written = refl; distinct = rw (← same) distinct }
 rows-add n rows (r ∷ rs) table is distinct = by (with_record n rows r) refl is (λ longer. rows-add (n + 1) longer rs table)
   where
-    by : (o : Result (List Row) TableFault) → with_record n rows r ≡ o → and_then o (λ longer. rows_from (n + 1) longer rs) ≡ Ok table
-        → ((longer : List Row) → rows_from (n + 1) longer rs ≡ Ok table → IsDistinct nat_eq (map (λ row. row.fxy) longer) → AddRows longer rs table)
+    by : (o : Result (List Row) TableFault) → with_record n rows r ≡ o → and_then o (λ longer. table_from with_record (n + 1) longer rs) ≡ Ok table
+        → ((longer : List Row) → table_from with_record (n + 1) longer rs ≡ Ok table → IsDistinct nat_eq (map (λ row. row.fxy) longer) → AddRows longer rs table)
         → AddRows rows (r ∷ rs) table
     by (Err fault) e is on = cc is
     by (Ok longer) e is on =
@@ -102,12 +69,12 @@ rows-add n rows (r ∷ rs) table is distinct = by (with_record n rows r) refl is
         }
 
 pub rows-law : (records : List Record) (table : List Row) → table_b_of records ≡ Ok table → AreRows records table
-unfolding table_b_of
+unfolding table_of
 rows-law [] table is = cc is
-rows-law (first ∷ rest) table is = by (is_header first) refl is
+rows-law (first ∷ rest) table is = by (has_fields header first) refl is
   where
-    by : (b : Bool) → is_header first ≡ b → (if b then rows_from 2 [] rest else Err Header) ≡ Ok table → AreRows (first ∷ rest) table
+    by : (b : Bool) → has_fields header first ≡ b → (if b then table_from with_record 2 [] rest else Err Header) ≡ Ok table → AreRows (first ∷ rest) table
     by false e is = cc is
     by true e is =
         let add = rows-add 2 [] rest table is distinct-none in
-        record { first = first; rest = rest; stands = refl; header = e; rows = rw add.longer add.written; distinct = add.distinct }
+        record { first = first; rest = rest; stands = refl; named = e; rows = rw add.longer add.written; distinct = add.distinct }

@@ -1,6 +1,6 @@
 -- Trees one behind another.
-use Rattle.std.proofs.Common.{◌≡◌, ◌+◌, ◌≤◌, max, Bool, true, false, ◌||◌, refl, ◌∙◌, ap, arith}
-use Rattle.bufr_tables.specs.Tree.{Tree, bare, element, operator, fixed, delayed, join, size, depth, consumes, is_inserted_text}
+use Rattle.std.proofs.Common.{◌≡◌, max, Bool, true, false, ◌||◌, refl, ◌∙◌, ap, arith}
+use Rattle.bufr_tables.specs.Tree.{Tree, bare, element, operator, fixed, delayed, join, depth, consumes, is_inserted_text}
 
 pub join_assoc : (a b c : Tree) → join (join a b) c ≡ join a (join b c)
 join_assoc bare b c = refl
@@ -16,13 +16,6 @@ join-bare (operator fxy rest) = ap (operator fxy) (join-bare rest)
 join-bare (fixed count body rest) = ap (fixed count body) (join-bare rest)
 join-bare (delayed factor body rest) = ap (delayed factor body) (join-bare rest)
 
-pub size-join : (a b : Tree) → size (join a b) ≡ size a + size b
-size-join bare b = omega arith
-size-join (element fxy rest) b = omega (arith, size-join rest b)
-size-join (operator fxy rest) b = omega (arith, size-join rest b)
-size-join (fixed count body rest) b = omega (arith, size-join rest b)
-size-join (delayed factor body rest) b = omega (arith, size-join rest b)
-
 pub depth-join : (a b : Tree) → depth (join a b) ≡ max (depth a) (depth b)
 depth-join bare b = omega arith
 depth-join (element fxy rest) b = depth-join rest b
@@ -30,7 +23,7 @@ depth-join (operator fxy rest) b = depth-join rest b
 depth-join (fixed count body rest) b = omega (arith, depth-join rest b)
 depth-join (delayed factor body rest) b = omega (arith, depth-join rest b)
 
-or_assoc : (a b c : Bool) → (a || (b || c)) ≡ ((a || b) || c)
+pub or_assoc : (a b c : Bool) → (a || (b || c)) ≡ ((a || b) || c)
 or_assoc true b c = refl
 or_assoc false b c = refl
 
@@ -40,10 +33,3 @@ consumes-join (element fxy rest) b = refl
 consumes-join (operator fxy rest) b = ap (λ r. is_inserted_text fxy || r) (consumes-join rest b) ∙ or_assoc (is_inserted_text fxy) (consumes rest) (consumes b)
 consumes-join (fixed count body rest) b = ap (λ r. consumes body || r) (consumes-join rest b) ∙ or_assoc (consumes body) (consumes rest) (consumes b)
 consumes-join (delayed factor body rest) b = refl
-
-pub depth-le-size : (a : Tree) → depth a ≤ size a
-depth-le-size bare = omega arith
-depth-le-size (element fxy rest) = omega (arith, depth-le-size rest)
-depth-le-size (operator fxy rest) = omega (arith, depth-le-size rest)
-depth-le-size (fixed count body rest) = omega (arith, depth-le-size body, depth-le-size rest)
-depth-le-size (delayed factor body rest) = omega (arith, depth-le-size body, depth-le-size rest)

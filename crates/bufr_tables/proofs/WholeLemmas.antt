@@ -1,50 +1,83 @@
 -- The expansion of a whole list.
-use Rattle.std.proofs.Common.{◌≡◌, ℕ, ◌+◌, ◌≤◌, Bool, true, false, List, Result, Ok, Err, sym, ◌∙◌, ap, arith}
+use Rattle.std.proofs.Common.{◌≡◌, ℕ, ◌+◌, ◌<◌, max, true, false, List, [], ◌∷◌, ◌++◌, length, Result, Ok, Err, refl, sym, ◌∙◌, ap, arith}
+use Rattle.bufr_tables.specs.declared.template.cell.Cell.{Cell}
+use Rattle.bufr_tables.specs.declared.template.cell.Cell.TheVariants as cell
 use Rattle.bufr_tables.specs.declared.template.fault.TemplateFault.{TemplateFault}
 use Rattle.bufr_tables.specs.declared.template.fault.TemplateFault.TheVariants as fault
-use Rattle.bufr_tables.specs.Tree.{Tree, bare, size, depth, consumes}
-use Rattle.bufr_tables.specs.Counted.{IsCounted}
+use Rattle.bufr_tables.specs.Tree.{Tree, depth, consumes}
+use Rattle.bufr_tables.specs.Cells.{lay, raised, IsLaid, IsKept}
 use Rattle.bufr_tables.specs.Expansion.{Tables, ◌>>=◌, unless, level, inner_of, first_of, tree_of, most_open}
-use Rattle.bufr_tables.specs.Growth.{Growth, growth, grow, PutsTree, Refuses}
+use Rattle.bufr_tables.specs.Growth.{Growth, growth, places_of, grow, PutsTree, Refuses}
 use Rattle.bufr_tables.proofs.SoundLemmas.{tree_fine}
+use Rattle.bufr_tables.proofs.Laying.{lay-tail, length-lay, raised_laid, kept_raised}
+use Rattle.bufr_tables.proofs.GrowthLemmas.{same_growth}
 
 -- what is left of the definition behind the list
 after_list : List ℕ → Result Tree TemplateFault → Result Tree TemplateFault
 after_list list expanded = expanded >>= λ tree. unless (consumes tree) (fault.EmptyGroup (first_of list)) >>= λ _. Ok tree
 
 -- the list, as the code begins it
-same_start : (tables : Tables) (list : List ℕ) (start : Growth) → start ≡ growth bare 1 → level tables (inner_of tables most_open) false 0 1 list ≡ level tables (inner_of tables most_open) false 0 start.places list
-same_start tables list start e = ap (λ (g : Growth). level tables (inner_of tables most_open) false 0 g.places list) (sym e)
+same_start : (tables : Tables) (list : List ℕ) (start : Growth) → start ≡ growth [] 0 0 false → level tables (inner_of tables most_open) false 0 1 list ≡ level tables (inner_of tables most_open) false 0 (places_of start) list
+same_start tables list start e = ap (λ (g : Growth). level tables (inner_of tables most_open) false 0 (places_of g) list) (sym e)
 
-pub whole-fault : (tables : Tables) (list : List ℕ) (start : Growth) (why : TemplateFault) → start ≡ growth bare 1 → Refuses (level tables (inner_of tables most_open) false 0 start.places list) why → Refuses (tree_of tables list) why
+pub whole-fault : (tables : Tables) (list : List ℕ) (start : Growth) (why : TemplateFault) → start ≡ growth [] 0 0 false → Refuses (level tables (inner_of tables most_open) false 0 (places_of start) list) why → Refuses (tree_of tables list) why
 unfolding tree_of after_list
 whole-fault tables list start why e refuses other = ap (after_list list) (same_start tables list start e ∙ refuses other)
 
--- what stands behind no nodes
-put_tree : (start new : Growth) (tree : Tree) → start ≡ growth bare 1 → new ≡ grow start tree → new ≡ growth tree (1 + size tree)
-put_tree start new tree es e = e ∙ ap (λ (g : Growth). grow g tree) es
+-- what stands behind no cells
+put_tree : (start new : Growth) (tree : Tree) → start ≡ growth [] 0 0 false → new ≡ grow start tree → new ≡ growth (lay tree 0 []) 0 (depth tree) (consumes tree)
+put_tree start new tree es e =
+    e ∙ ap (λ (g : Growth). grow g tree) es
+    ∙ same_growth (lay tree 0 []) (lay tree 0 []) 0 0 (max 0 (0 + depth tree)) (depth tree) (consumes tree) (consumes tree) refl refl (omega arith) refl
 
-pub whole-empty : (tables : Tables) (list : List ℕ) (start new : Growth) (c : Bool) (first : ℕ) → start ≡ growth bare 1 → PutsTree start (level tables (inner_of tables most_open) false 0 start.places list) new → c ≡ consumes new.tree → c ≡ false → first ≡ first_of list → tree_of tables list ≡ Err (fault.EmptyGroup first)
+pub whole-empty : (tables : Tables) (list : List ℕ) (start new : Growth) (first : ℕ) → start ≡ growth [] 0 0 false → PutsTree start (level tables (inner_of tables most_open) false 0 (places_of start) list) new → new.full ≡ false → first ≡ first_of list → tree_of tables list ≡ Err (fault.EmptyGroup first)
 unfolding tree_of after_list
-whole-empty tables list start new c first es puts ec empty ef =
+whole-empty tables list start new first es puts empty ef =
     ap (after_list list) (same_start tables list start es ∙ puts.is_defined)
-    ∙ ap (λ b. unless b (fault.EmptyGroup (first_of list)) >>= λ _. Ok puts.tree) (ap (λ (g : Growth). consumes g.tree) (sym (put_tree start new puts.tree es puts.is_put)) ∙ sym ec ∙ empty)
+    ∙ ap (λ b. unless b (fault.EmptyGroup (first_of list)) >>= λ _. Ok puts.tree) (ap (λ (g : Growth). g.full) (sym (put_tree start new puts.tree es puts.is_put)) ∙ empty)
     ∙ ap (λ d. Err (fault.EmptyGroup d)) (sym ef)
 
-pub whole-ok : (tables : Tables) (list : List ℕ) (start new : Growth) (c : Bool) → start ≡ growth bare 1 → PutsTree start (level tables (inner_of tables most_open) false 0 start.places list) new → c ≡ consumes new.tree → c ≡ true → tree_of tables list ≡ Ok new.tree
+-- a tree is defined, and its cells have been laid out
+pub record IsWhole (tables : Tables) (list : List ℕ) (new : Growth) : Type 0 where
+  pub tree : Tree
+  pub is_defined : tree_of tables list ≡ Ok tree
+  pub cells_are : new.cells ≡ lay tree 0 []
+  pub groups_are : new.groups ≡ 0
+  pub depth_is : new.deep ≡ depth tree
+
+pub whole-ok : (tables : Tables) (list : List ℕ) (start new : Growth) → start ≡ growth [] 0 0 false → PutsTree start (level tables (inner_of tables most_open) false 0 (places_of start) list) new → new.full ≡ true → IsWhole tables list new
 unfolding tree_of after_list
-whole-ok tables list start new c es puts ec full =
+whole-ok tables list start new es puts full =
     let tree_is = put_tree start new puts.tree es puts.is_put in
-    ap (after_list list) (same_start tables list start es ∙ puts.is_defined)
-    ∙ ap (λ b. unless b (fault.EmptyGroup (first_of list)) >>= λ _. Ok puts.tree) (ap (λ (g : Growth). consumes g.tree) (sym tree_is) ∙ sym ec ∙ full)
-    ∙ ap (λ (g : Growth). Ok g.tree) (sym tree_is)
+    record {
+      tree = puts.tree;
+      is_defined = ap (after_list list) (same_start tables list start es ∙ puts.is_defined) ∙ ap (λ b. unless b (fault.EmptyGroup (first_of list)) >>= λ _. Ok puts.tree) (ap (λ (g : Growth). g.full) (sym tree_is) ∙ full);
+      cells_are = ap (λ (g : Growth). g.cells) tree_is;
+      groups_are = ap (λ (g : Growth). g.groups) tree_is;
+      depth_is = ap (λ (g : Growth). g.deep) tree_is;
+    }
 
-pub whole-places : (tables : Tables) (list : List ℕ) (start new : Growth) → start ≡ growth bare 1 → PutsTree start (level tables (inner_of tables most_open) false 0 start.places list) new → new.places ≡ 1 + size new.tree
-whole-places tables list start new es puts =
-    let tree_is = put_tree start new puts.tree es puts.is_put in
-    ap (λ (g : Growth). g.places) tree_is ∙ ap (λ (g : Growth). 1 + size g.tree) (sym tree_is)
+whole-laid : (tables : Tables) (list : List ℕ) (new : Growth) (cells : List Cell) (whole : IsWhole tables list new) → cells ≡ new.cells ++ cell.Finish ∷ [] → length new.cells + new.groups < 65535 → IsLaid cells whole.tree
+whole-laid tables list new cells whole e within =
+    let fine = tree_fine tables list whole.tree whole.is_defined in
+    record {
+      laid = e ∙ ap (λ l. l ++ cell.Finish ∷ []) whole.cells_are ∙ sym (lay-tail whole.tree 0 (cell.Finish ∷ []));
+      within = omega (arith, whole.groups_are, ap length whole.cells_are, length-lay whole.tree 0 []);
+      shallow = fine.shallow;
+      sound = fine.sound;
+      legal = fine.legal;
+    }
 
-pub whole-counted : (tables : Tables) (list : List ℕ) (tree : Tree) (places depth_told : ℕ) → tree_of tables list ≡ Ok tree → places ≡ 1 + size tree → places ≤ 65535 → depth_told ≡ depth tree → IsCounted tree places depth_told
-whole-counted tables list tree places depth_told h ep within ed =
-    let fine = tree_fine tables list tree h in
-    record { places_are = ep; depth_is = ed; within = omega arith; shallow = fine.shallow; sound = fine.sound; legal = fine.legal }
+-- the cells of a template have been built
+pub record IsBuilt (tables : Tables) (list : List ℕ) (cells : List Cell) (depth_told : ℕ) : Type 0 where
+  pub is_kept : IsKept cells depth_told (raised cells)
+  pub is_defined : tree_of tables list ≡ Ok (raised cells)
+
+-- with the end of the template behind the cells
+pub whole-built : (tables : Tables) (list : List ℕ) (new : Growth) (cells : List Cell) → IsWhole tables list new → cells ≡ new.cells ++ cell.Finish ∷ [] → length new.cells + new.groups < 65535 → IsBuilt tables list cells new.deep
+whole-built tables list new cells whole e within =
+    let laid = whole-laid tables list new cells whole e within in
+    record {
+      is_kept = kept_raised cells new.deep whole.tree (record { is_laid = laid; depth_is = whole.depth_is });
+      is_defined = whole.is_defined ∙ ap Ok (sym (raised_laid cells whole.tree laid));
+    }

@@ -1,5 +1,6 @@
 -- Chains of members in Table D, and the sequence that a fault of a cycle names. (A choice of this project: a sequence that holds
 -- itself, by whatever chain, cannot be expanded. WMO-No. 306, Volume I.2, FM 94: Table D)
+-- Cited by public contracts.
 use Rattle.std.specs.Prelude.{◌≡◌, ℕ, List, ◌∷◌, ◌++◌, Some, IsSome, Result, Ok, Err, Contains, All, ⊤}
 use Rattle.bufr_tables.specs.Records.{Record}
 use Rattle.bufr_tables.specs.TableD.{Sequence, members_of, table_d_of}

@@ -1,6 +1,8 @@
 -- What the search for a cycle in Table D knows as it goes on. Flags are by descriptor: one for each of the 65,536 words.
-use Rattle.std.specs.Prelude.{◌≡◌, ℕ, ◌+◌, ◌%◌, ◌<◌, ◌≤◌, ◌++◌, ◌⊎◌, Bool, true, false, if◌then◌else◌, List, [], ◌∷◌, length, slice_index, slice_index_or, unwrap_or, IsSome, Contains}
+-- Cited by private steps only.
+use Rattle.std.specs.Prelude.{◌≡◌, ℕ, ◌+◌, ◌<◌, ◌≤◌, ◌++◌, ◌⊎◌, Bool, true, false, if◌then◌else◌, List, [], ◌∷◌, length, slice_index, slice_index_or, unwrap_or, IsSome, Contains}
 use Rattle.bufr_tables.specs.Chain.{Chain, Leads, ReachesItself}
+use Rattle.bufr_tables.specs.Fxy.{key_of}
 use Rattle.bufr_tables.specs.TableD.{Sequence, fxys_of, members_of}
 
 -- the members of a sequence, or none where the table lacks it
@@ -9,7 +11,7 @@ listed table fxy = unwrap_or (members_of table fxy) []
 
 -- the rank of a sequence, which stands at its X and Y
 abbrev pub rank_of : List ℕ → ℕ → ℕ
-rank_of ranks fxy = slice_index ranks (fxy % 16384)
+rank_of ranks fxy = slice_index ranks (key_of fxy)
 
 -- no member of a sequence that is a sequence has a rank above this
 abbrev pub IsAbove : List Sequence → List ℕ → ℕ → ℕ → Type 0

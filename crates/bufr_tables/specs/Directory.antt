@@ -1,4 +1,5 @@
 -- The place of a number in a list.
+-- Cited by private steps only.
 use Rattle.std.specs.Prelude.{◌≡◌, ℕ, suc, ◌+◌, ◌<◌, ◌≤◌, ◌==◌, nat_eq, if◌then◌else◌, List, [], ◌∷◌, length, slice_index, vec_capacity, Option, Some, None, option_map}
 use Rattle.std.specs.List.{AllByRecursion, IsDistinct}
 use Rattle.bufr_tables.specs.declared.directory.Directory.TheInside.{Inside}

@@ -1,4 +1,5 @@
 -- The row of Table B that an entry and its descriptor are.
+-- Cited by public contracts.
 use Rattle.std.specs.Prelude.{ℕ}
 use Rattle.bufr_tables.specs.TableB.{Row}
 use Rattle.bufr_tables.specs.declared.table_b.Entry.{Entry}

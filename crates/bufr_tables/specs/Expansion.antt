@@ -1,9 +1,11 @@
 -- The tree that a list of descriptors stands for, or the first fault on the way
 -- (WMO-No. 306, Volume I.2, FM 94: section 3, replications, Tables C and D; the faults, their order and the limits are a choice of this project)
-use Rattle.std.specs.Prelude.{ℕ, zero, suc, ◌+◌, ◌==◌, nat_lt, nat_le, not, ◌&&◌, ◌||◌, Bool, true, false, List, [], ◌∷◌, length, take, Option, Some, None, Result, Ok, Err, ok_or}
+-- Cited by public contracts.
+use Rattle.std.specs.Prelude.{ℕ, zero, suc, ◌+◌, ◌==◌, nat_lt, nat_le, not, ◌||◌, Bool, true, false, List, [], ◌∷◌, length, take, Option, Some, None, Result, Ok, Err, ok_or}
 use Rattle.bufr_tables.specs.declared.template.fault.TemplateFault.{TemplateFault}
 use Rattle.bufr_tables.specs.declared.template.fault.TemplateFault.TheVariants as fault
 use Rattle.bufr_tables.specs.Fxy.{f_of, x_of, y_of}
+pub use Rattle.bufr_tables.specs.Fxy.{is_factor}
 use Rattle.bufr_tables.specs.Operators.{is_legal_operator, gives_width}
 use Rattle.bufr_tables.specs.Tree.{Tree, bare, element, operator, fixed, delayed, join, size, consumes}
 
@@ -51,10 +53,6 @@ part tree taken = record { tree = tree; taken = taken }
 abbrev pub opened : Option Expansion → ℕ → Result Expansion TemplateFault
 opened None d = Err (fault.Depth d)
 opened (Some inner) d = Ok inner
-
--- the factors of delayed replication: 0 31 000, 0 31 001 and 0 31 002
-abbrev pub is_factor : ℕ → Bool
-is_factor d = f_of d == 0 && (x_of d == 31 && nat_le (y_of d) 2)
 
 -- whether a list begins with an element
 abbrev pub begins_with_element : List ℕ → Bool

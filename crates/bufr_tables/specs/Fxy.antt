@@ -1,5 +1,6 @@
 -- A descriptor as its 16 bits: F (2 bits), X (6 bits) and Y (8 bits). Its text is six digits, one for F, two for X and three
 -- for Y. (WMO-No. 306, Volume I.2, FM 94: section 3, descriptors)
+-- Cited by public contracts.
 use Rattle.std.specs.Prelude.{ℕ, ◌+◌, ◌-◌, ◌*◌, ◌/◌, ◌%◌, ◌==◌, ◌&&◌, Bool, nat_le, if◌then◌else◌, List, [], ◌∷◌, length, slice_index, Option, Some, None}
 use Rattle.std.specs.Char.{is_ascii_digit}
 use Rattle.std.specs.List.{list_all}
@@ -15,6 +16,14 @@ x_of word = word / 256 % 64
 -- the place in the class
 abbrev pub y_of : ℕ → ℕ
 y_of word = word % 256
+
+-- X and Y as one number: the place of a descriptor among those of its F
+abbrev pub key_of : ℕ → ℕ
+key_of word = word % 16384
+
+-- the factors of delayed replications: 0 31 000, 0 31 001 and 0 31 002
+abbrev pub is_factor : ℕ → Bool
+is_factor word = f_of word == 0 && (x_of word == 31 && nat_le (y_of word) 2)
 
 -- the digit of a number below ten, in ASCII
 abbrev pub digit_of : ℕ → ℕ

@@ -1,4 +1,5 @@
 -- That a table knows what a template asks of it (WMO-No. 306, Volume I.2, FM 94: Tables B and C).
+-- Cited by public contracts.
 use Rattle.std.specs.Prelude.{ℕ, ◌≡◌, ◌||◌, Bool, true, false}
 use Rattle.bufr_tables.specs.Operators.{gives_width}
 use Rattle.bufr_tables.specs.Tree.{Tree, bare, element, operator, fixed, delayed}

@@ -1,5 +1,6 @@
 -- What a list of descriptors says once its sequences are replaced by their members, and what a tree says
 -- (WMO-No. 306, Volume I.2, FM 94: section 3, Table D)
+-- Cited by public contracts.
 use Rattle.std.specs.Prelude.{ℕ, ◌≡◌, ◌≤◌, ◌⊎◌, List, [], ◌∷◌, ◌++◌, Option, Some}
 use Rattle.bufr_tables.specs.Fxy.{f_of}
 use Rattle.bufr_tables.specs.Tree.{Tree, bare, element, operator, fixed, delayed}

@@ -1,4 +1,5 @@
 -- That each node of a template is what its place asks for (WMO-No. 306, Volume I.2, FM 94: section 3, descriptors, and Table C).
+-- Cited by public contracts.
 use Rattle.std.specs.Prelude.{◌≡◌, Bool, true, false}
 use Rattle.bufr_tables.specs.Fxy.{f_of}
 use Rattle.bufr_tables.specs.Operators.{is_legal_operator, gives_width}

@@ -5,6 +5,7 @@ pub mod Records
 pub mod Reading
 pub mod Directory
 pub mod Steps
+pub mod Table
 pub mod TableB
 pub mod Entry
 pub mod Kept
@@ -13,7 +14,7 @@ pub mod Runs
 pub mod MemberRow
 pub mod Chain
 pub mod Cycle
-pub mod Counted
+pub mod Cells
 pub mod Expander
 pub mod Expansion
 pub mod Growing
@@ -22,7 +23,7 @@ pub mod Known
 pub mod Leaves
 pub mod Legal
 pub mod Operators
-pub mod Planted
+pub mod Passes
 pub mod Sound
 pub mod TemplateTables
 pub mod Tree

@@ -1,4 +1,5 @@
 -- The row of Table D that two descriptors are.
+-- Cited by private steps only.
 use Rattle.std.specs.Prelude.{ℕ}
 use Rattle.bufr_tables.specs.TableD.{Member}
 

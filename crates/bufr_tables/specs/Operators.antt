@@ -1,5 +1,6 @@
 -- Which operators a template may hold, and with which operands
 -- (WMO-No. 306, Volume I.2, FM 94: Table C; the choice of these seven, and the bounds on their operands, are this project's)
+-- Cited by public contracts.
 use Rattle.std.specs.Prelude.{ℕ, ◌==◌, nat_le, Bool, ◌&&◌, ◌||◌, if◌then◌else◌}
 use Rattle.bufr_tables.specs.Fxy.{f_of, x_of, y_of}
 

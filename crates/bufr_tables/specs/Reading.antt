@@ -1,5 +1,6 @@
 -- What a reader of records has still to give.
-use Rattle.std.specs.Prelude.{◌≡◌, ℕ, ◌+◌, ◌^◌, ◌<◌, Bool, true, false, if◌then◌else◌, List, [], ◌∷◌, length, Option, Some, None, IsSome}
+-- Cited by private steps only.
+use Rattle.std.specs.Prelude.{◌≡◌, ℕ, ◌+◌, ◌^◌, ◌<◌, Bool, true, false, if◌then◌else◌, List, [], ◌∷◌, drop, length, map, Option, Some, None, IsSome}
 use Rattle.std.specs.Borrow.{Bor}
 use Rattle.csv.specs.Machine.{ends_at_end}
 use Rattle.csv.specs.Reading.{Ready, default_config, is_flexible, reader_config, reader_state, reader_trim, records_from, source_of}
@@ -8,6 +9,7 @@ use Rattle.csv.specs.declared.parser.State.{State}
 use Rattle.csv.specs.declared.reader.Reader.{Reader}
 use Rattle.csv.specs.declared.reader.Trim.TheVariants as trim
 use Rattle.bufr_tables.specs.Records.{Record}
+use Rattle.bufr_tables.specs.Table.{has_header}
 use Rattle.bufr_tables.specs.declared.records.RecordReader.{RecordReader}
 
 -- the octets behind the records that were given
@@ -50,3 +52,14 @@ pub record GivesNext (old new : RecordReader) (found : Bool) : Type 0 where
   pub number : found ≡ true → new.number ≡ old.number + 1
   pub between : found ≡ true → IsBetween new
   pub fewer : found ≡ true → octets_left new < octets_left old
+
+-- a reader stands behind the header, which is record 1
+pub record IsOpened (names : List (List ℕ)) (records : List Record) (r : RecordReader) : Type 0 where
+  pub between : IsBetween r
+  pub number : r.number ≡ 1
+  pub header : has_header names records ≡ true
+  pub rest : records_left r ≡ drop 1 records
+
+-- texts behind references
+abbrev pub texts_of : List (Bor (List ℕ)) → List (List ℕ)
+texts_of texts = map (λ text. text.now) texts

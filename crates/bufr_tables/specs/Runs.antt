@@ -1,6 +1,8 @@
 -- How Table D is kept: all members one after another, and for each sequence the places of its own.
-use Rattle.std.specs.Prelude.{◌≡◌, ℕ, ◌-◌, ◌≤◌, ◌<◌, List, [], ◌∷◌, length, map, slice_range, ⊤}
+-- Cited by private steps only.
+use Rattle.std.specs.Prelude.{◌≡◌, ℕ, ◌≤◌, ◌<◌, List, [], ◌∷◌, length, map, slice_range, ⊤}
 use Rattle.std.specs.List.{AllByRecursion}
+use Rattle.bufr_tables.specs.Fxy.{key_of}
 use Rattle.bufr_tables.specs.TableD.{Sequence}
 use Rattle.bufr_tables.specs.declared.table_d.Run.{Run}
 use Rattle.bufr_tables.specs.declared.table_d.TableD.TheInside.{Inside}
@@ -17,8 +19,8 @@ abbrev pub IsRun : ℕ → Run → Type 0
 IsRun size run = (run.start < run.end) × (run.end ≤ size)
 
 -- X and Y of a sequence
-abbrev pub key_of : Run → ℕ
-key_of run = run.fxy - 49152
+abbrev pub run_key : Run → ℕ
+run_key run = key_of run.fxy
 
 -- the last run goes on to the end of the members
 abbrev pub LastEnds : ℕ → List Run → Type 0
@@ -30,7 +32,7 @@ LastEnds size (run ∷ next ∷ rest) = LastEnds size (next ∷ rest)
 pub record IsKept (a : Inside) : Type 0 where
   pub inside : AllByRecursion (IsRun (length a.members.items)) a.runs.items
   pub sequences : AllByRecursion (λ run. (49152 ≤ run.fxy) × (run.fxy < 65536)) a.runs.items
-  pub listed : a.directory ≡ map key_of a.runs.items
+  pub listed : a.directory ≡ map run_key a.runs.items
   pub last : LastEnds (length a.members.items) a.runs.items
 
 abbrev pub table_kept : Inside → List Sequence

@@ -1,4 +1,5 @@
 -- That every group of a template, and the whole, takes bits of the data (a choice of this project).
+-- Cited by public contracts.
 use Rattle.std.specs.Prelude.{◌≡◌, ◌<◌, true}
 use Rattle.bufr_tables.specs.Tree.{Tree, bare, element, operator, fixed, delayed, consumes}
 

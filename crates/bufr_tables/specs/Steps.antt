@@ -1,4 +1,5 @@
 -- Steps that may fail, one after another, and the answer of a call whose memory may run out.
+-- Cited by public contracts.
 use Rattle.std.specs.Prelude.{◌≡◌, ⊤, Bool, if◌then◌else◌, Option, Some, None, option_and_then, Result, Ok, Err}
 use Rattle.bufr_tables.specs.declared.fault.TableFault.{TableFault}
 use Rattle.bufr_tables.specs.declared.fault.TableFault.TheVariants.{Header, Row, Duplicate, Cycle, TableSize, Csv, Memory}

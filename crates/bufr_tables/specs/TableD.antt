@@ -1,13 +1,14 @@
 -- Table D, the sequences, as a text of CSV writes it: a header, and a row for each member of a sequence. (WMO-No. 306,
 -- Volume I.2, FM 94: Table D. The text's form, its limits and its faults are a choice of this project)
-use Rattle.std.specs.Prelude.{◌≡◌, ℕ, ◌+◌, ◌-◌, ◌==◌, ◌&&◌, Bool, true, false, not, nat_le, if◌then◌else◌, List, [], ◌∷◌, ◌++◌, length, map, codes, Option, Some, None, is_some, option_map, unwrap_or, Result, Ok, Err}
+-- Cited by public contracts.
+use Rattle.std.specs.Prelude.{◌≡◌, ℕ, ◌-◌, ◌==◌, ◌&&◌, Bool, true, false, not, nat_le, if◌then◌else◌, List, [], ◌∷◌, ◌++◌, length, map, codes, Option, Some, None, is_some, option_map, unwrap_or, Result, Ok, Err}
 use Rattle.std.specs.List.{find}
-use Rattle.std.specs.Str.{bytes_eq}
 use Rattle.bufr_tables.specs.declared.fault.TableFault.{TableFault}
-use Rattle.bufr_tables.specs.declared.fault.TableFault.TheVariants.{Header, Row as RowFault, Duplicate, TableSize, Csv}
+use Rattle.bufr_tables.specs.declared.fault.TableFault.TheVariants.{Row as RowFault, Duplicate, TableSize, Csv}
 use Rattle.bufr_tables.specs.Fxy.{f_of, fxy_of}
 use Rattle.bufr_tables.specs.Records.{Record, field_of}
-use Rattle.bufr_tables.specs.Steps.{◌>>=◌, and_then, only_if}
+use Rattle.bufr_tables.specs.Steps.{◌>>=◌, only_if}
+use Rattle.bufr_tables.specs.Table.{has_fields, table_of}
 
 -- a sequence of the table: its descriptor, and its members in order
 pub record Sequence : Type 0 where
@@ -19,9 +20,9 @@ pub record Member : Type 0 where
   pub sequence : ℕ
   pub fxy : ℕ
 
--- the header has these two fields
-unfoldable pub is_header : Record → Bool
-is_header r = (length r == 2) && bytes_eq (field_of r 0) (codes "fxy") && bytes_eq (field_of r 1) (codes "member")
+-- the fields of the header
+abbrev pub header : List (List ℕ)
+header = codes "fxy" ∷ codes "member" ∷ []
 
 -- the descriptor of a sequence
 unfoldable pub sequence_of : List ℕ → Option ℕ
@@ -74,15 +75,9 @@ with_member n table (Some row) =
 unfoldable pub with_record : ℕ → List Sequence → Record → Result (List Sequence) TableFault
 with_record n table r = if length r == 2 then with_member n table (member_of r) else Err Csv
 
--- the sequences so far with the rows of the records from record n on, or the first fault of these
-unfoldable pub sequences_from : ℕ → List Sequence → List Record → Result (List Sequence) TableFault
-sequences_from n table [] = Ok table
-sequences_from n table (r ∷ rs) = and_then (with_record n table r) (λ more. sequences_from (n + 1) more rs)
-
--- the table of these records, or the first of them at fault: the header is record 1
-unfoldable pub table_d_of : List Record → Result (List Sequence) TableFault
-table_d_of [] = Err Header
-table_d_of (first ∷ rest) = if is_header first then sequences_from 2 [] rest else Err Header
+-- the table of these records, or the first fault
+abbrev pub table_d_of : List Record → Result (List Sequence) TableFault
+table_d_of records = table_of header with_record [] records
 
 -- the members that rows give a sequence, in order
 abbrev pub members_in : List Member → ℕ → List ℕ
@@ -94,7 +89,7 @@ pub record AreSequences (records : List Record) (table : List Sequence) : Type 0
   pub first : Record
   pub rest : List Record
   pub stands : records ≡ first ∷ rest
-  pub header : is_header first ≡ true
+  pub named : has_fields header first ≡ true
   pub rows : List Member
   pub written : map member_of rest ≡ map Some rows
   pub members : (fxy : ℕ) → unwrap_or (members_of table fxy) [] ≡ members_in rows fxy

@@ -1,4 +1,5 @@
 -- What Tables B and D tell the expansion.
+-- Cited by public contracts.
 use Rattle.std.specs.Prelude.{List, is_some}
 use Rattle.bufr_tables.specs.TableB.{Row, entry_of}
 use Rattle.bufr_tables.specs.TableD.{Sequence, members_of}

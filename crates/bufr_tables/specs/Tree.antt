@@ -1,5 +1,6 @@
 -- A template as a tree: elements, operators and groups, each group with a body of its own
 -- (WMO-No. 306, Volume I.2, FM 94: section 3, replications; the form as a tree, and its places, are a choice of this project)
+-- Cited by public contracts.
 use Rattle.std.specs.Prelude.{ℕ, ◌+◌, ◌==◌, Bool, true, false, ◌||◌, max}
 use Rattle.bufr_tables.specs.Fxy.{x_of}
 

@@ -1,4 +1,5 @@
 -- A tree written as a list of numbers, from which it is read back. Nothing but the checker asks for it, before a contract may speak of a tree as one value.
+-- Cited by public contracts.
 use Rattle.std.specs.Prelude.{◌≡◌, ℕ, zero, suc, List, [], ◌∷◌, refl}
 use Rattle.std.proofs.Common.{◌∙◌, ap}
 use Rattle.std.specs.Coded.{Coded, code_by, coded×, coded_ℕ, coded_list}

@@ -1,23 +1,22 @@
-// Finds the first sequence of Table D that reaches itself.
-//
-// A sequence whose rank is above those of its members does not reach itself, where no rank is below that of a member. The
-// others are searched from, in the order of the file: the first of them is the answer, unless the ranks are wrong. So the
-// time grows with the rows, and there is no recursion.
-
+//! Finds the first sequence of Table D that reaches itself.
+//!
+//! A sequence whose rank is above those of its members does not reach itself, where no rank is below that of a member. The
+//! others are searched from, in the order of the file: the first of them is the answer, unless the ranks are wrong. So the
+//! time grows with the rows, and there is no recursion.
 ghost use Rattle.std.specs.Prelude.{◌≡◌, ◌≤◌, ◌<◌, length, slice_index, IfOk, OnOk, IsTrue, MatchOption, ◌↔◌, is_some};
 ghost use Rattle.bufr_tables.specs.Chain.{HasNoCycle, IsFirstCycle, ReachesItself};
 ghost use Rattle.bufr_tables.specs.Cycle.{IsAbove, IsVisited, NeverRises, listed, rank_of};
 ghost use Rattle.bufr_tables.specs.TableD.{members_of};
 
 use crate::fxy::Fxy;
-use crate::ranks::{key_of, ranks};
+use crate::ranks::ranks;
 use crate::table_d::TableD;
 use std::alloc::{AllocError, Global};
 
-// How many descriptors there are.
+/// How many descriptors there are.
 const WORDS: usize = 65536;
 
-// The first sequence of the table that reaches itself, if one does.
+/// The first sequence of the table that reaches itself, if one does.
 pub(crate) fn first_cycle(alloc: Global, table: &TableD) -> Result<Option<Fxy>, AllocError>
     ensures { IfOk result (λ o. MatchOption o (HasNoCycle table.now) (IsFirstCycle table.now)) }
 {
@@ -35,29 +34,29 @@ pub(crate) fn first_cycle(alloc: Global, table: &TableD) -> Result<Option<Fxy>, 
     Ok(None)
 }
 
-// Whether no sequence has a rank below that of a member.
+/// Whether no sequence has a rank below that of a member.
 fn never_rises(table: &TableD, ranks: &[u32]) -> bool
     requires { length ranks.now ≡ 16384 }
     ensures { IsTrue result → NeverRises table.now ranks.now }
 {
     for place in 0..table.count() {
         let sequence = table.sequence_at(place);
-        if highest(table, sequence, ranks) > ranks[key_of(sequence)] {
+        if highest(table, sequence, ranks) > ranks[sequence.key()] {
             return false;
         }
     }
     true
 }
 
-// Whether the rank of a sequence is above those of its members.
+/// Whether the rank of a sequence is above those of its members.
 fn is_above(table: &TableD, sequence: Fxy, ranks: &[u32]) -> bool
     requires { length ranks.now ≡ 16384 }
     ensures { IsTrue result → NeverRises table.now ranks.now → ¬ ReachesItself table.now sequence }
 {
-    highest(table, sequence, ranks) < ranks[key_of(sequence)]
+    highest(table, sequence, ranks) < ranks[sequence.key()]
 }
 
-// The highest rank of the members of a sequence that are sequences, or 0.
+/// The highest rank of the members of a sequence that are sequences, or 0.
 fn highest(table: &TableD, sequence: Fxy, ranks: &[u32]) -> u32
     requires { length ranks.now ≡ 16384 }
     ensures { IsAbove table.now ranks.now sequence result }
@@ -65,14 +64,14 @@ fn highest(table: &TableD, sequence: Fxy, ranks: &[u32]) -> u32
     let mut most = 0;
     for member in listed(table, sequence) {
         if is_sequence(table, *member) {
-            let rank = ranks[key_of(*member)];
+            let rank = ranks[member.key()];
             most = most.max(rank);
         }
     }
     most
 }
 
-// Whether a sequence reaches itself.
+/// Whether a sequence reaches itself.
 fn reaches_itself(alloc: Global, table: &TableD, sequence: Fxy) -> Result<bool, AllocError>
     ensures { IfOk result (λ yes. IsTrue yes ↔ ReachesItself table.now sequence) }
 {
@@ -88,7 +87,7 @@ fn reaches_itself(alloc: Global, table: &TableD, sequence: Fxy) -> Result<bool, 
     Ok(seen[usize::from(sequence.word())])
 }
 
-// Puts the members of a sequence that are sequences behind the queue, but for those that were seen.
+/// Puts the members of a sequence that are sequences behind the queue, but for those that were seen.
 fn visit(
     table: &TableD,
     sequence: Fxy,
@@ -109,14 +108,14 @@ fn visit(
     Ok(())
 }
 
-// The members of a sequence, or none where the table lacks it.
+/// The members of a sequence, or none where the table lacks it.
 fn listed(table: &TableD, sequence: Fxy) -> &[Fxy]
     ensures { result.now ≡ listed table.now sequence }
 {
     table.members(sequence).unwrap_or(&[])
 }
 
-// Whether a descriptor is a sequence of the table.
+/// Whether a descriptor is a sequence of the table.
 fn is_sequence(table: &TableD, fxy: Fxy) -> bool
     ensures { result ≡ is_some (members_of table.now fxy) }
 {

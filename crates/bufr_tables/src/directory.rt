@@ -1,20 +1,19 @@
-// Finds a descriptor by its X and Y in one step.
-
+//! Finds a descriptor by its X and Y in one step.
 ghost use Rattle.std.specs.Prelude.{◌≡◌, ◌<◌, [], ◌∷◌, ◌++◌, length, None, IfOk, IfSome};
 ghost use Rattle.bufr_tables.specs.Directory.{place_of};
 
 use std::alloc::{AllocError, Global};
 use std::marker::Model;
 
-// How many values X and Y have together.
-const KEYS: usize = 16384;
+/// How many values X and Y have together.
+pub(crate) const KEYS: usize = 16384;
 
-// A list of keys, each the 14 bits of X and Y, with the place of each key in the list. A clause sees the list.
+/// A list of keys, each the 14 bits of X and Y, with the place of each key in the list. A clause sees the list.
 #[derive(Drop)]
 pub(crate) struct Directory {
-    // There is room for all keys.
+    /// There is room for all keys.
     keys: Vec<u16>,
-    // For each key 0 where the list lacks it, and else its place and one more.
+    /// For each key 0 where the list lacks it, and else its place and one more.
     marks: Vec<u16>,
 }
 
@@ -31,7 +30,7 @@ impl Model for Directory {
 }
 
 impl Directory {
-    // The empty list.
+    /// The empty list.
     pub(crate) fn new(alloc: Global) -> Result<Directory, AllocError>
         ensures { IfOk result (λ d. d ≡ []) }
     {
@@ -42,26 +41,26 @@ impl Directory {
         })
     }
 
-    // The place of a key in the list, counted from 0.
-    pub(crate) fn place(&self, key: u16) -> Option<usize>
+    /// The place of a key in the list, counted from 0.
+    pub(crate) fn place(&self, key: usize) -> Option<usize>
         requires { key < 16384 }
         ensures value { result ≡ place_of self.now key }
         ensures inside { IfSome result (λ place. place < length self.now) }
     {
-        match self.marks[usize::from(key)] {
+        match self.marks[key] {
             0 => None,
             mark => Some(usize::from(mark) - 1),
         }
     }
 
-    // Adds a key behind the others.
-    pub(crate) fn add(&mut self, key: u16)
+    /// Adds a key behind the others.
+    pub(crate) fn add(&mut self, key: usize)
         requires small { key < 16384 }
         requires absent { place_of self.old key ≡ None }
         ensures { self.new ≡ self.old ++ key ∷ [] }
     {
         let mark = self.keys.len() as u16 + 1;
-        self.keys.push(key).unwrap();
-        self.marks[usize::from(key)] = mark;
+        self.keys.push(key as u16).unwrap();
+        self.marks[key] = mark;
     }
 }

@@ -1,5 +1,4 @@
-// Why the octets of a table cannot be read.
-
+//! Why the octets of a table cannot be read.
 ghost use Rattle.std.specs.Prelude.{◌≡◌};
 ghost use Rattle.bufr_tables.specs.declared.fault.TableFault.TheVariants.{Memory};
 

@@ -1,9 +1,9 @@
-// A descriptor, as section 3 of a message, a template and the tables have it.
-
+//! A descriptor, as section 3 of a message, a template and the tables have it.
 ghost use Rattle.std.specs.Prelude.{◌≡◌, ◌<◌, ◌≤◌, IsTrue, Some, length};
 ghost use Rattle.std.specs.Char.{is_ascii_digit};
 ghost use Rattle.std.specs.List.{list_all};
-ghost use Rattle.bufr_tables.specs.Fxy.{f_of, x_of, y_of, fxy_text, fxy_of, number_at};
+ghost use Rattle.bufr_tables.specs.Fxy.{f_of, x_of, y_of, fxy_text, fxy_of, is_factor, key_of, number_at};
+ghost use Rattle.bufr_tables.specs.Operators.{gives_width, is_legal_operator};
 
 use std::fmt;
 use std::marker::Model;
@@ -12,6 +12,12 @@ use std::marker::Model;
 ///
 /// F is 0 for an element of Table B, 1 for a replication, 2 for an operator and 3 for a sequence of Table D.
 /// A clause sees a descriptor as the number that its 16 bits write.
+///
+/// ```
+/// let temperature = Fxy::from_word(0x0c65);
+/// assert_eq!(rt; temperature.text(), *b"012101");
+/// assert_eq!(rt; (temperature.f(), temperature.x(), temperature.y()), (0, 12, 101));
+/// ```
 #[derive(Clone, Copy, Debug, PartialEq, Eq)]
 pub struct Fxy {
     word: u16,
@@ -65,6 +71,42 @@ impl Fxy {
         (self.word % 256) as u8
     }
 
+    /// Whether it is a factor of delayed replications: 0 31 000, 0 31 001 or 0 31 002.
+    pub const fn is_factor(self) -> bool
+        ensures { result ≡ is_factor self }
+    {
+        self.f() == 0 && self.x() == 31 && self.y() <= 2
+    }
+
+    /// Whether it is the operator 2 06 Y, which gives the width of the descriptor that follows.
+    pub(crate) const fn gives_width(self) -> bool
+        ensures { result ≡ gives_width self }
+    {
+        self.f() == 2 && self.x() == 6
+    }
+
+    /// Whether a template may hold this operator, with its operand (Table C).
+    pub(crate) const fn is_legal_operator(self) -> bool
+        ensures { result ≡ is_legal_operator self }
+    {
+        let operand = self.y();
+        match self.x() {
+            1 | 2 | 8 => true,
+            3 => operand <= 63 || operand == 255,
+            5 | 6 => operand >= 1,
+            7 => operand <= 18,
+            _ => false,
+        }
+    }
+
+    /// X and Y as one number: its place among the descriptors of its F.
+    pub(crate) const fn key(self) -> usize
+        ensures value { result ≡ key_of self }
+        ensures most { result < 16384 }
+    {
+        (self.word % 16384) as usize
+    }
+
     /// The six digits, as `012101`.
     pub const fn text(self) -> [u8; 6]
         ensures value { result ≡ fxy_text self }
@@ -81,7 +123,7 @@ impl Fxy {
         ]
     }
 
-    // The descriptor that six digits write, where F, X and Y fit their bits.
+    /// The descriptor that six digits write, where F, X and Y fit their bits.
     pub(crate) fn read(text: &[u8]) -> Option<Fxy>
         ensures { result ≡ fxy_of text.now }
     {
@@ -107,7 +149,7 @@ impl fmt::Display for Fxy {
     }
 }
 
-// The number of the digit at a place of a text of digits.
+/// The number of the digit at a place of a text of digits.
 fn digit_at(text: &[u8], place: usize) -> u16
     requires digits { IsTrue (list_all is_ascii_digit text.now) }
     requires inside { place < length text.now }
@@ -117,7 +159,7 @@ fn digit_at(text: &[u8], place: usize) -> u16
     u16::from(text[place] - b'0')
 }
 
-// Whether each octet is a digit.
+/// Whether each octet is a digit.
 pub(crate) fn are_digits(text: &[u8]) -> bool
     ensures { result ≡ list_all is_ascii_digit text.now }
 {

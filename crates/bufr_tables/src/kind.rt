@@ -1,5 +1,4 @@
-// What the unit of an element says of its values.
-
+//! What the unit of an element says of its values.
 ghost use Rattle.std.specs.Prelude.{◌≡◌};
 ghost use Rattle.bufr_tables.specs.Kind.{begins_with, is_words, kind_of, names_table};
 
@@ -15,7 +14,7 @@ pub enum Kind {
 }
 
 impl Kind {
-    // The kind of the elements with this unit. ASCII case makes no difference.
+    /// The kind of the elements with this unit. ASCII case makes no difference.
     #[tactic(auto, unfolding(crate::specs::Kind::kind_of))]
     pub(crate) fn of(unit: &[u8]) -> Kind
         ensures { result ≡ kind_of unit.now }
@@ -30,7 +29,7 @@ impl Kind {
     }
 }
 
-// Whether a unit names a table of figures.
+/// Whether a unit names a table of figures.
 #[tactic(auto, unfolding(crate::specs::Kind::names_table))]
 fn names_table(unit: &[u8]) -> bool
     ensures { result ≡ names_table unit.now }
@@ -40,7 +39,7 @@ fn names_table(unit: &[u8]) -> bool
         || starts_with(unit, b"Flag table")
 }
 
-// Whether a text is these words, whatever their case.
+/// Whether a text is these words, whatever their case.
 #[tactic(auto, unfolding(crate::specs::Kind::is_words))]
 fn is_same(text: &[u8], words: &[u8]) -> bool
     ensures { result ≡ is_words text.now words.now }
@@ -48,7 +47,7 @@ fn is_same(text: &[u8], words: &[u8]) -> bool
     text.eq_ignore_ascii_case(words)
 }
 
-// Whether a text begins with these words, whatever their case.
+/// Whether a text begins with these words, whatever their case.
 #[tactic(auto, unfolding(crate::specs::Kind::begins_with, crate::specs::Kind::is_words))]
 fn starts_with(text: &[u8], words: &[u8]) -> bool
     ensures { result ≡ begins_with text.now words.now }

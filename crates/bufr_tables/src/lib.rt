@@ -21,7 +21,9 @@ pub use fxy::Fxy;
 pub use kind::Kind;
 pub use table_b::{Entry, TableB};
 pub use table_d::TableD;
-pub use template::{Node, Template, TemplateFault};
+pub use template::{Cell, Template, TemplateFault};
 
+#[cfg(test)]
+mod test_tables;
 #[cfg(test)]
 mod tests;

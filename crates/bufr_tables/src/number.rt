@@ -1,11 +1,10 @@
-// Whole numbers, as the tables write them.
-
+//! Whole numbers, as the tables write them.
 ghost use Rattle.std.specs.Prelude.{◌≡◌, ◌-◌, ◌^◌, ◌<◌, ◌≤◌, drop, length, min, option_map, pos, slice_index, ◌==◌};
 ghost use Rattle.bufr_tables.specs.Number.{fitting, i64_of, natural_of, negated};
 
 use crate::fxy::are_digits;
 
-// The number that an optional `-` and one or more digits write, where an `i64` holds it.
+/// The number that an optional `-` and one or more digits write, where an `i64` holds it.
 #[tactic(auto, unfolding(crate::specs::Number::i64_of, crate::specs::Number::integer_of))]
 pub(crate) fn integer(text: &[u8]) -> Option<i64>
     ensures { result ≡ i64_of text.now }
@@ -17,14 +16,14 @@ pub(crate) fn integer(text: &[u8]) -> Option<i64>
     }
 }
 
-// Whether a text begins with `-`.
+/// Whether a text begins with `-`.
 fn is_negative(text: &[u8]) -> bool
     ensures { result ≡ (slice_index text.now 0 == 45) }
 {
     !text.is_empty() && text[0] == b'-'
 }
 
-// The octets behind the first.
+/// The octets behind the first.
 fn behind_first(text: &[u8]) -> &[u8]
     requires { 0 < length text.now }
     ensures { result.now ≡ drop 1 text.now }
@@ -32,7 +31,7 @@ fn behind_first(text: &[u8]) -> &[u8]
     &text[1..]
 }
 
-// The number of this magnitude, where an `i64` holds it.
+/// The number of this magnitude, where an `i64` holds it.
 #[tactic(auto, unfolding(crate::specs::Number::fitting))]
 fn positive(magnitude: u64) -> Option<i64>
     ensures { result ≡ fitting (pos magnitude) }
@@ -43,7 +42,7 @@ fn positive(magnitude: u64) -> Option<i64>
     Some(magnitude as i64)
 }
 
-// The number below zero of this magnitude, where an `i64` holds it.
+/// The number below zero of this magnitude, where an `i64` holds it.
 #[tactic(auto, unfolding(crate::specs::Number::fitting))]
 fn negative(magnitude: u64) -> Option<i64>
     ensures { result ≡ fitting (negated magnitude) }
@@ -57,7 +56,7 @@ fn negative(magnitude: u64) -> Option<i64>
     Some(-((magnitude - 1) as i64) - 1)
 }
 
-// The number that one or more digits write, or the greatest `u64` where it is over that.
+/// The number that one or more digits write, or the greatest `u64` where it is over that.
 #[tactic(auto, unfolding(crate::specs::Number::natural_of))]
 fn magnitude(digits: &[u8]) -> Option<u64>
     ensures { result ≡ option_map (λ n. min n (2 ^ 64 - 1)) (natural_of digits.now) }

@@ -1,27 +1,16 @@
-// Ranks of the sequences of Table D, by which most are seen at once not to reach themselves.
-//
-// Sequences that reach one another have one rank, and no sequence has a lower rank than a member. The ranks are found depth
-// first in one pass over the rows (R. E. Tarjan, "Depth-first search and linear graph algorithms", 1972), with a path in
-// place of recursion. Nothing rests on their being right but speed: who uses them checks what is needed.
+//! Ranks of the sequences of Table D, by which most are seen at once not to reach themselves.
+//!
+//! Sequences that reach one another have one rank, and no sequence has a lower rank than a member. The ranks are found depth
+//! first in one pass over the rows (R. E. Tarjan, "Depth-first search and linear graph algorithms", 1972), with a path in
+//! place of recursion. Nothing rests on their being right but speed: who uses them checks what is needed.
+ghost use Rattle.std.specs.Prelude.{◌≡◌, ◌<◌, length, vec_len, IfOk};
 
-ghost use Rattle.std.specs.Prelude.{◌≡◌, ◌<◌, ◌%◌, length, vec_len, IfOk};
-
+use crate::directory::KEYS;
 use crate::fxy::Fxy;
 use crate::table_d::TableD;
 use std::alloc::{AllocError, Global};
 
-// How many values X and Y have together.
-const KEYS: usize = 16384;
-
-// The place of a sequence's rank among the ranks: its X and Y.
-pub(crate) fn key_of(fxy: Fxy) -> usize
-    ensures value { result ≡ fxy % 16384 }
-    ensures inside { result < 16384 }
-{
-    usize::from(fxy.word() % 16384)
-}
-
-// A rank for each sequence of the table.
+/// A rank for each sequence of the table, at its X and Y.
 pub(crate) fn ranks(alloc: Global, table: &TableD) -> Result<Vec<u32>, AllocError>
     ensures { IfOk result (λ v. length v.items ≡ 16384) }
 {
@@ -38,20 +27,20 @@ pub(crate) fn ranks(alloc: Global, table: &TableD) -> Result<Vec<u32>, AllocErro
     Ok(ranking.ranks)
 }
 
-// The state of the pass. Each list but the last two has a place for each X and Y.
+/// The state of the pass. Each list but the last two has a place for each X and Y.
 #[derive(Drop)]
 struct Ranking {
-    // The number of a sequence in the order in which they were begun, from 1; 0 where it was not begun.
+    /// The number of a sequence in the order in which they were begun, from 1; 0 where it was not begun.
     numbers: Vec<u32>,
-    // The least number that was seen from a sequence, of those that have no rank.
+    /// The least number that was seen from a sequence, of those that have no rank.
     least: Vec<u32>,
-    // How many members of a sequence were looked at.
+    /// How many members of a sequence were looked at.
     looked: Vec<usize>,
-    // The rank of a sequence, from 1; 0 where it has none.
+    /// The rank of a sequence, from 1; 0 where it has none.
     ranks: Vec<u32>,
-    // The sequences whose members are being looked at, each a member of the one before it.
+    /// The sequences whose members are being looked at, each a member of the one before it.
     path: Vec<Fxy>,
-    // The sequences that were begun and have no rank.
+    /// The sequences that were begun and have no rank.
     open: Vec<Fxy>,
     begun: u32,
     ranked: u32,
@@ -75,9 +64,9 @@ impl Ranking {
         })
     }
 
-    // Begins with a sequence, unless it was begun.
+    /// Begins with a sequence, unless it was begun.
     fn begin(&mut self, sequence: Fxy) -> Result<(), AllocError> {
-        let key = key_of(sequence);
+        let key = sequence.key();
         if self.numbers[key] == 0 {
             self.path.push(sequence)?;
             self.open.push(sequence)?;
@@ -88,12 +77,12 @@ impl Ranking {
         Ok(())
     }
 
-    // Takes one turn with the last sequence of the path; false where there is none.
+    /// Takes one turn with the last sequence of the path; false where there is none.
     fn turn(&mut self, table: &TableD) -> Result<bool, AllocError> {
         let Some(sequence) = self.path.last().copied() else {
             return Ok(false);
         };
-        let key = key_of(sequence);
+        let key = sequence.key();
         let looked = self.looked[key];
         match table.members(sequence).unwrap_or(&[]).get(looked) {
             Some(member) => {
@@ -105,11 +94,11 @@ impl Ranking {
         Ok(true)
     }
 
-    // Looks at a member of the sequence with this key.
+    /// Looks at a member of the sequence with this key.
     fn look(&mut self, table: &TableD, key: usize, member: Fxy) -> Result<(), AllocError>
         requires { key < 16384 }
     {
-        let at = key_of(member);
+        let at = member.key();
         if table.members(member).is_none() || self.ranks[at] != 0 {
             return Ok(());
         }
@@ -121,7 +110,7 @@ impl Ranking {
         Ok(())
     }
 
-    // Notes a number that was seen from the sequence with this key.
+    /// Notes a number that was seen from the sequence with this key.
     fn see(&mut self, key: usize, number: u32)
         requires { key < 16384 }
     {
@@ -129,20 +118,20 @@ impl Ranking {
         self.least[key] = least.min(number);
     }
 
-    // Ends the last sequence of the path: it sees what its members see, or it gets a rank with all that were begun after it.
+    /// Ends the last sequence of the path: it sees what its members see, or it gets a rank with all that were begun after it.
     fn end(&mut self, sequence: Fxy) {
         let _ = self.path.pop();
-        let key = key_of(sequence);
+        let key = sequence.key();
         let least = self.least[key];
         if least != self.numbers[key] {
             if let Some(before) = self.path.last().copied() {
-                self.see(key_of(before), least);
+                self.see(before.key(), least);
             }
             return;
         }
         self.ranked = self.ranked.saturating_add(1);
         while let Some(open) = self.open.pop() {
-            self.ranks[key_of(open)] = self.ranked;
+            self.ranks[open.key()] = self.ranked;
             if open == sequence {
                 break;
             }

@@ -1,17 +1,16 @@
-// The records of a table's text, one after another.
-
-ghost use Rattle.std.specs.Prelude.{◌≡◌, IfOk, IfErr, List, ℕ};
-ghost use Rattle.bufr_tables.specs.Reading.{GivesNext, IsBetween, record_given, records_left};
+//! The records of a table's text, one after another.
+ghost use Rattle.std.specs.Prelude.{◌≡◌, ◌≢◌, IfOk, IfErr, List, ℕ, false};
+ghost use Rattle.bufr_tables.specs.Reading.{GivesNext, IsBetween, IsOpened, record_given, records_left, texts_of};
 ghost use Rattle.bufr_tables.specs.Records.{field_of, records_of};
-ghost use Rattle.bufr_tables.specs.declared.fault.TableFault.TheVariants.{Memory};
+ghost use Rattle.bufr_tables.specs.declared.fault.TableFault.TheVariants.{Header, Memory};
 ghost use Rattle.csv.specs.Records.{fields_of};
-ghost use Rattle.std.specs.Str.{bytes_eq};
+ghost use Rattle.bufr_tables.specs.Table.{has_fields, has_header};
 
 use crate::fault::TableFault;
 use csv::{ByteRecord, ErrorKind, Reader, ReaderBuilder};
 use std::alloc::Global;
 
-// Reads the records of a text, and counts them from 1.
+/// Reads the records of a text, and counts them from 1.
 #[derive(Drop)]
 pub(crate) struct RecordReader<'a> {
     reader: Reader<&'a [u8]>,
@@ -20,8 +19,8 @@ pub(crate) struct RecordReader<'a> {
 }
 
 impl<'a> RecordReader<'a> {
-    // A reader before the first record of a text.
-    pub(crate) fn new(alloc: Global, text: &'a [u8]) -> RecordReader<'a>
+    /// A reader before the first record of a text.
+    fn new(alloc: Global, text: &'a [u8]) -> RecordReader<'a>
         ensures between { IsBetween result }
         ensures number { result.number ≡ 0 }
         ensures records { records_left result ≡ records_of text.now }
@@ -37,7 +36,24 @@ impl<'a> RecordReader<'a> {
         }
     }
 
-    // Reads the next record, if there is one.
+    /// A reader behind the header of a text: a first record of these fields.
+    pub(crate) fn open(
+        alloc: Global,
+        text: &'a [u8],
+        header: &[&[u8]],
+    ) -> Result<RecordReader<'a>, TableFault>
+        ensures ok { IfOk result (IsOpened (texts_of header.now) (records_of text.now)) }
+        ensures err { IfErr result
+            (λ e. e ≢ Memory → (e ≡ Header) × (has_header (texts_of header.now) (records_of text.now) ≡ false)) }
+    {
+        let mut records = RecordReader::new(alloc, text);
+        if !records.advance()? || !has_fields(records.record(), header) {
+            return Err(TableFault::Header);
+        }
+        Ok(records)
+    }
+
+    /// Reads the next record, if there is one.
     pub(crate) fn advance(&mut self) -> Result<bool, TableFault>
         requires { IsBetween self.old }
         ensures memory { IfErr result (λ e. e ≡ Memory) }
@@ -57,14 +73,14 @@ impl<'a> RecordReader<'a> {
         }
     }
 
-    // How many records were given.
+    /// How many records were given.
     pub(crate) fn number(&self) -> u64
         ensures { result ≡ self.now.number }
     {
         self.number
     }
 
-    // The record that was given last.
+    /// The record that was given last.
     pub(crate) fn record(&self) -> &ByteRecord
         ensures { fields_of result.now ≡ record_given self.now }
     {
@@ -72,16 +88,24 @@ impl<'a> RecordReader<'a> {
     }
 }
 
-// A field of a record, counted from 0, or no octets where there is none.
+/// A field of a record, counted from 0, or no octets where there is none.
 pub(crate) fn field(fields: &ByteRecord, place: usize) -> &[u8]
     ensures { result.now ≡ field_of (fields_of fields.now) place }
 {
     fields.get(place).unwrap_or(&[])
 }
 
-// Whether a field of a record is this text.
-pub(crate) fn has_field(fields: &ByteRecord, place: usize, text: &[u8]) -> bool
-    ensures { result ≡ bytes_eq (field_of (fields_of fields.now) place) text.now }
+/// Whether a record has these fields, and no other.
+fn has_fields(fields: &ByteRecord, names: &[&[u8]]) -> bool
+    ensures { result ≡ has_fields (texts_of names.now) (fields_of fields.now) }
 {
-    field(fields, place) == text
+    if fields.len() != names.len() {
+        return false;
+    }
+    for (place, name) in names.iter().enumerate() {
+        if field(fields, place) != *name {
+            return false;
+        }
+    }
+    true
 }

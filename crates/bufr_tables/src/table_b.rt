@@ -1,5 +1,4 @@
-// Table B, the elements, read from CSV.
-
+//! Table B, the elements, read from CSV.
 ghost use Rattle.std.specs.Prelude.{◌≡◌, ◌≢◌, ◌<◌, [], ◌∷◌, ◌++◌, None, length, OnOk, IfErr, IfOk, IfSome, option_map, Ok, Err};
 ghost use Rattle.std.specs.List.{list_all};
 ghost use Rattle.csv.specs.Records.{fields_of};
@@ -8,26 +7,32 @@ ghost use Rattle.bufr_tables.specs.Entry.{row_with};
 ghost use Rattle.bufr_tables.specs.Kept.{Grows, IsInside, IsStored, row_kept};
 ghost use Rattle.bufr_tables.specs.Records.{records_of};
 ghost use Rattle.bufr_tables.specs.Steps.{Gives};
-ghost use Rattle.bufr_tables.specs.TableB.{AreRows, IsRow, Row, element_of, entry_of, fits_factor, factor_width, is_header, is_printed, plain_of, row_of, scale_of, table_b_of, width_of, with_record};
+ghost use Rattle.bufr_tables.specs.TableB.{AreRows, IsRow, Row, element_of, entry_of, fits_factor, factor_width, is_printed, plain_of, row_of, scale_of, table_b_of, width_of, with_record};
 
 use crate::directory::Directory;
 use crate::fault::TableFault;
 use crate::fxy::Fxy;
 use crate::kind::Kind;
 use crate::number::integer;
-use crate::records::{RecordReader, field, has_field};
+use crate::records::{RecordReader, field};
 use csv::ByteRecord;
 use std::alloc::{AllocError, Global};
 use std::marker::Model;
 
+/// The fields of the header.
+const HEADER: [&[u8]; 6] = [b"fxy", b"name", b"unit", b"scale", b"reference", b"width"];
+
 /// What Table B says of an element.
+///
+/// [`TableB::get`] promises the limits that stand here. The factors of delayed replications, 031000, 031001 and 031002,
+/// are no text and have 1, 8 and 16 bits, scale 0 and reference 0.
 #[derive(Clone, Copy, Debug, PartialEq, Eq)]
 pub struct Entry<'a> {
-    /// The name, as octets: the text of the table is not taken for UTF-8.
+    /// The name: at most 512 octets, none of them a control character of ASCII. They are not taken for UTF-8.
     pub name: &'a [u8],
-    /// The unit, as octets.
+    /// The unit, within the same limits.
     pub unit: &'a [u8],
-    /// What the values are, by the unit.
+    /// What the values are, as the unit says.
     pub kind: Kind,
     /// The scale, from -127 to 127: a value is (raw + reference) / 10^scale.
     pub scale: i16,
@@ -37,7 +42,7 @@ pub struct Entry<'a> {
     pub width: u32,
 }
 
-// The descriptor of an element.
+/// The descriptor of an element.
 #[tactic(auto, unfolding(crate::specs::TableB::element_of))]
 fn element(text: &[u8]) -> Option<Fxy>
     ensures value { result ≡ element_of text.now }
@@ -50,7 +55,7 @@ fn element(text: &[u8]) -> Option<Fxy>
     Some(fxy)
 }
 
-// A name or a unit.
+/// A name or a unit.
 #[tactic(auto, unfolding(crate::specs::TableB::plain_of))]
 fn plain(text: &[u8]) -> Option<&[u8]>
     ensures { option_map (λ s. s.now) result ≡ plain_of text.now }
@@ -61,21 +66,21 @@ fn plain(text: &[u8]) -> Option<&[u8]>
     Some(text)
 }
 
-// Whether no octet is a control character of ASCII.
+/// Whether no octet is a control character of ASCII.
 fn are_printed(text: &[u8]) -> bool
     ensures { result ≡ list_all is_printed text.now }
 {
     text.iter().all(|octet| is_printed(*octet))
 }
 
-// Whether an octet is no control character of ASCII.
+/// Whether an octet is no control character of ASCII.
 fn is_printed(octet: u8) -> bool
     ensures { result ≡ is_printed octet }
 {
     octet >= 32 && octet != 127
 }
 
-// A scale.
+/// A scale.
 #[tactic(auto, unfolding(crate::specs::TableB::scale_of))]
 fn scale(text: &[u8]) -> Option<i16>
     ensures { result ≡ scale_of text.now }
@@ -87,7 +92,7 @@ fn scale(text: &[u8]) -> Option<i16>
     Some(scale as i16)
 }
 
-// The width of an element of this kind, in bits.
+/// The width of an element of this kind, in bits.
 #[tactic(auto, unfolding(crate::specs::TableB::width_of))]
 fn width(kind: Kind, text: &[u8]) -> Option<u32>
     ensures { result ≡ width_of kind text.now }
@@ -107,15 +112,26 @@ fn width(kind: Kind, text: &[u8]) -> Option<u32>
     Some(width)
 }
 
-// Whether a replication factor may have this entry; another element may have any.
+/// The width of a factor of delayed replications, in bits.
+fn factor_width(fxy: Fxy) -> Option<u32>
+    ensures { result ≡ factor_width fxy }
+{
+    if !fxy.is_factor() {
+        return None;
+    }
+    match fxy.y() {
+        0 => Some(1),
+        1 => Some(8),
+        _ => Some(16),
+    }
+}
+
+/// Whether a factor of delayed replications may have this entry; another element may have any.
 fn fits_factor(fxy: Fxy, entry: &Entry) -> bool
     ensures { result ≡ fits_factor (factor_width fxy) (row_with fxy entry.now) }
 {
-    let width = match fxy.word() {
-        0x1f00 => 1,
-        0x1f01 => 8,
-        0x1f02 => 16,
-        _ => return true,
+    let Some(width) = factor_width(fxy) else {
+        return true;
     };
     entry.width == width
         && entry.scale == 0
@@ -123,7 +139,7 @@ fn fits_factor(fxy: Fxy, entry: &Entry) -> bool
         && entry.kind != Kind::Character
 }
 
-// The element that a record writes, where it writes one.
+/// The element that a record writes, where it writes one.
 #[tactic(auto, unfolding(crate::specs::TableB::row_of))]
 fn written(fields: &ByteRecord) -> Option<(Fxy, Entry<'_>)>
     ensures value { option_map (λ p. row_with p.0 p.1) result ≡ row_of (fields_of fields.now) }
@@ -150,8 +166,7 @@ fn written(fields: &ByteRecord) -> Option<(Fxy, Entry<'_>)>
     Some((fxy, entry))
 }
 
-// That element, which is within the limits.
-
+/// The same element, which is within the limits of a row.
 fn row(fields: &ByteRecord) -> Option<(Fxy, Entry<'_>)>
     ensures value { option_map (λ p. row_with p.0 p.1) result ≡ row_of (fields_of fields.now) }
     ensures element { IfSome result (λ p. p.0 < 16384) }
@@ -160,21 +175,7 @@ fn row(fields: &ByteRecord) -> Option<(Fxy, Entry<'_>)>
     written(fields)
 }
 
-// Whether a record is the header.
-#[tactic(auto, unfolding(crate::specs::TableB::is_header))]
-fn is_header(fields: &ByteRecord) -> bool
-    ensures { result ≡ is_header (fields_of fields.now) }
-{
-    fields.len() == 6
-        && has_field(fields, 0, b"fxy")
-        && has_field(fields, 1, b"name")
-        && has_field(fields, 2, b"unit")
-        && has_field(fields, 3, b"scale")
-        && has_field(fields, 4, b"reference")
-        && has_field(fields, 5, b"width")
-}
-
-// An element as the table keeps it: its name goes from `start` to `middle`, and its unit on to `end`.
+/// An element as the table keeps it: its name goes from `start` to `middle`, and its unit on to `end`.
 #[derive(Clone, Copy)]
 struct Stored {
     fxy: Fxy,
@@ -190,12 +191,19 @@ struct Stored {
 /// Table B: the elements, by their descriptors.
 ///
 /// A clause sees the table as the list of its rows, in the order of the file.
+///
+/// ```
+/// let text = b"fxy,name,unit,scale,reference,width\n012101,AIR TEMPERATURE,K,2,0,16\n";
+/// let table = TableB::read(rt.alloc(), text)?;
+/// let entry = table.get(Fxy::from_word(0x0c65)).ok_or("lacks the element")?;
+/// assert_eq!(rt; (entry.scale, entry.width), (2, 16));
+/// ```
 #[derive(Drop)]
 pub struct TableB {
-    // Names and units, one after another.
+    /// Names and units, one after another.
     octets: Vec<u8>,
     stored: Vec<Stored>,
-    // The descriptors of `stored`.
+    /// The descriptors of `stored`.
     directory: Directory,
 }
 
@@ -228,10 +236,7 @@ impl TableB {
         ensures read { Gives (table_b_of (records_of text.now)) result }
         ensures rows { IfOk result (AreRows (records_of text.now)) }
     {
-        let mut records = RecordReader::new(alloc, text);
-        if !records.advance()? || !is_header(records.record()) {
-            return Err(TableFault::Header);
-        }
+        let mut records = RecordReader::open(alloc, text, &HEADER)?;
         let mut table = TableB {
             octets: Vec::new(alloc),
             stored: Vec::new(alloc),
@@ -243,7 +248,7 @@ impl TableB {
         Ok(table)
     }
 
-    /// What the table says of an element, if it has it.
+    /// What the table says of an element, if it has it, within the limits that [`Entry`] states.
     pub fn get(&self, fxy: Fxy) -> Option<Entry<'_>>
         ensures value { option_map (row_with fxy) result ≡ entry_of self.now fxy }
         ensures limits { IfSome result (λ e. IsRow (row_with fxy e)) }
@@ -252,13 +257,13 @@ impl TableB {
         if fxy.f() != 0 {
             return None;
         }
-        let place = directory.place(fxy.word())?;
+        let place = directory.place(fxy.key())?;
         let octets = self.octets.as_slice();
         let stored = &self.stored[place];
         Some(entry_kept(octets, stored))
     }
 
-    // Adds the element of record `number`.
+    /// Adds the element of record `number`.
     #[tactic(auto, unfolding(crate::specs::TableB::with_record))]
     fn add(&mut self, number: u64, fields: &ByteRecord) -> Result<(), TableFault>
         ensures ok { OnOk result (with_record number self.old (fields_of fields.now) ≡ Ok self.new) }
@@ -277,7 +282,7 @@ impl TableB {
         Ok(())
     }
 
-    // Adds an element that the table lacks.
+    /// Adds an element that the table lacks.
     fn push(&mut self, fxy: Fxy, entry: &Entry) -> Result<(), AllocError>
         requires element { fxy < 16384 }
         requires absent { entry_of self.old fxy ≡ None }
@@ -286,12 +291,12 @@ impl TableB {
     {
         let stored = store(&mut self.octets, fxy, entry)?;
         self.stored.push(stored)?;
-        self.directory.add(fxy.word());
+        self.directory.add(fxy.key());
         Ok(())
     }
 }
 
-// Puts the name and the unit of an entry behind a block of octets.
+/// Puts the name and the unit of an entry behind a block of octets.
 fn store(octets: &mut Vec<u8>, fxy: Fxy, entry: &Entry) -> Result<Stored, AllocError>
     ensures grows { Grows octets.old.items octets.new.items }
     ensures ok { IfOk result (λ s. IsStored octets.new.items fxy entry.now s) }
@@ -313,7 +318,7 @@ fn store(octets: &mut Vec<u8>, fxy: Fxy, entry: &Entry) -> Result<Stored, AllocE
     })
 }
 
-// The entry of an element that is kept in this block of octets.
+/// The entry of an element that is kept in this block of octets.
 fn entry_kept<'a>(octets: &'a [u8], stored: &Stored) -> Entry<'a>
     requires { IsInside (length octets.now) stored.now }
     ensures { row_with stored.now.fxy result ≡ row_kept octets.now stored.now }

@@ -1,5 +1,4 @@
-// Table D, the sequences, read from CSV.
-
+//! Table D, the sequences, read from CSV.
 ghost use Rattle.std.specs.Prelude.{◌≡◌, ◌≢◌, ◌≤◌, ◌<◌, [], ◌∷◌, ◌++◌, None, length, slice_index, OnOk, IfErr, IfOk, IfSome, option_map, Ok, Err};
 ghost use Rattle.csv.specs.Records.{fields_of};
 ghost use Rattle.bufr_tables.specs.declared.fault.TableFault.TheVariants.{Memory};
@@ -7,24 +6,24 @@ ghost use Rattle.bufr_tables.specs.Chain.{Reads};
 ghost use Rattle.bufr_tables.specs.MemberRow.{row_with};
 ghost use Rattle.bufr_tables.specs.Records.{records_of};
 ghost use Rattle.bufr_tables.specs.Steps.{Gives};
-ghost use Rattle.bufr_tables.specs.TableD.{AreSequences, extended, fxys_of, is_header, is_last, member_of, members_of, sequence_of, table_d_of, with_record};
+ghost use Rattle.bufr_tables.specs.TableD.{AreSequences, extended, fxys_of, is_last, member_of, members_of, sequence_of, table_d_of, with_record};
 
 use crate::cycle::first_cycle;
 use crate::directory::Directory;
 use crate::fault::TableFault;
 use crate::fxy::Fxy;
-use crate::records::{RecordReader, field, has_field};
+use crate::records::{RecordReader, field};
 use csv::ByteRecord;
 use std::alloc::{AllocError, Global};
 use std::marker::Model;
 
-// How many rows the table may have.
+/// The fields of the header.
+const HEADER: [&[u8]; 2] = [b"fxy", b"member"];
+
+/// How many rows the table may have.
 const ROWS: u64 = 65536;
 
-// The word of the first sequence, 3 00 000.
-const FIRST: u16 = 49152;
-
-// The descriptor of a sequence.
+/// The descriptor of a sequence.
 #[tactic(auto, unfolding(crate::specs::TableD::sequence_of))]
 fn sequence(text: &[u8]) -> Option<Fxy>
     ensures value { result ≡ sequence_of text.now }
@@ -37,7 +36,7 @@ fn sequence(text: &[u8]) -> Option<Fxy>
     Some(fxy)
 }
 
-// The sequence and the member that a record writes, where it writes a row.
+/// The sequence and the member that a record writes, where it writes a row.
 #[tactic(auto, unfolding(crate::specs::TableD::member_of))]
 fn row(fields: &ByteRecord) -> Option<(Fxy, Fxy)>
     ensures value { option_map (λ p. row_with p.0 p.1) result ≡ member_of (fields_of fields.now) }
@@ -48,15 +47,7 @@ fn row(fields: &ByteRecord) -> Option<(Fxy, Fxy)>
     Some((sequence, member))
 }
 
-// Whether a record is the header.
-#[tactic(auto, unfolding(crate::specs::TableD::is_header))]
-fn is_header(fields: &ByteRecord) -> bool
-    ensures { result ≡ is_header (fields_of fields.now) }
-{
-    fields.len() == 2 && has_field(fields, 0, b"fxy") && has_field(fields, 1, b"member")
-}
-
-// The members of a sequence, from `start` to `end` of all members.
+/// The members of a sequence, from `start` to `end` of all members.
 #[derive(Clone, Copy)]
 struct Run {
     fxy: Fxy,
@@ -67,12 +58,19 @@ struct Run {
 /// Table D: the sequences, by their descriptors.
 ///
 /// A clause sees the table as the list of its sequences, in the order of the file.
+///
+/// ```
+/// let text = b"fxy,member\n360192,001001\n360192,012101\n";
+/// let table = TableD::read(rt.alloc(), text)?;
+/// let members = table.members(Fxy::from_word(0xfcc0)).ok_or("lacks the sequence")?;
+/// assert_eq!(rt; members.len(), 2);
+/// ```
 #[derive(Drop)]
 pub struct TableD {
-    // The members of all sequences, one after another.
+    /// The members of all sequences, one after another.
     members: Vec<Fxy>,
     runs: Vec<Run>,
-    // X and Y of the sequences of `runs`.
+    /// X and Y of the sequences of `runs`.
     directory: Directory,
 }
 
@@ -112,14 +110,11 @@ impl TableD {
         }
     }
 
-    // Reads the rows, whatever sequences reach themselves.
+    /// Reads the rows, whatever sequences reach themselves.
     fn read_rows(alloc: Global, text: &[u8]) -> Result<TableD, TableFault>
         ensures { Gives (table_d_of (records_of text.now)) result }
     {
-        let mut records = RecordReader::new(alloc, text);
-        if !records.advance()? || !is_header(records.record()) {
-            return Err(TableFault::Header);
-        }
+        let mut records = RecordReader::open(alloc, text, &HEADER)?;
         let mut table = TableD {
             members: Vec::new(alloc),
             runs: Vec::new(alloc),
@@ -139,26 +134,26 @@ impl TableD {
         if fxy.f() != 3 {
             return None;
         }
-        let place = directory.place(fxy.word() - FIRST)?;
+        let place = directory.place(fxy.key())?;
         let run = &self.runs[place];
         Some(&self.members[run.start..run.end])
     }
 
-    // How many sequences the table has.
+    /// How many sequences the table has.
     pub(crate) fn count(&self) -> usize
         ensures { result ≡ length self.now }
     {
         self.runs.len()
     }
 
-    // How many turns it takes at most to look at every row and every sequence.
+    /// How many turns it takes at most to look at every row and every sequence.
     pub(crate) fn turns(&self) -> usize {
         self.members
             .len()
             .saturating_add(self.runs.len().saturating_mul(2))
     }
 
-    // The descriptor of the sequence at a place of the file, counted from 0.
+    /// The descriptor of the sequence at a place of the file, counted from 0.
     pub(crate) fn sequence_at(&self, place: usize) -> Fxy
         requires { place < length self.now }
         ensures { result ≡ slice_index (fxys_of self.now) place }
@@ -166,7 +161,7 @@ impl TableD {
         self.runs[place].fxy
     }
 
-    // Adds the row of record `number`.
+    /// Adds the row of record `number`.
     #[tactic(auto, unfolding(crate::specs::TableD::with_record, crate::specs::TableD::added))]
     fn add(&mut self, number: u64, fields: &ByteRecord) -> Result<(), TableFault>
         ensures ok { OnOk result (with_record number self.old (fields_of fields.now) ≡ Ok self.new) }
@@ -193,7 +188,7 @@ impl TableD {
         Ok(())
     }
 
-    // Whether the last sequence is this one.
+    /// Whether the last sequence is this one.
     fn is_last(&self, sequence: Fxy) -> bool
         ensures { result ≡ is_last self.now sequence }
     {
@@ -203,7 +198,7 @@ impl TableD {
         }
     }
 
-    // Adds a member to the last sequence.
+    /// Adds a member to the last sequence.
     fn extend(&mut self, member: Fxy) -> Result<(), AllocError>
         requires { self.old ≢ [] }
         ensures ok { OnOk result (self.new ≡ extended self.old member) }
@@ -214,7 +209,7 @@ impl TableD {
         Ok(())
     }
 
-    // Adds a sequence that the table lacks, with one member.
+    /// Adds a sequence that the table lacks, with one member.
     fn begin(&mut self, sequence: Fxy, member: Fxy) -> Result<(), AllocError>
         requires low { 49152 ≤ sequence }
         requires high { sequence < 65536 }
@@ -231,7 +226,7 @@ impl TableD {
                 end: start + 1,
             })
             .unwrap();
-        self.directory.add(sequence.word() - FIRST);
+        self.directory.add(sequence.key());
         Ok(())
     }
 }

@@ -1,20 +1,22 @@
-// Templates: descriptor lists expanded to a tree (WMO-No. 306, Volume I.2, FM 94: section 3, Tables C and D).
-ghost use Rattle.std.specs.Prelude.{◌≡◌, ◌≢◌, ◌≤◌, Ok, Err, IfOk, IfErr, is_some};
+//! Templates: descriptor lists expanded to a tree (WMO-No. 306, Volume I.2, FM 94: section 3, Tables C and D), which is laid
+//! out in cells.
+ghost use Rattle.std.specs.Prelude.{◌≡◌, ◌≢◌, ◌≤◌, length, Ok, Err, IfOk, IfErr, is_some};
 ghost use Rattle.bufr_tables.specs.TableB.{entry_of};
 ghost use Rattle.bufr_tables.specs.TableD.{members_of};
 ghost use Rattle.bufr_tables.specs.Tree.{places as places_of, depth as depth_of};
 ghost use Rattle.bufr_tables.specs.Leaves.{leaves, Says};
-ghost use Rattle.bufr_tables.specs.Planted.{planted};
+ghost use Rattle.bufr_tables.specs.Cells.{IsLaid};
 ghost use Rattle.bufr_tables.specs.Known.{IsKnown};
 ghost use Rattle.bufr_tables.specs.Legal.{IsLegal};
 ghost use Rattle.bufr_tables.specs.Sound.{IsSound};
 ghost use Rattle.bufr_tables.specs.Expansion.{tree_of};
 ghost use Rattle.bufr_tables.specs.TemplateTables.{tables_of};
 
+mod cell;
 mod expander;
 mod fault;
 mod growing;
-mod node;
+mod passes;
 mod shapes;
 #[cfg(test)]
 mod tests;
@@ -22,10 +24,10 @@ mod tests;
 use crate::fxy::Fxy;
 use crate::table_b::TableB;
 use crate::table_d::TableD;
+pub use cell::Cell;
 use expander::Expander;
 pub use fault::TemplateFault;
-use growing::Growing;
-pub use node::Node;
+use growing::{Growing, push_cell};
 use shapes::first_of;
 use std::alloc::Global;
 use std::marker::Model;
@@ -34,13 +36,12 @@ use std::marker::Model;
 const MOST_OPEN: u32 = 32;
 
 /// A template: the tree of elements, operators and groups that a list of descriptors stands for, sequences replaced by
-/// their members (WMO-No. 306, Volume I.2, FM 94: section 3, Table D). A clause sees it as that tree.
+/// their members (WMO-No. 306, Volume I.2, FM 94: section 3, Table D), laid out in cells. A clause sees it as that tree.
 ///
 /// Some node of each group's body, and of the whole, takes bits of the data, so that a pass of a group is never free.
 #[derive(Debug, Drop)]
 pub struct Template {
-    nodes: Vec<Node>,
-    places: u32,
+    cells: Vec<Cell>,
     depth: u32,
 }
 
@@ -52,29 +53,39 @@ impl Model for Template {
 
     ghost coded = { tree_code };
 
-    ghost use Rattle.bufr_tables.specs.Planted.{planted};
-    ghost use Rattle.bufr_tables.specs.Counted.{IsCounted};
+    ghost use Rattle.bufr_tables.specs.Cells.{raised, IsKept};
 
-    ghost view = { λ a. planted a.nodes.items };
+    ghost view = { λ a. raised a.cells.items };
 
-    ghost invariant = { λ a. IsCounted (planted a.nodes.items) a.places a.depth };
+    ghost invariant = { λ a. IsKept a.cells.items a.depth (raised a.cells.items) };
 }
 
 impl Template {
-    /// Expands a list of descriptors, depth first, from left to right. The first fault counts:
+    /// Expands a list of descriptors, depth first, from left to right, and lays the tree out in cells.
     ///
-    /// - at a replication 1 X Y: `GroupShape` where X is 0; `NoFactor` where Y is 0 and no factor follows (0 31 000,
-    ///   0 31 001 or 0 31 002), `UnknownElement` with the factor where Table B lacks it; `GroupShape` where fewer than X
-    ///   descriptors are left in the same list, the factor not among them; then `Depth`, `TemplateSize`, the faults of
-    ///   its body, and `EmptyGroup` where no node of the body takes bits of the data;
-    /// - at a sequence: `UnknownSequence` where Table D lacks it, then `Depth`, then the faults of its members;
-    /// - at an element: `UnknownElement` where Table B lacks it, unless 2 06 Y stands before it; then `TemplateSize`;
-    /// - at an operator: `Operator` where it, or its operand, is none that a template may hold; `LocalShape` where 2 06 Y
-    ///   is not followed by an element in the same list; then `TemplateSize`;
-    /// - at the end: `EmptyGroup` with the first descriptor (000000 where there is none) where no node takes bits.
+    /// At most 32 groups and sequences are open together, and a template takes at most 65,535 places ([`Template::places`]
+    /// counts them), so a list that would expand to more is refused after that many.
     ///
-    /// At most 32 groups and sequences are open together, and a template takes at most 65,535 places (`places` counts
-    /// them), so a list that would expand to more is refused after that many. `Memory` where memory runs out.
+    /// # Errors
+    ///
+    /// The first fault that is met:
+    ///
+    /// - at a replication 1 X Y: [`TemplateFault::GroupShape`] where X is 0; [`TemplateFault::NoFactor`] where Y is 0 and no
+    ///   factor follows (0 31 000, 0 31 001 or 0 31 002), [`TemplateFault::UnknownElement`] with the factor where Table B
+    ///   lacks it; [`TemplateFault::GroupShape`] where fewer than X descriptors are left in the same list, the factor not
+    ///   among them; then [`TemplateFault::Depth`], [`TemplateFault::TemplateSize`], the faults of its body, and
+    ///   [`TemplateFault::EmptyGroup`] where no node of the body takes bits of the data;
+    /// - at a sequence: [`TemplateFault::UnknownSequence`] where Table D lacks it, then [`TemplateFault::Depth`], then the
+    ///   faults of its members;
+    /// - at an element: [`TemplateFault::UnknownElement`] where Table B lacks it, unless 2 06 Y stands before it; then
+    ///   [`TemplateFault::TemplateSize`];
+    /// - at an operator: [`TemplateFault::Operator`] where it, or its operand, is none that a template may hold;
+    ///   [`TemplateFault::LocalShape`] where 2 06 Y is not followed by an element in the same list; then
+    ///   [`TemplateFault::TemplateSize`];
+    /// - at the end: [`TemplateFault::EmptyGroup`] with the first descriptor (000000 where there is none) where no node
+    ///   takes bits.
+    ///
+    /// [`TemplateFault::Memory`] where memory runs out, at any growth.
     pub fn build(
         alloc: Global,
         descriptors: &[Fxy],
@@ -96,27 +107,20 @@ impl Template {
         ensures within { IfOk result (λ template. places_of template ≤ 65535) }
         ensures shallow { IfOk result (λ template. depth_of template ≤ 32) }
     {
-        let expander = Expander {
-            alloc,
-            table_b,
-            table_d,
-        };
-        let mut growing = Growing::new(alloc, 1);
+        let expander = Expander { table_b, table_d };
+        let mut growing = Growing::new(alloc);
         expander.list(descriptors, MOST_OPEN, &mut growing)?;
         if !growing.consumes {
             return Err(TemplateFault::EmptyGroup(first_of(descriptors)));
         }
         let Growing {
-            nodes,
-            places,
+            mut cells,
+            open_groups: _,
             depth,
             consumes: _,
         } = growing;
-        Ok(Template {
-            nodes,
-            places,
-            depth,
-        })
+        push_cell(&mut cells, Cell::Finish)?;
+        Ok(Template { cells, depth })
     }
 
     /// How many places it takes, from 2 to 65,535: one for its end, one for each element and operator, two for a group
@@ -125,7 +129,7 @@ impl Template {
         ensures value { result ≡ places_of self.now }
         ensures most { result ≤ 65535 }
     {
-        self.places
+        self.cells.len() as u32
     }
 
     /// The greatest number of groups open at one place, from 0 to 32. Takes no memory.
@@ -136,12 +140,13 @@ impl Template {
         self.depth
     }
 
-    /// Its nodes, the outermost ones, in the order of the data. Takes no memory.
-    pub fn nodes(&self) -> &[Node]
-        ensures value { planted result.now ≡ self.now }
-        ensures sound { IsSound self.now }
-        ensures legal { IsLegal self.now }
+    /// Its cells in the order of the data, as many as [`Template::places`] tells. The cells of a group are
+    /// [`Cell::Fixed`], or [`Cell::Delayed`] and [`Cell::Factor`], then those of its body, then [`Cell::PassEnd`]; the
+    /// last cell is [`Cell::Finish`]. Takes no memory.
+    pub fn cells(&self) -> &[Cell]
+        ensures laid { IsLaid result.now self.now }
+        ensures count { length result.now ≡ places_of self.now }
     {
-        self.nodes.as_slice()
+        self.cells.as_slice()
     }
 }

@@ -1,24 +1,11 @@
+//! The tables and their faults, run.
+
+use crate::test_tables::{TABLE_B, TABLE_D};
 use crate::{Entry, Fxy, Kind, TableB, TableD, TableFault};
 use std::alloc::{AllocError, Global};
 use std::test::Fail;
 
-const TABLE_B: &[u8] = b"fxy,name,unit,scale,reference,width
-001001,WMO BLOCK NUMBER,Numeric,0,0,7
-001015,STATION OR SITE NAME,CCITT IA5,0,0,160
-005002,LATITUDE (COARSE ACCURACY),degree,2,-9000,15
-012101,AIR TEMPERATURE,K,2,0,16
-020003,PRESENT WEATHER,Code table,0,0,9
-031000,SHORT DELAYED DESCRIPTOR REPLICATION FACTOR,Numeric,0,0,1
-031001,DELAYED DESCRIPTOR REPLICATION FACTOR,Numeric,0,0,8
-031002,EXTENDED DELAYED DESCRIPTOR REPLICATION FACTOR,Numeric,0,0,16
-";
-
-const TABLE_D: &[u8] = b"fxy,member
-360192,001001
-360192,012101
-";
-
-// The descriptors with these words and their texts.
+/// The descriptors with these words and their texts.
 #[test]
 fn descriptors(rt: HostRuntime) -> Result<(), Fail> {
     for (word, text) in [
@@ -38,10 +25,20 @@ fn descriptors(rt: HostRuntime) -> Result<(), Fail> {
     }
     let fxy = Fxy::from_word(0xfcc0);
     assert_eq!(rt; (fxy.f(), fxy.x(), fxy.y()), (3, 60, 192));
+    for (word, is_factor) in [
+        (0x1effu16, false),
+        (0x1f00, true),
+        (0x1f01, true),
+        (0x1f02, true),
+        (0x1f03, false),
+        (0x5f01, false),
+    ] {
+        assert_eq!(rt; Fxy::from_word(word).is_factor(), is_factor, "at {word}");
+    }
     Ok(())
 }
 
-// Each fault as text.
+/// Each fault as text.
 #[test]
 fn fault_texts(rt: HostRuntime) -> Result<(), Fail> {
     let local = Fxy::from_word(0x0101);
@@ -72,7 +69,7 @@ fn fault_texts(rt: HostRuntime) -> Result<(), Fail> {
     Ok(())
 }
 
-// Text of rows under a header.
+/// Text of rows under a header.
 fn under(alloc: Global, header: &[u8], rows: &[u8]) -> Result<Vec<u8>, AllocError> {
     let mut text = Vec::from_slice(alloc, header)?;
     text.extend_from_slice(rows)?;
@@ -332,7 +329,7 @@ fn faults_of_table_d(rt: HostRuntime) -> Result<(), Fail> {
     Ok(())
 }
 
-// A name or a unit of this many octets.
+/// A name or a unit of this many octets.
 fn long_name(alloc: Global, octets: usize, as_unit: bool) -> Result<Option<TableFault>, Fail> {
     let mut text = Vec::from_slice(alloc, HEADER_B)?;
     text.extend_from_slice(if as_unit {
@@ -360,7 +357,7 @@ fn long_names(rt: HostRuntime) -> Result<(), Fail> {
     Ok(())
 }
 
-// A row of Table D.
+/// A row of Table D.
 fn push_row(text: &mut Vec<u8>, sequence: u16, member: u16) -> Result<(), AllocError> {
     text.extend_from_slice(&Fxy::from_word(sequence).text())?;
     text.push(b',')?;
@@ -387,8 +384,8 @@ fn as_many_rows_as_may_be(rt: HostRuntime) -> Result<(), Fail> {
     Ok(())
 }
 
-// Every sequence that there is, each of four rows that name the one after it, or with `back` the one before it; the last
-// ends the chain, or with `cycle` holds itself.
+/// Every sequence that there is, each of four rows that name the one after it, or with `back` the one before it; the last
+/// ends the chain, or with `cycle` holds itself.
 fn long_chain(alloc: Global, back: bool, cycle: bool) -> Result<Vec<u8>, AllocError> {
     let mut text = Vec::from_slice(alloc, HEADER_D)?;
     for key in 0..16384u16 {
@@ -416,7 +413,7 @@ fn long_chains(rt: HostRuntime) -> Result<(), Fail> {
     Ok(())
 }
 
-// A table of as many elements and rows as the WMO's tables have, and more.
+/// A table of as many elements and rows as the WMO's tables have, and more.
 #[test]
 fn tables_of_usual_size(rt: HostRuntime) -> Result<(), Fail> {
     let mut elements = Vec::from_slice(rt.alloc(), HEADER_B)?;

@@ -16,9 +16,9 @@ use Rattle.bufr_walk.specs.Turns.{Rest, unroll, passes, turns_of}
 use Rattle.bufr_walk.specs.Course.{next_item}
 use Rattle.bufr_walk.specs.declared.walk.WalkStop.{WalkStop}
 use Rattle.bufr_walk.specs.declared.walk.Frame.{Frame}
-use Rattle.bufr_walk.specs.declared.cells.Cell.{Cell}
-use Rattle.bufr_walk.specs.declared.cells.Cell.TheVariants as cell
-use Rattle.bufr_walk.specs.Cells.{lay, IsLaid}
+use Rattle.bufr_tables.specs.declared.template.cell.Cell.{Cell}
+use Rattle.bufr_tables.specs.declared.template.cell.Cell.TheVariants as cell
+use Rattle.bufr_tables.specs.Cells.{lay, IsLaid}
 use Rattle.bufr_walk.specs.Walked.{Walked}
 use Rattle.bufr_walk.specs.Ways.{course, Came, StopsIn, Took}
 use Rattle.bufr_walk.specs.Stop.{stop_by}

@@ -2,10 +2,10 @@
 use Rattle.std.proofs.Common.{◌≡◌, ℕ, zero, suc, ◌+◌, ◌-◌, ◌*◌, ◌^◌, ◌<◌, List, [], ◌∷◌, ◌++◌, length, drop, get_or, refl, sym, ◌∙◌, ap, arith, add-zero, zero-add, add_assoc}
 use Rattle.std.proofs.lemmas.List.{drop-drop}
 use Rattle.bufr_tables.specs.Tree.{Tree, bare, element, operator, fixed, delayed, size}
-use Rattle.bufr_walk.specs.declared.cells.Cell.{Cell}
-use Rattle.bufr_walk.specs.declared.cells.Cell.TheVariants as cell
+use Rattle.bufr_tables.specs.declared.template.cell.Cell.{Cell}
+use Rattle.bufr_tables.specs.declared.template.cell.Cell.TheVariants as cell
 use Rattle.bufr_walk.specs.declared.walk.Frame.{Frame}
-use Rattle.bufr_walk.specs.Cells.{lay}
+use Rattle.bufr_tables.specs.Cells.{lay}
 use Rattle.bufr_walk.specs.Flat.{tail_of, costs, owed, Seen}
 
 skip : (a b k : ℕ) (xs ys zs : List Cell) → drop a xs ≡ ys → drop b ys ≡ zs → k ≡ a + b → drop k xs ≡ zs

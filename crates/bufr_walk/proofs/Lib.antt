@@ -1,6 +1,5 @@
 mod Examples
 pub mod OneOutcome
-pub mod Laying
 pub mod SpecLemmas
 pub mod WaysLemmas
 pub mod FieldWays

@@ -17,7 +17,6 @@ pub mod Kept
 pub mod Taking
 pub mod Ticks
 pub mod Numbers
-pub mod Cells
 pub mod InForce
 pub mod Stop
 pub mod Walked

@@ -1,7 +1,7 @@
 //! The data of FM 94 BUFR: one walk over a template, and the reading of a message's data.
 #![tactic(auto)]
 
-pub mod cells;
+mod cells;
 mod fault;
 pub mod fields;
 pub mod in_force;

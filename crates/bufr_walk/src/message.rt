@@ -5,12 +5,11 @@ ghost use Rattle.bufr_walk.specs.Course.{next_item};
 ghost use Rattle.bufr_walk.specs.Fault.{bits_before};
 ghost use Rattle.bufr_walk.specs.Outcome.{data_of, IsFault, IsReadingOf};
 
-use crate::cells::Template;
 use crate::fault::WalkFault;
 use crate::reading::Reading;
 use crate::steps::Steps;
 use bufr_frame::Message;
-use bufr_tables::TableB;
+use bufr_tables::{TableB, Template};
 use std::alloc::Global;
 
 /// Reads the data of a message by its template, in one pass for each subset, or in one pass for all where the data are

@@ -11,13 +11,12 @@ ghost use Rattle.bufr_walk.specs.Passes.{PassReads, PassStops};
 ghost use Rattle.bufr_walk.specs.PlainIn.{fault_at};
 ghost use Rattle.bufr_walk.specs.Reading.{Item, apart};
 
-use crate::cells::Template;
 use crate::fault::{Spot, WalkFault};
 use crate::plain_in::{DataEnd, PlainIn};
 use crate::steps::Steps;
 use crate::walk::{WalkStop, walk};
 use bufr_bits::BitSlice;
-use bufr_tables::TableB;
+use bufr_tables::{TableB, Template};
 use std::alloc::Global;
 
 /// The fault that a walk's stop is.

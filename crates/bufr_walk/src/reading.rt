@@ -1,5 +1,4 @@
 // What a message's data were read as.
-use crate::cells::Template;
 use crate::fault::{ShowFault, WalkFault};
 use crate::read_packed::KeptItem;
 use crate::read_plain::read_plain;
@@ -8,7 +7,7 @@ use crate::steps::Steps;
 use crate::visitor::Visitor;
 use bufr_bits::BitSlice;
 use bufr_frame::Message;
-use bufr_tables::TableB;
+use bufr_tables::{TableB, Template};
 use std::alloc::Global;
 use std::marker::Model;
 

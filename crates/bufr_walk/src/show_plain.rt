@@ -13,7 +13,6 @@ ghost use Rattle.bufr_walk.specs.Reading.{Item, plain, ReadsAll, ReadsSubsets, t
 ghost use Rattle.bufr_walk.specs.Shown.{IsEnd, MayEnd, ItemsGo, SubsetGoes};
 ghost use Rattle.bufr_walk.specs.Shows.{Shows};
 
-use crate::cells::Template;
 use crate::fault::ShowFault;
 use crate::fields::Fields;
 use crate::plain_in::PlainIn;
@@ -22,7 +21,7 @@ use crate::steps::Steps;
 use crate::visitor::{ItemView, Visitor};
 use crate::walk::{WalkStop, walk};
 use bufr_bits::BitSlice;
-use bufr_tables::{Entry, TableB};
+use bufr_tables::{Entry, TableB, Template};
 use std::alloc::Global;
 
 /// What Table B says of the field's element, where the field is read by it.

@@ -5,19 +5,19 @@ ghost use Rattle.bufr_tables.specs.Tree.{Tree, places};
 ghost use Rattle.bufr_walk.specs.Course.{next_item};
 ghost use Rattle.bufr_walk.specs.Settings.{Settings, after_field};
 ghost use Rattle.bufr_walk.specs.Turns.{Rest};
-ghost use Rattle.bufr_walk.specs.Cells.{IsLaid};
+ghost use Rattle.bufr_tables.specs.Cells.{IsLaid};
 ghost use Rattle.bufr_walk.specs.Flat.{Stands, Turned};
 ghost use Rattle.bufr_walk.specs.Ticks.{ticked};
 ghost use Rattle.bufr_walk.specs.Walked.{Walked};
 ghost use Rattle.bufr_walk.specs.Ways.{Took};
 
-use crate::cells::{Cell, Template, cell_at};
+use crate::cells::cell_at;
 use crate::fields::Fields;
 use crate::in_force::InForce;
 use crate::spec::{Refusal, Spec, Taken};
 use crate::steps::Steps;
 use arrayvec::ArrayVec;
-use bufr_tables::{Fxy, TableB};
+use bufr_tables::{Cell, Fxy, TableB, Template};
 use std::alloc::Global;
 
 /// Why a walk stopped.

@@ -1,33 +1,28 @@
-// The expansion of descriptors, depth first, from left to right.
-//
-// Each descriptor that is looked at takes a place, opens a group or a sequence, or is a fault. A sequence has a member at
-// least, and at most 32 groups and sequences are open together, so that few are looked at for each place, and 65,535
-// places are the most: a hostile list is refused soon, whatever the tables hold. The recursion ends by `room` alone.
-ghost use Rattle.std.specs.Prelude.{◌≡◌, ◌+◌, ◌<◌, ◌≤◌, Ok, length, IfOk, MatchResult};
+//! The expansion of descriptors, depth first, from left to right.
+//!
+//! Each descriptor that is looked at takes a place, opens a group or a sequence, or is a fault. A sequence has a member at
+//! least, and at most 32 groups and sequences are open together, so that few are looked at for each place, and 65,535
+//! places are the most: a hostile list is refused soon, whatever the tables hold. The recursion ends by `room` alone.
+ghost use Rattle.std.specs.Prelude.{◌≡◌, ◌≤◌, length, IfOk};
 ghost use Rattle.bufr_tables.specs.Fxy.{x_of};
-ghost use Rattle.bufr_tables.specs.Tree.{size};
-ghost use Rattle.bufr_tables.specs.Planted.{planted};
-ghost use Rattle.bufr_tables.specs.Expansion.{Tables, part_of, element_part, operator_part, group_part, fixed_part, delayed_part, sequence_part, body_of};
-ghost use Rattle.bufr_tables.specs.Growth.{GivesTree, GivesPart, Refuses};
+ghost use Rattle.bufr_tables.specs.Expansion.{part_of, element_part, operator_part, group_part, fixed_part, delayed_part, sequence_part};
+ghost use Rattle.bufr_tables.specs.Growth.{places_of, GivesTree, GivesPart};
 ghost use Rattle.bufr_tables.specs.Growing.{growth_of};
-ghost use Rattle.bufr_tables.specs.Expander.{tables_in, inner_in, list_in};
+ghost use Rattle.bufr_tables.specs.Expander.{tables_in, inner_in, list_in, group_in};
 
 use super::fault::TemplateFault;
-use super::growing::{Growing, with_places};
-use super::shapes::{
-    before, begins_with_element, behind, gives_width, is_factor, is_legal_operator,
-};
+use super::growing::Growing;
+use super::passes::Passes;
+use super::shapes::{before, begins_with_element, behind};
 use crate::fxy::Fxy;
 use crate::table_b::TableB;
 use crate::table_d::TableD;
-use std::alloc::Global;
 
-/// The two tables, and the allocator of the nodes.
+/// What expands lists: the two tables.
 #[derive(Drop)]
-pub struct Expander<'a> {
-    pub alloc: Global,
-    pub table_b: &'a TableB,
-    pub table_d: &'a TableD,
+pub(crate) struct Expander<'a> {
+    pub(crate) table_b: &'a TableB,
+    pub(crate) table_d: &'a TableD,
 }
 
 impl Expander<'_> {
@@ -40,16 +35,21 @@ impl Expander<'_> {
 
     /// Expands a list behind what has grown, with room to open so many groups and sequences more.
     #[cycle(expansion)]
-    pub fn list(&self, list: &[Fxy], room: u32, growing: &mut Growing) -> Result<(), TemplateFault>
+    pub(crate) fn list(
+        &self,
+        list: &[Fxy],
+        room: u32,
+        growing: &mut Growing,
+    ) -> Result<(), TemplateFault>
         ensures { GivesTree (growth_of growing.old)
-            (list_in self.now room growing.old.places list.now)
+            (list_in self.now room (places_of (growth_of growing.old)) list.now)
             result (growth_of growing.new) }
     {
         let mut rest = list;
         let mut width_given = false;
         while let Some((fxy, after)) = rest.split_first() {
             let taken = self.part(*fxy, after, width_given, room, growing)?;
-            width_given = gives_width(*fxy);
+            width_given = fxy.gives_width();
             rest = behind(after, taken);
         }
         Ok(())
@@ -66,7 +66,7 @@ impl Expander<'_> {
         growing: &mut Growing,
     ) -> Result<usize, TemplateFault>
         ensures gives { GivesPart (growth_of growing.old)
-            (part_of (tables_in self.now) (inner_in self.now room) width_given growing.old.places fxy after.now)
+            (part_of (tables_in self.now) (inner_in self.now room) width_given (places_of (growth_of growing.old)) fxy after.now)
             result (growth_of growing.new) }
         ensures within { IfOk result (λ taken. taken ≤ length after.now) }
     {
@@ -86,7 +86,7 @@ impl Expander<'_> {
         growing: &mut Growing,
     ) -> Result<usize, TemplateFault>
         ensures gives { GivesPart (growth_of growing.old)
-            (element_part (tables_in self.now) width_given growing.old.places fxy)
+            (element_part (tables_in self.now) width_given (places_of (growth_of growing.old)) fxy)
             result (growth_of growing.new) }
         ensures none { IfOk result (λ taken. taken ≡ 0) }
     {
@@ -107,7 +107,7 @@ impl Expander<'_> {
         growing: &mut Growing,
     ) -> Result<usize, TemplateFault>
         ensures gives { GivesPart (growth_of growing.old)
-            (group_part (tables_in self.now) (inner_in self.now room) growing.old.places fxy after.now)
+            (group_part (tables_in self.now) (inner_in self.now room) (places_of (growth_of growing.old)) fxy after.now)
             result (growth_of growing.new) }
         ensures within { IfOk result (λ taken. taken ≤ length after.now) }
     {
@@ -131,12 +131,12 @@ impl Expander<'_> {
         growing: &mut Growing,
     ) -> Result<usize, TemplateFault>
         ensures gives { GivesPart (growth_of growing.old)
-            (fixed_part (inner_in self.now room) growing.old.places fxy after.now)
+            (fixed_part (inner_in self.now room) (places_of (growth_of growing.old)) fxy after.now)
             result (growth_of growing.new) }
         ensures within { IfOk result (λ taken. taken ≤ length after.now) }
     {
-        let body = self.body(fxy, after, 2, room, growing.places)?;
-        growing.push_fixed(fxy.y(), body)?;
+        let passes = Passes::Fixed(fxy.y());
+        self.group_of(fxy, &passes, after, room, growing)?;
         Ok(usize::from(fxy.x()))
     }
 
@@ -150,40 +150,37 @@ impl Expander<'_> {
         growing: &mut Growing,
     ) -> Result<usize, TemplateFault>
         ensures gives { GivesPart (growth_of growing.old)
-            (delayed_part (tables_in self.now) (inner_in self.now room) growing.old.places fxy after.now)
+            (delayed_part (tables_in self.now) (inner_in self.now room) (places_of (growth_of growing.old)) fxy after.now)
             result (growth_of growing.new) }
         ensures within { IfOk result (λ taken. taken ≤ length after.now) }
     {
         let Some((factor, behind_factor)) = after.split_first() else {
             return Err(TemplateFault::NoFactor(fxy));
         };
-        if !is_factor(*factor) {
+        if !factor.is_factor() {
             return Err(TemplateFault::NoFactor(fxy));
         }
         if !self.knows(*factor) {
             return Err(TemplateFault::UnknownElement(*factor));
         }
-        let body = self.body(fxy, behind_factor, 3, room, growing.places)?;
-        growing.push_delayed(*factor, body)?;
+        let passes = Passes::Delayed(*factor);
+        self.group_of(fxy, &passes, behind_factor, room, growing)?;
         Ok(1 + usize::from(fxy.x()))
     }
 
-    /// The body of a group: the next X descriptors, behind the group's own places; some node of it takes bits.
+    /// A group whose body is the next X descriptors; some node of it takes bits.
     #[cycle(expansion)]
-    fn body(
+    fn group_of(
         &self,
         fxy: Fxy,
+        passes: &Passes,
         after: &[Fxy],
-        own: u32,
         room: u32,
-        places: u32,
-    ) -> Result<Growing, TemplateFault>
-        requires within { places ≤ 65535 }
-        requires least { 2 ≤ own }
-        requires most { own ≤ 3 }
-        ensures body { let defined = body_of (inner_in self.now room) places own fxy after.now in
-            MatchResult result (λ body. defined ≡ Ok (planted body.nodes.items)) (λ why. Refuses defined why) }
-        ensures places { IfOk result (λ body. body.places ≡ places + own + size (planted body.nodes.items)) }
+        growing: &mut Growing,
+    ) -> Result<(), TemplateFault>
+        ensures gives { GivesTree (growth_of growing.old)
+            (group_in self.now room passes.now (places_of (growth_of growing.old)) fxy after.now)
+            result (growth_of growing.new) }
         ensures taken { IfOk result (λ _. x_of fxy ≤ length after.now) }
     {
         let count = usize::from(fxy.x());
@@ -193,19 +190,19 @@ impl Expander<'_> {
         if room == 0 {
             return Err(TemplateFault::Depth(fxy));
         }
-        let mut body = Growing::new(self.alloc, with_places(places, own, fxy)?);
-        self.list(before(after, count), room - 1, &mut body)?;
-        if !body.consumes {
+        let place = growing.open(fxy, passes)?;
+        self.list(before(after, count), room - 1, growing)?;
+        if !growing.consumes {
             return Err(TemplateFault::EmptyGroup(fxy));
         }
-        Ok(body)
+        growing.close(place, passes)
     }
 
     /// A sequence: its members stand in its place.
     #[cycle(expansion)]
     fn sequence(&self, fxy: Fxy, room: u32, growing: &mut Growing) -> Result<usize, TemplateFault>
         ensures gives { GivesPart (growth_of growing.old)
-            (sequence_part (tables_in self.now) (inner_in self.now room) growing.old.places fxy)
+            (sequence_part (tables_in self.now) (inner_in self.now room) (places_of (growth_of growing.old)) fxy)
             result (growth_of growing.new) }
         ensures none { IfOk result (λ taken. taken ≡ 0) }
     {
@@ -223,14 +220,14 @@ impl Expander<'_> {
 /// An operator; one that gives a width stands before an element.
 fn operator(fxy: Fxy, after: &[Fxy], growing: &mut Growing) -> Result<usize, TemplateFault>
     ensures gives { GivesPart (growth_of growing.old)
-        (operator_part growing.old.places fxy after.now)
+        (operator_part (places_of (growth_of growing.old)) fxy after.now)
         result (growth_of growing.new) }
     ensures none { IfOk result (λ taken. taken ≡ 0) }
 {
-    if !is_legal_operator(fxy) {
+    if !fxy.is_legal_operator() {
         return Err(TemplateFault::Operator(fxy));
     }
-    if gives_width(fxy) && !begins_with_element(after) {
+    if fxy.gives_width() && !begins_with_element(after) {
         return Err(TemplateFault::LocalShape(fxy));
     }
     growing.push_operator(fxy)?;

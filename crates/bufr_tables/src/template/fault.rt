@@ -1,4 +1,4 @@
-// Why a list of descriptors makes no template.
+//! Why a list of descriptors makes no template.
 use crate::fxy::Fxy;
 use thiserror::Error;
 
@@ -6,34 +6,34 @@ use thiserror::Error;
 #[derive(Clone, Copy, Debug, PartialEq, Eq, Drop, Error)]
 pub enum TemplateFault {
     /// Table B lacks the element, or the replication factor.
-    #[error("20 unknown element {0}")]
+    #[error("unknown element {0}")]
     UnknownElement(Fxy),
     /// Table D lacks the sequence.
-    #[error("21 unknown sequence {0}")]
+    #[error("unknown sequence {0}")]
     UnknownSequence(Fxy),
     /// The operator, or its operand, is none that a template may hold (Table C).
-    #[error("22 operator {0}")]
+    #[error("operator {0}")]
     Operator(Fxy),
     /// The replication takes no descriptor, or more than its list has left.
-    #[error("23 group shape {0}")]
+    #[error("group shape {0}")]
     GroupShape(Fxy),
     /// The delayed replication is not followed by a factor: 0 31 000, 0 31 001 or 0 31 002.
-    #[error("24 no factor {0}")]
+    #[error("no factor {0}")]
     NoFactor(Fxy),
     /// No node of the group's body takes bits of the data; or none of the whole list, with its first descriptor, or 000000.
-    #[error("25 empty group {0}")]
+    #[error("empty group {0}")]
     EmptyGroup(Fxy),
     /// The group or sequence would be the 33rd of those that are open together.
-    #[error("26 depth {0}")]
+    #[error("depth {0}")]
     Depth(Fxy),
     /// The element, operator or group would bring the template over 65,535 places.
-    #[error("27 template size {0}")]
+    #[error("template size {0}")]
     TemplateSize(Fxy),
     /// The operator 2 06 Y is not followed by an element in its list.
-    #[error("28 local shape {0}")]
+    #[error("local shape {0}")]
     LocalShape(Fxy),
     /// Memory ran out.
-    #[error("73 out of memory")]
+    #[error("out of memory")]
     Memory,
 }
 

@@ -1,131 +1,137 @@
-// Nodes in the making, and what is known of them already.
-ghost use Rattle.std.specs.Prelude.{◌≡◌, ◌+◌, ◌<◌, ◌≤◌, Ok, Err, MatchResult, OnOk, OnErr, IfErr};
-ghost use Rattle.bufr_tables.specs.Tree.{bare, join, depth as Tree_depth, consumes as Tree_consumes};
-ghost use Rattle.bufr_tables.specs.Planted.{grown, planted};
-ghost use Rattle.bufr_tables.specs.Expansion.{with_places as places_are_left};
+//! The cells of a template in the making.
+ghost use Rattle.std.specs.Prelude.{◌≡◌, ◌+◌, ◌<◌, ◌≤◌, ◌++◌, ◌∷◌, [], length, Ok, Err, MatchResult, OnOk, OnErr, IfErr, IfOk};
+ghost use Rattle.bufr_tables.specs.Expansion.{with_places};
+ghost use Rattle.bufr_tables.specs.Passes.{factor_cells};
 
+use super::cell::Cell;
 use super::fault::TemplateFault;
-use super::node::Node;
+use super::passes::Passes;
 use crate::fxy::Fxy;
 use std::alloc::Global;
 
 /// The most places that a template may take.
 const MOST_PLACES: u32 = 65_535;
 
-/// The nodes of one list, as far as it has been expanded.
+/// The cells of a template, as far as its list has been expanded.
 #[derive(Drop)]
-pub struct Growing {
-    pub nodes: Vec<Node>,
-    // Up to here, the end of the template and what is open round these nodes among them.
-    pub places: u32,
-    pub depth: u32,
-    pub consumes: bool,
-    pub ghost within: { places ≤ 65535 },
-    pub ghost deep: { depth ≡ Tree_depth (planted nodes.items) },
-    pub ghost consuming: { consumes ≡ Tree_consumes (planted nodes.items) },
+pub(crate) struct Growing {
+    /// The cells so far.
+    pub(crate) cells: Vec<Cell>,
+    /// How many groups are open; the end of each is still to come.
+    pub(crate) open_groups: u32,
+    /// The most groups that were open together.
+    pub(crate) depth: u32,
+    /// Whether some node of the innermost open list takes bits of the data.
+    pub(crate) consumes: bool,
+    pub(crate) ghost within: { length cells.items + open_groups < 65535 },
+    pub(crate) ghost around: { open_groups ≤ depth },
 }
 
-/// The places and so many more, or the fault of the descriptor that asks for more than there are.
-pub fn with_places(places: u32, more: u32, fxy: Fxy) -> Result<u32, TemplateFault>
+/// The fault of the descriptor that asks for so many places more, where they are too many.
+fn check_places(places: u32, more: u32, fxy: Fxy) -> Result<(), TemplateFault>
     requires within { places ≤ 65535 }
     requires few { more ≤ 3 }
-    ensures sum { MatchResult result (λ sum. (sum ≡ places + more) × (sum ≤ 65535)) (λ _. Unit {0}) }
-    ensures gives { MatchResult result (λ _. places_are_left places more fxy ≡ Ok tt) (λ why. places_are_left places more fxy ≡ Err why) }
+    ensures room { IfOk result (λ _. places + more ≤ 65535) }
+    ensures gives { MatchResult result (λ _. with_places places more fxy ≡ Ok tt) (λ why. with_places places more fxy ≡ Err why) }
 {
     if places + more > MOST_PLACES {
         return Err(TemplateFault::TemplateSize(fxy));
     }
-    Ok(places + more)
+    Ok(())
 }
 
-/// Puts a node behind others.
-fn push_node(nodes: &mut Vec<Node>, node: Node) -> Result<(), TemplateFault>
-    ensures ok { OnOk result (planted nodes.new.items ≡ join (planted nodes.old.items) (grown node bare)) }
+/// Puts a cell behind others.
+pub(crate) fn push_cell(cells: &mut Vec<Cell>, cell: Cell) -> Result<(), TemplateFault>
+    ensures ok { OnOk result (cells.new.items ≡ cells.old.items ++ cell ∷ []) }
     ensures err { IfErr result (λ why. why ≡ TemplateFault.Memory) }
-    ensures unchanged { OnErr result (nodes.new.items ≡ nodes.old.items) }
+    ensures unchanged { OnErr result (cells.new.items ≡ cells.old.items) }
 {
-    nodes.push(node).map_err(|_| TemplateFault::Memory)
+    cells.push(cell).map_err(|_| TemplateFault::Memory)
+}
+
+/// Puts the cells between a group's first one and its body behind others.
+fn push_factor(cells: &mut Vec<Cell>, passes: &Passes) -> Result<(), TemplateFault>
+    ensures ok { OnOk result (cells.new.items ≡ cells.old.items ++ factor_cells passes.now) }
+    ensures err { IfErr result (λ why. why ≡ TemplateFault.Memory) }
+    ensures unchanged { OnErr result (cells.new.items ≡ cells.old.items) }
+{
+    match passes {
+        Passes::Fixed(_) => Ok(()),
+        Passes::Delayed(factor) => push_cell(cells, Cell::Factor(*factor)),
+    }
 }
 
 impl Growing {
-    ghost use Rattle.std.specs.Prelude.{◌≡◌, ◌+◌, ◌<◌, ◌≤◌, Ok, [], OnOk};
-    ghost use Rattle.bufr_tables.specs.Tree.{bare, element, operator, fixed, delayed, join};
-    ghost use Rattle.bufr_tables.specs.Planted.{planted};
-    ghost use Rattle.bufr_tables.specs.Growth.{growth, with_node, GivesGrowth};
+    ghost use Rattle.std.specs.Prelude.{◌≡◌, ◌+◌, ◌<◌, ◌≤◌, Ok, [], length, false};
+    ghost use Rattle.bufr_tables.specs.Tree.{bare, element, operator};
+    ghost use Rattle.bufr_tables.specs.Growth.{growth, places_of, with_node, ended, GivesGrowth, GivesPlace};
     ghost use Rattle.bufr_tables.specs.Growing.{growth_of};
 
-    /// No nodes yet, behind so many places.
-    pub fn new(alloc: Global, places: u32) -> Growing
-        requires { places ≤ 65535 }
-        ensures { growth_of result ≡ growth bare places }
+    /// No cells yet.
+    pub(crate) fn new(alloc: Global) -> Growing
+        ensures { growth_of result ≡ growth [] 0 0 false }
     {
         Growing {
-            nodes: Vec::new(alloc),
-            places,
+            cells: Vec::new(alloc),
+            open_groups: 0,
             depth: 0,
             consumes: false,
         }
     }
 
-    /// Puts an element behind the nodes.
-    pub fn push_element(&mut self, fxy: Fxy) -> Result<(), TemplateFault>
+    /// The places up to here, with those of the ends that are still to come.
+    fn places(&self) -> u32
+        ensures value { result ≡ places_of (growth_of self.now) }
+        ensures most { result ≤ 65535 }
+    {
+        self.cells.len() as u32 + self.open_groups + 1
+    }
+
+    /// Puts an element behind the cells.
+    pub(crate) fn push_element(&mut self, fxy: Fxy) -> Result<(), TemplateFault>
         ensures { GivesGrowth (with_node (growth_of self.old) fxy (element fxy bare)) result (growth_of self.new) }
     {
-        let places = with_places(self.places, 1, fxy)?;
-        push_node(&mut self.nodes, Node::Element(fxy))?;
-        self.places = places;
+        check_places(self.places(), 1, fxy)?;
+        push_cell(&mut self.cells, Cell::Element(fxy))?;
         self.consumes = true;
         Ok(())
     }
 
-    /// Puts an operator behind the nodes.
-    pub fn push_operator(&mut self, fxy: Fxy) -> Result<(), TemplateFault>
+    /// Puts an operator behind the cells.
+    pub(crate) fn push_operator(&mut self, fxy: Fxy) -> Result<(), TemplateFault>
         ensures { GivesGrowth (with_node (growth_of self.old) fxy (operator fxy bare)) result (growth_of self.new) }
     {
-        let places = with_places(self.places, 1, fxy)?;
-        push_node(&mut self.nodes, Node::Operator(fxy))?;
-        self.places = places;
+        check_places(self.places(), 1, fxy)?;
+        push_cell(&mut self.cells, Cell::Operator(fxy))?;
         self.consumes |= fxy.x() == 5;
         Ok(())
     }
 
-    /// Puts a group of so many passes behind the nodes, with the nodes of its body, whose places follow theirs.
-    pub fn push_fixed(&mut self, count: u8, body: Growing) -> Result<(), TemplateFault>
-        requires { body.depth < 65535 }
-        ensures { GivesGrowth
-            (Ok (growth (join (planted self.old.nodes.items) (fixed count (planted body.nodes.items) bare)) body.places))
-            result (growth_of self.new) }
+    /// Begins a group behind the cells, and tells the place of its first cell. What is behind the group is not known yet.
+    pub(crate) fn open(&mut self, fxy: Fxy, passes: &Passes) -> Result<usize, TemplateFault>
+        ensures { GivesPlace (growth_of self.old) passes.now fxy result (growth_of self.new) }
     {
-        let Growing {
-            nodes,
-            places,
-            depth,
-            consumes,
-        } = body;
-        push_node(&mut self.nodes, Node::Fixed(count, nodes))?;
-        self.places = places;
-        self.depth = self.depth.max(1 + depth);
-        self.consumes |= consumes;
-        Ok(())
+        check_places(self.places(), passes.places(), fxy)?;
+        let place = self.cells.len();
+        let head = passes.first_cell(0);
+        push_cell(&mut self.cells, head)?;
+        push_factor(&mut self.cells, passes)?;
+        self.open_groups += 1;
+        self.depth = self.depth.max(self.open_groups);
+        self.consumes = false;
+        Ok(place)
     }
 
-    /// Puts a group of as many passes as its factor tells behind the nodes, with the nodes of its body, whose places follow theirs.
-    pub fn push_delayed(&mut self, factor: Fxy, body: Growing) -> Result<(), TemplateFault>
-        requires { body.depth < 65535 }
-        ensures { GivesGrowth
-            (Ok (growth (join (planted self.old.nodes.items) (delayed factor (planted body.nodes.items) bare)) body.places))
-            result (growth_of self.new) }
+    /// Ends the innermost group, whose first cell stands at a place, and writes there what is behind the group.
+    pub(crate) fn close(&mut self, place: usize, passes: &Passes) -> Result<(), TemplateFault>
+        requires inside { place < length self.old.cells.items }
+        requires around { 0 < self.old.open_groups }
+        ensures { GivesGrowth (Ok (ended (growth_of self.old) place passes.now)) result (growth_of self.new) }
     {
-        let Growing {
-            nodes,
-            places,
-            depth,
-            consumes: _,
-        } = body;
-        push_node(&mut self.nodes, Node::Delayed(factor, nodes))?;
-        self.places = places;
-        self.depth = self.depth.max(1 + depth);
-        self.consumes = true;
+        push_cell(&mut self.cells, Cell::PassEnd)?;
+        let after = self.cells.len() as u32;
+        self.cells[place] = passes.first_cell(after);
+        self.open_groups -= 1;
         Ok(())
     }
 }

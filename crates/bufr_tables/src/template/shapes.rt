@@ -1,12 +1,11 @@
-// What a descriptor is by its digits alone.
+//! Parts of a list of descriptors.
 ghost use Rattle.std.specs.Prelude.{◌≡◌, ◌≤◌, length, take, drop};
-ghost use Rattle.bufr_tables.specs.Operators.{is_legal_operator as operator_is_legal, gives_width as width_is_given};
-ghost use Rattle.bufr_tables.specs.Expansion.{is_factor as factor_is, begins_with_element as element_begins, first_of as first_of_list};
+ghost use Rattle.bufr_tables.specs.Expansion.{begins_with_element as element_begins, first_of as first_of_list};
 
 use crate::fxy::Fxy;
 
 /// The descriptors behind the first so many.
-pub fn behind(list: &[Fxy], count: usize) -> &[Fxy]
+pub(crate) fn behind(list: &[Fxy], count: usize) -> &[Fxy]
     requires { count ≤ length list.now }
     ensures { result.now ≡ drop count list.now }
 {
@@ -14,7 +13,7 @@ pub fn behind(list: &[Fxy], count: usize) -> &[Fxy]
 }
 
 /// The first so many descriptors.
-pub fn before(list: &[Fxy], count: usize) -> &[Fxy]
+pub(crate) fn before(list: &[Fxy], count: usize) -> &[Fxy]
     requires { count ≤ length list.now }
     ensures { result.now ≡ take count list.now }
 {
@@ -22,7 +21,7 @@ pub fn before(list: &[Fxy], count: usize) -> &[Fxy]
 }
 
 /// The first descriptor, or 000000.
-pub fn first_of(list: &[Fxy]) -> Fxy
+pub(crate) fn first_of(list: &[Fxy]) -> Fxy
     ensures { result ≡ first_of_list list.now }
 {
     match list.split_first() {
@@ -31,40 +30,12 @@ pub fn first_of(list: &[Fxy]) -> Fxy
     }
 }
 
-/// Whether it is a factor of delayed replication: 0 31 000, 0 31 001 or 0 31 002.
-pub fn is_factor(fxy: Fxy) -> bool
-    ensures { result ≡ factor_is fxy }
-{
-    fxy.f() == 0 && fxy.x() == 31 && fxy.y() <= 2
-}
-
-/// Whether it is 2 06 Y, which gives the width of the descriptor that follows.
-pub fn gives_width(fxy: Fxy) -> bool
-    ensures { result ≡ width_is_given fxy }
-{
-    fxy.f() == 2 && fxy.x() == 6
-}
-
 /// Whether a list begins with an element.
-pub fn begins_with_element(list: &[Fxy]) -> bool
+pub(crate) fn begins_with_element(list: &[Fxy]) -> bool
     ensures { result ≡ element_begins list.now }
 {
     match list.split_first() {
         Some((fxy, _)) => fxy.f() == 0,
         None => false,
-    }
-}
-
-/// Whether a template may hold the operator, with its operand (Table C).
-pub fn is_legal_operator(fxy: Fxy) -> bool
-    ensures { result ≡ operator_is_legal fxy }
-{
-    let operand = fxy.y();
-    match fxy.x() {
-        1 | 2 | 8 => true,
-        3 => operand <= 63 || operand == 255,
-        5 | 6 => operand >= 1,
-        7 => operand <= 18,
-        _ => false,
     }
 }

@@ -1,20 +1,9 @@
-// What is shown by running: the worked lists, each fault, the limits.
+//! What is shown by running: the worked lists, their cells, each fault, the limits.
 use super::*;
 use crate::TableFault;
+use crate::test_tables::TABLE_B;
 use std::alloc::AllocError;
 use std::test::Fail;
-
-// Test data, not WMO's.
-const TABLE_B: &[u8] = b"\
-    fxy,name,unit,scale,reference,width\n\
-    001001,WMO BLOCK NUMBER,Numeric,0,0,7\n\
-    001015,STATION OR SITE NAME,CCITT IA5,0,0,160\n\
-    005002,LATITUDE (COARSE ACCURACY),degree,2,-9000,15\n\
-    012101,AIR TEMPERATURE,K,2,0,16\n\
-    020003,PRESENT WEATHER,Code table,0,0,9\n\
-    031000,SHORT DELAYED DESCRIPTOR REPLICATION FACTOR,Numeric,0,0,1\n\
-    031001,DELAYED DESCRIPTOR REPLICATION FACTOR,Numeric,0,0,8\n\
-    031002,EXTENDED DELAYED DESCRIPTOR REPLICATION FACTOR,Numeric,0,0,16\n";
 
 // A table without the factors of delayed replication.
 const NO_FACTORS: &[u8] = b"\
@@ -198,7 +187,7 @@ fn descriptors_of(alloc: Global, text: &str) -> Result<Vec<Fxy>, Fail> {
     Ok(descriptors)
 }
 
-// The places and the depth, or the fault.
+// The places and the depth, or the fault's number and its text.
 fn told(
     alloc: Global,
     descriptors: &[Fxy],
@@ -209,7 +198,7 @@ fn told(
         Ok(template) => {
             format!(in alloc; "places {} depth {}", template.places(), template.depth())
         }
-        Err(fault) => format!(in alloc; "{fault}"),
+        Err(fault) => format!(in alloc; "{} {fault}", fault.number()),
     }
 }
 
@@ -225,26 +214,75 @@ fn worked_lists(rt: HostRuntime) -> Result<(), Fail> {
     Ok(())
 }
 
+// A name for what is shown, the descriptors, and the cells: a letter for each kind, its descriptor or its count, and behind
+// a colon the place behind the group.
+const CELLS: &[(&str, &str, &str)] = &[
+    ("one_block_number", "001001", "E001001 F"),
+    (
+        "delayed_twice",
+        "101000 031001 001001",
+        "D:4 R031001 E001001 P F",
+    ),
+    (
+        "delayed_in_delayed",
+        "103000 031001 101000 031001 001001",
+        "D:7 R031001 D:6 R031001 E001001 P P F",
+    ),
+    (
+        "width_and_scale_changed",
+        "201132 202129 012101 201000 202000 012101",
+        "O201132 O202129 E012101 O201000 O202000 E012101 F",
+    ),
+    (
+        "groups_and_a_sequence",
+        "103000 031001 206012 063255 360192 101255 001001",
+        "D:7 R031001 O206012 E063255 E001001 E012101 P X255:10 E001001 P F",
+    ),
+    (
+        "thirty_two_groups",
+        "\
+            132001 131001 130001 129001 128001 127001 126001 125001 124001 \
+            123001 122001 121001 120001 119001 118001 117001 116001 115001 \
+            114001 113001 112001 111001 110001 109001 108001 107001 106001 \
+            105001 104001 103001 102001 101001 001001",
+        "\
+            X1:65 X1:64 X1:63 X1:62 X1:61 X1:60 X1:59 X1:58 X1:57 X1:56 X1:55 \
+            X1:54 X1:53 X1:52 X1:51 X1:50 X1:49 X1:48 X1:47 X1:46 X1:45 X1:44 \
+            X1:43 X1:42 X1:41 X1:40 X1:39 X1:38 X1:37 X1:36 X1:35 X1:34 \
+            E001001 P P P P P P P P P P P P P P P P P P P P P P P P P P P P P P \
+            P P F",
+    ),
+];
+
+// The text of a cell.
+fn written(alloc: Global, cell: Cell) -> Result<String, AllocError> {
+    match cell {
+        Cell::Element(fxy) => format!(in alloc; "E{fxy}"),
+        Cell::Operator(fxy) => format!(in alloc; "O{fxy}"),
+        Cell::Fixed(count, after) => format!(in alloc; "X{count}:{after}"),
+        Cell::Delayed(after) => format!(in alloc; "D:{after}"),
+        Cell::Factor(fxy) => format!(in alloc; "R{fxy}"),
+        Cell::PassEnd => format!(in alloc; "P"),
+        Cell::Finish => format!(in alloc; "F"),
+    }
+}
+
 #[test]
-fn nodes_of_groups(rt: HostRuntime) -> Result<(), Fail> {
+fn cells_of_worked_lists(rt: HostRuntime) -> Result<(), Fail> {
     let table_b = TableB::read(rt.alloc(), TABLE_B)?;
     let table_d = TableD::read(rt.alloc(), TABLE_D)?;
-    let text = "103000 031001 206012 063255 360192 101255 001001";
-    let descriptors = descriptors_of(rt.alloc(), text)?;
-    let template = Template::build(rt.alloc(), &descriptors, &table_b, &table_d)?;
-    let block_number = Fxy::from_word(0x0101);
-    let delayed = vec![in rt.alloc();
-        Node::Operator(Fxy::from_word(0x860c)),
-        Node::Element(Fxy::from_word(0x3fff)),
-        Node::Element(block_number),
-        Node::Element(Fxy::from_word(0x0c65)),
-    ]?;
-    let fixed = vec![in rt.alloc(); Node::Element(block_number)]?;
-    let nodes = vec![in rt.alloc();
-        Node::Delayed(Fxy::from_word(0x1f01), delayed),
-        Node::Fixed(255, fixed),
-    ]?;
-    assert_eq!(rt; template.nodes(), nodes.as_slice());
+    for (name, text, want) in CELLS {
+        let descriptors = descriptors_of(rt.alloc(), text)?;
+        let template = Template::build(rt.alloc(), &descriptors, &table_b, &table_d)?;
+        let mut told = String::new(rt.alloc());
+        for cell in template.cells() {
+            if !told.is_empty() {
+                told.push(' ')?;
+            }
+            told.push_str(&written(rt.alloc(), *cell)?)?;
+        }
+        assert_eq!(rt; told.as_str(), *want, "{name}");
+    }
     Ok(())
 }
 

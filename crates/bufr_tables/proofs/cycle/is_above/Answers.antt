@@ -6,5 +6,5 @@ use Rattle.bufr_tables.proofs.cycle.is_above.Goals as goal
 
 pub returns : goal.returns
 returns c above never =
-    let below : c.highest.result < rank_of c.args.ranks.now c.args.sequence = rw c.key_of.ensures.value at (ltb-true _ _ above) in
+    let below : c.highest.result < rank_of c.args.ranks.now c.args.sequence = rw c.key.ensures.value at (ltb-true _ _ above) in
     falls-none c.args.table.now c.args.ranks.now c.args.sequence c.highest.result never c.highest.ensures below

@@ -1,7 +1,7 @@
 use Rattle.bufr_tables.specs.Tree.{Tree}
 use Rattle.bufr_walk.specs.Settings.{begin}
 use Rattle.bufr_walk.specs.Turns.{Rest, unroll}
-use Rattle.bufr_walk.specs.Cells.{IsLaid}
+use Rattle.bufr_tables.specs.Cells.{IsLaid}
 use Rattle.bufr_walk.specs.Flat.{Stands, weight}
 use Rattle.bufr_walk.specs.Ways.{Came}
 use Rattle.bufr_walk.proofs.walk.walk_cells.Given as goal

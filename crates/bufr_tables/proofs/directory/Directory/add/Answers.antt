@@ -39,7 +39,7 @@ invariant_of-self c =
     record {
       room = omega (arith, dir.room, c.push.ensures.capacity);
       size = rw length-set dir.size;
-      marks = rw (items, c.from.ensures, count) (marks-added keys c.args.key c.self.inside.marks.items 16384 dir.size c.requires.small absent dir.marks);
+      marks = rw (items, count) (marks-added keys c.args.key c.self.inside.marks.items 16384 dir.size c.requires.small absent dir.marks);
       below = rw items (below-added keys c.args.key 16384 dir.below c.requires.small);
       distinct = rw items (distinct-added keys c.args.key dir.distinct absent);
     }

@@ -1,16 +1,15 @@
 use Rattle.std.proofs.Common.{◌≢◌, ℕ, List, sym, subst, arith}
 use Rattle.std.proofs.lemmas.Result.{err_from_is_err_and}
-use Rattle.bufr_tables.specs.Planted.{planted}
 use Rattle.bufr_tables.specs.Expansion.{inner_of}
 use Rattle.bufr_tables.specs.Growing.{growth_of}
 use Rattle.bufr_tables.specs.Expander.{tables_in}
-use Rattle.bufr_tables.proofs.TreeLemmas.{depth-le-size}
+use Rattle.bufr_tables.specs.Growth.{places_of}
 use Rattle.bufr_tables.proofs.LevelLemmas.{Came, came_none, came_part, came_fault, came_end}
-use Rattle.bufr_tables.proofs.PartLemmas.{gives_same, part-element, part-group, part-operator, part-sequence, body-depth, body-places, body-list-fault, body-list-empty, body-list-ok, sequence-depth, sequence-fault, sequence-ok}
+use Rattle.bufr_tables.proofs.PartLemmas.{gives_same, part-element, part-group, part-operator, part-sequence, group-depth, group-places, group-list-fault, group-list-empty, group-closed, sequence-depth, sequence-fault, sequence-ok}
 use Rattle.bufr_tables.proofs.template.expander.Expander.+expansion.Goals as goal
 
 pub list-loop-fxy-init : goal.list-loop-fxy-init
-list-loop-fxy-init t c = came_none _ _ _ _
+list-loop-fxy-init t c = came_none _ _ _ _ c.args.growing.now.around
 
 pub list-loop-fxy-preserved : goal.list-loop-fxy-preserved
 list-loop-fxy-preserved t c =
@@ -42,40 +41,35 @@ part-returns-in_default-clause-gives t c =
     let not_operator : c.f.result ≢ 2 = omega arith in
     gives_same _ _ _ _ _ (part-sequence _ _ _ _ _ _ _ c.f.ensures.value not_element not_group not_operator) c.sequence.ensures.gives
 
-pub fixed-push_fixed-requires : goal.fixed-push_fixed-requires
-fixed-push_fixed-requires t c = omega (arith, c.in_ok-body.body.deep, c.in_ok-body.body.within, c.in_ok-body.ensures.places, depth-le-size (planted c.in_ok-body.body.nodes.items))
+pub group_of-returns-then-room-eq0-clause-gives : goal.group_of-returns-then-room-eq0-clause-gives
+group_of-returns-then-room-eq0-clause-gives t c = λ other.
+    group-depth (tables_in c.args.self.now) c.args.room c.args.passes.now (places_of (growth_of c.args.growing.now)) c.args.fxy c.args.after.now c.if-room-eq0.true (omega arith)
 
-pub delayed-push_delayed-requires : goal.delayed-push_delayed-requires
-delayed-push_delayed-requires t c = omega (arith, c.in_ok-body.body.deep, c.in_ok-body.body.within, c.in_ok-body.ensures.places, depth-le-size (planted c.in_ok-body.body.nodes.items))
-
-pub body-returns-then-room-eq0-clause-body : goal.body-returns-then-room-eq0-clause-body
-body-returns-then-room-eq0-clause-body t c = λ other. body-depth _ _ _ _ _ _ c.if-room-eq0.true (omega arith)
-
-pub body-returns-in_err-with_places-clause-body : goal.body-returns-in_err-with_places-clause-body
-body-returns-in_err-with_places-clause-body t c =
+pub group_of-returns-in_err-place-clause-gives : goal.group_of-returns-in_err-place-clause-gives
+group_of-returns-in_err-place-clause-gives t c =
     let p = err_from_is_err_and c.from_residual.result c.from_residual.ensures.1 in
-    rw (p.1, p.2) (λ other. body-places _ _ _ _ _ _ _ (omega arith) (omega arith) c.in_err-with_places.ensures.gives)
+    rw (p.1, p.2) (group-places (tables_in c.args.self.now) c.args.room c.args.passes.now (places_of (growth_of c.args.growing.now)) c.args.fxy c.args.after.now _ (omega arith) (omega arith) c.in_err-place.ensures)
 
-pub body-returns-in_err-list-clause-body : goal.body-returns-in_err-list-clause-body
-body-returns-in_err-list-clause-body t c =
+pub group_of-returns-in_err-list-clause-gives : goal.group_of-returns-in_err-list-clause-gives
+group_of-returns-in_err-list-clause-gives t c =
     let p = err_from_is_err_and c.from_residual-in_err-list.result c.from_residual-in_err-list.ensures.1 in
-    rw (p.1, p.2) (body-list-fault (tables_in c.args.self.now) c.args.room c.args.places c.args.own c.args.fxy c.args.after.now _ (growth_of c.new-body.result) _ _ _ _ (omega arith) (omega arith) c.in_ok-with_places.ensures.gives c.new-body.ensures c.in_ok-with_places.ensures.sum.0 c.before-2.ensures c.from-count.ensures c.x.ensures.value c.in_err-list.ensures)
+    rw (p.1, p.2) (group-list-fault (tables_in c.args.self.now) c.args.room c.args.passes.now c.args.fxy c.in_ok-place.place c.args.after.now (growth_of c.args.growing.now) (growth_of c.open.new.self) _ _ _ _ (omega arith) (omega arith) c.in_ok-place.ensures c.before-2.ensures c.from-count.ensures c.x.ensures.value c.in_err-list.ensures)
 
-pub body-returns-then-not-body-clause-body : goal.body-returns-then-not-body-clause-body
-body-returns-then-not-body-clause-body t c = λ other.
-    body-list-empty (tables_in c.args.self.now) c.args.room c.args.places c.args.own c.args.fxy c.args.after.now (growth_of c.list.new.growing) (growth_of c.new-body.result) _ _ _ _ _ (omega arith) (omega arith) c.in_ok-with_places.ensures.gives c.new-body.ensures c.in_ok-with_places.ensures.sum.0 c.before-2.ensures c.from-count.ensures c.x.ensures.value c.in_ok-list.ensures c.list.new.growing.consuming c.if-not-body.true
+pub group_of-returns-then-not-growing-clause-gives : goal.group_of-returns-then-not-growing-clause-gives
+group_of-returns-then-not-growing-clause-gives t c = λ other.
+    group-list-empty (tables_in c.args.self.now) c.args.room c.args.passes.now c.args.fxy c.in_ok-place.place c.args.after.now (growth_of c.args.growing.now) (growth_of c.open.new.self) (growth_of c.list.new.growing) _ _ _ (omega arith) (omega arith) c.in_ok-place.ensures c.before-2.ensures c.from-count.ensures c.x.ensures.value c.in_ok-list.ensures c.if-not-growing.true
 
-pub body-returns-clause-body : goal.body-returns-clause-body
-body-returns-clause-body t c =
-    body-list-ok (tables_in c.args.self.now) c.args.room c.args.places c.args.own c.args.fxy c.args.after.now (growth_of c.list.new.growing) (growth_of c.new-body.result) _ _ _ _ _ (omega arith) (omega arith) c.in_ok-with_places.ensures.gives c.new-body.ensures c.in_ok-with_places.ensures.sum.0 c.before-2.ensures c.from-count.ensures c.x.ensures.value c.in_ok-list.ensures c.list.new.growing.consuming c.if-not-body.false
+pub group_of-returns-clause-gives : goal.group_of-returns-clause-gives
+group_of-returns-clause-gives t c =
+    group-closed (tables_in c.args.self.now) c.args.room c.args.passes.now c.args.fxy c.in_ok-place.place c.args.after.now (growth_of c.args.growing.now) (growth_of c.open.new.self) (growth_of c.list.new.growing) (growth_of c.close.new.self) _ _ _ c.close.result (omega arith) (omega arith) c.in_ok-place.ensures c.before-2.ensures c.from-count.ensures c.x.ensures.value c.in_ok-list.ensures c.if-not-growing.false c.close.ensures
 
 pub sequence-returns-then-room-eq0-clause-gives : goal.sequence-returns-then-room-eq0-clause-gives
-sequence-returns-then-room-eq0-clause-gives t c = λ other. sequence-depth (tables_in c.args.self.now) c.args.room c.args.growing.now.places c.args.fxy c.in-Some.members.now c.if-room-eq0.true (sym c.in-Some.ensures)
+sequence-returns-then-room-eq0-clause-gives t c = λ other. sequence-depth (tables_in c.args.self.now) c.args.room (places_of (growth_of c.args.growing.now)) c.args.fxy c.in-Some.members.now c.if-room-eq0.true (sym c.in-Some.ensures)
 
 pub sequence-returns-in_err-list-clause-gives : goal.sequence-returns-in_err-list-clause-gives
 sequence-returns-in_err-list-clause-gives t c =
     let p = err_from_is_err_and c.from_residual.result c.from_residual.ensures.1 in
-    rw (p.1, p.2) (sequence-fault (tables_in c.args.self.now) c.args.room c.args.growing.now.places c.args.fxy c.in-Some.members.now _ (omega arith) (sym c.in-Some.ensures) c.in_err-list.ensures)
+    rw (p.1, p.2) (sequence-fault (tables_in c.args.self.now) c.args.room (places_of (growth_of c.args.growing.now)) c.args.fxy c.in-Some.members.now _ (omega arith) (sym c.in-Some.ensures) c.in_err-list.ensures)
 
 pub sequence-returns-clause-gives : goal.sequence-returns-clause-gives
 sequence-returns-clause-gives t c = sequence-ok (tables_in c.args.self.now) c.args.room c.args.fxy c.in-Some.members.now (growth_of c.args.growing.now) (growth_of c.list.new.growing) (omega arith) (sym c.in-Some.ensures) c.in_ok-list.ensures

@@ -23,8 +23,8 @@ decreases-fixed l = 5 * l.room + 1
 abbrev pub decreases-delayed : goal.decreases-delayed
 decreases-delayed l = 5 * l.room + 1
 
-abbrev pub decreases-body : goal.decreases-body
-decreases-body l = 5 * l.room
+abbrev pub decreases-group_of : goal.decreases-group_of
+decreases-group_of l = 5 * l.room
 
 abbrev pub invariant-list-loop-fxy : goal.invariant-list-loop-fxy
 invariant-list-loop-fxy l = Came (tables_in l.self) (inner_of (tables_in l.self) l.room) l.list (growth_of l.initial.growing) l.width_given l.rest (growth_of l.growing)

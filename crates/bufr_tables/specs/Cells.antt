@@ -1,0 +1,61 @@
+-- A template laid out in cells, and read back from them (the form is a choice of this project).
+-- Cited by public contracts.
+use Rattle.std.specs.Prelude.{ℕ, ◌+◌, ◌≡◌, ◌≤◌, List, [], ◌∷◌}
+use Rattle.bufr_tables.specs.declared.template.cell.Cell.{Cell}
+use Rattle.bufr_tables.specs.declared.template.cell.Cell.TheVariants as cell
+use Rattle.bufr_tables.specs.Tree.{Tree, bare, element, operator, fixed, delayed, size, places, depth}
+use Rattle.bufr_tables.specs.TreeCode.{first_tree}
+use Rattle.bufr_tables.specs.Legal.{IsLegal}
+use Rattle.bufr_tables.specs.Sound.{IsSound}
+
+-- the cells of a tree from a place on, and then the tail
+abbrev pub lay : Tree → ℕ → List Cell → List Cell
+lay bare at tail = tail
+lay (element fxy more) at tail = cell.Element fxy ∷ lay more (at + 1) tail
+lay (operator fxy more) at tail = cell.Operator fxy ∷ lay more (at + 1) tail
+lay (fixed n body more) at tail = cell.Fixed n (at + 2 + size body) ∷ lay body (at + 1) (cell.PassEnd ∷ lay more (at + 2 + size body) tail)
+lay (delayed fxy body more) at tail =
+    cell.Delayed (at + 3 + size body) ∷ cell.Factor fxy ∷ lay body (at + 2) (cell.PassEnd ∷ lay more (at + 3 + size body) tail)
+
+-- the factor that stands first
+abbrev pub factor_first : List Cell → ℕ
+factor_first [] = 0
+factor_first (cell.Element fxy ∷ cells) = 0
+factor_first (cell.Operator fxy ∷ cells) = 0
+factor_first (cell.Fixed n after ∷ cells) = 0
+factor_first (cell.Delayed after ∷ cells) = 0
+factor_first (cell.Factor fxy ∷ cells) = fxy
+factor_first (cell.PassEnd ∷ cells) = 0
+factor_first (cell.Finish ∷ cells) = 0
+
+-- a cell, and the factor behind it, put before the trees that were read behind it
+abbrev pub placed : Cell → ℕ → List Tree → List Tree
+placed cell.Finish factor trees = bare ∷ []
+placed cell.PassEnd factor trees = bare ∷ trees
+placed (cell.Element fxy) factor (rest ∷ trees) = element fxy rest ∷ trees
+placed (cell.Operator fxy) factor (rest ∷ trees) = operator fxy rest ∷ trees
+placed (cell.Fixed count after) factor (body ∷ rest ∷ trees) = fixed count body rest ∷ trees
+placed (cell.Delayed after) factor (body ∷ rest ∷ trees) = delayed factor body rest ∷ trees
+placed _ factor trees = trees
+
+-- the trees that cells lay out, the innermost list first
+abbrev pub read_cells : List Cell → List Tree
+read_cells [] = []
+read_cells (c ∷ cells) = placed c (factor_first cells) (read_cells cells)
+
+-- the tree that cells lay out
+abbrev pub raised : List Cell → Tree
+raised cells = first_tree (read_cells cells)
+
+-- cells are the layout of a tree as a walk relies on it
+pub record IsLaid (cells : List Cell) (tree : Tree) : Type 0 where
+  pub laid : cells ≡ lay tree 0 (cell.Finish ∷ [])
+  pub within : places tree ≤ 65535
+  pub shallow : depth tree ≤ 32
+  pub sound : IsSound tree
+  pub legal : IsLegal tree
+
+-- that, with the depth that is kept beside the cells
+pub record IsKept (cells : List Cell) (depth_told : ℕ) (tree : Tree) : Type 0 where
+  pub is_laid : IsLaid cells tree
+  pub depth_is : depth_told ≡ depth tree
