@@ -1,6 +1,6 @@
 -- What one subset has of an item of compressed data.
-use Rattle.std.proofs.Common.{◌≡◌, ℕ, zero, suc, ◌+◌, ◌-◌, ◌*◌, ◌^◌, ◌<◌, ◌≤◌, Bool, true, false, List, [], ◌∷◌, length, take, drop, map, Result, Ok, Err, refl, sym, ◌∙◌, ap, subst, arith}
-use Rattle.std.specs.Prelude.{◌==◌, ◌&&◌, ◌/◌, nat_lt, if◌then◌else◌}
+use Rattle.std.proofs.Common.{◌≡◌, ℕ, zero, suc, ◌+◌, ◌*◌, ◌^◌, ◌<◌, ◌≤◌, Bool, true, false, List, length, take, drop, map, Result, Ok, Err, refl, sym, ◌∙◌, ap, subst, arith}
+use Rattle.std.specs.Prelude.{◌==◌, ◌/◌, nat_lt, if◌then◌else◌}
 use Rattle.std.proofs.lemmas.List.{length-drop, length-take, drop-drop}
 use Rattle.std.proofs.Math.Nat.{mul-le-mul_right, pow-le-pow_right}
 use Rattle.std.proofs.lemmas.Bool.Decides.{nat_tests}
@@ -16,7 +16,7 @@ use Rattle.bufr_walk.specs.declared.read_packed.KeptItem.{KeptItem}
 use Rattle.bufr_walk.specs.Asked.{Asked}
 use Rattle.bufr_walk.specs.Calls.{content_at}
 use Rattle.bufr_walk.specs.Content.{Content, content_in}
-use Rattle.bufr_walk.specs.PlainField.{FieldFault, Found, found, data_end, increment, unequal_factor}
+use Rattle.bufr_walk.specs.PlainField.{FieldFault, Found, data_end, increment, unequal_factor}
 use Rattle.bufr_walk.specs.PackedField.{increments, step_of, text_of, varied_by, if_equal, varied, contents_of, all_same, with_behind, item_by, packed_field}
 use Rattle.bufr_walk.specs.PackedBits.{holds_by, content_from, number_from, kind_step}
 use Rattle.bufr_walk.specs.PackedIn.{contents_found, was_found, stands_at}

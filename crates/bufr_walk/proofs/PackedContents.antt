@@ -1,5 +1,5 @@
 -- The contents of an item of compressed data, by tests of its increments.
-use Rattle.std.proofs.Common.{◌≡◌, ℕ, zero, suc, ◌+◌, ◌-◌, ◌*◌, ◌^◌, ◌<◌, ◌≤◌, ◌&&◌, Bool, true, false, not, List, [], ◌∷◌, length, take, drop, map, Result, Ok, Err, refl, sym, ◌∙◌, ap, subst, arith}
+use Rattle.std.proofs.Common.{◌≡◌, ℕ, zero, suc, ◌+◌, ◌*◌, ◌≤◌, ◌&&◌, Bool, true, false, not, List, [], ◌∷◌, take, drop, map, Result, Ok, Err, refl, sym, ◌∙◌, ap, subst, arith}
 use Rattle.std.specs.Prelude.{◌==◌, ◌||◌, ◌/◌, nat_lt, if◌then◌else◌}
 use Rattle.std.specs.List.{list_all}
 use Rattle.std.proofs.lemmas.Bool.Decides.{nat_tests}
@@ -12,12 +12,11 @@ use Rattle.bufr_walk.specs.declared.spec.Role.{Role}
 use Rattle.bufr_walk.specs.declared.spec.Role.TheVariants as role
 use Rattle.bufr_walk.specs.declared.spec.Taken.{Taken}
 use Rattle.bufr_walk.specs.declared.spec.Taken.TheVariants as taken
-use Rattle.bufr_walk.specs.declared.packed_in.PackedFault.{PackedFault}
 use Rattle.bufr_walk.specs.declared.packed_in.PackedFault.TheVariants as wrong
 use Rattle.bufr_walk.specs.Asked.{Asked, IsSpec, HasRole}
-use Rattle.bufr_walk.specs.Content.{Content, number, text, missing, reference, content_in, told, told_by, count_in}
+use Rattle.bufr_walk.specs.Content.{Content, number, missing, content_in, told, told_by}
 use Rattle.bufr_walk.specs.PlainField.{FieldFault, increment, unequal_factor}
-use Rattle.bufr_walk.specs.PackedField.{ones, and_more, increased, increments, all_increased, text_of, step_of, numbers_of, texts_of, varied_by, same_count, all_same, if_equal, varied, contents_of, told_first}
+use Rattle.bufr_walk.specs.PackedField.{ones, and_more, increased, increments, all_increased, text_of, step_of, numbers_of, varied_by, same_count, if_equal, varied, contents_of, told_first}
 use Rattle.bufr_walk.specs.PackedBits.{stays_within, all_within, all_equal, increased_to, numbers_hold, holds_by, number_from, content_from, kind_step, is_plain_role, IsTold, IsWrong}
 
 -- one increment that stays within the width

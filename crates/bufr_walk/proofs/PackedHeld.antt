@@ -10,7 +10,7 @@ use Rattle.bufr_walk.specs.Content.{Content}
 use Rattle.bufr_walk.specs.Course.{next_item}
 use Rattle.bufr_walk.specs.Kept.{AreKept, IsHeld}
 use Rattle.bufr_walk.specs.Outcome.{data_in, data_of, read_by, IsRead, IsReadingOf}
-use Rattle.bufr_walk.specs.Reading.{Item, Data, together}
+use Rattle.bufr_walk.specs.Reading.{Item, together}
 
 pub packed_held : (table : List Row) (template : Tree) (subsets : ℕ) (octets : List ℕ) (used steps : ℕ) (entries : Vec KeptItem Global) → (items : List (Item (List Content))) × IsRead (next_item table template) (data_in true subsets octets) (together items) used steps × AreKept (data_in true subsets octets) entries.items items → 7 * length entries.items ≤ used
     → IsHeld (read_by table template (data_in true subsets octets) used (length entries.items)) (kept.Together entries)

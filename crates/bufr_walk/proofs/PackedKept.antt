@@ -1,5 +1,5 @@
 -- What a reader of compressed data keeps.
-use Rattle.std.proofs.Common.{◌≡◌, ℕ, suc, ◌+◌, ◌*◌, ◌<◌, ◌≤◌, ◌&&◌, Bool, true, false, List, [], ◌∷◌, ◌++◌, length, take, drop, Result, Ok, Err, refl, sym, ◌∙◌, ap, subst, arith}
+use Rattle.std.proofs.Common.{◌≡◌, ℕ, suc, ◌+◌, ◌*◌, ◌<◌, ◌≤◌, ◌&&◌, Bool, true, List, [], ◌∷◌, ◌++◌, length, take, drop, Result, Ok, Err, refl, sym, ◌∙◌, ap, subst, arith}
 use Rattle.std.specs.Prelude.{◌==◌, MatchResult}
 use Rattle.std.specs.List.{list_all}
 use Rattle.std.proofs.lemmas.List.{length-append}
@@ -11,12 +11,11 @@ use Rattle.bufr_walk.specs.declared.packed_in.Seen.{Seen}
 use Rattle.bufr_walk.specs.declared.packed_in.PackedFault.{PackedFault}
 use Rattle.bufr_walk.specs.declared.packed_in.PackedFault.TheVariants as wrong
 use Rattle.bufr_walk.specs.Asked.{Asked}
-use Rattle.bufr_walk.specs.Content.{Content}
-use Rattle.bufr_walk.specs.PlainField.{FieldFault, data_end, increment, unequal_factor, found}
+use Rattle.bufr_walk.specs.PlainField.{FieldFault, data_end, increment, unequal_factor}
 use Rattle.bufr_walk.specs.PackedField.{packed_field}
 use Rattle.bufr_walk.specs.PackedBits.{IsSeen, IsUnseen, IsLooked, IsUnlooked}
-use Rattle.bufr_walk.specs.PackedIn.{PackedCursor, packed_rest, item_with, item_at, items_at, contents_found, was_found, stands_at, packed_view, IsPackedIn, IsPackedTaken, IsPackedWrong, wrong_of, PackedTakes}
-use Rattle.bufr_walk.specs.Reading.{Item, most_values}
+use Rattle.bufr_walk.specs.PackedIn.{PackedCursor, item_with, item_at, items_at, contents_found, was_found, stands_at, packed_view, IsPackedIn, IsPackedTaken, wrong_of, PackedTakes}
+use Rattle.bufr_walk.specs.Reading.{most_values}
 
 pub length-items_at : (bits : List Bool) (n : ℕ) (kept : List KeptItem) → length (items_at bits n kept) ≡ length kept
 length-items_at bits n [] = refl

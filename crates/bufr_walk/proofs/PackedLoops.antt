@@ -1,12 +1,11 @@
 -- Increments one after another.
-use Rattle.std.proofs.Common.{◌≡◌, ℕ, zero, suc, ◌+◌, ◌-◌, ◌*◌, ◌^◌, ◌<◌, ◌≤◌, ◌&&◌, Bool, true, false, not, List, [], ◌∷◌, length, take, drop, map, Result, Ok, Err, refl, sym, ◌∙◌, ap, subst, arith}
-use Rattle.std.specs.Prelude.{◌==◌, ◌||◌, nat_lt, if◌then◌else◌}
+use Rattle.std.proofs.Common.{◌≡◌, ℕ, suc, ◌+◌, ◌&&◌, Bool, true, false, List, ◌∷◌, take, drop, refl, sym, ◌∙◌, ap, arith}
+use Rattle.std.specs.Prelude.{◌==◌}
 use Rattle.std.specs.List.{list_all}
-use Rattle.std.proofs.lemmas.List.{length-drop, drop-drop}
+use Rattle.std.proofs.lemmas.List.{drop-drop}
 use Rattle.std.proofs.lemmas.Bool.Decides.{nat_tests}
-use Rattle.bufr_bits.specs.Bits.{bits_of, bits_at, number_of, all_set}
-use Rattle.bufr_walk.specs.PackedField.{increments, ones}
-use Rattle.bufr_walk.specs.PackedBits.{stays_within, all_within, all_equal, increased_to}
+use Rattle.bufr_walk.specs.PackedField.{increments}
+use Rattle.bufr_walk.specs.PackedBits.{stays_within}
 
 -- the next of some increments
 pub increments_next : (left left' k at at' : ℕ) (bits : List Bool) → left ≡ suc left' → at' ≡ at + k → increments left k (drop at bits) ≡ take k (drop at bits) ∷ increments left' k (drop at' bits)

@@ -2,19 +2,15 @@
 use Rattle.std.proofs.Common.{◌≡◌, ℕ, zero, suc, ◌+◌, ◌-◌, ◌*◌, ◌<◌, ◌≤◌, Bool, true, false, List, [], ◌∷◌, ◌++◌, length, drop, Some, Ok, Err, refl, sym, ◌∙◌, ap, subst, arith, append_assoc}
 use Rattle.std.specs.Prelude.{nat_lt}
 use Rattle.std.specs.List.{list_all}
-use Rattle.std.proofs.lemmas.List.{length-drop, length-append, append-nil}
+use Rattle.std.proofs.lemmas.List.{length-drop, append-nil}
 use Rattle.std.proofs.lemmas.Bool.Decides.{nat_tests}
 use Rattle.std.proofs.Math.Nat.{mul-le-mul_left}
-use Rattle.bufr_bits.specs.Bits.{bits_of}
-use Rattle.bufr_walk.specs.declared.spec.Taken.{Taken}
-use Rattle.bufr_walk.specs.declared.spec.Refusal.{Refusal}
 use Rattle.bufr_walk.specs.declared.spec.Refusal.TheVariants as refusal
 use Rattle.bufr_walk.specs.declared.read_packed.KeptItem.{KeptItem}
 use Rattle.bufr_walk.specs.declared.packed_in.PackedFault.{PackedFault}
 use Rattle.bufr_walk.specs.declared.packed_in.PackedFault.TheVariants as wrong
 use Rattle.bufr_walk.specs.declared.walk.WalkStop.{WalkStop}
 use Rattle.bufr_walk.specs.declared.walk.WalkStop.TheVariants as stops
-use Rattle.bufr_walk.specs.declared.fault.WalkFault.{WalkFault}
 use Rattle.bufr_walk.specs.declared.fault.WalkFault.TheVariants as fault
 use Rattle.bufr_walk.specs.Asked.{Asked}
 use Rattle.bufr_walk.specs.Content.{Content}
@@ -24,10 +20,9 @@ use Rattle.bufr_walk.specs.Kept.{AreKept}
 use Rattle.bufr_walk.specs.Outcome.{IsRead, IsFault, IsRefused}
 use Rattle.bufr_walk.specs.PackedField.{packed_field}
 use Rattle.bufr_walk.specs.PackedIn.{items_at, stands_at, wrong_of, PackedCursor, packed_rest, item_with, IsPackedTaken, IsPackedWrong, PackedTakes, refuses_packed, packed_start, packed_fault}
-use Rattle.bufr_walk.specs.PlainField.{FieldFault, data_end, increment, unequal_factor, found}
+use Rattle.bufr_walk.specs.PlainField.{FieldFault, data_end, increment, unequal_factor}
 use Rattle.bufr_walk.specs.Reading.{Item, packed, Reads, ReadsAll, next_after, turns_after, after, most_values, Data, together, IsPackedReading, turns_together}
-use Rattle.bufr_walk.specs.Refusal.{Stop, walk_stop, too_many, field_stop, field_stop_of, stop_at, ComesToTogether, would_be_many, IsPackedRefused, IsPackedShort}
-use Rattle.bufr_walk.specs.Stop.{stop_by}
+use Rattle.bufr_walk.specs.Refusal.{Stop, walk_stop, too_many, field_stop, field_stop_of, stop_at, ComesToTogether, would_be_many, IsPackedShort}
 use Rattle.bufr_walk.specs.Taking.{Turn, Takes}
 use Rattle.bufr_walk.specs.Ticks.{ticked}
 use Rattle.bufr_walk.specs.Walked.{oks, told_by, StopsAt, Walked}

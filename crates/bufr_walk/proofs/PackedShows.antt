@@ -1,5 +1,5 @@
 -- How the calls that show compressed data are joined.
-use Rattle.std.proofs.Common.{◌≡◌, ℕ, suc, ◌+◌, ◌-◌, ◌<◌, ◌≤◌, ◌&&◌, Bool, true, length, take, drop, get_or, set, replicate, Result, Ok, Err, List, [], ◌∷◌, ◌++◌, ◌⊎◌, inl, inr, refl, sym, ◌∙◌, ap, subst, add-one, append_assoc, arith}
+use Rattle.std.proofs.Common.{◌≡◌, ℕ, suc, ◌+◌, ◌-◌, ◌<◌, ◌≤◌, Bool, true, length, take, drop, get_or, set, replicate, Result, Ok, Err, List, [], ◌∷◌, ◌++◌, inl, inr, refl, sym, ◌∙◌, ap, subst, add-one, append_assoc, arith}
 use Rattle.std.specs.List.{list_all}
 use Rattle.std.proofs.Math.Seq.{drop-cons}
 use Rattle.std.proofs.lemmas.List.{append-nil, take_more_set, replicate-append-replicate}
@@ -8,7 +8,7 @@ use Rattle.bufr_tables.specs.TableB.{Row}
 use Rattle.bufr_walk.specs.declared.fault.ShowFault.{ShowFault}
 use Rattle.bufr_walk.specs.declared.fault.ShowFault.TheVariants as fault
 use Rattle.bufr_walk.specs.declared.read_packed.KeptItem.{KeptItem}
-use Rattle.bufr_walk.specs.Calls.{Call, item_call, subset_call, Timed, timed, view_of, content_at, items_together, subsets_together}
+use Rattle.bufr_walk.specs.Calls.{Call, item_call, Timed, timed, view_of, content_at, items_together}
 use Rattle.bufr_walk.specs.PackedField.{packed_field}
 use Rattle.bufr_walk.specs.PackedIn.{contents_found, items_at, stands_at}
 use Rattle.bufr_walk.specs.Shows.{Shows}

@@ -1,18 +1,16 @@
 -- Subsets that are read one after another.
-use Rattle.std.proofs.Common.{◌≡◌, ℕ, suc, ◌+◌, ◌-◌, ◌*◌, ◌^◌, ◌<◌, ◌≤◌, false, Bool, List, [], ◌∷◌, ◌++◌, length, drop, Some, refl, sym, ◌∙◌, ap, subst, arith, length-append, length-drop}
+use Rattle.std.proofs.Common.{◌≡◌, ℕ, ◌+◌, ◌-◌, ◌*◌, ◌^◌, ◌<◌, ◌≤◌, false, Bool, List, [], ◌∷◌, ◌++◌, length, drop, Some, refl, sym, ◌∙◌, ap, subst, arith, length-append, length-drop}
 use Rattle.std.specs.Prelude.{min, max}
 use Rattle.bufr_bits.specs.Bits.{bits_of}
 use Rattle.bufr_walk.specs.declared.fault.WalkFault.{WalkFault}
 use Rattle.bufr_walk.specs.declared.fault.WalkFault.TheVariants as fault
-use Rattle.bufr_walk.specs.declared.spec.Role.TheVariants as role
-use Rattle.bufr_walk.specs.Asked.{Asked}
 use Rattle.bufr_walk.specs.Content.{Content}
-use Rattle.bufr_walk.specs.Course.{Course, Next, take_next, at_end}
+use Rattle.bufr_walk.specs.Course.{Course, Next, take_next}
 use Rattle.bufr_walk.specs.Fault.{fault_of, bits_before}
 use Rattle.bufr_walk.specs.Outcome.{data_in, IsRead, IsFault, IsRefused}
 use Rattle.bufr_walk.specs.Passes.{PassComes, PassReads, PassStops, SubsetsRead}
 use Rattle.bufr_walk.specs.PlainIn.{Cursor, rest_of}
-use Rattle.bufr_walk.specs.Reading.{Item, plain, Reads, ReadsAll, ReadsSubsets, turns_after, turns_in, apart}
+use Rattle.bufr_walk.specs.Reading.{Item, plain, ReadsAll, ReadsSubsets, turns_after, turns_in, apart}
 use Rattle.bufr_walk.specs.PlainField.{data_end, increment, unequal_factor}
 use Rattle.bufr_walk.specs.declared.spec.Refusal.TheVariants as refusal
 use Rattle.bufr_walk.specs.Refusal.{Stop, walk_stop, too_many, field_stop, stop_at, ComesTo}

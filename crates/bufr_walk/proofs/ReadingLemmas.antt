@@ -1,5 +1,5 @@
 -- What a reading is made of.
-use Rattle.std.proofs.Common.{◌≡◌, ◌≤◌, ◌*◌, ℕ, Bool, true, false, List, length, drop, Vec, Result, refl, sym, ◌∙◌, ap, subst, arith}
+use Rattle.std.proofs.Common.{◌≡◌, ℕ, Bool, true, false, List, length, drop, Vec, Result, refl, sym, ◌∙◌, ap, subst, arith}
 use Rattle.std.specs.declared.alloc.Global.{Global}
 use Rattle.bufr_frame.specs.Sections.{Sections}
 use Rattle.bufr_tables.specs.TableB.{Row}
@@ -13,7 +13,7 @@ use Rattle.bufr_walk.specs.Content.{Content}
 use Rattle.bufr_walk.specs.Course.{next_item}
 use Rattle.bufr_walk.specs.Kept.{IsHeld, KeepsValues}
 use Rattle.bufr_walk.specs.Outcome.{data_in, data_of, read_by, Read, course_of, IsRead, IsReadingOf}
-use Rattle.bufr_walk.specs.Reading.{Item, Data, Values, apart, together, IsReading, ReadsSubsets, turns_in}
+use Rattle.bufr_walk.specs.Reading.{Item, Values, apart, together, IsReading, ReadsSubsets, turns_in}
 
 pub plain_held : (table : List Row) (template : Tree) (subsets : ℕ) (octets : List ℕ) (used steps : ℕ) → (read : List (List (Item Content))) × IsRead (next_item table template) (data_in false subsets octets) (apart read) used steps → IsHeld (read_by table template (data_in false subsets octets) used 0) kept.Apart
 plain_held table template subsets octets used steps h = record { values = apart h.0; reading = h.1.0; keeps = tt; few = omega arith }

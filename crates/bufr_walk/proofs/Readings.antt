@@ -1,11 +1,10 @@
 -- A walk over bits reads them as the definition does.
-use Rattle.std.proofs.Common.{◌≡◌, ◌≤◌, ℕ, false, Bool, List, [], ◌∷◌, Some, Result, Ok, Err, refl, sym, ◌∙◌, ap, subst, arith}
+use Rattle.std.proofs.Common.{◌≡◌, ◌≤◌, ℕ, List, [], ◌∷◌, Result, Ok, Err, refl, sym, ◌∙◌, ap, subst, arith}
 use Rattle.bufr_walk.specs.declared.spec.Refusal.TheVariants as refusal
 use Rattle.bufr_walk.specs.declared.plain_in.DataEnd.{DataEnd}
 use Rattle.bufr_walk.specs.declared.walk.WalkStop.{WalkStop}
 use Rattle.bufr_walk.specs.declared.walk.WalkStop.TheVariants as stops
 use Rattle.bufr_walk.specs.declared.fault.WalkFault.TheVariants as fault
-use Rattle.bufr_walk.specs.Asked.{Asked}
 use Rattle.bufr_walk.specs.Content.{Content}
 use Rattle.bufr_walk.specs.Course.{Course, Next, take_next, at_end, astray, refused}
 use Rattle.bufr_walk.specs.Fault.{spot}
@@ -13,7 +12,7 @@ use Rattle.bufr_walk.specs.Passes.{PassComes, PassReads, PassStops}
 use Rattle.bufr_walk.specs.PlainField.{plain_field, data_end}
 use Rattle.bufr_walk.specs.PlainIn.{fault_at, Cursor, rest_of, PlainTakes}
 use Rattle.bufr_walk.specs.Reading.{Item, plain, Reads, next_after, turns_after, after}
-use Rattle.bufr_walk.specs.Refusal.{walk_stop, field_stop, field_stop_of, stop_at}
+use Rattle.bufr_walk.specs.Refusal.{walk_stop, field_stop, field_stop_of}
 use Rattle.bufr_walk.specs.Taking.{Turn, Takes}
 use Rattle.bufr_walk.specs.Ticks.{ticked}
 use Rattle.bufr_walk.specs.Walked.{oks, told_by, StopsAt, Walked}

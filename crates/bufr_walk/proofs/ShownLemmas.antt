@@ -1,15 +1,14 @@
 -- What a walk with a visitor shows.
-use Rattle.std.proofs.Common.{◌≡◌, ℕ, zero, suc, ◌+◌, ◌-◌, ◌*◌, ◌/◌, ◌%◌, ◌^◌, ◌<◌, ◌≤◌, ◌&&◌, eqb, Bool, true, false, List, [], ◌∷◌, ◌++◌, ◌⊎◌, inl, inr, length, take, drop, set, Option, Result, Ok, Err, ℤ, pos, ◌+ℤ◌, refl, sym, ◌∙◌, ap, subst, arith, add-one}
-use Rattle.std.specs.Prelude.{◌==◌, nat_lt, if◌then◌else◌, None, option_map}
+use Rattle.std.proofs.Common.{◌≡◌, ℕ, zero, suc, ◌+◌, ◌*◌, ◌/◌, ◌%◌, ◌<◌, ◌&&◌, Bool, true, false, List, [], ◌∷◌, ◌++◌, ◌⊎◌, inl, inr, length, take, drop, set, Option, Result, Ok, Err, ℤ, pos, ◌+ℤ◌, refl, sym, ◌∙◌, ap, subst, arith, add-one}
+use Rattle.std.specs.Prelude.{nat_lt, if◌then◌else◌, None, option_map}
 use Rattle.std.proofs.lemmas.List.{drop-drop, drop-take, take-take, take_more_set}
-use Rattle.bufr_bits.specs.Bits.{number_of, bits_at, all_set}
+use Rattle.bufr_bits.specs.Bits.{number_of, all_set}
 use Rattle.bufr_tables.specs.declared.kind.Kind.{Kind}
 use Rattle.bufr_tables.specs.declared.kind.Kind.TheVariants as kind
 use Rattle.bufr_tables.specs.Entry.{row_with}
 use Rattle.bufr_tables.specs.declared.table_b.Entry.{Entry}
 use Rattle.bufr_tables.specs.TableB.{Row, entry_of, is_character}
 use Rattle.bufr_walk.specs.declared.fault.ShowFault.{ShowFault}
-use Rattle.bufr_walk.specs.declared.fault.ShowFault.TheVariants as fault
 use Rattle.bufr_walk.specs.declared.show_plain.ShowStop.{ShowStop}
 use Rattle.bufr_walk.specs.declared.show_plain.ShowStop.TheVariants as stop
 use Rattle.bufr_walk.specs.declared.spec.Refusal.{Refusal}
@@ -23,13 +22,13 @@ use Rattle.bufr_walk.specs.Asked.{Asked, IsSpec, HasRole, HasMissing, is_referen
 use Rattle.bufr_walk.specs.declared.visitor.Value.{Value}
 use Rattle.bufr_walk.specs.Seen.{seen_value}
 use Rattle.bufr_walk.specs.Calls.{Call, item_call, view, view_of, Timed, timed, item_calls}
-use Rattle.bufr_walk.specs.Content.{Content, told, number, text, missing, content_in, content_by, value_in, said_by, octets_in, signed_by, Shown, shown_number, shown_text, shown_missing, shown_reference, shown}
+use Rattle.bufr_walk.specs.Content.{Content, told, number, text, missing, content_in, content_by, value_in, said_by, octets_in, signed_by, shown_number, shown_text, shown_missing, shown_reference, shown}
 use Rattle.bufr_walk.specs.Course.{Course, Next, take_next, at_end, astray, refused}
 use Rattle.bufr_walk.specs.PlainField.{FieldFault, Found, found, plain_field, data_end}
 use Rattle.bufr_walk.specs.PlainIn.{Cursor, rest_of, past, IsTaken}
-use Rattle.bufr_walk.specs.Reading.{Item, plain, Reads, ReadsAll, after, next_after, turns_after}
-use Rattle.bufr_walk.specs.Shown.{Stage, stage, IsShown, IsUnshown, ShowingTakes, IsEnd, MayEnd, Sofar, ItemsShown, ItemsEnded, ItemsGo}
-use Rattle.bufr_walk.specs.Shows.{Shows, EndsAt, IsKept, NeedsMemory}
+use Rattle.bufr_walk.specs.Reading.{Item, plain, ReadsAll, after, turns_after}
+use Rattle.bufr_walk.specs.Shown.{Stage, stage, IsShown, IsUnshown, ShowingTakes, IsEnd, MayEnd, Sofar, ItemsShown, ItemsEnded}
+use Rattle.bufr_walk.specs.Shows.{Shows, EndsAt, IsKept}
 use Rattle.bufr_walk.specs.Taking.{Turn, Takes}
 use Rattle.bufr_walk.specs.Ticks.{ticked}
 use Rattle.bufr_walk.specs.Walked.{oks, told_by, StopsAt, Walked}

@@ -1,5 +1,5 @@
 -- Subsets that are shown one after another.
-use Rattle.std.proofs.Common.{◌≡◌, ℕ, suc, ◌+◌, ◌<◌, ◌≤◌, Bool, List, [], ◌∷◌, ◌++◌, inl, inr, length, Result, Ok, Err, refl, sym, ◌∙◌, ap, subst, arith}
+use Rattle.std.proofs.Common.{◌≡◌, ℕ, ◌+◌, ◌<◌, ◌≤◌, Bool, List, [], ◌∷◌, ◌++◌, inl, inr, length, Result, Ok, Err, refl, sym, ◌∙◌, ap, subst, arith}
 use Rattle.bufr_tables.specs.TableB.{Row}
 use Rattle.bufr_walk.specs.declared.fault.ShowFault.{ShowFault}
 use Rattle.bufr_walk.specs.declared.fault.ShowFault.TheVariants as fault
@@ -8,7 +8,7 @@ use Rattle.bufr_walk.specs.Content.{Content}
 use Rattle.bufr_walk.specs.Course.{Course}
 use Rattle.bufr_walk.specs.PlainIn.{Cursor, rest_of}
 use Rattle.bufr_walk.specs.Reading.{Item, plain, ReadsAll, ReadsSubsets, turns_after, turns_in}
-use Rattle.bufr_walk.specs.Shown.{Sofar, ItemsShown, ItemsEnded, ItemsGo, SubsetShown, SubsetEnded, SubsetGoes, SubsetsShown}
+use Rattle.bufr_walk.specs.Shown.{Sofar, ItemsGo, SubsetShown, SubsetEnded, SubsetGoes, SubsetsShown}
 use Rattle.bufr_walk.specs.Shows.{Shows}
 use Rattle.bufr_walk.specs.Ticks.{ticked}
 use Rattle.bufr_walk.proofs.PlainSubsets.{ticked_more}

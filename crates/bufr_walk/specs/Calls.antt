@@ -1,11 +1,11 @@
 -- What a visitor is told, call by call.
 -- Cited by public contracts.
-use Rattle.std.specs.Prelude.{ℕ, zero, suc, ◌+◌, ◌≡◌, Bool, true, false, if◌then◌else◌, List, [], ◌∷◌, ◌++◌, Option, None, Result, Ok, Err, ◌⊎◌}
+use Rattle.std.specs.Prelude.{ℕ, zero, suc, ◌+◌, if◌then◌else◌, List, [], ◌∷◌, ◌++◌, Option, None}
 use Rattle.bufr_tables.specs.TableB.{Row, entry_of}
 use Rattle.bufr_walk.specs.Asked.{Asked}
 use Rattle.bufr_walk.specs.Content.{Content, Shown, shown, missing}
 use Rattle.bufr_walk.specs.Course.{Course}
-use Rattle.bufr_walk.specs.Reading.{Item, plain, packed, after, turns_after, turns_in, Values, apart, together, turns_of}
+use Rattle.bufr_walk.specs.Reading.{Item, plain, after, turns_after, turns_in, Values, apart, together}
 use Rattle.bufr_walk.specs.Outcome.{Read, course_of}
 
 -- an item as it is shown: its descriptor, the row of Table B by which it was read, and its value

@@ -5,7 +5,7 @@ use Rattle.bufr_walk.specs.declared.spec.Refusal.TheVariants as refusal
 use Rattle.bufr_walk.specs.declared.fault.Spot.{Spot}
 use Rattle.bufr_walk.specs.declared.fault.WalkFault.{WalkFault}
 use Rattle.bufr_walk.specs.declared.fault.WalkFault.TheVariants as fault
-use Rattle.bufr_walk.specs.PlainField.{FieldFault, data_end, increment, unequal_factor}
+use Rattle.bufr_walk.specs.PlainField.{data_end, increment, unequal_factor}
 use Rattle.bufr_walk.specs.Refusal.{Stop, walk_stop, too_many, field_stop}
 
 -- where an item stands: the subset, the descriptor, and the bits before it

@@ -1,6 +1,6 @@
 -- An item view as a clause sees it.
 -- Cited by public contracts.
-use Rattle.std.specs.Prelude.{ℕ, option_map}
+use Rattle.std.specs.Prelude.{option_map}
 use Rattle.bufr_tables.specs.Entry.{row_with}
 use Rattle.bufr_walk.specs.declared.visitor.Value.{Value}
 use Rattle.bufr_walk.specs.declared.visitor.Value.TheVariants as value

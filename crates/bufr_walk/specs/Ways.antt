@@ -1,6 +1,6 @@
 -- How far a walk came.
 -- Cited by private steps only.
-use Rattle.std.specs.Prelude.{ℕ, ◌≡◌, Result, Ok, Err, List, [], ◌∷◌, ◌++◌}
+use Rattle.std.specs.Prelude.{ℕ, ◌≡◌, Result, Ok, Err, List, ◌++◌}
 use Rattle.bufr_tables.specs.TableB.{Row}
 use Rattle.bufr_walk.specs.declared.spec.Taken.{Taken}
 use Rattle.bufr_walk.specs.declared.spec.Refusal.{Refusal}
