@@ -22,9 +22,12 @@ pub mod PackedKept
 pub mod PackedReadings
 pub mod PackedAt
 pub mod PackedShows
+pub mod PackedTexts
+pub mod PackedSubsets
 pub mod Readings
 pub mod PlainSubsets
 pub mod ReadingLemmas
 pub mod PackedHeld
+pub mod PackedShown
 pub mod ShownLemmas
 pub mod SubsetLemmas
