@@ -8,6 +8,7 @@ mod GroupExamples
 mod PackedExamples
 mod ListedExamples
 pub mod OneOutcome
+pub mod OneReading
 pub mod SpecLemmas
 pub mod WaysLemmas
 pub mod FieldWays
