@@ -9,6 +9,9 @@ mod PackedExamples
 mod ListedExamples
 pub mod OneOutcome
 pub mod OneReading
+pub mod SomeSteps
+pub mod SomePass
+pub mod SomeReading
 pub mod SpecLemmas
 pub mod WaysLemmas
 pub mod FieldWays
