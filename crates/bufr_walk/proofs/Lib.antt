@@ -8,6 +8,10 @@ mod GroupExamples
 mod PackedExamples
 mod ListedExamples
 pub mod OneOutcome
+pub mod OneReading
+pub mod SomeSteps
+pub mod SomePass
+pub mod SomeReading
 pub mod SpecLemmas
 pub mod WaysLemmas
 pub mod FieldWays

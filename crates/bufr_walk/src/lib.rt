@@ -5,6 +5,7 @@ mod cells;
 mod fault;
 pub mod fields;
 pub mod in_force;
+pub mod law;
 mod message;
 pub mod packed_in;
 pub mod plain_in;
