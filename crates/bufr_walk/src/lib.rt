@@ -20,3 +20,6 @@ pub use fault::{ShowFault, Spot, WalkFault};
 pub use message::read_message;
 pub use reading::Reading;
 pub use visitor::{ItemView, Value, Visitor};
+
+#[cfg(test)]
+mod tests;
