@@ -25,3 +25,4 @@ pub use visitor::{ItemView, Value, Visitor};
 
 #[cfg(test)]
 mod packed_tests;
+mod tests;
