@@ -25,4 +25,5 @@ pub use visitor::{ItemView, Value, Visitor};
 
 #[cfg(test)]
 mod packed_tests;
+#[cfg(test)]
 mod tests;
