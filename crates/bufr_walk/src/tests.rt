@@ -1,4 +1,6 @@
 // What is shown by running: the worked messages, each fault, the limits.
+ghost use Rattle.std.specs.Prelude.{◌≡◌, false};
+
 use super::*;
 use crate::steps::Steps;
 use bufr_frame::Message;
@@ -324,51 +326,57 @@ fn spot_of(fault: WalkFault) -> Option<Spot> {
     }
 }
 
-// What comes of a message: its reading, shown, or its fault.
-fn told(
-    rt: &HostRuntime,
-    octets: &[u8],
-    template: &Template,
-    table: &TableB,
-) -> Result<String, Fail> {
-    let alloc = rt.alloc();
-    let mut steps = Steps::new();
+// The message that octets are.
+fn message_in(octets: &[u8]) -> Option<Message<'_>> {
     if octets.len() < 12 {
-        return Ok(format!(in alloc; "no message")?);
+        return None;
     }
-    let Ok(message) = Message::parse(octets) else {
-        return Ok(format!(in alloc; "no message")?);
+    Message::parse(octets).ok()
+}
+
+// What is told of a reading: its bits and the steps that were made, and then its subsets and items.
+fn shown(alloc: Global, reading: &Reading<'_>, steps: &mut Steps) -> Result<String, Fail>
+    requires { reading.now.source.compressed ≡ false }
+{
+    let (bits, count) = (reading.bits(), steps.count());
+    let mut lines = Lines {
+        alloc,
+        text: format!(in alloc; "bits {bits} steps {count}")?,
     };
+    if reading.subsets() > 0 {
+        lines.text.push(';')?;
+    }
+    if reading.show(alloc, &mut lines, steps).is_err() {
+        lines.text.push_str(" out of memory")?;
+    }
+    if steps.count() != count || reading.held() != 0 {
+        lines.text.push_str(" other steps")?;
+    }
+    Ok(lines.text)
+}
+
+// What is told of a fault: its number, where it stands, and the steps that were made.
+fn refused(alloc: Global, fault: WalkFault, steps: &Steps) -> Result<String, Fail> {
+    let (number, count) = (fault.number(), steps.count());
+    match spot_of(fault) {
+        Some(spot) => Ok(format!(in alloc;
+            "{number} at {} {} {} steps {count}",
+            spot.subset, spot.fxy, spot.bit
+        )?),
+        None => Ok(format!(in alloc; "{number}")?),
+    }
+}
+
+// What comes of a message whose data are not compressed.
+fn told(alloc: Global, octets: &[u8], template: &Template, table: &TableB) -> Result<String, Fail> {
+    let message = message_in(octets).ok_or("a message")?;
+    if message.compressed() {
+        return Ok(format!(in alloc; "compressed")?);
+    }
+    let mut steps = Steps::new();
     match read_message(alloc, &message, template, table, &mut steps) {
-        Ok(reading) => {
-            let (bits, count) = (reading.bits(), steps.count());
-            let mut lines = Lines {
-                alloc,
-                text: format!(in alloc; "bits {bits} steps {count}")?,
-            };
-            if reading.subsets() > 0 {
-                lines.text.push(';')?;
-            }
-            match reading.show(alloc, &mut lines, &mut steps) {
-                Ok(()) => {}
-                Err(_) => lines.text.push_str(" out of memory")?,
-            }
-            if steps.count() != count || reading.held() != 0 {
-                lines.text.push_str(" other steps")?;
-            }
-            Ok(lines.text)
-        }
-        Err(fault) => match spot_of(fault) {
-            Some(spot) => Ok(format!(in alloc;
-                "{} at {} {} {} steps {}",
-                fault.number(),
-                spot.subset,
-                spot.fxy,
-                spot.bit,
-                steps.count()
-            )?),
-            None => Ok(format!(in alloc; "{}", fault.number())?),
-        },
+        Ok(reading) => shown(alloc, &reading, &mut steps),
+        Err(fault) => refused(alloc, fault, &steps),
     }
 }
 
@@ -381,7 +389,7 @@ fn worked_messages(rt: HostRuntime) -> Result<(), Fail> {
         let payload = octets_of(rt.alloc(), data_text)?;
         let octets = message_of(rt.alloc(), *subsets, 0x80, &descriptors, &payload)?;
         let template = Template::build(rt.alloc(), &descriptors, &table_b, &table_d)?;
-        let told = told(&rt, &octets, &template, &table_b)?;
+        let told = told(rt.alloc(), &octets, &template, &table_b)?;
         assert_eq!(rt; told.as_str(), *want, "{name}");
     }
     Ok(())
@@ -395,13 +403,8 @@ fn as_many_subsets_as_may_be(rt: HostRuntime) -> Result<(), Fail> {
     let payload = vec![in rt.alloc(); 0u8; 8192]?;
     let octets = message_of(rt.alloc(), 65535, 0x80, &descriptors, &payload)?;
     let template = Template::build(rt.alloc(), &descriptors, &table_b, &table_d)?;
+    let message = message_in(&octets).ok_or("a message")?;
     let mut steps = Steps::new();
-    if octets.len() < 12 {
-        return Ok(());
-    }
-    let Ok(message) = Message::parse(&octets) else {
-        return Ok(());
-    };
     match read_message(rt.alloc(), &message, &template, &table_b, &mut steps) {
         Ok(reading) => {
             assert_eq!(rt; reading.subsets(), 65535);
@@ -421,23 +424,32 @@ fn as_many_characters_as_may_be(rt: HostRuntime) -> Result<(), Fail> {
     let payload = vec![in rt.alloc(); 0u8; 258]?;
     let octets = message_of(rt.alloc(), 1, 0x80, &descriptors, &payload)?;
     let template = Template::build(rt.alloc(), &descriptors, &table_b, &table_d)?;
-    let told = told(&rt, &octets, &template, &table_b)?;
+    let told = told(rt.alloc(), &octets, &template, &table_b)?;
     assert_eq!(rt; told.len(), 554);
     Ok(())
 }
 
-#[test]
-fn faults_have_numbers(rt: HostRuntime) {
-    let spot = Spot {
+// The front of the first subset.
+fn front() -> Spot {
+    Spot {
         subset: 1,
         fxy: Fxy::from_word(257),
         bit: 0,
-    };
-    assert_eq!(rt; WalkFault::DataEnd(spot).number(), 30);
-    assert_eq!(rt; WalkFault::Width(spot).number(), 31);
-    assert_eq!(rt; WalkFault::Defining(spot).number(), 32);
-    assert_eq!(rt; WalkFault::UnequalFactor(spot).number(), 33);
-    assert_eq!(rt; WalkFault::Increment(spot).number(), 34);
-    assert_eq!(rt; WalkFault::TooManyValues(spot).number(), 35);
-    assert_eq!(rt; WalkFault::Memory.number(), 73);
+    }
+}
+
+#[test]
+fn faults_have_numbers(rt: HostRuntime) {
+    let rows = [
+        (WalkFault::DataEnd(front()), 30),
+        (WalkFault::Width(front()), 31),
+        (WalkFault::Defining(front()), 32),
+        (WalkFault::UnequalFactor(front()), 33),
+        (WalkFault::Increment(front()), 34),
+        (WalkFault::TooManyValues(front()), 35),
+        (WalkFault::Memory, 73),
+    ];
+    for (fault, number) in rows {
+        assert_eq!(rt; fault.number(), number, "{fault:?}");
+    }
 }
