@@ -20,7 +20,7 @@ pub enum Role {
 
 /// Why a turn is refused: a width that no field may have, or a turn that may not come while references are defined.
 #[derive(Clone, Copy)]
-pub enum Refusal {
+pub(crate) enum Refusal {
     Width(Fxy),
     Defining(Fxy),
 }
