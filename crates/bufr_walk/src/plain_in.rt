@@ -142,6 +142,7 @@ impl<'a> PlainIn<'a> {
     ghost use Rattle.bufr_walk.specs.PlainIn.{PlainTakes, past, rest_of};
     ghost use Rattle.bufr_walk.specs.Seen.{seen_value};
 
+    /// The bits of data that are not compressed, from bit 0 on.
     pub fn new(bits: BitSlice<'a>) -> PlainIn<'a>
         ensures { result ≡ record { bits = bits_of (octets_of bits.entry); at = 0 } }
     {
