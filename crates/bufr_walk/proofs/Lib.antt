@@ -8,6 +8,10 @@ mod GroupExamples
 mod PackedExamples
 mod ListedExamples
 pub mod OneOutcome
+pub mod OneReading
+pub mod SomeSteps
+pub mod SomePass
+pub mod SomeReading
 pub mod SpecLemmas
 pub mod WaysLemmas
 pub mod FieldWays
@@ -22,9 +26,12 @@ pub mod PackedKept
 pub mod PackedReadings
 pub mod PackedAt
 pub mod PackedShows
+pub mod PackedTexts
+pub mod PackedSubsets
 pub mod Readings
 pub mod PlainSubsets
 pub mod ReadingLemmas
 pub mod PackedHeld
+pub mod PackedShown
 pub mod ShownLemmas
 pub mod SubsetLemmas

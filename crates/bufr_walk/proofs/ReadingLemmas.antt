@@ -1,11 +1,9 @@
 -- What a reading is made of.
-use Rattle.std.proofs.Common.{◌≡◌, ℕ, Bool, true, false, List, length, drop, Vec, Result, refl, sym, ◌∙◌, ap, subst, arith}
-use Rattle.std.specs.declared.alloc.Global.{Global}
+use Rattle.std.proofs.Common.{◌≡◌, ℕ, Bool, true, false, List, length, drop, Result, refl, sym, ◌∙◌, ap, subst, arith}
 use Rattle.bufr_frame.specs.Sections.{Sections}
 use Rattle.bufr_tables.specs.TableB.{Row}
 use Rattle.bufr_tables.specs.Tree.{Tree}
 use Rattle.bufr_walk.specs.declared.fault.ShowFault.{ShowFault}
-use Rattle.bufr_walk.specs.declared.read_packed.KeptItem.{KeptItem}
 use Rattle.bufr_walk.specs.declared.reading.Kept.TheVariants as kept
 use Rattle.bufr_walk.specs.Calls.{Call, subset_calls, calls_of, turns_shown}
 use Rattle.bufr_walk.specs.Shows.{Shows}
@@ -34,12 +32,13 @@ readable_of r h = by h.values h.reading h.keeps
     by (apart all) k w = (all, drop r.bits r.source.bits, k.2.0, k.2.1)
     by (together items) k w = absurd w
 
-pub together_not : (r : Read) (entries : Vec KeptItem Global) → IsHeld r (kept.Together entries) → r.source.compressed ≡ false → ⊥
-together_not r entries h plain = by h.values h.reading h.keeps
+-- what is kept says whether the data are compressed
+pub apart_plain : (r : Read) → IsHeld r kept.Apart → r.source.compressed ≡ false
+apart_plain r h = by h.values h.reading h.keeps
   where
-    by : (values : Values) → IsReading (course_of r) r.source values r.bits → KeepsValues (kept.Together entries) r.source values → ⊥
-    by (apart all) k w = w
-    by (together items) k w = let e : true ≡ false = sym k.0 ∙ plain in cc
+    by : (values : Values) → IsReading (course_of r) r.source values r.bits → KeepsValues kept.Apart r.source values → r.source.compressed ≡ false
+    by (apart all) k w = k.0
+    by (together items) k w = absurd w
 
 pub show_is : {V E : Type 0} (sees : V → Call → Result (Unit {0}) E → V → Type 0) (r : Read) (v v' : V) (result : Result (Unit {0}) (ShowFault E)) (steps : ℕ) → r.source.compressed ≡ false
     → ((all : List (List (Item Content))) (left : List Bool) → ReadsSubsets (course_of r) all r.source.bits left → length all ≡ r.source.subsets → Shows sees v (subset_calls r.table (course_of r) 0 1 all) (turns_in (course_of r) all) result v' steps)

@@ -1,4 +1,5 @@
 -- What is asked of the data at one field (WMO-No. 306, Volume I.2, FM 94: section 4, Tables B and C).
+-- Cited by public contracts.
 use Rattle.std.specs.Prelude.{ℕ, ◌≡◌, ◌≤◌, ◌^◌, ◌%◌, Bool, ℤ, unsigned_abs}
 use Rattle.bufr_tables.specs.declared.kind.Kind.{Kind}
 use Rattle.bufr_tables.specs.declared.kind.Kind.TheVariants as kind

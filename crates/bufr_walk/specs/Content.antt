@@ -1,4 +1,5 @@
 -- What stands in a field, and what it means (WMO-No. 306, Volume I.2, FM 94: section 4).
+-- Cited by public contracts.
 use Rattle.std.specs.Prelude.{ℕ, zero, suc, ◌-◌, ◌/◌, ◌&&◌, Bool, true, false, if◌then◌else◌, List, [], ◌∷◌, take, drop, replicate, ℤ, pos, negsuc, neg_ℤ, nat_abs, ◌+ℤ◌}
 use Rattle.bufr_bits.specs.Bits.{bits_of, bits_in, number_of, all_set}
 use Rattle.bufr_tables.specs.declared.kind.Kind.{Kind}

@@ -1,4 +1,5 @@
 -- What comes next in a template, after what the items so far told.
+-- Cited by public contracts.
 use Rattle.std.specs.Prelude.{ℕ, ◌+◌, Result, Ok, Err, List, [], ◌∷◌, if◌then◌else◌}
 use Rattle.bufr_tables.specs.Tree.{Tree, is_inserted_text}
 use Rattle.bufr_tables.specs.TableB.{Row}

@@ -1,4 +1,5 @@
 -- Where a walk stands in the cells of a template.
+-- Cited by private steps only.
 use Rattle.std.specs.Prelude.{ℕ, ◌+◌, ◌-◌, ◌*◌, ◌^◌, ◌≡◌, ◌<◌, ◌≤◌, Result, Ok, Err, Option, Some, None, List, [], ◌∷◌, ◌++◌, length, drop, slice_index}
 use Rattle.bufr_tables.specs.Tree.{Tree, depth}
 use Rattle.bufr_tables.specs.TableB.{Row}

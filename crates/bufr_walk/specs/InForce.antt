@@ -1,4 +1,5 @@
 -- The settings in force, as the walk keeps them.
+-- Cited by private steps only.
 use Rattle.std.specs.Prelude.{◌≤◌, List, [], ◌∷◌}
 use Rattle.bufr_walk.specs.Settings.{Settings, Redefined}
 use Rattle.bufr_walk.specs.declared.in_force.Operands.{Operands}

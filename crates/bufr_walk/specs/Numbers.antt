@@ -1,4 +1,5 @@
 -- A field that is a number.
+-- Cited by private steps only.
 use Rattle.std.specs.Prelude.{ℕ, Bool, ℤ}
 use Rattle.bufr_tables.specs.declared.kind.Kind.{Kind}
 use Rattle.bufr_walk.specs.declared.spec.Role.{Role}

@@ -1,5 +1,6 @@
 -- One item of compressed data: a base of the item's width, six bits k, and an increment for each subset where k is above 0
 -- (WMO-No. 306, Volume I.2, FM 94: section 4, compression; what is left open there is a choice of this project).
+-- Cited by public contracts.
 use Rattle.std.specs.Prelude.{ℕ, zero, suc, ◌+◌, ◌-◌, ◌*◌, ◌/◌, ◌^◌, ◌==◌, ◌&&◌, nat_lt, Bool, true, false, if◌then◌else◌, List, [], ◌∷◌, ◌++◌, length, take, drop, map, replicate, Result, Ok, Err}
 use Rattle.std.specs.List.{list_all}
 use Rattle.bufr_bits.specs.Bits.{number_of, all_set}

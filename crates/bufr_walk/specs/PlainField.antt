@@ -1,4 +1,5 @@
 -- One field of data that are not compressed.
+-- Cited by public contracts.
 use Rattle.std.specs.Prelude.{nat_lt, Bool, if◌then◌else◌, List, length, take, drop, Result, Ok, Err}
 use Rattle.bufr_walk.specs.Asked.{Asked}
 use Rattle.bufr_walk.specs.Content.{Content, content_in}

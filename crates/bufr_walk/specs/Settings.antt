@@ -1,4 +1,5 @@
 -- What the operators have set so far, in one subset (WMO-No. 306, Volume I.2, FM 94: Table C).
+-- Cited by public contracts.
 use Rattle.std.specs.Prelude.{ℕ, ◌==◌, ◌&&◌, not, nat_lt, Bool, if◌then◌else◌, List, [], ◌∷◌, ℤ, Result, Ok, Err}
 use Rattle.bufr_tables.specs.Fxy.{x_of, y_of}
 use Rattle.bufr_walk.specs.declared.spec.Refusal.{Refusal}

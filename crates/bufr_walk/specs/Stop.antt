@@ -1,4 +1,5 @@
 -- Why a walk stops, where a turn is refused.
+-- Cited by public contracts.
 use Rattle.bufr_walk.specs.declared.spec.Refusal.{Refusal}
 use Rattle.bufr_walk.specs.declared.spec.Refusal.TheVariants as refusal
 use Rattle.bufr_walk.specs.declared.walk.WalkStop.{WalkStop}

@@ -1,4 +1,5 @@
 -- A walk over fields, each what comes next.
+-- Cited by public contracts.
 use Rattle.std.specs.Prelude.{◌≡◌, List, [], ◌∷◌}
 use Rattle.bufr_walk.specs.declared.spec.Taken.{Taken}
 use Rattle.bufr_walk.specs.Asked.{Asked}

@@ -7,6 +7,7 @@ use crate::spec::{Spec, Taken};
 
 /// Data that is read or written field by field.
 pub trait Fields {
+    /// Why a field is not taken.
     type Fault;
 
     /// How many bits were used, by whole items.
@@ -15,10 +16,12 @@ pub trait Fields {
     /// One call of `take` may go so: before, what is asked, the answer, after.
     ghost takes: { Self → Asked → Result Taken Self.Fault → Self → Type 0 };
 
+    /// Takes the next field, and answers what the walk needs of it.
     fn take(&mut self, spec: &Spec) -> Result<Taken, Self::Fault>
         ensures step { takes self.old spec.now result self.new }
         ensures shape { IfOk result (λ t. IsFor spec.now t) };
 
+    /// How many bits were used, by whole items.
     fn bits(&self) -> u64
         ensures { result ≡ used self.now };
 

@@ -3,25 +3,33 @@
 
 mod cells;
 mod fault;
-pub mod fields;
-pub mod in_force;
+mod fields;
+mod in_force;
+pub mod law;
 mod message;
-pub mod packed_in;
-pub mod plain_in;
+mod packed_in;
+mod plain_in;
 mod read_packed;
 mod read_plain;
 mod reading;
 mod show_packed;
 mod show_plain;
-pub mod spec;
-pub mod steps;
+mod spec;
+mod steps;
 mod visitor;
 pub mod walk;
 
 pub use fault::{ShowFault, Spot, WalkFault};
+pub use fields::Fields;
 pub use message::read_message;
+pub use packed_in::{PackedFault, PackedIn};
+pub use plain_in::{DataEnd, PlainIn};
 pub use reading::Reading;
+pub use spec::{Role, Spec, Taken};
+pub use steps::Steps;
 pub use visitor::{ItemView, Value, Visitor};
 
 #[cfg(test)]
 mod packed_tests;
+#[cfg(test)]
+mod tests;

@@ -2,11 +2,15 @@
 ghost use Rattle.std.specs.Prelude.{◌<◌, length};
 
 use crate::fields::Fields;
+use crate::message::read_message;
 use crate::packed_in::{PackedFault, PackedIn};
 use crate::spec::{Role, Spec, Taken};
+use crate::steps::Steps;
+use crate::visitor::{ItemView, Value, Visitor};
 use bufr_bits::BitSlice;
-use bufr_tables::{Fxy, Kind};
-use std::alloc::Global;
+use bufr_frame::Message;
+use bufr_tables::{Fxy, Kind, TableB, TableD, Template};
+use std::alloc::{AllocError, Global};
 use std::test::Fail;
 
 /// What a call answers: 0 and the count of a factor, or the number of its fault.
@@ -192,5 +196,176 @@ fn the_most_values(rt: HostRuntime) -> Result<(), Fail> {
     assert_eq!(rt; most.0, 2047);
     assert_eq!(rt; most.1, 0, "2,048 items");
     assert_eq!(rt; most.2, 26633);
+    Ok(())
+}
+
+// Test data, not WMO's.
+const TABLE_B: &[u8] = b"\
+    fxy,name,unit,scale,reference,width\n\
+    001001,WMO BLOCK NUMBER,Numeric,0,0,7\n\
+    001015,STATION OR SITE NAME,CCITT IA5,0,0,160\n\
+    012101,AIR TEMPERATURE,K,2,0,16\n";
+
+const TABLE_D: &[u8] = b"fxy,member\n360192,001001\n360192,012101\n";
+
+// A compressed message of edition 4 with these subsets of one element, and these data.
+fn message_of(alloc: Global, subsets: u16, element: Fxy, payload: &[u8]) -> Result<Vec<u8>, Fail> {
+    let mut octets = Vec::new(alloc);
+    let fourth = payload.len() % 200 + 4;
+    octets.extend_from_slice(b"BUFR\0\0")?;
+    octets.push((fourth + 43) as u8)?;
+    octets.extend_from_slice(&[4, 0, 0, 22, 0, 0, 98, 0, 0, 0, 0, 0, 0, 0, 14, 0])?;
+    octets.extend_from_slice(&[7, 232, 1, 2, 3, 4, 5, 0, 0, 9, 0])?;
+    octets.extend_from_slice(&[(subsets / 256) as u8, (subsets % 256) as u8, 0xC0])?;
+    octets.extend_from_slice(&[(element.word() / 256) as u8, (element.word() % 256) as u8])?;
+    octets.extend_from_slice(&[0, 0, fourth as u8, 0])?;
+    octets.extend_from_slice(payload)?;
+    octets.extend_from_slice(b"7777")?;
+    Ok(octets)
+}
+
+// A visitor that writes down what it is told.
+#[derive(Drop)]
+struct Lines {
+    alloc: Global,
+    text: String,
+}
+
+impl Visitor for Lines {
+    type Fault = AllocError;
+
+    ghost sees = { λ s call r t. Unit {0} };
+
+    fn subset(&mut self, number: u16) -> Result<(), AllocError> {
+        let line = format!(in self.alloc; " {number}:")?;
+        self.text.push_str(line.as_str())
+    }
+
+    fn item(&mut self, item: &ItemView<'_>) -> Result<(), AllocError> {
+        let line = match item.value {
+            Value::Number(number, scale) => format!(in self.alloc; " {number}e{scale}")?,
+            Value::Text(octets) => {
+                let mut line = String::new(self.alloc);
+                for octet in octets {
+                    line.push_str(format!(in self.alloc; " {octet:02X}")?.as_str())?;
+                }
+                line
+            }
+            Value::Missing => format!(in self.alloc; " missing")?,
+            Value::Reference(number) => format!(in self.alloc; " R{number}")?,
+        };
+        self.text.push_str(line.as_str())
+    }
+}
+
+// A visitor that counts what it is told.
+#[derive(Drop)]
+struct Counts {
+    subsets: u64,
+    items: u64,
+}
+
+impl Visitor for Counts {
+    type Fault = AllocError;
+
+    ghost sees = { λ s call r t. Unit {0} };
+
+    fn subset(&mut self, number: u16) -> Result<(), AllocError> {
+        self.subsets = u64::from(number);
+        Ok(())
+    }
+
+    fn item(&mut self, item: &ItemView<'_>) -> Result<(), AllocError> {
+        if item.value == Value::Number(10, 0) {
+            self.items = u64::wrapping_add(self.items, 1);
+        }
+        Ok(())
+    }
+}
+
+// The message that octets hold.
+fn message_in(octets: &[u8]) -> Option<Message<'_>> {
+    if octets.len() < 12 {
+        return None;
+    }
+    Message::parse(octets).ok()
+}
+
+#[test]
+fn compressed_subsets_are_shown(rt: HostRuntime) -> Result<(), Fail> {
+    let rows: [(u16, u16, &[u8], &str); 3] = [
+        (
+            2,
+            3173,
+            &[0x70, 0x8F, 0x05],
+            "bits 24 held 1; 1: 28815e2 2: missing",
+        ),
+        (
+            2,
+            271,
+            &[
+                0, 0, 0, 0, 0, 0, 0, 0, 0, 0, 0, 0, 0, 0, 0, 0, 0, 0, 0, 0, 0x11, 0x05, 0x09, 0x0C,
+                0x83, 0xFF, 0xFF, 0xFF, 0xFC,
+            ],
+            "bits 230 held 1; 1: 41 42 43 20 20 20 20 20 20 20 20 20 20 20 20 20 20 20 20 20 2: missing",
+        ),
+        (
+            2,
+            257,
+            &[0xFC, 0x10, 0x80],
+            "bits 17 held 1; 1: 126e0 2: missing",
+        ),
+    ];
+    let table_b = TableB::read(rt.alloc(), TABLE_B)?;
+    let table_d = TableD::read(rt.alloc(), TABLE_D)?;
+    for (subsets, word, payload, want) in &rows {
+        let element = Fxy::from_word(*word);
+        let octets = message_of(rt.alloc(), *subsets, element, payload)?;
+        let template = Template::build(rt.alloc(), &[element], &table_b, &table_d)?;
+        let message = message_in(&octets).ok_or("a message")?;
+        let mut steps = Steps::new();
+        match read_message(rt.alloc(), &message, &template, &table_b, &mut steps) {
+            Ok(reading) => {
+                assert_eq!(rt; steps.count(), 2);
+                let (bits, held) = (reading.bits(), reading.held());
+                let mut lines = Lines {
+                    alloc: rt.alloc(),
+                    text: format!(in rt.alloc(); "bits {bits} held {held};")?,
+                };
+                assert!(rt; reading.show(rt.alloc(), &mut lines, &mut steps).is_ok());
+                assert_eq!(rt; steps.count(), 0);
+                assert_eq!(rt; lines.text.as_str(), *want);
+            }
+            Err(fault) => assert_eq!(rt; fault.number(), 0),
+        }
+    }
+    Ok(())
+}
+
+#[test]
+fn as_many_compressed_subsets_as_may_be(rt: HostRuntime) -> Result<(), Fail> {
+    let table_b = TableB::read(rt.alloc(), TABLE_B)?;
+    let table_d = TableD::read(rt.alloc(), TABLE_D)?;
+    let element = Fxy::from_word(257);
+    let octets = message_of(rt.alloc(), 65535, element, &[0x14, 0x00])?;
+    let template = Template::build(rt.alloc(), &[element], &table_b, &table_d)?;
+    let message = message_in(&octets).ok_or("a message")?;
+    let mut steps = Steps::new();
+    match read_message(rt.alloc(), &message, &template, &table_b, &mut steps) {
+        Ok(reading) => {
+            assert_eq!(rt; steps.count(), 2);
+            assert_eq!(rt; reading.bits(), 13);
+            assert_eq!(rt; reading.held(), 1);
+            let mut counts = Counts {
+                subsets: 0,
+                items: 0,
+            };
+            assert!(rt; reading.show(rt.alloc(), &mut counts, &mut steps).is_ok());
+            assert_eq!(rt; steps.count(), 0);
+            assert_eq!(rt; counts.subsets, 65535);
+            assert_eq!(rt; counts.items, 65535);
+        }
+        Err(fault) => assert_eq!(rt; fault.number(), 0),
+    }
     Ok(())
 }

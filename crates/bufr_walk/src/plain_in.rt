@@ -114,7 +114,7 @@ fn octet_at(bits: &BitSlice<'_>, at: u64) -> u8
 
 /// Copies so many octets that begin at any bit.
 #[tactic(auto, using(crate::proofs::ShownLemmas::octet_put))]
-fn copy_octets(bits: &BitSlice<'_>, at: u64, count: usize, text: &mut [u8; 255])
+pub(crate) fn copy_octets(bits: &BitSlice<'_>, at: u64, count: usize, text: &mut [u8; 255])
     requires few { count ≤ 255 }
     requires within { at + 8 * count ≤ 8 * length (octets_of bits.now) }
     ensures { take count text.new ≡ octets_in count (drop at (bits_of (octets_of bits.now))) }
@@ -125,7 +125,7 @@ fn copy_octets(bits: &BitSlice<'_>, at: u64, count: usize, text: &mut [u8; 255])
 }
 
 /// The first octets of a text.
-fn front(text: &[u8; 255], count: usize) -> &[u8]
+pub(crate) fn front(text: &[u8; 255], count: usize) -> &[u8]
     requires { count ≤ 255 }
     ensures { result.now ≡ take count text.now }
 {
@@ -133,7 +133,7 @@ fn front(text: &[u8; 255], count: usize) -> &[u8]
 }
 
 impl<'a> PlainIn<'a> {
-    ghost use Rattle.std.specs.Prelude.{◌≡◌, ◌≤◌, ◌<◌, ◌+◌, ◌/◌, ◌^◌, true, false, length, take, MatchResult, Ok, Err, IfOk};
+    ghost use Rattle.std.specs.Prelude.{◌≡◌, ◌≤◌, ◌<◌, ◌+◌, ◌*◌, ◌/◌, ◌^◌, true, false, length, take, MatchResult, Ok, Err, IfOk};
     ghost use Rattle.bufr_bits.specs.Bits.{bits_of};
     ghost use Rattle.bufr_bits.specs.BitSlice.{octets_of};
     ghost use Rattle.bufr_tables.specs.TableB.{is_character};
@@ -142,10 +142,20 @@ impl<'a> PlainIn<'a> {
     ghost use Rattle.bufr_walk.specs.PlainIn.{PlainTakes, past, rest_of};
     ghost use Rattle.bufr_walk.specs.Seen.{seen_value};
 
+    /// The bits of data that are not compressed, from bit 0 on.
     pub fn new(bits: BitSlice<'a>) -> PlainIn<'a>
         ensures { result ≡ record { bits = bits_of (octets_of bits.entry); at = 0 } }
     {
         PlainIn { bits, at: 0 }
+    }
+
+    /// Bits of which so many were read.
+    #[tactic(auto, using(crate::proofs::PlainLemmas::bits_length))]
+    pub(crate) fn at(bits: BitSlice<'a>, at: u64) -> PlainIn<'a>
+        requires { at ≤ 8 * length (octets_of bits) }
+        ensures { result ≡ record { bits = bits_of (octets_of bits.entry); at = at } }
+    {
+        PlainIn { bits, at }
     }
 
     /// How many bits were read.

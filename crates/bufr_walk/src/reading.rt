@@ -2,6 +2,7 @@
 use crate::fault::{ShowFault, WalkFault};
 use crate::read_packed::{KeptItem, read_packed};
 use crate::read_plain::read_plain;
+use crate::show_packed::show_packed;
 use crate::show_plain::show_plain;
 use crate::steps::Steps;
 use crate::visitor::Visitor;
@@ -169,14 +170,13 @@ impl<'a> Reading<'a> {
     /// # Errors
     ///
     /// [`ShowFault::Visitor`] with the visitor's fault; [`ShowFault::Memory`] where memory runs out.
-    #[tactic(auto, using(crate::proofs::ReadingLemmas::readable_of, crate::proofs::ReadingLemmas::together_not, crate::proofs::ReadingLemmas::show_is))]
+    #[tactic(auto, using(crate::proofs::ReadingLemmas::readable_of, crate::proofs::PackedShown::entries_stand, crate::proofs::PackedShown::packed_shown))]
     pub fn show<V: Visitor>(
         &self,
         alloc: Global,
         visitor: &mut V,
         steps: &mut Steps,
     ) -> Result<(), ShowFault<V::Fault>>
-        requires { self.now.source.compressed ≡ false }
         ensures { (values : Values) → IsReading (course_of self.now) self.now.source values self.now.bits → Shows V.sees visitor.old (calls_of self.now values) (turns_shown self.now values) result visitor.new steps.new }
     {
         *steps = Steps::new();
@@ -190,7 +190,9 @@ impl<'a> Reading<'a> {
                 visitor,
                 steps,
             ),
-            Kept::Together(_) => unreachable!(),
+            Kept::Together(items) => {
+                show_packed(&self.bits, self.subsets, self.table, items, visitor)
+            }
         }
     }
 }

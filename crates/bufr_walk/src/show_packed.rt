@@ -1,10 +1,10 @@
 // How compressed data are shown: subset after subset, each item from its place.
-ghost use Rattle.std.specs.Prelude.{◌≡◌, ◌≤◌, ◌<◌, ◌+◌, ◌-◌, ◌*◌, ◌/◌, ◌^◌, ◌++◌, true, false, length, take, drop, replicate};
+ghost use Rattle.std.specs.Prelude.{◌≡◌, ◌∷◌, ◌≤◌, ◌<◌, ◌+◌, ◌-◌, ◌*◌, ◌/◌, ◌^◌, ◌++◌, true, false, length, take, drop, replicate};
 ghost use Rattle.std.specs.List.{list_all};
 ghost use Rattle.bufr_bits.specs.Bits.{bits_of, bits_at};
 ghost use Rattle.bufr_bits.specs.BitSlice.{octets_of};
 ghost use Rattle.bufr_tables.specs.TableB.{is_character};
-ghost use Rattle.bufr_walk.specs.Calls.{content_at, item_call, items_together, subsets_together, view_of};
+ghost use Rattle.bufr_walk.specs.Calls.{content_at, item_call, items_together, subset_call, subsets_together, timed, view_of};
 ghost use Rattle.bufr_walk.specs.Content.{octets_in, shown};
 ghost use Rattle.bufr_walk.specs.PackedBits.{increased_to, number_from, sum_content};
 ghost use Rattle.bufr_walk.specs.PackedField.{packed_field, text_of};
@@ -12,12 +12,15 @@ ghost use Rattle.bufr_walk.specs.PackedIn.{contents_found, items_at, stands_at};
 ghost use Rattle.bufr_walk.specs.Seen.{seen_value};
 ghost use Rattle.bufr_walk.specs.Shows.{Shows};
 
+use crate::fault::ShowFault;
 use crate::packed_in::Base;
-use crate::plain_in::{number_at, ones_at};
+use crate::plain_in::{PlainIn, copy_octets, front, number_at, ones_at};
 use crate::read_packed::KeptItem;
+use crate::show_plain::{entry_for, show_field};
 use crate::spec::Spec;
-use crate::visitor::Value;
+use crate::visitor::{ItemView, Value, Visitor};
 use bufr_bits::BitSlice;
+use bufr_tables::TableB;
 
 /// The sum of a base and an increment of `k` bits; `None` where the value is missing.
 fn increased(base: Base, k: u32, increment: u64) -> Option<u64>
@@ -91,4 +94,225 @@ fn number_of(bits: &BitSlice<'_>, subsets: u16, item: &KeptItem, subset: u16) ->
     ensures { sum_content result ≡ content_at subset (contents_found (packed_field subsets item.now.spec (drop item.now.at (bits_of (octets_of bits.now))))) }
 {
     number_in(bits, item.at, &item.spec, u32::from(item.step), subset)
+}
+
+/// Where the text of one subset stands: its first bit, and how many octets, behind which come spaces.
+#[derive(Clone, Copy)]
+struct TextSpan {
+    place: u64,
+    octets: usize,
+}
+
+/// The bit where the text of one subset, counted from 0, begins.
+fn text_place(bits: &BitSlice<'_>, item: &KeptItem, subset: u16) -> u64
+    requires { item.now.at + (item.now.spec.width + 6) + (subset + 1) * (8 * item.now.step) ≤ 8 * length (octets_of bits.now) }
+    ensures { result ≡ item.now.at + (item.now.spec.width + 6) + subset * (8 * item.now.step) }
+{
+    let _ = bits;
+    let behind = item.at + (u64::from(item.spec.width()) + 6);
+    behind + u64::from(subset) * (8 * u64::from(item.step))
+}
+
+/// Where the text stands that one subset, counted from 0, has of a kept item with increments.
+fn text_span(bits: &BitSlice<'_>, subsets: u16, item: &KeptItem, subset: u16) -> TextSpan
+    requires stands { stands_at (bits_of (octets_of bits.now)) subsets item.now ≡ true }
+    requires subset { subset < subsets }
+    requires some { 1 ≤ item.now.step }
+    requires text { is_character item.now.spec.kind ≡ true }
+    ensures within { result.place + 8 * result.octets ≤ 8 * length (octets_of bits.now) }
+    ensures few { result.octets ≤ item.now.spec.width / 8 }
+    ensures text { text_of (item.now.spec.width / 8) result.octets (take (8 * result.octets) (drop result.place (bits_of (octets_of bits.now)))) ≡ content_at subset (contents_found (packed_field subsets item.now.spec (drop item.now.at (bits_of (octets_of bits.now))))) }
+{
+    let _ = subsets;
+    TextSpan {
+        place: text_place(bits, item, subset),
+        octets: usize::from(item.step),
+    }
+}
+
+/// Copies the octets of a text, and spaces behind them.
+fn copy_text(bits: &BitSlice<'_>, span: TextSpan, count: usize, text: &mut [u8; 255])
+    requires count { count ≤ 255 }
+    requires few { span.octets ≤ count }
+    requires within { span.place + 8 * span.octets ≤ 8 * length (octets_of bits.now) }
+    ensures { take count text.new ≡ octets_in span.octets (drop span.place (bits_of (octets_of bits.now))) ++ replicate (count - span.octets) 32 }
+{
+    copy_octets(bits, span.place, span.octets, text);
+    pad(text, span.octets, count);
+}
+
+/// A text that was copied, as it is shown.
+#[tactic(auto, using(crate::proofs::PackedTexts::missing_text, crate::proofs::PackedTexts::whole_text))]
+fn text_value<'t>(
+    bits: &BitSlice<'_>,
+    spec: &Spec,
+    span: TextSpan,
+    count: usize,
+    text: &'t [u8; 255],
+) -> Value<'t>
+    requires count { count ≤ 255 }
+    requires within { span.place + 8 * span.octets ≤ 8 * length (octets_of bits.now) }
+    requires small { span.octets ≤ 255 }
+    requires copied { take count text.now ≡ octets_in span.octets (drop span.place (bits_of (octets_of bits.now))) ++ replicate (count - span.octets) 32 }
+    ensures { seen_value result ≡ shown spec.now (text_of count span.octets (take (8 * span.octets) (drop span.place (bits_of (octets_of bits.now))))) }
+{
+    let _ = spec;
+    let all_missing = ones_at(bits, span.place, 8 * span.octets as u32);
+    if all_missing {
+        Value::Missing
+    } else {
+        Value::Text(front(text, count))
+    }
+}
+
+/// Shows the text that one subset, counted from 0, has of a kept item with increments.
+fn show_text<V: Visitor>(
+    bits: &BitSlice<'_>,
+    subsets: u16,
+    table: &TableB,
+    item: &KeptItem,
+    subset: u16,
+    visitor: &mut V,
+) -> Result<(), V::Fault>
+    requires stands { stands_at (bits_of (octets_of bits.now)) subsets item.now ≡ true }
+    requires subset { subset < subsets }
+    requires some { 1 ≤ item.now.step }
+    requires text { is_character item.now.spec.kind ≡ true }
+    ensures { V.sees visitor.old (item_call (view_of table.now item.now.spec (content_at subset (contents_found (packed_field subsets item.now.spec (drop item.now.at (bits_of (octets_of bits.now)))))))) result visitor.new }
+{
+    let mut text = [0u8; 255];
+    let span = text_span(bits, subsets, item, subset);
+    let count = (item.spec.width() / 8) as usize;
+    copy_text(bits, span, count, &mut text);
+    let fxy = item.spec.fxy();
+    let entry = entry_for(table, &item.spec);
+    let value = text_value(bits, &item.spec, span, count, &text);
+    visitor.item(&ItemView { fxy, entry, value })
+}
+
+/// Shows the number that one subset, counted from 0, has of a kept item with increments.
+fn show_number<V: Visitor>(
+    bits: &BitSlice<'_>,
+    subsets: u16,
+    table: &TableB,
+    item: &KeptItem,
+    subset: u16,
+    visitor: &mut V,
+) -> Result<(), V::Fault>
+    requires stands { stands_at (bits_of (octets_of bits.now)) subsets item.now ≡ true }
+    requires subset { subset < subsets }
+    requires some { 1 ≤ item.now.step }
+    requires number { is_character item.now.spec.kind ≡ false }
+    ensures { V.sees visitor.old (item_call (view_of table.now item.now.spec (content_at subset (contents_found (packed_field subsets item.now.spec (drop item.now.at (bits_of (octets_of bits.now)))))))) result visitor.new }
+{
+    let raw = number_of(bits, subsets, item, subset);
+    let fxy = item.spec.fxy();
+    let entry = entry_for(table, &item.spec);
+    let value = number_value(&item.spec, raw);
+    visitor.item(&ItemView { fxy, entry, value })
+}
+
+/// Shows the base that all subsets have of a kept item with no increments.
+fn show_base<V: Visitor>(
+    bits: &BitSlice<'_>,
+    subsets: u16,
+    table: &TableB,
+    item: &KeptItem,
+    subset: u16,
+    visitor: &mut V,
+) -> Result<(), V::Fault>
+    requires stands { stands_at (bits_of (octets_of bits.now)) subsets item.now ≡ true }
+    requires subset { subset < subsets }
+    requires none { item.now.step ≡ 0 }
+    ensures { V.sees visitor.old (item_call (view_of table.now item.now.spec (content_at subset (contents_found (packed_field subsets item.now.spec (drop item.now.at (bits_of (octets_of bits.now)))))))) result visitor.new }
+{
+    let _ = subsets;
+    let _ = subset;
+    let input = PlainIn::at(*bits, item.at);
+    show_field(&input, table, &item.spec, visitor)
+}
+
+/// Shows what one subset, counted from 0, has of a kept item.
+fn show_item<V: Visitor>(
+    bits: &BitSlice<'_>,
+    subsets: u16,
+    table: &TableB,
+    item: &KeptItem,
+    subset: u16,
+    visitor: &mut V,
+) -> Result<(), V::Fault>
+    requires stands { stands_at (bits_of (octets_of bits.now)) subsets item.now ≡ true }
+    requires subset { subset < subsets }
+    ensures { V.sees visitor.old (item_call (view_of table.now item.now.spec (content_at subset (contents_found (packed_field subsets item.now.spec (drop item.now.at (bits_of (octets_of bits.now)))))))) result visitor.new }
+{
+    if item.step == 0 {
+        return show_base(bits, subsets, table, item, subset, visitor);
+    }
+    if item.spec.is_text() {
+        return show_text(bits, subsets, table, item, subset, visitor);
+    }
+    show_number(bits, subsets, table, item, subset, visitor)
+}
+
+/// Shows the items of one subset, counted from 0.
+fn show_items<V: Visitor>(
+    bits: &BitSlice<'_>,
+    subsets: u16,
+    table: &TableB,
+    kept: &[KeptItem],
+    subset: u16,
+    visitor: &mut V,
+) -> Result<(), ShowFault<V::Fault>>
+    requires stand { list_all (stands_at (bits_of (octets_of bits.now)) subsets) kept.now ≡ true }
+    requires subset { subset < subsets }
+    ensures { Shows V.sees visitor.old (items_together table.now subset (items_at (bits_of (octets_of bits.now)) subsets kept.now)) 0 result visitor.new 0 }
+{
+    'items: for place in 0..kept.len() {
+        let item = kept[place];
+        match show_item(bits, subsets, table, &item, subset, visitor) {
+            Ok(()) => {}
+            Err(fault) => return Err(ShowFault::Visitor(fault)),
+        }
+    }
+    Ok(())
+}
+
+/// Shows one subset, counted from 0, and its items.
+fn show_subset<V: Visitor>(
+    bits: &BitSlice<'_>,
+    subsets: u16,
+    table: &TableB,
+    kept: &[KeptItem],
+    subset: u16,
+    visitor: &mut V,
+) -> Result<(), ShowFault<V::Fault>>
+    requires stand { list_all (stands_at (bits_of (octets_of bits.now)) subsets) kept.now ≡ true }
+    requires subset { subset < subsets }
+    ensures { Shows V.sees visitor.old (timed 0 (subset_call (subset + 1)) ∷ items_together table.now subset (items_at (bits_of (octets_of bits.now)) subsets kept.now)) 0 result visitor.new 0 }
+{
+    match visitor.subset(subset + 1) {
+        Ok(()) => show_items(bits, subsets, table, kept, subset, visitor),
+        Err(fault) => Err(ShowFault::Visitor(fault)),
+    }
+}
+
+/// Shows each subset, and its items.
+#[tactic(auto, using(crate::proofs::PackedSubsets::subsets_start, crate::proofs::PackedSubsets::subsets_done))]
+pub(crate) fn show_packed<V: Visitor>(
+    bits: &BitSlice<'_>,
+    subsets: u16,
+    table: &TableB,
+    kept: &[KeptItem],
+    visitor: &mut V,
+) -> Result<(), ShowFault<V::Fault>>
+    requires { list_all (stands_at (bits_of (octets_of bits.now)) subsets) kept.now ≡ true }
+    ensures { Shows V.sees visitor.old (subsets_together table.now subsets 0 (items_at (bits_of (octets_of bits.now)) subsets kept.now)) 0 result visitor.new 0 }
+{
+    'subsets: for subset in 0..subsets {
+        match show_subset(bits, subsets, table, kept, subset, visitor) {
+            Ok(()) => {}
+            Err(fault) => return Err(fault),
+        }
+    }
+    Ok(())
 }

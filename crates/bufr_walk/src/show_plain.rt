@@ -25,7 +25,7 @@ use bufr_tables::{Entry, TableB, Template};
 use std::alloc::Global;
 
 /// What Table B says of the field's element, where the field is read by it.
-fn entry_for<'t>(table: &'t TableB, spec: &Spec) -> Option<Entry<'t>>
+pub(crate) fn entry_for<'t>(table: &'t TableB, spec: &Spec) -> Option<Entry<'t>>
     ensures { option_map (row_with spec.now.fxy) result ≡ (if spec.now.listed then entry_of table.now spec.now.fxy else None) }
 {
     if spec.listed() {
@@ -55,7 +55,7 @@ fn show_text<V: Visitor>(
 }
 
 /// Shows a field.
-fn show_field<V: Visitor>(
+pub(crate) fn show_field<V: Visitor>(
     input: &PlainIn<'_>,
     table: &TableB,
     spec: &Spec,

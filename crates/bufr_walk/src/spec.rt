@@ -12,15 +12,19 @@ use std::marker::Model;
 /// What a field is for.
 #[derive(Clone, Copy, PartialEq, Eq)]
 pub enum Role {
+    /// The value of an element.
     Element,
+    /// Text that the template asks for (2 05 Y).
     Inserted,
+    /// The factor of a delayed replication.
     Factor,
+    /// A reference value that is being defined (2 03 Y).
     Reference,
 }
 
 /// Why a turn is refused: a width that no field may have, or a turn that may not come while references are defined.
 #[derive(Clone, Copy)]
-pub enum Refusal {
+pub(crate) enum Refusal {
     Width(Fxy),
     Defining(Fxy),
 }
@@ -28,8 +32,11 @@ pub enum Refusal {
 /// What a field told the walk.
 #[derive(Clone, Copy)]
 pub enum Taken {
+    /// Nothing that the walk needs.
     Plain,
+    /// How often the group is to be repeated.
     Count(u64),
+    /// The new reference value.
     Reference(i64),
 }
 
@@ -119,18 +126,21 @@ impl Spec {
         }
     }
 
+    /// Its descriptor.
     pub fn fxy(&self) -> Fxy
         ensures { result ≡ self.now.fxy }
     {
         self.fxy
     }
 
+    /// What it is for.
     pub fn role(&self) -> Role
         ensures { result ≡ self.now.role }
     {
         self.role
     }
 
+    /// Whether it is text, a figure of a code or flag table, or a number in a unit.
     pub fn kind(&self) -> Kind
         ensures { result ≡ self.now.kind }
     {
@@ -151,12 +161,14 @@ impl Spec {
         self.width
     }
 
+    /// The power of ten by which its number is to be divided.
     pub fn scale(&self) -> i16
         ensures value { result ≡ self.now.scale }
     {
         self.scale
     }
 
+    /// What is added to the bits' number.
     pub fn reference(&self) -> i128
         ensures value { result ≡ self.now.reference }
         ensures spec { IsSpec self.now }
@@ -191,6 +203,7 @@ impl Spec {
         self.listed
     }
 
+    /// Whether bits that are all ones stand for a missing value.
     pub fn may_be_missing(&self) -> bool
         ensures { result ≡ self.now.may_be_missing }
     {

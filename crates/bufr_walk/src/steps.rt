@@ -17,18 +17,21 @@ impl Model for Steps {
 }
 
 impl Steps {
+    /// No turn was made.
     pub fn new() -> Self
         ensures { result ≡ 0 }
     {
         Steps { count: 0 }
     }
 
+    /// How many turns were made.
     pub fn count(&self) -> u64
         ensures { result ≡ self.now }
     {
         self.count
     }
 
+    /// One more turn, up to the greatest `u64`.
     pub fn tick(&mut self)
         ensures { self.new ≡ ticked self.old 1 }
     {

@@ -31,6 +31,7 @@ pub struct ItemView<'a> {
 
 /// Who is shown a reading, subset by subset and item by item.
 pub trait Visitor {
+    /// Why a showing is to stop.
     type Fault;
 
     /// One call may go so: before, the call, the answer, after.

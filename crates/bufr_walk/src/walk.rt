@@ -1,4 +1,4 @@
-// The walk over a template's cells, with a place and a stack of open groups.
+//! The walk over a template's cells, with a place and a stack of open groups.
 ghost use Rattle.std.specs.Prelude.{◌≡◌, ◌<◌, ◌≤◌, ◌+◌, ◌-◌, ◌*◌, ◌^◌, ◌++◌, ◌∷◌, [], length, IfOk, IfErr, OnOk, OnErr, Result, Ok, Err};
 ghost use Rattle.arrayvec.specs.ArrayVec.{array_vec_len};
 ghost use Rattle.bufr_tables.specs.Tree.{Tree, places};
@@ -23,9 +23,13 @@ use std::alloc::Global;
 /// Why a walk stopped.
 #[derive(Drop)]
 pub enum WalkStop<E> {
+    /// A field that is not text would be under 1 or over 63 bits wide.
     Width(Fxy),
+    /// A turn that may not come while references are being defined (2 03 Y).
     Defining(Fxy),
+    /// The field was not taken.
     Field(E),
+    /// Memory ran out.
     Memory,
 }
 

@@ -1,0 +1,12 @@
+use Rattle.bufr_bits.specs.Bits.{bits_of}
+use Rattle.bufr_bits.specs.BitSlice.{octets_of}
+use Rattle.bufr_walk.proofs.PackedShows.{stand_behind}
+use Rattle.bufr_walk.proofs.PackedSubsets.{items_go}
+use Rattle.bufr_walk.proofs.show_packed.show_items.Goals as goal
+
+pub items-preserved : goal.items-preserved
+items-preserved g c =
+    let bits = bits_of (octets_of c.args.bits.now) in (
+      items_go g.V.Visitor.sees c.args.table.now bits c.args.subsets c.args.kept.now c.args.subset c.args.visitor.now c.items.visitor c.show_item.new.visitor c.items.place c.index-kept-place.result c.items-test.true c.index-kept-place.is c.items.invariant.0 c.in-Ok.ensures,
+      stand_behind bits c.args.subsets c.args.kept.now c.items.place c.index-kept-place.result c.items-test.true c.index-kept-place.is c.items.invariant.1,
+    )
