@@ -3,9 +3,9 @@
 
     bench/measure.py [FOLDER]        FOLDER holds the streams, bench/out by default
 
-The program is the one that `rt run` left in crates/bufr_cli/out. Each command runs five times and
-the best time counts; the memory is the greatest that any run had resident. Outside the gate: it
-wants python3 and rustc.
+The program is the one that `rt run` left in crates/bufr_cli/out. Each command runs five times; the
+least processor seconds (its own and the system's for it) count, and the least seconds by the clock;
+the memory is what one run had resident at most. Outside the gate: it wants python3, rustc and GNU time.
 """
 import os
 import pathlib
@@ -19,12 +19,19 @@ RUNS = 5
 
 
 def run(words, stdin=None):
-    """The seconds and the resident KiB of one run, its output thrown away."""
+    """The processor seconds and the seconds by the clock of one run, its output thrown away."""
     with open(os.devnull, "wb") as nowhere:
         begin = time.monotonic()
         child = subprocess.Popen(words, stdin=stdin, stdout=nowhere, stderr=nowhere)
         _, _, usage = os.wait4(child.pid, 0)
-        return time.monotonic() - begin, usage.ru_maxrss
+        return usage.ru_utime + usage.ru_stime, time.monotonic() - begin
+
+
+def resident(words, told):
+    """The most KiB that a run had resident, as GNU time writes them to a file; it is small itself."""
+    with open(os.devnull, "wb") as nowhere:
+        subprocess.run(["/usr/bin/env", "time", "-q", "-f", "%M", "-o", str(told), *words], stdout=nowhere, stderr=nowhere)
+    return int(told.read_text())
 
 
 def best(words, piped=None):
@@ -36,7 +43,7 @@ def best(words, piped=None):
             source = subprocess.Popen(["cat", str(piped)], stdout=subprocess.PIPE)
             runs.append(run(words, source.stdout))
             source.wait()
-    return min(seconds for seconds, _ in runs), max(kib for _, kib in runs)
+    return min(r[0] for r in runs), min(r[1] for r in runs)
 
 
 def main() -> None:
@@ -44,18 +51,22 @@ def main() -> None:
     subprocess.run([sys.executable, str(TOP / "bench/generate.py"), str(folder)], check=True)
     baseline = folder / "baseline"
     subprocess.run(["rustc", "-O", "-o", str(baseline), str(TOP / "bench/baseline.rs")], check=True)
-    print(f"{'stream':<12}{'MB':>6}{'bufr ls':>10}{'piped':>10}{'by hand':>10}{'cat':>8}{'wc -c':>8}{'ratio':>8}{'KiB':>8}")
+    print("processor seconds; `clock` are those of the clock; ratio: bufr ls to the one by hand")
+    print(f"{'stream':<11}{'MB':>5}{'bufr ls':>9}{'clock':>8}{'piped':>8}{'by hand':>9}{'cat':>7}{'wc -c':>7}{'ratio':>7}{'KiB':>7}")
     for path in sorted(folder.glob("*.bufr")):
         name = str(path)
-        ours, kib = best([str(PROGRAM), "ls", name])
-        piped, piped_kib = best([str(PROGRAM), "ls"], path)
+        ours, clock = best([str(PROGRAM), "ls", name])
+        piped, _ = best([str(PROGRAM), "ls"], path)
         hand, _ = best([str(baseline), name])
         cat, _ = best(["cat", name])
-        count, _ = best(["sh", "-c", f"cat '{name}' | wc -c"])
+        count, _ = best(["wc", "-c"], path)
+        kib = resident([str(PROGRAM), "ls", name], folder / "resident.txt")
         size = path.stat().st_size / 1e6
+        ratio = f"{ours / hand:.2f}" if hand >= 0.02 else "-"
         print(
-            f"{path.stem:<12}{size:>6.0f}{ours:>10.3f}{piped:>10.3f}{hand:>10.3f}{cat:>8.3f}{count:>8.3f}"
-            f"{ours / hand:>8.2f}{max(kib, piped_kib):>8}"
+            f"{path.stem:<11}{size:>5.0f}{ours:>9.3f}{clock:>8.3f}{piped:>8.3f}{hand:>9.3f}{cat:>7.3f}{count:>7.3f}"
+            f"{ratio:>7}{kib:>7}",
+            flush=True,
         )
 
 
