@@ -18,6 +18,74 @@ def message(data: bytes, descriptors: bytes = b"\x01\x01", subsets: int = 1, fla
     return b"BUFR" + length.to_bytes(3, "big") + b"\x04" + SECTION_1 + three + four + b"7777"
 
 
+def words(text: str) -> bytes:
+    """Descriptors, six digits each, as section 3 has them."""
+    return b"".join((int(d[0]) << 14 | int(d[1:3]) << 8 | int(d[3:])).to_bytes(2, "big") for d in text.split())
+
+
+class Bits:
+    """Bits that are put together, the first ones first."""
+
+    def __init__(self) -> None:
+        self.value, self.count, self.done = 0, 0, bytearray()
+
+    def put(self, number: int, width: int) -> None:
+        self.value, self.count = self.value << width | number, self.count + width
+        while self.count >= 8:
+            self.count -= 8
+            self.done.append(self.value >> self.count)
+            self.value &= (1 << self.count) - 1
+
+    def octets(self) -> bytes:
+        return bytes(self.done) + (bytes([self.value << 8 - self.count]) if self.count else b"")
+
+
+# five elements that every version of WMO's Table B has, with their widths: a hundred times a subset
+FIVE = "012101 010004 011001 011002 020003"
+WIDTHS = (16, 14, 9, 12, 9)
+
+
+def value(subset: int, item: int, width: int) -> int:
+    """A value that changes a little from subset to subset; each 50th is missing."""
+    if (subset + item) % 50 == 0:
+        return (1 << width) - 1
+    return (1 << width - 1) + (subset * 7 + item * 13) % 60
+
+
+def plain(subsets: int, times: int) -> bytes:
+    bits = Bits()
+    for subset in range(subsets):
+        for item in range(5 * times):
+            bits.put(value(subset, item, WIDTHS[item % 5]), WIDTHS[item % 5])
+    return message(bits.octets(), words(f"105{times:03} {FIVE}"), subsets)
+
+
+def packed(subsets: int, times: int) -> bytes:
+    bits = Bits()
+    for item in range(5 * times):
+        width = WIDTHS[item % 5]
+        bits.put(1 << width - 1, width)
+        bits.put(6, 6)
+        for subset in range(subsets):
+            there = value(subset, item, width)
+            bits.put(63 if there == (1 << width) - 1 else there - (1 << width - 1), 6)
+    return message(bits.octets(), words(f"105{times:03} {FIVE}"), subsets, 0xC0)
+
+
+def report() -> bytes:
+    """A short report: a station's numbers and name, a place, a time, four measurements."""
+    bits = Bits()
+    for number, width in [(10, 7), (381, 10)]:
+        bits.put(number, width)
+    for octet in b"BERLIN-DAHLEM".ljust(20):
+        bits.put(octet, 8)
+    for number, width in [(2024, 12), (1, 4), (2, 6), (6, 5), (0, 6), (142500, 25), (193100, 26)]:
+        bits.put(number, width)
+    for number, width in zip((28815, 10132, 270, 53, 511), WIDTHS):
+        bits.put(number, width)
+    return message(bits.octets(), words("001001 001002 001015 004001 004002 004003 004004 004005 005001 006001 " + FIVE))
+
+
 def repeated(piece: bytes, times: int):
     batch = max(1, (1 << 20) // len(piece))
     while times > 0:
@@ -45,6 +113,10 @@ def streams():
         "bulletins": lambda: repeated(b"\x01\r\r\n123\r\r\nISMD01 EDZW 221200\r\r\n" + ten_thousand + b"\r\r\n\x03", 25_600),
         # the word every eight octets, each with a stated length of 1 MB, so that nothing is decided at once
         "hostile": lambda: repeated(b"BUFR\x10\x00\x00\x04", 6_000_000),
+        # for `dump`: short reports, and 1,000 subsets of 500 elements, plain and compressed
+        "dump_reports": lambda: repeated(report(), 100_000),
+        "dump_plain": lambda: repeated(plain(1000, 100), 10),
+        "dump_packed": lambda: repeated(packed(1000, 100), 10),
     }
 
 

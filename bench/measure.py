@@ -1,5 +1,6 @@
 #!/usr/bin/env python3
-"""Times `bufr ls` on generated streams, beside a lister written by hand and two plain readers.
+"""Times `bufr ls` and `bufr dump` on generated streams, beside a lister and a dumper written by hand and two plain
+readers.
 
     bench/measure.py [FOLDER]        FOLDER holds the streams, bench/out by default
 
@@ -46,18 +47,48 @@ def best(words, piped=None):
     return min(r[0] for r in runs), min(r[1] for r in runs)
 
 
-def main() -> None:
-    folder = pathlib.Path(sys.argv[1]) if len(sys.argv) > 1 else TOP / "bench/out"
-    subprocess.run([sys.executable, str(TOP / "bench/generate.py"), str(folder)], check=True)
-    baseline = folder / "baseline"
-    subprocess.run(["rustc", "-O", "-o", str(baseline), str(TOP / "bench/baseline.rs")], check=True)
+def built(folder, name):
+    """A yardstick, compiled."""
+    program = folder / name
+    subprocess.run(["rustc", "--edition", "2021", "-O", "-o", str(program), str(TOP / "bench" / f"{name}.rs")], check=True)
+    return str(program)
+
+
+def dumps(folder):
+    """Times the dumps, and compares their texts with those by hand."""
+    hand_dumper = built(folder, "dump_by_hand")
+    tables = [str(TOP / "tables/wmo-39/B.csv"), str(TOP / "tables/wmo-39/D.csv")]
+    program = [str(PROGRAM), "dump", "-B", tables[0], "-D", tables[1]]
+    start, clock = best(program + ["/dev/null"])
+    print(f"start-up with the largest tables: {1000 * start:.1f} ms, {1000 * clock:.1f} by the clock")
+    print(f"{'stream':<14}{'MB':>5}{'text MB':>9}{'bufr dump':>11}{'clock':>8}{'MB/s':>7}{'by hand':>9}{'ratio':>7}{'KiB':>7}  same")
+    for path in sorted(folder.glob("dump_*.bufr")):
+        name = str(path)
+        by_hand = subprocess.run([hand_dumper, *tables, name], stdout=subprocess.PIPE, check=True).stdout
+        same = subprocess.run(program + [name], stdout=subprocess.PIPE).stdout == by_hand
+        ours, clock = best(program + [name])
+        hand, _ = best([hand_dumper, *tables, name])
+        kib = resident(program + [name], folder / "resident.txt")
+        text = len(by_hand) / 1e6
+        print(
+            f"{path.stem:<14}{path.stat().st_size / 1e6:>5.0f}{text:>9.0f}{ours:>11.3f}{clock:>8.3f}{text / ours:>7.0f}{hand:>9.3f}"
+            f"{ours / hand:>7.2f}{kib:>7}  {'yes' if same else 'NO'}",
+            flush=True,
+        )
+
+
+def listings(folder):
+    """Times the listings."""
+    baseline = built(folder, "baseline")
     print("processor seconds; `clock` are those of the clock; ratio: bufr ls to the one by hand")
     print(f"{'stream':<11}{'MB':>5}{'bufr ls':>9}{'clock':>8}{'piped':>8}{'by hand':>9}{'cat':>7}{'wc -c':>7}{'ratio':>7}{'KiB':>7}")
     for path in sorted(folder.glob("*.bufr")):
+        if path.stem.startswith("dump_"):
+            continue
         name = str(path)
         ours, clock = best([str(PROGRAM), "ls", name])
         piped, _ = best([str(PROGRAM), "ls"], path)
-        hand, _ = best([str(baseline), name])
+        hand, _ = best([baseline, name])
         cat, _ = best(["cat", name])
         count, _ = best(["wc", "-c"], path)
         kib = resident([str(PROGRAM), "ls", name], folder / "resident.txt")
@@ -68,6 +99,13 @@ def main() -> None:
             f"{ratio:>7}{kib:>7}",
             flush=True,
         )
+
+
+def main() -> None:
+    folder = pathlib.Path(sys.argv[1]) if len(sys.argv) > 1 else TOP / "bench/out"
+    subprocess.run([sys.executable, str(TOP / "bench/generate.py"), str(folder)], check=True)
+    listings(folder)
+    dumps(folder)
 
 
 if __name__ == "__main__":

@@ -1,5 +1,5 @@
 //! Octets read as bits, most significant first.
-ghost use Rattle.std.specs.Prelude.{◌≡◌, ◌≤◌, ◌<◌, ◌+◌, ◌-◌, ◌/◌, ◌%◌, ◌^◌, ◌==◌, ℕ, MatchOption, length, slice_index};
+ghost use Rattle.std.specs.Prelude.{◌≡◌, ◌≤◌, ◌<◌, ◌+◌, ◌-◌, ◌/◌, ◌%◌, ◌^◌, ◌==◌, ℕ, MatchOption, length, slice_index, slice_range};
 ghost use Rattle.std.specs.List.{list_all};
 ghost use Rattle.bufr_bits.specs.Bits.{bits_of, all_set};
 ghost use Rattle.bufr_bits.specs.Window.{IsWindow};
@@ -20,7 +20,7 @@ pub struct BitSlice<'a> {
 }
 
 impl<'a> BitSlice<'a> {
-    ghost use Rattle.std.specs.Prelude.{◌≡◌, ◌≤◌, ◌+◌, ◌*◌, ◌/◌, ◌^◌, ◌<◌, length, SomeIff, IfSome, MatchOption};
+    ghost use Rattle.std.specs.Prelude.{◌≡◌, ◌≤◌, ◌+◌, ◌*◌, ◌/◌, ◌%◌, ◌^◌, ◌<◌, ℕ, length, option_map, slice_index, slice_range, SomeIff, IfSome, MatchOption};
     ghost use Rattle.bufr_bits.specs.Bits.{number_of, bits_at, all_set};
     ghost use Rattle.bufr_bits.specs.BitSlice.{octets_of};
     ghost use Rattle.bufr_bits.specs.Window.{IsWindow};
@@ -113,6 +113,22 @@ impl<'a> BitSlice<'a> {
         Some(octet as u8)
     }
 
+    /// The `count` octets that begin with bit `at`, borrowed; `None` exactly where `at` is within an octet or they go
+    /// past the end.
+    pub fn octets(&self, at: u64, count: usize) -> Option<&'a [u8]>
+        ensures value { SomeIff (option_map (λ s. s.now) result) ((at % 8 ≡ 0) × (at + 8 * count ≤ 8 * length (octets_of self.now))) (slice_range (octets_of self.now) (at / 8) (at / 8 + count)) }
+        ensures octets { IfSome result (λ s. (k : ℕ) → slice_index s.now k < 2 ^ 8) }
+    {
+        let len = self.len_bits();
+        if at % 8 != 0 || at > len {
+            return None;
+        }
+        if count as u64 > (len - at) / 8 {
+            return None;
+        }
+        Some(part(self.octets, (at / 8) as usize, count))
+    }
+
     /// Whether `width` bits, of any number, are all ones from bit `at` on; `None` exactly where they
     /// go past the end. Where there are no bits they are.
     pub fn all_ones(&self, at: u64, width: u32) -> Option<bool>
@@ -162,6 +178,15 @@ impl<'a> BitSlice<'a> {
     {
         are_full(&self.octets[first..first + count])
     }
+}
+
+/// So many octets from a place on.
+fn part(octets: &[u8], first: usize, count: usize) -> &[u8]
+    requires { first + count ≤ length octets.now }
+    ensures value { result.now ≡ slice_range octets.now first (first + count) }
+    ensures octets { (k : ℕ) → slice_index result.now k < 2 ^ 8 }
+{
+    &octets[first..first + count]
 }
 
 /// The number that the first eight octets write, or `None` where there are fewer.

@@ -76,6 +76,16 @@ fn get_at_the_ends(rt: HostRuntime) {
 }
 
 #[test]
+fn octets_are_borrowed_where_they_begin(rt: HostRuntime) {
+    let bits = BitSlice::new(&NINE);
+    assert_eq!(rt; bits.octets(56, 2), Some([0xEF, 0x01].as_slice()));
+    assert_eq!(rt; bits.octets(72, 0), Some([].as_slice()));
+    assert_eq!(rt; bits.octets(57, 1), None);
+    assert_eq!(rt; bits.octets(64, 2), None);
+    assert_eq!(rt; bits.octets(80, 0), None);
+}
+
+#[test]
 fn script_in_keeps_to_its_script(rt: HostRuntime) {
     let mut source = ScriptIn::new(b"abcdefg", 3, Some(5));
     let mut buf = [0u8; 4];

@@ -1,18 +1,17 @@
 -- The lines computed on worked examples.
-use Rattle.std.proofs.Common.{◌≡◌, ℕ, true, false, List, [], ◌∷◌, ◌++◌, refl, codes, Some}
+use Rattle.std.proofs.Common.{◌≡◌, ℕ, List, [], ◌∷◌, ◌++◌, refl, codes}
 use Rattle.std.specs.Prelude.{slice_set}
 use Rattle.std.specs.Fmt.{digits}
 use Rattle.bufr_frame.specs.Scan.{scan_from}
-use Rattle.bufr_frame.specs.Sections.{sections_of, section_end, Sections}
+use Rattle.bufr_frame.specs.Sections.{sections_of, section_end}
 use Rattle.bufr_frame.specs.declared.fault.Cause.TheVariants.{Cut, ShortLength, NoEnd}
 use Rattle.bufr_frame.specs.declared.fault.SectionFault.TheVariants.{Edition, SectionShort, SectionPast, SectionsEnd}
 use Rattle.bufr_frame.specs.Numbers.{number_of_cause, number_of_section_fault}
-use Rattle.bufr_cli.specs.LsLine.{ls_line}
 use Rattle.bufr_cli.specs.FaultLine.{fault_line, cause_text, section_fault_text}
 use Rattle.bufr_cli.specs.Pieces.{OnOutput, OnErrors, ls_pieces}
 
 -- a message with one block number, 48 octets
-abbrev one_block_number : List ℕ
+abbrev pub one_block_number : List ℕ
 one_block_number = 0x42 ∷ 0x55 ∷ 0x46 ∷ 0x52 ∷ 0x00 ∷ 0x00 ∷ 0x30 ∷ 0x04 ∷
     0x00 ∷ 0x00 ∷ 0x16 ∷ 0x00 ∷ 0x00 ∷ 0x62 ∷ 0x00 ∷ 0x00 ∷ 0x00 ∷ 0x00 ∷ 0x00 ∷ 0x00 ∷ 0x00 ∷ 0x0E ∷ 0x00 ∷ 0x07 ∷ 0xE8 ∷ 0x01 ∷ 0x02 ∷ 0x03 ∷ 0x04 ∷ 0x05 ∷
     0x00 ∷ 0x00 ∷ 0x09 ∷ 0x00 ∷ 0x00 ∷ 0x01 ∷ 0x80 ∷ 0x01 ∷ 0x01 ∷
@@ -23,24 +22,6 @@ one_block_number = 0x42 ∷ 0x55 ∷ 0x46 ∷ 0x52 ∷ 0x00 ∷ 0x00 ∷ 0x30 �
 one-listed : ls_pieces one_block_number ≡ OnOutput (codes "offset=0 length=48 edition=4 centre=98/0 update=0 category=0/0/0 tables=0/14/0 time=2024-01-02T03:04:05 subsets=1 observed=1 compressed=0 optional=0 descriptors=1\n") ∷ []
 unfolding scan_from sections_of section_end digits
 one-listed = refl
-
--- a message whose values all differ, so that each stands in its place
-abbrev all_different : Sections
-all_different = record {
-  head = record { edition = 4; master = 11; centre = 1234; subcentre = 56; update = 7; category = 8; subcategory = 9; local_subcategory = 10; master_version = 12; local_version = 13; year = 987; month = 14; day = 15; hour = 232; minute = 6; second = 0 };
-  local1 = [];
-  section2 = Some [];
-  descriptors = 1 ∷ 2 ∷ 3 ∷ [];
-  subsets = 65535;
-  observed = false;
-  compressed = true;
-  payload = [];
-  size = 77;
-}
-
-different-listed : ls_line 4294967296 all_different ≡ codes "offset=4294967296 length=77 edition=4 centre=1234/56 update=7 category=8/9/10 tables=11/12/13 time=0987-14-15T232:06:00 subsets=65535 observed=0 compressed=1 optional=1 descriptors=3\n"
-unfolding digits
-different-listed = refl
 
 -- the fault lines
 cut-line : fault_line 0 (number_of_cause Cut) (cause_text Cut ∷ []) ≡ codes "offset 0: 1 cut\n"

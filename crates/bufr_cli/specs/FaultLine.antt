@@ -1,11 +1,17 @@
--- The lines that tell the faults of a stream and of a message. (a choice of this project)
+-- The lines that tell the faults of a stream, of a message, of its template and of its data. (a choice of this project)
 -- Cited by public contracts.
 use Rattle.std.specs.Prelude.{ℕ, List, [], ◌∷◌, ◌++◌, codes, decimal}
 use Rattle.bufr_frame.specs.declared.fault.Cause.{Cause}
 use Rattle.bufr_frame.specs.declared.fault.Cause.TheVariants.{Cut, ShortLength, NoEnd}
 use Rattle.bufr_frame.specs.declared.fault.SectionFault.{SectionFault}
 use Rattle.bufr_frame.specs.declared.fault.SectionFault.TheVariants.{Edition, SectionShort, SectionPast, SectionsEnd}
-use Rattle.bufr_cli.specs.Writing.{joined}
+use Rattle.bufr_tables.specs.Fxy.{fxy_text}
+use Rattle.bufr_tables.specs.declared.template.fault.TemplateFault.{TemplateFault}
+use Rattle.bufr_tables.specs.declared.template.fault.TemplateFault.TheVariants as template
+use Rattle.bufr_walk.specs.declared.fault.Spot.{Spot}
+use Rattle.bufr_walk.specs.declared.fault.WalkFault.{WalkFault}
+use Rattle.bufr_walk.specs.declared.fault.WalkFault.TheVariants as walk
+use Rattle.bufr_text.specs.Writing.{joined}
 
 -- the text of a stray word
 abbrev pub cause_text : Cause → List ℕ
@@ -19,6 +25,34 @@ section_fault_text (Edition edition) = codes "edition " ∷ decimal edition ∷ 
 section_fault_text (SectionShort section) = codes "section " ∷ decimal section ∷ codes " short" ∷ []
 section_fault_text (SectionPast section) = codes "section " ∷ decimal section ∷ codes " past the end" ∷ []
 section_fault_text SectionsEnd = codes "sections do not meet the end" ∷ []
+
+-- the text of a template fault, in parts; want of memory ends a run, and no line tells it
+abbrev pub template_fault_text : TemplateFault → List (List ℕ)
+template_fault_text (template.UnknownElement fxy) = codes "unknown element " ∷ fxy_text fxy ∷ []
+template_fault_text (template.UnknownSequence fxy) = codes "unknown sequence " ∷ fxy_text fxy ∷ []
+template_fault_text (template.Operator fxy) = codes "operator " ∷ fxy_text fxy ∷ []
+template_fault_text (template.GroupShape fxy) = codes "group shape " ∷ fxy_text fxy ∷ []
+template_fault_text (template.NoFactor fxy) = codes "no factor " ∷ fxy_text fxy ∷ []
+template_fault_text (template.EmptyGroup fxy) = codes "empty group " ∷ fxy_text fxy ∷ []
+template_fault_text (template.Depth fxy) = codes "depth " ∷ fxy_text fxy ∷ []
+template_fault_text (template.TemplateSize fxy) = codes "template size " ∷ fxy_text fxy ∷ []
+template_fault_text (template.LocalShape fxy) = codes "local shape " ∷ fxy_text fxy ∷ []
+template_fault_text template.Memory = []
+
+-- what stands at fault, and where: the subset, the descriptor, and the bits before the item
+abbrev pub spot_text : List ℕ → Spot → List (List ℕ)
+spot_text name spot =
+    name ∷ codes " at subset " ∷ decimal spot.subset ∷ codes " descriptor " ∷ fxy_text spot.fxy ∷ codes " bit " ∷ decimal spot.bit ∷ []
+
+-- the text of a fault of the data, in parts; want of memory ends a run, and no line tells it
+abbrev pub walk_fault_text : WalkFault → List (List ℕ)
+walk_fault_text (walk.DataEnd spot) = spot_text (codes "data end") spot
+walk_fault_text (walk.Width spot) = spot_text (codes "width") spot
+walk_fault_text (walk.Defining spot) = spot_text (codes "defining") spot
+walk_fault_text (walk.UnequalFactor spot) = spot_text (codes "unequal factor") spot
+walk_fault_text (walk.Increment spot) = spot_text (codes "increment") spot
+walk_fault_text (walk.TooManyValues spot) = spot_text (codes "too many values") spot
+walk_fault_text walk.Memory = []
 
 -- the line of a fault at the offset of `BUFR`: its number and its text
 abbrev pub fault_line : (offset number : ℕ) → List (List ℕ) → List ℕ

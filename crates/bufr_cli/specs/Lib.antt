@@ -1,9 +1,13 @@
+pub mod DocumentLine
+pub mod DumpPieces
+pub mod EncodePieces
+pub mod EncodeRun
+pub mod EncodeTelling
 pub mod FaultLine
 pub mod Finish
 pub mod Line
-pub mod LsLine
 pub mod Pieces
 pub mod Program
 pub mod ReadAll
 pub mod Running
-pub mod Writing
+pub mod Telling

@@ -1,24 +1,50 @@
 -- The command line of `bufr`, as clap reads it. (a choice of this project)
 -- Cited by public contracts.
-use Rattle.std.specs.Prelude.{◌≡◌, List, Option, Some, None, true, codes, option_map}
-use Rattle.clap.specs.Words.{App, Row, Text, first_of, new_app, new_rule, with_rule, with_subcommand}
+use Rattle.std.specs.Prelude.{◌≡◌, ℕ, List, Option, Some, None, true, codes, option_map}
+use Rattle.clap.specs.Words.{App, Row, Rule, Text, first_of, new_app, new_rule, with_rule, with_subcommand}
 use Rattle.bufr_cli.specs.declared.job.Job.{Job}
 use Rattle.bufr_cli.specs.declared.job.Subcommand.{Subcommand}
-use Rattle.bufr_cli.specs.declared.job.Subcommand.TheVariants.{Ls}
+use Rattle.bufr_cli.specs.declared.job.Subcommand.TheVariants.{Ls, Dump, Encode}
+use Rattle.bufr_cli.specs.declared.job.TableNames.{TableNames}
 
 -- `ls [FILE]`
 abbrev pub ls_app : App
 ls_app = with_rule (new_app (codes "ls")) (new_rule (codes "FILE"))
 
+-- `-B FILE` or `-D FILE`, which must be there
+abbrev pub table_rule : (id : Text) → (letter : ℕ) → Rule
+table_rule id letter = record (new_rule id) { short = Some letter; value_names = 1; required = true }
+
+-- `dump -B FILE -D FILE [FILE]`
+abbrev pub dump_app : App
+dump_app = with_rule (with_rule (with_rule (new_app (codes "dump")) (table_rule (codes "B") 66)) (table_rule (codes "D") 68)) (new_rule (codes "FILE"))
+
+-- `encode -B FILE -D FILE [FILE]`
+abbrev pub encode_app : App
+encode_app = with_rule (with_rule (with_rule (new_app (codes "encode")) (table_rule (codes "B") 66)) (table_rule (codes "D") 68)) (new_rule (codes "FILE"))
+
 -- `bufr COMMAND`
 abbrev pub bufr_app : App
-bufr_app = with_subcommand (record (new_app (codes "bufr")) { top = record ((new_app (codes "bufr")).top) { has_version = true; subcommand_required = true } }) ls_app.top
+bufr_app = with_subcommand (with_subcommand (with_subcommand (record (new_app (codes "bufr")) { top = record ((new_app (codes "bufr")).top) { has_version = true; subcommand_required = true } }) ls_app.top) dump_app.top) encode_app.top
 
 -- the name of a subcommand
 abbrev pub name_of : Subcommand → Text
 name_of Ls = codes "ls"
+name_of (Dump tables) = codes "dump"
+name_of (Encode tables) = codes "encode"
 
--- the job has the subcommand that was met, and the value of FILE there
+-- these are the values of -B and -D
+abbrev pub AreNamed : List Row → TableNames → Type 0
+AreNamed rows tables = (Some tables.table_b.now ≡ first_of (codes "B") rows) × (Some tables.table_d.now ≡ first_of (codes "D") rows)
+
+-- the tables of a subcommand that reads them are the values of -B and -D
+abbrev pub HasTables : List Row → Subcommand → Type 0
+HasTables rows Ls = Unit {0}
+HasTables rows (Dump tables) = AreNamed rows tables
+HasTables rows (Encode tables) = AreNamed rows tables
+
+-- the job has the subcommand that was met, its tables, and the value of FILE there
 abbrev pub IsJobOf : Option (Text × List Row) → Job → Type 0
 IsJobOf None job = ⊥
-IsJobOf (Some met) job = (met.0 ≡ name_of job.command) × (option_map (λ name. name.now) job.file ≡ first_of (codes "FILE") met.1)
+IsJobOf (Some met) job =
+    (met.0 ≡ name_of job.command) × HasTables met.1 job.command × (option_map (λ name. name.now) job.file ≡ first_of (codes "FILE") met.1)

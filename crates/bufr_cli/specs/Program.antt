@@ -1,19 +1,101 @@
 -- What the program does with its input. (a choice of this project)
 -- Cited by private steps only.
-use Rattle.std.specs.Prelude.{◌≡◌, ℕ, List, Option, Some, None, IfSome}
-use Rattle.bufr_cli.specs.Pieces.{ls_pieces}
-use Rattle.bufr_cli.specs.Running.{Written, Tallies}
+use Rattle.std.specs.Prelude.{◌≡◌, ℕ, List, map, Option, Some, None, Result, Ok, Err, IfSome}
+use Rattle.std.specs.Borrow.{Bor}
+use Rattle.bufr_frame.specs.Scan.{Happening, scan}
+use Rattle.bufr_frame.specs.declared.fault.RunFault.{RunFault}
+use Rattle.bufr_tables.specs.Chain.{Reads}
+use Rattle.bufr_tables.specs.Records.{records_of}
+use Rattle.bufr_tables.specs.Steps.{Gives}
+use Rattle.bufr_tables.specs.TableB.{Row, table_b_of}
+use Rattle.bufr_tables.specs.TableD.{Sequence}
+use Rattle.bufr_text.specs.Documents.{documents_of}
+use Rattle.bufr_cli.specs.DumpPieces.{IsDumpPiece}
+use Rattle.bufr_cli.specs.EncodePieces.{encode_pieces}
+use Rattle.bufr_cli.specs.Pieces.{Piece, ls_pieces}
+use Rattle.bufr_cli.specs.Running.{Written, GivesPieces, Tallies}
 use Rattle.bufr_cli.specs.declared.finish.Outcome.{Outcome}
-use Rattle.bufr_cli.specs.declared.finish.Outcome.TheVariants.{Ran, Usage, CannotOpen, Run}
+use Rattle.bufr_cli.specs.declared.finish.Outcome.TheVariants.{Ran, Usage, CannotOpen, TableB, TableD, Run}
 use Rattle.bufr_cli.specs.declared.job.Job.{Job}
+use Rattle.bufr_cli.specs.declared.job.Subcommand.{Subcommand}
+use Rattle.bufr_cli.specs.declared.job.Subcommand.TheVariants.{Ls, Dump, Encode}
+use Rattle.bufr_cli.specs.declared.job.TableNames.{TableNames}
+use Rattle.bufr_cli.specs.declared.tally.Tally.{Tally}
 
--- the octets of the input that a job names, where they are known: the file's, or those of standard input
-abbrev pub input_octets : (standard : Option (List ℕ)) → (named : List ℕ → Option (List ℕ)) → Job → Option (List ℕ)
-input_octets standard named job = elim job.file as (λ _. Option (List ℕ)) [ None ↦ standard | Some name ↦ named name.now ]
+-- the octets of the input, where they are known: those of the file of this name, or of standard input
+abbrev pub input_octets : (standard : Option (List ℕ)) → (named : List ℕ → Option (List ℕ)) → (file : Option (Bor (List ℕ))) → Option (List ℕ)
+input_octets standard named None = standard
+input_octets standard named (Some name) = named name.now
 
--- a run that went through listed the input that the job names; what cannot be opened is what the job names
+-- the pieces were written and counted
+abbrev pub Tells : (w w' e e' : Option (List ℕ)) → Tally → List Piece → Type 0
+Tells w w' e e' tally pieces = Written w w' e e' pieces × Tallies tally pieces
+
+-- what comes of a run over an input: where it went through, this holds of its octets; what cannot be opened is the input
+abbrev pub RunOutcome : (ran : Tally → List ℕ → Type 0) → (standard : Option (List ℕ)) → (named : List ℕ → Option (List ℕ)) → (file : Option (Bor (List ℕ))) → Outcome → Type 0
+RunOutcome ran standard named file (Ran tally) = IfSome (input_octets standard named file) (ran tally)
+RunOutcome ran standard named file (Usage text) = ⊥
+RunOutcome ran standard named file (CannotOpen name) = file ≡ Some name
+RunOutcome ran standard named file (TableB fault) = ⊥
+RunOutcome ran standard named file (TableD fault) = ⊥
+RunOutcome ran standard named file (Run fault) = Unit {0}
+
+-- how a run came out
+abbrev pub ran_outcome : Result Tally RunFault → Outcome
+ran_outcome (Ok tally) = Ran tally
+ran_outcome (Err fault) = Run fault
+
+-- the octets of a file are not read
+abbrev pub FileOutcome : (name : Bor (List ℕ)) → Outcome → Type 0
+FileOutcome name (Ran tally) = ⊥
+FileOutcome name (Usage text) = ⊥
+FileOutcome name (CannotOpen other) = other ≡ name
+FileOutcome name (TableB fault) = ⊥
+FileOutcome name (TableD fault) = ⊥
+FileOutcome name (Run fault) = Unit {0}
+
+-- Table B is not read from the file of this name, or is at fault
+abbrev pub TableBOutcome : (named : List ℕ → Option (List ℕ)) → (name : Bor (List ℕ)) → Outcome → Type 0
+TableBOutcome named name (TableB fault) = IfSome (named name.now) (λ text. Gives (table_b_of (records_of text)) (Err fault))
+TableBOutcome named name outcome = FileOutcome name outcome
+
+-- Table D is not read from the file of this name, or is at fault
+abbrev pub TableDOutcome : (named : List ℕ → Option (List ℕ)) → (name : Bor (List ℕ)) → Outcome → Type 0
+TableDOutcome named name (TableD fault) = IfSome (named name.now) (λ text. Reads (records_of text) (Err fault))
+TableDOutcome named name outcome = FileOutcome name outcome
+
+-- these are the tables of the files of these names
+pub record AreTables (named : List ℕ → Option (List ℕ)) (tables : TableNames) (b : List Row) (d : List Sequence) : Type 0 where
+  pub table_b : IfSome (named tables.table_b.now) (λ text. table_b_of (records_of text) ≡ Ok b)
+  pub table_d : IfSome (named tables.table_d.now) (λ text. Reads (records_of text) (Ok d))
+
+-- the pieces that `dump` has for the octets by these tables were written and counted
+abbrev pub Dumps : List Row → List Sequence → (w w' e e' : Option (List ℕ)) → Tally → List ℕ → Type 0
+Dumps b d w w' e e' tally s = (piece : Happening → Piece) × GivesPieces (IsDumpPiece b d) piece × Tells w w' e e' tally (map piece (scan s))
+
+-- the pieces that `encode` has for the octets by these tables were written and counted
+abbrev pub Encodes : List Row → List Sequence → (w w' e e' : Option (List ℕ)) → Tally → List ℕ → Type 0
+Encodes b d w w' e e' tally s = Tells w w' e e' tally (encode_pieces b d (documents_of s))
+
+-- what comes of a run by tables: Table B is not read, or Table B is and Table D is not, or there is a run by both
+pub data TablesOutcome (ran : List Row → List Sequence → Tally → List ℕ → Type 0) (standard : Option (List ℕ)) (named : List ℕ → Option (List ℕ)) (tables : TableNames) (file : Option (Bor (List ℕ))) (outcome : Outcome) : Type 0 where
+  NoTableB : TableBOutcome named tables.table_b outcome → TablesOutcome ran standard named tables file outcome
+  NoTableD : (b : List Row) → IfSome (named tables.table_b.now) (λ text. table_b_of (records_of text) ≡ Ok b) → TableDOutcome named tables.table_d outcome → TablesOutcome ran standard named tables file outcome
+  ByTables : (b : List Row) (d : List Sequence) → AreTables named tables b d → RunOutcome (ran b d) standard named file outcome → TablesOutcome ran standard named tables file outcome
+
+-- what comes of a dump
+abbrev pub DumpOutcome : (standard : Option (List ℕ)) → (named : List ℕ → Option (List ℕ)) → TableNames → (file : Option (Bor (List ℕ))) → (w w' e e' : Option (List ℕ)) → Outcome → Type 0
+DumpOutcome standard named tables file w w' e e' outcome = TablesOutcome (λ b d. Dumps b d w w' e e') standard named tables file outcome
+
+-- what comes of an encoding
+abbrev pub EncodeOutcome : (standard : Option (List ℕ)) → (named : List ℕ → Option (List ℕ)) → TableNames → (file : Option (Bor (List ℕ))) → (w w' e e' : Option (List ℕ)) → Outcome → Type 0
+EncodeOutcome standard named tables file w w' e e' outcome = TablesOutcome (λ b d. Encodes b d w w' e e') standard named tables file outcome
+
+-- what comes of a job
+abbrev pub CommandOutcome : (standard : Option (List ℕ)) → (named : List ℕ → Option (List ℕ)) → Subcommand → (file : Option (Bor (List ℕ))) → (w w' e e' : Option (List ℕ)) → Outcome → Type 0
+CommandOutcome standard named Ls file w w' e e' outcome = RunOutcome (λ tally s. Tells w w' e e' tally (ls_pieces s)) standard named file outcome
+CommandOutcome standard named (Dump tables) file w w' e e' outcome = DumpOutcome standard named tables file w w' e e' outcome
+CommandOutcome standard named (Encode tables) file w w' e e' outcome = EncodeOutcome standard named tables file w w' e e' outcome
+
 abbrev pub OutcomeSo : (standard : Option (List ℕ)) → (named : List ℕ → Option (List ℕ)) → Job → (w w' e e' : Option (List ℕ)) → Outcome → Type 0
-OutcomeSo standard named job w w' e e' (Ran tally) = IfSome (input_octets standard named job) (λ s. Written w w' e e' (ls_pieces s) × Tallies tally (ls_pieces s))
-OutcomeSo standard named job w w' e e' (Usage text) = ⊥
-OutcomeSo standard named job w w' e e' (CannotOpen name) = job.file ≡ Some name
-OutcomeSo standard named job w w' e e' (Run fault) = Unit {0}
+OutcomeSo standard named job w w' e e' outcome = CommandOutcome standard named job.command job.file w w' e e' outcome

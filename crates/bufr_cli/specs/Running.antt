@@ -1,11 +1,13 @@
 -- What a run leaves, by its answer. (a choice of this project)
 -- Cited by public contracts.
-use Rattle.std.specs.Prelude.{◌≡◌, ◌⊎◌, ℕ, ◌+◌, Bool, true, false, List, ◌++◌, Option, Result, Ok, Err, flat_map, count_by, option_to_list}
+use Rattle.std.specs.Prelude.{◌≡◌, ◌⊎◌, ℕ, ◌≤◌, Bool, true, false, List, ◌++◌, Option, Result, Ok, Err, flat_map, count_by, option_to_list}
 use Rattle.std.specs.Io.KnownBytes.{Consumes, Appends, IsAtEnd}
+use Rattle.bufr_bits.specs.Counts.{counted}
+use Rattle.bufr_frame.specs.Runs.{most_reads}
 use Rattle.bufr_frame.specs.Scan.{Happening, scan, open_scan}
 use Rattle.bufr_frame.specs.declared.fault.RunFault.{RunFault}
 use Rattle.bufr_frame.specs.declared.fault.RunFault.TheVariants.{Read, Write, InputTooLong, Memory}
-use Rattle.bufr_cli.specs.Writing.{GrowsByFront}
+use Rattle.bufr_text.specs.Writing.{GrowsByFront}
 use Rattle.bufr_cli.specs.Pieces.{Piece, output_of, errors_of, is_accepted, is_refused}
 use Rattle.bufr_cli.specs.declared.tally.Tally.{Tally}
 
@@ -64,11 +66,13 @@ RunSo pieces_of left left' w w' e e' unflushed bs (Err InputTooLong) = RunStoppe
 RunSo pieces_of left left' w w' e e' unflushed bs (Err Memory) = RunCut pieces_of left left' w w' e e' unflushed bs
 RunSo pieces_of left left' w w' e e' unflushed bs (Err Write) = RunCut pieces_of left left' w w' e e' unflushed bs
 
--- pieces were written, or a front of them where a writer failed
-abbrev pub WritesPieces : {X : Type 0} → (w w' e e' : Option (List ℕ)) → List Piece → Result X RunFault → Type 0
-WritesPieces w w' e e' pieces (Ok x) = Written w w' e e' pieces
-WritesPieces w w' e e' pieces (Err fault) =
-    (fault ≡ Write) × GrowsByFront w w' (flat_map output_of pieces) × GrowsByFront e e' (flat_map errors_of pieces)
+-- a run's pieces, each what its event is to put on the writers
+abbrev pub GivesPieces : (Happening → Piece → Type 0) → (Happening → Piece) → Type 0
+GivesPieces is_piece piece = (here : Happening) → is_piece here (piece here)
+
+-- at most 2^32 reads were made; an input is too long only after all of them
+abbrev pub ReadsAtMost : {X : Type 0} → (reads reads' : ℕ) → Result X RunFault → Type 0
+ReadsAtMost reads reads' result = (n : ℕ) × (n ≤ most_reads) × (reads' ≡ counted reads n) × (result ≡ Err InputTooLong → n ≡ most_reads)
 
 -- a write fault comes from one of the two writers; without one both stay
 abbrev pub BlamesWriter : {X : Type 0} → Result X RunFault → (output_stays output_fails errors_stays errors_fails : Type 0) → Type 0
@@ -77,7 +81,3 @@ BlamesWriter (Err Read) output_stays output_fails errors_stays errors_fails = ou
 BlamesWriter (Err InputTooLong) output_stays output_fails errors_stays errors_fails = output_stays × errors_stays
 BlamesWriter (Err Memory) output_stays output_fails errors_stays errors_fails = output_stays × errors_stays
 BlamesWriter (Err Write) output_stays output_fails errors_stays errors_fails = (output_fails × errors_stays) ⊎ (output_stays × errors_fails)
-
--- one more piece in a tally
-abbrev pub tally_after : Tally → List Piece → Tally
-tally_after tally pieces = record { accepted = tally.accepted + count_by is_accepted pieces; refused = tally.refused + count_by is_refused pieces }

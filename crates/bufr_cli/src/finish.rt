@@ -1,13 +1,14 @@
 //! The end of a run: its last line and its exit status.
-ghost use Rattle.std.specs.Prelude.{◌≡◌, ◌<◌, ◌-◌, ◌^◌};
+ghost use Rattle.std.specs.Prelude.{◌≡◌, ◌<◌, ◌-◌, ◌^◌, ◌∷◌, []};
 ghost use Rattle.std.specs.Io.KnownBytes.{Appends};
-ghost use Rattle.bufr_cli.specs.Writing.{CountsWrites, GrowsByFront, Stays, Writes};
-ghost use Rattle.bufr_cli.specs.Finish.{last_line, run_fault_text, status_of};
+ghost use Rattle.bufr_text.specs.Writing.{CountsWrites, GrowsByFront, IsShort, Stays, Writes, part_text};
+ghost use Rattle.bufr_cli.specs.Finish.{last_line, numbered, run_fault_text, run_line, status_of, table_line};
 
-use crate::part::{Part, write_all, write_parts};
 use crate::tally::Tally;
 use bufr_bits::Sink;
 use bufr_frame::RunFault;
+use bufr_tables::TableFault;
+use bufr_text::{Part, write_all, write_parts};
 
 /// How a call of the program came out.
 #[derive(Clone, Copy, Debug)]
@@ -18,6 +19,10 @@ pub enum Outcome<'a> {
     Usage(&'a str),
     /// The file of this name cannot be opened.
     CannotOpen(&'a str),
+    /// Table B cannot be read.
+    TableB(TableFault),
+    /// Table D cannot be read.
+    TableD(TableFault),
     /// The run was ended by this fault.
     Run(RunFault),
 }
@@ -60,7 +65,7 @@ fn write_cannot_open<E: Sink>(name: &str, e: &mut E) -> Result<(), RunFault>
 
 /// Writes the number and the text of a fault that ended the run.
 fn write_run_fault<E: Sink>(fault: RunFault, e: &mut E) -> Result<(), RunFault>
-    ensures writes { Writes (E.taken e.old) (E.taken e.new) (last_line (Outcome.Run fault)) result }
+    ensures writes { Writes (E.taken e.old) (E.taken e.new) (run_line fault) result }
     ensures counts { CountsWrites (E.failures e.old) (E.failures e.new) (E.empty_writes e.old) (E.empty_writes e.new) result }
 {
     let parts = [
@@ -73,6 +78,55 @@ fn write_run_fault<E: Sink>(fault: RunFault, e: &mut E) -> Result<(), RunFault>
     write_parts(&parts, e)
 }
 
+/// Writes the line of a fault of a table: which table, the fault's number, and its text, a value
+/// behind a text.
+fn write_numbered<'a, E: Sink>(
+    table: &'a [u8],
+    number: u8,
+    text: &'a [u8],
+    value: Part<'a>,
+    e: &mut E,
+) -> Result<(), RunFault>
+    requires { IsShort value }
+    ensures writes { Writes (E.taken e.old) (E.taken e.new) (numbered table.entry.now number (text.entry.now ∷ part_text value.entry ∷ [])) result }
+    ensures counts { CountsWrites (E.failures e.old) (E.failures e.new) (E.empty_writes e.old) (E.empty_writes e.new) result }
+{
+    let parts = [
+        Part::Text(table),
+        Part::Decimal(u64::from(number)),
+        Part::Text(b" "),
+        Part::Text(text),
+        value,
+        Part::Text(b"\n"),
+    ];
+    write_parts(&parts, e)
+}
+
+/// Writes the line of a table that cannot be read.
+fn write_table_fault<E: Sink>(table: &[u8], fault: &TableFault, e: &mut E) -> Result<(), RunFault>
+    ensures writes { Writes (E.taken e.old) (E.taken e.new) (table_line table.now fault.now) result }
+    ensures counts { CountsWrites (E.failures e.old) (E.failures e.new) (E.empty_writes e.old) (E.empty_writes e.new) result }
+{
+    let number = fault.number();
+    match fault {
+        TableFault::Header => write_numbered(table, number, b"header", Part::Text(b""), e),
+        TableFault::Row(record) => {
+            write_numbered(table, number, b"row ", Part::Decimal(*record), e)
+        }
+        TableFault::Duplicate(fxy) => {
+            let digits = fxy.text();
+            write_numbered(table, number, b"duplicate ", Part::Text(&digits), e)
+        }
+        TableFault::Cycle(fxy) => {
+            let digits = fxy.text();
+            write_numbered(table, number, b"cycle ", Part::Text(&digits), e)
+        }
+        TableFault::TableSize => write_numbered(table, number, b"table size", Part::Text(b""), e),
+        TableFault::Csv => write_numbered(table, number, b"csv", Part::Text(b""), e),
+        TableFault::Memory => write_run_fault(RunFault::Memory, e),
+    }
+}
+
 /// Writes the line that goes before status 2, or the usage text, or nothing.
 fn write_last<E: Sink>(outcome: &Outcome<'_>, e: &mut E) -> Result<(), RunFault>
     ensures writes { Writes (E.taken e.old) (E.taken e.new) (last_line outcome.now) result }
@@ -82,6 +136,8 @@ fn write_last<E: Sink>(outcome: &Outcome<'_>, e: &mut E) -> Result<(), RunFault>
         Outcome::Ran(_) => Ok(()),
         Outcome::Usage(text) => write_all(text.as_bytes(), e),
         Outcome::CannotOpen(name) => write_cannot_open(name, e),
+        Outcome::TableB(fault) => write_table_fault(b"table B: ", fault, e),
+        Outcome::TableD(fault) => write_table_fault(b"table D: ", fault, e),
         Outcome::Run(fault) => write_run_fault(*fault, e),
     }
 }

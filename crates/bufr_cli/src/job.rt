@@ -1,26 +1,39 @@
 //! The command line.
-ghost use Rattle.std.specs.Prelude.{◌≡◌, IfOk, map, false};
+ghost use Rattle.std.specs.Prelude.{◌≡◌, IfOk, IfSome, map, false, Some};
 ghost use Rattle.clap.specs.declared.builder.command.Command.TheViews.{out-Command};
-ghost use Rattle.clap.specs.Words.{app_of, subcommand_of};
-ghost use Rattle.bufr_cli.specs.Line.{bufr_app, ls_app, IsJobOf};
+ghost use Rattle.clap.specs.Words.{app_of, found_of, rows_of, rule_of, subcommand_of};
+ghost use Rattle.bufr_cli.specs.Line.{bufr_app, dump_app, encode_app, ls_app, name_of, table_rule, AreNamed, HasTables, IsJobOf};
 
 use clap::error::ErrorKind;
 use clap::{Arg, ArgMatches, Error};
 use std::alloc::{AllocError, Global};
 use std::convert::AsStr;
 
+/// The names of the files that Tables B and D are read from.
+#[derive(Clone, Copy, Debug, PartialEq, Eq)]
+pub struct TableNames<'a> {
+    /// The value of `-B`.
+    pub table_b: &'a str,
+    /// The value of `-D`.
+    pub table_d: &'a str,
+}
+
 /// The subcommands of `bufr`.
 #[derive(Clone, Copy, Debug, PartialEq, Eq)]
-pub enum Subcommand {
+pub enum Subcommand<'a> {
     /// `bufr ls`: list the messages.
     Ls,
+    /// `bufr dump`: write the messages as text, by these tables.
+    Dump(TableNames<'a>),
+    /// `bufr encode`: write the messages that a text spells, by these tables.
+    Encode(TableNames<'a>),
 }
 
 /// What a command line asks for.
 #[derive(Clone, Copy, Debug)]
 pub struct Job<'a> {
     /// What is to be done.
-    pub command: Subcommand,
+    pub command: Subcommand<'a>,
     /// The input's file name; standard input where there is none.
     pub file: Option<&'a str>,
 }
@@ -46,11 +59,13 @@ const VERSION: &str = "0.1.0";
 const PROGRAM_NOTES: &str = "\
 Exit status:
   0  nothing was refused
-  1  a message was refused, or a BUFR begins none
-  2  the command line, a file, reading, writing or memory failed
+  1  a message or a document was refused, or a BUFR begins none
+  2  the command line, a file, a table, reading, writing or memory failed
 
-Example:
-  bufr ls bulletins.bufr";
+Examples:
+  bufr ls bulletins.bufr
+  bufr dump -B b.csv -D d.csv bulletins.bufr
+  bufr encode -B b.csv -D d.csv bulletins.txt";
 
 /// What stands under the help of `ls`.
 const LS_NOTES: &str = "\
@@ -68,6 +83,54 @@ Exit status:
 
 Example:
   bufr ls bulletins.bufr 2> faults.txt";
+
+/// What stands under the help of `dump`.
+const DUMP_NOTES: &str = "\
+The text of each message goes to standard output, and a line for each fault to
+standard error, with its offset in octets and its number:
+  1-3    a BUFR that begins no message: cut, a length under 12, no 7777
+  10     another edition than 4
+  11-13  sections that do not fit the message
+  20-28  descriptors that the tables do not know, or that make no template
+  30-35  data that do not fit the template
+  70-73  reading, writing, an endless input, memory
+Of a message that is refused nothing goes to standard output. A table at fault
+is told before the input is opened:
+  40-45  header, row, duplicate, cycle, size, number of fields
+
+Exit status:
+  0  nothing was refused
+  1  a message was refused, or a BUFR begins none
+  2  the command line, a file, a table, reading, writing or memory failed
+
+Example:
+  bufr dump -B b.csv -D d.csv bulletins.bufr > bulletins.txt";
+
+/// What stands under the help of `encode`.
+const ENCODE_NOTES: &str = "\
+The message of each document goes to standard output, when its end line was
+read. The first document that is refused ends the run, with a line on standard
+error that tells the line of the text, from 1, and the fault's number:
+  50     a line that may not stand there, is too long, or is missing at the end
+  51     another item, or none, where one is expected, or one too many
+  52-55  a value: number, out of range, text long, missing forbidden
+  56     descriptors that the tables do not know, or that make no template
+  57     the number of a subset, or of subsets
+  58-59  compressed data: unequal factor, increment
+  60-61  a message too long, a header value out of its range
+  62     data that the template cannot hold
+  70-73  reading, writing, an endless input, memory
+Of a document that is refused nothing goes to standard output. A table at fault
+is told before the input is opened:
+  40-45  header, row, duplicate, cycle, size, number of fields
+
+Exit status:
+  0  nothing was refused
+  1  a document was refused
+  2  the command line, a file, a table, reading, writing or memory failed
+
+Example:
+  bufr encode -B b.csv -D d.csv bulletins.txt > bulletins.bufr";
 
 impl From<AllocError> for LineFault {
     ghost use Rattle.std.specs.Prelude.{◌≡◌};
@@ -92,18 +155,66 @@ fn ls_command<'a>(alloc: Global) -> Result<clap::Command<'a>, AllocError>
         .arg(file)
 }
 
+/// The option of a table, of one letter, which must be there.
+fn table_option<'a>(alloc: Global, id: &'a str, letter: char, help: &'a str) -> Arg<'a>
+    ensures rule { rule_of result ≡ table_rule id.entry.now letter }
+    ensures global { result.global ≡ false }
+{
+    Arg::new(alloc, id)
+        .short(letter)
+        .value_name("FILE")
+        .required(true)
+        .help(help)
+}
+
+/// `bufr dump -B FILE -D FILE [FILE]`.
+fn dump_command<'a>(alloc: Global) -> Result<clap::Command<'a>, AllocError>
+    ensures app { IfOk result (λ c. app_of c ≡ dump_app) }
+    ensures local { IfOk result (λ c. (out-Command c).has_globals ≡ false) }
+{
+    let table_b = table_option(alloc, "B", 'B', "Table B, the elements, as CSV");
+    let table_d = table_option(alloc, "D", 'D', "Table D, the sequences, as CSV");
+    let file = Arg::new(alloc, "FILE").help("The file to dump; standard input without it");
+    clap::Command::new(alloc, "dump")
+        .about("Writes each BUFR message as text")
+        .after_help(DUMP_NOTES)
+        .arg(table_b)?
+        .arg(table_d)?
+        .arg(file)
+}
+
+/// `bufr encode -B FILE -D FILE [FILE]`.
+fn encode_command<'a>(alloc: Global) -> Result<clap::Command<'a>, AllocError>
+    ensures app { IfOk result (λ c. app_of c ≡ encode_app) }
+    ensures local { IfOk result (λ c. (out-Command c).has_globals ≡ false) }
+{
+    let table_b = table_option(alloc, "B", 'B', "Table B, the elements, as CSV");
+    let table_d = table_option(alloc, "D", 'D', "Table D, the sequences, as CSV");
+    let file = Arg::new(alloc, "FILE").help("The text to encode; standard input without it");
+    clap::Command::new(alloc, "encode")
+        .about("Writes the BUFR message of each document")
+        .after_help(ENCODE_NOTES)
+        .arg(table_b)?
+        .arg(table_d)?
+        .arg(file)
+}
+
 /// The command line of `bufr`.
 fn bufr_command<'a>(alloc: Global) -> Result<clap::Command<'a>, AllocError>
     ensures { IfOk result (λ c. app_of c ≡ bufr_app) }
 {
     let ls = ls_command(alloc)?;
+    let dump = dump_command(alloc)?;
+    let encode = encode_command(alloc)?;
     clap::Command::new(alloc, "bufr")
         .bin_name("bufr")?
-        .about("Lists messages of FM 94 BUFR")
+        .about("Lists, dumps and encodes messages of FM 94 BUFR")
         .after_help(PROGRAM_NOTES)
         .version(VERSION)
         .subcommand_required(true)
-        .subcommand(ls)
+        .subcommand(ls)?
+        .subcommand(dump)?
+        .subcommand(encode)
 }
 
 /// The fault that an error of clap stands for, with its text.
@@ -123,6 +234,43 @@ fn fault_of(alloc: Global, error: &Error) -> LineFault {
     }
 }
 
+/// The names of the tables, where they are there.
+fn tables_of<'a>(found: &ArgMatches<'a>) -> Option<TableNames<'a>>
+    ensures { IfSome result (AreNamed (rows_of (found_of found.now))) }
+{
+    let table_b = found.get_str("B")?;
+    let table_d = found.get_str("D")?;
+    Some(TableNames { table_b, table_d })
+}
+
+/// The subcommand of this name, where it is known and its tables are there.
+fn command_of<'a>(name: &str, found: &ArgMatches<'a>) -> Option<Subcommand<'a>>
+    ensures name { IfSome result (λ command. name.now ≡ name_of command) }
+    ensures tables { IfSome result (HasTables (rows_of (found_of found.now))) }
+{
+    if name == "ls" {
+        return Some(Subcommand::Ls);
+    }
+    if name == "dump" {
+        let tables = tables_of(found)?;
+        return Some(Subcommand::Dump(tables));
+    }
+    if name == "encode" {
+        let tables = tables_of(found)?;
+        return Some(Subcommand::Encode(tables));
+    }
+    None
+}
+
+/// The job of a subcommand that was met, where it is known and its tables are there.
+fn job_of<'a>(name: &str, found: &ArgMatches<'a>) -> Option<Job<'a>>
+    ensures { IfSome result (IsJobOf (Some (name.now, rows_of (found_of found.now)))) }
+{
+    let command = command_of(name, found)?;
+    let file = found.get_str("FILE");
+    Some(Job { command, file })
+}
+
 /// What the words of a command line ask for; the first is the program's name.
 ///
 /// ```
@@ -134,7 +282,7 @@ fn fault_of(alloc: Global, error: &Error) -> LineFault {
 /// # Errors
 ///
 /// [`LineFault::Help`] where help or the version is asked for, [`LineFault::Usage`] where the words are not
-/// understood or no command is among them, and [`LineFault::Memory`].
+/// understood, no command is among them or a table is missing, and [`LineFault::Memory`].
 pub fn parse_line<'a, S: AsStr>(alloc: Global, words: &'a [S]) -> Result<Job<'a>, LineFault>
     ensures { IfOk result (λ job. IsJobOf (subcommand_of bufr_app (map S.text words.entry.now)) job) }
 {
@@ -144,15 +292,13 @@ pub fn parse_line<'a, S: AsStr>(alloc: Global, words: &'a [S]) -> Result<Job<'a>
         Err(error) => return Err(fault_of(alloc, &error)),
     };
     match matches.subcommand() {
-        Some((name, found)) => {
-            if name == "ls" {
-                return Ok(Job {
-                    command: Subcommand::Ls,
-                    file: found.get_str("FILE"),
-                });
+        Some((name, found)) => match job_of(name, found) {
+            Some(job) => Ok(job),
+            None => {
+                let text = "error: a command or table is unknown\n";
+                Err(LineFault::Usage(String::from_str(alloc, text)?))
             }
-            Err(LineFault::Usage(String::from_str(alloc, "error: unknown command\n")?))
-        }
+        },
         None => Err(LineFault::Usage(String::from_str(alloc, "error: no command\n")?)),
     }
 }

@@ -1,13 +1,16 @@
-//! `bufr`: lists messages of FM 94 BUFR.
+//! `bufr`: lists, dumps and encodes messages of FM 94 BUFR.
 #![tactic(auto)]
 
+mod document_line;
 mod fault_line;
 mod finish;
 mod job;
-mod ls_line;
-mod part;
+pub mod law;
 mod program;
 mod read_all;
+mod run_dump;
+mod run_encode;
+mod run_events;
 mod run_ls;
 mod tally;
 
@@ -19,6 +22,10 @@ use std::fs::{self, File};
 use std::io::{BufWriter, ErrorKind, Stdin};
 use std::process::ExitCode;
 
+#[cfg(test)]
+mod dump_tests;
+#[cfg(test)]
+mod encode_tests;
 #[cfg(test)]
 mod tests;
 

@@ -1,16 +1,25 @@
 //! The program below `main`: what it does with a command line, its inputs and its writers.
-ghost use Rattle.std.specs.Prelude.{◌≡◌, ◌≤◌, ℕ, List, Option, IfOk, IfSome};
-ghost use Rattle.bufr_cli.specs.Pieces.{ls_pieces};
-ghost use Rattle.bufr_cli.specs.Program.{OutcomeSo};
-ghost use Rattle.bufr_cli.specs.Running.{Written, Tallies};
+ghost use Rattle.std.specs.Prelude.{◌≡◌, ◌≤◌, ℕ, List, Option, Ok, IfOk, IfErr, IfSome, map};
+ghost use Rattle.bufr_frame.specs.Scan.{Happening, scan};
+ghost use Rattle.bufr_tables.specs.Chain.{Reads};
+ghost use Rattle.bufr_tables.specs.Records.{Record, records_of};
+ghost use Rattle.bufr_tables.specs.TableB.{AreRows, table_b_of};
+ghost use Rattle.bufr_cli.specs.DumpPieces.{IsDumpPiece};
+ghost use Rattle.bufr_cli.specs.Pieces.{Piece, ls_pieces};
+ghost use Rattle.bufr_cli.specs.Program.{DumpOutcome, EncodeOutcome, Encodes, FileOutcome, OutcomeSo, RunOutcome, TableBOutcome, TableDOutcome, Tells, ran_outcome};
+ghost use Rattle.bufr_cli.specs.Running.{GivesPieces};
 
 use crate::finish::{Outcome, finish};
-use crate::job::{Job, LineFault, Subcommand, parse_line};
-use crate::part::write_all;
+use crate::job::{Job, LineFault, Subcommand, TableNames, parse_line};
+use crate::read_all::read_all;
+use crate::run_dump::run_dump;
+use crate::run_encode::run_encode;
 use crate::run_ls::run_ls;
 use crate::tally::Tally;
 use bufr_bits::{Device, Sink};
 use bufr_frame::RunFault;
+use bufr_tables::{TableB, TableD};
+use bufr_text::write_all;
 use std::alloc::Global;
 use std::convert::AsStr;
 use std::io::{BufReader, Read};
@@ -87,7 +96,7 @@ fn hand_on<W: Sink>(text: &[u8], w: &mut W) -> Result<(), RunFault> {
     }
 }
 
-/// Opens the input and does the job over it.
+/// Opens what a job names, and does it.
 fn run_job<'a, I: Inputs, W: Sink, E: Sink>(
     alloc: Global,
     job: Job<'a>,
@@ -97,20 +106,212 @@ fn run_job<'a, I: Inputs, W: Sink, E: Sink>(
 ) -> Outcome<'a>
     ensures { OutcomeSo (I.standard_octets inputs.now) (I.file_octets inputs.now) job.entry (W.taken w.old) (W.taken w.new) (E.taken e.old) (E.taken e.new) result }
 {
-    let Job {
-        command: Subcommand::Ls,
-        file,
-    } = job;
-    let ran = match file {
-        None => list(alloc, inputs.standard(), w, e),
-        Some(name) => match inputs.open(name) {
-            Ok(input) => list(alloc, input, w, e),
-            Err(_) => return Outcome::CannotOpen(name),
-        },
+    let Job { command, file } = job;
+    match command {
+        Subcommand::Ls => list_input(alloc, file, inputs, w, e),
+        Subcommand::Dump(tables) => dump_job(alloc, tables, file, inputs, w, e),
+        Subcommand::Encode(tables) => encode_job(alloc, tables, file, inputs, w, e),
+    }
+}
+
+/// Reads Table B, then Table D, and dumps the messages of an input by them.
+fn dump_job<'a, I: Inputs, W: Sink, E: Sink>(
+    alloc: Global,
+    tables: TableNames<'a>,
+    file: Option<&'a str>,
+    inputs: &I,
+    w: &mut W,
+    e: &mut E,
+) -> Outcome<'a>
+    ensures { DumpOutcome (I.standard_octets inputs.now) (I.file_octets inputs.now) tables.entry file.entry (W.taken w.old) (W.taken w.new) (E.taken e.old) (E.taken e.new) result }
+{
+    let table_b = match read_table_b(alloc, tables.table_b, inputs) {
+        Ok(table) => table,
+        Err(outcome) => return outcome,
     };
+    let table_d = match read_table_d(alloc, tables.table_d, inputs) {
+        Ok(table) => table,
+        Err(outcome) => return outcome,
+    };
+    dump_input(alloc, file, inputs, &table_b, &table_d, w, e)
+}
+
+/// Reads Table B, then Table D, and encodes the documents of an input by them.
+fn encode_job<'a, I: Inputs, W: Sink, E: Sink>(
+    alloc: Global,
+    tables: TableNames<'a>,
+    file: Option<&'a str>,
+    inputs: &I,
+    w: &mut W,
+    e: &mut E,
+) -> Outcome<'a>
+    ensures { EncodeOutcome (I.standard_octets inputs.now) (I.file_octets inputs.now) tables.entry file.entry (W.taken w.old) (W.taken w.new) (E.taken e.old) (E.taken e.new) result }
+{
+    let table_b = match read_table_b(alloc, tables.table_b, inputs) {
+        Ok(table) => table,
+        Err(outcome) => return outcome,
+    };
+    let table_d = match read_table_d(alloc, tables.table_d, inputs) {
+        Ok(table) => table,
+        Err(outcome) => return outcome,
+    };
+    encode_input(alloc, file, inputs, &table_b, &table_d, w, e)
+}
+
+/// The file of this name.
+///
+/// # Errors
+///
+/// [`Outcome::CannotOpen`].
+fn open_file<'a, I: Inputs>(name: &'a str, inputs: &I) -> Result<I::File, Outcome<'a>>
+    ensures file { IfOk result (λ file. I.File.remaining file ≡ I.file_octets inputs.now name.entry.now) }
+    ensures closed { IfErr result (λ outcome. outcome ≡ Outcome.CannotOpen name.entry) }
+{
+    match inputs.open(name) {
+        Ok(file) => Ok(file),
+        Err(_) => Err(Outcome::CannotOpen(name)),
+    }
+}
+
+/// The octets of the file of this name.
+///
+/// # Errors
+///
+/// [`Outcome::CannotOpen`], and [`Outcome::Run`] where it cannot be read to its end.
+fn read_file<'a, I: Inputs>(
+    alloc: Global,
+    name: &'a str,
+    inputs: &I,
+) -> Result<Vec<u8>, Outcome<'a>>
+    ensures octets { IfOk result (λ octets. IfSome (I.file_octets inputs.now name.entry.now) (λ text. octets.items ≡ text)) }
+    ensures unread { IfErr result (FileOutcome name.entry) }
+{
+    let file = match open_file(name, inputs) {
+        Ok(file) => file,
+        Err(outcome) => return Err(outcome),
+    };
+    match read_all(alloc, &mut Device::new(file)) {
+        Ok(octets) => Ok(octets),
+        Err(fault) => Err(Outcome::Run(fault)),
+    }
+}
+
+/// Table B of the file of this name.
+///
+/// # Errors
+///
+/// As [`read_file`], and [`Outcome::TableB`].
+fn read_table_b<'a, I: Inputs>(
+    alloc: Global,
+    name: &'a str,
+    inputs: &I,
+) -> Result<TableB, Outcome<'a>>
+    ensures table { IfOk result (λ table. IfSome (I.file_octets inputs.now name.entry.now) (λ text. table_b_of (records_of text) ≡ Ok table)) }
+    ensures rows { IfOk result (λ table. (records : List Record) × AreRows records table) }
+    ensures unread { IfErr result (TableBOutcome (I.file_octets inputs.now) name.entry) }
+{
+    let text = match read_file(alloc, name, inputs) {
+        Ok(text) => text,
+        Err(outcome) => return Err(outcome),
+    };
+    match TableB::read(alloc, text.as_slice()) {
+        Ok(table) => Ok(table),
+        Err(fault) => Err(Outcome::TableB(fault)),
+    }
+}
+
+/// Table D of the file of this name.
+///
+/// # Errors
+///
+/// As [`read_file`], and [`Outcome::TableD`].
+fn read_table_d<'a, I: Inputs>(
+    alloc: Global,
+    name: &'a str,
+    inputs: &I,
+) -> Result<TableD, Outcome<'a>>
+    ensures table { IfOk result (λ table. IfSome (I.file_octets inputs.now name.entry.now) (λ text. Reads (records_of text) (Ok table))) }
+    ensures unread { IfErr result (TableDOutcome (I.file_octets inputs.now) name.entry) }
+{
+    let text = match read_file(alloc, name, inputs) {
+        Ok(text) => text,
+        Err(outcome) => return Err(outcome),
+    };
+    match TableD::read(alloc, text.as_slice()) {
+        Ok(table) => Ok(table),
+        Err(fault) => Err(Outcome::TableD(fault)),
+    }
+}
+
+/// How a run came out.
+fn outcome_of<'a>(ran: Result<Tally, RunFault>) -> Outcome<'a>
+    ensures { result ≡ ran_outcome ran }
+{
     match ran {
         Ok(tally) => Outcome::Ran(tally),
         Err(fault) => Outcome::Run(fault),
+    }
+}
+
+/// Lists the messages of a file, or of standard input.
+fn list_input<'a, I: Inputs, W: Sink, E: Sink>(
+    alloc: Global,
+    file: Option<&'a str>,
+    inputs: &I,
+    w: &mut W,
+    e: &mut E,
+) -> Outcome<'a>
+    ensures { RunOutcome (λ tally s. Tells (W.taken w.old) (W.taken w.new) (E.taken e.old) (E.taken e.new) tally (ls_pieces s)) (I.standard_octets inputs.now) (I.file_octets inputs.now) file.entry result }
+{
+    match file {
+        None => outcome_of(list(alloc, inputs.standard(), w, e)),
+        Some(name) => match open_file(name, inputs) {
+            Ok(input) => outcome_of(list(alloc, input, w, e)),
+            Err(outcome) => outcome,
+        },
+    }
+}
+
+/// Dumps the messages of a file, or of standard input.
+fn dump_input<'a, I: Inputs, W: Sink, E: Sink>(
+    alloc: Global,
+    file: Option<&'a str>,
+    inputs: &I,
+    table_b: &TableB,
+    table_d: &TableD,
+    w: &mut W,
+    e: &mut E,
+) -> Outcome<'a>
+    ensures { (piece : Happening → Piece) → GivesPieces (IsDumpPiece table_b.now table_d.now) piece
+        → RunOutcome (λ tally s. Tells (W.taken w.old) (W.taken w.new) (E.taken e.old) (E.taken e.new) tally (map piece (scan s))) (I.standard_octets inputs.now) (I.file_octets inputs.now) file.entry result }
+{
+    match file {
+        None => outcome_of(dump(alloc, inputs.standard(), table_b, table_d, w, e)),
+        Some(name) => match open_file(name, inputs) {
+            Ok(input) => outcome_of(dump(alloc, input, table_b, table_d, w, e)),
+            Err(outcome) => outcome,
+        },
+    }
+}
+
+/// Encodes the documents of a file, or of standard input.
+fn encode_input<'a, I: Inputs, W: Sink, E: Sink>(
+    alloc: Global,
+    file: Option<&'a str>,
+    inputs: &I,
+    table_b: &TableB,
+    table_d: &TableD,
+    w: &mut W,
+    e: &mut E,
+) -> Outcome<'a>
+    ensures { RunOutcome (Encodes table_b.now table_d.now (W.taken w.old) (W.taken w.new) (E.taken e.old) (E.taken e.new)) (I.standard_octets inputs.now) (I.file_octets inputs.now) file.entry result }
+{
+    match file {
+        None => outcome_of(encode(alloc, inputs.standard(), table_b, table_d, w, e)),
+        Some(name) => match open_file(name, inputs) {
+            Ok(input) => outcome_of(encode(alloc, input, table_b, table_d, w, e)),
+            Err(outcome) => outcome,
+        },
     }
 }
 
@@ -121,14 +322,60 @@ fn list<R: Read + Drop, W: Sink, E: Sink>(
     w: &mut W,
     e: &mut E,
 ) -> Result<Tally, RunFault>
-    ensures { IfOk result (λ tally. IfSome (R.remaining input) (λ s.
-        Written (W.taken w.old) (W.taken w.new) (E.taken e.old) (E.taken e.new) (ls_pieces s) × Tallies tally (ls_pieces s))) }
+    ensures { IfOk result (λ tally. IfSome (R.remaining input) (λ s. Tells (W.taken w.old) (W.taken w.new) (E.taken e.old) (E.taken e.new) tally (ls_pieces s))) }
 {
     let Ok(input) = BufReader::with_capacity(alloc, BUFFERED, input) else {
         return Err(RunFault::Memory);
     };
     let mut input = Device::new(input);
     let ran = run_ls(alloc, &mut input, w, e);
+    if ran.is_err() {
+        // what was written before the fault is handed on too
+        let _ = w.flush();
+    }
+    ran
+}
+
+/// Dumps the messages of an input.
+fn dump<R: Read + Drop, W: Sink, E: Sink>(
+    alloc: Global,
+    input: R,
+    table_b: &TableB,
+    table_d: &TableD,
+    w: &mut W,
+    e: &mut E,
+) -> Result<Tally, RunFault>
+    ensures { (piece : Happening → Piece) → GivesPieces (IsDumpPiece table_b.now table_d.now) piece
+        → IfOk result (λ tally. IfSome (R.remaining input) (λ s. Tells (W.taken w.old) (W.taken w.new) (E.taken e.old) (E.taken e.new) tally (map piece (scan s)))) }
+{
+    let Ok(input) = BufReader::with_capacity(alloc, BUFFERED, input) else {
+        return Err(RunFault::Memory);
+    };
+    let mut input = Device::new(input);
+    let ran = run_dump(alloc, &mut input, w, e, table_b, table_d);
+    if ran.is_err() {
+        // what was written before the fault is handed on too
+        let _ = w.flush();
+    }
+    ran
+}
+
+/// Encodes the documents of an input.
+fn encode<R: Read + Drop, W: Sink, E: Sink>(
+    alloc: Global,
+    input: R,
+    table_b: &TableB,
+    table_d: &TableD,
+    w: &mut W,
+    e: &mut E,
+) -> Result<Tally, RunFault>
+    ensures { IfOk result (λ tally. IfSome (R.remaining input) (Encodes table_b.now table_d.now (W.taken w.old) (W.taken w.new) (E.taken e.old) (E.taken e.new) tally)) }
+{
+    let Ok(input) = BufReader::with_capacity(alloc, BUFFERED, input) else {
+        return Err(RunFault::Memory);
+    };
+    let mut input = Device::new(input);
+    let ran = run_encode(alloc, &mut input, w, e, table_b, table_d);
     if ran.is_err() {
         // what was written before the fault is handed on too
         let _ = w.flush();

@@ -1,30 +1,25 @@
 //! `bufr ls`: lists the messages of a stream.
-ghost use Rattle.std.specs.Prelude.{◌≡◌, ◌≢◌, ◌≤◌, ◌<◌, ◌+◌, ◌^◌, ℕ, List, true, IfOk, OnOk, IfErr, IfSome, map};
-ghost use Rattle.std.specs.Io.KnownBytes.{Keeps};
-ghost use Rattle.bufr_bits.specs.Counts.{counted};
+ghost use Rattle.std.specs.Prelude.{◌≡◌, ◌≢◌, ℕ, List, true, false, IfOk, OnOk, IfSome, map};
 ghost use Rattle.bufr_frame.specs.Events.{told, IsEvent};
 ghost use Rattle.bufr_frame.specs.Runs.{read_failures_after, MakesReads};
-ghost use Rattle.bufr_cli.specs.Writing.{Stays, Fails, CountsWrites};
+ghost use Rattle.bufr_text.specs.Writing.{Stays, Fails};
 ghost use Rattle.bufr_cli.specs.Pieces.{ls_piece, ls_pieces};
-ghost use Rattle.bufr_cli.specs.Running.{RunSo, Written, WritesPieces, BlamesWriter, Tallies, tally_after};
+ghost use Rattle.bufr_cli.specs.Running.{RunSo, Written, BlamesWriter, Tallies};
+ghost use Rattle.bufr_cli.specs.Telling.{StopsPiece, TellsPieces};
 
 use crate::fault_line::{write_section_fault, write_stray};
-use crate::ls_line::write_ls;
-use crate::tally::Tally;
+use crate::run_events::{Teller, run_events};
+use crate::tally::{Tally, Verdict};
 use bufr_bits::{Sink, Source};
-use bufr_frame::{Event, Finder, Message, RunFault};
+use bufr_frame::{Event, Message, RunFault};
+use bufr_text::write_ls;
 use std::alloc::Global;
 
-/// Writes the line of an event and counts it.
-fn list_event<W: Sink, E: Sink>(
-    event: Event<'_>,
-    tally: &mut Tally,
-    w: &mut W,
-    e: &mut E,
-) -> Result<(), RunFault>
-    requires event { IsEvent event }
-    requires few { tally.old.accepted + tally.old.refused < 2 ^ 63 }
-    ensures writes { WritesPieces (W.taken w.old) (W.taken w.new) (E.taken e.old) (E.taken e.new) (map ls_piece (told event.entry)) result }
+/// Writes the line of an event.
+fn list_event<W: Sink, E: Sink>(event: Event<'_>, w: &mut W, e: &mut E) -> Result<Verdict, RunFault>
+    requires { IsEvent event }
+    ensures tells { TellsPieces (W.taken w.old) (W.taken w.new) (E.taken e.old) (E.taken e.new) (map ls_piece (told event.entry)) result }
+    ensures stops { StopsPiece false result }
     ensures counts { BlamesWriter result
         (Stays (W.failures w.old) (W.failures w.new) (W.empty_writes w.old) (W.empty_writes w.new))
         (Fails (W.failures w.old) (W.failures w.new) (W.empty_writes w.old) (W.empty_writes w.new))
@@ -32,42 +27,44 @@ fn list_event<W: Sink, E: Sink>(
         (Fails (E.failures e.old) (E.failures e.new) (E.empty_writes e.old) (E.empty_writes e.new)) }
     ensures output_flushes { W.flushes w.new ≡ W.flushes w.old }
     ensures errors_flushes { E.flushes e.new ≡ E.flushes e.old }
-    ensures tally { OnOk result (tally.new ≡ tally_after tally.old (map ls_piece (told event.entry))) }
-    ensures few { OnOk result (tally.new.accepted + tally.new.refused ≡ tally.old.accepted + tally.old.refused + 1) }
 {
     match event {
         Event::Frame(offset, octets) => match Message::parse(octets) {
             Ok(message) => {
                 write_ls(offset, &message, w)?;
-                tally.accepted += 1;
-                Ok(())
+                Ok(Verdict::Accepted)
             }
             Err(fault) => {
                 write_section_fault(offset, fault, e)?;
-                tally.refused += 1;
-                Ok(())
+                Ok(Verdict::Refused)
             }
         },
         Event::Stray(offset, cause) => {
             write_stray(offset, cause, e)?;
-            tally.refused += 1;
-            Ok(())
+            Ok(Verdict::Refused)
         }
         Event::Done => unreachable!(),
     }
 }
 
-/// Hands on what was written.
-fn flush<W: Sink>(w: &mut W) -> Result<(), RunFault>
-    ensures keeps { Keeps (W.taken w.old) (W.taken w.new) }
-    ensures flushes { W.flushes w.new ≡ counted (W.flushes w.old) 1 }
-    ensures handed_on { OnOk result (W.handed_on w.new ≡ true) }
-    ensures err { IfErr result (λ fault. fault ≡ RunFault.Write) }
-    ensures counts { CountsWrites (W.failures w.old) (W.failures w.new) (W.empty_writes w.old) (W.empty_writes w.new) result }
-{
-    match w.flush() {
-        Ok(()) => Ok(()),
-        Err(_) => Err(RunFault::Write),
+/// Tells events by their listing.
+struct Listing;
+
+impl Teller for Listing {
+    ghost use Rattle.std.specs.Prelude.{◌≡◌, false};
+    ghost use Rattle.bufr_cli.specs.Pieces.{ls_piece};
+
+    ghost is_piece = { λ _ here piece. piece ≡ ls_piece here };
+
+    ghost takes_memory = { λ _. false };
+
+    fn tell<W: Sink, E: Sink>(
+        &self,
+        event: Event<'_>,
+        w: &mut W,
+        e: &mut E,
+    ) -> Result<Verdict, RunFault> {
+        list_event(event, w, e)
     }
 }
 
@@ -113,19 +110,5 @@ pub fn run_ls<R: Source, W: Sink, E: Sink>(
         (Stays (E.failures e.old) (E.failures e.new) (E.empty_writes e.old) (E.empty_writes e.new))
         (Fails (E.failures e.old) (E.failures e.new) (E.empty_writes e.old) (E.empty_writes e.new)) }
 {
-    let mut finder = Finder::new(alloc);
-    let mut tally = Tally {
-        accepted: 0,
-        refused: 0,
-    };
-    loop {
-        let event = finder.next(r)?;
-        if let Event::Done = event {
-            break;
-        }
-        list_event(event, &mut tally, w, e)?;
-    }
-    flush(w)?;
-    flush(e)?;
-    Ok(tally)
+    run_events(alloc, &Listing, r, w, e)
 }

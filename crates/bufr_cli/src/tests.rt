@@ -484,6 +484,8 @@ fn shows_help(rt: HostRuntime) -> Result<(), Fail> {
     for words in [
         ["bufr", "--help"].as_slice(),
         ["bufr", "ls", "--help"].as_slice(),
+        ["bufr", "dump", "--help"].as_slice(),
+        ["bufr", "encode", "--help"].as_slice(),
     ] {
         let mut w = ScriptOut::new(rt.alloc(), 4096, 4096, End::Zero)?;
         let mut e = ScriptOut::new(rt.alloc(), 4096, 4096, End::Zero)?;
@@ -603,6 +605,21 @@ fn refuses_lines(rt: HostRuntime) -> Result<(), Fail> {
     Ok(())
 }
 
+/// Asserts what `finish` writes and answers, also where it cannot write.
+pub(crate) fn assert_finished(
+    rt: &(impl Abort + AllocGlobal),
+    outcome: &Outcome<'_>,
+    line: &str,
+    status: u8,
+) -> Result<(), Fail> {
+    let mut e = ScriptOut::new(rt.alloc(), 100, 3, End::Fail)?;
+    assert_eq!(rt; finish(outcome, &mut e), status, "{line}");
+    assert_eq!(rt; e.taken(), line.as_bytes(), "{line}");
+    let mut e = ScriptOut::new(rt.alloc(), 4, 3, End::Zero)?;
+    assert_eq!(rt; finish(outcome, &mut e), status, "{line}");
+    Ok(())
+}
+
 #[test]
 fn finishes(rt: HostRuntime) -> Result<(), Fail> {
     let clean = Tally {
@@ -613,38 +630,20 @@ fn finishes(rt: HostRuntime) -> Result<(), Fail> {
         accepted: 3,
         refused: 1,
     };
-    let outcomes: [(Outcome<'_>, &str, u8); 8] = [
-        (Outcome::Ran(clean), "", 0),
-        (Outcome::Ran(refusing), "", 1),
-        (
-            Outcome::Usage("error: no command\n"),
-            "error: no command\n",
-            2,
-        ),
-        (
-            Outcome::CannotOpen("x.bufr"),
-            "bufr: cannot open x.bufr\n",
-            2,
-        ),
-        (Outcome::Run(RunFault::Read), "bufr: 70 read failed\n", 2),
-        (Outcome::Run(RunFault::Write), "bufr: 71 write failed\n", 2),
-        (
-            Outcome::Run(RunFault::InputTooLong),
-            "bufr: 72 input too long\n",
-            2,
-        ),
-        (
-            Outcome::Run(RunFault::Memory),
-            "bufr: 73 out of memory\n",
-            2,
-        ),
+    assert_finished(&rt, &Outcome::Ran(clean), "", 0)?;
+    assert_finished(&rt, &Outcome::Ran(refusing), "", 1)?;
+    let usage = "error: no command\n";
+    assert_finished(&rt, &Outcome::Usage(usage), usage, 2)?;
+    let line = "bufr: cannot open x.bufr\n";
+    assert_finished(&rt, &Outcome::CannotOpen("x.bufr"), line, 2)?;
+    static FAULTS: [(RunFault, &str); 4] = [
+        (RunFault::Read, "bufr: 70 read failed\n"),
+        (RunFault::Write, "bufr: 71 write failed\n"),
+        (RunFault::InputTooLong, "bufr: 72 input too long\n"),
+        (RunFault::Memory, "bufr: 73 out of memory\n"),
     ];
-    for (outcome, line, status) in outcomes {
-        let mut e = ScriptOut::new(rt.alloc(), 100, 3, End::Fail)?;
-        assert_eq!(rt; finish(&outcome, &mut e), status, "{line}");
-        assert_eq!(rt; e.taken(), line.as_bytes(), "{line}");
-        let mut e = ScriptOut::new(rt.alloc(), 4, 3, End::Zero)?;
-        assert_eq!(rt; finish(&outcome, &mut e), status, "{line}");
+    for (fault, line) in &FAULTS {
+        assert_finished(&rt, &Outcome::Run(*fault), line, 2)?;
     }
     Ok(())
 }

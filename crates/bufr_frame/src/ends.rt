@@ -16,6 +16,7 @@ pub(crate) struct Ends {
     pub(crate) fourth: usize,
     ghost ordered: { (30 ≤ first) × (first ≤ second) × (second + 7 ≤ third) × (third + 4 ≤ fourth) },
     ghost near: { fourth < 2 ^ 34 },
+    ghost short: { fourth < third + 2 ^ 24 },
 }
 
 /// Where section `k` ends, which begins at `p` and has at least `least` octets.

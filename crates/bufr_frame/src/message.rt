@@ -39,7 +39,7 @@ pub struct Message<'a> {
 }
 
 impl<'a> Model for Message<'a> {
-    ghost use Rattle.std.specs.Prelude.{◌≤◌, ◌^◌, length};
+    ghost use Rattle.std.specs.Prelude.{◌<◌, ◌^◌, length};
     ghost use Rattle.std.specs.Option.{option_map};
     ghost use Rattle.bufr_frame.specs.Octets.{words};
     ghost use Rattle.bufr_frame.specs.Sections.{Sections};
@@ -58,7 +58,7 @@ impl<'a> Model for Message<'a> {
       size = length m.octets.now;
     } };
 
-    ghost invariant = { λ m. length m.payload.now ≤ 2 ^ 60 };
+    ghost invariant = { λ m. length m.payload.now < 2 ^ 24 };
 }
 
 /// What octet 8 of section 0 and octets 4 to 22 of section 1 say.
@@ -101,7 +101,7 @@ fn section2_of(m: &[u8], first: usize, second: usize) -> Option<&[u8]>
 }
 
 impl<'a> Message<'a> {
-    ghost use Rattle.std.specs.Prelude.{◌≡◌, ◌≤◌, length, slice_get};
+    ghost use Rattle.std.specs.Prelude.{◌≡◌, ◌≤◌, ◌<◌, ◌^◌, length, slice_get};
     ghost use Rattle.std.specs.Option.{option_map};
     ghost use Rattle.bufr_bits.specs.BitSlice.{octets_of};
     ghost use Rattle.bufr_frame.specs.Sections.{sections_of, parts};
@@ -206,9 +206,10 @@ impl<'a> Message<'a> {
         self.compressed
     }
 
-    /// The data and what pads them: section 4 from its octet 5 on.
+    /// The data and what pads them: section 4 from its octet 5 on, less than 2^24 octets.
     pub fn payload(&self) -> BitSlice<'a>
-        ensures { octets_of result ≡ self.now.payload }
+        ensures value { octets_of result ≡ self.now.payload }
+        ensures short { length self.now.payload < 2 ^ 24 }
     {
         BitSlice::new(self.payload)
     }

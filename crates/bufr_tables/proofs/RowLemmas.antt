@@ -37,7 +37,7 @@ width-allowed kind text width is =
     passed _ n width is (λ test same. subst (λ n. allows_width kind n ≡ true) same test)))
 
 -- a row that a record writes
-row-limits : (r : Record) (row : Row) → row_of r ≡ Some row → IsRow row
+pub row-limits : (r : Record) (row : Row) → row_of r ≡ Some row → IsRow row
 unfolding row_of
 row-limits r row is =
     option_and_then_some _ (element_of (field_of r 0)) row is (λ fxy fxy_is is.

@@ -13,8 +13,8 @@ use Rattle.bufr_walk.specs.Rules.{element_spec, factor_spec, inserted_spec}
 use Rattle.bufr_walk.specs.Turns.{Turns, finish, operator_turn, Rest, unroll, passes, pass_end}
 use Rattle.bufr_walk.specs.Course.{Next, take_next, refused, at_end, astray, Ahead, ahead, asked, operated, stop, Course, next_item, counts_of}
 use Rattle.bufr_walk.specs.Taking.{Turn, Takes}
-use Rattle.bufr_walk.specs.declared.walk.WalkStop.{WalkStop}
-use Rattle.bufr_walk.specs.declared.walk.WalkStop.TheVariants as stops
+use Rattle.bufr_walk.specs.declared.walking.WalkStop.{WalkStop}
+use Rattle.bufr_walk.specs.declared.walking.WalkStop.TheVariants as stops
 use Rattle.bufr_walk.specs.Walked.{oks, told_by, StopsAt, Walked}
 use Rattle.bufr_walk.specs.Ticks.{ticked}
 
@@ -193,7 +193,7 @@ module _ {S E : Type 0} (takes : S → Asked → Result Taken E → S → Type 0
 
   stop_keeps : (next : Next) (s : S) (why : WalkStop E) (s' : S) → StopsAt takes next s why s' → used s ≤ used s'
   stop_keeps (take_next spec) s (stops.Field e) s' h = omega (arith, refuses s spec e s' h)
-  stop_keeps (take_next spec) s stops.Memory s' h = omega (arith, advances s spec h.0 s' h.1)
+  stop_keeps (take_next spec) s stops.Memory s' h = omega (arith, ap used h.1)
   stop_keeps (take_next spec) s (stops.Width fxy) s' h = absurd h
   stop_keeps (take_next spec) s (stops.Defining fxy) s' h = absurd h
   stop_keeps at_end s why s' h = absurd h

@@ -18,25 +18,26 @@ use Rattle.bufr_walk.specs.Reading.{Form, plain, packed}
 unfoldable pub fxy : (f x y : ℕ) → ℕ
 fxy f x y = f * 16384 + (x * 256 + y)
 
-row : (f x y : ℕ) → Kind → (scale reference : ℤ) → (width : ℕ) → Row
+-- an element of the table, with no name and no unit
+listed : (f x y : ℕ) → Kind → (scale reference : ℤ) → (width : ℕ) → Row
 unfolding fxy
-row f x y k s r w = record { fxy = fxy f x y; name = []; unit = []; kind = k; scale = s; reference = r; width = w }
+listed f x y k s r w = record { fxy = fxy f x y; name = []; unit = []; kind = k; scale = s; reference = r; width = w }
 
 -- block, name, latitude, temperature, two figures (the second with a scale and a reference of its own), and class 31: factors, a figure and a letter
 unfoldable pub table : List Row
-unfolding row
+unfolding listed
 table =
-    row 0 1 1 kind.Numeric (pos 0) (pos 0) 7
-    ∷ row 0 1 15 kind.Character (pos 0) (pos 0) 160
-    ∷ row 0 5 2 kind.Numeric (pos 2) (negsuc 8999) 15
-    ∷ row 0 12 101 kind.Numeric (pos 2) (pos 0) 16
-    ∷ row 0 20 3 kind.Coded (pos 0) (pos 0) 9
-    ∷ row 0 20 4 kind.Coded (pos 1) (negsuc 2) 6
-    ∷ row 0 31 0 kind.Numeric (pos 0) (pos 0) 1
-    ∷ row 0 31 1 kind.Numeric (pos 0) (pos 0) 8
-    ∷ row 0 31 2 kind.Numeric (pos 0) (pos 0) 16
-    ∷ row 0 31 21 kind.Coded (pos 0) (pos 0) 6
-    ∷ row 0 31 250 kind.Character (pos 0) (pos 0) 8
+    listed 0 1 1 kind.Numeric (pos 0) (pos 0) 7
+    ∷ listed 0 1 15 kind.Character (pos 0) (pos 0) 160
+    ∷ listed 0 5 2 kind.Numeric (pos 2) (negsuc 8999) 15
+    ∷ listed 0 12 101 kind.Numeric (pos 2) (pos 0) 16
+    ∷ listed 0 20 3 kind.Coded (pos 0) (pos 0) 9
+    ∷ listed 0 20 4 kind.Coded (pos 1) (negsuc 2) 6
+    ∷ listed 0 31 0 kind.Numeric (pos 0) (pos 0) 1
+    ∷ listed 0 31 1 kind.Numeric (pos 0) (pos 0) 8
+    ∷ listed 0 31 2 kind.Numeric (pos 0) (pos 0) 16
+    ∷ listed 0 31 21 kind.Coded (pos 0) (pos 0) 6
+    ∷ listed 0 31 250 kind.Character (pos 0) (pos 0) 8
     ∷ []
 
 -- how a pass ended: with so many bits left, or at a fault of the walk or of a field

@@ -2,7 +2,7 @@
 use Rattle.std.proofs.Common.{◌≡◌, ℕ, zero, suc, true, List, [], ◌∷◌, pos, negsuc, refl}
 use Rattle.bufr_bits.specs.Bits.{bits_of}
 use Rattle.bufr_tables.specs.declared.kind.Kind.TheVariants as kind
-use Rattle.bufr_tables.specs.Tree.{Tree, bare, element, operator, fixed, delayed}
+use Rattle.bufr_tables.specs.Tree.{Tree, bare, element, operator, delayed}
 use Rattle.bufr_walk.specs.declared.spec.Refusal.TheVariants as refusal
 use Rattle.bufr_walk.specs.declared.spec.Role.TheVariants as role
 use Rattle.bufr_walk.specs.Asked.{Asked}
@@ -163,46 +163,6 @@ figures_take_a_reference = refl
 figures_never_missing : one (operator (fxy 2 1 132) (element (fxy 0 31 21) bare)) (252 ∷ []) ≡ gives ((7957, shown_number (pos 63) (pos 0)) ∷ []) (done 2 3)
 unfolding one gives fxy
 figures_never_missing = refl
-
--- changes of width, scale and precision add up, and touch no figure of a code table
-changes_together : one (operator (fxy 2 1 132) (operator (fxy 2 2 129) (operator (fxy 2 7 1) (element (fxy 0 5 2) (element (fxy 0 20 3) bare))))) (2 ∷ 190 ∷ 188 ∷ 5 ∷ [])
-    ≡ gives ((1282, shown_number (negsuc 49) (pos 4)) ∷ (5123, shown_number (pos 5) (pos 0)) ∷ []) (done 0 6)
-unfolding one gives fxy
-changes_together = refl
-
--- a redefined reference is multiplied under 2 07, and 2 03 000 drops it
-redefined_and_refined : one
-    (operator (fxy 2 3 10) (element (fxy 0 12 101) (operator (fxy 2 3 255) (operator (fxy 2 7 1) (element (fxy 0 12 101) (operator (fxy 2 3 0) (element (fxy 0 12 101) bare)))))))
-    (228 ∷ 17 ∷ 150 ∷ 101 ∷ 25 ∷ 102 ∷ 64 ∷ []) ≡ gives ((3173, shown_reference (negsuc 399)) ∷ (3173, shown_number (pos 284153) (pos 3)) ∷ (3173, shown_number (pos 288153) (pos 3)) ∷ []) (done 6 8)
-unfolding one gives fxy
-redefined_and_refined = refl
-
--- a given width goes before a changed text width, and makes a number of a text
-given_width_of_text : one (operator (fxy 2 8 3) (operator (fxy 2 6 16) (element (fxy 0 1 15) (element (fxy 0 1 15) bare)))) (65 ∷ 66 ∷ 67 ∷ 68 ∷ 69 ∷ [])
-    ≡ gives ((271, shown_number (pos 16706) (pos 0)) ∷ (271, shown_text (67 ∷ 68 ∷ 69 ∷ [])) ∷ []) (done 0 5)
-unfolding one gives fxy
-given_width_of_text = refl
-
--- with Table B's own width it is read by its entry alone
-given_own_width : one (operator (fxy 2 1 132) (operator (fxy 2 6 7) (element (fxy 0 1 1) bare))) (20 ∷ []) ≡ gives ((257, shown_number (pos 10) (pos 0)) ∷ []) (done 1 4)
-unfolding one gives fxy
-given_own_width = refl
-
--- a fixed group is passed through while references are being defined
-group_while_defining : one (operator (fxy 2 3 10) (fixed 2 (element (fxy 0 12 101) bare) (operator (fxy 2 3 255) bare))) (228 ∷ 57 ∷ 0 ∷ [])
-    ≡ gives ((3173, shown_reference (negsuc 399)) ∷ (3173, shown_reference (negsuc 399)) ∷ []) (done 4 8)
-unfolding one gives fxy
-group_while_defining = refl
-
--- a delayed one is refused at its factor
-factor_while_defining : one (operator (fxy 2 3 10) (delayed (fxy 0 31 1) (element (fxy 0 12 101) bare) bare)) (1 ∷ []) ≡ gives [] (walk_fault (refusal.Defining 7937) 8 3)
-unfolding one gives fxy
-factor_while_defining = refl
-
--- so is a change of width
-operator_while_defining : one (operator (fxy 2 3 10) (operator (fxy 2 1 132) (element (fxy 0 12 101) bare))) (1 ∷ []) ≡ gives [] (walk_fault (refusal.Defining 33156) 8 2)
-unfolding one gives fxy
-operator_while_defining = refl
 
 -- an inserted text of all ones is missing
 inserted_missing : one (operator (fxy 2 5 1) bare) (255 ∷ []) ≡ gives ((34049, shown_missing) ∷ []) (done 0 2)

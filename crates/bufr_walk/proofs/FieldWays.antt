@@ -1,5 +1,5 @@
 -- The ways over one field, and over an operator.
-use Rattle.std.proofs.Common.{◌≡◌, ℕ, ◌+◌, ◌*◌, ◌&&◌, append-nil, arith, List, [], ◌∷◌, Bool, true, false, Option, Some, None, Result, Ok, Err, refl, sym, ◌∙◌, ap, subst}
+use Rattle.std.proofs.Common.{◌≡◌, ℕ, ◌+◌, ◌*◌, ◌&&◌, append-nil, arith, List, [], ◌∷◌, Bool, true, false, Option, Some, None, Result, Ok, Err, refl, sym, ◌∙◌, ap, subst, ℤ}
 use Rattle.std.specs.Prelude.{◌==◌, nat_lt, nat_le, if◌then◌else◌}
 use Rattle.bufr_tables.specs.declared.kind.Kind.{Kind}
 use Rattle.bufr_tables.specs.declared.kind.Kind.TheVariants as kind
@@ -13,13 +13,13 @@ use Rattle.bufr_walk.specs.declared.spec.Role.{Role}
 use Rattle.bufr_walk.specs.declared.spec.Role.TheVariants as role
 use Rattle.bufr_walk.specs.declared.spec.Refusal.{Refusal}
 use Rattle.bufr_walk.specs.declared.spec.Refusal.TheVariants as refusal
-use Rattle.bufr_walk.specs.Asked.{Asked, IsFor, IsForRole}
+use Rattle.bufr_walk.specs.Asked.{Asked, IsFor, IsForRole, is_reference}
 use Rattle.bufr_walk.specs.Settings.{Settings, after_field, after_operator, is_defining}
 use Rattle.bufr_walk.specs.Rules.{element_spec, factor_spec, inserted_spec, fitting, by_kind, defined_by, defined_field, quantity, figure, text_of, text_width, given_by, listed_by, unsigned_of, unsigned_field, untouched, factor_by, factor_field}
 use Rattle.bufr_walk.specs.Turns.{finish, open_end, operator_turn, Rest, unroll, passes, turns_of}
 use Rattle.bufr_walk.specs.Course.{Course, Ahead, asked, operated, ahead, counts_of, counted, later, stop, at_end, refused}
-use Rattle.bufr_walk.specs.declared.walk.WalkStop.{WalkStop}
-use Rattle.bufr_walk.specs.declared.walk.WalkStop.TheVariants as stops
+use Rattle.bufr_walk.specs.declared.walking.WalkStop.{WalkStop}
+use Rattle.bufr_walk.specs.declared.walking.WalkStop.TheVariants as stops
 use Rattle.bufr_walk.specs.Walked.{told_by, StopsAt, Walked}
 use Rattle.bufr_walk.specs.Ways.{course, Goes, Stops, Took, Came, StopsIn}
 use Rattle.bufr_walk.specs.Stop.{stop_by}
@@ -96,6 +96,24 @@ is_count : (t : Taken) → IsForRole role.Factor t → ((n : ℕ) → t ≡ take
 is_count taken.Plain h never = h
 is_count (taken.Count n) h never = never n refl
 is_count (taken.Reference x) h never = h
+
+-- a field that is no reference leaves the references
+pub no_reference : (r : Role) (s : Settings) (fxy : ℕ) (t : Taken) → is_reference r ≡ false → IsForRole r t → record s { given = 0 } ≡ after_field s fxy t
+no_reference r s fxy taken.Plain e h = refl
+no_reference r s fxy (taken.Count n) e h = refl
+no_reference role.Element s fxy (taken.Reference x) e h = absurd h
+no_reference role.Inserted s fxy (taken.Reference x) e h = absurd h
+no_reference role.Factor s fxy (taken.Reference x) e h = absurd h
+no_reference role.Reference s fxy (taken.Reference x) e h = absurd cc
+
+-- a reference tells one
+pub tells_reference : (r : Role) (t : Taken) → is_reference r ≡ true → IsForRole r t → ((x : ℤ) → t ≡ taken.Reference x → ⊥) → ⊥
+tells_reference role.Element t e h never = absurd cc
+tells_reference role.Inserted t e h never = absurd cc
+tells_reference role.Factor t e h never = absurd cc
+tells_reference role.Reference taken.Plain e h never = h
+tells_reference role.Reference (taken.Count n) e h never = h
+tells_reference role.Reference (taken.Reference x) e h never = never x refl
 
 module _ {S E : Type 0} (takes : S → Asked → Result Taken E → S → Type 0) (table : List Row) where
   took_ok : (r : Result Asked Refusal) (f : S) (t : Taken) (f' : S) → Took takes r f (Ok t) f' → (spec : Asked) × (r ≡ Ok spec) × takes f spec (Ok t) f' × IsFor spec t

@@ -14,8 +14,8 @@ use Rattle.bufr_walk.specs.Settings.{Settings, begin, after_operator, after_fiel
 use Rattle.bufr_walk.specs.Rules.{element_spec, factor_spec, inserted_spec}
 use Rattle.bufr_walk.specs.Turns.{Rest, unroll, passes, turns_of}
 use Rattle.bufr_walk.specs.Course.{next_item}
-use Rattle.bufr_walk.specs.declared.walk.WalkStop.{WalkStop}
-use Rattle.bufr_walk.specs.declared.walk.Frame.{Frame}
+use Rattle.bufr_walk.specs.declared.walking.WalkStop.{WalkStop}
+use Rattle.bufr_walk.specs.declared.walking.Frame.{Frame}
 use Rattle.bufr_tables.specs.declared.template.cell.Cell.{Cell}
 use Rattle.bufr_tables.specs.declared.template.cell.Cell.TheVariants as cell
 use Rattle.bufr_tables.specs.Cells.{lay, IsLaid}

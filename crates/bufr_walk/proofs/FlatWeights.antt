@@ -4,7 +4,7 @@ use Rattle.std.proofs.lemmas.List.{drop-drop}
 use Rattle.bufr_tables.specs.Tree.{Tree, bare, element, operator, fixed, delayed, size}
 use Rattle.bufr_tables.specs.declared.template.cell.Cell.{Cell}
 use Rattle.bufr_tables.specs.declared.template.cell.Cell.TheVariants as cell
-use Rattle.bufr_walk.specs.declared.walk.Frame.{Frame}
+use Rattle.bufr_walk.specs.declared.walking.Frame.{Frame}
 use Rattle.bufr_tables.specs.Cells.{lay}
 use Rattle.bufr_walk.specs.Flat.{tail_of, costs, owed, Seen}
 

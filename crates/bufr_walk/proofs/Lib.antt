@@ -19,6 +19,7 @@ pub mod FlatWeights
 pub mod FlatTurns
 pub mod Bound
 pub mod PlainLemmas
+pub mod TextLemmas
 pub mod PackedLoops
 pub mod PackedContents
 pub mod PackedPlaces
@@ -33,5 +34,6 @@ pub mod PlainSubsets
 pub mod ReadingLemmas
 pub mod PackedHeld
 pub mod PackedShown
+pub mod ShownBounds
 pub mod ShownLemmas
 pub mod SubsetLemmas

@@ -1,5 +1,5 @@
 -- What a reading of compressed data is made of.
-use Rattle.std.proofs.Common.{◌≡◌, ◌≤◌, ◌*◌, ℕ, true, List, length, Vec, refl, sym, ◌∙◌, ap, subst}
+use Rattle.std.proofs.Common.{◌≡◌, ◌<◌, ◌≤◌, ◌*◌, ◌^◌, ℕ, true, List, length, Vec, refl, sym, ◌∙◌, ap, subst}
 use Rattle.std.specs.declared.alloc.Global.{Global}
 use Rattle.bufr_frame.specs.Sections.{Sections}
 use Rattle.bufr_tables.specs.TableB.{Row}
@@ -11,10 +11,11 @@ use Rattle.bufr_walk.specs.Course.{next_item}
 use Rattle.bufr_walk.specs.Kept.{AreKept, IsHeld}
 use Rattle.bufr_walk.specs.Outcome.{data_in, data_of, read_by, IsRead, IsReadingOf}
 use Rattle.bufr_walk.specs.Reading.{Item, together}
+use Rattle.bufr_walk.proofs.ReadingLemmas.{used_most}
 
-pub packed_held : (table : List Row) (template : Tree) (subsets : ℕ) (octets : List ℕ) (used steps : ℕ) (entries : Vec KeptItem Global) → (items : List (Item (List Content))) × IsRead (next_item table template) (data_in true subsets octets) (together items) used steps × AreKept (data_in true subsets octets) entries.items items → 7 * length entries.items ≤ used
+pub packed_held : (table : List Row) (template : Tree) (subsets : ℕ) (octets : List ℕ) (used steps : ℕ) (entries : Vec KeptItem Global) → (items : List (Item (List Content))) × IsRead (next_item table template) (data_in true subsets octets) (together items) used steps × AreKept (data_in true subsets octets) entries.items items → 7 * length entries.items ≤ used → length octets < 2 ^ 24
     → IsHeld (read_by table template (data_in true subsets octets) used (length entries.items)) (kept.Together entries)
-packed_held table template subsets octets used steps entries h few = record { values = together h.0; reading = h.1.0; keeps = h.2; few = few }
+packed_held table template subsets octets used steps entries h few short = record { values = together h.0; reading = h.1.0; keeps = h.2; few = few; pays = tt; short = used_most octets used short h.1.0.1 }
 
 -- the compressed data of a message
 pub packed_data_same : (m : Sections) (subsets : ℕ) (octets : List ℕ) → m.compressed ≡ true → subsets ≡ m.subsets → octets ≡ m.payload → data_in true subsets octets ≡ data_of m

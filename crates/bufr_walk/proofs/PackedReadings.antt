@@ -1,16 +1,17 @@
 -- A walk over compressed data reads them as the definition does.
-use Rattle.std.proofs.Common.{◌≡◌, ℕ, zero, suc, ◌+◌, ◌-◌, ◌*◌, ◌<◌, ◌≤◌, Bool, true, false, List, [], ◌∷◌, ◌++◌, length, drop, Some, Ok, Err, refl, sym, ◌∙◌, ap, subst, arith, append_assoc}
+use Rattle.std.proofs.Common.{◌≡◌, ◌⊎◌, inl, inr, ℕ, zero, suc, ◌+◌, ◌-◌, ◌*◌, ◌%◌, ◌<◌, ◌≤◌, Bool, true, false, List, [], ◌∷◌, ◌++◌, length, drop, Some, Ok, Err, refl, sym, ◌∙◌, ap, subst, arith, append_assoc}
 use Rattle.std.specs.Prelude.{nat_lt}
 use Rattle.std.specs.List.{list_all}
 use Rattle.std.proofs.lemmas.List.{length-drop, append-nil}
 use Rattle.std.proofs.lemmas.Bool.Decides.{nat_tests}
 use Rattle.std.proofs.Math.Nat.{mul-le-mul_left}
 use Rattle.bufr_walk.specs.declared.spec.Refusal.TheVariants as refusal
+use Rattle.bufr_walk.specs.declared.spec.Role.TheVariants as role
 use Rattle.bufr_walk.specs.declared.read_packed.KeptItem.{KeptItem}
 use Rattle.bufr_walk.specs.declared.packed_in.PackedFault.{PackedFault}
 use Rattle.bufr_walk.specs.declared.packed_in.PackedFault.TheVariants as wrong
-use Rattle.bufr_walk.specs.declared.walk.WalkStop.{WalkStop}
-use Rattle.bufr_walk.specs.declared.walk.WalkStop.TheVariants as stops
+use Rattle.bufr_walk.specs.declared.walking.WalkStop.{WalkStop}
+use Rattle.bufr_walk.specs.declared.walking.WalkStop.TheVariants as stops
 use Rattle.bufr_walk.specs.declared.fault.WalkFault.TheVariants as fault
 use Rattle.bufr_walk.specs.Asked.{Asked}
 use Rattle.bufr_walk.specs.Content.{Content}
@@ -21,7 +22,7 @@ use Rattle.bufr_walk.specs.Outcome.{IsRead, IsFault, IsRefused}
 use Rattle.bufr_walk.specs.PackedField.{packed_field}
 use Rattle.bufr_walk.specs.PackedIn.{items_at, stands_at, wrong_of, PackedCursor, packed_rest, item_with, IsPackedTaken, IsPackedWrong, PackedTakes, refuses_packed, packed_start, packed_fault}
 use Rattle.bufr_walk.specs.PlainField.{FieldFault, data_end, increment, unequal_factor}
-use Rattle.bufr_walk.specs.Reading.{Item, packed, Reads, ReadsAll, next_after, turns_after, after, most_values, Data, together, IsPackedReading, turns_together}
+use Rattle.bufr_walk.specs.Reading.{Item, packed, Reads, ReadsAll, next_after, turns_after, after, most_values, items_at_once, Data, together, IsPackedReading, turns_together}
 use Rattle.bufr_walk.specs.Refusal.{Stop, walk_stop, too_many, field_stop, field_stop_of, stop_at, ComesToTogether, would_be_many, IsPackedShort}
 use Rattle.bufr_walk.specs.Taking.{Turn, Takes}
 use Rattle.bufr_walk.specs.Ticks.{ticked}
@@ -163,9 +164,9 @@ module _ (n : ℕ) (course : Course) (bits : List Bool) (s : PackedCursor) (firs
     );
   }
 
-  short_so : (turns : List Turn) (mid : PackedCursor) (p : Passed n course s turns mid) (spec : Asked) → (course (told_by turns)).next ≡ take_next spec → mid.at ≤ length bits → length mid.items * n ≤ most_values → IsPackedShort n course bits (course (told_by turns)).turns
-  short_so turns mid p spec e within few =
-      (spec, packed_rest mid, length p.read, mid.at, subst (λ x. ComesToTogether n course bits (length p.read) mid.at (course (told_by turns)).turns x (packed_rest mid)) e (comes turns mid p within few))
+  short_so : (turns : List Turn) (mid : PackedCursor) (p : Passed n course s turns mid) (spec : Asked) → (course (told_by turns)).next ≡ take_next spec → mid.at ≤ length bits → length mid.items * n ≤ most_values → (length mid.items % items_at_once ≡ 0) ⊎ (spec.role ≡ role.Reference) → IsPackedShort n course bits (course (told_by turns)).turns
+  short_so turns mid p spec e within few why =
+      (spec, packed_rest mid, length p.read, mid.at, subst (λ x. ComesToTogether n course bits (length p.read) mid.at (course (told_by turns)).turns x (packed_rest mid)) e (comes turns mid p within few), subst (λ l. (l % items_at_once ≡ 0) ⊎ (spec.role ≡ role.Reference)) (ap length (all_items turns mid p)) why)
 
   -- a fault of the field
   field_so : (turns : List Turn) (mid : PackedCursor) (p : Passed n course s turns mid) (spec : Asked) (at c' : ℕ) (why : FieldFault) → (course (told_by turns)).next ≡ take_next spec → mid.at ≤ length bits → length mid.items * n ≤ most_values → at ≡ mid.at
@@ -213,14 +214,11 @@ module _ (n : ℕ) (course : Course) (bits : List Bool) (s : PackedCursor) (firs
       by : (why : WalkStop PackedFault) (next : Next) → (course (told_by w.0)).next ≡ next → StopsAt PackedTakes next w.1 why s' → IsFault course (packed_data n bits) (packed_fault why at) c'
       by (stops.Field (wrong.TooManyValues fxy)) (take_next spec) q h =
           ((course (told_by w.0)).turns, subst (λ f. IsRefused course (packed_data n bits) (fault.TooManyValues (spot 0 f at)) (course (told_by w.0)).turns) (sym h.0) (refused_so w.0 w.1 p (take_next spec) (too_many spec.fxy) at q (inside h.2) (room h.2) (place h.2) (ap (λ b. stop_at (packed n) b (take_next spec) (packed_rest w.1)) (many_so spec h.1))), ticks)
-      by (stops.Field wrong.Memory) (take_next spec) q h = ((course (told_by w.0)).turns, short_so w.0 w.1 p spec q (inside h) (room h), ticks)
+      by (stops.Field wrong.Memory) (take_next spec) q h = ((course (told_by w.0)).turns, short_so w.0 w.1 p spec q (inside h.0) (room h.0) (inl h.1), ticks)
       by (stops.Field (wrong.DataEnd fxy)) (take_next spec) q h = wrong_so spec (wrong.DataEnd fxy) q h.0 h.1
       by (stops.Field (wrong.Increment fxy)) (take_next spec) q h = wrong_so spec (wrong.Increment fxy) q h.0 h.1
       by (stops.Field (wrong.UnequalFactor fxy)) (take_next spec) q h = wrong_so spec (wrong.UnequalFactor fxy) q h.0 h.1
-      by stops.Memory (take_next spec) q h =
-          let t = h.1 in
-          let before : w.1.at ≤ length w.1.bits = subst (λ b. w.1.at ≤ length b) t.bits (omega (arith, within, t.forth)) in
-          ((course (told_by w.0)).turns, short_so w.0 w.1 p spec q (subst (λ b. w.1.at ≤ length b) (all_bits w.0 w.1 p) before) (one_less (length w.1.items) n most_values (subst (λ m. (length w.1.items + 1) * m ≤ most_values) p.subsets t.few)), ticks)
+      by stops.Memory (take_next spec) q h = ((course (told_by w.0)).turns, short_so w.0 w.1 p spec q (inside h.1) (room h.1) (inr h.0), ticks)
       by (stops.Width fxy) (take_next spec) q h = absurd h
       by (stops.Defining fxy) (take_next spec) q h = absurd h
       by why at_end q h = absurd h
@@ -239,7 +237,7 @@ module _ (n : ℕ) (course : Course) (bits : List Bool) (s : PackedCursor) (firs
 -- a refusal leaves the bits
 stop_bits : (next : Next) (mid s' : PackedCursor) (why : WalkStop PackedFault) → StopsAt PackedTakes next mid why s' → s'.bits ≡ mid.bits
 stop_bits (take_next spec) mid s' (stops.Field e) h = ap (λ x. x.bits) (refuses_packed mid spec e s' h)
-stop_bits (take_next spec) mid s' stops.Memory h = h.1.bits
+stop_bits (take_next spec) mid s' stops.Memory h = ap (λ x. x.bits) h.1
 stop_bits (take_next spec) mid s' (stops.Width fxy) h = absurd h
 stop_bits (take_next spec) mid s' (stops.Defining fxy) h = absurd h
 stop_bits at_end mid s' why h = absurd h

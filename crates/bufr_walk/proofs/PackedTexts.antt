@@ -1,8 +1,8 @@
 -- The texts of the subsets of a kept item, as they are shown.
-use Rattle.std.proofs.Common.{◌≡◌, ℕ, zero, suc, ◌+◌, ◌-◌, ◌*◌, ◌<◌, ◌≤◌, Bool, true, false, List, ◌∷◌, ◌++◌, length, take, drop, replicate, refl, sym, ◌∙◌, ap, arith}
+use Rattle.std.proofs.Common.{◌≡◌, ℕ, ◌+◌, ◌-◌, ◌*◌, ◌<◌, ◌≤◌, Bool, true, false, List, ◌++◌, length, take, drop, replicate, sym, ◌∙◌, ap, arith}
 use Rattle.std.specs.Prelude.{if◌then◌else◌, ◌/◌}
-use Rattle.std.proofs.lemmas.List.{drop-drop, drop-take, take-take}
-use Rattle.bufr_bits.specs.Bits.{bits_of, number_of, all_set}
+use Rattle.std.proofs.lemmas.List.{drop-drop}
+use Rattle.bufr_bits.specs.Bits.{bits_of, all_set}
 use Rattle.bufr_tables.specs.TableB.{is_character}
 use Rattle.bufr_walk.specs.declared.read_packed.KeptItem.{KeptItem}
 use Rattle.bufr_walk.specs.Calls.{content_at}
@@ -14,18 +14,7 @@ use Rattle.bufr_walk.specs.Content.{content_in}
 use Rattle.bufr_walk.specs.PlainIn.{Cursor, rest_of}
 use Rattle.bufr_walk.specs.Asked.{Asked}
 use Rattle.bufr_walk.proofs.PlainLemmas.{bits_length}
-
-two : (a b : ℕ) (xs ys : List ℕ) → a ≡ b → xs ≡ ys → a ∷ xs ≡ b ∷ ys
-two a b xs ys p q = ap (λ x. x ∷ xs) p ∙ ap (λ zs. b ∷ zs) q
-
-octets_front : (n : ℕ) (bits : List Bool) → octets_in n (take (8 * n) bits) ≡ octets_in n bits
-octets_front zero bits = refl
-octets_front (suc n) bits =
-    ap (λ k. octets_in (suc n) (take k bits)) (eight n)
-    ∙ two _ _ _ _ (ap number_of (take-take 8 (8 + 8 * n) bits (omega arith))) (ap (octets_in n) (drop-take 8 (8 * n) bits) ∙ octets_front n (drop 8 bits))
-  where
-    eight : (n : ℕ) → 8 * suc n ≡ 8 + 8 * n
-    eight n = omega arith
+use Rattle.bufr_walk.proofs.TextLemmas.{octets_front}
 
 -- a text as it is shown
 pub missing_text : (spec : Asked) (count k : ℕ) (bits : List Bool) → all_set (take (8 * k) bits) ≡ true → shown_missing ≡ shown spec (text_of count k (take (8 * k) bits))

@@ -7,6 +7,7 @@ use Rattle.bufr_walk.specs.declared.fault.WalkFault.TheVariants as fault
 use Rattle.bufr_walk.specs.Content.{Content}
 use Rattle.bufr_walk.specs.Course.{Course, Next, take_next}
 use Rattle.bufr_walk.specs.Fault.{fault_of, bits_before}
+use Rattle.bufr_walk.specs.Kept.{items_in}
 use Rattle.bufr_walk.specs.Outcome.{data_in, IsRead, IsFault, IsRefused}
 use Rattle.bufr_walk.specs.Passes.{PassComes, PassReads, PassStops, SubsetsRead}
 use Rattle.bufr_walk.specs.PlainIn.{Cursor, rest_of}
@@ -30,6 +31,10 @@ pub turns_more : (course : Course) (xs : List (List (Item Content))) (x : List (
 turns_more course [] x = omega arith
 turns_more course (y ∷ xs) x = omega (arith, turns_more course xs x)
 
+items_more : (xs : List (List (Item Content))) (x : List (Item Content)) → items_in (xs ++ x ∷ []) ≡ items_in xs + length x
+items_more [] x = omega arith
+items_more (y ∷ xs) x = omega (arith, items_more xs x)
+
 pub none_read : (n : ℕ) (course : Course) (bits : List Bool) (s : Cursor) (steps : ℕ) → s ≡ record { bits = bits; at = 0 } → steps ≡ 0 → SubsetsRead n course bits 0 s steps
 none_read n course bits s steps first e = record {
   subsets = [];
@@ -38,6 +43,7 @@ none_read n course bits s steps first e = record {
   ticks = e;
   same = ap (λ x. x.bits) first;
   few = omega (arith, e);
+  pays = omega arith;
   within = omega (arith, ap (λ x. x.at) first);
 }
 
@@ -51,6 +57,7 @@ one_more n course bits i s s' c c' h p few within forth =
       ticks = p.ticks ∙ ap (λ x. ticked x (turns_after plain course p.items)) h.ticks ∙ ticked_more (turns_in course h.subsets) (turns_after plain course p.items) ∙ ap (ticked 0) (sym (turns_more course h.subsets p.items));
       same = same;
       few = sums n s.at s'.at c c' h.few few forth;
+      pays = omega (arith, items_more h.subsets p.items, h.pays, p.pays);
       within = omega (arith, within, ap length same);
     }
   where
@@ -60,9 +67,9 @@ one_more n course bits i s s' c c' h p few within forth =
         split : (n a d b : ℕ) → b ≡ a + d → n * b ≡ n * a + n * d
         split n a d b e = ap (λ x. n * x) e ∙ grind arith
 
-pub all_read : (n : ℕ) (course : Course) (octets : List ℕ) (total : ℕ) (s : Cursor) (steps used : ℕ) → SubsetsRead n course (bits_of octets) total s steps → used ≡ s.at → (subsets : List (List (Item Content))) × IsRead course (data_in false total octets) (apart subsets) used steps
+pub all_read : (n : ℕ) (course : Course) (octets : List ℕ) (total : ℕ) (s : Cursor) (steps used : ℕ) → SubsetsRead n course (bits_of octets) total s steps → used ≡ s.at → (subsets : List (List (Item Content))) × IsRead course (data_in false total octets) (apart subsets) used steps × (items_in subsets ≤ used)
 all_read n course octets total s steps used h e =
-    (h.subsets, ((refl, omega (arith, e, h.within), (subst (λ z. ReadsSubsets course h.subsets (bits_of octets) z) (ap (drop s.at) h.same ∙ ap (λ k. drop k (bits_of octets)) (sym e)) h.whole, h.count_is)), h.ticks))
+    (h.subsets, ((refl, omega (arith, e, h.within), (subst (λ z. ReadsSubsets course h.subsets (bits_of octets) z) (ap (drop s.at) h.same ∙ ap (λ k. drop k (bits_of octets)) (sym e)) h.whole, h.count_is)), h.ticks), omega (arith, e, h.pays))
 
 pub few_read : (n : ℕ) (course : Course) (bits : List Bool) (total : ℕ) (s : Cursor) (steps used : ℕ) → SubsetsRead n course bits total s steps → used ≡ s.at → steps ≤ n * used
 few_read n course bits total s steps used h e = subst (λ k. steps ≤ n * k) (sym e) h.few
@@ -88,9 +95,6 @@ ticks_of n course bits i s s' c c' next h p = p.ticks ∙ ap (λ x. ticked x (tu
 here : (s : Cursor) (bits : List Bool) → s.bits ≡ bits → s.at ≤ length bits → s.at + length (rest_of s) ≡ length bits
 here s bits e h = omega (arith, length-drop s.at s.bits, ap length e, h)
 
-somewhere : (s : Cursor) (bits : List Bool) → s.bits ≡ bits → (length bits - length (rest_of s)) + length (rest_of s) ≡ length bits
-somewhere s bits e = omega (arith, length-drop s.at s.bits, ap length e)
-
 refused_so : (n : ℕ) (course : Course) (octets : List ℕ) (i total : ℕ) (s s' : Cursor) (c c' : ℕ) (next : Next) (stop : Stop) (why : WalkFault) (h : SubsetsRead n course (bits_of octets) i s c) (p : PassComes course s c next s' c') → i < total → s'.at ≤ length (bits_of octets) → stop_at plain false next (rest_of s') ≡ Some stop → why ≡ fault_of stop (i + 1) s'.at → (turns : ℕ) × IsRefused course (data_in false total octets) why turns × (c' ≡ ticked 0 turns)
 refused_so n course octets i total s s' c c' next stop why h p more within stops is = (
   turns_in course h.subsets + turns_after plain course p.items,
@@ -112,10 +116,10 @@ stopped n course octets i total s s' c c' why h more p within = by why p
 
     by : (why : WalkFault) → PassStops course s c (i + 1) why s' c' → IsFault course (data_in false total octets) why c'
     by fault.Memory p =
-        let m = p.2 in (
+        let m = p.1 in (
           turns_in course h.subsets + turns_after plain course m.items,
-          (p.0, rest_of p.1, i + 1, length (bits_of octets) - length (rest_of p.1), comes n course (bits_of octets) i total s p.1 c c' (length (bits_of octets) - length (rest_of p.1)) (take_next p.0) h m more (somewhere p.1 (bits_of octets) (m.same ∙ h.same)), p.3),
-          ticks_of n course (bits_of octets) i s p.1 c c' (take_next p.0) h m,
+          (p.0, rest_of s', i + 1, s'.at, comes n course (bits_of octets) i total s s' c c' s'.at (take_next p.0) h m more (here s' (bits_of octets) (m.same ∙ h.same) (inside (take_next p.0) m)), p.2),
+          ticks_of n course (bits_of octets) i s s' c c' (take_next p.0) h m,
         )
     by (fault.DataEnd f) p = refused_so n course octets i total s s' c c' p.0 p.1 (fault.DataEnd f) h p.2 more (inside p.0 p.2) p.3 p.4
     by (fault.Width f) p = refused_so n course octets i total s s' c c' p.0 p.1 (fault.Width f) h p.2 more (inside p.0 p.2) p.3 p.4
@@ -149,7 +153,7 @@ few_stopped n course bits i s s' c c' subset why h p few within forth = most (bi
     at_spot (field_stop f unequal_factor) = refl
 
     by : (why : WalkFault) → PassStops course s c subset why s' c' → s'.at ≤ bits_before why (length bits)
-    by fault.Memory p = omega (arith, within, ap length (p.4 ∙ h.same))
+    by fault.Memory p = omega (arith, within, ap length (p.1.same ∙ h.same))
     by (fault.DataEnd f) p = omega (arith, ap (λ w. bits_before w (length bits)) p.4, at_spot p.1)
     by (fault.Width f) p = omega (arith, ap (λ w. bits_before w (length bits)) p.4, at_spot p.1)
     by (fault.Defining f) p = omega (arith, ap (λ w. bits_before w (length bits)) p.4, at_spot p.1)

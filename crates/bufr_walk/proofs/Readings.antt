@@ -1,9 +1,9 @@
 -- A walk over bits reads them as the definition does.
-use Rattle.std.proofs.Common.{◌≡◌, ◌≤◌, ℕ, List, [], ◌∷◌, Result, Ok, Err, refl, sym, ◌∙◌, ap, subst, arith}
+use Rattle.std.proofs.Common.{◌≡◌, ◌≤◌, ◌+◌, ℕ, List, [], ◌∷◌, length, Result, Ok, Err, refl, sym, ◌∙◌, ap, subst, arith}
 use Rattle.bufr_walk.specs.declared.spec.Refusal.TheVariants as refusal
 use Rattle.bufr_walk.specs.declared.plain_in.DataEnd.{DataEnd}
-use Rattle.bufr_walk.specs.declared.walk.WalkStop.{WalkStop}
-use Rattle.bufr_walk.specs.declared.walk.WalkStop.TheVariants as stops
+use Rattle.bufr_walk.specs.declared.walking.WalkStop.{WalkStop}
+use Rattle.bufr_walk.specs.declared.walking.WalkStop.TheVariants as stops
 use Rattle.bufr_walk.specs.declared.fault.WalkFault.TheVariants as fault
 use Rattle.bufr_walk.specs.Content.{Content}
 use Rattle.bufr_walk.specs.Course.{Course, Next, take_next, at_end, astray, refused}
@@ -35,17 +35,23 @@ pub same_bits : (course : Course) (s : Cursor) (items : List Turn) (s' : Cursor)
 same_bits course s [] s' h = ap (λ x. x.bits) h
 same_bits course s (i ∷ items) s' h = same_bits (λ told. course (i.taken ∷ told)) h.0 items s' h.3 ∙ ap (λ x. x.bits) h.2.next
 
+-- each item takes a bit
+reads_paid : (course : Course) (s : Cursor) (items : List Turn) (s' : Cursor) (h : Takes (oks PlainTakes) course s items s') → s.at + length (reads course s items s' h).0 ≤ s'.at
+unfolding reads
+reads_paid course s [] s' h = omega (arith, ap (λ x. x.at) h)
+reads_paid course s (i ∷ items) s' h = omega (arith, h.2.some, ap (λ x. x.at) h.2.next, reads_paid (λ told. course (i.taken ∷ told)) h.0 items s' h.3)
+
 -- an accepted walk reads a subset
 pub pass_reads : (course : Course) (s s' : Cursor) (c c' : ℕ) → Walked PlainTakes course s c (Ok tt) s' c' → PassReads course s c s' c'
 pass_reads course s s' c c' w =
     let r = reads course s w.0 s' w.1 in
-    record { items = r.0; reads = r.1; next_is = sym (r.2 ∙ w.2); ticks = w.3 ∙ ap (ticked c) (sym r.3); same = same_bits course s w.0 s' w.1 }
+    record { items = r.0; reads = r.1; next_is = sym (r.2 ∙ w.2); ticks = w.3 ∙ ap (ticked c) (sym r.3); same = same_bits course s w.0 s' w.1; pays = reads_paid course s w.0 s' w.1 }
 
 -- a refused walk stops a reading
 pub pass_stops : (course : Course) (s s' : Cursor) (c c' subset at : ℕ) (why : WalkStop DataEnd) → at ≡ s'.at → Walked PlainTakes course s c (Err why) s' c' → PassStops course s c subset (fault_at why subset at) s' c'
 pass_stops course s s' c c' subset at why here w =
     let r = reads course s w.0 w.1 w.2 in
-    by why (course (told_by w.0)).next w.3 (record { items = r.0; reads = r.1; next_is = sym r.2; ticks = w.4 ∙ ap (ticked c) (sym r.3); same = same_bits course s w.0 w.1 w.2 })
+    by why (course (told_by w.0)).next w.3 (record { items = r.0; reads = r.1; next_is = sym r.2; ticks = w.4 ∙ ap (ticked c) (sym r.3); same = same_bits course s w.0 w.1 w.2; pays = reads_paid course s w.0 w.1 w.2 })
   where
     moved : (next : Next) (mid : Cursor) → s' ≡ mid → PassComes course s c next mid c' → PassComes course s c next s' c'
     moved next mid e p = subst (λ x. PassComes course s c next x c') (sym e) p
@@ -53,7 +59,7 @@ pass_stops course s s' c c' subset at why here w =
     by : (why : WalkStop DataEnd) (next : Next) → StopsAt PlainTakes next w.1 why s' → PassComes course s c next w.1 c' → PassStops course s c subset (fault_at why subset at) s' c'
     by (stops.Field e) (take_next spec) h p =
         (take_next spec, field_stop spec.fxy data_end, moved (take_next spec) w.1 h.2 p, ap (field_stop_of spec.fxy) (ap (λ x. plain_field spec (rest_of x)) h.2 ∙ h.0), ap fault.DataEnd (ap (λ f. spot subset f at) h.1 ∙ ap (λ b. spot subset spec.fxy b) here))
-    by stops.Memory (take_next spec) h p = (spec, w.1, p, h.2, ap (λ x. x.bits) h.1.next ∙ p.same)
+    by stops.Memory (take_next spec) h p = (spec, moved (take_next spec) w.1 h.1 p, h.0)
     by (stops.Width fxy) (take_next spec) h p = absurd h
     by (stops.Defining fxy) (take_next spec) h p = absurd h
     by why at_end h p = absurd h
@@ -76,7 +82,7 @@ takes_forth course s (i ∷ items) s' h = omega (arith, takes_forth (λ told. co
 
 stop_forth : (next : Next) (mid s' : Cursor) (why : WalkStop DataEnd) → StopsAt PlainTakes next mid why s' → mid.at ≤ s'.at
 stop_forth (take_next spec) mid s' (stops.Field e) h = omega (arith, ap (λ x. x.at) h.2)
-stop_forth (take_next spec) mid s' stops.Memory h = omega (arith, ap (λ x. x.at) h.1.next)
+stop_forth (take_next spec) mid s' stops.Memory h = omega (arith, ap (λ x. x.at) h.1)
 stop_forth (take_next spec) mid s' (stops.Width fxy) h = absurd h
 stop_forth (take_next spec) mid s' (stops.Defining fxy) h = absurd h
 stop_forth at_end mid s' why h = absurd h

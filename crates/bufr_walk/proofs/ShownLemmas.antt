@@ -1,7 +1,6 @@
 -- What a walk with a visitor shows.
-use Rattle.std.proofs.Common.{◌≡◌, ℕ, zero, suc, ◌+◌, ◌*◌, ◌/◌, ◌%◌, ◌<◌, ◌&&◌, Bool, true, false, List, [], ◌∷◌, ◌++◌, ◌⊎◌, inl, inr, length, take, drop, set, Option, Result, Ok, Err, ℤ, pos, ◌+ℤ◌, refl, sym, ◌∙◌, ap, subst, arith, add-one}
+use Rattle.std.proofs.Common.{◌≡◌, ℕ, ◌+◌, ◌/◌, ◌&&◌, Bool, true, false, List, [], ◌∷◌, ◌++◌, ◌⊎◌, inl, inr, length, take, drop, Option, Result, Ok, Err, ℤ, pos, ◌+ℤ◌, refl, sym, ◌∙◌, ap, subst}
 use Rattle.std.specs.Prelude.{nat_lt, if◌then◌else◌, None, option_map}
-use Rattle.std.proofs.lemmas.List.{drop-drop, drop-take, take-take, take_more_set}
 use Rattle.bufr_bits.specs.Bits.{number_of, all_set}
 use Rattle.bufr_tables.specs.declared.kind.Kind.{Kind}
 use Rattle.bufr_tables.specs.declared.kind.Kind.TheVariants as kind
@@ -9,6 +8,7 @@ use Rattle.bufr_tables.specs.Entry.{row_with}
 use Rattle.bufr_tables.specs.declared.table_b.Entry.{Entry}
 use Rattle.bufr_tables.specs.TableB.{Row, entry_of, is_character}
 use Rattle.bufr_walk.specs.declared.fault.ShowFault.{ShowFault}
+use Rattle.bufr_walk.specs.declared.fault.ShowFault.TheVariants as fault
 use Rattle.bufr_walk.specs.declared.show_plain.ShowStop.{ShowStop}
 use Rattle.bufr_walk.specs.declared.show_plain.ShowStop.TheVariants as stop
 use Rattle.bufr_walk.specs.declared.spec.Refusal.{Refusal}
@@ -16,8 +16,8 @@ use Rattle.bufr_walk.specs.declared.spec.Refusal.TheVariants as refusal
 use Rattle.bufr_walk.specs.declared.spec.Role.{Role}
 use Rattle.bufr_walk.specs.declared.spec.Role.TheVariants as role
 use Rattle.bufr_walk.specs.declared.spec.Taken.{Taken}
-use Rattle.bufr_walk.specs.declared.walk.WalkStop.{WalkStop}
-use Rattle.bufr_walk.specs.declared.walk.WalkStop.TheVariants as stops
+use Rattle.bufr_walk.specs.declared.walking.WalkStop.{WalkStop}
+use Rattle.bufr_walk.specs.declared.walking.WalkStop.TheVariants as stops
 use Rattle.bufr_walk.specs.Asked.{Asked, IsSpec, HasRole, HasMissing, is_reference}
 use Rattle.bufr_walk.specs.declared.visitor.Value.{Value}
 use Rattle.bufr_walk.specs.Seen.{seen_value}
@@ -102,48 +102,6 @@ pub text_shown : (spec : Asked) (bits : List Bool) (octets : List ℕ) → IsSpe
 text_shown spec bits octets h k e is =
     ap shown_text is
     ∙ sym (ap (shown spec) (value_by spec.role spec bits (text_role spec.role spec.kind spec.may_be_missing h.role k) ∙ ap (λ b. if b then missing else said_by spec.kind spec.width bits) (and_false (all_set bits) spec.may_be_missing e) ∙ said_text spec.kind spec.width bits k))
-
--- octets that are read one by one
-octets_next : (n : ℕ) (bits : List Bool) → octets_in (suc n) bits ≡ octets_in n bits ++ number_of (take 8 (drop (8 * n) bits)) ∷ []
-octets_next zero bits = refl
-octets_next (suc n) bits =
-    ap (λ os. number_of (take 8 bits) ∷ os) (octets_next n (drop 8 bits) ∙ ap (λ bs. octets_in n (drop 8 bits) ++ number_of (take 8 bs) ∷ []) (drop-drop (8 * n) 8 bits ∙ ap (λ k. drop k bits) (eight n)))
-  where
-    eight : (n : ℕ) → 8 + 8 * n ≡ 8 * suc n
-    eight n = omega arith
-
-octets_more : (n : ℕ) (bits : List Bool) → octets_in (n + 1) bits ≡ octets_in n bits ++ number_of (take 8 (drop (8 * n) bits)) ∷ []
-octets_more n bits = ap (λ k. octets_in k bits) (add-one n) ∙ octets_next n bits
-
-pub octet_put : (bits : List Bool) (at i octet : ℕ) (kept : List ℕ) → i < length kept → take i kept ≡ octets_in i (drop at bits) → octet ≡ number_of (take 8 (drop (at + 8 * i) bits)) → take (i + 1) (set kept i octet) ≡ octets_in (i + 1) (drop at bits)
-octet_put bits at i octet kept h so is =
-    take_more_set kept i octet h
-    ∙ ap (λ os. os ++ octet ∷ []) so
-    ∙ ap (λ o. octets_in i (drop at bits) ++ o ∷ []) (is ∙ ap (λ bs. number_of (take 8 bs)) (sym (drop-drop (8 * i) at bits)))
-    ∙ sym (octets_more i (drop at bits))
-
-two : (a b : ℕ) (xs ys : List ℕ) → a ≡ b → xs ≡ ys → a ∷ xs ≡ b ∷ ys
-two a b xs ys p q = ap (λ x. x ∷ xs) p ∙ ap (λ zs. b ∷ zs) q
-
-octets_front : (n : ℕ) (bits : List Bool) → octets_in n (take (8 * n) bits) ≡ octets_in n bits
-octets_front zero bits = refl
-octets_front (suc n) bits =
-    ap (λ k. octets_in (suc n) (take k bits)) (eight n)
-    ∙ two _ _ _ _ (ap number_of (take-take 8 (8 + 8 * n) bits (omega arith))) (ap (octets_in n) (drop-take 8 (8 * n) bits) ∙ octets_front n (drop 8 bits))
-  where
-    eight : (n : ℕ) → 8 * suc n ≡ 8 + 8 * n
-    eight n = omega arith
-
--- how many octets a text has
-pub whole_octets : (spec : Asked) → spec.width % 8 ≡ 0 → 8 * (spec.width / 8) ≡ spec.width
-whole_octets spec e = omega (arith, e)
-
--- the octets of a field of whole octets
-pub text_front : (spec : Asked) (bits : List Bool) → spec.width % 8 ≡ 0 → octets_in (spec.width / 8) (take spec.width bits) ≡ octets_in (spec.width / 8) bits
-text_front spec bits e = ap (λ w. octets_in (spec.width / 8) (take w bits)) (whole spec.width e) ∙ octets_front (spec.width / 8) bits
-  where
-    whole : (w : ℕ) → w % 8 ≡ 0 → w ≡ 8 * (w / 8)
-    whole w e = omega arith
 
 -- the view of a field
 pub view_seen : (fxy : ℕ) (e : Option Entry) (v : Value) (table : List Row) (spec : Asked) (content : Content) → fxy ≡ spec.fxy → option_map (row_with spec.fxy) e ≡ (if spec.listed then entry_of table spec.fxy else None) → seen_value v ≡ shown spec content → view fxy (option_map (row_with fxy) e) (seen_value v) ≡ view_of table spec content
@@ -235,7 +193,7 @@ module _ {V E : Type 0} (sees : V → Call → Result (Unit {0}) E → V → Typ
     stop_names : (next : Next) (s : S) (why : WalkStop (ShowStop E)) (s' : S) → StopsAt took next s why s' → ((on s').names ≡ (on s).names)
     stop_names (take_next spec) s (stops.Field stop.DataEnd) s' h = ap (λ x. x.names) h.1
     stop_names (take_next spec) s (stops.Field (stop.Visitor e)) s' h = h.names
-    stop_names (take_next spec) s stops.Memory s' h = h.1.names
+    stop_names (take_next spec) s stops.Memory s' h = ap (λ x. (on x).names) h.1
     stop_names (take_next spec) s (stops.Width f) s' h = absurd h
     stop_names (take_next spec) s (stops.Defining f) s' h = absurd h
     stop_names at_end s why s' h = absurd h
@@ -302,6 +260,18 @@ module _ {V E : Type 0} (sees : V → Call → Result (Unit {0}) E → V → Typ
           ticks_are ∙ ap (λ k. ticked k (course told).turns) now ∙ ticked_more before (course told).turns ∙ ap (λ a. ticked 0 (before + a.turns)) (sym e),
         )
 
+    -- a reference before which memory ran out
+    memory_here : (table : List Row) (course further : Course) (told : List Taken) (before c c' turns : ℕ) (rest : List (Item Content)) (left : List Bool) (more : List Timed) (spec : Asked) (why : ShowFault E) (mid s' : S) → further [] ≡ course told → (course told).next ≡ take_next spec → ReadsAll plain further rest (rest_of (on mid).cursor) left → why ≡ fault.Memory → spec.role ≡ role.Reference → s' ≡ mid
+        → c ≡ ticked 0 before → c' ≡ ticked c (course told).turns → Shows sees (on mid).visitor (item_calls table before further rest ++ more) turns (Err why) (on s').visitor c'
+    memory_here table course further told before c c' turns [] left more spec why mid s' e n r is kept same now ticks_are = absurd (no_item further spec (ap (λ a. a.next) e ∙ n) r.1)
+    memory_here table course further told before c c' turns (x ∷ xs) left more spec why mid s' e n r is kept same now ticks_are =
+        let next : take_next spec ≡ take_next x.spec = sym n ∙ sym (ap (λ a. a.next) e) ∙ r.0.1 in
+        let same_spec : spec ≡ x.spec = cc in
+        let there : plain_field spec (rest_of (on mid).cursor) ≡ Ok (found x.content r.0.0) = ap (λ z. plain_field z (rest_of (on mid).cursor)) same_spec ∙ r.0.2 in
+        ends_here table course further told before c c' turns (x ∷ xs) left more spec x.content r.0.0 why mid (on s').visitor e n r there
+        (subst (λ f. EndsAt sees (on mid).visitor (item_call (view_of table spec x.content)) f (on s').visitor) (sym is)
+        (ap (λ z. (on z).visitor) same, subst (λ z. IsKept (shown spec z)) (content_is spec (rest_of (on mid).cursor) r.0.0 x.content there) (reference_kept spec (take spec.width (rest_of (on mid).cursor)) kept))) now ticks_are
+
     pub all_ended : (table : List Row) (course : Course) (s : S) (c : ℕ) (why : WalkStop (ShowStop E)) (end : ShowFault E) (s' : S) (c' : ℕ) → (on s).table ≡ table → Walked took course s c (Err why) s' c' → IsEnd why end → ItemsEnded sees table course (on s).cursor (on s).visitor c end (on s').visitor c'
     all_ended table course s c why end s' c' t w is = record {
       ended = λ before all left more turns r now.
@@ -317,9 +287,7 @@ module _ {V E : Type 0} (sees : V → Call → Result (Unit {0}) E → V → Typ
             ends_here table course further (told_by w.0) before c c' turns rest left more spec h.is_taken.content (rest_of (past (on w.1).cursor spec)) end w.1 (on s').visitor e n r h.is_taken.field
             (subst (λ f. EndsAt sees (on w.1).visitor (item_call (view_of table spec h.is_taken.content)) f (on s').visitor) (sym is) (subst (λ rows. sees (on w.1).visitor (item_call (view_of rows spec h.is_taken.content)) (Err fault_is) (on s').visitor) rows h.call)) now w.4
         by before left more turns now rest further e r stops.Memory (take_next spec) n h is =
-            ends_here table course further (told_by w.0) before c c' turns rest left more spec h.1.is_taken.content (rest_of (on s').cursor) end w.1 (on s').visitor e n r h.1.is_taken.field
-            (subst (λ f. EndsAt sees (on w.1).visitor (item_call (view_of table spec h.1.is_taken.content)) f (on s').visitor) (sym is)
-            (subst (λ rows. sees (on w.1).visitor (item_call (view_of rows spec h.1.is_taken.content)) (Ok tt) (on s').visitor) rows h.1.call, subst (λ x. IsKept (shown spec x)) (content_is spec (rest_of (on w.1).cursor) (rest_of (on s').cursor) h.1.is_taken.content h.1.is_taken.field) (reference_kept spec (take spec.width (rest_of (on w.1).cursor)) h.2))) now w.4
+            memory_here table course further (told_by w.0) before c c' turns rest left more spec end w.1 s' e n r is h.0 h.1 now w.4
         by before left more turns now rest further e r (stops.Field stop.DataEnd) (take_next spec) n h is = absurd is
         by before left more turns now rest further e r (stops.Width f) next n h is = absurd is
         by before left more turns now rest further e r (stops.Defining f) next n h is = absurd is

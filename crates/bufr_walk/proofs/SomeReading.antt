@@ -4,14 +4,10 @@ use Rattle.std.specs.Prelude.{nat_lt, ◌==◌, if◌then◌else◌}
 use Rattle.std.proofs.lemmas.List.{drop-drop}
 use Rattle.std.proofs.lemmas.Bool.Decides.{nat_tests}
 use Rattle.bufr_tables.specs.Legal.{IsLegal}
-use Rattle.bufr_tables.specs.Records.{Record, field_of}
-use Rattle.bufr_tables.specs.TableB.{Row, AreRows, row_of, entry_of, allows_width, element_of, plain_of, scale_of, width_of, natural_part}
-use Rattle.bufr_tables.specs.declared.kind.Kind.{Kind}
-use Rattle.bufr_tables.specs.Kind.{kind_of}
-use Rattle.bufr_tables.specs.Number.{i64_of}
-use Rattle.bufr_tables.specs.Steps.{only_if}
-use Rattle.std.proofs.lemmas.Option.{option_and_then_some}
+use Rattle.bufr_tables.specs.Records.{Record}
+use Rattle.bufr_tables.specs.TableB.{Row, AreRows, row_of, entry_of, allows_width}
 use Rattle.bufr_tables.specs.Tree.{Tree}
+use Rattle.bufr_tables.proofs.RowLemmas.{row-limits}
 use Rattle.bufr_walk.specs.declared.fault.WalkFault.{WalkFault}
 use Rattle.bufr_walk.specs.Content.{Content}
 use Rattle.bufr_walk.specs.Course.{Course, Next, take_next, at_end, astray, refused, next_item}
@@ -221,35 +217,12 @@ decided : (course : Course) (compressed : Bool) (n : ℕ) (bits : List Bool) →
 decided course false n bits sane = plain_decided course n bits sane
 decided course true n bits sane = packed_decided course n bits sane
 
--- the width of a row that a record writes
-passed : {A P : Type 0} (test : Bool) (x y : A) → only_if test x ≡ Some y → (test ≡ true → x ≡ y → P) → P
-passed true x y is go = go refl (cc is)
-passed false x y is go = absurd (cc is)
-
-width_allowed : (k : Kind) (text : List ℕ) (width : ℕ) → width_of k text ≡ Some width → allows_width k width ≡ true
-unfolding width_of
-width_allowed k text width is =
-    option_and_then_some _ (i64_of text) width is (λ z read is.
-    option_and_then_some _ (natural_part z) width is (λ n part is.
-    passed _ n width is (λ test same. subst (λ n. allows_width k n ≡ true) same test)))
-
-written_width : (r : Record) (row : Row) → row_of r ≡ Some row → allows_width row.kind row.width ≡ true
-unfolding row_of
-written_width r row is =
-    option_and_then_some _ (element_of (field_of r 0)) row is (λ fxy fxy_is is.
-    option_and_then_some _ (plain_of (field_of r 1)) row is (λ name name_is is.
-    option_and_then_some _ (plain_of (field_of r 2)) row is (λ unit unit_is is.
-    option_and_then_some _ (scale_of (field_of r 3)) row is (λ scale scale_is is.
-    option_and_then_some _ (i64_of (field_of r 4)) row is (λ reference reference_is is.
-    option_and_then_some _ (width_of (kind_of unit) (field_of r 5)) row is (λ width width_is is.
-    passed _ _ row is (λ test same. subst (λ (z : Row). allows_width z.kind z.width ≡ true) same (width_allowed (kind_of unit) (field_of r 5) width width_is))))))))
-
 -- the widths of the rows that records write
 rows_within : (records : List Record) (table : List Row) → map row_of records ≡ map Some table → (fxy : ℕ) (row : Row) → entry_of table fxy ≡ Some row → allows_width row.kind row.width ≡ true
 rows_within records [] e fxy row q = absurd cc
 rows_within [] (first ∷ table) e fxy row q = absurd cc
 rows_within (r ∷ records) (first ∷ table) e fxy row q =
-    by (first.fxy == fxy) (written_width r first (front (row_of r) (map row_of records) first (map Some table) e)) (λ z. rows_within records table (others (row_of r) (map row_of records) first (map Some table) e) fxy row z) q
+    by (first.fxy == fxy) (row-limits r first (front (row_of r) (map row_of records) first (map Some table) e)).width (λ z. rows_within records table (others (row_of r) (map row_of records) first (map Some table) e) fxy row z) q
   where
     front : (o : Option Row) (os : List (Option Row)) (x : Row) (xs : List (Option Row)) → ◌≡◌ {A = List (Option Row)} (o ∷ os) (Some x ∷ xs) → o ≡ Some x
     front o os x xs e = cc

@@ -65,6 +65,15 @@ abbrev pub calls_of : Read → Values → List Timed
 calls_of r (apart subsets) = subset_calls r.table (course_of r) 0 1 subsets
 calls_of r (together items) = subsets_together r.table r.source.subsets 0 items
 
+-- how many of the calls are of items
+abbrev pub item_or_not : Call → ℕ
+item_or_not (subset_call number) = 0
+item_or_not (item_call item) = 1
+
+abbrev pub items_called : List Timed → ℕ
+items_called [] = 0
+items_called (t ∷ calls) = item_or_not t.call + items_called calls
+
 -- the turns of a showing; one of compressed data takes none
 abbrev pub turns_shown : Read → Values → ℕ
 turns_shown r (apart subsets) = turns_in (course_of r) subsets

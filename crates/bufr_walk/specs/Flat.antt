@@ -8,10 +8,10 @@ use Rattle.bufr_walk.specs.declared.spec.Taken.{Taken}
 use Rattle.bufr_walk.specs.Asked.{Asked}
 use Rattle.bufr_walk.specs.Settings.{Settings}
 use Rattle.bufr_walk.specs.Turns.{Rest, unroll, passes, pass_end}
-use Rattle.bufr_walk.specs.declared.walk.WalkStop.{WalkStop}
+use Rattle.bufr_walk.specs.declared.walking.WalkStop.{WalkStop}
 use Rattle.bufr_tables.specs.declared.template.cell.Cell.{Cell}
 use Rattle.bufr_tables.specs.declared.template.cell.Cell.TheVariants as cell
-use Rattle.bufr_walk.specs.declared.walk.Frame.{Frame}
+use Rattle.bufr_walk.specs.declared.walking.Frame.{Frame}
 use Rattle.bufr_tables.specs.Cells.{lay}
 use Rattle.bufr_walk.specs.Ways.{Came, StopsIn}
 use Rattle.bufr_walk.specs.Ticks.{ticked}

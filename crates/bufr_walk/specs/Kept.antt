@@ -1,13 +1,13 @@
 -- What a reading keeps of its items.
 -- Cited by private steps only.
-use Rattle.std.specs.Prelude.{ℕ, ◌≡◌, ◌≤◌, ◌*◌, true, List, length}
+use Rattle.std.specs.Prelude.{ℕ, ◌≡◌, ◌≤◌, ◌+◌, ◌*◌, true, List, [], ◌∷◌, length}
 use Rattle.std.specs.List.{list_all}
 use Rattle.bufr_walk.specs.declared.read_packed.KeptItem.{KeptItem}
 use Rattle.bufr_walk.specs.declared.reading.Kept.{Kept}
 use Rattle.bufr_walk.specs.declared.reading.Kept.TheVariants as kept
 use Rattle.bufr_walk.specs.Content.{Content}
 use Rattle.bufr_walk.specs.PackedIn.{items_at, stands_at}
-use Rattle.bufr_walk.specs.Reading.{Item, Data, Values, apart, together, IsReading}
+use Rattle.bufr_walk.specs.Reading.{Item, Data, Values, apart, together, IsReading, most_values}
 use Rattle.bufr_walk.specs.Outcome.{Read, course_of}
 
 -- one entry for each item of compressed data, which stands at the entry's place
@@ -26,9 +26,21 @@ KeepsValues kept.Apart d (together items) = ⊥
 KeepsValues (kept.Together entries) d (apart subsets) = ⊥
 KeepsValues (kept.Together entries) d (together items) = AreKept d entries.items items
 
+-- the items of all subsets
+abbrev pub items_in : List (List (Item Content)) → ℕ
+items_in [] = 0
+items_in (items ∷ subsets) = length items + items_in subsets
+
+-- an item of one subset takes at least a bit
+abbrev pub PaysBits : Values → (used : ℕ) → Type 0
+PaysBits (apart subsets) used = items_in subsets ≤ used
+PaysBits (together items) used = Unit {0}
+
 -- a reading, and what is kept of it: each item that is kept took at least 7 bits
 pub record IsHeld (r : Read) (k : Kept) : Type 0 where
   pub values : Values
   pub reading : IsReading (course_of r) r.source values r.bits
   pub keeps : KeepsValues k r.source values
   pub few : 7 * held_of k ≤ r.bits
+  pub pays : PaysBits values r.bits
+  pub short : r.bits ≤ most_values

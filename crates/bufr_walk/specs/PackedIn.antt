@@ -1,14 +1,14 @@
 -- Fields that are read from bits, for compressed data: each item once for all subsets.
 -- Cited by public contracts.
-use Rattle.std.specs.Prelude.{ℕ, ◌≡◌, ◌≤◌, ◌<◌, ◌+◌, ◌*◌, ◌==◌, ◌&&◌, Bool, true, false, List, [], ◌∷◌, ◌++◌, length, take, drop, Result, Ok, Err}
+use Rattle.std.specs.Prelude.{ℕ, ◌≡◌, ◌≤◌, ◌<◌, ◌+◌, ◌-◌, ◌*◌, ◌/◌, ◌%◌, ◌==◌, ◌&&◌, Bool, true, false, List, [], ◌∷◌, ◌++◌, length, take, drop, Result, Ok, Err}
 use Rattle.std.specs.List.{list_all}
 use Rattle.bufr_bits.specs.Bits.{number_of}
 use Rattle.bufr_walk.specs.declared.spec.Taken.{Taken}
 use Rattle.bufr_walk.specs.declared.read_packed.KeptItem.{KeptItem}
 use Rattle.bufr_walk.specs.declared.packed_in.PackedFault.{PackedFault}
 use Rattle.bufr_walk.specs.declared.packed_in.PackedFault.TheVariants as wrong
-use Rattle.bufr_walk.specs.declared.walk.WalkStop.{WalkStop}
-use Rattle.bufr_walk.specs.declared.walk.WalkStop.TheVariants as stops
+use Rattle.bufr_walk.specs.declared.walking.WalkStop.{WalkStop}
+use Rattle.bufr_walk.specs.declared.walking.WalkStop.TheVariants as stops
 use Rattle.bufr_walk.specs.declared.fault.WalkFault.{WalkFault}
 use Rattle.bufr_walk.specs.declared.fault.WalkFault.TheVariants as fault
 use Rattle.bufr_walk.specs.Fault.{spot}
@@ -16,7 +16,7 @@ use Rattle.bufr_walk.specs.Asked.{Asked}
 use Rattle.bufr_walk.specs.Content.{Content}
 use Rattle.bufr_walk.specs.PlainField.{FieldFault, data_end, increment, unequal_factor, Found, found}
 use Rattle.bufr_walk.specs.PackedField.{packed_field, told_first}
-use Rattle.bufr_walk.specs.Reading.{Item, most_values}
+use Rattle.bufr_walk.specs.Reading.{Item, most_values, items_at_once}
 
 -- bits, how many of them were read, for how many subsets, and the items that were read
 pub record PackedCursor : Type 0 where
@@ -63,13 +63,18 @@ stands_at bits n e =
 abbrev pub packed_view : (bits : List Bool) (at subsets : ℕ) → List KeptItem → PackedCursor
 packed_view bits at n kept = record { bits = bits; at = at; subsets = n; items = items_at bits n kept }
 
+-- the room for entries, once room was made for the last of them
+abbrev pub room_for : (entries : ℕ) → ℕ
+room_for entries = (entries + (items_at_once - 1)) / items_at_once * items_at_once
+
 -- what the reader keeps: each item has at least a bit and the six of its k
-pub record IsPackedIn (bits : List Bool) (at subsets : ℕ) (kept : List KeptItem) : Type 0 where
+pub record IsPackedIn (bits : List Bool) (at subsets : ℕ) (kept : List KeptItem) (room : ℕ) : Type 0 where
   pub within : at ≤ length bits
   pub some : 1 ≤ subsets
   pub few : length kept * subsets ≤ most_values
   pub held : 7 * length kept ≤ at
   pub stand : list_all (stands_at bits subsets) kept ≡ true
+  pub has_room : room_for (length kept) ≤ room
 
 -- the fault of a field with this descriptor
 abbrev pub wrong_of : (fxy : ℕ) → FieldFault → PackedFault
@@ -95,17 +100,17 @@ pub record IsPackedWrong (s : PackedCursor) (spec : Asked) (e : PackedFault) : T
   pub field : packed_field s.subsets spec (packed_rest s) ≡ Err why
   pub fault : e ≡ wrong_of spec.fxy why
 
--- One call: an item was read and kept, or there would be too many values, or it is at fault, or memory ran out; then nothing is changed.
+-- One call: an item was read and kept, or there would be too many values, or it is at fault, or memory for so many items more ran out; then nothing is changed.
 abbrev pub PackedTakes : PackedCursor → Asked → Result Taken PackedFault → PackedCursor → Type 0
 PackedTakes s spec (Ok t) s' = IsPackedTaken s spec t s'
 PackedTakes s spec (Err (wrong.TooManyValues fxy)) s' = (fxy ≡ spec.fxy) × (most_values < (length s.items + 1) * s.subsets) × (s' ≡ s)
-PackedTakes s spec (Err wrong.Memory) s' = s' ≡ s
+PackedTakes s spec (Err wrong.Memory) s' = (s' ≡ s) × (length s.items % items_at_once ≡ 0)
 PackedTakes s spec (Err e) s' = IsPackedWrong s spec e × (s' ≡ s)
 
 -- a refusal changes nothing
 pub refuses_packed : (s : PackedCursor) (spec : Asked) (e : PackedFault) (s' : PackedCursor) → PackedTakes s spec (Err e) s' → s' ≡ s
 refuses_packed s spec (wrong.TooManyValues fxy) s' h = h.2
-refuses_packed s spec wrong.Memory s' h = h
+refuses_packed s spec wrong.Memory s' h = h.0
 refuses_packed s spec (wrong.DataEnd fxy) s' h = h.1
 refuses_packed s spec (wrong.Increment fxy) s' h = h.1
 refuses_packed s spec (wrong.UnequalFactor fxy) s' h = h.1

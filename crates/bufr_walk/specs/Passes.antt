@@ -1,6 +1,6 @@
 -- One pass over data that are not compressed, by what it read.
 -- Cited by private steps only.
-use Rattle.std.specs.Prelude.{ℕ, ◌≡◌, ◌≤◌, ◌*◌, false, Bool, List, length, Some}
+use Rattle.std.specs.Prelude.{ℕ, ◌≡◌, ◌≤◌, ◌+◌, ◌*◌, false, Bool, List, length, Some}
 use Rattle.bufr_walk.specs.declared.fault.WalkFault.{WalkFault}
 use Rattle.bufr_walk.specs.declared.fault.WalkFault.TheVariants as fault
 use Rattle.bufr_walk.specs.declared.spec.Role.TheVariants as role
@@ -8,6 +8,7 @@ use Rattle.bufr_walk.specs.Asked.{Asked}
 use Rattle.bufr_walk.specs.Content.{Content}
 use Rattle.bufr_walk.specs.Course.{Course, Next, take_next, at_end}
 use Rattle.bufr_walk.specs.Fault.{fault_of}
+use Rattle.bufr_walk.specs.Kept.{items_in}
 use Rattle.bufr_walk.specs.PlainIn.{Cursor, rest_of}
 use Rattle.bufr_walk.specs.Reading.{Item, plain, Reads, next_after, turns_after, turns_in, ReadsSubsets}
 use Rattle.bufr_walk.specs.Refusal.{Stop, stop_at}
@@ -20,6 +21,7 @@ pub record PassComes (course : Course) (s : Cursor) (steps : ℕ) (next : Next) 
   pub next_is : next ≡ next_after plain course items
   pub ticks : steps' ≡ ticked steps (turns_after plain course items)
   pub same : s'.bits ≡ s.bits
+  pub pays : s.at + length items ≤ s'.at
 
 -- the whole of a subset was read
 abbrev pub PassReads : Course → Cursor → (steps : ℕ) → Cursor → (steps' : ℕ) → Type 0
@@ -28,7 +30,7 @@ PassReads course s steps s' steps' = PassComes course s steps at_end s' steps'
 -- what comes next cannot be read, or, where it is a reference, cannot be kept
 abbrev pub PassStops : Course → Cursor → (steps subset : ℕ) → WalkFault → Cursor → (steps' : ℕ) → Type 0
 PassStops course s steps subset fault.Memory s' steps' =
-    (spec : Asked) × (mid : Cursor) × PassComes course s steps (take_next spec) mid steps' × (spec.role ≡ role.Reference) × (s'.bits ≡ s.bits)
+    (spec : Asked) × PassComes course s steps (take_next spec) s' steps' × (spec.role ≡ role.Reference)
 PassStops course s steps subset why s' steps' =
     (next : Next) × (stop : Stop) × PassComes course s steps next s' steps' × (stop_at plain false next (rest_of s') ≡ Some stop) × (why ≡ fault_of stop subset s'.at)
 
@@ -40,4 +42,5 @@ pub record SubsetsRead (n : ℕ) (course : Course) (bits : List Bool) (count : �
   pub ticks : steps ≡ ticked 0 (turns_in course subsets)
   pub same : s.bits ≡ bits
   pub few : steps ≤ n * s.at
+  pub pays : items_in subsets ≤ s.at
   pub within : s.at ≤ length bits

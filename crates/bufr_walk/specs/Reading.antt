@@ -69,6 +69,10 @@ ReadsSubsets course (items ∷ subsets) bits behind =
 abbrev pub most_values : ℕ
 most_values = 134217728
 
+-- for so many items of compressed data there is room at once (a choice of this project)
+abbrev pub items_at_once : ℕ
+items_at_once = 64
+
 -- compressed data: one pass for all subsets; with no subset nothing is read
 abbrev pub IsPackedReading : (subsets : ℕ) → Course → List (Item (List Content)) → (bits behind : List Bool) → Type 0
 IsPackedReading zero course items bits behind = (items ≡ []) × (bits ≡ behind)

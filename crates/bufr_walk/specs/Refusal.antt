@@ -1,13 +1,13 @@
 -- Why data cannot be read, and where (the order of the faults at one item is a choice of this project).
 -- Cited by public contracts.
-use Rattle.std.specs.Prelude.{ℕ, ◌≡◌, ◌+◌, ◌*◌, ◌≤◌, nat_lt, Bool, true, false, List, length, Option, Some, None, Result, Ok, Err}
+use Rattle.std.specs.Prelude.{ℕ, ◌≡◌, ◌⊎◌, ◌+◌, ◌*◌, ◌%◌, ◌≤◌, nat_lt, Bool, true, false, List, length, Option, Some, None, Result, Ok, Err}
 use Rattle.bufr_walk.specs.declared.spec.Refusal.{Refusal}
 use Rattle.bufr_walk.specs.declared.spec.Role.TheVariants as role
 use Rattle.bufr_walk.specs.Asked.{Asked}
 use Rattle.bufr_walk.specs.Course.{Course, Next, take_next, refused}
 use Rattle.bufr_walk.specs.Content.{Content}
 use Rattle.bufr_walk.specs.PlainField.{FieldFault, Found}
-use Rattle.bufr_walk.specs.Reading.{Item, Form, plain, packed, Reads, next_after, turns_after, turns_in, ReadsSubsets, most_values}
+use Rattle.bufr_walk.specs.Reading.{Item, Form, plain, packed, Reads, next_after, turns_after, turns_in, ReadsSubsets, most_values, items_at_once}
 
 -- why a reading stops: the walk is refused, there would be too many values, or a field cannot be read
 pub data Stop : Type 0 where
@@ -70,7 +70,8 @@ abbrev pub IsPlainShort : (subsets : ℕ) → Course → List Bool → (turns : 
 IsPlainShort subsets course bits turns =
     (spec : Asked) × (left : List Bool) × (subset : ℕ) × (before : ℕ) × ComesTo subsets course bits subset before turns (take_next spec) left × (spec.role ≡ role.Reference)
 
--- of compressed data, at any item
+-- of compressed data also at an item for which room has to be made, one of 64
 abbrev pub IsPackedShort : (subsets : ℕ) → Course → List Bool → (turns : ℕ) → Type 0
 IsPackedShort subsets course bits turns =
     (spec : Asked) × (left : List Bool) × (items_before : ℕ) × (before : ℕ) × ComesToTogether subsets course bits items_before before turns (take_next spec) left
+    × ((items_before % items_at_once ≡ 0) ⊎ (spec.role ≡ role.Reference))

@@ -19,12 +19,12 @@ abbrev pub NeedsMemory : Call → Type 0
 NeedsMemory (subset_call number) = ⊥
 NeedsMemory (item_call item) = IsKept item.value
 
--- one call, and how it ends a showing: the visitor refuses it, or memory runs out behind it
+-- one call, and how it ends a showing: the visitor refuses it, or memory runs out before it is made
 abbrev pub EndsAt : {S E : Type 0} → (S → Call → Result (Unit {0}) E → S → Type 0) → S → Call → ShowFault E → S → Type 0
 EndsAt sees s call (fault.Visitor e) s' = sees s call (Err e) s'
-EndsAt sees s call fault.Memory s' = sees s call (Ok tt) s' × NeedsMemory call
+EndsAt sees s call fault.Memory s' = (s' ≡ s) × NeedsMemory call
 
--- the calls that were made: all of them at Ok, else some first ones; the steps are the turns up to the last of them
+-- the calls that were made: all of them at Ok, else some first ones; the steps are the turns up to the one that ends it
 abbrev pub Shows : {S E : Type 0} → (S → Call → Result (Unit {0}) E → S → Type 0) → S → List Timed → (turns : ℕ) → Result (Unit {0}) (ShowFault E) → S → (steps : ℕ) → Type 0
 Shows sees s [] turns (Ok _) s' steps = (s' ≡ s) × (steps ≡ ticked 0 turns)
 Shows sees s [] turns (Err why) s' steps = ⊥

@@ -6,8 +6,8 @@ use Rattle.bufr_walk.specs.declared.spec.Role.TheVariants as role
 use Rattle.bufr_walk.specs.Asked.{Asked}
 use Rattle.bufr_walk.specs.Course.{Course, Next, take_next, at_end, refused}
 use Rattle.bufr_walk.specs.Taking.{Turn, Takes}
-use Rattle.bufr_walk.specs.declared.walk.WalkStop.{WalkStop}
-use Rattle.bufr_walk.specs.declared.walk.WalkStop.TheVariants as stops
+use Rattle.bufr_walk.specs.declared.walking.WalkStop.{WalkStop}
+use Rattle.bufr_walk.specs.declared.walking.WalkStop.TheVariants as stops
 use Rattle.bufr_walk.specs.Stop.{stop_by}
 use Rattle.bufr_walk.specs.Ticks.{ticked}
 
@@ -20,10 +20,10 @@ abbrev pub told_by : List Turn → List Taken
 told_by [] = []
 told_by (i ∷ items) = i.taken ∷ told_by items
 
--- what stopped a walk where this comes next
+-- what stopped a walk where this comes next; memory may run out before a reference is taken
 abbrev pub StopsAt : {S E : Type 0} → (S → Asked → Result Taken E → S → Type 0) → Next → S → WalkStop E → S → Type 0
 StopsAt takes (take_next spec) s (stops.Field e) s' = takes s spec (Err e) s'
-StopsAt takes (take_next spec) s stops.Memory s' = (t : Taken) × takes s spec (Ok t) s' × (spec.role ≡ role.Reference)
+StopsAt takes (take_next spec) s stops.Memory s' = (spec.role ≡ role.Reference) × (s' ≡ s)
 StopsAt takes (refused why) s w s' = (w ≡ stop_by why) × (s' ≡ s)
 StopsAt takes _ s _ s' = ⊥
 

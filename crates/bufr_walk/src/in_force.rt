@@ -1,5 +1,5 @@
 // What the operators have set, and how a field is read under it.
-ghost use Rattle.std.specs.Prelude.{◌≡◌, ◌≤◌, ◌<◌, ◌*◌, ◌+◌, ◌^◌, ◌+ℤ◌, ◌*ℤ◌, if◌then◌else◌, ◌==◌, pos, unsigned_abs, length, Result, Ok, Err, Some, OnOk, OnErr, IfOk, IfErr, true, false, [], ◌∷◌};
+ghost use Rattle.std.specs.Prelude.{◌≡◌, ◌≤◌, ◌<◌, ◌*◌, ◌+◌, ◌^◌, ◌+ℤ◌, ◌*ℤ◌, if◌then◌else◌, ◌==◌, pos, unsigned_abs, length, Result, Ok, Err, Some, OnOk, OnErr, IfOk, IfErr, true, false, [], ◌∷◌, vec_len, vec_capacity};
 ghost use Rattle.bufr_tables.specs.Entry.{row_with};
 ghost use Rattle.bufr_tables.specs.Operators.{is_legal_operator};
 ghost use Rattle.bufr_tables.specs.TableB.{IsRow, entry_of, is_character};
@@ -10,9 +10,11 @@ ghost use Rattle.bufr_walk.specs.InForce.{AreOperands, latest, set_by};
 ghost use Rattle.bufr_walk.specs.declared.in_force.Operands.{Operands};
 ghost use Rattle.bufr_tables.specs.declared.kind.Kind.TheVariants as kinds;
 
+use crate::fields::Fields;
 use crate::spec::{Refusal, Role, Spec, Taken};
+use crate::walking::WalkStop;
 use bufr_tables::{Entry, Fxy, Kind, TableB};
-use std::alloc::{AllocError, Global};
+use std::alloc::Global;
 use std::marker::Model;
 
 /// The operand of each operator in force, 0 where none is.
@@ -67,13 +69,15 @@ impl Model for InForce {
     ghost invariant = { λ a. AreOperands a.operands };
 }
 
-/// Keeps a reference that the data gave.
-#[tactic(auto, using(crate::proofs::SpecLemmas::latest_more))]
-fn redefine(redefined: &mut Vec<Redefinition>, fxy: Fxy, reference: i64) -> Result<(), AllocError>
-    ensures { OnOk result (latest redefined.new.items ≡ record { fxy = fxy; reference = reference } ∷ latest redefined.old.items) }
+/// Keeps a reference that the data gave, for which there is room.
+fn redefine(redefined: &mut Vec<Redefinition>, fxy: Fxy, reference: i64)
+    requires { vec_len redefined.old < vec_capacity redefined.old }
+    ensures { latest redefined.new.items ≡ record { fxy = fxy; reference = reference } ∷ latest redefined.old.items }
 {
-    redefined.push(Redefinition { fxy, reference })?;
-    Ok(())
+    match redefined.push(Redefinition { fxy, reference }) {
+        Ok(()) => {}
+        Err(_) => unreachable!(),
+    }
 }
 
 /// The latest reference of an element, or the listed one.
@@ -99,6 +103,7 @@ fn told(given: &Redefinition) -> i64
 }
 
 /// A width with the changes in force.
+#[inline(always)]
 fn widened(width: u32, refined: u8, widened: u8) -> u32
     requires { width ≤ 2040 }
     ensures { result ≡ changed_width width (extra_bits refined) widened }
@@ -112,6 +117,7 @@ fn widened(width: u32, refined: u8, widened: u8) -> u32
 }
 
 /// A change by Y - 128, where one is in force.
+#[inline(always)]
 fn change(rescaled: u8) -> i16
     ensures value { result ≡ change_of rescaled }
     ensures few { unsigned_abs result ≤ 128 }
@@ -124,6 +130,7 @@ fn change(rescaled: u8) -> i16
 }
 
 /// A scale with the changes in force.
+#[inline(always)]
 fn rescaled(scale: i16, change: i16, refined: u8) -> i16
     requires scale { unsigned_abs scale ≤ 127 }
     requires change { unsigned_abs change ≤ 128 }
@@ -146,6 +153,7 @@ fn power_of_ten(refined: u8) -> u64
 
 /// A reference with the changes in force.
 #[tactic(auto, using(crate::proofs::SpecLemmas::product_small))]
+#[inline(always)]
 fn scaled(reference: i64, refined: u8) -> i128
     requires { refined ≤ 18 }
     ensures value { result ≡ reference *ℤ pos (10 ^ refined) }
@@ -155,6 +163,7 @@ fn scaled(reference: i64, refined: u8) -> i128
 }
 
 /// A number in a quantity's unit.
+#[inline(always)]
 fn quantity(
     operands: Operands,
     redefined: &[Redefinition],
@@ -179,6 +188,7 @@ fn quantity(
 }
 
 /// A figure of a code table.
+#[inline(always)]
 fn figure(redefined: &[Redefinition], fxy: Fxy, entry: &Entry<'_>) -> Result<Spec, Refusal>
     requires row { IsRow (row_with fxy entry.now) }
     ensures { (operands : Operands) → result ≡ fitting (figure (set_by operands redefined.now) (row_with fxy entry.now)) }
@@ -197,6 +207,7 @@ fn figure(redefined: &[Redefinition], fxy: Fxy, entry: &Entry<'_>) -> Result<Spe
 }
 
 /// The width of a text element.
+#[inline(always)]
 fn lettered(width: u32, lettered: u8) -> u32
     ensures { result ≡ (if lettered == 0 then width else 8 * lettered) }
 {
@@ -208,6 +219,7 @@ fn lettered(width: u32, lettered: u8) -> u32
 }
 
 /// An element by its row.
+#[inline(always)]
 fn by_kind(
     operands: Operands,
     redefined: &[Redefinition],
@@ -231,6 +243,7 @@ fn by_kind(
 }
 
 /// An element whose reference is being defined.
+#[inline(always)]
 fn defined(defining: u8, fxy: Fxy, kind: Kind) -> Result<Spec, Refusal>
     ensures { (s : Settings) → s.defining ≡ defining → result ≡ defined_by kind s fxy }
 {
@@ -250,6 +263,7 @@ fn defined(defining: u8, fxy: Fxy, kind: Kind) -> Result<Spec, Refusal>
 }
 
 /// An unsigned number of a given width.
+#[inline(always)]
 fn unsigned(fxy: Fxy, width: u8) -> Result<Spec, Refusal>
     ensures { result ≡ unsigned_of fxy width }
 {
@@ -266,6 +280,7 @@ fn unsigned(fxy: Fxy, width: u8) -> Result<Spec, Refusal>
 }
 
 /// An element whose width is given.
+#[inline(always)]
 fn given(given: u8, fxy: Fxy, entry: &Entry<'_>) -> Result<Spec, Refusal>
     requires row { IsRow (row_with fxy entry.now) }
     ensures { (s : Settings) → s.given ≡ given → result ≡ given_by (Some (row_with fxy entry.now)) s fxy }
@@ -279,6 +294,7 @@ fn given(given: u8, fxy: Fxy, entry: &Entry<'_>) -> Result<Spec, Refusal>
 }
 
 /// A factor by its row.
+#[inline(always)]
 fn factor_by(fxy: Fxy, entry: &Entry<'_>) -> Result<Spec, Refusal>
     requires row { IsRow (row_with fxy entry.now) }
     ensures { result ≡ factor_by (Some (row_with fxy entry.now)) fxy }
@@ -301,9 +317,9 @@ impl InForce {
     ghost use Rattle.bufr_tables.specs.Tree.{is_inserted_text};
     ghost use Rattle.bufr_walk.specs.Rules.{element_spec, factor_spec, inserted_spec};
     ghost use Rattle.bufr_walk.specs.Settings.{begin, after_operator, after_field};
-    ghost use Rattle.std.specs.Prelude.{OnErr};
-    ghost use Rattle.bufr_walk.specs.Asked.{IsForRole};
-    ghost use Rattle.bufr_walk.specs.declared.spec.Role.TheVariants as roles;
+    ghost use Rattle.std.specs.Prelude.{IfOk};
+    ghost use Rattle.bufr_walk.specs.Asked.{is_reference};
+    ghost use Rattle.bufr_walk.specs.Ways.{Took};
 
     /// Nothing is set.
     pub(crate) fn new(alloc: Global) -> InForce
@@ -316,6 +332,7 @@ impl InForce {
     }
 
     /// How an element is read.
+    #[inline(always)]
     pub(crate) fn element(&self, table: &TableB, fxy: Fxy) -> Result<Spec, Refusal>
         ensures { result ≡ element_spec table.now self.now fxy }
     {
@@ -341,6 +358,7 @@ impl InForce {
     }
 
     /// How the factor of a delayed replication is read.
+    #[inline(always)]
     pub(crate) fn factor(&self, table: &TableB, fxy: Fxy) -> Result<Spec, Refusal>
         ensures { result ≡ factor_spec table.now self.now fxy }
     {
@@ -355,6 +373,7 @@ impl InForce {
 
     /// How a text that stands in the template is read.
     #[tactic(auto, using(crate::proofs::SpecLemmas::inserted_width))]
+    #[inline(always)]
     pub(crate) fn inserted(&self, fxy: Fxy) -> Result<Spec, Refusal>
         requires legal { is_legal_operator fxy ≡ true }
         requires text { is_inserted_text fxy ≡ true }
@@ -398,15 +417,68 @@ impl InForce {
         Ok(())
     }
 
-    /// What a field makes of the settings: a given width is used up, and a reference is kept.
-    pub(crate) fn keep(&mut self, fxy: Fxy, told: Taken) -> Result<(), AllocError>
-        ensures kept { OnOk result (self.new ≡ after_field self.old fxy told) }
-        ensures reference { OnErr result (IsForRole roles.Reference told) }
+    /// Takes a reference, and keeps it. The place for it is made before.
+    fn take_reference<S: Fields>(
+        &mut self,
+        fxy: Fxy,
+        spec: &Spec,
+        fields: &mut S,
+    ) -> Result<Taken, WalkStop<S::Fault>>
+        requires { is_reference spec.now.role ≡ true }
+        ensures took { Took S.takes (Ok spec.now) fields.old result fields.new }
+        ensures kept { IfOk result (λ t. self.new ≡ after_field self.old fxy t) }
     {
-        self.operands.given = 0;
-        if let Taken::Reference(reference) = told {
-            redefine(&mut self.redefined, fxy, reference)?;
+        match self.redefined.reserve(1) {
+            Ok(()) => {}
+            Err(_) => return Err(WalkStop::Memory),
         }
-        Ok(())
+        match fields.take(spec) {
+            Ok(Taken::Reference(reference)) => {
+                redefine(&mut self.redefined, fxy, reference);
+                self.operands.given = 0;
+                Ok(Taken::Reference(reference))
+            }
+            Ok(_) => unreachable!(),
+            Err(fault) => Err(WalkStop::Field(fault)),
+        }
+    }
+
+    /// Takes a field that is no reference.
+    #[inline(always)]
+    #[tactic(auto, using(crate::proofs::FieldWays::no_reference))]
+    fn take_other<S: Fields>(
+        &mut self,
+        fxy: Fxy,
+        spec: &Spec,
+        fields: &mut S,
+    ) -> Result<Taken, WalkStop<S::Fault>>
+        requires { is_reference spec.now.role ≡ false }
+        ensures took { Took S.takes (Ok spec.now) fields.old result fields.new }
+        ensures kept { IfOk result (λ t. self.new ≡ after_field self.old fxy t) }
+    {
+        match fields.take(spec) {
+            Ok(told) => {
+                self.operands.given = 0;
+                Ok(told)
+            }
+            Err(fault) => Err(WalkStop::Field(fault)),
+        }
+    }
+
+    /// Takes a field, and keeps what it makes of the settings: a given width is used up, and a reference is kept.
+    #[inline(always)]
+    pub(crate) fn take<S: Fields>(
+        &mut self,
+        fxy: Fxy,
+        spec: &Spec,
+        fields: &mut S,
+    ) -> Result<Taken, WalkStop<S::Fault>>
+        ensures took { Took S.takes (Ok spec.now) fields.old result fields.new }
+        ensures kept { IfOk result (λ t. self.new ≡ after_field self.old fxy t) }
+    {
+        if spec.is_reference() {
+            return self.take_reference(fxy, spec, fields);
+        }
+        self.take_other(fxy, spec, fields)
     }
 }

@@ -17,7 +17,7 @@ mod show_plain;
 mod spec;
 mod steps;
 mod visitor;
-pub mod walk;
+mod walking;
 
 pub use fault::{ShowFault, Spot, WalkFault};
 pub use fields::Fields;
@@ -25,11 +25,14 @@ pub use message::read_message;
 pub use packed_in::{PackedFault, PackedIn};
 pub use plain_in::{DataEnd, PlainIn};
 pub use reading::Reading;
-pub use spec::{Role, Spec, Taken};
+pub use spec::{Refusal, Role, Spec, Taken};
 pub use steps::Steps;
 pub use visitor::{ItemView, Value, Visitor};
+pub use walking::{WalkStop, walk};
 
 #[cfg(test)]
 mod packed_tests;
+#[cfg(test)]
+mod test_messages;
 #[cfg(test)]
 mod tests;

@@ -1,5 +1,8 @@
 // Fields that are read from bits, for compressed data: each item stands once for all subsets.
-ghost use Rattle.std.specs.Prelude.{◌≡◌, ◌≤◌, ◌<◌, ◌+◌, ◌-◌, ◌*◌, ◌/◌, ◌^◌, length, drop, MatchResult, IfOk, false, true};
+ghost use Rattle.std.specs.Prelude.{◌≡◌, ◌≤◌, ◌<◌, ◌+◌, ◌-◌, ◌*◌, ◌/◌, ◌%◌, ◌^◌, ◌++◌, ◌∷◌, [], length, drop, vec_len, vec_capacity, MatchResult, IfOk, IfErr, OnOk, OnErr, false, true};
+ghost use Rattle.bufr_walk.specs.PackedIn.{room_for};
+ghost use Rattle.bufr_walk.specs.Reading.{items_at_once};
+ghost use Rattle.bufr_walk.specs.declared.packed_in.PackedFault.TheVariants as wrong;
 ghost use Rattle.bufr_bits.specs.Bits.{bits_of, bits_at, number_of};
 ghost use Rattle.bufr_bits.specs.BitSlice.{octets_of};
 ghost use Rattle.bufr_tables.specs.TableB.{is_character};
@@ -10,7 +13,7 @@ ghost use Rattle.bufr_walk.specs.declared.spec.Taken.TheVariants as taken;
 ghost use Rattle.bufr_walk.specs.PackedBits.{stays_within, all_within, all_equal, numbers_hold, holds_by, is_plain_role, IsTold, IsWrong, IsSeen, IsUnseen};
 
 use crate::fields::Fields;
-use crate::plain_in::{number_at, ones_at, told_at};
+use crate::plain_in::{number_at, raw_at, told_at};
 use crate::read_packed::{KeptItem, PackedRead};
 use crate::spec::{Role, Spec, Taken};
 use bufr_bits::BitSlice;
@@ -29,7 +32,7 @@ pub enum PackedFault {
     UnequalFactor(Fxy),
     /// With this item there are more than 134,217,728 values.
     TooManyValues(Fxy),
-    /// Memory ran out.
+    /// Memory ran out, at one item of 64.
     Memory,
 }
 
@@ -100,12 +103,12 @@ fn numbers_hold(bits: &BitSlice<'_>, at: u64, subsets: u16, spec: &Spec, k: u32)
 {
     let width = spec.width();
     let may_be_missing = spec.may_be_missing();
-    let all_missing = ones_at(bits, at, width);
-    if all_missing && may_be_missing {
+    let raw = raw_at(bits, at, width);
+    if raw.all_ones && may_be_missing {
         return true;
     }
     let base = Base {
-        value: number_at(bits, at, width),
+        value: raw.number,
         width,
         may_be_missing,
     };
@@ -257,6 +260,39 @@ fn seen_at(bits: &BitSlice<'_>, at: u64, subsets: u16, spec: &Spec) -> Result<Se
 /// The most values of a compressed message.
 const MOST_VALUES: u64 = 134_217_728;
 
+/// For so many items there is room at once.
+const ITEMS_AT_ONCE: usize = 64;
+
+/// Makes room for an item more, and with it for those of the next that come to 64. It wants memory for one item of 64.
+fn make_room(kept: &mut Vec<KeptItem>) -> Result<(), PackedFault>
+    requires { room_for (vec_len kept.old) ≤ vec_capacity kept.old }
+    ensures same { kept.new.items ≡ kept.old.items }
+    ensures room { OnOk result (room_for (vec_len kept.old + 1) ≤ vec_capacity kept.new) }
+    ensures least { room_for (vec_len kept.old) ≤ vec_capacity kept.new }
+    ensures fault { IfErr result (λ e. e ≡ wrong.Memory) }
+    ensures full { OnErr result (vec_len kept.old % items_at_once ≡ 0) }
+{
+    if kept.len() % ITEMS_AT_ONCE != 0 {
+        return Ok(());
+    }
+    match kept.reserve(ITEMS_AT_ONCE) {
+        Ok(()) => Ok(()),
+        Err(_) => Err(PackedFault::Memory),
+    }
+}
+
+/// Keeps an item for which there is room.
+fn keep(kept: &mut Vec<KeptItem>, item: KeptItem)
+    requires { room_for (vec_len kept.old + 1) ≤ vec_capacity kept.old }
+    ensures items { kept.new.items ≡ kept.old.items ++ item ∷ [] }
+    ensures room { room_for (vec_len kept.old + 1) ≤ vec_capacity kept.new }
+{
+    match kept.push(item) {
+        Ok(()) => {}
+        Err(_) => unreachable!(),
+    }
+}
+
 /// Fields of compressed data: each item stands once for all subsets, as a base, six bits `k`, and an increment for each
 /// subset where `k` is above 0 (WMO-No. 306, Volume I.2, FM 94: section 4, compression). It keeps an entry for each item.
 #[derive(Drop)]
@@ -268,6 +304,7 @@ pub struct PackedIn<'a> {
 }
 
 impl<'a> Model for PackedIn<'a> {
+    ghost use Rattle.std.specs.Prelude.{vec_capacity};
     ghost use Rattle.bufr_bits.specs.Bits.{bits_of};
     ghost use Rattle.bufr_bits.specs.BitSlice.{octets_of};
     ghost use Rattle.bufr_walk.specs.PackedIn.{PackedCursor, IsPackedIn, packed_view};
@@ -276,7 +313,7 @@ impl<'a> Model for PackedIn<'a> {
 
     ghost view = { λ s. packed_view (bits_of (octets_of s.bits)) s.at s.subsets s.kept.items };
 
-    ghost invariant = { λ s. IsPackedIn (bits_of (octets_of s.bits)) s.at s.subsets s.kept.items };
+    ghost invariant = { λ s. IsPackedIn (bits_of (octets_of s.bits)) s.at s.subsets s.kept.items (vec_capacity s.kept) };
 }
 
 impl<'a> PackedIn<'a> {
@@ -357,14 +394,11 @@ impl<'a> Fields for PackedIn<'a> {
 
     fn take(&mut self, spec: &Spec) -> Result<Taken, PackedFault> {
         let seen = self.look(spec)?;
+        make_room(&mut self.kept)?;
         let item = KeptItem::new(*spec, self.at, seen.step);
-        match self.kept.push(item) {
-            Ok(()) => {
-                self.at = seen.end;
-                Ok(seen.told)
-            }
-            Err(_) => Err(PackedFault::Memory),
-        }
+        keep(&mut self.kept, item);
+        self.at = seen.end;
+        Ok(seen.told)
     }
 
     fn bits(&self) -> u64 {

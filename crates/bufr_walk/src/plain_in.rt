@@ -52,6 +52,30 @@ pub(crate) fn number_at(bits: &BitSlice<'_>, at: u64, width: u32) -> u64
     }
 }
 
+/// What bits write that are there, of which there are at most 63.
+#[derive(Clone, Copy)]
+pub(crate) struct Raw {
+    /// Their number.
+    pub(crate) number: u64,
+    /// Whether they are all ones.
+    pub(crate) all_ones: bool,
+}
+
+/// What bits write that are there.
+pub(crate) fn raw_at(bits: &BitSlice<'_>, at: u64, width: u32) -> Raw
+    requires few { width ≤ 63 }
+    requires within { at + width ≤ 8 * length (octets_of bits.now) }
+    ensures number { result.number ≡ number_of (bits_at (octets_of bits.now) at width) }
+    ensures below { result.number < 2 ^ width }
+    ensures ones { result.all_ones ≡ all_set (bits_at (octets_of bits.now) at width) }
+{
+    let number = number_at(bits, at, width);
+    Raw {
+        number,
+        all_ones: number == (1 << width) - 1,
+    }
+}
+
 /// A number with its sign.
 fn signed(sign: u64, size: u64) -> i64
     requires { size < 2 ^ 62 }
@@ -101,26 +125,31 @@ pub(crate) fn ones_at(bits: &BitSlice<'_>, at: u64, width: u32) -> bool
     }
 }
 
-/// The eight bits from a bit on, which are there.
-fn octet_at(bits: &BitSlice<'_>, at: u64) -> u8
-    requires { at + 8 ≤ 8 * length (octets_of bits.now) }
-    ensures { result ≡ number_of (take 8 (drop at (bits_of (octets_of bits.now)))) }
+/// Copies a few octets, at most seven, behind the first `done` of those that begin with bit `at`.
+fn copy_window(bits: &BitSlice<'_>, at: u64, done: usize, few: usize, text: &mut [u8; 255])
+    requires most { few ≤ 7 }
+    requires room { done + few ≤ 255 }
+    requires within { at + 8 * (done + few) ≤ 8 * length (octets_of bits.now) }
+    requires before { take done text.old ≡ octets_in done (drop at (bits_of (octets_of bits.now))) }
+    ensures { take (done + few) text.new ≡ octets_in (done + few) (drop at (bits_of (octets_of bits.now))) }
 {
-    match bits.octet(at) {
-        Some(octet) => octet,
-        None => unreachable!(),
+    let window = number_at(bits, at + 8 * done as u64, 8 * few as u32);
+    'octets: for place in 0..few {
+        text[done + place] = ((window >> (8 * (few - place - 1))) % 256) as u8;
     }
 }
 
 /// Copies so many octets that begin at any bit.
-#[tactic(auto, using(crate::proofs::ShownLemmas::octet_put))]
 pub(crate) fn copy_octets(bits: &BitSlice<'_>, at: u64, count: usize, text: &mut [u8; 255])
     requires few { count ≤ 255 }
     requires within { at + 8 * count ≤ 8 * length (octets_of bits.now) }
     ensures { take count text.new ≡ octets_in count (drop at (bits_of (octets_of bits.now))) }
 {
-    'octets: for place in 0..count {
-        text[place] = octet_at(bits, at + 8 * place as u64);
+    let mut done = 0;
+    'windows: while done < count {
+        let few = (count - done).min(7);
+        copy_window(bits, at, done, few, text);
+        done += few;
     }
 }
 
@@ -133,8 +162,8 @@ pub(crate) fn front(text: &[u8; 255], count: usize) -> &[u8]
 }
 
 impl<'a> PlainIn<'a> {
-    ghost use Rattle.std.specs.Prelude.{◌≡◌, ◌≤◌, ◌<◌, ◌+◌, ◌*◌, ◌/◌, ◌^◌, true, false, length, take, MatchResult, Ok, Err, IfOk};
-    ghost use Rattle.bufr_bits.specs.Bits.{bits_of};
+    ghost use Rattle.std.specs.Prelude.{◌≡◌, ◌≤◌, ◌<◌, ◌+◌, ◌*◌, ◌/◌, ◌^◌, true, false, length, take, MatchResult, Ok, Err, IfOk, IfSome};
+    ghost use Rattle.bufr_bits.specs.Bits.{bits_of, all_set};
     ghost use Rattle.bufr_bits.specs.BitSlice.{octets_of};
     ghost use Rattle.bufr_tables.specs.TableB.{is_character};
     ghost use Rattle.bufr_walk.specs.Asked.{IsFor};
@@ -191,30 +220,31 @@ impl<'a> PlainIn<'a> {
         self.at += u64::from(spec.width());
     }
 
+    /// Whether the bits of the next field are all ones.
+    #[tactic(auto, using(crate::proofs::PlainLemmas::bits_length))]
+    pub(crate) fn is_ones(&self, spec: &Spec) -> bool
+        requires { self.now.at + spec.now.width ≤ length self.now.bits }
+        ensures { result ≡ all_set (take spec.now.width (rest_of self.now)) }
+    {
+        ones_at(&self.bits, self.at, spec.width())
+    }
+
+    /// The octets of the next field, which is text, where they can be borrowed.
+    pub(crate) fn octets(&self, spec: &Spec) -> Option<&'a [u8]>
+        requires { is_character spec.now.kind ≡ true }
+        ensures { IfSome result (λ s. s.now ≡ octets_in (spec.now.width / 8) (take spec.now.width (rest_of self.now))) }
+    {
+        self.bits.octets(self.at, (spec.width() / 8) as usize)
+    }
+
     /// Copies the octets of the next field, which is text.
-    #[tactic(auto, using(crate::proofs::ShownLemmas::text_front, crate::proofs::ShownLemmas::whole_octets, crate::proofs::PlainLemmas::bits_length))]
+    #[tactic(auto, using(crate::proofs::TextLemmas::text_front, crate::proofs::TextLemmas::whole_octets, crate::proofs::PlainLemmas::bits_length))]
     pub(crate) fn copy_text(&self, spec: &Spec, text: &mut [u8; 255])
         requires within { self.now.at + spec.now.width ≤ length self.now.bits }
         requires text { is_character spec.now.kind ≡ true }
         ensures { take (spec.now.width / 8) text.new ≡ octets_in (spec.now.width / 8) (take spec.now.width (rest_of self.now)) }
     {
         copy_octets(&self.bits, self.at, (spec.width() / 8) as usize, text)
-    }
-
-    /// The value of the next field, which is text and was copied.
-    #[tactic(auto, using(crate::proofs::ShownLemmas::text_missing_shown, crate::proofs::ShownLemmas::text_shown, crate::proofs::PlainLemmas::bits_length))]
-    pub(crate) fn text_value<'t>(&self, spec: &Spec, text: &'t [u8; 255]) -> Value<'t>
-        requires within { self.now.at + spec.now.width ≤ length self.now.bits }
-        requires text { is_character spec.now.kind ≡ true }
-        requires copied { take (spec.now.width / 8) text.now ≡ octets_in (spec.now.width / 8) (take spec.now.width (rest_of self.now)) }
-        ensures { seen_value result ≡ shown spec.now (content_in spec.now (take spec.now.width (rest_of self.now))) }
-    {
-        let width = spec.width();
-        if ones_at(&self.bits, self.at, width) {
-            Value::Missing
-        } else {
-            Value::Text(front(text, (width / 8) as usize))
-        }
     }
 
     /// The value of the next field, which is no text.
@@ -228,12 +258,12 @@ impl<'a> PlainIn<'a> {
         if spec.is_reference() {
             return Value::Reference(signed_at(&self.bits, self.at, width));
         }
-        let missing = ones_at(&self.bits, self.at, width) && spec.may_be_missing();
+        let raw = raw_at(&self.bits, self.at, width);
+        let missing = raw.all_ones && spec.may_be_missing();
         if missing {
             return Value::Missing;
         }
-        let raw = number_at(&self.bits, self.at, width);
-        Value::Number(i128::from(raw) + spec.reference(), spec.scale())
+        Value::Number(i128::from(raw.number) + spec.reference(), spec.scale())
     }
 }
 

@@ -10,13 +10,13 @@ ghost use Rattle.bufr_walk.specs.Kept.{AreKept};
 ghost use Rattle.bufr_walk.specs.Outcome.{data_in, IsFault, IsRead};
 ghost use Rattle.bufr_walk.specs.PackedIn.{packed_fault};
 ghost use Rattle.bufr_walk.specs.Reading.{Item, together};
-ghost use Rattle.bufr_walk.specs.declared.walk.WalkStop.TheVariants as stops;
+ghost use Rattle.bufr_walk.specs.declared.walking.WalkStop.TheVariants as stops;
 
 use crate::fault::{Spot, WalkFault};
 use crate::packed_in::{PackedFault, PackedIn};
 use crate::spec::Spec;
 use crate::steps::Steps;
-use crate::walk::{WalkStop, walk};
+use crate::walking::{WalkStop, walk};
 use bufr_bits::BitSlice;
 use bufr_tables::{TableB, Template};
 use std::alloc::Global;

@@ -6,6 +6,7 @@ ghost use Rattle.bufr_tables.specs.Tree.{places};
 ghost use Rattle.bufr_walk.specs.Content.{Content};
 ghost use Rattle.bufr_walk.specs.Course.{next_item};
 ghost use Rattle.bufr_walk.specs.Fault.{bits_before};
+ghost use Rattle.bufr_walk.specs.Kept.{items_in};
 ghost use Rattle.bufr_walk.specs.Outcome.{data_in, IsFault, IsRead};
 ghost use Rattle.bufr_walk.specs.Passes.{PassReads, PassStops};
 ghost use Rattle.bufr_walk.specs.PlainIn.{fault_at};
@@ -14,7 +15,7 @@ ghost use Rattle.bufr_walk.specs.Reading.{Item, apart};
 use crate::fault::{Spot, WalkFault};
 use crate::plain_in::{DataEnd, PlainIn};
 use crate::steps::Steps;
-use crate::walk::{WalkStop, walk};
+use crate::walking::{WalkStop, walk};
 use bufr_bits::BitSlice;
 use bufr_tables::{TableB, Template};
 use std::alloc::Global;
@@ -66,7 +67,7 @@ pub(crate) fn read_plain(
     steps: &mut Steps,
 ) -> Result<u64, WalkFault>
     requires { steps.old ≡ 0 }
-    ensures reading { IfOk result (λ used. (subsets_read : List (List (Item Content))) × IsRead (next_item table.now template.now) (data_in false subsets (octets_of bits.entry)) (apart subsets_read) used steps.new) }
+    ensures reading { IfOk result (λ used. (subsets_read : List (List (Item Content))) × IsRead (next_item table.now template.now) (data_in false subsets (octets_of bits.entry)) (apart subsets_read) used steps.new × (items_in subsets_read ≤ used)) }
     ensures fault { IfErr result (λ why. IsFault (next_item table.now template.now) (data_in false subsets (octets_of bits.entry)) why steps.new) }
     ensures accepted { IfOk result (λ used. steps.new ≤ places template.now * used) }
     ensures refused { IfErr result (λ why. steps.new ≤ places template.now * (bits_before why (length (bits_of (octets_of bits.entry))) + 1)) }

@@ -50,73 +50,14 @@ impl<'a> Model for Reading<'a> {
 }
 
 impl<'a> Reading<'a> {
-    ghost use Rattle.std.specs.Prelude.{◌≡◌, ◌≤◌, ◌+◌, ◌*◌, false, true, length, IfOk, IfErr};
+    ghost use Rattle.std.specs.Prelude.{◌≡◌, ◌≤◌, ◌+◌, ◌*◌, false, length, IfOk, IfErr};
     ghost use Rattle.bufr_tables.specs.Tree.{places};
     ghost use Rattle.bufr_walk.specs.Course.{next_item};
     ghost use Rattle.bufr_walk.specs.Fault.{bits_before};
-    ghost use Rattle.bufr_walk.specs.Calls.{calls_of, turns_shown};
+    ghost use Rattle.bufr_walk.specs.Calls.{calls_of, items_called, turns_shown};
     ghost use Rattle.bufr_walk.specs.Outcome.{course_of, data_of, IsFault, IsReadingOf};
-    ghost use Rattle.bufr_walk.specs.Reading.{Values, IsReading};
+    ghost use Rattle.bufr_walk.specs.Reading.{Values, IsReading, most_values};
     ghost use Rattle.bufr_walk.specs.Shows.{Shows};
-
-    /// Reads data that are not compressed.
-    #[tactic(auto, using(crate::proofs::ReadingLemmas::plain_held))]
-    fn read_apart(
-        alloc: Global,
-        message: &Message<'a>,
-        template: &'a Template,
-        table: &'a TableB,
-        steps: &mut Steps,
-    ) -> Result<Reading<'a>, WalkFault>
-        requires { message.now.compressed ≡ false }
-        ensures reading { IfOk result (λ r. IsReadingOf table.now template.now (data_of message.now) r steps.new) }
-        ensures fault { IfErr result (λ why. IsFault (next_item table.now template.now) (data_of message.now) why steps.new) }
-        ensures accepted { IfOk result (λ r. steps.new ≤ places template.now * r.bits) }
-        ensures refused { IfErr result (λ why. steps.new ≤ places template.now * (bits_before why (length (data_of message.now).bits) + 1)) }
-    {
-        *steps = Steps::new();
-        let bits = message.payload();
-        let subsets = message.subsets();
-        let used = read_plain(alloc, bits, subsets, template, table, steps)?;
-        Ok(Reading {
-            bits,
-            template,
-            table,
-            compressed: false,
-            subsets,
-            used,
-            kept: Kept::Apart,
-        })
-    }
-
-    /// Reads compressed data.
-    fn read_together(
-        alloc: Global,
-        message: &Message<'a>,
-        template: &'a Template,
-        table: &'a TableB,
-        steps: &mut Steps,
-    ) -> Result<Reading<'a>, WalkFault>
-        requires { message.now.compressed ≡ true }
-        ensures reading { IfOk result (λ r. IsReadingOf table.now template.now (data_of message.now) r steps.new) }
-        ensures fault { IfErr result (λ why. IsFault (next_item table.now template.now) (data_of message.now) why steps.new) }
-        ensures accepted { IfOk result (λ r. steps.new ≤ places template.now * r.bits) }
-        ensures refused { IfErr result (λ why. steps.new ≤ places template.now * (bits_before why (length (data_of message.now).bits) + 1)) }
-    {
-        *steps = Steps::new();
-        let bits = message.payload();
-        let subsets = message.subsets();
-        let read = read_packed(alloc, bits, subsets, template, table, steps)?;
-        Ok(Reading {
-            bits,
-            template,
-            table,
-            compressed: true,
-            subsets,
-            used: read.used,
-            kept: Kept::Together(read.kept),
-        })
-    }
 
     /// Reads the data of a message by its template.
     pub(crate) fn read(
@@ -131,11 +72,31 @@ impl<'a> Reading<'a> {
         ensures accepted { IfOk result (λ r. steps.new ≤ places template.now * r.bits) }
         ensures refused { IfErr result (λ why. steps.new ≤ places template.now * (bits_before why (length (data_of message.now).bits) + 1)) }
     {
+        *steps = Steps::new();
+        let bits = message.payload();
+        let subsets = message.subsets();
         if message.compressed() {
-            Reading::read_together(alloc, message, template, table, steps)
-        } else {
-            Reading::read_apart(alloc, message, template, table, steps)
+            let read = read_packed(alloc, bits, subsets, template, table, steps)?;
+            return Ok(Reading {
+                bits,
+                template,
+                table,
+                compressed: true,
+                subsets,
+                used: read.used,
+                kept: Kept::Together(read.kept),
+            });
         }
+        let used = read_plain(alloc, bits, subsets, template, table, steps)?;
+        Ok(Reading {
+            bits,
+            template,
+            table,
+            compressed: false,
+            subsets,
+            used,
+            kept: Kept::Apart,
+        })
     }
 
     /// The number of subsets.
@@ -164,14 +125,9 @@ impl<'a> Reading<'a> {
         }
     }
 
-    /// Shows each subset and its items to a visitor, in the order of the data, and sets the steps to those that are
-    /// made for it. It stops at the visitor's first fault.
-    ///
-    /// # Errors
-    ///
-    /// [`ShowFault::Visitor`] with the visitor's fault; [`ShowFault::Memory`] where memory runs out.
+    /// Shows each subset and its items to a visitor, by what is kept.
     #[tactic(auto, using(crate::proofs::ReadingLemmas::readable_of, crate::proofs::PackedShown::entries_stand, crate::proofs::PackedShown::packed_shown))]
-    pub fn show<V: Visitor>(
+    fn show_kept<V: Visitor>(
         &self,
         alloc: Global,
         visitor: &mut V,
@@ -194,5 +150,28 @@ impl<'a> Reading<'a> {
                 show_packed(&self.bits, self.subsets, self.table, items, visitor)
             }
         }
+    }
+
+    /// Shows each subset and its items to a visitor, in the order of the data, and sets the steps to those that are
+    /// made for it, none where the data are compressed. It stops at the visitor's first fault. At most 134,217,728 items
+    /// are shown, and there are at most as many steps as the template has places for each bit of the items.
+    ///
+    /// # Errors
+    ///
+    /// [`ShowFault::Visitor`] with the visitor's fault; [`ShowFault::Memory`] where memory runs out before a reference
+    /// that the data define.
+    pub fn show<V: Visitor>(
+        &self,
+        alloc: Global,
+        visitor: &mut V,
+        steps: &mut Steps,
+    ) -> Result<(), ShowFault<V::Fault>>
+        ensures shown { (values : Values) → IsReading (course_of self.now) self.now.source values self.now.bits → Shows V.sees visitor.old (calls_of self.now values) (turns_shown self.now values) result visitor.new steps.new }
+        ensures few { (values : Values) → IsReading (course_of self.now) self.now.source values self.now.bits → items_called (calls_of self.now values) ≤ most_values }
+        ensures bounded { steps.new ≤ places self.now.template * self.now.bits }
+    {
+        // What a template promises of its groups bounds the steps.
+        let _ = self.template.cells();
+        self.show_kept(alloc, visitor, steps)
     }
 }

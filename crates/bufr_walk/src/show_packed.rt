@@ -14,11 +14,11 @@ ghost use Rattle.bufr_walk.specs.Shows.{Shows};
 
 use crate::fault::ShowFault;
 use crate::packed_in::Base;
-use crate::plain_in::{PlainIn, copy_octets, front, number_at, ones_at};
+use crate::plain_in::{PlainIn, copy_octets, front, number_at, ones_at, raw_at};
 use crate::read_packed::KeptItem;
-use crate::show_plain::{entry_for, show_field};
+use crate::show_plain::{show_field, show_value};
 use crate::spec::Spec;
-use crate::visitor::{ItemView, Value, Visitor};
+use crate::visitor::{Value, Visitor};
 use bufr_bits::BitSlice;
 use bufr_tables::TableB;
 
@@ -49,12 +49,12 @@ fn number_in(bits: &BitSlice<'_>, at: u64, spec: &Spec, k: u32, subset: u16) -> 
 {
     let width = spec.width();
     let may_be_missing = spec.may_be_missing();
-    let all_missing = ones_at(bits, at, width);
-    if all_missing && may_be_missing {
+    let raw = raw_at(bits, at, width);
+    if raw.all_ones && may_be_missing {
         return None;
     }
     let base = Base {
-        value: number_at(bits, at, width),
+        value: raw.number,
         width,
         may_be_missing,
     };
@@ -108,7 +108,6 @@ fn text_place(bits: &BitSlice<'_>, item: &KeptItem, subset: u16) -> u64
     requires { item.now.at + (item.now.spec.width + 6) + (subset + 1) * (8 * item.now.step) ≤ 8 * length (octets_of bits.now) }
     ensures { result ≡ item.now.at + (item.now.spec.width + 6) + subset * (8 * item.now.step) }
 {
-    let _ = bits;
     let behind = item.at + (u64::from(item.spec.width()) + 6);
     behind + u64::from(subset) * (8 * u64::from(item.step))
 }
@@ -123,7 +122,6 @@ fn text_span(bits: &BitSlice<'_>, subsets: u16, item: &KeptItem, subset: u16) ->
     ensures few { result.octets ≤ item.now.spec.width / 8 }
     ensures text { text_of (item.now.spec.width / 8) result.octets (take (8 * result.octets) (drop result.place (bits_of (octets_of bits.now)))) ≡ content_at subset (contents_found (packed_field subsets item.now.spec (drop item.now.at (bits_of (octets_of bits.now))))) }
 {
-    let _ = subsets;
     TextSpan {
         place: text_place(bits, item, subset),
         octets: usize::from(item.step),
@@ -156,7 +154,6 @@ fn text_value<'t>(
     requires copied { take count text.now ≡ octets_in span.octets (drop span.place (bits_of (octets_of bits.now))) ++ replicate (count - span.octets) 32 }
     ensures { seen_value result ≡ shown spec.now (text_of count span.octets (take (8 * span.octets) (drop span.place (bits_of (octets_of bits.now))))) }
 {
-    let _ = spec;
     let all_missing = ones_at(bits, span.place, 8 * span.octets as u32);
     if all_missing {
         Value::Missing
@@ -184,10 +181,8 @@ fn show_text<V: Visitor>(
     let span = text_span(bits, subsets, item, subset);
     let count = (item.spec.width() / 8) as usize;
     copy_text(bits, span, count, &mut text);
-    let fxy = item.spec.fxy();
-    let entry = entry_for(table, &item.spec);
     let value = text_value(bits, &item.spec, span, count, &text);
-    visitor.item(&ItemView { fxy, entry, value })
+    show_value(table, &item.spec, value, visitor)
 }
 
 /// Shows the number that one subset, counted from 0, has of a kept item with increments.
@@ -206,10 +201,8 @@ fn show_number<V: Visitor>(
     ensures { V.sees visitor.old (item_call (view_of table.now item.now.spec (content_at subset (contents_found (packed_field subsets item.now.spec (drop item.now.at (bits_of (octets_of bits.now)))))))) result visitor.new }
 {
     let raw = number_of(bits, subsets, item, subset);
-    let fxy = item.spec.fxy();
-    let entry = entry_for(table, &item.spec);
     let value = number_value(&item.spec, raw);
-    visitor.item(&ItemView { fxy, entry, value })
+    show_value(table, &item.spec, value, visitor)
 }
 
 /// Shows the base that all subsets have of a kept item with no increments.
@@ -226,8 +219,6 @@ fn show_base<V: Visitor>(
     requires none { item.now.step ≡ 0 }
     ensures { V.sees visitor.old (item_call (view_of table.now item.now.spec (content_at subset (contents_found (packed_field subsets item.now.spec (drop item.now.at (bits_of (octets_of bits.now)))))))) result visitor.new }
 {
-    let _ = subsets;
-    let _ = subset;
     let input = PlainIn::at(*bits, item.at);
     show_field(&input, table, &item.spec, visitor)
 }

@@ -1,12 +1,13 @@
 // How data that are not compressed are shown: they are read once more, and each item is handed on.
 ghost use Rattle.std.specs.Prelude.{◌≡◌, ◌≤◌, ◌<◌, ◌+◌, ◌-◌, ◌*◌, ◌/◌, ◌^◌, ◌==◌, if◌then◌else◌, true, false, length, take, drop, List, Bool, Result, Ok, Err, None, option_map, OnOk, IfOk, IfErr};
-ghost use Rattle.bufr_bits.specs.Bits.{bits_of};
+ghost use Rattle.bufr_bits.specs.Bits.{bits_of, all_set};
 ghost use Rattle.bufr_bits.specs.BitSlice.{octets_of};
 ghost use Rattle.bufr_tables.specs.Entry.{row_with};
 ghost use Rattle.bufr_tables.specs.TableB.{entry_of, is_character};
 ghost use Rattle.bufr_tables.specs.Tree.{Tree};
 ghost use Rattle.bufr_walk.specs.Calls.{item_call, view_of, subset_calls};
-ghost use Rattle.bufr_walk.specs.Content.{Content, content_in, octets_in};
+ghost use Rattle.bufr_walk.specs.Content.{Content, content_in, octets_in, shown};
+ghost use Rattle.bufr_walk.specs.Seen.{seen_value};
 ghost use Rattle.bufr_walk.specs.Course.{next_item};
 ghost use Rattle.bufr_walk.specs.PlainIn.{rest_of};
 ghost use Rattle.bufr_walk.specs.Reading.{Item, plain, ReadsAll, ReadsSubsets, turns_in};
@@ -15,11 +16,11 @@ ghost use Rattle.bufr_walk.specs.Shows.{Shows};
 
 use crate::fault::ShowFault;
 use crate::fields::Fields;
-use crate::plain_in::PlainIn;
+use crate::plain_in::{PlainIn, front};
 use crate::spec::{Spec, Taken};
 use crate::steps::Steps;
-use crate::visitor::{ItemView, Visitor};
-use crate::walk::{WalkStop, walk};
+use crate::visitor::{ItemView, Value, Visitor};
+use crate::walking::{WalkStop, walk};
 use bufr_bits::BitSlice;
 use bufr_tables::{Entry, TableB, Template};
 use std::alloc::Global;
@@ -35,6 +36,38 @@ pub(crate) fn entry_for<'t>(table: &'t TableB, spec: &Spec) -> Option<Entry<'t>>
     }
 }
 
+/// Shows a field that has this value.
+pub(crate) fn show_value<V: Visitor>(
+    table: &TableB,
+    spec: &Spec,
+    value: Value<'_>,
+    visitor: &mut V,
+) -> Result<(), V::Fault>
+    ensures { (content : Content) → seen_value value.entry ≡ shown spec.now content → V.sees visitor.old (item_call (view_of table.now spec.now content)) result visitor.new }
+{
+    let fxy = spec.fxy();
+    let entry = entry_for(table, spec);
+    visitor.item(&ItemView { fxy, entry, value })
+}
+
+/// Shows a field that is text, not missing, and does not begin an octet.
+fn show_copied<V: Visitor>(
+    input: &PlainIn<'_>,
+    table: &TableB,
+    spec: &Spec,
+    visitor: &mut V,
+) -> Result<(), V::Fault>
+    requires within { input.now.at + spec.now.width ≤ length input.now.bits }
+    requires text { is_character spec.now.kind ≡ true }
+    requires some { all_set (take spec.now.width (rest_of input.now)) ≡ false }
+    ensures { V.sees visitor.old (item_call (view_of table.now spec.now (content_in spec.now (take spec.now.width (rest_of input.now))))) result visitor.new }
+{
+    let mut text = [0u8; 255];
+    input.copy_text(spec, &mut text);
+    let octets = front(&text, (spec.width() / 8) as usize);
+    show_value(table, spec, Value::Text(octets), visitor)
+}
+
 /// Shows a field that is text.
 fn show_text<V: Visitor>(
     input: &PlainIn<'_>,
@@ -46,12 +79,15 @@ fn show_text<V: Visitor>(
     requires text { is_character spec.now.kind ≡ true }
     ensures { V.sees visitor.old (item_call (view_of table.now spec.now (content_in spec.now (take spec.now.width (rest_of input.now))))) result visitor.new }
 {
-    let mut text = [0u8; 255];
-    input.copy_text(spec, &mut text);
-    let fxy = spec.fxy();
-    let entry = entry_for(table, spec);
-    let value = input.text_value(spec, &text);
-    visitor.item(&ItemView { fxy, entry, value })
+    let _ = spec.width();
+    let missing = input.is_ones(spec);
+    if missing {
+        return show_value(table, spec, Value::Missing, visitor);
+    }
+    match input.octets(spec) {
+        Some(octets) => show_value(table, spec, Value::Text(octets), visitor),
+        None => show_copied(input, table, spec, visitor),
+    }
 }
 
 /// Shows a field.
@@ -67,10 +103,8 @@ pub(crate) fn show_field<V: Visitor>(
     if spec.is_text() {
         return show_text(input, table, spec, visitor);
     }
-    let fxy = spec.fxy();
-    let entry = entry_for(table, spec);
     let value = input.number_value(spec);
-    visitor.item(&ItemView { fxy, entry, value })
+    show_value(table, spec, value, visitor)
 }
 
 /// Why a field is not taken.

@@ -24,8 +24,10 @@ pub enum Role {
 
 /// Why a turn is refused: a width that no field may have, or a turn that may not come while references are defined.
 #[derive(Clone, Copy)]
-pub(crate) enum Refusal {
+pub enum Refusal {
+    /// A field that is not text would be under 1 or over 63 bits wide.
     Width(Fxy),
+    /// A turn that may not come while references are being defined (2 03 Y).
     Defining(Fxy),
 }
 
@@ -41,14 +43,15 @@ pub enum Taken {
 }
 
 /// How one field is to be read.
+// The widest field stands first: with room between the fields each copy would cost as much as the reading of a number.
 #[derive(Clone, Copy)]
 pub struct Spec {
+    reference: i128,
+    width: u32,
     fxy: Fxy,
+    scale: i16,
     role: Role,
     kind: Kind,
-    width: u32,
-    scale: i16,
-    reference: i128,
     may_be_missing: bool,
     listed: bool,
 }
@@ -75,6 +78,7 @@ impl Spec {
 
     /// A number, where its width is 1 to 63.
     #[tactic(auto, using(crate::proofs::SpecLemmas::number_good))]
+    #[inline(always)]
     pub(crate) fn number(
         fxy: Fxy,
         role: Role,
@@ -109,6 +113,7 @@ impl Spec {
 
     /// Text of so many bits.
     #[tactic(auto, using(crate::proofs::SpecLemmas::text_good))]
+    #[inline(always)]
     pub(crate) fn text(role: Role, fxy: Fxy, width: u32, listed: bool) -> Spec
         requires width { HasWidth kinds.Character width }
         requires role { HasRole role kinds.Character true }

@@ -1,30 +1,13 @@
 // What is shown by running: the worked messages, each fault, the limits.
-ghost use Rattle.std.specs.Prelude.{◌≡◌, false};
-
-use super::*;
-use crate::steps::Steps;
-use bufr_frame::Message;
-use bufr_tables::{Fxy, TableB, TableD, Template};
-use std::alloc::{AllocError, Global};
+use crate::fault::{Spot, WalkFault};
+use crate::test_messages::{APART, TOGETHER, Worked, octets_of};
+use bufr_tables::Fxy;
+use std::alloc::Global;
 use std::test::Fail;
 
-// Test data, not WMO's.
-const TABLE_B: &[u8] = b"\
-    fxy,name,unit,scale,reference,width\n\
-    001001,WMO BLOCK NUMBER,Numeric,0,0,7\n\
-    001015,STATION OR SITE NAME,CCITT IA5,0,0,160\n\
-    005002,LATITUDE (COARSE ACCURACY),degree,2,-9000,15\n\
-    012101,AIR TEMPERATURE,K,2,0,16\n\
-    020003,PRESENT WEATHER,Code table,0,0,9\n\
-    031000,SHORT DELAYED DESCRIPTOR REPLICATION FACTOR,Numeric,0,0,1\n\
-    031001,DELAYED DESCRIPTOR REPLICATION FACTOR,Numeric,0,0,8\n\
-    031002,EXTENDED DELAYED DESCRIPTOR REPLICATION FACTOR,Numeric,0,0,16\n";
-
-const TABLE_D: &[u8] = b"fxy,member\n360192,001001\n360192,012101\n";
-
 // A name for what is shown, the number of subsets, the descriptors, the data in hexadecimal, and what comes of them: the
-// bits and the steps of a reading, and its subsets and items; or the number of a fault, its subset, descriptor and bit,
-// and the steps. An item is listed with its name where it was read by Table B.
+// bits and the steps of a reading, the items that it keeps, if any, and its subsets and items; or the number of a fault,
+// its subset, descriptor and bit, and the steps. An item has a # where it was read by Table B.
 const ROWS: &[(&str, u16, &str, &str, &str)] = &[
     (
         "one_block_number",
@@ -208,224 +191,141 @@ const ROWS: &[(&str, u16, &str, &str, &str)] = &[
     ),
 ];
 
-// The descriptors of a text: six digits each, with spaces between them.
-fn descriptors_of(alloc: Global, text: &str) -> Result<Vec<Fxy>, Fail> {
-    let mut descriptors = Vec::new(alloc);
-    for digits in text.split_whitespace() {
-        let number = digits.parse::<u32>()?;
-        let word = number / 100_000 * 16384 + number / 1000 % 100 * 256 + number % 1000;
-        descriptors.push(Fxy::from_word(u16::try_from(word)?))?;
-    }
-    Ok(descriptors)
-}
-
-// The octets of a text of hexadecimal digits.
-fn octets_of(alloc: Global, text: &str) -> Result<Vec<u8>, Fail> {
-    let mut octets = Vec::new(alloc);
-    let mut high = None;
-    for digit in text.chars() {
-        let value = u8::try_from(digit.to_digit(16).unwrap_or(0))?;
-        high = match high {
-            None => Some(value),
-            Some(first) => {
-                octets.push(u8::wrapping_add(u8::wrapping_mul(first, 16), value))?;
-                None
-            }
-        };
-    }
-    Ok(octets)
-}
-
-// A number's two octets.
-fn push_two(octets: &mut Vec<u8>, number: usize) -> Result<(), AllocError> {
-    octets.push((number / 256 % 256) as u8)?;
-    octets.push((number % 256) as u8)?;
-    Ok(())
-}
-
-// A message of edition 4 with these subsets, flags, descriptors and data.
-fn message_of(
-    alloc: Global,
-    subsets: u16,
-    flags: u8,
-    descriptors: &[Fxy],
-    payload: &[u8],
-) -> Result<Vec<u8>, Fail> {
-    let mut octets = Vec::new(alloc);
-    let (third, fourth) = (descriptors.len() % 1000 * 2 + 7, payload.len() % 60000 + 4);
-    octets.extend_from_slice(b"BUFR\0")?;
-    push_two(&mut octets, third + fourth + 34)?;
-    octets.extend_from_slice(&[4, 0, 0, 22, 0, 0, 98, 0, 0, 0, 0, 0, 0, 0, 14, 0])?;
-    octets.extend_from_slice(&[7, 232, 1, 2, 3, 4, 5, 0])?;
-    push_two(&mut octets, third)?;
-    octets.push(0)?;
-    push_two(&mut octets, usize::from(subsets))?;
-    octets.push(flags)?;
-    for fxy in descriptors {
-        push_two(&mut octets, usize::from(fxy.word()))?;
-    }
-    octets.push(0)?;
-    push_two(&mut octets, fourth)?;
-    octets.push(0)?;
-    octets.extend_from_slice(payload)?;
-    octets.extend_from_slice(b"7777")?;
-    Ok(octets)
-}
-
-// A visitor that writes down what it is told.
-#[derive(Drop)]
-struct Lines {
-    alloc: Global,
-    text: String,
-}
-
-impl Visitor for Lines {
-    type Fault = AllocError;
-
-    ghost sees = { λ s call r t. Unit {0} };
-
-    fn subset(&mut self, number: u16) -> Result<(), AllocError> {
-        let line = format!(in self.alloc; " {number}:")?;
-        self.text.push_str(line.as_str())
-    }
-
-    fn item(&mut self, item: &ItemView<'_>) -> Result<(), AllocError> {
-        let line = match item.value {
-            Value::Number(number, scale) => {
-                format!(in self.alloc; " {} {number}e{scale}", item.fxy)?
-            }
-            Value::Text(octets) => {
-                let mut line = format!(in self.alloc; " {} \"", item.fxy)?;
-                for octet in octets {
-                    line.push_str(format!(in self.alloc; "{octet:02X}")?.as_str())?;
-                }
-                line.push('"')?;
-                line
-            }
-            Value::Missing => format!(in self.alloc; " {} missing", item.fxy)?,
-            Value::Reference(number) => format!(in self.alloc; " {} R{number}", item.fxy)?,
-        };
-        self.text.push_str(line.as_str())?;
-        if item.entry.is_some() {
-            self.text.push_str(" #")?;
-        }
-        Ok(())
-    }
-}
-
-// Where a fault stands.
-fn spot_of(fault: WalkFault) -> Option<Spot> {
-    match fault {
-        WalkFault::DataEnd(spot) => Some(spot),
-        WalkFault::Width(spot) => Some(spot),
-        WalkFault::Defining(spot) => Some(spot),
-        WalkFault::UnequalFactor(spot) => Some(spot),
-        WalkFault::Increment(spot) => Some(spot),
-        WalkFault::TooManyValues(spot) => Some(spot),
-        WalkFault::Memory => None,
-    }
-}
-
-// The message that octets are.
-fn message_in(octets: &[u8]) -> Option<Message<'_>> {
-    if octets.len() < 12 {
-        return None;
-    }
-    Message::parse(octets).ok()
-}
-
-// What is told of a reading: its bits and the steps that were made, and then its subsets and items.
-fn shown(alloc: Global, reading: &Reading<'_>, steps: &mut Steps) -> Result<String, Fail>
-    requires { reading.now.source.compressed ≡ false }
-{
-    let (bits, count) = (reading.bits(), steps.count());
-    let mut lines = Lines {
-        alloc,
-        text: format!(in alloc; "bits {bits} steps {count}")?,
-    };
-    if reading.subsets() > 0 {
-        lines.text.push(';')?;
-    }
-    if reading.show(alloc, &mut lines, steps).is_err() {
-        lines.text.push_str(" out of memory")?;
-    }
-    if steps.count() != count || reading.held() != 0 {
-        lines.text.push_str(" other steps")?;
-    }
-    Ok(lines.text)
-}
-
-// What is told of a fault: its number, where it stands, and the steps that were made.
-fn refused(alloc: Global, fault: WalkFault, steps: &Steps) -> Result<String, Fail> {
-    let (number, count) = (fault.number(), steps.count());
-    match spot_of(fault) {
-        Some(spot) => Ok(format!(in alloc;
-            "{number} at {} {} {} steps {count}",
-            spot.subset, spot.fxy, spot.bit
-        )?),
-        None => Ok(format!(in alloc; "{number}")?),
-    }
-}
-
-// What comes of a message whose data are not compressed.
-fn told(alloc: Global, octets: &[u8], template: &Template, table: &TableB) -> Result<String, Fail> {
-    let message = message_in(octets).ok_or("a message")?;
-    if message.compressed() {
-        return Ok(format!(in alloc; "compressed")?);
-    }
-    let mut steps = Steps::new();
-    match read_message(alloc, &message, template, table, &mut steps) {
-        Ok(reading) => shown(alloc, &reading, &mut steps),
-        Err(fault) => refused(alloc, fault, &steps),
-    }
-}
+// The same of compressed data.
+const ROWS_TOGETHER: &[(&str, u16, &str, &str, &str)] = &[
+    (
+        "compressed_missing",
+        2,
+        "012101",
+        "708F05",
+        "bits 24 steps 2 held 1; 1: 012101 28815e2 # 2: 012101 missing #",
+    ),
+    (
+        "compressed_name",
+        2,
+        "001015",
+        "00000000000000000000000000000000000000001105090C83FFFFFFFC",
+        "bits 230 steps 2 held 1; 1: 001015 \"4142432020202020202020202020202020202020\" # 2: 001015 missing #",
+    ),
+    (
+        "increment_to_missing",
+        2,
+        "001001",
+        "FC1080",
+        "bits 17 steps 2 held 1; 1: 001001 126e0 # 2: 001001 missing #",
+    ),
+    (
+        "increment_past_the_width",
+        2,
+        "001001",
+        "FC1100",
+        "34 at 0 001001 0 steps 1",
+    ),
+    (
+        "compressed_data_end",
+        2,
+        "001001",
+        "FC10",
+        "30 at 0 001001 0 steps 1",
+    ),
+    (
+        "factors_that_differ",
+        2,
+        "101000 031001 001001",
+        "0105",
+        "33 at 0 031001 0 steps 2",
+    ),
+];
 
 #[test]
 fn worked_messages(rt: HostRuntime) -> Result<(), Fail> {
-    let table_b = TableB::read(rt.alloc(), TABLE_B)?;
-    let table_d = TableD::read(rt.alloc(), TABLE_D)?;
     for (name, subsets, descriptors, data_text, want) in ROWS {
-        let descriptors = descriptors_of(rt.alloc(), descriptors)?;
         let payload = octets_of(rt.alloc(), data_text)?;
-        let octets = message_of(rt.alloc(), *subsets, 0x80, &descriptors, &payload)?;
-        let template = Template::build(rt.alloc(), &descriptors, &table_b, &table_d)?;
-        let told = told(rt.alloc(), &octets, &template, &table_b)?;
-        assert_eq!(rt; told.as_str(), *want, "{name}");
+        let worked = Worked::new(rt.alloc(), *subsets, APART, descriptors, &payload)?;
+        assert_eq!(rt; worked.told(rt.alloc())?.as_str(), *want, "{name}");
     }
+    Ok(())
+}
+
+#[test]
+fn compressed_messages(rt: HostRuntime) -> Result<(), Fail> {
+    for (name, subsets, descriptors, data_text, want) in ROWS_TOGETHER {
+        let payload = octets_of(rt.alloc(), data_text)?;
+        let worked = Worked::new(rt.alloc(), *subsets, TOGETHER, descriptors, &payload)?;
+        assert_eq!(rt; worked.told(rt.alloc())?.as_str(), *want, "{name}");
+    }
+    Ok(())
+}
+
+// So many octets, the first two of them given.
+fn octets_with(alloc: Global, size: usize, first: u8, second: u8) -> Result<Vec<u8>, Fail> {
+    let mut octets = vec![in alloc; 0u8; size]?;
+    if octets.len() > 1 {
+        octets[0] = first;
+        octets[1] = second;
+    }
+    Ok(octets)
+}
+
+#[test]
+fn one_item_too_many(rt: HostRuntime) -> Result<(), Fail> {
+    let descriptors = "101000 031002 001001";
+    let payload = octets_with(rt.alloc(), 3330, 0x08, 0x00)?;
+    let worked = Worked::new(rt.alloc(), 65535, TOGETHER, descriptors, &payload)?;
+    assert_eq!(rt;
+        worked.read(rt.alloc())?.as_str(),
+        "35 at 0 001001 26633 steps 4097"
+    );
+    Ok(())
+}
+
+#[test]
+fn as_many_items_as_may_be(rt: HostRuntime) -> Result<(), Fail> {
+    let descriptors = "101000 031002 001001";
+    let payload = octets_with(rt.alloc(), 3330, 0x07, 0xFF)?;
+    let worked = Worked::new(rt.alloc(), 65535, TOGETHER, descriptors, &payload)?;
+    assert_eq!(rt;
+        worked.read(rt.alloc())?.as_str(),
+        "bits 26633 steps 4097 held 2048"
+    );
+    Ok(())
+}
+
+#[test]
+fn factors_that_are_none(rt: HostRuntime) -> Result<(), Fail> {
+    let descriptors = "103000 031001 101000 031001 001001";
+    let payload = octets_with(rt.alloc(), 256, 0xFF, 0x00)?;
+    let worked = Worked::new(rt.alloc(), 1, APART, descriptors, &payload)?;
+    assert_eq!(rt; worked.read(rt.alloc())?.as_str(), "bits 2048 steps 768");
+    assert_eq!(rt; worked.counted(rt.alloc())?, (1, 256));
     Ok(())
 }
 
 #[test]
 fn as_many_subsets_as_may_be(rt: HostRuntime) -> Result<(), Fail> {
-    let table_b = TableB::read(rt.alloc(), TABLE_B)?;
-    let table_d = TableD::read(rt.alloc(), TABLE_D)?;
-    let descriptors = descriptors_of(rt.alloc(), "031000")?;
-    let payload = vec![in rt.alloc(); 0u8; 8192]?;
-    let octets = message_of(rt.alloc(), 65535, 0x80, &descriptors, &payload)?;
-    let template = Template::build(rt.alloc(), &descriptors, &table_b, &table_d)?;
-    let message = message_in(&octets).ok_or("a message")?;
-    let mut steps = Steps::new();
-    match read_message(rt.alloc(), &message, &template, &table_b, &mut steps) {
-        Ok(reading) => {
-            assert_eq!(rt; reading.subsets(), 65535);
-            assert_eq!(rt; reading.bits(), 65535);
-            assert_eq!(rt; steps.count(), 131_070);
-        }
-        Err(fault) => assert_eq!(rt; fault.number(), 0),
-    }
+    let payload = octets_with(rt.alloc(), 8192, 0x00, 0x00)?;
+    let worked = Worked::new(rt.alloc(), 65535, APART, "031000", &payload)?;
+    assert_eq!(rt;
+        worked.read(rt.alloc())?.as_str(),
+        "bits 65535 steps 131070"
+    );
+    assert_eq!(rt; worked.counted(rt.alloc())?, (65535, 65535));
+    Ok(())
+}
+
+#[test]
+fn as_many_compressed_subsets_as_may_be(rt: HostRuntime) -> Result<(), Fail> {
+    let worked = Worked::new(rt.alloc(), 65535, TOGETHER, "001001", &[0x14, 0x00])?;
+    assert_eq!(rt; worked.read(rt.alloc())?.as_str(), "bits 13 steps 2 held 1");
+    assert_eq!(rt; worked.counted(rt.alloc())?, (65535, 65535));
     Ok(())
 }
 
 #[test]
 fn as_many_characters_as_may_be(rt: HostRuntime) -> Result<(), Fail> {
-    let table_b = TableB::read(rt.alloc(), TABLE_B)?;
-    let table_d = TableD::read(rt.alloc(), TABLE_D)?;
-    let descriptors = descriptors_of(rt.alloc(), "201129 012101 205255")?;
-    let payload = vec![in rt.alloc(); 0u8; 258]?;
-    let octets = message_of(rt.alloc(), 1, 0x80, &descriptors, &payload)?;
-    let template = Template::build(rt.alloc(), &descriptors, &table_b, &table_d)?;
-    let told = told(rt.alloc(), &octets, &template, &table_b)?;
-    assert_eq!(rt; told.len(), 554);
+    let payload = octets_with(rt.alloc(), 258, 0x00, 0x00)?;
+    let worked = Worked::new(rt.alloc(), 1, APART, "201129 012101 205255", &payload)?;
+    assert_eq!(rt; worked.told(rt.alloc())?.len(), 554);
     Ok(())
 }
 

@@ -2,7 +2,7 @@ use Rattle.std.proofs.Common.{◌∙◌, ℕ, [], ◌∷◌, ap, codes, subst}
 use Rattle.std.specs.Prelude.{decimal}
 use Rattle.bufr_frame.specs.Numbers.{number_of_section_fault}
 use Rattle.bufr_cli.specs.FaultLine.{fault_line}
-use Rattle.bufr_cli.specs.Writing.{Writes}
+use Rattle.bufr_text.specs.Writing.{Writes}
 use Rattle.bufr_cli.proofs.fault_line.write_section_fault.Goals as goal
 
 pub returns-in-SectionPast-clause-writes : goal.returns-in-SectionPast-clause-writes

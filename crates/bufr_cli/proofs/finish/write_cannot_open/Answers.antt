@@ -1,5 +1,5 @@
 use Rattle.std.proofs.Common.{◌∷◌, ℕ, List, [], codes, subst}
-use Rattle.bufr_cli.specs.Writing.{Writes, joined}
+use Rattle.bufr_text.specs.Writing.{Writes, joined}
 use Rattle.bufr_cli.proofs.finish.write_cannot_open.Goals as goal
 
 pub returns-clause-writes : goal.returns-clause-writes

@@ -1,102 +1,10 @@
-use Rattle.std.proofs.Common.{◌≡◌, ◌∙◌, Ok, Err, refl, ap, map}
-use Rattle.std.proofs.lemmas.Result.{err_from_is_err_and}
-use Rattle.std.proofs.KnownBytes.{Keeps-refl}
+use Rattle.std.proofs.Common.{refl, map}
 use Rattle.bufr_cli.specs.Pieces.{ls_piece}
-use Rattle.bufr_cli.proofs.RunLemmas.{makes-reads, makes-reads-stop, ran-fresh, turn, stop-next, stop-write, stop-flush, flushed, is-event, all-known}
-use Rattle.bufr_frame.specs.declared.fault.RunFault.TheVariants.{Write}
-use Rattle.bufr_frame.proofs.FindingLemmas.{CountsReads-then}
+use Rattle.bufr_cli.proofs.RunLemmas.{all-known}
 use Rattle.bufr_cli.proofs.run_ls.run_ls.Goals as goal
 
-pub loop-finder-init : goal.loop-finder-init
-loop-finder-init g c = record {
-  ran = ran-fresh ls_piece _ _ _ _ c.new-finder.result _ c.new-finder.ensures refl refl;
-  reader = refl;
-  output_flushes = refl;
-  errors_flushes = refl;
-  output = (refl, refl);
-  errors = (refl, refl);
-}
-
-pub returns-in_err-event-clause-run : goal.returns-in_err-event-clause-run
-returns-in_err-event-clause-run g c =
-    let p = err_from_is_err_and c.from_residual.result c.from_residual.ensures.1 in
-    stop-next ls_piece _ _ _ _ _ _ _ _ _ _ _ _ _ _ c.loop-finder.invariant.ran c.next.follows.holds-at-none _ (c.loop-finder.invariant.output_flushes, c.loop-finder.invariant.errors_flushes) _ c.from_residual.result c.in_err-event.was (p.1 ∙ ap Err p.2)
-
-pub loop-finder-preserved : goal.loop-finder-preserved
-loop-finder-preserved g c =
-    let next = c.next.follows.holds-at-none in
-    let was = c.in_ok-event.was in
-    let before = c.loop-finder.invariant in
-    let some = is-event c.loop-finder.finder c.next.follows.lender-at-none c.in_ok-event.event (rw was at next.ends) c.in_default.not-Done in
-    let counts = rw c.in_ok-list_event.was at c.list_event.ensures.counts in record {
-      ran = turn ls_piece _ _ _ _ _ _ _ _ _ _ _ _ _ _ before.ran next _ _ _ c.in_ok-event.event was some
-          (rw c.in_ok-list_event.was at c.list_event.ensures.writes) (rw c.in_ok-list_event.was at c.list_event.ensures.tally) (rw c.in_ok-list_event.was at c.list_event.ensures.few);
-      reader = (rw was at c.next.ensures.failed) before.ran.sound ∙ before.reader;
-      output_flushes = c.list_event.ensures.output_flushes ∙ before.output_flushes;
-      errors_flushes = c.list_event.ensures.errors_flushes ∙ before.errors_flushes;
-      output = (counts.0.0 ∙ before.output.0, counts.0.1 ∙ before.output.1);
-      errors = (counts.1.0 ∙ before.errors.0, counts.1.1 ∙ before.errors.1);
-    }
-
-pub returns-in_err-list_event-clause-run : goal.returns-in_err-list_event-clause-run
-returns-in_err-list_event-clause-run g c =
-    let p = err_from_is_err_and c.from_residual-in_err-list_event.result c.from_residual-in_err-list_event.ensures.1 in
-    let next = c.next.follows.holds-at-none in
-    let some = is-event c.loop-finder.finder c.next.follows.lender-at-none c.in_ok-event.event (rw c.in_ok-event.was at next.ends) c.in_default.not-Done in
-    stop-write ls_piece _ _ _ _ _ _ _ _ _ _ _ _ _ _ c.loop-finder.invariant.ran next _
-    (c.list_event.ensures.output_flushes ∙ c.loop-finder.invariant.output_flushes, c.list_event.ensures.errors_flushes ∙ c.loop-finder.invariant.errors_flushes) _ _ c.in_ok-event.event _ c.list_event.result _ c.from_residual-in_err-list_event.result
-    c.in_ok-event.was some c.list_event.ensures.writes c.in_err-list_event.was (p.1 ∙ ap Err p.2)
-
-pub returns-in_err-flush-clause-run : goal.returns-in_err-flush-clause-run
-returns-in_err-flush-clause-run g c =
-    let p = err_from_is_err_and c.from_residual-in_err-flush.result c.from_residual-in_err-flush.ensures.1 in
-    stop-flush ls_piece _ _ _ _ _ _ _ _ _ _ _ _ _ c.next.result c.loop-finder.invariant.ran c.next.follows.holds-at-none (c.in_ok-event.was ∙ ap Ok c.in-Done.is) _ _
-    c.flush.ensures.keeps (Keeps-refl _) _ _ c.from_residual-in_err-flush.result (rw c.in_err-flush.was at c.flush.ensures.err) (p.1 ∙ ap Err p.2)
-
-pub returns-in_err-flush-2-clause-run : goal.returns-in_err-flush-2-clause-run
-returns-in_err-flush-2-clause-run g c =
-    let p = err_from_is_err_and c.from_residual-in_err-flush-2.result c.from_residual-in_err-flush-2.ensures.1 in
-    stop-flush ls_piece _ _ _ _ _ _ _ _ _ _ _ _ _ c.next.result c.loop-finder.invariant.ran c.next.follows.holds-at-none (c.in_ok-event.was ∙ ap Ok c.in-Done.is) _ _
-    c.flush.ensures.keeps c.flush-2.ensures.keeps _ _ c.from_residual-in_err-flush-2.result (rw c.in_err-flush-2.was at c.flush-2.ensures.err) (p.1 ∙ ap Err p.2)
-
 pub returns-clause-whole : goal.returns-clause-whole
-returns-clause-whole g c =
-    all-known (map ls_piece) _ _ _ _ _ _ _ (flushed ls_piece _ _ _ _ _ _ _ _ _ _ _ _ _ c.next.result c.loop-finder.invariant.ran c.next.follows.holds-at-none (c.in_ok-event.was ∙ ap Ok c.in-Done.is) _ _
-    c.flush.ensures.keeps c.flush-2.ensures.keeps)
+returns-clause-whole g c = all-known (map ls_piece) _ _ _ _ _ _ _ c.run_events.result (c.run_events.ensures.run.0, c.run_events.ensures.run.1 ls_piece (λ here. refl))
 
 pub returns-clause-run : goal.returns-clause-run
-returns-clause-run g c =
-    flushed ls_piece _ _ _ _ _ _ _ _ _ _ _ _ _ c.next.result c.loop-finder.invariant.ran c.next.follows.holds-at-none (c.in_ok-event.was ∙ ap Ok c.in-Done.is) _ _
-    c.flush.ensures.keeps c.flush-2.ensures.keeps
-
-pub returns-in_err-event-clause-reads : goal.returns-in_err-event-clause-reads
-returns-in_err-event-clause-reads g c =
-    let p = err_from_is_err_and c.from_residual.result c.from_residual.ensures.1 in
-    makes-reads-stop _ _ _ _ _ c.loop-finder.finder c.next.follows.lender-at-none c.next.result _ c.from_residual.result c.loop-finder.invariant.ran.counts c.next.follows.holds-at-none
-    c.loop-finder.invariant.ran.sound c.in_err-event.was (p.1 ∙ ap Err p.2)
-
-pub returns-in_err-list_event-clause-reads : goal.returns-in_err-list_event-clause-reads
-returns-in_err-list_event-clause-reads g c =
-    let p = err_from_is_err_and c.from_residual-in_err-list_event.result c.from_residual-in_err-list_event.ensures.1 in
-    let next = c.next.follows.holds-at-none in
-    let f : c.from_residual-in_err-list_event.result ≡ Err Write = p.1 ∙ ap Err (p.2 ∙ (rw c.in_err-list_event.was at c.list_event.ensures.writes).0) in
-    makes-reads _ _ c.next.follows.lender-at-none c.from_residual-in_err-list_event.result (CountsReads-then _ _ _ _ _ c.loop-finder.invariant.ran.counts next.counts) (λ long. cc) (λ wanted. cc)
-
-pub returns-in_err-flush-clause-reads : goal.returns-in_err-flush-clause-reads
-returns-in_err-flush-clause-reads g c =
-    let p = err_from_is_err_and c.from_residual-in_err-flush.result c.from_residual-in_err-flush.ensures.1 in
-    let next = c.next.follows.holds-at-none in
-    let f : c.from_residual-in_err-flush.result ≡ Err Write = p.1 ∙ ap Err (p.2 ∙ (rw c.in_err-flush.was at c.flush.ensures.err)) in
-    makes-reads _ _ c.next.follows.lender-at-none c.from_residual-in_err-flush.result (CountsReads-then _ _ _ _ _ c.loop-finder.invariant.ran.counts next.counts) (λ long. cc) (λ wanted. cc)
-
-pub returns-in_err-flush-2-clause-reads : goal.returns-in_err-flush-2-clause-reads
-returns-in_err-flush-2-clause-reads g c =
-    let p = err_from_is_err_and c.from_residual-in_err-flush-2.result c.from_residual-in_err-flush-2.ensures.1 in
-    let next = c.next.follows.holds-at-none in
-    let f : c.from_residual-in_err-flush-2.result ≡ Err Write = p.1 ∙ ap Err (p.2 ∙ (rw c.in_err-flush-2.was at c.flush-2.ensures.err)) in
-    makes-reads _ _ c.next.follows.lender-at-none c.from_residual-in_err-flush-2.result (CountsReads-then _ _ _ _ _ c.loop-finder.invariant.ran.counts next.counts) (λ long. cc) (λ wanted. cc)
-
-pub returns-clause-reads : goal.returns-clause-reads
-returns-clause-reads g c =
-    let next = c.next.follows.holds-at-none in
-    makes-reads _ _ c.next.follows.lender-at-none _ (CountsReads-then _ _ _ _ _ c.loop-finder.invariant.ran.counts next.counts) (λ long. cc) (λ wanted. cc)
+returns-clause-run g c = (c.run_events.ensures.run.0, c.run_events.ensures.run.1 ls_piece (λ here. refl))

@@ -7,5 +7,5 @@ use Rattle.bufr_walk.proofs.in_force.redefine.Goals as goal
 
 pub returns : goal.returns
 returns c =
-    ap latest c.in_ok-push.ensures.items ∙ latest_more c.args.redefined.now.items _
+    ap latest c.in-Ok.ensures.items ∙ latest_more c.args.redefined.now.items _
     ∙ ap (λ (z : ℤ). let r : Redefined = record { fxy = c.args.fxy; reference = z } in r ∷ latest c.args.redefined.now.items) (to_z-of_z c.ranges.reference)

@@ -1,0 +1,275 @@
+//! A dumper written by hand in plain Rust, to measure `bufr dump` against: it maps the file, reads
+//! the tables into maps and writes the same text for messages whose templates have elements, fixed
+//! replications and sequences, plain or compressed. No operators, no checks but of the end of the
+//! data, no proof: only a yardstick.
+use std::collections::HashMap;
+use std::fs::File;
+use std::io::Write as _;
+use std::os::fd::AsRawFd;
+
+extern "C" {
+    fn mmap(at: *mut u8, length: usize, access: i32, flags: i32, file: i32, offset: i64) -> *mut u8;
+}
+
+#[derive(Clone)]
+struct Element {
+    text: Vec<u8>,
+    comment: Vec<u8>,
+    is_text: bool,
+    scale: i32,
+    reference: i64,
+    width: u32,
+    always: bool,
+}
+
+type Sequences = HashMap<u16, Vec<u16>>;
+
+fn number(octets: &[u8]) -> usize {
+    octets.iter().fold(0, |n, octet| n << 8 | usize::from(*octet))
+}
+
+fn word(text: &str) -> u16 {
+    let n: u32 = text.parse().expect("a descriptor");
+    ((n / 100_000) << 14 | (n / 1000 % 100) << 8 | n % 1000) as u16
+}
+
+/// The fields of a line; only the name may be quoted.
+fn fields(line: &str) -> Vec<String> {
+    let mut out = vec![String::new()];
+    let mut quoted = false;
+    for c in line.chars() {
+        match c {
+            '"' => quoted = !quoted,
+            ',' if !quoted => out.push(String::new()),
+            c => out.last_mut().expect("a field").push(c),
+        }
+    }
+    out
+}
+
+fn elements(name: &str) -> HashMap<u16, Element> {
+    let text = std::fs::read_to_string(name).expect("table B");
+    let mut map = HashMap::new();
+    for line in text.lines().skip(1) {
+        let f = fields(line);
+        let key = word(&f[0]);
+        let element = Element {
+            text: format!("{} ", f[0]).into_bytes(),
+            comment: format!("  # {} [{}]\n", f[1], f[2]).into_bytes(),
+            is_text: f[2] == "CCITT IA5",
+            scale: f[3].parse().expect("a scale"),
+            reference: f[4].parse().expect("a reference"),
+            width: f[5].parse().expect("a width"),
+            always: key >> 8 & 63 == 31,
+        };
+        map.insert(key, element);
+    }
+    map
+}
+
+fn sequences(name: &str) -> Sequences {
+    let text = std::fs::read_to_string(name).expect("table D");
+    let mut map = Sequences::new();
+    for line in text.lines().skip(1) {
+        let (sequence, member) = line.split_once(',').expect("two fields");
+        map.entry(word(sequence)).or_default().push(word(member));
+    }
+    map
+}
+
+fn expand(list: &[u16], sequences: &Sequences, out: &mut Vec<u16>) {
+    let mut i = 0;
+    while i < list.len() {
+        let d = list[i];
+        i += 1;
+        match d >> 14 {
+            0 => out.push(d),
+            1 => {
+                let many = usize::from(d >> 8 & 63);
+                for _ in 0..d & 255 {
+                    expand(&list[i..i + many], sequences, out);
+                }
+                i += many;
+            }
+            3 => expand(&sequences[&d], sequences, out),
+            _ => panic!("no operators"),
+        }
+    }
+}
+
+/// A field of up to 57 bits.
+fn field(octets: &[u8], at: usize, width: u32) -> u64 {
+    let place = at / 8;
+    let window = match octets.get(place..place + 8) {
+        Some(eight) => u64::from_be_bytes(eight.try_into().expect("eight")),
+        None => {
+            let mut eight = [0; 8];
+            let rest = &octets[place..];
+            eight[..rest.len()].copy_from_slice(rest);
+            u64::from_be_bytes(eight)
+        }
+    };
+    window << (at % 8) >> (64 - width)
+}
+
+fn put_digits(out: &mut Vec<u8>, mut n: u64, least: usize) {
+    let mut digits = [b'0'; 40];
+    let mut i = 40;
+    while n > 0 {
+        i -= 1;
+        digits[i] = b'0' + (n % 10) as u8;
+        n /= 10;
+    }
+    out.extend_from_slice(&digits[i.min(40 - least)..]);
+}
+
+fn put_decimal(out: &mut Vec<u8>, v: i64, scale: i32) {
+    if v < 0 {
+        out.push(b'-');
+    }
+    if scale > 0 {
+        put_digits(out, v.unsigned_abs(), scale as usize + 1);
+        out.insert(out.len() - scale as usize, b'.');
+    } else {
+        put_digits(out, v.unsigned_abs(), 1);
+        if v != 0 {
+            out.resize(out.len() + (-scale) as usize, b'0');
+        }
+    }
+}
+
+fn put_number(out: &mut Vec<u8>, element: &Element, raw: u64) {
+    if raw == (1 << element.width) - 1 && !element.always {
+        out.extend_from_slice(b"MISSING");
+    } else {
+        put_decimal(out, raw as i64 + element.reference, element.scale);
+    }
+}
+
+fn put_text(out: &mut Vec<u8>, octets: &[u8]) {
+    if octets.iter().all(|octet| *octet == 255) {
+        out.extend_from_slice(b"MISSING");
+        return;
+    }
+    out.push(b'"');
+    for octet in octets {
+        match octet {
+            b'"' | b'\\' => out.extend_from_slice(&[b'\\', *octet]),
+            32..=126 => out.push(*octet),
+            _ => write!(out, "\\x{octet:02X}").expect("room"),
+        }
+    }
+    out.push(b'"');
+}
+
+fn put_plain(out: &mut Vec<u8>, element: &Element, data: &[u8], at: usize) {
+    out.extend_from_slice(&element.text);
+    if element.is_text {
+        let mut octets = [0; 255];
+        let many = (element.width / 8) as usize;
+        for (i, octet) in octets[..many].iter_mut().enumerate() {
+            *octet = field(data, at + 8 * i, 8) as u8;
+        }
+        put_text(out, &octets[..many]);
+    } else {
+        put_number(out, element, field(data, at, element.width));
+    }
+    out.extend_from_slice(&element.comment);
+}
+
+fn put_header(out: &mut Vec<u8>, m: &[u8], s: &[u8], t: &[u8], list: &[u16]) {
+    let values = [
+        ("edition", usize::from(m[7])), ("master", s[3].into()), ("centre", number(&s[4..6])),
+        ("subcentre", number(&s[6..8])), ("update", s[8].into()), ("category", s[10].into()),
+        ("subcategory", s[11].into()), ("localsubcategory", s[12].into()), ("masterversion", s[13].into()),
+        ("localversion", s[14].into()), ("year", number(&s[15..17])), ("month", s[17].into()),
+        ("day", s[18].into()), ("hour", s[19].into()), ("minute", s[20].into()), ("second", s[21].into()),
+        ("observed", usize::from(t[6] >> 7)), ("compressed", usize::from(t[6] >> 6 & 1)),
+        ("optional", 0), ("subsets", number(&t[4..6])),
+    ];
+    out.extend_from_slice(b"message\n");
+    for (key, value) in values {
+        writeln!(out, "{key} {value}").expect("room");
+    }
+    for eight in list.chunks(8) {
+        out.extend_from_slice(b"descriptors");
+        for d in eight {
+            write!(out, " {}{:02}{:03}", d >> 14, d >> 8 & 63, d & 255).expect("room");
+        }
+        out.push(b'\n');
+    }
+}
+
+fn main() {
+    let names: Vec<String> = std::env::args().skip(1).collect();
+    let table_b = elements(&names[0]);
+    let table_d = sequences(&names[1]);
+    let file = File::open(&names[2]).expect("a file that opens");
+    let length = file.metadata().expect("its length").len() as usize;
+    let octets = unsafe {
+        let at = mmap(std::ptr::null_mut(), length, 1, 2, file.as_raw_fd(), 0);
+        std::slice::from_raw_parts(at, length)
+    };
+    let mut file = std::io::BufWriter::with_capacity(1 << 16, std::io::stdout().lock());
+    let mut out = Vec::new();
+    let mut place = 0;
+    while place < octets.len() {
+        let m = &octets[place..place + number(&octets[place + 4..place + 7])];
+        place += m.len();
+        let s = &m[8..];
+        let t = &s[number(&s[..3])..];
+        let four = &t[number(&t[..3])..];
+        let data = &four[4..number(&four[..3])];
+        let list: Vec<u16> = t[7..number(&t[..3])].chunks_exact(2).map(|two| number(two) as u16).collect();
+        let mut flat = Vec::new();
+        expand(&list, &table_d, &mut flat);
+        let flat: Vec<&Element> = flat.iter().map(|d| &table_b[d]).collect();
+        let subsets = number(&t[4..6]);
+        out.clear();
+        put_header(&mut out, m, s, t, &list);
+        if t[6] & 64 == 0 {
+            let mut at = 0;
+            for subset in 1..=subsets {
+                writeln!(out, "subset {subset}").expect("room");
+                for element in &flat {
+                    assert!(at + element.width as usize <= 8 * data.len());
+                    put_plain(&mut out, element, data, at);
+                    at += element.width as usize;
+                }
+                file.write_all(&out).expect("written");
+                out.clear();
+            }
+        } else {
+            let mut places = Vec::new();
+            let mut at = 0;
+            for element in &flat {
+                let many = field(data, at + element.width as usize, 6) as usize;
+                places.push((at, many));
+                at += element.width as usize + 6 + subsets * many;
+            }
+            assert!(at <= 8 * data.len());
+            for subset in 0..subsets {
+                writeln!(out, "subset {}", subset + 1).expect("room");
+                for (element, (at, many)) in flat.iter().zip(&places) {
+                    out.extend_from_slice(&element.text);
+                    let base = field(data, *at, element.width);
+                    let more = if *many == 0 {
+                        0
+                    } else {
+                        field(data, at + element.width as usize + 6 + subset * many, *many as u32)
+                    };
+                    if *many > 0 && more == (1 << many) - 1 {
+                        out.extend_from_slice(b"MISSING");
+                    } else {
+                        put_number(&mut out, element, base + more);
+                    }
+                    out.extend_from_slice(&element.comment);
+                }
+                file.write_all(&out).expect("written");
+                out.clear();
+            }
+        }
+        out.extend_from_slice(b"end\n");
+        file.write_all(&out).expect("written");
+    }
+}

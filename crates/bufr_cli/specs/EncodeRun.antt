@@ -1,0 +1,47 @@
+-- What a run of `encode` leaves, by its answer. (a choice of this project)
+-- Cited by public contracts.
+use Rattle.std.specs.Prelude.{◌≡◌, ℕ, Bool, true, false, List, [], ◌++◌, Option, Result, Ok, Err, IfSome}
+use Rattle.std.specs.Io.KnownBytes.{Consumes}
+use Rattle.bufr_frame.specs.declared.fault.RunFault.{RunFault}
+use Rattle.bufr_frame.specs.declared.fault.RunFault.TheVariants.{Read, Write, InputTooLong, Memory}
+use Rattle.bufr_text.specs.Documents.{Told, documents_of, open_documents_of}
+use Rattle.bufr_cli.specs.Pieces.{Piece}
+use Rattle.bufr_cli.specs.Running.{Written, WrittenInPart, Tallies}
+use Rattle.bufr_cli.specs.declared.tally.Tally.{Tally}
+
+-- what the octets that were read spell: to their end, where it was reached
+abbrev pub read_documents : (ended : Bool) → List ℕ → List Told
+read_documents true bs = documents_of bs
+read_documents false bs = open_documents_of bs
+
+-- The pieces of the whole input were written and counted, whatever is behind the octets that were read: nothing, where the end was reached, and
+-- all that comes behind a refused document counts for nothing.
+pub record EncodeDone (pieces_of : List Told → List Piece) (left left' w w' e e' : Option (List ℕ)) (bs : List ℕ) (tally : Tally) : Type 0 where
+  pub read : Consumes left left' bs
+  pub ended : Bool
+  pub end : ended ≡ true → IfSome left (λ s. bs ≡ s)
+  pub written : (t : List ℕ) → (ended ≡ true → t ≡ []) → Written w w' e e' (pieces_of (documents_of (bs ++ t)))
+  -- so much is certain from what was read
+  pub certain : Written w w' e e' (pieces_of (read_documents ended bs))
+  pub tallies : (t : List ℕ) → (ended ≡ true → t ≡ []) → Tallies tally (pieces_of (documents_of (bs ++ t)))
+
+-- The run stopped before the end, and the pieces of the documents whose `end` was read with its line feed were written.
+pub record EncodeStopped (pieces_of : List Told → List Piece) (left left' w w' e e' : Option (List ℕ)) (bs : List ℕ) : Type 0 where
+  pub read : Consumes left left' bs
+  pub written : Written w w' e e' (pieces_of (open_documents_of bs))
+
+-- A writer failed, or memory was refused: of what was read a front was written; where a flush was tried, all stands.
+pub record EncodeCut (pieces_of : List Told → List Piece) (left left' w w' e e' : Option (List ℕ)) (unflushed : Type 0) (bs : List ℕ) : Type 0 where
+  pub read : Consumes left left' bs
+  pub ended : Bool
+  pub end : ended ≡ true → IfSome left (λ s. bs ≡ s)
+  pub written : WrittenInPart w w' e e' (pieces_of (read_documents ended bs))
+  pub flushed : ¬ unflushed → (t : List ℕ) → (ended ≡ true → t ≡ []) → Written w w' e e' (pieces_of (documents_of (bs ++ t)))
+
+-- what a run leaves that reads these octets
+abbrev pub EncodeSo : (pieces_of : List Told → List Piece) → (left left' w w' e e' : Option (List ℕ)) → (unflushed : Type 0) → List ℕ → Result Tally RunFault → Type 0
+EncodeSo pieces_of left left' w w' e e' unflushed bs (Ok tally) = EncodeDone pieces_of left left' w w' e e' bs tally
+EncodeSo pieces_of left left' w w' e e' unflushed bs (Err Read) = EncodeStopped pieces_of left left' w w' e e' bs
+EncodeSo pieces_of left left' w w' e e' unflushed bs (Err InputTooLong) = EncodeStopped pieces_of left left' w w' e e' bs
+EncodeSo pieces_of left left' w w' e e' unflushed bs (Err Memory) = EncodeCut pieces_of left left' w w' e e' unflushed bs
+EncodeSo pieces_of left left' w w' e e' unflushed bs (Err Write) = EncodeCut pieces_of left left' w w' e e' unflushed bs

@@ -1,0 +1,23 @@
+-- What telling one document does to the writers and to the counts of a run.
+-- Cited by private steps only.
+use Rattle.std.specs.Prelude.{◌≡◌, ◌⊎◌, ℕ, List, [], ◌∷◌, Option, Some, None, Result, Ok, Err}
+use Rattle.bufr_frame.specs.declared.fault.RunFault.{RunFault}
+use Rattle.bufr_frame.specs.declared.fault.RunFault.TheVariants.{Read, Write, InputTooLong, Memory}
+use Rattle.bufr_text.specs.Document.{Document}
+use Rattle.bufr_text.specs.Documents.{Told}
+use Rattle.bufr_text.specs.Reader.{told_by}
+use Rattle.bufr_text.specs.declared.fault.ReadFault.{ReadFault}
+use Rattle.bufr_text.specs.declared.fault.ReadFault.TheVariants.{Run}
+use Rattle.bufr_cli.specs.Pieces.{Piece}
+use Rattle.bufr_cli.specs.Telling.{TellsPieces}
+use Rattle.bufr_cli.specs.declared.tally.Verdict.{Verdict}
+
+-- the piece of what the reader told was written and counted, or a front of it; at the end of the text there is none
+abbrev pub TellsNext : (w w' e e' : Option (List ℕ)) → (Told → Piece) → Result (Option Document) ReadFault → Result (Option Verdict) RunFault → Type 0
+TellsNext w w' e e' piece next (Ok None) = (next ≡ Ok None) × (w' ≡ w) × (e' ≡ e)
+TellsNext w w' e e' piece next (Ok (Some verdict)) = (x : Told) × (told_by next ≡ x ∷ []) × TellsPieces w w' e e' (piece x ∷ []) (Ok verdict)
+TellsNext w w' e e' piece next (Err Read) = (next ≡ Err (Run Read)) × (w' ≡ w) × (e' ≡ e)
+TellsNext w w' e e' piece next (Err InputTooLong) = (next ≡ Err (Run InputTooLong)) × (w' ≡ w) × (e' ≡ e)
+TellsNext w w' e e' piece next (Err Write) = (x : Told) × (told_by next ≡ x ∷ []) × TellsPieces w w' e e' (piece x ∷ []) (Err Write)
+TellsNext w w' e e' piece next (Err Memory) =
+    ((next ≡ Err (Run Memory)) × (w' ≡ w) × (e' ≡ e)) ⊎ ((x : Told) × (told_by next ≡ x ∷ []) × TellsPieces w w' e e' (piece x ∷ []) (Err Memory))

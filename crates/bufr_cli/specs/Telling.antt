@@ -1,0 +1,44 @@
+-- What telling one event does to the writers and to the counts of a run.
+-- Cited by private steps only.
+use Rattle.std.specs.Prelude.{◌≡◌, ℕ, ◌+◌, Bool, true, false, List, Option, Result, Ok, Err, flat_map, count_by}
+use Rattle.bufr_frame.specs.Runs.{MakesReads}
+use Rattle.bufr_frame.specs.declared.fault.RunFault.{RunFault}
+use Rattle.bufr_frame.specs.declared.fault.RunFault.TheVariants.{Read, Write, InputTooLong, Memory}
+use Rattle.bufr_cli.specs.Pieces.{Piece, output_of, errors_of, is_accepted, is_refused}
+use Rattle.bufr_cli.specs.Running.{Written, ReadsAtMost}
+use Rattle.bufr_text.specs.Writing.{GrowsByFront}
+use Rattle.bufr_cli.specs.declared.tally.Tally.{Tally}
+use Rattle.bufr_cli.specs.declared.tally.Verdict.{Verdict}
+use Rattle.bufr_cli.specs.declared.tally.Verdict.TheVariants.{Accepted, Refused}
+
+-- how many pieces a verdict counts on the output, and on the errors
+abbrev pub accepted_in : Verdict → ℕ
+accepted_in Accepted = 1
+accepted_in Refused = 0
+
+abbrev pub refused_in : Verdict → ℕ
+refused_in Accepted = 0
+refused_in Refused = 1
+
+-- one more piece in a tally
+abbrev pub tally_after : Tally → Verdict → Tally
+tally_after tally verdict = record { accepted = tally.accepted + accepted_in verdict; refused = tally.refused + refused_in verdict }
+
+-- pieces were written and counted, or a front of them, where a writer failed or memory was refused
+abbrev pub TellsPieces : (w w' e e' : Option (List ℕ)) → List Piece → Result Verdict RunFault → Type 0
+TellsPieces w w' e e' pieces (Ok verdict) =
+    Written w w' e e' pieces × (accepted_in verdict ≡ count_by is_accepted pieces) × (refused_in verdict ≡ count_by is_refused pieces)
+TellsPieces w w' e e' pieces (Err fault) = GrowsByFront w w' (flat_map output_of pieces) × GrowsByFront e e' (flat_map errors_of pieces)
+
+-- a piece is stopped by a writer, or by want of memory where its text takes memory
+abbrev pub StopsPiece : (takes_memory : Bool) → Result Verdict RunFault → Type 0
+StopsPiece takes_memory (Ok verdict) = Unit {0}
+StopsPiece takes_memory (Err Read) = ⊥
+StopsPiece takes_memory (Err Write) = Unit {0}
+StopsPiece takes_memory (Err InputTooLong) = ⊥
+StopsPiece takes_memory (Err Memory) = takes_memory ≡ true
+
+-- the reads of a run; where its texts take no memory, it is wanted only before all of the reads were made
+abbrev pub RunReads : {X : Type 0} → (takes_memory : Bool) → (reads reads' : ℕ) → Result X RunFault → Type 0
+RunReads false reads reads' result = MakesReads reads reads' result
+RunReads true reads reads' result = ReadsAtMost reads reads' result

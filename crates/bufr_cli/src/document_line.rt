@@ -1,0 +1,200 @@
+//! The lines that tell the faults of a document.
+ghost use Rattle.std.specs.Prelude.{◌≡◌, ◌≢◌, ℕ, [], ◌∷◌, Err, IfErr, IfSome, codes, decimal};
+ghost use Rattle.bufr_fill.specs.Told.{other_than};
+ghost use Rattle.bufr_tables.specs.Fxy.{fxy_text};
+ghost use Rattle.bufr_tables.specs.FaultNumber.{number_of_template_fault};
+ghost use Rattle.bufr_text.specs.Documents.{LineFault, Refused};
+ghost use Rattle.bufr_text.specs.Reader.{told_by};
+ghost use Rattle.bufr_text.specs.Encoding.{by_template};
+ghost use Rattle.bufr_text.specs.EncodingFault.{told_refusal, walk_told};
+ghost use Rattle.bufr_text.specs.Writing.{Writes, CountsWrites};
+ghost use Rattle.bufr_cli.specs.DocumentLine.{document_line, item_line, refusal_line, refused_line, walk_text};
+
+use crate::fault_line::name_of_template_fault;
+use bufr_bits::Sink;
+use bufr_fill::Expected;
+use bufr_frame::RunFault;
+use bufr_tables::{Fxy, TemplateFault};
+use bufr_text::{DocumentFault, Part, ReadFault, WalkRefusal, write_parts};
+
+/// Writes a fault line: the line of the text, from 1, the fault's number, and its text in two parts.
+fn write_line<'a, E: Sink>(
+    line: u64,
+    number: u8,
+    text: &'a [u8],
+    digits: &'a [u8],
+    e: &mut E,
+) -> Result<(), RunFault>
+    ensures writes { Writes (E.taken e.old) (E.taken e.new) (document_line line number (text.entry.now ∷ digits.entry.now ∷ [])) result }
+    ensures counts { CountsWrites (E.failures e.old) (E.failures e.new) (E.empty_writes e.old) (E.empty_writes e.new) result }
+    ensures flushes { E.flushes e.new ≡ E.flushes e.old }
+{
+    let parts = [
+        Part::Text(b"line "),
+        Part::Decimal(line),
+        Part::Text(b": "),
+        Part::Decimal(u64::from(number)),
+        Part::Text(b" "),
+        Part::Text(text),
+        Part::Text(digits),
+        Part::Text(b"\n"),
+    ];
+    write_parts(&parts, e)
+}
+
+/// Writes a fault line that names a descriptor.
+fn write_descriptor_line<E: Sink>(
+    line: u64,
+    number: u8,
+    text: &[u8],
+    fxy: Fxy,
+    e: &mut E,
+) -> Result<(), RunFault>
+    ensures writes { Writes (E.taken e.old) (E.taken e.new) (document_line line number (text.now ∷ fxy_text fxy ∷ [])) result }
+    ensures counts { CountsWrites (E.failures e.old) (E.failures e.new) (E.empty_writes e.old) (E.empty_writes e.new) result }
+    ensures flushes { E.flushes e.new ≡ E.flushes e.old }
+{
+    let digits = fxy.text();
+    write_line(line, number, text, &digits, e)
+}
+
+/// Writes the line of a document in whose `line` another item, or none, stands where this is
+/// expected.
+fn write_expected<E: Sink>(line: u64, expected: Expected, e: &mut E) -> Result<(), RunFault>
+    ensures writes { Writes (E.taken e.old) (E.taken e.new) (item_line line (other_than expected)) result }
+    ensures counts { CountsWrites (E.failures e.old) (E.failures e.new) (E.empty_writes e.old) (E.empty_writes e.new) result }
+    ensures flushes { E.flushes e.new ≡ E.flushes e.old }
+{
+    match expected {
+        Expected::Item(fxy) => write_descriptor_line(line, 51, b"expected ", fxy, e),
+        Expected::Reference(fxy) => write_descriptor_line(line, 51, b"expected R ", fxy, e),
+        Expected::EndOfSubset => write_line(line, 51, b"expected end of subset", b"", e),
+    }
+}
+
+/// Writes the line of a document whose descriptors make no template.
+fn write_template<E: Sink>(line: u64, fault: &TemplateFault, e: &mut E) -> Result<(), RunFault>
+    requires { fault.now ≢ TemplateFault.Memory }
+    ensures writes { Writes (E.taken e.old) (E.taken e.new) (refusal_line line (by_template fault.now)) result }
+    ensures counts { CountsWrites (E.failures e.old) (E.failures e.new) (E.empty_writes e.old) (E.empty_writes e.new) result }
+    ensures flushes { E.flushes e.new ≡ E.flushes e.old }
+{
+    let (name, fxy) = name_of_template_fault(fault);
+    let number = fault.number();
+    let digits = fxy.text();
+    write_template_parts(line, number, name, &digits, e)
+}
+
+/// Writes the line of a template fault of this number, name and descriptor.
+fn write_template_parts<'a, E: Sink>(
+    line: u64,
+    number: u8,
+    name: &'a [u8],
+    digits: &'a [u8],
+    e: &mut E,
+) -> Result<(), RunFault>
+    ensures writes { Writes (E.taken e.old) (E.taken e.new) (document_line line 56 (codes "template " ∷ decimal number ∷ codes " " ∷ name.entry.now ∷ digits.entry.now ∷ [])) result }
+    ensures counts { CountsWrites (E.failures e.old) (E.failures e.new) (E.empty_writes e.old) (E.empty_writes e.new) result }
+    ensures flushes { E.flushes e.new ≡ E.flushes e.old }
+{
+    let parts = [
+        Part::Text(b"line "),
+        Part::Decimal(line),
+        Part::Text(b": "),
+        Part::Decimal(56),
+        Part::Text(b" "),
+        Part::Text(b"template "),
+        Part::Decimal(u64::from(number)),
+        Part::Text(b" "),
+        Part::Text(name),
+        Part::Text(digits),
+        Part::Text(b"\n"),
+    ];
+    write_parts(&parts, e)
+}
+
+/// Writes the line of a document whose walk is refused.
+fn write_walk_number<E: Sink>(line: u64, number: u8, fxy: Fxy, e: &mut E) -> Result<(), RunFault>
+    ensures writes { Writes (E.taken e.old) (E.taken e.new) (document_line line 62 (walk_text number fxy)) result }
+    ensures counts { CountsWrites (E.failures e.old) (E.failures e.new) (E.empty_writes e.old) (E.empty_writes e.new) result }
+    ensures flushes { E.flushes e.new ≡ E.flushes e.old }
+{
+    let digits = fxy.text();
+    let parts = [
+        Part::Text(b"line "),
+        Part::Decimal(line),
+        Part::Text(b": "),
+        Part::Decimal(62),
+        Part::Text(b" "),
+        Part::Text(b"walk "),
+        Part::Decimal(u64::from(number)),
+        Part::Text(b" descriptor "),
+        Part::Text(&digits),
+        Part::Text(b"\n"),
+    ];
+    write_parts(&parts, e)
+}
+
+/// Writes the line of a document whose walk over the template is refused.
+fn write_walk<E: Sink>(line: u64, refusal: WalkRefusal, e: &mut E) -> Result<(), RunFault>
+    ensures writes { Writes (E.taken e.old) (E.taken e.new) (item_line line (walk_told refusal)) result }
+    ensures counts { CountsWrites (E.failures e.old) (E.failures e.new) (E.empty_writes e.old) (E.empty_writes e.new) result }
+    ensures flushes { E.flushes e.new ≡ E.flushes e.old }
+{
+    match refusal {
+        WalkRefusal::Width(fxy) => write_walk_number(line, 31, fxy, e),
+        WalkRefusal::Defining(fxy) => write_walk_number(line, 32, fxy, e),
+        WalkRefusal::TooManyValues(fxy) => write_walk_number(line, 35, fxy, e),
+    }
+}
+
+/// Writes the line of a document that cannot be encoded. Want of memory has no line. It takes no
+/// memory.
+///
+/// # Errors
+///
+/// [`RunFault::Write`] where the writer fails or takes nothing; a front of the line was taken.
+pub fn write_document_fault<E: Sink>(fault: DocumentFault, e: &mut E) -> Result<(), RunFault>
+    requires some { fault ≢ DocumentFault.Memory }
+    requires template { (line : ℕ) → fault ≢ DocumentFault.Template line TemplateFault.Memory }
+    ensures writes { IfSome (told_refusal fault) (λ refused. Writes (E.taken e.old) (E.taken e.new) (refusal_line refused.line refused.why) result) }
+    ensures counts { CountsWrites (E.failures e.old) (E.failures e.new) (E.empty_writes e.old) (E.empty_writes e.new) result }
+    ensures flushes { E.flushes e.new ≡ E.flushes e.old }
+{
+    match fault {
+        DocumentFault::WrongDescriptor(line, expected) => write_expected(line, expected, e),
+        DocumentFault::Number(line) => write_line(line, 52, b"number", b"", e),
+        DocumentFault::OutOfRange(line) => write_line(line, 53, b"out of range", b"", e),
+        DocumentFault::TextLong(line) => write_line(line, 54, b"text long", b"", e),
+        DocumentFault::MissingForbidden(line) => {
+            write_line(line, 55, b"missing forbidden", b"", e)
+        }
+        DocumentFault::Template(line, why) => write_template(line, &why, e),
+        DocumentFault::UnequalFactor(line) => write_line(line, 58, b"unequal factor", b"", e),
+        DocumentFault::Increment(line) => write_line(line, 59, b"increment", b"", e),
+        DocumentFault::TooLong(line) => write_line(line, 60, b"too long", b"", e),
+        DocumentFault::Walk(line, why) => write_walk(line, why, e),
+        DocumentFault::Memory => unreachable!(),
+    }
+}
+
+/// Writes the line of a text line that is refused. A fault of the reading itself has no line. It
+/// takes no memory.
+///
+/// # Errors
+///
+/// [`RunFault::Write`] where the writer fails or takes nothing; a front of the line was taken.
+pub fn write_read_fault<E: Sink>(fault: ReadFault, e: &mut E) -> Result<(), RunFault>
+    requires { (run : RunFault) → fault ≢ ReadFault.Run run }
+    ensures writes { (line : ℕ) (why : LineFault) → told_by (Err fault) ≡ Refused line why ∷ [] → Writes (E.taken e.old) (E.taken e.new) (refused_line line why) result }
+    ensures err { IfErr result (λ why. why ≡ RunFault.Write) }
+    ensures counts { CountsWrites (E.failures e.old) (E.failures e.new) (E.empty_writes e.old) (E.empty_writes e.new) result }
+    ensures flushes { E.flushes e.new ≡ E.flushes e.old }
+{
+    match fault {
+        ReadFault::Line(line) => write_line(line, 50, b"line", b"", e),
+        ReadFault::SubsetCount(line) => write_line(line, 57, b"subset count", b"", e),
+        ReadFault::HeaderRange(line) => write_line(line, 61, b"header range", b"", e),
+        ReadFault::Run(_) => unreachable!(),
+    }
+}

@@ -1,0 +1,34 @@
+mod ExampleTables
+mod PlainExamples
+mod PackedExamples
+pub mod RoundTrip
+pub mod FieldBits
+pub mod PlainLaws
+pub mod DraftLaws
+pub mod LeastLemmas
+pub mod PackedBack
+pub mod PackedRead
+pub mod PackedLaws
+pub mod PackedTrip
+pub mod WholeLaws
+pub mod WalkFills
+pub mod Across
+pub mod GoodSpecs
+pub mod GoodCourse
+pub mod GoodReads
+pub mod SameBits
+pub mod DrawnLemmas
+pub mod DrawLemmas
+pub mod PutLemmas
+pub mod PlainSteps
+pub mod Places
+pub mod PackSteps
+pub mod TextSteps
+pub mod CellSteps
+pub mod NumberSteps
+pub mod TextLeast
+pub mod AcrossSteps
+pub mod PlainWalks
+pub mod TableRows
+pub mod Laws
+pub mod PackedWalks

@@ -1,0 +1,162 @@
+-- What is packed is read again.
+use Rattle.std.proofs.Common.{◌≡◌, ℕ, zero, suc, ◌+◌, ◌-◌, ◌*◌, ◌^◌, ◌<◌, ◌≤◌, ◌≢◌, ◌&&◌, eqb, Bool, true, false, not, List, [], ◌∷◌, ◌++◌, length, take, drop, map, replicate, Result, Ok, Err, refl, sym, ◌∙◌, ap, arith, append_assoc}
+use Rattle.std.specs.Prelude.{◌==◌, nat_lt, if◌then◌else◌}
+use Rattle.std.specs.List.{list_all, flat_map}
+use Rattle.std.proofs.lemmas.List.{take_at, drop_at, length-append, length-replicate, length-take-le}
+use Rattle.std.proofs.lemmas.Bool.Decides.{nat_tests}
+use Rattle.bufr_bits.specs.Bits.{bits_of, bits_in, number_of, all_set}
+use Rattle.bufr_bits.proofs.BitLemmas.{length-bits_of}
+use Rattle.bufr_bits.proofs.PushLemmas.{length-bits_in}
+use Rattle.bufr_bits.proofs.ScaledLemmas.{and_first, and_second}
+use Rattle.bufr_walk.specs.Content.{Content, number, text, missing, reference, octets_in}
+use Rattle.bufr_walk.specs.PlainField.{FieldFault, increment}
+use Rattle.bufr_walk.specs.PackedField.{ones, and_more, increased, increments, all_increased, text_of}
+use Rattle.bufr_fill.specs.Packing.{top, same_octets, has_bits, has_octets, increment_bits, octet_bits}
+use Rattle.bufr_fill.specs.Fits.{AreOctets, FitsNumber, FitsText}
+use Rattle.bufr_fill.proofs.FieldBits.{number_again, ones_test, ones_set, octets_again, full_test}
+use Rattle.bufr_fill.proofs.LeastLemmas.{AreNumbers, IsOver, AreOver, octets_same}
+
+-- pieces of one length, one for each of a list
+abbrev pub AreLong : {X : Type 0} → (X → List Bool) → ℕ → List X → Type 0
+AreLong f k [] = Unit {0}
+AreLong f k (x ∷ xs) = (length (f x) ≡ k) × AreLong f k xs
+
+module _ {X : Type 0} (f : X → List Bool) (k : ℕ) where
+  pub pieces_length : (xs : List X) → AreLong f k xs → length (flat_map f xs) ≡ length xs * k
+  pieces_length [] long = omega arith
+  pieces_length (x ∷ xs) long = omega (arith, length-append (f x) (flat_map f xs), long.0, pieces_length xs long.1)
+
+  -- they are found one by one
+  pub pieces_found : (xs : List X) (more : List Bool) → AreLong f k xs → increments (length xs) k (flat_map f xs ++ more) ≡ map f xs
+  pieces_found [] more long = refl
+  pieces_found (x ∷ xs) more long =
+      let turned : (f x ++ flat_map f xs) ++ more ≡ f x ++ (flat_map f xs ++ more) = append_assoc (f x) (flat_map f xs) more in
+      ap (λ bs. take k bs ∷ increments (length xs) k (drop k bs)) turned
+      ∙ ap (λ b. b ∷ increments (length xs) k (drop k (f x ++ (flat_map f xs ++ more)))) (take_at (f x) (flat_map f xs ++ more) k long.0)
+      ∙ ap (λ bs. f x ∷ increments (length xs) k bs) (drop_at (f x) (flat_map f xs ++ more) k long.0)
+      ∙ ap (λ bss. f x ∷ bss) (pieces_found xs more long.1)
+
+-- a number from its increment
+within : (a b : ℕ) → b ≤ a → nat_lt a b ≡ false
+within a b h = grind (arith, nat_tests)
+
+apart : (a b : ℕ) → a ≢ b → (a == b) ≡ false
+apart a b h = grind (arith, nat_tests)
+
+equal : (a : ℕ) → (a == a) ≡ true
+equal a = grind (arith, nat_tests)
+
+below_from : (a b : ℕ) → nat_lt a b ≡ true → a < b
+below_from a b h = grind (arith, nat_tests)
+
+not_both : (m : Bool) (a b : ℕ) → (m ≡ true → a ≢ b) → (m && (a == b)) ≡ false
+not_both true a b h = apart a b (h refl)
+not_both false a b h = refl
+
+by_tests : (a b c : Bool) (x y : Content) → a ≡ false → b ≡ false → c ≡ false → x ≡ y → ◌≡◌ {A = Result Content FieldFault} (if a then Ok missing else if b then Err increment else if c then Ok missing else Ok x) (Ok y)
+by_tests a b c x y p q r e =
+    ap (λ t. if t then Ok missing else if b then Err increment else if c then Ok missing else Ok x) p
+    ∙ ap (λ t. if t then Err increment else if c then Ok missing else Ok x) q
+    ∙ ap (λ t. if t then Ok missing else Ok x) r ∙ ap Ok e
+
+top_pow : (m : Bool) (k v : ℕ) → v < top m k → v < 2 ^ k
+top_pow true k v h = omega arith
+top_pow false k v h = h
+
+top_ones : (m : Bool) (k v : ℕ) → v < top m k → m ≡ true → v < ones k
+top_ones true k v h e = h
+top_ones false k v h e = absurd cc
+
+module _ (m : Bool) (w base k : ℕ) where
+  number_increased : (n : ℕ) → base ≤ n → n < top m w → n - base < top m k → increased m w base k (number_of (bits_in (n - base) k)) ≡ Ok (number n)
+  number_increased n over fits short =
+      let i : number_of (bits_in (n - base) k) ≡ n - base = number_again (n - base) k (top_pow m k (n - base) short) in
+      let e : base + (n - base) ≡ n = omega arith in
+      ap (increased m w base k) i
+      ∙ by_tests (m && (n - base == ones k)) (nat_lt (ones w) (base + (n - base))) (m && (base + (n - base) == ones w)) (number (base + (n - base))) (number n)
+      (not_both m (n - base) (ones k) (λ t. let s = top_ones m k (n - base) short t in λ q. omega (arith, s, q)))
+      (within (ones w) (base + (n - base)) (let p = top_pow m w n fits in omega (arith, p, e)))
+      (not_both m (base + (n - base)) (ones w) (λ t. let s = top_ones m w n fits t in λ q. omega (arith, s, q, e)))
+      (ap number e)
+
+  ones_number : number_of (replicate k true) ≡ ones k
+  ones_number =
+      let t : eqb (number_of (replicate k true)) (2 ^ k - 1) ≡ true = ones_test (replicate k true) k (length-replicate k true) ∙ ones_set k in
+      grind (arith, nat_tests)
+
+  missing_increased : m ≡ true → increased m w base k (number_of (replicate k true)) ≡ Ok missing
+  missing_increased e =
+      ap (increased m w base k) ones_number
+      ∙ ap (λ b. if b && (ones k == ones k) then Ok missing else if nat_lt (ones w) (base + ones k) then Err increment else if m && (base + ones k == ones w) then Ok missing else Ok (number (base + ones k))) e
+      ∙ ap (λ b. if b then Ok missing else if nat_lt (ones w) (base + ones k) then Err increment else if m && (base + ones k == ones w) then Ok missing else Ok (number (base + ones k))) (equal (ones k))
+
+  one_increased : (c : Content) → FitsNumber m w c → IsOver base c → has_bits m base k c ≡ true → increased m w base k (number_of (increment_bits base k c)) ≡ Ok c
+  one_increased (number n) h o p = number_increased n o h (below_from (n - base) (top m k) p)
+  one_increased (text os) h o p = absurd h
+  one_increased missing h o p = missing_increased h
+  one_increased (reference v) h o p = absurd h
+
+  -- numbers over a base are read again from their increments
+  pub numbers_back : (cs : List Content) → AreNumbers m w cs → AreOver base cs → list_all (has_bits m base k) cs ≡ true → all_increased m w base k (map (increment_bits base k) cs) ≡ Ok cs
+  numbers_back [] h o p = refl
+  numbers_back (c ∷ cs) h o p =
+      ap (λ r. and_more r (all_increased m w base k (map (increment_bits base k) cs))) (one_increased c h.0 o.0 (and_first (has_bits m base k c) (list_all (has_bits m base k) cs) p))
+      ∙ ap (and_more (Ok c)) (numbers_back cs h.1 o.1 (and_second (has_bits m base k c) (list_all (has_bits m base k) cs) p))
+
+  pub increment_length : (c : Content) → length (increment_bits base k c) ≡ k
+  increment_length (number n) = length-bits_in (n - base) k
+  increment_length (text os) = length-replicate k true
+  increment_length missing = length-replicate k true
+  increment_length (reference v) = length-replicate k true
+
+  pub increments_long : (cs : List Content) → AreLong (increment_bits base k) k cs
+  increments_long [] = tt
+  increments_long (c ∷ cs) = (increment_length c, increments_long cs)
+
+-- texts
+abbrev pub AreTexts : ℕ → List Content → Type 0
+AreTexts count [] = Unit {0}
+AreTexts count (c ∷ cs) = FitsText count c × AreTexts count cs
+
+not_true : (b : Bool) → not b ≡ true → b ≡ false
+not_true true h = cc
+not_true false h = refl
+
+AreOctets-take : (k : ℕ) (os : List ℕ) → AreOctets os → AreOctets (take k os)
+AreOctets-take zero os h = tt
+AreOctets-take (suc k) [] h = tt
+AreOctets-take (suc k) (o ∷ os) h = (h.0, AreOctets-take k os h.1)
+
+module _ (count k : ℕ) (short : k ≤ count) where
+  pub octets_length : (c : Content) → FitsText count c → length (octet_bits k c) ≡ 8 * k
+  octets_length (text os) h = length-bits_of (take k os) ∙ ap (λ n. 8 * n) (length-take-le k os (omega (arith, h.0)))
+  octets_length missing h = length-replicate (8 * k) true
+  octets_length (number n) h = absurd h
+  octets_length (reference v) h = absurd h
+
+  pub octets_long : (cs : List Content) → AreTexts count cs → AreLong (octet_bits k) (8 * k) cs
+  octets_long [] h = tt
+  octets_long (c ∷ cs) h = (octets_length c h.0, octets_long cs h.1)
+
+  one_text : (c : Content) → FitsText count c → has_octets k c ≡ true → text_of count k (octet_bits k c) ≡ c
+  one_text (number n) h p = absurd h
+  one_text (reference v) h p = absurd h
+  one_text missing h p = ap (λ b. if b then missing else text (octets_in k (replicate (8 * k) true) ++ replicate (count - k) 32)) (ones_set (8 * k))
+  one_text (text os) h p =
+      let front = take k os in
+      let l : length front ≡ k = length-take-le k os (omega (arith, h.0)) in
+      let are : AreOctets front = AreOctets-take k os h.1 in
+      let some : all_set (bits_of front) ≡ false = full_test front are ∙ not_true (list_all (λ octet. octet == 255) front) (and_second (same_octets (front ++ replicate (length os - k) 32) os) (not (list_all (λ octet. octet == 255) front)) p) in
+      let whole : front ++ replicate (length os - k) 32 ≡ os = octets_same (front ++ replicate (length os - k) 32) os (and_first (same_octets (front ++ replicate (length os - k) 32) os) (not (list_all (λ octet. octet == 255) front)) p) in
+      ap (λ b. if b then missing else text (octets_in k (bits_of front) ++ replicate (count - k) 32)) some
+      ∙ ap (λ n. text (octets_in n (bits_of front) ++ replicate (count - k) 32)) (sym l)
+      ∙ ap (λ x. text (x ++ replicate (count - k) 32)) (octets_again front are)
+      ∙ ap (λ n. text (front ++ replicate (n - k) 32)) (sym h.0)
+      ∙ ap text whole
+
+  -- texts are read again from their octets
+  pub texts_back : (cs : List Content) → AreTexts count cs → list_all (has_octets k) cs ≡ true → map (text_of count k) (map (octet_bits k) cs) ≡ cs
+  texts_back [] h p = refl
+  texts_back (c ∷ cs) h p =
+      ap (λ x. x ∷ map (text_of count k) (map (octet_bits k) cs)) (one_text c h.0 (and_first (has_octets k c) (list_all (has_octets k) cs) p))
+      ∙ ap (λ xs. c ∷ xs) (texts_back cs h.1 (and_second (has_octets k c) (list_all (has_octets k) cs) p))

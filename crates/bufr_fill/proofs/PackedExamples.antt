@@ -1,0 +1,139 @@
+-- Worked examples of items packed for all subsets.
+use Rattle.std.proofs.Common.{◌≡◌, Bool, [], ◌∷◌, ◌++◌, replicate, Ok, Err, pos, refl}
+use Rattle.std.specs.Prelude.{codes}
+use Rattle.bufr_bits.specs.Bits.{bits_of, bits_in}
+use Rattle.bufr_bits.specs.DecimalValue.{decimal_value_of}
+use Rattle.bufr_tables.specs.declared.kind.Kind.TheVariants as kind
+use Rattle.bufr_walk.specs.declared.spec.Refusal.TheVariants as refusal
+use Rattle.bufr_walk.specs.declared.spec.Role.TheVariants as role
+use Rattle.bufr_walk.specs.Asked.{Asked}
+use Rattle.bufr_tables.specs.Tree.{bare, operator}
+use Rattle.bufr_fill.specs.Draft.{draft, text_form, missing_form, reference_token}
+use Rattle.bufr_fill.specs.Entries.{subset}
+use Rattle.bufr_fill.specs.Fault.{at_line, wrong_descriptor, wrong_number, out_of_range, item_too_many, unequal_factors, uneven_increment, too_many_values, walk_refused}
+use Rattle.bufr_fill.specs.Encoding.{across, pack_across, none_across}
+use Rattle.bufr_fill.proofs.ExampleTables.{temperature, block, figure, name, four_letters, delayed_blocks, redefined, width_of_none, numbered, packed_to_bits, ok_bits, zeros, letters}
+
+missing_written : packed_to_bits temperature (subset (numbered 24 3173 (codes "288.15") ∷ []) 25 ∷ subset (draft 26 3173 missing_form ∷ []) 27 ∷ []) ≡ ok_bits (112 ∷ 143 ∷ 5 ∷ []) 24
+unfolding packed_to_bits ok_bits temperature decimal_value_of bits_in
+missing_written = refl
+
+all_missing : packed_to_bits temperature (subset (draft 24 3173 missing_form ∷ []) 25 ∷ subset (draft 26 3173 missing_form ∷ []) 27 ∷ []) ≡ ok_bits (255 ∷ 255 ∷ 0 ∷ []) 22
+unfolding packed_to_bits ok_bits temperature bits_in
+all_missing = refl
+
+equal_written : packed_to_bits temperature (subset (numbered 24 3173 (codes "288.15") ∷ []) 25 ∷ subset (numbered 26 3173 (codes "288.15") ∷ []) 27 ∷ []) ≡ ok_bits (112 ∷ 143 ∷ 0 ∷ []) 22
+unfolding packed_to_bits ok_bits temperature decimal_value_of bits_in
+equal_written = refl
+
+-- with k = 1 the second would read as missing
+differing_written : packed_to_bits temperature (subset (numbered 24 3173 (codes "288.15") ∷ []) 25 ∷ subset (numbered 26 3173 (codes "288.16") ∷ []) 27 ∷ []) ≡ ok_bits (112 ∷ 143 ∷ 8 ∷ 64 ∷ []) 26
+unfolding packed_to_bits ok_bits temperature decimal_value_of bits_in
+differing_written = refl
+
+-- the base is the least number, wherever it stands
+least_is_second : packed_to_bits temperature (subset (numbered 24 3173 (codes "288.16") ∷ []) 25 ∷ subset (numbered 26 3173 (codes "288.15") ∷ []) 27 ∷ []) ≡ ok_bits (112 ∷ 143 ∷ 9 ∷ 0 ∷ []) 26
+unfolding packed_to_bits ok_bits temperature decimal_value_of bits_in
+least_is_second = refl
+
+-- a missing first value is no base
+missing_first : packed_to_bits block (subset (draft 24 257 missing_form ∷ []) 25 ∷ subset (numbered 26 257 (codes "10") ∷ []) 27 ∷ []) ≡ ok_bits (20 ∷ 12 ∷ []) 15
+unfolding packed_to_bits ok_bits block decimal_value_of bits_in
+missing_first = refl
+
+-- where nothing is missing an increment may be all ones
+figures_written : packed_to_bits figure (subset (numbered 24 7957 (codes "5") ∷ []) 25 ∷ subset (numbered 26 7957 (codes "6") ∷ []) 27 ∷ []) ≡ ok_bits (20 ∷ 20 ∷ []) 14
+unfolding packed_to_bits ok_bits figure decimal_value_of bits_in
+figures_written = refl
+
+name_written : packed_to_bits name (subset (draft 24 271 (text_form (codes "ABC")) ∷ []) 25 ∷ subset (draft 26 271 missing_form ∷ []) 27 ∷ []) ≡ ok_bits (zeros 20 (13 ∷ 5 ∷ 9 ∷ 15 ∷ 255 ∷ 255 ∷ 252 ∷ [])) 214
+unfolding packed_to_bits ok_bits zeros name bits_in bits_of
+name_written = refl
+
+names_equal : packed_to_bits four_letters (subset (draft 24 34052 (text_form (codes "AB")) ∷ []) 25 ∷ subset (draft 26 34052 (text_form (codes "AB  ")) ∷ []) 27 ∷ []) ≡ ok_bits (65 ∷ 66 ∷ 32 ∷ 32 ∷ 0 ∷ []) 38
+unfolding packed_to_bits ok_bits four_letters bits_in bits_of
+names_equal = refl
+
+-- with k = 1 the first would read as missing
+text_that_begins_with_ones : packed_to_bits four_letters (subset (draft 24 34052 (text_form (255 ∷ [])) ∷ []) 25 ∷ subset (draft 26 34052 (text_form (codes "B")) ∷ []) 27 ∷ []) ≡ ok_bits (zeros 4 (11 ∷ 252 ∷ 129 ∷ 8 ∷ 128 ∷ [])) 70
+unfolding packed_to_bits ok_bits zeros four_letters bits_in bits_of
+text_that_begins_with_ones = refl
+
+-- texts of 64 octets that differ in octet 63, and in octet 64
+texts_of_63 : packed_to_bits (operator 34112 bare) (subset (draft 24 34112 (text_form (letters 62 65)) ∷ []) 25 ∷ subset (draft 26 34112 (text_form (letters 62 66)) ∷ []) 27 ∷ [])
+    ≡ Ok (replicate 512 Bool.false ++ (bits_in 63 6 ++ bits_of (letters 62 65 ++ letters 62 66)))
+unfolding packed_to_bits letters bits_in bits_of
+texts_of_63 = refl
+
+texts_too_long_apart : packed_to_bits (operator 34112 bare) (subset (draft 24 34112 (text_form (letters 63 65)) ∷ []) 25 ∷ subset (draft 26 34112 (text_form (letters 63 66)) ∷ []) 27 ∷ []) ≡ Err (at_line 24 uneven_increment)
+unfolding packed_to_bits letters bits_in
+texts_too_long_apart = refl
+
+-- the first subset whose factor is not that of the first
+factors_unequal : packed_to_bits delayed_blocks
+    (subset (numbered 24 7937 (codes "0") ∷ []) 25 ∷ subset (numbered 26 7937 (codes "0") ∷ []) 27 ∷ subset (numbered 28 7937 (codes "1") ∷ numbered 29 257 (codes "1") ∷ []) 30 ∷ []) ≡ Err (at_line 28 unequal_factors)
+unfolding packed_to_bits delayed_blocks decimal_value_of bits_in
+factors_unequal = refl
+
+blocks_written : packed_to_bits delayed_blocks
+    (subset (numbered 24 7937 (codes "1") ∷ numbered 25 257 (codes "10") ∷ []) 26 ∷ subset (numbered 27 7937 (codes "1") ∷ numbered 28 257 (codes "10") ∷ []) 29 ∷ []) ≡ ok_bits (1 ∷ 0 ∷ 80 ∷ 0 ∷ []) 27
+unfolding packed_to_bits ok_bits delayed_blocks decimal_value_of bits_in
+blocks_written = refl
+
+references_equal : packed_to_bits redefined
+    (subset (draft 24 3173 (reference_token (codes "-400")) ∷ numbered 25 3173 (codes "284.15") ∷ []) 26 ∷ subset (draft 27 3173 (reference_token (codes "-400")) ∷ numbered 28 3173 (codes "284.15") ∷ []) 29 ∷ [])
+    ≡ ok_bits (228 ∷ 0 ∷ 112 ∷ 143 ∷ 0 ∷ []) 38
+unfolding packed_to_bits ok_bits redefined decimal_value_of bits_in
+references_equal = refl
+
+references_differ : packed_to_bits redefined
+    (subset (draft 24 3173 (reference_token (codes "-400")) ∷ []) 26 ∷ subset (draft 27 3173 (reference_token (codes "400")) ∷ []) 29 ∷ []) ≡ Err (at_line 24 uneven_increment)
+unfolding packed_to_bits redefined decimal_value_of bits_in
+references_differ = refl
+
+-- subset by subset, and only then whether they can be packed
+second_at_fault : packed_to_bits delayed_blocks (subset (numbered 24 7937 (codes "0") ∷ []) 25 ∷ subset (numbered 26 7937 (codes "1") ∷ []) 27 ∷ subset (numbered 28 7937 (codes "1.5") ∷ []) 29 ∷ []) ≡ Err (at_line 28 wrong_number)
+unfolding packed_to_bits delayed_blocks decimal_value_of bits_in
+second_at_fault = refl
+
+first_goes_before : packed_to_bits temperature (subset (numbered 24 3173 (codes "655.35") ∷ []) 25 ∷ subset (numbered 26 257 (codes "1") ∷ []) 27 ∷ []) ≡ Err (at_line 24 out_of_range)
+unfolding packed_to_bits temperature decimal_value_of
+first_goes_before = refl
+
+item_left_out : packed_to_bits temperature (subset (numbered 24 3173 (codes "1") ∷ []) 25 ∷ subset [] 26 ∷ []) ≡ Err (at_line 26 (wrong_descriptor 3173 Bool.false))
+unfolding packed_to_bits temperature decimal_value_of bits_in
+item_left_out = refl
+
+none_left : packed_to_bits temperature (subset [] 25 ∷ subset [] 26 ∷ []) ≡ Err (at_line 25 (wrong_descriptor 3173 Bool.false))
+unfolding packed_to_bits temperature
+none_left = refl
+
+item_too_many_in_the_second : packed_to_bits temperature
+    (subset (numbered 24 3173 (codes "1") ∷ []) 25 ∷ subset (numbered 26 3173 (codes "1") ∷ numbered 27 3173 (codes "1") ∷ []) 28 ∷ []) ≡ Err (at_line 27 item_too_many)
+unfolding packed_to_bits temperature decimal_value_of bits_in
+item_too_many_in_the_second = refl
+
+-- the walk's refusal is told at the first subset's next line
+width_refused : packed_to_bits width_of_none (subset [] 25 ∷ subset (numbered 26 257 (codes "0") ∷ []) 27 ∷ []) ≡ Err (at_line 25 (walk_refused (refusal.Width 257)))
+unfolding packed_to_bits width_of_none
+width_refused = refl
+
+no_subsets : packed_to_bits width_of_none [] ≡ Ok []
+unfolding packed_to_bits
+no_subsets = refl
+
+as_quantity : Asked
+as_quantity = record { fxy = 3173; role = role.Element; kind = kind.Numeric; width = 16; scale = pos 2; reference = pos 0; may_be_missing = Bool.true; listed = Bool.true }
+
+-- 134,217,728 values are allowed, one more is not; that goes before another descriptor
+last_value : pack_across as_quantity (across 67108863 (subset [] 25 ∷ subset [] 26 ∷ [])) ≡ Err (at_line 25 (wrong_descriptor 3173 Bool.false))
+unfolding as_quantity
+last_value = refl
+
+values_too_many : pack_across as_quantity (across 67108864 (subset [] 25 ∷ subset [] 26 ∷ [])) ≡ Err (at_line 25 (too_many_values 3173))
+unfolding as_quantity
+values_too_many = refl
+
+values_too_many_at_the_end : none_across 25 Bool.true as_quantity ≡ at_line 25 (too_many_values 3173)
+unfolding as_quantity
+values_too_many_at_the_end = refl

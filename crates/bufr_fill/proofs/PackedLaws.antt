@@ -1,0 +1,498 @@
+-- An item of compressed data that was read is packed so that it is read again, in no more bits.
+use Rattle.std.proofs.Common.{◌≡◌, ℕ, ◌+◌, ◌*◌, ◌/◌, ◌^◌, ◌<◌, ◌≤◌, ◌≢◌, ◌&&◌, Bool, true, false, List, [], ◌∷◌, ◌++◌, length, take, drop, map, replicate, Option, Some, None, Result, Ok, Err, refl, sym, ◌∙◌, ap, subst, arith, append_assoc, pow_mono}
+use Rattle.std.specs.Prelude.{◌==◌, nat_lt, nat_le, if◌then◌else◌, unwrap_or}
+use Rattle.std.specs.List.{list_all, flat_map}
+use Rattle.std.proofs.lemmas.List.{take_at, drop_at, drop-drop, length-append, length-replicate, length-take, length-take-le, length-drop, length-map}
+use Rattle.std.proofs.lemmas.Bool.Decides.{nat_tests}
+use Rattle.std.proofs.Math.Nat.{mul-le-mul_left}
+use Rattle.bufr_bits.specs.Bits.{bits_in, number_of, all_set}
+use Rattle.bufr_bits.proofs.BitLemmas.{number_of-below}
+use Rattle.bufr_bits.proofs.PushLemmas.{length-bits_in}
+use Rattle.bufr_bits.proofs.ScaledLemmas.{and_first, and_second}
+use Rattle.bufr_tables.specs.declared.kind.Kind.{Kind}
+use Rattle.bufr_tables.specs.declared.kind.Kind.TheVariants as kind
+use Rattle.bufr_walk.specs.declared.spec.Role.{Role}
+use Rattle.bufr_walk.specs.declared.spec.Role.TheVariants as role
+use Rattle.bufr_walk.specs.Asked.{Asked, IsSpec, HasWidth}
+use Rattle.bufr_walk.specs.Content.{Content, number, text, missing, reference, content_in, bits_for}
+use Rattle.bufr_walk.specs.PlainField.{FieldFault, data_end, increment, unequal_factor, Found, found}
+use Rattle.bufr_walk.specs.PackedField.{increments, all_increased, text_of, step_of, numbers_of, texts_of, varied_by, same_count, all_same, if_equal, varied, contents_of, with_behind, item_by, packed_field}
+use Rattle.bufr_fill.specs.Packing.{top, same, are_same, lowest, has_bits, has_octets, least_k, increment_bits, octet_bits, packed_bits, numbers_over, packed_by, packed_unlike, packing}
+use Rattle.bufr_fill.specs.Fits.{FitsNumber, FitsText, FitsKind, FitsRole, Fits, AllFit}
+use Rattle.bufr_fill.proofs.FieldBits.{number_again, number_back, top_below}
+use Rattle.bufr_fill.proofs.LeastLemmas.{first_least, first_passes, first_from_start, content_same, are_same_copies, AreNumbers, AreOver, none_over, lowest_over, lowest_fits, under_lowest}
+use Rattle.bufr_fill.proofs.PackedBack.{pieces_length, pieces_found, numbers_back, increments_long, AreTexts, octets_long, texts_back}
+use Rattle.bufr_fill.proofs.PackedRead.{AllLong, increments_all, numbers_read, all_over, texts_fit, texts_again}
+use Rattle.bufr_fill.proofs.PlainLaws.{content_back, content_length, content_fits}
+
+past : (a b : ℕ) → b ≤ a → nat_lt a b ≡ false
+past a b h = grind (arith, nat_tests)
+
+at_most : (a b : ℕ) → nat_lt a b ≡ false → b ≤ a
+at_most a b h = grind (arith, nat_tests)
+
+same_ok : {A : Type 0} (a b : A) → ◌≡◌ {A = Result A FieldFault} (Ok a) (Ok b) → a ≡ b
+same_ok a b e = cc
+
+-- ---- what stands in bits that were read
+
+pub record IsUnpacked (n : ℕ) (spec : Asked) (bits : List Bool) (cs : List Content) (mid : List Bool) (k : ℕ) : Type 0 where
+  pub small : k ≤ 63
+  pub base : length (take spec.width bits) ≡ spec.width
+  pub enough : n * step_of spec.role spec.kind k ≤ length (drop (spec.width + 6) bits)
+  pub contents : contents_of spec k (take spec.width bits) (increments n (step_of spec.role spec.kind k) (drop (spec.width + 6) bits)) ≡ Ok cs
+  pub used : spec.width + 6 + n * step_of spec.role spec.kind k + length mid ≤ length bits
+
+module _ (n : ℕ) (spec : Asked) where
+  with_rest : (r : Result (List Content) FieldFault) (rest : List Bool) (cs : List Content) (mid : List Bool) → with_behind r rest ≡ Ok (found cs mid) → (r ≡ Ok cs) × (rest ≡ mid)
+  with_rest (Err why) rest cs mid e = cc
+  with_rest (Ok x) rest cs mid e =
+      let f = same_ok _ _ e in
+      (ap (λ (y : Found (List Content)). Ok y.content) f, ap (λ (y : Found (List Content)). y.behind) f)
+
+  by_ends : (a b : Bool) (bits : List Bool) (cs : List Content) (mid : List Bool) (k : ℕ) → k ≤ 63 → nat_lt (length bits) (spec.width + 6) ≡ a → nat_lt (length (drop (spec.width + 6) bits)) (n * step_of spec.role spec.kind k) ≡ b
+      → (if a then Err data_end else if b then Err data_end else with_behind (contents_of spec k (take spec.width bits) (increments n (step_of spec.role spec.kind k) (drop (spec.width + 6) bits))) (drop (n * step_of spec.role spec.kind k) (drop (spec.width + 6) bits))) ≡ Ok (found cs mid)
+      → IsUnpacked n spec bits cs mid k
+  by_ends true b bits cs mid k small p q e = cc
+  by_ends false true bits cs mid k small p q e = cc
+  by_ends false false bits cs mid k small p q e =
+      let behind = drop (spec.width + 6) bits in
+      let step = step_of spec.role spec.kind k in
+      let f = with_rest (contents_of spec k (take spec.width bits) (increments n step behind)) (drop (n * step) behind) cs mid e in
+      let long : spec.width + 6 ≤ length bits = at_most (length bits) (spec.width + 6) p in
+      let enough : n * step ≤ length behind = at_most (length behind) (n * step) q in
+      record {
+        small = small;
+        base = length-take-le spec.width bits (omega arith);
+        enough = enough;
+        contents = f.0;
+        used = omega (arith, long, enough, length-drop (spec.width + 6) bits, length-drop (n * step) behind, ap length f.1);
+      }
+
+  k_small : (bits : List Bool) → number_of (take 6 bits) ≤ 63
+  k_small bits =
+      let l : length (take 6 bits) ≤ 6 = omega (arith, length-take 6 bits) in
+      let p : 2 ^ length (take 6 bits) ≤ 2 ^ 6 = pow_mono l in
+      omega (arith, number_of-below (take 6 bits), p)
+
+  pub unpacked : (bits : List Bool) (cs : List Content) (mid : List Bool) → packed_field n spec bits ≡ Ok (found cs mid) → IsUnpacked n spec bits cs mid (number_of (take 6 (drop spec.width bits)))
+  unpacked bits cs mid e =
+      let k = number_of (take 6 (drop spec.width bits)) in
+      by_ends (nat_lt (length bits) (spec.width + 6)) (nat_lt (length (drop (spec.width + 6) bits)) (n * step_of spec.role spec.kind k)) bits cs mid k (k_small (drop spec.width bits)) refl refl e
+
+  -- ---- bits that are packed are read by their parts
+  pub packed_reads : (base : List Bool) (k : ℕ) (pieces more : List Bool) (cs : List Content) → length base ≡ spec.width → k ≤ 63 → length pieces ≡ n * step_of spec.role spec.kind k
+      → contents_of spec k base (increments n (step_of spec.role spec.kind k) (pieces ++ more)) ≡ Ok cs
+      → packed_field n spec (packed_bits base k pieces ++ more) ≡ Ok (found cs more)
+  packed_reads base k pieces more cs lb small lp e =
+      let w = spec.width in
+      let step = step_of spec.role spec.kind k in
+      let all = packed_bits base k pieces ++ more in
+      let turned : all ≡ base ++ (bits_in k 6 ++ (pieces ++ more)) = append_assoc base (bits_in k 6 ++ pieces) more ∙ ap (λ x. base ++ x) (append_assoc (bits_in k 6) pieces more) in
+      let first : take w all ≡ base = ap (take w) turned ∙ take_at base (bits_in k 6 ++ (pieces ++ more)) w lb in
+      let rest : drop w all ≡ bits_in k 6 ++ (pieces ++ more) = ap (drop w) turned ∙ drop_at base (bits_in k 6 ++ (pieces ++ more)) w lb in
+      let six : take 6 (drop w all) ≡ bits_in k 6 = ap (take 6) rest ∙ take_at (bits_in k 6) (pieces ++ more) 6 (length-bits_in k 6) in
+      let is_k : number_of (take 6 (drop w all)) ≡ k = ap number_of six ∙ number_again k 6 (omega arith) in
+      let behind : drop (w + 6) all ≡ pieces ++ more = sym (drop-drop 6 w all) ∙ ap (drop 6) rest ∙ drop_at (bits_in k 6) (pieces ++ more) 6 (length-bits_in k 6) in
+      let size : length all ≡ w + 6 + (length pieces + length more) = omega (arith, ap length turned, length-append base (bits_in k 6 ++ (pieces ++ more)), length-append (bits_in k 6) (pieces ++ more), length-append pieces more, lb, length-bits_in k 6) in
+      let none : nat_lt (length all) (w + 6) ≡ false = past (length all) (w + 6) (omega (arith, size)) in
+      let enough : nat_lt (length (pieces ++ more)) (n * step) ≡ false = past (length (pieces ++ more)) (n * step) (omega (arith, length-append pieces more, lp)) in
+      ap (λ b. if b then Err data_end else item_by spec n (number_of (take 6 (drop w all))) all) none
+      ∙ ap (λ j. item_by spec n j all) is_k
+      ∙ ap (λ x. if nat_lt (length x) (n * step) then Err data_end else with_behind (contents_of spec k (take w all) (increments n step x)) (drop (n * step) x)) behind
+      ∙ ap (λ b. if b then Err data_end else with_behind (contents_of spec k (take w all) (increments n step (pieces ++ more))) (drop (n * step) (pieces ++ more))) enough
+      ∙ ap (λ x. with_behind (contents_of spec k x (increments n step (pieces ++ more))) (drop (n * step) (pieces ++ more))) first
+      ∙ ap (λ r. with_behind r (drop (n * step) (pieces ++ more))) e
+      ∙ ap (λ x. Ok (found cs x)) (drop_at pieces more (n * step) lp)
+
+-- ---- contents that differ
+
+-- what is known of contents that were read with k above 0: they fit, and so many bits, or octets, are enough for them
+abbrev pub IsVaried : Kind → Bool → (w k : ℕ) → List Content → Type 0
+IsVaried kind.Character m w k cs = AreTexts (w / 8) cs × (list_all (has_octets k) cs ≡ true) × (k ≤ w / 8)
+IsVaried kind.Coded m w k cs = AreNumbers m w cs × ((low : ℕ) → lowest cs ≡ Some low → list_all (has_bits m low k) cs ≡ true)
+IsVaried kind.Numeric m w k cs = AreNumbers m w cs × ((low : ℕ) → lowest cs ≡ Some low → list_all (has_bits m low k) cs ≡ true)
+
+-- the step of an item by kind
+abbrev pub step_by : Kind → ℕ → ℕ
+step_by kind.Character k = 8 * k
+step_by kind.Coded k = k
+step_by kind.Numeric k = k
+
+missing_numbers : {X : Type 0} (m : Bool) (w : ℕ) (is : List X) → m ≡ true → AreNumbers m w (map (λ i. missing) is)
+missing_numbers m w [] e = tt
+missing_numbers m w (i ∷ is) e = (e, missing_numbers m w is e)
+
+missing_has : {X : Type 0} (m : Bool) (low k : ℕ) (is : List X) → list_all (has_bits m low k) (map (λ i. missing) is) ≡ true
+missing_has m low k [] = refl
+missing_has m low k (i ∷ is) = missing_has m low k is
+
+module _ (spec : Asked) (k : ℕ) where
+  numbers_varied : (b : Bool) (base : List Bool) (is : List (List Bool)) (cs : List Content) → AllLong k is → (all_set base && spec.may_be_missing) ≡ b
+      → (if b then Ok (map (λ i. missing) is) else all_increased spec.may_be_missing spec.width (number_of base) k is) ≡ Ok cs
+      → (AreNumbers spec.may_be_missing spec.width cs × ((low : ℕ) → lowest cs ≡ Some low → list_all (has_bits spec.may_be_missing low k) cs ≡ true)) × (length cs ≡ length is)
+  numbers_varied true base is cs long p e =
+      let f : map (λ i. missing) is ≡ cs = same_ok _ _ e in (
+        (
+          subst (AreNumbers spec.may_be_missing spec.width) f (missing_numbers spec.may_be_missing spec.width is (and_second (all_set base) spec.may_be_missing p)),
+          λ low q. subst (λ xs. list_all (has_bits spec.may_be_missing low k) xs ≡ true) f (missing_has spec.may_be_missing low k is),
+        ),
+        ap length (sym f) ∙ length-map is (λ i. missing),
+      )
+  numbers_varied false base is cs long p e =
+      let r = numbers_read spec.may_be_missing spec.width (number_of base) k is cs long e in
+      ((r.fits, λ low q. all_over spec.may_be_missing (number_of base) low k cs (under_lowest cs (number_of base) low r.over q) r.short), r.count)
+
+  texts_varied : (b : Bool) (is : List (List Bool)) (cs : List Content) → AllLong (8 * k) is → nat_lt (spec.width / 8) k ≡ b
+      → (if b then Err increment else Ok (map (text_of (spec.width / 8) k) is)) ≡ Ok cs
+      → (AreTexts (spec.width / 8) cs × (list_all (has_octets k) cs ≡ true) × (k ≤ spec.width / 8)) × (length cs ≡ length is)
+  texts_varied true is cs long p e = cc
+  texts_varied false is cs long p e =
+      let f : map (text_of (spec.width / 8) k) is ≡ cs = same_ok _ _ e in
+      let short : k ≤ spec.width / 8 = at_most (spec.width / 8) k p in (
+        (
+          subst (AreTexts (spec.width / 8)) f (texts_fit (spec.width / 8) k is short long),
+          subst (λ xs. list_all (has_octets k) xs ≡ true) f (texts_again (spec.width / 8) k is short long),
+          short,
+        ),
+        ap length (sym f) ∙ length-map is (text_of (spec.width / 8) k),
+      )
+
+  by_kind : (kd : Kind) (base : List Bool) (is : List (List Bool)) (cs : List Content) → AllLong (step_by kd k) is → varied_by kd spec k base is ≡ Ok cs → IsVaried kd spec.may_be_missing spec.width k cs × (length cs ≡ length is)
+  by_kind kind.Character base is cs long e = texts_varied (nat_lt (spec.width / 8) k) is cs long refl e
+  by_kind kind.Coded base is cs long e = numbers_varied (all_set base && spec.may_be_missing) base is cs long refl e
+  by_kind kind.Numeric base is cs long e = numbers_varied (all_set base && spec.may_be_missing) base is cs long refl e
+
+-- ---- contents that differ are written
+
+none_has : (m : Bool) (low k : ℕ) (cs : List Content) → lowest cs ≡ None → list_all (has_bits m low k) cs ≡ true
+none_has m low k [] e = refl
+none_has m low k (number n ∷ cs) e = absurd cc
+none_has m low k (text os ∷ cs) e = none_has m low k cs e
+none_has m low k (missing ∷ cs) e = none_has m low k cs e
+none_has m low k (reference v ∷ cs) e = none_has m low k cs e
+
+le_test : (a b : ℕ) → a ≤ b → nat_le a b ≡ true
+le_test a b h = grind (arith, nat_tests)
+
+pos_top : (m : Bool) (w : ℕ) → 1 ≤ w → 0 < top m w
+pos_top true w h = let p : 2 ^ 1 ≤ 2 ^ w = pow_mono h in omega arith
+pos_top false w h = let p : 2 ^ 1 ≤ 2 ^ w = pow_mono h in omega arith
+
+-- what stands for contents that differ, by kind
+pub record IsWritten (kd : Kind) (spec : Asked) (cs : List Content) (most : ℕ) : Type 0 where
+  pub base : List Bool
+  pub k : ℕ
+  pub pieces : List Bool
+  pub is : packed_by kd spec cs ≡ Ok (packed_bits base k pieces)
+  pub long : length base ≡ spec.width
+  pub some : 1 ≤ k
+  pub small : k ≤ 63
+  pub least : k ≤ most
+  pub size : length pieces ≡ length cs * step_by kd k
+  pub back : (more : List Bool) → varied_by kd spec k base (increments (length cs) (step_by kd k) (pieces ++ more)) ≡ Ok cs
+
+module _ (spec : Asked) (cs : List Content) (most : ℕ) (some : 1 ≤ most) (small : most ≤ 63) where
+  -- the least k passes
+  module _ (passes : ℕ → Content → Bool) (pass : list_all (passes most) cs ≡ true) where
+    least_some : 1 ≤ least_k passes cs
+    least_some = first_from_start (λ k. list_all (passes k) cs) 63 1
+
+    least_most : least_k passes cs ≤ most
+    least_most = first_least (λ k. list_all (passes k) cs) 63 1 most some pass
+
+    least_passes : list_all (passes (least_k passes cs)) cs ≡ true
+    least_passes = first_passes (λ k. list_all (passes k) cs) 63 1 most some (omega arith) pass
+
+  -- numbers over a base that none is under
+  numbers_written : (base : ℕ) → base < top spec.may_be_missing spec.width → AreNumbers spec.may_be_missing spec.width cs → AreOver base cs → (pass : list_all (has_bits spec.may_be_missing base most) cs ≡ true)
+      → (k : ℕ) → k ≡ least_k (has_bits spec.may_be_missing base) cs → (more : List Bool)
+      → numbers_of spec k (bits_in base spec.width) (increments (length cs) k (flat_map (increment_bits base k) cs ++ more)) ≡ Ok cs
+  numbers_written base fits are over pass k e more =
+      let m = spec.may_be_missing in
+      let w = spec.width in
+      let f = increment_bits base k in
+      let passed : list_all (has_bits m base k) cs ≡ true = ap (λ j. list_all (has_bits m base j) cs) e ∙ least_passes (has_bits m base) pass in
+      ap (λ is. numbers_of spec k (bits_in base w) is) (pieces_found f k cs more (increments_long m w base k cs))
+      ∙ ap (λ b. if b then Ok (map (λ i. missing) (map f cs)) else all_increased m w (number_of (bits_in base w)) k (map f cs)) (number_back w m base fits)
+      ∙ ap (λ b. all_increased m w b k (map f cs)) (number_again base w (top_below m w base fits))
+      ∙ numbers_back m w base k cs are over passed
+
+  number_item : (base : ℕ) → base < top spec.may_be_missing spec.width → AreNumbers spec.may_be_missing spec.width cs → AreOver base cs → (pass : list_all (has_bits spec.may_be_missing base most) cs ≡ true)
+      → unwrap_or (lowest cs) 0 ≡ base → IsWritten kind.Numeric spec cs most
+  number_item base fits are over pass e =
+      let m = spec.may_be_missing in
+      let k = least_k (has_bits m base) cs in
+      record {
+        base = bits_in base spec.width;
+        k = k;
+        pieces = flat_map (increment_bits base k) cs;
+        is = ap (λ b. numbers_at b) e;
+        long = length-bits_in base spec.width;
+        some = least_some (has_bits m base) pass;
+        small = omega (arith, least_most (has_bits m base) pass);
+        least = least_most (has_bits m base) pass;
+        size = pieces_length (increment_bits base k) k cs (increments_long m spec.width base k cs);
+        back = λ more. numbers_written base fits are over pass k refl more;
+      }
+    where
+      numbers_at : ℕ → Result (List Bool) FieldFault
+      numbers_at b = Ok (numbers_over spec.may_be_missing spec.width b cs)
+
+  number_item_of : (o : Option ℕ) → lowest cs ≡ o → 1 ≤ spec.width → IsVaried kind.Numeric spec.may_be_missing spec.width most cs → IsWritten kind.Numeric spec cs most
+  number_item_of None e h v = number_item 0 (pos_top spec.may_be_missing spec.width h) v.0 (none_over cs 0 e) (none_has spec.may_be_missing 0 most cs e) (ap (λ o. unwrap_or o 0) e)
+  number_item_of (Some low) e h v = number_item low (lowest_fits spec.may_be_missing spec.width cs low v.0 e) v.0 (lowest_over cs low e) (v.1 low e) (ap (λ o. unwrap_or o 0) e)
+
+  as_coded : IsWritten kind.Numeric spec cs most → IsWritten kind.Coded spec cs most
+  as_coded r = record { base = r.base; k = r.k; pieces = r.pieces; is = r.is; long = r.long; some = r.some; small = r.small; least = r.least; size = r.size; back = r.back }
+
+  texts_written : (pass : list_all (has_octets most) cs ≡ true) → AreTexts (spec.width / 8) cs → most ≤ spec.width / 8 → (k : ℕ) → k ≡ least_k has_octets cs → (more : List Bool)
+      → texts_of spec k (increments (length cs) (8 * k) (flat_map (octet_bits k) cs ++ more)) ≡ Ok cs
+  texts_written pass are wide k e more =
+      let count = spec.width / 8 in
+      let least : k ≤ most = omega (arith, e, least_most has_octets pass) in
+      let short : k ≤ count = omega (arith, least, wide) in
+      let passed : list_all (has_octets k) cs ≡ true = ap (λ j. list_all (has_octets j) cs) e ∙ least_passes has_octets pass in
+      ap (λ is. texts_of spec k is) (pieces_found (octet_bits k) (8 * k) cs more (octets_long count k short cs are))
+      ∙ ap (λ b. if b then Err increment else Ok (map (text_of count k) (map (octet_bits k) cs))) (past count k short)
+      ∙ ap Ok (texts_back count k short cs are passed)
+
+  text_item : IsVaried kind.Character spec.may_be_missing spec.width most cs → IsWritten kind.Character spec cs most
+  text_item v =
+      let k = least_k has_octets cs in
+      let least : k ≤ most = least_most has_octets v.1 in
+      record {
+        base = replicate spec.width false;
+        k = k;
+        pieces = flat_map (octet_bits k) cs;
+        is = ap (λ b. if b then Ok (packed_bits (replicate spec.width false) k (flat_map (octet_bits k) cs)) else Err increment) (le_test k 63 (omega (arith, least)));
+        long = length-replicate spec.width false;
+        some = least_some has_octets v.1;
+        small = omega (arith, least);
+        least = least;
+        size = pieces_length (octet_bits k) (8 * k) cs (octets_long (spec.width / 8) k (omega (arith, least, v.2)) cs v.0);
+        back = λ more. texts_written v.1 v.0 v.2 k refl more;
+      }
+
+  pub item_written : (kd : Kind) → HasWidth kd spec.width → IsVaried kd spec.may_be_missing spec.width most cs → IsWritten kd spec cs most
+  item_written kind.Character h v = text_item v
+  item_written kind.Coded h v = as_coded (number_item_of (lowest cs) refl h.0 v)
+  item_written kind.Numeric h v = number_item_of (lowest cs) refl h.0 v
+
+-- ---- the whole item
+
+-- contents are packed so that they are read again, in at most so many bits
+pub record IsPacked (n : ℕ) (spec : Asked) (cs : List Content) (most : ℕ) : Type 0 where
+  pub out : List Bool
+  pub is : packing spec cs ≡ Ok out
+  pub again : (more : List Bool) → packed_field n spec (out ++ more) ≡ Ok (found cs more)
+  pub short : length out ≤ most
+  pub fits : AllFit spec cs
+
+copies_fit : {X : Type 0} (spec : Asked) (c : Content) (is : List X) → Fits spec c → AllFit spec (map (λ i. c) is)
+copies_fit spec c [] h = tt
+copies_fit spec c (i ∷ is) h = (h, copies_fit spec c is h)
+
+numbers_fit : (spec : Asked) (m : Bool) (w : ℕ) (cs : List Content) → ((c : Content) → FitsNumber m w c → Fits spec c) → AreNumbers m w cs → AllFit spec cs
+numbers_fit spec m w [] h f = tt
+numbers_fit spec m w (c ∷ cs) h f = (h c f.0, numbers_fit spec m w cs h f.1)
+
+texts_all_fit : (spec : Asked) (count : ℕ) (cs : List Content) → ((c : Content) → FitsText count c → Fits spec c) → AreTexts count cs → AllFit spec cs
+texts_all_fit spec count [] h f = tt
+texts_all_fit spec count (c ∷ cs) h f = (h c f.0, texts_all_fit spec count cs h f.1)
+
+varied_fit : (spec : Asked) (kd : Kind) (m : Bool) (w k : ℕ) (cs : List Content) → ((c : Content) → FitsKind kd m w c → Fits spec c) → IsVaried kd m w k cs → AllFit spec cs
+varied_fit spec kind.Character m w k cs h v = texts_all_fit spec (w / 8) cs h v.0
+varied_fit spec kind.Coded m w k cs h v = numbers_fit spec m w cs h v.0
+varied_fit spec kind.Numeric m w k cs h v = numbers_fit spec m w cs h v.0
+
+same_copies : (c : Content) (cs : List Content) → are_same c cs ≡ true → cs ≡ map (λ i. c) cs
+same_copies c [] h = refl
+same_copies c (d ∷ cs) h =
+    ap (λ x. x ∷ cs) (sym (content_same c d (and_first (same c d) (are_same c cs) h))) ∙ ap (λ xs. c ∷ xs) (same_copies c cs (and_second (same c d) (are_same c cs) h))
+
+equal_copies : {X Y : Type 0} (c : Content) (xs : List X) (ys : List Y) → length xs ≡ length ys → map (λ i. c) xs ≡ map (λ i. c) ys
+equal_copies c [] [] h = refl
+equal_copies c [] (y ∷ ys) h = absurd (omega (arith, h))
+equal_copies c (x ∷ xs) [] h = absurd (omega (arith, h))
+equal_copies c (x ∷ xs) (y ∷ ys) h = let e : length xs ≡ length ys = omega (arith, h) in ap (λ zs. c ∷ zs) (equal_copies c xs ys e)
+
+step_none : (r : Role) (kd : Kind) → step_of r kd 0 ≡ 0
+step_none role.Element kind.Character = refl
+step_none role.Element kind.Coded = refl
+step_none role.Element kind.Numeric = refl
+step_none role.Inserted kind.Character = refl
+step_none role.Inserted kind.Coded = refl
+step_none role.Inserted kind.Numeric = refl
+step_none role.Factor kind.Character = refl
+step_none role.Factor kind.Coded = refl
+step_none role.Factor kind.Numeric = refl
+step_none role.Reference kd = refl
+
+same_counts : (c : Content) (cs : List Content) → list_all (same_count c) cs ≡ true → are_same c cs ≡ true
+same_counts c [] h = refl
+same_counts c (d ∷ cs) h =
+    ap (λ b. b && are_same c cs) (one_count c d (and_first (same_count c d) (list_all (same_count c) cs) h)) ∙ same_counts c cs (and_second (same_count c d) (list_all (same_count c) cs) h)
+  where
+    one_count : (c d : Content) → same_count c d ≡ true → same c d ≡ true
+    one_count (number a) (number b) h = h
+    one_count (number a) (text b) h = cc
+    one_count (number a) missing h = cc
+    one_count (number a) (reference b) h = cc
+    one_count (text a) d h = cc
+    one_count missing d h = cc
+    one_count (reference a) d h = cc
+
+if_equal_gives : (r : Result (List Content) FieldFault) (cs : List Content) → if_equal r ≡ Ok cs → (r ≡ Ok cs) × (all_same cs ≡ true)
+if_equal_gives (Err why) cs e = cc
+if_equal_gives (Ok xs) cs e = by_test (all_same xs) refl e
+  where
+    by_test : (b : Bool) → all_same xs ≡ b → (if b then Ok xs else Err unequal_factor) ≡ Ok cs → ((◌≡◌ {A = Result (List Content) FieldFault} (Ok xs) (Ok cs)) × (all_same cs ≡ true))
+    by_test true p e = (e, subst (λ ys. all_same ys ≡ true) (same_ok xs cs e) p)
+    by_test false p e = cc
+
+zero_or_some : (k : ℕ) (b : Bool) → (k == 0) ≡ b → b ≡ false → 1 ≤ k
+zero_or_some k b p q = grind (arith, nat_tests)
+
+module _ (n : ℕ) (spec : Asked) (good : IsSpec spec) where
+  -- contents that are all the same
+  uniform : (c : Content) (cs : List Content) (most : ℕ) → Fits spec c → are_same c cs ≡ true → length (c ∷ cs) ≡ n → spec.width + 6 ≤ most → IsPacked n spec (c ∷ cs) most
+  uniform c cs most fits same_all count room =
+      let base = bits_for spec.width c in
+      let lb : length base ≡ spec.width = content_length spec good c fits in
+      let step = step_of spec.role spec.kind 0 in
+      let none : n * step ≡ 0 = ap (λ s. n * s) (step_none spec.role spec.kind) ∙ omega arith in
+      record {
+        out = packed_bits base 0 [];
+        is = ap (λ b. if b then Ok (packed_bits base 0 []) else packed_unlike spec.role spec (c ∷ cs)) same_all;
+        again = λ more. packed_reads n spec base 0 [] more (c ∷ cs) lb (omega arith) (omega (arith, none))
+            (let is = increments n step more in
+            let l : length is ≡ n = (increments_all n step more (omega (arith, none))).1 in
+            ap (λ x. Ok (map (λ i. x) is)) (content_back spec good c fits)
+            ∙ ap Ok (equal_copies c is (c ∷ cs) (l ∙ sym count))
+            ∙ ap (λ xs. Ok (c ∷ xs)) (sym (same_copies c cs same_all)));
+        short = omega (arith, room, lb, length-append base (bits_in 0 6 ++ []), length-append (bits_in 0 6) [], length-bits_in 0 6);
+        fits = (fits, subst (AllFit spec) (sym (same_copies c cs same_all)) (copies_fit spec c cs fits));
+      }
+
+  -- contents that differ, of an element
+  differing : (r : Role) → spec.role ≡ r → ((k : ℕ) → step_of r spec.kind k ≡ step_by spec.kind k) → ((k : ℕ) (base : List Bool) (is : List (List Bool)) → varied r spec k base is ≡ varied_by spec.kind spec k base is) → ((xs : List Content) → packed_unlike r spec xs ≡ packed_by spec.kind spec xs)
+      → ((x : Content) → FitsKind spec.kind spec.may_be_missing spec.width x → Fits spec x) → (c : Content) (cs : List Content) (k most : ℕ) → 1 ≤ k → k ≤ 63 → IsVaried spec.kind spec.may_be_missing spec.width k (c ∷ cs) → are_same c cs ≡ false → length (c ∷ cs) ≡ n → spec.width + 6 + n * step_by spec.kind k ≤ most → IsPacked n spec (c ∷ cs) most
+  differing r er steps variations packings fit c cs k most some small varies unlike count room =
+      let w = item_written spec (c ∷ cs) k some small spec.kind good.width varies in
+      let step_is : step_of spec.role spec.kind w.k ≡ step_by spec.kind w.k = ap (λ q. step_of q spec.kind w.k) er ∙ steps w.k in
+      let size : length w.pieces ≡ n * step_by spec.kind w.k = w.size ∙ ap (λ l. l * step_by spec.kind w.k) count in
+      let no_zero : (w.k == 0) ≡ false = not_zero w.k w.some in
+      record {
+        out = packed_bits w.base w.k w.pieces;
+        is = ap (λ b. if b then Ok (packed_bits (bits_for spec.width c) 0 []) else packed_unlike spec.role spec (c ∷ cs)) unlike ∙ ap (λ q. packed_unlike q spec (c ∷ cs)) er ∙ packings (c ∷ cs) ∙ w.is;
+        again = λ more. packed_reads n spec w.base w.k w.pieces more (c ∷ cs) w.long w.small (size ∙ ap (λ s. n * s) (sym step_is))
+            (ap (λ b. if b then Ok (map (λ i. content_in spec w.base) (increments n (step_of spec.role spec.kind w.k) (w.pieces ++ more))) else varied spec.role spec w.k w.base (increments n (step_of spec.role spec.kind w.k) (w.pieces ++ more))) no_zero
+            ∙ ap (λ q. varied q spec w.k w.base (increments n (step_of spec.role spec.kind w.k) (w.pieces ++ more))) er
+            ∙ variations w.k w.base (increments n (step_of spec.role spec.kind w.k) (w.pieces ++ more))
+            ∙ ap (λ s. varied_by spec.kind spec w.k w.base (increments n s (w.pieces ++ more))) step_is
+            ∙ ap (λ j. varied_by spec.kind spec w.k w.base (increments j (step_by spec.kind w.k) (w.pieces ++ more))) (sym count)
+            ∙ w.back more);
+        short =
+            let grows : n * step_by spec.kind w.k ≤ n * step_by spec.kind k = mul-le-mul_left n (step_grows spec.kind w.k k w.least) in
+            omega (arith, room, grows, size, w.long, length-append w.base (bits_in w.k 6 ++ w.pieces), length-append (bits_in w.k 6) w.pieces, length-bits_in w.k 6);
+        fits = varied_fit spec spec.kind spec.may_be_missing spec.width k (c ∷ cs) fit varies;
+      }
+    where
+      not_zero : (k : ℕ) → 1 ≤ k → (k == 0) ≡ false
+      not_zero k h = grind (arith, nat_tests)
+
+      step_grows : (kd : Kind) (a b : ℕ) → a ≤ b → step_by kd a ≤ step_by kd b
+      step_grows kind.Character a b h = omega arith
+      step_grows kind.Coded a b h = h
+      step_grows kind.Numeric a b h = h
+
+  first_fits_kind : (kd : Kind) (k : ℕ) (c : Content) (cs : List Content) → IsVaried kd spec.may_be_missing spec.width k (c ∷ cs) → FitsKind kd spec.may_be_missing spec.width c
+  first_fits_kind kind.Character k c cs v = v.0.0
+  first_fits_kind kind.Coded k c cs v = v.0.0
+  first_fits_kind kind.Numeric k c cs v = v.0.0
+
+  step_element : (r : Role) (kd : Kind) (k : ℕ) → r ≢ role.Reference → step_of r kd k ≡ step_by kd k
+  step_element role.Element kind.Character k h = refl
+  step_element role.Element kind.Coded k h = refl
+  step_element role.Element kind.Numeric k h = refl
+  step_element role.Inserted kind.Character k h = refl
+  step_element role.Inserted kind.Coded k h = refl
+  step_element role.Inserted kind.Numeric k h = refl
+  step_element role.Factor kind.Character k h = refl
+  step_element role.Factor kind.Coded k h = refl
+  step_element role.Factor kind.Numeric k h = refl
+  step_element role.Reference kd k h = absurd (h refl)
+
+  fits_element : (r : Role) (c : Content) → r ≢ role.Reference → FitsKind spec.kind spec.may_be_missing spec.width c → FitsRole r spec c
+  fits_element role.Element c h f = f
+  fits_element role.Inserted c h f = f
+  fits_element role.Factor c h f = f
+  fits_element role.Reference c h f = absurd (h refl)
+
+  -- either all the same, or not
+  of_element : (r : Role) → spec.role ≡ r → ((k : ℕ) → step_of r spec.kind k ≡ step_by spec.kind k) → ((k : ℕ) (base : List Bool) (is : List (List Bool)) → varied r spec k base is ≡ varied_by spec.kind spec k base is) → ((xs : List Content) → packed_unlike r spec xs ≡ packed_by spec.kind spec xs)
+      → ((x : Content) → FitsKind spec.kind spec.may_be_missing spec.width x → Fits spec x) → (c : Content) (cs : List Content) (k most : ℕ) (b : Bool) → are_same c cs ≡ b → Fits spec c → 1 ≤ k → k ≤ 63 → IsVaried spec.kind spec.may_be_missing spec.width k (c ∷ cs) → length (c ∷ cs) ≡ n → spec.width + 6 + n * step_by spec.kind k ≤ most → IsPacked n spec (c ∷ cs) most
+  of_element r er steps variations packings fit c cs k most true e fits some small varies count room = uniform c cs most fits e count (omega (arith, room))
+  of_element r er steps variations packings fit c cs k most false e fits some small varies count room = differing r er steps variations packings fit c cs k most some small varies e count room
+
+  -- what was read with k above 0, for each role
+  by_role : (r : Role) → spec.role ≡ r → (c : Content) (cs : List Content) (k most : ℕ) (base : List Bool) (is : List (List Bool)) → 1 ≤ k → k ≤ 63 → AllLong (step_of r spec.kind k) is → length is ≡ n → varied r spec k base is ≡ Ok (c ∷ cs) → spec.width + 6 + n * step_of r spec.kind k ≤ most → IsPacked n spec (c ∷ cs) most
+  by_role role.Reference er c cs k most base is some small long count e room = cc
+  by_role role.Element er c cs k most base is some small long count e room =
+      let st : step_of role.Element spec.kind k ≡ step_by spec.kind k = step_element role.Element spec.kind k (λ q. cc) in
+      let v = by_kind spec k spec.kind base is (c ∷ cs) (subst (λ j. AllLong j is) st long) e in
+      of_element role.Element er (λ j. step_element role.Element spec.kind j (λ q. cc)) (λ j b i. refl) (λ xs. refl) (λ x f. subst (λ r. FitsRole r spec x) (sym er) f) c cs k most (are_same c cs) refl
+      (subst (λ r. FitsRole r spec c) (sym er) (first_fits_kind spec.kind k c cs v.0)) some small v.0 (v.1 ∙ count) (subst (λ j. spec.width + 6 + n * j ≤ most) st room)
+  by_role role.Inserted er c cs k most base is some small long count e room =
+      let st : step_of role.Inserted spec.kind k ≡ step_by spec.kind k = step_element role.Inserted spec.kind k (λ q. cc) in
+      let v = by_kind spec k spec.kind base is (c ∷ cs) (subst (λ j. AllLong j is) st long) e in
+      of_element role.Inserted er (λ j. step_element role.Inserted spec.kind j (λ q. cc)) (λ j b i. refl) (λ xs. refl) (λ x f. subst (λ r. FitsRole r spec x) (sym er) f) c cs k most (are_same c cs) refl
+      (subst (λ r. FitsRole r spec c) (sym er) (first_fits_kind spec.kind k c cs v.0)) some small v.0 (v.1 ∙ count) (subst (λ j. spec.width + 6 + n * j ≤ most) st room)
+  by_role role.Factor er c cs k most base is some small long count e room =
+      let st : step_of role.Factor spec.kind k ≡ step_by spec.kind k = step_element role.Factor spec.kind k (λ q. cc) in
+      let q = if_equal_gives (varied_by spec.kind spec k base is) (c ∷ cs) e in
+      let v = by_kind spec k spec.kind base is (c ∷ cs) (subst (λ j. AllLong j is) st long) q.0 in
+      uniform c cs most (subst (λ r. FitsRole r spec c) (sym er) (first_fits_kind spec.kind k c cs v.0)) (same_counts c cs q.1) (v.1 ∙ count) (omega (arith, room))
+
+  -- what was read, with k 0 or above
+  by_k : (b : Bool) (k : ℕ) → (k == 0) ≡ b → (c : Content) (cs : List Content) (most : ℕ) (base : List Bool) (is : List (List Bool)) → length base ≡ spec.width → k ≤ 63 → AllLong (step_of spec.role spec.kind k) is → length is ≡ n
+      → (if b then Ok (map (λ i. content_in spec base) is) else varied spec.role spec k base is) ≡ Ok (c ∷ cs) → spec.width + 6 + n * step_of spec.role spec.kind k ≤ most → IsPacked n spec (c ∷ cs) most
+  by_k true k p c cs most base [] lb small long count e room = absurd cc
+  by_k true k p c cs most base (i ∷ is) lb small long count e room =
+      let f : content_in spec base ∷ map (λ i. content_in spec base) is ≡ c ∷ cs = same_ok _ _ e in
+      subst (λ (xs : List Content). IsPacked n spec xs most) f
+      (uniform (content_in spec base) (map (λ i. content_in spec base) is) most (content_fits spec good base lb) (are_same_copies (content_in spec base) is) (omega (arith, count, length-map is (λ i. content_in spec base))) (omega (arith, room)))
+  by_k false k p c cs most base is lb small long count e room = by_role spec.role refl c cs k most base is (zero_or_some k false p refl) small long count e room
+
+  -- an item that was read is packed so that it is read again, in no more bits
+  pub packed_again : (c : Content) (cs : List Content) (bits mid : List Bool) → packed_field n spec bits ≡ Ok (found (c ∷ cs) mid) → (most : ℕ) × (most + length mid ≤ length bits) × IsPacked n spec (c ∷ cs) most
+  packed_again c cs bits mid e =
+      let k = number_of (take 6 (drop spec.width bits)) in
+      let u = unpacked n spec bits (c ∷ cs) mid e in
+      let step = step_of spec.role spec.kind k in
+      let is = increments_all n step (drop (spec.width + 6) bits) u.enough in (
+        spec.width + 6 + n * step,
+        u.used,
+        by_k (k == 0) k refl c cs (spec.width + 6 + n * step) (take spec.width bits) (increments n step (drop (spec.width + 6) bits)) u.base u.small is.0 is.1 u.contents (omega arith),
+      )
+
+  -- an item holds a content for each subset
+  role_count : (r : Role) (k : ℕ) (base : List Bool) (is : List (List Bool)) (cs : List Content) → AllLong (step_of r spec.kind k) is → varied r spec k base is ≡ Ok cs → length cs ≡ length is
+  role_count role.Reference k base is cs long e = cc
+  role_count role.Element k base is cs long e = (by_kind spec k spec.kind base is cs (subst (λ j. AllLong j is) (step_element role.Element spec.kind k (λ q. cc)) long) e).1
+  role_count role.Inserted k base is cs long e = (by_kind spec k spec.kind base is cs (subst (λ j. AllLong j is) (step_element role.Inserted spec.kind k (λ q. cc)) long) e).1
+  role_count role.Factor k base is cs long e =
+      (by_kind spec k spec.kind base is cs (subst (λ j. AllLong j is) (step_element role.Factor spec.kind k (λ q. cc)) long) (if_equal_gives (varied_by spec.kind spec k base is) cs e).0).1
+
+  count_by : (b : Bool) (k : ℕ) (base : List Bool) (is : List (List Bool)) (cs : List Content) → AllLong (step_of spec.role spec.kind k) is → (if b then Ok (map (λ i. content_in spec base) is) else varied spec.role spec k base is) ≡ Ok cs → length cs ≡ length is
+  count_by true k base is cs long e = ap length (sym (same_ok _ _ e)) ∙ length-map is (λ i. content_in spec base)
+  count_by false k base is cs long e = role_count spec.role k base is cs long e
+
+  pub packed_count : (cs : List Content) (bits mid : List Bool) → packed_field n spec bits ≡ Ok (found cs mid) → length cs ≡ n
+  packed_count cs bits mid e =
+      let k = number_of (take 6 (drop spec.width bits)) in
+      let u = unpacked n spec bits cs mid e in
+      let step = step_of spec.role spec.kind k in
+      let is = increments_all n step (drop (spec.width + 6) bits) u.enough in
+      count_by (k == 0) k (take spec.width bits) (increments n step (drop (spec.width + 6) bits)) cs is.0 u.contents ∙ is.1

@@ -1,0 +1,162 @@
+-- Worked examples of items written one subset after another.
+use Rattle.std.proofs.Common.{◌≡◌, Bool, [], ◌∷◌, Err, refl}
+use Rattle.std.specs.Prelude.{codes}
+use Rattle.bufr_bits.specs.Bits.{bits_of, bits_in}
+use Rattle.bufr_bits.specs.DecimalValue.{decimal_value_of}
+use Rattle.bufr_walk.specs.declared.spec.Refusal.TheVariants as refusal
+use Rattle.bufr_fill.specs.Draft.{draft, text_form, missing_form, reference_token}
+use Rattle.bufr_fill.specs.Entries.{subset, subsets_of, Holds, Ends}
+use Rattle.bufr_fill.specs.Fault.{at_line, wrong_descriptor, wrong_number, out_of_range, missing_forbidden, text_long, item_too_many, walk_refused}
+use Rattle.bufr_fill.proofs.ExampleTables.{temperature, latitude, figure, four_letters, delayed_blocks, redefined, width_of_none, numbered, plain_bits, ok_bits}
+
+-- the greatest number that is not missing
+temperature_written : plain_bits temperature (subset (numbered 24 3173 (codes "655.34") ∷ []) 25 ∷ []) ≡ ok_bits (255 ∷ 254 ∷ []) 16
+unfolding plain_bits ok_bits temperature decimal_value_of bits_in
+temperature_written = refl
+
+temperature_would_be_missing : plain_bits temperature (subset (numbered 24 3173 (codes "655.35") ∷ []) 25 ∷ []) ≡ Err (at_line 24 out_of_range)
+unfolding plain_bits temperature decimal_value_of
+temperature_would_be_missing = refl
+
+temperature_inexact : plain_bits temperature (subset (numbered 24 3173 (codes "288.155") ∷ []) 25 ∷ []) ≡ Err (at_line 24 wrong_number)
+unfolding plain_bits temperature decimal_value_of
+temperature_inexact = refl
+
+-- a number that is not whole goes before one that is too great
+temperature_inexact_and_great : plain_bits temperature (subset (numbered 24 3173 (codes "700.155") ∷ []) 25 ∷ []) ≡ Err (at_line 24 wrong_number)
+unfolding plain_bits temperature decimal_value_of
+temperature_inexact_and_great = refl
+
+no_decimal : plain_bits temperature (subset (numbered 24 3173 (codes "2-8") ∷ []) 25 ∷ []) ≡ Err (at_line 24 wrong_number)
+unfolding plain_bits temperature decimal_value_of
+no_decimal = refl
+
+-- a number past 127 bits is out of range
+number_too_great : plain_bits temperature (subset (numbered 24 3173 (codes "9999999999999999999999999999999999999999") ∷ []) 25 ∷ []) ≡ Err (at_line 24 out_of_range)
+unfolding plain_bits temperature decimal_value_of
+number_too_great = refl
+
+temperature_missing : plain_bits temperature (subset (draft 24 3173 missing_form ∷ []) 25 ∷ []) ≡ ok_bits (255 ∷ 255 ∷ []) 16
+unfolding plain_bits ok_bits temperature
+temperature_missing = refl
+
+text_for_a_number : plain_bits temperature (subset (draft 24 3173 (text_form (codes "28815")) ∷ []) 25 ∷ []) ≡ Err (at_line 24 wrong_number)
+unfolding plain_bits temperature
+text_for_a_number = refl
+
+-- the reference is taken off
+negative_latitude : plain_bits latitude (subset (numbered 24 1282 (codes "-0.05") ∷ []) 25 ∷ []) ≡ ok_bits (70 ∷ 70 ∷ []) 15
+unfolding plain_bits ok_bits latitude decimal_value_of bits_in
+negative_latitude = refl
+
+under_the_reference : plain_bits latitude (subset (numbered 24 1282 (codes "-90.01") ∷ []) 25 ∷ []) ≡ Err (at_line 24 out_of_range)
+unfolding plain_bits latitude decimal_value_of
+under_the_reference = refl
+
+-- all ones is a number of class 31, and nothing there is missing
+figure_of_all_ones : plain_bits figure (subset (numbered 24 7957 (codes "63") ∷ []) 25 ∷ []) ≡ ok_bits (252 ∷ []) 6
+unfolding plain_bits ok_bits figure decimal_value_of bits_in
+figure_of_all_ones = refl
+
+figure_missing : plain_bits figure (subset (draft 24 7957 missing_form ∷ []) 25 ∷ []) ≡ Err (at_line 24 missing_forbidden)
+unfolding plain_bits figure
+figure_missing = refl
+
+factor_missing : plain_bits delayed_blocks (subset (draft 24 7937 missing_form ∷ []) 25 ∷ []) ≡ Err (at_line 24 missing_forbidden)
+unfolding plain_bits delayed_blocks
+factor_missing = refl
+
+blocks_written : plain_bits delayed_blocks (subset (numbered 24 7937 (codes "2") ∷ numbered 25 257 (codes "10") ∷ numbered 26 257 (codes "11") ∷ []) 27 ∷ []) ≡ ok_bits (2 ∷ 20 ∷ 44 ∷ []) 22
+unfolding plain_bits ok_bits delayed_blocks decimal_value_of bits_in
+blocks_written = refl
+
+-- spaces follow a text that is short
+text_written : plain_bits four_letters (subset (draft 24 34052 (text_form (codes "AB")) ∷ []) 25 ∷ []) ≡ ok_bits (65 ∷ 66 ∷ 32 ∷ 32 ∷ []) 32
+unfolding plain_bits ok_bits four_letters bits_of
+text_written = refl
+
+text_missing : plain_bits four_letters (subset (draft 24 34052 missing_form ∷ []) 25 ∷ []) ≡ ok_bits (255 ∷ 255 ∷ 255 ∷ 255 ∷ []) 32
+unfolding plain_bits ok_bits four_letters bits_of
+text_missing = refl
+
+number_for_a_text : plain_bits four_letters (subset (numbered 24 34052 (codes "1") ∷ []) 25 ∷ []) ≡ Err (at_line 24 wrong_number)
+unfolding plain_bits four_letters
+number_for_a_text = refl
+
+text_would_be_missing : plain_bits four_letters (subset (draft 24 34052 (text_form (255 ∷ 255 ∷ 255 ∷ 255 ∷ [])) ∷ []) 25 ∷ []) ≡ Err (at_line 24 out_of_range)
+unfolding plain_bits four_letters
+text_would_be_missing = refl
+
+-- with a space behind it a text of octets 255 is one
+text_of_some_ones : plain_bits four_letters (subset (draft 24 34052 (text_form (255 ∷ 255 ∷ 255 ∷ [])) ∷ []) 25 ∷ []) ≡ ok_bits (255 ∷ 255 ∷ 255 ∷ 32 ∷ []) 32
+unfolding plain_bits ok_bits four_letters bits_of
+text_of_some_ones = refl
+
+-- too long goes before missing
+text_too_long : plain_bits four_letters (subset (draft 24 34052 (text_form (255 ∷ 255 ∷ 255 ∷ 255 ∷ 255 ∷ [])) ∷ []) 25 ∷ []) ≡ Err (at_line 24 text_long)
+unfolding plain_bits four_letters
+text_too_long = refl
+
+-- a sign and a magnitude
+reference_written : plain_bits redefined (subset (draft 24 3173 (reference_token (codes "-400")) ∷ numbered 25 3173 (codes "284.15") ∷ []) 26 ∷ []) ≡ ok_bits (228 ∷ 28 ∷ 35 ∷ 192 ∷ []) 26
+unfolding plain_bits ok_bits redefined decimal_value_of bits_in
+reference_written = refl
+
+-- zero has the plus sign
+minus_zero : plain_bits redefined (subset (draft 24 3173 (reference_token (codes "-0")) ∷ numbered 25 3173 (codes "288.15") ∷ []) 26 ∷ []) ≡ ok_bits (0 ∷ 28 ∷ 35 ∷ 192 ∷ []) 26
+unfolding plain_bits ok_bits redefined decimal_value_of bits_in
+minus_zero = refl
+
+reference_too_great : plain_bits redefined (subset (draft 24 3173 (reference_token (codes "512")) ∷ []) 26 ∷ []) ≡ Err (at_line 24 out_of_range)
+unfolding plain_bits redefined decimal_value_of
+reference_too_great = refl
+
+-- a reference is whole, whatever the scale of its element
+reference_inexact : plain_bits redefined (subset (draft 24 3173 (reference_token (codes "-4.5")) ∷ []) 26 ∷ []) ≡ Err (at_line 24 wrong_number)
+unfolding plain_bits redefined decimal_value_of
+reference_inexact = refl
+
+number_for_a_reference : plain_bits redefined (subset (numbered 24 3173 (codes "-400") ∷ []) 26 ∷ []) ≡ Err (at_line 24 (wrong_descriptor 3173 Bool.true))
+unfolding plain_bits redefined
+number_for_a_reference = refl
+
+reference_for_a_number : plain_bits temperature (subset (draft 24 3173 (reference_token (codes "1")) ∷ []) 25 ∷ []) ≡ Err (at_line 24 (wrong_descriptor 3173 Bool.false))
+unfolding plain_bits temperature
+reference_for_a_number = refl
+
+-- another descriptor goes before its number
+other_descriptor : plain_bits temperature (subset (numbered 24 257 (codes "1-") ∷ []) 25 ∷ []) ≡ Err (at_line 24 (wrong_descriptor 3173 Bool.false))
+unfolding plain_bits temperature
+other_descriptor = refl
+
+item_left_out : plain_bits temperature (subset [] 24 ∷ []) ≡ Err (at_line 24 (wrong_descriptor 3173 Bool.false))
+unfolding plain_bits temperature
+item_left_out = refl
+
+second_item : plain_bits temperature (subset (numbered 24 3173 (codes "1") ∷ numbered 25 3173 (codes "1") ∷ []) 26 ∷ []) ≡ Err (at_line 25 item_too_many)
+unfolding plain_bits temperature decimal_value_of bits_in
+second_item = refl
+
+-- the walk's refusal goes before another descriptor, and before the end
+width_refused : plain_bits width_of_none (subset (numbered 24 3173 (codes "0") ∷ []) 25 ∷ []) ≡ Err (at_line 24 (walk_refused (refusal.Width 257)))
+unfolding plain_bits width_of_none
+width_refused = refl
+
+width_refused_at_the_end : plain_bits width_of_none (subset [] 25 ∷ []) ≡ Err (at_line 25 (walk_refused (refusal.Width 257)))
+unfolding plain_bits width_of_none
+width_refused_at_the_end = refl
+
+-- each subset begins where the one before ends, without bits between
+two_subsets : plain_bits latitude (subset (numbered 24 1282 (codes "-0.05") ∷ []) 25 ∷ subset (numbered 26 1282 (codes "-90") ∷ []) 27 ∷ []) ≡ ok_bits (70 ∷ 70 ∷ 0 ∷ 0 ∷ []) 30
+unfolding plain_bits ok_bits latitude decimal_value_of bits_in
+two_subsets = refl
+
+-- the first fault in the order of the subsets
+fault_of_the_second : plain_bits temperature (subset (numbered 24 3173 (codes "1") ∷ []) 25 ∷ subset [] 26 ∷ []) ≡ Err (at_line 26 (wrong_descriptor 3173 Bool.false))
+unfolding plain_bits temperature decimal_value_of bits_in
+fault_of_the_second = refl
+
+-- entries are cut at the lines that end their subsets
+entries_cut : subsets_of (Holds (numbered 24 3173 (codes "1")) ∷ Ends 25 ∷ Ends 26 ∷ Holds (numbered 27 3173 (codes "2")) ∷ Ends 28 ∷ [])
+    ≡ subset (numbered 24 3173 (codes "1") ∷ []) 25 ∷ subset [] 26 ∷ subset (numbered 27 3173 (codes "2") ∷ []) 28 ∷ []
+entries_cut = refl

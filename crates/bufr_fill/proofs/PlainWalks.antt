@@ -1,0 +1,38 @@
+-- A walk over the items of one subset writes what the definition makes of them.
+use Rattle.std.proofs.Common.{◌≡◌, ℕ, Bool, List, [], ◌∷◌, ◌++◌, Err, sym, ◌∙◌, ap}
+use Rattle.bufr_walk.specs.declared.spec.Taken.{Taken}
+use Rattle.bufr_walk.specs.Asked.{Asked}
+use Rattle.bufr_walk.specs.Content.{bits_for}
+use Rattle.bufr_walk.specs.Course.{Course, take_next}
+use Rattle.bufr_walk.specs.Taking.{Turn, Takes, course_after}
+use Rattle.bufr_walk.specs.Walked.{oks}
+use Rattle.bufr_fill.specs.DraftContent.{plainly, plain_filler}
+use Rattle.bufr_fill.specs.Entries.{Entry, Holds, Ends}
+use Rattle.bufr_fill.specs.Fault.{FaultAt}
+use Rattle.bufr_fill.specs.Filling.{written, fill, and_behind}
+use Rattle.bufr_fill.specs.Filled.{HasFilled, IsUnfilled}
+use Rattle.bufr_fill.specs.PlainOut.{Pen, PlainFills, IsFaultOf, items_left, end_left}
+use Rattle.bufr_fill.proofs.WalkFills.{walk_fills, unfilled}
+
+fills : (end : ℕ) (s : Pen) (spec : Asked) (t : Taken) (s' : Pen) → oks PlainFills s spec t s' → HasFilled (plain_filler end) (items_left s.left) s.bits spec t (items_left s'.left) s'.bits
+fills end s spec t s' h = record {
+  draft = h.draft;
+  item = written h.content (bits_for spec.width h.content);
+  here = ap items_left h.here;
+  fills = ap (plainly h.draft.line spec) h.is;
+  tells = h.tells;
+  bits = h.bits;
+}
+
+pub walk_of_items : (end : ℕ) (course : Course) (s : Pen) (items : List Turn) (s' : Pen) → Takes (oks PlainFills) course s items s'
+    → (bits : List Bool) × (s'.bits ≡ s.bits ++ bits) × (fill (plain_filler end) course (items_left s.left) ≡ and_behind (plain_filler end) bits (fill (plain_filler end) (course_after course items) (items_left s'.left)))
+walk_of_items end course s items s' h = walk_fills (plain_filler end) (λ (p : Pen). items_left p.left) (λ (p : Pen). p.bits) (oks PlainFills) (fills end) course s items s' h
+
+-- the fault of the next item is the definition's
+pub fault_of_items : (course : Course) (left : List Entry) (spec : Asked) (f : FaultAt) → (course []).next ≡ take_next spec → IsFaultOf spec left f → fill (plain_filler (end_left left)) course (items_left left) ≡ Err f
+fault_of_items course left spec f next h = unfilled (plain_filler (end_left left)) (λ (p : Pen). items_left p.left) (λ (p : Pen). p.bits) (oks PlainFills) (fills (end_left left)) course (items_left left) spec f next (by left h)
+  where
+    by : (left : List Entry) → IsFaultOf spec left f → IsUnfilled (plain_filler (end_left left)) (items_left left) spec f
+    by [] h = h
+    by (Ends line ∷ more) h = h
+    by (Holds d ∷ more) h = ap (plainly d.line spec) h.1 ∙ ap Err (sym h.2)

@@ -1,0 +1,19 @@
+-- Items as a dump text gives them. (a choice of this project)
+-- Cited by public contracts.
+use Rattle.std.specs.Prelude.{ℕ, List}
+
+-- what stands behind the descriptor of an item
+pub data Form : Type 0 where
+  number_token : (digits : List ℕ) → Form
+  text_form : (octets : List ℕ) → Form
+  missing_form : Form
+  reference_token : (digits : List ℕ) → Form
+
+-- an item, and the number of its line
+pub record Draft : Type 0 where
+  pub line : ℕ
+  pub fxy : ℕ
+  pub form : Form
+
+abbrev pub draft : (line fxy : ℕ) → Form → Draft
+draft line fxy form = record { line = line; fxy = fxy; form = form }

@@ -1,0 +1,55 @@
+-- What an encoder makes of items that are given one after another. (a choice of this project)
+-- Cited by public contracts.
+use Rattle.std.specs.Prelude.{Bool, List, [], ◌∷◌, ◌++◌, Result, Ok, Err}
+use Rattle.bufr_walk.specs.declared.spec.Refusal.{Refusal}
+use Rattle.bufr_walk.specs.declared.spec.Taken.{Taken}
+use Rattle.bufr_walk.specs.Asked.{Asked}
+use Rattle.bufr_walk.specs.Course.{Course, Next, take_next, at_end, astray, refused}
+
+-- what an item is written as: its content, and the bits
+pub record Written (C : Type 0) : Type 0 where
+  pub content : C
+  pub bits : List Bool
+
+abbrev pub written : {C : Type 0} → C → List Bool → Written C
+written content bits = record { content = content; bits = bits }
+
+-- how drafts D become contents C with their bits, and what is at fault with the faults E: with a draft at its field, where there is none, with one too many, and where the walk is refused
+pub record Filler (D C E : Type 0) : Type 0 where
+  pub fills : Asked → D → Result (Written C) E
+  pub tells : Asked → C → Taken
+  pub none_left : Asked → E
+  pub left_over : D → E
+  pub refused_at : D → Refusal → E
+  pub refused_at_end : Refusal → E
+  pub lost : E
+
+module _ {D C E : Type 0} (filler : Filler D C E) where
+  -- a written item, and what is written behind it
+  abbrev pub and_behind : List Bool → Result (List Bool) E → Result (List Bool) E
+  and_behind bits (Err why) = Err why
+  and_behind bits (Ok behind) = Ok (bits ++ behind)
+
+  -- one item that was filled, and the rest
+  abbrev pub filled : Asked → Result (Written C) E → (Taken → Result (List Bool) E) → Result (List Bool) E
+  filled spec (Err why) rest = Err why
+  filled spec (Ok w) rest = and_behind w.bits (rest (filler.tells spec w.content))
+
+  -- where there is a draft
+  abbrev pub fill_one : Next → D → (Taken → Result (List Bool) E) → Result (List Bool) E
+  fill_one (take_next spec) d rest = filled spec (filler.fills spec d) rest
+  fill_one at_end d rest = Err (filler.left_over d)
+  fill_one (refused why) d rest = Err (filler.refused_at d why)
+  fill_one astray d rest = Err filler.lost
+
+  -- where there is none
+  abbrev pub fill_none : Next → Result (List Bool) E
+  fill_none (take_next spec) = Err (filler.none_left spec)
+  fill_none at_end = Ok []
+  fill_none (refused why) = Err (filler.refused_at_end why)
+  fill_none astray = Err filler.lost
+
+  -- the bits of drafts, each at the field that comes next, to the end of the template; or the first fault
+  abbrev pub fill : Course → List D → Result (List Bool) E
+  fill course [] = fill_none (course []).next
+  fill course (d ∷ ds) = fill_one (course []).next d (λ t. fill (λ told. course (t ∷ told)) ds)

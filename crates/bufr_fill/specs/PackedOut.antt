@@ -1,0 +1,101 @@
+-- Fields that are written from the items of a dump text for all subsets together. (a choice of this project)
+-- Cited by public contracts.
+use Rattle.std.specs.Prelude.{ℕ, ◌≡◌, ◌≤◌, ◌<◌, ◌+◌, ◌-◌, ◌*◌, ◌^◌, Bool, List, [], ◌∷◌, ◌++◌, length, Option, Some, None, Result, Ok, Err}
+use Rattle.bufr_walk.specs.declared.spec.Taken.{Taken}
+use Rattle.bufr_fill.specs.declared.fault.DraftFault.{DraftFault}
+use Rattle.bufr_walk.specs.Asked.{Asked}
+use Rattle.bufr_walk.specs.Content.{Content}
+use Rattle.bufr_walk.specs.PackedField.{told_first}
+use Rattle.bufr_walk.specs.Reading.{most_values}
+use Rattle.bufr_fill.specs.Draft.{Draft}
+use Rattle.bufr_fill.specs.Entries.{Entry, Holds, Ends, Subset}
+use Rattle.bufr_fill.specs.Fault.{FaultAt, at_line, item_too_many}
+use Rattle.bufr_fill.specs.Filling.{written}
+use Rattle.bufr_fill.specs.Encoding.{Cell, Across, rows, longest, across, cells_at, first_line, pack_across}
+use Rattle.bufr_fill.specs.Told.{told_fault}
+
+-- the subsets, how many items of each were taken, the bits that stand there, and how many of them are those of whole items
+pub record PackedPen : Type 0 where
+  pub subsets : List Subset
+  pub place : ℕ
+  pub bits : List Bool
+  pub used : ℕ
+
+-- nothing was written yet
+abbrev pub packed_start : List Subset → PackedPen
+packed_start subsets = record { subsets = subsets; place = 0; bits = []; used = 0 }
+
+-- a writer for these subsets, where there are any
+abbrev pub StartsSo : List Subset → Option PackedPen → Type 0
+StartsSo subsets None = subsets ≡ []
+StartsSo subsets (Some s) = s ≡ packed_start subsets
+
+-- the places of the ends among entries, the first of which has a number
+abbrev pub ends_of : (from : ℕ) → List Entry → List ℕ
+ends_of from [] = []
+ends_of from (Holds d ∷ more) = ends_of (from + 1) more
+ends_of from (Ends line ∷ more) = from ∷ ends_of (from + 1) more
+
+-- what the writer keeps: where the subsets end, and room for what is written
+pub record IsPackedOut (entries : List Entry) (ends : List ℕ) (place used : ℕ) : Type 0 where
+  pub few : length entries ≤ 2 ^ 45
+  pub ends_are : ends ≡ ends_of 0 entries
+  pub some : 1 ≤ length ends
+  pub room : used ≤ 2550 * (place * length ends)
+  pub values : place * length ends ≤ most_values
+
+-- the next item of all subsets was written
+pub record IsPacked (s : PackedPen) (spec : Asked) (t : Taken) (s' : PackedPen) : Type 0 where
+  pub contents : List Content
+  pub item : List Bool
+  pub is : pack_across spec (across s.place s.subsets) ≡ Ok (written contents item)
+  pub tells : t ≡ told_first spec contents
+  pub whole : s.used ≡ length s.bits
+  pub bits : s'.bits ≡ s.bits ++ item
+  pub used : s'.used ≡ length s'.bits
+  pub place : s'.place ≡ s.place + 1
+  pub subsets : s'.subsets ≡ s.subsets
+  pub forth : s.used < s'.used
+
+-- memory ran out, perhaps within an item: its first bits may stand there
+pub record IsCutShort (s s' : PackedPen) : Type 0 where
+  pub subsets : s'.subsets ≡ s.subsets
+  pub place : s'.place ≡ s.place
+  pub used : s'.used ≡ s.used
+
+-- a fault of the text leaves all as it was
+abbrev pub PackedRefuses : Option FaultAt → PackedPen → Asked → PackedPen → Type 0
+PackedRefuses None s spec s' = IsCutShort s s'
+PackedRefuses (Some f) s spec s' = (pack_across spec (across s.place s.subsets) ≡ Err f) × (s' ≡ s)
+
+-- One call: the next item of all subsets was packed, or it is at fault, or memory ran out. After want of memory each call tells it again.
+abbrev pub PackedFills : PackedPen → Asked → Result Taken DraftFault → PackedPen → Type 0
+PackedFills s spec (Ok t) s' = IsPacked s spec t s'
+PackedFills s spec (Err e) s' = PackedRefuses (told_fault e) s spec s'
+
+-- whether all subsets end at a place, or the first item that is left over
+abbrev pub and_end : Option Draft → Result (Unit {0}) FaultAt → Result (Unit {0}) FaultAt
+and_end None rest = rest
+and_end (Some d) rest = Err (at_line d.line item_too_many)
+
+abbrev pub all_end : List Cell → Result (Unit {0}) FaultAt
+all_end [] = Ok tt
+all_end (c ∷ cells) = and_end c.draft (all_end cells)
+
+-- that a call told so
+abbrev pub EndsSo : (place : ℕ) → List Subset → Result (Unit {0}) DraftFault → Type 0
+EndsSo place subsets (Ok _) = all_end (cells_at place subsets) ≡ Ok tt
+EndsSo place subsets (Err e) = (f : FaultAt) × (told_fault e ≡ Some f) × (all_end (cells_at place subsets) ≡ Err f)
+
+-- the line of the first subset's next item, or of its end
+abbrev pub first_line_at : (place : ℕ) → List Subset → ℕ
+first_line_at place subsets = first_line (cells_at place subsets)
+
+-- what all subsets give at the places that are left
+abbrev pub rows_left : PackedPen → List Across
+rows_left s = rows (longest s.subsets - s.place) s.place s.subsets
+
+-- a refusal leaves the whole items
+pub refuses_packed : (o : Option FaultAt) (s : PackedPen) (spec : Asked) (s' : PackedPen) → PackedRefuses o s spec s' → s'.used ≡ s.used
+refuses_packed None s spec s' h = h.used
+refuses_packed (Some f) s spec s' h = λ j. (h.1 j).used

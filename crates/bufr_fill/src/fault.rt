@@ -1,0 +1,99 @@
+//! What can be wrong with the items of a dump text (the numbers and their order are a choice of this project).
+ghost use Rattle.std.specs.Prelude.{◌≡◌, Some};
+
+use bufr_tables::Fxy;
+use thiserror::Error;
+
+/// What should stand in place of an item.
+#[derive(Clone, Copy, Debug, PartialEq, Eq)]
+pub enum Expected {
+    /// An item with this descriptor.
+    Item(Fxy),
+    /// A redefined reference (`R`) with this descriptor.
+    Reference(Fxy),
+    /// No further item.
+    EndOfSubset,
+}
+
+/// Why an item cannot be written, with the number of its line, or of the line that ends its subset.
+#[derive(Clone, Copy, Debug, PartialEq, Eq, Error)]
+pub enum DraftFault {
+    /// Another item, or none, stands where this is expected.
+    #[error("another item is expected")]
+    WrongDescriptor(u64, Expected),
+    /// No decimal, or one that is not whole at the field's scale, or a form of another kind than the field.
+    #[error("not a number of the field")]
+    Number(u64),
+    /// It does not fit the field's bits, or would read as missing.
+    #[error("out of range")]
+    OutOfRange(u64),
+    /// A text with more octets than the field.
+    #[error("a text that is too long")]
+    TextLong(u64),
+    /// A missing value where none may be.
+    #[error("a missing value where none may be")]
+    MissingForbidden(u64),
+    /// A factor of compressed data that is not that of the first subset.
+    #[error("a factor is not the same in all subsets")]
+    UnequalFactor(u64),
+    /// Texts of compressed data that no increments can tell apart, or references that differ.
+    #[error("no increments can tell the values apart")]
+    Increment(u64),
+    /// Compressed data would have more than 134,217,728 values, with the item's descriptor.
+    #[error("too many values")]
+    TooManyValues(u64, Fxy),
+    /// Memory ran out.
+    #[error("out of memory")]
+    Memory,
+}
+
+impl DraftFault {
+    ghost use Rattle.std.specs.Prelude.{◌≡◌};
+    ghost use Rattle.bufr_fill.specs.Told.{number_of_fault};
+
+    /// Its number: 51 to 55, 58, 59, 35 for too many values, and 73 for want of memory.
+    pub fn number(self) -> u8
+        ensures { result ≡ number_of_fault self }
+    {
+        match self {
+            DraftFault::WrongDescriptor(_, _) => 51,
+            DraftFault::Number(_) => 52,
+            DraftFault::OutOfRange(_) => 53,
+            DraftFault::TextLong(_) => 54,
+            DraftFault::MissingForbidden(_) => 55,
+            DraftFault::UnequalFactor(_) => 58,
+            DraftFault::Increment(_) => 59,
+            DraftFault::TooManyValues(_, _) => 35,
+            DraftFault::Memory => 73,
+        }
+    }
+}
+
+/// What is wrong with an item, its line aside.
+#[derive(Clone, Copy)]
+pub(crate) enum Wrong {
+    Descriptor(Expected),
+    Number,
+    OutOfRange,
+    TextLong,
+    MissingForbidden,
+}
+
+impl Wrong {
+    ghost use Rattle.std.specs.Prelude.{◌≡◌, Some};
+    ghost use Rattle.bufr_fill.specs.Fault.{at_line};
+    ghost use Rattle.bufr_fill.specs.Told.{told_fault, fault_of};
+
+    /// The fault on a line.
+    pub(crate) fn at(self, line: u64) -> DraftFault
+        ensures { told_fault result ≡ Some (at_line line (fault_of self)) }
+    {
+        match self {
+            Wrong::Descriptor(expected) => DraftFault::WrongDescriptor(line, expected),
+            Wrong::Number => DraftFault::Number(line),
+            Wrong::OutOfRange => DraftFault::OutOfRange(line),
+            Wrong::TextLong => DraftFault::TextLong(line),
+            Wrong::MissingForbidden => DraftFault::MissingForbidden(line),
+        }
+    }
+}

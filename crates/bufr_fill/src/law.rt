@@ -1,0 +1,51 @@
+//! Laws on writing: a walk writes what the definition makes of the items, and the items of a dump are written to bits from
+//! which the same is read, and no more bits than were read.
+ghost use Rattle.std.specs.Prelude.{◌≡◌, ◌++◌, ℕ, List, [], Bool, length, Ok, Err};
+ghost use Rattle.bufr_tables.specs.Records.{Record};
+ghost use Rattle.bufr_tables.specs.TableB.{Row, AreRows};
+ghost use Rattle.bufr_tables.specs.Tree.{Tree};
+ghost use Rattle.bufr_tables.specs.Legal.{IsLegal};
+ghost use Rattle.bufr_walk.specs.Asked.{Asked};
+ghost use Rattle.bufr_walk.specs.Content.{Content};
+ghost use Rattle.bufr_walk.specs.Course.{Course, next_item, take_next};
+ghost use Rattle.bufr_walk.specs.Reading.{Item, ReadsSubsets, IsPackedReading};
+ghost use Rattle.bufr_walk.specs.Taking.{Turn, Takes, course_after};
+ghost use Rattle.bufr_walk.specs.Walked.{oks};
+ghost use Rattle.bufr_fill.specs.DraftContent.{plain_filler};
+ghost use Rattle.bufr_fill.specs.Entries.{Entry, Subset};
+ghost use Rattle.bufr_fill.specs.Fault.{FaultAt};
+ghost use Rattle.bufr_fill.specs.Filling.{fill, and_behind};
+ghost use Rattle.bufr_fill.specs.Encoding.{packed_filler};
+ghost use Rattle.bufr_fill.specs.PackedOut.{PackedPen, PackedFills, rows_left};
+ghost use Rattle.bufr_fill.specs.PlainOut.{Pen, PlainFills, IsFaultOf, items_left, end_left};
+ghost use Rattle.bufr_fill.specs.WrittenAgain.{AreDumped, AreDumpedFrom, IsWrittenAgain, IsPackedAgain};
+
+/// What was read of data that are not compressed is written again, from the items of its dump, to bits that have the same
+/// reading, and no more of them (WMO-No. 306, Volume I.2, FM 94: section 4).
+pub fn plain_data_round_trip()
+    ensures { (records : List Record) (table : List Row) (template : Tree) (subsets : List (List (Item Content))) (drafts : List Subset) (bits behind : List Bool) → AreRows records table → IsLegal template → AreDumped subsets drafts → ReadsSubsets (next_item table template) subsets bits behind → IsWrittenAgain (next_item table template) subsets drafts bits behind }
+{}
+
+/// The same of compressed data, where each item is packed by the least base and the least `k`: this `k` is never above the one
+/// that was read.
+pub fn packed_data_round_trip()
+    ensures { (n : ℕ) (records : List Record) (table : List Row) (template : Tree) (items : List (Item (List Content))) (drafts : List Subset) (bits behind : List Bool) → AreRows records table → IsLegal template → length drafts ≡ n → AreDumpedFrom 0 items drafts → IsPackedReading n (next_item table template) items bits behind → IsPackedAgain n (next_item table template) items drafts bits behind }
+{}
+
+/// A walk over the items of one subset writes what the definition makes of them, up to those that are left.
+#[tactic(auto, using(crate::proofs::PlainWalks::walk_of_items))]
+pub fn plain_walk_writes_as_defined()
+    ensures { (end : ℕ) (course : Course) (s : Pen) (items : List Turn) (s' : Pen) → Takes (oks PlainFills) course s items s' → (bits : List Bool) × (s'.bits ≡ s.bits ++ bits) × (fill (plain_filler end) course (items_left s.left) ≡ and_behind (plain_filler end) bits (fill (plain_filler end) (course_after course items) (items_left s'.left))) }
+{}
+
+/// The fault that an item is refused for is the definition's.
+#[tactic(auto, using(crate::proofs::PlainWalks::fault_of_items))]
+pub fn plain_fault_is_as_defined()
+    ensures { (course : Course) (left : List Entry) (spec : Asked) (f : FaultAt) → (course []).next ≡ take_next spec → IsFaultOf spec left f → fill (plain_filler (end_left left)) course (items_left left) ≡ Err f }
+{}
+
+/// A walk over the items of all subsets writes what the definition makes of them, up to those that are left.
+#[tactic(auto, using(crate::proofs::PackedWalks::walk_of_rows))]
+pub fn packed_walk_writes_as_defined()
+    ensures { (end : ℕ) (many : Bool) (course : Course) (s : PackedPen) (items : List Turn) (s' : PackedPen) → Takes (oks PackedFills) course s items s' → (bits : List Bool) × (s'.bits ≡ s.bits ++ bits) × (fill (packed_filler end many) course (rows_left s) ≡ and_behind (packed_filler end many) bits (fill (packed_filler end many) (course_after course items) (rows_left s'))) }
+{}

@@ -1,0 +1,20 @@
+//! The items of a dump text, and their writing as the data of FM 94 BUFR.
+#![tactic(auto)]
+
+mod draft;
+mod draw;
+mod fault;
+mod gather;
+pub mod law;
+mod packed_out;
+mod packing;
+mod plain_out;
+mod put;
+
+pub use draft::{DraftItem, Entry, Form};
+pub use fault::{DraftFault, Expected};
+pub use packed_out::PackedOut;
+pub use plain_out::PlainOut;
+
+#[cfg(test)]
+mod tests;

@@ -1,0 +1,236 @@
+//! Items of a dump text written as compressed data.
+ghost use Rattle.std.specs.Prelude.{◌≡◌, ◌≤◌, ◌<◌, ◌+◌, ◌*◌, ◌/◌, ◌^◌, IfOk, Ok, length, map};
+ghost use Rattle.bufr_walk.specs.Asked.{IsFor};
+ghost use Rattle.bufr_walk.specs.Reading.{most_values};
+ghost use Rattle.bufr_fill.specs.Encoding.{across, cells_at, contents_here};
+ghost use Rattle.bufr_fill.specs.Entries.{subsets_of};
+ghost use Rattle.bufr_fill.specs.Gathered.{AllDrawn, contents_drawn};
+ghost use Rattle.bufr_fill.specs.Packs.{PutAcross};
+ghost use Rattle.bufr_fill.specs.Given.{entry_in};
+ghost use Rattle.bufr_fill.specs.PackedOut.{ends_of};
+
+use crate::draft::Entry;
+use crate::draw::Drawn;
+use crate::fault::DraftFault;
+use crate::gather::{all_end, first_line, gather, unlike_line};
+use crate::packing::{Unpacked, pack};
+use crate::put::taken_of;
+use bufr_bits::BitWriter;
+use bufr_walk::{Fields, Spec, Taken};
+use std::alloc::{AllocError, Global};
+use std::marker::Model;
+
+/// The most values of a compressed message.
+const MOST_VALUES: u64 = 134_217_728;
+
+/// Items of a dump text, each written once for all subsets as a base, six bits `k`, and an increment for each subset
+/// where `k` is above 0 (WMO-No. 306, Volume I.2, FM 94: section 4, compression). One walk takes the items of all subsets.
+///
+/// A contract sees it as the subsets, how many items of each were taken, the bits that were written, and how many of these
+/// are those of whole items.
+#[derive(Drop)]
+pub struct PackedOut<'s, 'a> {
+    entries: &'s [Entry<'a>],
+    ends: Vec<usize>,
+    place: usize,
+    drawn: Vec<Drawn<'a>>,
+    out: BitWriter,
+    used: u64,
+}
+
+impl<'s, 'a> Model for PackedOut<'s, 'a> {
+    ghost use Rattle.std.specs.Prelude.{map};
+    ghost use Rattle.bufr_fill.specs.Entries.{subsets_of};
+    ghost use Rattle.bufr_fill.specs.Given.{entry_in};
+    ghost use Rattle.bufr_fill.specs.PackedOut.{PackedPen, IsPackedOut};
+
+    ghost Value = { PackedPen };
+
+    ghost view = { λ s. record { subsets = subsets_of (map entry_in s.entries.now); place = s.place; bits = s.out; used = s.used } };
+
+    ghost invariant = { λ s. IsPackedOut (map entry_in s.entries.now) s.ends.items s.place s.used };
+}
+
+/// The places of the entries that end subsets.
+fn ends_in(alloc: Global, entries: &[Entry<'_>]) -> Result<Vec<usize>, AllocError>
+    ensures { IfOk result (λ ends. ends.items ≡ ends_of 0 (map entry_in entries.now)) }
+{
+    let mut ends = Vec::new(alloc);
+    for place in 0..entries.len() {
+        match entries[place] {
+            Entry::End(_) => ends.push(place)?,
+            Entry::Item(_) => {}
+        }
+    }
+    Ok(ends)
+}
+
+/// Writes what was drawn for all subsets.
+#[tactic(auto, using(crate::proofs::PackSteps::drawn_at))]
+fn put_drawn(
+    entries: &[Entry<'_>],
+    ends: &[usize],
+    place: usize,
+    spec: &Spec,
+    drawn: &[Drawn<'_>],
+    out: &mut BitWriter,
+) -> Result<Taken, DraftFault>
+    requires ends { ends.now ≡ ends_of 0 (map entry_in entries.now) }
+    requires few { length entries.now ≤ 2 ^ 45 }
+    requires some { 0 < length ends.now }
+    requires values { (place + 1) * length ends.now ≤ most_values }
+    requires near { place ≤ 2 ^ 45 }
+    requires given { contents_here spec.now (cells_at place (subsets_of (map entry_in entries.now))) ≡ Ok (contents_drawn (spec.now.width / 8) drawn.now) }
+    requires all { AllDrawn spec.now drawn.now }
+    requires many { length drawn.now ≡ length ends.now }
+    requires room { length out.old + (2046 + 504 * length ends.now) + 2040 ≤ 2 ^ 63 }
+    ensures put { PutAcross out.old out.new spec.now (across place (subsets_of (map entry_in entries.now))) (2046 + 504 * length ends.now) result }
+    ensures shape { IfOk result (λ t. IsFor spec.now t) }
+{
+    match pack(out, drawn, spec) {
+        Ok(()) => Ok(taken_of(drawn[0], spec)),
+        Err(Unpacked::Unequal) => Err(DraftFault::UnequalFactor(unlike_line(
+            entries, ends, place, spec, drawn,
+        ))),
+        Err(Unpacked::Uneven) => Err(DraftFault::Increment(first_line(entries, ends, place))),
+        Err(Unpacked::Memory) => Err(DraftFault::Memory),
+    }
+}
+
+/// Writes the next item of all subsets.
+fn pack_next<'a>(
+    entries: &[Entry<'a>],
+    ends: &[usize],
+    place: usize,
+    spec: &Spec,
+    drawn: &mut Vec<Drawn<'a>>,
+    out: &mut BitWriter,
+) -> Result<Taken, DraftFault>
+    requires ends { ends.now ≡ ends_of 0 (map entry_in entries.now) }
+    requires few { length entries.now ≤ 2 ^ 45 }
+    requires some { 0 < length ends.now }
+    requires values { place * length ends.now ≤ most_values }
+    requires near { place ≤ 2 ^ 45 }
+    requires room { length out.old + (2046 + 504 * length ends.now) + 2040 ≤ 2 ^ 63 }
+    ensures put { PutAcross out.old out.new spec.now (across place (subsets_of (map entry_in entries.now))) (2046 + 504 * length ends.now) result }
+    ensures shape { IfOk result (λ t. IsFor spec.now t) }
+    ensures values { IfOk result (λ t. (place + 1) * length ends.now ≤ most_values) }
+{
+    if (place as u64 + 1) * ends.len() as u64 > MOST_VALUES {
+        let line = first_line(entries, ends, place);
+        return Err(DraftFault::TooManyValues(line, spec.fxy()));
+    }
+    match gather(entries, ends, place, spec, drawn) {
+        Ok(()) => put_drawn(entries, ends, place, spec, drawn, out),
+        Err(why) => Err(why),
+    }
+}
+
+impl<'s, 'a> PackedOut<'s, 'a> {
+    ghost use Rattle.std.specs.Prelude.{◌≡◌, ◌≤◌, ◌<◌, ◌+◌, ◌/◌, ◌^◌, ◌++◌, length, map, vec_len, IfOk};
+    ghost use Rattle.bufr_bits.specs.Bits.{bits_of, padding};
+    ghost use Rattle.bufr_fill.specs.Entries.{subsets_of};
+    ghost use Rattle.bufr_fill.specs.Given.{entry_in};
+    ghost use Rattle.bufr_fill.specs.PackedOut.{StartsSo, first_line_at, EndsSo};
+
+    /// The items of all subsets and the lines that end them, at most 2^45 together; `None` where there is no subset, since
+    /// no bit is written then.
+    ///
+    /// # Errors
+    ///
+    /// [`AllocError`] where the places of the subsets could not be kept.
+    pub fn new(
+        alloc: Global,
+        entries: &'s [Entry<'a>],
+    ) -> Result<Option<PackedOut<'s, 'a>>, AllocError>
+        requires few { length entries.now ≤ 2 ^ 45 }
+        ensures { IfOk result (λ out. StartsSo (subsets_of (map entry_in entries.now)) out) }
+    {
+        let ends = ends_in(alloc, entries)?;
+        if ends.is_empty() {
+            return Ok(None);
+        }
+        Ok(Some(PackedOut {
+            entries,
+            ends,
+            place: 0,
+            drawn: Vec::new(alloc),
+            out: BitWriter::new(alloc),
+            used: 0,
+        }))
+    }
+
+    /// The number of the next item's line in the first subset, or of the line that ends that subset.
+    pub fn line(&self) -> u64
+        ensures { result ≡ first_line_at self.now.place self.now.subsets }
+    {
+        first_line(self.entries, &self.ends, self.place)
+    }
+
+    /// Whether all subsets are at their ends.
+    ///
+    /// # Errors
+    ///
+    /// [`DraftFault::WrongDescriptor`] with the first subset that has an item more.
+    pub fn end(&self) -> Result<(), DraftFault>
+        ensures { EndsSo self.now.place self.now.subsets result }
+    {
+        all_end(self.entries, &self.ends, self.place)
+    }
+
+    /// The octets of the bits that were written, with zero bits to the next octet. It takes no memory.
+    pub fn into_octets(self) -> Vec<u8>
+        ensures bits { bits_of result.items ≡ self.entry.bits ++ padding (length self.entry.bits) }
+        ensures len { vec_len result ≡ (length self.entry.bits + 7) / 8 }
+    {
+        let PackedOut {
+            entries: _,
+            ends: _,
+            place: _,
+            drawn: _,
+            out,
+            used: _,
+        } = self;
+        out.into_octets()
+    }
+}
+
+impl<'s, 'a> Fields for PackedOut<'s, 'a> {
+    type Fault = DraftFault;
+
+    ghost use Rattle.bufr_fill.specs.PackedOut.{PackedFills, refuses_packed};
+    ghost use Rattle.bufr_fill.specs.Told.{told_fault};
+
+    ghost used = { λ s. s.used };
+
+    ghost takes = { PackedFills };
+
+    ghost advances = { λ s spec t next h. h.forth };
+
+    ghost refuses = { λ s spec e next h. refuses_packed (told_fault e) s spec next h };
+
+    fn take(&mut self, spec: &Spec) -> Result<Taken, DraftFault> {
+        if self.out.len_bits() != self.used {
+            return Err(DraftFault::Memory);
+        }
+        match pack_next(
+            self.entries,
+            &self.ends,
+            self.place,
+            spec,
+            &mut self.drawn,
+            &mut self.out,
+        ) {
+            Ok(told) => {
+                self.place += 1;
+                self.used = self.out.len_bits();
+                Ok(told)
+            }
+            Err(why) => Err(why),
+        }
+    }
+
+    fn bits(&self) -> u64 {
+        self.used
+    }
+}

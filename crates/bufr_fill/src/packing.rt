@@ -1,0 +1,387 @@
+// How the contents of one item are packed for all subsets.
+ghost use Rattle.std.specs.Prelude.{ℕ, ◌≡◌, ◌≤◌, ◌<◌, ◌+◌, ◌-◌, ◌*◌, ◌/◌, ◌^◌, ◌++◌, ◌∷◌, [], true, false, length, map, take, replicate, nat_lt, OnOk, unwrap_or};
+ghost use Rattle.std.specs.List.{list_all, flat_map};
+ghost use Rattle.bufr_bits.specs.Bits.{bits_in, bits_of};
+ghost use Rattle.bufr_tables.specs.TableB.{is_character};
+ghost use Rattle.bufr_walk.specs.Asked.{is_reference};
+ghost use Rattle.bufr_fill.specs.Drawn.{content_drawn, spaced, IsDrawn};
+ghost use Rattle.bufr_fill.specs.Gathered.{AllDrawn, contents_drawn};
+ghost use Rattle.bufr_fill.specs.Packing.{top, same, same_octets, are_same, lowest, first_from, least_k, has_bits, has_octets, increment_bits, octet_bits, packed_bits, numbers_over, packed_numbers, packed_texts, packed_by, packed_unlike, packing};
+ghost use Rattle.bufr_fill.specs.Packs.{over_of, spread, lesser, number_in, trimmed, need, need_of, most_need, octet_in, PackedSo, IsShort, AreShort, least_from};
+ghost use Rattle.bufr_walk.specs.Content.{bits_for};
+
+use crate::draw::{Drawn, are_full, top_of};
+use crate::put::{push_drawn, push_full, with_spaces};
+use bufr_bits::BitWriter;
+use bufr_walk::{Role, Spec};
+use std::alloc::AllocError;
+
+/// Why an item cannot be packed.
+pub(crate) enum Unpacked {
+    /// Its counts differ.
+    Unequal,
+    /// Its references differ, or its texts only behind octet 63.
+    Uneven,
+    /// Memory ran out, perhaps within the item.
+    Memory,
+}
+
+impl From<AllocError> for Unpacked {
+    ghost use Rattle.std.specs.Prelude.{◌≡◌};
+    ghost use Rattle.bufr_fill.specs.declared.packing.Unpacked.TheVariants as unpacked;
+
+    ghost from_gives = { λ w e. e ≡ unpacked.Memory };
+
+    fn from(_: AllocError) -> Unpacked {
+        Unpacked::Memory
+    }
+}
+
+/// The octet at a place of a text that spaces follow.
+#[tactic(auto, using(crate::proofs::TextSteps::octet_inside, crate::proofs::TextSteps::octet_outside))]
+fn octet_at(octets: &[u8], place: usize) -> u8
+    ensures { result ≡ octet_in octets.now place }
+{
+    match octets.get(place) {
+        Some(octet) => *octet,
+        None => b' ',
+    }
+}
+
+/// Whether two texts are the same, with spaces up to so many octets.
+fn same_text(one: &[u8], other: &[u8], count: usize) -> bool
+    requires one { length one.now ≤ count }
+    requires other { length other.now ≤ count }
+    ensures { result ≡ same_octets (spaced count one.now) (spaced count other.now) }
+{
+    for place in 0..count {
+        if octet_at(one, place) != octet_at(other, place) {
+            return false;
+        }
+    }
+    true
+}
+
+/// Whether two contents of a field are the same.
+#[tactic(auto, using(crate::proofs::PackSteps::same_references, crate::proofs::PackSteps::other_references))]
+pub(crate) fn is_same(one: Drawn<'_>, other: Drawn<'_>, spec: &Spec) -> bool
+    requires one { IsDrawn spec.now one }
+    requires other { IsDrawn spec.now other }
+    ensures { result ≡ same (content_drawn (spec.now.width / 8) one.entry) (content_drawn (spec.now.width / 8) other.entry) }
+{
+    let count = (spec.width() / 8) as usize;
+    match (one, other) {
+        (Drawn::Number(a), Drawn::Number(b)) => a == b,
+        (Drawn::Text(a), Drawn::Text(b)) => same_text(a, b, count),
+        (Drawn::Missing, Drawn::Missing) => true,
+        (Drawn::Reference(a), Drawn::Reference(b)) => a == b,
+        _ => false,
+    }
+}
+
+/// Whether all are the same as one.
+#[tactic(auto, using(crate::proofs::PackSteps::drawn_at, crate::proofs::PackSteps::alike_more, crate::proofs::PackSteps::alike_not, crate::proofs::PackSteps::alike_done))]
+fn are_alike(first: Drawn<'_>, drawn: &[Drawn<'_>], spec: &Spec) -> bool
+    requires first { IsDrawn spec.now first }
+    requires drawn { AllDrawn spec.now drawn.now }
+    ensures { result ≡ are_same (content_drawn (spec.now.width / 8) first.entry) (contents_drawn (spec.now.width / 8) drawn.now) }
+{
+    for other in drawn {
+        if !is_same(first, *other, spec) {
+            return false;
+        }
+    }
+    true
+}
+
+/// The lesser of a number that may be there and what was drawn, where that is a number.
+fn lesser_of(found: Option<u64>, drawn: Drawn<'_>) -> Option<u64>
+    ensures { result ≡ lesser found (number_in drawn.entry) }
+{
+    match (found, drawn) {
+        (Some(least), Drawn::Number(raw)) => Some(least.min(raw)),
+        (None, Drawn::Number(raw)) => Some(raw),
+        (found, _) => found,
+    }
+}
+
+/// The least number, of those that are there.
+#[tactic(auto, using(crate::proofs::PackSteps::lowest_more, crate::proofs::PackSteps::lowest_done))]
+fn lowest_of(drawn: &[Drawn<'_>]) -> Option<u64>
+    ensures { (count : ℕ) → result ≡ lowest (contents_drawn count drawn.now) }
+{
+    let mut found: Option<u64> = None;
+    for d in drawn {
+        found = lesser_of(found, *d);
+    }
+    found
+}
+
+/// The increment over a base.
+fn over(drawn: Drawn<'_>, base: u64) -> u64
+    ensures { result ≡ over_of base drawn.entry }
+{
+    match drawn {
+        Drawn::Number(raw) => raw.saturating_sub(base),
+        Drawn::Text(_) => 0,
+        Drawn::Missing => 0,
+        Drawn::Reference(_) => 0,
+    }
+}
+
+/// The greatest increment over a base.
+#[tactic(auto, using(crate::proofs::PackSteps::spread_more, crate::proofs::PackSteps::spread_done))]
+fn spread_of(drawn: &[Drawn<'_>], base: u64) -> u64
+    ensures { result ≡ spread base drawn.now }
+{
+    let mut most: u64 = 0;
+    for d in drawn {
+        most = over(*d, base).max(most);
+    }
+    most
+}
+
+/// The least `k` from 1 to 63 whose bits write an increment, all ones aside where that is missing; 64 where none does.
+#[tactic(auto, using(crate::proofs::PackSteps::least_here, crate::proofs::PackSteps::least_later, crate::proofs::PackSteps::least_end))]
+fn least_bits(spread: u64, may_be_missing: bool) -> u32
+    ensures { result ≡ least_from may_be_missing spread 1 }
+{
+    for k in 1..64u32 {
+        if spread < top_of(may_be_missing, k) {
+            return k;
+        }
+    }
+    64
+}
+
+/// The number of the bits that write an increment.
+#[tactic(auto, using(crate::proofs::DrawnLemmas::ones_bits))]
+fn increment_of(drawn: Drawn<'_>, base: u64, k: u32) -> u64
+    requires narrow { k ≤ 63 }
+    requires short { IsShort base k drawn }
+    ensures bits { (count : ℕ) → bits_in result k ≡ increment_bits base k (content_drawn count drawn.entry) }
+    ensures below { result < 2 ^ k }
+{
+    match drawn {
+        Drawn::Number(raw) => raw.saturating_sub(base),
+        Drawn::Text(_) => (1u64 << k) - 1,
+        Drawn::Missing => (1u64 << k) - 1,
+        Drawn::Reference(_) => (1u64 << k) - 1,
+    }
+}
+
+/// Writes the increments over a base, each in `k` bits.
+#[tactic(auto, using(crate::proofs::PackSteps::short_at, crate::proofs::PackSteps::flat_done))]
+fn push_increments(
+    out: &mut BitWriter,
+    drawn: &[Drawn<'_>],
+    base: u64,
+    k: u32,
+) -> Result<(), AllocError>
+    requires narrow { k ≤ 63 }
+    requires short { AreShort base k drawn.now }
+    requires room { length out.old + 63 * length drawn.now ≤ 2 ^ 63 }
+    ensures bits { (count : ℕ) → OnOk result (out.new ≡ out.old ++ flat_map (increment_bits base k) (contents_drawn count drawn.now)) }
+    ensures most { OnOk result (length out.new ≤ length out.old + 63 * length drawn.now) }
+    ensures least { OnOk result (length out.old ≤ length out.new) }
+{
+    for d in drawn {
+        out.push(increment_of(*d, base, k), k)?;
+    }
+    Ok(())
+}
+
+/// Writes numbers that differ: the least of them, `k`, and the increments over it.
+fn pack_numbers(out: &mut BitWriter, drawn: &[Drawn<'_>], spec: &Spec) -> Result<(), Unpacked>
+    requires number { is_character spec.now.kind ≡ false }
+    requires element { is_reference spec.now.role ≡ false }
+    requires drawn { AllDrawn spec.now drawn.now }
+    requires room { length out.old + (69 + 63 * length drawn.now) ≤ 2 ^ 63 }
+    ensures { PackedSo out.old out.new (packed_by spec.now.kind spec.now (contents_drawn (spec.now.width / 8) drawn.now)) (69 + 63 * length drawn.now) result }
+{
+    let may_be_missing = spec.may_be_missing();
+    let base = lowest_of(drawn).unwrap_or(0);
+    let k = least_bits(spread_of(drawn, base), may_be_missing);
+    out.push(base, spec.width())?;
+    out.push(u64::from(k), 6)?;
+    push_increments(out, drawn, base, k)?;
+    Ok(())
+}
+
+/// How many octets of a text stand before the spaces at its end.
+#[tactic(auto, using(crate::proofs::TextSteps::trimmed_here, crate::proofs::TextSteps::trimmed_later, crate::proofs::TextSteps::trimmed_all))]
+fn trimmed_len(octets: &[u8]) -> usize
+    ensures value { result ≡ trimmed octets.now }
+    ensures within { result ≤ length octets.now }
+{
+    for spaces in 0..octets.len() {
+        if octets[octets.len() - 1 - spaces] != b' ' {
+            return octets.len() - spaces;
+        }
+    }
+    0
+}
+
+/// How many octets tell a text.
+fn text_need(octets: &[u8]) -> usize
+    requires { length octets.now ≤ 255 }
+    ensures { result ≡ need octets.now }
+{
+    let len = trimmed_len(octets);
+    if are_full(&octets[..len]) {
+        len + 1
+    } else {
+        len
+    }
+}
+
+/// How many octets tell what was drawn, where that is a text.
+#[tactic(auto, using(crate::proofs::PackSteps::eighth_most))]
+fn drawn_need(drawn: Drawn<'_>, spec: &Spec) -> usize
+    requires { IsDrawn spec.now drawn }
+    ensures value { result ≡ need_of drawn.entry }
+{
+    let _width = spec.width();
+    match drawn {
+        Drawn::Text(octets) => text_need(octets),
+        Drawn::Number(_) => 1,
+        Drawn::Missing => 1,
+        Drawn::Reference(_) => 1,
+    }
+}
+
+/// How many octets tell all texts.
+#[tactic(auto, using(crate::proofs::PackSteps::need_more, crate::proofs::PackSteps::need_done, crate::proofs::PackSteps::drawn_at))]
+fn octets_needed(drawn: &[Drawn<'_>], spec: &Spec) -> usize
+    requires { AllDrawn spec.now drawn.now }
+    ensures { result ≡ most_need drawn.now }
+{
+    let mut most: usize = 1;
+    for d in drawn {
+        most = drawn_need(*d, spec).max(most);
+    }
+    most
+}
+
+/// Writes the first octets of a text that spaces follow, or ones where it is missing.
+#[tactic(auto, using(crate::proofs::PackSteps::eighth_most))]
+fn push_front(
+    out: &mut BitWriter,
+    drawn: Drawn<'_>,
+    k: usize,
+    spec: &Spec,
+) -> Result<(), AllocError>
+    requires few { k ≤ spec.now.width / 8 }
+    requires drawn { IsDrawn spec.now drawn }
+    requires room { length out.old + 2040 ≤ 2 ^ 63 }
+    ensures bits { OnOk result (out.new ≡ out.old ++ octet_bits k (content_drawn (spec.now.width / 8) drawn.entry)) }
+    ensures len { OnOk result (length out.new ≡ length out.old + 8 * k) }
+{
+    let _width = spec.width();
+    match drawn {
+        Drawn::Text(octets) => out.push_octets(&with_spaces(octets)[..k]),
+        Drawn::Number(_) => push_full(out, k),
+        Drawn::Missing => push_full(out, k),
+        Drawn::Reference(_) => push_full(out, k),
+    }
+}
+
+/// Writes the first `k` octets of each text.
+fn push_fronts(
+    out: &mut BitWriter,
+    drawn: &[Drawn<'_>],
+    k: usize,
+    spec: &Spec,
+) -> Result<(), AllocError>
+    requires few { k ≤ spec.now.width / 8 }
+    requires short { k ≤ 63 }
+    requires drawn { AllDrawn spec.now drawn.now }
+    requires room { length out.old + 504 * length drawn.now + 2040 ≤ 2 ^ 63 }
+    ensures bits { OnOk result (out.new ≡ out.old ++ flat_map (octet_bits k) (contents_drawn (spec.now.width / 8) drawn.now)) }
+    ensures most { OnOk result (length out.new ≤ length out.old + 504 * length drawn.now) }
+    ensures least { OnOk result (length out.old ≤ length out.new) }
+{
+    for d in drawn {
+        push_front(out, *d, k, spec)?;
+    }
+    Ok(())
+}
+
+/// Writes so many octets of zeros.
+#[tactic(auto, using(crate::proofs::PackSteps::zero_bits))]
+fn push_zeros(out: &mut BitWriter, spec: &Spec) -> Result<(), AllocError>
+    requires text { is_character spec.now.kind ≡ true }
+    requires room { length out.old + 2040 ≤ 2 ^ 63 }
+    ensures bits { OnOk result (out.new ≡ out.old ++ replicate spec.now.width false) }
+    ensures len { OnOk result (length out.new ≡ length out.old + spec.now.width) }
+{
+    let zeros = [0u8; 255];
+    out.push_octets(&zeros[..(spec.width() / 8) as usize])
+}
+
+/// Writes texts that differ: zero bits, `k`, and the first `k` octets of each.
+fn pack_texts(out: &mut BitWriter, drawn: &[Drawn<'_>], spec: &Spec) -> Result<(), Unpacked>
+    requires text { is_character spec.now.kind ≡ true }
+    requires element { is_reference spec.now.role ≡ false }
+    requires drawn { AllDrawn spec.now drawn.now }
+    requires room { length out.old + (2046 + 504 * length drawn.now) + 2040 ≤ 2 ^ 63 }
+    ensures { PackedSo out.old out.new (packed_by spec.now.kind spec.now (contents_drawn (spec.now.width / 8) drawn.now)) (2046 + 504 * length drawn.now) result }
+{
+    let _width = spec.width();
+    let k = octets_needed(drawn, spec);
+    if k > 63 {
+        return Err(Unpacked::Uneven);
+    }
+    push_zeros(out, spec)?;
+    out.push(k as u64, 6)?;
+    push_fronts(out, drawn, k, spec)?;
+    Ok(())
+}
+
+/// Writes contents that are all alike: the first of them, and no increments.
+fn pack_alike(out: &mut BitWriter, first: Drawn<'_>, spec: &Spec) -> Result<(), AllocError>
+    requires first { IsDrawn spec.now first }
+    requires room { length out.old + 2046 + 2040 ≤ 2 ^ 63 }
+    ensures bits { OnOk result (out.new ≡ out.old ++ (bits_for spec.now.width (content_drawn (spec.now.width / 8) first.entry) ++ (bits_in 0 6 ++ []))) }
+    ensures some { OnOk result (length out.old < length out.new) }
+    ensures most { OnOk result (length out.new ≤ length out.old + 2046) }
+{
+    push_drawn(out, first, spec)?;
+    out.push(0, 6)?;
+    Ok(())
+}
+
+/// Writes contents that are not all alike.
+fn pack_unlike(out: &mut BitWriter, drawn: &[Drawn<'_>], spec: &Spec) -> Result<(), Unpacked>
+    requires drawn { AllDrawn spec.now drawn.now }
+    requires room { length out.old + (2046 + 504 * length drawn.now) + 2040 ≤ 2 ^ 63 }
+    ensures { PackedSo out.old out.new (packed_unlike spec.now.role spec.now (contents_drawn (spec.now.width / 8) drawn.now)) (2046 + 504 * length drawn.now) result }
+{
+    match spec.role() {
+        Role::Factor => Err(Unpacked::Unequal),
+        Role::Reference => Err(Unpacked::Uneven),
+        Role::Element | Role::Inserted => {
+            if spec.is_text() {
+                pack_texts(out, drawn, spec)
+            } else {
+                pack_numbers(out, drawn, spec)
+            }
+        }
+    }
+}
+
+/// Writes the contents of an item for all subsets: the least base and the least `k` from which they are read again.
+#[tactic(auto, using(crate::proofs::PackSteps::drawn_at))]
+pub(crate) fn pack(out: &mut BitWriter, drawn: &[Drawn<'_>], spec: &Spec) -> Result<(), Unpacked>
+    requires some { 1 ≤ length drawn.now }
+    requires drawn { AllDrawn spec.now drawn.now }
+    requires room { length out.old + (2046 + 504 * length drawn.now) + 2040 ≤ 2 ^ 63 }
+    ensures { PackedSo out.old out.new (packing spec.now (contents_drawn (spec.now.width / 8) drawn.now)) (2046 + 504 * length drawn.now) result }
+{
+    if are_alike(drawn[0], drawn, spec) {
+        pack_alike(out, drawn[0], spec)?;
+        Ok(())
+    } else {
+        pack_unlike(out, drawn, spec)
+    }
+}

@@ -1,0 +1,135 @@
+//! Items of a dump text written as data that are not compressed.
+ghost use Rattle.std.specs.Prelude.{◌≡◌, ◌≤◌, ◌+◌, ◌^◌, length};
+
+use crate::draft::Entry;
+use crate::draw::{Drawn, draw, wrong_item};
+use crate::fault::{DraftFault, Expected, Wrong};
+use crate::put::{push_drawn, taken_of};
+use bufr_bits::BitWriter;
+use bufr_walk::{Fields, Spec, Taken};
+use std::alloc::Global;
+use std::marker::Model;
+
+/// Items of a dump text, subset after subset, each written as the field that a walk asks for
+/// (WMO-No. 306, Volume I.2, FM 94: section 4). One walk takes the items of one subset.
+///
+/// A contract sees it as the entries that are left and the bits that were written.
+#[derive(Drop)]
+pub struct PlainOut<'s, 'a> {
+    entries: &'s [Entry<'a>],
+    place: usize,
+    out: BitWriter,
+}
+
+impl<'s, 'a> Model for PlainOut<'s, 'a> {
+    ghost use Rattle.std.specs.Prelude.{length, map, drop};
+    ghost use Rattle.bufr_fill.specs.Given.{entry_in};
+    ghost use Rattle.bufr_fill.specs.PlainOut.{Pen, pen, IsPlainOut};
+
+    ghost Value = { Pen };
+
+    ghost view = { λ s. pen (map entry_in (drop s.place s.entries.now)) s.out };
+
+    ghost invariant = { λ s. IsPlainOut s.place (length s.entries.now) (length s.out) };
+}
+
+impl<'s, 'a> PlainOut<'s, 'a> {
+    ghost use Rattle.std.specs.Prelude.{◌≡◌, ◌≤◌, ◌+◌, ◌/◌, ◌^◌, ◌++◌, [], length, map, vec_len, MatchResult};
+    ghost use Rattle.bufr_bits.specs.Bits.{bits_of, padding};
+    ghost use Rattle.bufr_fill.specs.Given.{entry_in};
+    ghost use Rattle.bufr_fill.specs.PlainOut.{pen, line_at, PassesEnd};
+
+    /// The items of all subsets and the lines that end them, at most 2^45 together. It takes no memory.
+    pub fn new(alloc: Global, entries: &'s [Entry<'a>]) -> PlainOut<'s, 'a>
+        requires { length entries.now ≤ 2 ^ 45 }
+        ensures { result ≡ pen (map entry_in entries.now) [] }
+    {
+        PlainOut {
+            entries,
+            place: 0,
+            out: BitWriter::new(alloc),
+        }
+    }
+
+    /// The number of the next item's line, or of the line that ends the subset; 0 behind the last subset.
+    pub fn line(&self) -> u64
+        ensures { result ≡ line_at self.now.left }
+    {
+        match self.entries.get(self.place) {
+            Some(Entry::Item(item)) => item.line,
+            Some(Entry::End(line)) => *line,
+            None => 0,
+        }
+    }
+
+    /// Goes past the end of a subset.
+    ///
+    /// # Errors
+    ///
+    /// [`DraftFault::WrongDescriptor`] where the subset has an item more; nothing is changed then.
+    pub fn end_subset(&mut self) -> Result<(), DraftFault>
+        ensures { PassesEnd self.old result self.new }
+    {
+        let wrong = Wrong::Descriptor(Expected::EndOfSubset);
+        match self.entries.get(self.place) {
+            Some(Entry::End(_)) => {
+                self.place += 1;
+                Ok(())
+            }
+            Some(Entry::Item(item)) => Err(wrong.at(item.line)),
+            None => Err(wrong.at(0)),
+        }
+    }
+
+    /// The octets of the bits that were written, with zero bits to the next octet. It takes no memory.
+    pub fn into_octets(self) -> Vec<u8>
+        ensures bits { bits_of result.items ≡ self.entry.bits ++ padding (length self.entry.bits) }
+        ensures len { vec_len result ≡ (length self.entry.bits + 7) / 8 }
+    {
+        let PlainOut {
+            entries: _,
+            place: _,
+            out,
+        } = self;
+        out.into_octets()
+    }
+}
+
+impl<'s, 'a> Fields for PlainOut<'s, 'a> {
+    type Fault = DraftFault;
+
+    ghost use Rattle.std.specs.Prelude.{length};
+    ghost use Rattle.std.proofs.Common.{ap};
+    ghost use Rattle.bufr_fill.specs.PlainOut.{PlainFills};
+
+    ghost used = { λ s. length s.bits };
+
+    ghost takes = { PlainFills };
+
+    ghost advances = { λ s spec t next h. h.forth };
+
+    ghost refuses = { λ s spec e next h. ap (λ c. length c.bits) h.1 };
+
+    fn take(&mut self, spec: &Spec) -> Result<Taken, DraftFault> {
+        let item = match self.entries.get(self.place) {
+            Some(Entry::Item(item)) => item,
+            Some(Entry::End(line)) => return Err(wrong_item(spec).at(*line)),
+            None => return Err(wrong_item(spec).at(0)),
+        };
+        let drawn = match draw(item, spec) {
+            Ok(drawn) => drawn,
+            Err(why) => return Err(why.at(item.line)),
+        };
+        match push_drawn(&mut self.out, drawn, spec) {
+            Ok(()) => {
+                self.place += 1;
+                Ok(taken_of(drawn, spec))
+            }
+            Err(_) => Err(DraftFault::Memory),
+        }
+    }
+
+    fn bits(&self) -> u64 {
+        self.out.len_bits()
+    }
+}

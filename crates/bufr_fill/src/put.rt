@@ -1,0 +1,139 @@
+// What was drawn for a field, written as its bits.
+ghost use Rattle.std.specs.Prelude.{◌≡◌, ◌≤◌, ◌<◌, ◌+◌, ◌-◌, ◌*◌, ◌/◌, ◌^◌, ◌++◌, ◌∷◌, ℕ, true, false, length, replicate, unsigned_abs, OnOk, OnErr};
+ghost use Rattle.bufr_bits.specs.Bits.{bits_of, bits_in};
+ghost use Rattle.bufr_tables.specs.TableB.{is_character};
+ghost use Rattle.bufr_walk.specs.Asked.{IsFor};
+ghost use Rattle.bufr_walk.specs.Content.{sign_bit, bits_for, told, count_in, reference_in};
+ghost use Rattle.bufr_fill.specs.Drawn.{spaced, content_drawn, IsDrawn};
+
+use crate::draw::Drawn;
+use bufr_bits::BitWriter;
+use bufr_walk::{Role, Spec, Taken};
+use std::alloc::AllocError;
+
+/// Octets, and spaces behind them.
+#[tactic(auto, using(crate::proofs::PutLemmas::spaced_whole))]
+pub(crate) fn with_spaces(octets: &[u8]) -> [u8; 255]
+    requires { length octets.now ≤ 255 }
+    ensures { result ≡ octets.now ++ replicate (255 - length octets.now) 32 }
+{
+    let mut all = [b' '; 255];
+    all[..octets.len()].copy_from_slice(octets);
+    all
+}
+
+/// Writes a text of so many octets, with spaces behind it.
+#[tactic(auto, using(crate::proofs::PutLemmas::spaced_front))]
+fn push_text(out: &mut BitWriter, octets: &[u8], count: usize) -> Result<(), AllocError>
+    requires within { length octets.now ≤ count }
+    requires most { count ≤ 255 }
+    requires room { length out.old + 2040 ≤ 2 ^ 63 }
+    ensures ok { OnOk result (out.new ≡ out.old ++ bits_of (octets.now ++ replicate (count - length octets.now) 32)) }
+    ensures len { OnOk result (length out.new ≡ length out.old + 8 * count) }
+    ensures err { OnErr result (out.new ≡ out.old) }
+{
+    out.push_octets(&with_spaces(octets)[..count])
+}
+
+/// The bits of a sign and a magnitude, as a number.
+#[tactic(auto, using(crate::proofs::PutLemmas::negative_bits, crate::proofs::PutLemmas::positive_bits))]
+fn signed_bits(value: i64, width: u32) -> u64
+    requires some { 1 ≤ width }
+    requires narrow { width ≤ 63 }
+    requires fits { unsigned_abs value < 2 ^ (width - 1) }
+    ensures bits { bits_in result width ≡ sign_bit value ∷ bits_in (unsigned_abs value) (width - 1) }
+    ensures below { result < 2 ^ width }
+{
+    let size = value.unsigned_abs();
+    if value < 0 {
+        (1u64 << (width - 1)) + size
+    } else {
+        size
+    }
+}
+
+/// Writes so many octets of ones.
+#[tactic(auto, using(crate::proofs::PutLemmas::full_bits))]
+pub(crate) fn push_full(out: &mut BitWriter, count: usize) -> Result<(), AllocError>
+    requires most { count ≤ 255 }
+    requires room { length out.old + 2040 ≤ 2 ^ 63 }
+    ensures ok { OnOk result (out.new ≡ out.old ++ replicate (8 * count) true) }
+    ensures len { OnOk result (length out.new ≡ length out.old + 8 * count) }
+    ensures err { OnErr result (out.new ≡ out.old) }
+{
+    let ones = [255u8; 255];
+    out.push_octets(&ones[..count])
+}
+
+/// Writes a missing value.
+#[tactic(auto, using(crate::proofs::PutLemmas::eighths_ones, crate::proofs::DrawnLemmas::ones_bits))]
+fn push_missing(out: &mut BitWriter, spec: &Spec) -> Result<(), AllocError>
+    requires room { length out.old + 2040 ≤ 2 ^ 63 }
+    ensures ok { OnOk result (out.new ≡ out.old ++ replicate spec.now.width true) }
+    ensures len { OnOk result (length out.new ≡ length out.old + spec.now.width) }
+    ensures err { OnErr result (out.new ≡ out.old) }
+{
+    let width = spec.width();
+    if spec.is_text() {
+        push_full(out, (width / 8) as usize)
+    } else {
+        out.push((1u64 << width) - 1, width)
+    }
+}
+
+/// Writes what was drawn for a field, in the field's bits.
+#[tactic(auto, using(crate::proofs::DrawLemmas::drawn_narrow))]
+pub(crate) fn push_drawn(
+    out: &mut BitWriter,
+    drawn: Drawn<'_>,
+    spec: &Spec,
+) -> Result<(), AllocError>
+    requires drawn { IsDrawn spec.now drawn }
+    requires room { length out.old + 2040 ≤ 2 ^ 63 }
+    ensures ok { OnOk result (out.new ≡ out.old ++ bits_for spec.now.width (content_drawn (spec.now.width / 8) drawn.entry)) }
+    ensures some { OnOk result (length out.old < length out.new) }
+    ensures most { OnOk result (length out.new ≤ length out.old + 2040) }
+    ensures err { OnErr result (out.new ≡ out.old) }
+{
+    let width = spec.width();
+    match drawn {
+        Drawn::Number(raw) => out.push(raw, width),
+        Drawn::Text(octets) => push_text(out, octets, (width / 8) as usize),
+        Drawn::Missing => push_missing(out, spec),
+        Drawn::Reference(value) => out.push(signed_bits(value, width), width),
+    }
+}
+
+/// The count that a factor's content is.
+fn count_of(drawn: Drawn<'_>) -> u64
+    ensures { (count : ℕ) → result ≡ count_in (content_drawn count drawn.entry) }
+{
+    match drawn {
+        Drawn::Number(raw) => raw,
+        Drawn::Text(_) | Drawn::Missing | Drawn::Reference(_) => 0,
+    }
+}
+
+/// The reference that a content is.
+fn reference_in(drawn: Drawn<'_>) -> i64
+    ensures { (count : ℕ) → result ≡ reference_in (content_drawn count drawn.entry) }
+{
+    match drawn {
+        Drawn::Reference(value) => value,
+        Drawn::Number(_) | Drawn::Text(_) | Drawn::Missing => 0,
+    }
+}
+
+/// What a field tells the walk.
+#[tactic(auto, using(crate::proofs::DrawLemmas::told_count, crate::proofs::DrawLemmas::told_reference, crate::proofs::DrawLemmas::told_element, crate::proofs::DrawLemmas::told_inserted))]
+pub(crate) fn taken_of(drawn: Drawn<'_>, spec: &Spec) -> Taken
+    ensures tells { result ≡ told spec.now (content_drawn (spec.now.width / 8) drawn.entry) }
+    ensures shape { IsFor spec.now result }
+{
+    match spec.role() {
+        Role::Factor => Taken::Count(count_of(drawn)),
+        Role::Reference => Taken::Reference(reference_in(drawn)),
+        Role::Element => Taken::Plain,
+        Role::Inserted => Taken::Plain,
+    }
+}

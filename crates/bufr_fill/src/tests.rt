@@ -1,0 +1,378 @@
+// What is shown by running: worked items of both forms of data, and each fault.
+use super::*;
+use bufr_tables::{Fxy, TableB, TableD, Template};
+use bufr_walk::{Fields, Steps, WalkStop, walk};
+use std::alloc::{AllocError, Global};
+use std::test::Fail;
+
+// Test data, not WMO's.
+const TABLE_B: &[u8] = b"\
+    fxy,name,unit,scale,reference,width\n\
+    001001,WMO BLOCK NUMBER,Numeric,0,0,7\n\
+    001015,STATION OR SITE NAME,CCITT IA5,0,0,160\n\
+    005002,LATITUDE (COARSE ACCURACY),degree,2,-9000,15\n\
+    012101,AIR TEMPERATURE,K,2,0,16\n\
+    020003,PRESENT WEATHER,Code table,0,0,9\n\
+    031000,SHORT DELAYED DESCRIPTOR REPLICATION FACTOR,Numeric,0,0,1\n\
+    031001,DELAYED DESCRIPTOR REPLICATION FACTOR,Numeric,0,0,8\n\
+    031021,ASSOCIATED FIELD SIGNIFICANCE,Code table,0,0,6\n";
+
+const TABLE_D: &[u8] = b"fxy,member\n360192,001001\n360192,012101\n";
+
+// A name for what is shown, the descriptors, the items, and what comes of them: the octets of the data, or the number of
+// a fault and its line. An item is a descriptor and a form: a number, a text behind ', MISSING, or a reference behind R;
+// a / ends a subset. Each stands on a line of its own, from line 24 on.
+const APART: &[(&str, &str, &str, &str)] = &[
+    ("one_block_number", "001001", "001001 10 /", "14"),
+    ("one_temperature", "012101", "012101 288.15 /", "708F"),
+    ("greatest_temperature", "012101", "012101 655.34 /", "FFFE"),
+    ("temperature_missing", "012101", "012101 MISSING /", "FFFF"),
+    (
+        "delayed_twice",
+        "101000 031001 001001",
+        "031001 2 001001 10 001001 11 /",
+        "02142C",
+    ),
+    (
+        "redefined_reference",
+        "203010 012101 203255 012101",
+        "012101 R-400 012101 284.15 /",
+        "E41C23C0",
+    ),
+    (
+        "minus_zero",
+        "203010 012101 203255 012101",
+        "012101 R-0 012101 288.15 /",
+        "001C23C0",
+    ),
+    ("negative_latitude", "005002", "005002 -0.05 /", "4646"),
+    (
+        "text_with_spaces",
+        "208003 001015",
+        "001015 'AB /",
+        "414220",
+    ),
+    ("figure_of_ones", "031021", "031021 63 /", "FC"),
+    ("two_subsets", "001001", "001001 10 / 001001 11 /", "142C"),
+    ("another_descriptor", "001001", "012101 5 /", "51 at 24"),
+    ("left_out", "001001", "/", "51 at 24"),
+    ("one_too_many", "001001", "001001 1 001001 2 /", "51 at 25"),
+    ("inexact", "012101", "012101 288.155 /", "52 at 24"),
+    ("would_be_missing", "012101", "012101 655.35 /", "53 at 24"),
+    (
+        "text_too_long",
+        "208003 001015",
+        "001015 'ABCD /",
+        "54 at 24",
+    ),
+    (
+        "factor_missing",
+        "101000 031001 001001",
+        "031001 MISSING /",
+        "55 at 24",
+    ),
+    ("width_of_none", "201121 001001", "001001 0 /", "31 at 24"),
+];
+
+// The same of compressed data.
+const TOGETHER: &[(&str, &str, &str, &str)] = &[
+    (
+        "compressed_missing",
+        "012101",
+        "012101 288.15 / 012101 MISSING /",
+        "708F05",
+    ),
+    (
+        "compressed_alike",
+        "012101",
+        "012101 288.15 / 012101 288.15 /",
+        "708F00",
+    ),
+    (
+        "compressed_apart",
+        "012101",
+        "012101 288.15 / 012101 288.16 /",
+        "708F0840",
+    ),
+    (
+        "compressed_all_missing",
+        "012101",
+        "012101 MISSING / 012101 MISSING /",
+        "FFFF00",
+    ),
+    (
+        "compressed_name",
+        "001015",
+        "001015 'ABC / 001015 MISSING /",
+        "00000000000000000000000000000000000000000D05090FFFFFFC",
+    ),
+    (
+        "compressed_figures",
+        "031021",
+        "031021 5 / 031021 6 /",
+        "1414",
+    ),
+    (
+        "compressed_references",
+        "203010 012101 203255 012101",
+        "012101 R-400 012101 284.15 / 012101 R-400 012101 284.15 /",
+        "E400708F00",
+    ),
+    (
+        "factors_differ",
+        "101000 031001 001001",
+        "031001 1 001001 1 / 031001 2 001001 1 001001 1 /",
+        "58 at 27",
+    ),
+    (
+        "references_differ",
+        "203010 012101 203255 012101",
+        "012101 R-400 012101 284.15 / 012101 R400 012101 284.15 /",
+        "59 at 24",
+    ),
+    ("second_left_out", "001001", "001001 1 / /", "51 at 26"),
+    (
+        "second_has_one_more",
+        "001001",
+        "001001 1 / 001001 1 001001 2 /",
+        "51 at 27",
+    ),
+    (
+        "second_inexact",
+        "001001",
+        "001001 1 / 001001 1.5 /",
+        "52 at 26",
+    ),
+    ("no_subset", "001001", "", ""),
+];
+
+// The descriptor of six digits; what is none is 000000.
+fn descriptor_of(digits: &str) -> Fxy {
+    let number = digits.parse::<u32>().unwrap_or(0);
+    let word = number / 100_000 * 16384 + number / 1000 % 100 * 256 + number % 1000;
+    Fxy::from_word(u16::try_from(word).unwrap_or(0))
+}
+
+// The form that a word spells.
+fn form_of(word: &str) -> Form<'_> {
+    let octets = word.as_bytes();
+    match octets {
+        b"MISSING" => Form::Missing,
+        [b'\'', text @ ..] => Form::Text(text),
+        [b'R', digits @ ..] => Form::Reference(digits),
+        _ => Form::Number(octets),
+    }
+}
+
+// What a word is: the form of an item whose descriptor is known, the end of a subset, or else a descriptor.
+fn entry_of(line: u64, known: Option<Fxy>, word: &str) -> Option<Entry<'_>> {
+    if word == "/" {
+        return Some(Entry::End(line));
+    }
+    let fxy = known?;
+    let form = form_of(word);
+    Some(Entry::Item(DraftItem { line, fxy, form }))
+}
+
+// Puts the entries that words spell behind those that are there.
+fn put_entries<'a>(words: &[&'a str], entries: &mut Vec<Entry<'a>>) -> Result<(), AllocError> {
+    let mut known = None;
+    for place in 0..words.len() {
+        let line = (entries.len() as u64).saturating_add(24);
+        match entry_of(line, known, words[place]) {
+            Some(entry) => {
+                let one = [entry];
+                entries.extend_from_slice(&one)?;
+                known = None;
+            }
+            None => known = Some(descriptor_of(words[place])),
+        }
+    }
+    Ok(())
+}
+
+// The entries that words spell.
+fn entries_of(alloc: Global, text: &str) -> Result<Vec<Entry<'_>>, AllocError> {
+    let words: Vec<&str> = text.split_whitespace().collect(alloc)?;
+    let mut entries = Vec::new(alloc);
+    put_entries(words.as_slice(), &mut entries)?;
+    Ok(entries)
+}
+
+// Octets in hexadecimal digits.
+fn hexadecimal(alloc: Global, octets: &[u8]) -> Result<String, Fail> {
+    let mut text = String::new(alloc);
+    for octet in octets {
+        text.push_str(format!(in alloc; "{octet:02X}")?.as_str())?;
+    }
+    Ok(text)
+}
+
+// The line of a fault.
+fn line_of(fault: DraftFault) -> u64 {
+    match fault {
+        DraftFault::WrongDescriptor(line, _) => line,
+        DraftFault::Number(line) => line,
+        DraftFault::OutOfRange(line) => line,
+        DraftFault::TextLong(line) => line,
+        DraftFault::MissingForbidden(line) => line,
+        DraftFault::UnequalFactor(line) => line,
+        DraftFault::Increment(line) => line,
+        DraftFault::TooManyValues(line, _) => line,
+        DraftFault::Memory => 0,
+    }
+}
+
+// A fault's number and its line.
+fn told(alloc: Global, fault: DraftFault) -> Result<String, Fail> {
+    Ok(format!(in alloc; "{} at {}", fault.number(), line_of(fault))?)
+}
+
+// Why a walk stopped, where the next line is this one.
+fn stopped(alloc: Global, why: WalkStop<DraftFault>, line: u64) -> Result<String, Fail> {
+    match why {
+        WalkStop::Width(_) => Ok(format!(in alloc; "31 at {line}")?),
+        WalkStop::Defining(_) => Ok(format!(in alloc; "32 at {line}")?),
+        WalkStop::Field(fault) => told(alloc, fault),
+        WalkStop::Memory => Ok(format!(in alloc; "73")?),
+    }
+}
+
+// How many subsets entries end.
+fn subsets_in(entries: &[Entry<'_>]) -> usize {
+    let mut count: usize = 0;
+    for entry in entries {
+        if matches!(entry, Entry::End(_)) {
+            count = count.saturating_add(1);
+        }
+    }
+    count
+}
+
+// What comes of items that are written one subset after another.
+fn apart(
+    alloc: Global,
+    entries: &[Entry<'_>],
+    template: &Template,
+    table: &TableB,
+) -> Result<String, Fail> {
+    if entries.len() > 100 {
+        return Err(Fail::from("too many"));
+    }
+    let mut out = PlainOut::new(alloc, entries);
+    let mut steps = Steps::new();
+    for _ in 0..subsets_in(entries) {
+        match walk(alloc, template, table, &mut out, &mut steps) {
+            Ok(()) => {}
+            Err(why) => return stopped(alloc, why, out.line()),
+        }
+        match out.end_subset() {
+            Ok(()) => {}
+            Err(fault) => return told(alloc, fault),
+        }
+    }
+    hexadecimal(alloc, &out.into_octets())
+}
+
+// What comes of items that are written for all subsets together.
+fn together(
+    alloc: Global,
+    entries: &[Entry<'_>],
+    template: &Template,
+    table: &TableB,
+) -> Result<String, Fail> {
+    if entries.len() > 100 {
+        return Err(Fail::from("too many"));
+    }
+    let Some(mut out) = PackedOut::new(alloc, entries)? else {
+        return Ok(String::new(alloc));
+    };
+    let mut steps = Steps::new();
+    match walk(alloc, template, table, &mut out, &mut steps) {
+        Ok(()) => {}
+        Err(why) => return stopped(alloc, why, out.line()),
+    }
+    match out.end() {
+        Ok(()) => {}
+        Err(fault) => return told(alloc, fault),
+    }
+    hexadecimal(alloc, &out.into_octets())
+}
+
+#[test]
+fn items_apart(rt: HostRuntime) -> Result<(), Fail> {
+    let table_b = TableB::read(rt.alloc(), TABLE_B)?;
+    let table_d = TableD::read(rt.alloc(), TABLE_D)?;
+    for (name, descriptors_text, items, want) in APART {
+        let mut descriptors = Vec::new(rt.alloc());
+        for digits in descriptors_text.split_whitespace() {
+            descriptors.push(descriptor_of(digits))?;
+        }
+        let template = Template::build(rt.alloc(), &descriptors, &table_b, &table_d)?;
+        let entries = entries_of(rt.alloc(), items)?;
+        let got = apart(rt.alloc(), &entries, &template, &table_b)?;
+        assert_eq!(rt; got.as_str(), *want, "{name}");
+    }
+    Ok(())
+}
+
+#[test]
+fn items_together(rt: HostRuntime) -> Result<(), Fail> {
+    let table_b = TableB::read(rt.alloc(), TABLE_B)?;
+    let table_d = TableD::read(rt.alloc(), TABLE_D)?;
+    for (name, descriptors_text, items, want) in TOGETHER {
+        let mut descriptors = Vec::new(rt.alloc());
+        for digits in descriptors_text.split_whitespace() {
+            descriptors.push(descriptor_of(digits))?;
+        }
+        let template = Template::build(rt.alloc(), &descriptors, &table_b, &table_d)?;
+        let entries = entries_of(rt.alloc(), items)?;
+        let got = together(rt.alloc(), &entries, &template, &table_b)?;
+        assert_eq!(rt; got.as_str(), *want, "{name}");
+    }
+    Ok(())
+}
+
+// Whole items alone are counted.
+#[test]
+fn bits_of_whole_items(rt: HostRuntime) -> Result<(), Fail> {
+    let table_b = TableB::read(rt.alloc(), TABLE_B)?;
+    let table_d = TableD::read(rt.alloc(), TABLE_D)?;
+    let mut descriptors = Vec::new(rt.alloc());
+    descriptors.push(descriptor_of("001001"))?;
+    let template = Template::build(rt.alloc(), &descriptors, &table_b, &table_d)?;
+    let entries = entries_of(rt.alloc(), "001001 10 / 001001 11 /")?;
+    if entries.len() > 100 {
+        return Err(Fail::from("too many"));
+    }
+    let mut steps = Steps::new();
+    let mut plain = PlainOut::new(rt.alloc(), &entries);
+    let walked = walk(rt.alloc(), &template, &table_b, &mut plain, &mut steps).is_ok();
+    assert!(rt; walked);
+    assert_eq!(rt; plain.bits(), 7);
+    if let Some(mut packed) = PackedOut::new(rt.alloc(), &entries)? {
+        let walked = walk(rt.alloc(), &template, &table_b, &mut packed, &mut steps).is_ok();
+        assert!(rt; walked);
+        assert_eq!(rt; packed.bits(), 17);
+    }
+    Ok(())
+}
+
+#[test]
+fn faults_have_numbers(rt: HostRuntime) {
+    let fxy = Fxy::from_word(257);
+    let rows = [
+        (DraftFault::WrongDescriptor(1, Expected::Item(fxy)), 51),
+        (DraftFault::Number(1), 52),
+        (DraftFault::OutOfRange(1), 53),
+        (DraftFault::TextLong(1), 54),
+        (DraftFault::MissingForbidden(1), 55),
+        (DraftFault::UnequalFactor(1), 58),
+        (DraftFault::Increment(1), 59),
+        (DraftFault::TooManyValues(1, fxy), 35),
+        (DraftFault::Memory, 73),
+    ];
+    for (fault, number) in rows {
+        assert_eq!(rt; fault.number(), number, "{fault:?}");
+    }
+}

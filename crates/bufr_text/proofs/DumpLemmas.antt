@@ -1,0 +1,165 @@
+-- What was written of a dump text, line by line.
+use Rattle.std.proofs.Common.{◌≡◌, ◌∙◌, ℕ, zero, suc, ◌-◌, ◌<◌, ◌≤◌, Bool, true, false, List, [], ◌∷◌, ◌++◌, length, take, drop, map, refl, sym, ap, subst, inl, inr, arith, Option, Ok, Err, append_assoc, append-nil}
+use Rattle.std.specs.Prelude.{Result, min, ◌⊎◌, IsTrue, ◌↔◌}
+use Rattle.std.specs.Io.KnownBytes.{Appends}
+use Rattle.std.proofs.KnownBytes.{Appends-nil, Appends-trans}
+use Rattle.std.proofs.lemmas.Bool.{cases_lt}
+use Rattle.std.proofs.lemmas.List.{take_all, drop_all}
+use Rattle.bufr_frame.specs.declared.fault.RunFault.{RunFault}
+use Rattle.bufr_frame.specs.declared.fault.RunFault.TheVariants.{Read, Write, InputTooLong, Memory}
+use Rattle.bufr_text.specs.Grammar.{runs_behind, runs_of}
+use Rattle.bufr_text.specs.Dump.{text_of}
+use Rattle.bufr_text.specs.Dumping.{WritesFront, CountsFaults}
+use Rattle.bufr_text.specs.Writing.{Writes, CountsWrites, GrowsByFront}
+use Rattle.bufr_text.proofs.WritingLemmas.{WrittenSoFar}
+
+-- a front of a text is one of a longer text
+pub front-longer : (a b : Option (List ℕ)) (s t : List ℕ) → GrowsByFront a b s → GrowsByFront a b (s ++ t)
+front-longer a b s t first = record {
+  front = first.front;
+  back = first.back ++ t;
+  parts = ap (λ l. l ++ t) first.parts ∙ append_assoc first.front first.back t;
+  gains = first.gains;
+}
+
+-- a text was written, and then a front of another one
+pub front-behind : (a b c : Option (List ℕ)) (s t : List ℕ) → Appends a b s → GrowsByFront b c t → GrowsByFront a c (s ++ t)
+front-behind a b c s t first second = record {
+  front = s ++ second.front;
+  back = second.back;
+  parts = ap (λ l. s ++ l) second.parts ∙ sym (append_assoc s second.front second.back);
+  gains = Appends-trans a b c s second.front first second.gains;
+}
+
+-- nothing was written
+pub front-none : (a : Option (List ℕ)) (text : List ℕ) → GrowsByFront a a text
+front-none a text = record { front = []; back = text; parts = refl; gains = Appends-nil a }
+
+-- all was written
+pub front-all : (a b : Option (List ℕ)) (text : List ℕ) → Appends a b text → GrowsByFront a b text
+front-all a b text all = record { front = text; back = []; parts = sym (append-nil text); gains = all }
+
+-- the first was written, and then the second
+pub WritesFront-then : {X : Type 0} (a b c : Option (List ℕ)) (s t : List ℕ) (r : Result X RunFault) → Appends a b s → WritesFront b c t r → WritesFront a c (s ++ t) r
+WritesFront-then a b c s t (Ok x) first second = Appends-trans a b c s t first second
+WritesFront-then a b c s t (Err f) first second = front-behind a b c s t first second
+
+-- the first was not written whole
+pub WritesFront-stop : {X Y : Type 0} (a b : Option (List ℕ)) (s t : List ℕ) (first : Result X RunFault) (r : Result Y RunFault) (f g : RunFault) → first ≡ Err f → r ≡ Err g → WritesFront a b s first → WritesFront a b (s ++ t) r
+WritesFront-stop a b s t first r f g is same writes =
+    let here = rw is at writes in
+    rw same (front-longer a b s t here)
+
+-- a write that failed is all that can be wrong
+pub WritesFront-writes : {X : Type 0} (a b : Option (List ℕ)) (text : List ℕ) (r : Result X RunFault) → Writes a b text r → WritesFront a b text r
+WritesFront-writes a b text (Ok x) writes = writes
+WritesFront-writes a b text (Err f) writes = writes.1
+
+pub CountsFaults-writes : {X : Type 0} (a b : Option (List ℕ)) (text : List ℕ) (failures failures' empty empty' : ℕ) (r : Result X RunFault) → Writes a b text r → CountsWrites failures failures' empty empty' r → CountsFaults failures failures' empty empty' r
+CountsFaults-writes a b text failures failures' empty empty' (Ok x) writes counts = counts
+CountsFaults-writes a b text failures failures' empty empty' (Err f) writes counts = rw writes.0 counts
+
+-- nothing was counted, and then a call was made
+pub CountsFaults-then : {X : Type 0} (f f' f'' e e' e'' : ℕ) (r : Result X RunFault) → f' ≡ f → e' ≡ e → CountsFaults f' f'' e' e'' r → CountsFaults f f'' e e'' r
+CountsFaults-then f f' f'' e e' e'' r failures empty counts =
+    let P : ℕ → ℕ → Type 0 = λ x y. CountsFaults x f'' y e'' r in
+    subst (λ x. P x e) failures (subst (λ y. P f' y) empty counts)
+
+-- the fault that was passed on
+pub CountsFaults-stop : {X Y : Type 0} (f f' e e' : ℕ) (first : Result X RunFault) (r : Result Y RunFault) (fault : RunFault) → first ≡ Err fault → r ≡ Err fault → CountsFaults f f' e e' first → CountsFaults f f' e e' r
+CountsFaults-stop f f' e e' first r Write is same counts = let here = rw is at counts in rw same here
+CountsFaults-stop f f' e e' first r Memory is same counts = let here = rw is at counts in rw same here
+CountsFaults-stop f f' e e' first r Read is same counts = let here = rw is at counts in absurd here
+CountsFaults-stop f f' e e' first r InputTooLong is same counts = let here = rw is at counts in absurd here
+
+-- whatever the answer would be at Ok
+pub CountsFaults-of : (X Y : Type 0) (f f' e e' : ℕ) (fault : RunFault) → CountsFaults {X = X} f f' e e' (Err fault) → CountsFaults {X = Y} f f' e e' (Err fault)
+CountsFaults-of X Y f f' e e' Write counts = counts
+CountsFaults-of X Y f f' e e' Memory counts = counts
+CountsFaults-of X Y f f' e e' Read counts = absurd counts
+CountsFaults-of X Y f f' e e' InputTooLong counts = absurd counts
+
+-- Part of a text was written, and the rest is left; then a stretch of the rest.
+module _ (a b c : Option (List ℕ)) (whole rest here more : List ℕ) (before : WrittenSoFar a b whole rest) (next : rest ≡ here ++ more) where
+  so-far-whole : whole ≡ before.front ++ (here ++ more)
+  so-far-whole = before.parts ∙ ap (λ l. before.front ++ l) next
+
+  -- it was written
+  pub so-far-on : Appends b c here → WrittenSoFar a c whole more
+  so-far-on gains = record {
+    front = before.front ++ here;
+    parts = so-far-whole ∙ sym (append_assoc before.front here more);
+    gains = Appends-trans a b c before.front here before.gains gains;
+  }
+
+  -- it was not written whole
+  pub so-far-stop : {X Y : Type 0} (first : Result X RunFault) (r : Result Y RunFault) (f g : RunFault) → first ≡ Err f → r ≡ Err g → WritesFront b c here first → WritesFront a c whole r
+  so-far-stop first r f g is same writes =
+      let fails = rw is at writes in
+      let P : List ℕ → Type 0 = λ t. GrowsByFront a c t in
+      rw same (subst P (sym so-far-whole) (front-behind a b c before.front (here ++ more) before.gains (front-longer b c here more fails)))
+
+-- nothing is left
+pub so-far-end : (a b : Option (List ℕ)) (whole rest : List ℕ) → WrittenSoFar a b whole rest → rest ≡ [] → Appends a b whole
+so-far-end a b whole rest before none =
+    let P : List ℕ → Type 0 = λ t. Appends a b t in
+    subst P (sym (before.parts ∙ ap (λ l. before.front ++ l) none ∙ append-nil before.front)) before.gains
+
+-- a list in runs: the first and the others
+runs-skip : (skip less : ℕ) (xs : List ℕ) → runs_behind skip (suc less) xs ≡ runs_behind 0 (suc less) (drop skip xs)
+unfolding runs_behind
+runs-skip zero less xs = refl
+runs-skip (suc skip) less [] = refl
+runs-skip (suc skip) less (x ∷ xs) = runs-skip skip less xs
+
+pub runs-next : (less : ℕ) (xs : List ℕ) → 0 < length xs → runs_of (suc less) xs ≡ take (suc less) xs ∷ runs_of (suc less) (drop (suc less) xs)
+unfolding runs_behind
+runs-next less [] some = absurd (omega (arith, some))
+runs-next less (x ∷ xs) some =
+    let e : suc less - 1 ≡ less = omega arith in
+    rw e (ap (λ (l : List (List ℕ)). take (suc less) (x ∷ xs) ∷ l) (runs-skip less less xs))
+
+-- the lines of runs: the first and the others
+pub lines-next : (f : List ℕ → List ℕ) (less : ℕ) (xs : List ℕ) → 0 < length xs → text_of (map f (runs_of (suc less) xs)) ≡ (f (take (suc less) xs) ++ 10 ∷ []) ++ text_of (map f (runs_of (suc less) (drop (suc less) xs)))
+lines-next f less xs some = ap (λ (l : List (List ℕ)). text_of (map f l)) (runs-next less xs some)
+
+pub lines-none : (f : List ℕ → List ℕ) (most : ℕ) (xs : List ℕ) → length xs ≤ 0 → text_of (map f (runs_of most xs)) ≡ []
+unfolding runs_behind
+lines-none f most [] none = refl
+lines-none f most (x ∷ xs) none = absurd (omega (arith, none))
+
+-- a run that is cut at the end of the list
+cut-run : (n m : ℕ) (xs : List ℕ) → m ≡ min (length xs) n → (take m xs ≡ take n xs) × (drop m xs ≡ drop n xs)
+cut-run n m xs is = by (cases_lt (length xs) n)
+  where
+    by : (length xs < n) ⊎ (n ≤ length xs) → (take m xs ≡ take n xs) × (drop m xs ≡ drop n xs)
+    by (inl short) =
+        let long : length xs ≤ m = omega (arith, is, short) in
+        let most : length xs ≤ n = omega (arith, short) in
+        (take_all m xs long ∙ sym (take_all n xs most), drop_all m xs long ∙ sym (drop_all n xs most))
+    by (inr enough) =
+        let same : m ≡ n = omega (arith, is, enough) in
+        (ap (λ k. take k xs) same, ap (λ k. drop k xs) same)
+
+-- the lines of octets behind a word: the first and the others
+pub octet-lines-next : (f : List ℕ → List ℕ) (less m : ℕ) (rest run behind : List ℕ) → 0 < length rest → m ≡ min (length rest) (suc less) → run ≡ take m rest → behind ≡ drop m rest
+    → text_of (map f (runs_of (suc less) rest)) ≡ (f run ++ 10 ∷ []) ++ text_of (map f (runs_of (suc less) behind))
+octet-lines-next f less m rest run behind some is front back =
+    let cut = cut-run (suc less) m rest is in
+    lines-next f less rest some
+    ∙ ap (λ l. (f l ++ 10 ∷ []) ++ text_of (map f (runs_of (suc less) (drop (suc less) rest)))) (sym (front ∙ cut.0))
+    ∙ ap (λ l. (f run ++ 10 ∷ []) ++ text_of (map f (runs_of (suc less) l))) (sym (back ∙ cut.1))
+
+-- nothing was written before memory ran out
+pub WritesFront-none : {X : Type 0} (a : Option (List ℕ)) (text : List ℕ) (r : Result X RunFault) (f : RunFault) → r ≡ Err f → WritesFront a a text r
+WritesFront-none a text r f is = rw is (front-none a text)
+
+-- whether anything is left
+pub some-left : (b : Bool) (xs : List ℕ) → IsTrue b ↔ (xs ≡ []) → b ≡ false → 0 < length xs
+some-left true xs is e = absurd cc
+some-left false [] is e = let wrong : false ≡ true = is.1 refl in absurd cc
+some-left false (x ∷ xs) is e = omega arith
+
+pub none-left : (b : Bool) (xs : List ℕ) → IsTrue b ↔ (xs ≡ []) → b ≡ true → length xs ≤ 0
+none-left true xs is e = let none : length xs ≡ 0 = ap length (is.0 refl) in omega (arith, none)
+none-left false xs is e = absurd cc

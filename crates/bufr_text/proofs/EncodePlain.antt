@@ -1,0 +1,291 @@
+-- The subsets of a document, written one after another.
+use Rattle.std.proofs.Common.{◌≡◌, ◌≤◌, ◌+◌, ◌-◌, ◌*◌, ℕ, Bool, false, List, [], ◌∷◌, ◌++◌, length, length-append, append_assoc, Option, Some, None, Result, Ok, Err, refl, sym, ◌∙◌, ap, subst, arith}
+use Rattle.std.specs.Option.{option_map}
+use Rattle.std.proofs.lemmas.List.{append-nil}
+use Rattle.bufr_walk.specs.declared.spec.Refusal.TheVariants as refusal
+use Rattle.bufr_walk.specs.declared.walking.WalkStop.{WalkStop}
+use Rattle.bufr_walk.specs.declared.walking.WalkStop.TheVariants as stops
+use Rattle.bufr_walk.specs.Asked.{Asked}
+use Rattle.bufr_walk.specs.Course.{Course, Next, take_next, at_end, astray, refused}
+use Rattle.bufr_walk.specs.Stop.{stop_by}
+use Rattle.bufr_walk.specs.Taking.{Turn, Takes, course_after}
+use Rattle.bufr_walk.specs.Walked.{oks, told_by, StopsAt, Walked}
+use Rattle.bufr_fill.specs.declared.fault.DraftFault.{DraftFault}
+use Rattle.bufr_fill.specs.Draft.{Draft}
+use Rattle.bufr_fill.specs.DraftContent.{plainly, plain_filler}
+use Rattle.bufr_fill.specs.Encoding.{plain_data, ◌>>=◌}
+use Rattle.bufr_fill.specs.Entries.{Entry, Holds, Ends, Subset, subset, onto_first, subsets_of}
+use Rattle.bufr_fill.specs.Fault.{FaultAt, at_line, item_too_many, walk_refused}
+use Rattle.bufr_fill.specs.Filling.{written, fill, fill_one, fill_none, and_behind}
+use Rattle.bufr_fill.specs.Filled.{HasFilled}
+use Rattle.bufr_fill.specs.PlainOut.{Pen, PlainFills, WhereTold, IsFaultOf, behind_end, line_at, items_left, end_left}
+use Rattle.bufr_walk.specs.declared.spec.Taken.{Taken}
+use Rattle.bufr_walk.specs.Content.{bits_for}
+use Rattle.bufr_fill.specs.Told.{told_fault}
+use Rattle.bufr_fill.proofs.PlainWalks.{walk_of_items, fault_of_items}
+use Rattle.bufr_text.specs.declared.encode_fault.DocumentFault.{DocumentFault}
+use Rattle.bufr_text.specs.Encoding.{RefusedAt, told_of_items}
+use Rattle.bufr_text.specs.EncodingFault.{told_of_draft, told_refusal}
+use Rattle.bufr_text.specs.Encodes.{RefusesSo, told_stop, count_filled, count_plain, and_more, left_behind, fill_next, count_next, IsSubset, IsNoSubset, AreOctetsOf, IsData, IsNoData}
+use Rattle.bufr_text.proofs.EncodesLemmas.{after_told, walk_counts, all_counted, refuses_so}
+
+-- ---- products
+
+split : (n a d : ℕ) → n * (a + d) ≡ n * a + n * d
+split n a d = grind arith
+
+pub mul_most : (n a b : ℕ) → a ≤ b → n * a ≤ n * b
+mul_most n a b h =
+    let e : a + (b - a) ≡ b = omega (arith, h) in
+    omega (arith, split n a (b - a), ap (λ x. n * x) e)
+
+-- ---- one subset
+
+-- a walk stays in its subset
+record Keeps (s s' : Pen) : Type 0 where
+  behind : left_behind s'.left ≡ left_behind s.left
+  end : end_left s'.left ≡ end_left s.left
+  count : length (subsets_of s'.left) ≡ length (subsets_of s.left)
+
+onto_same : (d : Draft) (ss : List Subset) → length (onto_first d ss) ≡ length ss
+onto_same d [] = refl
+onto_same d (s ∷ ss) = refl
+
+keeps : (course : Course) (s : Pen) (items : List Turn) (s' : Pen) → Takes (oks PlainFills) course s items s' → Keeps s s'
+keeps course s [] s' h = record { behind = ap (λ (p : Pen). left_behind p.left) h; end = ap (λ (p : Pen). end_left p.left) h; count = ap (λ (p : Pen). length (subsets_of p.left)) h }
+keeps course s (i ∷ items) s' h =
+    let k = keeps (λ told. course (i.taken ∷ told)) h.0 items s' h.3 in
+    record {
+      behind = k.behind ∙ sym (ap left_behind h.2.here);
+      end = k.end ∙ sym (ap end_left h.2.here);
+      count = k.count ∙ sym (ap (λ x. length (subsets_of x)) h.2.here ∙ onto_same h.2.draft (subsets_of h.0.left));
+    }
+
+fills : (end : ℕ) (s : Pen) (spec : Asked) (t : Taken) (s' : Pen) → oks PlainFills s spec t s' → HasFilled (plain_filler end) (items_left s.left) s.bits spec t (items_left s'.left) s'.bits
+fills end s spec t s' h = record {
+  draft = h.draft;
+  item = written h.content (bits_for spec.width h.content);
+  here = ap items_left h.here;
+  fills = ap (plainly h.draft.line spec) h.is;
+  tells = h.tells;
+  bits = h.bits;
+}
+
+counts : (end : ℕ) (course : Course) (s : Pen) (items : List Turn) (s' : Pen) → Takes (oks PlainFills) course s items s' → length s'.bits ≤ length s.bits + count_filled (plain_filler end) course (items_left s.left)
+counts end course s items s' h = omega (arith, walk_counts (plain_filler end) (λ (p : Pen). items_left p.left) (λ (p : Pen). p.bits) (oks PlainFills) (fills end) course s items s' h)
+
+-- at the end of the template
+at_end_none : (end : ℕ) (course : Course) (left more : List Entry) → (course []).next ≡ at_end → behind_end left ≡ Ok more → (fill (plain_filler end) course (items_left left) ≡ Ok []) × (left_behind left ≡ more)
+at_end_none end course [] more h e = absurd cc e
+at_end_none end course (Holds d ∷ left) more h e = absurd cc e
+at_end_none end course (Ends line ∷ left) more h e = (ap (fill_none (plain_filler end)) h, cc)
+
+at_end_more : (end : ℕ) (course : Course) (left : List Entry) (f : FaultAt) → (course []).next ≡ at_end → 1 ≤ length (subsets_of left) → behind_end left ≡ Err f → fill (plain_filler end) course (items_left left) ≡ Err f
+at_end_more end course [] f h some e = absurd (omega (arith, some))
+at_end_more end course (Ends line ∷ left) f h some e = absurd cc e
+at_end_more end course (Holds d ∷ left) f h some e =
+    ap (λ n. fill_one (plain_filler end) n d (λ t. fill (plain_filler end) (λ told. course (t ∷ told)) (items_left left))) h ∙ same e
+  where
+    same : behind_end (Holds d ∷ left) ≡ Err f → ◌≡◌ {A = Result (List Bool) FaultAt} (Err (at_line d.line item_too_many)) (Err f)
+    same e = let x : at_line d.line item_too_many ≡ f = cc in ap Err x
+
+-- where the walk is refused
+at_refused : (course : Course) (left : List Entry) (why : refusal.the_data) → (course []).next ≡ refused why → fill (plain_filler (end_left left)) course (items_left left) ≡ Err (at_line (line_at left) (walk_refused why))
+at_refused course [] why h = ap (fill_none (plain_filler 0)) h
+at_refused course (Ends line ∷ left) why h = ap (fill_none (plain_filler line)) h
+at_refused course (Holds d ∷ left) why h = ap (λ n. fill_one (plain_filler (end_left left)) n d (λ t. fill (plain_filler (end_left left)) (λ told. course (t ∷ told)) (items_left left))) h
+
+prefixed : (end : ℕ) (bits : List Bool) (r : Result (List Bool) FaultAt) (f : FaultAt) → r ≡ Err f → and_behind (plain_filler end) bits r ≡ Err f
+prefixed end bits r f h = ap (and_behind (plain_filler end) bits) h
+
+-- the subset was written
+pub subset_written : (n : ℕ) (course : Course) (s : Pen) (c : ℕ) (mid : Pen) (c' : ℕ) (s' : Pen) → Walked PlainFills course s c (Ok tt) mid c' → behind_end mid.left ≡ Ok s'.left → s'.bits ≡ mid.bits → c' ≤ c + n * (length mid.bits - length s.bits)
+    → IsSubset n course s c s' c'
+subset_written n course s c mid c' s' w passed same few =
+    let end = end_left s.left in
+    let filled = walk_of_items end course s w.0 mid w.1 in
+    let k = keeps course s w.0 mid w.1 in
+    let next : (course_after course w.0 []).next ≡ at_end = ap (λ a. a.next) (after_told course w.0) ∙ w.2 in
+    let none = at_end_none end (course_after course w.0) mid.left s'.left next passed in
+    let e : length mid.bits - length s.bits ≡ length filled.0 = omega (arith, ap length filled.1, length-append s.bits filled.0) in
+    record {
+      bits = filled.0;
+      is = filled.2 ∙ ap (and_behind (plain_filler end) filled.0) none.0 ∙ ap Ok (append-nil filled.0);
+      written = same ∙ filled.1;
+      left = sym none.1 ∙ k.behind;
+      few = subst (λ x. c' ≤ c + n * x) e few;
+    }
+
+-- what the definition makes of a subset, by what it makes of the items that a walk left
+refused_later : (course : Course) (s mid : Pen) (items : List Turn) (f : FaultAt) → Takes (oks PlainFills) course s items mid
+    → fill (plain_filler (end_left mid.left)) (course_after course items) (items_left mid.left) ≡ Err f → fill_next course s.left ≡ Err f
+refused_later course s mid items f h e =
+    let k = keeps course s items mid h in
+    let filled = walk_of_items (end_left s.left) course s items mid h in
+    filled.2 ∙ prefixed (end_left s.left) filled.0 _ f (ap (λ n. fill (plain_filler n) (course_after course items) (items_left mid.left)) (sym k.end) ∙ e)
+
+-- an item is left over
+pub subset_over : (n : ℕ) (course : Course) (s : Pen) (c : ℕ) (mid : Pen) (c' : ℕ) (e : DraftFault) (why : DocumentFault) → Walked PlainFills course s c (Ok tt) mid c' → 1 ≤ length (subsets_of s.left)
+    → (f : FaultAt) × (told_fault e ≡ Some f) × (behind_end mid.left ≡ Err f) → told_refusal why ≡ option_map told_of_draft (told_fault e) → c' ≤ c + n * (length mid.bits - length s.bits)
+    → IsNoSubset n course s c why c'
+subset_over n course s c mid c' e why w some fault told few =
+    let k = keeps course s w.0 mid w.1 in
+    let next : (course_after course w.0 []).next ≡ at_end = ap (λ a. a.next) (after_told course w.0) ∙ w.2 in
+    let is = refused_later course s mid w.0 fault.0 w.1 (at_end_more (end_left mid.left) (course_after course w.0) mid.left fault.0 next (omega (arith, some, k.count)) fault.2) in
+    let count = counts (end_left s.left) course s w.0 mid w.1 in
+    record {
+      refuses = refuses_so (told_fault e) (told_refusal why) (fill_next course s.left) told (λ f h. is ∙ ap Err (same fault.0 f (sym fault.1 ∙ h)));
+      few = omega (arith, few, mul_most n (length mid.bits - length s.bits) (count_next course s.left + 1) (omega (arith, count)));
+    }
+  where
+    same : (a b : FaultAt) → ◌≡◌ {A = Option FaultAt} (Some a) (Some b) → a ≡ b
+    same a b e = cc
+
+-- the walk stopped
+pub subset_stopped : (n : ℕ) (course : Course) (s : Pen) (c : ℕ) (s' : Pen) (c' line : ℕ) (stop : WalkStop DraftFault) (why : DocumentFault) → Walked PlainFills course s c (Err stop) s' c' → line ≡ line_at s'.left
+    → told_refusal why ≡ option_map told_of_draft (told_stop line stop) → c' ≤ c + n * (length s'.bits - length s.bits + 1)
+    → IsNoSubset n course s c why c'
+subset_stopped n course s c s' c' line stop why w at told few =
+    record {
+      refuses = refuses_so (told_stop line stop) (told_refusal why) (fill_next course s.left) told (λ f h. refused_later course s w.1 w.0 f w.2 (by stop (course (told_by w.0)).next refl w.3 f h));
+      few = omega (arith, few, mul_most n (length s'.bits - length s.bits + 1) (count_next course s.left + 1) (omega (arith, count, ap length (still (course (told_by w.0)).next stop w.3))));
+    }
+  where
+    mid : Pen
+    mid = w.1
+
+    count : length w.1.bits ≤ length s.bits + count_filled (plain_filler (end_left s.left)) course (items_left s.left)
+    count = counts (end_left s.left) course s w.0 w.1 w.2
+
+    still : (next : Next) (stop : WalkStop DraftFault) → StopsAt PlainFills next w.1 stop s' → s'.bits ≡ w.1.bits
+    still (take_next spec) (stops.Field e) h = ap (λ (p : Pen). p.bits) h.1
+    still (take_next spec) stops.Memory h = ap (λ (p : Pen). p.bits) h.1
+    still (take_next spec) (stops.Width fxy) h = absurd h
+    still (take_next spec) (stops.Defining fxy) h = absurd h
+    still at_end stop h = absurd h
+    still astray stop h = absurd h
+    still (refused r) stop h = ap (λ (p : Pen). p.bits) h.1
+
+    next_is : (next : Next) → (course (told_by w.0)).next ≡ next → (course_after course w.0 []).next ≡ next
+    next_is next e = ap (λ a. a.next) (after_told course w.0) ∙ e
+
+    where_told : (o : Option FaultAt) (p : FaultAt → Type 0) (f : FaultAt) → WhereTold o p → o ≡ Some f → p f
+    where_told None p f h e = absurd cc e
+    where_told (Some g) p f h e = let same : g ≡ f = cc in subst p same h
+
+    refused_so : (r : refusal.the_data) (f : FaultAt) → told_stop line (stop_by r) ≡ Some f → at_line line (walk_refused r) ≡ f
+    refused_so (refusal.Width fxy) f e = cc
+    refused_so (refusal.Defining fxy) f e = cc
+
+    by : (stop : WalkStop DraftFault) (next : Next) → (course (told_by w.0)).next ≡ next → StopsAt PlainFills next w.1 stop s' → (f : FaultAt) → told_stop line stop ≡ Some f
+        → fill (plain_filler (end_left w.1.left)) (course_after course w.0) (items_left w.1.left) ≡ Err f
+    by (stops.Field e) (take_next spec) n h f t = fault_of_items (course_after course w.0) w.1.left spec f (next_is (take_next spec) n) (where_told (told_fault e) (IsFaultOf spec w.1.left) f h.0 t)
+    by stops.Memory (take_next spec) n h f t = absurd cc t
+    by (stops.Width fxy) (take_next spec) n h f t = absurd h
+    by (stops.Defining fxy) (take_next spec) n h f t = absurd h
+    by stop at_end n h f t = absurd h
+    by stop astray n h f t = absurd h
+    by stop (refused r) n h f t =
+        at_refused (course_after course w.0) w.1.left r (next_is (refused r) n)
+        ∙ ap (λ l. Err (at_line l (walk_refused r))) (sym (at ∙ ap (λ (p : Pen). line_at p.left) h.1))
+        ∙ ap Err (refused_so r f (ap (told_stop line) (sym h.0) ∙ t))
+
+-- ---- all subsets
+
+pub put_before : List Bool → Result (List Bool) FaultAt → Result (List Bool) FaultAt
+put_before bits (Ok more) = Ok (bits ++ more)
+put_before bits (Err why) = Err why
+
+pub record PlainSoFar (places : ℕ) (course : Course) (all : List Subset) (done : ℕ) (left : List Entry) (bits : List Bool) (steps : ℕ) : Type 0 where
+  pub is : plain_data course all ≡ put_before bits (plain_data course (subsets_of left))
+  pub count : count_plain course all ≡ length bits + count_plain course (subsets_of left)
+  pub few : steps ≤ places * length bits
+  pub rest : done + length (subsets_of left) ≡ length all
+
+cut : (left : List Entry) → 1 ≤ length (subsets_of left) → subsets_of left ≡ subset (items_left left) (end_left left) ∷ subsets_of (left_behind left)
+cut [] h = absurd (omega (arith, h))
+cut (Ends line ∷ more) h = refl
+cut (Holds d ∷ more) h = ap (onto_first d) (cut more (omega (arith, h, onto_same d (subsets_of more))))
+
+pub none_written : (n : ℕ) (course : Course) (all : List Entry) (s : Pen) (steps : ℕ) → s.left ≡ all → s.bits ≡ [] → steps ≡ 0 → PlainSoFar n course (subsets_of all) 0 s.left s.bits steps
+unfolding put_before
+none_written n course all s steps e b z = record {
+  is = same (plain_data course (subsets_of all)) ∙ ap (λ l. put_before [] (plain_data course (subsets_of l))) (sym e) ∙ ap (λ b. put_before b (plain_data course (subsets_of s.left))) (sym b);
+  count = let g : length s.bits ≡ 0 = ap length b in let k : count_plain course (subsets_of all) ≡ count_plain course (subsets_of s.left) = ap (λ l. count_plain course (subsets_of l)) (sym e) in omega (arith, g, k);
+  few = omega (arith, z);
+  rest = omega (arith, ap (λ l. length (subsets_of l)) e);
+}
+  where
+    same : (r : Result (List Bool) FaultAt) → r ≡ put_before [] r
+    same (Ok bits) = refl
+    same (Err why) = refl
+
+pub one_more : (n : ℕ) (course : Course) (all : List Subset) (done : ℕ) (s : Pen) (steps : ℕ) (s' : Pen) (steps' : ℕ) → PlainSoFar n course all done s.left s.bits steps → 1 ≤ length (subsets_of s.left) → IsSubset n course s steps s' steps'
+    → PlainSoFar n course all (done + 1) s'.left s'.bits steps'
+unfolding put_before
+one_more n course all done s steps s' steps' h some p =
+    let first = subset (items_left s.left) (end_left s.left) in
+    let c = cut s.left some in
+    let behind : subsets_of (left_behind s.left) ≡ subsets_of s'.left = ap subsets_of (sym p.left) in
+    let long = ap length p.written ∙ length-append s.bits p.bits in
+    record {
+      is = h.is ∙ ap (λ x. put_before s.bits (plain_data course x)) c
+          ∙ ap (put_before s.bits) (then_rest (fill_next course s.left) p.is (subsets_of (left_behind s.left)))
+          ∙ twice s.bits p.bits (plain_data course (subsets_of (left_behind s.left)))
+          ∙ ap (λ b. put_before b (plain_data course (subsets_of (left_behind s.left)))) (sym p.written)
+          ∙ ap (λ x. put_before s'.bits (plain_data course x)) behind;
+      count =
+          let a = ap (count_plain course) c in
+          let b = ap (λ r. and_more r (count_plain course (subsets_of (left_behind s.left)))) p.is in
+          let d = all_counted (plain_filler (end_left s.left)) course (items_left s.left) p.bits p.is in
+          let e = ap (count_plain course) behind in
+          omega (arith, h.count, a, b, d, e, long);
+      few = omega (arith, h.few, p.few, split n (length s.bits) (length p.bits), ap (λ x. n * x) long);
+      rest = omega (arith, h.rest, ap length c, ap length behind);
+    }
+  where
+    twice : (a b : List Bool) (r : Result (List Bool) FaultAt) → put_before a (put_before b r) ≡ put_before (a ++ b) r
+    twice a b (Ok x) = ap Ok (sym (append_assoc a b x))
+    twice a b (Err why) = refl
+
+    then_rest : (r : Result (List Bool) FaultAt) → fill_next course s.left ≡ Ok p.bits → (ss : List Subset) → plain_data course (subset (items_left s.left) (end_left s.left) ∷ ss) ≡ put_before p.bits (plain_data course ss)
+    then_rest r e ss = ap (λ x. x >>= λ first. plain_data course ss >>= λ rest. Ok (first ++ rest)) e ∙ by (plain_data course ss)
+      where
+        by : (r : Result (List Bool) FaultAt) → (r >>= λ rest. Ok (p.bits ++ rest)) ≡ put_before p.bits r
+        by (Ok x) = refl
+        by (Err why) = refl
+
+pub all_written : (n : ℕ) (course : Course) (all : List Subset) (done : ℕ) (s : Pen) (steps : ℕ) (octets : List ℕ) → PlainSoFar n course all done s.left s.bits steps → done ≡ length all → AreOctetsOf octets s.bits → IsData n false course all octets steps
+unfolding put_before
+all_written n course all done s steps octets h e o =
+    let none = empty (subsets_of s.left) (omega (arith, h.rest, e)) in
+    record {
+      out = s.bits;
+      is = h.is ∙ ap (λ x. put_before s.bits (plain_data course x)) none ∙ ap Ok (append-nil s.bits);
+      octets_are = o;
+      few = omega (arith, h.few, mul_most n (length s.bits) (count_plain course all) (omega (arith, h.count)));
+    }
+  where
+    empty : (ss : List Subset) → length ss ≡ 0 → ss ≡ []
+    empty [] h = refl
+    empty (s ∷ ss) h = absurd (omega (arith, h))
+
+pub stopped : (n : ℕ) (course : Course) (all : List Subset) (done : ℕ) (s : Pen) (steps : ℕ) (why : DocumentFault) (steps' : ℕ) → PlainSoFar n course all done s.left s.bits steps → 1 ≤ length (subsets_of s.left) → IsNoSubset n course s steps why steps'
+    → IsNoData n false course all why steps'
+unfolding put_before
+stopped n course all done s steps why steps' h some p =
+    let c = cut s.left some in
+    let a = ap (count_plain course) c in
+    record {
+      refuses = by (told_refusal why) p.refuses;
+      few = omega (arith, h.few, p.few, split n (length s.bits) (count_next course s.left + 1), mul_most n (length s.bits + (count_next course s.left + 1)) (count_plain course all + 1) (omega (arith, h.count, a)));
+    }
+  where
+    later : (r : Result (List Bool) FaultAt) (f : RefusedAt) → told_of_items r ≡ Err f → fill_next course s.left ≡ r → told_of_items (plain_data course all) ≡ Err f
+    later (Ok bits) f t e = absurd cc t
+    later (Err g) f t e =
+        ap told_of_items (h.is ∙ ap (λ x. put_before s.bits (plain_data course x)) (cut s.left some) ∙ ap (λ x. put_before s.bits (x >>= λ first. plain_data course (subsets_of (left_behind s.left)) >>= λ rest. Ok (first ++ rest))) e) ∙ t
+
+    by : (o : Option RefusedAt) → RefusesSo o (told_of_items (fill_next course s.left)) → RefusesSo o (told_of_items (plain_data course all))
+    by None h = tt
+    by (Some f) h = later (fill_next course s.left) f h refl

@@ -1,0 +1,66 @@
+-- The encoding of a document from its parts.
+use Rattle.std.proofs.Common.{◌≡◌, ◌≤◌, ◌+◌, ◌*◌, ℕ, Bool, List, Option, Some, None, Result, Ok, Err, sym, ◌∙◌, ap, subst, arith}
+use Rattle.std.specs.Prelude.{IfOk, IfErr}
+use Rattle.bufr_tables.specs.Expansion.{tree_of}
+use Rattle.bufr_tables.specs.TableB.{Row}
+use Rattle.bufr_tables.specs.TableD.{Sequence}
+use Rattle.bufr_tables.specs.TemplateTables.{tables_of}
+use Rattle.bufr_tables.specs.Tree.{Tree, places}
+use Rattle.bufr_walk.specs.Course.{next_item}
+use Rattle.bufr_text.specs.Document.{Document}
+use Rattle.bufr_text.specs.Encoding.{RefusedAt, ◌>>=◌, told_of_template, told_of_items, drafts_of, data_bits, octets_of_bits, parts_in, message_of, encoding_of}
+use Rattle.bufr_text.specs.Encodes.{RefusesSo, AreOctetsOf, IsData, places_of, places_by, bits_for, bits_by, count_data}
+use Rattle.bufr_text.specs.Header.{head_in, compressed_in}
+
+pub if_ok_so : {A B : Type 0} {P Q : A → Type 0} (r : Result A B) → IfOk r P → ((x : A) → P x → Q x) → IfOk r Q
+if_ok_so (Ok x) h f = f x h
+if_ok_so (Err e) h f = h
+
+pub if_err_so : {A B : Type 0} {P Q : B → Type 0} (r : Result A B) → IfErr r P → ((x : B) → P x → Q x) → IfErr r Q
+if_err_so (Ok x) h f = h
+if_err_so (Err e) h f = f e h
+
+module _ (table : List Row) (sequences : List Sequence) (d : Document) where
+  -- a message that is written is the definition's
+  as_written : (template : Tree) (bits : List Bool) (payload : List ℕ) → tree_of (tables_of table sequences) d.descriptors ≡ Ok template
+      → data_bits (compressed_in d) (next_item table template) (drafts_of d.entries) ≡ Ok bits → payload ≡ octets_of_bits bits
+      → encoding_of table sequences d ≡ message_of d.line (head_in d) (parts_in d payload)
+  unfolding encoding_of
+  as_written template bits payload e f p =
+      ap (λ r. told_of_template d.line r >>= λ t. told_of_items (data_bits (compressed_in d) (next_item table t) (drafts_of d.entries)) >>= λ b. message_of d.line (head_in d) (parts_in d (octets_of_bits b))) e
+      ∙ ap (λ r. told_of_items r >>= λ b. message_of d.line (head_in d) (parts_in d (octets_of_bits b))) f
+      ∙ ap (λ o. message_of d.line (head_in d) (parts_in d o)) (sym p)
+
+  pub whole : (n : ℕ) (template : Tree) (payload octets : List ℕ) (steps : ℕ) → tree_of (tables_of table sequences) d.descriptors ≡ Ok template
+      → (h : IsData n (compressed_in d) (next_item table template) (drafts_of d.entries) payload steps) → ((bits : List Bool) → AreOctetsOf payload bits → payload ≡ octets_of_bits bits)
+      → message_of d.line (head_in d) (parts_in d payload) ≡ Ok octets → encoding_of table sequences d ≡ Ok octets
+  whole n template payload octets steps e h p m = as_written template h.out payload e h.is (p h.out h.octets_are) ∙ m
+
+  pub not_whole : (n : ℕ) (template : Tree) (payload : List ℕ) (steps : ℕ) (o : Option RefusedAt) → tree_of (tables_of table sequences) d.descriptors ≡ Ok template
+      → (h : IsData n (compressed_in d) (next_item table template) (drafts_of d.entries) payload steps) → ((bits : List Bool) → AreOctetsOf payload bits → payload ≡ octets_of_bits bits)
+      → RefusesSo o (message_of d.line (head_in d) (parts_in d payload)) → RefusesSo o (encoding_of table sequences d)
+  not_whole n template payload steps o e h p m = subst (λ r. RefusesSo o r) (sym (as_written template h.out payload e h.is (p h.out h.octets_are))) m
+
+  pub no_data : (template : Tree) (o : Option RefusedAt) → tree_of (tables_of table sequences) d.descriptors ≡ Ok template
+      → RefusesSo o (told_of_items (data_bits (compressed_in d) (next_item table template) (drafts_of d.entries))) → RefusesSo o (encoding_of table sequences d)
+  unfolding encoding_of
+  no_data template None e h = tt
+  no_data template (Some f) e h =
+      ap (λ r. told_of_template d.line r >>= λ t. told_of_items (data_bits (compressed_in d) (next_item table t) (drafts_of d.entries)) >>= λ b. message_of d.line (head_in d) (parts_in d (octets_of_bits b))) e
+      ∙ ap (λ r. r >>= λ b. message_of d.line (head_in d) (parts_in d (octets_of_bits b))) h
+
+  pub no_template : (o : Option RefusedAt) → RefusesSo o (told_of_template d.line (tree_of (tables_of table sequences) d.descriptors)) → RefusesSo o (encoding_of table sequences d)
+  unfolding encoding_of
+  no_template None h = tt
+  no_template (Some f) h = ap (λ r. r >>= λ t. told_of_items (data_bits (compressed_in d) (next_item table t) (drafts_of d.entries)) >>= λ b. message_of d.line (head_in d) (parts_in d (octets_of_bits b))) h
+
+  pub few_made : (template : Tree) (steps : ℕ) → tree_of (tables_of table sequences) d.descriptors ≡ Ok template → steps ≤ places template * count_data (compressed_in d) (next_item table template) (drafts_of d.entries)
+      → steps ≤ places_by table sequences d * bits_by table sequences d
+  few_made template steps e h = subst (λ r. steps ≤ places_of r * bits_for table d r) (sym e) h
+
+  pub few_refused : (template : Tree) (steps : ℕ) → tree_of (tables_of table sequences) d.descriptors ≡ Ok template → steps ≤ places template * (count_data (compressed_in d) (next_item table template) (drafts_of d.entries) + 1)
+      → steps ≤ places_by table sequences d * (bits_by table sequences d + 1)
+  few_refused template steps e h = subst (λ r. steps ≤ places_of r * (bits_for table d r + 1)) (sym e) h
+
+  pub few_whole : (n : ℕ) (steps b : ℕ) → steps ≤ n * b → steps ≤ n * (b + 1)
+  few_whole n steps b h = let e : n * (b + 1) ≡ n * b + n = grind arith in omega (arith, h, e)

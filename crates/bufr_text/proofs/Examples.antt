@@ -1,0 +1,122 @@
+-- The definitions computed on worked examples.
+use Rattle.std.proofs.Common.{◌≡◌, ℕ, true, false, List, [], ◌∷◌, ◌++◌, refl, arith, take, codes, Some, None, pos}
+use Rattle.bufr_frame.specs.declared.head.Head.{Head}
+use Rattle.bufr_frame.specs.Sections.{Sections}
+use Rattle.bufr_fill.specs.Draft.{draft, number_token}
+use Rattle.bufr_text.specs.Document.{Document, Holds, Ends}
+use Rattle.std.specs.Fmt.{digits}
+use Rattle.bufr_bits.specs.DecimalText.{decimal_text_of, unsigned_text}
+use Rattle.bufr_text.specs.Grammar.{front, behind, behind_word, runs_behind, hex_text, hex_read, fxy_read, descriptors_text, descriptors_read, quoted, quoted_read, is_hashed}
+use Rattle.bufr_text.specs.Line.{keys, place_from, value_read, worded, line_of}
+use Rattle.bufr_text.specs.Documents.{Spelled, Refused, NotAllowed, SubsetCount, HeaderRange, documents_of, open_documents_of, lines_of, split_of, spelled, spelled_openly, turn}
+use Rattle.bufr_text.specs.Given.{IsDumpable}
+use Rattle.bufr_text.specs.Dump.{dump_text_of, header_lines, subset_lines, item_entries, subset_entries, document_of, text_of, Item, IsNumber}
+
+abbrev the_head : Head
+the_head = record { edition = 4; master = 0; centre = 98; subcentre = 0; update = 0; category = 0; subcategory = 0; local_subcategory = 0; master_version = 14; local_version = 0; year = 2024; month = 1; day = 2; hour = 3; minute = 4; second = 5 }
+
+abbrev one_block_number : Sections
+one_block_number = record { head = the_head; local1 = []; section2 = None; descriptors = 257 ∷ []; subsets = 1; observed = true; compressed = false; payload = 0x14 ∷ []; size = 48 }
+
+abbrev block_number : List (List Item)
+block_number = ((record { fxy = 257; comment = Some (record { name = codes "WMO BLOCK NUMBER"; unit = codes "Numeric" }); value = IsNumber (pos 10) (pos 0) }) ∷ []) ∷ []
+
+-- the header lines of a document, with these for `centre` and `subsets`
+abbrev head_with : (centre subsets : List ℕ) → List (List ℕ)
+head_with centre subsets =
+    codes "message" ∷ codes "edition 4" ∷ codes "master 0" ∷ centre ∷ codes "subcentre 0" ∷ codes "update 0" ∷ codes "category 0"
+    ∷ codes "subcategory 0" ∷ codes "localsubcategory 0" ∷ codes "masterversion 14" ∷ codes "localversion 0" ∷ codes "year 2024" ∷ codes "month 1"
+    ∷ codes "day 2" ∷ codes "hour 3" ∷ codes "minute 4" ∷ codes "second 5" ∷ codes "observed 1" ∷ codes "compressed 0" ∷ codes "optional 0"
+    ∷ subsets ∷ codes "descriptors 001001" ∷ []
+
+abbrev head_lines : List (List ℕ)
+head_lines = head_with (codes "centre 98") (codes "subsets 1")
+
+abbrev item_lines : List (List ℕ)
+item_lines = codes "subset 1" ∷ codes "001001 10  # WMO BLOCK NUMBER [Numeric]" ∷ codes "end" ∷ []
+
+abbrev the_text : List ℕ
+the_text = text_of (head_lines ++ item_lines)
+
+abbrev the_document : Document
+the_document = document_of 1 one_block_number block_number
+
+the_dump : dump_text_of one_block_number block_number ≡ the_text
+unfolding header_lines subset_lines item_entries subset_entries keys digits runs_behind hex_text descriptors_text quoted decimal_text_of unsigned_text
+the_dump = refl
+
+abbrev the_document_written : Document
+the_document_written = record {
+  line = 1;
+  header = 4 ∷ 0 ∷ 98 ∷ 0 ∷ 0 ∷ 0 ∷ 0 ∷ 0 ∷ 14 ∷ 0 ∷ 2024 ∷ 1 ∷ 2 ∷ 3 ∷ 4 ∷ 5 ∷ 1 ∷ 0 ∷ 0 ∷ 1 ∷ [];
+  local1 = [];
+  section2 = [];
+  descriptors = 257 ∷ [];
+  entries = Holds (draft 24 257 (number_token (codes "10"))) ∷ Ends 25 ∷ [];
+}
+
+as_document : the_document ≡ the_document_written
+unfolding header_lines subset_lines item_entries subset_entries keys digits runs_behind hex_text descriptors_text quoted decimal_text_of unsigned_text
+as_document = refl
+
+read_back : documents_of the_text ≡ Spelled the_document_written ∷ []
+unfolding spelled lines_of turn line_of worded front behind place_from keys behind_word descriptors_read fxy_read value_read quoted_read hex_read is_hashed
+read_back = refl
+
+read_openly : open_documents_of the_text ≡ Spelled the_document_written ∷ []
+unfolding spelled_openly split_of turn line_of worded front behind place_from keys behind_word descriptors_read fxy_read value_read quoted_read hex_read is_hashed
+read_openly = refl
+
+-- an empty line and a note before the subset, and no comment
+abbrev noted_document : Document
+noted_document = record the_document_written { entries = Holds (draft 26 257 (number_token (codes "10"))) ∷ Ends 27 ∷ [] }
+
+noted : documents_of (text_of (head_lines ++ [] ∷ codes "# note" ∷ codes "subset 1" ∷ codes "001001 10" ∷ codes "end" ∷ [])) ≡ Spelled noted_document ∷ []
+unfolding spelled lines_of turn line_of worded front behind place_from keys behind_word descriptors_read fxy_read value_read quoted_read hex_read is_hashed
+noted = refl
+
+not_a_number : documents_of (text_of (head_lines ++ [] ∷ codes "# note" ∷ codes "subset 1" ∷ codes "001001 x" ∷ codes "end" ∷ [])) ≡ Refused 26 NotAllowed ∷ []
+unfolding spelled lines_of turn line_of worded front behind place_from keys behind_word descriptors_read fxy_read value_read quoted_read hex_read is_hashed
+not_a_number = refl
+
+centre_past_its_range : documents_of (text_of (head_with (codes "centre 65536") (codes "subsets 1") ++ item_lines)) ≡ Refused 4 HeaderRange ∷ []
+unfolding spelled lines_of turn line_of worded front behind place_from keys behind_word descriptors_read fxy_read value_read quoted_read hex_read is_hashed
+centre_past_its_range = refl
+
+one_subset_of_two : documents_of (text_of (head_with (codes "centre 98") (codes "subsets 2") ++ item_lines)) ≡ Refused 25 SubsetCount ∷ []
+unfolding spelled lines_of turn line_of worded front behind place_from keys behind_word descriptors_read fxy_read value_read quoted_read hex_read is_hashed
+one_subset_of_two = refl
+
+cut_after_24 : documents_of (text_of (take 24 (head_lines ++ item_lines))) ≡ Refused 25 NotAllowed ∷ []
+unfolding spelled lines_of turn line_of worded front behind place_from keys behind_word descriptors_read fxy_read value_read quoted_read hex_read is_hashed
+cut_after_24 = refl
+
+open_after_24 : open_documents_of (text_of (take 24 (head_lines ++ item_lines))) ≡ []
+unfolding spelled_openly split_of turn line_of worded front behind place_from keys behind_word descriptors_read fxy_read value_read quoted_read hex_read is_hashed
+open_after_24 = refl
+
+-- the last line may lack its line feed; while the end is not known it is not whole
+last_feed_lacks : documents_of (text_of (head_lines ++ take 2 item_lines) ++ codes "end") ≡ Spelled the_document_written ∷ []
+unfolding spelled lines_of turn line_of worded front behind place_from keys behind_word descriptors_read fxy_read value_read quoted_read hex_read is_hashed
+last_feed_lacks = refl
+
+last_feed_lacks_openly : open_documents_of (text_of (head_lines ++ take 2 item_lines) ++ codes "end") ≡ []
+unfolding spelled_openly split_of turn line_of worded front behind place_from keys behind_word descriptors_read fxy_read value_read quoted_read hex_read is_hashed
+last_feed_lacks_openly = refl
+
+-- between documents only `message` may come
+second_document : documents_of (the_text ++ text_of (codes "centre 98" ∷ [])) ≡ Spelled the_document_written ∷ Refused 26 NotAllowed ∷ []
+unfolding spelled lines_of turn line_of worded front behind place_from keys behind_word descriptors_read fxy_read value_read quoted_read hex_read is_hashed
+second_document = refl
+
+-- the message and its reading give what the law asks for
+one_is_dumpable : IsDumpable one_block_number block_number
+one_is_dumpable = record {
+  head = record { edition = refl; master = omega arith; centre = omega arith; subcentre = omega arith; update = omega arith; category = omega arith; subcategory = omega arith; local_subcategory = omega arith; master_version = omega arith; local_version = omega arith; year = omega arith; month = omega arith; day = omega arith; hour = omega arith; minute = omega arith; second = omega arith };
+  local1 = tt;
+  section2 = tt;
+  descriptors = (omega arith, tt);
+  few = omega arith;
+  counted = refl;
+  items = ((record { word = omega arith; value = (omega arith, omega arith); comment = (record { printed = refl; short = omega arith }, record { printed = refl; short = omega arith }) }, tt), tt);
+}

@@ -1,0 +1,180 @@
+-- The values of a header, and what holds of a place behind each line.
+use Rattle.std.proofs.Common.{◌≡◌, ℕ, zero, suc, ◌+◌, ◌<◌, ◌≤◌, ◌==◌, ◌&&◌, not, nat_le, Bool, true, false, if◌then◌else◌, List, [], ◌∷◌, ◌++◌, length, refl, sym, ap, subst, ◌∙◌, arith, length-append}
+use Rattle.std.specs.Prelude.{slice_index}
+use Rattle.std.proofs.lemmas.Bool.Decides.{nat_tests}
+use Rattle.bufr_bits.proofs.ScaledLemmas.{and_first, and_second}
+use Rattle.bufr_text.specs.Document.{Document, Entry, Holds, Ends, optional_in, subsets_in}
+use Rattle.bufr_text.specs.Line.{Line, Passed, Opens, Header, Local1, Section2, Descriptors, Begins, Item, Closes, Wrong, keys, leasts, mosts}
+use Rattle.bufr_text.specs.Documents.{Place, Between, Heading, Laying, Filling, Stopped, Turn, Goes, Gives, Faults, NotAllowed, SubsetCount, HeaderRange, in_range, heading, laying, filling, beginning, closing, with_value, with_local1, with_section2, with_entry, turn}
+use Rattle.bufr_text.specs.Header.{are_in_range, IsHeaded}
+use Rattle.bufr_text.specs.Step.{Stands, StandsAfter}
+use Rattle.bufr_fill.specs.Draft.{draft}
+
+both : (a b : Bool) → a ≡ true → b ≡ true → (a && b) ≡ true
+both a b h k = rw (h, k) refl
+
+-- a value is at most the greatest of its key
+below : (a b c : ℕ) → (nat_le a b && nat_le b c) ≡ true → b ≤ c
+below a b c h = let le : nat_le b c ≡ true = and_second (nat_le a b) (nat_le b c) h in grind (arith, nat_tests, le)
+
+value-most : (k i : ℕ) (xs : List ℕ) → are_in_range k xs ≡ true → slice_index xs i ≤ slice_index mosts (k + i)
+value-most k i [] h = omega arith
+value-most k zero (x ∷ xs) h =
+    let same : k + 0 ≡ k = omega arith in
+    subst (λ (n : ℕ). x ≤ slice_index mosts n) (sym same) (below (slice_index leasts k) x (slice_index mosts k) (and_first (in_range k x) (are_in_range (k + 1) xs) h))
+value-most k (suc i) (x ∷ xs) h =
+    let same : k + 1 + i ≡ k + suc i = omega arith in
+    subst (λ (n : ℕ). slice_index xs i ≤ slice_index mosts n) same (value-most (k + 1) i xs (and_second (in_range k x) (are_in_range (k + 1) xs) h))
+
+pub header-most : (d : Document) (i : ℕ) → IsHeaded d → slice_index d.header i ≤ slice_index mosts i
+header-most d i h =
+    let same : 0 + i ≡ i = omega arith in
+    subst (λ (n : ℕ). slice_index d.header i ≤ slice_index mosts n) same (value-most 0 i d.header h.ranges)
+
+pub subsets-few : (d : Document) → IsHeaded d → subsets_in d < 65536
+unfolding keys
+subsets-few d h = let most : slice_index d.header 19 ≤ 65535 = header-most d 19 h in omega (arith, most)
+
+-- one more value in its range
+ranges-more : (k : ℕ) (xs : List ℕ) (v : ℕ) → are_in_range k xs ≡ true → in_range (k + length xs) v ≡ true → are_in_range k (xs ++ v ∷ []) ≡ true
+ranges-more k [] v h e =
+    let same : k + 0 ≡ k = omega arith in
+    both (in_range k v) true (ap (λ (n : ℕ). in_range n v) (sym same) ∙ e) refl
+ranges-more k (x ∷ xs) v h e =
+    let same : k + 1 + length xs ≡ k + suc (length xs) = omega arith in
+    both (in_range k x) (are_in_range (k + 1) (xs ++ v ∷ [])) (and_first (in_range k x) (are_in_range (k + 1) xs) h)
+    (ranges-more (k + 1) xs v (and_second (in_range k x) (are_in_range (k + 1) xs) h) (ap (λ (n : ℕ). in_range n v) same ∙ e))
+
+pub later : (at : ℕ) (place : Place) → Stands at place → Stands (at + 1) place
+later at Between s = tt
+later at (Heading d) s = (s.0, s.1, omega (arith, s.2))
+later at (Laying part d) s = (s.0, omega (arith, s.1))
+later at (Filling subset d) s = (s.0, omega (arith, s.1), s.2)
+later at Stopped s = tt
+
+if-so : (at : ℕ) (b : Bool) (x y : Turn) → (b ≡ true → StandsAfter at x) → (b ≡ false → StandsAfter at y) → StandsAfter at (if b then x else y)
+if-so at true x y p q = p refl
+if-so at false x y p q = q refl
+
+same-key : (key n : ℕ) → not (key == n) ≡ false → key ≡ n
+same-key key n e = by (key == n) refl e
+  where
+    by : (b : Bool) → (key == n) ≡ b → not b ≡ false → key ≡ n
+    by true h e = grind (arith, nat_tests, h)
+    by false h e = absurd cc
+
+not-false : (b : Bool) → not b ≡ false → b ≡ true
+not-false true e = refl
+not-false false e = absurd cc
+
+length-key : (d : Document) (key : ℕ) → key ≡ length d.header → 0 + length d.header ≡ key
+length-key d key same = omega (arith, same)
+
+value-so : (at key value : ℕ) (d : Document) (b : Bool) → (key == 19) ≡ b → length d.header < 20 → are_in_range 0 d.header ≡ true → length d.entries < at → key ≡ length d.header → in_range key value ≡ true
+    → Stands (at + 1) (if b then Laying 0 (with_value d value) else Heading (with_value d value))
+value-so at key value d true last few ranges lines same fits =
+    let is : key ≡ 19 = grind (arith, nat_tests, last) in
+    (record { whole = omega (arith, length-append d.header (value ∷ []), is, same); ranges = ranges-more 0 d.header value ranges (ap (λ (n : ℕ). in_range n value) (length-key d key same) ∙ fits) }, omega (arith, lines))
+value-so at key value d false last few ranges lines same fits =
+    let other : key ≡ 19 → ⊥ = λ is. (let e : (key == 19) ≡ true = grind (arith, nat_tests, is) in cc) in
+    (omega (arith, length-append d.header (value ∷ []), other, same, few), ranges-more 0 d.header value ranges (ap (λ (n : ℕ). in_range n value) (length-key d key same) ∙ fits), omega (arith, lines))
+
+heading-so : (at key value : ℕ) (d : Document) → length d.header < 20 → are_in_range 0 d.header ≡ true → length d.entries < at → StandsAfter at (heading d (Header key value))
+heading-so at key value d few ranges lines =
+    let taken : Turn = Goes (if key == 19 then Laying 0 (with_value d value) else Heading (with_value d value)) in
+    let ranged : Turn = if not (in_range key value) then Faults HeaderRange else taken in
+    if-so at (not (key == length d.header)) (Faults NotAllowed) ranged (λ e. tt) (λ e.
+    if-so at (not (in_range key value)) (Faults HeaderRange) taken (λ f. tt) (λ f.
+    value-so at key value d (key == 19) refl few ranges lines (same-key key (length d.header) e) (not-false (in_range key value) f)))
+
+subset-few : (a b n : ℕ) → ((a == b) && nat_le a n) ≡ true → a ≤ n
+subset-few a b n h = let le : nat_le a n ≡ true = and_second (a == b) (nat_le a n) h in grind (arith, nat_tests, le)
+
+beginning-so : (at read subset : ℕ) (d : Document) → IsHeaded d → length d.entries < at + 1 → StandsAfter at (beginning read d subset)
+beginning-so at read subset d h lines =
+    if-so at ((subset == read + 1) && nat_le subset (subsets_in d)) (Goes (Filling subset d)) (Faults SubsetCount)
+    (λ e. (h, lines, omega (arith, subset-few subset (read + 1) (subsets_in d) e, subsets-few d h))) (λ e. tt)
+
+closing-so : (at read : ℕ) (d : Document) → IsHeaded d → length d.entries ≤ at → StandsAfter at (closing read d)
+closing-so at read d h lines = if-so at (read == subsets_in d) (Gives d) (Faults SubsetCount) (λ e. (h, lines)) (λ e. tt)
+
+laying-so : (at part : ℕ) (d : Document) (line : Line) → IsHeaded d → length d.entries < at → StandsAfter at (laying part d line)
+laying-so at part d Passed h lines = tt
+laying-so at part d Opens h lines = tt
+laying-so at part d (Header key value) h lines = tt
+laying-so at part d (Local1 octets) h lines = if-so at (part == 0) (Goes (Laying 0 (with_local1 d octets))) (Faults NotAllowed) (λ e. (record { whole = h.whole; ranges = h.ranges }, omega (arith, lines))) (λ e. tt)
+laying-so at part d (Section2 octets) h lines = if-so at (nat_le part 1 && (optional_in d == 1)) (Goes (Laying 1 (with_section2 d octets))) (Faults NotAllowed) (λ e. (record { whole = h.whole; ranges = h.ranges }, omega (arith, lines))) (λ e. tt)
+laying-so at part d (Descriptors words) h lines = (record { whole = h.whole; ranges = h.ranges }, omega (arith, lines))
+laying-so at part d (Begins subset) h lines = beginning-so at 0 subset d h (omega (arith, lines))
+laying-so at part d (Item fxy form) h lines = tt
+laying-so at part d Closes h lines = closing-so at 0 d h (omega (arith, lines))
+laying-so at part d Wrong h lines = tt
+
+one-entry : (d : Document) (entry : Entry) → length (with_entry d entry).entries ≡ length d.entries + 1
+one-entry d entry = omega (arith, length-append d.entries (entry ∷ []))
+
+filling-so : (at subset : ℕ) (d : Document) (line : Line) → IsHeaded d → length d.entries < at → subset < 65536 → StandsAfter at (filling at subset d line)
+filling-so at subset d Passed h lines few = tt
+filling-so at subset d Opens h lines few = tt
+filling-so at subset d (Header key value) h lines few = tt
+filling-so at subset d (Local1 octets) h lines few = tt
+filling-so at subset d (Section2 octets) h lines few = tt
+filling-so at subset d (Descriptors words) h lines few = tt
+filling-so at subset d (Begins next) h lines few = beginning-so at subset next (with_entry d (Ends at)) (record { whole = h.whole; ranges = h.ranges }) (omega (arith, lines, one-entry d (Ends at)))
+filling-so at subset d (Item fxy form) h lines few = (record { whole = h.whole; ranges = h.ranges }, omega (arith, lines, one-entry d (Holds (draft at fxy form))), few)
+filling-so at subset d Closes h lines few = closing-so at subset (with_entry d (Ends at)) (record { whole = h.whole; ranges = h.ranges }) (omega (arith, lines, one-entry d (Ends at)))
+filling-so at subset d Wrong h lines few = tt
+
+-- what holds of a place holds of the place behind the line
+pub turn-stands : (at : ℕ) (place : Place) (line : Line) → 0 < at → Stands at place → StandsAfter at (turn at place line)
+unfolding turn
+turn-stands at Between Passed some s = tt
+turn-stands at Between Opens some s = (omega arith, refl, omega arith)
+turn-stands at Between (Header key value) some s = tt
+turn-stands at Between (Local1 octets) some s = tt
+turn-stands at Between (Section2 octets) some s = tt
+turn-stands at Between (Descriptors words) some s = tt
+turn-stands at Between (Begins subset) some s = tt
+turn-stands at Between (Item fxy form) some s = tt
+turn-stands at Between Closes some s = tt
+turn-stands at Between Wrong some s = tt
+turn-stands at (Heading d) Passed some s = later at (Heading d) s
+turn-stands at (Heading d) Opens some s = tt
+turn-stands at (Heading d) (Header key value) some s = heading-so at key value d s.0 s.1 s.2
+turn-stands at (Heading d) (Local1 octets) some s = tt
+turn-stands at (Heading d) (Section2 octets) some s = tt
+turn-stands at (Heading d) (Descriptors words) some s = tt
+turn-stands at (Heading d) (Begins subset) some s = tt
+turn-stands at (Heading d) (Item fxy form) some s = tt
+turn-stands at (Heading d) Closes some s = tt
+turn-stands at (Heading d) Wrong some s = tt
+turn-stands at (Laying part d) Passed some s = later at (Laying part d) s
+turn-stands at (Laying part d) Opens some s = tt
+turn-stands at (Laying part d) (Header key value) some s = tt
+turn-stands at (Laying part d) (Local1 octets) some s = laying-so at part d (Local1 octets) s.0 s.1
+turn-stands at (Laying part d) (Section2 octets) some s = laying-so at part d (Section2 octets) s.0 s.1
+turn-stands at (Laying part d) (Descriptors words) some s = laying-so at part d (Descriptors words) s.0 s.1
+turn-stands at (Laying part d) (Begins subset) some s = laying-so at part d (Begins subset) s.0 s.1
+turn-stands at (Laying part d) (Item fxy form) some s = tt
+turn-stands at (Laying part d) Closes some s = laying-so at part d Closes s.0 s.1
+turn-stands at (Laying part d) Wrong some s = tt
+turn-stands at (Filling subset d) Passed some s = later at (Filling subset d) s
+turn-stands at (Filling subset d) Opens some s = tt
+turn-stands at (Filling subset d) (Header key value) some s = tt
+turn-stands at (Filling subset d) (Local1 octets) some s = tt
+turn-stands at (Filling subset d) (Section2 octets) some s = tt
+turn-stands at (Filling subset d) (Descriptors words) some s = tt
+turn-stands at (Filling subset d) (Begins next) some s = filling-so at subset d (Begins next) s.0 s.1 s.2
+turn-stands at (Filling subset d) (Item fxy form) some s = filling-so at subset d (Item fxy form) s.0 s.1 s.2
+turn-stands at (Filling subset d) Closes some s = filling-so at subset d Closes s.0 s.1 s.2
+turn-stands at (Filling subset d) Wrong some s = tt
+turn-stands at Stopped Passed some s = tt
+turn-stands at Stopped Opens some s = tt
+turn-stands at Stopped (Header key value) some s = tt
+turn-stands at Stopped (Local1 octets) some s = tt
+turn-stands at Stopped (Section2 octets) some s = tt
+turn-stands at Stopped (Descriptors words) some s = tt
+turn-stands at Stopped (Begins subset) some s = tt
+turn-stands at Stopped (Item fxy form) some s = tt
+turn-stands at Stopped Closes some s = tt
+turn-stands at Stopped Wrong some s = tt

@@ -1,0 +1,50 @@
+pub mod CallLemmas
+pub mod CanonicalLemmas
+pub mod CleanLemmas
+pub mod ClosingLemmas
+pub mod DescribingLemmas
+mod DumpExamples
+pub mod DumpLawLemmas
+pub mod DumpLemmas
+pub mod DumpableLemmas
+pub mod EncodePacked
+pub mod EncodePlain
+pub mod EncodeWhole
+pub mod EncodedLemmas
+pub mod EncodesLemmas
+mod EncodingExamples
+mod Examples
+pub mod FeedLemmas
+pub mod FeedingLemmas
+pub mod FramedLemmas
+pub mod FxyLemmas
+pub mod GrammarLemmas
+pub mod HeadLemmas
+pub mod HeaderLemmas
+pub mod ItemLemmas
+pub mod KeptLemmas
+pub mod LawLemmas
+mod LineExamples
+pub mod LineLemmas
+pub mod LinesLemmas
+mod LsExamples
+pub mod LsLineLemmas
+pub mod NextLemmas
+pub mod NumberLemmas
+pub mod OpenLemmas
+pub mod PutLemmas
+pub mod ReaderLemmas
+pub mod ReadingLemmas
+pub mod RowsLemmas
+mod RuleExamples
+pub mod RunsLemmas
+pub mod ShowingLemmas
+pub mod SpecWords
+pub mod SpelledLemmas
+pub mod StepLemmas
+pub mod TakingLemmas
+pub mod TokenLemmas
+pub mod UnhexLemmas
+pub mod UnquoteLemmas
+pub mod WordLemmas
+pub mod WritingLemmas

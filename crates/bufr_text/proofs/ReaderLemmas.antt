@@ -1,0 +1,180 @@
+-- What the steps of a reader of dump texts do.
+use Rattle.std.proofs.Common.{◌≡◌, ℕ, ◌+◌, ◌-◌, ◌<◌, ◌≤◌, Bool, true, List, [], ◌∷◌, ◌++◌, length, take, drop, refl, sym, ap, subst, ◌∙◌, arith, append-nil, length-take}
+use Rattle.std.specs.Prelude.{Option, Some, None, Err, slice_range}
+use Rattle.std.proofs.lemmas.Grind.{common_steps}
+use Rattle.std.proofs.lemmas.List.{take_all, take_at, drop-append-le}
+use Rattle.bufr_frame.proofs.BufferLemmas.{part-front, part-drop, part-length, rest-read}
+use Rattle.bufr_text.specs.Document as spec
+use Rattle.bufr_text.specs.Documents as documents
+use Rattle.bufr_text.specs.Documents.{Between, Heading, Laying, Filling, Stopped, Told, Refused, NotAllowed, spelled, lines_of, told_at_end}
+use Rattle.bufr_text.specs.Reading.{has_no_feed, GoesOn, Passes, PassesEnd, spells}
+use Rattle.bufr_text.specs.Reader.{State, stand}
+use Rattle.bufr_text.specs.Filling.{place_now, ends_by_feed, DraftSo, Tells, WentSo, fault_at, stopped}
+use Rattle.bufr_text.specs.Step.{place_with, fault_of, Stands}
+use Rattle.bufr_text.specs.Taking.{told_of, place_behind, TakesSo}
+use Rattle.bufr_text.specs.declared.draft.Draft.{Draft}
+use Rattle.bufr_text.specs.declared.draft.Taken.{Taken}
+use Rattle.bufr_text.specs.declared.draft.Taken.TheVariants as taken
+use Rattle.bufr_text.specs.declared.step.Place.{Place}
+use Rattle.bufr_text.specs.declared.step.Place.TheVariants as place
+use Rattle.bufr_text.specs.declared.step.Refusal.{Refusal}
+use Rattle.bufr_text.specs.declared.step.Refusal.TheVariants as refusal
+use Rattle.bufr_text.specs.declared.fault.ReadFault.{ReadFault}
+use Rattle.bufr_text.specs.declared.fault.ReadFault.TheVariants as fault
+use Rattle.bufr_text.proofs.ReadingLemmas.{ends-inside, refuses-long, Reads}
+use Rattle.bufr_text.proofs.TakingLemmas.{passes-none}
+use Rattle.bufr_text.proofs.FeedingLemmas.{ends-drop, ends-none}
+
+-- a part of a buffer that grew
+take-take : (n k : ℕ) (l : List ℕ) → n ≤ k → take n (take k l) ≡ take n l
+take-take n k l order = grind (arith, common_steps)
+
+pub range-kept : (old new : List ℕ) (len a b : ℕ) → a ≤ b → b ≤ len → take len new ≡ old → slice_range new a b ≡ slice_range old a b
+range-kept old new len a b order within same =
+    part-front new a b order
+    ∙ ap (drop a) (sym (take-take b len new within) ∙ ap (take b) same)
+    ∙ sym (part-front old a b order)
+
+-- where a reader stands that goes on
+pub place-sound : (f : Option ReadFault) (draft : Draft) → f ≡ None → place_now f draft ≡ place_with draft.place draft.parts
+place-sound None draft e = refl
+place-sound (Some f) draft e = absurd cc
+
+-- a reader that stops
+abbrev pub state : (at : ℕ) → documents.Place → List ℕ → Bool → Option ReadFault → ℕ → State
+state at place held ended fault reads = record { at = at; place = place; held = held; ended = ended; fault = fault; reads = reads }
+
+pub stop-is : (f : Option ReadFault) (why : ReadFault) (draft : Draft) (held : List ℕ) (ended : Bool) (reads : ℕ) → f ≡ None
+    → state draft.at (place_now (Some why) draft) held ended (Some why) reads ≡ stopped (state draft.at (place_now f draft) held ended f reads) why
+stop-is None (fault.Line line) draft held ended reads e = refl
+stop-is None (fault.SubsetCount line) draft held ended reads e = refl
+stop-is None (fault.HeaderRange line) draft held ended reads e = refl
+stop-is None (fault.Run why) draft held ended reads e = refl
+stop-is (Some f) why draft held ended reads e = absurd cc
+
+-- what lines tell that were taken
+pub takes-tells : (old new : Draft) (f f' : Option ReadFault) (items held : List ℕ) (start filled len : ℕ) (ended : Bool) (reads : ℕ) (step : Taken) (p : documents.Place)
+    → TakesSo old new held len step → f ≡ None → held ≡ slice_range items start filled → filled ≤ length items → p ≡ place_behind step new
+    → Tells (state old.at (place_now f old) (slice_range items start filled) ended f reads) (state new.at p (slice_range items (start + len) filled) ended f' reads) (told_of step new.parts)
+takes-tells old new f f' items held start filled len ended reads step p takes none is within place =
+    let long : length held ≡ filled - start = ap length is ∙ part-length items start filled within in
+    let rest : drop len held ≡ slice_range items (start + len) filled = ap (drop len) is ∙ part-drop items start filled len (omega (arith, takes.within, long)) in
+    let A : documents.Place → Type 0 = λ q. GoesOn (record { at = old.at; place = q; held = slice_range items start filled; ended = ended }) (record { at = new.at; place = p; held = slice_range items (start + len) filled; ended = ended }) (told_of step new.parts) in
+    let B : documents.Place → Type 0 = λ q. GoesOn (record { at = old.at; place = place_with old.place old.parts; held = slice_range items start filled; ended = ended }) (record { at = new.at; place = q; held = slice_range items (start + len) filled; ended = ended }) (told_of step new.parts) in
+    let C : List ℕ → Type 0 = λ h. GoesOn (record { at = old.at; place = place_with old.place old.parts; held = h; ended = ended }) (record { at = new.at; place = place_behind step new; held = slice_range items (start + len) filled; ended = ended }) (told_of step new.parts) in
+    let D : List ℕ → Type 0 = λ h. GoesOn (record { at = old.at; place = place_with old.place old.parts; held = held; ended = ended }) (record { at = new.at; place = place_behind step new; held = h; ended = ended }) (told_of step new.parts) in
+    let E : List ℕ → Type 0 = λ h. Passes old.at h new.at (slice_range items (start + len) filled) in
+    let F : List ℕ → Type 0 = λ h. Passes old.at held new.at h in
+    record {
+      goes = subst A (sym (place-sound f old none)) (subst B (sym place) (subst C is (subst D rest (takes.goes ended))));
+      passes = subst E is (subst F rest takes.passes);
+    }
+
+-- the `end` line of a document that they tell
+pub takes-end : (old new : Draft) (items held : List ℕ) (start filled len : ℕ) → TakesSo old new held len taken.Gives → held ≡ slice_range items start filled → filled ≤ length items → PassesEnd old.at (slice_range items start filled) new.at (slice_range items (start + len) filled)
+takes-end old new items held start filled len takes is within =
+    let long : length held ≡ filled - start = ap length is ∙ part-length items start filled within in
+    let rest : drop len held ≡ slice_range items (start + len) filled = ap (drop len) is ∙ part-drop items start filled len (omega (arith, takes.within, long)) in
+    let E : List ℕ → Type 0 = λ h. PassesEnd old.at h new.at (slice_range items (start + len) filled) in
+    let F : List ℕ → Type 0 = λ h. PassesEnd old.at held new.at h in
+    subst E is (subst F rest (takes.closes refl))
+
+pub rest-clean : (old new : Draft) (items held : List ℕ) (start filled len : ℕ) → TakesSo old new held len taken.More → held ≡ slice_range items start filled → filled ≤ length items → has_no_feed (slice_range items (start + len) filled) ≡ true
+rest-clean old new items held start filled len takes is within =
+    let long : length held ≡ filled - start = ap length is ∙ part-length items start filled within in
+    let rest : drop len held ≡ slice_range items (start + len) filled = ap (drop len) is ∙ part-drop items start filled len (omega (arith, takes.within, long)) in
+    ap has_no_feed (sym rest) ∙ takes.all refl
+
+pub taken-within : (old new : Draft) (items held : List ℕ) (start filled len : ℕ) (step : Taken) → TakesSo old new held len step → held ≡ slice_range items start filled → filled ≤ length items → start ≤ filled → start + len ≤ filled
+taken-within old new items held start filled len step takes is within order =
+    let long : length held ≡ filled - start = ap length is ∙ part-length items start filled within in
+    omega (arith, takes.within, long, order)
+
+pub taken-ends : (items : List ℕ) (start filled len : ℕ) → start + len ≤ filled → ends_by_feed (slice_range items start filled) ≡ true → ends_by_feed (slice_range items (start + len) filled) ≡ true
+taken-ends items start filled len within e =
+    ap ends_by_feed (sym (part-drop items start filled len (omega (arith, within)))) ∙ ends-drop len (slice_range items start filled) e
+
+-- the draft of a reader that goes on
+pub draft-more : (old new : Draft) (held : List ℕ) (start filled len reads : ℕ) → TakesSo old new held len taken.More → DraftSo old (filled - start) reads → start + len ≤ filled → DraftSo new (filled - (start + len)) reads
+draft-more old new held start filled len reads takes is within = record {
+  stands = takes.stands;
+  some = omega (arith, is.some, takes.passes.counted);
+  near = omega (arith, is.near, takes.near, within);
+}
+
+pub draft-between : (old new d : Draft) (held : List ℕ) (start filled len reads : ℕ) (step : Taken) → TakesSo old new held len step → DraftSo old (filled - start) reads → start + len ≤ filled → d.at ≡ new.at → d.place ≡ place.Between → DraftSo d (filled - (start + len)) reads
+draft-between old new d held start filled len reads step takes is within same between =
+    let S : Place → Type 0 = λ p. Stands d.at (place_with p d.parts) in
+    record {
+      stands = subst S (sym between) tt;
+      some = omega (arith, is.some, takes.passes.counted, same);
+      near = omega (arith, is.near, takes.near, within, same);
+    }
+
+-- the end
+pub told-inside : (p : Place) (d : spec.Document) (at : ℕ) → (p ≡ place.Between → ⊥) → told_at_end at (place_with p d) ≡ Refused at NotAllowed ∷ []
+told-inside place.Between d at not = absurd (not refl)
+told-inside place.Heading d at not = refl
+told-inside (place.Laying part) d at not = refl
+told-inside (place.Filling subset) d at not = refl
+
+pub none-held : (s : State) → s.ended ≡ true → (s.ended ≡ true → ends_by_feed s.held ≡ true) → has_no_feed s.held ≡ true → s.held ≡ []
+none-held s ended ends clean = ends-none s.held (ends ended) clean
+
+pub done-between : (s : State) → s.place ≡ Between → s.held ≡ [] → spells (stand s) [] ≡ []
+unfolding spelled lines_of
+done-between s place held =
+    ap (λ (z : List ℕ). spelled s.at s.place (lines_of (z ++ []))) held ∙ ap (λ (p : documents.Place). spelled s.at p []) place
+
+pub end-tells : (s : State) → s.ended ≡ true → s.held ≡ [] → told_at_end s.at s.place ≡ Refused s.at NotAllowed ∷ [] → Tells s (stopped s (fault.Line s.at)) (Refused s.at NotAllowed ∷ [])
+end-tells s ended held told =
+    let A : Bool → Type 0 = λ e. GoesOn (record { at = s.at; place = s.place; held = s.held; ended = e }) (record { at = s.at; place = Stopped; held = s.held; ended = e }) (Refused s.at NotAllowed ∷ []) in
+    let B : List ℕ → Type 0 = λ h. GoesOn (record { at = s.at; place = s.place; held = h; ended = true }) (record { at = s.at; place = Stopped; held = h; ended = true }) (Refused s.at NotAllowed ∷ []) in
+    let C : List Told → Type 0 = λ t. GoesOn (record { at = s.at; place = s.place; held = []; ended = true }) (record { at = s.at; place = Stopped; held = []; ended = true }) t in
+    record { goes = subst A (sym ended) (subst B (sym held) (subst C told (ends-inside s.at s.place))); passes = passes-none s.at s.held }
+
+-- a line that is too long
+pub reads-place : (p : Place) (d : spec.Document) → Reads (place_with p d)
+reads-place place.Between d = tt
+reads-place place.Heading d = tt
+reads-place (place.Laying part) d = tt
+reads-place (place.Filling subset) d = tt
+
+pub long-tells : (s : State) → Reads s.place → has_no_feed s.held ≡ true → 4096 < length s.held → Tells s (stopped s (fault.Line s.at)) (Refused s.at NotAllowed ∷ [])
+long-tells s reads clean long = record { goes = refuses-long s.at s.place s.held s.ended reads clean long; passes = passes-none s.at s.held }
+
+-- a line that is refused
+by-fault : (now : State) (at line : ℕ) (draft : Draft) (held : List ℕ) (ended : Bool) (reads : ℕ) (refusal : Refusal) → ((f : Option ReadFault) → Tells now (state at Stopped held ended f reads) (Refused line (fault_of refusal) ∷ []))
+    → WentSo now (state at (place_now (Some (fault_at line refusal)) draft) held ended (Some (fault_at line refusal)) reads) (Err (fault_at line refusal))
+by-fault now at line draft held ended reads refusal.NotAllowed tells = (tells (Some (fault.Line line)), refl)
+by-fault now at line draft held ended reads refusal.SubsetCount tells = (tells (Some (fault.SubsetCount line)), refl)
+by-fault now at line draft held ended reads refusal.HeaderRange tells = (tells (Some (fault.HeaderRange line)), refl)
+
+pub refuses-went : (now : State) (at line : ℕ) (draft : Draft) (held : List ℕ) (ended : Bool) (reads : ℕ) (refusal : Refusal) (f : ReadFault) → f ≡ fault_at line refusal → ((f : Option ReadFault) → Tells now (state at Stopped held ended f reads) (Refused line (fault_of refusal) ∷ []))
+    → WentSo now (state at (place_now (Some f) draft) held ended (Some f) reads) (Err f)
+refuses-went now at line draft held ended reads refusal f is tells =
+    let W : ReadFault → Type 0 = λ f. WentSo now (state at (place_now (Some f) draft) held ended (Some f) reads) (Err f) in
+    subst W (sym is) (by-fault now at line draft held ended reads refusal tells)
+
+-- a buffer that grew
+pub grown : (old new room : List ℕ) (len : ℕ) → new ≡ take 8192 old ++ room → len ≡ length old → len ≤ 8192 → take len new ≡ old
+grown old new room len is size few =
+    ap (take len) (is ∙ ap (λ (l : List ℕ). l ++ room) (take_all 8192 old (omega (arith, size, few)))) ∙ take_at old room len (sym size)
+
+-- a line feed behind what is held
+pub feed-read : (old new rest : List ℕ) (a b : ℕ) → slice_range old a b ≡ rest → a ≤ b → b ≤ length old → take (b + 1) new ≡ take b old ++ 10 ∷ [] → slice_range new a (b + 1) ≡ rest ++ 10 ∷ []
+feed-read old new rest a b is order within same =
+    part-front new a (b + 1) (omega (arith, order)) ∙ ap (drop a) same
+    ∙ drop-append-le a (take b old) (10 ∷ []) (omega (arith, length-take b old, order, within))
+    ∙ ap (λ (l : List ℕ). l ++ 10 ∷ []) (sym (part-front old a b order) ∙ is)
+
+-- octets behind what is held
+pub some-read : (items items1 items2 rest bs : List ℕ) (place filled slid n : ℕ) → slice_range items place filled ≡ rest → slid ≤ place → place ≤ filled → filled - slid ≤ length items1
+    → slice_range items1 (place - slid) (filled - slid) ≡ slice_range items place filled
+    → take (filled - slid + length bs) items2 ≡ take (filled - slid) items1 ++ bs → n ≡ length bs
+    → slice_range items2 (place - slid) (filled - slid + n) ≡ (rest ++ bs) ++ []
+some-read items items1 items2 rest bs place filled slid n is less order within kept held count =
+    rest-read items items1 items2 rest bs place filled slid n is less order within kept held count ∙ sym (append-nil (rest ++ bs))
+
+pub draft-read : (d : Draft) (held held' reads : ℕ) → DraftSo d held reads → held' ≤ held + 4096 → DraftSo d held' (reads + 1)
+draft-read d held held' reads is few = record { stands = is.stands; some = is.some; near = omega (arith, is.near, few) }

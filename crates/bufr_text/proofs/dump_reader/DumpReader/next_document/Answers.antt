@@ -1,0 +1,70 @@
+use Rattle.std.proofs.Common.{inl, ◌∙◌, ◌++◌, [], refl, ap, sym, subst, arith}
+use Rattle.std.specs.Prelude.{Err, Result, Option}
+use Rattle.std.proofs.lemmas.Result.{err_from_is_err_and}
+use Rattle.bufr_text.specs.Document.{Document}
+use Rattle.bufr_text.specs.Reader.{NextSo}
+use Rattle.bufr_text.specs.declared.fault.ReadFault.{ReadFault}
+use Rattle.bufr_text.proofs.CallLemmas.{call-none}
+use Rattle.bufr_text.proofs.NextLemmas.{counts-none, counts-then, counts-same, waits-same, call-takes, went-document, went-fault, end-next, fill-call, fill-waits, fill-fault, none-unless}
+use Rattle.bufr_text.proofs.dump_reader.DumpReader.next_document.Goals as goal
+
+pub loop-document-init : goal.loop-document-init
+loop-document-init g c = record {
+  octets = [];
+  call = call-none _ c.args.self.now;
+  waits = inl refl;
+  counts = counts-none _ c.args.self.now (omega (arith, c.self.invariant, ap (λ s. s.reads) c.self.view_is));
+  failed = refl;
+  sound = sym (ap (λ s. s.fault) c.self.view_is) ∙ none-unless c.self.inside.fault c.in_default.not-Some;
+}
+
+pub returns-in_err-document-clause-next : goal.returns-in_err-document-clause-next
+returns-in_err-document-clause-next g c =
+    let before = c.loop-document.invariant in
+    let p = err_from_is_err_and c.from_residual.result c.from_residual.ensures.1 in
+    let N : Result (Option Document) ReadFault → Type 0 = λ r. NextSo (g.R.Source.left c.args.r.now) (g.R.Source.left c.loop-document.r) c.args.self.now c.take_held.new.self r in
+    λ _. subst N (sym (p.1 ∙ ap Err p.2)) (went-fault _ _ c.args.self.now c.loop-document.self c.take_held.new.self before.octets before.call before.waits c.take_held.ensures.ended c.take_held.ensures.reads _ (rw c.in_err-document.was at c.take_held.ensures.went))
+
+pub returns-in-Some-2-clause-next : goal.returns-in-Some-2-clause-next
+returns-in-Some-2-clause-next g c =
+    let before = c.loop-document.invariant in
+    λ _. went-document _ _ c.args.self.now c.loop-document.self c.take_held.new.self before.octets before.call before.waits c.take_held.ensures.ended c.take_held.ensures.reads c.in-Some-2.document (rw (c.in_ok-document.was, c.in-Some-2.is) at c.take_held.ensures.went)
+
+pub returns-then-self-clause-next : goal.returns-then-self-clause-next
+returns-then-self-clause-next g c =
+    let before = c.loop-document.invariant in
+    let s = c.take_held.new.self in
+    let went = rw (c.in_ok-document.was, none-unless c.in_ok-document.field-0 c.in_default-2.not-Some) at c.take_held.ensures.went in
+    let call = call-takes _ _ c.args.self.now c.loop-document.self s before.octets [] before.call went.0 c.take_held.ensures.ended c.take_held.ensures.reads in
+    let waits = waits-same _ c.args.self.now c.loop-document.self s before.octets before.octets before.waits c.take_held.ensures.reads refl in
+    λ _. end-next _ _ c.args.self.now s c.finish.new.self before.octets call waits went.1 (sym (ap (λ x. x.ended) c.self-in-loop-document.view_is) ∙ c.if-self.true) c.finish.result c.finish.ensures.end
+
+pub loop-document-preserved : goal.loop-document-preserved
+loop-document-preserved g c =
+    let before = c.loop-document.invariant in
+    let s = c.take_held.new.self in
+    let went = rw (c.in_ok-document.was, none-unless c.in_ok-document.field-0 c.in_default-2.not-Some) at c.take_held.ensures.went in
+    let call = call-takes _ _ c.args.self.now c.loop-document.self s before.octets [] before.call went.0 c.take_held.ensures.ended c.take_held.ensures.reads in
+    let waits = waits-same _ c.args.self.now c.loop-document.self s before.octets before.octets before.waits c.take_held.ensures.reads refl in
+    let open' = sym (ap (λ x. x.ended) c.self-in-loop-document.view_is) ∙ c.if-self.false in
+    let filled = rw c.in_ok-fill.was at c.fill.ensures.read.1 in
+    let bs = c.fill.ensures.read.0 in record {
+      octets = before.octets ++ bs;
+      call = fill-call _ _ _ c.args.self.now s c.fill.new.self before.octets bs call waits open' went.2 filled;
+      waits = fill-waits _ _ _ c.args.self.now s c.fill.new.self before.octets bs call waits open' went.2 filled;
+      counts = counts-then _ _ _ c.args.self.now s c.fill.new.self (counts-same _ _ c.args.self.now c.loop-document.self s before.counts c.take_held.ensures.reads) c.fill.ensures.counts;
+      failed = (rw c.in_ok-fill.was at c.fill.ensures.failed) ∙ before.failed;
+      sound = filled.0.fault;
+    }
+
+pub returns-in_err-fill-clause-next : goal.returns-in_err-fill-clause-next
+returns-in_err-fill-clause-next g c =
+    let before = c.loop-document.invariant in
+    let s = c.take_held.new.self in
+    let went = rw (c.in_ok-document.was, none-unless c.in_ok-document.field-0 c.in_default-2.not-Some) at c.take_held.ensures.went in
+    let call = call-takes _ _ c.args.self.now c.loop-document.self s before.octets [] before.call went.0 c.take_held.ensures.ended c.take_held.ensures.reads in
+    let waits = waits-same _ c.args.self.now c.loop-document.self s before.octets before.octets before.waits c.take_held.ensures.reads refl in
+    let open' = sym (ap (λ x. x.ended) c.self-in-loop-document.view_is) ∙ c.if-self.false in
+    let p = err_from_is_err_and c.from_residual-in_err-fill.result c.from_residual-in_err-fill.ensures.1 in
+    let N : Result (Option Document) ReadFault → Type 0 = λ r. NextSo (g.R.Source.left c.args.r.now) (g.R.Source.left c.fill.new.r) c.args.self.now c.fill.new.self r in
+    λ _. subst N (sym (p.1 ∙ ap Err p.2)) (fill-fault _ _ _ c.args.self.now s c.fill.new.self before.octets c.fill.ensures.read.0 call waits open' went.2 _ (rw c.in_err-fill.was at c.fill.ensures.read.1))

@@ -1,0 +1,26 @@
+use Rattle.std.proofs.Common.{◌≡◌}
+use Rattle.std.proofs.lemmas.Result.{err_from_is_err_and}
+use Rattle.bufr_tables.specs.Tree.{places}
+use Rattle.bufr_text.specs.EncodingFault.{told_refusal}
+use Rattle.bufr_text.proofs.EncodeWhole.{if_ok_so, if_err_so, whole, not_whole, no_data, no_template}
+use Rattle.bufr_text.proofs.encode.encode_document.Goals as goal
+
+pub returns-in_err-template-clause-fault : goal.returns-in_err-template-clause-fault
+returns-in_err-template-clause-fault c =
+    let p = err_from_is_err_and c.from_residual.result c.from_residual.ensures.1 in
+    rw (p.1, p.2) (no_template c.args.table_b.now c.args.table_d.now c.args.document.now (told_refusal c.in_err-template.field-0.0) c.in_err-template.ensures.fault)
+
+pub returns-in_err-payload-clause-fault : goal.returns-in_err-payload-clause-fault
+returns-in_err-payload-clause-fault c =
+    let p = err_from_is_err_and c.from_residual-in_err-payload.result c.from_residual-in_err-payload.ensures.1 in
+    rw (p.1, p.2) (no_data c.args.table_b.now c.args.table_d.now c.args.document.now c.in_ok-template.template (told_refusal c.in_err-payload.field-0.0) c.in_ok-template.ensures.tree c.in_err-payload.ensures.refuses)
+
+pub returns-clause-octets : goal.returns-clause-octets
+returns-clause-octets c =
+    let same : c.deref.result.now ≡ c.in_ok-payload.payload.items = c.deref.ensures.value in
+    if_ok_so c.write_whole.result c.write_whole.ensures.octets (λ octets m. whole c.args.table_b.now c.args.table_d.now c.args.document.now (places c.in_ok-template.template) c.in_ok-template.template c.deref.result.now octets.items c.write_data.new.steps c.in_ok-template.ensures.tree (rw (same) c.in_ok-payload.ensures) c.write_whole.ensures.payload m)
+
+pub returns-clause-fault : goal.returns-clause-fault
+returns-clause-fault c =
+    let same : c.deref.result.now ≡ c.in_ok-payload.payload.items = c.deref.ensures.value in
+    if_err_so c.write_whole.result c.write_whole.ensures.fault (λ why m. not_whole c.args.table_b.now c.args.table_d.now c.args.document.now (places c.in_ok-template.template) c.in_ok-template.template c.deref.result.now c.write_data.new.steps (told_refusal why) c.in_ok-template.ensures.tree (rw (same) c.in_ok-payload.ensures) c.write_whole.ensures.payload m)

@@ -1,0 +1,5 @@
+use Rattle.bufr_text.proofs.NextLemmas.{done-again}
+use Rattle.bufr_text.proofs.law.none_comes_again.Goals as goal
+
+pub returns : goal.returns
+returns c = done-again

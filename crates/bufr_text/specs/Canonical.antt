@@ -1,0 +1,38 @@
+-- A message that is as an encoder writes it. (a choice of this project)
+-- Cited by public contracts.
+use Rattle.std.specs.Prelude.{◌≡◌, ℕ, ◌-◌, true, false, Bool, List, [], ◌∷◌, ◌++◌, length, take, drop, replicate, flat_map, Ok}
+use Rattle.bufr_bits.specs.Bits.{bits_of}
+use Rattle.bufr_frame.specs.Plain.{IsPlain}
+use Rattle.bufr_frame.specs.Sections.{Sections}
+use Rattle.bufr_walk.specs.declared.spec.Role.{Role}
+use Rattle.bufr_walk.specs.declared.spec.Role.TheVariants as role
+use Rattle.bufr_walk.specs.Content.{Content}
+use Rattle.bufr_walk.specs.Reading.{Item, Values, apart, together}
+use Rattle.bufr_fill.specs.Packing.{packing}
+use Rattle.bufr_text.specs.Encoding.{octets_of_bits}
+
+-- minus zero: the sign bit alone
+abbrev pub IsMinusZero : Role → List Bool → Type 0
+IsMinusZero role.Reference bits = bits ≡ true ∷ replicate (length bits - 1) false
+IsMinusZero _ bits = ⊥
+
+-- no redefined reference of the items that begin the bits is written as minus zero
+abbrev pub HaveNoMinusZero : List (Item Content) → List Bool → Type 0
+HaveNoMinusZero [] bits = Unit {0}
+HaveNoMinusZero (i ∷ items) bits = (IsMinusZero i.spec.role (take i.spec.width bits) → ⊥) × HaveNoMinusZero items (drop i.spec.width bits)
+
+-- each item of compressed data is packed as its contents are packed
+abbrev pub ArePacked : List (Item (List Content)) → (bits behind : List Bool) → Type 0
+ArePacked [] bits behind = bits ≡ behind
+ArePacked (i ∷ items) bits behind = (out : List Bool) × (mid : List Bool) × (packing i.spec i.content ≡ Ok out) × (bits ≡ out ++ mid) × ArePacked items mid behind
+
+-- the data bits are as an encoder writes them
+abbrev pub AreWritten : Values → (bits behind : List Bool) → Type 0
+AreWritten (apart subsets) bits behind = HaveNoMinusZero (flat_map (λ items. items) subsets) bits
+AreWritten (together items) bits behind = ArePacked items bits behind
+
+-- reserved octets and bits are zero, no octet is left over, and the data take the least octets, with zero bits behind them
+pub record IsCanonical (m : List ℕ) (s : Sections) (values : Values) (used : ℕ) : Type 0 where
+  pub plain : IsPlain m
+  pub least : s.payload ≡ octets_of_bits (take used (bits_of s.payload))
+  pub bits : AreWritten values (bits_of s.payload) (drop used (bits_of s.payload))

@@ -1,0 +1,166 @@
+-- The documents that a text spells. (a choice of this project)
+-- Cited by public contracts.
+use Rattle.std.specs.Prelude.{ℕ, ◌+◌, ◌==◌, nat_le, nat_lt, Bool, not, ◌&&◌, if◌then◌else◌, List, [], ◌∷◌, ◌++◌, length, slice_index}
+use Rattle.bufr_fill.specs.Draft.{draft}
+use Rattle.bufr_text.specs.Document.{Document, Entry, Holds, Ends, blank, optional_in, subsets_in}
+use Rattle.bufr_text.specs.Line.{Line, Passed, Opens, Header, Local1, Section2, Descriptors, Begins, Item, Closes, Wrong, leasts, mosts, line_of}
+
+-- why a line is refused: no line that its place allows (50), too few or too many subsets (57), a header value past its range (61)
+pub data LineFault : Type 0 where
+  NotAllowed : LineFault
+  SubsetCount : LineFault
+  HeaderRange : LineFault
+
+-- where the reading stands: between documents, in the header, in the parts before the subsets (0 local use, 1 section 2,
+-- 2 descriptors), in a subset of this number, or behind a fault
+pub data Place : Type 0 where
+  Between : Place
+  Heading : Document → Place
+  Laying : (part : ℕ) → Document → Place
+  Filling : (subset : ℕ) → Document → Place
+  Stopped : Place
+
+-- what a line does: the reading goes on, a document is whole, or the line is refused
+pub data Turn : Type 0 where
+  Goes : Place → Turn
+  Gives : Document → Turn
+  Faults : LineFault → Turn
+
+-- a document, or the fault that ends the reading, with its line
+pub data Told : Type 0 where
+  Spelled : Document → Told
+  Refused : (line : ℕ) (fault : LineFault) → Told
+
+-- the document with one more part
+abbrev pub with_value : Document → ℕ → Document
+with_value d value = record d { header = d.header ++ value ∷ [] }
+
+abbrev pub with_local1 : Document → List ℕ → Document
+with_local1 d octets = record d { local1 = d.local1 ++ octets }
+
+abbrev pub with_section2 : Document → List ℕ → Document
+with_section2 d octets = record d { section2 = d.section2 ++ octets }
+
+abbrev pub with_descriptors : Document → List ℕ → Document
+with_descriptors d words = record d { descriptors = d.descriptors ++ words }
+
+abbrev pub with_entry : Document → Entry → Document
+with_entry d entry = record d { entries = d.entries ++ entry ∷ [] }
+
+abbrev pub in_range : (key value : ℕ) → Bool
+in_range key value = nat_le (slice_index leasts key) value && nat_le value (slice_index mosts key)
+
+-- a header line
+abbrev pub heading : Document → Line → Turn
+heading d (Header key value) =
+    if not (key == length d.header) then Faults NotAllowed
+    else if not (in_range key value) then Faults HeaderRange
+    else Goes (if key == 19 then Laying 0 (with_value d value) else Heading (with_value d value))
+heading d line = Faults NotAllowed
+
+-- `subset` and its number, where so many subsets were read
+abbrev pub beginning : (read : ℕ) → Document → (subset : ℕ) → Turn
+beginning read d subset = if (subset == read + 1) && nat_le subset (subsets_in d) then Goes (Filling subset d) else Faults SubsetCount
+
+-- `end`
+abbrev pub closing : (read : ℕ) → Document → Turn
+closing read d = if read == subsets_in d then Gives d else Faults SubsetCount
+
+-- a line behind the header and before the first subset
+abbrev pub laying : (part : ℕ) → Document → Line → Turn
+laying part d (Local1 octets) = if part == 0 then Goes (Laying 0 (with_local1 d octets)) else Faults NotAllowed
+laying part d (Section2 octets) = if nat_le part 1 && (optional_in d == 1) then Goes (Laying 1 (with_section2 d octets)) else Faults NotAllowed
+laying part d (Descriptors words) = Goes (Laying 2 (with_descriptors d words))
+laying part d (Begins subset) = beginning 0 d subset
+laying part d Closes = closing 0 d
+laying part d line = Faults NotAllowed
+
+-- a line in a subset
+abbrev pub filling : (at subset : ℕ) → Document → Line → Turn
+filling at subset d (Item fxy form) = Goes (Filling subset (with_entry d (Holds (draft at fxy form))))
+filling at subset d (Begins next) = beginning subset (with_entry d (Ends at)) next
+filling at subset d Closes = closing subset (with_entry d (Ends at))
+filling at subset d line = Faults NotAllowed
+
+-- a line between documents
+abbrev pub opening : (at : ℕ) → Line → Turn
+opening at Opens = Goes (Heading (blank at))
+opening at line = Faults NotAllowed
+
+-- what a line does at a place
+unfoldable pub turn : (at : ℕ) → Place → Line → Turn
+turn at place Passed = Goes place
+turn at Between line = opening at line
+turn at (Heading d) line = heading d line
+turn at (Laying part d) line = laying part d line
+turn at (Filling subset d) line = filling at subset d line
+turn at Stopped line = Goes Stopped
+
+-- a line has at most 4,096 octets
+abbrev pub said : List ℕ → Line
+said line = if nat_lt 4096 (length line) then Wrong else line_of line
+
+abbrev pub place_after : Turn → Place
+place_after (Goes place) = place
+place_after (Gives d) = Between
+place_after (Faults fault) = Stopped
+
+abbrev pub told_at : (at : ℕ) → Turn → List Told
+told_at at (Goes place) = []
+told_at at (Gives d) = Spelled d ∷ []
+told_at at (Faults fault) = Refused at fault ∷ []
+
+-- the end of the text: inside a document it is a fault at the next line
+abbrev pub told_at_end : (at : ℕ) → Place → List Told
+told_at_end at Between = []
+told_at_end at (Heading d) = Refused at NotAllowed ∷ []
+told_at_end at (Laying part d) = Refused at NotAllowed ∷ []
+told_at_end at (Filling subset d) = Refused at NotAllowed ∷ []
+told_at_end at Stopped = []
+
+-- the documents that lines spell, from a place on
+unfoldable pub spelled : (at : ℕ) → Place → List (List ℕ) → List Told
+spelled at place [] = told_at_end at place
+spelled at place (line ∷ more) =
+    let here = turn at place (said line) in told_at at here ++ spelled (at + 1) (place_after here) more
+
+-- one more octet in front of the first line
+abbrev pub onto_first : ℕ → List (List ℕ) → List (List ℕ)
+onto_first c [] = (c ∷ []) ∷ []
+onto_first c (line ∷ more) = (c ∷ line) ∷ more
+
+-- the lines of a text, each without its line feed; the last may lack it
+unfoldable pub lines_of : List ℕ → List (List ℕ)
+lines_of [] = []
+lines_of (c ∷ more) = if c == 10 then [] ∷ lines_of more else onto_first c (lines_of more)
+
+-- the documents of a text, up to its end or to the first line that is refused
+abbrev pub documents_of : List ℕ → List Told
+documents_of text = spelled 1 Between (lines_of text)
+
+-- the documents that lines spell, where more lines may come
+unfoldable pub spelled_openly : (at : ℕ) → Place → List (List ℕ) → (rest : List ℕ) → List Told
+spelled_openly at place [] rest = if nat_lt 4096 (length rest) then told_at at (turn at place Wrong) else []
+spelled_openly at place (line ∷ more) rest =
+    let here = turn at place (said line) in told_at at here ++ spelled_openly (at + 1) (place_after here) more rest
+
+-- the lines of a text that end by a line feed, and what is behind the last of them
+pub record Split : Type 0 where
+  pub whole : List (List ℕ)
+  pub rest : List ℕ
+
+-- one more octet in front of the first line, or of the rest where there is no line
+abbrev pub onto_split : ℕ → List (List ℕ) → List ℕ → Split
+onto_split c [] rest = record { whole = []; rest = c ∷ rest }
+onto_split c (line ∷ more) rest = record { whole = (c ∷ line) ∷ more; rest = rest }
+
+abbrev pub octet_onto_split : ℕ → Split → Split
+octet_onto_split c s = if c == 10 then record { whole = [] ∷ s.whole; rest = s.rest } else onto_split c s.whole s.rest
+
+unfoldable pub split_of : List ℕ → Split
+split_of [] = record { whole = []; rest = [] }
+split_of (c ∷ more) = octet_onto_split c (split_of more)
+
+-- the documents of a text whose end is not known
+abbrev pub open_documents_of : List ℕ → List Told
+open_documents_of text = spelled_openly 1 Between (split_of text).whole (split_of text).rest

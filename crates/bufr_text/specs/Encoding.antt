@@ -1,0 +1,83 @@
+-- What a document is encoded to. (WMO-No. 306, Volume I.2, FM 94: sections 0 to 5; the faults and their order are a choice of this project)
+-- Cited by public contracts.
+use Rattle.std.specs.Prelude.{ℕ, ◌+◌, ◌/◌, nat_lt, Bool, true, false, if◌then◌else◌, List, ◌++◌, length, map, Result, Ok, Err}
+use Rattle.bufr_bits.specs.Bits.{padding}
+use Rattle.bufr_tables.specs.declared.template.fault.TemplateFault.{TemplateFault}
+use Rattle.bufr_tables.specs.Expansion.{tree_of}
+use Rattle.bufr_tables.specs.TableB.{Row}
+use Rattle.bufr_tables.specs.TableD.{Sequence}
+use Rattle.bufr_tables.specs.TemplateTables.{tables_of}
+use Rattle.bufr_tables.specs.Tree.{Tree}
+use Rattle.bufr_frame.specs.declared.head.Head.{Head}
+use Rattle.bufr_frame.specs.Layout.{Parts, parts_of, message_octets, message_size, most_octets}
+use Rattle.bufr_walk.specs.Content.{octets_in}
+use Rattle.bufr_walk.specs.Course.{Course, next_item}
+use Rattle.bufr_fill.specs.Encoding.{plain_data, packed_data}
+use Rattle.bufr_fill.specs.Entries.{Subset, subsets_of}
+use Rattle.bufr_fill.specs.Entries as entries
+use Rattle.bufr_fill.specs.Fault.{Fault, FaultAt}
+use Rattle.bufr_text.specs.Document.{Document, Entry, Holds, Ends, subsets_in}
+use Rattle.bufr_text.specs.Header.{head_in, observed_in, compressed_in, section2_in}
+
+-- why a document is refused: its descriptors make no template, an item (or where one should be, or the walk there) is at fault, or its
+-- message would be too long
+pub data Refusal : Type 0 where
+  by_template : (why : TemplateFault) → Refusal
+  by_item : (why : Fault) → Refusal
+  too_long : Refusal
+
+-- a refusal, and its line
+pub record RefusedAt : Type 0 where
+  pub line : ℕ
+  pub why : Refusal
+
+abbrev pub refused_at : ℕ → Refusal → RefusedAt
+refused_at line why = record { line = line; why = why }
+
+-- one step after another, up to the first refusal
+infixl 10 ◌>>=◌
+abbrev pub ◌>>=◌ : {A B : Type 0} → Result A RefusedAt → (A → Result B RefusedAt) → Result B RefusedAt
+(Ok a) >>= next = next a
+(Err why) >>= next = Err why
+
+-- a fault of the template is told at the line of `message`
+abbrev pub told_of_template : ℕ → Result Tree TemplateFault → Result Tree RefusedAt
+told_of_template line (Ok template) = Ok template
+told_of_template line (Err why) = Err (refused_at line (by_template why))
+
+abbrev pub told_of_items : Result (List Bool) FaultAt → Result (List Bool) RefusedAt
+told_of_items (Ok bits) = Ok bits
+told_of_items (Err f) = Err (refused_at f.line (by_item f.fault))
+
+-- the entries as they are written
+abbrev pub entry_of : Entry → entries.Entry
+entry_of (Holds item) = entries.Holds item
+entry_of (Ends line) = entries.Ends line
+
+-- the items of each subset, and the line that ends it
+abbrev pub drafts_of : List Entry → List Subset
+drafts_of entries = subsets_of (map entry_of entries)
+
+-- the bits of the data
+abbrev pub data_bits : (compressed : Bool) → Course → List Subset → Result (List Bool) FaultAt
+data_bits true course subsets = packed_data course subsets
+data_bits false course subsets = plain_data course subsets
+
+-- bits as octets, with zero bits up to the next octet
+abbrev pub octets_of_bits : List Bool → List ℕ
+octets_of_bits bits = octets_in ((length bits + 7) / 8) (bits ++ padding (length bits))
+
+-- what is written besides the head
+abbrev pub parts_in : Document → (payload : List ℕ) → Parts
+parts_in d payload = parts_of d.local1 (section2_in d) d.descriptors (subsets_in d) (observed_in d) (compressed_in d) payload
+
+-- a message of these parts, where it is not too long
+abbrev pub message_of : (line : ℕ) → Head → Parts → Result (List ℕ) RefusedAt
+message_of line head parts = if nat_lt most_octets (message_size parts) then Err (refused_at line too_long) else Ok (message_octets head parts)
+
+-- the octets of a document's message, or its first fault: the template goes before all, then the items in the order of the template, then the length
+unfoldable pub encoding_of : List Row → List Sequence → Document → Result (List ℕ) RefusedAt
+encoding_of table sequences d = do
+  template ← told_of_template d.line (tree_of (tables_of table sequences) d.descriptors)
+  bits ← told_of_items (data_bits (compressed_in d) (next_item table template) (drafts_of d.entries))
+  message_of d.line (head_in d) (parts_in d (octets_of_bits bits))

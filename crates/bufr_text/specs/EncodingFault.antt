@@ -1,0 +1,53 @@
+-- The faults that the encoding of a document answers, as the definitions name them (the numbers are a choice of this project).
+-- Cited by public contracts.
+use Rattle.std.specs.Prelude.{ℕ, Option, Some, None}
+use Rattle.bufr_walk.specs.declared.spec.Refusal.TheVariants as refusal
+use Rattle.bufr_fill.specs.Fault.{Fault, FaultAt, wrong_number, out_of_range, text_long, missing_forbidden, unequal_factors, uneven_increment, walk_refused, too_many_values}
+use Rattle.bufr_fill.specs.Told.{other_than}
+use Rattle.bufr_text.specs.Encoding.{RefusedAt, refused_at, by_template, by_item, too_long}
+use Rattle.bufr_text.specs.declared.encode_fault.DocumentFault.{DocumentFault}
+use Rattle.bufr_text.specs.declared.encode_fault.DocumentFault.TheVariants as fault
+use Rattle.bufr_text.specs.declared.encode_fault.WalkRefusal.{WalkRefusal}
+use Rattle.bufr_text.specs.declared.encode_fault.WalkRefusal.TheVariants as walk
+
+abbrev pub walk_told : WalkRefusal → Fault
+walk_told (walk.Width fxy) = walk_refused (refusal.Width fxy)
+walk_told (walk.Defining fxy) = walk_refused (refusal.Defining fxy)
+walk_told (walk.TooManyValues fxy) = too_many_values fxy
+
+abbrev pub number_of_walk_refusal : WalkRefusal → ℕ
+number_of_walk_refusal (walk.Width fxy) = 31
+number_of_walk_refusal (walk.Defining fxy) = 32
+number_of_walk_refusal (walk.TooManyValues fxy) = 35
+
+-- a fault of an item is a refusal of its document
+abbrev pub told_of_draft : FaultAt → RefusedAt
+told_of_draft f = refused_at f.line (by_item f.fault)
+
+-- a refusal of the document; want of memory is none
+abbrev pub told_refusal : DocumentFault → Option RefusedAt
+told_refusal (fault.WrongDescriptor line e) = Some (refused_at line (by_item (other_than e)))
+told_refusal (fault.Number line) = Some (refused_at line (by_item wrong_number))
+told_refusal (fault.OutOfRange line) = Some (refused_at line (by_item out_of_range))
+told_refusal (fault.TextLong line) = Some (refused_at line (by_item text_long))
+told_refusal (fault.MissingForbidden line) = Some (refused_at line (by_item missing_forbidden))
+told_refusal (fault.Template line why) = Some (refused_at line (by_template why))
+told_refusal (fault.UnequalFactor line) = Some (refused_at line (by_item unequal_factors))
+told_refusal (fault.Increment line) = Some (refused_at line (by_item uneven_increment))
+told_refusal (fault.TooLong line) = Some (refused_at line too_long)
+told_refusal (fault.Walk line why) = Some (refused_at line (by_item (walk_told why)))
+told_refusal fault.Memory = None
+
+-- the number of a fault
+abbrev pub number_of_document_fault : DocumentFault → ℕ
+number_of_document_fault (fault.WrongDescriptor line e) = 51
+number_of_document_fault (fault.Number line) = 52
+number_of_document_fault (fault.OutOfRange line) = 53
+number_of_document_fault (fault.TextLong line) = 54
+number_of_document_fault (fault.MissingForbidden line) = 55
+number_of_document_fault (fault.Template line why) = 56
+number_of_document_fault (fault.UnequalFactor line) = 58
+number_of_document_fault (fault.Increment line) = 59
+number_of_document_fault (fault.TooLong line) = 60
+number_of_document_fault (fault.Walk line why) = 62
+number_of_document_fault fault.Memory = 73

@@ -1,0 +1,108 @@
+-- What the steps of a reader do, one by one.
+-- Cited by private steps only.
+use Rattle.std.specs.Prelude.{◌≡◌, ◌⊎◌, ℕ, ◌+◌, ◌*◌, ◌<◌, ◌≤◌, ◌==◌, Bool, true, false, List, [], ◌∷◌, ◌++◌, length, Option, Some, None, Result, Ok, Err}
+use Rattle.std.specs.Io.KnownBytes.{Consumes, IsAtEnd}
+use Rattle.bufr_frame.specs.Runs.{most_reads}
+use Rattle.bufr_frame.specs.declared.fault.RunFault.{RunFault}
+use Rattle.bufr_frame.specs.declared.fault.RunFault.TheVariants.{Read, Write, InputTooLong, Memory}
+use Rattle.bufr_text.specs.Document.{Document}
+use Rattle.bufr_text.specs.Documents as documents
+use Rattle.bufr_text.specs.Documents.{Place, Between, Stopped, Told, Spelled, Refused}
+use Rattle.bufr_text.specs.Reading.{has_no_feed, GoesOn, Passes, PassesEnd, spells}
+use Rattle.bufr_text.specs.Reader.{State, stand}
+use Rattle.bufr_text.specs.Step.{place_with, Stands}
+use Rattle.bufr_text.specs.declared.draft.Draft.{Draft}
+use Rattle.bufr_text.specs.declared.step.Refusal.{Refusal}
+use Rattle.bufr_text.specs.declared.step.Refusal.TheVariants as refusal
+use Rattle.bufr_text.specs.declared.fault.ReadFault.{ReadFault}
+use Rattle.bufr_text.specs.declared.fault.ReadFault.TheVariants.{Line, SubsetCount, HeaderRange, Run}
+
+-- where a reader stands: behind a refused line nothing more is told
+abbrev pub place_now : Option ReadFault → Draft → Place
+place_now None draft = place_with draft.place draft.parts
+place_now (Some (Line line)) draft = Stopped
+place_now (Some (SubsetCount line)) draft = Stopped
+place_now (Some (HeaderRange line)) draft = Stopped
+place_now (Some (Run fault)) draft = place_with draft.place draft.parts
+
+-- nothing, or octets of which the last is a line feed
+abbrev pub ends_by_feed : List ℕ → Bool
+ends_by_feed [] = true
+ends_by_feed (c ∷ []) = c == 10
+ends_by_feed (c ∷ d ∷ more) = ends_by_feed (d ∷ more)
+
+-- The draft of a reader that goes on: each line had an octet at least.
+pub record DraftSo (draft : Draft) (held reads : ℕ) : Type 0 where
+  pub stands : Stands draft.at (place_with draft.place draft.parts)
+  pub some : 0 < draft.at
+  pub near : draft.at + held ≤ 4096 * reads + 1
+
+-- Lines were taken and tell something.
+pub record Tells (old new : State) (told : List Told) : Type 0 where
+  pub goes : GoesOn (stand old) (stand new) told
+  pub passes : Passes old.at old.held new.at new.held
+
+-- what the lines come to that were held
+abbrev pub WentSo : State → State → Result (Option Document) ReadFault → Type 0
+WentSo old new (Ok None) = Tells old new [] × (new.fault ≡ None) × (has_no_feed new.held ≡ true)
+WentSo old new (Ok (Some document)) = Tells old new (Spelled document ∷ []) × (new.fault ≡ None) × PassesEnd old.at old.held new.at new.held
+WentSo old new (Err (Line line)) = Tells old new (Refused line documents.NotAllowed ∷ []) × (new.fault ≡ Some (Line line))
+WentSo old new (Err (SubsetCount line)) = Tells old new (Refused line documents.SubsetCount ∷ []) × (new.fault ≡ Some (SubsetCount line))
+WentSo old new (Err (HeaderRange line)) = Tells old new (Refused line documents.HeaderRange ∷ []) × (new.fault ≡ Some (HeaderRange line))
+WentSo old new (Err (Run Memory)) = (new.fault ≡ Some (Run Memory)) × (0 < length old.held)
+WentSo old new (Err (Run Read)) = ⊥
+WentSo old new (Err (Run Write)) = ⊥
+WentSo old new (Err (Run InputTooLong)) = ⊥
+
+-- how a read ends: octets came, or the end was reached, or it failed, or memory was refused before it
+abbrev pub ReadEnds : (left' : Option (List ℕ)) → State → State → List ℕ → Result (Unit {0}) RunFault → Type 0
+ReadEnds left' old new bs (Ok u) = (new.reads ≡ old.reads + 1) × (new.ended ≡ true → (bs ≡ []) × IsAtEnd left')
+ReadEnds left' old new bs (Err Read) = (new.reads ≡ old.reads + 1) × (bs ≡ []) × (new.ended ≡ false)
+ReadEnds left' old new bs (Err Write) = ⊥
+ReadEnds left' old new bs (Err InputTooLong) = ⊥
+ReadEnds left' old new bs (Err Memory) = (new.reads ≡ old.reads) × (bs ≡ []) × (new.ended ≡ false)
+
+-- One read: octets come behind those that are held, or the end was reached, which ends the last line.
+pub record ReadSo (left left' : Option (List ℕ)) (old new : State) (result : Result (Unit {0}) RunFault) (bs : List ℕ) : Type 0 where
+  pub read : Consumes left left' bs
+  pub few : length bs ≤ 4096
+  pub feed : List ℕ
+  pub missing : (feed ≡ []) ⊎ ((new.ended ≡ true) × (feed ≡ 10 ∷ []) × (0 < length old.held))
+  pub held : new.held ≡ (old.held ++ bs) ++ feed
+  pub at : new.at ≡ old.at
+  pub place : new.place ≡ old.place
+  pub fault : new.fault ≡ None
+  pub ends : ReadEnds left' old new bs result
+
+-- the fault of a refused line
+abbrev pub fault_at : (line : ℕ) → Refusal → ReadFault
+fault_at line refusal.NotAllowed = Line line
+fault_at line refusal.SubsetCount = SubsetCount line
+fault_at line refusal.HeaderRange = HeaderRange line
+
+-- a reader that a fault stopped
+abbrev pub stopped : State → ReadFault → State
+stopped s (Line line) = record s { fault = Some (Line line); place = Stopped }
+stopped s (SubsetCount line) = record s { fault = Some (SubsetCount line); place = Stopped }
+stopped s (HeaderRange line) = record s { fault = Some (HeaderRange line); place = Stopped }
+stopped s (Run fault) = record s { fault = Some (Run fault) }
+
+-- what the end comes to, where no line is held
+abbrev pub EndSo : State → State → Result (Option Document) ReadFault → Type 0
+EndSo old new (Ok None) = (new ≡ old) × (new.held ≡ []) × (spells (stand new) [] ≡ [])
+EndSo old new (Ok (Some document)) = ⊥
+EndSo old new (Err (Line line)) = Tells old new (Refused line documents.NotAllowed ∷ []) × (new.fault ≡ Some (Line line)) × (new.ended ≡ old.ended) × (new.reads ≡ old.reads)
+EndSo old new (Err (SubsetCount line)) = ⊥
+EndSo old new (Err (HeaderRange line)) = ⊥
+EndSo old new (Err (Run fault)) = ⊥
+
+-- a read, or why none is made
+abbrev pub FillSo : (left left' : Option (List ℕ)) → State → State → Result (Unit {0}) ReadFault → List ℕ → Type 0
+FillSo left left' old new (Ok u) bs = ReadSo left left' old new (Ok u) bs × (length old.held ≤ 4096)
+FillSo left left' old new (Err (Line line)) bs = Consumes left left' bs × (bs ≡ []) × Tells old new (Refused line documents.NotAllowed ∷ []) × (new.fault ≡ Some (Line line)) × (new.ended ≡ old.ended) × (new.reads ≡ old.reads)
+FillSo left left' old new (Err (SubsetCount line)) bs = ⊥
+FillSo left left' old new (Err (HeaderRange line)) bs = ⊥
+FillSo left left' old new (Err (Run Read)) bs = (s : State) × ReadSo left left' old s (Err Read) bs × (new ≡ stopped s (Run Read)) × (length old.held ≤ 4096)
+FillSo left left' old new (Err (Run Write)) bs = ⊥
+FillSo left left' old new (Err (Run InputTooLong)) bs = Consumes left left' bs × (bs ≡ []) × (new ≡ stopped old (Run InputTooLong)) × (length old.held ≤ 4096) × (old.reads ≡ most_reads)
+FillSo left left' old new (Err (Run Memory)) bs = (s : State) × ReadSo left left' old s (Err Memory) bs × (new ≡ stopped s (Run Memory)) × (length old.held ≤ 4096)

@@ -1,0 +1,162 @@
+-- The words and values that lines are made of, and how each is read back. (a choice of this project)
+-- Cited by public contracts.
+use Rattle.std.specs.Prelude.{ℕ, zero, suc, ◌+◌, ◌-◌, ◌*◌, ◌/◌, ◌%◌, ◌==◌, nat_le, nat_lt, min, Bool, true, false, not, ◌&&◌, ◌||◌, if◌then◌else◌, List, [], ◌∷◌, ◌++◌, take, Option, Some, None, option_map, length, slice_index}
+use Rattle.std.specs.List.{list_all}
+use Rattle.std.specs.Char.{is_ascii_digit}
+use Rattle.std.specs.Str.Parse.{digits_value}
+use Rattle.bufr_tables.specs.Fxy.{fxy_of, fxy_text}
+
+-- the elements in front that pass a test, and what is behind them
+unfoldable pub front : (ℕ → Bool) → List ℕ → List ℕ
+front test [] = []
+front test (c ∷ more) = if test c then c ∷ front test more else []
+
+unfoldable pub behind : (ℕ → Bool) → List ℕ → List ℕ
+behind test [] = []
+behind test (c ∷ more) = if test c then behind test more else c ∷ more
+
+-- what is behind a word that stands in front
+unfoldable pub behind_word : (word text : List ℕ) → Option (List ℕ)
+behind_word [] text = Some text
+behind_word (w ∷ word) [] = None
+behind_word (w ∷ word) (c ∷ text) = if c == w then behind_word word text else None
+
+-- what is behind one space
+abbrev pub behind_space : List ℕ → Option (List ℕ)
+behind_space text = behind_word (32 ∷ []) text
+
+-- a list in runs of at most so many; the elements that a run has taken are skipped
+unfoldable pub runs_behind : (skip most : ℕ) → List ℕ → List (List ℕ)
+runs_behind skip most [] = []
+runs_behind (suc skip) most (x ∷ more) = runs_behind skip most more
+runs_behind zero most (x ∷ more) = take most (x ∷ more) ∷ runs_behind (most - 1) most more
+
+abbrev pub runs_of : (most : ℕ) → List ℕ → List (List ℕ)
+runs_of most xs = runs_behind 0 most xs
+
+-- the upper-case hexadecimal digit of a number under 16
+abbrev pub hex_digit : ℕ → ℕ
+hex_digit n = if nat_lt n 10 then 48 + n else 55 + n
+
+-- the number of a digit of upper case, or of either case
+abbrev pub upper_value : ℕ → Option ℕ
+upper_value c = if is_ascii_digit c then Some (c - 48) else if nat_le 65 c && nat_le c 70 then Some (c - 55) else None
+
+abbrev pub either_value : ℕ → Option ℕ
+either_value c = if nat_le 97 c && nat_le c 102 then Some (c - 87) else upper_value c
+
+-- two digits as an octet
+abbrev pub pair_value : Option ℕ → Option ℕ → Option ℕ
+pair_value (Some high) (Some low) = Some (16 * high + low)
+pair_value (Some high) None = None
+pair_value None low = None
+
+-- two digits for an octet
+abbrev pub hex_pair : ℕ → List ℕ
+hex_pair octet = hex_digit (octet / 16) ∷ hex_digit (octet % 16) ∷ []
+
+-- two digits for each octet
+unfoldable pub hex_text : List ℕ → List ℕ
+hex_text [] = []
+hex_text (octet ∷ more) = hex_digit (octet / 16) ∷ hex_digit (octet % 16) ∷ hex_text more
+
+-- one more element in front of a list that was read
+abbrev pub onto_read : {X : Type 0} → Option X → Option (List X) → Option (List X)
+onto_read (Some x) (Some xs) = Some (x ∷ xs)
+onto_read (Some x) None = None
+onto_read None xs = None
+
+-- the octets that digits of either case write
+unfoldable pub hex_read : List ℕ → Option (List ℕ)
+hex_read [] = Some []
+hex_read (high ∷ []) = None
+hex_read (high ∷ low ∷ more) = onto_read (pair_value (either_value high) (either_value low)) (hex_read more)
+
+-- the descriptor that six digits in front write, and what is behind it
+unfoldable pub fxy_read : List ℕ → Option (ℕ × List ℕ)
+fxy_read (a ∷ b ∷ c ∷ d ∷ e ∷ g ∷ more) = option_map (λ fxy. (fxy, more)) (fxy_of (a ∷ b ∷ c ∷ d ∷ e ∷ g ∷ []))
+fxy_read text = None
+
+-- descriptors, each after one space
+unfoldable pub descriptors_text : List ℕ → List ℕ
+descriptors_text [] = []
+descriptors_text (fxy ∷ more) = 32 ∷ fxy_text fxy ++ descriptors_text more
+
+unfoldable pub descriptors_read : List ℕ → Option (List ℕ)
+descriptors_read [] = Some []
+descriptors_read (s ∷ a ∷ b ∷ c ∷ d ∷ e ∷ g ∷ more) = if s == 32 then onto_read (fxy_of (a ∷ b ∷ c ∷ d ∷ e ∷ g ∷ [])) (descriptors_read more) else None
+descriptors_read text = None
+
+-- an unsigned decimal of any length; numbers past 65,535 are all alike, since none of them fits anywhere
+abbrev pub number_read : List ℕ → Option ℕ
+number_read text = if nat_lt 0 (length text) && list_all is_ascii_digit text then Some (min (digits_value 10 text) 65536) else None
+
+-- an octet that stands for itself in a text
+abbrev pub is_plain : ℕ → Bool
+is_plain c = nat_le 32 c && nat_le c 126 && not (c == 34) && not (c == 92)
+
+-- an octet in a text: a quote and a backslash behind a backslash, what cannot be printed as `\xHH`
+abbrev pub escaped : ℕ → List ℕ
+escaped octet =
+    if is_plain octet then octet ∷ []
+    else if (octet == 34) || (octet == 92) then 92 ∷ octet ∷ []
+    else 92 ∷ 120 ∷ hex_pair octet
+
+-- octets as a text, with the quote that closes it
+unfoldable pub quoted : List ℕ → List ℕ
+quoted [] = 34 ∷ []
+quoted (octet ∷ more) = escaped octet ++ quoted more
+
+-- what stands in front of a text that goes on: its end, an octet and how many octets write it, or nothing that a text can hold
+pub data Quoting : Type 0 where
+  Closed : Quoting
+  Says : (octet written : ℕ) → Quoting
+  Nothing : Quoting
+
+abbrev pub says_pair : Option ℕ → Quoting
+says_pair (Some octet) = Says octet 4
+says_pair None = Nothing
+
+-- what begins with a backslash; past the end of the text stands 0, which no case allows
+abbrev pub escape_of : List ℕ → Quoting
+escape_of text =
+    if (slice_index text 1 == 34) || (slice_index text 1 == 92) then Says (slice_index text 1) 2
+    else if slice_index text 1 == 120 then says_pair (pair_value (upper_value (slice_index text 2)) (upper_value (slice_index text 3)))
+    else Nothing
+
+-- what stands in front of a text
+abbrev pub quoting_of : List ℕ → Quoting
+quoting_of text =
+    if slice_index text 0 == 34 then Closed
+    else if slice_index text 0 == 92 then escape_of text
+    else if is_plain (slice_index text 0) then Says (slice_index text 0) 1
+    else Nothing
+
+-- a text that was read, and what is behind its closing quote
+abbrev pub octet_onto : ℕ → Option (List ℕ × List ℕ) → Option (List ℕ × List ℕ)
+octet_onto octet None = None
+octet_onto octet (Some read) = Some (octet ∷ read.0, read.1)
+
+abbrev pub quoted_on : Quoting → (closed : List ℕ) → (more : ℕ → Option (List ℕ × List ℕ)) → Option (List ℕ × List ℕ)
+quoted_on Closed closed more = Some ([], closed)
+quoted_on (Says octet written) closed more = octet_onto octet (more (written - 1))
+quoted_on Nothing closed more = None
+
+-- the octets of a text and what is behind its closing quote; octets that were looked at already are skipped
+unfoldable pub quoted_read : (skip : ℕ) → List ℕ → Option (List ℕ × List ℕ)
+quoted_read skip [] = None
+quoted_read (suc skip) (c ∷ more) = quoted_read skip more
+quoted_read zero (c ∷ more) = quoted_on (quoting_of (c ∷ more)) more (λ skip. quoted_read skip more)
+
+-- an octet of a number token
+abbrev pub is_number_octet : ℕ → Bool
+is_number_octet c = is_ascii_digit c || (c == 45) || (c == 46)
+
+-- nothing, or spaces and then `#` and anything
+unfoldable pub is_hashed : List ℕ → Bool
+is_hashed [] = false
+is_hashed (c ∷ more) = if c == 32 then is_hashed more else (c == 35)
+
+abbrev pub is_passed_behind : List ℕ → Bool
+is_passed_behind [] = true
+is_passed_behind (c ∷ more) = (c == 32) && is_hashed more

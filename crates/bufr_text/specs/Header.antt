@@ -1,0 +1,61 @@
+-- What the header of a document says, in the words of a message. (a choice of this project)
+-- Cited by public contracts.
+use Rattle.std.specs.Prelude.{◌≡◌, ℕ, ◌+◌, ◌^◌, ◌≤◌, ◌==◌, Bool, true, ◌&&◌, if◌then◌else◌, List, [], ◌∷◌, length, slice_index, Option, Some, None}
+use Rattle.bufr_frame.specs.declared.head.Head.{Head}
+use Rattle.bufr_text.specs.Document.{Document, optional_in}
+use Rattle.bufr_text.specs.Documents.{in_range}
+
+-- the value of a key, by its place
+abbrev pub value_in : Document → (key : ℕ) → ℕ
+value_in d key = slice_index d.header key
+
+-- section 1, and the edition
+abbrev pub head_in : Document → Head
+head_in d = record {
+  edition = value_in d 0;
+  master = value_in d 1;
+  centre = value_in d 2;
+  subcentre = value_in d 3;
+  update = value_in d 4;
+  category = value_in d 5;
+  subcategory = value_in d 6;
+  local_subcategory = value_in d 7;
+  master_version = value_in d 8;
+  local_version = value_in d 9;
+  year = value_in d 10;
+  month = value_in d 11;
+  day = value_in d 12;
+  hour = value_in d 13;
+  minute = value_in d 14;
+  second = value_in d 15;
+}
+
+-- the two flags of section 3
+abbrev pub observed_in : Document → Bool
+observed_in d = value_in d 16 == 1
+
+abbrev pub compressed_in : Document → Bool
+compressed_in d = value_in d 17 == 1
+
+-- section 2, where there is one
+abbrev pub section2_in : Document → Option (List ℕ)
+section2_in d = if optional_in d == 1 then Some d.section2 else None
+
+-- each value is within the range of its key, from a key on
+abbrev pub are_in_range : (key : ℕ) → List ℕ → Bool
+are_in_range key [] = true
+are_in_range key (value ∷ more) = in_range key value && are_in_range (key + 1) more
+
+-- The header is whole, each value within its range.
+pub record IsHeaded (d : Document) : Type 0 where
+  pub whole : length d.header ≡ 20
+  pub ranges : are_in_range 0 d.header ≡ true
+
+-- the most entries that an input of 2^32 reads of 4,096 octets can give
+abbrev pub most_entries : ℕ
+most_entries = 2 ^ 44
+
+-- A document that was read whole.
+pub record IsWhole (d : Document) : Type 0 where
+  pub headed : IsHeaded d
+  pub few : length d.entries ≤ most_entries

@@ -1,0 +1,118 @@
+-- What a line of a dump text says, apart from where it stands. (a choice of this project)
+-- Cited by public contracts.
+use Rattle.std.specs.Prelude.{ℕ, zero, suc, ◌+◌, ◌==◌, nat_le, nat_lt, Bool, not, ◌&&◌, if◌then◌else◌, List, [], ◌∷◌, Option, Some, None, option_map, codes, length, map}
+use Rattle.std.specs.Char.{is_ascii_digit}
+use Rattle.std.specs.Str.{bytes_eq}
+use Rattle.bufr_fill.specs.Draft.{Form, number_token, text_form, missing_form, reference_token}
+use Rattle.bufr_text.specs.Grammar.{front, behind, behind_word, behind_space, hex_read, fxy_read, descriptors_read, number_read, quoted_read, is_number_octet, is_passed_behind}
+
+-- what a line says; `Header` has the place of its key, `Wrong` is no line of a document
+pub data Line : Type 0 where
+  Passed : Line
+  Opens : Line
+  Header : (key value : ℕ) → Line
+  Local1 : (octets : List ℕ) → Line
+  Section2 : (octets : List ℕ) → Line
+  Descriptors : (words : List ℕ) → Line
+  Begins : (subset : ℕ) → Line
+  Item : (fxy : ℕ) (form : Form) → Line
+  Closes : Line
+  Wrong : Line
+
+-- a key of the header, and the least and the greatest value that it can have
+pub record Key : Type 0 where
+  pub name : List ℕ
+  pub least : ℕ
+  pub most : ℕ
+
+abbrev pub key : List ℕ → (least most : ℕ) → Key
+key name least most = record { name = name; least = least; most = most }
+
+-- the keys of the header, in their order
+unfoldable pub keys : List Key
+keys =
+    key (codes "edition") 4 4 ∷ key (codes "master") 0 255 ∷ key (codes "centre") 0 65535 ∷ key (codes "subcentre") 0 65535
+    ∷ key (codes "update") 0 255 ∷ key (codes "category") 0 255 ∷ key (codes "subcategory") 0 255 ∷ key (codes "localsubcategory") 0 255
+    ∷ key (codes "masterversion") 0 255 ∷ key (codes "localversion") 0 255 ∷ key (codes "year") 0 65535 ∷ key (codes "month") 0 255
+    ∷ key (codes "day") 0 255 ∷ key (codes "hour") 0 255 ∷ key (codes "minute") 0 255 ∷ key (codes "second") 0 255
+    ∷ key (codes "observed") 0 1 ∷ key (codes "compressed") 0 1 ∷ key (codes "optional") 0 1 ∷ key (codes "subsets") 0 65535 ∷ []
+
+-- the key at a place
+abbrev pub key_in : List Key → (place : ℕ) → Key
+key_in [] place = key [] 0 0
+key_in (k ∷ more) zero = k
+key_in (k ∷ more) (suc place) = key_in more place
+
+-- the least and the greatest values of the keys
+abbrev pub leasts : List ℕ
+leasts = map (λ k. k.least) keys
+
+abbrev pub mosts : List ℕ
+mosts = map (λ k. k.most) keys
+
+-- the place of a key of this name, where the first of these keys has place `at`
+unfoldable pub place_from : (at : ℕ) → (name : List ℕ) → List Key → Option ℕ
+place_from at name [] = None
+place_from at name (k ∷ more) = if bytes_eq name k.name then Some at else place_from (at + 1) name more
+
+-- a line that what was read makes, or none
+abbrev pub made : {X : Type 0} → (X → Line) → Option X → Line
+made line (Some x) = line x
+made line None = Wrong
+
+-- lines of hexadecimal digits have 1 to 32 octets, lines of descriptors 1 to 8
+abbrev pub with_one_to : (most : ℕ) → (List ℕ → Line) → List ℕ → Line
+with_one_to most line xs = if nat_lt 0 (length xs) && nat_le (length xs) most then line xs else Wrong
+
+-- nothing but a comment is behind a value
+abbrev pub item_with : (fxy : ℕ) → Form × List ℕ → Line
+item_with fxy (form, rest) = if is_passed_behind rest then Item fxy form else Wrong
+
+-- a value in front, and what is behind it
+abbrev pub text_value : List ℕ → Option (Form × List ℕ)
+text_value text = option_map (λ read. (text_form (read.0), read.1)) (quoted_read 0 text)
+
+abbrev pub number_value : (List ℕ → Form) → List ℕ → Option (Form × List ℕ)
+number_value form [] = None
+number_value form (c ∷ more) =
+    if is_number_octet c then Some (form (front is_number_octet (c ∷ more)), behind is_number_octet (c ∷ more)) else None
+
+abbrev pub missing_value : List ℕ → Option (Form × List ℕ)
+missing_value text = option_map (λ rest. (missing_form, rest)) (behind_word (codes "MISSING") text)
+
+unfoldable pub value_read : List ℕ → Option (Form × List ℕ)
+value_read [] = None
+value_read (c ∷ more) =
+    if c == 34 then text_value more
+    else if is_number_octet c then number_value number_token (c ∷ more)
+    else missing_value (c ∷ more)
+
+-- a descriptor, one space and a value
+abbrev pub valued : (List ℕ → Option (Form × List ℕ)) → ℕ × List ℕ → Line
+valued read (fxy, rest) = made (λ text. made (item_with fxy) (read text)) (behind_space rest)
+
+abbrev pub item_line : (List ℕ → Option (Form × List ℕ)) → List ℕ → Line
+item_line read text = made (valued read) (fxy_read text)
+
+-- a line by its first word, and what is behind that word
+unfoldable pub worded : (word rest : List ℕ) → Line
+worded word rest =
+    if bytes_eq word (codes "message") then (if length rest == 0 then Opens else Wrong)
+    else if bytes_eq word (codes "local1") then made (λ text. made (with_one_to 32 Local1) (hex_read text)) (behind_space rest)
+    else if bytes_eq word (codes "section2") then made (λ text. made (with_one_to 32 Section2) (hex_read text)) (behind_space rest)
+    else if bytes_eq word (codes "descriptors") then made (with_one_to 8 Descriptors) (descriptors_read rest)
+    else if bytes_eq word (codes "subset") then made (λ text. made Begins (number_read text)) (behind_space rest)
+    else if bytes_eq word (codes "R") then made (item_line (number_value reference_token)) (behind_space rest)
+    else if bytes_eq word (codes "end") then (if length rest == 0 then Closes else Wrong)
+    else made (λ place. made (λ text. made (Header place) (number_read text)) (behind_space rest)) (place_from 0 word keys)
+
+abbrev pub is_no_space : ℕ → Bool
+is_no_space c = not (c == 32)
+
+-- what a line says
+unfoldable pub line_of : List ℕ → Line
+line_of [] = Passed
+line_of (c ∷ more) =
+    if c == 35 then Passed
+    else if is_ascii_digit c then item_line value_read (c ∷ more)
+    else worded (front is_no_space (c ∷ more)) (behind is_no_space (c ∷ more))

@@ -1,0 +1,70 @@
+-- What a step of the reader does.
+-- Cited by private steps only.
+use Rattle.std.specs.Prelude.{◌≡◌, ◌<◌, ◌≤◌, ◌+◌, ℕ, true, length}
+use Rattle.bufr_text.specs.Document as spec
+use Rattle.bufr_text.specs.Line as line
+use Rattle.bufr_text.specs.Documents as documents
+use Rattle.bufr_text.specs.Header.{are_in_range, IsHeaded}
+use Rattle.bufr_text.specs.Kept.{form_by}
+use Rattle.bufr_text.specs.declared.step.Said.{Said}
+use Rattle.bufr_text.specs.declared.step.Said.TheVariants as said
+use Rattle.bufr_text.specs.declared.step.Part.{Part}
+use Rattle.bufr_text.specs.declared.step.Part.TheVariants as part
+use Rattle.bufr_text.specs.declared.step.Place.{Place}
+use Rattle.bufr_text.specs.declared.step.Place.TheVariants as place
+use Rattle.bufr_text.specs.declared.step.Refusal.{Refusal}
+use Rattle.bufr_text.specs.declared.step.Refusal.TheVariants as refusal
+use Rattle.bufr_text.specs.declared.step.Turn.{Turn}
+use Rattle.bufr_text.specs.declared.step.Turn.TheVariants as turn
+
+-- what a line that was read says
+abbrev pub meaning : Said → line.Line
+meaning said.Passed = line.Passed
+meaning said.Opens = line.Opens
+meaning (said.Header key value) = line.Header key value
+meaning (said.Local1 octets) = line.Local1 octets.now
+meaning (said.Section2 octets) = line.Section2 octets.now
+meaning (said.Descriptors words) = line.Descriptors words.now
+meaning (said.Begins subset) = line.Begins subset
+meaning (said.Item fxy kind octets) = line.Item fxy (form_by kind octets.now)
+meaning said.Closes = line.Closes
+meaning said.Wrong = line.Wrong
+
+-- how far the parts before the subsets have come
+abbrev pub part_number : Part → ℕ
+part_number part.Local1 = 0
+part_number part.Section2 = 1
+part_number part.Descriptors = 2
+
+-- where the reading stands, with the document as far as it was read
+abbrev pub place_with : Place → spec.Document → documents.Place
+place_with place.Between d = documents.Between
+place_with place.Heading d = documents.Heading d
+place_with (place.Laying part) d = documents.Laying (part_number part) d
+place_with (place.Filling subset) d = documents.Filling subset d
+
+abbrev pub fault_of : Refusal → documents.LineFault
+fault_of refusal.NotAllowed = documents.NotAllowed
+fault_of refusal.SubsetCount = documents.SubsetCount
+fault_of refusal.HeaderRange = documents.HeaderRange
+
+-- what a turn does, with the document behind it
+abbrev pub turned : Turn → spec.Document → documents.Turn
+turned (turn.Goes place) d = documents.Goes (place_with place d)
+turned turn.Gives d = documents.Gives d
+turned (turn.Refuses refusal) d = documents.Faults (fault_of refusal)
+
+-- What holds of a place where the line of this number is next: the header is not whole in the header and whole behind it, the number
+-- of a subset is small, and each entry has a line.
+abbrev pub Stands : (at : ℕ) → documents.Place → Type 0
+Stands at documents.Between = Unit {0}
+Stands at (documents.Heading d) = (length d.header < 20) × (are_in_range 0 d.header ≡ true) × (length d.entries < at)
+Stands at (documents.Laying part d) = IsHeaded d × (length d.entries < at)
+Stands at (documents.Filling subset d) = IsHeaded d × (length d.entries < at) × (subset < 65536)
+Stands at documents.Stopped = Unit {0}
+
+-- the same behind a turn at a line
+abbrev pub StandsAfter : (at : ℕ) → documents.Turn → Type 0
+StandsAfter at (documents.Goes place) = Stands (at + 1) place
+StandsAfter at (documents.Gives d) = IsHeaded d × (length d.entries ≤ at)
+StandsAfter at (documents.Faults fault) = Unit {0}

@@ -1,0 +1,59 @@
+-- What taking the lines that are held comes to.
+-- Cited by private steps only.
+use Rattle.std.specs.Prelude.{◌≡◌, ℕ, ◌+◌, ◌<◌, ◌≤◌, List, [], ◌∷◌, ◌++◌, length, take, drop, Bool, true, Option, None, Some}
+use Rattle.bufr_text.specs.Documents as documents
+use Rattle.bufr_text.specs.Document as spec
+use Rattle.bufr_text.specs.Header.{IsHeaded}
+use Rattle.bufr_text.specs.Reading.{has_no_feed, Stand, GoesOn, Passes, PassesEnd}
+use Rattle.bufr_text.specs.Step.{place_with, fault_of, Stands}
+use Rattle.bufr_text.specs.declared.draft.Draft.{Draft}
+use Rattle.bufr_text.specs.declared.draft.Taken.{Taken}
+use Rattle.bufr_text.specs.declared.draft.Taken.TheVariants as taken
+
+-- the first line feed, or there is none
+abbrev pub FeedAt : List ℕ → Option ℕ → Type 0
+FeedAt held None = has_no_feed held ≡ true
+FeedAt held (Some place) = (place < length held) × (has_no_feed (take place held) ≡ true) × (held ≡ take place held ++ 10 ∷ drop (place + 1) held)
+
+-- what was told
+abbrev pub told_of : Taken → spec.Document → List documents.Told
+told_of taken.More d = []
+told_of taken.Gives d = documents.Spelled d ∷ []
+told_of (taken.Refuses line refusal) d = documents.Refused line (fault_of refusal) ∷ []
+
+-- where the reading stands behind it
+abbrev pub place_behind : Taken → Draft → documents.Place
+place_behind taken.More draft = place_with draft.place draft.parts
+place_behind taken.Gives draft = documents.Between
+place_behind (taken.Refuses line refusal) draft = documents.Stopped
+
+abbrev pub stand_of : Draft → List ℕ → Bool → Stand
+stand_of draft held ended = record { at = draft.at; place = place_with draft.place draft.parts; held = held; ended = ended }
+
+abbrev pub stand_behind : Taken → Draft → List ℕ → Bool → Stand
+stand_behind step draft held ended = record { at = draft.at; place = place_behind step draft; held = held; ended = ended }
+
+-- a document that is whole has a line for each entry
+abbrev pub StandsBehind : Taken → Draft → Type 0
+StandsBehind taken.More draft = Stands draft.at (place_with draft.place draft.parts)
+StandsBehind taken.Gives draft = IsHeaded draft.parts × (length draft.parts.entries < draft.at)
+StandsBehind (taken.Refuses line refusal) draft = Unit {0}
+
+-- The lines up to a place were taken.
+pub record TakesSo (old new : Draft) (held : List ℕ) (place : ℕ) (step : Taken) : Type 0 where
+  pub goes : (ended : Bool) → GoesOn (stand_of old held ended) (stand_behind step new (drop place held) ended) (told_of step new.parts)
+  pub all : step ≡ taken.More → has_no_feed (drop place held) ≡ true
+  pub within : place ≤ length held
+  pub stands : StandsBehind step new
+  pub near : new.at ≤ old.at + place
+  pub passes : Passes old.at held new.at (drop place held)
+  pub closes : step ≡ taken.Gives → PassesEnd old.at held new.at (drop place held)
+
+-- Lines up to a place were taken, and nothing was told yet.
+pub record IsTaking (old new : Draft) (held : List ℕ) (place : ℕ) : Type 0 where
+  pub goes : (ended : Bool) → GoesOn (stand_of old held ended) (stand_of new (drop place held) ended) []
+  pub within : place ≤ length held
+  pub stands : Stands new.at (place_with new.place new.parts)
+  pub some : 0 < new.at
+  pub near : new.at ≤ old.at + place
+  pub passes : Passes old.at held new.at (drop place held)

@@ -1,0 +1,66 @@
+-- What a writer gains, whole or in part, and what it counts. (a choice of this project)
+-- Cited by public contracts.
+use Rattle.std.specs.Prelude.{◌≡◌, ◌⊎◌, ℕ, ◌-◌, ◌≤◌, Bool, List, [], ◌∷◌, ◌++◌, Option, Result, Ok, Err, codes, decimal, length, replicate, if◌then◌else◌}
+use Rattle.std.specs.Io.KnownBytes.{Appends}
+use Rattle.bufr_bits.specs.Counts.{counted}
+use Rattle.bufr_frame.specs.declared.fault.RunFault.{RunFault}
+use Rattle.bufr_frame.specs.declared.fault.RunFault.TheVariants.{Write}
+use Rattle.bufr_text.specs.declared.part.Part.{Part}
+use Rattle.bufr_text.specs.declared.part.Part.TheVariants.{Text, Decimal, Padded, Flag}
+
+-- known octets grow by the front of a text
+pub record GrowsByFront (old new : Option (List ℕ)) (text : List ℕ) : Type 0 where
+  pub front : List ℕ
+  pub back : List ℕ
+  pub parts : text ≡ front ++ back
+  pub gains : Appends old new front
+
+-- the text was written, or the front of it where the writer failed
+abbrev pub Writes : {X : Type 0} → Option (List ℕ) → Option (List ℕ) → List ℕ → Result X RunFault → Type 0
+Writes old new text (Ok x) = Appends old new text
+Writes old new text (Err fault) = (fault ≡ Write) × GrowsByFront old new text
+
+-- a text was added to a line; what the line held before and does not hold now was written, or a front of it all where the writer failed
+abbrev pub Composes : {X : Type 0} → (old new : Option (List ℕ)) → (line line' text : List ℕ) → Result X RunFault → Type 0
+Composes old new line line' text (Ok x) = (written : List ℕ) × Appends old new written × (line ++ text ≡ written ++ line')
+Composes old new line line' text (Err fault) = (fault ≡ Write) × GrowsByFront old new (line ++ text)
+
+-- no call of the writer failed or took nothing
+abbrev pub Stays : (failures failures' empty empty' : ℕ) → Type 0
+Stays failures failures' empty empty' = (failures' ≡ failures) × (empty' ≡ empty)
+
+-- one call of the writer failed, or one write took nothing
+abbrev pub Fails : (failures failures' empty empty' : ℕ) → Type 0
+Fails failures failures' empty empty' = ((failures' ≡ counted failures 1) × (empty' ≡ empty)) ⊎ ((failures' ≡ failures) × (empty' ≡ counted empty 1))
+
+-- a write fault comes only from a call that the writer counts; nothing else changes its counts
+abbrev pub CountsWrites : {X : Type 0} → (failures failures' empty empty' : ℕ) → Result X RunFault → Type 0
+CountsWrites failures failures' empty empty' (Ok x) = Stays failures failures' empty empty'
+CountsWrites failures failures' empty empty' (Err fault) = Fails failures failures' empty empty'
+
+-- decimal digits, at least so many, zeros in front
+abbrev pub padded : (least n : ℕ) → List ℕ
+padded least n = replicate (least - length (decimal n)) 48 ++ decimal n
+
+-- 1 or 0
+abbrev pub flag : Bool → List ℕ
+flag on = if on then codes "1" else codes "0"
+
+-- the octets of a part of a text
+abbrev pub part_text : Part → List ℕ
+part_text (Text octets) = octets.now
+part_text (Decimal value) = decimal value
+part_text (Padded value least) = padded least value
+part_text (Flag on) = flag on
+
+-- a number asks for four digits at most
+abbrev pub IsShort : Part → Type 0
+IsShort (Text octets) = Unit {0}
+IsShort (Decimal value) = Unit {0}
+IsShort (Padded value least) = least ≤ 4
+IsShort (Flag on) = Unit {0}
+
+-- texts, one after another
+abbrev pub joined : List (List ℕ) → List ℕ
+joined [] = []
+joined (text ∷ more) = text ++ joined more

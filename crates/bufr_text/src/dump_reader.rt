@@ -1,0 +1,256 @@
+//! The documents of an input.
+
+use crate::buffer::{CHUNK, make_room, put_feed, read_behind};
+use crate::document::{Document, Parts};
+use crate::draft::{Draft, Taken, take_lines, take_parts};
+use crate::fault::ReadFault;
+use crate::line::MOST_LINE;
+use crate::step::{Place, Refusal};
+use bufr_bits::Source;
+use bufr_frame::RunFault;
+use std::alloc::Global;
+use std::marker::Model;
+
+/// The most reads that are made of one input; the next one is not made.
+const MOST_READS: u64 = 1 << 32;
+
+/// Reads the documents of a dump text, one after another.
+///
+/// It reads only where it holds no whole line, so a document is told before the next one is read.
+/// A read asks for at most 4,096 octets, and at most 8,192 are held. The only memory that it takes
+/// besides is that of the document.
+///
+/// ```
+/// let mut reader = DumpReader::new(rt.alloc());
+/// while let Some(document) = reader.next_document(&mut input)? {
+///     write(&document)?;
+/// }
+/// ```
+#[derive(Drop)]
+pub struct DumpReader {
+    alloc: Global,
+    /// Its octets from `start` to `filled` are held.
+    buffer: Vec<u8>,
+    start: usize,
+    filled: usize,
+    /// The document that is being read.
+    draft: Draft,
+    /// Whether the end was reached. The last line ends by a line feed then.
+    ended: bool,
+    /// The fault that stopped the reading.
+    fault: Option<ReadFault>,
+    /// How many reads were made.
+    reads: u64,
+}
+
+impl Model for DumpReader {
+    ghost use Rattle.std.specs.Prelude.{◌≡◌, ◌≤◌, ◌-◌, None, true, vec_len, slice_range};
+    ghost use Rattle.bufr_frame.specs.Runs.{most_reads};
+    ghost use Rattle.bufr_text.specs.Reader.{State};
+    ghost use Rattle.bufr_text.specs.Filling.{place_now, ends_by_feed, DraftSo};
+
+    ghost Value = { State };
+
+    ghost view = { λ f. record {
+      at = f.draft.at;
+      place = place_now f.fault f.draft;
+      held = slice_range f.buffer.items f.start f.filled;
+      ended = f.ended;
+      fault = f.fault;
+      reads = f.reads;
+    } };
+
+    ghost invariant = { λ f. (f.start ≤ f.filled) × (f.filled ≤ vec_len f.buffer) × (vec_len f.buffer ≤ 8192) × (f.reads ≤ most_reads) × (f.ended ≡ true → ends_by_feed (slice_range f.buffer.items f.start f.filled) ≡ true) × (f.fault ≡ None → DraftSo f.draft (f.filled - f.start) f.reads) };
+}
+
+impl Refusal {
+    ghost use Rattle.std.specs.Prelude.{◌≡◌};
+    ghost use Rattle.bufr_text.specs.Filling.{fault_at};
+
+    /// The fault of this line.
+    fn at(self, line: u64) -> ReadFault
+        ensures { result ≡ fault_at line self }
+    {
+        match self {
+            Refusal::NotAllowed => ReadFault::Line(line),
+            Refusal::SubsetCount => ReadFault::SubsetCount(line),
+            Refusal::HeaderRange => ReadFault::HeaderRange(line),
+        }
+    }
+}
+
+impl DumpReader {
+    ghost use Rattle.std.specs.Prelude.{◌≡◌, ◌≤◌, ◌<◌, ◌-◌, ℕ, List, None, Some, Err, true, false, length, IfSome};
+    ghost use Rattle.bufr_bits.specs.Counts.{counted};
+    ghost use Rattle.bufr_frame.specs.Runs.{read_failures_after, most_reads};
+    ghost use Rattle.bufr_text.specs.Reading.{has_no_feed};
+    ghost use Rattle.bufr_text.specs.Reader.{State, fresh, NextSo, CountsReads, failures_by};
+    ghost use Rattle.bufr_text.specs.Filling.{WentSo, EndSo, FillSo, ReadSo, stopped};
+
+    /// A reader that has read nothing. It takes no memory.
+    pub fn new(alloc: Global) -> DumpReader
+        ensures { result ≡ fresh }
+    {
+        DumpReader {
+            alloc,
+            buffer: Vec::new(alloc),
+            start: 0,
+            filled: 0,
+            draft: Draft {
+                place: Place::Between,
+                at: 1,
+                parts: Parts::blank(alloc, 0),
+            },
+            ended: false,
+            fault: None,
+            reads: 0,
+        }
+    }
+
+    /// How many octets were read and not yet taken as lines: at most 8,192.
+    pub fn held(&self) -> usize
+        ensures value { result ≡ length self.now.held }
+        ensures bound { result ≤ 8192 }
+    {
+        self.filled - self.start
+    }
+
+    /// Stops for good.
+    fn stop(&mut self, fault: ReadFault) -> ReadFault
+        requires { self.old.fault ≡ None }
+        ensures new { self.new ≡ stopped self.old fault }
+        ensures value { result ≡ fault }
+        ensures bound { length self.new.held ≤ 8192 }
+    {
+        self.fault = Some(fault);
+        fault
+    }
+
+    /// Takes the lines that are held, up to the end of a document.
+    fn take_held(&mut self) -> Result<Option<Document>, ReadFault>
+        requires sound { self.old.fault ≡ None }
+        ensures went { WentSo self.old self.new result }
+        ensures bound { length self.new.held ≤ 8192 }
+        ensures ended { self.new.ended ≡ self.old.ended }
+        ensures reads { self.new.reads ≡ self.old.reads }
+    {
+        let held = &self.buffer[self.start..self.filled];
+        let Ok((len, taken)) = take_lines(self.alloc, &mut self.draft, held) else {
+            let fault = ReadFault::Run(RunFault::Memory);
+            self.fault = Some(fault);
+            return Err(fault);
+        };
+        self.start += len;
+        match taken {
+            Taken::More => Ok(None),
+            Taken::Gives => {
+                let parts = take_parts(self.alloc, &mut self.draft);
+                Ok(Some(Document::whole(parts)))
+            }
+            Taken::Refuses(line, refusal) => {
+                let fault = refusal.at(line);
+                self.fault = Some(fault);
+                Err(fault)
+            }
+        }
+    }
+
+    /// What the end of the input comes to, where no line is left: none may be missing.
+    fn finish(&mut self) -> Result<Option<Document>, ReadFault>
+        requires sound { self.old.fault ≡ None }
+        requires ended { self.old.ended ≡ true }
+        requires none { has_no_feed self.old.held ≡ true }
+        ensures end { EndSo self.old self.new result }
+        ensures bound { length self.new.held ≤ 8192 }
+    {
+        match self.draft.place {
+            Place::Between => Ok(None),
+            _ => {
+                let fault = ReadFault::Line(self.draft.at);
+                Err(self.stop(fault))
+            }
+        }
+    }
+
+    /// Reads once, behind the octets that are held. At the end the last line is ended.
+    fn read_more<R: Source>(&mut self, r: &mut R) -> Result<(), RunFault>
+        requires sound { self.old.fault ≡ None }
+        requires going { self.old.ended ≡ false }
+        requires short { length self.old.held ≤ 4096 }
+        requires few { self.old.reads < most_reads }
+        ensures read { (bs : List ℕ) × ReadSo (R.left r.old) (R.left r.new) self.old self.new result bs }
+        ensures failed { R.failures r.new ≡ read_failures_after (R.failures r.old) result }
+        ensures made { R.reads r.new ≡ counted (R.reads r.old) (self.new.reads - self.old.reads) }
+    {
+        let slid = make_room(&mut self.buffer, self.start, self.filled)?;
+        self.start -= slid;
+        self.filled -= slid;
+        self.reads += 1;
+        let n = read_behind(r, &mut self.buffer, self.filled, self.filled + CHUNK)?;
+        self.filled += n;
+        if n == 0 {
+            self.ended = true;
+            if self.start < self.filled {
+                put_feed(&mut self.buffer, self.filled);
+                self.filled += 1;
+            }
+        }
+        Ok(())
+    }
+
+    /// Reads once, where no line is held that is too long and not too many reads were made.
+    fn fill<R: Source>(&mut self, r: &mut R) -> Result<(), ReadFault>
+        requires sound { self.old.fault ≡ None }
+        requires going { self.old.ended ≡ false }
+        requires none { has_no_feed self.old.held ≡ true }
+        ensures read { (bs : List ℕ) × FillSo (R.left r.old) (R.left r.new) self.old self.new result bs }
+        ensures failed { R.failures r.new ≡ failures_by (R.failures r.old) result }
+        ensures counts { CountsReads (R.reads r.old) (R.reads r.new) self.old self.new }
+        ensures bound { length self.new.held ≤ 8192 }
+    {
+        if self.filled - self.start > MOST_LINE {
+            let fault = ReadFault::Line(self.draft.at);
+            return Err(self.stop(fault));
+        }
+        if self.reads == MOST_READS {
+            return Err(self.stop(ReadFault::Run(RunFault::InputTooLong)));
+        }
+        match self.read_more(r) {
+            Ok(()) => Ok(()),
+            Err(fault) => Err(self.stop(ReadFault::Run(fault))),
+        }
+    }
+
+    /// The next document of the input `r`, which is to be the same at each call, or `None` where the
+    /// end was reached and no line is left. After `None` it comes again.
+    ///
+    /// # Errors
+    ///
+    /// [`ReadFault::Line`], [`ReadFault::SubsetCount`] and [`ReadFault::HeaderRange`] where the next
+    /// document is refused, with the line. [`ReadFault::Run`] with [`RunFault::Read`] where a read
+    /// failed in this call, with [`RunFault::InputTooLong`] where the end was not reached in 2^32
+    /// reads, and with [`RunFault::Memory`]. All documents that were read whole were given before.
+    /// After a fault each call answers the same one, and reads nothing.
+    pub fn next_document<R: Source>(&mut self, r: &mut R) -> Result<Option<Document>, ReadFault>
+        ensures next { self.old.fault ≡ None → NextSo (R.left r.old) (R.left r.new) self.old self.new result }
+        ensures failed { self.old.fault ≡ None → R.failures r.new ≡ failures_by (R.failures r.old) result }
+        ensures counts { CountsReads (R.reads r.old) (R.reads r.new) self.old self.new }
+        ensures held { length self.new.held ≤ 8192 }
+        ensures again { IfSome self.old.fault (λ fault. result ≡ Err fault) }
+        ensures same { IfSome self.old.fault (λ _. r.new ≡ r.old) }
+        ensures same_self { IfSome self.old.fault (λ _. self.new ≡ self.old) }
+    {
+        if let Some(fault) = self.fault {
+            return Err(fault);
+        }
+        loop {
+            if let Some(document) = self.take_held()? {
+                return Ok(Some(document));
+            }
+            if self.ended {
+                return self.finish();
+            }
+            self.fill(r)?;
+        }
+    }
+}

@@ -1,0 +1,229 @@
+//! The message of a document.
+ghost use Rattle.std.specs.Prelude.{◌≡◌, ◌≤◌, ◌*◌, ◌+◌, ◌^◌, List, [], Bool, length, map, IfOk, IfErr, OnOk, OnErr, Ok, option_map, false, true};
+ghost use Rattle.bufr_tables.specs.Expansion.{tree_of};
+ghost use Rattle.bufr_tables.specs.TemplateTables.{tables_of};
+ghost use Rattle.bufr_tables.specs.Tree.{places};
+ghost use Rattle.bufr_walk.specs.Course.{next_item};
+ghost use Rattle.bufr_fill.specs.Entries.{subsets_of};
+ghost use Rattle.bufr_fill.specs.Given.{entry_in};
+ghost use Rattle.bufr_text.specs.Encoding.{drafts_of, encoding_of, told_of_template, entry_of, octets_of_bits, message_of, parts_in};
+ghost use Rattle.bufr_text.specs.EncodingFault.{told_of_draft, told_refusal};
+ghost use Rattle.bufr_text.specs.Encodes.{AreOctetsOf, RefusesSo, DataSo, SubsetSo, told_stop, places_by, bits_by};
+ghost use Rattle.bufr_text.specs.Header.{compressed_in, head_in, most_entries};
+
+use crate::document::Document;
+use crate::encode_fault::{DocumentFault, WalkRefusal, of_draft};
+use bufr_fill::{DraftFault, Entry, PackedOut, PlainOut};
+use bufr_frame::{WriteFault, write_message};
+use bufr_tables::{Fxy, TableB, TableD, Template, TemplateFault};
+use bufr_walk::{Steps, WalkStop, walk};
+use std::alloc::{AllocError, Global};
+
+/// The fault of a walk that stopped, where the next entry stands on a line.
+fn of_stop(stop: WalkStop<DraftFault>, line: u64) -> DocumentFault
+    ensures { told_refusal result ≡ option_map told_of_draft (told_stop line stop) }
+{
+    match stop {
+        WalkStop::Width(fxy) => DocumentFault::Walk(line, WalkRefusal::Width(fxy)),
+        WalkStop::Defining(fxy) => DocumentFault::Walk(line, WalkRefusal::Defining(fxy)),
+        WalkStop::Field(fault) => of_draft(fault),
+        WalkStop::Memory => DocumentFault::Memory,
+    }
+}
+
+/// The descriptors of a document.
+fn descriptors_of(alloc: Global, words: &[u16]) -> Result<Vec<Fxy>, AllocError>
+    ensures { IfOk result (λ descriptors. descriptors.items ≡ words.now) }
+{
+    let mut descriptors = Vec::with_capacity(alloc, words.len())?;
+    for word in words {
+        descriptors.push(Fxy::from_word(*word))?;
+    }
+    Ok(descriptors)
+}
+
+/// The template of a document.
+fn template_of(
+    alloc: Global,
+    document: &Document,
+    table_b: &TableB,
+    table_d: &TableD,
+) -> Result<Template, DocumentFault>
+    ensures tree { IfOk result (λ template. tree_of (tables_of table_b.now table_d.now) document.now.descriptors ≡ Ok template) }
+    ensures fault { IfErr result (λ why. RefusesSo (told_refusal why) (told_of_template document.now.line (tree_of (tables_of table_b.now table_d.now) document.now.descriptors))) }
+{
+    let descriptors = descriptors_of(alloc, document.descriptors())?;
+    match Template::build(alloc, &descriptors, table_b, table_d) {
+        Ok(template) => Ok(template),
+        Err(TemplateFault::Memory) => Err(DocumentFault::Memory),
+        Err(why) => Err(DocumentFault::Template(document.line(), why)),
+    }
+}
+
+/// The entries of a document, one after another.
+fn lend_entries<'a>(document: &'a Document, entries: &mut Vec<Entry<'a>>) -> Result<(), AllocError>
+    requires { entries.old.items ≡ [] }
+    ensures same { OnOk result (map entry_in entries.new.items ≡ map entry_of document.now.entries) }
+    ensures few { OnOk result (length entries.new.items ≤ most_entries) }
+{
+    for place in 0..document.entries() {
+        let entry = [document.entry(place)];
+        entries.extend_from_slice(&entry)?;
+    }
+    Ok(())
+}
+
+/// How many subsets end among entries.
+fn count_subsets(entries: &[Entry<'_>]) -> usize
+    ensures { result ≡ length (subsets_of (map entry_in entries.now)) }
+{
+    let mut count = 0;
+    for place in 0..entries.len() {
+        match entries[place] {
+            Entry::End(_) => count += 1,
+            Entry::Item(_) => {}
+        }
+    }
+    count
+}
+
+/// Writes one subset, and goes past its end.
+fn write_subset(
+    alloc: Global,
+    template: &Template,
+    table: &TableB,
+    out: &mut PlainOut<'_, '_>,
+    steps: &mut Steps,
+) -> Result<(), DocumentFault>
+    requires { 1 ≤ length (subsets_of out.old.left) }
+    ensures { SubsetSo (places template.now) (next_item table.now template.now) out.old steps.old result out.new steps.new }
+{
+    match walk(alloc, template, table, out, steps) {
+        Ok(()) => match out.end_subset() {
+            Ok(()) => Ok(()),
+            Err(why) => Err(of_draft(why)),
+        },
+        Err(why) => Err(of_stop(why, out.line())),
+    }
+}
+
+/// The octets of data that are not compressed.
+fn write_plain<'a>(
+    alloc: Global,
+    entries: &'a [Entry<'a>],
+    template: &Template,
+    table: &TableB,
+    steps: &mut Steps,
+) -> Result<Vec<u8>, DocumentFault>
+    requires none { steps.old ≡ 0 }
+    requires few { length entries.now ≤ 2 ^ 45 }
+    ensures { DataSo (places template.now) false (next_item table.now template.now) (subsets_of (map entry_in entries.now)) result steps.new }
+{
+    let subsets = count_subsets(entries);
+    let mut out = PlainOut::new(alloc, entries);
+    'subsets: for done in 0..subsets {
+        write_subset(alloc, template, table, &mut out, steps)?;
+    }
+    Ok(out.into_octets())
+}
+
+/// The octets of compressed data.
+fn write_packed<'a>(
+    alloc: Global,
+    entries: &'a [Entry<'a>],
+    template: &Template,
+    table: &TableB,
+    steps: &mut Steps,
+) -> Result<Vec<u8>, DocumentFault>
+    requires none { steps.old ≡ 0 }
+    requires few { length entries.now ≤ 2 ^ 45 }
+    ensures { DataSo (places template.now) true (next_item table.now template.now) (subsets_of (map entry_in entries.now)) result steps.new }
+{
+    let mut out = match PackedOut::new(alloc, entries)? {
+        Some(out) => out,
+        None => return Ok(Vec::new(alloc)),
+    };
+    match walk(alloc, template, table, &mut out, steps) {
+        Ok(()) => match out.end() {
+            Ok(()) => Ok(out.into_octets()),
+            Err(why) => Err(of_draft(why)),
+        },
+        Err(why) => Err(of_stop(why, out.line())),
+    }
+}
+
+/// The octets of a document's data.
+fn write_data(
+    alloc: Global,
+    document: &Document,
+    template: &Template,
+    table: &TableB,
+    steps: &mut Steps,
+) -> Result<Vec<u8>, DocumentFault>
+    requires { steps.old ≡ 0 }
+    ensures { DataSo (places template.now) (compressed_in document.now) (next_item table.now template.now) (drafts_of document.now.entries) result steps.new }
+{
+    let mut entries = Vec::new(alloc);
+    lend_entries(document, &mut entries)?;
+    if document.compressed() {
+        write_packed(alloc, &entries, template, table, steps)
+    } else {
+        write_plain(alloc, &entries, template, table, steps)
+    }
+}
+
+/// The message of a document with these data.
+fn write_whole(alloc: Global, document: &Document, payload: &[u8]) -> Result<Vec<u8>, DocumentFault>
+    ensures octets { IfOk result (λ octets. message_of document.now.line (head_in document.now) (parts_in document.now payload.now) ≡ Ok octets.items) }
+    ensures fault { IfErr result (λ why. RefusesSo (told_refusal why) (message_of document.now.line (head_in document.now) (parts_in document.now payload.now))) }
+    ensures payload { (bits : List Bool) → AreOctetsOf payload.now bits → payload.now ≡ octets_of_bits bits }
+{
+    let written = write_message(
+        alloc,
+        &document.head(),
+        document.local1(),
+        document.section2(),
+        document.descriptors(),
+        document.subsets(),
+        document.observed(),
+        document.compressed(),
+        payload,
+    );
+    match written {
+        Ok(octets) => Ok(octets),
+        Err(WriteFault::TooLong) => Err(DocumentFault::TooLong(document.line())),
+        Err(WriteFault::Memory) => Err(DocumentFault::Memory),
+    }
+}
+
+/// The octets of a document's message, by the tables: its template first, then its items in the
+/// order of the template, then the length. It sets the steps to those that are made for it: at most
+/// as many as the template has places for each bit of the data, and for one bit more where an item
+/// is refused (WMO-No. 306, Volume I.2, FM 94: sections 0 to 5).
+///
+/// # Errors
+///
+/// The first that is met: [`DocumentFault::Template`]; at an item [`DocumentFault::Walk`],
+/// [`DocumentFault::WrongDescriptor`], [`DocumentFault::Number`],
+/// [`DocumentFault::MissingForbidden`], [`DocumentFault::TextLong`],
+/// [`DocumentFault::OutOfRange`], in compressed data for each subset in turn, then
+/// [`DocumentFault::UnequalFactor`] and [`DocumentFault::Increment`]; [`DocumentFault::TooLong`];
+/// and [`DocumentFault::Memory`] where memory runs out.
+pub fn encode_document(
+    alloc: Global,
+    document: &Document,
+    table_b: &TableB,
+    table_d: &TableD,
+    steps: &mut Steps,
+) -> Result<Vec<u8>, DocumentFault>
+    ensures octets { IfOk result (λ octets. encoding_of table_b.now table_d.now document.now ≡ Ok octets.items) }
+    // Want of memory is the only freedom.
+    ensures fault { IfErr result (λ why. RefusesSo (told_refusal why) (encoding_of table_b.now table_d.now document.now)) }
+    ensures accepted { OnOk result (steps.new ≤ places_by table_b.now table_d.now document.now * bits_by table_b.now table_d.now document.now) }
+    ensures refused { OnErr result (steps.new ≤ places_by table_b.now table_d.now document.now * (bits_by table_b.now table_d.now document.now + 1)) }
+{
+    *steps = Steps::new();
+    let template = template_of(alloc, document, table_b, table_d)?;
+    let payload = write_data(alloc, document, &template, table_b, steps)?;
+    write_whole(alloc, document, &payload)
+}

@@ -1,0 +1,60 @@
+//! Laws on messages that are dumped and encoded again.
+ghost use Rattle.std.specs.Prelude.{◌≡◌, ℕ, List, [], ◌∷◌, Ok};
+ghost use Rattle.bufr_frame.specs.Sections.{Sections};
+ghost use Rattle.bufr_tables.specs.Records.{Record};
+ghost use Rattle.bufr_tables.specs.TableB.{AreRows, Row};
+ghost use Rattle.bufr_tables.specs.TableD.{Sequence};
+ghost use Rattle.bufr_tables.specs.Tree.{Tree};
+ghost use Rattle.bufr_walk.specs.Reading.{Values};
+ghost use Rattle.bufr_text.specs.Canonical.{IsCanonical};
+ghost use Rattle.bufr_text.specs.Documents.{Spelled, documents_of};
+ghost use Rattle.bufr_text.specs.Dump.{document_of, dump_text_of};
+ghost use Rattle.bufr_text.specs.Encoded.{HasSameReading, IsAccepted, IsEncodedAgain, items_in};
+ghost use Rattle.bufr_text.specs.Encoding.{encoding_of};
+ghost use Rattle.bufr_text.specs.Given.{IsDumpable};
+
+/// A message that is accepted can be dumped: its dump text spells its document.
+pub fn accepted_messages_are_dumpable()
+    ensures { (records : List Record) (table : List Row) (sequences : List Sequence) (m : List ℕ) (s : Sections) (template : Tree) (values : Values) (used : ℕ)
+        → AreRows records table → IsAccepted table sequences m s template values used → IsDumpable s (items_in table template s values) }
+{}
+
+/// The document of an accepted message's dump text is encoded, wherever it stands: to a message
+/// with the same head, local octets, section 2, descriptors, number of subsets, flags and values,
+/// and no longer.
+pub fn dumped_messages_are_encoded_again()
+    ensures { (records : List Record) (table : List Row) (sequences : List Sequence) (m : List ℕ) (s : Sections) (template : Tree) (values : Values) (used at : ℕ)
+        → AreRows records table → IsAccepted table sequences m s template values used → IsEncodedAgain table sequences m s template values (document_of at s (items_in table template s values)) }
+{}
+
+/// A message with the same reading has the same dump text.
+pub fn same_readings_have_the_same_dump_text()
+    ensures { (table : List Row) (m : List ℕ) (s : Sections) (template : Tree) (values : Values) (octets : List ℕ)
+        → (again : HasSameReading table m s template values octets)
+        → dump_text_of again.sections (items_in table template again.sections values) ≡ dump_text_of s (items_in table template s values) }
+{}
+
+/// A message that was encoded again is accepted, with the same reading: it is one message of the
+/// stream that it begins, and its sections, template and reading are those of the message that was
+/// dumped.
+pub fn encoded_messages_are_accepted()
+    ensures { (table : List Row) (sequences : List Sequence) (m : List ℕ) (s : Sections) (template : Tree) (values : Values) (used : ℕ) (octets : List ℕ)
+        → IsAccepted table sequences m s template values used → (again : HasSameReading table m s template values octets)
+        → IsAccepted table sequences octets again.sections template values again.used }
+{}
+
+/// The dump text of an accepted message is one document, which is encoded to a message with the
+/// same reading, and no longer.
+pub fn dump_texts_are_encoded_again()
+    ensures { (records : List Record) (table : List Row) (sequences : List Sequence) (m : List ℕ) (s : Sections) (template : Tree) (values : Values) (used : ℕ)
+        → AreRows records table → IsAccepted table sequences m s template values used
+        → (documents_of (dump_text_of s (items_in table template s values)) ≡ Spelled (document_of 1 s (items_in table template s values)) ∷ [])
+        × IsEncodedAgain table sequences m s template values (document_of 1 s (items_in table template s values)) }
+{}
+
+/// A canonical message is encoded from its dump text to the same octets.
+pub fn canonical_messages_are_encoded_to_themselves()
+    ensures { (records : List Record) (table : List Row) (sequences : List Sequence) (m : List ℕ) (s : Sections) (template : Tree) (values : Values) (used at : ℕ)
+        → AreRows records table → IsAccepted table sequences m s template values used → IsCanonical m s values used
+        → encoding_of table sequences (document_of at s (items_in table template s values)) ≡ Ok m }
+{}

@@ -1,0 +1,73 @@
+//! Laws about dump texts.
+ghost use Rattle.std.specs.Prelude.{◌≡◌, ◌≤◌, ℕ, ◌+◌, true, false, List, [], ◌∷◌, ◌++◌, length, Option, None, Result, Ok};
+ghost use Rattle.bufr_frame.specs.Sections.{Sections};
+ghost use Rattle.bufr_text.specs.Documents.{Between, Told, Spelled, documents_of, open_documents_of, lines_of, spelled};
+ghost use Rattle.bufr_text.specs.Dump.{Item, document_of, dump_lines, dump_text_of, text_of};
+ghost use Rattle.bufr_text.specs.Given.{IsDumpable};
+ghost use Rattle.bufr_text.specs.Document.{Document};
+ghost use Rattle.bufr_text.specs.Reading.{spells, spells_openly};
+ghost use Rattle.bufr_text.specs.Reader.{State, fresh, stand, CallSo, NextSo, IsDone, IsOpen};
+ghost use Rattle.bufr_text.specs.declared.fault.ReadFault.{ReadFault};
+
+/// The dump text of a message spells its document, and the reading goes on behind it.
+pub fn dump_text_spells_its_document()
+    ensures { (s : Sections) (subsets : List (List Item)) (at : ℕ) (t : List ℕ) → IsDumpable s subsets → spelled at Between (lines_of (dump_text_of s subsets ++ t)) ≡ Spelled (document_of at s subsets) ∷ spelled (at + length (dump_lines s subsets)) Between (lines_of t) }
+{}
+
+/// The dump text of a message spells one document, and nothing else.
+pub fn dump_text_is_one_document()
+    ensures { (s : Sections) (subsets : List (List Item)) → IsDumpable s subsets → documents_of (dump_text_of s subsets) ≡ Spelled (document_of 1 s subsets) ∷ [] }
+{}
+
+/// The documents that are told while the end is not known stay the first ones, whatever comes
+/// behind.
+pub fn open_documents_are_front()
+    ensures { (s t : List ℕ) → (more : List Told) × (documents_of (s ++ t) ≡ open_documents_of s ++ more) }
+{}
+
+/// What calls of a reader told, one after another, is what they would tell as one call: it follows
+/// from what each did.
+pub fn calls_compose()
+    ensures { (left mid left' : Option (List ℕ)) (old s s' : State) (told told' : List Told) (bs bs' : List ℕ)
+        → CallSo left mid old s told bs → CallSo mid left' s s' told' bs' → CallSo left left' old s' (told ++ told') (bs ++ bs') }
+{}
+
+/// What calls told from the beginning are the first documents of the octets read, whatever comes
+/// behind; behind the end nothing does.
+pub fn documents_told_are_the_first()
+    ensures { (left left' : Option (List ℕ)) (s : State) (told : List Told) (bs t : List ℕ)
+        → CallSo left left' fresh s told bs → (s.ended ≡ true → t ≡ []) → documents_of (bs ++ t) ≡ told ++ spells (stand s) t }
+{}
+
+/// What calls told from the beginning while the end is not known are the first open documents of the
+/// octets read, whatever comes behind.
+pub fn documents_told_are_the_first_open()
+    ensures { (left left' : Option (List ℕ)) (s : State) (told : List Told) (bs t : List ℕ)
+        → CallSo left left' fresh s told bs → s.ended ≡ false → open_documents_of (bs ++ t) ≡ told ++ spells_openly (stand s) t }
+{}
+
+/// What calls told up to the end are the documents of the octets read.
+pub fn documents_told_are_the_documents()
+    ensures { (left left' : Option (List ℕ)) (s : State) (told : List Told) (bs : List ℕ)
+        → CallSo left left' fresh s told bs → IsDone s → documents_of bs ≡ told }
+{}
+
+/// What calls told up to a failed read, or up to the last read that is made, are the open documents
+/// of the octets read.
+pub fn documents_told_are_the_open_documents()
+    ensures { (left left' : Option (List ℕ)) (s : State) (told : List Told) (bs : List ℕ)
+        → CallSo left left' fresh s told bs → IsOpen s → open_documents_of bs ≡ told }
+{}
+
+/// The octets that calls read and that are behind the lines they took are held: as many lines were
+/// taken as line numbers were passed.
+pub fn octets_behind_the_lines_are_held()
+    ensures { (left left' : Option (List ℕ)) (s : State) (told : List Told) (bs : List ℕ)
+        → CallSo left left' fresh s told bs → (lines : List (List ℕ)) × (s.at ≡ 1 + length lines) × (length bs ≤ length (text_of lines) + length s.held) }
+{}
+
+/// After the end was told it is told again, and nothing is read.
+pub fn none_comes_again()
+    ensures { (left left' : Option (List ℕ)) (old new : State) (result : Result (Option Document) ReadFault)
+        → NextSo left left' old new result → IsDone old → (result ≡ Ok None) × (new.reads ≡ old.reads) }
+{}

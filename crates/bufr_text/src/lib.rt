@@ -1,0 +1,47 @@
+//! The texts of FM 94 BUFR messages: the line that lists one, the text that dumps one, and its reading.
+#![tactic(auto)]
+
+mod buffer;
+mod descriptors;
+mod document;
+mod draft;
+mod dump;
+pub mod dump_law;
+mod dump_reader;
+mod encode;
+mod encode_fault;
+pub mod encode_law;
+mod fault;
+mod head_lines;
+mod hex;
+mod item;
+pub mod law;
+mod line;
+mod ls;
+mod number;
+mod part;
+mod put;
+mod quoted;
+mod slice;
+mod step;
+
+pub use bufr_fill::Entry;
+pub use document::Document;
+pub use dump::write_dump;
+pub use dump_reader::DumpReader;
+pub use encode::encode_document;
+pub use encode_fault::{DocumentFault, WalkRefusal};
+pub use fault::ReadFault;
+pub use ls::write_ls;
+pub use part::{Part, write_all, write_parts};
+
+#[cfg(test)]
+mod dump_tests;
+#[cfg(test)]
+mod encode_fault_tests;
+#[cfg(test)]
+mod encode_tests;
+#[cfg(test)]
+mod reader_tests;
+#[cfg(test)]
+mod tests;

@@ -1,0 +1,92 @@
+-- Octets that stand in bits, and texts.
+use Rattle.std.proofs.Common.{◌≡◌, ℕ, zero, suc, ◌+◌, ◌-◌, ◌*◌, ◌/◌, ◌%◌, ◌^◌, ◌<◌, ◌≤◌, Bool, List, [], ◌∷◌, ◌++◌, length, take, drop, set, refl, sym, ◌∙◌, ap, subst, arith, add-one}
+use Rattle.std.specs.Prelude.{slice_index, slice_range, Option, Some, None, option_map, SomeIff, IfSome}
+use Rattle.std.proofs.lemmas.List.{drop-drop, drop-take, take-take, take_more_set, length-drop, length-take-le}
+use Rattle.bufr_bits.specs.Bits.{bits_of, number_of}
+use Rattle.bufr_bits.proofs.BitLemmas.{drop-bits_of, take-bits_of, number_of_middle, number-bits_of_octet}
+use Rattle.bufr_walk.specs.Asked.{Asked}
+use Rattle.bufr_walk.specs.Content.{octets_in}
+
+-- octets that are read one by one
+octets_next : (n : ℕ) (bits : List Bool) → octets_in (suc n) bits ≡ octets_in n bits ++ number_of (take 8 (drop (8 * n) bits)) ∷ []
+octets_next zero bits = refl
+octets_next (suc n) bits =
+    ap (λ os. number_of (take 8 bits) ∷ os) (octets_next n (drop 8 bits) ∙ ap (λ bs. octets_in n (drop 8 bits) ++ number_of (take 8 bs) ∷ []) (drop-drop (8 * n) 8 bits ∙ ap (λ k. drop k bits) (eight n)))
+  where
+    eight : (n : ℕ) → 8 + 8 * n ≡ 8 * suc n
+    eight n = omega arith
+
+octets_more : (n : ℕ) (bits : List Bool) → octets_in (n + 1) bits ≡ octets_in n bits ++ number_of (take 8 (drop (8 * n) bits)) ∷ []
+octets_more n bits = ap (λ k. octets_in k bits) (add-one n) ∙ octets_next n bits
+
+pub octet_put : (bits : List Bool) (at i octet : ℕ) (kept : List ℕ) → i < length kept → take i kept ≡ octets_in i (drop at bits) → octet ≡ number_of (take 8 (drop (at + 8 * i) bits)) → take (i + 1) (set kept i octet) ≡ octets_in (i + 1) (drop at bits)
+octet_put bits at i octet kept h so is =
+    take_more_set kept i octet h
+    ∙ ap (λ os. os ++ octet ∷ []) so
+    ∙ ap (λ o. octets_in i (drop at bits) ++ o ∷ []) (is ∙ ap (λ bs. number_of (take 8 bs)) (sym (drop-drop (8 * i) at bits)))
+    ∙ sym (octets_more i (drop at bits))
+
+pub two : (a b : ℕ) (xs ys : List ℕ) → a ≡ b → xs ≡ ys → a ∷ xs ≡ b ∷ ys
+two a b xs ys p q = ap (λ x. x ∷ xs) p ∙ ap (λ zs. b ∷ zs) q
+
+pub octets_front : (n : ℕ) (bits : List Bool) → octets_in n (take (8 * n) bits) ≡ octets_in n bits
+octets_front zero bits = refl
+octets_front (suc n) bits =
+    ap (λ k. octets_in (suc n) (take k bits)) (eight n)
+    ∙ two _ _ _ _ (ap number_of (take-take 8 (8 + 8 * n) bits (omega arith))) (ap (octets_in n) (drop-take 8 (8 * n) bits) ∙ octets_front n (drop 8 bits))
+  where
+    eight : (n : ℕ) → 8 * suc n ≡ 8 + 8 * n
+    eight n = omega arith
+
+-- how many octets a text has
+pub whole_octets : (spec : Asked) → spec.width % 8 ≡ 0 → 8 * (spec.width / 8) ≡ spec.width
+whole_octets spec e = omega (arith, e)
+
+-- the octets of a field of whole octets
+pub text_front : (spec : Asked) (bits : List Bool) → spec.width % 8 ≡ 0 → octets_in (spec.width / 8) (take spec.width bits) ≡ octets_in (spec.width / 8) bits
+text_front spec bits e = ap (λ w. octets_in (spec.width / 8) (take w bits)) (whole spec.width e) ∙ octets_front (spec.width / 8) bits
+  where
+    whole : (w : ℕ) → w % 8 ≡ 0 → w ≡ 8 * (w / 8)
+    whole w e = omega arith
+
+-- one octet of a few that were read as one number
+window_octet : (bits : List Bool) (p few i : ℕ) → i < few → p + 8 * few ≤ length bits → number_of (take 8 (drop (p + 8 * i) bits)) ≡ number_of (take (8 * few) (drop p bits)) / 2 ^ (8 * (few - i - 1)) % 256
+window_octet bits p few i lt within =
+    let xs = take (8 * few) (drop p bits) in
+    let long : length xs ≡ 8 * few = length-take-le (8 * few) (drop p bits) (omega (arith, length-drop p bits, within)) in
+    let parts : 8 * few ≡ 8 * i + 8 * (few - i) = omega (arith, lt) in
+    let shift : 8 * few - 8 * i - 8 ≡ 8 * (few - i - 1) = omega (arith, lt) in
+    let there : take 8 (drop (8 * i) xs) ≡ take 8 (drop (p + 8 * i) bits) =
+    ap (λ n. take 8 (drop (8 * i) (take n (drop p bits)))) parts ∙ ap (take 8) (drop-take (8 * i) (8 * (few - i)) (drop p bits)) ∙ take-take 8 (8 * (few - i)) (drop (8 * i) (drop p bits)) (omega (arith, lt)) ∙ ap (take 8) (drop-drop (8 * i) p bits) in
+    ap number_of (sym there) ∙ number_of_middle xs (8 * few) (8 * i) 8 long (omega (arith, lt)) ∙ ap (λ k. number_of xs / 2 ^ k % 256) shift
+
+-- that octet behind those before it
+pub window_put : (bits : List Bool) (at done few i window : ℕ) (text : List ℕ) → i < few → done + few ≤ length text → at + 8 * (done + few) ≤ length bits → window ≡ number_of (take (8 * few) (drop (at + 8 * done) bits)) → take (done + i) text ≡ octets_in (done + i) (drop at bits)
+    → take (done + (i + 1)) (set text (done + i) (window / 2 ^ (8 * (few - i - 1)) % 256)) ≡ octets_in (done + (i + 1)) (drop at bits)
+window_put bits at done few i window text lt room within is before =
+    let place : at + 8 * done + 8 * i ≡ at + 8 * (done + i) = omega arith in
+    let more : done + i + 1 ≡ done + (i + 1) = omega arith in
+    let octet : window / 2 ^ (8 * (few - i - 1)) % 256 ≡ number_of (take 8 (drop (at + 8 * (done + i)) bits)) =
+    ap (λ n. n / 2 ^ (8 * (few - i - 1)) % 256) is ∙ sym (window_octet bits (at + 8 * done) few i lt (omega (arith, within))) ∙ ap (λ p. number_of (take 8 (drop p bits))) place in
+    subst (λ n. take n (set text (done + i) (window / 2 ^ (8 * (few - i - 1)) % 256)) ≡ octets_in n (drop at bits)) more (octet_put bits at (done + i) (window / 2 ^ (8 * (few - i - 1)) % 256) text (omega (arith, lt, room)) before octet)
+
+-- the octets of the bits of octets
+octets_of_bits : (xs : List ℕ) → ((k : ℕ) → slice_index xs k < 256) → octets_in (length xs) (bits_of xs) ≡ xs
+unfolding bits_of
+octets_of_bits [] h = refl
+octets_of_bits (x ∷ xs) h = two _ _ _ _ (number-bits_of_octet x (h 0)) (octets_of_bits xs (λ k. h (suc k)))
+
+-- octets that begin with an octet's first bit are those octets
+pub borrowed : (octets : List ℕ) (at count : ℕ) (xs : List ℕ) → at % 8 ≡ 0 → at + 8 * count ≤ 8 * length octets → xs ≡ slice_range octets (at / 8) (at / 8 + count) → ((k : ℕ) → slice_index xs k < 256) → xs ≡ octets_in count (drop at (bits_of octets))
+borrowed octets at count xs whole within is small =
+    let first = at / 8 in
+    let place : 8 * first ≡ at = omega (arith, whole) in
+    let size : first + count - first ≡ count = omega arith in
+    let same : xs ≡ take count (drop first octets) = is ∙ ap (λ n. take n (drop first octets)) size in
+    let long : length xs ≡ count = ap length same ∙ length-take-le count (drop first octets) (omega (arith, length-drop first octets, within)) in
+    let bits : bits_of xs ≡ take (8 * count) (drop at (bits_of octets)) = ap bits_of same ∙ sym (take-bits_of count (drop first octets)) ∙ ap (take (8 * count)) (sym (drop-bits_of first octets) ∙ ap (λ p. drop p (bits_of octets)) place) in
+    sym (octets_of_bits xs small) ∙ ap (λ n. octets_in n (bits_of xs)) long ∙ ap (octets_in count) bits ∙ octets_front count (drop at (bits_of octets))
+
+pub borrowed_some : {S : Type 0} (now : S → List ℕ) (r : Option S) (octets want : List ℕ) (at count : ℕ) → SomeIff (option_map now r) ((at % 8 ≡ 0) × (at + 8 * count ≤ 8 * length octets)) (slice_range octets (at / 8) (at / 8 + count)) → IfSome r (λ s. (k : ℕ) → slice_index (now s) k < 256) → octets_in count (drop at (bits_of octets)) ≡ want → IfSome r (λ s. now s ≡ want)
+borrowed_some now None octets want at count h small e = tt
+borrowed_some now (Some s) octets want at count h small e = borrowed octets at count (now s) h.0.0 h.0.1 h.1 small ∙ e

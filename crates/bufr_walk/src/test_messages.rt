@@ -1,0 +1,287 @@
+//! Messages of worked examples, and what is told of them.
+use crate::fault::{Spot, WalkFault};
+use crate::message::read_message;
+use crate::reading::Reading;
+use crate::steps::Steps;
+use crate::visitor::{ItemView, Value, Visitor};
+use bufr_frame::Message;
+use bufr_tables::{Fxy, TableB, TableD, Template};
+use std::alloc::{AllocError, Global};
+use std::test::Fail;
+
+// Test data, not WMO's.
+const TABLE_B: &[u8] = b"\
+    fxy,name,unit,scale,reference,width\n\
+    001001,WMO BLOCK NUMBER,Numeric,0,0,7\n\
+    001015,STATION OR SITE NAME,CCITT IA5,0,0,160\n\
+    005002,LATITUDE (COARSE ACCURACY),degree,2,-9000,15\n\
+    012101,AIR TEMPERATURE,K,2,0,16\n\
+    020003,PRESENT WEATHER,Code table,0,0,9\n\
+    031000,SHORT DELAYED DESCRIPTOR REPLICATION FACTOR,Numeric,0,0,1\n\
+    031001,DELAYED DESCRIPTOR REPLICATION FACTOR,Numeric,0,0,8\n\
+    031002,EXTENDED DELAYED DESCRIPTOR REPLICATION FACTOR,Numeric,0,0,16\n";
+
+const TABLE_D: &[u8] = b"fxy,member\n360192,001001\n360192,012101\n";
+
+/// The flags of section 3 that say that the data are observed, and not compressed.
+pub(crate) const APART: u8 = 0x80;
+
+/// The same, and compressed.
+pub(crate) const TOGETHER: u8 = 0xC0;
+
+/// The descriptors of a text: six digits each, with spaces between them.
+fn descriptors_of(alloc: Global, text: &str) -> Result<Vec<Fxy>, Fail> {
+    let mut descriptors = Vec::new(alloc);
+    for digits in text.split_whitespace() {
+        let number = digits.parse::<u32>()?;
+        let word = number / 100_000 * 16384 + number / 1000 % 100 * 256 + number % 1000;
+        descriptors.push(Fxy::from_word(u16::try_from(word)?))?;
+    }
+    Ok(descriptors)
+}
+
+/// The octets of a text of hexadecimal digits.
+pub(crate) fn octets_of(alloc: Global, text: &str) -> Result<Vec<u8>, Fail> {
+    let mut octets = Vec::new(alloc);
+    let mut high = None;
+    for digit in text.chars() {
+        let value = u8::try_from(digit.to_digit(16).unwrap_or(0))?;
+        high = match high {
+            None => Some(value),
+            Some(first) => {
+                octets.push(u8::wrapping_add(u8::wrapping_mul(first, 16), value))?;
+                None
+            }
+        };
+    }
+    Ok(octets)
+}
+
+/// A number's two octets.
+fn push_two(octets: &mut Vec<u8>, number: usize) -> Result<(), AllocError> {
+    octets.push((number / 256 % 256) as u8)?;
+    octets.push((number % 256) as u8)?;
+    Ok(())
+}
+
+/// A message of edition 4 with these subsets, flags, descriptors and data.
+fn message_of(
+    alloc: Global,
+    subsets: u16,
+    flags: u8,
+    descriptors: &[Fxy],
+    payload: &[u8],
+) -> Result<Vec<u8>, Fail> {
+    let mut octets = Vec::new(alloc);
+    let (third, fourth) = (descriptors.len() % 1000 * 2 + 7, payload.len() % 60000 + 4);
+    octets.extend_from_slice(b"BUFR\0")?;
+    push_two(&mut octets, third + fourth + 34)?;
+    octets.extend_from_slice(&[4, 0, 0, 22, 0, 0, 98, 0, 0, 0, 0, 0, 0, 0, 14, 0])?;
+    octets.extend_from_slice(&[7, 232, 1, 2, 3, 4, 5, 0])?;
+    push_two(&mut octets, third)?;
+    octets.push(0)?;
+    push_two(&mut octets, usize::from(subsets))?;
+    octets.push(flags)?;
+    for fxy in descriptors {
+        push_two(&mut octets, usize::from(fxy.word()))?;
+    }
+    octets.push(0)?;
+    push_two(&mut octets, fourth)?;
+    octets.push(0)?;
+    octets.extend_from_slice(payload)?;
+    octets.extend_from_slice(b"7777")?;
+    Ok(octets)
+}
+
+/// A visitor that writes down what it is told.
+#[derive(Drop)]
+struct Lines {
+    alloc: Global,
+    text: String,
+}
+
+impl Visitor for Lines {
+    type Fault = AllocError;
+
+    ghost sees = { λ s call r t. Unit {0} };
+
+    fn subset(&mut self, number: u16) -> Result<(), AllocError> {
+        let line = format!(in self.alloc; " {number}:")?;
+        self.text.push_str(line.as_str())
+    }
+
+    fn item(&mut self, item: &ItemView<'_>) -> Result<(), AllocError> {
+        let line = match item.value {
+            Value::Number(number, scale) => {
+                format!(in self.alloc; " {} {number}e{scale}", item.fxy)?
+            }
+            Value::Text(octets) => {
+                let mut line = format!(in self.alloc; " {} \"", item.fxy)?;
+                for octet in octets {
+                    line.push_str(format!(in self.alloc; "{octet:02X}")?.as_str())?;
+                }
+                line.push('"')?;
+                line
+            }
+            Value::Missing => format!(in self.alloc; " {} missing", item.fxy)?,
+            Value::Reference(number) => format!(in self.alloc; " {} R{number}", item.fxy)?,
+        };
+        self.text.push_str(line.as_str())?;
+        if item.entry.is_some() {
+            self.text.push_str(" #")?;
+        }
+        Ok(())
+    }
+}
+
+/// Where a fault stands.
+fn spot_of(fault: WalkFault) -> Option<Spot> {
+    match fault {
+        WalkFault::DataEnd(spot) => Some(spot),
+        WalkFault::Width(spot) => Some(spot),
+        WalkFault::Defining(spot) => Some(spot),
+        WalkFault::UnequalFactor(spot) => Some(spot),
+        WalkFault::Increment(spot) => Some(spot),
+        WalkFault::TooManyValues(spot) => Some(spot),
+        WalkFault::Memory => None,
+    }
+}
+
+/// The message that octets are.
+fn message_in(octets: &[u8]) -> Option<Message<'_>> {
+    if octets.len() < 12 {
+        return None;
+    }
+    Message::parse(octets).ok()
+}
+
+/// What is told of a reading: its bits, the steps that were made, and the items that it keeps, if any.
+fn read_as(alloc: Global, reading: &Reading<'_>, steps: &Steps) -> Result<String, Fail> {
+    let (bits, count, held) = (reading.bits(), steps.count(), reading.held());
+    let mut text = format!(in alloc; "bits {bits} steps {count}")?;
+    if held > 0 {
+        text.push_str(format!(in alloc; " held {held}")?.as_str())?;
+    }
+    Ok(text)
+}
+
+/// The same, and then its subsets and items. A showing takes as many steps as the reading did, and none where items
+/// are kept.
+fn shown(alloc: Global, reading: &Reading<'_>, steps: &mut Steps) -> Result<String, Fail> {
+    let mut lines = Lines {
+        alloc,
+        text: read_as(alloc, reading, steps)?,
+    };
+    if reading.subsets() > 0 {
+        lines.text.push(';')?;
+    }
+    let want = if reading.held() > 0 { 0 } else { steps.count() };
+    if reading.show(alloc, &mut lines, steps).is_err() {
+        lines.text.push_str(" out of memory")?;
+    }
+    if steps.count() != want {
+        lines.text.push_str(" other steps")?;
+    }
+    Ok(lines.text)
+}
+
+/// What is told of a fault: its number, where it stands, and the steps that were made.
+fn refused(alloc: Global, fault: WalkFault, steps: &Steps) -> Result<String, Fail> {
+    let (number, count) = (fault.number(), steps.count());
+    match spot_of(fault) {
+        Some(spot) => Ok(format!(in alloc;
+            "{number} at {} {} {} steps {count}",
+            spot.subset, spot.fxy, spot.bit
+        )?),
+        None => Ok(format!(in alloc; "{number}")?),
+    }
+}
+
+/// A message, its template, and the table by which it is read.
+#[derive(Drop)]
+pub(crate) struct Worked {
+    octets: Vec<u8>,
+    template: Template,
+    table: TableB,
+}
+
+impl Worked {
+    /// The message with these subsets, flags, descriptors and data.
+    pub(crate) fn new(
+        alloc: Global,
+        subsets: u16,
+        flags: u8,
+        descriptors: &str,
+        payload: &[u8],
+    ) -> Result<Worked, Fail> {
+        let table = TableB::read(alloc, TABLE_B)?;
+        let sequences = TableD::read(alloc, TABLE_D)?;
+        let descriptors = descriptors_of(alloc, descriptors)?;
+        let octets = message_of(alloc, subsets, flags, &descriptors, payload)?;
+        let template = Template::build(alloc, &descriptors, &table, &sequences)?;
+        Ok(Worked {
+            octets,
+            template,
+            table,
+        })
+    }
+
+    /// What comes of reading it.
+    pub(crate) fn read(&self, alloc: Global) -> Result<String, Fail> {
+        let message = message_in(&self.octets).ok_or("a message")?;
+        let mut steps = Steps::new();
+        match read_message(alloc, &message, &self.template, &self.table, &mut steps) {
+            Ok(reading) => read_as(alloc, &reading, &steps),
+            Err(fault) => refused(alloc, fault, &steps),
+        }
+    }
+
+    /// What comes of reading and showing it.
+    pub(crate) fn told(&self, alloc: Global) -> Result<String, Fail> {
+        let message = message_in(&self.octets).ok_or("a message")?;
+        let mut steps = Steps::new();
+        match read_message(alloc, &message, &self.template, &self.table, &mut steps) {
+            Ok(reading) => shown(alloc, &reading, &mut steps),
+            Err(fault) => refused(alloc, fault, &steps),
+        }
+    }
+
+    /// How many subsets and items it shows.
+    pub(crate) fn counted(&self, alloc: Global) -> Result<(u64, u64), Fail> {
+        let message = message_in(&self.octets).ok_or("a message")?;
+        let mut steps = Steps::new();
+        let mut counts = Counts {
+            subsets: 0,
+            items: 0,
+        };
+        let reading = read_message(alloc, &message, &self.template, &self.table, &mut steps)?;
+        reading
+            .show(alloc, &mut counts, &mut steps)
+            .ok()
+            .ok_or("a showing")?;
+        Ok((counts.subsets, counts.items))
+    }
+}
+
+/// A visitor that counts what it is told.
+#[derive(Drop)]
+struct Counts {
+    subsets: u64,
+    items: u64,
+}
+
+impl Visitor for Counts {
+    type Fault = AllocError;
+
+    ghost sees = { λ s call r t. Unit {0} };
+
+    fn subset(&mut self, _number: u16) -> Result<(), AllocError> {
+        self.subsets = u64::wrapping_add(self.subsets, 1);
+        Ok(())
+    }
+
+    fn item(&mut self, _item: &ItemView<'_>) -> Result<(), AllocError> {
+        self.items = u64::wrapping_add(self.items, 1);
+        Ok(())
+    }
+}
