@@ -25,6 +25,8 @@ use std::process::ExitCode;
 #[cfg(test)]
 mod dump_tests;
 #[cfg(test)]
+mod encode_fault_tests;
+#[cfg(test)]
 mod encode_tests;
 #[cfg(test)]
 mod tests;
