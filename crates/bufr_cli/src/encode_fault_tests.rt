@@ -1,10 +1,12 @@
 //! Each fault of a document beside the nearest document that is accepted, and faults of devices.
 
-use crate::dump_tests::{TABLE_B, TABLE_D, message_of, octets_of, text_of, text_of_one, words_of};
 use crate::encode_tests::assert_encoded;
 use crate::run_dump::run_dump;
 use crate::run_encode::run_encode;
 use crate::tally::Tally;
+use crate::test_messages::{
+    TABLE_B, TABLE_D, message_of, octets_of, text_of, text_of_one, words_of,
+};
 use bufr_bits::{Device, End, ScriptIn, ScriptOut};
 use bufr_frame::RunFault;
 use bufr_tables::{TableB, TableD};

@@ -1,15 +1,12 @@
 //! The worked examples of `encode`, run.
 
-use crate::dump_tests::{
-    Library, TABLE_B, TABLE_D, message_of, octets_of, one_block_number, text_of, text_of_one,
-    words_of,
-};
-use crate::job::{LineFault, Subcommand, parse_line};
 use crate::law;
-use crate::program::run;
 use crate::run_dump::run_dump;
 use crate::run_encode::run_encode;
 use crate::tally::Tally;
+use crate::test_messages::{
+    TABLE_B, TABLE_D, message_of, octets_of, one_block_number, text_of, text_of_one, words_of,
+};
 use bufr_bits::{End, ScriptIn, ScriptOut};
 use bufr_frame::RunFault;
 use bufr_tables::{TableB, TableD};
@@ -391,158 +388,6 @@ fn stops_at_a_failed_write_of_errors(rt: HostRuntime) -> Result<(), Fail> {
             }
             assert_eq!(rt; e.taken(), &line[..room], "{end:?}");
         }
-    }
-    Ok(())
-}
-
-#[test]
-fn parses_encode_lines(rt: HostRuntime) -> Result<(), Fail> {
-    static LINES: [(&[&str], Option<&str>); 3] = [
-        (&["bufr", "encode", "-B", "b.csv", "-D", "d.csv"], None),
-        (
-            &["bufr", "encode", "-B", "b.csv", "-D", "d.csv", "x.txt"],
-            Some("x.txt"),
-        ),
-        (
-            &["bufr", "encode", "-D=d.csv", "x.txt", "-Bb.csv"],
-            Some("x.txt"),
-        ),
-    ];
-    for (words, file) in &LINES {
-        let job = parse_line(rt.alloc(), *words).expect(&rt, "a job");
-        assert!(rt; job.file == *file, "{words:?}");
-        match job.command {
-            Subcommand::Encode(tables) => {
-                assert_eq!(rt; tables.table_b, "b.csv", "{words:?}");
-                assert_eq!(rt; tables.table_d, "d.csv", "{words:?}");
-            }
-            other => assert!(rt; false, "{other:?}"),
-        }
-    }
-    Ok(())
-}
-
-#[test]
-fn refuses_encode_lines(rt: HostRuntime) -> Result<(), Fail> {
-    static LINES: [(&[&str], &str); 3] = [
-        (
-            &["bufr", "encode"],
-            "required arguments were not provided:\n  -B <FILE>\n  -D <FILE>\n",
-        ),
-        (
-            &["bufr", "encode", "-D", "d.csv", "x.txt"],
-            "required arguments were not provided:\n  -B <FILE>\n",
-        ),
-        (
-            &["bufr", "encode", "-B", "b", "-D", "d", "x", "y"],
-            "unexpected argument 'y' found",
-        ),
-    ];
-    for (words, part) in &LINES {
-        match parse_line(rt.alloc(), *words) {
-            Err(LineFault::Usage(text)) => assert!(rt; text.as_str().contains(*part), "{text}"),
-            other => assert!(rt; false, "{other:?}"),
-        }
-    }
-    let words = ["bufr", "encode", "--help"];
-    match parse_line(rt.alloc(), words.as_slice()) {
-        Err(LineFault::Help(text)) => {
-            for part in [
-                "Usage: bufr encode -B <FILE> -D <FILE> [FILE]",
-                "-B <FILE>",
-                "-D <FILE>",
-                "Exit status:",
-                "bufr encode -B b.csv -D d.csv",
-            ] {
-                assert!(rt; text.as_str().contains(part), "{text}");
-            }
-        }
-        other => assert!(rt; false, "{other:?}"),
-    }
-    Ok(())
-}
-
-/// What comes of a command line over these files: Table B is read first, then Table D, then the
-/// input.
-#[test]
-fn runs_encode_lines(rt: HostRuntime) -> Result<(), Fail> {
-    static LINES: [(&[&str], u8, bool, &str); 8] = [
-        (
-            &["bufr", "encode", "-B", "b.csv", "-D", "d.csv"],
-            0,
-            true,
-            "",
-        ),
-        (
-            &["bufr", "encode", "-B", "b.csv", "-D", "d.csv", "one.txt"],
-            1,
-            true,
-            "line 26: 50 line\n",
-        ),
-        (
-            &["bufr", "encode", "-B", "b.csv", "-D", "d.csv", "two.txt"],
-            2,
-            false,
-            "bufr: cannot open two.txt\n",
-        ),
-        (
-            &["bufr", "encode", "-B", "no.csv", "-D", "none.csv"],
-            2,
-            false,
-            "bufr: cannot open no.csv\n",
-        ),
-        (
-            &["bufr", "encode", "-B", "b.csv", "-D", "none.csv", "two.txt"],
-            2,
-            false,
-            "bufr: cannot open none.csv\n",
-        ),
-        (
-            &["bufr", "encode", "-B", "d.csv", "-D", "none.csv"],
-            2,
-            false,
-            "table B: 40 header\n",
-        ),
-        (
-            &[
-                "bufr",
-                "encode",
-                "-B",
-                "b.csv",
-                "-D",
-                "cycle.csv",
-                "two.txt",
-            ],
-            2,
-            false,
-            "table D: 43 cycle 300001\n",
-        ),
-        (
-            &["bufr", "encode", "-D", "d.csv"],
-            2,
-            false,
-            "required arguments were not provided",
-        ),
-    ];
-    let message = one_block_number(rt.alloc())?;
-    let text = text_of_one(rt.alloc())?;
-    let mut file = String::new(rt.alloc());
-    file.push_str(text.as_str())?;
-    file.push_str("subset 1\n")?;
-    let library = Library {
-        file: file.as_bytes(),
-        standard: text.as_bytes(),
-    };
-    for (words, status, encoded, errors) in &LINES {
-        let want = if *encoded { message.as_slice() } else { b"" };
-        let mut w = ScriptOut::new(rt.alloc(), 4096, 4096, End::Fail)?;
-        let mut e = ScriptOut::new(rt.alloc(), 4096, 4096, End::Fail)?;
-        let answer = run(rt.alloc(), *words, &library, &mut w, &mut e);
-        assert_eq!(rt; answer, *status, "{words:?}");
-        assert_eq!(rt; w.taken(), want, "{words:?}");
-        let told = str::from_utf8(e.taken()).expect(&rt, "text");
-        assert!(rt; told.contains(*errors), "{words:?}: {told}");
-        assert!(rt; told.is_empty() == errors.is_empty(), "{words:?}: {told}");
     }
     Ok(())
 }
