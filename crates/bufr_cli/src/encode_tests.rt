@@ -1,14 +1,12 @@
 //! The worked examples of `encode`, run.
 
-use crate::dump_tests::{
-    Library, TABLE_B, TABLE_D, message_of, octets_of, one_block_number, text_of, text_of_one,
-    words_of,
-};
-use crate::job::{LineFault, Subcommand, parse_line};
-use crate::program::run;
+use crate::law;
 use crate::run_dump::run_dump;
 use crate::run_encode::run_encode;
 use crate::tally::Tally;
+use crate::test_messages::{
+    TABLE_B, TABLE_D, message_of, octets_of, one_block_number, text_of, text_of_one, words_of,
+};
 use bufr_bits::{End, ScriptIn, ScriptOut};
 use bufr_frame::RunFault;
 use bufr_tables::{TableB, TableD};
@@ -136,7 +134,7 @@ static ENCODED: [Encoded; 10] = [
 ];
 
 /// Encodes `input`, however it is read, and asserts what comes of it.
-fn assert_encoded(
+pub(crate) fn assert_encoded(
     rt: &(impl Abort + AllocGlobal),
     name: &str,
     input: &[u8],
@@ -148,7 +146,8 @@ fn assert_encoded(
     let table_d = TableD::read(rt.alloc(), TABLE_D).expect(rt, "table D");
     for step in [1, 3, 4096] {
         let mut r = ScriptIn::new(input, step, None);
-        let mut w = ScriptOut::new(rt.alloc(), 8192, step, End::Fail)?;
+        let room = output.len().saturating_add(64);
+        let mut w = ScriptOut::new(rt.alloc(), room, step, End::Fail)?;
         let mut e = ScriptOut::new(rt.alloc(), 4096, step, End::Fail)?;
         let ran = run_encode(rt.alloc(), &mut r, &mut w, &mut e, &table_b, &table_d);
         assert!(rt; ran == Ok(tally), "{name}: {ran:?}");
@@ -257,6 +256,8 @@ const STREAM: [u8; 305] = [
 /// A stream is dumped; its text is encoded to the four messages, which are dumped to the same text.
 #[test]
 fn encodes_a_dumped_stream(rt: HostRuntime) -> Result<(), Fail> {
+    law::each_event_has_a_piece();
+    law::an_event_has_one_piece();
     let table_b = TableB::read(rt.alloc(), TABLE_B).expect(&rt, "table B");
     let table_d = TableD::read(rt.alloc(), TABLE_D).expect(&rt, "table D");
     let mut messages = Vec::new(rt.alloc());
@@ -286,49 +287,58 @@ fn encodes_a_dumped_stream(rt: HostRuntime) -> Result<(), Fail> {
     Ok(())
 }
 
-/// A text of many documents; the line feed of the last line is missing.
+/// A text of a thousand documents; the line feed of the last line is missing.
 #[test]
-fn encodes_many(rt: HostRuntime) -> Result<(), Fail> {
+fn encodes_a_thousand(rt: HostRuntime) -> Result<(), Fail> {
     let one = text_of_one(rt.alloc())?;
     let message = one_block_number(rt.alloc())?;
     let mut text = Vec::new(rt.alloc());
     let mut messages = Vec::new(rt.alloc());
-    for _ in 0..100 {
+    for _ in 0..1000 {
         text.extend_from_slice(one.as_bytes())?;
         messages.extend_from_slice(&message)?;
     }
     text.pop();
     let all = Tally {
-        accepted: 100,
+        accepted: 1000,
         refused: 0,
     };
-    assert_encoded(&rt, "many", &text, &messages, b"", all)
+    assert_encoded(&rt, "a thousand", &text, &messages, b"", all)
 }
 
-/// Wherever a read fails, the messages of the documents that were read whole stand.
+/// Wherever a read fails, the messages of the documents whose last line was read whole stand, and
+/// no other.
 #[test]
 fn stops_at_a_failed_read(rt: HostRuntime) -> Result<(), Fail> {
     let table_b = TableB::read(rt.alloc(), TABLE_B).expect(&rt, "table B");
     let table_d = TableD::read(rt.alloc(), TABLE_D).expect(&rt, "table D");
-    let one = text_of_one(rt.alloc())?;
-    let message = one_block_number(rt.alloc())?;
+    let words = words_of(rt.alloc(), "101000 031001 001001")?;
+    let message = message_of(rt.alloc(), 1, 0x80, &words, b"\x02\x14\x2C")?;
+    let body = "subset 1\n031001 2\n001001 10\n001001 11\n";
+    let one = text_of(rt.alloc(), 1, 0x80, "101000 031001 001001", body)?;
     let mut text = Vec::new(rt.alloc());
     text.extend_from_slice(one.as_bytes())?;
     text.extend_from_slice(one.as_bytes())?;
-    assert!(rt; one.len() > 100);
-    for place in 0..text.len() {
-        let mut r = ScriptIn::new(&text, 7, Some(place));
-        let mut w = ScriptOut::new(rt.alloc(), 4096, 7, End::Fail)?;
-        let mut e = ScriptOut::new(rt.alloc(), 4096, 7, End::Fail)?;
-        let ran = run_encode(rt.alloc(), &mut r, &mut w, &mut e, &table_b, &table_d);
-        let encoded = if place < one.len() {
-            b""
-        } else {
-            message.as_slice()
-        };
-        assert!(rt; ran == Err(RunFault::Read), "{place}: {ran:?}");
-        assert_eq!(rt; w.taken(), encoded, "{place}");
-        assert!(rt; e.taken().is_empty(), "{place}");
+    let mut both = Vec::new(rt.alloc());
+    both.extend_from_slice(&message)?;
+    both.extend_from_slice(&message)?;
+    for step in [1, 7] {
+        for place in 0..text.len().saturating_add(1) {
+            let mut r = ScriptIn::new(&text, step, Some(place));
+            let mut w = ScriptOut::new(rt.alloc(), 4096, 7, End::Fail)?;
+            let mut e = ScriptOut::new(rt.alloc(), 4096, 7, End::Fail)?;
+            let ran = run_encode(rt.alloc(), &mut r, &mut w, &mut e, &table_b, &table_d);
+            let encoded = if place < one.len() {
+                b""
+            } else if place < text.len() {
+                message.as_slice()
+            } else {
+                both.as_slice()
+            };
+            assert!(rt; ran == Err(RunFault::Read), "{place}: {ran:?}");
+            assert_eq!(rt; w.taken(), encoded, "{place}");
+            assert!(rt; e.taken().is_empty(), "{place}");
+        }
     }
     Ok(())
 }
@@ -378,158 +388,6 @@ fn stops_at_a_failed_write_of_errors(rt: HostRuntime) -> Result<(), Fail> {
             }
             assert_eq!(rt; e.taken(), &line[..room], "{end:?}");
         }
-    }
-    Ok(())
-}
-
-#[test]
-fn parses_encode_lines(rt: HostRuntime) -> Result<(), Fail> {
-    static LINES: [(&[&str], Option<&str>); 3] = [
-        (&["bufr", "encode", "-B", "b.csv", "-D", "d.csv"], None),
-        (
-            &["bufr", "encode", "-B", "b.csv", "-D", "d.csv", "x.txt"],
-            Some("x.txt"),
-        ),
-        (
-            &["bufr", "encode", "-D=d.csv", "x.txt", "-Bb.csv"],
-            Some("x.txt"),
-        ),
-    ];
-    for (words, file) in &LINES {
-        let job = parse_line(rt.alloc(), *words).expect(&rt, "a job");
-        assert!(rt; job.file == *file, "{words:?}");
-        match job.command {
-            Subcommand::Encode(tables) => {
-                assert_eq!(rt; tables.table_b, "b.csv", "{words:?}");
-                assert_eq!(rt; tables.table_d, "d.csv", "{words:?}");
-            }
-            other => assert!(rt; false, "{other:?}"),
-        }
-    }
-    Ok(())
-}
-
-#[test]
-fn refuses_encode_lines(rt: HostRuntime) -> Result<(), Fail> {
-    static LINES: [(&[&str], &str); 3] = [
-        (
-            &["bufr", "encode"],
-            "required arguments were not provided:\n  -B <FILE>\n  -D <FILE>\n",
-        ),
-        (
-            &["bufr", "encode", "-D", "d.csv", "x.txt"],
-            "required arguments were not provided:\n  -B <FILE>\n",
-        ),
-        (
-            &["bufr", "encode", "-B", "b", "-D", "d", "x", "y"],
-            "unexpected argument 'y' found",
-        ),
-    ];
-    for (words, part) in &LINES {
-        match parse_line(rt.alloc(), *words) {
-            Err(LineFault::Usage(text)) => assert!(rt; text.as_str().contains(*part), "{text}"),
-            other => assert!(rt; false, "{other:?}"),
-        }
-    }
-    let words = ["bufr", "encode", "--help"];
-    match parse_line(rt.alloc(), words.as_slice()) {
-        Err(LineFault::Help(text)) => {
-            for part in [
-                "Usage: bufr encode -B <FILE> -D <FILE> [FILE]",
-                "-B <FILE>",
-                "-D <FILE>",
-                "Exit status:",
-                "bufr encode -B b.csv -D d.csv",
-            ] {
-                assert!(rt; text.as_str().contains(part), "{text}");
-            }
-        }
-        other => assert!(rt; false, "{other:?}"),
-    }
-    Ok(())
-}
-
-/// What comes of a command line over these files: Table B is read first, then Table D, then the
-/// input.
-#[test]
-fn runs_encode_lines(rt: HostRuntime) -> Result<(), Fail> {
-    static LINES: [(&[&str], u8, bool, &str); 8] = [
-        (
-            &["bufr", "encode", "-B", "b.csv", "-D", "d.csv"],
-            0,
-            true,
-            "",
-        ),
-        (
-            &["bufr", "encode", "-B", "b.csv", "-D", "d.csv", "one.txt"],
-            1,
-            true,
-            "line 26: 50 line\n",
-        ),
-        (
-            &["bufr", "encode", "-B", "b.csv", "-D", "d.csv", "two.txt"],
-            2,
-            false,
-            "bufr: cannot open two.txt\n",
-        ),
-        (
-            &["bufr", "encode", "-B", "no.csv", "-D", "none.csv"],
-            2,
-            false,
-            "bufr: cannot open no.csv\n",
-        ),
-        (
-            &["bufr", "encode", "-B", "b.csv", "-D", "none.csv", "two.txt"],
-            2,
-            false,
-            "bufr: cannot open none.csv\n",
-        ),
-        (
-            &["bufr", "encode", "-B", "d.csv", "-D", "none.csv"],
-            2,
-            false,
-            "table B: 40 header\n",
-        ),
-        (
-            &[
-                "bufr",
-                "encode",
-                "-B",
-                "b.csv",
-                "-D",
-                "cycle.csv",
-                "two.txt",
-            ],
-            2,
-            false,
-            "table D: 43 cycle 300001\n",
-        ),
-        (
-            &["bufr", "encode", "-D", "d.csv"],
-            2,
-            false,
-            "required arguments were not provided",
-        ),
-    ];
-    let message = one_block_number(rt.alloc())?;
-    let text = text_of_one(rt.alloc())?;
-    let mut file = String::new(rt.alloc());
-    file.push_str(text.as_str())?;
-    file.push_str("subset 1\n")?;
-    let library = Library {
-        file: file.as_bytes(),
-        standard: text.as_bytes(),
-    };
-    for (words, status, encoded, errors) in &LINES {
-        let want = if *encoded { message.as_slice() } else { b"" };
-        let mut w = ScriptOut::new(rt.alloc(), 4096, 4096, End::Fail)?;
-        let mut e = ScriptOut::new(rt.alloc(), 4096, 4096, End::Fail)?;
-        let answer = run(rt.alloc(), *words, &library, &mut w, &mut e);
-        assert_eq!(rt; answer, *status, "{words:?}");
-        assert_eq!(rt; w.taken(), want, "{words:?}");
-        let told = str::from_utf8(e.taken()).expect(&rt, "text");
-        assert!(rt; told.contains(*errors), "{words:?}: {told}");
-        assert!(rt; told.is_empty() == errors.is_empty(), "{words:?}: {told}");
     }
     Ok(())
 }

@@ -23,9 +23,17 @@ use std::io::{BufWriter, ErrorKind, Stdin};
 use std::process::ExitCode;
 
 #[cfg(test)]
+mod dump_fault_tests;
+#[cfg(test)]
 mod dump_tests;
 #[cfg(test)]
+mod encode_fault_tests;
+#[cfg(test)]
 mod encode_tests;
+#[cfg(test)]
+mod program_tests;
+#[cfg(test)]
+mod test_messages;
 #[cfg(test)]
 mod tests;
 

@@ -1,8 +1,5 @@
-//! The worked examples, run.
+//! The worked examples of `ls`, run.
 
-use crate::finish::{Outcome, finish};
-use crate::job::{LineFault, Subcommand, parse_line};
-use crate::program::{Inputs, Unopened, run};
 use crate::read_all::read_all;
 use crate::run_ls::run_ls;
 use crate::tally::Tally;
@@ -14,14 +11,14 @@ use std::process::Abort;
 use std::test::Fail;
 
 /// A message of edition 4 with one block number, 48 octets.
-const ONE_BLOCK_NUMBER: [u8; 48] = [
+pub(crate) const ONE_BLOCK_NUMBER: [u8; 48] = [
     0x42, 0x55, 0x46, 0x52, 0x00, 0x00, 0x30, 0x04, 0x00, 0x00, 0x16, 0x00, 0x00, 0x62, 0x00, 0x00,
     0x00, 0x00, 0x00, 0x00, 0x00, 0x0E, 0x00, 0x07, 0xE8, 0x01, 0x02, 0x03, 0x04, 0x05, 0x00, 0x00,
     0x09, 0x00, 0x00, 0x01, 0x80, 0x01, 0x01, 0x00, 0x00, 0x05, 0x00, 0x14, 0x37, 0x37, 0x37, 0x37,
 ];
 
 /// Its line behind the offset.
-const LINE: &str =
+pub(crate) const LINE: &str =
     " length=48 edition=4 centre=98/0 update=0 category=0/0/0 tables=0/14/0 time=2024-01-02T03:04:05 subsets=1 observed=1 compressed=0 optional=0 descriptors=1\n";
 
 /// A stream made of that message, and what `ls` makes of it.
@@ -388,124 +385,6 @@ fn lists_while_it_reads(rt: HostRuntime) -> Result<(), Fail> {
     Ok(())
 }
 
-/// An input of one file and of standard input.
-#[derive(Drop)]
-struct Shelf<'a> {
-    name: &'a str,
-    file: &'a [u8],
-    standard: &'a [u8],
-}
-
-impl<'a> Inputs for Shelf<'a> {
-    ghost use Rattle.std.specs.Prelude.{Some};
-
-    type Standard = &'a [u8];
-
-    type File = &'a [u8];
-
-    ghost standard_octets = { λ s. Some s.standard.now };
-
-    ghost file_octets = { λ s _. Some s.file.now };
-
-    fn standard(&self) -> &'a [u8] {
-        self.standard
-    }
-
-    fn open(&self, name: &str) -> Result<&'a [u8], Unopened> {
-        if name == self.name {
-            Ok(self.file)
-        } else {
-            Err(Unopened)
-        }
-    }
-}
-
-/// What comes of a command line over one file, `one.bufr`, which has the message behind a stray
-/// word, and standard input, which has the message alone.
-#[test]
-fn runs_lines(rt: HostRuntime) -> Result<(), Fail> {
-    static ROWS: [(&[&str], u8, &[&str], &str); 7] = [
-        (&["bufr", "ls"], 0, &["offset=0", LINE], ""),
-        (
-            &["bufr", "ls", "one.bufr"],
-            1,
-            &["offset=4", LINE],
-            "offset 0: 1 cut\n",
-        ),
-        (
-            &["bufr", "ls", "two.bufr"],
-            2,
-            &[],
-            "bufr: cannot open two.bufr\n",
-        ),
-        (&["bufr", "ls", "-"], 2, &[], "bufr: cannot open -\n"),
-        (&["bufr"], 2, &[], "Usage: bufr <COMMAND>"),
-        (&["bufr", "--version"], 0, &["bufr 0.1.0\n"], ""),
-        (
-            &["bufr", "ls", "one.bufr", "two.bufr"],
-            2,
-            &[],
-            "unexpected argument 'two.bufr' found",
-        ),
-    ];
-    let mut file = Vec::new(rt.alloc());
-    file.extend_from_slice(b"BUFR")?;
-    file.extend_from_slice(&ONE_BLOCK_NUMBER)?;
-    let shelf = Shelf {
-        name: "one.bufr",
-        file: &file,
-        standard: &ONE_BLOCK_NUMBER,
-    };
-    for (words, status, output, errors) in &ROWS {
-        let mut want = String::new(rt.alloc());
-        for part in *output {
-            want.push_str(part)?;
-        }
-        let mut w = ScriptOut::new(rt.alloc(), 4096, 4096, End::Fail)?;
-        let mut e = ScriptOut::new(rt.alloc(), 4096, 4096, End::Fail)?;
-        let answer = run(rt.alloc(), *words, &shelf, &mut w, &mut e);
-        assert_eq!(rt; answer, *status, "{words:?}");
-        assert_eq!(rt; w.taken(), want.as_bytes(), "{words:?}");
-        let told = str::from_utf8(e.taken()).expect(&rt, "text");
-        assert!(rt; told.contains(*errors), "{words:?}: {told}");
-        assert!(rt; told.is_empty() == errors.is_empty(), "{words:?}: {told}");
-    }
-    Ok(())
-}
-
-/// Help is handed on; where it cannot be written the status says so.
-#[test]
-fn shows_help(rt: HostRuntime) -> Result<(), Fail> {
-    let shelf = Shelf {
-        name: "",
-        file: b"",
-        standard: b"",
-    };
-    for words in [
-        ["bufr", "--help"].as_slice(),
-        ["bufr", "ls", "--help"].as_slice(),
-        ["bufr", "dump", "--help"].as_slice(),
-        ["bufr", "encode", "--help"].as_slice(),
-    ] {
-        let mut w = ScriptOut::new(rt.alloc(), 4096, 4096, End::Zero)?;
-        let mut e = ScriptOut::new(rt.alloc(), 4096, 4096, End::Zero)?;
-        assert_eq!(rt; run(rt.alloc(), words, &shelf, &mut w, &mut e), 0);
-        let told = str::from_utf8(w.taken()).expect(&rt, "text");
-        assert!(rt; told.contains("Exit status:"), "{told}");
-        assert!(rt; e.taken().is_empty());
-        let mut w = ScriptOut::new(rt.alloc(), 4096, 4096, End::Flush)?;
-        assert_eq!(rt; run(rt.alloc(), words, &shelf, &mut w, &mut e), 2);
-        assert_eq!(rt; e.taken(), b"bufr: 71 write failed\n".as_slice());
-    }
-    Ok(())
-}
-
-/// The process's own files: one that is not there cannot be opened.
-#[test]
-fn opens_files_of_the_process(rt: HostRuntime) {
-    assert!(rt; rt.open("no such file.bufr").is_err());
-}
-
 /// A writer that fails, takes nothing, or cannot be flushed has taken a front of the line.
 #[test]
 fn stops_at_a_failed_write(rt: HostRuntime) -> Result<(), Fail> {
@@ -558,93 +437,6 @@ fn reads_all(rt: HostRuntime) -> Result<(), Fail> {
     assert_eq!(rt; octets.as_slice(), ONE_BLOCK_NUMBER.as_slice());
     let mut r = ScriptIn::new(&ONE_BLOCK_NUMBER, 7, Some(20));
     assert!(rt; matches!(read_all(rt.alloc(), &mut r), Err(RunFault::Read)));
-    Ok(())
-}
-
-#[test]
-fn parses_lines(rt: HostRuntime) -> Result<(), Fail> {
-    let words = ["bufr", "ls"];
-    let job = parse_line(rt.alloc(), words.as_slice()).expect(&rt, "a job");
-    assert!(rt; job.command == Subcommand::Ls && job.file == None);
-    let words = ["bufr", "ls", "bulletins.bufr"];
-    let job = parse_line(rt.alloc(), words.as_slice()).expect(&rt, "a job");
-    assert!(rt; job.command == Subcommand::Ls && job.file == Some("bulletins.bufr"));
-    Ok(())
-}
-
-#[test]
-fn refuses_lines(rt: HostRuntime) -> Result<(), Fail> {
-    static REFUSED: [(&[&str], &str); 5] = [
-        (&["bufr"], "Usage: bufr <COMMAND>"),
-        (&["/usr/bin/other"], "Usage: bufr <COMMAND>"),
-        (&["bufr", "lst"], "unrecognized subcommand 'lst'"),
-        (&["bufr", "ls", "a", "b"], "unexpected argument 'b' found"),
-        (
-            &["bufr", "ls", "--long"],
-            "unexpected argument '--long' found",
-        ),
-    ];
-    for (words, part) in &REFUSED {
-        match parse_line(rt.alloc(), *words) {
-            Err(LineFault::Usage(text)) => assert!(rt; text.as_str().contains(*part), "{text}"),
-            other => assert!(rt; false, "{other:?}"),
-        }
-    }
-    for words in [
-        ["bufr", "--help"].as_slice(),
-        ["bufr", "ls", "--help"].as_slice(),
-    ] {
-        match parse_line(rt.alloc(), words) {
-            Err(LineFault::Help(text)) => assert!(rt;
-                text.as_str().contains("Usage: bufr"),
-                "{text}"
-            ),
-            other => assert!(rt; false, "{other:?}"),
-        }
-    }
-    Ok(())
-}
-
-/// Asserts what `finish` writes and answers, also where it cannot write.
-pub(crate) fn assert_finished(
-    rt: &(impl Abort + AllocGlobal),
-    outcome: &Outcome<'_>,
-    line: &str,
-    status: u8,
-) -> Result<(), Fail> {
-    let mut e = ScriptOut::new(rt.alloc(), 100, 3, End::Fail)?;
-    assert_eq!(rt; finish(outcome, &mut e), status, "{line}");
-    assert_eq!(rt; e.taken(), line.as_bytes(), "{line}");
-    let mut e = ScriptOut::new(rt.alloc(), 4, 3, End::Zero)?;
-    assert_eq!(rt; finish(outcome, &mut e), status, "{line}");
-    Ok(())
-}
-
-#[test]
-fn finishes(rt: HostRuntime) -> Result<(), Fail> {
-    let clean = Tally {
-        accepted: 3,
-        refused: 0,
-    };
-    let refusing = Tally {
-        accepted: 3,
-        refused: 1,
-    };
-    assert_finished(&rt, &Outcome::Ran(clean), "", 0)?;
-    assert_finished(&rt, &Outcome::Ran(refusing), "", 1)?;
-    let usage = "error: no command\n";
-    assert_finished(&rt, &Outcome::Usage(usage), usage, 2)?;
-    let line = "bufr: cannot open x.bufr\n";
-    assert_finished(&rt, &Outcome::CannotOpen("x.bufr"), line, 2)?;
-    static FAULTS: [(RunFault, &str); 4] = [
-        (RunFault::Read, "bufr: 70 read failed\n"),
-        (RunFault::Write, "bufr: 71 write failed\n"),
-        (RunFault::InputTooLong, "bufr: 72 input too long\n"),
-        (RunFault::Memory, "bufr: 73 out of memory\n"),
-    ];
-    for (fault, line) in &FAULTS {
-        assert_finished(&rt, &Outcome::Run(*fault), line, 2)?;
-    }
     Ok(())
 }
 

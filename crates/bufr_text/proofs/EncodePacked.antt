@@ -28,8 +28,10 @@ use Rattle.bufr_fill.proofs.WalkFills.{walk_fills, unfilled}
 use Rattle.bufr_bits.specs.Bits.{bits_of}
 use Rattle.bufr_text.specs.declared.encode_fault.DocumentFault.{DocumentFault}
 use Rattle.bufr_text.specs.EncodingFault.{told_of_draft, told_refusal}
-use Rattle.bufr_text.specs.Encodes.{told_stop, count_filled, AreOctetsOf, IsData, IsNoData}
+use Rattle.bufr_text.specs.Encodes.{told_stop, count_filled, turns_filled, turns_packed, AreOctetsOf, IsData, IsNoData}
+use Rattle.bufr_walk.specs.Ticks.{ticked}
 use Rattle.bufr_text.proofs.EncodesLemmas.{after_told, walk_counts, refuses_so}
+use Rattle.bufr_text.proofs.TurnsLemmas.{AddsTurns, walk_turns, IsLast, last_turns, some_turns, ticked_at_most, all_made, makes_so}
 use Rattle.bufr_text.proofs.EncodePlain.{mul_most}
 
 -- ---- places
@@ -111,6 +113,9 @@ module _ (n : ℕ) (course : Course) (s : Subset) (more : List Subset) where
   abbrev fill_from : Course → ℕ → Result (List Bool) FaultAt
   fill_from c place = fill (packed_filler s.end_line (are_many (longest (s ∷ more)) (length (s ∷ more)))) c (rows (longest (s ∷ more) - place) place (s ∷ more))
 
+  abbrev turns_from : Course → ℕ → ℕ
+  turns_from c place = turns_filled (packed_filler s.end_line (are_many (longest (s ∷ more)) (length (s ∷ more)))) c (rows (longest (s ∷ more) - place) place (s ∷ more))
+
   abbrev count : ℕ
   count = count_filled (packed_filler s.end_line (are_many (longest (s ∷ more)) (length (s ∷ more)))) course (rows (longest (s ∷ more)) 0 (s ∷ more))
 
@@ -120,6 +125,7 @@ module _ (n : ℕ) (course : Course) (s : Subset) (more : List Subset) where
     are : mid.bits ≡ bits
     is : packed_data course (s ∷ more) ≡ and_behind (packed_filler s.end_line (are_many (longest (s ∷ more)) (length (s ∷ more)))) bits (fill_from (course_after course items) mid.place)
     few : length mid.bits ≤ count
+    turns : turns_packed course (s ∷ more) ≡ turns_from (course_after course items) mid.place
     subsets : mid.subsets ≡ s ∷ more
     within : mid.place ≤ longest (s ∷ more)
     whole : mid.used ≡ length mid.bits
@@ -130,12 +136,14 @@ module _ (n : ℕ) (course : Course) (s : Subset) (more : List Subset) where
       let w = walked course (packed_start (s ∷ more)) items mid h (omega arith) (omega arith) refl in
       let f = walk_fills filler rows_left (λ (p : PackedPen). p.bits) Packs (packs s.end_line (are_many (longest (s ∷ more)) (length (s ∷ more)))) course (packed_start (s ∷ more)) items mid w.0 in
       let c = walk_counts filler rows_left (λ (p : PackedPen). p.bits) Packs (packs s.end_line (are_many (longest (s ∷ more)) (length (s ∷ more)))) course (packed_start (s ∷ more)) items mid w.0 in
+      let t = walk_turns filler rows_left (λ (p : PackedPen). p.bits) Packs (packs s.end_line (are_many (longest (s ∷ more)) (length (s ∷ more)))) course (packed_start (s ∷ more)) items mid w.0 in
       let e : longest (s ∷ more) - 0 ≡ longest (s ∷ more) = omega arith in
       record {
         bits = f.0;
         are = f.1;
         is = ap (λ k. fill filler course (rows k 0 (s ∷ more))) (sym e) ∙ f.2 ∙ ap (λ ss. and_behind filler f.0 (fill filler (course_after course items) (rows (longest ss - mid.place) mid.place ss))) w.1.subsets;
         few = omega (arith, c, ap (λ k. count_filled filler course (rows k 0 (s ∷ more))) e);
+        turns = ap (λ k. turns_filled filler course (rows k 0 (s ∷ more))) (sym e) ∙ t ∙ ap (λ ss. turns_filled filler (course_after course items) (rows (longest ss - mid.place) mid.place ss)) w.1.subsets;
         subsets = w.1.subsets;
         within = omega (arith, w.1.within, ap longest w.1.subsets);
         whole = w.1.whole;
@@ -202,6 +210,19 @@ ends_before place (s ∷ ss) f e = by (slice_get s.items place) refl e (λ e. en
     by None is e g = let r = g e in (omega (arith, r.0), r.1 ∙ ap (λ o. at_line (there_or o (first_there (cells_at place ss))) item_too_many) (sym is))
     by (Some d) is e g = let same : at_line d.line item_too_many ≡ f = cc in (omega (arith, get_within s.items place d is), sym same ∙ ap (λ o. at_line (there_or o (first_there (cells_at place ss))) item_too_many) (sym is))
 
+-- ---- the turns
+
+-- a walk to the end makes all turns
+all_turns : (n : ℕ) (course : Course) (s : Subset) (more : List Subset) (items : List Turn) (mid : PackedPen) (c c' : ℕ) → Came n course s more items mid → c ≡ 0 → (course (told_by items)).next ≡ at_end → c' ≡ ticked c (course (told_by items)).turns → c' ≡ ticked 0 (turns_packed course (s ∷ more))
+all_turns n course s more items mid c c' h z e made =
+    made ∙ ap (λ x. ticked x (course (told_by items)).turns) z
+    ∙ ap (ticked 0) (last_turns (packed_filler s.end_line (are_many (longest (s ∷ more)) (length (s ∷ more)))) course items (rows (longest (s ∷ more) - mid.place) mid.place (s ∷ more)) at_end (turns_packed course (s ∷ more)) h.turns e tt)
+
+-- an item of all subsets that is at fault is not taken
+none_taken : (end : ℕ) (many : Bool) (spec : Asked) (place k : ℕ) (ss : List Subset) (f : FaultAt) → pack_across spec (across place ss) ≡ Err f → IsLast (packed_filler end many) (take_next spec) (rows k place ss)
+none_taken end many spec place zero ss f e = tt
+none_taken end many spec place (suc k) ss f e = (f, e)
+
 -- the data were written
 pub packed_written : (n : ℕ) (course : Course) (ss : List Subset) (start : PackedPen) (c : ℕ) (mid : PackedPen) (c' : ℕ) (octets : List ℕ) → start ≡ packed_start ss → 1 ≤ length ss → c ≡ 0 → Walked PackedFills course start c (Ok tt) mid c'
     → all_end (cells_at mid.place mid.subsets) ≡ Ok tt → c' ≤ c + n * (mid.used - start.used) → AreOctetsOf octets mid.bits → IsData n true course ss octets c'
@@ -217,6 +238,7 @@ packed_written n course (s ∷ more) start c mid c' octets at some z w e few o =
       out = mid.bits;
       is = h.is ∙ ap (and_behind filler h.bits) none ∙ ap Ok (append-nil h.bits ∙ sym h.are);
       octets_are = o;
+      made = all_turns n course s more w.0 mid c c' h z w.2 w.3;
       few = omega (arith, z, few, mul_most n (mid.used - start.used) (count_filled filler course (rows (longest (s ∷ more)) 0 (s ∷ more))) (omega (arith, h.whole, h.few)));
     }
 
@@ -236,6 +258,7 @@ packed_over n course (s ∷ more) start c mid c' e why at some z w fault told fe
     let is = later n course s more w.0 mid h fault.0 over in
     record {
       refuses = refuses_so (told_fault e) (told_refusal why) (packed_data course (s ∷ more)) told (λ f g. is ∙ ap Err (same fault.0 f (sym fault.1 ∙ g)));
+      made = all_made (told_refusal why) 0 (turns_packed course (s ∷ more)) c' (all_turns n course s more w.0 mid c c' h z w.2 w.3);
       few = omega (arith, z, few, mul_most n (mid.used - start.used) (count_filled filler course (rows (longest (s ∷ more)) 0 (s ∷ more)) + 1) (omega (arith, h.whole, h.few)));
     }
   where
@@ -243,13 +266,20 @@ packed_over n course (s ∷ more) start c mid c' e why at some z w fault told fe
     same a b e = cc
 
 -- the walk stopped
-pub packed_stopped : (n : ℕ) (course : Course) (ss : List Subset) (start : PackedPen) (c : ℕ) (s' : PackedPen) (c' line : ℕ) (stop : WalkStop DraftFault) (why : DocumentFault) → start ≡ packed_start ss → 1 ≤ length ss → c ≡ 0 → Walked PackedFills course start c (Err stop) s' c'
+pub packed_stopped : (n : ℕ) (course : Course) (ss : List Subset) (start : PackedPen) (c : ℕ) (s' : PackedPen) (c' line : ℕ) (stop : WalkStop DraftFault) (why : DocumentFault) → AddsTurns course → start ≡ packed_start ss → 1 ≤ length ss → c ≡ 0 → Walked PackedFills course start c (Err stop) s' c'
     → line ≡ first_line_at s'.place s'.subsets → told_refusal why ≡ option_map told_of_draft (told_stop line stop) → c' ≤ c + n * (s'.used - start.used + 1) → IsNoData n true course ss why c'
-packed_stopped n course [] start c s' c' line stop why at some z w l told few = absurd (omega (arith, some))
-packed_stopped n course (s ∷ more) start c s' c' line stop why at some z w l told few =
+packed_stopped n course [] start c s' c' line stop why g at some z w l told few = absurd (omega (arith, some))
+packed_stopped n course (s ∷ more) start c s' c' line stop why g at some z w l told few =
     let h = came n course s more w.0 w.1 (subst (λ x. Takes (oks PackedFills) course x w.0 w.1) at w.2) in
+    let filler = packed_filler s.end_line (are_many (longest (s ∷ more)) (length (s ∷ more))) in
+    let left = rows (longest (s ∷ more) - w.1.place) w.1.place (s ∷ more) in
+    let all = turns_packed course (s ∷ more) in
+    let ticks : c' ≡ ticked 0 (course (told_by w.0)).turns = w.4 ∙ ap (λ x. ticked x (course (told_by w.0)).turns) z in
     record {
       refuses = refuses_so (told_stop line stop) (told_refusal why) (packed_data course (s ∷ more)) told (λ f t. later n course s more w.0 w.1 h f (by stop (course (told_by w.0)).next refl w.3 h f t));
+      made = makes_so (told_stop line stop) (told_refusal why) 0 all c' told
+          (omega (arith, ticks, ticked_at_most 0 (course (told_by w.0)).turns all (some_turns filler course w.0 left all g h.turns)))
+          (λ f t. ticks ∙ ap (ticked 0) (last_turns filler course w.0 left (course (told_by w.0)).next all h.turns refl (last stop (course (told_by w.0)).next w.3 h f t)));
       few = omega (arith, z, few, mul_most n (s'.used - start.used + 1) (count_filled (packed_filler s.end_line (are_many (longest (s ∷ more)) (length (s ∷ more)))) course (rows (longest (s ∷ more)) 0 (s ∷ more)) + 1) (omega (arith, h.whole, h.few, still (course (told_by w.0)).next stop w.3)));
     }
   where
@@ -277,6 +307,17 @@ packed_stopped n course (s ∷ more) start c s' c' line stop why at some z w l t
     told_here None m spec f h e = absurd cc e
     told_here (Some g) m spec f h e = let same : g ≡ f = cc in h.0 ∙ ap Err same
 
+    last : (stop : WalkStop DraftFault) (next : Next) → StopsAt PackedFills next w.1 stop s' → Came n course s more w.0 w.1 → (f : FaultAt) → told_stop line stop ≡ Some f
+        → IsLast (packed_filler s.end_line (are_many (longest (s ∷ more)) (length (s ∷ more)))) next (rows (longest (s ∷ more) - w.1.place) w.1.place (s ∷ more))
+    last (stops.Field e) (take_next spec) h k f t =
+        none_taken s.end_line (are_many (longest (s ∷ more)) (length (s ∷ more))) spec w.1.place (longest (s ∷ more) - w.1.place) (s ∷ more) f (ap (λ ss. pack_across spec (across w.1.place ss)) (sym k.subsets) ∙ told_here (told_fault e) w.1 spec f h t)
+    last stops.Memory (take_next spec) h k f t = absurd cc t
+    last (stops.Width fxy) (take_next spec) h k f t = absurd h
+    last (stops.Defining fxy) (take_next spec) h k f t = absurd h
+    last stop at_end h k f t = tt
+    last stop astray h k f t = tt
+    last stop (refused r) h k f t = tt
+
     by : (stop : WalkStop DraftFault) (next : Next) → (course (told_by w.0)).next ≡ next → StopsAt PackedFills next w.1 stop s' → Came n course s more w.0 w.1 → (f : FaultAt) → told_stop line stop ≡ Some f
         → fill_from n course s more (course_after course w.0) w.1.place ≡ Err f
     by (stops.Field e) (take_next spec) x h k f t =
@@ -298,6 +339,7 @@ none_packed n course ss steps octets e o z = subst (λ x. IsData n true course x
   out = [];
   is = refl;
   octets_are = record { same = ap bits_of o; count = ap length o };
+  made = z;
   few = omega (arith, z);
 })
 

@@ -26,8 +26,11 @@ use Rattle.bufr_fill.proofs.PlainWalks.{walk_of_items, fault_of_items}
 use Rattle.bufr_text.specs.declared.encode_fault.DocumentFault.{DocumentFault}
 use Rattle.bufr_text.specs.Encoding.{RefusedAt, told_of_items}
 use Rattle.bufr_text.specs.EncodingFault.{told_of_draft, told_refusal}
-use Rattle.bufr_text.specs.Encodes.{RefusesSo, told_stop, count_filled, count_plain, and_more, left_behind, fill_next, count_next, IsSubset, IsNoSubset, AreOctetsOf, IsData, IsNoData}
+use Rattle.bufr_text.specs.Encodes.{RefusesSo, told_stop, count_filled, count_plain, turns_filled, turns_plain, and_more, left_behind, fill_next, count_next, turns_next, MakesSo, IsSubset, IsNoSubset, AreOctetsOf, IsData, IsNoData}
+use Rattle.bufr_walk.specs.Ticks.{ticked}
+use Rattle.bufr_walk.proofs.PlainSubsets.{ticked_more}
 use Rattle.bufr_text.proofs.EncodesLemmas.{after_told, walk_counts, all_counted, refuses_so}
+use Rattle.bufr_text.proofs.TurnsLemmas.{AddsTurns, walk_turns, IsLast, last_turns, some_turns, ticked_at_most, all_made, makes_so}
 
 -- ---- products
 
@@ -74,6 +77,21 @@ fills end s spec t s' h = record {
 counts : (end : ℕ) (course : Course) (s : Pen) (items : List Turn) (s' : Pen) → Takes (oks PlainFills) course s items s' → length s'.bits ≤ length s.bits + count_filled (plain_filler end) course (items_left s.left)
 counts end course s items s' h = omega (arith, walk_counts (plain_filler end) (λ (p : Pen). items_left p.left) (λ (p : Pen). p.bits) (oks PlainFills) (fills end) course s items s' h)
 
+-- the turns of the next subset are those that a walk comes to
+turns_left : (course : Course) (s : Pen) (items : List Turn) (mid : Pen) → Takes (oks PlainFills) course s items mid → turns_next course s.left ≡ turns_filled (plain_filler (end_left s.left)) (course_after course items) (items_left mid.left)
+turns_left course s items mid h = walk_turns (plain_filler (end_left s.left)) (λ (p : Pen). items_left p.left) (λ (p : Pen). p.bits) (oks PlainFills) (fills (end_left s.left)) course s items mid h
+
+-- an item at fault is not taken
+none_taken : (end : ℕ) (spec : Asked) (left : List Entry) (f : FaultAt) → IsFaultOf spec left f → IsLast (plain_filler end) (take_next spec) (items_left left)
+none_taken end spec [] f h = tt
+none_taken end spec (Ends line ∷ more) f h = tt
+none_taken end spec (Holds d ∷ more) f h = (at_line d.line h.0, ap (plainly d.line spec) h.1)
+
+-- a walk to the end makes all turns of its subset
+all_turns : (course : Course) (s : Pen) (c : ℕ) (mid : Pen) (c' : ℕ) → Walked PlainFills course s c (Ok tt) mid c' → c' ≡ ticked c (turns_next course s.left)
+all_turns course s c mid c' w =
+    w.3 ∙ ap (ticked c) (last_turns (plain_filler (end_left s.left)) course w.0 (items_left mid.left) at_end (turns_next course s.left) (turns_left course s w.0 mid w.1) w.2 tt)
+
 -- at the end of the template
 at_end_none : (end : ℕ) (course : Course) (left more : List Entry) → (course []).next ≡ at_end → behind_end left ≡ Ok more → (fill (plain_filler end) course (items_left left) ≡ Ok []) × (left_behind left ≡ more)
 at_end_none end course [] more h e = absurd cc e
@@ -113,6 +131,7 @@ subset_written n course s c mid c' s' w passed same few =
       is = filled.2 ∙ ap (and_behind (plain_filler end) filled.0) none.0 ∙ ap Ok (append-nil filled.0);
       written = same ∙ filled.1;
       left = sym none.1 ∙ k.behind;
+      made = all_turns course s c mid c' w;
       few = subst (λ x. c' ≤ c + n * x) e few;
     }
 
@@ -135,6 +154,7 @@ subset_over n course s c mid c' e why w some fault told few =
     let count = counts (end_left s.left) course s w.0 mid w.1 in
     record {
       refuses = refuses_so (told_fault e) (told_refusal why) (fill_next course s.left) told (λ f h. is ∙ ap Err (same fault.0 f (sym fault.1 ∙ h)));
+      made = all_made (told_refusal why) c (turns_next course s.left) c' (all_turns course s c mid c' w);
       few = omega (arith, few, mul_most n (length mid.bits - length s.bits) (count_next course s.left + 1) (omega (arith, count)));
     }
   where
@@ -142,12 +162,17 @@ subset_over n course s c mid c' e why w some fault told few =
     same a b e = cc
 
 -- the walk stopped
-pub subset_stopped : (n : ℕ) (course : Course) (s : Pen) (c : ℕ) (s' : Pen) (c' line : ℕ) (stop : WalkStop DraftFault) (why : DocumentFault) → Walked PlainFills course s c (Err stop) s' c' → line ≡ line_at s'.left
+pub subset_stopped : (n : ℕ) (course : Course) (s : Pen) (c : ℕ) (s' : Pen) (c' line : ℕ) (stop : WalkStop DraftFault) (why : DocumentFault) → AddsTurns course → Walked PlainFills course s c (Err stop) s' c' → line ≡ line_at s'.left
     → told_refusal why ≡ option_map told_of_draft (told_stop line stop) → c' ≤ c + n * (length s'.bits - length s.bits + 1)
     → IsNoSubset n course s c why c'
-subset_stopped n course s c s' c' line stop why w at told few =
+subset_stopped n course s c s' c' line stop why g w at told few =
+    let all = turns_left course s w.0 w.1 w.2 in
+    let filler = plain_filler (end_left s.left) in
     record {
       refuses = refuses_so (told_stop line stop) (told_refusal why) (fill_next course s.left) told (λ f h. refused_later course s w.1 w.0 f w.2 (by stop (course (told_by w.0)).next refl w.3 f h));
+      made = makes_so (told_stop line stop) (told_refusal why) c (turns_next course s.left) c' told
+          (omega (arith, w.4, ticked_at_most c (course (told_by w.0)).turns (turns_next course s.left) (some_turns filler course w.0 (items_left w.1.left) (turns_next course s.left) g all)))
+          (λ f t. w.4 ∙ ap (ticked c) (last_turns filler course w.0 (items_left w.1.left) (course (told_by w.0)).next (turns_next course s.left) all refl (last stop (course (told_by w.0)).next w.3 f t)));
       few = omega (arith, few, mul_most n (length s'.bits - length s.bits + 1) (count_next course s.left + 1) (omega (arith, count, ap length (still (course (told_by w.0)).next stop w.3))));
     }
   where
@@ -172,6 +197,15 @@ subset_stopped n course s c s' c' line stop why w at told few =
     where_told : (o : Option FaultAt) (p : FaultAt → Type 0) (f : FaultAt) → WhereTold o p → o ≡ Some f → p f
     where_told None p f h e = absurd cc e
     where_told (Some g) p f h e = let same : g ≡ f = cc in subst p same h
+
+    last : (stop : WalkStop DraftFault) (next : Next) → StopsAt PlainFills next w.1 stop s' → (f : FaultAt) → told_stop line stop ≡ Some f → IsLast (plain_filler (end_left s.left)) next (items_left w.1.left)
+    last (stops.Field e) (take_next spec) h f t = none_taken (end_left s.left) spec w.1.left f (where_told (told_fault e) (IsFaultOf spec w.1.left) f h.0 t)
+    last stops.Memory (take_next spec) h f t = absurd cc t
+    last (stops.Width fxy) (take_next spec) h f t = absurd h
+    last (stops.Defining fxy) (take_next spec) h f t = absurd h
+    last stop at_end h f t = tt
+    last stop astray h f t = tt
+    last stop (refused r) h f t = tt
 
     refused_so : (r : refusal.the_data) (f : FaultAt) → told_stop line (stop_by r) ≡ Some f → at_line line (walk_refused r) ≡ f
     refused_so (refusal.Width fxy) f e = cc
@@ -199,6 +233,9 @@ put_before bits (Err why) = Err why
 pub record PlainSoFar (places : ℕ) (course : Course) (all : List Subset) (done : ℕ) (left : List Entry) (bits : List Bool) (steps : ℕ) : Type 0 where
   pub is : plain_data course all ≡ put_before bits (plain_data course (subsets_of left))
   pub count : count_plain course all ≡ length bits + count_plain course (subsets_of left)
+  pub made : ℕ
+  pub ticks : steps ≡ ticked 0 made
+  pub turns : turns_plain course all ≡ made + turns_plain course (subsets_of left)
   pub few : steps ≤ places * length bits
   pub rest : done + length (subsets_of left) ≡ length all
 
@@ -212,6 +249,9 @@ unfolding put_before
 none_written n course all s steps e b z = record {
   is = same (plain_data course (subsets_of all)) ∙ ap (λ l. put_before [] (plain_data course (subsets_of l))) (sym e) ∙ ap (λ b. put_before b (plain_data course (subsets_of s.left))) (sym b);
   count = let g : length s.bits ≡ 0 = ap length b in let k : count_plain course (subsets_of all) ≡ count_plain course (subsets_of s.left) = ap (λ l. count_plain course (subsets_of l)) (sym e) in omega (arith, g, k);
+  made = 0;
+  ticks = z;
+  turns = let k : turns_plain course (subsets_of all) ≡ turns_plain course (subsets_of s.left) = ap (λ l. turns_plain course (subsets_of l)) (sym e) in omega (arith, k);
   few = omega (arith, z);
   rest = omega (arith, ap (λ l. length (subsets_of l)) e);
 }
@@ -240,6 +280,13 @@ one_more n course all done s steps s' steps' h some p =
           let d = all_counted (plain_filler (end_left s.left)) course (items_left s.left) p.bits p.is in
           let e = ap (count_plain course) behind in
           omega (arith, h.count, a, b, d, e, long);
+      made = h.made + turns_next course s.left;
+      ticks = p.made ∙ ap (λ x. ticked x (turns_next course s.left)) h.ticks ∙ ticked_more h.made (turns_next course s.left);
+      turns =
+          let a = ap (turns_plain course) c in
+          let b = ap (λ r. and_more r (turns_plain course (subsets_of (left_behind s.left)))) p.is in
+          let e = ap (turns_plain course) behind in
+          omega (arith, h.turns, a, b, e);
       few = omega (arith, h.few, p.few, split n (length s.bits) (length p.bits), ap (λ x. n * x) long);
       rest = omega (arith, h.rest, ap length c, ap length behind);
     }
@@ -263,6 +310,7 @@ all_written n course all done s steps octets h e o =
       out = s.bits;
       is = h.is ∙ ap (λ x. put_before s.bits (plain_data course x)) none ∙ ap Ok (append-nil s.bits);
       octets_are = o;
+      made = h.ticks ∙ ap (ticked 0) (omega (arith, h.turns, ap (turns_plain course) none));
       few = omega (arith, h.few, mul_most n (length s.bits) (count_plain course all) (omega (arith, h.count)));
     }
   where
@@ -278,6 +326,7 @@ stopped n course all done s steps why steps' h some p =
     let a = ap (count_plain course) c in
     record {
       refuses = by (told_refusal why) p.refuses;
+      made = made_so (told_refusal why) p.refuses p.made;
       few = omega (arith, h.few, p.few, split n (length s.bits) (count_next course s.left + 1), mul_most n (length s.bits + (count_next course s.left + 1)) (count_plain course all + 1) (omega (arith, h.count, a)));
     }
   where
@@ -289,3 +338,15 @@ stopped n course all done s steps why steps' h some p =
     by : (o : Option RefusedAt) → RefusesSo o (told_of_items (fill_next course s.left)) → RefusesSo o (told_of_items (plain_data course all))
     by None h = tt
     by (Some f) h = later (fill_next course s.left) f h refl
+
+    none_more : (r : Result (List Bool) FaultAt) (f : RefusedAt) (more : ℕ) → told_of_items r ≡ Err f → and_more r more ≡ 0
+    none_more (Ok bits) f more t = absurd cc t
+    none_more (Err g) f more t = refl
+
+    made_so : (o : Option RefusedAt) → RefusesSo o (told_of_items (fill_next course s.left)) → MakesSo o steps (turns_next course s.left) steps' → MakesSo o 0 (turns_plain course all) steps'
+    made_so None r m =
+        let e : ticked steps (turns_next course s.left) ≡ ticked 0 (h.made + turns_next course s.left) = ap (λ x. ticked x (turns_next course s.left)) h.ticks ∙ ticked_more h.made (turns_next course s.left) in
+        omega (arith, m, e, ticked_at_most 0 (h.made + turns_next course s.left) (turns_plain course all) (omega (arith, h.turns, ap (turns_plain course) (cut s.left some))))
+    made_so (Some f) r m =
+        let none = none_more (fill_next course s.left) f (turns_plain course (subsets_of (left_behind s.left))) r in
+        m ∙ ap (λ x. ticked x (turns_next course s.left)) h.ticks ∙ ticked_more h.made (turns_next course s.left) ∙ ap (ticked 0) (omega (arith, h.turns, ap (turns_plain course) (cut s.left some), none))

@@ -12,7 +12,7 @@ use std::io::{self, Write};
 use std::test::Fail;
 
 // Test data, not WMO's.
-const TABLE_B: &[u8] = b"\
+pub(crate) const TABLE_B: &[u8] = b"\
     fxy,name,unit,scale,reference,width\n\
     001001,WMO BLOCK NUMBER,Numeric,0,0,7\n\
     001015,STATION OR SITE NAME,CCITT IA5,0,0,160\n\
@@ -23,7 +23,7 @@ const TABLE_B: &[u8] = b"\
     031001,DELAYED DESCRIPTOR REPLICATION FACTOR,Numeric,0,0,8\n\
     031002,EXTENDED DELAYED DESCRIPTOR REPLICATION FACTOR,Numeric,0,0,16\n";
 
-const TABLE_D: &[u8] = b"fxy,member\n360192,001001\n360192,012101\n";
+pub(crate) const TABLE_D: &[u8] = b"fxy,member\n360192,001001\n360192,012101\n";
 
 // What section 1 of each message says.
 const HEAD: Head = Head {
@@ -46,7 +46,7 @@ const HEAD: Head = Head {
 };
 
 // The lines of each text before `observed`.
-const FIRST_LINES: &str = "\
+pub(crate) const FIRST_LINES: &str = "\
     message\n\
     edition 4\n\
     master 0\n\
@@ -66,8 +66,8 @@ const FIRST_LINES: &str = "\
     second 5\n";
 
 // A message without octets for local use, and its text from `observed` on.
-struct Row {
-    name: &'static str,
+pub(crate) struct Row {
+    pub(crate) name: &'static str,
     subsets: u16,
     // octet 7 of section 3
     flags: u8,
@@ -77,7 +77,7 @@ struct Row {
     text: &'static str,
 }
 
-static ROWS: [Row; 21] = [
+pub(crate) static ROWS: [Row; 21] = [
     Row {
         name: "one_block_number",
         subsets: 1,
@@ -464,7 +464,7 @@ fn octets_of(alloc: Global, text: &str) -> Result<Vec<u8>, Fail> {
 }
 
 // The message of a row.
-fn message_of(alloc: Global, row: &Row) -> Result<Vec<u8>, Fail> {
+pub(crate) fn message_of(alloc: Global, row: &Row) -> Result<Vec<u8>, Fail> {
     let words = words_of(alloc, row.descriptors)?;
     let payload = octets_of(alloc, row.payload)?;
     let (observed, compressed) = (row.flags >= 128, row.flags % 128 >= 64);
@@ -476,14 +476,14 @@ fn message_of(alloc: Global, row: &Row) -> Result<Vec<u8>, Fail> {
 
 // What comes of a dump.
 #[derive(Drop)]
-struct Outcome {
+pub(crate) struct Outcome {
     written: Result<(), RunFault>,
     steps: u64,
-    taken: Vec<u8>,
+    pub(crate) taken: Vec<u8>,
 }
 
 // Dumps a message to a device that takes at most `room` octets in all, at most `step` of them at once.
-fn dump(alloc: Global, octets: &[u8], room: usize, step: usize) -> Result<Outcome, Fail>
+pub(crate) fn dump(alloc: Global, octets: &[u8], room: usize, step: usize) -> Result<Outcome, Fail>
     requires { 1 ≤ step }
 {
     let message = message_in(octets).ok_or("a message")?;

@@ -1,34 +1,19 @@
 //! Documents and their messages.
 
-use crate::{DocumentFault, DumpReader, encode_document};
+use crate::dump_tests::{FIRST_LINES, ROWS as DUMPED, TABLE_B, TABLE_D, dump, message_of};
+use crate::{Document, DocumentFault, DumpReader, dump_law, encode_document, encode_law};
 use bufr_bits::ScriptIn;
 use bufr_tables::{TableB, TableD};
 use bufr_walk::Steps;
 use std::alloc::Global;
 use std::test::Fail;
 
-// Test data, not WMO's.
-const TABLE_B: &[u8] = b"\
-    fxy,name,unit,scale,reference,width\n\
-    001001,WMO BLOCK NUMBER,Numeric,0,0,7\n\
-    001015,STATION OR SITE NAME,CCITT IA5,0,0,160\n\
-    012101,AIR TEMPERATURE,K,2,0,16\n\
-    031001,DELAYED DESCRIPTOR REPLICATION FACTOR,Numeric,0,0,8\n";
-
-const TABLE_D: &[u8] = b"fxy,member\n360192,001001\n360192,012101\n";
-
-// The lines of each text before `observed`.
-const FIRST_LINES: &str = "\
-    message\nedition 4\nmaster 0\ncentre 98\nsubcentre 0\nupdate 0\ncategory 0\nsubcategory 0\n\
-    localsubcategory 0\nmasterversion 14\nlocalversion 0\nyear 2024\nmonth 1\nday 2\nhour 3\n\
-    minute 4\nsecond 5\n";
-
 // What is wanted: the octets behind octet 22 of section 1 up to section 5, in hexadecimal, and the
-// steps; or the number of a fault and its line.
+// steps; or the number of a fault, its line, and the steps.
 #[derive(Clone, Copy)]
 enum Wanted {
     Octets(&'static str, u64),
-    Refused(u8, u64),
+    Refused(u8, u64, u64),
 }
 
 use Wanted::{Octets, Refused};
@@ -40,7 +25,7 @@ struct Row {
     wanted: Wanted,
 }
 
-static ROWS: [Row; 17] = [
+static ROWS: [Row; 30] = [
     Row {
         name: "delayed_twice",
         text: "observed 1\ncompressed 0\noptional 0\nsubsets 1\ndescriptors 101000 031001 001001\n\
@@ -76,69 +61,157 @@ static ROWS: [Row; 17] = [
         wanted: Octets("000009000001800C6500000600FFFE", 2),
     },
     Row {
+        name: "compressed_name",
+        text: "observed 1\ncompressed 1\noptional 0\nsubsets 2\ndescriptors 001015\n\
+            subset 1\n001015 \"ABC                 \"\nsubset 2\n001015 MISSING\nend\n",
+        wanted: Octets(
+            "000009000002C0010F00001F0000000000000000000000000000000000000000000D05090FFFFFFC",
+            2,
+        ),
+    },
+    Row {
+        name: "compressed_equal",
+        text: "observed 1\ncompressed 1\noptional 0\nsubsets 2\ndescriptors 012101\n\
+            subset 1\n012101 288.15\nsubset 2\n012101 288.15\nend\n",
+        wanted: Octets("000009000002C00C6500000700708F00", 2),
+    },
+    // an increment of one bit that is 1 would read as missing
+    Row {
+        name: "compressed_apart_by_one",
+        text: "observed 1\ncompressed 1\noptional 0\nsubsets 2\ndescriptors 012101\n\
+            subset 1\n012101 288.15\nsubset 2\n012101 288.16\nend\n",
+        wanted: Octets("000009000002C00C6500000800708F0840", 2),
+    },
+    Row {
+        name: "redefined_reference",
+        text: "observed 1\ncompressed 0\noptional 0\nsubsets 1\n\
+            descriptors 203010 012101 203255 012101\n\
+            subset 1\nR 012101 -400\n012101 284.15\nend\n",
+        wanted: Octets("00000F00000180830A0C6583FF0C6500000800E41C23C0", 5),
+    },
+    Row {
+        name: "equal_factors",
+        text: "observed 1\ncompressed 1\noptional 0\nsubsets 2\ndescriptors 101000 031001 001001\n\
+            subset 1\n031001 1\n001001 10\nsubset 2\n031001 1\n001001 10\nend\n",
+        wanted: Octets("00000D000002C041001F0101010000080001005000", 5),
+    },
+    Row {
+        name: "compressed_texts",
+        text: "observed 1\ncompressed 1\noptional 0\nsubsets 2\ndescriptors 205002\n\
+            subset 1\n205002 \"AB\"\nsubset 2\n205002 \"AC\"\nend\n",
+        wanted: Octets("000009000002C0850200000B000000090509050C", 2),
+    },
+    Row {
         name: "another_descriptor",
         text: "observed 1\ncompressed 0\noptional 0\nsubsets 1\ndescriptors 001001\n\
             subset 1\n012101 5\nend\n",
-        wanted: Refused(51, 24),
+        wanted: Refused(51, 24, 1),
     },
     Row {
         name: "no_item_left",
         text: "observed 1\ncompressed 0\noptional 0\nsubsets 1\ndescriptors 001001\nsubset 1\nend\n",
-        wanted: Refused(51, 24),
+        wanted: Refused(51, 24, 1),
     },
     Row {
         name: "item_too_many",
         text: "observed 1\ncompressed 0\noptional 0\nsubsets 1\ndescriptors 001001\n\
             subset 1\n001001 10\n001001 11\nend\n",
-        wanted: Refused(51, 25),
+        wanted: Refused(51, 25, 2),
     },
     Row {
         name: "not_whole_at_its_scale",
         text: "observed 1\ncompressed 0\noptional 0\nsubsets 1\ndescriptors 012101\n\
             subset 1\n012101 288.155\nend\n",
-        wanted: Refused(52, 24),
+        wanted: Refused(52, 24, 1),
     },
     Row {
         name: "reads_as_missing",
         text: "observed 1\ncompressed 0\noptional 0\nsubsets 1\ndescriptors 012101\n\
             subset 1\n012101 655.35\nend\n",
-        wanted: Refused(53, 24),
+        wanted: Refused(53, 24, 1),
     },
     Row {
         name: "long_name",
         text: "observed 1\ncompressed 0\noptional 0\nsubsets 1\ndescriptors 001015\n\
             subset 1\n001015 \"ABCDEFGHIJKLMNOPQRSTU\"\nend\n",
-        wanted: Refused(54, 24),
+        wanted: Refused(54, 24, 1),
     },
     Row {
         name: "missing_factor",
         text: "observed 1\ncompressed 0\noptional 0\nsubsets 1\ndescriptors 101000 031001 001001\n\
             subset 1\n031001 MISSING\nend\n",
-        wanted: Refused(55, 24),
+        wanted: Refused(55, 24, 2),
     },
     Row {
         name: "no_template",
         text: "observed 1\ncompressed 0\noptional 0\nsubsets 1\ndescriptors 201000\nsubset 1\nend\n",
-        wanted: Refused(56, 1),
+        wanted: Refused(56, 1, 0),
     },
     Row {
         name: "unequal_factors",
         text: "observed 1\ncompressed 1\noptional 0\nsubsets 2\ndescriptors 101000 031001 001001\n\
             subset 1\n031001 1\n001001 10\nsubset 2\n031001 2\n001001 10\n001001 11\nend\n",
-        wanted: Refused(58, 27),
+        wanted: Refused(58, 27, 2),
     },
     Row {
         name: "uneven_texts",
         text: "observed 1\ncompressed 1\noptional 0\nsubsets 2\ndescriptors 205064\n\
             subset 1\n205064 \"AAAAAAAAAAAAAAAAAAAAAAAAAAAAAAAAAAAAAAAAAAAAAAAAAAAAAAAAAAAAAAAA\"\n\
             subset 2\n205064 \"AAAAAAAAAAAAAAAAAAAAAAAAAAAAAAAAAAAAAAAAAAAAAAAAAAAAAAAAAAAAAAAB\"\nend\n",
-        wanted: Refused(59, 24),
+        wanted: Refused(59, 24, 1),
+    },
+    Row {
+        name: "second_of_three_subsets",
+        text: "observed 1\ncompressed 0\noptional 0\nsubsets 3\ndescriptors 001001\n\
+            subset 1\n001001 10\nsubset 2\n001001 127\nsubset 3\n001001 10\nend\n",
+        wanted: Refused(53, 26, 3),
     },
     Row {
         name: "no_width_left",
         text: "observed 1\ncompressed 0\noptional 0\nsubsets 1\ndescriptors 201121 001001\n\
             subset 1\n001001 0\nend\n",
-        wanted: Refused(62, 24),
+        wanted: Refused(62, 24, 2),
+    },
+    Row {
+        name: "no_reference",
+        text: "observed 1\ncompressed 0\noptional 0\nsubsets 1\n\
+            descriptors 203010 012101 203255 012101\n\
+            subset 1\n012101 -400\n012101 284.15\nend\n",
+        wanted: Refused(51, 24, 2),
+    },
+    Row {
+        name: "uneven_references",
+        text: "observed 1\ncompressed 1\noptional 0\nsubsets 2\n\
+            descriptors 203010 012101 203255 012101\n\
+            subset 1\nR 012101 -400\n012101 284.15\n\
+            subset 2\nR 012101 -401\n012101 284.15\nend\n",
+        wanted: Refused(59, 24, 2),
+    },
+    Row {
+        name: "text_while_references_are_defined",
+        text: "observed 1\ncompressed 0\noptional 0\nsubsets 1\ndescriptors 203010 001015\n\
+            subset 1\n001015 \"A\"\nend\n",
+        wanted: Refused(62, 24, 2),
+    },
+    Row {
+        name: "no_width_left_compressed",
+        text: "observed 1\ncompressed 1\noptional 0\nsubsets 2\ndescriptors 012101 201121 001001\n\
+            subset 1\n012101 288.15\n001001 0\nsubset 2\n012101 288.15\n001001 0\nend\n",
+        wanted: Refused(62, 25, 3),
+    },
+    // the walk is looked at before the item: it is the end of the subset that is next
+    Row {
+        name: "no_width_left_for_no_item",
+        text: "observed 1\ncompressed 0\noptional 0\nsubsets 1\ndescriptors 012101 201121 001001\n\
+            subset 1\n012101 288.15\nend\n",
+        wanted: Refused(62, 25, 3),
+    },
+    // the first subset's fault is told before the second one's, which stands in front by its number
+    Row {
+        name: "two_faults_at_one_item",
+        text: "observed 1\ncompressed 1\noptional 0\nsubsets 2\ndescriptors 012101\n\
+            subset 1\n012101 655.35\nsubset 2\n001001 5\nend\n",
+        wanted: Refused(53, 24, 1),
     },
 ];
 
@@ -190,8 +263,9 @@ fn encodes_worked_documents(rt: HostRuntime) -> Result<(), Fail> {
                 assert!(rt; same, "{}", row.name);
                 assert_eq!(rt; steps, turns, "{}", row.name);
             }
-            (Err(fault), Refused(number, _)) => {
+            (Err(fault), Refused(number, _, turns)) => {
                 assert_eq!(rt; fault.number(), number, "{}", row.name);
+                assert_eq!(rt; steps, turns, "{}", row.name);
             }
             _ => assert!(rt; false, "{}", row.name),
         }
@@ -203,9 +277,77 @@ fn encodes_worked_documents(rt: HostRuntime) -> Result<(), Fail> {
 fn refuses_documents_at_their_lines(rt: HostRuntime) -> Result<(), Fail> {
     for row in &ROWS {
         let (result, _) = encoded(rt.alloc(), row)?;
-        if let (Err(fault), Refused(_, line)) = (result, row.wanted) {
+        if let (Err(fault), Refused(_, line, _)) = (result, row.wanted) {
             assert_eq!(rt; fault.line(), Some(line), "{}", row.name);
         }
+    }
+    Ok(())
+}
+
+/// 65,792 empty texts of 255 octets, and one of its own width behind them.
+const MANY_TEXTS: &str = "observed 1\ncompressed 0\noptional 0\nsubsets 1\n\
+    descriptors 102255 101255 205255 102003 101255 205255 205255 205255\ndescriptors ";
+
+/// A document of such texts, of whose data only the last item's width is not 16,776,960 octets.
+fn many_texts(alloc: Global, last: &str) -> Result<Document, Fail> {
+    let mut text = String::from_str(alloc, "# a note\n")?;
+    for part in [FIRST_LINES, MANY_TEXTS, last, "\nsubset 1\n"] {
+        text.push_str(part)?;
+    }
+    for _ in 0..65_792 {
+        text.push_str("205255 \"\"\n")?;
+    }
+    text.push_str(last)?;
+    text.push_str(" \"end\"\nend\n")?;
+    let mut reader = DumpReader::new(alloc);
+    let mut input = ScriptIn::new(text.as_bytes(), 4096, None);
+    Ok(reader.next_document(&mut input)?.ok_or("a document")?)
+}
+
+/// The longest message has 16,777,215 octets; of one octet more nothing is written.
+#[test]
+fn encodes_the_longest_message(rt: HostRuntime) -> Result<(), Fail> {
+    let table_b = TableB::read(rt.alloc(), TABLE_B)?;
+    let table_d = TableD::read(rt.alloc(), TABLE_D)?;
+    let mut steps = Steps::new();
+    let document = many_texts(rt.alloc(), "205192")?;
+    let octets = encode_document(rt.alloc(), &document, &table_b, &table_d, &mut steps)?;
+    assert_eq!(rt; octets.len(), 16_777_215);
+    assert!(rt; octets.starts_with(b"BUFR\xFF\xFF\xFF\x04"));
+    assert!(rt; octets.ends_with(b" 7777"));
+    let document = many_texts(rt.alloc(), "205193")?;
+    let refused = encode_document(rt.alloc(), &document, &table_b, &table_d, &mut steps);
+    assert!(rt; matches!(refused, Err(DocumentFault::TooLong(2))));
+    Ok(())
+}
+
+/// The messages whose dump texts are worked out: each is encoded to a message that is no longer and
+/// has the same text, and to itself where it is canonical.
+#[test]
+fn encodes_what_was_dumped(rt: HostRuntime) -> Result<(), Fail> {
+    dump_law::sections_are_dumpable(b"");
+    encode_law::accepted_messages_are_dumpable();
+    encode_law::dumped_messages_are_encoded_again();
+    encode_law::same_readings_have_the_same_dump_text();
+    encode_law::encoded_messages_are_accepted();
+    encode_law::dump_texts_are_encoded_again();
+    encode_law::dumped_messages_are_refused_for_want_of_memory_alone();
+    encode_law::canonical_messages_are_encoded_to_themselves();
+    let table_b = TableB::read(rt.alloc(), TABLE_B)?;
+    let table_d = TableD::read(rt.alloc(), TABLE_D)?;
+    for row in &DUMPED {
+        let message = message_of(rt.alloc(), row)?;
+        let text = dump(rt.alloc(), &message, 65536, 4096)?;
+        let mut reader = DumpReader::new(rt.alloc());
+        let mut input = ScriptIn::new(&text.taken, 4096, None);
+        let document = reader.next_document(&mut input)?.ok_or("a document")?;
+        let mut steps = Steps::new();
+        let octets = encode_document(rt.alloc(), &document, &table_b, &table_d, &mut steps)?;
+        let again = dump(rt.alloc(), &octets, 65536, 4096)?;
+        assert!(rt; again.taken == text.taken, "{}", row.name);
+        let packed_otherwise = row.name == "compressed_name" || row.name == "increment_to_all_ones";
+        assert_eq!(rt; octets == message, !packed_otherwise, "{}", row.name);
+        assert!(rt; octets.len() <= message.len(), "{}", row.name);
     }
     Ok(())
 }

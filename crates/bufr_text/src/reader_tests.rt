@@ -1,7 +1,7 @@
 //! Dump texts, read by readers of 1, 3 and 4,096 octets per read.
 
 use crate::{Document, DumpReader, Entry, ReadFault, law};
-use bufr_bits::ScriptIn;
+use bufr_bits::{Device, ScriptIn, Source};
 use bufr_fill::Form;
 use bufr_frame::RunFault;
 use std::alloc::{AllocError, Global};
@@ -117,7 +117,7 @@ fn as_told(document: &Document) -> Told {
 }
 
 /// What comes next.
-fn next_told(reader: &mut DumpReader, r: &mut ScriptIn<'_>) -> Told {
+fn next_told<R: Source>(reader: &mut DumpReader, r: &mut R) -> Told {
     match reader.next_document(r) {
         Ok(None) => Done,
         Ok(Some(document)) => as_told(&document),
@@ -411,8 +411,20 @@ fn fault_texts(rt: HostRuntime) -> Result<(), Fail> {
     Ok(())
 }
 
+/// The document, a thousand times.
+fn thousand_documents(alloc: Global) -> Result<Vec<u8>, AllocError> {
+    let one = joined(alloc, &[Whole])?;
+    let mut text = Vec::new(alloc);
+    for _ in 0..1000 {
+        text.extend_from_slice(&one)?;
+    }
+    Ok(text)
+}
+
+/// However a text is read, its documents are told one after another, the end comes again, and at
+/// most 8,192 octets are held.
 #[test]
-fn laws() {
+fn tells_a_thousand_documents(rt: HostRuntime) -> Result<(), Fail> {
     law::dump_text_spells_its_document();
     law::dump_text_is_one_document();
     law::open_documents_are_front();
@@ -421,6 +433,75 @@ fn laws() {
     law::documents_told_are_the_first_open();
     law::documents_told_are_the_documents();
     law::documents_told_are_the_open_documents();
-    law::octets_behind_the_lines_are_held();
     law::none_comes_again();
+    let text = thousand_documents(rt.alloc())?;
+    for step in STEPS {
+        assert!(rt; step > 0);
+        let mut r = ScriptIn::new(&text, step, None);
+        let mut reader = DumpReader::new(rt.alloc());
+        let mut line = 0u64;
+        for _ in 0..1000 {
+            line = line.saturating_add(25);
+            let told = next_told(&mut reader, &mut r);
+            assert!(rt; told == Spelled(2, line), "{told:?} by {step}");
+            assert!(rt; reader.held() <= 8192, "{}", reader.held());
+        }
+        for _ in 0..2 {
+            let told = next_told(&mut reader, &mut r);
+            assert!(rt; told == Done, "{told:?} by {step}");
+        }
+    }
+    Ok(())
+}
+
+/// What was read behind the last line of a document is held, and nothing else.
+#[test]
+fn holds_what_is_behind_a_document(rt: HostRuntime) -> Result<(), Fail> {
+    law::octets_behind_the_lines_are_held();
+    let text = thousand_documents(rt.alloc())?;
+    let mut unread = text.as_slice();
+    let mut reader = DumpReader::new(rt.alloc());
+    let mut told = 0usize;
+    for _ in 0..1000 {
+        let mut r = Device::new(&mut unread);
+        let next = next_told(&mut reader, &mut r);
+        assert!(rt; matches!(next, Spelled(2, _)), "{next:?}");
+        told = told.saturating_add(WHOLE);
+        let read = text.len().saturating_sub(unread.len());
+        assert_eq!(rt; reader.held(), read.saturating_sub(told));
+    }
+    assert!(rt; unread.is_empty() && reader.held() == 0);
+    Ok(())
+}
+
+/// A compressed document with two subsets: the items of each stand before its end.
+#[test]
+fn compressed(rt: HostRuntime) -> Result<(), Fail> {
+    let alloc = rt.alloc();
+    let mut text = Vec::new(alloc);
+    let mut at = 0usize;
+    for line in ONE_BLOCK_NUMBER {
+        at = at.saturating_add(1);
+        let line: &[u8] = match at {
+            18 => b"observed 0",
+            19 => b"compressed 1",
+            21 => b"subsets 2",
+            24 => b"001001 10\nsubset 2\n001001 11",
+            _ => line,
+        };
+        text.extend_from_slice(line)?;
+        text.push(b'\n')?;
+    }
+    let mut r = ScriptIn::new(&text, 3, None);
+    let mut reader = DumpReader::new(alloc);
+    let Ok(Some(document)) = reader.next_document(&mut r) else {
+        assert!(rt; false, "no document");
+        return Ok(());
+    };
+    assert!(rt; document.compressed() && !document.observed());
+    assert_eq!(rt; (document.subsets(), document.entries()), (2, 4));
+    assert!(rt; document.entries() == 4);
+    assert!(rt; document.entry(1) == Entry::End(25));
+    assert!(rt; document.entry(3) == Entry::End(27));
+    Ok(())
 }

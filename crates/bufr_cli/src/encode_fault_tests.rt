@@ -1,0 +1,672 @@
+//! Each fault of a document beside the nearest document that is accepted, and faults of devices.
+
+use crate::encode_tests::assert_encoded;
+use crate::run_dump::run_dump;
+use crate::run_encode::run_encode;
+use crate::tally::Tally;
+use crate::test_messages::{
+    TABLE_B, TABLE_D, message_of, octets_of, text_of, text_of_one, words_of,
+};
+use bufr_bits::{Device, End, ScriptIn, ScriptOut};
+use bufr_frame::RunFault;
+use bufr_tables::{TableB, TableD};
+use std::alloc::Global;
+use std::cell::Cell;
+use std::io::{self, ErrorKind, Read};
+use std::test::Fail;
+
+const ACCEPTED: Tally = Tally {
+    accepted: 1,
+    refused: 0,
+};
+
+const REFUSED: Tally = Tally {
+    accepted: 0,
+    refused: 1,
+};
+
+/// A document of these descriptors, and the data of its message or the line of its fault.
+struct Told {
+    /// Where there are two, the data are compressed.
+    subsets: u16,
+    descriptors: &'static str,
+    /// The lines of the subsets; the first is line 23.
+    body: &'static str,
+    /// Hexadecimal.
+    data: &'static str,
+    /// Empty where the document is accepted.
+    errors: &'static str,
+}
+
+static TOLD: [Told; 47] = [
+    // 50: the line's form
+    Told {
+        subsets: 1,
+        descriptors: "001001",
+        body: "subset 1\n001001 10 #x\n",
+        data: "14",
+        errors: "",
+    },
+    Told {
+        subsets: 1,
+        descriptors: "001001",
+        body: "subset 1\n001001 10 x\n",
+        data: "",
+        errors: "line 24: 50 line\n",
+    },
+    Told {
+        subsets: 1,
+        descriptors: "001001",
+        body: "\n# a note\nsubset 1\n001001 x\n",
+        data: "",
+        errors: "line 26: 50 line\n",
+    },
+    // 51: the item that is expected
+    Told {
+        subsets: 1,
+        descriptors: "001001",
+        body: "subset 1\n001001 5\n",
+        data: "0A",
+        errors: "",
+    },
+    Told {
+        subsets: 1,
+        descriptors: "001001",
+        body: "subset 1\n012101 5\n",
+        data: "",
+        errors: "line 24: 51 expected 001001\n",
+    },
+    Told {
+        subsets: 1,
+        descriptors: "001001",
+        body: "subset 1\n",
+        data: "",
+        errors: "line 24: 51 expected 001001\n",
+    },
+    Told {
+        subsets: 1,
+        descriptors: "001001",
+        body: "subset 1\n001001 5\n001001 5\n",
+        data: "",
+        errors: "line 25: 51 expected end of subset\n",
+    },
+    Told {
+        subsets: 1,
+        descriptors: "203010 012101 203255 012101",
+        body: "subset 1\nR 012101 -400\n012101 284.15\n",
+        data: "E41C23C0",
+        errors: "",
+    },
+    Told {
+        subsets: 1,
+        descriptors: "203010 012101 203255 012101",
+        body: "subset 1\n012101 -400\n012101 284.15\n",
+        data: "",
+        errors: "line 24: 51 expected R 012101\n",
+    },
+    Told {
+        subsets: 1,
+        descriptors: "203010 012101 203255 012101",
+        body: "subset 1\nR 012101 -400\nR 012101 284\n",
+        data: "",
+        errors: "line 25: 51 expected 012101\n",
+    },
+    Told {
+        subsets: 2,
+        descriptors: "001001 012101",
+        body: "subset 1\n001001 10\n012101 288.15\nsubset 2\n001001 10\n",
+        data: "",
+        errors: "line 28: 51 expected 012101\n",
+    },
+    // 52: whole at the scale, the syntax, the kind
+    Told {
+        subsets: 1,
+        descriptors: "012101",
+        body: "subset 1\n012101 288.150\n",
+        data: "708F",
+        errors: "",
+    },
+    Told {
+        subsets: 1,
+        descriptors: "012101",
+        body: "subset 1\n012101 288.155\n",
+        data: "",
+        errors: "line 24: 52 number\n",
+    },
+    Told {
+        subsets: 1,
+        descriptors: "001001",
+        body: "subset 1\n001001 1.0\n",
+        data: "02",
+        errors: "",
+    },
+    Told {
+        subsets: 1,
+        descriptors: "001001",
+        body: "subset 1\n001001 1.\n",
+        data: "",
+        errors: "line 24: 52 number\n",
+    },
+    Told {
+        subsets: 1,
+        descriptors: "205001",
+        body: "subset 1\n205001 \"5\"\n",
+        data: "35",
+        errors: "",
+    },
+    Told {
+        subsets: 1,
+        descriptors: "205001",
+        body: "subset 1\n205001 5\n",
+        data: "",
+        errors: "line 24: 52 number\n",
+    },
+    Told {
+        subsets: 1,
+        descriptors: "001001",
+        body: "subset 1\n001001 \"5\"\n",
+        data: "",
+        errors: "line 24: 52 number\n",
+    },
+    // a reference has scale 0; minus zero is written as zero
+    Told {
+        subsets: 1,
+        descriptors: "203010 012101 203255 012101",
+        body: "subset 1\nR 012101 -0\n012101 288.15\n",
+        data: "001C23C0",
+        errors: "",
+    },
+    Told {
+        subsets: 1,
+        descriptors: "203010 012101 203255 012101",
+        body: "subset 1\nR 012101 -0.5\n012101 288.15\n",
+        data: "",
+        errors: "line 24: 52 number\n",
+    },
+    // 53: the greatest and the least, of any length
+    Told {
+        subsets: 1,
+        descriptors: "012101",
+        body: "subset 1\n012101 655.34\n",
+        data: "FFFE",
+        errors: "",
+    },
+    Told {
+        subsets: 1,
+        descriptors: "012101",
+        body: "subset 1\n012101 655.35\n",
+        data: "",
+        errors: "line 24: 53 out of range\n",
+    },
+    Told {
+        subsets: 1,
+        descriptors: "005002",
+        body: "subset 1\n005002 -90\n",
+        data: "0000",
+        errors: "",
+    },
+    Told {
+        subsets: 1,
+        descriptors: "005002",
+        body: "subset 1\n005002 -90.01\n",
+        data: "",
+        errors: "line 24: 53 out of range\n",
+    },
+    Told {
+        subsets: 1,
+        descriptors: "001001",
+        body: "subset 1\n001001 0000000000000000000000000000000000000000126\n",
+        data: "FC",
+        errors: "",
+    },
+    Told {
+        subsets: 1,
+        descriptors: "001001",
+        body: "subset 1\n001001 9999999999999999999999999999999999999999\n",
+        data: "",
+        errors: "line 24: 53 out of range\n",
+    },
+    Told {
+        subsets: 1,
+        descriptors: "205001",
+        body: "subset 1\n205001 \"\\xFE\"\n",
+        data: "FE",
+        errors: "",
+    },
+    Told {
+        subsets: 1,
+        descriptors: "205001",
+        body: "subset 1\n205001 \"\\xFF\"\n",
+        data: "",
+        errors: "line 24: 53 out of range\n",
+    },
+    // 54: the octets of a field
+    Told {
+        subsets: 1,
+        descriptors: "001015",
+        body: "subset 1\n001015 \"ABCDEFGHIJKLMNOPQRST\"\n",
+        data: "4142434445464748494A4B4C4D4E4F5051525354",
+        errors: "",
+    },
+    Told {
+        subsets: 1,
+        descriptors: "001015",
+        body: "subset 1\n001015 \"ABCDEFGHIJKLMNOPQRSTU\"\n",
+        data: "",
+        errors: "line 24: 54 text long\n",
+    },
+    // 55: a factor is never missing
+    Told {
+        subsets: 1,
+        descriptors: "101000 031001 001001",
+        body: "subset 1\n031001 0\n",
+        data: "00",
+        errors: "",
+    },
+    Told {
+        subsets: 1,
+        descriptors: "101000 031001 001001",
+        body: "subset 1\n031001 MISSING\n",
+        data: "",
+        errors: "line 24: 55 missing forbidden\n",
+    },
+    // 56: the template
+    Told {
+        subsets: 1,
+        descriptors: "201000 001001",
+        body: "subset 1\n001001 10\n",
+        data: "14",
+        errors: "",
+    },
+    Told {
+        subsets: 1,
+        descriptors: "201000",
+        body: "subset 1\n001001 10\n",
+        data: "",
+        errors: "line 1: 56 template 25 empty group 201000\n",
+    },
+    // 57: the number of subsets
+    Told {
+        subsets: 2,
+        descriptors: "012101",
+        body: "subset 1\n012101 288.15\nsubset 2\n012101 288.15\n",
+        data: "708F00",
+        errors: "",
+    },
+    Told {
+        subsets: 2,
+        descriptors: "012101",
+        body: "subset 1\n012101 288.15\n",
+        data: "",
+        errors: "line 25: 57 subset count\n",
+    },
+    Told {
+        subsets: 1,
+        descriptors: "012101",
+        body: "subset 1\n012101 288.15\nsubset 2\n012101 288.15\n",
+        data: "",
+        errors: "line 25: 57 subset count\n",
+    },
+    Told {
+        subsets: 0,
+        descriptors: "001001",
+        body: "",
+        data: "",
+        errors: "",
+    },
+    // 58: the factors of compressed data
+    Told {
+        subsets: 2,
+        descriptors: "101000 031001 001001",
+        body: "subset 1\n031001 1\n001001 10\nsubset 2\n031001 1\n001001 10\n",
+        data: "01005000",
+        errors: "",
+    },
+    Told {
+        subsets: 2,
+        descriptors: "101000 031001 001001",
+        body: "subset 1\n031001 1\n001001 10\nsubset 2\n031001 2\n001001 10\n001001 11\n",
+        data: "",
+        errors: "line 27: 58 unequal factor\n",
+    },
+    // 59: the references of compressed data
+    Told {
+        subsets: 2,
+        descriptors: "203010 012101 203255 012101",
+        body: "subset 1\nR 012101 -400\n012101 284.15\nsubset 2\nR 012101 -400\n012101 284.15\n",
+        data: "E400708F00",
+        errors: "",
+    },
+    Told {
+        subsets: 2,
+        descriptors: "203010 012101 203255 012101",
+        body: "subset 1\nR 012101 -400\n012101 284.15\nsubset 2\nR 012101 -401\n012101 284.15\n",
+        data: "",
+        errors: "line 24: 59 increment\n",
+    },
+    // 62: the width, and what may come while references are defined
+    Told {
+        subsets: 1,
+        descriptors: "201122 001001",
+        body: "subset 1\n001001 0\n",
+        data: "00",
+        errors: "",
+    },
+    Told {
+        subsets: 1,
+        descriptors: "201121 001001",
+        body: "subset 1\n001001 0\n",
+        data: "",
+        errors: "line 24: 62 walk 31 descriptor 001001\n",
+    },
+    Told {
+        subsets: 1,
+        descriptors: "203010 203255 001015",
+        body: "subset 1\n001015 \"A\"\n",
+        data: "4120202020202020202020202020202020202020",
+        errors: "",
+    },
+    Told {
+        subsets: 1,
+        descriptors: "203010 001015",
+        body: "subset 1\n001015 \"A\"\n",
+        data: "",
+        errors: "line 24: 62 walk 32 descriptor 001015\n",
+    },
+    Told {
+        subsets: 2,
+        descriptors: "001001 203010 001015",
+        body: "subset 1\n001001 10\nsubset 2\n001001 10\n",
+        data: "",
+        errors: "line 25: 62 walk 32 descriptor 001015\n",
+    },
+];
+
+#[test]
+fn refuses_at_lines(rt: HostRuntime) -> Result<(), Fail> {
+    for row in &TOLD {
+        let flags = if row.subsets == 2 { 0xC0 } else { 0x80 };
+        let text = text_of(rt.alloc(), row.subsets, flags, row.descriptors, row.body)?;
+        let (message, tally) = if row.errors.is_empty() {
+            let words = words_of(rt.alloc(), row.descriptors)?;
+            let data = octets_of(rt.alloc(), row.data)?;
+            let message = message_of(rt.alloc(), row.subsets, flags, &words, &data)?;
+            (message, ACCEPTED)
+        } else {
+            (Vec::new(rt.alloc()), REFUSED)
+        };
+        assert_encoded(
+            &rt,
+            row.body,
+            text.as_bytes(),
+            &message,
+            row.errors.as_bytes(),
+            tally,
+        )?;
+    }
+    Ok(())
+}
+
+/// The document of one block number with another line in a line's place, and its fault line; or the
+/// octets of its message from octet 9 on.
+static LINES: [(usize, &str, &str, &str); 17] = [
+    (2, "edition 3\n", "", "line 2: 61 header range\n"),
+    (2, "edition 5\n", "", "line 2: 61 header range\n"),
+    (3, "master 255\n", "000016FF0062", ""),
+    (3, "master 256\n", "", "line 3: 61 header range\n"),
+    (4, "centre 65535\n", "00001600FFFF", ""),
+    (4, "centre 65536\n", "", "line 4: 61 header range\n"),
+    (18, "observed 2\n", "", "line 18: 61 header range\n"),
+    (19, "compressed 2\n", "", "line 19: 61 header range\n"),
+    (20, "optional 1\n", "00001600006200000080", ""),
+    (20, "optional 2\n", "", "line 20: 61 header range\n"),
+    (21, "subsets 65536\n", "", "line 21: 61 header range\n"),
+    (21, "subsets 2\n", "", "line 25: 57 subset count\n"),
+    (21, "subsets 0\n", "", "line 23: 57 subset count\n"),
+    (23, "subset 2\n", "", "line 23: 57 subset count\n"),
+    (23, "subset 01\n", "000016000062", ""),
+    (25, "", "", "line 25: 50 line\n"),
+    (25, "end", "000016000062", ""),
+];
+
+/// The document of one block number, with this text in place of a line (from 1).
+fn with_line(alloc: Global, number: usize, line: &str) -> Result<String, Fail> {
+    let one = text_of_one(alloc)?;
+    let mut text = String::new(alloc);
+    let mut at = 0usize;
+    for each in one.as_str().lines() {
+        at = at.saturating_add(1);
+        if at == number {
+            text.push_str(line)?;
+        } else {
+            text.push_str(each)?;
+            text.push('\n')?;
+        }
+    }
+    Ok(text)
+}
+
+#[test]
+fn refuses_header_lines(rt: HostRuntime) -> Result<(), Fail> {
+    let table_b = TableB::read(rt.alloc(), TABLE_B).expect(&rt, "table B");
+    let table_d = TableD::read(rt.alloc(), TABLE_D).expect(&rt, "table D");
+    for (number, line, octets, errors) in &LINES {
+        let text = with_line(rt.alloc(), *number, line)?;
+        let mut r = ScriptIn::new(text.as_bytes(), 7, None);
+        let mut w = ScriptOut::new(rt.alloc(), 4096, 4096, End::Fail)?;
+        let mut e = ScriptOut::new(rt.alloc(), 4096, 4096, End::Fail)?;
+        let ran = run_encode(rt.alloc(), &mut r, &mut w, &mut e, &table_b, &table_d);
+        let refused = !errors.is_empty();
+        let tally = if refused { REFUSED } else { ACCEPTED };
+        assert!(rt; ran == Ok(tally), "{line}: {ran:?}");
+        assert_eq!(rt; e.taken(), errors.as_bytes(), "{line}");
+        assert!(rt; w.taken().is_empty() == refused, "{line}");
+        let front = octets_of(rt.alloc(), octets)?;
+        let behind = w.taken().get(8..).unwrap_or(b"");
+        assert!(rt; behind.starts_with(&front), "{line}");
+    }
+    Ok(())
+}
+
+/// A line of 4,096 octets is passed over; one more is refused.
+#[test]
+fn refuses_a_long_line(rt: HostRuntime) -> Result<(), Fail> {
+    let one = text_of_one(rt.alloc())?;
+    let words = words_of(rt.alloc(), "001001")?;
+    let message = message_of(rt.alloc(), 1, 0x80, &words, b"\x14")?;
+    let mut note = String::from_str(rt.alloc(), "#")?;
+    for _ in 0..4095 {
+        note.push('x')?;
+    }
+    let mut text = String::from_str(rt.alloc(), note.as_str())?;
+    text.push('\n')?;
+    text.push_str(one.as_str())?;
+    assert_encoded(&rt, "4,096", text.as_bytes(), &message, b"", ACCEPTED)?;
+    note.push_str("x\n")?;
+    note.push_str(one.as_str())?;
+    let line = b"line 1: 50 line\n";
+    assert_encoded(&rt, "4,097", note.as_bytes(), b"", line, REFUSED)
+}
+
+/// Two texts that have so many octets in common, and one behind them in which they differ.
+fn two_texts(alloc: Global, common: usize) -> Result<String, Fail> {
+    let mut front = String::new(alloc);
+    for _ in 0..common {
+        front.push('A')?;
+    }
+    let first = format!(in alloc; "subset 1\n205064 \"{front}A\"\n")?;
+    let second = format!(in alloc; "subset 2\n205064 \"{front}B\"\n")?;
+    let mut body = String::from_str(alloc, first.as_str())?;
+    body.push_str(second.as_str())?;
+    Ok(text_of(alloc, 2, 0xC0, "205064", body.as_str())?)
+}
+
+/// An increment has 63 octets at most, with spaces behind them: so where the 64th octet is no space
+/// in both texts, no increments tell them apart.
+#[test]
+fn refuses_texts_that_no_increments_tell_apart(rt: HostRuntime) -> Result<(), Fail> {
+    let mut data = Vec::new(rt.alloc());
+    data.extend_from_slice(&[0; 64])?;
+    data.push(0xFD)?;
+    data.extend_from_slice(&[0x05; 125])?;
+    data.push(0x08)?;
+    let words = words_of(rt.alloc(), "205064")?;
+    let message = message_of(rt.alloc(), 2, 0xC0, &words, &data)?;
+    let text = two_texts(rt.alloc(), 62)?;
+    assert_encoded(&rt, "63", text.as_bytes(), &message, b"", ACCEPTED)?;
+    let text = two_texts(rt.alloc(), 63)?;
+    let line = b"line 24: 59 increment\n";
+    assert_encoded(&rt, "64", text.as_bytes(), b"", line, REFUSED)
+}
+
+/// 66,045 texts of 255 octets are more than a message can have; nothing of them is written.
+#[test]
+fn refuses_a_long_message(rt: HostRuntime) -> Result<(), Fail> {
+    let table_b = TableB::read(rt.alloc(), TABLE_B).expect(&rt, "table B");
+    let table_d = TableD::read(rt.alloc(), TABLE_D).expect(&rt, "table D");
+    let mut body = String::from_str(rt.alloc(), "subset 1\n")?;
+    for _ in 0..66_045 {
+        body.push_str("205255 \"\"\n")?;
+    }
+    let descriptors = "102255 101255 205255 102004 101255 205255";
+    let text = text_of(rt.alloc(), 1, 0x80, descriptors, body.as_str())?;
+    let mut r = ScriptIn::new(text.as_bytes(), 4096, None);
+    let mut w = ScriptOut::new(rt.alloc(), 0, 1, End::Fail)?;
+    let mut e = ScriptOut::new(rt.alloc(), 4096, 4096, End::Fail)?;
+    let ran = run_encode(rt.alloc(), &mut r, &mut w, &mut e, &table_b, &table_d);
+    assert!(rt; ran == Ok(REFUSED), "{ran:?}");
+    assert_eq!(rt; e.taken(), b"line 1: 60 too long\n".as_slice());
+    Ok(())
+}
+
+/// A reader that is interrupted once, behind its front, and notes a read that is made then.
+#[derive(Drop)]
+struct Interrupted<'a> {
+    front: &'a [u8],
+    rest: &'a [u8],
+    interrupted: &'a Cell<bool>,
+    tried_again: &'a Cell<bool>,
+}
+
+impl<'a> Read for Interrupted<'a> {
+    fn read(&mut self, buf: &mut [u8]) -> io::Result<usize> {
+        if !self.front.is_empty() {
+            return self.front.read(buf);
+        }
+        if self.interrupted.get() {
+            self.tried_again.set(true);
+            return self.rest.read(buf);
+        }
+        self.interrupted.set(true);
+        Err(ErrorKind::Interrupted.into())
+    }
+}
+
+/// An interrupted read is a failed one: it is not made again, and what was encoded before stands.
+#[test]
+fn stops_at_an_interrupted_read(rt: HostRuntime) -> Result<(), Fail> {
+    let table_b = TableB::read(rt.alloc(), TABLE_B).expect(&rt, "table B");
+    let table_d = TableD::read(rt.alloc(), TABLE_D).expect(&rt, "table D");
+    let one = text_of_one(rt.alloc())?;
+    let words = words_of(rt.alloc(), "001001")?;
+    let message = message_of(rt.alloc(), 1, 0x80, &words, b"\x14")?;
+    let mut text = Vec::new(rt.alloc());
+    text.extend_from_slice(one.as_bytes())?;
+    text.extend_from_slice(one.as_bytes())?;
+    for place in [0, 1, one.len().saturating_sub(1), one.len(), text.len()] {
+        let (interrupted, tried_again) = (Cell::new(false), Cell::new(false));
+        let mut r = Device::new(Interrupted {
+            front: text.get(..place).ok_or("a front")?,
+            rest: text.get(place..).ok_or("a rest")?,
+            interrupted: &interrupted,
+            tried_again: &tried_again,
+        });
+        let mut w = ScriptOut::new(rt.alloc(), 4096, 7, End::Fail)?;
+        let mut e = ScriptOut::new(rt.alloc(), 0, 7, End::Fail)?;
+        let ran = run_encode(rt.alloc(), &mut r, &mut w, &mut e, &table_b, &table_d);
+        assert!(rt; ran == Err(RunFault::Read), "{place}: {ran:?}");
+        assert!(rt; interrupted.get() && !tried_again.get(), "{place}");
+        let mut encoded = Vec::new(rt.alloc());
+        if place >= one.len() {
+            encoded.extend_from_slice(&message)?;
+        }
+        if place == text.len() {
+            encoded.extend_from_slice(&message)?;
+        }
+        assert_eq!(rt; w.taken(), encoded.as_slice(), "{place}");
+    }
+    Ok(())
+}
+
+/// Where the errors' writer fails, the messages before the refused document stand.
+#[test]
+fn keeps_messages_before_a_failed_line(rt: HostRuntime) -> Result<(), Fail> {
+    let table_b = TableB::read(rt.alloc(), TABLE_B).expect(&rt, "table B");
+    let table_d = TableD::read(rt.alloc(), TABLE_D).expect(&rt, "table D");
+    let line = b"line 49: 52 number\n";
+    let words = words_of(rt.alloc(), "001001")?;
+    let message = message_of(rt.alloc(), 1, 0x80, &words, b"\x14")?;
+    let refused = text_of(rt.alloc(), 1, 0x80, "012101", "subset 1\n012101 288.155\n")?;
+    let mut text = text_of_one(rt.alloc())?;
+    text.push_str(refused.as_str())?;
+    for end in [End::Fail, End::Zero, End::Flush] {
+        for room in 0..20 {
+            let mut r = ScriptIn::new(text.as_bytes(), 4096, None);
+            let mut w = ScriptOut::new(rt.alloc(), 48, 1, End::Fail)?;
+            let mut e = ScriptOut::new(rt.alloc(), room, 1, end)?;
+            let ran = run_encode(rt.alloc(), &mut r, &mut w, &mut e, &table_b, &table_d);
+            let fails = room < 19 || end == End::Flush;
+            assert!(rt; ran.is_err() == fails, "{room} of {end:?}: {ran:?}");
+            if fails {
+                assert!(rt; ran == Err(RunFault::Write), "{room} of {end:?}: {ran:?}");
+            }
+            assert_eq!(rt; w.taken(), message.as_slice(), "{room} of {end:?}");
+            assert_eq!(rt; e.taken(), &line[..room], "{end:?}");
+        }
+    }
+    Ok(())
+}
+
+/// Where the output cannot be flushed, all of both writers stands.
+#[test]
+fn keeps_all_behind_a_failed_flush(rt: HostRuntime) -> Result<(), Fail> {
+    let table_b = TableB::read(rt.alloc(), TABLE_B).expect(&rt, "table B");
+    let table_d = TableD::read(rt.alloc(), TABLE_D).expect(&rt, "table D");
+    let words = words_of(rt.alloc(), "001001")?;
+    let message = message_of(rt.alloc(), 1, 0x80, &words, b"\x14")?;
+    let mut text = text_of_one(rt.alloc())?;
+    text.push_str("end\n")?;
+    let mut r = ScriptIn::new(text.as_bytes(), 4096, None);
+    let mut w = ScriptOut::new(rt.alloc(), 48, 1, End::Flush)?;
+    let mut e = ScriptOut::new(rt.alloc(), 4096, 1, End::Fail)?;
+    let ran = run_encode(rt.alloc(), &mut r, &mut w, &mut e, &table_b, &table_d);
+    assert!(rt; ran == Err(RunFault::Write), "{ran:?}");
+    assert_eq!(rt; w.taken(), message.as_slice());
+    assert_eq!(rt; e.taken(), b"line 26: 50 line\n".as_slice());
+    Ok(())
+}
+
+/// Names whose increments were read with four octets are written with three, and those with three.
+#[test]
+fn packs_names_anew(rt: HostRuntime) -> Result<(), Fail> {
+    let table_b = TableB::read(rt.alloc(), TABLE_B).expect(&rt, "table B");
+    let table_d = TableD::read(rt.alloc(), TABLE_D).expect(&rt, "table D");
+    let words = words_of(rt.alloc(), "001015")?;
+    let zeros = "0000000000000000000000000000000000000000";
+    let mut read = octets_of(rt.alloc(), zeros)?;
+    read.extend_from_slice(b"\x11\x05\x09\x0C\x83\xFF\xFF\xFF\xFC")?;
+    let mut written = octets_of(rt.alloc(), zeros)?;
+    written.extend_from_slice(b"\x0D\x05\x09\x0F\xFF\xFF\xFC")?;
+    let message = message_of(rt.alloc(), 2, 0xC0, &words, &read)?;
+    let packed = message_of(rt.alloc(), 2, 0xC0, &words, &written)?;
+    assert_eq!(rt; (message.len(), packed.len()), (76, 74));
+    for octets in [&message, &packed] {
+        let mut r = ScriptIn::new(octets, 4096, None);
+        let mut text = ScriptOut::new(rt.alloc(), 4096, 4096, End::Fail)?;
+        let mut e = ScriptOut::new(rt.alloc(), 4096, 4096, End::Fail)?;
+        let ran = run_dump(rt.alloc(), &mut r, &mut text, &mut e, &table_b, &table_d);
+        assert!(rt; ran == Ok(ACCEPTED), "{ran:?}");
+        assert_encoded(&rt, "names", text.taken(), &packed, b"", ACCEPTED)?;
+    }
+    Ok(())
+}

@@ -1,0 +1,522 @@
+//! Command lines: which are understood, what comes of them over inputs in memory, and the last line
+//! and status.
+
+use crate::finish::{Outcome, finish};
+use crate::job::{LineFault, Subcommand, TableNames, parse_line};
+use crate::program::{Inputs, Unopened, run};
+use crate::tally::Tally;
+use crate::test_messages::{TABLE_B, TABLE_D, one_block_number, text_of_one};
+use crate::tests::{LINE, ONE_BLOCK_NUMBER};
+use bufr_bits::{End, ScriptOut};
+use bufr_frame::RunFault;
+use bufr_tables::{Fxy, TableD, TableFault};
+use std::alloc::{AllocError, Global};
+use std::io::{self, Read};
+use std::process::Abort;
+use std::test::Fail;
+
+/// The words of a command line: the program's name, a command, and what stands behind it.
+fn line_of(
+    alloc: Global,
+    command: &'static str,
+    arguments: &'static [&'static str],
+) -> Result<Vec<&'static str>, AllocError> {
+    let mut words = Vec::new(alloc);
+    words.extend_from_slice(&["bufr", command])?;
+    words.extend_from_slice(arguments)?;
+    Ok(words)
+}
+
+#[test]
+fn parses_lines(rt: HostRuntime) -> Result<(), Fail> {
+    let words = ["bufr", "ls"];
+    let job = parse_line(rt.alloc(), words.as_slice()).expect(&rt, "a job");
+    assert!(rt; job.command == Subcommand::Ls && job.file == None);
+    let words = ["bufr", "ls", "bulletins.bufr"];
+    let job = parse_line(rt.alloc(), words.as_slice()).expect(&rt, "a job");
+    assert!(rt; job.command == Subcommand::Ls && job.file == Some("bulletins.bufr"));
+    Ok(())
+}
+
+/// What stands behind a command that takes tables, and its FILE. The tables are always the same.
+static ARGUMENTS: [(&[&str], Option<&str>); 5] = [
+    (&["-B", "b.csv", "-D", "d.csv"], None),
+    (&["-B", "b.csv", "-D", "d.csv", "x.bufr"], Some("x.bufr")),
+    (&["x.bufr", "-D", "d.csv", "-B", "b.csv"], Some("x.bufr")),
+    (&["-Bb.csv", "x.bufr", "-D=d.csv"], Some("x.bufr")),
+    (&["-B", "b.csv", "-D", "d.csv", "--", "-B"], Some("-B")),
+];
+
+const TABLE_NAMES: TableNames<'static> = TableNames {
+    table_b: "b.csv",
+    table_d: "d.csv",
+};
+
+#[test]
+fn parses_lines_with_tables(rt: HostRuntime) -> Result<(), Fail> {
+    for (arguments, file) in &ARGUMENTS {
+        let words = line_of(rt.alloc(), "dump", *arguments)?;
+        let job = parse_line(rt.alloc(), words.as_slice()).expect(&rt, "a job");
+        assert!(rt; job.command == Subcommand::Dump(TABLE_NAMES), "{words:?}");
+        assert!(rt; job.file == *file, "{words:?}");
+        let words = line_of(rt.alloc(), "encode", *arguments)?;
+        let job = parse_line(rt.alloc(), words.as_slice()).expect(&rt, "a job");
+        assert!(rt; job.command == Subcommand::Encode(TABLE_NAMES), "{words:?}");
+        assert!(rt; job.file == *file, "{words:?}");
+    }
+    Ok(())
+}
+
+/// Asserts that a command line is not understood, and that its text says so.
+fn assert_usage(rt: &(impl Abort + AllocGlobal), words: &[&str], part: &str) {
+    match parse_line(rt.alloc(), words) {
+        Err(LineFault::Usage(text)) => assert!(rt; text.as_str().contains(part), "{text}"),
+        other => assert!(rt; false, "{words:?}: {other:?}"),
+    }
+}
+
+#[test]
+fn refuses_lines(rt: HostRuntime) {
+    static REFUSED: [(&[&str], &str); 6] = [
+        (&["bufr"], "Usage: bufr <COMMAND>"),
+        (&["/usr/bin/other"], "Usage: bufr <COMMAND>"),
+        (&["bufr", "lst"], "unrecognized subcommand 'lst'"),
+        (&["bufr", "ls", "a", "b"], "unexpected argument 'b' found"),
+        (
+            &["bufr", "ls", "--long"],
+            "unexpected argument '--long' found",
+        ),
+        (
+            &["bufr", "ls", "-B", "b.csv"],
+            "unexpected argument '-B' found",
+        ),
+    ];
+    for (words, part) in &REFUSED {
+        assert_usage(&rt, *words, *part);
+    }
+}
+
+#[test]
+fn refuses_lines_with_tables(rt: HostRuntime) -> Result<(), Fail> {
+    static REFUSED: [(&[&str], &str); 6] = [
+        (
+            &[],
+            "required arguments were not provided:\n  -B <FILE>\n  -D <FILE>\n",
+        ),
+        (
+            &["-B", "b.csv"],
+            "required arguments were not provided:\n  -D <FILE>\n",
+        ),
+        (
+            &["-D", "d.csv", "x.bufr"],
+            "required arguments were not provided:\n  -B <FILE>\n",
+        ),
+        (&["-D", "d.csv", "-B"], "value is required"),
+        (
+            &["-B", "b", "-D", "d", "-B", "c"],
+            "cannot be used multiple times",
+        ),
+        (
+            &["-B", "b", "-D", "d", "x", "y"],
+            "unexpected argument 'y' found",
+        ),
+    ];
+    for (arguments, part) in &REFUSED {
+        let words = line_of(rt.alloc(), "dump", *arguments)?;
+        assert_usage(&rt, words.as_slice(), *part);
+        let words = line_of(rt.alloc(), "encode", *arguments)?;
+        assert_usage(&rt, words.as_slice(), *part);
+    }
+    Ok(())
+}
+
+/// Asserts that a command line asks for help, and that its text has these parts.
+fn assert_help(rt: &(impl Abort + AllocGlobal), words: &[&str], parts: &[&str]) {
+    match parse_line(rt.alloc(), words) {
+        Err(LineFault::Help(text)) => {
+            for part in parts {
+                assert!(rt; text.as_str().contains(*part), "{text}");
+            }
+        }
+        other => assert!(rt; false, "{words:?}: {other:?}"),
+    }
+}
+
+#[test]
+fn gives_help(rt: HostRuntime) {
+    static HELP: [(&[&str], &[&str]); 4] = [
+        (&["bufr", "--help"], &["Usage: bufr <COMMAND>"]),
+        (&["bufr", "ls", "--help"], &["Usage: bufr ls [FILE]"]),
+        (
+            &["bufr", "dump", "--help"],
+            &[
+                "Usage: bufr dump -B <FILE> -D <FILE> [FILE]",
+                "-B <FILE>",
+                "-D <FILE>",
+                "Exit status:",
+                "bufr dump -B b.csv -D d.csv",
+            ],
+        ),
+        (
+            &["bufr", "encode", "--help"],
+            &[
+                "Usage: bufr encode -B <FILE> -D <FILE> [FILE]",
+                "-B <FILE>",
+                "-D <FILE>",
+                "Exit status:",
+                "bufr encode -B b.csv -D d.csv",
+            ],
+        ),
+    ];
+    for (words, parts) in &HELP {
+        assert_help(&rt, *words, *parts);
+    }
+}
+
+/// An input of one file and of standard input.
+#[derive(Drop)]
+struct Shelf<'a> {
+    name: &'a str,
+    file: &'a [u8],
+    standard: &'a [u8],
+}
+
+impl<'a> Inputs for Shelf<'a> {
+    ghost use Rattle.std.specs.Prelude.{Some};
+
+    type Standard = &'a [u8];
+
+    type File = &'a [u8];
+
+    ghost standard_octets = { λ s. Some s.standard.now };
+
+    ghost file_octets = { λ s _. Some s.file.now };
+
+    fn standard(&self) -> &'a [u8] {
+        self.standard
+    }
+
+    fn open(&self, name: &str) -> Result<&'a [u8], Unopened> {
+        if name == self.name {
+            Ok(self.file)
+        } else {
+            Err(Unopened)
+        }
+    }
+}
+
+/// What comes of a command line over one file, `one.bufr`, which has the message behind a stray
+/// word, and standard input, which has the message alone.
+#[test]
+fn runs_lines(rt: HostRuntime) -> Result<(), Fail> {
+    static ROWS: [(&[&str], u8, &[&str], &str); 7] = [
+        (&["bufr", "ls"], 0, &["offset=0", LINE], ""),
+        (
+            &["bufr", "ls", "one.bufr"],
+            1,
+            &["offset=4", LINE],
+            "offset 0: 1 cut\n",
+        ),
+        (
+            &["bufr", "ls", "two.bufr"],
+            2,
+            &[],
+            "bufr: cannot open two.bufr\n",
+        ),
+        (&["bufr", "ls", "-"], 2, &[], "bufr: cannot open -\n"),
+        (&["bufr"], 2, &[], "Usage: bufr <COMMAND>"),
+        (&["bufr", "--version"], 0, &["bufr 0.1.0\n"], ""),
+        (
+            &["bufr", "ls", "one.bufr", "two.bufr"],
+            2,
+            &[],
+            "unexpected argument 'two.bufr' found",
+        ),
+    ];
+    let mut file = Vec::new(rt.alloc());
+    file.extend_from_slice(b"BUFR")?;
+    file.extend_from_slice(&ONE_BLOCK_NUMBER)?;
+    let shelf = Shelf {
+        name: "one.bufr",
+        file: &file,
+        standard: &ONE_BLOCK_NUMBER,
+    };
+    for (words, status, output, errors) in &ROWS {
+        let mut want = String::new(rt.alloc());
+        for part in *output {
+            want.push_str(part)?;
+        }
+        let mut w = ScriptOut::new(rt.alloc(), 4096, 4096, End::Fail)?;
+        let mut e = ScriptOut::new(rt.alloc(), 4096, 4096, End::Fail)?;
+        let answer = run(rt.alloc(), *words, &shelf, &mut w, &mut e);
+        assert_eq!(rt; answer, *status, "{words:?}");
+        assert_eq!(rt; w.taken(), want.as_bytes(), "{words:?}");
+        let told = str::from_utf8(e.taken()).expect(&rt, "text");
+        assert!(rt; told.contains(*errors), "{words:?}: {told}");
+        assert!(rt; told.is_empty() == errors.is_empty(), "{words:?}: {told}");
+    }
+    Ok(())
+}
+
+/// Help is handed on; where it cannot be written the status says so.
+#[test]
+fn shows_help(rt: HostRuntime) -> Result<(), Fail> {
+    let shelf = Shelf {
+        name: "",
+        file: b"",
+        standard: b"",
+    };
+    for words in [
+        ["bufr", "--help"].as_slice(),
+        ["bufr", "ls", "--help"].as_slice(),
+        ["bufr", "dump", "--help"].as_slice(),
+        ["bufr", "encode", "--help"].as_slice(),
+    ] {
+        let mut w = ScriptOut::new(rt.alloc(), 4096, 4096, End::Zero)?;
+        let mut e = ScriptOut::new(rt.alloc(), 4096, 4096, End::Zero)?;
+        assert_eq!(rt; run(rt.alloc(), words, &shelf, &mut w, &mut e), 0);
+        let told = str::from_utf8(w.taken()).expect(&rt, "text");
+        assert!(rt; told.contains("Exit status:"), "{told}");
+        assert!(rt; e.taken().is_empty());
+        let mut w = ScriptOut::new(rt.alloc(), 4096, 4096, End::Flush)?;
+        assert_eq!(rt; run(rt.alloc(), words, &shelf, &mut w, &mut e), 2);
+        assert_eq!(rt; e.taken(), b"bufr: 71 write failed\n".as_slice());
+    }
+    Ok(())
+}
+
+/// The process's own files: one that is not there cannot be opened.
+#[test]
+fn opens_files_of_the_process(rt: HostRuntime) {
+    assert!(rt; rt.open("no such file.bufr").is_err());
+}
+
+/// A file that is read.
+#[derive(Drop)]
+struct Page<'a> {
+    octets: &'a [u8],
+}
+
+impl<'a> Read for Page<'a> {
+    fn read(&mut self, buf: &mut [u8]) -> io::Result<usize> {
+        self.octets.read(buf)
+    }
+}
+
+/// Tables, the file `one` and standard input.
+#[derive(Drop)]
+struct Library<'a> {
+    one: &'a [u8],
+    standard: &'a [u8],
+}
+
+impl<'a> Inputs for Library<'a> {
+    ghost use Rattle.std.specs.Prelude.{None};
+
+    type Standard = Page<'a>;
+
+    type File = Page<'a>;
+
+    ghost standard_octets = { λ _. None };
+
+    ghost file_octets = { λ _ _. None };
+
+    fn standard(&self) -> Page<'a> {
+        Page {
+            octets: self.standard,
+        }
+    }
+
+    fn open(&self, name: &str) -> Result<Page<'a>, Unopened> {
+        let octets = if name == "b.csv" {
+            TABLE_B
+        } else if name == "d.csv" {
+            TABLE_D
+        } else if name == "cycle.csv" {
+            b"fxy,member\n300001,300002\n300002,300001\n"
+        } else if name == "one" {
+            self.one
+        } else {
+            return Err(Unopened);
+        };
+        Ok(Page { octets })
+    }
+}
+
+/// What stands behind a command that takes tables, the status, whether its output is written, and
+/// what the errors hold; without it, they are those of the file `one`. Table B is read first, then
+/// Table D, then the input.
+static RUNS: [(&[&str], u8, bool, Option<&str>); 9] = [
+    (&["-B", "b.csv", "-D", "d.csv"], 0, true, Some("")),
+    (&["-B", "b.csv", "-D", "d.csv", "one"], 1, true, None),
+    (
+        &["-B", "b.csv", "-D", "d.csv", "two"],
+        2,
+        false,
+        Some("bufr: cannot open two\n"),
+    ),
+    (
+        &["-B", "no.csv", "-D", "none.csv"],
+        2,
+        false,
+        Some("bufr: cannot open no.csv\n"),
+    ),
+    (
+        &["-B", "b.csv", "-D", "none.csv", "two"],
+        2,
+        false,
+        Some("bufr: cannot open none.csv\n"),
+    ),
+    (
+        &["-B", "d.csv", "-D", "none.csv"],
+        2,
+        false,
+        Some("table B: 40 header\n"),
+    ),
+    (
+        &["-B", "b.csv", "-D", "b.csv", "two"],
+        2,
+        false,
+        Some("table D: 40 header\n"),
+    ),
+    (
+        &["-B", "b.csv", "-D", "cycle.csv", "two"],
+        2,
+        false,
+        Some("table D: 43 cycle 300001\n"),
+    ),
+    (
+        &["-D", "d.csv"],
+        2,
+        false,
+        Some("required arguments were not provided"),
+    ),
+];
+
+/// Runs a command over these inputs, and asserts what comes of it: `output` of each input, and
+/// these errors of the file `one`.
+fn assert_runs(
+    rt: &(impl Abort + AllocGlobal),
+    command: &'static str,
+    library: &Library<'_>,
+    output: &[u8],
+    errors: &str,
+) -> Result<(), Fail> {
+    for (arguments, status, written, other) in &RUNS {
+        let words = line_of(rt.alloc(), command, *arguments)?;
+        let want = if *written { output } else { b"" };
+        let errors = other.unwrap_or(errors);
+        let mut w = ScriptOut::new(rt.alloc(), 4096, 4096, End::Fail)?;
+        let mut e = ScriptOut::new(rt.alloc(), 4096, 4096, End::Fail)?;
+        let answer = run(rt.alloc(), words.as_slice(), library, &mut w, &mut e);
+        assert_eq!(rt; answer, *status, "{words:?}");
+        assert_eq!(rt; w.taken(), want, "{words:?}");
+        let told = str::from_utf8(e.taken()).expect(rt, "text");
+        assert!(rt; told.contains(errors), "{words:?}: {told}");
+        assert!(rt; told.is_empty() == errors.is_empty(), "{words:?}: {told}");
+    }
+    Ok(())
+}
+
+/// The file has a stray word before the message.
+#[test]
+fn runs_dump_lines(rt: HostRuntime) -> Result<(), Fail> {
+    let message = one_block_number(rt.alloc())?;
+    let text = text_of_one(rt.alloc())?;
+    let mut one = Vec::new(rt.alloc());
+    one.extend_from_slice(b"BUFR")?;
+    one.extend_from_slice(&message)?;
+    let library = Library {
+        one: &one,
+        standard: &message,
+    };
+    let errors = "offset 0: 1 cut\n";
+    assert_runs(&rt, "dump", &library, text.as_bytes(), errors)
+}
+
+/// The file has a line behind the document that may not stand there.
+#[test]
+fn runs_encode_lines(rt: HostRuntime) -> Result<(), Fail> {
+    let message = one_block_number(rt.alloc())?;
+    let text = text_of_one(rt.alloc())?;
+    let mut one = String::new(rt.alloc());
+    one.push_str(text.as_str())?;
+    one.push_str("subset 1\n")?;
+    let library = Library {
+        one: one.as_bytes(),
+        standard: text.as_bytes(),
+    };
+    let errors = "line 26: 50 line\n";
+    assert_runs(&rt, "encode", &library, &message, errors)
+}
+
+/// Asserts what `finish` writes and answers, also where it cannot write.
+fn assert_finished(
+    rt: &(impl Abort + AllocGlobal),
+    outcome: &Outcome<'_>,
+    line: &str,
+    status: u8,
+) -> Result<(), Fail> {
+    let mut e = ScriptOut::new(rt.alloc(), 100, 3, End::Fail)?;
+    assert_eq!(rt; finish(outcome, &mut e), status, "{line}");
+    assert_eq!(rt; e.taken(), line.as_bytes(), "{line}");
+    let mut e = ScriptOut::new(rt.alloc(), 4, 3, End::Zero)?;
+    assert_eq!(rt; finish(outcome, &mut e), status, "{line}");
+    Ok(())
+}
+
+#[test]
+fn finishes(rt: HostRuntime) -> Result<(), Fail> {
+    let clean = Tally {
+        accepted: 3,
+        refused: 0,
+    };
+    let refusing = Tally {
+        accepted: 3,
+        refused: 1,
+    };
+    assert_finished(&rt, &Outcome::Ran(clean), "", 0)?;
+    assert_finished(&rt, &Outcome::Ran(refusing), "", 1)?;
+    let usage = "error: no command\n";
+    assert_finished(&rt, &Outcome::Usage(usage), usage, 2)?;
+    let line = "bufr: cannot open x.bufr\n";
+    assert_finished(&rt, &Outcome::CannotOpen("x.bufr"), line, 2)?;
+    static FAULTS: [(RunFault, &str); 4] = [
+        (RunFault::Read, "bufr: 70 read failed\n"),
+        (RunFault::Write, "bufr: 71 write failed\n"),
+        (RunFault::InputTooLong, "bufr: 72 input too long\n"),
+        (RunFault::Memory, "bufr: 73 out of memory\n"),
+    ];
+    for (fault, line) in &FAULTS {
+        assert_finished(&rt, &Outcome::Run(*fault), line, 2)?;
+    }
+    Ok(())
+}
+
+#[test]
+fn finishes_tables(rt: HostRuntime) -> Result<(), Fail> {
+    let block = Fxy::from_word(0x0101);
+    let sequence = Fxy::from_word(0xC001);
+    let b = Outcome::TableB(TableFault::Header);
+    assert_finished(&rt, &b, "table B: 40 header\n", 2)?;
+    let b = Outcome::TableB(TableFault::Row(18_446_744_073_709_551_615));
+    assert_finished(&rt, &b, "table B: 41 row 18446744073709551615\n", 2)?;
+    let b = Outcome::TableB(TableFault::Duplicate(block));
+    assert_finished(&rt, &b, "table B: 42 duplicate 001001\n", 2)?;
+    let b = Outcome::TableB(TableFault::Csv);
+    assert_finished(&rt, &b, "table B: 45 csv\n", 2)?;
+    let b = Outcome::TableB(TableFault::Memory);
+    assert_finished(&rt, &b, "bufr: 73 out of memory\n", 2)?;
+    let d = Outcome::TableD(TableFault::Row(2));
+    assert_finished(&rt, &d, "table D: 41 row 2\n", 2)?;
+    let d = Outcome::TableD(TableFault::Duplicate(sequence));
+    assert_finished(&rt, &d, "table D: 42 duplicate 300001\n", 2)?;
+    let d = Outcome::TableD(TableFault::TableSize);
+    assert_finished(&rt, &d, "table D: 44 table size\n", 2)?;
+    let d = Outcome::TableD(TableFault::Memory);
+    assert_finished(&rt, &d, "bufr: 73 out of memory\n", 2)?;
+    let rows = b"fxy,member\n300001,300002\n300002,300001\n";
+    let fault = TableD::read(rt.alloc(), rows).err().expect(&rt, "a fault");
+    let d = Outcome::TableD(fault);
+    assert_finished(&rt, &d, "table D: 43 cycle 300001\n", 2)
+}

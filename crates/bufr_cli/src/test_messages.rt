@@ -1,0 +1,156 @@
+//! Tables, messages and texts for the tests.
+
+use crate::tally::Tally;
+use std::alloc::{AllocError, Global};
+use std::test::Fail;
+
+/// Test data, not WMO's.
+pub(crate) const TABLE_B: &[u8] = b"\
+    fxy,name,unit,scale,reference,width\n\
+    001001,WMO BLOCK NUMBER,Numeric,0,0,7\n\
+    001015,STATION OR SITE NAME,CCITT IA5,0,0,160\n\
+    005002,LATITUDE (COARSE ACCURACY),degree,2,-9000,15\n\
+    012101,AIR TEMPERATURE,K,2,0,16\n\
+    020003,PRESENT WEATHER,Code table,0,0,9\n\
+    031000,SHORT DELAYED DESCRIPTOR REPLICATION FACTOR,Numeric,0,0,1\n\
+    031001,DELAYED DESCRIPTOR REPLICATION FACTOR,Numeric,0,0,8\n\
+    031002,EXTENDED DELAYED DESCRIPTOR REPLICATION FACTOR,Numeric,0,0,16\n";
+
+/// One sequence, of a block number and a temperature.
+pub(crate) const TABLE_D: &[u8] = b"fxy,member\n360192,001001\n360192,012101\n";
+
+/// The lines of a dump that are the same in each of these messages.
+pub(crate) const HEAD: &str = "\
+    message\n\
+    edition 4\n\
+    master 0\n\
+    centre 98\n\
+    subcentre 0\n\
+    update 0\n\
+    category 0\n\
+    subcategory 0\n\
+    localsubcategory 0\n\
+    masterversion 14\n\
+    localversion 0\n\
+    year 2024\n\
+    month 1\n\
+    day 2\n\
+    hour 3\n\
+    minute 4\n\
+    second 5\n";
+
+/// What comes of a run that accepts one message or document.
+pub(crate) const ONE_ACCEPTED: Tally = Tally {
+    accepted: 1,
+    refused: 0,
+};
+
+/// The octets of a text of hexadecimal digits.
+pub(crate) fn octets_of(alloc: Global, text: &str) -> Result<Vec<u8>, Fail> {
+    let mut octets = Vec::new(alloc);
+    let mut high = None;
+    for digit in text.chars() {
+        let value = u8::try_from(digit.to_digit(16).unwrap_or(0))?;
+        high = match high {
+            None => Some(value),
+            Some(first) => {
+                octets.push(u8::wrapping_add(u8::wrapping_mul(first, 16), value))?;
+                None
+            }
+        };
+    }
+    Ok(octets)
+}
+
+/// The words of a text of descriptors.
+pub(crate) fn words_of(alloc: Global, text: &str) -> Result<Vec<u16>, Fail> {
+    let mut words = Vec::new(alloc);
+    for digits in text.split_whitespace() {
+        let number = digits.parse::<u32>()?;
+        let word = number / 100_000 * 16384 + number / 1000 % 100 * 256 + number % 1000;
+        words.push(u16::try_from(word)?)?;
+    }
+    Ok(words)
+}
+
+/// Puts a number in two octets.
+fn push_two(octets: &mut Vec<u8>, number: usize) -> Result<(), AllocError> {
+    octets.push((number / 256 % 256) as u8)?;
+    octets.push((number % 256) as u8)?;
+    Ok(())
+}
+
+/// A message of edition 4 with these subsets, flags, descriptors and data.
+pub(crate) fn message_of(
+    alloc: Global,
+    subsets: u16,
+    flags: u8,
+    descriptors: &[u16],
+    payload: &[u8],
+) -> Result<Vec<u8>, Fail> {
+    let mut octets = Vec::new(alloc);
+    let (third, fourth) = (descriptors.len() % 1000 * 2 + 7, payload.len() % 60000 + 4);
+    octets.extend_from_slice(b"BUFR\0")?;
+    push_two(&mut octets, third + fourth + 34)?;
+    octets.extend_from_slice(&[4, 0, 0, 22, 0, 0, 98, 0, 0, 0, 0, 0, 0, 0, 14, 0])?;
+    octets.extend_from_slice(&[7, 232, 1, 2, 3, 4, 5, 0])?;
+    push_two(&mut octets, third)?;
+    octets.push(0)?;
+    push_two(&mut octets, usize::from(subsets))?;
+    octets.push(flags)?;
+    for word in descriptors {
+        push_two(&mut octets, usize::from(*word))?;
+    }
+    octets.push(0)?;
+    push_two(&mut octets, fourth)?;
+    octets.push(0)?;
+    octets.extend_from_slice(payload)?;
+    octets.extend_from_slice(b"7777")?;
+    Ok(octets)
+}
+
+/// The dump text of one of these messages.
+pub(crate) fn text_of(
+    alloc: Global,
+    subsets: u16,
+    flags: u8,
+    descriptors: &str,
+    body: &str,
+) -> Result<String, Fail> {
+    let mut text = String::from_str(alloc, HEAD)?;
+    let compressed = flags / 64 % 2;
+    let counts = format!(in alloc;
+        "observed 1\ncompressed {compressed}\noptional 0\nsubsets {subsets}\n"
+    )?;
+    text.push_str(counts.as_str())?;
+    let mut place = 0usize;
+    for digits in descriptors.split_whitespace() {
+        if place % 8 == 0 {
+            text.push_str(if place == 0 {
+                "descriptors"
+            } else {
+                "\ndescriptors"
+            })?;
+        }
+        text.push(' ')?;
+        text.push_str(digits)?;
+        place = place.saturating_add(1);
+    }
+    if place > 0 {
+        text.push('\n')?;
+    }
+    text.push_str(body)?;
+    text.push_str("end\n")?;
+    Ok(text)
+}
+
+/// A message with the block number 10, 48 octets.
+pub(crate) fn one_block_number(alloc: Global) -> Result<Vec<u8>, Fail> {
+    message_of(alloc, 1, 0x80, &[0x0101], &[0x14])
+}
+
+/// Its dump text.
+pub(crate) fn text_of_one(alloc: Global) -> Result<String, Fail> {
+    let body = "subset 1\n001001 10  # WMO BLOCK NUMBER [Numeric]\n";
+    text_of(alloc, 1, 0x80, "001001", body)
+}
