@@ -64,10 +64,6 @@ errors-stopped w e e' text piece f is writes =
     let W : List ℕ → Type 0 = λ t. GrowsByFront e e' t in
     subst P (sym is) (grows-none w [], subst W (sym (append-nil text)) writes)
 
--- nothing was written
-pub nothing-told : (w e : Option (List ℕ)) (piece : Piece) (f : RunFault) → TellsPieces w w e e (piece ∷ []) (Err f)
-nothing-told w e piece f = (grows-none w _, grows-none e _)
-
 -- the items of a reading are those that its table and its data say
 items-same : (r : Read) (table : List Row) (template : Tree) (d : Data) (used : ℕ) (values : Values) → r.table ≡ table → r.source ≡ d → items_of (read_by table template d used 0) values ≡ items_of r values
 items-same r table template d used (apart subsets) is_table is_source = ap (λ t. items_of (read_by t template d used 0) (apart subsets)) (sym is_table)

@@ -80,20 +80,6 @@ module _ (count : ℕ) (spec : Asked) (cells : List Cell) (j : ℕ) (ds : List D
 pub gathered : (count : ℕ) (spec : Asked) (cells : List Cell) (j : ℕ) (ds : List Drawn) → IsGathering count spec cells j ds → length cells ≤ j → contents_here spec cells ≡ Ok (contents_drawn count ds)
 gathered count spec cells j ds inv h = inv.so ∙ ap (λ cs. in_front (contents_drawn count ds) (contents_here spec cs)) (drop_none cells j h) ∙ ap Ok (append-nil (contents_drawn count ds))
 
-pub gather_none : (count : ℕ) (spec : Asked) (cells : List Cell) → IsGathering count spec cells 0 []
-gather_none count spec cells = record { so = by (contents_here spec cells) refl; all = tt; many = refl }
-  where
-    whole : drop 0 cells ≡ cells
-    whole = drop_zero cells
-      where
-        drop_zero : (xs : List Cell) → drop 0 xs ≡ xs
-        drop_zero [] = refl
-        drop_zero (x ∷ xs) = refl
-
-    by : (r : Result (List Content) FaultAt) → contents_here spec cells ≡ r → contents_here spec cells ≡ in_front [] (contents_here spec (drop 0 cells))
-    by (Ok cs) e = e ∙ ap (in_front []) (sym e ∙ ap (contents_here spec) (sym whole))
-    by (Err f) e = e ∙ ap (in_front []) (sym e ∙ ap (contents_here spec) (sym whole))
-
 -- whether all subsets end
 pub end_item : (cells : List Cell) (j : ℕ) (e : Entry) (d : Draft) → j < length cells → ((c : Cell) → slice_get cells j ≡ Some c → e ≡ cell_entry c) → e ≡ Holds d → all_end cells ≡ all_end (drop j cells) → all_end cells ≡ Err (at_line d.line item_too_many)
 end_item cells j e d h here is inv = by (cell_at cells j h)
@@ -152,15 +138,3 @@ module _ (count : ℕ) (ds : List Drawn) (cells : List Cell) (j : ℕ) (z : Draw
   unlike_here s e n here is =
       let k = cell_at cells j (omega (arith, within, many)) in
       is ∙ ap entry_line (here k.cell k.is) ∙ line_same k.cell.draft k.cell.end_line ∙ sym (unlike_next false s k)
-
-pub unlike_begin : (count : ℕ) (ds : List Drawn) (cells : List Cell) → unlike_line (contents_drawn count ds) cells ≡ unlike_from (contents_drawn count ds) (contents_drawn count (drop 0 ds)) (drop 0 cells)
-unlike_begin count [] cells = refl
-unlike_begin count (d ∷ ds) [] = refl
-unlike_begin count (d ∷ ds) (c ∷ cells) = refl
-
-pub unlike_done : (count : ℕ) (ds : List Drawn) (cells : List Cell) (j : ℕ) → length ds ≤ j → unlike_line (contents_drawn count ds) cells ≡ unlike_from (contents_drawn count ds) (contents_drawn count (drop j ds)) (drop j cells) → 0 ≡ unlike_line (contents_drawn count ds) cells
-unlike_done count ds cells j h inv = sym (inv ∙ ap (λ xs. unlike_from (contents_drawn count ds) (contents_drawn count xs) (drop j cells)) (drop_none ds j h) ∙ none (contents_drawn count ds) (drop j cells))
-  where
-    none : (all : List Content) (ks : List Cell) → unlike_from all [] ks ≡ 0
-    none [] ks = refl
-    none (c ∷ cs) ks = refl

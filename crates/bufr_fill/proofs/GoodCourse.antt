@@ -13,11 +13,11 @@ use Rattle.bufr_walk.specs.declared.spec.Role.TheVariants as role
 use Rattle.bufr_walk.specs.declared.spec.Refusal.{Refusal}
 use Rattle.bufr_walk.specs.declared.spec.Refusal.TheVariants as refusal
 use Rattle.bufr_walk.specs.Asked.{Asked, IsSpec}
-use Rattle.bufr_walk.specs.Settings.{Settings, begin, is_defining, with_references, with_operator, after_operator, after_field}
+use Rattle.bufr_walk.specs.Settings.{Settings, Redefined, begin, is_defining, with_references, with_operator, after_operator, after_field, without}
 use Rattle.bufr_walk.specs.Rules.{text_of, element_spec, factor_spec, inserted_spec}
 use Rattle.bufr_walk.specs.Turns.{Turns, finish, open_end, group, pass_end, factor_turn, element_turn, operator_turn, Rest, passes, unroll, turns_of}
 use Rattle.bufr_walk.specs.Course.{take_next, Ahead, asked, operated, ahead, next_item, counts_of}
-use Rattle.bufr_fill.specs.Limits.{AreGoodRows, IsWithin, AreWithin, IsSettings, AreLegal}
+use Rattle.bufr_fill.specs.Limits.{AreGoodRows, IsWithin, AreWithin, AreRedefined, IsSettings, AreLegal}
 use Rattle.bufr_fill.proofs.GoodSpecs.{element_good, factor_good}
 
 -- operands of legal operators
@@ -93,10 +93,19 @@ operator_good s x y set most legal = by (x == 1) (x == 2) (x == 3) (x == 6) (x =
     by false false false false true p q = record { widened = set.widened; rescaled = set.rescaled; defining = set.defining; refined = operand_seven x y q legal; lettered = set.lettered; given = set.given; redefined = set.redefined }
     by false false false false false p q = record { widened = set.widened; rescaled = set.rescaled; defining = set.defining; refined = set.refined; lettered = most; given = set.given; redefined = set.redefined }
 
+-- the references of other elements
+others_good : (fxy : ℕ) (known : List Redefined) → AreRedefined known → AreRedefined (without fxy known)
+others_good fxy [] h = h
+others_good fxy (r ∷ more) h = by (r.fxy == fxy)
+  where
+    by : (b : Bool) → AreRedefined (if b then without fxy more else r ∷ without fxy more)
+    by true = others_good fxy more h.1
+    by false = (h.0, others_good fxy more h.1)
+
 field_good : (s : Settings) (fxy : ℕ) (t : Taken) → IsSettings s → IsWithin t → IsSettings (after_field s fxy t)
 field_good s fxy taken.Plain set h = record { widened = set.widened; rescaled = set.rescaled; defining = set.defining; refined = set.refined; lettered = set.lettered; given = omega arith; redefined = set.redefined }
 field_good s fxy (taken.Count n) set h = record { widened = set.widened; rescaled = set.rescaled; defining = set.defining; refined = set.refined; lettered = set.lettered; given = omega arith; redefined = set.redefined }
-field_good s fxy (taken.Reference r) set h = record { widened = set.widened; rescaled = set.rescaled; defining = set.defining; refined = set.refined; lettered = set.lettered; given = omega arith; redefined = (h, set.redefined) }
+field_good s fxy (taken.Reference r) set h = record { widened = set.widened; rescaled = set.rescaled; defining = set.defining; refined = set.refined; lettered = set.lettered; given = omega arith; redefined = (h, others_good fxy s.redefined set.redefined) }
 
 module _ (table : List Row) (rows : AreGoodRows table) where
   asked_good : (r : Result Asked Refusal) (go : Taken → List Taken → Ahead) (told : List Taken) (spec : Asked) → AreWithin told → ((x : Asked) → r ≡ Ok x → IsSpec x) → ((t : Taken) (more : List Taken) → IsWithin t → AreWithin more → (go t more).next ≡ take_next spec → IsSpec spec) → (asked r go told).next ≡ take_next spec → IsSpec spec

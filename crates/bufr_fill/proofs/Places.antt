@@ -55,13 +55,6 @@ cut from (Holds d ∷ more) e rest h =
     at items line g zero = let m : min (suc (length items)) 0 ≡ 0 = omega arith in ap (slice_get (Holds d ∷ more)) m
     at items line g (suc j) = let m : min (suc (length items)) (suc j) ≡ suc (min (length items) j) = omega arith in ap (slice_get (Holds d ∷ more)) m ∙ g j
 
--- no end lies before the entries
-pub ends_from : (from : ℕ) (xs : List Entry) (s e : ℕ) → slice_get (ends_of from xs) s ≡ Some e → from ≤ e
-ends_from from [] s e h = absurd cc
-ends_from from (Holds d ∷ more) s e h = omega (arith, ends_from (from + 1) more s e h)
-ends_from from (Ends line ∷ more) zero e h = let at : from ≡ e = cc in omega (arith, at)
-ends_from from (Ends line ∷ more) (suc s) e h = omega (arith, ends_from (from + 1) more s e h)
-
 -- nor behind them
 pub ends_before : (from : ℕ) (xs : List Entry) (s e : ℕ) → slice_get (ends_of from xs) s ≡ Some e → e < from + length xs
 ends_before from [] s e h = absurd cc

@@ -51,10 +51,6 @@ both_first : (a b : Bool) → (a && b) ≡ true → a ≡ true
 both_first true b h = refl
 both_first false b h = h
 
-both_second : (a b : Bool) → (a && b) ≡ true → b ≡ true
-both_second true b h = h
-both_second false b h = absurd cc
-
 -- k octets and spaces are the text again where nothing but spaces is behind them
 abbrev again : ℕ → List ℕ → Bool
 again k os = same_octets (take k os ++ replicate (length os - k) 32) os

@@ -60,21 +60,6 @@ text_not count a b i x y ha hb l ea eb e inv =
     inv ∙ ap (λ z. same_octets z (drop i (spaced count b))) (spaced_at count a i ha l) ∙ ap (λ z. same_octets (octet_in a i ∷ drop (i + 1) (spaced count a)) z) (spaced_at count b i hb l)
     ∙ ap (λ t. t && same_octets (drop (i + 1) (spaced count a)) (drop (i + 1) (spaced count b))) (apart_test (octet_in a i) (octet_in b i) (λ q. e (ea ∙ q ∙ sym eb)))
 
-pub text_done : (count : ℕ) (a b : List ℕ) (i : ℕ) → length a ≤ count → length b ≤ count → count ≤ i
-    → same_octets (spaced count a) (spaced count b) ≡ same_octets (drop i (spaced count a)) (drop i (spaced count b)) → same_octets (spaced count a) (spaced count b) ≡ true
-text_done count a b i ha hb h inv = inv ∙ ap (λ z. same_octets z (drop i (spaced count b))) (none a ha) ∙ ap (λ z. same_octets [] z) (none b hb)
-  where
-    none : (os : List ℕ) → length os ≤ count → drop i (spaced count os) ≡ []
-    none os l = by os (count - length os) i (omega (arith, l, h))
-      where
-        by : (os : List ℕ) (n i : ℕ) → length os + n ≤ i → drop i (os ++ replicate n 32) ≡ []
-        by [] zero zero l = refl
-        by [] zero (suc i) l = refl
-        by [] (suc n) zero l = absurd (omega (arith, l))
-        by [] (suc n) (suc i) l = by [] n i (omega (arith, l))
-        by (o ∷ os) n zero l = absurd (omega (arith, l))
-        by (o ∷ os) n (suc i) l = by os n i (omega (arith, l))
-
 -- the spaces at the end of a text
 trimmed_space : (b : Bool) (os : List ℕ) (n : ℕ) → trimmed os ≡ n → trimmed (os ++ 32 ∷ []) ≡ n
 trimmed_space b [] n e = e

@@ -1,4 +1,4 @@
-// What all subsets give at one place.
+//! What all subsets give at one place.
 ghost use Rattle.std.specs.Prelude.{◌≡◌, ◌≤◌, ◌<◌, ◌+◌, ◌/◌, ◌^◌, ℕ, length, map, slice_get, get_or, Some};
 ghost use Rattle.bufr_fill.specs.Encoding.{Cell, cells_at, unlike_line};
 ghost use Rattle.bufr_fill.specs.Entries.{subsets_of};

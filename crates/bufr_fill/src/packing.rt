@@ -1,4 +1,4 @@
-// How the contents of one item are packed for all subsets.
+//! How the contents of one item are packed for all subsets.
 ghost use Rattle.std.specs.Prelude.{ℕ, ◌≡◌, ◌≤◌, ◌<◌, ◌+◌, ◌-◌, ◌*◌, ◌/◌, ◌^◌, ◌++◌, ◌∷◌, [], true, false, length, map, take, replicate, nat_lt, OnOk, unwrap_or};
 ghost use Rattle.std.specs.List.{list_all, flat_map};
 ghost use Rattle.bufr_bits.specs.Bits.{bits_in, bits_of};

@@ -1,4 +1,4 @@
-// What was drawn for a field, written as its bits.
+//! What was drawn for a field, written as its bits.
 ghost use Rattle.std.specs.Prelude.{◌≡◌, ◌≤◌, ◌<◌, ◌+◌, ◌-◌, ◌*◌, ◌/◌, ◌^◌, ◌++◌, ◌∷◌, ℕ, true, false, length, replicate, unsigned_abs, OnOk, OnErr};
 ghost use Rattle.bufr_bits.specs.Bits.{bits_of, bits_in};
 ghost use Rattle.bufr_tables.specs.TableB.{is_character};

@@ -7,7 +7,7 @@ use Rattle.bufr_text.specs.Documents.{Place, Told, spelled, spelled_openly, line
 use Rattle.bufr_text.specs.Dump.{text_of}
 use Rattle.bufr_text.specs.Reading.{has_no_feed, Stand, GoesOn, Passes, PassesEnd}
 use Rattle.bufr_text.specs.Reader.{State, stand, behind, IsMissingFeed, CallSo, ClosesSo}
-use Rattle.bufr_text.specs.Filling.{Tells, ReadSo, ReadEnds}
+use Rattle.bufr_text.specs.Filling.{Tells, ReadSo}
 use Rattle.bufr_text.proofs.ReadingLemmas.{goes-further, stays, line-held, one-line}
 use Rattle.bufr_text.proofs.TakingLemmas.{text-append, all-append, passes-none}
 
@@ -152,10 +152,6 @@ takes-call left s s' told tells ended reads =
       kept = λ e. (ended ∙ e, refl, reads);
       end = λ before e. before (sym ended ∙ e);
     }
-
--- a read
-reads-one : (left' : Option (List ℕ)) (s s' : State) (bs : List ℕ) → ReadEnds left' s s' bs (Ok tt) → s'.reads ≡ s.reads + 1
-reads-one left' s s' bs ends = ends.0
 
 module _ (left left' : Option (List ℕ)) (s s' : State) (bs : List ℕ) (read : ReadSo left left' s s' (Ok tt) bs) (open' : s.ended ≡ false) (clean : has_no_feed s.held ≡ true) where
   same-stand : (h : List ℕ) (t : List ℕ) → spelled s.at s.place (lines_of (h ++ t)) ≡ spelled s'.at s'.place (lines_of (h ++ t))

@@ -101,13 +101,6 @@ module _ (text out : List ℕ) (count : ℕ) (is : IsDescribing text out count) 
       let bounds : (nat_lt 0 (length (take count out)) && nat_le (length (take count out)) 8) ≡ true = grind (arith, nat_tests, long, some, few) in
       (omega (arith, is.room, few), ap (made (with_one_to 8 Descriptors)) read ∙ rw bounds refl)
 
-pub describing-first : (text out : List ℕ) → length out ≡ 8 → 0 < length text → length text ≤ 56 → IsDescribing text out 0
-describing-first text out room some short = record { within = omega arith; some = some; short = short; room = room; read = none (descriptors_read text) }
-  where
-    none : (read : Option (List ℕ)) → read ≡ option_map (λ more. [] ++ more) read
-    none None = refl
-    none (Some xs) = refl
-
 -- a text of more than eight descriptors, or of none, is no line
 some-same : (a b : List ℕ) → Some a ≡ Some b → a ≡ b
 some-same a b e = ap (λ (o : Option (List ℕ)). unwrap_or o []) e

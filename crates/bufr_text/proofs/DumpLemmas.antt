@@ -10,7 +10,7 @@ use Rattle.bufr_frame.specs.declared.fault.RunFault.TheVariants.{Read, Write, In
 use Rattle.bufr_text.specs.Grammar.{runs_behind, runs_of}
 use Rattle.bufr_text.specs.Dump.{text_of}
 use Rattle.bufr_text.specs.Dumping.{WritesFront, CountsFaults}
-use Rattle.bufr_text.specs.Writing.{Writes, CountsWrites, GrowsByFront}
+use Rattle.bufr_text.specs.Writing.{Writes, GrowsByFront}
 use Rattle.bufr_text.proofs.WritingLemmas.{WrittenSoFar}
 
 -- a front of a text is one of a longer text
@@ -35,10 +35,6 @@ front-behind a b c s t first second = record {
 pub front-none : (a : Option (List ℕ)) (text : List ℕ) → GrowsByFront a a text
 front-none a text = record { front = []; back = text; parts = refl; gains = Appends-nil a }
 
--- all was written
-pub front-all : (a b : Option (List ℕ)) (text : List ℕ) → Appends a b text → GrowsByFront a b text
-front-all a b text all = record { front = text; back = []; parts = sym (append-nil text); gains = all }
-
 -- the first was written, and then the second
 pub WritesFront-then : {X : Type 0} (a b c : Option (List ℕ)) (s t : List ℕ) (r : Result X RunFault) → Appends a b s → WritesFront b c t r → WritesFront a c (s ++ t) r
 WritesFront-then a b c s t (Ok x) first second = Appends-trans a b c s t first second
@@ -55,22 +51,11 @@ pub WritesFront-writes : {X : Type 0} (a b : Option (List ℕ)) (text : List ℕ
 WritesFront-writes a b text (Ok x) writes = writes
 WritesFront-writes a b text (Err f) writes = writes.1
 
-pub CountsFaults-writes : {X : Type 0} (a b : Option (List ℕ)) (text : List ℕ) (failures failures' empty empty' : ℕ) (r : Result X RunFault) → Writes a b text r → CountsWrites failures failures' empty empty' r → CountsFaults failures failures' empty empty' r
-CountsFaults-writes a b text failures failures' empty empty' (Ok x) writes counts = counts
-CountsFaults-writes a b text failures failures' empty empty' (Err f) writes counts = rw writes.0 counts
-
 -- nothing was counted, and then a call was made
 pub CountsFaults-then : {X : Type 0} (f f' f'' e e' e'' : ℕ) (r : Result X RunFault) → f' ≡ f → e' ≡ e → CountsFaults f' f'' e' e'' r → CountsFaults f f'' e e'' r
 CountsFaults-then f f' f'' e e' e'' r failures empty counts =
     let P : ℕ → ℕ → Type 0 = λ x y. CountsFaults x f'' y e'' r in
     subst (λ x. P x e) failures (subst (λ y. P f' y) empty counts)
-
--- the fault that was passed on
-pub CountsFaults-stop : {X Y : Type 0} (f f' e e' : ℕ) (first : Result X RunFault) (r : Result Y RunFault) (fault : RunFault) → first ≡ Err fault → r ≡ Err fault → CountsFaults f f' e e' first → CountsFaults f f' e e' r
-CountsFaults-stop f f' e e' first r Write is same counts = let here = rw is at counts in rw same here
-CountsFaults-stop f f' e e' first r Memory is same counts = let here = rw is at counts in rw same here
-CountsFaults-stop f f' e e' first r Read is same counts = let here = rw is at counts in absurd here
-CountsFaults-stop f f' e e' first r InputTooLong is same counts = let here = rw is at counts in absurd here
 
 -- whatever the answer would be at Ok
 pub CountsFaults-of : (X Y : Type 0) (f f' e e' : ℕ) (fault : RunFault) → CountsFaults {X = X} f f' e e' (Err fault) → CountsFaults {X = Y} f f' e e' (Err fault)

@@ -27,7 +27,7 @@ use Rattle.bufr_fill.specs.Draft.{Draft, draft}
 use Rattle.bufr_fill.specs.DraftContent as fill
 use Rattle.bufr_fill.specs.Entries.{Subset, subset, onto_first}
 use Rattle.bufr_fill.specs.Limits.{AreGoodRows}
-use Rattle.bufr_fill.specs.WrittenAgain.{IsDumped, AreDrafts, AreDumped, AreDumpedFrom, IsWrittenAgain, IsPackedAgain}
+use Rattle.bufr_fill.specs.WrittenAgain.{IsDumped, AreDrafts, AreDumped, AreDumpedFrom}
 use Rattle.bufr_fill.specs.WrittenAgain as again
 use Rattle.bufr_fill.proofs.FieldBits.{octet_bits_again, octets_in-are, length-octets_in}
 use Rattle.bufr_fill.proofs.WholeLaws.{plain_template_again, packed_template_again}
@@ -148,9 +148,6 @@ parts_with s payload = parts_of s.local1 s.section2 s.descriptors s.subsets s.ob
 pub parts_back : (at : ℕ) (s : Sections) (items : List (List Item)) (payload : List ℕ) → parts_in (document_of at s items) payload ≡ parts_with s payload
 unfolding parts_with
 parts_back at s items payload = λ j. parts_of s.local1 (section2_back s.section2 j) s.descriptors s.subsets (bit_back s.observed j) (bit_back s.compressed j) payload
-
-head_back : (at : ℕ) (s : Sections) (items : List (List Item)) → head_in (document_of at s items) ≡ s.head
-head_back at s items = refl
 
 pub size_least : (s : Sections) (payload : List ℕ) (n : ℕ) → length payload ≤ length s.payload → message_size (layout.parts_in s) ≤ n → message_size (parts_with s payload) ≤ n
 unfolding parts_with

@@ -82,12 +82,6 @@ no-section2 f o section2 is none =
     let there : section2 ≡ None = sym is ∙ ap (option_map f) none in
     ap (λ s. text_of (map section2_line (runs_of 32 (unwrap_or s [])))) there
 
--- section 2 as it is there
-pub some-section2 : {X : Type 0} (f : X → List ℕ) (o : Option X) (section2 : Option (List ℕ)) (x : X) → option_map f o ≡ section2 → o ≡ Some x → f x ≡ unwrap_or section2 []
-some-section2 f o section2 x is some =
-    let there : section2 ≡ Some (f x) = sym is ∙ ap (option_map f) some in
-    sym (ap (λ s. unwrap_or s []) there)
-
 -- The texts that stand before the subsets, one after another.
 module _ (s : Sections) where
   abbrev pub origin : List ℕ

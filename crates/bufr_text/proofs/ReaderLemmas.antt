@@ -44,14 +44,6 @@ place-sound (Some f) draft e = absurd cc
 abbrev pub state : (at : ℕ) → documents.Place → List ℕ → Bool → Option ReadFault → ℕ → State
 state at place held ended fault reads = record { at = at; place = place; held = held; ended = ended; fault = fault; reads = reads }
 
-pub stop-is : (f : Option ReadFault) (why : ReadFault) (draft : Draft) (held : List ℕ) (ended : Bool) (reads : ℕ) → f ≡ None
-    → state draft.at (place_now (Some why) draft) held ended (Some why) reads ≡ stopped (state draft.at (place_now f draft) held ended f reads) why
-stop-is None (fault.Line line) draft held ended reads e = refl
-stop-is None (fault.SubsetCount line) draft held ended reads e = refl
-stop-is None (fault.HeaderRange line) draft held ended reads e = refl
-stop-is None (fault.Run why) draft held ended reads e = refl
-stop-is (Some f) why draft held ended reads e = absurd cc
-
 -- what lines tell that were taken
 pub takes-tells : (old new : Draft) (f f' : Option ReadFault) (items held : List ℕ) (start filled len : ℕ) (ended : Bool) (reads : ℕ) (step : Taken) (p : documents.Place)
     → TakesSo old new held len step → f ≡ None → held ≡ slice_range items start filled → filled ≤ length items → p ≡ place_behind step new

@@ -80,11 +80,6 @@ goes-further a b c x y kept f g = record {
 pub stays : (a : Stand) → GoesOn a a []
 stays a = record { whole = λ t none. refl; openly = λ unended t. refl }
 
--- more octets are held
-pub holds-more : (at : ℕ) (place : Place) (held bs : List ℕ) (t : List ℕ) (ended : Bool) →
-    spells (record { at = at; place = place; held = held; ended = false }) (bs ++ t) ≡ spells (record { at = at; place = place; held = held ++ bs; ended = ended }) t
-holds-more at place held bs t ended = ap (λ (z : List ℕ). spelled at place (lines_of z)) (sym (append_assoc held bs t))
-
 -- a line that is too long is refused before its end is seen
 onto-some : (c : ℕ) (ls : List (List ℕ)) → (more : List ℕ) × (rest : List (List ℕ)) × (onto_first c ls ≡ (c ∷ more) ∷ rest)
 onto-some c [] = ([], [], refl)
@@ -182,20 +177,6 @@ one-line [] h some = absurd (omega arith)
 one-line (c ∷ []) h some = rw (no-feed-first c (and_first (not (c == 10)) true h)) refl
 one-line (c ∷ d ∷ held) h some =
     rw (no-feed-first c (and_first (not (c == 10)) (has_no_feed (d ∷ held)) h)) (ap (onto_first c) (one-line (d ∷ held) (and_second (not (c == 10)) (has_no_feed (d ∷ held)) h) (omega arith)))
-
-nothing-behind : (t : List ℕ) (held : List ℕ) → t ≡ [] → lines_of (held ++ t) ≡ lines_of held
-nothing-behind t held none = ap (λ (z : List ℕ). lines_of (held ++ z)) none ∙ ap lines_of (append-nil held)
-
-pub takes-last : (at : ℕ) (place : Place) (line : List ℕ) → has_no_feed line ≡ true → 0 < length line
-    → let here = turn at place (said line) in
-    GoesOn (record { at = at; place = place; held = line; ended = true }) (record { at = at + 1; place = place_after here; held = []; ended = true }) (told_at at here)
-unfolding spelled lines_of
-takes-last at place line h some = record {
-  openly = λ unended t. absurd (cc-no unended);
-  whole = λ t none.
-      ap (spelled at place) (nothing-behind t line (none refl) ∙ one-line line h some)
-      ∙ ap (λ (z : List ℕ). told_at at (turn at place (said line)) ++ spelled (at + 1) (place_after (turn at place (said line))) (lines_of z)) (sym (none refl));
-}
 
 pub ends-inside : (at : ℕ) (place : Place)
     → GoesOn (record { at = at; place = place; held = []; ended = true }) (record { at = at; place = Stopped; held = []; ended = true }) (told_at_end at place)

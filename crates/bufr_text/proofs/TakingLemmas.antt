@@ -1,5 +1,5 @@
 -- Lines that are taken one after another.
-use Rattle.std.proofs.Common.{◌≡◌, ℕ, ◌+◌, ◌<◌, Bool, true, List, [], ◌∷◌, ◌++◌, take, drop, refl, sym, ap, ◌∙◌, arith, Some, None, subst, length-drop, length-append, append_assoc, append-nil}
+use Rattle.std.proofs.Common.{◌≡◌, ℕ, ◌+◌, ◌<◌, Bool, true, List, [], ◌∷◌, ◌++◌, take, drop, refl, sym, ap, ◌∙◌, arith, Some, subst, length-drop, length-append, append_assoc, append-nil}
 use Rattle.std.specs.List.{AllByRecursion}
 use Rattle.std.proofs.lemmas.Grind.{common_steps}
 use Rattle.bufr_text.specs.Document as spec
@@ -16,7 +16,7 @@ use Rattle.bufr_text.specs.declared.step.Place.{Place}
 use Rattle.bufr_text.specs.declared.step.Refusal.{Refusal}
 use Rattle.bufr_text.proofs.HeaderLemmas.{turn-stands}
 use Rattle.bufr_text.proofs.ClosingLemmas.{gives-end}
-use Rattle.bufr_text.proofs.ReadingLemmas.{takes-line, goes-further, stays}
+use Rattle.bufr_text.proofs.ReadingLemmas.{takes-line, goes-further}
 
 drop-on : (a b : ℕ) (s : List ℕ) → drop a (drop b s) ≡ drop (b + a) s
 drop-on a b s = grind (arith, common_steps)
@@ -64,9 +64,6 @@ passes-feed : (at at' : ℕ) (held : List ℕ) (from n : ℕ) → Passes at held
 passes-feed at at' held from n p feed =
     let P : List ℕ → Type 0 = λ t. Passes at held (at' + 1) t in
     subst P (drop-on (n + 1) from held) (passes-line at at' held (drop from held) (take n (drop from held)) (drop (n + 1) (drop from held)) p feed.1 feed.2)
-
-pub taking-first : (d : Draft) (held : List ℕ) → Stands d.at (place_with d.place d.parts) → 0 < d.at → IsTaking d d held 0
-taking-first d held s some = record { goes = λ ended. stays (stand_of d held ended); within = omega arith; stands = s; some = some; near = omega arith; passes = passes-none d.at held }
 
 -- what holds behind a turn
 stands-behind : (new : Draft) (t : documents.Turn) (line : List ℕ) → Stands new.at (place_with new.place new.parts) → 0 < new.at → t ≡ documents.turn new.at (place_with new.place new.parts) (said line) → StandsAfter new.at t
@@ -122,6 +119,3 @@ taking-refuses old new held from n line refusal last is feed at here e = record 
   stands = tt;
   closes = λ gives. absurd cc;
 }
-
-pub taking-more : (old new : Draft) (held : List ℕ) (from : ℕ) → IsTaking old new held from → FeedAt (drop from held) None → TakesSo old new held from taken.More
-taking-more old new held from is feed = record { goes = λ ended. is.goes ended; all = λ more. feed; within = is.within; stands = is.stands; near = is.near; passes = is.passes; closes = λ gives. absurd cc }

@@ -1,5 +1,5 @@
 -- The ways over one field, and over an operator.
-use Rattle.std.proofs.Common.{◌≡◌, ℕ, ◌+◌, ◌*◌, ◌&&◌, append-nil, arith, List, [], ◌∷◌, Bool, true, false, Option, Some, None, Result, Ok, Err, refl, sym, ◌∙◌, ap, subst, ℤ}
+use Rattle.std.proofs.Common.{◌≡◌, ℕ, ◌+◌, ◌*◌, ◌&&◌, append-nil, arith, List, [], ◌∷◌, Bool, true, false, Option, Some, None, Result, Ok, Err, refl, sym, ◌∙◌, ap, subst}
 use Rattle.std.specs.Prelude.{◌==◌, nat_lt, nat_le, if◌then◌else◌}
 use Rattle.bufr_tables.specs.declared.kind.Kind.{Kind}
 use Rattle.bufr_tables.specs.declared.kind.Kind.TheVariants as kind
@@ -105,15 +105,6 @@ no_reference role.Element s fxy (taken.Reference x) e h = absurd h
 no_reference role.Inserted s fxy (taken.Reference x) e h = absurd h
 no_reference role.Factor s fxy (taken.Reference x) e h = absurd h
 no_reference role.Reference s fxy (taken.Reference x) e h = absurd cc
-
--- a reference tells one
-pub tells_reference : (r : Role) (t : Taken) → is_reference r ≡ true → IsForRole r t → ((x : ℤ) → t ≡ taken.Reference x → ⊥) → ⊥
-tells_reference role.Element t e h never = absurd cc
-tells_reference role.Inserted t e h never = absurd cc
-tells_reference role.Factor t e h never = absurd cc
-tells_reference role.Reference taken.Plain e h never = h
-tells_reference role.Reference (taken.Count n) e h never = h
-tells_reference role.Reference (taken.Reference x) e h never = never x refl
 
 module _ {S E : Type 0} (takes : S → Asked → Result Taken E → S → Type 0) (table : List Row) where
   took_ok : (r : Result Asked Refusal) (f : S) (t : Taken) (f' : S) → Took takes r f (Ok t) f' → (spec : Asked) × (r ≡ Ok spec) × takes f spec (Ok t) f' × IsFor spec t
@@ -230,19 +221,6 @@ module _ {S E : Type 0} (takes : S → Asked → Result Taken E → S → Type 0
   whole_stops template s f f' c c' why w =
       let way : Stops takes (course table (turns_of template) s) f w.turns why f' = w.way (λ _. finish) in
       (way.items, way.mid, way.taken, way.stops, w.ticks ∙ ap (ticked c) (sym way.turns))
-
--- what tells a reference is one that is being defined
-pub reference_role : (r : Role) (t : Taken) → IsForRole r t → IsForRole role.Reference t → role.Reference ≡ r
-reference_role role.Element taken.Plain h g = absurd g
-reference_role role.Element (taken.Count n) h g = absurd g
-reference_role role.Element (taken.Reference x) h g = absurd h
-reference_role role.Inserted taken.Plain h g = absurd g
-reference_role role.Inserted (taken.Count n) h g = absurd g
-reference_role role.Inserted (taken.Reference x) h g = absurd h
-reference_role role.Factor taken.Plain h g = absurd g
-reference_role role.Factor (taken.Count n) h g = absurd g
-reference_role role.Factor (taken.Reference x) h g = absurd h
-reference_role role.Reference t h g = refl
 
 -- a text of the template, by its class
 pub five_is : (fxy x : ℕ) → x ≡ x_of fxy → x ≡ 5 → is_inserted_text fxy ≡ true

@@ -149,10 +149,6 @@ last_is A (a ∷ []) [] x y h = absurd cc
 last_is A (a ∷ b ∷ xs) [] x y h = absurd cc
 last_is A (a ∷ xs) (b ∷ ys) x y h = let t : xs ++ x ∷ [] ≡ ys ++ y ∷ [] = cc in let r = last_is A xs ys x y t in let e : a ≡ b = cc in (ap (λ z. z ∷ xs) e ∙ ap (λ zs. b ∷ zs) r.0, r.1)
 
-unroll_delayed : (word : ℕ) (body m : Tree) (rest : Rest) (counts : List ℕ) → unroll (delayed word body m) rest counts ≡ unroll (delayed word body bare) (unroll m rest) counts
-unroll_delayed word body m rest [] = refl
-unroll_delayed word body m rest (c ∷ counts) = refl
-
 module _ {S E : Type 0} (takes : S → Asked → Result Taken E → S → Type 0) (table : List Row) (cells : List Cell) where
   -- the cell at the place
   here_is : (place : ℕ) (stack : List Frame) (left : Rest → Rest) (d c : Cell) (st : Stands cells place stack left) → get_or cells place d ≡ c → lay st.0 place (tail_of st.1) ≡ c ∷ drop (place + 1) cells

@@ -206,31 +206,3 @@ text_content bits n e j h some below c = sym (varied_content bits n e j h some b
 
 pub text_within : (bits : List Bool) (n : ℕ) (e : KeptItem) (j : ℕ) → stands_at bits n e ≡ true → 1 ≤ e.step → j < n → is_character e.spec.kind ≡ true → e.at + (e.spec.width + 6) + (j + 1) * (8 * e.step) ≤ length bits
 text_within bits n e j h some below c = subst (λ s. e.at + (e.spec.width + 6) + (j + 1) * s ≤ length bits) (text_step e.spec.kind e.step c) (increment_within bits n e j h some below)
-
--- the octets of a text that was found are not too many
-pub text_octets : (bits : List Bool) (n : ℕ) (e : KeptItem) → stands_at bits n e ≡ true → 1 ≤ e.step → is_character e.spec.kind ≡ true → e.step ≤ e.spec.width / 8
-text_octets bits n e h some c =
-    let p = kept_parts bits n e h in
-    by e.spec.role refl p
-  where
-    fits : (a : Asked) (k : ℕ) (cs : List Content) (kd : Kind) (base : List Bool) (is : List (List Bool)) → is_character kd ≡ true → varied_by kd a k base is ≡ Ok cs → k ≤ a.width / 8
-    fits a k cs kind.Coded base is c h = absurd cc
-    fits a k cs kind.Numeric base is c h = absurd cc
-    fits a k cs kind.Character base is c h = few (nat_lt (a.width / 8) k) refl (map (text_of (a.width / 8) k) is) h
-      where
-        few : (b : Bool) → nat_lt (a.width / 8) k ≡ b → (ys : List Content) → ◌≡◌ {A = Result (List Content) FieldFault} (if b then Err increment else Ok ys) (Ok cs) → k ≤ a.width / 8
-        few true q ys h = absurd cc
-        few false q ys h = at_most (a.width / 8) k q
-
-    inner : (r : Result (List Content) FieldFault) (cs : List Content) → if_equal r ≡ Ok cs → (xs : List Content) × (r ≡ Ok xs)
-    inner (Ok xs) cs h = (xs, refl)
-    inner (Err why) cs h = absurd cc
-
-    by : (r : Role) → e.spec.role ≡ r → IsAt bits e.at n e.spec e.step (contents_found (packed_field n e.spec (drop e.at bits))) → e.step ≤ e.spec.width / 8
-    by role.Element q p = fits e.spec e.step _ e.spec.kind _ _ c (sym (element_are e.spec e.step n _ _ some q) ∙ p.are)
-    by role.Inserted q p = fits e.spec e.step _ e.spec.kind _ _ c (sym (inserted_are e.spec e.step n _ _ some q) ∙ p.are)
-    by role.Factor q p = let x = inner _ _ (sym (factor_are e.spec e.step n _ _ some q) ∙ p.are) in fits e.spec e.step x.0 e.spec.kind _ _ c x.1
-    by role.Reference q p =
-        let w = wrong_reference e.spec e.step n _ _ e.spec.fxy refl some q in
-        let no : ◌≡◌ {A = Result (List Content) FieldFault} (Err w.why) (Ok _) = sym w.is ∙ p.are in
-        absurd cc

@@ -3,11 +3,9 @@ use Rattle.std.proofs.Common.{◌≡◌, ℕ, zero, suc, ◌+◌, ◌*◌, ◌�
 use Rattle.std.specs.Prelude.{◌==◌, ◌||◌, ◌/◌, nat_lt, if◌then◌else◌}
 use Rattle.std.specs.List.{list_all}
 use Rattle.std.proofs.lemmas.Bool.Decides.{nat_tests}
-use Rattle.std.proofs.Math.Nat.{mul-le-mul_right}
 use Rattle.bufr_bits.specs.Bits.{number_of, all_set}
 use Rattle.bufr_tables.specs.declared.kind.Kind.{Kind}
 use Rattle.bufr_tables.specs.declared.kind.Kind.TheVariants as kind
-use Rattle.bufr_tables.specs.TableB.{is_character}
 use Rattle.bufr_walk.specs.declared.spec.Role.{Role}
 use Rattle.bufr_walk.specs.declared.spec.Role.TheVariants as role
 use Rattle.bufr_walk.specs.declared.spec.Taken.{Taken}
@@ -258,26 +256,3 @@ wrong_varied a k n base behind f g some e h = by a.role refl e
     by role.Inserted q e = wrong_inserted a k n base behind f g some q h
     by role.Factor q e = absurd cc
     by role.Reference q e = absurd cc
-
--- how far the increments go
-pub plain_step : (a : Asked) (k : ℕ) → is_plain_role a.role ≡ true → is_character a.kind ≡ false → step_of a.role a.kind k ≡ k
-plain_step a k e f = by a.role a.kind e f
-  where
-    by : (r : Role) (kd : Kind) → is_plain_role r ≡ true → is_character kd ≡ false → step_of r kd k ≡ k
-    by role.Element kind.Character e f = absurd cc
-    by role.Element kind.Coded e f = refl
-    by role.Element kind.Numeric e f = refl
-    by role.Inserted kind.Character e f = absurd cc
-    by role.Inserted kind.Coded e f = refl
-    by role.Inserted kind.Numeric e f = refl
-    by role.Factor kd e f = absurd cc
-    by role.Reference kd e f = absurd cc
-
-pub factor_step : (a : Asked) (k : ℕ) → IsSpec a → a.role ≡ role.Factor → step_of a.role a.kind k ≡ k
-factor_step a k spec e =
-    let r : HasRole role.Factor a.kind a.may_be_missing = subst (λ x. HasRole x a.kind a.may_be_missing) e spec.role in
-    ap (λ x. step_of x a.kind k) e ∙ ap (λ x. step_of role.Factor x k) r.0
-
--- one of some increments is there
-pub one_of : (n k : ℕ) → 1 ≤ n → k ≤ n * k
-one_of n k h = let p : 1 * k ≤ n * k = mul-le-mul_right k h in omega (arith, p)

@@ -97,14 +97,6 @@ looked s a bits at n kept len from r e f g few h = by r h
 pub few_values : (s : PackedCursor) (bits : List Bool) (at n : ℕ) (kept : List KeptItem) → packed_view bits at n kept ≡ s → length kept * n ≤ most_values → length s.items * s.subsets ≤ most_values
 few_values s bits at n kept e h = subst (λ x. length x.items * x.subsets ≤ most_values) e (subst (λ l. l * n ≤ most_values) (sym (length-items_at bits n kept)) h)
 
--- a refused call
-pub refused_one : (s : PackedCursor) (a : Asked) (e : PackedFault) → IsUnlooked s a e → PackedTakes s a (Err e) s
-refused_one s a (wrong.TooManyValues fxy) h = (h.0, h.1, refl)
-refused_one s a wrong.Memory h = absurd h
-refused_one s a (wrong.DataEnd fxy) h = (h, refl)
-refused_one s a (wrong.Increment fxy) h = (h, refl)
-refused_one s a (wrong.UnequalFactor fxy) h = (h, refl)
-
 -- no room could be made
 pub no_room : (s : PackedCursor) (a : Asked) (bits : List Bool) (at n : ℕ) (kept kept' : List KeptItem) (e : PackedFault) → packed_view bits at n kept ≡ s → kept' ≡ kept → e ≡ wrong.Memory → length kept % items_at_once ≡ 0 → PackedTakes s a (Err e) (packed_view bits at n kept')
 no_room s a bits at n kept kept' e view same is full =

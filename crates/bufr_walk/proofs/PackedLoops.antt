@@ -22,10 +22,6 @@ pub fails_next : (p : List Bool → Bool) (left left' k at : ℕ) (bits : List B
 fails_next p left left' k at bits whole e h t =
     h ∙ ap (list_all p) (increments_next left left' k at (at + k) bits e refl) ∙ ap (λ b. b && list_all p (increments left' k (drop (at + k) bits))) t
 
--- nothing is left
-pub passes_end : (p : List Bool → Bool) (left k at : ℕ) (bits : List Bool) (whole : Bool) → left ≡ 0 → whole ≡ list_all p (increments left k (drop at bits)) → whole ≡ true
-passes_end p left k at bits whole e h = h ∙ ap (λ n. list_all p (increments n k (drop at bits))) e
-
 -- tests of one increment
 pub is_other : (n first m : ℕ) → n ≡ m → (n ≡ first → ⊥) → (m == first) ≡ false
 is_other n first m e h = let g : m ≡ first → ⊥ = λ x. h (e ∙ x) in by m first g

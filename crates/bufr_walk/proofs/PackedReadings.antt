@@ -75,9 +75,6 @@ not_many a b h = grind (arith, nat_tests)
 is_many : (a b : ℕ) → a < b → nat_lt a b ≡ true
 is_many a b h = grind (arith, nat_tests)
 
-one_less : (a b k : ℕ) → (a + 1) * b ≤ k → a * b ≤ k
-one_less a b k h = omega arith
-
 -- with a subset at least
 reading_of : (n : ℕ) (course : Course) (items : List (Item (List Content))) (bits behind : List Bool) → 1 ≤ n → ReadsAll (packed n) course items bits behind → length items * n ≤ most_values → IsPackedReading n course items bits behind
 reading_of zero course items bits behind some h few = absurd (omega arith)

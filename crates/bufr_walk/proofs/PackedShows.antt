@@ -3,7 +3,7 @@ use Rattle.std.proofs.Common.{◌≡◌, ℕ, suc, ◌+◌, ◌-◌, ◌<◌, �
 use Rattle.std.specs.List.{list_all}
 use Rattle.std.proofs.Math.Seq.{drop-cons}
 use Rattle.std.proofs.lemmas.List.{append-nil, take_more_set, replicate-append-replicate}
-use Rattle.bufr_bits.proofs.ScaledLemmas.{and_first, and_second}
+use Rattle.bufr_bits.proofs.ScaledLemmas.{and_second}
 use Rattle.bufr_tables.specs.TableB.{Row}
 use Rattle.bufr_walk.specs.declared.fault.ShowFault.{ShowFault}
 use Rattle.bufr_walk.specs.declared.fault.ShowFault.TheVariants as fault
@@ -57,9 +57,6 @@ next_entry kept i k h e = drop-cons kept i k h ∙ ap (λ x. x ∷ drop (suc i) 
 pub next_call : (table : List Row) (bits : List Bool) (n j : ℕ) (kept : List KeptItem) (i : ℕ) (k : KeptItem) → i < length kept → k ≡ get_or kept i k
     → items_together table j (items_at bits n (drop i kept)) ≡ timed 0 (item_call (view_of table k.spec (content_at j (contents_found (packed_field n k.spec (drop k.at bits)))))) ∷ items_together table j (items_at bits n (drop (i + 1) kept))
 next_call table bits n j kept i k h e = ap (λ ks. items_together table j (items_at bits n ks)) (next_entry kept i k h (sym e))
-
-pub stands_next : (bits : List Bool) (n : ℕ) (kept : List KeptItem) (i : ℕ) (k : KeptItem) → i < length kept → k ≡ get_or kept i k → list_all (stands_at bits n) (drop i kept) ≡ true → stands_at bits n k ≡ true
-stands_next bits n kept i k h e w = and_first (stands_at bits n k) (list_all (stands_at bits n) (drop (i + 1) kept)) (subst (λ ks. list_all (stands_at bits n) ks ≡ true) (next_entry kept i k h (sym e)) w)
 
 pub stand_behind : (bits : List Bool) (n : ℕ) (kept : List KeptItem) (i : ℕ) (k : KeptItem) → i < length kept → k ≡ get_or kept i k → list_all (stands_at bits n) (drop i kept) ≡ true → list_all (stands_at bits n) (drop (i + 1) kept) ≡ true
 stand_behind bits n kept i k h e w = and_second (stands_at bits n k) (list_all (stands_at bits n) (drop (i + 1) kept)) (subst (λ ks. list_all (stands_at bits n) ks ≡ true) (next_entry kept i k h (sym e)) w)

@@ -1,17 +1,14 @@
 -- What a reading is made of.
-use Rattle.std.proofs.Common.{◌≡◌, ◌<◌, ◌≤◌, ◌^◌, ℕ, Bool, true, false, List, length, drop, Result, refl, sym, ◌∙◌, ap, subst, arith}
+use Rattle.std.proofs.Common.{◌≡◌, ◌<◌, ◌≤◌, ◌^◌, ℕ, Bool, false, List, length, drop, refl, sym, ◌∙◌, ap, subst, arith}
 use Rattle.bufr_frame.specs.Sections.{Sections}
 use Rattle.bufr_tables.specs.TableB.{Row}
 use Rattle.bufr_tables.specs.Tree.{Tree}
-use Rattle.bufr_walk.specs.declared.fault.ShowFault.{ShowFault}
 use Rattle.bufr_walk.specs.declared.reading.Kept.TheVariants as kept
-use Rattle.bufr_walk.specs.Calls.{Call, subset_calls, calls_of, turns_shown}
-use Rattle.bufr_walk.specs.Shows.{Shows}
 use Rattle.bufr_walk.specs.Content.{Content}
 use Rattle.bufr_walk.specs.Course.{next_item}
 use Rattle.bufr_walk.specs.Kept.{IsHeld, KeepsValues, items_in}
 use Rattle.bufr_walk.specs.Outcome.{data_in, data_of, read_by, Read, course_of, IsRead, IsReadingOf}
-use Rattle.bufr_walk.specs.Reading.{Item, Values, apart, together, IsReading, ReadsSubsets, turns_in, most_values}
+use Rattle.bufr_walk.specs.Reading.{Item, Values, apart, together, IsReading, ReadsSubsets, most_values}
 use Rattle.bufr_bits.specs.Bits.{bits_of}
 use Rattle.bufr_walk.proofs.PlainLemmas.{bits_length}
 
@@ -37,17 +34,3 @@ readable_of r h = by h.values h.reading h.keeps
     by : (values : Values) → IsReading (course_of r) r.source values r.bits → KeepsValues kept.Apart r.source values → (all : List (List (Item Content))) × (left : List Bool) × ReadsSubsets (course_of r) all r.source.bits left × (length all ≡ r.source.subsets)
     by (apart all) k w = (all, drop r.bits r.source.bits, k.2.0, k.2.1)
     by (together items) k w = absurd w
-
--- what is kept says whether the data are compressed
-pub apart_plain : (r : Read) → IsHeld r kept.Apart → r.source.compressed ≡ false
-apart_plain r h = by h.values h.reading h.keeps
-  where
-    by : (values : Values) → IsReading (course_of r) r.source values r.bits → KeepsValues kept.Apart r.source values → r.source.compressed ≡ false
-    by (apart all) k w = k.0
-    by (together items) k w = absurd w
-
-pub show_is : {V E : Type 0} (sees : V → Call → Result (Unit {0}) E → V → Type 0) (r : Read) (v v' : V) (result : Result (Unit {0}) (ShowFault E)) (steps : ℕ) → r.source.compressed ≡ false
-    → ((all : List (List (Item Content))) (left : List Bool) → ReadsSubsets (course_of r) all r.source.bits left → length all ≡ r.source.subsets → Shows sees v (subset_calls r.table (course_of r) 0 1 all) (turns_in (course_of r) all) result v' steps)
-    → (values : Values) → IsReading (course_of r) r.source values r.bits → Shows sees v (calls_of r values) (turns_shown r values) result v' steps
-show_is sees r v v' result steps plain h (apart all) k = h all (drop r.bits r.source.bits) k.2.0 k.2.1
-show_is sees r v v' result steps plain h (together items) k = let e : true ≡ false = sym k.0 ∙ plain in absurd cc

@@ -8,9 +8,10 @@ use Rattle.bufr_tables.specs.Fxy.{x_of, y_of}
 use Rattle.bufr_tables.specs.Operators.{is_legal_operator, has_legal_operand}
 use Rattle.bufr_tables.specs.Tree.{is_inserted_text}
 use Rattle.std.proofs.Common.{◌<◌, ◌+◌, length, get_or, take}
-use Rattle.std.specs.Prelude.{if◌then◌else◌}
+use Rattle.std.specs.Prelude.{if◌then◌else◌, not}
+use Rattle.std.specs.List.{filter}
 use Rattle.std.proofs.lemmas.List.{take_more}
-use Rattle.bufr_walk.specs.Settings.{Redefined, reference_in}
+use Rattle.bufr_walk.specs.Settings.{Redefined, reference_in, without}
 use Rattle.bufr_walk.specs.InForce.{latest, latest_onto}
 use Rattle.bufr_walk.specs.declared.in_force.Redefinition.{Redefinition}
 use Rattle.std.specs.Prelude.{◌%◌, unsigned_abs}
@@ -59,6 +60,23 @@ latest_onto_more (k ∷ kept) r known = latest_onto_more kept r (record { fxy = 
 
 pub latest_more : (kept : List Redefinition) (r : Redefinition) → latest (kept ++ r ∷ []) ≡ record { fxy = r.fxy; reference = r.reference } ∷ latest kept
 latest_more kept r = latest_onto_more kept r []
+
+-- where the reference of an element is dropped from what is kept, those of others are left
+latest_onto_others : (fxy : ℕ) (kept : List Redefinition) (known : List Redefined) → latest_onto (filter (λ r. not (r.fxy == fxy)) kept) (without fxy known) ≡ without fxy (latest_onto kept known)
+latest_onto_others fxy [] known = refl
+latest_onto_others fxy (k ∷ kept) known =
+    let r : Redefined = record { fxy = k.fxy; reference = k.reference } in
+    by (k.fxy == fxy) ∙ latest_onto_others fxy kept (r ∷ known)
+  where
+    others : List Redefinition
+    others = filter (λ r. not (r.fxy == fxy)) kept
+
+    by : (b : Bool) → latest_onto (if not b then k ∷ others else others) (without fxy known) ≡ latest_onto others (if b then without fxy known else record { fxy = k.fxy; reference = k.reference } ∷ without fxy known)
+    by true = refl
+    by false = refl
+
+pub latest_others : (fxy : ℕ) (kept : List Redefinition) → latest (filter (λ r. not (r.fxy == fxy)) kept) ≡ without fxy (latest kept)
+latest_others fxy kept = latest_onto_others fxy kept []
 
 pub power_small : (y : ℕ) → y ≤ 18 → 10 ^ y ≤ 10 ^ 18
 power_small y h = pow-le-pow_right {n = 10} (omega arith) h

@@ -13,7 +13,8 @@ pub record Redefined : Type 0 where
   pub reference : ℤ
 
 -- the operand of each operator in force, 0 where none is: changed width, changed scale, references that are being defined and their width,
--- increased precision, changed text width, and the width that is given to the next descriptor; and the references defined, the latest first
+-- increased precision, changed text width, and the width that is given to the next descriptor; and the references defined, one for an element,
+-- the latest first
 pub record Settings : Type 0 where
   pub widened : ℕ
   pub rescaled : ℕ
@@ -54,11 +55,20 @@ after_operator s fxy =
     if is_defining s && not (x_of fxy == 3 && y_of fxy == 255) then Err (refusal.Defining fxy)
     else Ok (with_operator (x_of fxy) (y_of fxy) s)
 
+-- the references of other elements
+abbrev pub without : (fxy : ℕ) → List Redefined → List Redefined
+without fxy [] = []
+without fxy (r ∷ more) = if r.fxy == fxy then without fxy more else r ∷ without fxy more
+
+-- the references with that of an element, in place of the one that it had
+abbrev pub with_reference : (fxy : ℕ) → (reference : ℤ) → List Redefined → List Redefined
+with_reference fxy reference known = record { fxy = fxy; reference = reference } ∷ without fxy known
+
 -- what a field makes of the settings: a given width is used up, and a reference is kept
 abbrev pub after_field : Settings → ℕ → Taken → Settings
 after_field s fxy taken.Plain = record s { given = 0 }
 after_field s fxy (taken.Count n) = record s { given = 0 }
-after_field s fxy (taken.Reference r) = record s { given = 0; redefined = record { fxy = fxy; reference = r } ∷ s.redefined }
+after_field s fxy (taken.Reference r) = record s { given = 0; redefined = with_reference fxy r s.redefined }
 
 -- the reference of an element: the latest that the data gave it, or that of Table B
 abbrev pub reference_in : List Redefined → ℕ → ℤ → ℤ

@@ -1,4 +1,4 @@
-// The cells of a template, one by one.
+//! The cells of a template, one by one.
 ghost use Rattle.std.specs.Prelude.{◌≡◌, ◌<◌, ◌≤◌, ◌+◌, ◌^◌, length, slice_index_or};
 
 use bufr_tables::Cell;

@@ -1,11 +1,11 @@
-// What a walk asks of the data, field by field.
+//! What a walk asks of the data, field by field.
 ghost use Rattle.std.specs.Prelude.{◌≡◌, ℕ, ◌<◌, Result, Ok, Err, IfOk};
 ghost use Rattle.bufr_walk.specs.Asked.{Asked, IsFor};
 ghost use Rattle.bufr_walk.specs.declared.spec.Taken.{Taken};
 
 use crate::spec::{Spec, Taken};
 
-/// Data that is read or written field by field.
+/// Data that are read or written field by field.
 pub trait Fields {
     /// Why a field is not taken.
     type Fault;
@@ -16,7 +16,13 @@ pub trait Fields {
     /// One call of `take` may go so: before, what is asked, the answer, after.
     ghost takes: { Self → Asked → Result Taken Self.Fault → Self → Type 0 };
 
-    /// Takes the next field, and answers what the walk needs of it.
+    /// Takes the next field, and answers what the walk needs of it: [`Taken::Count`] exactly for a factor,
+    /// [`Taken::Reference`] exactly for a reference that is being defined, else [`Taken::Plain`]. A field that is taken uses
+    /// at least one bit.
+    ///
+    /// # Errors
+    ///
+    /// [`Fields::Fault`] where the field is not taken; no bit is used then.
     fn take(&mut self, spec: &Spec) -> Result<Taken, Self::Fault>
         ensures step { takes self.old spec.now result self.new }
         ensures shape { IfOk result (λ t. IsFor spec.now t) };

@@ -1,11 +1,11 @@
-// What the operators have set, and how a field is read under it.
-ghost use Rattle.std.specs.Prelude.{◌≡◌, ◌≤◌, ◌<◌, ◌*◌, ◌+◌, ◌^◌, ◌+ℤ◌, ◌*ℤ◌, if◌then◌else◌, ◌==◌, pos, unsigned_abs, length, Result, Ok, Err, Some, OnOk, OnErr, IfOk, IfErr, true, false, [], ◌∷◌, vec_len, vec_capacity};
+//! What the operators have set, and how a field is read under it.
+ghost use Rattle.std.specs.Prelude.{◌≡◌, ◌≤◌, ◌<◌, ◌*◌, ◌+◌, ◌^◌, ◌+ℤ◌, ◌*ℤ◌, if◌then◌else◌, ◌==◌, pos, unsigned_abs, length, Result, Ok, Err, Some, OnOk, OnErr, IfOk, IfErr, true, false, [], ◌∷◌, filter, not, vec_len, vec_capacity};
 ghost use Rattle.bufr_tables.specs.Entry.{row_with};
 ghost use Rattle.bufr_tables.specs.Operators.{is_legal_operator};
 ghost use Rattle.bufr_tables.specs.TableB.{IsRow, entry_of, is_character};
 ghost use Rattle.bufr_tables.specs.Tree.{is_inserted_text};
 ghost use Rattle.bufr_walk.specs.Rules.{fitting, quantity, figure, by_kind, defined_by, unsigned_of, given_by, element_spec, factor_by, factor_spec, inserted_spec, change_of, changed_width, extra_bits, text_width};
-ghost use Rattle.bufr_walk.specs.Settings.{Settings, begin, after_operator, after_field, reference_in};
+ghost use Rattle.bufr_walk.specs.Settings.{Settings, begin, after_operator, after_field, reference_in, with_reference};
 ghost use Rattle.bufr_walk.specs.InForce.{AreOperands, latest, set_by};
 ghost use Rattle.bufr_walk.specs.declared.in_force.Operands.{Operands};
 ghost use Rattle.bufr_tables.specs.declared.kind.Kind.TheVariants as kinds;
@@ -69,11 +69,22 @@ impl Model for InForce {
     ghost invariant = { λ a. AreOperands a.operands };
 }
 
-/// Keeps a reference that the data gave, for which there is room.
+/// Drops the reference of an element, if it has one.
+fn forget(redefined: &mut Vec<Redefinition>, fxy: Fxy)
+    ensures items { redefined.new.items ≡ filter (λ r. not (r.fxy == fxy)) redefined.old.items }
+    ensures len { vec_len redefined.new ≤ vec_len redefined.old }
+    ensures capacity { vec_capacity redefined.new ≡ vec_capacity redefined.old }
+{
+    redefined.retain(|given| given.fxy.word() != fxy.word());
+}
+
+/// Keeps a reference that the data gave, for which there is room, in place of the one that the element had: else data could
+/// make the list long, and each look into it slow.
 fn redefine(redefined: &mut Vec<Redefinition>, fxy: Fxy, reference: i64)
     requires { vec_len redefined.old < vec_capacity redefined.old }
-    ensures { latest redefined.new.items ≡ record { fxy = fxy; reference = reference } ∷ latest redefined.old.items }
+    ensures { latest redefined.new.items ≡ with_reference fxy reference (latest redefined.old.items) }
 {
+    forget(redefined, fxy);
     match redefined.push(Redefinition { fxy, reference }) {
         Ok(()) => {}
         Err(_) => unreachable!(),

@@ -1,4 +1,4 @@
-// The reading of a message's data.
+//! The reading of a message's data.
 ghost use Rattle.std.specs.Prelude.{◌≡◌, ◌≤◌, ◌+◌, ◌*◌, length, IfOk, IfErr};
 ghost use Rattle.bufr_tables.specs.Tree.{places};
 ghost use Rattle.bufr_walk.specs.Course.{next_item};
@@ -24,8 +24,8 @@ use std::alloc::Global;
 /// are being defined; [`WalkFault::Width`] for a width outside 1 to 63 bits; [`WalkFault::TooManyValues`] where
 /// compressed data would have more than 134,217,728 values; [`WalkFault::DataEnd`] where the data end in the item;
 /// [`WalkFault::Increment`] for increments that cannot be; [`WalkFault::UnequalFactor`] for a factor that is not the
-/// same in all subsets. [`WalkFault::Memory`] where memory runs out: before a reference that the data define, and of
-/// compressed data at one item of 64.
+/// same in all subsets. [`WalkFault::Memory`] where memory runs out: before a reference that the data define, and in
+/// compressed data at every 64th item.
 pub fn read_message<'a>(
     alloc: Global,
     message: &Message<'a>,

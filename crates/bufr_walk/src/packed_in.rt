@@ -1,4 +1,4 @@
-// Fields that are read from bits, for compressed data: each item stands once for all subsets.
+//! Fields that are read from bits, for compressed data: each item stands once for all subsets.
 ghost use Rattle.std.specs.Prelude.{◌≡◌, ◌≤◌, ◌<◌, ◌+◌, ◌-◌, ◌*◌, ◌/◌, ◌%◌, ◌^◌, ◌++◌, ◌∷◌, [], length, drop, vec_len, vec_capacity, MatchResult, IfOk, IfErr, OnOk, OnErr, false, true};
 ghost use Rattle.bufr_walk.specs.PackedIn.{room_for};
 ghost use Rattle.bufr_walk.specs.Reading.{items_at_once};
@@ -32,7 +32,7 @@ pub enum PackedFault {
     UnequalFactor(Fxy),
     /// With this item there are more than 134,217,728 values.
     TooManyValues(Fxy),
-    /// Memory ran out, at one item of 64.
+    /// Memory ran out: room is made at every 64th item, from the first on.
     Memory,
 }
 
@@ -260,10 +260,10 @@ fn seen_at(bits: &BitSlice<'_>, at: u64, subsets: u16, spec: &Spec) -> Result<Se
 /// The most values of a compressed message.
 const MOST_VALUES: u64 = 134_217_728;
 
-/// For so many items there is room at once.
+/// Room is made for so many items at once.
 const ITEMS_AT_ONCE: usize = 64;
 
-/// Makes room for an item more, and with it for those of the next that come to 64. It wants memory for one item of 64.
+/// Makes room for one more item: for 64 at once, so memory may be wanted only where the items so far are a multiple of 64.
 fn make_room(kept: &mut Vec<KeptItem>) -> Result<(), PackedFault>
     requires { room_for (vec_len kept.old) ≤ vec_capacity kept.old }
     ensures same { kept.new.items ≡ kept.old.items }

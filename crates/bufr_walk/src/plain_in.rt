@@ -1,4 +1,4 @@
-// Fields that are read from bits, for data that are not compressed.
+//! Fields that are read from bits, for data that are not compressed.
 ghost use Rattle.std.specs.Prelude.{◌≡◌, ◌≤◌, ◌<◌, ◌+◌, ◌-◌, ◌*◌, ◌^◌, length, take, drop, Ok, Err, if◌then◌else◌, ◌==◌, pos, neg_ℤ};
 ghost use Rattle.bufr_bits.specs.Bits.{number_of, bits_at, bits_of, all_set};
 ghost use Rattle.bufr_bits.specs.BitSlice.{octets_of};
@@ -19,7 +19,8 @@ pub struct DataEnd {
     pub fxy: Fxy,
 }
 
-/// Bits, and how many of them were read.
+/// Fields of data that are not compressed, one after another (WMO-No. 306, Volume I.2, FM 94: section 4). A contract sees the
+/// bits, and how many of them were read.
 #[derive(Drop)]
 pub struct PlainIn<'a> {
     bits: BitSlice<'a>,
@@ -197,6 +198,10 @@ impl<'a> PlainIn<'a> {
     }
 
     /// What the next field tells, without going past it.
+    ///
+    /// # Errors
+    ///
+    /// [`DataEnd`] where the data end inside the field.
     #[tactic(auto, using(crate::proofs::PlainLemmas::taken_here, crate::proofs::PlainLemmas::ends_here, crate::proofs::PlainLemmas::bits_length))]
     pub fn peek(&self, spec: &Spec) -> Result<Taken, DataEnd>
         ensures found { MatchResult result (λ t. PlainTakes self.now spec.now (Ok t) (past self.now spec.now)) (λ e. PlainTakes self.now spec.now (Err e) self.now) }

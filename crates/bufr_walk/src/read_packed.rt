@@ -1,4 +1,4 @@
-// The reading of compressed data: one pass for all subsets.
+//! The reading of compressed data: one pass for all subsets.
 ghost use Rattle.std.specs.Prelude.{◌≡◌, ◌≤◌, ◌+◌, ◌*◌, true, length, List, IfOk, IfErr};
 ghost use Rattle.bufr_bits.specs.Bits.{bits_of};
 ghost use Rattle.bufr_bits.specs.BitSlice.{octets_of};

@@ -1,4 +1,4 @@
-// The reading of data that are not compressed: subset after subset, each from the beginning of the template.
+//! The reading of data that are not compressed: subset after subset, each from the beginning of the template.
 ghost use Rattle.std.specs.Prelude.{◌≡◌, ◌≤◌, ◌+◌, ◌-◌, ◌*◌, false, length, List, IfOk, OnOk, OnErr, IfErr};
 ghost use Rattle.bufr_bits.specs.Bits.{bits_of};
 ghost use Rattle.bufr_bits.specs.BitSlice.{octets_of};

@@ -1,4 +1,4 @@
-// What a message's data were read as.
+//! What a message's data were read as.
 use crate::fault::{ShowFault, WalkFault};
 use crate::read_packed::{KeptItem, read_packed};
 use crate::read_plain::read_plain;

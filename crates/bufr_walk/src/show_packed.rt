@@ -1,4 +1,4 @@
-// How compressed data are shown: subset after subset, each item from its place.
+//! How compressed data are shown: subset after subset, each item from its place.
 ghost use Rattle.std.specs.Prelude.{◌≡◌, ◌∷◌, ◌≤◌, ◌<◌, ◌+◌, ◌-◌, ◌*◌, ◌/◌, ◌^◌, ◌++◌, true, false, length, take, drop, replicate};
 ghost use Rattle.std.specs.List.{list_all};
 ghost use Rattle.bufr_bits.specs.Bits.{bits_of, bits_at};

@@ -1,4 +1,4 @@
-// How data that are not compressed are shown: they are read once more, and each item is handed on.
+//! How data that are not compressed are shown: they are read once more, and each item is handed on.
 ghost use Rattle.std.specs.Prelude.{◌≡◌, ◌≤◌, ◌<◌, ◌+◌, ◌-◌, ◌*◌, ◌/◌, ◌^◌, ◌==◌, if◌then◌else◌, true, false, length, take, drop, List, Bool, Result, Ok, Err, None, option_map, OnOk, IfOk, IfErr};
 ghost use Rattle.bufr_bits.specs.Bits.{bits_of, all_set};
 ghost use Rattle.bufr_bits.specs.BitSlice.{octets_of};

@@ -1,4 +1,4 @@
-// How one field of the data is to be read.
+//! How one field of the data is to be read.
 ghost use Rattle.std.specs.Prelude.{◌≡◌, ◌≤◌, ◌^◌, false, true, unsigned_abs};
 ghost use Rattle.bufr_tables.specs.TableB.{is_character};
 ghost use Rattle.bufr_tables.specs.declared.kind.Kind.TheVariants as kinds;

@@ -1,10 +1,11 @@
-// A counter of turns.
+//! A counter of turns.
 ghost use Rattle.std.specs.Prelude.{◌≡◌, ℕ, ◌+◌, ◌-◌, ◌^◌, min};
 ghost use Rattle.bufr_walk.specs.Ticks.{ticked};
 
 use std::marker::Model;
 
-/// How many turns were made, up to the greatest `u64`.
+/// How many turns walks have made, up to the greatest `u64`. A turn takes a descriptor, ends a pass of a group, or ends the
+/// template.
 #[derive(Drop)]
 pub struct Steps {
     count: u64,

@@ -1,4 +1,4 @@
-// What is shown by running: the worked messages, each fault, the limits.
+//! What is shown by running: the worked messages, each fault, the limits.
 use crate::fault::{Spot, WalkFault};
 use crate::test_messages::{APART, TOGETHER, Worked, octets_of};
 use bufr_tables::Fxy;
@@ -71,6 +71,13 @@ const ROWS: &[(&str, u16, &str, &str, &str)] = &[
         "203010 012101 203255 012101",
         "E41C23C0",
         "bits 26 steps 5; 1: 012101 R-400 012101 28415e2 #",
+    ),
+    (
+        "reference_defined_again",
+        1,
+        "203010 012101 001001 012101 203255 012101 001001",
+        "E4014191C23C50",
+        "bits 53 steps 8; 1: 012101 R-400 001001 R20 012101 R100 012101 28915e2 # 001001 30e0 #",
     ),
     (
         "increased_precision",

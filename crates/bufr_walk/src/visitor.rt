@@ -1,4 +1,4 @@
-// Who is shown a reading.
+//! Who is shown a reading.
 ghost use Rattle.std.specs.Prelude.{ℕ, Result};
 ghost use Rattle.bufr_walk.specs.Calls.{Call, subset_call, item_call};
 ghost use Rattle.bufr_walk.specs.Seen.{seen};
@@ -38,10 +38,18 @@ pub trait Visitor {
     ghost sees: { Self → Call → Result (Unit {0}) Self.Fault → Self → Type 0 };
 
     /// A subset begins, counted from 1.
+    ///
+    /// # Errors
+    ///
+    /// [`Visitor::Fault`], which stops the showing.
     fn subset(&mut self, number: u16) -> Result<(), Self::Fault>
         ensures { sees self.old (subset_call number) result self.new };
 
     /// An item of that subset.
+    ///
+    /// # Errors
+    ///
+    /// [`Visitor::Fault`], which stops the showing.
     fn item(&mut self, item: &ItemView<'_>) -> Result<(), Self::Fault>
         ensures { sees self.old (item_call (seen item.now)) result self.new };
 }

@@ -184,7 +184,16 @@ fn walk_cells<S: Fields>(
     Ok(())
 }
 
-/// Walks over a template's cells once, field by field. No turn is free: each field that is taken pays for at most as many turns as there are places.
+/// Walks over a template's cells once, field by field: over one subset, or over all of them where the data are compressed.
+/// `steps` grows by one for each descriptor that is taken (an element, an operator, a replication, its factor), for each end
+/// of a pass of a group, and for the end. No turn is free: each bit that is used pays for at most as many turns as there are
+/// places (WMO-No. 306, Volume I.2, FM 94: section 3, Tables B and C).
+///
+/// # Errors
+///
+/// The first that is met: [`WalkStop::Defining`] for a turn that may not come while references are being defined,
+/// [`WalkStop::Width`] for a field that is not text outside 1 to 63 bits, [`WalkStop::Field`] with the fault of
+/// [`Fields::take`], and [`WalkStop::Memory`] where memory runs out before a reference that is being defined is taken.
 pub fn walk<S: Fields>(
     alloc: Global,
     template: &Template,
