@@ -6,10 +6,11 @@ readers.
 
 The program is the one that `rt run` left in crates/bufr_cli/out. Each command runs five times; the
 least processor seconds (its own and the system's for it) count, and the least seconds by the clock;
-the memory is what one run had resident at most. Outside the gate: it wants python3, rustc and GNU time.
+the memory is what one run had resident at most. Outside the gate: it wants Linux, python3, rustc, GNU time and 1.2 GB of disk.
 """
 import os
 import pathlib
+import shutil
 import subprocess
 import sys
 import time
@@ -103,6 +104,11 @@ def listings(folder):
 
 def main() -> None:
     folder = pathlib.Path(sys.argv[1]) if len(sys.argv) > 1 else TOP / "bench/out"
+    if not PROGRAM.exists():
+        sys.exit(f"{PROGRAM} is not there: build it first (README.md, On a fresh machine)")
+    for tool in ["rustc", "time"]:
+        if shutil.which(tool) is None:
+            sys.exit(f"{tool} is not there")
     subprocess.run([sys.executable, str(TOP / "bench/generate.py"), str(folder)], check=True)
     listings(folder)
     dumps(folder)
