@@ -37,7 +37,7 @@ numberOfSubsets""".split()
 MISSING = -1e100
 
 # What the two are known to read differently: what ecCodes 2.28 does, subsets, flags, descriptors, and the data as
-# number:width. In the first ones `bufr` goes by a choice of its own (docs/FORMAT.md); the last eight are limits of
+# number:width. In the first thirteen docs/FORMAT.md has the choice that `bufr` goes by; the last eight are limits of
 # ecCodes. random_messages.py draws none of them.
 DIFFERENCES = """
 widens a replication factor by 201 | 1 | 80 | 201132 101000 031001 001001 | 2:8 10:11 11:11
