@@ -16,10 +16,13 @@ the one that `rt run` left in crates/bufr_cli/out. Outside the gate: it wants py
 import collections
 import json
 import pathlib
+import shutil
 import subprocess
 import sys
 from fractions import Fraction
 from typing import NamedTuple
+
+sys.dont_write_bytecode = True  # nothing is written beside bench/out
 
 import random_messages
 from generate import Bits, message, words
@@ -232,6 +235,9 @@ def messages(asked: list):
 
 def main() -> None:
     asked = sys.argv[1:]
+    for needed in (str(PROGRAM), "bufr_dump", "bufr_filter"):
+        if shutil.which(needed) is None:
+            sys.exit(f"{needed} is not there")
     KEPT.mkdir(parents=True, exist_ok=True)
     tally, alike, differ = collections.Counter(), 0, 0
     for name, octets, expected in messages(asked):
