@@ -57,7 +57,7 @@ within s s' spec t h = by s.subsets refl
     by : (ss : List Subset) → s.subsets ≡ ss → s.place < longest s.subsets
     by [] e =
         let none : h.item ≡ [] = none_written spec s.place h.contents h.item (ap (λ ss. pack_across spec (across s.place ss)) (sym e) ∙ h.is) in
-        absurd (omega (arith, h.forth, h.used, h.whole, ap length (h.bits ∙ ap (λ b. s.bits ++ b) none ∙ append-nil s.bits)))
+        absurd (omega (arith, h.forth, ap length (h.bits ∙ ap (λ b. s.bits ++ b) none ∙ append-nil s.bits)))
     by (x ∷ ss) e =
         let there = first_there spec s.place x ss (written h.contents h.item) (ap (λ ss. pack_across spec (across s.place ss)) (sym e) ∙ h.is) in
         omega (arith, there, ap longest e)
