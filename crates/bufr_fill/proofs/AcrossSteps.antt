@@ -18,7 +18,7 @@ use Rattle.bufr_fill.specs.Gathered.{FaultSo, contents_drawn}
 use Rattle.bufr_fill.specs.Packing.{packing, packed_bits, packed_unlike, are_same}
 use Rattle.bufr_fill.specs.PackedOut.{PackedPen, IsPackedOut, IsPacked, IsFaultAcross}
 use Rattle.bufr_fill.specs.PlainOut.{WhereTold}
-use Rattle.bufr_fill.specs.Packs.{Grows, PutFault, IsPutAcross}
+use Rattle.bufr_fill.specs.Packs.{PutFault, IsPutAcross}
 use Rattle.bufr_fill.proofs.LeastLemmas.{content_self}
 use Rattle.bufr_fill.proofs.GrowthSteps.{grows_not, still_there, take_whole}
 

@@ -33,3 +33,4 @@ pub mod PlainWalks
 pub mod TableRows
 pub mod Laws
 pub mod PackedWalks
+pub mod PackedFaults

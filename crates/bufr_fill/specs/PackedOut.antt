@@ -5,11 +5,12 @@ use Rattle.bufr_walk.specs.declared.spec.Taken.{Taken}
 use Rattle.bufr_fill.specs.declared.fault.DraftFault.{DraftFault}
 use Rattle.bufr_walk.specs.Asked.{Asked}
 use Rattle.bufr_walk.specs.Content.{Content}
+use Rattle.bufr_walk.specs.Course.{Next, take_next, at_end, astray, refused}
 use Rattle.bufr_walk.specs.PackedField.{told_first}
 use Rattle.bufr_walk.specs.Reading.{most_values}
 use Rattle.bufr_fill.specs.Draft.{Draft}
 use Rattle.bufr_fill.specs.Entries.{Entry, Holds, Ends, Subset}
-use Rattle.bufr_fill.specs.Fault.{FaultAt, at_line, item_too_many}
+use Rattle.bufr_fill.specs.Fault.{FaultAt, at_line, item_too_many, walk_refused}
 use Rattle.bufr_fill.specs.Filling.{written}
 use Rattle.bufr_fill.specs.Encoding.{Cell, Across, rows, longest, across, cells_at, first_line, pack_across}
 use Rattle.bufr_fill.specs.PlainOut.{WhereTold}
@@ -86,3 +87,10 @@ first_line_at place subsets = first_line (cells_at place subsets)
 -- what all subsets give at the places that are left
 abbrev pub rows_left : PackedPen → List Across
 rows_left s = rows (longest s.subsets - s.place) s.place s.subsets
+
+-- the fault where the writer stands, by what comes next: that of the item, that of the walk on the next item's line, or an item that is left over
+abbrev pub IsFaultHere : Next → PackedPen → FaultAt → Type 0
+IsFaultHere (take_next spec) s f = IsFaultAcross spec s f
+IsFaultHere (refused why) s f = f ≡ at_line (first_line_at s.place s.subsets) (walk_refused why)
+IsFaultHere at_end s f = all_end (cells_at s.place s.subsets) ≡ Err f
+IsFaultHere astray s f = ⊥
