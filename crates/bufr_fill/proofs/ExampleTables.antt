@@ -16,22 +16,22 @@ use Rattle.bufr_fill.specs.Encoding.{plain_data, packed_data}
 unfoldable pub fxy : (f x y : ℕ) → ℕ
 fxy f x y = f * 16384 + (x * 256 + y)
 
-row : (f x y : ℕ) → Kind → (scale reference : ℤ) → (width : ℕ) → Row
+listed : (f x y : ℕ) → Kind → (scale reference : ℤ) → (width : ℕ) → Row
 unfolding fxy
-row f x y k s r w = record { fxy = fxy f x y; name = []; unit = []; kind = k; scale = s; reference = r; width = w }
+listed f x y k s r w = record { fxy = fxy f x y; name = []; unit = []; kind = k; scale = s; reference = r; width = w }
 
 -- block, name, latitude, temperature, a figure, and class 31: factors and a figure
 unfoldable pub table : List Row
-unfolding row
+unfolding listed
 table =
-    row 0 1 1 kind.Numeric (pos 0) (pos 0) 7
-    ∷ row 0 1 15 kind.Character (pos 0) (pos 0) 160
-    ∷ row 0 5 2 kind.Numeric (pos 2) (negsuc 8999) 15
-    ∷ row 0 12 101 kind.Numeric (pos 2) (pos 0) 16
-    ∷ row 0 20 3 kind.Coded (pos 0) (pos 0) 9
-    ∷ row 0 31 0 kind.Numeric (pos 0) (pos 0) 1
-    ∷ row 0 31 1 kind.Numeric (pos 0) (pos 0) 8
-    ∷ row 0 31 21 kind.Coded (pos 0) (pos 0) 6
+    listed 0 1 1 kind.Numeric (pos 0) (pos 0) 7
+    ∷ listed 0 1 15 kind.Character (pos 0) (pos 0) 160
+    ∷ listed 0 5 2 kind.Numeric (pos 2) (negsuc 8999) 15
+    ∷ listed 0 12 101 kind.Numeric (pos 2) (pos 0) 16
+    ∷ listed 0 20 3 kind.Coded (pos 0) (pos 0) 9
+    ∷ listed 0 31 0 kind.Numeric (pos 0) (pos 0) 1
+    ∷ listed 0 31 1 kind.Numeric (pos 0) (pos 0) 8
+    ∷ listed 0 31 21 kind.Coded (pos 0) (pos 0) 6
     ∷ []
 
 -- templates: one element, a group of blocks, a text of four octets, and a temperature whose reference is redefined in 10 bits

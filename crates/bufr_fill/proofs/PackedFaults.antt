@@ -17,7 +17,7 @@ use Rattle.bufr_fill.specs.Packing.{packing}
 use Rattle.bufr_fill.specs.PackedOut.{PackedPen, packed_start, PackedFills, and_end, all_end, first_line_at, rows_left, IsFaultHere}
 use Rattle.bufr_fill.proofs.PackedWalks.{some_there, within, row_first, fills}
 use Rattle.bufr_fill.proofs.Places.{length-cells}
-use Rattle.bufr_fill.proofs.WalkFills.{walk_fills, unfilled}
+use Rattle.bufr_fill.proofs.WalkFills.{after_told, walk_fills, unfilled}
 
 -- ---- places
 
@@ -65,11 +65,6 @@ stays course s (i ∷ items) s' h p =
     let near = within s h.0 i.spec i.taken h.2 in
     let rest = stays (λ told. course (i.taken ∷ told)) h.0 items s' h.3 (omega (arith, near, h.2.place, ap longest h.2.subsets)) in
     record { subsets = rest.subsets ∙ h.2.subsets; within = rest.within }
-
--- what comes after the items of a walk
-after_told : (course : Course) (items : List Turn) → course_after course items [] ≡ course (told_by items)
-after_told course [] = refl
-after_told course (i ∷ items) = after_told (λ told. course (i.taken ∷ told)) items
 
 module _ (course : Course) (s : Subset) (more : List Subset) where
   abbrev filler : Filler Across (List Content) FaultAt

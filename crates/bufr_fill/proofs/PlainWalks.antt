@@ -15,7 +15,7 @@ use Rattle.bufr_fill.specs.Filled.{HasFilled, IsUnfilled}
 use Rattle.bufr_fill.specs.PlainOut.{Pen, PlainFills, IsFaultOf, IsFaultNext, behind_end, line_at, items_left, end_left}
 use Rattle.bufr_fill.proofs.WalkFills.{walk_fills, unfilled}
 
-fills : (end : ℕ) (s : Pen) (spec : Asked) (t : Taken) (s' : Pen) → oks PlainFills s spec t s' → HasFilled (plain_filler end) (items_left s.left) s.bits spec t (items_left s'.left) s'.bits
+pub fills : (end : ℕ) (s : Pen) (spec : Asked) (t : Taken) (s' : Pen) → oks PlainFills s spec t s' → HasFilled (plain_filler end) (items_left s.left) s.bits spec t (items_left s'.left) s'.bits
 fills end s spec t s' h = record {
   draft = h.draft;
   item = written h.content (bits_for spec.width h.content);
@@ -39,7 +39,7 @@ fault_of_items course left spec f next h = unfilled (plain_filler (end_left left
     by (Holds d ∷ more) h = ap (plainly d.line spec) h.1 ∙ ap Err (sym h.2)
 
 -- and so is each other fault where a walk stops
-at_refused : (course : Course) (left : List Entry) (why : refusal.the_data) → (course []).next ≡ refused why → fill (plain_filler (end_left left)) course (items_left left) ≡ Err (at_line (line_at left) (walk_refused why))
+pub at_refused : (course : Course) (left : List Entry) (why : refusal.the_data) → (course []).next ≡ refused why → fill (plain_filler (end_left left)) course (items_left left) ≡ Err (at_line (line_at left) (walk_refused why))
 at_refused course [] why h = ap (fill_none (plain_filler 0)) h
 at_refused course (Ends line ∷ left) why h = ap (fill_none (plain_filler line)) h
 at_refused course (Holds d ∷ left) why h = ap (λ n. fill_one (plain_filler (end_left left)) n d (λ t. fill (plain_filler (end_left left)) (λ told. course (t ∷ told)) (items_left left))) h

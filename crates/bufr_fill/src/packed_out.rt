@@ -27,9 +27,9 @@ const MOST_VALUES: u64 = 134_217_728;
 /// Items of a dump text, each written once for all subsets as a base, six bits `k`, and an increment for each subset
 /// where `k` is above 0 (WMO-No. 306, Volume I.2, FM 94: section 4, compression). One walk takes the items of all subsets.
 ///
-/// A contract sees it as the subsets, how many items of each were taken, and the bits that were written. A refusal leaves all
-/// three. Where memory ran out within an item, the bits that stand behind those of whole items are none that were written,
-/// and each further item is refused for want of memory.
+/// A contract sees it as the subsets, how many items of each were taken, and the bits of these items. A refusal changes none
+/// of them. Where memory ran out within an item, its first bits are kept aside and never given, and each further item is
+/// refused for want of memory too.
 #[derive(Drop)]
 pub struct PackedOut<'s, 'a> {
     entries: &'s [Entry<'a>],
@@ -198,7 +198,7 @@ impl<'s, 'a> PackedOut<'s, 'a> {
         all_end(self.entries, &self.ends, self.place)
     }
 
-    /// The octets of the bits that were written, with zero bits to the next octet. It takes no memory.
+    /// The octets of the bits of whole items, with zero bits to the next octet. It takes no memory.
     pub fn into_octets(self) -> Vec<u8>
         ensures bits { bits_of result.items ≡ self.entry.bits ++ padding (length self.entry.bits) }
         ensures len { vec_len result ≡ (length self.entry.bits + 7) / 8 }
@@ -231,6 +231,7 @@ impl<'s, 'a> Fields for PackedOut<'s, 'a> {
     ghost refuses = { λ s spec e next h. ap (λ c. length c.bits) h.1 };
 
     fn take(&mut self, spec: &Spec) -> Result<Taken, DraftFault> {
+        // The first bits of an item in which memory ran out stand behind those of whole items.
         if self.out.len_bits() != self.used {
             return Err(DraftFault::Memory);
         }

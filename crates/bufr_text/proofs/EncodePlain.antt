@@ -22,12 +22,13 @@ use Rattle.bufr_fill.specs.PlainOut.{Pen, PlainFills, WhereTold, IsFaultOf, behi
 use Rattle.bufr_walk.specs.declared.spec.Taken.{Taken}
 use Rattle.bufr_walk.specs.Content.{bits_for}
 use Rattle.bufr_fill.specs.Told.{told_fault}
-use Rattle.bufr_fill.proofs.PlainWalks.{walk_of_items, fault_of_items}
+use Rattle.bufr_fill.proofs.PlainWalks.{fills, walk_of_items, fault_of_items, at_refused}
+use Rattle.bufr_fill.proofs.WalkFills.{after_told}
 use Rattle.bufr_text.specs.declared.encode_fault.DocumentFault.{DocumentFault}
 use Rattle.bufr_text.specs.Encoding.{RefusedAt, told_of_items}
 use Rattle.bufr_text.specs.EncodingFault.{told_of_draft, told_refusal}
 use Rattle.bufr_text.specs.Encodes.{RefusesSo, told_stop, count_filled, count_plain, and_more, left_behind, fill_next, count_next, IsSubset, IsNoSubset, AreOctetsOf, IsData, IsNoData}
-use Rattle.bufr_text.proofs.EncodesLemmas.{after_told, walk_counts, all_counted, refuses_so}
+use Rattle.bufr_text.proofs.EncodesLemmas.{walk_counts, all_counted, refuses_so}
 
 -- ---- products
 
@@ -61,16 +62,6 @@ keeps course s (i ∷ items) s' h =
       count = k.count ∙ sym (ap (λ x. length (subsets_of x)) h.2.here ∙ onto_same h.2.draft (subsets_of h.0.left));
     }
 
-fills : (end : ℕ) (s : Pen) (spec : Asked) (t : Taken) (s' : Pen) → oks PlainFills s spec t s' → HasFilled (plain_filler end) (items_left s.left) s.bits spec t (items_left s'.left) s'.bits
-fills end s spec t s' h = record {
-  draft = h.draft;
-  item = written h.content (bits_for spec.width h.content);
-  here = ap items_left h.here;
-  fills = ap (plainly h.draft.line spec) h.is;
-  tells = h.tells;
-  bits = h.bits;
-}
-
 counts : (end : ℕ) (course : Course) (s : Pen) (items : List Turn) (s' : Pen) → Takes (oks PlainFills) course s items s' → length s'.bits ≤ length s.bits + count_filled (plain_filler end) course (items_left s.left)
 counts end course s items s' h = omega (arith, walk_counts (plain_filler end) (λ (p : Pen). items_left p.left) (λ (p : Pen). p.bits) (oks PlainFills) (fills end) course s items s' h)
 
@@ -88,12 +79,6 @@ at_end_more end course (Holds d ∷ left) f h some e =
   where
     same : behind_end (Holds d ∷ left) ≡ Err f → ◌≡◌ {A = Result (List Bool) FaultAt} (Err (at_line d.line item_too_many)) (Err f)
     same e = let x : at_line d.line item_too_many ≡ f = cc in ap Err x
-
--- where the walk is refused
-at_refused : (course : Course) (left : List Entry) (why : refusal.the_data) → (course []).next ≡ refused why → fill (plain_filler (end_left left)) course (items_left left) ≡ Err (at_line (line_at left) (walk_refused why))
-at_refused course [] why h = ap (fill_none (plain_filler 0)) h
-at_refused course (Ends line ∷ left) why h = ap (fill_none (plain_filler line)) h
-at_refused course (Holds d ∷ left) why h = ap (λ n. fill_one (plain_filler (end_left left)) n d (λ t. fill (plain_filler (end_left left)) (λ told. course (t ∷ told)) (items_left left))) h
 
 prefixed : (end : ℕ) (bits : List Bool) (r : Result (List Bool) FaultAt) (f : FaultAt) → r ≡ Err f → and_behind (plain_filler end) bits r ≡ Err f
 prefixed end bits r f h = ap (and_behind (plain_filler end) bits) h

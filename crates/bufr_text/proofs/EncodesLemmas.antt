@@ -20,11 +20,6 @@ use Rattle.bufr_fill.proofs.FieldBits.{octets_again}
 use Rattle.bufr_text.specs.Encoding.{octets_of_bits}
 use Rattle.bufr_text.specs.Encodes.{AreOctetsOf}
 
--- what comes after the items of a walk
-pub after_told : (course : Course) (items : List Turn) → course_after course items [] ≡ course (told_by items)
-after_told course [] = refl
-after_told course (i ∷ items) = after_told (λ told. course (i.taken ∷ told)) items
-
 module _ {D C E S : Type 0} (filler : Filler D C E) (left : S → List D) (out : S → List Bool) (takes : S → Asked → Taken → S → Type 0)
     (fills : (s : S) (spec : Asked) (t : Taken) (s' : S) → takes s spec t s' → HasFilled filler (left s) (out s) spec t (left s') (out s')) where
   one : (course : Course) (s : S) (spec : Asked) (t : Taken) (mid : S) → (course []).next ≡ take_next spec → (h : HasFilled filler (left s) (out s) spec t (left mid) (out mid)) → count_filled filler course (left s) ≡ length h.item.bits + count_filled filler (λ told. course (t ∷ told)) (left mid)

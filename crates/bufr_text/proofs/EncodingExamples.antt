@@ -14,12 +14,12 @@ use Rattle.bufr_fill.specs.Fault.{wrong_descriptor, wrong_number, out_of_range, 
 use Rattle.bufr_text.specs.Document.{Document, Entry, Holds, Ends}
 use Rattle.bufr_text.specs.Encoding.{RefusedAt, refused_at, by_template, by_item, encoding_of}
 
-row : (fxy : ℕ) → Kind → (scale reference : ℤ) → (width : ℕ) → Row
-row fxy k s r w = record { fxy = fxy; name = []; unit = []; kind = k; scale = s; reference = r; width = w }
+listed : (fxy : ℕ) → Kind → (scale reference : ℤ) → (width : ℕ) → Row
+listed fxy k s r w = record { fxy = fxy; name = []; unit = []; kind = k; scale = s; reference = r; width = w }
 
 -- a block number, a name, a temperature, and a factor
 table : List Row
-table = row 0x0101 kind.Numeric (pos 0) (pos 0) 7 ∷ row 0x010F kind.Character (pos 0) (pos 0) 160 ∷ row 0x0C65 kind.Numeric (pos 2) (pos 0) 16 ∷ row 0x1F01 kind.Numeric (pos 0) (pos 0) 8 ∷ []
+table = listed 0x0101 kind.Numeric (pos 0) (pos 0) 7 ∷ listed 0x010F kind.Character (pos 0) (pos 0) 160 ∷ listed 0x0C65 kind.Numeric (pos 2) (pos 0) 16 ∷ listed 0x1F01 kind.Numeric (pos 0) (pos 0) 8 ∷ []
 
 -- a document at line 1 without local use, whose data are observed
 document : (compressed subsets : ℕ) → List ℕ → List Entry → Document
