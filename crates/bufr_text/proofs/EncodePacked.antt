@@ -1,13 +1,11 @@
 -- The subsets of a document, written together.
-use Rattle.std.proofs.Common.{◌≡◌, ◌≤◌, ◌<◌, ◌+◌, ◌-◌, ◌*◌, ℕ, Bool, true, List, [], ◌∷◌, length, Option, Some, None, Result, Ok, Err, refl, sym, ◌∙◌, ap, subst, arith}
+use Rattle.std.proofs.Common.{◌≡◌, ◌≤◌, ◌+◌, ◌-◌, ◌*◌, ℕ, zero, suc, Bool, true, List, [], ◌∷◌, length, Option, Some, None, Result, Ok, Err, refl, sym, ◌∙◌, ap, subst, arith}
 use Rattle.std.specs.Option.{option_map}
-use Rattle.bufr_walk.specs.declared.spec.Refusal.TheVariants as refusal
 use Rattle.bufr_walk.specs.declared.walking.WalkStop.{WalkStop}
 use Rattle.bufr_walk.specs.declared.walking.WalkStop.TheVariants as stops
-use Rattle.bufr_walk.specs.Asked.{Asked}
 use Rattle.bufr_walk.specs.Course.{Course, Next, take_next, at_end, astray, refused}
-use Rattle.bufr_walk.specs.Stop.{stop_by}
-use Rattle.bufr_walk.specs.Taking.{Turn, Takes}
+use Rattle.bufr_walk.specs.Taking.{Turn, Takes, course_after}
+use Rattle.bufr_walk.specs.Ticks.{ticked}
 use Rattle.bufr_walk.specs.Walked.{oks, told_by, StopsAt, Walked}
 use Rattle.bufr_fill.specs.declared.fault.DraftFault.{DraftFault}
 use Rattle.bufr_fill.specs.Encoding.{cells_at, rows, longest, are_many, packed_filler, packed_data}
@@ -22,8 +20,9 @@ use Rattle.bufr_fill.proofs.PackedWalks.{fills}
 use Rattle.bufr_bits.specs.Bits.{bits_of}
 use Rattle.bufr_text.specs.declared.encode_fault.DocumentFault.{DocumentFault}
 use Rattle.bufr_text.specs.EncodingFault.{told_of_draft, told_refusal}
-use Rattle.bufr_text.specs.Encodes.{told_stop, count_filled, count_packed, AreOctetsOf, IsData, IsNoData}
-use Rattle.bufr_text.proofs.EncodesLemmas.{walk_counts, refuses_so}
+use Rattle.bufr_text.specs.Encodes.{told_stop, count_filled, count_packed, turns_filled, turns_packed, AreOctetsOf, IsData, IsNoData}
+use Rattle.bufr_text.proofs.EncodesLemmas.{walk_counts, refuses_so, told_refused}
+use Rattle.bufr_text.proofs.TurnsLemmas.{AddsTurns, walk_turns, IsLast, last_turns, some_turns, ticked_at_most, all_made, makes_so}
 use Rattle.bufr_text.proofs.EncodePlain.{mul_most}
 
 -- the bits that a walk wrote are among those that count
@@ -35,6 +34,55 @@ counts course (s ∷ more) items mid some h =
     let e : longest (s ∷ more) - 0 ≡ longest (s ∷ more) = omega arith in
     omega (arith, c, ap (λ k. count_filled (packed_filler s.end_line many) course (rows k 0 (s ∷ more))) e)
 
+-- ---- the turns
+
+-- the turns of all subsets are those that a walk comes to
+turns_left : (course : Course) (s : Subset) (more : List Subset) (items : List Turn) (mid : PackedPen) → Takes (oks PackedFills) course (packed_start (s ∷ more)) items mid
+    → turns_packed course (s ∷ more) ≡ turns_filled (packed_filler s.end_line (are_many (longest (s ∷ more)) (length (s ∷ more)))) (course_after course items) (rows_left mid)
+turns_left course s more items mid h =
+    let many = are_many (longest (s ∷ more)) (length (s ∷ more)) in
+    let e : longest (s ∷ more) ≡ longest (s ∷ more) - 0 = omega arith in
+    ap (λ k. turns_filled (packed_filler s.end_line many) course (rows k 0 (s ∷ more))) e
+    ∙ walk_turns (packed_filler s.end_line many) rows_left (λ (p : PackedPen). p.bits) (oks PackedFills) (fills s.end_line many) course (packed_start (s ∷ more)) items mid h
+
+-- at most so many were made
+turns_at_most : (course : Course) (ss : List Subset) (items : List Turn) (mid : PackedPen) → AddsTurns course → 1 ≤ length ss → Takes (oks PackedFills) course (packed_start ss) items mid → (course (told_by items)).turns ≤ turns_packed course ss
+turns_at_most course [] items mid g some h = absurd (omega (arith, some))
+turns_at_most course (s ∷ more) items mid g some h =
+    some_turns (packed_filler s.end_line (are_many (longest (s ∷ more)) (length (s ∷ more)))) course items (rows_left mid) (turns_packed course (s ∷ more)) g (turns_left course s more items mid h)
+
+-- where nothing more is taken, whatever the filler, all were made
+all_turns : (course : Course) (ss : List Subset) (items : List Turn) (mid : PackedPen) → 1 ≤ length ss → Takes (oks PackedFills) course (packed_start ss) items mid
+    → ((end : ℕ) (many : Bool) → IsLast (packed_filler end many) (course (told_by items)).next (rows_left mid)) → (course (told_by items)).turns ≡ turns_packed course ss
+all_turns course [] items mid some h l = absurd (omega (arith, some))
+all_turns course (s ∷ more) items mid some h l =
+    let many = are_many (longest (s ∷ more)) (length (s ∷ more)) in
+    last_turns (packed_filler s.end_line many) course items (rows_left mid) (course (told_by items)).next (turns_packed course (s ∷ more)) (turns_left course s more items mid h) refl (l s.end_line many)
+
+-- at the end of the template nothing more is taken
+end_is_last : (end : ℕ) (many : Bool) (next : Next) (mid : PackedPen) → next ≡ at_end → IsLast (packed_filler end many) next (rows_left mid)
+end_is_last end many next mid e = subst (λ n. IsLast (packed_filler end many) n (rows_left mid)) (sym e) tt
+
+-- nor is anything taken at a fault
+fault_is_last : (end : ℕ) (many : Bool) (next : Next) (mid : PackedPen) (f : FaultAt) → IsFaultHere next mid f → IsLast (packed_filler end many) next (rows_left mid)
+fault_is_last end many (take_next spec) mid f h = by (longest mid.subsets - mid.place)
+  where
+    by : (k : ℕ) → IsLast (packed_filler end many) (take_next spec) (rows k mid.place mid.subsets)
+    by zero = tt
+    by (suc k) = (f, h)
+fault_is_last end many at_end mid f h = tt
+fault_is_last end many (refused r) mid f h = tt
+fault_is_last end many astray mid f h = tt
+
+-- a walk to the end makes all turns
+walk_makes_all : (course : Course) (ss : List Subset) (start : PackedPen) (c : ℕ) (mid : PackedPen) (c' : ℕ) → start ≡ packed_start ss → 1 ≤ length ss → c ≡ 0 → Walked PackedFills course start c (Ok tt) mid c' → c' ≡ ticked 0 (turns_packed course ss)
+walk_makes_all course ss start c mid c' at some z w =
+    let h = subst (λ x. Takes (oks PackedFills) course x w.0 mid) at w.1 in
+    w.3 ∙ ap (λ x. ticked x (course (told_by w.0)).turns) z
+    ∙ ap (ticked 0) (all_turns course ss w.0 mid some h (λ end many. end_is_last end many (course (told_by w.0)).next mid w.2))
+
+-- ---- the data
+
 -- the data were written
 pub packed_written : (n : ℕ) (course : Course) (ss : List Subset) (start : PackedPen) (c : ℕ) (mid : PackedPen) (c' : ℕ) (octets : List ℕ) → start ≡ packed_start ss → 1 ≤ length ss → c ≡ 0 → Walked PackedFills course start c (Ok tt) mid c'
     → all_end (cells_at mid.place mid.subsets) ≡ Ok tt → c' ≤ c + n * (length mid.bits - length start.bits) → AreOctetsOf octets mid.bits → IsData n true course ss octets c'
@@ -44,6 +92,7 @@ packed_written n course ss start c mid c' octets at some z w e few o =
       out = mid.bits;
       is = written_as_defined course ss w.0 mid some h w.2 e;
       octets_are = o;
+      made = walk_makes_all course ss start c mid c' at some z w;
       few = omega (arith, z, few, mul_most n (length mid.bits - length start.bits) (count_packed course ss) (omega (arith, counts course ss w.0 mid some h)));
     }
 
@@ -55,6 +104,7 @@ packed_over n course ss start c mid c' e why at some z w fault told few =
     let is = fault_as_defined course ss w.0 mid fault.0 some h (subst (λ next. IsFaultHere next mid fault.0) (sym w.2) fault.2) in
     record {
       refuses = refuses_so (told_fault e) (told_refusal why) (packed_data course ss) told (λ f g. is ∙ ap Err (same fault.0 f (sym fault.1 ∙ g)));
+      made = all_made (told_refusal why) 0 (turns_packed course ss) c' (walk_makes_all course ss start c mid c' at some z w);
       few = omega (arith, z, few, mul_most n (length mid.bits - length start.bits) (count_packed course ss + 1) (omega (arith, counts course ss w.0 mid some h)));
     }
   where
@@ -74,11 +124,7 @@ told_here line (take_next spec) mid (stops.Defining fxy) s' f h l t = absurd h
 told_here line at_end mid stop s' f h l t = absurd h
 told_here line astray mid stop s' f h l t = absurd h
 told_here line (refused r) mid stop s' f h l t =
-    sym (at_refusal r (ap (told_stop line) (sym h.0) ∙ t)) ∙ ap (λ n. at_line n (walk_refused r)) (l ∙ ap (λ (p : PackedPen). first_line_at p.place p.subsets) h.1)
-  where
-    at_refusal : (r : refusal.the_data) → told_stop line (stop_by r) ≡ Some f → at_line line (walk_refused r) ≡ f
-    at_refusal (refusal.Width fxy) e = cc
-    at_refusal (refusal.Defining fxy) e = cc
+    sym (told_refused line r f (ap (told_stop line) (sym h.0) ∙ t)) ∙ ap (λ n. at_line n (walk_refused r)) (l ∙ ap (λ (p : PackedPen). first_line_at p.place p.subsets) h.1)
 
 still : (next : Next) (mid : PackedPen) (stop : WalkStop DraftFault) (s' : PackedPen) → StopsAt PackedFills next mid stop s' → s' ≡ mid
 still (take_next spec) mid (stops.Field e) s' h = h.1
@@ -90,13 +136,17 @@ still astray mid stop s' h = absurd h
 still (refused r) mid stop s' h = h.1
 
 -- the walk stopped
-pub packed_stopped : (n : ℕ) (course : Course) (ss : List Subset) (start : PackedPen) (c : ℕ) (s' : PackedPen) (c' line : ℕ) (stop : WalkStop DraftFault) (why : DocumentFault) → start ≡ packed_start ss → 1 ≤ length ss → c ≡ 0 → Walked PackedFills course start c (Err stop) s' c'
+pub packed_stopped : (n : ℕ) (course : Course) (ss : List Subset) (start : PackedPen) (c : ℕ) (s' : PackedPen) (c' line : ℕ) (stop : WalkStop DraftFault) (why : DocumentFault) → AddsTurns course → start ≡ packed_start ss → 1 ≤ length ss → c ≡ 0 → Walked PackedFills course start c (Err stop) s' c'
     → line ≡ first_line_at s'.place s'.subsets → told_refusal why ≡ option_map told_of_draft (told_stop line stop) → c' ≤ c + n * (length s'.bits - length start.bits + 1) → IsNoData n true course ss why c'
-packed_stopped n course ss start c s' c' line stop why at some z w l told few =
+packed_stopped n course ss start c s' c' line stop why g at some z w l told few =
     let h = subst (λ x. Takes (oks PackedFills) course x w.0 w.1) at w.2 in
     let next = (course (told_by w.0)).next in
+    let ticks : c' ≡ ticked 0 (course (told_by w.0)).turns = w.4 ∙ ap (λ x. ticked x (course (told_by w.0)).turns) z in
     record {
       refuses = refuses_so (told_stop line stop) (told_refusal why) (packed_data course ss) told (λ f t. fault_as_defined course ss w.0 w.1 f some h (told_here line next w.1 stop s' f w.3 l t));
+      made = makes_so (told_stop line stop) (told_refusal why) 0 (turns_packed course ss) c' told
+          (omega (arith, ticks, ticked_at_most 0 (course (told_by w.0)).turns (turns_packed course ss) (turns_at_most course ss w.0 w.1 g some h)))
+          (λ f t. ticks ∙ ap (ticked 0) (all_turns course ss w.0 w.1 some h (λ end many. fault_is_last end many next w.1 f (told_here line next w.1 stop s' f w.3 l t))));
       few = omega (arith, z, few, mul_most n (length s'.bits - length start.bits + 1) (count_packed course ss + 1) (omega (arith, counts course ss w.0 w.1 some h, ap (λ (p : PackedPen). length p.bits) (still next w.1 stop s' w.3))));
     }
 
@@ -107,6 +157,7 @@ none_packed n course ss steps octets e o z = subst (λ x. IsData n true course x
   out = [];
   is = refl;
   octets_are = record { same = ap bits_of o; count = ap length o };
+  made = z;
   few = omega (arith, z);
 })
 

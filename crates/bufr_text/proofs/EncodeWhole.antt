@@ -9,7 +9,9 @@ use Rattle.bufr_tables.specs.Tree.{Tree, places}
 use Rattle.bufr_walk.specs.Course.{next_item}
 use Rattle.bufr_text.specs.Document.{Document}
 use Rattle.bufr_text.specs.Encoding.{RefusedAt, ◌>>=◌, told_of_template, told_of_items, drafts_of, data_bits, octets_of_bits, parts_in, message_of, encoding_of}
-use Rattle.bufr_text.specs.Encodes.{RefusesSo, AreOctetsOf, IsData, places_of, places_by, bits_for, bits_by, count_data}
+use Rattle.bufr_text.specs.Encodes.{RefusesSo, AreOctetsOf, IsData, places_of, places_by, bits_for, bits_by, count_data, MakesSo, turns_for, turns_by, turns_data}
+use Rattle.bufr_tables.specs.declared.template.fault.TemplateFault.{TemplateFault}
+use Rattle.bufr_walk.specs.Ticks.{ticked}
 use Rattle.bufr_text.specs.Header.{head_in, compressed_in}
 
 pub if_ok_so : {A B : Type 0} {P Q : A → Type 0} (r : Result A B) → IfOk r P → ((x : A) → P x → Q x) → IfOk r Q
@@ -64,3 +66,19 @@ module _ (table : List Row) (sequences : List Sequence) (d : Document) where
 
   pub few_whole : (n : ℕ) (steps b : ℕ) → steps ≤ n * b → steps ≤ n * (b + 1)
   few_whole n steps b h = let e : n * (b + 1) ≡ n * b + n = grind arith in omega (arith, h, e)
+
+  pub made_all : (template : Tree) (steps : ℕ) → tree_of (tables_of table sequences) d.descriptors ≡ Ok template → steps ≡ ticked 0 (turns_data (compressed_in d) (next_item table template) (drafts_of d.entries))
+      → steps ≡ ticked 0 (turns_by table sequences d)
+  made_all template steps e h = subst (λ r. steps ≡ ticked 0 (turns_for table d r)) (sym e) h
+
+  pub made_some : (template : Tree) (o : Option RefusedAt) (steps : ℕ) → tree_of (tables_of table sequences) d.descriptors ≡ Ok template
+      → MakesSo o 0 (turns_data (compressed_in d) (next_item table template) (drafts_of d.entries)) steps → MakesSo o 0 (turns_by table sequences d) steps
+  made_some template o steps e h = subst (λ r. MakesSo o 0 (turns_for table d r) steps) (sym e) h
+
+  pub made_none : (o : Option RefusedAt) (steps : ℕ) → RefusesSo o (told_of_template d.line (tree_of (tables_of table sequences) d.descriptors)) → steps ≡ 0 → MakesSo o 0 (turns_by table sequences d) steps
+  made_none None steps h z = omega (arith, z)
+  made_none (Some f) steps h z = by (tree_of (tables_of table sequences) d.descriptors) h
+    where
+      by : (r : Result Tree TemplateFault) → told_of_template d.line r ≡ Err f → steps ≡ ticked 0 (turns_for table d r)
+      by (Ok template) h = absurd cc h
+      by (Err why) h = z

@@ -14,15 +14,15 @@ use Rattle.bufr_fill.specs.Fault.{wrong_descriptor, wrong_number, out_of_range, 
 use Rattle.bufr_text.specs.Document.{Document, Entry, Holds, Ends}
 use Rattle.bufr_text.specs.Encoding.{RefusedAt, refused_at, by_template, by_item, encoding_of}
 
-listed : (fxy : ℕ) → Kind → (scale reference : ℤ) → (width : ℕ) → Row
+unfoldable pub listed : (fxy : ℕ) → Kind → (scale reference : ℤ) → (width : ℕ) → Row
 listed fxy k s r w = record { fxy = fxy; name = []; unit = []; kind = k; scale = s; reference = r; width = w }
 
 -- a block number, a name, a temperature, and a factor
-table : List Row
+unfoldable pub table : List Row
 table = listed 0x0101 kind.Numeric (pos 0) (pos 0) 7 ∷ listed 0x010F kind.Character (pos 0) (pos 0) 160 ∷ listed 0x0C65 kind.Numeric (pos 2) (pos 0) 16 ∷ listed 0x1F01 kind.Numeric (pos 0) (pos 0) 8 ∷ []
 
 -- a document at line 1 without local use, whose data are observed
-document : (compressed subsets : ℕ) → List ℕ → List Entry → Document
+unfoldable pub document : (compressed subsets : ℕ) → List ℕ → List Entry → Document
 document compressed subsets descriptors entries = record {
   line = 1;
   header = 4 ∷ 0 ∷ 98 ∷ 0 ∷ 0 ∷ 0 ∷ 0 ∷ 0 ∷ 14 ∷ 0 ∷ 2024 ∷ 1 ∷ 2 ∷ 3 ∷ 4 ∷ 5 ∷ 1 ∷ compressed ∷ 0 ∷ subsets ∷ [];
@@ -32,10 +32,10 @@ document compressed subsets descriptors entries = record {
   entries = entries;
 }
 
-number : (line fxy : ℕ) → List ℕ → Entry
+unfoldable pub number : (line fxy : ℕ) → List ℕ → Entry
 number line fxy digits = Holds (draft line fxy (number_token digits))
 
-missing : (line fxy : ℕ) → Entry
+unfoldable pub missing : (line fxy : ℕ) → Entry
 missing line fxy = Holds (draft line fxy missing_form)
 
 text : (line fxy : ℕ) → List ℕ → Entry

@@ -29,6 +29,7 @@ pub mod LineLemmas
 pub mod LinesLemmas
 mod LsExamples
 pub mod LsLineLemmas
+pub mod MemoryLemmas
 pub mod NextLemmas
 pub mod NumberLemmas
 pub mod OpenLemmas
@@ -44,6 +45,8 @@ pub mod SpelledLemmas
 pub mod StepLemmas
 pub mod TakingLemmas
 pub mod TokenLemmas
+mod TurnsExamples
+pub mod TurnsLemmas
 pub mod UnhexLemmas
 pub mod UnquoteLemmas
 pub mod WordLemmas

@@ -14,7 +14,8 @@ use Rattle.bufr_walk.specs.declared.spec.Taken.{Taken}
 use Rattle.bufr_walk.specs.declared.walking.WalkStop.{WalkStop}
 use Rattle.bufr_walk.specs.declared.walking.WalkStop.TheVariants as stops
 use Rattle.bufr_walk.specs.Asked.{Asked}
-use Rattle.bufr_walk.specs.Course.{Course, Next, take_next, next_item}
+use Rattle.bufr_walk.specs.Course.{Course, Next, take_next, at_end, astray, refused, next_item}
+use Rattle.bufr_walk.specs.Ticks.{ticked}
 use Rattle.bufr_fill.specs.declared.fault.DraftFault.{DraftFault}
 use Rattle.bufr_fill.specs.DraftContent.{plain_filler}
 use Rattle.bufr_fill.specs.Encoding.{packed_filler, rows, longest, are_many}
@@ -93,6 +94,54 @@ bits_for table d (Err why) = 0
 abbrev pub bits_by : List Row → List Sequence → Document → ℕ
 bits_by table sequences d = bits_for table d (tree_of (tables_of table sequences) d.descriptors)
 
+-- ---- the turns up to the first refusal, this one's included (the turns are those of the template, as the items unroll it)
+
+module _ {D C E : Type 0} (filler : Filler D C E) where
+  -- behind a draft that can be written there are more turns; one that is refused is the last of so many
+  abbrev pub turned_one : Result (Written C) E → Asked → (here : ℕ) → (Taken → ℕ) → ℕ
+  turned_one (Err why) spec here more = here
+  turned_one (Ok w) spec here more = more (filler.tells spec w.content)
+
+  -- a draft too many is told at the end of the template, which is a turn too
+  abbrev pub turned_at : Next → (here : ℕ) → D → (Taken → ℕ) → ℕ
+  turned_at (take_next spec) here d more = turned_one (filler.fills spec d) spec here more
+  turned_at at_end here d more = here
+  turned_at (refused why) here d more = here
+  turned_at astray here d more = here
+
+  -- how many turns drafts take, from the beginning of the template on
+  abbrev pub turns_filled : Course → List D → ℕ
+  turns_filled course [] = (course []).turns
+  turns_filled course (d ∷ ds) = turned_at (course []).next (course []).turns d (λ t. turns_filled (λ told. course (t ∷ told)) ds)
+
+-- one pass for each subset, up to one that is refused
+abbrev pub turns_plain : Course → List Subset → ℕ
+turns_plain course [] = 0
+turns_plain course (s ∷ subsets) = turns_filled (plain_filler s.end_line) course s.items + and_more (fill (plain_filler s.end_line) course s.items) (turns_plain course subsets)
+
+-- one pass for all subsets; without a subset there is none
+abbrev pub turns_packed : Course → List Subset → ℕ
+turns_packed course [] = 0
+turns_packed course (s ∷ subsets) =
+    turns_filled (packed_filler s.end_line (are_many (longest (s ∷ subsets)) (length (s ∷ subsets)))) course (rows (longest (s ∷ subsets)) 0 (s ∷ subsets))
+
+abbrev pub turns_data : (compressed : Bool) → Course → List Subset → ℕ
+turns_data true course subsets = turns_packed course subsets
+turns_data false course subsets = turns_plain course subsets
+
+abbrev pub turns_for : List Row → Document → Result Tree TemplateFault → ℕ
+turns_for table d (Ok template) = turns_data (compressed_in d) (next_item table template) (drafts_of d.entries)
+turns_for table d (Err why) = 0
+
+-- the turns that the encoding of a document makes, up to its first refusal; with no template there is none
+abbrev pub turns_by : List Row → List Sequence → Document → ℕ
+turns_by table sequences d = turns_for table d (tree_of (tables_of table sequences) d.descriptors)
+
+-- the steps behind so many turns, where the writing was refused; at want of memory they are perhaps not all made
+abbrev pub MakesSo : Option RefusedAt → (before turns after : ℕ) → Type 0
+MakesSo (Some f) before turns after = after ≡ ticked before turns
+MakesSo None before turns after = after ≤ ticked before turns
+
 -- ---- what the writing of data answers
 
 -- these octets are those bits, with zero bits to the next octet
@@ -105,10 +154,12 @@ pub record IsData (places : ℕ) (compressed : Bool) (course : Course) (subsets 
   pub out : List Bool
   pub is : data_bits compressed course subsets ≡ Ok out
   pub octets_are : AreOctetsOf octets out
+  pub made : steps ≡ ticked 0 (turns_data compressed course subsets)
   pub few : steps ≤ places * count_data compressed course subsets
 
 pub record IsNoData (places : ℕ) (compressed : Bool) (course : Course) (subsets : List Subset) (why : DocumentFault) (steps : ℕ) : Type 0 where
   pub refuses : RefusesSo (told_refusal why) (told_of_items (data_bits compressed course subsets))
+  pub made : MakesSo (told_refusal why) 0 (turns_data compressed course subsets) steps
   pub few : steps ≤ places * (count_data compressed course subsets + 1)
 
 -- what the writing of data answers, for a document
@@ -131,15 +182,20 @@ fill_next course left = fill (plain_filler (end_left left)) course (items_left l
 abbrev pub count_next : Course → List Entry → ℕ
 count_next course left = count_filled (plain_filler (end_left left)) course (items_left left)
 
+abbrev pub turns_next : Course → List Entry → ℕ
+turns_next course left = turns_filled (plain_filler (end_left left)) course (items_left left)
+
 pub record IsSubset (places : ℕ) (course : Course) (s : Pen) (steps : ℕ) (s' : Pen) (steps' : ℕ) : Type 0 where
   pub bits : List Bool
   pub is : fill_next course s.left ≡ Ok bits
   pub written : s'.bits ≡ s.bits ++ bits
   pub left : s'.left ≡ left_behind s.left
+  pub made : steps' ≡ ticked steps (turns_next course s.left)
   pub few : steps' ≤ steps + places * length bits
 
 pub record IsNoSubset (places : ℕ) (course : Course) (s : Pen) (steps : ℕ) (why : DocumentFault) (steps' : ℕ) : Type 0 where
   pub refuses : RefusesSo (told_refusal why) (told_of_items (fill_next course s.left))
+  pub made : MakesSo (told_refusal why) steps (turns_next course s.left) steps'
   pub few : steps' ≤ steps + places * (count_next course s.left + 1)
 
 -- the next subset was written and its end passed, or it is refused

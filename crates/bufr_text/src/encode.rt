@@ -1,14 +1,15 @@
 //! The message of a document.
-ghost use Rattle.std.specs.Prelude.{◌≡◌, ◌≤◌, ◌*◌, ◌+◌, ◌^◌, List, [], Bool, length, map, IfOk, IfErr, OnOk, OnErr, Ok, option_map, false, true};
+ghost use Rattle.std.specs.Prelude.{ℕ, ◌≡◌, ◌≢◌, ◌≤◌, ◌*◌, ◌+◌, ◌^◌, List, [], Bool, length, map, IfOk, IfErr, OnOk, OnErr, Ok, option_map, false, true};
 ghost use Rattle.bufr_tables.specs.Expansion.{tree_of};
 ghost use Rattle.bufr_tables.specs.TemplateTables.{tables_of};
 ghost use Rattle.bufr_tables.specs.Tree.{places};
 ghost use Rattle.bufr_walk.specs.Course.{next_item};
+ghost use Rattle.bufr_walk.specs.Ticks.{ticked};
 ghost use Rattle.bufr_fill.specs.Entries.{subsets_of};
 ghost use Rattle.bufr_fill.specs.Given.{entry_in};
 ghost use Rattle.bufr_text.specs.Encoding.{drafts_of, encoding_of, told_of_template, entry_of, octets_of_bits, message_of, parts_in};
 ghost use Rattle.bufr_text.specs.EncodingFault.{told_of_draft, told_refusal};
-ghost use Rattle.bufr_text.specs.Encodes.{AreOctetsOf, RefusesSo, DataSo, SubsetSo, told_stop, places_by, bits_by};
+ghost use Rattle.bufr_text.specs.Encodes.{AreOctetsOf, RefusesSo, MakesSo, DataSo, SubsetSo, told_stop, places_by, bits_by, turns_by};
 ghost use Rattle.bufr_text.specs.Header.{compressed_in, head_in, most_entries};
 
 use crate::document::Document;
@@ -51,6 +52,7 @@ fn template_of(
 ) -> Result<Template, DocumentFault>
     ensures tree { IfOk result (λ template. tree_of (tables_of table_b.now table_d.now) document.now.descriptors ≡ Ok template) }
     ensures fault { IfErr result (λ why. RefusesSo (told_refusal why) (told_of_template document.now.line (tree_of (tables_of table_b.now table_d.now) document.now.descriptors))) }
+    ensures memory { IfErr result (λ why. (line : ℕ) → why ≢ DocumentFault.Template line TemplateFault.Memory) }
 {
     let descriptors = descriptors_of(alloc, document.descriptors())?;
     match Template::build(alloc, &descriptors, table_b, table_d) {
@@ -197,9 +199,16 @@ fn write_whole(alloc: Global, document: &Document, payload: &[u8]) -> Result<Vec
 }
 
 /// The octets of a document's message, by the tables: its template first, then its items in the
-/// order of the template, then the length. It sets the steps to those that are made for it: at most
-/// as many as the template has places for each bit of the data, and for one bit more where an item
-/// is refused (WMO-No. 306, Volume I.2, FM 94: sections 0 to 5).
+/// order of the template, then the length (WMO-No. 306, Volume I.2, FM 94: sections 0 to 5).
+///
+/// It sets the steps to those that are made for it, up to the greatest `u64`: one for each turn of
+/// the template, subset after subset, or once for all subsets where the data are compressed. A turn
+/// is a descriptor taken (a replication, a factor, an element, an operator), the end of a pass of a
+/// group, or the end of the template. Where an item, or the walk at it, is refused, its turn is the
+/// last; an item too many is refused behind the end of the template. Without a subset, and where
+/// the descriptors make no template, there is no step. At want of memory perhaps not all of these
+/// are made. They are at most as many as the template has places for each bit of the data, and for
+/// one bit more where the document is refused.
 ///
 /// # Errors
 ///
@@ -208,7 +217,7 @@ fn write_whole(alloc: Global, document: &Document, payload: &[u8]) -> Result<Vec
 /// [`DocumentFault::MissingForbidden`], [`DocumentFault::TextLong`],
 /// [`DocumentFault::OutOfRange`], in compressed data for each subset in turn, then
 /// [`DocumentFault::UnequalFactor`] and [`DocumentFault::Increment`]; [`DocumentFault::TooLong`];
-/// and [`DocumentFault::Memory`] where memory runs out.
+/// and [`DocumentFault::Memory`], and no other, where memory runs out.
 pub fn encode_document(
     alloc: Global,
     document: &Document,
@@ -219,6 +228,10 @@ pub fn encode_document(
     ensures octets { IfOk result (λ octets. encoding_of table_b.now table_d.now document.now ≡ Ok octets.items) }
     // Want of memory is the only freedom.
     ensures fault { IfErr result (λ why. RefusesSo (told_refusal why) (encoding_of table_b.now table_d.now document.now)) }
+    // It has one name, `Memory`.
+    ensures memory { IfErr result (λ why. (line : ℕ) → why ≢ DocumentFault.Template line TemplateFault.Memory) }
+    ensures made { OnOk result (steps.new ≡ ticked 0 (turns_by table_b.now table_d.now document.now)) }
+    ensures made_refused { IfErr result (λ why. MakesSo (told_refusal why) 0 (turns_by table_b.now table_d.now document.now) steps.new) }
     ensures accepted { OnOk result (steps.new ≤ places_by table_b.now table_d.now document.now * bits_by table_b.now table_d.now document.now) }
     ensures refused { OnErr result (steps.new ≤ places_by table_b.now table_d.now document.now * (bits_by table_b.now table_d.now document.now + 1)) }
 {

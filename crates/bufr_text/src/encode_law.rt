@@ -6,11 +6,15 @@ ghost use Rattle.bufr_tables.specs.TableB.{AreRows, Row};
 ghost use Rattle.bufr_tables.specs.TableD.{Sequence};
 ghost use Rattle.bufr_tables.specs.Tree.{Tree};
 ghost use Rattle.bufr_walk.specs.Reading.{Values};
+ghost use Rattle.bufr_text.specs.declared.encode_fault.DocumentFault.{DocumentFault};
+ghost use Rattle.bufr_text.specs.declared.encode_fault.DocumentFault.TheVariants.{Memory};
 ghost use Rattle.bufr_text.specs.Canonical.{IsCanonical};
 ghost use Rattle.bufr_text.specs.Documents.{Spelled, documents_of};
 ghost use Rattle.bufr_text.specs.Dump.{document_of, dump_text_of};
 ghost use Rattle.bufr_text.specs.Encoded.{HasSameReading, IsAccepted, IsEncodedAgain, items_in};
+ghost use Rattle.bufr_text.specs.Encodes.{RefusesSo};
 ghost use Rattle.bufr_text.specs.Encoding.{encoding_of};
+ghost use Rattle.bufr_text.specs.EncodingFault.{told_refusal};
 ghost use Rattle.bufr_text.specs.Given.{IsDumpable};
 
 /// A message that is accepted can be dumped: its dump text spells its document.
@@ -50,6 +54,15 @@ pub fn dump_texts_are_encoded_again()
         → AreRows records table → IsAccepted table sequences m s template values used
         → (documents_of (dump_text_of s (items_in table template s values)) ≡ Spelled (document_of 1 s (items_in table template s values)) ∷ [])
         × IsEncodedAgain table sequences m s template values (document_of 1 s (items_in table template s values)) }
+{}
+
+/// The document of an accepted message's dump text is refused for want of memory alone: a fault
+/// that may be told of its encoding is [`DocumentFault::Memory`](crate::DocumentFault::Memory).
+pub fn dumped_messages_are_refused_for_want_of_memory_alone()
+    ensures { (records : List Record) (table : List Row) (sequences : List Sequence) (m : List ℕ) (s : Sections) (template : Tree) (values : Values) (used at : ℕ) (why : DocumentFault)
+        → AreRows records table → IsAccepted table sequences m s template values used
+        → RefusesSo (told_refusal why) (encoding_of table sequences (document_of at s (items_in table template s values)))
+        → why ≡ Memory }
 {}
 
 /// A canonical message is encoded from its dump text to the same octets.

@@ -24,11 +24,11 @@ const FIRST_LINES: &str = "\
     minute 4\nsecond 5\n";
 
 // What is wanted: the octets behind octet 22 of section 1 up to section 5, in hexadecimal, and the
-// steps; or the number of a fault and its line.
+// steps; or the number of a fault, its line, and the steps.
 #[derive(Clone, Copy)]
 enum Wanted {
     Octets(&'static str, u64),
-    Refused(u8, u64),
+    Refused(u8, u64, u64),
 }
 
 use Wanted::{Octets, Refused};
@@ -40,7 +40,7 @@ struct Row {
     wanted: Wanted,
 }
 
-static ROWS: [Row; 17] = [
+static ROWS: [Row; 18] = [
     Row {
         name: "delayed_twice",
         text: "observed 1\ncompressed 0\noptional 0\nsubsets 1\ndescriptors 101000 031001 001001\n\
@@ -79,66 +79,72 @@ static ROWS: [Row; 17] = [
         name: "another_descriptor",
         text: "observed 1\ncompressed 0\noptional 0\nsubsets 1\ndescriptors 001001\n\
             subset 1\n012101 5\nend\n",
-        wanted: Refused(51, 24),
+        wanted: Refused(51, 24, 1),
     },
     Row {
         name: "no_item_left",
         text: "observed 1\ncompressed 0\noptional 0\nsubsets 1\ndescriptors 001001\nsubset 1\nend\n",
-        wanted: Refused(51, 24),
+        wanted: Refused(51, 24, 1),
     },
     Row {
         name: "item_too_many",
         text: "observed 1\ncompressed 0\noptional 0\nsubsets 1\ndescriptors 001001\n\
             subset 1\n001001 10\n001001 11\nend\n",
-        wanted: Refused(51, 25),
+        wanted: Refused(51, 25, 2),
     },
     Row {
         name: "not_whole_at_its_scale",
         text: "observed 1\ncompressed 0\noptional 0\nsubsets 1\ndescriptors 012101\n\
             subset 1\n012101 288.155\nend\n",
-        wanted: Refused(52, 24),
+        wanted: Refused(52, 24, 1),
     },
     Row {
         name: "reads_as_missing",
         text: "observed 1\ncompressed 0\noptional 0\nsubsets 1\ndescriptors 012101\n\
             subset 1\n012101 655.35\nend\n",
-        wanted: Refused(53, 24),
+        wanted: Refused(53, 24, 1),
     },
     Row {
         name: "long_name",
         text: "observed 1\ncompressed 0\noptional 0\nsubsets 1\ndescriptors 001015\n\
             subset 1\n001015 \"ABCDEFGHIJKLMNOPQRSTU\"\nend\n",
-        wanted: Refused(54, 24),
+        wanted: Refused(54, 24, 1),
     },
     Row {
         name: "missing_factor",
         text: "observed 1\ncompressed 0\noptional 0\nsubsets 1\ndescriptors 101000 031001 001001\n\
             subset 1\n031001 MISSING\nend\n",
-        wanted: Refused(55, 24),
+        wanted: Refused(55, 24, 2),
     },
     Row {
         name: "no_template",
         text: "observed 1\ncompressed 0\noptional 0\nsubsets 1\ndescriptors 201000\nsubset 1\nend\n",
-        wanted: Refused(56, 1),
+        wanted: Refused(56, 1, 0),
     },
     Row {
         name: "unequal_factors",
         text: "observed 1\ncompressed 1\noptional 0\nsubsets 2\ndescriptors 101000 031001 001001\n\
             subset 1\n031001 1\n001001 10\nsubset 2\n031001 2\n001001 10\n001001 11\nend\n",
-        wanted: Refused(58, 27),
+        wanted: Refused(58, 27, 2),
     },
     Row {
         name: "uneven_texts",
         text: "observed 1\ncompressed 1\noptional 0\nsubsets 2\ndescriptors 205064\n\
             subset 1\n205064 \"AAAAAAAAAAAAAAAAAAAAAAAAAAAAAAAAAAAAAAAAAAAAAAAAAAAAAAAAAAAAAAAA\"\n\
             subset 2\n205064 \"AAAAAAAAAAAAAAAAAAAAAAAAAAAAAAAAAAAAAAAAAAAAAAAAAAAAAAAAAAAAAAAB\"\nend\n",
-        wanted: Refused(59, 24),
+        wanted: Refused(59, 24, 1),
+    },
+    Row {
+        name: "second_of_three_subsets",
+        text: "observed 1\ncompressed 0\noptional 0\nsubsets 3\ndescriptors 001001\n\
+            subset 1\n001001 10\nsubset 2\n001001 127\nsubset 3\n001001 10\nend\n",
+        wanted: Refused(53, 26, 3),
     },
     Row {
         name: "no_width_left",
         text: "observed 1\ncompressed 0\noptional 0\nsubsets 1\ndescriptors 201121 001001\n\
             subset 1\n001001 0\nend\n",
-        wanted: Refused(62, 24),
+        wanted: Refused(62, 24, 2),
     },
 ];
 
@@ -190,8 +196,9 @@ fn encodes_worked_documents(rt: HostRuntime) -> Result<(), Fail> {
                 assert!(rt; same, "{}", row.name);
                 assert_eq!(rt; steps, turns, "{}", row.name);
             }
-            (Err(fault), Refused(number, _)) => {
+            (Err(fault), Refused(number, _, turns)) => {
                 assert_eq!(rt; fault.number(), number, "{}", row.name);
+                assert_eq!(rt; steps, turns, "{}", row.name);
             }
             _ => assert!(rt; false, "{}", row.name),
         }
@@ -203,7 +210,7 @@ fn encodes_worked_documents(rt: HostRuntime) -> Result<(), Fail> {
 fn refuses_documents_at_their_lines(rt: HostRuntime) -> Result<(), Fail> {
     for row in &ROWS {
         let (result, _) = encoded(rt.alloc(), row)?;
-        if let (Err(fault), Refused(_, line)) = (result, row.wanted) {
+        if let (Err(fault), Refused(_, line, _)) = (result, row.wanted) {
             assert_eq!(rt; fault.line(), Some(line), "{}", row.name);
         }
     }

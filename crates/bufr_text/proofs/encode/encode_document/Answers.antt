@@ -2,7 +2,7 @@ use Rattle.std.proofs.Common.{◌≡◌}
 use Rattle.std.proofs.lemmas.Result.{err_from_is_err_and}
 use Rattle.bufr_tables.specs.Tree.{places}
 use Rattle.bufr_text.specs.EncodingFault.{told_refusal}
-use Rattle.bufr_text.proofs.EncodeWhole.{if_ok_so, if_err_so, whole, not_whole, no_data, no_template}
+use Rattle.bufr_text.proofs.EncodeWhole.{if_ok_so, if_err_so, whole, not_whole, no_data, no_template, made_some, made_none}
 use Rattle.bufr_text.proofs.encode.encode_document.Goals as goal
 
 pub returns-in_err-template-clause-fault : goal.returns-in_err-template-clause-fault
@@ -24,3 +24,13 @@ pub returns-clause-fault : goal.returns-clause-fault
 returns-clause-fault c =
     let same : c.deref.result.now ≡ c.in_ok-payload.payload.items = c.deref.ensures.value in
     if_err_so c.write_whole.result c.write_whole.ensures.fault (λ why m. not_whole c.args.table_b.now c.args.table_d.now c.args.document.now (places c.in_ok-template.template) c.in_ok-template.template c.deref.result.now c.write_data.new.steps (told_refusal why) c.in_ok-template.ensures.tree (rw (same) c.in_ok-payload.ensures) c.write_whole.ensures.payload m)
+
+pub returns-in_err-template-clause-made_refused : goal.returns-in_err-template-clause-made_refused
+returns-in_err-template-clause-made_refused c =
+    let p = err_from_is_err_and c.from_residual.result c.from_residual.ensures.1 in
+    rw (p.1, p.2) (made_none c.args.table_b.now c.args.table_d.now c.args.document.now (told_refusal c.in_err-template.field-0.0) c.new.result c.in_err-template.ensures.fault c.new.ensures)
+
+pub returns-in_err-payload-clause-made_refused : goal.returns-in_err-payload-clause-made_refused
+returns-in_err-payload-clause-made_refused c =
+    let p = err_from_is_err_and c.from_residual-in_err-payload.result c.from_residual-in_err-payload.ensures.1 in
+    rw (p.1, p.2) (made_some c.args.table_b.now c.args.table_d.now c.args.document.now c.in_ok-template.template (told_refusal c.in_err-payload.field-0.0) c.write_data.new.steps c.in_ok-template.ensures.tree c.in_err-payload.ensures.made)

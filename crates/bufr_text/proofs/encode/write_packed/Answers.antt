@@ -5,6 +5,7 @@ use Rattle.bufr_fill.specs.Entries.{subsets_of}
 use Rattle.bufr_fill.specs.Given.{entry_in}
 use Rattle.bufr_fill.specs.PackedOut.{PackedPen, StartsSo}
 use Rattle.bufr_text.proofs.EncodePacked.{none_packed, packed_written, packed_over, packed_stopped, some_before, some_ends}
+use Rattle.bufr_text.proofs.TurnsLemmas.{template_adds}
 use Rattle.bufr_text.proofs.encode.write_packed.Goals as goal
 
 pub returns-in-None : goal.returns-in-None
@@ -35,4 +36,4 @@ returns-in-Err c =
     let course = next_item c.args.table.now c.args.template.now in
     let at = subst (StartsSo ss) c.in-Some.is c.in_ok-out.ensures in
     let after = some_ends (map entry_in c.out-in-Err.inside.entries.now) c.out-in-Err.inside.ends.items (length c.walk.new.fields.subsets) c.out-in-Err.invariant.ends_are c.out-in-Err.invariant.some (ap (λ (p : PackedPen). length p.subsets) (sym c.out-in-Err.view_is)) in
-    packed_stopped (places c.args.template.now) course ss c.in-Some.out c.args.steps.now c.walk.new.fields c.walk.new.steps c.line.result c.in-Err.why c.of_stop.result at (some_before course ss c.in-Some.out c.args.steps.now (Err c.in-Err.why) c.walk.new.fields c.walk.new.steps c.in-Err.ensures.walked at after) c.requires.none c.in-Err.ensures.walked c.line.ensures c.of_stop.ensures c.in-Err.ensures.refused
+    packed_stopped (places c.args.template.now) course ss c.in-Some.out c.args.steps.now c.walk.new.fields c.walk.new.steps c.line.result c.in-Err.why c.of_stop.result (template_adds c.args.table.now c.args.template.now) at (some_before course ss c.in-Some.out c.args.steps.now (Err c.in-Err.why) c.walk.new.fields c.walk.new.steps c.in-Err.ensures.walked at after) c.requires.none c.in-Err.ensures.walked c.line.ensures c.of_stop.ensures c.in-Err.ensures.refused

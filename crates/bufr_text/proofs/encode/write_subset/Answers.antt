@@ -1,6 +1,7 @@
 use Rattle.bufr_tables.specs.Tree.{places}
 use Rattle.bufr_walk.specs.Course.{next_item}
 use Rattle.bufr_text.proofs.EncodePlain.{subset_written, subset_over, subset_stopped}
+use Rattle.bufr_text.proofs.TurnsLemmas.{template_adds}
 use Rattle.bufr_text.proofs.encode.write_subset.Goals as goal
 
 pub returns-in-Ok-end_subset : goal.returns-in-Ok-end_subset
@@ -13,4 +14,4 @@ returns-in-Err-end_subset c =
 
 pub returns-in-Err : goal.returns-in-Err
 returns-in-Err c =
-    subset_stopped (places c.args.template.now) (next_item c.args.table.now c.args.template.now) c.args.out.now c.args.steps.now c.walk.new.fields c.walk.new.steps c.line.result c.in-Err.why c.of_stop.result c.in-Err.ensures.walked c.line.ensures c.of_stop.ensures c.in-Err.ensures.refused
+    subset_stopped (places c.args.template.now) (next_item c.args.table.now c.args.template.now) c.args.out.now c.args.steps.now c.walk.new.fields c.walk.new.steps c.line.result c.in-Err.why c.of_stop.result (template_adds c.args.table.now c.args.template.now) c.in-Err.ensures.walked c.line.ensures c.of_stop.ensures c.in-Err.ensures.refused
