@@ -1,10 +1,9 @@
 -- The subsets of a document, written together.
-use Rattle.std.proofs.Common.{◌≡◌, ◌≤◌, ◌<◌, ◌+◌, ◌-◌, ◌*◌, ℕ, Bool, true, List, [], ◌∷◌, length, Option, Some, None, Result, Ok, Err, refl, sym, ◌∙◌, ap, subst, arith}
+use Rattle.std.proofs.Common.{◌≡◌, ◌≤◌, ◌+◌, ◌-◌, ◌*◌, ℕ, true, List, [], ◌∷◌, length, Option, Some, None, Result, Ok, Err, refl, sym, ◌∙◌, ap, subst, arith}
 use Rattle.std.specs.Option.{option_map}
 use Rattle.bufr_walk.specs.declared.spec.Refusal.TheVariants as refusal
 use Rattle.bufr_walk.specs.declared.walking.WalkStop.{WalkStop}
 use Rattle.bufr_walk.specs.declared.walking.WalkStop.TheVariants as stops
-use Rattle.bufr_walk.specs.Asked.{Asked}
 use Rattle.bufr_walk.specs.Course.{Course, Next, take_next, at_end, astray, refused}
 use Rattle.bufr_walk.specs.Stop.{stop_by}
 use Rattle.bufr_walk.specs.Taking.{Turn, Takes}

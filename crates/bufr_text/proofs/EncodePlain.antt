@@ -5,22 +5,18 @@ use Rattle.std.proofs.lemmas.List.{append-nil}
 use Rattle.bufr_walk.specs.declared.spec.Refusal.TheVariants as refusal
 use Rattle.bufr_walk.specs.declared.walking.WalkStop.{WalkStop}
 use Rattle.bufr_walk.specs.declared.walking.WalkStop.TheVariants as stops
-use Rattle.bufr_walk.specs.Asked.{Asked}
 use Rattle.bufr_walk.specs.Course.{Course, Next, take_next, at_end, astray, refused}
 use Rattle.bufr_walk.specs.Stop.{stop_by}
 use Rattle.bufr_walk.specs.Taking.{Turn, Takes, course_after}
 use Rattle.bufr_walk.specs.Walked.{oks, told_by, StopsAt, Walked}
 use Rattle.bufr_fill.specs.declared.fault.DraftFault.{DraftFault}
 use Rattle.bufr_fill.specs.Draft.{Draft}
-use Rattle.bufr_fill.specs.DraftContent.{plainly, plain_filler}
+use Rattle.bufr_fill.specs.DraftContent.{plain_filler}
 use Rattle.bufr_fill.specs.Encoding.{plain_data, ◌>>=◌}
 use Rattle.bufr_fill.specs.Entries.{Entry, Holds, Ends, Subset, subset, onto_first, subsets_of}
 use Rattle.bufr_fill.specs.Fault.{FaultAt, at_line, item_too_many, walk_refused}
-use Rattle.bufr_fill.specs.Filling.{written, fill, fill_one, fill_none, and_behind}
-use Rattle.bufr_fill.specs.Filled.{HasFilled}
+use Rattle.bufr_fill.specs.Filling.{fill, fill_one, fill_none, and_behind}
 use Rattle.bufr_fill.specs.PlainOut.{Pen, PlainFills, WhereTold, IsFaultOf, behind_end, line_at, items_left, end_left}
-use Rattle.bufr_walk.specs.declared.spec.Taken.{Taken}
-use Rattle.bufr_walk.specs.Content.{bits_for}
 use Rattle.bufr_fill.specs.Told.{told_fault}
 use Rattle.bufr_fill.proofs.PlainWalks.{fills, walk_of_items, fault_of_items, at_refused}
 use Rattle.bufr_fill.proofs.WalkFills.{after_told}

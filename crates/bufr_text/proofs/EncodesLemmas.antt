@@ -4,7 +4,6 @@ use Rattle.bufr_walk.specs.declared.spec.Taken.{Taken}
 use Rattle.bufr_walk.specs.Asked.{Asked}
 use Rattle.bufr_walk.specs.Course.{Course, Next, take_next, at_end, astray, refused}
 use Rattle.bufr_walk.specs.Taking.{Turn, Takes, course_after}
-use Rattle.bufr_walk.specs.Walked.{told_by}
 use Rattle.bufr_fill.specs.Fault.{FaultAt}
 use Rattle.bufr_fill.specs.Filling.{Written, Filler, fill, fill_one, fill_none, filled, and_behind}
 use Rattle.bufr_fill.specs.Filled.{HasFilled}
