@@ -1,5 +1,5 @@
 -- One item of all subsets, as the code writes it.
-use Rattle.std.proofs.Common.{◌≡◌, ℕ, zero, suc, ◌+◌, ◌*◌, ◌<◌, ◌≤◌, ◌&&◌, Bool, true, false, List, [], ◌∷◌, length, get_or, Option, Some, None, Ok, Err, refl, sym, ◌∙◌, ap, subst, arith}
+use Rattle.std.proofs.Common.{◌≡◌, ℕ, zero, suc, ◌+◌, ◌*◌, ◌<◌, ◌≤◌, ◌&&◌, Bool, true, false, List, [], ◌∷◌, ◌++◌, length, take, get_or, Option, Some, None, Ok, Err, refl, sym, ◌∙◌, ap, subst, arith}
 use Rattle.std.specs.Prelude.{nat_lt, if◌then◌else◌}
 use Rattle.std.proofs.lemmas.Bool.Decides.{nat_tests}
 use Rattle.bufr_walk.specs.declared.spec.Taken.{Taken}
@@ -16,9 +16,11 @@ use Rattle.bufr_fill.specs.Drawn.{content_drawn}
 use Rattle.bufr_fill.specs.Encoding.{across, cells_at, contents_here, first_line, unlike_line, packed_to, pack_across, ◌>>=◌}
 use Rattle.bufr_fill.specs.Gathered.{FaultSo, contents_drawn}
 use Rattle.bufr_fill.specs.Packing.{packing, packed_bits, packed_unlike, are_same}
-use Rattle.bufr_fill.specs.PackedOut.{PackedPen, IsPackedOut, IsPacked, PackedRefuses}
+use Rattle.bufr_fill.specs.PackedOut.{PackedPen, IsPackedOut, IsPacked, IsFaultAcross}
+use Rattle.bufr_fill.specs.PlainOut.{WhereTold}
 use Rattle.bufr_fill.specs.Packs.{PutFault, IsPutAcross}
 use Rattle.bufr_fill.proofs.LeastLemmas.{content_self}
+use Rattle.bufr_fill.proofs.GrowthSteps.{grows_not, still_there, take_whole}
 
 few_test : (a b : ℕ) → b ≤ a → nat_lt a b ≡ false
 few_test a b h = grind (arith, nat_tests)
@@ -40,7 +42,7 @@ module _ (spec : Asked) (place : ℕ) (subsets : List Subset) where
         (few_test most_values ((place + 1) * length (cells_at place subsets)) few)
 
     pub put_fault : (o : Option FaultAt) (old : List Bool) → FaultSo o (contents_here spec (cells_at place subsets)) → PutFault o old old spec (across place subsets)
-    put_fault None old h = tt
+    put_fault None old h = grows_not old old refl
     put_fault (Some f) old h = (across_is ∙ ap (λ r. r >>= λ cs. packed_to cs (cells_at place subsets) (packing spec cs)) h, refl)
 
     given : (cs : List Content) → contents_here spec (cells_at place subsets) ≡ Ok cs → pack_across spec (across place subsets) ≡ packed_to cs (cells_at place subsets) (packing spec cs)
@@ -75,31 +77,33 @@ packed_apart spec count (d ∷ ds) z h e =
     ap (λ b. if b then Ok (packed_bits (bits_for spec.width (content_drawn count d)) 0 []) else packed_unlike spec.role spec (contents_drawn count (d ∷ ds)))
     (ap (λ t. t && are_same (content_drawn count d) (contents_drawn count ds)) (sym (content_self (content_drawn count d))) ∙ e)
 
--- a call of the writer
+-- a call of the writer: of the bits that stand there so many are those of whole items
 abbrev pub pen_at : List Subset → ℕ → List Bool → ℕ → PackedPen
-pen_at subsets place bits used = record { subsets = subsets; place = place; bits = bits; used = used }
+pen_at subsets place bits used = record { subsets = subsets; place = place; bits = take used bits }
 
-pub refuse_step : (o : Option FaultAt) (subsets : List Subset) (place : ℕ) (old new : List Bool) (used : ℕ) (spec : Asked) (s : PackedPen) → pen_at subsets place old used ≡ s → PutFault o old new spec (across place subsets) → PackedRefuses o s spec (pen_at subsets place new used)
-refuse_step o subsets place old new used spec s view h = subst (λ z. PackedRefuses o z spec (pen_at subsets place new used)) view (by o h)
+pub refuse_step : (o : Option FaultAt) (subsets : List Subset) (place : ℕ) (old new : List Bool) (used : ℕ) (spec : Asked) (s : PackedPen) → pen_at subsets place old used ≡ s → used ≡ length old → PutFault o old new spec (across place subsets)
+    → WhereTold o (IsFaultAcross spec s) × (pen_at subsets place new used ≡ s)
+refuse_step o subsets place old new used spec s view whole h = subst (λ z. WhereTold o (IsFaultAcross spec z) × (pen_at subsets place new used ≡ z)) view (by o h)
   where
-    by : (o : Option FaultAt) → PutFault o old new spec (across place subsets) → PackedRefuses o (pen_at subsets place old used) spec (pen_at subsets place new used)
-    by None h = record { subsets = refl; place = refl; used = refl }
+    by : (o : Option FaultAt) → PutFault o old new spec (across place subsets) → WhereTold o (IsFaultAcross spec (pen_at subsets place old used)) × (pen_at subsets place new used ≡ pen_at subsets place old used)
+    by None h = (tt, ap (λ b. record { subsets = subsets; place = place; bits = b }) (still_there used old new (omega (arith, whole)) h))
     by (Some f) h = (h.0, ap (λ b. pen_at subsets place b used) h.1)
 
 pub take_step : (subsets : List Subset) (place : ℕ) (old new : List Bool) (used used' most : ℕ) (spec : Asked) (t : Taken) (s : PackedPen) → pen_at subsets place old used ≡ s → used ≡ length old → used' ≡ length new
     → IsPutAcross old new spec (across place subsets) most t → IsPacked s spec t (pen_at subsets (place + 1) new used')
-take_step subsets place old new used used' most spec t s view whole is h = subst (λ z. IsPacked z spec t (pen_at subsets (place + 1) new used')) view (record {
-  contents = h.contents;
-  item = h.item;
-  is = h.is;
-  tells = h.tells;
-  whole = whole;
-  bits = h.bits;
-  used = is;
-  place = refl;
-  subsets = refl;
-  forth = omega (arith, whole, is, h.some);
-})
+take_step subsets place old new used used' most spec t s view whole is h =
+    let before = take_whole used old whole in
+    let after = take_whole used' new is in
+    subst (λ z. IsPacked z spec t (pen_at subsets (place + 1) new used')) view (record {
+      contents = h.contents;
+      item = h.item;
+      is = h.is;
+      tells = h.tells;
+      bits = after ∙ h.bits ∙ ap (λ b. b ++ h.item) (sym before);
+      place = refl;
+      subsets = refl;
+      forth = omega (arith, ap length before, ap length after, h.some);
+    })
 
 -- numbers of values, and room for what is written
 next_values : (place n : ℕ) → (place + 1) * n ≡ place * n + n
@@ -112,8 +116,9 @@ some_place place (suc n) h = let e : place * suc n ≡ place * n + place = grind
 pub some_values : (place n : ℕ) → n ≤ (place + 1) * n
 some_values place n = omega (arith, next_values place n)
 
-pub next_out : (entries : List Entry) (ends : List ℕ) (place used used' item : ℕ) → IsPackedOut entries ends place used → (place + 1) * length ends ≤ most_values → used' ≡ used + item → item ≤ 2046 + 504 * length ends → IsPackedOut entries ends (place + 1) used'
-next_out entries ends place used used' item h few is most = record {
+pub next_out : (entries : List Entry) (ends : List ℕ) (place used stand used' item : ℕ) → IsPackedOut entries ends place used stand → (place + 1) * length ends ≤ most_values → used' ≡ used + item → item ≤ 2046 + 504 * length ends → IsPackedOut entries ends (place + 1) used' used'
+next_out entries ends place used stand used' item h few is most = record {
+  within = omega arith;
   few = h.few;
   ends_are = h.ends_are;
   some = h.some;

@@ -27,8 +27,10 @@ pub mod TextSteps
 pub mod CellSteps
 pub mod NumberSteps
 pub mod TextLeast
+pub mod GrowthSteps
 pub mod AcrossSteps
 pub mod PlainWalks
 pub mod TableRows
 pub mod Laws
 pub mod PackedWalks
+pub mod PackedFaults

@@ -32,7 +32,7 @@ none_written spec place cs item e = by (are_many place 0) e
     by true q = absurd cc
     by false q = sym (written_bits (written [] []) (written cs item) q)
 
-some_there : {X : Type 0} (xs : List X) (k : ℕ) (x : X) → slice_get xs k ≡ Some x → k < length xs
+pub some_there : {X : Type 0} (xs : List X) (k : ℕ) (x : X) → slice_get xs k ≡ Some x → k < length xs
 some_there [] k x e = absurd cc
 some_there (y ∷ xs) zero x e = omega arith
 some_there (y ∷ xs) (suc k) x e = omega (arith, some_there xs k x e)
@@ -51,21 +51,21 @@ first_there spec place s ss w e = by (slice_get s.items place) refl (are_many pl
         none : {f : FaultAt} → ◌≡◌ {A = Result (Written (List Content)) FaultAt} (Err f) (Ok w) → ⊥
         none e = cc
 
-within : (s s' : PackedPen) (spec : Asked) (t : Taken) → IsPacked s spec t s' → s.place < longest s.subsets
+pub within : (s s' : PackedPen) (spec : Asked) (t : Taken) → IsPacked s spec t s' → s.place < longest s.subsets
 within s s' spec t h = by s.subsets refl
   where
     by : (ss : List Subset) → s.subsets ≡ ss → s.place < longest s.subsets
     by [] e =
         let none : h.item ≡ [] = none_written spec s.place h.contents h.item (ap (λ ss. pack_across spec (across s.place ss)) (sym e) ∙ h.is) in
-        absurd (omega (arith, h.forth, h.used, h.whole, ap length (h.bits ∙ ap (λ b. s.bits ++ b) none ∙ append-nil s.bits)))
+        absurd (omega (arith, h.forth, ap length (h.bits ∙ ap (λ b. s.bits ++ b) none ∙ append-nil s.bits)))
     by (x ∷ ss) e =
         let there = first_there spec s.place x ss (written h.contents h.item) (ap (λ ss. pack_across spec (across s.place ss)) (sym e) ∙ h.is) in
         omega (arith, there, ap longest e)
 
-row_first : (n place : ℕ) (ss : List Subset) → place < n → rows (n - place) place ss ≡ across place ss ∷ rows (n - (place + 1)) (place + 1) ss
+pub row_first : (n place : ℕ) (ss : List Subset) → place < n → rows (n - place) place ss ≡ across place ss ∷ rows (n - (place + 1)) (place + 1) ss
 row_first n place ss h = let e : n - place ≡ suc (n - (place + 1)) = omega (arith, h) in ap (λ k. rows k place ss) e
 
-fills : (end : ℕ) (many : Bool) (s : PackedPen) (spec : Asked) (t : Taken) (s' : PackedPen) → oks PackedFills s spec t s' → HasFilled (packed_filler end many) (rows_left s) s.bits spec t (rows_left s') s'.bits
+pub fills : (end : ℕ) (many : Bool) (s : PackedPen) (spec : Asked) (t : Taken) (s' : PackedPen) → oks PackedFills s spec t s' → HasFilled (packed_filler end many) (rows_left s) s.bits spec t (rows_left s') s'.bits
 fills end many s spec t s' h = record {
   draft = across s.place s.subsets;
   item = written h.contents h.item;

@@ -7,6 +7,12 @@ use Rattle.bufr_walk.specs.Course.{Course, take_next}
 use Rattle.bufr_fill.specs.Filling.{Filler, fill, fill_one, fill_none, filled, and_behind}
 use Rattle.bufr_fill.specs.Filled.{HasFilled, IsUnfilled}
 use Rattle.bufr_walk.specs.Taking.{Turn, Takes, course_after}
+use Rattle.bufr_walk.specs.Walked.{told_by}
+
+-- what comes after the items of a walk
+pub after_told : (course : Course) (items : List Turn) → course_after course items [] ≡ course (told_by items)
+after_told course [] = refl
+after_told course (i ∷ items) = after_told (λ told. course (i.taken ∷ told)) items
 
 module _ {D C E S : Type 0} (filler : Filler D C E) (left : S → List D) (out : S → List Bool) (takes : S → Asked → Taken → S → Type 0)
     (fills : (s : S) (spec : Asked) (t : Taken) (s' : S) → takes s spec t s' → HasFilled filler (left s) (out s) spec t (left s') (out s')) where

@@ -5,25 +5,26 @@ use Rattle.bufr_walk.specs.declared.spec.Taken.{Taken}
 use Rattle.bufr_fill.specs.declared.fault.DraftFault.{DraftFault}
 use Rattle.bufr_walk.specs.Asked.{Asked}
 use Rattle.bufr_walk.specs.Content.{Content}
+use Rattle.bufr_walk.specs.Course.{Next, take_next, at_end, astray, refused}
 use Rattle.bufr_walk.specs.PackedField.{told_first}
 use Rattle.bufr_walk.specs.Reading.{most_values}
 use Rattle.bufr_fill.specs.Draft.{Draft}
 use Rattle.bufr_fill.specs.Entries.{Entry, Holds, Ends, Subset}
-use Rattle.bufr_fill.specs.Fault.{FaultAt, at_line, item_too_many}
+use Rattle.bufr_fill.specs.Fault.{FaultAt, at_line, item_too_many, walk_refused}
 use Rattle.bufr_fill.specs.Filling.{written}
 use Rattle.bufr_fill.specs.Encoding.{Cell, Across, rows, longest, across, cells_at, first_line, pack_across}
+use Rattle.bufr_fill.specs.PlainOut.{WhereTold}
 use Rattle.bufr_fill.specs.Told.{told_fault}
 
--- the subsets, how many items of each were taken, the bits that stand there, and how many of them are those of whole items
+-- the subsets, how many items of each were taken, and the bits that were written
 pub record PackedPen : Type 0 where
   pub subsets : List Subset
   pub place : ℕ
   pub bits : List Bool
-  pub used : ℕ
 
 -- nothing was written yet
 abbrev pub packed_start : List Subset → PackedPen
-packed_start subsets = record { subsets = subsets; place = 0; bits = []; used = 0 }
+packed_start subsets = record { subsets = subsets; place = 0; bits = [] }
 
 -- a writer for these subsets, where there are any
 abbrev pub StartsSo : List Subset → Option PackedPen → Type 0
@@ -36,8 +37,9 @@ ends_of from [] = []
 ends_of from (Holds d ∷ more) = ends_of (from + 1) more
 ends_of from (Ends line ∷ more) = from ∷ ends_of (from + 1) more
 
--- what the writer keeps: where the subsets end, and room for what is written
-pub record IsPackedOut (entries : List Entry) (ends : List ℕ) (place used : ℕ) : Type 0 where
+-- what the writer keeps: where the subsets end, and room for what is written; of the bits that stand there so many are those of whole items
+pub record IsPackedOut (entries : List Entry) (ends : List ℕ) (place used stand : ℕ) : Type 0 where
+  pub within : used ≤ stand
   pub few : length entries ≤ 2 ^ 45
   pub ends_are : ends ≡ ends_of 0 entries
   pub some : 1 ≤ length ends
@@ -50,28 +52,19 @@ pub record IsPacked (s : PackedPen) (spec : Asked) (t : Taken) (s' : PackedPen) 
   pub item : List Bool
   pub is : pack_across spec (across s.place s.subsets) ≡ Ok (written contents item)
   pub tells : t ≡ told_first spec contents
-  pub whole : s.used ≡ length s.bits
   pub bits : s'.bits ≡ s.bits ++ item
-  pub used : s'.used ≡ length s'.bits
   pub place : s'.place ≡ s.place + 1
   pub subsets : s'.subsets ≡ s.subsets
-  pub forth : s.used < s'.used
+  pub forth : length s.bits < length s'.bits
 
--- memory ran out, perhaps within an item: its first bits may stand there
-pub record IsCutShort (s s' : PackedPen) : Type 0 where
-  pub subsets : s'.subsets ≡ s.subsets
-  pub place : s'.place ≡ s.place
-  pub used : s'.used ≡ s.used
+-- the fault of the next item of all subsets
+abbrev pub IsFaultAcross : Asked → PackedPen → FaultAt → Type 0
+IsFaultAcross spec s f = pack_across spec (across s.place s.subsets) ≡ Err f
 
--- a fault of the text leaves all as it was
-abbrev pub PackedRefuses : Option FaultAt → PackedPen → Asked → PackedPen → Type 0
-PackedRefuses None s spec s' = IsCutShort s s'
-PackedRefuses (Some f) s spec s' = (pack_across spec (across s.place s.subsets) ≡ Err f) × (s' ≡ s)
-
--- One call: the next item of all subsets was packed, or it is at fault, or memory ran out. After want of memory each call tells it again.
+-- one call: the next item of all subsets was packed, or it is at fault, or memory ran out; then nothing is changed
 abbrev pub PackedFills : PackedPen → Asked → Result Taken DraftFault → PackedPen → Type 0
 PackedFills s spec (Ok t) s' = IsPacked s spec t s'
-PackedFills s spec (Err e) s' = PackedRefuses (told_fault e) s spec s'
+PackedFills s spec (Err e) s' = WhereTold (told_fault e) (IsFaultAcross spec s) × (s' ≡ s)
 
 -- whether all subsets end at a place, or the first item that is left over
 abbrev pub and_end : Option Draft → Result (Unit {0}) FaultAt → Result (Unit {0}) FaultAt
@@ -95,7 +88,9 @@ first_line_at place subsets = first_line (cells_at place subsets)
 abbrev pub rows_left : PackedPen → List Across
 rows_left s = rows (longest s.subsets - s.place) s.place s.subsets
 
--- a refusal leaves the whole items
-pub refuses_packed : (o : Option FaultAt) (s : PackedPen) (spec : Asked) (s' : PackedPen) → PackedRefuses o s spec s' → s'.used ≡ s.used
-refuses_packed None s spec s' h = h.used
-refuses_packed (Some f) s spec s' h = λ j. (h.1 j).used
+-- the fault where the writer stands, by what comes next: that of the item, that of the walk on the next item's line, or an item that is left over
+abbrev pub IsFaultHere : Next → PackedPen → FaultAt → Type 0
+IsFaultHere (take_next spec) s f = IsFaultAcross spec s f
+IsFaultHere (refused why) s f = f ≡ at_line (first_line_at s.place s.subsets) (walk_refused why)
+IsFaultHere at_end s f = all_end (cells_at s.place s.subsets) ≡ Err f
+IsFaultHere astray s f = ⊥

@@ -64,12 +64,16 @@ octet_in [] i = 32
 octet_in (o ∷ os) zero = o
 octet_in (o ∷ os) (suc i) = octet_in os i
 
--- an item was packed in at most so many bits, or it cannot be; want of memory may leave some of its bits
+-- what stood there stands, and more may stand behind it
+abbrev pub Grows : (old new : List Bool) → Type 0
+Grows old new = (more : List Bool) × (new ≡ old ++ more)
+
+-- an item was packed in at most so many bits, or it cannot be; want of memory may leave some of its bits behind the earlier ones
 abbrev pub PackedSo : (old new : List Bool) → (expected : Result (List Bool) FieldFault) → (most : ℕ) → Result (Unit {0}) Unpacked → Type 0
 PackedSo old new expected most (Ok _) = (bits : List Bool) × (expected ≡ Ok bits) × (new ≡ old ++ bits) × (length bits ≤ most) × (length old < length new)
 PackedSo old new expected most (Err unpacked.Unequal) = (expected ≡ Err unequal_factor) × (new ≡ old)
 PackedSo old new expected most (Err unpacked.Uneven) = (expected ≡ Err increment) × (new ≡ old)
-PackedSo old new expected most (Err unpacked.Memory) = Unit {0}
+PackedSo old new expected most (Err unpacked.Memory) = Grows old new
 
 -- an increment over a base that so many bits can write
 abbrev pub IsShort : (base k : ℕ) → Drawn → Type 0
@@ -82,7 +86,7 @@ AreShort base k (d ∷ ds) = IsShort base k d × AreShort base k ds
 
 -- the item of all subsets at a place was written, in at most so many bits, or it is at fault, or memory ran out
 abbrev pub PutFault : Option FaultAt → (old new : List Bool) → Asked → Across → Type 0
-PutFault None old new spec a = Unit {0}
+PutFault None old new spec a = Grows old new
 PutFault (Some f) old new spec a = (pack_across spec a ≡ Err f) × (new ≡ old)
 
 pub record IsPutAcross (old new : List Bool) (spec : Asked) (a : Across) (most : ℕ) (t : Taken) : Type 0 where

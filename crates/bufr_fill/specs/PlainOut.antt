@@ -5,9 +5,10 @@ use Rattle.bufr_walk.specs.declared.spec.Taken.{Taken}
 use Rattle.bufr_fill.specs.declared.fault.DraftFault.{DraftFault}
 use Rattle.bufr_walk.specs.Asked.{Asked}
 use Rattle.bufr_walk.specs.Content.{Content, told, bits_for}
+use Rattle.bufr_walk.specs.Course.{Next, take_next, at_end, astray, refused}
 use Rattle.bufr_fill.specs.Draft.{Draft}
 use Rattle.bufr_fill.specs.Entries.{Entry, Holds, Ends}
-use Rattle.bufr_fill.specs.Fault.{Fault, FaultAt, at_line, item_too_many}
+use Rattle.bufr_fill.specs.Fault.{Fault, FaultAt, at_line, item_too_many, walk_refused}
 use Rattle.bufr_fill.specs.DraftContent.{content_of, wrong_for}
 use Rattle.bufr_fill.specs.Told.{told_fault}
 
@@ -67,6 +68,13 @@ behind_end (Ends line ∷ more) = Ok more
 abbrev pub PassesEnd : Pen → Result (Unit {0}) DraftFault → Pen → Type 0
 PassesEnd s (Ok _) s' = (behind_end s.left ≡ Ok s'.left) × (s'.bits ≡ s.bits)
 PassesEnd s (Err e) s' = ((f : FaultAt) × (told_fault e ≡ Some f) × (behind_end s.left ≡ Err f)) × (s' ≡ s)
+
+-- the fault at the next entry, by what comes next: that of the item, that of the walk on the entry's line, or an item that is left over
+abbrev pub IsFaultNext : Next → List Entry → FaultAt → Type 0
+IsFaultNext (take_next spec) left f = IsFaultOf spec left f
+IsFaultNext (refused why) left f = f ≡ at_line (line_at left) (walk_refused why)
+IsFaultNext at_end left f = (1 ≤ length left) × (behind_end left ≡ Err f)
+IsFaultNext astray left f = ⊥
 
 -- the items of the next subset, and the line that ends it; behind the last there is none
 abbrev pub items_left : List Entry → List Draft

@@ -1,23 +1,22 @@
 //! Laws on writing: a walk writes what the definition makes of the items, and the items of a dump are written to bits from
 //! which the same is read, and no more bits than were read.
-ghost use Rattle.std.specs.Prelude.{◌≡◌, ◌++◌, ℕ, List, [], Bool, length, Ok, Err};
+ghost use Rattle.std.specs.Prelude.{◌≡◌, ◌≤◌, ◌++◌, ℕ, List, [], Bool, length, Ok, Err};
 ghost use Rattle.bufr_tables.specs.Records.{Record};
 ghost use Rattle.bufr_tables.specs.TableB.{Row, AreRows};
 ghost use Rattle.bufr_tables.specs.Tree.{Tree};
 ghost use Rattle.bufr_tables.specs.Legal.{IsLegal};
-ghost use Rattle.bufr_walk.specs.Asked.{Asked};
 ghost use Rattle.bufr_walk.specs.Content.{Content};
-ghost use Rattle.bufr_walk.specs.Course.{Course, next_item, take_next};
+ghost use Rattle.bufr_walk.specs.Course.{Course, next_item, at_end};
 ghost use Rattle.bufr_walk.specs.Reading.{Item, ReadsSubsets, IsPackedReading};
 ghost use Rattle.bufr_walk.specs.Taking.{Turn, Takes, course_after};
-ghost use Rattle.bufr_walk.specs.Walked.{oks};
+ghost use Rattle.bufr_walk.specs.Walked.{oks, told_by};
 ghost use Rattle.bufr_fill.specs.DraftContent.{plain_filler};
 ghost use Rattle.bufr_fill.specs.Entries.{Entry, Subset};
 ghost use Rattle.bufr_fill.specs.Fault.{FaultAt};
 ghost use Rattle.bufr_fill.specs.Filling.{fill, and_behind};
-ghost use Rattle.bufr_fill.specs.Encoding.{packed_filler};
-ghost use Rattle.bufr_fill.specs.PackedOut.{PackedPen, PackedFills, rows_left};
-ghost use Rattle.bufr_fill.specs.PlainOut.{Pen, PlainFills, IsFaultOf, items_left, end_left};
+ghost use Rattle.bufr_fill.specs.Encoding.{cells_at, packed_filler, packed_data};
+ghost use Rattle.bufr_fill.specs.PackedOut.{PackedPen, packed_start, PackedFills, all_end, rows_left, IsFaultHere};
+ghost use Rattle.bufr_fill.specs.PlainOut.{Pen, PlainFills, IsFaultNext, items_left, end_left};
 ghost use Rattle.bufr_fill.specs.WrittenAgain.{AreDumped, AreDumpedFrom, IsWrittenAgain, IsPackedAgain};
 
 /// What was read of data that are not compressed is written again, from the items of its dump, to bits that have the same
@@ -38,14 +37,28 @@ pub fn plain_walk_writes_as_defined()
     ensures { (end : ℕ) (course : Course) (s : Pen) (items : List Turn) (s' : Pen) → Takes (oks PlainFills) course s items s' → (bits : List Bool) × (s'.bits ≡ s.bits ++ bits) × (fill (plain_filler end) course (items_left s.left) ≡ and_behind (plain_filler end) bits (fill (plain_filler end) (course_after course items) (items_left s'.left))) }
 {}
 
-/// The fault that an item is refused for is the definition's.
-#[tactic(auto, using(crate::proofs::PlainWalks::fault_of_items))]
+/// The fault where a walk over the items of one subset stops is the definition's: that of an item, that of a width or a turn on
+/// the next entry's line, or an item that is left over.
+#[tactic(auto, using(crate::proofs::PlainWalks::fault_as_defined))]
 pub fn plain_fault_is_as_defined()
-    ensures { (course : Course) (left : List Entry) (spec : Asked) (f : FaultAt) → (course []).next ≡ take_next spec → IsFaultOf spec left f → fill (plain_filler (end_left left)) course (items_left left) ≡ Err f }
+    ensures { (course : Course) (left : List Entry) (f : FaultAt) → IsFaultNext (course []).next left f → fill (plain_filler (end_left left)) course (items_left left) ≡ Err f }
 {}
 
 /// A walk over the items of all subsets writes what the definition makes of them, up to those that are left.
 #[tactic(auto, using(crate::proofs::PackedWalks::walk_of_rows))]
 pub fn packed_walk_writes_as_defined()
     ensures { (end : ℕ) (many : Bool) (course : Course) (s : PackedPen) (items : List Turn) (s' : PackedPen) → Takes (oks PackedFills) course s items s' → (bits : List Bool) × (s'.bits ≡ s.bits ++ bits) × (fill (packed_filler end many) course (rows_left s) ≡ and_behind (packed_filler end many) bits (fill (packed_filler end many) (course_after course items) (rows_left s'))) }
+{}
+
+/// Where such a walk stops, the fault there is that of the data of all subsets: that of an item, that of a width or a turn on
+/// the line of the first subset's next entry, or the first item that is left over.
+#[tactic(auto, using(crate::proofs::PackedFaults::fault_as_defined))]
+pub fn packed_fault_is_as_defined()
+    ensures { (course : Course) (subsets : List Subset) (items : List Turn) (s : PackedPen) (f : FaultAt) → 1 ≤ length subsets → Takes (oks PackedFills) course (packed_start subsets) items s → IsFaultHere (course (told_by items)).next s f → packed_data course subsets ≡ Err f }
+{}
+
+/// Where such a walk ends and no item is left over, the bits that were written are the data of all subsets.
+#[tactic(auto, using(crate::proofs::PackedFaults::written_as_defined))]
+pub fn packed_data_are_written_as_defined()
+    ensures { (course : Course) (subsets : List Subset) (items : List Turn) (s : PackedPen) → 1 ≤ length subsets → Takes (oks PackedFills) course (packed_start subsets) items s → (course (told_by items)).next ≡ at_end → all_end (cells_at s.place s.subsets) ≡ Ok tt → packed_data course subsets ≡ Ok s.bits }
 {}

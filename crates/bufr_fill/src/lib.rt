@@ -17,4 +17,6 @@ pub use packed_out::PackedOut;
 pub use plain_out::PlainOut;
 
 #[cfg(test)]
+mod packed_tests;
+#[cfg(test)]
 mod tests;

@@ -1,5 +1,6 @@
 //! Items of a dump text written as compressed data.
-ghost use Rattle.std.specs.Prelude.{◌≡◌, ◌≤◌, ◌<◌, ◌+◌, ◌*◌, ◌/◌, ◌^◌, IfOk, Ok, length, map};
+ghost use Rattle.std.specs.Prelude.{◌≡◌, ◌≤◌, ◌<◌, ◌+◌, ◌*◌, ◌/◌, ◌^◌, ◌++◌, IfOk, Ok, length, map, take, vec_len};
+ghost use Rattle.bufr_bits.specs.Bits.{bits_of, padding};
 ghost use Rattle.bufr_walk.specs.Asked.{IsFor};
 ghost use Rattle.bufr_walk.specs.Reading.{most_values};
 ghost use Rattle.bufr_fill.specs.Encoding.{across, cells_at, contents_here};
@@ -26,8 +27,9 @@ const MOST_VALUES: u64 = 134_217_728;
 /// Items of a dump text, each written once for all subsets as a base, six bits `k`, and an increment for each subset
 /// where `k` is above 0 (WMO-No. 306, Volume I.2, FM 94: section 4, compression). One walk takes the items of all subsets.
 ///
-/// A contract sees it as the subsets, how many items of each were taken, the bits that were written, and how many of these
-/// are those of whole items.
+/// A contract sees it as the subsets, how many items of each were taken, and the bits of these items. A refusal changes none
+/// of them. Where memory ran out within an item, its first bits are kept aside and never given, and each further item is
+/// refused for want of memory too.
 #[derive(Drop)]
 pub struct PackedOut<'s, 'a> {
     entries: &'s [Entry<'a>],
@@ -39,16 +41,16 @@ pub struct PackedOut<'s, 'a> {
 }
 
 impl<'s, 'a> Model for PackedOut<'s, 'a> {
-    ghost use Rattle.std.specs.Prelude.{map};
+    ghost use Rattle.std.specs.Prelude.{length, map, take};
     ghost use Rattle.bufr_fill.specs.Entries.{subsets_of};
     ghost use Rattle.bufr_fill.specs.Given.{entry_in};
     ghost use Rattle.bufr_fill.specs.PackedOut.{PackedPen, IsPackedOut};
 
     ghost Value = { PackedPen };
 
-    ghost view = { λ s. record { subsets = subsets_of (map entry_in s.entries.now); place = s.place; bits = s.out; used = s.used } };
+    ghost view = { λ s. record { subsets = subsets_of (map entry_in s.entries.now); place = s.place; bits = take s.used s.out } };
 
-    ghost invariant = { λ s. IsPackedOut (map entry_in s.entries.now) s.ends.items s.place s.used };
+    ghost invariant = { λ s. IsPackedOut (map entry_in s.entries.now) s.ends.items s.place s.used (length s.out) };
 }
 
 /// The places of the entries that end subsets.
@@ -126,6 +128,24 @@ fn pack_next<'a>(
     }
 }
 
+/// The first bits of octets, with zero bits to the next octet.
+fn first_octets(mut octets: Vec<u8>, count: u64) -> Vec<u8>
+    requires { count ≤ 8 * vec_len octets }
+    ensures bits { bits_of result.items ≡ take count (bits_of octets.items) ++ padding count }
+    ensures len { vec_len result ≡ (count + 7) / 8 }
+{
+    let whole = (count / 8) as usize;
+    let left = (count % 8) as u32;
+    if left == 0 {
+        octets.truncate(whole);
+    } else {
+        let last = octets[whole] >> (8 - left) << (8 - left);
+        octets.truncate(whole + 1);
+        octets[whole] = last;
+    }
+    octets
+}
+
 impl<'s, 'a> PackedOut<'s, 'a> {
     ghost use Rattle.std.specs.Prelude.{◌≡◌, ◌≤◌, ◌<◌, ◌+◌, ◌/◌, ◌^◌, ◌++◌, length, map, vec_len, IfOk};
     ghost use Rattle.bufr_bits.specs.Bits.{bits_of, padding};
@@ -178,7 +198,7 @@ impl<'s, 'a> PackedOut<'s, 'a> {
         all_end(self.entries, &self.ends, self.place)
     }
 
-    /// The octets of the bits that were written, with zero bits to the next octet. It takes no memory.
+    /// The octets of the bits of whole items, with zero bits to the next octet. It takes no memory.
     pub fn into_octets(self) -> Vec<u8>
         ensures bits { bits_of result.items ≡ self.entry.bits ++ padding (length self.entry.bits) }
         ensures len { vec_len result ≡ (length self.entry.bits + 7) / 8 }
@@ -189,27 +209,29 @@ impl<'s, 'a> PackedOut<'s, 'a> {
             place: _,
             drawn: _,
             out,
-            used: _,
+            used,
         } = self;
-        out.into_octets()
+        first_octets(out.into_octets(), used)
     }
 }
 
 impl<'s, 'a> Fields for PackedOut<'s, 'a> {
     type Fault = DraftFault;
 
-    ghost use Rattle.bufr_fill.specs.PackedOut.{PackedFills, refuses_packed};
-    ghost use Rattle.bufr_fill.specs.Told.{told_fault};
+    ghost use Rattle.std.specs.Prelude.{length};
+    ghost use Rattle.std.proofs.Common.{ap};
+    ghost use Rattle.bufr_fill.specs.PackedOut.{PackedFills};
 
-    ghost used = { λ s. s.used };
+    ghost used = { λ s. length s.bits };
 
     ghost takes = { PackedFills };
 
     ghost advances = { λ s spec t next h. h.forth };
 
-    ghost refuses = { λ s spec e next h. refuses_packed (told_fault e) s spec next h };
+    ghost refuses = { λ s spec e next h. ap (λ c. length c.bits) h.1 };
 
     fn take(&mut self, spec: &Spec) -> Result<Taken, DraftFault> {
+        // The first bits of an item in which memory ran out stand behind those of whole items.
         if self.out.len_bits() != self.used {
             return Err(DraftFault::Memory);
         }

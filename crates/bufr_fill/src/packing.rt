@@ -7,7 +7,7 @@ ghost use Rattle.bufr_walk.specs.Asked.{is_reference};
 ghost use Rattle.bufr_fill.specs.Drawn.{content_drawn, spaced, IsDrawn};
 ghost use Rattle.bufr_fill.specs.Gathered.{AllDrawn, contents_drawn};
 ghost use Rattle.bufr_fill.specs.Packing.{top, same, same_octets, are_same, lowest, first_from, least_k, has_bits, has_octets, increment_bits, octet_bits, packed_bits, numbers_over, packed_numbers, packed_texts, packed_by, packed_unlike, packing};
-ghost use Rattle.bufr_fill.specs.Packs.{over_of, spread, lesser, number_in, trimmed, need, need_of, most_need, octet_in, PackedSo, IsShort, AreShort, least_from};
+ghost use Rattle.bufr_fill.specs.Packs.{over_of, spread, lesser, number_in, trimmed, need, need_of, most_need, octet_in, Grows, PackedSo, IsShort, AreShort, least_from};
 ghost use Rattle.bufr_walk.specs.Content.{bits_for};
 
 use crate::draw::{Drawn, are_full, top_of};
@@ -184,6 +184,7 @@ fn push_increments(
     ensures bits { (count : ℕ) → OnOk result (out.new ≡ out.old ++ flat_map (increment_bits base k) (contents_drawn count drawn.now)) }
     ensures most { OnOk result (length out.new ≤ length out.old + 63 * length drawn.now) }
     ensures least { OnOk result (length out.old ≤ length out.new) }
+    ensures grown { Grows out.old out.new }
 {
     for d in drawn {
         out.push(increment_of(*d, base, k), k)?;
@@ -276,6 +277,7 @@ fn push_front(
     requires room { length out.old + 2040 ≤ 2 ^ 63 }
     ensures bits { OnOk result (out.new ≡ out.old ++ octet_bits k (content_drawn (spec.now.width / 8) drawn.entry)) }
     ensures len { OnOk result (length out.new ≡ length out.old + 8 * k) }
+    ensures grown { Grows out.old out.new }
 {
     let _width = spec.width();
     match drawn {
@@ -300,6 +302,7 @@ fn push_fronts(
     ensures bits { OnOk result (out.new ≡ out.old ++ flat_map (octet_bits k) (contents_drawn (spec.now.width / 8) drawn.now)) }
     ensures most { OnOk result (length out.new ≤ length out.old + 504 * length drawn.now) }
     ensures least { OnOk result (length out.old ≤ length out.new) }
+    ensures grown { Grows out.old out.new }
 {
     for d in drawn {
         push_front(out, *d, k, spec)?;
@@ -314,6 +317,7 @@ fn push_zeros(out: &mut BitWriter, spec: &Spec) -> Result<(), AllocError>
     requires room { length out.old + 2040 ≤ 2 ^ 63 }
     ensures bits { OnOk result (out.new ≡ out.old ++ replicate spec.now.width false) }
     ensures len { OnOk result (length out.new ≡ length out.old + spec.now.width) }
+    ensures grown { Grows out.old out.new }
 {
     let zeros = [0u8; 255];
     out.push_octets(&zeros[..(spec.width() / 8) as usize])
@@ -345,6 +349,7 @@ fn pack_alike(out: &mut BitWriter, first: Drawn<'_>, spec: &Spec) -> Result<(), 
     ensures bits { OnOk result (out.new ≡ out.old ++ (bits_for spec.now.width (content_drawn (spec.now.width / 8) first.entry) ++ (bits_in 0 6 ++ []))) }
     ensures some { OnOk result (length out.old < length out.new) }
     ensures most { OnOk result (length out.new ≤ length out.old + 2046) }
+    ensures grown { Grows out.old out.new }
 {
     push_drawn(out, first, spec)?;
     out.push(0, 6)?;

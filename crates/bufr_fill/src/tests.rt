@@ -1,4 +1,4 @@
-// What is shown by running: worked items of both forms of data, and each fault.
+// What is shown by running: worked items of data that are not compressed, and each fault.
 use super::*;
 use bufr_tables::{Fxy, TableB, TableD, Template};
 use bufr_walk::{Fields, Steps, WalkStop, walk};
@@ -6,7 +6,7 @@ use std::alloc::{AllocError, Global};
 use std::test::Fail;
 
 // Test data, not WMO's.
-const TABLE_B: &[u8] = b"\
+pub(crate) const TABLE_B: &[u8] = b"\
     fxy,name,unit,scale,reference,width\n\
     001001,WMO BLOCK NUMBER,Numeric,0,0,7\n\
     001015,STATION OR SITE NAME,CCITT IA5,0,0,160\n\
@@ -17,11 +17,11 @@ const TABLE_B: &[u8] = b"\
     031001,DELAYED DESCRIPTOR REPLICATION FACTOR,Numeric,0,0,8\n\
     031021,ASSOCIATED FIELD SIGNIFICANCE,Code table,0,0,6\n";
 
-const TABLE_D: &[u8] = b"fxy,member\n360192,001001\n360192,012101\n";
+pub(crate) const TABLE_D: &[u8] = b"fxy,member\n360192,001001\n360192,012101\n";
 
 // A name for what is shown, the descriptors, the items, and what comes of them: the octets of the data, or the number of
-// a fault and its line. An item is a descriptor and a form: a number, a text behind ', MISSING, or a reference behind R;
-// a / ends a subset. Each stands on a line of its own, from line 24 on.
+// a fault and its line. An item is a descriptor and a form: a number, a text behind ', a named text behind #, MISSING, or
+// a reference behind R; a / ends a subset. Each stands on a line of its own, from line 24 on.
 const APART: &[(&str, &str, &str, &str)] = &[
     ("one_block_number", "001001", "001001 10 /", "14"),
     ("one_temperature", "012101", "012101 288.15 /", "708F"),
@@ -52,6 +52,24 @@ const APART: &[(&str, &str, &str, &str)] = &[
         "001015 'AB /",
         "414220",
     ),
+    (
+        "text_of_ones",
+        "208003 001015",
+        "001015 #ones /",
+        "53 at 24",
+    ),
+    (
+        "text_that_begins_with_ones",
+        "208003 001015",
+        "001015 #two_ones_and_a /",
+        "FFFF41",
+    ),
+    (
+        "ones_and_a_space",
+        "208003 001015",
+        "001015 #two_ones /",
+        "FFFF20",
+    ),
     ("figure_of_ones", "031021", "031021 63 /", "FC"),
     ("two_subsets", "001001", "001001 10 / 001001 11 /", "142C"),
     ("another_descriptor", "001001", "012101 5 /", "51 at 24"),
@@ -72,85 +90,32 @@ const APART: &[(&str, &str, &str, &str)] = &[
         "55 at 24",
     ),
     ("width_of_none", "201121 001001", "001001 0 /", "31 at 24"),
-];
-
-// The same of compressed data.
-const TOGETHER: &[(&str, &str, &str, &str)] = &[
     (
-        "compressed_missing",
-        "012101",
-        "012101 288.15 / 012101 MISSING /",
-        "708F05",
+        "text_while_defining",
+        "203010 001015",
+        "001015 'A /",
+        "32 at 24",
     ),
-    (
-        "compressed_alike",
-        "012101",
-        "012101 288.15 / 012101 288.15 /",
-        "708F00",
-    ),
-    (
-        "compressed_apart",
-        "012101",
-        "012101 288.15 / 012101 288.16 /",
-        "708F0840",
-    ),
-    (
-        "compressed_all_missing",
-        "012101",
-        "012101 MISSING / 012101 MISSING /",
-        "FFFF00",
-    ),
-    (
-        "compressed_name",
-        "001015",
-        "001015 'ABC / 001015 MISSING /",
-        "00000000000000000000000000000000000000000D05090FFFFFFC",
-    ),
-    (
-        "compressed_figures",
-        "031021",
-        "031021 5 / 031021 6 /",
-        "1414",
-    ),
-    (
-        "compressed_references",
-        "203010 012101 203255 012101",
-        "012101 R-400 012101 284.15 / 012101 R-400 012101 284.15 /",
-        "E400708F00",
-    ),
-    (
-        "factors_differ",
-        "101000 031001 001001",
-        "031001 1 001001 1 / 031001 2 001001 1 001001 1 /",
-        "58 at 27",
-    ),
-    (
-        "references_differ",
-        "203010 012101 203255 012101",
-        "012101 R-400 012101 284.15 / 012101 R400 012101 284.15 /",
-        "59 at 24",
-    ),
-    ("second_left_out", "001001", "001001 1 / /", "51 at 26"),
-    (
-        "second_has_one_more",
-        "001001",
-        "001001 1 / 001001 1 001001 2 /",
-        "51 at 27",
-    ),
-    (
-        "second_inexact",
-        "001001",
-        "001001 1 / 001001 1.5 /",
-        "52 at 26",
-    ),
-    ("no_subset", "001001", "", ""),
 ];
 
 // The descriptor of six digits; what is none is 000000.
-fn descriptor_of(digits: &str) -> Fxy {
+pub(crate) fn descriptor_of(digits: &str) -> Fxy {
     let number = digits.parse::<u32>().unwrap_or(0);
     let word = number / 100_000 * 16384 + number / 1000 % 100 * 256 + number % 1000;
     Fxy::from_word(u16::try_from(word).unwrap_or(0))
+}
+
+// A text that no word spells, or a long one.
+fn named_text(name: &[u8]) -> &'static [u8] {
+    match name {
+        b"ones" => b"\xFF\xFF\xFF",
+        b"two_ones" => b"\xFF\xFF",
+        b"two_ones_and_a" => b"\xFF\xFFA",
+        b"a_62" => &[b'A'; 62],
+        b"a_63" => &[b'A'; 63],
+        b"a_64" => &[b'A'; 64],
+        _ => b"",
+    }
 }
 
 // The form that a word spells.
@@ -158,6 +123,7 @@ fn form_of(word: &str) -> Form<'_> {
     let octets = word.as_bytes();
     match octets {
         b"MISSING" => Form::Missing,
+        [b'#', name @ ..] => Form::Text(named_text(name)),
         [b'\'', text @ ..] => Form::Text(text),
         [b'R', digits @ ..] => Form::Reference(digits),
         _ => Form::Number(octets),
@@ -192,7 +158,7 @@ fn put_entries<'a>(words: &[&'a str], entries: &mut Vec<Entry<'a>>) -> Result<()
 }
 
 // The entries that words spell.
-fn entries_of(alloc: Global, text: &str) -> Result<Vec<Entry<'_>>, AllocError> {
+pub(crate) fn entries_of(alloc: Global, text: &str) -> Result<Vec<Entry<'_>>, AllocError> {
     let words: Vec<&str> = text.split_whitespace().collect(alloc)?;
     let mut entries = Vec::new(alloc);
     put_entries(words.as_slice(), &mut entries)?;
@@ -200,7 +166,7 @@ fn entries_of(alloc: Global, text: &str) -> Result<Vec<Entry<'_>>, AllocError> {
 }
 
 // Octets in hexadecimal digits.
-fn hexadecimal(alloc: Global, octets: &[u8]) -> Result<String, Fail> {
+pub(crate) fn hexadecimal(alloc: Global, octets: &[u8]) -> Result<String, Fail> {
     let mut text = String::new(alloc);
     for octet in octets {
         text.push_str(format!(in alloc; "{octet:02X}")?.as_str())?;
@@ -224,12 +190,12 @@ fn line_of(fault: DraftFault) -> u64 {
 }
 
 // A fault's number and its line.
-fn told(alloc: Global, fault: DraftFault) -> Result<String, Fail> {
+pub(crate) fn told(alloc: Global, fault: DraftFault) -> Result<String, Fail> {
     Ok(format!(in alloc; "{} at {}", fault.number(), line_of(fault))?)
 }
 
 // Why a walk stopped, where the next line is this one.
-fn stopped(alloc: Global, why: WalkStop<DraftFault>, line: u64) -> Result<String, Fail> {
+pub(crate) fn stopped(alloc: Global, why: WalkStop<DraftFault>, line: u64) -> Result<String, Fail> {
     match why {
         WalkStop::Width(_) => Ok(format!(in alloc; "31 at {line}")?),
         WalkStop::Defining(_) => Ok(format!(in alloc; "32 at {line}")?),
@@ -274,31 +240,6 @@ fn apart(
     hexadecimal(alloc, &out.into_octets())
 }
 
-// What comes of items that are written for all subsets together.
-fn together(
-    alloc: Global,
-    entries: &[Entry<'_>],
-    template: &Template,
-    table: &TableB,
-) -> Result<String, Fail> {
-    if entries.len() > 100 {
-        return Err(Fail::from("too many"));
-    }
-    let Some(mut out) = PackedOut::new(alloc, entries)? else {
-        return Ok(String::new(alloc));
-    };
-    let mut steps = Steps::new();
-    match walk(alloc, template, table, &mut out, &mut steps) {
-        Ok(()) => {}
-        Err(why) => return stopped(alloc, why, out.line()),
-    }
-    match out.end() {
-        Ok(()) => {}
-        Err(fault) => return told(alloc, fault),
-    }
-    hexadecimal(alloc, &out.into_octets())
-}
-
 #[test]
 fn items_apart(rt: HostRuntime) -> Result<(), Fail> {
     let table_b = TableB::read(rt.alloc(), TABLE_B)?;
@@ -311,23 +252,6 @@ fn items_apart(rt: HostRuntime) -> Result<(), Fail> {
         let template = Template::build(rt.alloc(), &descriptors, &table_b, &table_d)?;
         let entries = entries_of(rt.alloc(), items)?;
         let got = apart(rt.alloc(), &entries, &template, &table_b)?;
-        assert_eq!(rt; got.as_str(), *want, "{name}");
-    }
-    Ok(())
-}
-
-#[test]
-fn items_together(rt: HostRuntime) -> Result<(), Fail> {
-    let table_b = TableB::read(rt.alloc(), TABLE_B)?;
-    let table_d = TableD::read(rt.alloc(), TABLE_D)?;
-    for (name, descriptors_text, items, want) in TOGETHER {
-        let mut descriptors = Vec::new(rt.alloc());
-        for digits in descriptors_text.split_whitespace() {
-            descriptors.push(descriptor_of(digits))?;
-        }
-        let template = Template::build(rt.alloc(), &descriptors, &table_b, &table_d)?;
-        let entries = entries_of(rt.alloc(), items)?;
-        let got = together(rt.alloc(), &entries, &template, &table_b)?;
         assert_eq!(rt; got.as_str(), *want, "{name}");
     }
     Ok(())

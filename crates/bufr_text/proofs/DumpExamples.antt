@@ -21,19 +21,19 @@ use Rattle.bufr_text.specs.Line.{keys}
 use Rattle.bufr_text.specs.Dump.{header_lines, local1_line, descriptors_line, subset_lines, dump_text_of, item_text, text_of}
 use Rattle.bufr_text.specs.Dumped.{item_of, items_of}
 
-unfoldable element : (fxy : ℕ) → (name unit : List ℕ) → Kind → (width : ℕ) → Row
-element fxy name unit k width = record { fxy = fxy; name = name; unit = unit; kind = k; scale = pos 0; reference = pos 0; width = width }
+unfoldable listed : (fxy : ℕ) → (name unit : List ℕ) → Kind → (width : ℕ) → Row
+listed fxy name unit k width = record { fxy = fxy; name = name; unit = unit; kind = k; scale = pos 0; reference = pos 0; width = width }
 
 -- block, name, latitude, temperature, figure and factor; scale, reference and width are those of what was asked
 unfoldable table : List Row
-unfolding element
+unfolding listed
 table =
-    element 257 (codes "WMO BLOCK NUMBER") (codes "Numeric") kind.Numeric 7
-    ∷ element 271 (codes "STATION OR SITE NAME") (codes "CCITT IA5") kind.Character 160
-    ∷ element 1282 (codes "LATITUDE (COARSE ACCURACY)") (codes "degree") kind.Numeric 15
-    ∷ element 3173 (codes "AIR TEMPERATURE") (codes "K") kind.Numeric 16
-    ∷ element 5123 (codes "PRESENT WEATHER") (codes "Code table") kind.Coded 9
-    ∷ element 7937 (codes "DELAYED DESCRIPTOR REPLICATION FACTOR") (codes "Numeric") kind.Numeric 8
+    listed 257 (codes "WMO BLOCK NUMBER") (codes "Numeric") kind.Numeric 7
+    ∷ listed 271 (codes "STATION OR SITE NAME") (codes "CCITT IA5") kind.Character 160
+    ∷ listed 1282 (codes "LATITUDE (COARSE ACCURACY)") (codes "degree") kind.Numeric 15
+    ∷ listed 3173 (codes "AIR TEMPERATURE") (codes "K") kind.Numeric 16
+    ∷ listed 5123 (codes "PRESENT WEATHER") (codes "Code table") kind.Coded 9
+    ∷ listed 7937 (codes "DELAYED DESCRIPTOR REPLICATION FACTOR") (codes "Numeric") kind.Numeric 8
     ∷ []
 
 -- what is asked of a number at a scale with a reference, and whether it is read by its row

@@ -2,12 +2,9 @@
 use Rattle.std.proofs.Common.{◌≡◌, ◌≤◌, ◌+◌, ◌-◌, ◌*◌, ℕ, Bool, false, List, [], ◌∷◌, ◌++◌, length, length-append, append_assoc, Option, Some, None, Result, Ok, Err, refl, sym, ◌∙◌, ap, subst, arith}
 use Rattle.std.specs.Option.{option_map}
 use Rattle.std.proofs.lemmas.List.{append-nil}
-use Rattle.bufr_walk.specs.declared.spec.Refusal.TheVariants as refusal
 use Rattle.bufr_walk.specs.declared.walking.WalkStop.{WalkStop}
 use Rattle.bufr_walk.specs.declared.walking.WalkStop.TheVariants as stops
-use Rattle.bufr_walk.specs.Asked.{Asked}
 use Rattle.bufr_walk.specs.Course.{Course, Next, take_next, at_end, astray, refused}
-use Rattle.bufr_walk.specs.Stop.{stop_by}
 use Rattle.bufr_walk.specs.Taking.{Turn, Takes, course_after}
 use Rattle.bufr_walk.specs.Walked.{oks, told_by, StopsAt, Walked}
 use Rattle.bufr_fill.specs.declared.fault.DraftFault.{DraftFault}
@@ -15,21 +12,19 @@ use Rattle.bufr_fill.specs.Draft.{Draft}
 use Rattle.bufr_fill.specs.DraftContent.{plainly, plain_filler}
 use Rattle.bufr_fill.specs.Encoding.{plain_data, ◌>>=◌}
 use Rattle.bufr_fill.specs.Entries.{Entry, Holds, Ends, Subset, subset, onto_first, subsets_of}
-use Rattle.bufr_fill.specs.Fault.{FaultAt, at_line, item_too_many, walk_refused}
-use Rattle.bufr_fill.specs.Filling.{written, fill, fill_one, fill_none, and_behind}
-use Rattle.bufr_fill.specs.Filled.{HasFilled}
-use Rattle.bufr_fill.specs.PlainOut.{Pen, PlainFills, WhereTold, IsFaultOf, behind_end, line_at, items_left, end_left}
-use Rattle.bufr_walk.specs.declared.spec.Taken.{Taken}
-use Rattle.bufr_walk.specs.Content.{bits_for}
+use Rattle.bufr_fill.specs.Fault.{FaultAt, at_line, walk_refused}
+use Rattle.bufr_fill.specs.Filling.{fill, fill_none, and_behind}
+use Rattle.bufr_fill.specs.PlainOut.{Pen, PlainFills, WhereTold, IsFaultOf, IsFaultNext, behind_end, line_at, items_left, end_left}
 use Rattle.bufr_fill.specs.Told.{told_fault}
-use Rattle.bufr_fill.proofs.PlainWalks.{walk_of_items, fault_of_items}
+use Rattle.bufr_fill.proofs.PlainWalks.{fills, walk_of_items, fault_as_defined}
+use Rattle.bufr_fill.proofs.WalkFills.{after_told}
 use Rattle.bufr_text.specs.declared.encode_fault.DocumentFault.{DocumentFault}
 use Rattle.bufr_text.specs.Encoding.{RefusedAt, told_of_items}
 use Rattle.bufr_text.specs.EncodingFault.{told_of_draft, told_refusal}
 use Rattle.bufr_text.specs.Encodes.{RefusesSo, told_stop, count_filled, count_plain, turns_filled, turns_plain, and_more, left_behind, fill_next, count_next, turns_next, MakesSo, IsSubset, IsNoSubset, AreOctetsOf, IsData, IsNoData}
 use Rattle.bufr_walk.specs.Ticks.{ticked}
 use Rattle.bufr_walk.proofs.PlainSubsets.{ticked_more}
-use Rattle.bufr_text.proofs.EncodesLemmas.{after_told, walk_counts, all_counted, refuses_so}
+use Rattle.bufr_text.proofs.EncodesLemmas.{walk_counts, all_counted, refuses_so, told_refused}
 use Rattle.bufr_text.proofs.TurnsLemmas.{AddsTurns, walk_turns, IsLast, last_turns, some_turns, ticked_at_most, all_made, makes_so}
 
 -- ---- products
@@ -64,16 +59,6 @@ keeps course s (i ∷ items) s' h =
       count = k.count ∙ sym (ap (λ x. length (subsets_of x)) h.2.here ∙ onto_same h.2.draft (subsets_of h.0.left));
     }
 
-fills : (end : ℕ) (s : Pen) (spec : Asked) (t : Taken) (s' : Pen) → oks PlainFills s spec t s' → HasFilled (plain_filler end) (items_left s.left) s.bits spec t (items_left s'.left) s'.bits
-fills end s spec t s' h = record {
-  draft = h.draft;
-  item = written h.content (bits_for spec.width h.content);
-  here = ap items_left h.here;
-  fills = ap (plainly h.draft.line spec) h.is;
-  tells = h.tells;
-  bits = h.bits;
-}
-
 counts : (end : ℕ) (course : Course) (s : Pen) (items : List Turn) (s' : Pen) → Takes (oks PlainFills) course s items s' → length s'.bits ≤ length s.bits + count_filled (plain_filler end) course (items_left s.left)
 counts end course s items s' h = omega (arith, walk_counts (plain_filler end) (λ (p : Pen). items_left p.left) (λ (p : Pen). p.bits) (oks PlainFills) (fills end) course s items s' h)
 
@@ -81,11 +66,14 @@ counts end course s items s' h = omega (arith, walk_counts (plain_filler end) (�
 turns_left : (course : Course) (s : Pen) (items : List Turn) (mid : Pen) → Takes (oks PlainFills) course s items mid → turns_next course s.left ≡ turns_filled (plain_filler (end_left s.left)) (course_after course items) (items_left mid.left)
 turns_left course s items mid h = walk_turns (plain_filler (end_left s.left)) (λ (p : Pen). items_left p.left) (λ (p : Pen). p.bits) (oks PlainFills) (fills (end_left s.left)) course s items mid h
 
--- an item at fault is not taken
-none_taken : (end : ℕ) (spec : Asked) (left : List Entry) (f : FaultAt) → IsFaultOf spec left f → IsLast (plain_filler end) (take_next spec) (items_left left)
-none_taken end spec [] f h = tt
-none_taken end spec (Ends line ∷ more) f h = tt
-none_taken end spec (Holds d ∷ more) f h = (at_line d.line h.0, ap (plainly d.line spec) h.1)
+-- nothing is taken at a fault
+fault_is_last : (end : ℕ) (next : Next) (left : List Entry) (f : FaultAt) → IsFaultNext next left f → IsLast (plain_filler end) next (items_left left)
+fault_is_last end (take_next spec) [] f h = tt
+fault_is_last end (take_next spec) (Ends line ∷ more) f h = tt
+fault_is_last end (take_next spec) (Holds d ∷ more) f h = (at_line d.line h.0, ap (plainly d.line spec) h.1)
+fault_is_last end at_end left f h = tt
+fault_is_last end (refused r) left f h = tt
+fault_is_last end astray left f h = tt
 
 -- a walk to the end makes all turns of its subset
 all_turns : (course : Course) (s : Pen) (c : ℕ) (mid : Pen) (c' : ℕ) → Walked PlainFills course s c (Ok tt) mid c' → c' ≡ ticked c (turns_next course s.left)
@@ -98,20 +86,9 @@ at_end_none end course [] more h e = absurd cc e
 at_end_none end course (Holds d ∷ left) more h e = absurd cc e
 at_end_none end course (Ends line ∷ left) more h e = (ap (fill_none (plain_filler end)) h, cc)
 
-at_end_more : (end : ℕ) (course : Course) (left : List Entry) (f : FaultAt) → (course []).next ≡ at_end → 1 ≤ length (subsets_of left) → behind_end left ≡ Err f → fill (plain_filler end) course (items_left left) ≡ Err f
-at_end_more end course [] f h some e = absurd (omega (arith, some))
-at_end_more end course (Ends line ∷ left) f h some e = absurd cc e
-at_end_more end course (Holds d ∷ left) f h some e =
-    ap (λ n. fill_one (plain_filler end) n d (λ t. fill (plain_filler end) (λ told. course (t ∷ told)) (items_left left))) h ∙ same e
-  where
-    same : behind_end (Holds d ∷ left) ≡ Err f → ◌≡◌ {A = Result (List Bool) FaultAt} (Err (at_line d.line item_too_many)) (Err f)
-    same e = let x : at_line d.line item_too_many ≡ f = cc in ap Err x
-
--- where the walk is refused
-at_refused : (course : Course) (left : List Entry) (why : refusal.the_data) → (course []).next ≡ refused why → fill (plain_filler (end_left left)) course (items_left left) ≡ Err (at_line (line_at left) (walk_refused why))
-at_refused course [] why h = ap (fill_none (plain_filler 0)) h
-at_refused course (Ends line ∷ left) why h = ap (fill_none (plain_filler line)) h
-at_refused course (Holds d ∷ left) why h = ap (λ n. fill_one (plain_filler (end_left left)) n d (λ t. fill (plain_filler (end_left left)) (λ told. course (t ∷ told)) (items_left left))) h
+some_left : (left : List Entry) → 1 ≤ length (subsets_of left) → 1 ≤ length left
+some_left [] h = absurd (omega (arith, h))
+some_left (e ∷ left) h = omega arith
 
 prefixed : (end : ℕ) (bits : List Bool) (r : Result (List Bool) FaultAt) (f : FaultAt) → r ≡ Err f → and_behind (plain_filler end) bits r ≡ Err f
 prefixed end bits r f h = ap (and_behind (plain_filler end) bits) h
@@ -135,13 +112,13 @@ subset_written n course s c mid c' s' w passed same few =
       few = subst (λ x. c' ≤ c + n * x) e few;
     }
 
--- what the definition makes of a subset, by what it makes of the items that a walk left
-refused_later : (course : Course) (s mid : Pen) (items : List Turn) (f : FaultAt) → Takes (oks PlainFills) course s items mid
-    → fill (plain_filler (end_left mid.left)) (course_after course items) (items_left mid.left) ≡ Err f → fill_next course s.left ≡ Err f
-refused_later course s mid items f h e =
+-- the fault where a walk stopped is that of its subset
+refused_later : (course : Course) (s mid : Pen) (items : List Turn) (f : FaultAt) → Takes (oks PlainFills) course s items mid → IsFaultNext (course (told_by items)).next mid.left f → fill_next course s.left ≡ Err f
+refused_later course s mid items f h x =
     let k = keeps course s items mid h in
     let filled = walk_of_items (end_left s.left) course s items mid h in
-    filled.2 ∙ prefixed (end_left s.left) filled.0 _ f (ap (λ n. fill (plain_filler n) (course_after course items) (items_left mid.left)) (sym k.end) ∙ e)
+    let is = fault_as_defined (course_after course items) mid.left f (subst (λ n. IsFaultNext n mid.left f) (sym (ap (λ a. a.next) (after_told course items))) x) in
+    filled.2 ∙ prefixed (end_left s.left) filled.0 _ f (ap (λ n. fill (plain_filler n) (course_after course items) (items_left mid.left)) (sym k.end) ∙ is)
 
 -- an item is left over
 pub subset_over : (n : ℕ) (course : Course) (s : Pen) (c : ℕ) (mid : Pen) (c' : ℕ) (e : DraftFault) (why : DocumentFault) → Walked PlainFills course s c (Ok tt) mid c' → 1 ≤ length (subsets_of s.left)
@@ -149,8 +126,7 @@ pub subset_over : (n : ℕ) (course : Course) (s : Pen) (c : ℕ) (mid : Pen) (c
     → IsNoSubset n course s c why c'
 subset_over n course s c mid c' e why w some fault told few =
     let k = keeps course s w.0 mid w.1 in
-    let next : (course_after course w.0 []).next ≡ at_end = ap (λ a. a.next) (after_told course w.0) ∙ w.2 in
-    let is = refused_later course s mid w.0 fault.0 w.1 (at_end_more (end_left mid.left) (course_after course w.0) mid.left fault.0 next (omega (arith, some, k.count)) fault.2) in
+    let is = refused_later course s mid w.0 fault.0 w.1 (subst (λ n. IsFaultNext n mid.left fault.0) (sym w.2) (some_left mid.left (omega (arith, some, k.count)), fault.2)) in
     let count = counts (end_left s.left) course s w.0 mid w.1 in
     record {
       refuses = refuses_so (told_fault e) (told_refusal why) (fill_next course s.left) told (λ f h. is ∙ ap Err (same fault.0 f (sym fault.1 ∙ h)));
@@ -161,68 +137,48 @@ subset_over n course s c mid c' e why w some fault told few =
     same : (a b : FaultAt) → ◌≡◌ {A = Option FaultAt} (Some a) (Some b) → a ≡ b
     same a b e = cc
 
+-- what stopped a walk is the fault at the next entry
+told_next : (line : ℕ) (next : Next) (mid : Pen) (stop : WalkStop DraftFault) (s' : Pen) (f : FaultAt) → StopsAt PlainFills next mid stop s' → line ≡ line_at s'.left → told_stop line stop ≡ Some f → IsFaultNext next mid.left f
+told_next line (take_next spec) mid (stops.Field e) s' f h l t = by (told_fault e) h.0 t
+  where
+    by : (o : Option FaultAt) → WhereTold o (IsFaultOf spec mid.left) → o ≡ Some f → IsFaultOf spec mid.left f
+    by None h t = absurd cc t
+    by (Some g) h t = let same : g ≡ f = cc in subst (IsFaultOf spec mid.left) same h
+told_next line (take_next spec) mid stops.Memory s' f h l t = absurd cc t
+told_next line (take_next spec) mid (stops.Width fxy) s' f h l t = absurd h
+told_next line (take_next spec) mid (stops.Defining fxy) s' f h l t = absurd h
+told_next line at_end mid stop s' f h l t = absurd h
+told_next line astray mid stop s' f h l t = absurd h
+told_next line (refused r) mid stop s' f h l t =
+    sym (told_refused line r f (ap (told_stop line) (sym h.0) ∙ t)) ∙ ap (λ n. at_line n (walk_refused r)) (l ∙ ap (λ (p : Pen). line_at p.left) h.1)
+
+-- and nothing more was written
+still : (next : Next) (mid : Pen) (stop : WalkStop DraftFault) (s' : Pen) → StopsAt PlainFills next mid stop s' → s' ≡ mid
+still (take_next spec) mid (stops.Field e) s' h = h.1
+still (take_next spec) mid stops.Memory s' h = h.1
+still (take_next spec) mid (stops.Width fxy) s' h = absurd h
+still (take_next spec) mid (stops.Defining fxy) s' h = absurd h
+still at_end mid stop s' h = absurd h
+still astray mid stop s' h = absurd h
+still (refused r) mid stop s' h = h.1
+
 -- the walk stopped
 pub subset_stopped : (n : ℕ) (course : Course) (s : Pen) (c : ℕ) (s' : Pen) (c' line : ℕ) (stop : WalkStop DraftFault) (why : DocumentFault) → AddsTurns course → Walked PlainFills course s c (Err stop) s' c' → line ≡ line_at s'.left
     → told_refusal why ≡ option_map told_of_draft (told_stop line stop) → c' ≤ c + n * (length s'.bits - length s.bits + 1)
     → IsNoSubset n course s c why c'
 subset_stopped n course s c s' c' line stop why g w at told few =
-    let all = turns_left course s w.0 w.1 w.2 in
+    let next = (course (told_by w.0)).next in
     let filler = plain_filler (end_left s.left) in
+    let all = turns_next course s.left in
+    let left = turns_left course s w.0 w.1 w.2 in
+    let count = counts (end_left s.left) course s w.0 w.1 w.2 in
     record {
-      refuses = refuses_so (told_stop line stop) (told_refusal why) (fill_next course s.left) told (λ f h. refused_later course s w.1 w.0 f w.2 (by stop (course (told_by w.0)).next refl w.3 f h));
-      made = makes_so (told_stop line stop) (told_refusal why) c (turns_next course s.left) c' told
-          (omega (arith, w.4, ticked_at_most c (course (told_by w.0)).turns (turns_next course s.left) (some_turns filler course w.0 (items_left w.1.left) (turns_next course s.left) g all)))
-          (λ f t. w.4 ∙ ap (ticked c) (last_turns filler course w.0 (items_left w.1.left) (course (told_by w.0)).next (turns_next course s.left) all refl (last stop (course (told_by w.0)).next w.3 f t)));
-      few = omega (arith, few, mul_most n (length s'.bits - length s.bits + 1) (count_next course s.left + 1) (omega (arith, count, ap length (still (course (told_by w.0)).next stop w.3))));
+      refuses = refuses_so (told_stop line stop) (told_refusal why) (fill_next course s.left) told (λ f t. refused_later course s w.1 w.0 f w.2 (told_next line next w.1 stop s' f w.3 at t));
+      made = makes_so (told_stop line stop) (told_refusal why) c all c' told
+          (omega (arith, w.4, ticked_at_most c (course (told_by w.0)).turns all (some_turns filler course w.0 (items_left w.1.left) all g left)))
+          (λ f t. w.4 ∙ ap (ticked c) (last_turns filler course w.0 (items_left w.1.left) next all left refl (fault_is_last (end_left s.left) next w.1.left f (told_next line next w.1 stop s' f w.3 at t))));
+      few = omega (arith, few, mul_most n (length s'.bits - length s.bits + 1) (count_next course s.left + 1) (omega (arith, count, ap (λ (p : Pen). length p.bits) (still next w.1 stop s' w.3))));
     }
-  where
-    mid : Pen
-    mid = w.1
-
-    count : length w.1.bits ≤ length s.bits + count_filled (plain_filler (end_left s.left)) course (items_left s.left)
-    count = counts (end_left s.left) course s w.0 w.1 w.2
-
-    still : (next : Next) (stop : WalkStop DraftFault) → StopsAt PlainFills next w.1 stop s' → s'.bits ≡ w.1.bits
-    still (take_next spec) (stops.Field e) h = ap (λ (p : Pen). p.bits) h.1
-    still (take_next spec) stops.Memory h = ap (λ (p : Pen). p.bits) h.1
-    still (take_next spec) (stops.Width fxy) h = absurd h
-    still (take_next spec) (stops.Defining fxy) h = absurd h
-    still at_end stop h = absurd h
-    still astray stop h = absurd h
-    still (refused r) stop h = ap (λ (p : Pen). p.bits) h.1
-
-    next_is : (next : Next) → (course (told_by w.0)).next ≡ next → (course_after course w.0 []).next ≡ next
-    next_is next e = ap (λ a. a.next) (after_told course w.0) ∙ e
-
-    where_told : (o : Option FaultAt) (p : FaultAt → Type 0) (f : FaultAt) → WhereTold o p → o ≡ Some f → p f
-    where_told None p f h e = absurd cc e
-    where_told (Some g) p f h e = let same : g ≡ f = cc in subst p same h
-
-    last : (stop : WalkStop DraftFault) (next : Next) → StopsAt PlainFills next w.1 stop s' → (f : FaultAt) → told_stop line stop ≡ Some f → IsLast (plain_filler (end_left s.left)) next (items_left w.1.left)
-    last (stops.Field e) (take_next spec) h f t = none_taken (end_left s.left) spec w.1.left f (where_told (told_fault e) (IsFaultOf spec w.1.left) f h.0 t)
-    last stops.Memory (take_next spec) h f t = absurd cc t
-    last (stops.Width fxy) (take_next spec) h f t = absurd h
-    last (stops.Defining fxy) (take_next spec) h f t = absurd h
-    last stop at_end h f t = tt
-    last stop astray h f t = tt
-    last stop (refused r) h f t = tt
-
-    refused_so : (r : refusal.the_data) (f : FaultAt) → told_stop line (stop_by r) ≡ Some f → at_line line (walk_refused r) ≡ f
-    refused_so (refusal.Width fxy) f e = cc
-    refused_so (refusal.Defining fxy) f e = cc
-
-    by : (stop : WalkStop DraftFault) (next : Next) → (course (told_by w.0)).next ≡ next → StopsAt PlainFills next w.1 stop s' → (f : FaultAt) → told_stop line stop ≡ Some f
-        → fill (plain_filler (end_left w.1.left)) (course_after course w.0) (items_left w.1.left) ≡ Err f
-    by (stops.Field e) (take_next spec) n h f t = fault_of_items (course_after course w.0) w.1.left spec f (next_is (take_next spec) n) (where_told (told_fault e) (IsFaultOf spec w.1.left) f h.0 t)
-    by stops.Memory (take_next spec) n h f t = absurd cc t
-    by (stops.Width fxy) (take_next spec) n h f t = absurd h
-    by (stops.Defining fxy) (take_next spec) n h f t = absurd h
-    by stop at_end n h f t = absurd h
-    by stop astray n h f t = absurd h
-    by stop (refused r) n h f t =
-        at_refused (course_after course w.0) w.1.left r (next_is (refused r) n)
-        ∙ ap (λ l. Err (at_line l (walk_refused r))) (sym (at ∙ ap (λ (p : Pen). line_at p.left) h.1))
-        ∙ ap Err (refused_so r f (ap (told_stop line) (sym h.0) ∙ t))
 
 -- ---- all subsets
 

@@ -1,16 +1,17 @@
 -- A walk that writes counts as the definition does.
 use Rattle.std.proofs.Common.{◌≡◌, ◌+◌, ℕ, suc, Bool, List, [], ◌∷◌, ◌++◌, length, length-append, Option, Some, None, Result, Ok, Err, refl, sym, ◌∙◌, ap, subst, arith}
+use Rattle.bufr_walk.specs.declared.spec.Refusal.TheVariants as refusal
 use Rattle.bufr_walk.specs.declared.spec.Taken.{Taken}
 use Rattle.bufr_walk.specs.Asked.{Asked}
 use Rattle.bufr_walk.specs.Course.{Course, Next, take_next, at_end, astray, refused}
+use Rattle.bufr_walk.specs.Stop.{stop_by}
 use Rattle.bufr_walk.specs.Taking.{Turn, Takes, course_after}
-use Rattle.bufr_walk.specs.Walked.{told_by}
-use Rattle.bufr_fill.specs.Fault.{FaultAt}
+use Rattle.bufr_fill.specs.Fault.{FaultAt, at_line, walk_refused}
 use Rattle.bufr_fill.specs.Filling.{Written, Filler, fill, fill_one, fill_none, filled, and_behind}
 use Rattle.bufr_fill.specs.Filled.{HasFilled}
 use Rattle.bufr_text.specs.Encoding.{RefusedAt, told_of_items}
 use Rattle.bufr_text.specs.EncodingFault.{told_of_draft}
-use Rattle.bufr_text.specs.Encodes.{RefusesSo, counted_one, counted_at, count_filled}
+use Rattle.bufr_text.specs.Encodes.{RefusesSo, told_stop, counted_one, counted_at, count_filled}
 use Rattle.std.specs.Option.{option_map}
 use Rattle.std.proofs.Common.{◌<◌, get_or}
 use Rattle.bufr_bits.specs.Bits.{padding}
@@ -19,11 +20,6 @@ use Rattle.bufr_fill.specs.Fits.{AreOctets}
 use Rattle.bufr_fill.proofs.FieldBits.{octets_again}
 use Rattle.bufr_text.specs.Encoding.{octets_of_bits}
 use Rattle.bufr_text.specs.Encodes.{AreOctetsOf}
-
--- what comes after the items of a walk
-pub after_told : (course : Course) (items : List Turn) → course_after course items [] ≡ course (told_by items)
-after_told course [] = refl
-after_told course (i ∷ items) = after_told (λ told. course (i.taken ∷ told)) items
 
 module _ {D C E S : Type 0} (filler : Filler D C E) (left : S → List D) (out : S → List Bool) (takes : S → Asked → Taken → S → Type 0)
     (fills : (s : S) (spec : Asked) (t : Taken) (s' : S) → takes s spec t s' → HasFilled filler (left s) (out s) spec t (left s') (out s')) where
@@ -80,6 +76,11 @@ module _ {D C E : Type 0} (filler : Filler D C E) where
 pub refuses_so : (o : Option FaultAt) (told : Option RefusedAt) (r : Result (List Bool) FaultAt) → told ≡ option_map told_of_draft o → ((f : FaultAt) → o ≡ Some f → r ≡ Err f) → RefusesSo told (told_of_items r)
 refuses_so None told r e h = subst (λ t. RefusesSo t (told_of_items r)) (sym e) tt
 refuses_so (Some f) told r e h = subst (λ t. RefusesSo t (told_of_items r)) (sym e) (ap told_of_items (h f refl))
+
+-- the refusal of a walk, as it is told
+pub told_refused : (line : ℕ) (r : refusal.the_data) (f : FaultAt) → told_stop line (stop_by r) ≡ Some f → at_line line (walk_refused r) ≡ f
+told_refused line (refusal.Width fxy) f e = cc
+told_refused line (refusal.Defining fxy) f e = cc
 
 -- octets that are the bits of data
 pub octets_are_bits : (xs : List ℕ) (bits : List Bool) → ((k : ℕ) → get_or xs k 0 < 256) → AreOctetsOf xs bits → xs ≡ octets_of_bits bits

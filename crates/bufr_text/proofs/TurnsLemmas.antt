@@ -18,10 +18,10 @@ use Rattle.bufr_walk.specs.Walked.{told_by}
 use Rattle.bufr_fill.specs.Fault.{FaultAt}
 use Rattle.bufr_fill.specs.Filling.{Written, Filler}
 use Rattle.bufr_fill.specs.Filled.{HasFilled}
+use Rattle.bufr_fill.proofs.WalkFills.{after_told}
 use Rattle.bufr_text.specs.Encoding.{RefusedAt}
 use Rattle.bufr_text.specs.EncodingFault.{told_of_draft}
 use Rattle.bufr_text.specs.Encodes.{turned_one, turned_at, turns_filled, MakesSo}
-use Rattle.bufr_text.proofs.EncodesLemmas.{after_told}
 
 -- ---- the more is told, the more turns there are
 
