@@ -96,11 +96,11 @@ operator_good s x y set most legal = by (x == 1) (x == 2) (x == 3) (x == 6) (x =
 -- the references of other elements
 others_good : (fxy : ℕ) (known : List Redefined) → AreRedefined known → AreRedefined (without fxy known)
 others_good fxy [] h = h
-others_good fxy (r ∷ more) h = by (r.fxy == fxy)
+others_good fxy (r ∷ more) h = by (r.fxy == fxy) (others_good fxy more h.1)
   where
-    by : (b : Bool) → AreRedefined (if b then without fxy more else r ∷ without fxy more)
-    by true = others_good fxy more h.1
-    by false = (h.0, others_good fxy more h.1)
+    by : (b : Bool) → AreRedefined (without fxy more) → AreRedefined (if b then without fxy more else r ∷ without fxy more)
+    by true others = others
+    by false others = (h.0, others)
 
 field_good : (s : Settings) (fxy : ℕ) (t : Taken) → IsSettings s → IsWithin t → IsSettings (after_field s fxy t)
 field_good s fxy taken.Plain set h = record { widened = set.widened; rescaled = set.rescaled; defining = set.defining; refined = set.refined; lettered = set.lettered; given = omega arith; redefined = set.redefined }
