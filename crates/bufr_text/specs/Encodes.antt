@@ -94,7 +94,7 @@ bits_for table d (Err why) = 0
 abbrev pub bits_by : List Row → List Sequence → Document → ℕ
 bits_by table sequences d = bits_for table d (tree_of (tables_of table sequences) d.descriptors)
 
--- ---- the turns up to the first refusal, this one's included (the turns are those of the template, as the items unroll it)
+-- ---- the turns up to the first refusal, this one's included: those of the template, as the items unroll it (WMO-No. 306, Volume I.2, FM 94: section 3, replications; that they are counted is a choice of this project)
 
 module _ {D C E : Type 0} (filler : Filler D C E) where
   -- behind a draft that can be written there are more turns; one that is refused is the last of so many
