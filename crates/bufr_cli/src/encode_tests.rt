@@ -324,6 +324,7 @@ fn stops_at_a_failed_read(rt: HostRuntime) -> Result<(), Fail> {
     both.extend_from_slice(&message)?;
     for step in [1, 7] {
         for place in 0..text.len().saturating_add(1) {
+            assert!(rt; step > 0);
             let mut r = ScriptIn::new(&text, step, Some(place));
             let mut w = ScriptOut::new(rt.alloc(), 4096, 7, End::Fail)?;
             let mut e = ScriptOut::new(rt.alloc(), 4096, 7, End::Fail)?;
