@@ -20,11 +20,13 @@ use Rattle.bufr_frame.proofs.FrameLemmas.{IsSmall, framed_octets, frames-within,
 use Rattle.bufr_frame.proofs.ScanLemmas.{scan_from-nil}
 use Rattle.bufr_walk.specs.Outcome.{data_of, read_by}
 use Rattle.bufr_walk.specs.Reading.{Values, apart, together}
-use Rattle.bufr_text.specs.Documents.{Between, documents_of, lines_of, spelled}
+use Rattle.bufr_text.specs.Documents.{Between, lines_of, spelled}
 use Rattle.bufr_text.specs.Dump.{document_of, dump_lines, dump_text_of}
 use Rattle.bufr_text.specs.Dumped.{items_of}
 use Rattle.bufr_text.specs.Encoded.{IsAccepted, HasSameReading, items_in}
 use Rattle.bufr_text.specs.Given.{IsOctet}
+use Rattle.bufr_text.specs.Encoding.{RefusedAt}
+use Rattle.bufr_text.proofs.CanonicalLemmas.{canonical_encoded}
 use Rattle.bufr_text.proofs.DumpableLemmas.{dumpable}
 use Rattle.bufr_text.proofs.EncodedLemmas.{accepted_again, encoded_again, same_text}
 use Rattle.bufr_text.proofs.LawLemmas.{text-spells}
@@ -32,7 +34,7 @@ use Rattle.bufr_text.proofs.RowsLemmas.{rows-read, good-rows}
 use Rattle.bufr_cli.specs.DumpPieces.{IsDataPiece, IsTemplatePiece, IsMessagePiece, IsDumpPiece, dump_text}
 use Rattle.bufr_cli.specs.EncodePieces.{encoded, told_piece, up_to_refused}
 use Rattle.bufr_cli.specs.Pieces.{Piece, OnOutput, OnErrors, output_of, errors_of, is_accepted, is_refused}
-use Rattle.bufr_cli.specs.RoundTrip.{accepted_in, accepted_messages, dump_pieces, octets_in, rebuilding, rebuilt, text_pieces, IsBuiltAgain, IsRun, IsWholeRound, RoundTrips}
+use Rattle.bufr_cli.specs.RoundTrip.{accepted_in, accepted_messages, dump_pieces, octets_in, rebuilding, rebuilt, text_pieces, IsBuiltAgain, IsRun, IsWholeRound, IsWrittenSo, RoundTrips}
 use Rattle.bufr_cli.specs.Running.{GivesPieces}
 use Rattle.bufr_cli.specs.declared.round_trip_law.Round.{Round}
 use Rattle.bufr_cli.proofs.DumpLemmas.{one-piece}
@@ -149,6 +151,10 @@ accepted-piece b d m s template values used offset a =
     let T : Result Tree TemplateFault → Type 0 = λ x. IsTemplatePiece b offset s x p in
     subst M (sym a.sections) (subst T (sym a.expands) (values, used, a.read, sym (same-items b s template values used)))
 
+abbrev octets_or_none : Result (List ℕ) RefusedAt → List ℕ
+octets_or_none (Ok octets) = octets
+octets_or_none (Err refused) = []
+
 -- ---- the messages of a stream
 
 -- messages one after another, from an offset on
@@ -174,6 +180,7 @@ record Built (b : List Row) (d : List Sequence) (piece : Happening → Piece) (t
   scanned : (at : ℕ) → scan_from 0 at (concat messages) ≡ placed at messages
   again : (at : ℕ) → map piece (placed at messages) ≡ filter is_accepted pieces
   listed : (at : ℕ) → accepted_of piece (placed at messages) ≡ messages
+  kept : AllByRecursion (IsWrittenSo b d) accepted → messages ≡ accepted
 
 framed-more : (here : Happening) (es : List Happening) → framed_octets es ≤ framed_octets (here ∷ es)
 framed-more (Framed offset m) es = omega arith
@@ -199,6 +206,7 @@ module _ (b : List Row) (d : List Sequence) (piece : Happening → Piece) (gives
     scanned = r.scanned;
     again = r.again;
     listed = r.listed;
+    kept = r.kept;
   }
 
   -- an accepted message is built again
@@ -221,6 +229,9 @@ module _ (b : List Row) (d : List Sequence) (piece : Happening → Piece) (gives
         scanned = λ at. w.same.framed at (concat r.messages) ∙ ap (λ l. Framed at w.octets ∷ l) (r.scanned (at + length w.octets));
         again = λ at. ap (λ p. p ∷ map piece (placed (at + length w.octets) r.messages)) (here at) ∙ ap (λ l. OnOutput (dump_text_of s items) ∷ l) (r.again (at + length w.octets));
         listed = λ at. ap (λ p. accepted_in (Framed at w.octets) p ++ accepted_of piece (placed (at + length w.octets) r.messages)) (here at) ∙ ap (λ l. w.octets ∷ l) (r.listed (at + length w.octets));
+        kept = λ all.
+            let same : w.octets ≡ m = ap octets_or_none (sym w.is ∙ canonical_encoded b d m s template values used line (good-rows b read) legal a (all.0 s template values used a)) in
+            ap (λ l. l ∷ r.messages) same ∙ ap (λ l. m ∷ l) (r.kept all.1);
       }
 
   abbrev BuiltOf : List Happening → (line : ℕ) → Type 0
@@ -247,6 +258,7 @@ module _ (b : List Row) (d : List Sequence) (piece : Happening → Piece) (gives
     scanned = λ at. scan_from-nil 0 at;
     again = λ at. refl;
     listed = λ at. refl;
+    kept = λ all. refl;
   }
   built records (here ∷ es) line rows small =
       built-more records here es line rows (event-kind b d here (piece here) small.0 (gives here)) (λ at. built records es at rows small.1)
@@ -273,7 +285,15 @@ module _ (b : List Row) (d : List Sequence) (piece : Happening → Piece) (gives
         same_pieces = texts;
         same_text = ap (flat_map output_of) texts ∙ accepted-output (dump_pieces piece s);
         no_fault = ap (flat_map errors_of) texts ∙ accepted-silent (dump_pieces piece s);
+        settled = ap (λ text. flat_map output_of (text_pieces b d text)) (ap (flat_map output_of) texts ∙ accepted-output (dump_pieces piece s));
       }
+
+  -- what is written as an encoder writes it stays as it is
+  pub canonical-kept : (records : List Record) (s : List ℕ) → AreRows records b → AllByRecursion IsOctet s → AllByRecursion (IsWrittenSo b d) (accepted_messages piece s)
+      → rebuilt b d piece s ≡ concat (accepted_messages piece s)
+  canonical-kept records s rows octets all =
+      let r = built records (scan s) 1 rows (small-frames 0 0 s octets) in
+      ap (flat_map output_of) (ap up_to_refused r.told ∙ outputs-whole r.messages) ∙ outputs-octets r.messages ∙ ap concat (r.kept all)
 
   -- ---- three runs into memory
 

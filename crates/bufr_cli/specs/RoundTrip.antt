@@ -9,6 +9,7 @@ use Rattle.bufr_tables.specs.TableB.{Row}
 use Rattle.bufr_tables.specs.TableD.{Sequence}
 use Rattle.bufr_tables.specs.Tree.{Tree}
 use Rattle.bufr_walk.specs.Reading.{Values}
+use Rattle.bufr_text.specs.Canonical.{IsCanonical}
 use Rattle.bufr_text.specs.Documents.{documents_of}
 use Rattle.bufr_text.specs.Encoded.{IsAccepted, HasSameReading}
 use Rattle.bufr_cli.specs.EncodePieces.{encode_pieces}
@@ -58,6 +59,10 @@ pub record IsBuiltAgain (b : List Row) (d : List Sequence) (m written : List ℕ
   pub accepted : IsAccepted b d m sections template values used
   pub same : HasSameReading b m sections template values written
 
+-- a message is as an encoder writes it, by the one reading that it is accepted with
+abbrev pub IsWrittenSo : List Row → List Sequence → List ℕ → Type 0
+IsWrittenSo b d m = (sections : Sections) (template : Tree) (values : Values) (used : ℕ) → IsAccepted b d m sections template values used → IsCanonical m sections values used
+
 -- What `dump` writes for a stream, `encode` builds again, and dumped again that is the same text.
 pub record RoundTrips (b : List Row) (d : List Sequence) (piece : Happening → Piece) (s : List ℕ) : Type 0 where
   -- `encode` refuses nothing, and builds as many messages as were dumped
@@ -72,6 +77,8 @@ pub record RoundTrips (b : List Row) (d : List Sequence) (piece : Happening → 
   pub same_pieces : dump_pieces piece (rebuilt b d piece s) ≡ filter is_accepted (dump_pieces piece s)
   pub same_text : dumped piece (rebuilt b d piece s) ≡ dumped piece s
   pub no_fault : flat_map errors_of (dump_pieces piece (rebuilt b d piece s)) ≡ []
+  -- and encoded again it stays as it is
+  pub settled : rebuilt b d piece (rebuilt b d piece s) ≡ rebuilt b d piece s
 
 -- A run into memory wrote these pieces, and counted them.
 pub record IsRun (ran : RunInMemory) (pieces : List Piece) : Type 0 where

@@ -6,7 +6,7 @@ use crate::dump_tests::{
 };
 use crate::job::{LineFault, Subcommand, parse_line};
 use crate::program::run;
-use crate::run_dump::run_dump;
+use crate::round_trip_law::dump_encode_dump;
 use crate::run_encode::run_encode;
 use crate::tally::Tally;
 use bufr_bits::{End, ScriptIn, ScriptOut};
@@ -264,25 +264,24 @@ fn encodes_a_dumped_stream(rt: HostRuntime) -> Result<(), Fail> {
     messages.extend_from_slice(&STREAM[77..131])?;
     messages.extend_from_slice(&STREAM[139..189])?;
     messages.extend_from_slice(&STREAM[238..294])?;
-    let mut r = ScriptIn::new(&STREAM, 4096, None);
-    let mut text = ScriptOut::new(rt.alloc(), 4096, 4096, End::Fail)?;
-    let mut e = ScriptOut::new(rt.alloc(), 4096, 4096, End::Fail)?;
-    let ran = run_dump(rt.alloc(), &mut r, &mut text, &mut e, &table_b, &table_d);
+    let round = dump_encode_dump(rt.alloc(), &STREAM, 4096, &table_b, &table_d).expect(
+        &rt, "a round",
+    );
     let dumped = Tally {
         accepted: 4,
         refused: 3,
     };
-    assert!(rt; ran == Ok(dumped), "{ran:?}");
+    assert!(rt; round.text.tally == dumped, "{:?}", round.text.tally);
+    let text = round.text.output.taken();
+    assert!(rt; text.starts_with(b"message\nedition 4\n"), "{text:?}");
     let all = Tally {
         accepted: 4,
         refused: 0,
     };
-    assert_encoded(&rt, "stream", text.taken(), &messages, b"", all)?;
-    let mut r = ScriptIn::new(&messages, 4096, None);
-    let mut again = ScriptOut::new(rt.alloc(), 4096, 4096, End::Fail)?;
-    let ran = run_dump(rt.alloc(), &mut r, &mut again, &mut e, &table_b, &table_d);
-    assert!(rt; ran == Ok(all), "{ran:?}");
-    assert_eq!(rt; again.taken(), text.taken());
+    assert_encoded(&rt, "stream", text, &messages, b"", all)?;
+    assert_eq!(rt; round.messages.output.taken(), messages.as_slice());
+    assert!(rt; round.again.tally == all, "{:?}", round.again.tally);
+    assert_eq!(rt; round.again.output.taken(), text);
     Ok(())
 }
 

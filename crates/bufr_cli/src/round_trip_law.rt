@@ -1,6 +1,6 @@
 //! The round trip: what `dump` writes for a stream, `encode` builds again.
-ghost use Rattle.std.specs.Prelude.{ℕ, List, length, IfOk};
-ghost use Rattle.std.specs.List.{AllByRecursion};
+ghost use Rattle.std.specs.Prelude.{◌≡◌, ℕ, List, length, IfOk};
+ghost use Rattle.std.specs.List.{AllByRecursion, concat};
 ghost use Rattle.bufr_bits.specs.Script.{taken_of};
 ghost use Rattle.bufr_frame.specs.Scan.{Happening};
 ghost use Rattle.bufr_tables.specs.Records.{Record};
@@ -9,7 +9,7 @@ ghost use Rattle.bufr_tables.specs.TableD.{Sequence};
 ghost use Rattle.bufr_text.specs.Given.{IsOctet};
 ghost use Rattle.bufr_cli.specs.DumpPieces.{IsDumpPiece};
 ghost use Rattle.bufr_cli.specs.Pieces.{Piece};
-ghost use Rattle.bufr_cli.specs.RoundTrip.{RoundTrips, IsRun, IsWholeRound, dump_pieces, text_pieces};
+ghost use Rattle.bufr_cli.specs.RoundTrip.{RoundTrips, IsRun, IsWholeRound, IsWrittenSo, accepted_messages, dump_pieces, rebuilt, text_pieces};
 ghost use Rattle.bufr_cli.specs.Running.{GivesPieces};
 
 use crate::run_dump::run_dump;
@@ -27,6 +27,14 @@ pub fn dumped_streams_are_built_again()
     ensures { (records : List Record) (table_b : List Row) (table_d : List Sequence) (piece : Happening → Piece) (s : List ℕ)
         → AreRows records table_b → GivesPieces (IsDumpPiece table_b table_d) piece → AllByRecursion IsOctet s
         → RoundTrips table_b table_d piece s }
+{}
+
+/// Where the accepted messages of a stream are as an encoder writes them (least lengths, reserved bits
+/// zero, each item packed as its values are packed), they are built of the dump text octet for octet.
+pub fn canonical_streams_are_built_as_they_are()
+    ensures { (records : List Record) (table_b : List Row) (table_d : List Sequence) (piece : Happening → Piece) (s : List ℕ)
+        → AreRows records table_b → GivesPieces (IsDumpPiece table_b table_d) piece → AllByRecursion IsOctet s
+        → AllByRecursion (IsWrittenSo table_b table_d) (accepted_messages piece s) → rebuilt table_b table_d piece s ≡ concat (accepted_messages piece s) }
 {}
 
 /// What a run wrote into memory, and its counts.
