@@ -1,9 +1,8 @@
 -- What `dump` writes for a stream is encoded to messages that have the same dump text.
-use Rattle.std.proofs.Common.{◌≡◌, ◌∙◌, ◌⊎◌, ℕ, suc, ◌+◌, ◌<◌, ◌≤◌, true, false, List, [], ◌∷◌, ◌++◌, length, map, Result, Ok, Err, refl, sym, ap, subst, arith, inl, inr, length-append}
+use Rattle.std.proofs.Common.{◌≡◌, ◌∙◌, ◌⊎◌, ℕ, suc, ◌+◌, ◌<◌, ◌≤◌, List, [], ◌∷◌, ◌++◌, length, map, Option, Some, Result, Ok, Err, refl, sym, ap, subst, arith, inl, inr, length-append}
 use Rattle.std.specs.Prelude.{flat_map, count_by, slice_index}
 use Rattle.std.specs.List.{AllByRecursion, AllZip, concat, filter}
 use Rattle.std.proofs.lemmas.List.Sums.{length-filter}
-use Rattle.bufr_bits.specs.Script.{taken_of}
 use Rattle.bufr_tables.specs.Expansion.{tree_of}
 use Rattle.bufr_tables.specs.Records.{Record}
 use Rattle.bufr_tables.specs.TableB.{Row, AreRows}
@@ -18,11 +17,9 @@ use Rattle.bufr_frame.specs.Sections.{Sections, sections_of}
 use Rattle.bufr_frame.specs.declared.fault.SectionFault.{SectionFault}
 use Rattle.bufr_frame.proofs.FrameLemmas.{IsSmall, framed_octets, frames-within, small-frames}
 use Rattle.bufr_frame.proofs.ScanLemmas.{scan_from-nil}
-use Rattle.bufr_walk.specs.Outcome.{data_of, read_by}
 use Rattle.bufr_walk.specs.Reading.{Values, apart, together}
 use Rattle.bufr_text.specs.Documents.{Between, lines_of, spelled}
-use Rattle.bufr_text.specs.Dump.{document_of, dump_lines, dump_text_of}
-use Rattle.bufr_text.specs.Dumped.{items_of}
+use Rattle.bufr_text.specs.Dump.{dump_lines, dump_text_of}
 use Rattle.bufr_text.specs.Encoded.{IsAccepted, HasSameReading, items_in}
 use Rattle.bufr_text.specs.Given.{IsOctet}
 use Rattle.bufr_text.specs.Encoding.{RefusedAt}
@@ -34,9 +31,10 @@ use Rattle.bufr_text.proofs.RowsLemmas.{rows-read, good-rows}
 use Rattle.bufr_cli.specs.DumpPieces.{IsDataPiece, IsTemplatePiece, IsMessagePiece, IsDumpPiece, dump_text}
 use Rattle.bufr_cli.specs.EncodePieces.{encoded, told_piece, up_to_refused}
 use Rattle.bufr_cli.specs.Pieces.{Piece, OnOutput, OnErrors, output_of, errors_of, is_accepted, is_refused}
-use Rattle.bufr_cli.specs.RoundTrip.{accepted_in, accepted_messages, dump_pieces, octets_in, rebuilding, rebuilt, text_pieces, IsBuiltAgain, IsRun, IsWholeRound, IsWrittenSo, RoundTrips}
-use Rattle.bufr_cli.specs.Running.{GivesPieces}
-use Rattle.bufr_cli.specs.declared.round_trip_law.Round.{Round}
+use Rattle.bufr_cli.specs.RoundTrip.{accepted_in, accepted_messages, dump_pieces, dumped, octets_in, rebuilding, rebuilt, text_pieces, IsBuiltAgain, IsWholeRound, IsWrittenSo, RoundTrips}
+use Rattle.bufr_cli.specs.Program.{Dumps, Encodes}
+use Rattle.bufr_cli.specs.Running.{GivesPieces, Tallies}
+use Rattle.bufr_cli.specs.declared.tally.Tally.{Tally}
 use Rattle.bufr_cli.proofs.DumpLemmas.{one-piece}
 
 -- the numbers of a slice of octets
@@ -295,23 +293,41 @@ module _ (b : List Row) (d : List Sequence) (piece : Happening → Piece) (gives
       let r = built records (scan s) 1 rows (small-frames 0 0 s octets) in
       ap (flat_map output_of) (ap up_to_refused r.told ∙ outputs-whole r.messages) ∙ outputs-octets r.messages ∙ ap concat (r.kept all)
 
-  -- ---- three runs into memory
+  -- ---- three runs
 
   -- the first dumps a stream, the second encodes what the first wrote, the third dumps what the second wrote
-  pub whole-round : (records : List Record) (s : List ℕ) (round : Round) → AreRows records b → AllByRecursion IsOctet s
-      → IsRun round.text (dump_pieces piece s) → IsRun round.messages (text_pieces b d (taken_of round.text.output)) → IsRun round.again (dump_pieces piece (taken_of round.messages.output))
-      → IsWholeRound (length s) round
-  whole-round records s round rows octets text messages again =
-      let t = round-trips records s rows octets in
-      let built : text_pieces b d (taken_of round.text.output) ≡ rebuilding b d piece s = ap (text_pieces b d) text.output in
-      let are : taken_of round.messages.output ≡ rebuilt b d piece s = messages.output ∙ ap (flat_map output_of) built in
-      let pieces : dump_pieces piece (taken_of round.messages.output) ≡ filter is_accepted (dump_pieces piece s) = ap (dump_pieces piece) are ∙ t.same_pieces in
+  pub whole-round : (records : List Record) (stream text messages lines again faults : List ℕ) (first second third : Tally) → AreRows records b → AllByRecursion IsOctet stream
+      → text ≡ dumped piece stream → Tallies first (dump_pieces piece stream)
+      → messages ≡ flat_map output_of (text_pieces b d text) → lines ≡ flat_map errors_of (text_pieces b d text) → Tallies second (text_pieces b d text)
+      → again ≡ dumped piece messages → faults ≡ flat_map errors_of (dump_pieces piece messages) → Tallies third (dump_pieces piece messages)
+      → IsWholeRound stream text messages lines again faults first second third
+  whole-round records stream text messages lines again faults first second third rows octets is_text first_counts is_messages is_lines second_counts is_again is_faults third_counts =
+      let t = round-trips records stream rows octets in
+      let built : text_pieces b d text ≡ rebuilding b d piece stream = ap (text_pieces b d) is_text in
+      let are : messages ≡ rebuilt b d piece stream = is_messages ∙ ap (flat_map output_of) built in
+      let pieces : dump_pieces piece messages ≡ filter is_accepted (dump_pieces piece stream) = ap (dump_pieces piece) are ∙ t.same_pieces in
       record {
-        same_text = again.output ∙ ap (flat_map output_of) pieces ∙ accepted-output (dump_pieces piece s) ∙ sym text.output;
-        as_many = messages.tallies.accepted ∙ ap (count_by is_accepted) built ∙ t.as_many ∙ sym text.tallies.accepted;
-        none_refused = messages.tallies.refused ∙ ap (count_by is_refused) built ∙ t.none_refused;
-        no_line = messages.errors ∙ ap (flat_map errors_of) built ∙ t.no_line;
-        none_refused_again = again.tallies.refused ∙ ap (count_by is_refused) pieces ∙ accepted-count (dump_pieces piece s);
-        no_fault = again.errors ∙ ap (flat_map errors_of) pieces ∙ accepted-silent (dump_pieces piece s);
+        same_text = is_again ∙ ap (flat_map output_of) pieces ∙ accepted-output (dump_pieces piece stream) ∙ sym is_text;
+        as_many = second_counts.accepted ∙ ap (count_by is_accepted) built ∙ t.as_many ∙ sym first_counts.accepted;
+        none_refused = second_counts.refused ∙ ap (count_by is_refused) built ∙ t.none_refused;
+        no_line = is_lines ∙ ap (flat_map errors_of) built ∙ t.no_line;
+        none_refused_again = third_counts.refused ∙ ap (count_by is_refused) pieces ∙ accepted-count (dump_pieces piece stream);
+        no_fault = is_faults ∙ ap (flat_map errors_of) pieces ∙ accepted-silent (dump_pieces piece stream);
         no_longer = omega (arith, ap length are, t.no_longer);
       }
+
+-- two functions that give each event its piece give the same pieces
+same-pieces : (b : List Row) (d : List Sequence) (p q : Happening → Piece) → GivesPieces (IsDumpPiece b d) p → GivesPieces (IsDumpPiece b d) q → (es : List Happening) → map p es ≡ map q es
+same-pieces b d p q gives given [] = refl
+same-pieces b d p q gives given (here ∷ es) =
+    ap (λ x. x ∷ map p es) (one-piece b d here (p here) (q here) (gives here) (given here)) ∙ ap (λ l. q here ∷ l) (same-pieces b d p q gives given es)
+
+-- three runs of the program
+pub three-runs : (records : List Record) (b : List Row) (d : List Sequence) (stream text messages lines again faults : List ℕ) (e e' : Option (List ℕ)) (first second third : Tally) → AreRows records b → AllByRecursion IsOctet stream
+    → Dumps b d (Some []) (Some text) e e' first stream → Encodes b d (Some []) (Some messages) (Some []) (Some lines) second text → Dumps b d (Some []) (Some again) (Some []) (Some faults) third messages
+    → IsWholeRound stream text messages lines again faults first second third
+three-runs records b d stream text messages lines again faults e e' first second third rows octets (piece, gives, (wrote, counts)) (encodes, counted) (other, given, (dumps, counts')) =
+    let same : dump_pieces other messages ≡ dump_pieces piece messages = same-pieces b d other piece given gives (scan messages) in
+    let T : List Piece → Type 0 = λ ps. Tallies third ps in
+    whole-round b d piece gives records stream text messages lines again faults first second third rows octets
+    wrote.output counts encodes.output encodes.errors counted (dumps.output ∙ ap (flat_map output_of) same) (dumps.errors ∙ ap (flat_map errors_of) same) (subst T same counts')

@@ -15,8 +15,9 @@ use Rattle.bufr_text.specs.Encoded.{IsAccepted, HasSameReading}
 use Rattle.bufr_cli.specs.EncodePieces.{encode_pieces}
 use Rattle.bufr_cli.specs.Pieces.{Piece, OnOutput, OnErrors, output_of, errors_of, is_accepted, is_refused}
 use Rattle.bufr_cli.specs.Running.{Tallies}
-use Rattle.bufr_cli.specs.declared.round_trip_law.Round.{Round}
-use Rattle.bufr_cli.specs.declared.round_trip_law.RunInMemory.{RunInMemory}
+use Rattle.bufr_cli.specs.declared.round_trip.Round.{Round}
+use Rattle.bufr_cli.specs.declared.round_trip.RunInMemory.{RunInMemory}
+use Rattle.bufr_cli.specs.declared.tally.Tally.{Tally}
 
 -- what `dump` writes for a stream, each event by its piece, and what of that is on its output
 abbrev pub dump_pieces : (Happening → Piece) → List ℕ → List Piece
@@ -86,12 +87,18 @@ pub record IsRun (ran : RunInMemory) (pieces : List Piece) : Type 0 where
   pub errors : taken_of ran.errors ≡ flat_map errors_of pieces
   pub tallies : Tallies ran.tally pieces
 
--- The two texts are the same, and neither `encode` nor the second `dump` refuses anything; what was encoded is no longer than the stream was.
-pub record IsWholeRound (octets : ℕ) (round : Round) : Type 0 where
-  pub same_text : taken_of round.again.output ≡ taken_of round.text.output
-  pub as_many : round.messages.tally.accepted ≡ round.text.tally.accepted
-  pub none_refused : round.messages.tally.refused ≡ 0
-  pub no_line : taken_of round.messages.errors ≡ []
-  pub none_refused_again : round.again.tally.refused ≡ 0
-  pub no_fault : taken_of round.again.errors ≡ []
-  pub no_longer : length (taken_of round.messages.output) ≤ octets
+-- A stream was dumped to a text, the text encoded to messages with these fault lines, and the messages dumped again to a text with these faults: the
+-- two texts are the same, nothing was refused but by the first run, and the messages are no longer than the stream.
+pub record IsWholeRound (stream text messages lines again faults : List ℕ) (first second third : Tally) : Type 0 where
+  pub same_text : again ≡ text
+  pub as_many : second.accepted ≡ first.accepted
+  pub none_refused : second.refused ≡ 0
+  pub no_line : lines ≡ []
+  pub none_refused_again : third.refused ≡ 0
+  pub no_fault : faults ≡ []
+  pub no_longer : length messages ≤ length stream
+
+-- the same of three runs into memory
+abbrev pub IsWholeRoundOf : (stream : List ℕ) → Round → Type 0
+IsWholeRoundOf stream round = IsWholeRound stream (taken_of round.text.output) (taken_of round.messages.output) (taken_of round.messages.errors)
+    (taken_of round.again.output) (taken_of round.again.errors) round.text.tally round.messages.tally round.again.tally

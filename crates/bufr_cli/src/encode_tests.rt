@@ -6,7 +6,7 @@ use crate::dump_tests::{
 };
 use crate::job::{LineFault, Subcommand, parse_line};
 use crate::program::run;
-use crate::round_trip_law::dump_encode_dump;
+use crate::round_trip::dump_encode_dump;
 use crate::run_encode::run_encode;
 use crate::tally::Tally;
 use bufr_bits::{End, ScriptIn, ScriptOut};

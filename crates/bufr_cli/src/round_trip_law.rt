@@ -1,7 +1,6 @@
-//! The round trip: what `dump` writes for a stream, `encode` builds again.
-ghost use Rattle.std.specs.Prelude.{◌≡◌, ℕ, List, length, IfOk};
+//! Laws of the round trip: what `dump` writes for a stream, `encode` builds again.
+ghost use Rattle.std.specs.Prelude.{◌≡◌, ℕ, List, [], Option, Some};
 ghost use Rattle.std.specs.List.{AllByRecursion, concat};
-ghost use Rattle.bufr_bits.specs.Script.{taken_of};
 ghost use Rattle.bufr_frame.specs.Scan.{Happening};
 ghost use Rattle.bufr_tables.specs.Records.{Record};
 ghost use Rattle.bufr_tables.specs.TableB.{Row, AreRows};
@@ -9,16 +8,10 @@ ghost use Rattle.bufr_tables.specs.TableD.{Sequence};
 ghost use Rattle.bufr_text.specs.Given.{IsOctet};
 ghost use Rattle.bufr_cli.specs.DumpPieces.{IsDumpPiece};
 ghost use Rattle.bufr_cli.specs.Pieces.{Piece};
-ghost use Rattle.bufr_cli.specs.RoundTrip.{RoundTrips, IsRun, IsWholeRound, IsWrittenSo, accepted_messages, dump_pieces, rebuilt, text_pieces};
+ghost use Rattle.bufr_cli.specs.Program.{Dumps, Encodes};
+ghost use Rattle.bufr_cli.specs.RoundTrip.{RoundTrips, IsWholeRound, IsWrittenSo, accepted_messages, rebuilt};
 ghost use Rattle.bufr_cli.specs.Running.{GivesPieces};
-
-use crate::run_dump::run_dump;
-use crate::run_encode::run_encode;
-use crate::tally::Tally;
-use bufr_bits::{Device, End, ScriptOut};
-use bufr_frame::RunFault;
-use bufr_tables::{TableB, TableD};
-use std::alloc::Global;
+ghost use Rattle.bufr_cli.specs.declared.tally.Tally.{Tally};
 
 /// For every stream of octets and all tables that were read: of the text that `dump` writes, `encode`
 /// refuses nothing; the messages that it builds have, one by one, the same readings as those that were
@@ -37,107 +30,14 @@ pub fn canonical_streams_are_built_as_they_are()
         → AllByRecursion (IsWrittenSo table_b table_d) (accepted_messages piece s) → rebuilt table_b table_d piece s ≡ concat (accepted_messages piece s) }
 {}
 
-/// What a run wrote into memory, and its counts.
-#[derive(Drop)]
-pub struct RunInMemory {
-    /// The output.
-    pub output: ScriptOut,
-    /// The errors.
-    pub errors: ScriptOut,
-    /// How many pieces went to each.
-    pub tally: Tally,
-}
-
-/// How many octets a writer in memory takes at once.
-const STEP: usize = 65_536;
-
-/// Dumps a stream in memory.
-fn dump_octets(
-    alloc: Global,
-    stream: &[u8],
-    room: usize,
-    table_b: &TableB,
-    table_d: &TableD,
-) -> Result<RunInMemory, RunFault>
-    ensures { (piece : Happening → Piece) → GivesPieces (IsDumpPiece table_b.now table_d.now) piece → IfOk result (λ ran. IsRun ran (dump_pieces piece stream.now)) }
-{
-    let mut output = ScriptOut::new(alloc, room, STEP, End::Fail)?;
-    let mut errors = ScriptOut::new(alloc, room, STEP, End::Fail)?;
-    let tally = run_dump(
-        alloc,
-        &mut Device::new(stream),
-        &mut output,
-        &mut errors,
-        table_b,
-        table_d,
-    )?;
-    Ok(RunInMemory {
-        output,
-        errors,
-        tally,
-    })
-}
-
-/// Encodes a text in memory.
-fn encode_octets(
-    alloc: Global,
-    text: &[u8],
-    room: usize,
-    table_b: &TableB,
-    table_d: &TableD,
-) -> Result<RunInMemory, RunFault>
-    ensures { IfOk result (λ ran. IsRun ran (text_pieces table_b.now table_d.now text.now)) }
-{
-    let mut output = ScriptOut::new(alloc, room, STEP, End::Fail)?;
-    let mut errors = ScriptOut::new(alloc, room, STEP, End::Fail)?;
-    let tally = run_encode(
-        alloc,
-        &mut Device::new(text),
-        &mut output,
-        &mut errors,
-        table_b,
-        table_d,
-    )?;
-    Ok(RunInMemory {
-        output,
-        errors,
-        tally,
-    })
-}
-
-/// A stream's dump text, what that was encoded to, and the dump text of this.
-#[derive(Drop)]
-pub struct Round {
-    pub text: RunInMemory,
-    pub messages: RunInMemory,
-    pub again: RunInMemory,
-}
-
-/// Dumps the messages of a stream, encodes that text, and dumps what was encoded, each into writers
-/// with room for so many octets.
-///
-/// # Errors
-///
-/// [`RunFault::Write`] where the room is too small, and [`RunFault::Memory`].
-pub fn dump_encode_dump(
-    alloc: Global,
-    stream: &[u8],
-    room: usize,
-    table_b: &TableB,
-    table_d: &TableD,
-) -> Result<Round, RunFault>
-    ensures dump { (piece : Happening → Piece) → GivesPieces (IsDumpPiece table_b.now table_d.now) piece → IfOk result (λ round. IsRun round.text (dump_pieces piece stream.now)) }
-    ensures encode { IfOk result (λ round. IsRun round.messages (text_pieces table_b.now table_d.now (taken_of round.text.output))) }
-    ensures dump_again { (piece : Happening → Piece) → GivesPieces (IsDumpPiece table_b.now table_d.now) piece → IfOk result (λ round. IsRun round.again (dump_pieces piece (taken_of round.messages.output))) }
-    // By a Table B that was read, nothing is refused, and the two texts are the same.
-    ensures round { (records : List Record) → AreRows records table_b.now → IfOk result (λ round. IsWholeRound (length stream.now) round) }
-{
-    let text = dump_octets(alloc, stream, room, table_b, table_d)?;
-    let messages = encode_octets(alloc, text.output.taken(), room, table_b, table_d)?;
-    let again = dump_octets(alloc, messages.output.taken(), room, table_b, table_d)?;
-    Ok(Round {
-        text,
-        messages,
-        again,
-    })
-}
+/// Runs of the program that went through, each over what the one before wrote, by the same tables:
+/// after `dump`, `encode` and `dump` again the two texts are the same, and nothing was refused but by
+/// the first.
+pub fn runs_close_the_round()
+    ensures { (records : List Record) (table_b : List Row) (table_d : List Sequence) (stream text messages lines again faults : List ℕ) (e e' : Option (List ℕ)) (first second third : Tally)
+        → AreRows records table_b → AllByRecursion IsOctet stream
+        → Dumps table_b table_d (Some []) (Some text) e e' first stream
+        → Encodes table_b table_d (Some []) (Some messages) (Some []) (Some lines) second text
+        → Dumps table_b table_d (Some []) (Some again) (Some []) (Some faults) third messages
+        → IsWholeRound stream text messages lines again faults first second third }
+{}
