@@ -9,5 +9,6 @@ pub mod Line
 pub mod Pieces
 pub mod Program
 pub mod ReadAll
+pub mod RoundTrip
 pub mod Running
 pub mod Telling

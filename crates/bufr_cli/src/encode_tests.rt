@@ -1,12 +1,12 @@
 //! The worked examples of `encode`, run.
 
-use crate::law;
-use crate::run_dump::run_dump;
+use crate::round_trip::dump_encode_dump;
 use crate::run_encode::run_encode;
 use crate::tally::Tally;
 use crate::test_messages::{
     TABLE_B, TABLE_D, message_of, octets_of, one_block_number, text_of, text_of_one, words_of,
 };
+use crate::{law, round_trip_law};
 use bufr_bits::{End, ScriptIn, ScriptOut};
 use bufr_frame::RunFault;
 use bufr_tables::{TableB, TableD};
@@ -258,6 +258,9 @@ const STREAM: [u8; 305] = [
 fn encodes_a_dumped_stream(rt: HostRuntime) -> Result<(), Fail> {
     law::each_event_has_a_piece();
     law::an_event_has_one_piece();
+    round_trip_law::dumped_streams_are_built_again();
+    round_trip_law::canonical_streams_are_built_as_they_are();
+    round_trip_law::runs_close_the_round();
     let table_b = TableB::read(rt.alloc(), TABLE_B).expect(&rt, "table B");
     let table_d = TableD::read(rt.alloc(), TABLE_D).expect(&rt, "table D");
     let mut messages = Vec::new(rt.alloc());
@@ -265,25 +268,24 @@ fn encodes_a_dumped_stream(rt: HostRuntime) -> Result<(), Fail> {
     messages.extend_from_slice(&STREAM[77..131])?;
     messages.extend_from_slice(&STREAM[139..189])?;
     messages.extend_from_slice(&STREAM[238..294])?;
-    let mut r = ScriptIn::new(&STREAM, 4096, None);
-    let mut text = ScriptOut::new(rt.alloc(), 4096, 4096, End::Fail)?;
-    let mut e = ScriptOut::new(rt.alloc(), 4096, 4096, End::Fail)?;
-    let ran = run_dump(rt.alloc(), &mut r, &mut text, &mut e, &table_b, &table_d);
+    let round = dump_encode_dump(rt.alloc(), &STREAM, 4096, &table_b, &table_d).expect(
+        &rt, "a round",
+    );
     let dumped = Tally {
         accepted: 4,
         refused: 3,
     };
-    assert!(rt; ran == Ok(dumped), "{ran:?}");
+    assert!(rt; round.text.tally == dumped, "{:?}", round.text.tally);
+    let text = round.text.output.taken();
+    assert!(rt; text.starts_with(b"message\nedition 4\n"), "{text:?}");
     let all = Tally {
         accepted: 4,
         refused: 0,
     };
-    assert_encoded(&rt, "stream", text.taken(), &messages, b"", all)?;
-    let mut r = ScriptIn::new(&messages, 4096, None);
-    let mut again = ScriptOut::new(rt.alloc(), 4096, 4096, End::Fail)?;
-    let ran = run_dump(rt.alloc(), &mut r, &mut again, &mut e, &table_b, &table_d);
-    assert!(rt; ran == Ok(all), "{ran:?}");
-    assert_eq!(rt; again.taken(), text.taken());
+    assert_encoded(&rt, "stream", text, &messages, b"", all)?;
+    assert_eq!(rt; round.messages.output.taken(), messages.as_slice());
+    assert!(rt; round.again.tally == all, "{:?}", round.again.tally);
+    assert_eq!(rt; round.again.output.taken(), text);
     Ok(())
 }
 

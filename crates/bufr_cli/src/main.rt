@@ -8,6 +8,8 @@ mod job;
 pub mod law;
 mod program;
 mod read_all;
+pub mod round_trip;
+pub mod round_trip_law;
 mod run_dump;
 mod run_encode;
 mod run_events;

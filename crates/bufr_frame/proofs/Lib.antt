@@ -4,6 +4,7 @@ pub mod BufferLemmas
 pub mod CallLemmas
 mod Examples
 pub mod FindingLemmas
+pub mod FrameLemmas
 pub mod InputLemmas
 pub mod LayoutLemmas
 pub mod LongestLemmas

@@ -1,0 +1,43 @@
+//! Laws of the round trip: what `dump` writes for a stream, `encode` builds again.
+ghost use Rattle.std.specs.Prelude.{◌≡◌, ℕ, List, [], Option, Some};
+ghost use Rattle.std.specs.List.{AllByRecursion, concat};
+ghost use Rattle.bufr_frame.specs.Scan.{Happening};
+ghost use Rattle.bufr_tables.specs.Records.{Record};
+ghost use Rattle.bufr_tables.specs.TableB.{Row, AreRows};
+ghost use Rattle.bufr_tables.specs.TableD.{Sequence};
+ghost use Rattle.bufr_text.specs.Given.{IsOctet};
+ghost use Rattle.bufr_cli.specs.DumpPieces.{IsDumpPiece};
+ghost use Rattle.bufr_cli.specs.Pieces.{Piece};
+ghost use Rattle.bufr_cli.specs.Program.{Dumps, Encodes};
+ghost use Rattle.bufr_cli.specs.RoundTrip.{RoundTrips, IsWholeRound, IsWrittenSo, accepted_messages, rebuilt};
+ghost use Rattle.bufr_cli.specs.Running.{GivesPieces};
+ghost use Rattle.bufr_cli.specs.declared.tally.Tally.{Tally};
+
+/// For every stream of octets and all tables that were read: of the text that `dump` writes, `encode`
+/// refuses nothing; the messages that it builds have, one by one, the same readings as those that were
+/// dumped, and are no longer; and dumped again they are the same text, octet for octet.
+pub fn dumped_streams_are_built_again()
+    ensures { (records : List Record) (table_b : List Row) (table_d : List Sequence) (piece : Happening → Piece) (s : List ℕ)
+        → AreRows records table_b → GivesPieces (IsDumpPiece table_b table_d) piece → AllByRecursion IsOctet s
+        → RoundTrips table_b table_d piece s }
+{}
+
+/// Where the accepted messages of a stream are as an encoder writes them (least lengths, reserved bits
+/// zero, each item packed as its values are packed), they are built of the dump text octet for octet.
+pub fn canonical_streams_are_built_as_they_are()
+    ensures { (records : List Record) (table_b : List Row) (table_d : List Sequence) (piece : Happening → Piece) (s : List ℕ)
+        → AreRows records table_b → GivesPieces (IsDumpPiece table_b table_d) piece → AllByRecursion IsOctet s
+        → AllByRecursion (IsWrittenSo table_b table_d) (accepted_messages piece s) → rebuilt table_b table_d piece s ≡ concat (accepted_messages piece s) }
+{}
+
+/// Runs of the program that went through, each over what the one before wrote, by the same tables:
+/// after `dump`, `encode` and `dump` again the two texts are the same, and nothing was refused but by
+/// the first.
+pub fn runs_close_the_round()
+    ensures { (records : List Record) (table_b : List Row) (table_d : List Sequence) (stream text messages lines again faults : List ℕ) (e e' : Option (List ℕ)) (first second third : Tally)
+        → AreRows records table_b → AllByRecursion IsOctet stream
+        → Dumps table_b table_d (Some []) (Some text) e e' first stream
+        → Encodes table_b table_d (Some []) (Some messages) (Some []) (Some lines) second text
+        → Dumps table_b table_d (Some []) (Some again) (Some []) (Some faults) third messages
+        → IsWholeRound stream text messages lines again faults first second third }
+{}
