@@ -9,6 +9,7 @@ pub mod LeastLemmas
 pub mod PackedBack
 pub mod PackedRead
 pub mod PackedLaws
+pub mod LeastPacked
 pub mod PackedTrip
 pub mod WholeLaws
 pub mod WalkFills

@@ -1,17 +1,22 @@
 -- Worked examples of items packed for all subsets.
 use Rattle.std.proofs.Common.{◌≡◌, Bool, [], ◌∷◌, ◌++◌, replicate, Ok, Err, pos, refl}
-use Rattle.std.specs.Prelude.{codes}
+use Rattle.std.specs.Prelude.{codes, take}
 use Rattle.bufr_bits.specs.Bits.{bits_of, bits_in}
 use Rattle.bufr_bits.specs.DecimalValue.{decimal_value_of}
 use Rattle.bufr_tables.specs.declared.kind.Kind.TheVariants as kind
 use Rattle.bufr_walk.specs.declared.spec.Refusal.TheVariants as refusal
 use Rattle.bufr_walk.specs.declared.spec.Role.TheVariants as role
 use Rattle.bufr_walk.specs.Asked.{Asked}
+use Rattle.bufr_walk.specs.Content.{number, missing}
+use Rattle.bufr_walk.specs.PackedField.{packed_field}
+use Rattle.bufr_walk.specs.PlainField.{found}
 use Rattle.bufr_tables.specs.Tree.{bare, operator}
 use Rattle.bufr_fill.specs.Draft.{draft, text_form, missing_form, reference_token}
 use Rattle.bufr_fill.specs.Entries.{subset}
 use Rattle.bufr_fill.specs.Fault.{at_line, wrong_descriptor, wrong_number, out_of_range, item_too_many, unequal_factors, uneven_increment, too_many_values, walk_refused}
 use Rattle.bufr_fill.specs.Encoding.{across, pack_across, none_across}
+use Rattle.bufr_fill.specs.LeastK.{k_of}
+use Rattle.bufr_fill.specs.Packing.{packing}
 use Rattle.bufr_fill.proofs.ExampleTables.{temperature, block, figure, name, four_letters, delayed_blocks, redefined, width_of_none, numbered, packed_to_bits, ok_bits, zeros, letters}
 
 missing_written : packed_to_bits temperature (subset (numbered 24 3173 (codes "288.15") ∷ []) 25 ∷ subset (draft 26 3173 missing_form ∷ []) 27 ∷ []) ≡ ok_bits (112 ∷ 143 ∷ 5 ∷ []) 24
@@ -137,3 +142,29 @@ values_too_many = refl
 values_too_many_at_the_end : none_across 25 Bool.true as_quantity ≡ at_line 25 (too_many_values 3173)
 unfolding as_quantity
 values_too_many_at_the_end = refl
+
+-- two temperatures are packed with a k of 2; with a k of 3, or over a lesser base, they are read as well
+least_k_packed : packing as_quantity (number 28815 ∷ number 28816 ∷ []) ≡ Ok (take 26 (bits_of (112 ∷ 143 ∷ 8 ∷ 64 ∷ [])))
+unfolding as_quantity bits_in bits_of
+least_k_packed = refl
+
+least_k_told : k_of as_quantity (bits_of (112 ∷ 143 ∷ 8 ∷ 64 ∷ [])) ≡ 2
+unfolding as_quantity bits_of
+least_k_told = refl
+
+greater_k_read : packed_field 2 as_quantity (take 28 (bits_of (112 ∷ 143 ∷ 12 ∷ 16 ∷ []))) ≡ Ok (found (number 28815 ∷ number 28816 ∷ []) [])
+unfolding as_quantity bits_of
+greater_k_read = refl
+
+greater_k_told : k_of as_quantity (take 28 (bits_of (112 ∷ 143 ∷ 12 ∷ 16 ∷ []))) ≡ 3
+unfolding as_quantity bits_of
+greater_k_told = refl
+
+lesser_base_read : packed_field 2 as_quantity (take 26 (bits_of (112 ∷ 142 ∷ 9 ∷ 128 ∷ []))) ≡ Ok (found (number 28815 ∷ number 28816 ∷ []) [])
+unfolding as_quantity bits_of
+lesser_base_read = refl
+
+-- with a k of 1 the second is missing
+lesser_k_read : packed_field 2 as_quantity (take 24 (bits_of (112 ∷ 143 ∷ 5 ∷ []))) ≡ Ok (found (number 28815 ∷ missing ∷ []) [])
+unfolding as_quantity bits_of
+lesser_k_read = refl

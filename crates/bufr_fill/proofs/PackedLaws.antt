@@ -41,7 +41,7 @@ pub record IsUnpacked (n : ℕ) (spec : Asked) (bits : List Bool) (cs : List Con
   pub base : length (take spec.width bits) ≡ spec.width
   pub enough : n * step_of spec.role spec.kind k ≤ length (drop (spec.width + 6) bits)
   pub contents : contents_of spec k (take spec.width bits) (increments n (step_of spec.role spec.kind k) (drop (spec.width + 6) bits)) ≡ Ok cs
-  pub used : spec.width + 6 + n * step_of spec.role spec.kind k + length mid ≤ length bits
+  pub used : spec.width + 6 + n * step_of spec.role spec.kind k + length mid ≡ length bits
 
 module _ (n : ℕ) (spec : Asked) where
   with_rest : (r : Result (List Content) FieldFault) (rest : List Bool) (cs : List Content) (mid : List Bool) → with_behind r rest ≡ Ok (found cs mid) → (r ≡ Ok cs) × (rest ≡ mid)
@@ -473,7 +473,7 @@ module _ (n : ℕ) (spec : Asked) (good : IsSpec spec) where
       let step = step_of spec.role spec.kind k in
       let is = increments_all n step (drop (spec.width + 6) bits) u.enough in (
         spec.width + 6 + n * step,
-        u.used,
+        omega (arith, u.used),
         by_k (k == 0) k refl c cs (spec.width + 6 + n * step) (take spec.width bits) (increments n step (drop (spec.width + 6) bits)) u.base u.small is.0 is.1 u.contents (omega arith),
       )
 

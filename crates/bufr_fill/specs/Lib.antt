@@ -5,6 +5,7 @@ pub mod Fault
 pub mod Told
 pub mod Filling
 pub mod Packing
+pub mod LeastK
 pub mod DraftContent
 pub mod Encoding
 pub mod Filled

@@ -1,12 +1,15 @@
 //! Laws on writing: a walk writes what the definition makes of the items, and the items of a dump are written to bits from
-//! which the same is read, and no more bits than were read.
+//! which the same is read, and no more bits than were read, each item of compressed data with the least `k`.
 ghost use Rattle.std.specs.Prelude.{◌≡◌, ◌≤◌, ◌++◌, ℕ, List, [], Bool, length, Ok, Err};
 ghost use Rattle.bufr_tables.specs.Records.{Record};
 ghost use Rattle.bufr_tables.specs.TableB.{Row, AreRows};
 ghost use Rattle.bufr_tables.specs.Tree.{Tree};
 ghost use Rattle.bufr_tables.specs.Legal.{IsLegal};
+ghost use Rattle.bufr_walk.specs.Asked.{Asked, IsSpec};
 ghost use Rattle.bufr_walk.specs.Content.{Content};
 ghost use Rattle.bufr_walk.specs.Course.{Course, next_item, at_end};
+ghost use Rattle.bufr_walk.specs.PackedField.{packed_field};
+ghost use Rattle.bufr_walk.specs.PlainField.{found};
 ghost use Rattle.bufr_walk.specs.Reading.{Item, ReadsSubsets, IsPackedReading};
 ghost use Rattle.bufr_walk.specs.Taking.{Turn, Takes, course_after};
 ghost use Rattle.bufr_walk.specs.Walked.{oks, told_by};
@@ -15,6 +18,7 @@ ghost use Rattle.bufr_fill.specs.Entries.{Entry, Subset};
 ghost use Rattle.bufr_fill.specs.Fault.{FaultAt};
 ghost use Rattle.bufr_fill.specs.Filling.{fill, and_behind};
 ghost use Rattle.bufr_fill.specs.Encoding.{cells_at, packed_filler, packed_data};
+ghost use Rattle.bufr_fill.specs.LeastK.{HasLeastK};
 ghost use Rattle.bufr_fill.specs.PackedOut.{PackedPen, packed_start, PackedFills, all_end, rows_left, IsFaultHere};
 ghost use Rattle.bufr_fill.specs.PlainOut.{Pen, PlainFills, IsFaultNext, items_left, end_left};
 ghost use Rattle.bufr_fill.specs.WrittenAgain.{AreDumped, AreDumpedFrom, IsWrittenAgain, IsPackedAgain};
@@ -25,10 +29,16 @@ pub fn plain_data_round_trip()
     ensures { (records : List Record) (table : List Row) (template : Tree) (subsets : List (List (Item Content))) (drafts : List Subset) (bits behind : List Bool) → AreRows records table → IsLegal template → AreDumped subsets drafts → ReadsSubsets (next_item table template) subsets bits behind → IsWrittenAgain (next_item table template) subsets drafts bits behind }
 {}
 
-/// The same of compressed data, where each item is packed by the least base and the least `k`: this `k` is never above the one
-/// that was read.
+/// The same of compressed data: what was read is written again to bits that have the same reading, and no more of them.
 pub fn packed_data_round_trip()
     ensures { (n : ℕ) (records : List Record) (table : List Row) (template : Tree) (items : List (Item (List Content))) (drafts : List Subset) (bits behind : List Bool) → AreRows records table → IsLegal template → length drafts ≡ n → AreDumpedFrom 0 items drafts → IsPackedReading n (next_item table template) items bits behind → IsPackedAgain n (next_item table template) items drafts bits behind }
+{}
+
+/// An item of compressed data is packed with the least `k` of all from which its contents can be read: this `k` is never above
+/// the one that was read, and the item has no more bits than were read (WMO-No. 306, Volume I.2, FM 94: section 4, compression;
+/// that the `k` is the least is a choice of this project).
+pub fn items_are_packed_with_the_least_k()
+    ensures { (n : ℕ) (spec : Asked) (contents : List Content) (bits behind : List Bool) → 1 ≤ n → IsSpec spec → packed_field n spec bits ≡ Ok (found contents behind) → HasLeastK n spec contents }
 {}
 
 /// A walk over the items of one subset writes what the definition makes of them, up to those that are left.
