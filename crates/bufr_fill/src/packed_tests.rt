@@ -1,8 +1,8 @@
 // What is shown by running: worked items of compressed data, each fault, and the order of the faults.
 use super::*;
-use crate::tests::{TABLE_B, TABLE_D, descriptor_of, entries_of, hexadecimal, stopped, told};
-use bufr_tables::{TableB, TableD, Template};
-use bufr_walk::{Steps, walk};
+use crate::tests::{Way, assert_rows, hexadecimal, stopped, told};
+use bufr_tables::{TableB, Template};
+use bufr_walk::{Fields, Steps, walk};
 use std::alloc::Global;
 use std::test::Fail;
 
@@ -185,7 +185,7 @@ const TOGETHER_REFUSED: &[(&str, &str, &str, &str)] = &[
 ];
 
 // What comes of items that are written for all subsets together.
-fn together(
+pub(crate) fn together(
     alloc: Global,
     entries: &[Entry<'_>],
     template: &Template,
@@ -209,36 +209,37 @@ fn together(
     hexadecimal(alloc, &out.into_octets())
 }
 
+// How many bits the items of all subsets are, written together.
+pub(crate) fn bits_together(
+    alloc: Global,
+    entries: &[Entry<'_>],
+    template: &Template,
+    table: &TableB,
+) -> Result<String, Fail> {
+    if entries.len() > 100 {
+        return Err(Fail::from("too many"));
+    }
+    let Some(mut out) = PackedOut::new(alloc, entries)? else {
+        return Ok(String::new(alloc));
+    };
+    let mut steps = Steps::new();
+    match walk(alloc, template, table, &mut out, &mut steps) {
+        Ok(()) => Ok(format!(in alloc; "{}", out.bits())?),
+        Err(why) => stopped(alloc, why, out.line()),
+    }
+}
+
 #[test]
 fn items_together(rt: HostRuntime) -> Result<(), Fail> {
-    let table_b = TableB::read(rt.alloc(), TABLE_B)?;
-    let table_d = TableD::read(rt.alloc(), TABLE_D)?;
-    for (name, descriptors_text, items, want) in TOGETHER {
-        let mut descriptors = Vec::new(rt.alloc());
-        for digits in descriptors_text.split_whitespace() {
-            descriptors.push(descriptor_of(digits))?;
-        }
-        let template = Template::build(rt.alloc(), &descriptors, &table_b, &table_d)?;
-        let entries = entries_of(rt.alloc(), items)?;
-        let got = together(rt.alloc(), &entries, &template, &table_b)?;
-        assert_eq!(rt; got.as_str(), *want, "{name}");
-    }
-    Ok(())
+    law::packed_data_round_trip();
+    law::items_are_packed_with_the_least_k();
+    law::packed_walk_writes_as_defined();
+    law::packed_data_are_written_as_defined();
+    assert_rows(&rt, Way::Together, TOGETHER)
 }
 
 #[test]
 fn items_refused_together(rt: HostRuntime) -> Result<(), Fail> {
-    let table_b = TableB::read(rt.alloc(), TABLE_B)?;
-    let table_d = TableD::read(rt.alloc(), TABLE_D)?;
-    for (name, descriptors_text, items, want) in TOGETHER_REFUSED {
-        let mut descriptors = Vec::new(rt.alloc());
-        for digits in descriptors_text.split_whitespace() {
-            descriptors.push(descriptor_of(digits))?;
-        }
-        let template = Template::build(rt.alloc(), &descriptors, &table_b, &table_d)?;
-        let entries = entries_of(rt.alloc(), items)?;
-        let got = together(rt.alloc(), &entries, &template, &table_b)?;
-        assert_eq!(rt; got.as_str(), *want, "{name}");
-    }
-    Ok(())
+    law::packed_fault_is_as_defined();
+    assert_rows(&rt, Way::Together, TOGETHER_REFUSED)
 }

@@ -1,12 +1,14 @@
 // What is shown by running: worked items of data that are not compressed, and each fault.
 use super::*;
+use crate::packed_tests::{bits_together, together};
 use bufr_tables::{Fxy, TableB, TableD, Template};
 use bufr_walk::{Fields, Steps, WalkStop, walk};
 use std::alloc::{AllocError, Global};
+use std::process::Abort;
 use std::test::Fail;
 
 // Test data, not WMO's.
-pub(crate) const TABLE_B: &[u8] = b"\
+const TABLE_B: &[u8] = b"\
     fxy,name,unit,scale,reference,width\n\
     001001,WMO BLOCK NUMBER,Numeric,0,0,7\n\
     001015,STATION OR SITE NAME,CCITT IA5,0,0,160\n\
@@ -17,7 +19,7 @@ pub(crate) const TABLE_B: &[u8] = b"\
     031001,DELAYED DESCRIPTOR REPLICATION FACTOR,Numeric,0,0,8\n\
     031021,ASSOCIATED FIELD SIGNIFICANCE,Code table,0,0,6\n";
 
-pub(crate) const TABLE_D: &[u8] = b"fxy,member\n360192,001001\n360192,012101\n";
+const TABLE_D: &[u8] = b"fxy,member\n360192,001001\n360192,012101\n";
 
 // A name for what is shown, the descriptors, the items, and what comes of them: the octets of the data, or the number of
 // a fault and its line. An item is a descriptor and a form: a number, a text behind ', a named text behind #, MISSING, or
@@ -99,7 +101,7 @@ const APART: &[(&str, &str, &str, &str)] = &[
 ];
 
 // The descriptor of six digits; what is none is 000000.
-pub(crate) fn descriptor_of(digits: &str) -> Fxy {
+fn descriptor_of(digits: &str) -> Fxy {
     let number = digits.parse::<u32>().unwrap_or(0);
     let word = number / 100_000 * 16384 + number / 1000 % 100 * 256 + number % 1000;
     Fxy::from_word(u16::try_from(word).unwrap_or(0))
@@ -157,8 +159,28 @@ fn put_entries<'a>(words: &[&'a str], entries: &mut Vec<Entry<'a>>) -> Result<()
     Ok(())
 }
 
+fn tables(alloc: Global) -> Result<(TableB, TableD), Fail> {
+    let table_b = TableB::read(alloc, TABLE_B)?;
+    let table_d = TableD::read(alloc, TABLE_D)?;
+    Ok((table_b, table_d))
+}
+
+// The template of descriptors that words spell.
+fn template_of(
+    alloc: Global,
+    text: &str,
+    table_b: &TableB,
+    table_d: &TableD,
+) -> Result<Template, Fail> {
+    let mut descriptors = Vec::new(alloc);
+    for digits in text.split_whitespace() {
+        descriptors.push(descriptor_of(digits))?;
+    }
+    Ok(Template::build(alloc, &descriptors, table_b, table_d)?)
+}
+
 // The entries that words spell.
-pub(crate) fn entries_of(alloc: Global, text: &str) -> Result<Vec<Entry<'_>>, AllocError> {
+fn entries_of(alloc: Global, text: &str) -> Result<Vec<Entry<'_>>, AllocError> {
     let words: Vec<&str> = text.split_whitespace().collect(alloc)?;
     let mut entries = Vec::new(alloc);
     put_entries(words.as_slice(), &mut entries)?;
@@ -240,46 +262,83 @@ fn apart(
     hexadecimal(alloc, &out.into_octets())
 }
 
-#[test]
-fn items_apart(rt: HostRuntime) -> Result<(), Fail> {
-    let table_b = TableB::read(rt.alloc(), TABLE_B)?;
-    let table_d = TableD::read(rt.alloc(), TABLE_D)?;
-    for (name, descriptors_text, items, want) in APART {
-        let mut descriptors = Vec::new(rt.alloc());
-        for digits in descriptors_text.split_whitespace() {
-            descriptors.push(descriptor_of(digits))?;
-        }
-        let template = Template::build(rt.alloc(), &descriptors, &table_b, &table_d)?;
-        let entries = entries_of(rt.alloc(), items)?;
-        let got = apart(rt.alloc(), &entries, &template, &table_b)?;
+// How many bits the items of the first subset are, written apart.
+fn bits_apart(
+    alloc: Global,
+    entries: &[Entry<'_>],
+    template: &Template,
+    table: &TableB,
+) -> Result<String, Fail> {
+    if entries.len() > 100 {
+        return Err(Fail::from("too many"));
+    }
+    let mut out = PlainOut::new(alloc, entries);
+    let mut steps = Steps::new();
+    match walk(alloc, template, table, &mut out, &mut steps) {
+        Ok(()) => Ok(format!(in alloc; "{}", out.bits())?),
+        Err(why) => stopped(alloc, why, out.line()),
+    }
+}
+
+// How items are written, and what is told of them.
+#[derive(Clone, Copy)]
+pub(crate) enum Way {
+    Apart,
+    Together,
+    BitsApart,
+    BitsTogether,
+}
+
+// What comes of the items that words spell.
+fn shown(
+    alloc: Global,
+    way: Way,
+    items: &str,
+    template: &Template,
+    table: &TableB,
+) -> Result<String, Fail> {
+    let entries = entries_of(alloc, items)?;
+    match way {
+        Way::Apart => apart(alloc, &entries, template, table),
+        Way::Together => together(alloc, &entries, template, table),
+        Way::BitsApart => bits_apart(alloc, &entries, template, table),
+        Way::BitsTogether => bits_together(alloc, &entries, template, table),
+    }
+}
+
+// Asserts what comes of each row.
+pub(crate) fn assert_rows(
+    rt: &(impl Abort + AllocGlobal),
+    way: Way,
+    rows: &[(&str, &str, &str, &str)],
+) -> Result<(), Fail> {
+    let (table_b, table_d) = tables(rt.alloc())?;
+    for (name, digits, items, want) in rows {
+        let template = template_of(rt.alloc(), digits, &table_b, &table_d)?;
+        let got = shown(rt.alloc(), way, items, &template, &table_b)?;
         assert_eq!(rt; got.as_str(), *want, "{name}");
     }
     Ok(())
 }
 
+#[test]
+fn items_apart(rt: HostRuntime) -> Result<(), Fail> {
+    law::plain_data_round_trip();
+    law::plain_walk_writes_as_defined();
+    law::plain_fault_is_as_defined();
+    assert_rows(&rt, Way::Apart, APART)
+}
+
 // Whole items alone are counted.
 #[test]
 fn bits_of_whole_items(rt: HostRuntime) -> Result<(), Fail> {
-    let table_b = TableB::read(rt.alloc(), TABLE_B)?;
-    let table_d = TableD::read(rt.alloc(), TABLE_D)?;
-    let mut descriptors = Vec::new(rt.alloc());
-    descriptors.push(descriptor_of("001001"))?;
-    let template = Template::build(rt.alloc(), &descriptors, &table_b, &table_d)?;
-    let entries = entries_of(rt.alloc(), "001001 10 / 001001 11 /")?;
-    if entries.len() > 100 {
-        return Err(Fail::from("too many"));
-    }
-    let mut steps = Steps::new();
-    let mut plain = PlainOut::new(rt.alloc(), &entries);
-    let walked = walk(rt.alloc(), &template, &table_b, &mut plain, &mut steps).is_ok();
-    assert!(rt; walked);
-    assert_eq!(rt; plain.bits(), 7);
-    if let Some(mut packed) = PackedOut::new(rt.alloc(), &entries)? {
-        let walked = walk(rt.alloc(), &template, &table_b, &mut packed, &mut steps).is_ok();
-        assert!(rt; walked);
-        assert_eq!(rt; packed.bits(), 17);
-    }
-    Ok(())
+    let items = "001001 10 / 001001 11 /";
+    assert_rows(&rt, Way::BitsApart, &[("apart", "001001", items, "7")])?;
+    assert_rows(
+        &rt,
+        Way::BitsTogether,
+        &[("together", "001001", items, "17")],
+    )
 }
 
 #[test]
