@@ -215,17 +215,17 @@ pub(crate) fn bits_together(
     entries: &[Entry<'_>],
     template: &Template,
     table: &TableB,
-) -> Result<String, Fail> {
+) -> Option<u64> {
     if entries.len() > 100 {
-        return Err(Fail::from("too many"));
+        return None;
     }
-    let Some(mut out) = PackedOut::new(alloc, entries)? else {
-        return Ok(String::new(alloc));
+    let Ok(Some(mut out)) = PackedOut::new(alloc, entries) else {
+        return None;
     };
     let mut steps = Steps::new();
     match walk(alloc, template, table, &mut out, &mut steps) {
-        Ok(()) => Ok(format!(in alloc; "{}", out.bits())?),
-        Err(why) => stopped(alloc, why, out.line()),
+        Ok(()) => Some(out.bits()),
+        Err(_) => None,
     }
 }
 

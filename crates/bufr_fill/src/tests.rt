@@ -107,17 +107,23 @@ fn descriptor_of(digits: &str) -> Fxy {
     Fxy::from_word(u16::try_from(word).unwrap_or(0))
 }
 
-// A text that no word spells, or a long one.
+// Texts that no word spells, and long ones.
+const TEXTS: &[(&[u8], &[u8])] = &[
+    (b"ones", b"\xFF\xFF\xFF"),
+    (b"two_ones", b"\xFF\xFF"),
+    (b"two_ones_and_a", b"\xFF\xFFA"),
+    (b"a_62", &[b'A'; 62]),
+    (b"a_63", &[b'A'; 63]),
+    (b"a_64", &[b'A'; 64]),
+];
+
 fn named_text(name: &[u8]) -> &'static [u8] {
-    match name {
-        b"ones" => b"\xFF\xFF\xFF",
-        b"two_ones" => b"\xFF\xFF",
-        b"two_ones_and_a" => b"\xFF\xFFA",
-        b"a_62" => &[b'A'; 62],
-        b"a_63" => &[b'A'; 63],
-        b"a_64" => &[b'A'; 64],
-        _ => b"",
+    for (known, text) in TEXTS {
+        if *known == name {
+            return text;
+        }
     }
+    b""
 }
 
 // The form that a word spells.
@@ -199,14 +205,14 @@ pub(crate) fn hexadecimal(alloc: Global, octets: &[u8]) -> Result<String, Fail> 
 // The line of a fault.
 fn line_of(fault: DraftFault) -> u64 {
     match fault {
-        DraftFault::WrongDescriptor(line, _) => line,
-        DraftFault::Number(line) => line,
-        DraftFault::OutOfRange(line) => line,
-        DraftFault::TextLong(line) => line,
-        DraftFault::MissingForbidden(line) => line,
-        DraftFault::UnequalFactor(line) => line,
-        DraftFault::Increment(line) => line,
-        DraftFault::TooManyValues(line, _) => line,
+        DraftFault::Number(line)
+        | DraftFault::OutOfRange(line)
+        | DraftFault::TextLong(line)
+        | DraftFault::MissingForbidden(line)
+        | DraftFault::UnequalFactor(line)
+        | DraftFault::Increment(line)
+        | DraftFault::WrongDescriptor(line, _)
+        | DraftFault::TooManyValues(line, _) => line,
         DraftFault::Memory => 0,
     }
 }
@@ -268,16 +274,21 @@ fn bits_apart(
     entries: &[Entry<'_>],
     template: &Template,
     table: &TableB,
-) -> Result<String, Fail> {
+) -> Option<u64> {
     if entries.len() > 100 {
-        return Err(Fail::from("too many"));
+        return None;
     }
     let mut out = PlainOut::new(alloc, entries);
     let mut steps = Steps::new();
     match walk(alloc, template, table, &mut out, &mut steps) {
-        Ok(()) => Ok(format!(in alloc; "{}", out.bits())?),
-        Err(why) => stopped(alloc, why, out.line()),
+        Ok(()) => Some(out.bits()),
+        Err(_) => None,
     }
+}
+
+// A number of bits.
+fn counted(alloc: Global, bits: Option<u64>) -> Result<String, Fail> {
+    Ok(format!(in alloc; "{bits:?}")?)
 }
 
 // How items are written, and what is told of them.
@@ -301,8 +312,8 @@ fn shown(
     match way {
         Way::Apart => apart(alloc, &entries, template, table),
         Way::Together => together(alloc, &entries, template, table),
-        Way::BitsApart => bits_apart(alloc, &entries, template, table),
-        Way::BitsTogether => bits_together(alloc, &entries, template, table),
+        Way::BitsApart => counted(alloc, bits_apart(alloc, &entries, template, table)),
+        Way::BitsTogether => counted(alloc, bits_together(alloc, &entries, template, table)),
     }
 }
 
@@ -333,11 +344,15 @@ fn items_apart(rt: HostRuntime) -> Result<(), Fail> {
 #[test]
 fn bits_of_whole_items(rt: HostRuntime) -> Result<(), Fail> {
     let items = "001001 10 / 001001 11 /";
-    assert_rows(&rt, Way::BitsApart, &[("apart", "001001", items, "7")])?;
+    assert_rows(
+        &rt,
+        Way::BitsApart,
+        &[("apart", "001001", items, "Some(7)")],
+    )?;
     assert_rows(
         &rt,
         Way::BitsTogether,
-        &[("together", "001001", items, "17")],
+        &[("together", "001001", items, "Some(17)")],
     )
 }
 
