@@ -241,9 +241,3 @@ told-at-end left left' s told bs call done = ap documents_of (sym (append-nil bs
 
 pub told-at-fault : (left left' : Option (List ℕ)) (s : State) (told : List Told) (bs : List ℕ) → CallSo left left' fresh s told bs → IsOpen s → open_documents_of bs ≡ told
 told-at-fault left left' s told bs call open' = ap open_documents_of (sym (append-nil bs)) ∙ call.goes.openly open'.0 [] ∙ ap (λ (l : List Told). told ++ l) open'.1 ∙ append-nil told
-
--- what was read is lines and what is held
-pub lines-and-held : (left left' : Option (List ℕ)) (s : State) (told : List Told) (bs : List ℕ) → CallSo left left' fresh s told bs → (lines : List (List ℕ)) × (s.at ≡ 1 + length lines) × (length bs ≤ length (text_of lines) + length s.held)
-lines-and-held left left' s told bs call =
-    let p = call.lines.2 in
-    (p.lines, omega (arith, p.counted), omega (arith, ap length p.octets, length-append bs call.lines.0, length-append (text_of p.lines) s.held))
