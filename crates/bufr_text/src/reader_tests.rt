@@ -154,7 +154,7 @@ fn assert_told(
 /// its nearest wrong neighbour.
 #[test]
 fn rules(rt: HostRuntime) -> Result<(), Fail> {
-    let table: [(usize, &[u8], Told); 57] = [
+    let table: [(usize, &[u8], Told); 70] = [
         (24, b"001001 10\n", Spelled(2, 25)),
         (24, b"001001\t10\n", Refused(Line(24))),
         (24, b"001001  10\n", Refused(Line(24))),
@@ -175,6 +175,7 @@ fn rules(rt: HostRuntime) -> Result<(), Fail> {
         (24, b"001001 MISSING2\n", Refused(Line(24))),
         (24, b"R 012101 -400\n", Spelled(2, 25)),
         (24, b"R 012101 MISSING\n", Refused(Line(24))),
+        (24, b"R 012101 \"x\"\n", Refused(Line(24))),
         (24, b"363255 1\n", Spelled(2, 25)),
         (24, b"364255 1\n", Refused(Line(24))),
         (24, b"363256 1\n", Refused(Line(24))),
@@ -188,6 +189,8 @@ fn rules(rt: HostRuntime) -> Result<(), Fail> {
         (24, b"205004 \"\xFE\"\n", Refused(Line(24))),
         (24, b"205004 \"a\n", Refused(Line(24))),
         (24, b"205004 \"a\"  # note\n", Spelled(2, 25)),
+        (24, b"205004 \"a\"# note\n", Refused(Line(24))),
+        (24, b"205004 \"a\"x\n", Refused(Line(24))),
         (22, b"local1 abCD\n", Spelled(2, 25)),
         (22, b"local1 abC\n", Refused(Line(22))),
         (22, b"local1 \n", Refused(Line(22))),
@@ -212,6 +215,11 @@ fn rules(rt: HostRuntime) -> Result<(), Fail> {
         (22, b"descriptors 0010010\n", Refused(Line(22))),
         (22, b"descriptors  001001\n", Refused(Line(22))),
         (22, b"descriptors\n", Refused(Line(22))),
+        (4, b"\n# note\ncentre 98\n", Spelled(2, 27)),
+        (4, b"centre \n", Refused(Line(4))),
+        (4, b"centre +98\n", Refused(Line(4))),
+        (4, b"centre -98\n", Refused(Line(4))),
+        (4, b"centre  98\n", Refused(Line(4))),
         (4, b"centre 65535\n", Spelled(2, 25)),
         (4, b"centre 65536\n", Refused(HeaderRange(4))),
         (4, b"centre 65536x\n", Refused(Line(4))),
@@ -219,8 +227,13 @@ fn rules(rt: HostRuntime) -> Result<(), Fail> {
         (3, b"master 256\n", Refused(HeaderRange(3))),
         (2, b"edition 3\n", Refused(HeaderRange(2))),
         (18, b"observed 2\n", Refused(HeaderRange(18))),
+        (19, b"compressed 2\n", Refused(HeaderRange(19))),
+        (20, b"optional 2\n", Refused(HeaderRange(20))),
+        (21, b"subsets 65536\n", Refused(HeaderRange(21))),
         (21, b"subsets 2\n", Refused(SubsetCount(25))),
         (23, b"subset 2\n", Refused(SubsetCount(23))),
+        (23, b"subset x\n", Refused(Line(23))),
+        (23, b"subset \n", Refused(Line(23))),
         (23, b"subset 01\n", Spelled(2, 25)),
         (25, b"", Refused(Line(25))),
         (25, b"end", Spelled(2, 25)),
@@ -247,6 +260,52 @@ fn assert_line(
     Ok(())
 }
 
+/// A line that ends with so many digits.
+fn with_digits(alloc: Global, word: &[u8], times: usize) -> Result<Vec<u8>, AllocError> {
+    let mut line = Vec::new(alloc);
+    line.extend_from_slice(word)?;
+    line.extend_from_slice(&repeated(alloc, b'9', times)?)?;
+    line.push(b'\n')?;
+    Ok(line)
+}
+
+/// A document without a subset, with these lines of octets.
+fn with_octets(alloc: Global, lines: &[u8]) -> Result<Vec<u8>, AllocError> {
+    let mut text = Vec::new(alloc);
+    let mut at = 0usize;
+    for line in ONE_BLOCK_NUMBER {
+        at = at.saturating_add(1);
+        match at {
+            20 => text.extend_from_slice(b"optional 1\n")?,
+            21 => {
+                text.extend_from_slice(b"subsets 0\n")?;
+                text.extend_from_slice(lines)?;
+            }
+            23 | 24 => text.extend_from_slice(b"# no subset\n")?,
+            _ => {
+                text.extend_from_slice(line)?;
+                text.push(b'\n')?;
+            }
+        }
+    }
+    Ok(text)
+}
+
+/// Lines of octets have at most 64 digits, and an even number of them.
+#[test]
+fn long_octet_lines(rt: HostRuntime) -> Result<(), Fail> {
+    let alloc = rt.alloc();
+    for word in [b"local1 ".as_slice(), b"section2 ".as_slice()] {
+        let most = with_octets(alloc, &with_digits(alloc, word, 64)?)?;
+        assert_told(&rt, &most, None, &[Spelled(0, 0), Done]);
+        for times in [63, 66] {
+            let more = with_octets(alloc, &with_digits(alloc, word, times)?)?;
+            assert_told(&rt, &more, None, &[Refused(Line(22))]);
+        }
+    }
+    Ok(())
+}
+
 /// Lines of 4,096 octets are read, one more octet is too much, before its line feed is seen.
 #[test]
 fn long_lines(rt: HostRuntime) -> Result<(), Fail> {
@@ -255,15 +314,12 @@ fn long_lines(rt: HostRuntime) -> Result<(), Fail> {
     assert_line(&rt, 24, &most, Spelled(2, 26))?;
     let more = joined(alloc, &[Notes(4097), Text(b"\n001001 10\n")])?;
     assert_line(&rt, 24, &more, Refused(Line(24)))?;
-    let digits = repeated(alloc, b'9', 1000)?;
-    let mut centre = joined(alloc, &[Text(b"centre ")])?;
-    centre.extend_from_slice(&digits)?;
-    centre.push(b'\n')?;
+    let centre = with_digits(alloc, b"centre ", 4089)?;
     assert_line(&rt, 4, &centre, Refused(HeaderRange(4)))?;
-    let mut item = joined(alloc, &[Text(b"001001 ")])?;
-    item.extend_from_slice(&digits)?;
-    item.push(b'\n')?;
-    assert_line(&rt, 24, &item, Spelled(2, 25))?;
+    let most = with_digits(alloc, b"001001 ", 4089)?;
+    assert_line(&rt, 24, &most, Spelled(2, 25))?;
+    let more = with_digits(alloc, b"001001 ", 4090)?;
+    assert_line(&rt, 24, &more, Refused(Line(24)))?;
     // no read is made behind the first octet that is too many
     let cut = joined(alloc, &[Notes(4097)])?;
     assert_told(&rt, &cut, Some(4097), &[Refused(Line(1))]);
@@ -366,19 +422,7 @@ fn one_block_number(rt: HostRuntime) -> Result<(), Fail> {
 #[test]
 fn local_use(rt: HostRuntime) -> Result<(), Fail> {
     let alloc = rt.alloc();
-    let mut text = Vec::new(alloc);
-    let mut at = 0usize;
-    for line in ONE_BLOCK_NUMBER {
-        at = at.saturating_add(1);
-        let line: &[u8] = match at {
-            20 => b"optional 1",
-            21 => b"subsets 0\nlocal1 01\nlocal1 0203\nsection2 ab",
-            23 | 24 => b"# no subset",
-            _ => line,
-        };
-        text.extend_from_slice(line)?;
-        text.push(b'\n')?;
-    }
+    let text = with_octets(alloc, b"local1 01\nlocal1 0203\nsection2 ab\n")?;
     let mut r = ScriptIn::new(&text, 3, None);
     let mut reader = DumpReader::new(alloc);
     let Ok(Some(document)) = reader.next_document(&mut r) else {
