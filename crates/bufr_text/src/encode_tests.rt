@@ -1,7 +1,9 @@
 //! Documents and their messages.
 
 use crate::dump_tests::{FIRST_LINES, ROWS as DUMPED, TABLE_B, TABLE_D, dump, message_of};
-use crate::{Document, DocumentFault, DumpReader, dump_law, encode_document, encode_law};
+use crate::{
+    Document, DocumentFault, DumpReader, ReadFault, dump_law, encode_document, encode_law,
+};
 use bufr_bits::ScriptIn;
 use bufr_tables::{TableB, TableD};
 use bufr_walk::Steps;
@@ -281,6 +283,20 @@ fn refuses_documents_at_their_lines(rt: HostRuntime) -> Result<(), Fail> {
             assert_eq!(rt; fault.line(), Some(line), "{}", row.name);
         }
     }
+    Ok(())
+}
+
+/// A document is read whole before its items are looked at: a line that may not stand there is told,
+/// and not the item above it that is not whole at its scale.
+#[test]
+fn tells_a_line_before_an_item(rt: HostRuntime) -> Result<(), Fail> {
+    let mut text = String::from_str(rt.alloc(), FIRST_LINES)?;
+    text.push_str("observed 1\ncompressed 0\noptional 0\nsubsets 1\ndescriptors 012101\n")?;
+    text.push_str("subset 1\n012101 288.155\nx\nend\n")?;
+    let mut reader = DumpReader::new(rt.alloc());
+    let mut input = ScriptIn::new(text.as_bytes(), 4096, None);
+    let next = reader.next_document(&mut input);
+    assert!(rt; matches!(next, Err(ReadFault::Line(25))));
     Ok(())
 }
 
