@@ -51,6 +51,16 @@ enum Told {
 use ReadFault::{HeaderRange, Line, SubsetCount};
 use Told::{Done, Refused, Spelled};
 
+/// Lines, each with its line feed.
+fn of_lines(alloc: Global, lines: &[&[u8]]) -> Result<Vec<u8>, AllocError> {
+    let mut octets = Vec::new(alloc);
+    for line in lines {
+        octets.extend_from_slice(line)?;
+        octets.push(b'\n')?;
+    }
+    Ok(octets)
+}
+
 /// The lines of the document, with this text in place of a line (from 1).
 fn with_line(alloc: Global, number: usize, text: &[u8]) -> Result<Vec<u8>, AllocError> {
     let mut octets = Vec::new(alloc);
@@ -270,24 +280,13 @@ fn with_digits(alloc: Global, word: &[u8], times: usize) -> Result<Vec<u8>, Allo
 }
 
 /// A document without a subset, with these lines of octets.
-fn with_octets(alloc: Global, lines: &[u8]) -> Result<Vec<u8>, AllocError> {
-    let mut text = Vec::new(alloc);
-    let mut at = 0usize;
-    for line in ONE_BLOCK_NUMBER {
-        at = at.saturating_add(1);
-        match at {
-            20 => text.extend_from_slice(b"optional 1\n")?,
-            21 => {
-                text.extend_from_slice(b"subsets 0\n")?;
-                text.extend_from_slice(lines)?;
-            }
-            23 | 24 => text.extend_from_slice(b"# no subset\n")?,
-            _ => {
-                text.extend_from_slice(line)?;
-                text.push(b'\n')?;
-            }
-        }
-    }
+fn with_octets(alloc: Global, octets: &[u8]) -> Result<Vec<u8>, AllocError> {
+    let mut lines = ONE_BLOCK_NUMBER;
+    lines[19] = b"optional 1";
+    lines[20] = b"subsets 0";
+    let mut text = of_lines(alloc, &lines[..21])?;
+    text.extend_from_slice(octets)?;
+    text.extend_from_slice(b"descriptors 001001\nend\n")?;
     Ok(text)
 }
 
@@ -369,51 +368,53 @@ fn several_documents(rt: HostRuntime) -> Result<(), Fail> {
     Ok(())
 }
 
-/// What the document of one block number says, and the forms of items.
+/// The first document of a text.
+fn first_document(alloc: Global, text: &[u8]) -> Option<Document> {
+    let mut r = ScriptIn::new(text, 3, None);
+    let mut reader = DumpReader::new(alloc);
+    reader.next_document(&mut r).unwrap_or(None)
+}
+
+/// What the document of one block number says.
 #[test]
 fn one_block_number(rt: HostRuntime) -> Result<(), Fail> {
-    let alloc = rt.alloc();
+    let text = joined(rt.alloc(), &[Whole])?;
+    let document = first_document(rt.alloc(), &text).ok_or("a document")?;
+    let head = document.head();
+    assert!(rt; document.line() == 1);
+    assert!(rt; head.edition == 4 && head.centre == 98 && head.master_version == 14);
+    assert!(rt; head.year == 2024 && head.month == 1 && head.day == 2);
+    assert!(rt; head.hour == 3 && head.minute == 4 && head.second == 5);
+    assert!(rt; document.observed() && !document.compressed());
+    assert!(rt; document.subsets() == 1 && document.descriptors() == [0x0101u16].as_slice());
+    assert!(rt; document.local1().is_empty() && document.section2().is_none());
+    Ok(())
+}
+
+/// Asserts what an item of a document is.
+fn assert_item(rt: &impl Abort, document: &Document, place: usize, wanted: (u64, u16, Form<'_>)) {
+    assert!(rt; place < document.entries());
+    let Entry::Item(item) = document.entry(place) else {
+        assert!(rt; false, "no item at {place}");
+        return;
+    };
+    assert!(rt; item.line == wanted.0 && item.fxy.word() == wanted.1 && item.form == wanted.2);
+}
+
+/// The forms of items.
+#[test]
+fn forms_of_items(rt: HostRuntime) -> Result<(), Fail> {
     let text = with_line(
-        alloc,
+        rt.alloc(),
         24,
         b"001001 10  # note\n205001 \"\\x0A\"\n012101 MISSING\nR 012101 -400\n",
     )?;
-    let mut r = ScriptIn::new(&text, 4096, None);
-    let mut reader = DumpReader::new(alloc);
-    let Ok(Some(document)) = reader.next_document(&mut r) else {
-        assert!(rt; false, "no document");
-        return Ok(());
-    };
-    let head = document.head();
-    assert_eq!(rt; document.line(), 1u64);
-    assert_eq!(rt;
-        (head.edition, head.centre, head.master_version),
-        (4, 98, 14)
-    );
-    assert_eq!(rt; (head.year, head.month, head.day), (2024, 1, 2));
-    assert_eq!(rt; (head.hour, head.minute, head.second), (3, 4, 5));
-    assert!(rt; document.observed() && !document.compressed());
-    assert_eq!(rt; document.subsets(), 1u16);
-    assert_eq!(rt; document.descriptors(), [0x0101u16].as_slice());
-    assert!(rt; document.local1().is_empty() && document.section2().is_none());
-    let wanted: [(u64, u16, Form<'_>); 4] = [
-        (24, 0x0101, Form::Number(b"10")),
-        (25, 0x8501, Form::Text(b"\n")),
-        (26, 0x0c65, Form::Missing),
-        (27, 0x0c65, Form::Reference(b"-400")),
-    ];
+    let document = first_document(rt.alloc(), &text).ok_or("a document")?;
     assert!(rt; document.entries() == 5);
-    let mut place = 0usize;
-    for (line, word, form) in wanted {
-        assert!(rt; place < 5);
-        let Entry::Item(item) = document.entry(place) else {
-            assert!(rt; false, "no item at {place}");
-            return Ok(());
-        };
-        assert_eq!(rt; (item.line, item.fxy.word()), (line, word));
-        assert!(rt; item.form == form, "{:?}", item.form);
-        place = place.saturating_add(1);
-    }
+    assert_item(&rt, &document, 0, (24, 0x0101, Form::Number(b"10")));
+    assert_item(&rt, &document, 1, (25, 0x8501, Form::Text(b"\n")));
+    assert_item(&rt, &document, 2, (26, 0x0c65, Form::Missing));
+    assert_item(&rt, &document, 3, (27, 0x0c65, Form::Reference(b"-400")));
     assert!(rt; document.entry(4) == Entry::End(28));
     Ok(())
 }
@@ -423,12 +424,7 @@ fn one_block_number(rt: HostRuntime) -> Result<(), Fail> {
 fn local_use(rt: HostRuntime) -> Result<(), Fail> {
     let alloc = rt.alloc();
     let text = with_octets(alloc, b"local1 01\nlocal1 0203\nsection2 ab\n")?;
-    let mut r = ScriptIn::new(&text, 3, None);
-    let mut reader = DumpReader::new(alloc);
-    let Ok(Some(document)) = reader.next_document(&mut r) else {
-        assert!(rt; false, "no document");
-        return Ok(());
-    };
+    let document = first_document(alloc, &text).ok_or("a document")?;
     assert_eq!(rt; document.local1(), b"\x01\x02\x03".as_slice());
     assert!(rt; document.section2() == Some(b"\xAB".as_slice()));
     assert_eq!(rt; (document.subsets(), document.entries()), (0, 0));
@@ -522,26 +518,13 @@ fn holds_what_is_behind_a_document(rt: HostRuntime) -> Result<(), Fail> {
 #[test]
 fn compressed(rt: HostRuntime) -> Result<(), Fail> {
     let alloc = rt.alloc();
-    let mut text = Vec::new(alloc);
-    let mut at = 0usize;
-    for line in ONE_BLOCK_NUMBER {
-        at = at.saturating_add(1);
-        let line: &[u8] = match at {
-            18 => b"observed 0",
-            19 => b"compressed 1",
-            21 => b"subsets 2",
-            24 => b"001001 10\nsubset 2\n001001 11",
-            _ => line,
-        };
-        text.extend_from_slice(line)?;
-        text.push(b'\n')?;
-    }
-    let mut r = ScriptIn::new(&text, 3, None);
-    let mut reader = DumpReader::new(alloc);
-    let Ok(Some(document)) = reader.next_document(&mut r) else {
-        assert!(rt; false, "no document");
-        return Ok(());
-    };
+    let mut lines = ONE_BLOCK_NUMBER;
+    lines[17] = b"observed 0";
+    lines[18] = b"compressed 1";
+    lines[20] = b"subsets 2";
+    lines[23] = b"001001 10\nsubset 2\n001001 11";
+    let text = of_lines(alloc, &lines)?;
+    let document = first_document(alloc, &text).ok_or("a document")?;
     assert!(rt; document.compressed() && !document.observed());
     assert_eq!(rt; (document.subsets(), document.entries()), (2, 4));
     assert!(rt; document.entries() == 4);
