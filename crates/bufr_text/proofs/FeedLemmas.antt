@@ -1,6 +1,7 @@
 -- The first line feed.
 use Rattle.std.proofs.Common.{◌≡◌, ℕ, zero, suc, ◌+◌, ◌<◌, ◌≤◌, ◌==◌, ◌&&◌, not, Bool, true, false, List, [], ◌∷◌, ◌++◌, length, take, drop, refl, ap, ◌∙◌, arith, Option, Some, None}
-use Rattle.std.specs.Prelude.{slice_index}
+use Rattle.std.specs.Prelude.{Result, Ok, Err, OnErr, slice_index}
+use Rattle.std.proofs.lemmas.Bool.{true≢false}
 use Rattle.std.proofs.lemmas.Bool.Decides.{nat_tests}
 use Rattle.memchr.specs.Find.{IsFirstByte, is_byte}
 use Rattle.bufr_text.specs.Reading.{has_no_feed}
@@ -35,3 +36,29 @@ at-feed (c ∷ held) (suc n) h e =
 pub feed-at : (held : List ℕ) (r : Option ℕ) → IsFirstByte (is_byte 10) held r → FeedAt held r
 feed-at held None h = nowhere held h
 feed-at held (Some n) h = (h.0.high, before held n h.0.high h.0.before, at-feed held n h.0.high h.1)
+
+-- octets with a line feed
+neither : (a b : Bool) → b ≡ false → (a && b) ≡ false
+neither true b e = e
+neither false b e = refl
+
+feed-within : (line rest : List ℕ) → has_no_feed (line ++ 10 ∷ rest) ≡ false
+feed-within [] rest = refl
+feed-within (c ∷ line) rest = neither (not (c == 10)) (has_no_feed (line ++ 10 ∷ rest)) (feed-within line rest)
+
+feed-behind : (n : ℕ) (held : List ℕ) → has_no_feed (drop n held) ≡ false → has_no_feed held ≡ false
+feed-behind zero held e = e
+feed-behind (suc n) [] e = e
+feed-behind (suc n) (c ∷ held) e = neither (not (c == 10)) (has_no_feed held) (feed-behind n held e)
+
+pub line-behind : (held : List ℕ) (from n : ℕ) → FeedAt (drop from held) (Some n) → has_no_feed held ≡ false
+line-behind held from n feed = feed-behind from held (ap has_no_feed feed.2 ∙ feed-within (take n (drop from held)) (drop (n + 1) (drop from held)))
+
+pub some-held : (held : List ℕ) → has_no_feed held ≡ false → 0 < length held
+some-held [] e = absurd (true≢false e)
+some-held (c ∷ held) e = omega arith
+
+-- what holds anyway holds at a refusal
+pub refused-holds : {X E : Type 0} (r : Result X E) (P : Type 0) → P → OnErr r P
+refused-holds (Ok x) P p = tt
+refused-holds (Err e) P p = p

@@ -17,6 +17,7 @@ use Rattle.bufr_text.specs.Filling.{Tells, WentSo, EndSo, FillSo, stopped}
 use Rattle.bufr_text.specs.declared.fault.ReadFault.{ReadFault}
 use Rattle.bufr_text.specs.declared.fault.ReadFault.TheVariants.{Line, SubsetCount, HeaderRange, Run}
 use Rattle.bufr_text.proofs.ReadingLemmas.{nothing-yet}
+use Rattle.bufr_text.proofs.FeedLemmas.{some-held}
 use Rattle.bufr_text.proofs.TakingLemmas.{passes-none}
 use Rattle.bufr_text.proofs.CallLemmas.{call-then, closes-then, takes-call, read-call}
 
@@ -71,7 +72,7 @@ module _ (left mid : Option (List ℕ)) (old s s' : State) (bs : List ℕ) (call
   went-fault (Run Read) went = absurd went
   went-fault (Run Write) went = absurd went
   went-fault (Run InputTooLong) went = absurd went
-  went-fault (Run Memory) went = record { octets = bs; reads = (call.read, omega (arith, call.few, reads), λ e. held-before left mid old s bs [] call e went.1); waits = waits-same left old s s' bs bs waits reads refl; ends = went.0 }
+  went-fault (Run Memory) went = record { octets = bs; reads = (call.read, omega (arith, call.few, reads), λ e. held-before left mid old s bs [] call e (some-held s.held went.1)); waits = waits-same left old s s' bs bs waits reads refl; ends = (went.0, inl (ap has_no_feed went.2 ∙ went.1)) }
 
 -- the end
 module _ (left mid : Option (List ℕ)) (old s s' : State) (bs : List ℕ) (call : CallSo left mid old s [] bs) (waits : (s.reads ≡ old.reads) ⊎ WaitsSo left old s.reads bs) (sound : s.fault ≡ None) (ended : s.ended ≡ true) where
@@ -196,7 +197,7 @@ module _ (left mid left' : Option (List ℕ)) (old s s' : State) (bs bs' : List 
         octets = bs ++ bs';
         reads = (Consumes-trans left mid left' bs bs' call.read read.read, omega (arith, call.few, ap length read.ends.1, length-append bs bs', read.ends.0), λ e. absurd (true≢false (sym (call.kept e).0 ∙ open')));
         waits = waits-same left old s (stopped x (Run Memory)) bs (bs ++ bs') waits read.ends.0 (nothing read.ends.1);
-        ends = refl;
+        ends = (refl, inr read.ends.3);
       })
 
 pub none-unless : {A : Type 0} → (x : Option A) → ((a : A) → x ≡ Some a → ⊥) → x ≡ None
@@ -241,9 +242,3 @@ told-at-end left left' s told bs call done = ap documents_of (sym (append-nil bs
 
 pub told-at-fault : (left left' : Option (List ℕ)) (s : State) (told : List Told) (bs : List ℕ) → CallSo left left' fresh s told bs → IsOpen s → open_documents_of bs ≡ told
 told-at-fault left left' s told bs call open' = ap open_documents_of (sym (append-nil bs)) ∙ call.goes.openly open'.0 [] ∙ ap (λ (l : List Told). told ++ l) open'.1 ∙ append-nil told
-
--- what was read is lines and what is held
-pub lines-and-held : (left left' : Option (List ℕ)) (s : State) (told : List Told) (bs : List ℕ) → CallSo left left' fresh s told bs → (lines : List (List ℕ)) × (s.at ≡ 1 + length lines) × (length bs ≤ length (text_of lines) + length s.held)
-lines-and-held left left' s told bs call =
-    let p = call.lines.2 in
-    (p.lines, omega (arith, p.counted), omega (arith, ap length p.octets, length-append bs call.lines.0, length-append (text_of p.lines) s.held))

@@ -1,5 +1,5 @@
 -- What the steps of a reader of dump texts do.
-use Rattle.std.proofs.Common.{◌≡◌, ℕ, ◌+◌, ◌-◌, ◌<◌, ◌≤◌, Bool, true, List, [], ◌∷◌, ◌++◌, length, take, drop, refl, sym, ap, subst, ◌∙◌, arith, append-nil, length-take}
+use Rattle.std.proofs.Common.{◌≡◌, ℕ, zero, suc, ◌+◌, ◌-◌, ◌<◌, ◌≤◌, Bool, true, List, [], ◌∷◌, ◌++◌, length, take, drop, refl, sym, ap, subst, ◌∙◌, arith, append-nil, length-take}
 use Rattle.std.specs.Prelude.{Option, Some, None, Err, slice_range}
 use Rattle.std.proofs.lemmas.Grind.{common_steps}
 use Rattle.std.proofs.lemmas.List.{take_all, take_at, drop-append-le}
@@ -170,3 +170,8 @@ some-read items items1 items2 rest bs place filled slid n is less order within k
 
 pub draft-read : (d : Draft) (held held' reads : ℕ) → DraftSo d held reads → held' ≤ held + 4096 → DraftSo d held' (reads + 1)
 draft-read d held held' reads is few = record { stands = is.stands; some = is.some; near = omega (arith, is.near, few) }
+
+-- the room is made once, before the first read
+pub none-read : (reads room : ℕ) → (0 < reads → room ≡ 8192) → room < 8192 → reads ≡ 0
+none-read zero room made few = refl
+none-read (suc reads) room made few = absurd (omega (arith, few, made (omega arith)))

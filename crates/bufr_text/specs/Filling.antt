@@ -49,18 +49,18 @@ WentSo old new (Ok (Some document)) = Tells old new (Spelled document ∷ []) ×
 WentSo old new (Err (Line line)) = Tells old new (Refused line documents.NotAllowed ∷ []) × (new.fault ≡ Some (Line line))
 WentSo old new (Err (SubsetCount line)) = Tells old new (Refused line documents.SubsetCount ∷ []) × (new.fault ≡ Some (SubsetCount line))
 WentSo old new (Err (HeaderRange line)) = Tells old new (Refused line documents.HeaderRange ∷ []) × (new.fault ≡ Some (HeaderRange line))
-WentSo old new (Err (Run Memory)) = (new.fault ≡ Some (Run Memory)) × (0 < length old.held)
+WentSo old new (Err (Run Memory)) = (new.fault ≡ Some (Run Memory)) × (has_no_feed old.held ≡ false) × (new.held ≡ old.held)
 WentSo old new (Err (Run Read)) = ⊥
 WentSo old new (Err (Run Write)) = ⊥
 WentSo old new (Err (Run InputTooLong)) = ⊥
 
--- how a read ends: octets came, or the end was reached, or it failed, or memory was refused before it
+-- how a read ends: octets came, or the end was reached, or it failed, or memory was refused before the first one
 abbrev pub ReadEnds : (left' : Option (List ℕ)) → State → State → List ℕ → Result (Unit {0}) RunFault → Type 0
 ReadEnds left' old new bs (Ok u) = (new.reads ≡ old.reads + 1) × (new.ended ≡ true → (bs ≡ []) × IsAtEnd left')
 ReadEnds left' old new bs (Err Read) = (new.reads ≡ old.reads + 1) × (bs ≡ []) × (new.ended ≡ false)
 ReadEnds left' old new bs (Err Write) = ⊥
 ReadEnds left' old new bs (Err InputTooLong) = ⊥
-ReadEnds left' old new bs (Err Memory) = (new.reads ≡ old.reads) × (bs ≡ []) × (new.ended ≡ false)
+ReadEnds left' old new bs (Err Memory) = (new.reads ≡ old.reads) × (bs ≡ []) × (new.ended ≡ false) × (new.reads ≡ 0)
 
 -- One read: octets come behind those that are held, or the end was reached, which ends the last line.
 pub record ReadSo (left left' : Option (List ℕ)) (old new : State) (result : Result (Unit {0}) RunFault) (bs : List ℕ) : Type 0 where

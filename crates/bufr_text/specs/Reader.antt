@@ -90,7 +90,8 @@ IsOpen s = (s.ended ≡ false) × (spells_openly (stand s) [] ≡ []) × (has_no
 abbrev pub IsDone : State → Type 0
 IsDone s = (s.ended ≡ true) × (s.held ≡ []) × (spells (stand s) [] ≡ [])
 
--- how a call leaves the reader: at the end nothing is left; an input is too long only after 2^32 reads
+-- how a call leaves the reader: at the end nothing is left; an input is too long only after 2^32 reads; memory was wanted only where a
+-- whole line is held, or before the first read
 abbrev pub EndsSo : State → Result (Option Document) ReadFault → Type 0
 EndsSo new (Ok None) = (new.fault ≡ None) × IsDone new
 EndsSo new (Ok (Some document)) = new.fault ≡ None
@@ -100,7 +101,7 @@ EndsSo new (Err (HeaderRange line)) = new.fault ≡ Some (HeaderRange line)
 EndsSo new (Err (Run Read)) = (new.fault ≡ Some (Run Read)) × IsOpen new
 EndsSo new (Err (Run Write)) = ⊥
 EndsSo new (Err (Run InputTooLong)) = (new.fault ≡ Some (Run InputTooLong)) × IsOpen new × (new.reads ≡ most_reads)
-EndsSo new (Err (Run Memory)) = new.fault ≡ Some (Run Memory)
+EndsSo new (Err (Run Memory)) = (new.fault ≡ Some (Run Memory)) × ((has_no_feed new.held ≡ false) ⊎ (new.reads ≡ 0))
 
 -- what a call reads and tells; where memory was wanted it tells nothing, and says no more of what it holds, but that it is wanted only
 -- where a line was held or the end was not reached

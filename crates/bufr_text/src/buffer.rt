@@ -23,7 +23,7 @@ fn grow(buffer: &mut Vec<u8>) -> Result<(), RunFault>
     requires { vec_len buffer.old ≤ 8192 }
     ensures len { IfOk result (λ _. vec_len buffer.new ≡ 8192) }
     ensures kept { IfOk result (λ _. take (vec_len buffer.old) buffer.new.items ≡ buffer.old.items) }
-    ensures refused { IfErr result (λ fault. (fault ≡ RunFault.Memory) × (buffer.new.items ≡ buffer.old.items) × (vec_len buffer.new ≡ vec_len buffer.old)) }
+    ensures refused { IfErr result (λ fault. (fault ≡ RunFault.Memory) × (buffer.new.items ≡ buffer.old.items) × (vec_len buffer.new ≡ vec_len buffer.old) × (vec_len buffer.old < 8192)) }
 {
     if buffer.len() == ROOM {
         return Ok(());

@@ -1,8 +1,9 @@
 //! A document that is being read: lines that are held, taken one after another.
-ghost use Rattle.std.specs.Prelude.{◌≡◌, ℕ, ◌+◌, ◌^◌, ◌<◌, ◌≤◌, length, take, drop, true, IfOk, OnErr};
+ghost use Rattle.std.specs.Prelude.{◌≡◌, ℕ, ◌+◌, ◌^◌, ◌<◌, ◌≤◌, length, take, drop, true, false, IfOk, OnErr};
 ghost use Rattle.bufr_text.specs.Line.{line_of};
 ghost use Rattle.bufr_text.specs.Documents as documents;
 ghost use Rattle.bufr_text.specs.Documents.{said};
+ghost use Rattle.bufr_text.specs.Reading.{has_no_feed};
 ghost use Rattle.bufr_text.specs.Step.{meaning, place_with, turned, Stands};
 ghost use Rattle.bufr_text.specs.declared.step.Place.TheVariants.{Between};
 ghost use Rattle.bufr_text.specs.Taking.{TakesSo, FeedAt};
@@ -72,7 +73,7 @@ pub(crate) fn take_lines(
     requires some { 0 < draft.old.at }
     requires few { draft.old.at + length held.now < 2 ^ 63 }
     ensures takes { IfOk result (λ r. TakesSo draft.old draft.new held.now r.0 r.1) }
-    ensures wants { OnErr result (0 < length held.now) }
+    ensures wants { OnErr result (has_no_feed held.now ≡ false) }
 {
     let mut octets = [0; MOST_LINE];
     let mut words = [0; MOST_WORDS];

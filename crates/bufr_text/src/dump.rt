@@ -126,8 +126,8 @@ fn write_subsets<W: Sink>(
 /// Writes the dump text of a message: the line `message`; twenty lines of a key and a number; its octets for local use and
 /// those of section 2 in hexadecimal, 32 on a line; its descriptors, eight on a line; for each subset its number and a line
 /// for each item; and the line `end`. An item that was read by an entry of Table B has the entry's name and unit as a
-/// comment. No line goes to the writer in two writes. The steps are set to the turns that the reading is walked for, as
-/// [`Reading::show`] counts them.
+/// comment. Where the writer takes all that it is given, no line goes to it in two writes. The steps are set to the
+/// turns that the reading is walked for, as [`Reading::show`] counts them.
 ///
 /// ```
 /// let reading = read_message(alloc, &message, &template, &table, &mut steps)?;

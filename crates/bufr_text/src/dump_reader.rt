@@ -44,7 +44,7 @@ pub struct DumpReader {
 }
 
 impl Model for DumpReader {
-    ghost use Rattle.std.specs.Prelude.{◌≡◌, ◌≤◌, ◌-◌, None, true, vec_len, slice_range};
+    ghost use Rattle.std.specs.Prelude.{◌≡◌, ◌<◌, ◌≤◌, ◌-◌, None, true, vec_len, slice_range};
     ghost use Rattle.bufr_frame.specs.Runs.{most_reads};
     ghost use Rattle.bufr_text.specs.Reader.{State};
     ghost use Rattle.bufr_text.specs.Filling.{place_now, ends_by_feed, DraftSo};
@@ -60,7 +60,7 @@ impl Model for DumpReader {
       reads = f.reads;
     } };
 
-    ghost invariant = { λ f. (f.start ≤ f.filled) × (f.filled ≤ vec_len f.buffer) × (vec_len f.buffer ≤ 8192) × (f.reads ≤ most_reads) × (f.ended ≡ true → ends_by_feed (slice_range f.buffer.items f.start f.filled) ≡ true) × (f.fault ≡ None → DraftSo f.draft (f.filled - f.start) f.reads) };
+    ghost invariant = { λ f. (f.start ≤ f.filled) × (f.filled ≤ vec_len f.buffer) × (vec_len f.buffer ≤ 8192) × (f.reads ≤ most_reads) × (f.ended ≡ true → ends_by_feed (slice_range f.buffer.items f.start f.filled) ≡ true) × (f.fault ≡ None → DraftSo f.draft (f.filled - f.start) f.reads) × (0 < f.reads → vec_len f.buffer ≡ 8192) };
 }
 
 impl Refusal {
@@ -229,8 +229,9 @@ impl DumpReader {
     /// [`ReadFault::Line`], [`ReadFault::SubsetCount`] and [`ReadFault::HeaderRange`] where the next
     /// document is refused, with the line. [`ReadFault::Run`] with [`RunFault::Read`] where a read
     /// failed in this call, with [`RunFault::InputTooLong`] where the end was not reached in 2^32
-    /// reads, and with [`RunFault::Memory`]. All documents that were read whole were given before.
-    /// After a fault each call answers the same one, and reads nothing.
+    /// reads, and with [`RunFault::Memory`] where a document could not grow by a line that is held, or
+    /// the buffer could not be made before the first read. All documents that were read whole were
+    /// given before. After a fault each call answers the same one, and reads nothing.
     pub fn next_document<R: Source>(&mut self, r: &mut R) -> Result<Option<Document>, ReadFault>
         ensures next { self.old.fault ≡ None → NextSo (R.left r.old) (R.left r.new) self.old self.new result }
         ensures failed { self.old.fault ≡ None → R.failures r.new ≡ failures_by (R.failures r.old) result }

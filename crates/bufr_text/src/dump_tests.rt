@@ -2,7 +2,7 @@
 ghost use Rattle.std.specs.Prelude.{◌≤◌, length};
 
 use crate::dump::write_dump;
-use bufr_bits::{Device, End, ScriptOut};
+use bufr_bits::{Device, End, ScriptOut, Sink};
 use bufr_frame::{Head, Message, RunFault, write_message};
 use bufr_tables::{Fxy, TableB, TableD, Template};
 use bufr_walk::{Steps, read_message};
@@ -482,22 +482,37 @@ pub(crate) struct Outcome {
     pub(crate) taken: Vec<u8>,
 }
 
-// Dumps a message to a device that takes at most `room` octets in all, at most `step` of them at once.
-pub(crate) fn dump(alloc: Global, octets: &[u8], room: usize, step: usize) -> Result<Outcome, Fail>
-    requires { 1 ≤ step }
-{
-    let message = message_in(octets).ok_or("a message")?;
-    let table_b = TableB::read(alloc, TABLE_B)?;
+// The template of a message.
+fn template_of(alloc: Global, message: &Message<'_>, table_b: &TableB) -> Result<Template, Fail> {
     let table_d = TableD::read(alloc, TABLE_D)?;
     let mut descriptors = Vec::new(alloc);
     for word in message.descriptors() {
         descriptors.push(Fxy::from_word(word))?;
     }
-    let template = Template::build(alloc, &descriptors, &table_b, &table_d)?;
+    Ok(Template::build(alloc, &descriptors, table_b, &table_d)?)
+}
+
+// Dumps a message.
+fn dump_to<W: Sink>(
+    alloc: Global,
+    octets: &[u8],
+    steps: &mut Steps,
+    w: &mut W,
+) -> Result<Result<(), RunFault>, Fail> {
+    let message = message_in(octets).ok_or("a message")?;
+    let table_b = TableB::read(alloc, TABLE_B)?;
+    let template = template_of(alloc, &message, &table_b)?;
+    let reading = read_message(alloc, &message, &template, &table_b, steps)?;
+    Ok(write_dump(alloc, &message, &reading, steps, w))
+}
+
+// Dumps a message to a device that takes at most `room` octets in all, at most `step` of them at once.
+pub(crate) fn dump(alloc: Global, octets: &[u8], room: usize, step: usize) -> Result<Outcome, Fail>
+    requires { 1 ≤ step }
+{
     let mut steps = Steps::new();
     let mut w = ScriptOut::new(alloc, room, step, End::Fail)?;
-    let reading = read_message(alloc, &message, &template, &table_b, &mut steps)?;
-    let written = write_dump(alloc, &message, &reading, &mut steps, &mut w);
+    let written = dump_to(alloc, octets, &mut steps, &mut w)?;
     let mut taken = Vec::new(alloc);
     taken.extend_from_slice(w.taken())?;
     Ok(Outcome {
@@ -647,23 +662,12 @@ impl<'a> Write for Watched<'a> {
 #[test]
 fn writes_whole_lines(rt: HostRuntime) -> Result<(), Fail> {
     let (octets, _text) = row_of(rt.alloc(), "delayed_twice")?;
-    let message = message_in(&octets).ok_or("a message")?;
-    let table_b = TableB::read(rt.alloc(), TABLE_B)?;
-    let table_d = TableD::read(rt.alloc(), TABLE_D)?;
-    let words = [
-        Fxy::from_word(0x4100),
-        Fxy::from_word(0x1F01),
-        Fxy::from_word(0x0101),
-    ];
-    let template = Template::build(rt.alloc(), &words, &table_b, &table_d)?;
-    let mut steps = Steps::new();
-    let reading = read_message(rt.alloc(), &message, &template, &table_b, &mut steps)?;
     let (writes, torn) = (Cell::new(0), Cell::new(false));
     let mut w = Device::new(Watched {
         writes: &writes,
         torn: &torn,
     });
-    let written = write_dump(rt.alloc(), &message, &reading, &mut steps, &mut w);
+    let written = dump_to(rt.alloc(), &octets, &mut Steps::new(), &mut w)?;
     assert_eq!(rt; written, Ok(()));
     assert_eq!(rt; writes.get(), 8);
     assert!(rt; !torn.get());

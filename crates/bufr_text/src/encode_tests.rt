@@ -1,7 +1,9 @@
 //! Documents and their messages.
 
 use crate::dump_tests::{FIRST_LINES, ROWS as DUMPED, TABLE_B, TABLE_D, dump, message_of};
-use crate::{Document, DocumentFault, DumpReader, dump_law, encode_document, encode_law};
+use crate::{
+    Document, DocumentFault, DumpReader, ReadFault, dump_law, encode_document, encode_law,
+};
 use bufr_bits::ScriptIn;
 use bufr_tables::{TableB, TableD};
 use bufr_walk::Steps;
@@ -232,18 +234,30 @@ fn behind_the_head(octets: &[u8]) -> &[u8] {
     }
 }
 
-// What a document is encoded to, and the steps.
-fn encoded(alloc: Global, row: &Row) -> Result<(Result<Vec<u8>, DocumentFault>, u64), Fail> {
-    let table_b = TableB::read(alloc, TABLE_B)?;
-    let table_d = TableD::read(alloc, TABLE_D)?;
+// The first document of a text.
+fn document_of(alloc: Global, text: &[u8]) -> Result<Document, Fail> {
+    let mut reader = DumpReader::new(alloc);
+    let mut input = ScriptIn::new(text, 4096, None);
+    Ok(reader.next_document(&mut input)?.ok_or("a document")?)
+}
+
+// The document of a row.
+fn document_in(alloc: Global, row: &Row) -> Result<Document, Fail> {
     let mut text = String::from_str(alloc, FIRST_LINES)?;
     text.push_str(row.text)?;
-    let mut reader = DumpReader::new(alloc);
-    let mut input = ScriptIn::new(text.as_bytes(), 4096, None);
-    let document = reader.next_document(&mut input)?.ok_or("a document")?;
+    document_of(alloc, text.as_bytes())
+}
+
+// What a document is encoded to, and the steps.
+fn encoded(
+    alloc: Global,
+    document: &Document,
+) -> Result<(Result<Vec<u8>, DocumentFault>, u64), Fail> {
+    let table_b = TableB::read(alloc, TABLE_B)?;
+    let table_d = TableD::read(alloc, TABLE_D)?;
     let mut steps = Steps::new();
     steps.tick();
-    let result = encode_document(alloc, &document, &table_b, &table_d, &mut steps);
+    let result = encode_document(alloc, document, &table_b, &table_d, &mut steps);
     Ok((result, steps.count()))
 }
 
@@ -256,7 +270,8 @@ fn has_behind_its_head(alloc: Global, octets: &[u8], wanted: &str) -> Result<boo
 #[test]
 fn encodes_worked_documents(rt: HostRuntime) -> Result<(), Fail> {
     for row in &ROWS {
-        let (result, steps) = encoded(rt.alloc(), row)?;
+        let document = document_in(rt.alloc(), row)?;
+        let (result, steps) = encoded(rt.alloc(), &document)?;
         match (result, row.wanted) {
             (Ok(octets), Octets(wanted, turns)) => {
                 let same = has_behind_its_head(rt.alloc(), octets.as_slice(), wanted)?;
@@ -276,11 +291,26 @@ fn encodes_worked_documents(rt: HostRuntime) -> Result<(), Fail> {
 #[test]
 fn refuses_documents_at_their_lines(rt: HostRuntime) -> Result<(), Fail> {
     for row in &ROWS {
-        let (result, _) = encoded(rt.alloc(), row)?;
+        let document = document_in(rt.alloc(), row)?;
+        let (result, _) = encoded(rt.alloc(), &document)?;
         if let (Err(fault), Refused(_, line, _)) = (result, row.wanted) {
             assert_eq!(rt; fault.line(), Some(line), "{}", row.name);
         }
     }
+    Ok(())
+}
+
+/// A document is read whole before its items are looked at: a line that may not stand there is told,
+/// and not the item above it that is not whole at its scale.
+#[test]
+fn tells_a_line_before_an_item(rt: HostRuntime) -> Result<(), Fail> {
+    let mut text = String::from_str(rt.alloc(), FIRST_LINES)?;
+    text.push_str("observed 1\ncompressed 0\noptional 0\nsubsets 1\ndescriptors 012101\n")?;
+    text.push_str("subset 1\n012101 288.155\nx\nend\n")?;
+    let mut reader = DumpReader::new(rt.alloc());
+    let mut input = ScriptIn::new(text.as_bytes(), 4096, None);
+    let next = reader.next_document(&mut input);
+    assert!(rt; matches!(next, Err(ReadFault::Line(25))));
     Ok(())
 }
 
@@ -299,24 +329,18 @@ fn many_texts(alloc: Global, last: &str) -> Result<Document, Fail> {
     }
     text.push_str(last)?;
     text.push_str(" \"end\"\nend\n")?;
-    let mut reader = DumpReader::new(alloc);
-    let mut input = ScriptIn::new(text.as_bytes(), 4096, None);
-    Ok(reader.next_document(&mut input)?.ok_or("a document")?)
+    document_of(alloc, text.as_bytes())
 }
 
 /// The longest message has 16,777,215 octets; of one octet more nothing is written.
 #[test]
 fn encodes_the_longest_message(rt: HostRuntime) -> Result<(), Fail> {
-    let table_b = TableB::read(rt.alloc(), TABLE_B)?;
-    let table_d = TableD::read(rt.alloc(), TABLE_D)?;
-    let mut steps = Steps::new();
-    let document = many_texts(rt.alloc(), "205192")?;
-    let octets = encode_document(rt.alloc(), &document, &table_b, &table_d, &mut steps)?;
+    let (octets, _) = encoded(rt.alloc(), &many_texts(rt.alloc(), "205192")?)?;
+    let octets = octets?;
     assert_eq!(rt; octets.len(), 16_777_215);
     assert!(rt; octets.starts_with(b"BUFR\xFF\xFF\xFF\x04"));
     assert!(rt; octets.ends_with(b" 7777"));
-    let document = many_texts(rt.alloc(), "205193")?;
-    let refused = encode_document(rt.alloc(), &document, &table_b, &table_d, &mut steps);
+    let (refused, _) = encoded(rt.alloc(), &many_texts(rt.alloc(), "205193")?)?;
     assert!(rt; matches!(refused, Err(DocumentFault::TooLong(2))));
     Ok(())
 }
@@ -333,16 +357,11 @@ fn encodes_what_was_dumped(rt: HostRuntime) -> Result<(), Fail> {
     encode_law::dump_texts_are_encoded_again();
     encode_law::dumped_messages_are_refused_for_want_of_memory_alone();
     encode_law::canonical_messages_are_encoded_to_themselves();
-    let table_b = TableB::read(rt.alloc(), TABLE_B)?;
-    let table_d = TableD::read(rt.alloc(), TABLE_D)?;
     for row in &DUMPED {
         let message = message_of(rt.alloc(), row)?;
         let text = dump(rt.alloc(), &message, 65536, 4096)?;
-        let mut reader = DumpReader::new(rt.alloc());
-        let mut input = ScriptIn::new(&text.taken, 4096, None);
-        let document = reader.next_document(&mut input)?.ok_or("a document")?;
-        let mut steps = Steps::new();
-        let octets = encode_document(rt.alloc(), &document, &table_b, &table_d, &mut steps)?;
+        let (octets, _) = encoded(rt.alloc(), &document_of(rt.alloc(), &text.taken)?)?;
+        let octets = octets?;
         let again = dump(rt.alloc(), &octets, 65536, 4096)?;
         assert!(rt; again.taken == text.taken, "{}", row.name);
         let packed_otherwise = row.name == "compressed_name" || row.name == "increment_to_all_ones";

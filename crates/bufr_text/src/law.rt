@@ -1,12 +1,12 @@
 //! Laws about dump texts.
-ghost use Rattle.std.specs.Prelude.{◌≡◌, ◌≤◌, ℕ, ◌+◌, true, false, List, [], ◌∷◌, ◌++◌, length, Option, None, Result, Ok};
+ghost use Rattle.std.specs.Prelude.{◌≡◌, ℕ, ◌+◌, true, false, List, [], ◌∷◌, ◌++◌, length, Option, None, Result, Ok};
 ghost use Rattle.bufr_frame.specs.Sections.{Sections};
 ghost use Rattle.bufr_text.specs.Documents.{Between, Told, Spelled, documents_of, open_documents_of, lines_of, spelled};
-ghost use Rattle.bufr_text.specs.Dump.{Item, document_of, dump_lines, dump_text_of, text_of};
+ghost use Rattle.bufr_text.specs.Dump.{Item, document_of, dump_lines, dump_text_of};
 ghost use Rattle.bufr_text.specs.Given.{IsDumpable};
 ghost use Rattle.bufr_text.specs.Document.{Document};
-ghost use Rattle.bufr_text.specs.Reading.{spells, spells_openly};
-ghost use Rattle.bufr_text.specs.Reader.{State, fresh, stand, CallSo, NextSo, IsDone, IsOpen};
+ghost use Rattle.bufr_text.specs.Reading.{Passes, spells, spells_openly};
+ghost use Rattle.bufr_text.specs.Reader.{State, fresh, stand, IsMissingFeed, CallSo, NextSo, IsDone, IsOpen};
 ghost use Rattle.bufr_text.specs.declared.fault.ReadFault.{ReadFault};
 
 /// The dump text of a message spells its document, and the reading goes on behind it.
@@ -59,11 +59,12 @@ pub fn documents_told_are_the_open_documents()
         → CallSo left left' fresh s told bs → IsOpen s → open_documents_of bs ≡ told }
 {}
 
-/// The octets that calls read and that are behind the lines they took are held: as many lines were
-/// taken as line numbers were passed.
+/// The octets that calls read are the lines that they took, and behind those exactly what is held: as
+/// many lines were taken as line numbers were passed. Where the end was reached, a last line that
+/// lacks its line feed was given one.
 pub fn octets_behind_the_lines_are_held()
     ensures { (left left' : Option (List ℕ)) (s : State) (told : List Told) (bs : List ℕ)
-        → CallSo left left' fresh s told bs → (lines : List (List ℕ)) × (s.at ≡ 1 + length lines) × (length bs ≤ length (text_of lines) + length s.held) }
+        → CallSo left left' fresh s told bs → (feed : List ℕ) × IsMissingFeed false s.ended feed × Passes 1 (bs ++ feed) s.at s.held }
 {}
 
 /// After the end was told it is told again, and nothing is read.

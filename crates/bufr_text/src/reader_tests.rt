@@ -51,6 +51,16 @@ enum Told {
 use ReadFault::{HeaderRange, Line, SubsetCount};
 use Told::{Done, Refused, Spelled};
 
+/// Lines, each with its line feed.
+fn of_lines(alloc: Global, lines: &[&[u8]]) -> Result<Vec<u8>, AllocError> {
+    let mut octets = Vec::new(alloc);
+    for line in lines {
+        octets.extend_from_slice(line)?;
+        octets.push(b'\n')?;
+    }
+    Ok(octets)
+}
+
 /// The lines of the document, with this text in place of a line (from 1).
 fn with_line(alloc: Global, number: usize, text: &[u8]) -> Result<Vec<u8>, AllocError> {
     let mut octets = Vec::new(alloc);
@@ -154,7 +164,7 @@ fn assert_told(
 /// its nearest wrong neighbour.
 #[test]
 fn rules(rt: HostRuntime) -> Result<(), Fail> {
-    let table: [(usize, &[u8], Told); 57] = [
+    let table: [(usize, &[u8], Told); 70] = [
         (24, b"001001 10\n", Spelled(2, 25)),
         (24, b"001001\t10\n", Refused(Line(24))),
         (24, b"001001  10\n", Refused(Line(24))),
@@ -175,6 +185,7 @@ fn rules(rt: HostRuntime) -> Result<(), Fail> {
         (24, b"001001 MISSING2\n", Refused(Line(24))),
         (24, b"R 012101 -400\n", Spelled(2, 25)),
         (24, b"R 012101 MISSING\n", Refused(Line(24))),
+        (24, b"R 012101 \"x\"\n", Refused(Line(24))),
         (24, b"363255 1\n", Spelled(2, 25)),
         (24, b"364255 1\n", Refused(Line(24))),
         (24, b"363256 1\n", Refused(Line(24))),
@@ -188,6 +199,8 @@ fn rules(rt: HostRuntime) -> Result<(), Fail> {
         (24, b"205004 \"\xFE\"\n", Refused(Line(24))),
         (24, b"205004 \"a\n", Refused(Line(24))),
         (24, b"205004 \"a\"  # note\n", Spelled(2, 25)),
+        (24, b"205004 \"a\"# note\n", Refused(Line(24))),
+        (24, b"205004 \"a\"x\n", Refused(Line(24))),
         (22, b"local1 abCD\n", Spelled(2, 25)),
         (22, b"local1 abC\n", Refused(Line(22))),
         (22, b"local1 \n", Refused(Line(22))),
@@ -212,6 +225,11 @@ fn rules(rt: HostRuntime) -> Result<(), Fail> {
         (22, b"descriptors 0010010\n", Refused(Line(22))),
         (22, b"descriptors  001001\n", Refused(Line(22))),
         (22, b"descriptors\n", Refused(Line(22))),
+        (4, b"\n# note\ncentre 98\n", Spelled(2, 27)),
+        (4, b"centre \n", Refused(Line(4))),
+        (4, b"centre +98\n", Refused(Line(4))),
+        (4, b"centre -98\n", Refused(Line(4))),
+        (4, b"centre  98\n", Refused(Line(4))),
         (4, b"centre 65535\n", Spelled(2, 25)),
         (4, b"centre 65536\n", Refused(HeaderRange(4))),
         (4, b"centre 65536x\n", Refused(Line(4))),
@@ -219,8 +237,13 @@ fn rules(rt: HostRuntime) -> Result<(), Fail> {
         (3, b"master 256\n", Refused(HeaderRange(3))),
         (2, b"edition 3\n", Refused(HeaderRange(2))),
         (18, b"observed 2\n", Refused(HeaderRange(18))),
+        (19, b"compressed 2\n", Refused(HeaderRange(19))),
+        (20, b"optional 2\n", Refused(HeaderRange(20))),
+        (21, b"subsets 65536\n", Refused(HeaderRange(21))),
         (21, b"subsets 2\n", Refused(SubsetCount(25))),
         (23, b"subset 2\n", Refused(SubsetCount(23))),
+        (23, b"subset x\n", Refused(Line(23))),
+        (23, b"subset \n", Refused(Line(23))),
         (23, b"subset 01\n", Spelled(2, 25)),
         (25, b"", Refused(Line(25))),
         (25, b"end", Spelled(2, 25)),
@@ -247,6 +270,41 @@ fn assert_line(
     Ok(())
 }
 
+/// A line that ends with so many digits.
+fn with_digits(alloc: Global, word: &[u8], times: usize) -> Result<Vec<u8>, AllocError> {
+    let mut line = Vec::new(alloc);
+    line.extend_from_slice(word)?;
+    line.extend_from_slice(&repeated(alloc, b'9', times)?)?;
+    line.push(b'\n')?;
+    Ok(line)
+}
+
+/// A document without a subset, with these lines of octets.
+fn with_octets(alloc: Global, octets: &[u8]) -> Result<Vec<u8>, AllocError> {
+    let mut lines = ONE_BLOCK_NUMBER;
+    lines[19] = b"optional 1";
+    lines[20] = b"subsets 0";
+    let mut text = of_lines(alloc, &lines[..21])?;
+    text.extend_from_slice(octets)?;
+    text.extend_from_slice(b"descriptors 001001\nend\n")?;
+    Ok(text)
+}
+
+/// Lines of octets have at most 64 digits, and an even number of them.
+#[test]
+fn long_octet_lines(rt: HostRuntime) -> Result<(), Fail> {
+    let alloc = rt.alloc();
+    for word in [b"local1 ".as_slice(), b"section2 ".as_slice()] {
+        let most = with_octets(alloc, &with_digits(alloc, word, 64)?)?;
+        assert_told(&rt, &most, None, &[Spelled(0, 0), Done]);
+        for times in [63, 66] {
+            let more = with_octets(alloc, &with_digits(alloc, word, times)?)?;
+            assert_told(&rt, &more, None, &[Refused(Line(22))]);
+        }
+    }
+    Ok(())
+}
+
 /// Lines of 4,096 octets are read, one more octet is too much, before its line feed is seen.
 #[test]
 fn long_lines(rt: HostRuntime) -> Result<(), Fail> {
@@ -255,15 +313,12 @@ fn long_lines(rt: HostRuntime) -> Result<(), Fail> {
     assert_line(&rt, 24, &most, Spelled(2, 26))?;
     let more = joined(alloc, &[Notes(4097), Text(b"\n001001 10\n")])?;
     assert_line(&rt, 24, &more, Refused(Line(24)))?;
-    let digits = repeated(alloc, b'9', 1000)?;
-    let mut centre = joined(alloc, &[Text(b"centre ")])?;
-    centre.extend_from_slice(&digits)?;
-    centre.push(b'\n')?;
+    let centre = with_digits(alloc, b"centre ", 4089)?;
     assert_line(&rt, 4, &centre, Refused(HeaderRange(4)))?;
-    let mut item = joined(alloc, &[Text(b"001001 ")])?;
-    item.extend_from_slice(&digits)?;
-    item.push(b'\n')?;
-    assert_line(&rt, 24, &item, Spelled(2, 25))?;
+    let most = with_digits(alloc, b"001001 ", 4089)?;
+    assert_line(&rt, 24, &most, Spelled(2, 25))?;
+    let more = with_digits(alloc, b"001001 ", 4090)?;
+    assert_line(&rt, 24, &more, Refused(Line(24)))?;
     // no read is made behind the first octet that is too many
     let cut = joined(alloc, &[Notes(4097)])?;
     assert_told(&rt, &cut, Some(4097), &[Refused(Line(1))]);
@@ -313,51 +368,53 @@ fn several_documents(rt: HostRuntime) -> Result<(), Fail> {
     Ok(())
 }
 
-/// What the document of one block number says, and the forms of items.
+/// The first document of a text.
+fn first_document(alloc: Global, text: &[u8]) -> Option<Document> {
+    let mut r = ScriptIn::new(text, 3, None);
+    let mut reader = DumpReader::new(alloc);
+    reader.next_document(&mut r).unwrap_or(None)
+}
+
+/// What the document of one block number says.
 #[test]
 fn one_block_number(rt: HostRuntime) -> Result<(), Fail> {
-    let alloc = rt.alloc();
+    let text = joined(rt.alloc(), &[Whole])?;
+    let document = first_document(rt.alloc(), &text).ok_or("a document")?;
+    let head = document.head();
+    assert!(rt; document.line() == 1);
+    assert!(rt; head.edition == 4 && head.centre == 98 && head.master_version == 14);
+    assert!(rt; head.year == 2024 && head.month == 1 && head.day == 2);
+    assert!(rt; head.hour == 3 && head.minute == 4 && head.second == 5);
+    assert!(rt; document.observed() && !document.compressed());
+    assert!(rt; document.subsets() == 1 && document.descriptors() == [0x0101u16].as_slice());
+    assert!(rt; document.local1().is_empty() && document.section2().is_none());
+    Ok(())
+}
+
+/// Asserts what an item of a document is.
+fn assert_item(rt: &impl Abort, document: &Document, place: usize, wanted: (u64, u16, Form<'_>)) {
+    assert!(rt; place < document.entries());
+    let Entry::Item(item) = document.entry(place) else {
+        assert!(rt; false, "no item at {place}");
+        return;
+    };
+    assert!(rt; item.line == wanted.0 && item.fxy.word() == wanted.1 && item.form == wanted.2);
+}
+
+/// The forms of items.
+#[test]
+fn forms_of_items(rt: HostRuntime) -> Result<(), Fail> {
     let text = with_line(
-        alloc,
+        rt.alloc(),
         24,
         b"001001 10  # note\n205001 \"\\x0A\"\n012101 MISSING\nR 012101 -400\n",
     )?;
-    let mut r = ScriptIn::new(&text, 4096, None);
-    let mut reader = DumpReader::new(alloc);
-    let Ok(Some(document)) = reader.next_document(&mut r) else {
-        assert!(rt; false, "no document");
-        return Ok(());
-    };
-    let head = document.head();
-    assert_eq!(rt; document.line(), 1u64);
-    assert_eq!(rt;
-        (head.edition, head.centre, head.master_version),
-        (4, 98, 14)
-    );
-    assert_eq!(rt; (head.year, head.month, head.day), (2024, 1, 2));
-    assert_eq!(rt; (head.hour, head.minute, head.second), (3, 4, 5));
-    assert!(rt; document.observed() && !document.compressed());
-    assert_eq!(rt; document.subsets(), 1u16);
-    assert_eq!(rt; document.descriptors(), [0x0101u16].as_slice());
-    assert!(rt; document.local1().is_empty() && document.section2().is_none());
-    let wanted: [(u64, u16, Form<'_>); 4] = [
-        (24, 0x0101, Form::Number(b"10")),
-        (25, 0x8501, Form::Text(b"\n")),
-        (26, 0x0c65, Form::Missing),
-        (27, 0x0c65, Form::Reference(b"-400")),
-    ];
+    let document = first_document(rt.alloc(), &text).ok_or("a document")?;
     assert!(rt; document.entries() == 5);
-    let mut place = 0usize;
-    for (line, word, form) in wanted {
-        assert!(rt; place < 5);
-        let Entry::Item(item) = document.entry(place) else {
-            assert!(rt; false, "no item at {place}");
-            return Ok(());
-        };
-        assert_eq!(rt; (item.line, item.fxy.word()), (line, word));
-        assert!(rt; item.form == form, "{:?}", item.form);
-        place = place.saturating_add(1);
-    }
+    assert_item(&rt, &document, 0, (24, 0x0101, Form::Number(b"10")));
+    assert_item(&rt, &document, 1, (25, 0x8501, Form::Text(b"\n")));
+    assert_item(&rt, &document, 2, (26, 0x0c65, Form::Missing));
+    assert_item(&rt, &document, 3, (27, 0x0c65, Form::Reference(b"-400")));
     assert!(rt; document.entry(4) == Entry::End(28));
     Ok(())
 }
@@ -366,25 +423,8 @@ fn one_block_number(rt: HostRuntime) -> Result<(), Fail> {
 #[test]
 fn local_use(rt: HostRuntime) -> Result<(), Fail> {
     let alloc = rt.alloc();
-    let mut text = Vec::new(alloc);
-    let mut at = 0usize;
-    for line in ONE_BLOCK_NUMBER {
-        at = at.saturating_add(1);
-        let line: &[u8] = match at {
-            20 => b"optional 1",
-            21 => b"subsets 0\nlocal1 01\nlocal1 0203\nsection2 ab",
-            23 | 24 => b"# no subset",
-            _ => line,
-        };
-        text.extend_from_slice(line)?;
-        text.push(b'\n')?;
-    }
-    let mut r = ScriptIn::new(&text, 3, None);
-    let mut reader = DumpReader::new(alloc);
-    let Ok(Some(document)) = reader.next_document(&mut r) else {
-        assert!(rt; false, "no document");
-        return Ok(());
-    };
+    let text = with_octets(alloc, b"local1 01\nlocal1 0203\nsection2 ab\n")?;
+    let document = first_document(alloc, &text).ok_or("a document")?;
     assert_eq!(rt; document.local1(), b"\x01\x02\x03".as_slice());
     assert!(rt; document.section2() == Some(b"\xAB".as_slice()));
     assert_eq!(rt; (document.subsets(), document.entries()), (0, 0));
@@ -478,26 +518,13 @@ fn holds_what_is_behind_a_document(rt: HostRuntime) -> Result<(), Fail> {
 #[test]
 fn compressed(rt: HostRuntime) -> Result<(), Fail> {
     let alloc = rt.alloc();
-    let mut text = Vec::new(alloc);
-    let mut at = 0usize;
-    for line in ONE_BLOCK_NUMBER {
-        at = at.saturating_add(1);
-        let line: &[u8] = match at {
-            18 => b"observed 0",
-            19 => b"compressed 1",
-            21 => b"subsets 2",
-            24 => b"001001 10\nsubset 2\n001001 11",
-            _ => line,
-        };
-        text.extend_from_slice(line)?;
-        text.push(b'\n')?;
-    }
-    let mut r = ScriptIn::new(&text, 3, None);
-    let mut reader = DumpReader::new(alloc);
-    let Ok(Some(document)) = reader.next_document(&mut r) else {
-        assert!(rt; false, "no document");
-        return Ok(());
-    };
+    let mut lines = ONE_BLOCK_NUMBER;
+    lines[17] = b"observed 0";
+    lines[18] = b"compressed 1";
+    lines[20] = b"subsets 2";
+    lines[23] = b"001001 10\nsubset 2\n001001 11";
+    let text = of_lines(alloc, &lines)?;
+    let document = first_document(alloc, &text).ok_or("a document")?;
     assert!(rt; document.compressed() && !document.observed());
     assert_eq!(rt; (document.subsets(), document.entries()), (2, 4));
     assert!(rt; document.entries() == 4);

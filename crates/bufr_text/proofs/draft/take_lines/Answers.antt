@@ -1,5 +1,7 @@
-use Rattle.std.proofs.Common.{◌≡◌, ◌+◌, refl, ap}
+use Rattle.std.proofs.Common.{◌≡◌, ◌+◌, false, refl, ap}
 use Rattle.bufr_text.proofs.TakingLemmas.{taking-goes, taking-gives, taking-refuses}
+use Rattle.bufr_text.specs.Reading.{has_no_feed}
+use Rattle.bufr_text.proofs.FeedLemmas.{line-behind, refused-holds}
 use Rattle.bufr_text.proofs.draft.take_lines.Goals as goal
 
 pub loop-length-preserved : goal.loop-length-preserved
@@ -29,3 +31,7 @@ returns-in-Refuses c = record {
       (rw (c.in-Refuses.is, c.ahead-line.ensures, c.behind-in-Some.ensures) at c.in_ok-turn.ensures.turns);
   wants = tt;
 }
+
+pub returns-in_err-turn-clause-wants : goal.returns-in_err-turn-clause-wants
+returns-in_err-turn-clause-wants c =
+    refused-holds c.from_residual.result (has_no_feed c.args.held.now ≡ false) (line-behind c.args.held.now c.loop-length.from c.in-Some.length (rw c.behind.ensures at c.in-Some.ensures))

@@ -6,7 +6,7 @@ use Rattle.std.proofs.lemmas.Bool.{true≢false}
 use Rattle.bufr_frame.proofs.BufferLemmas.{empty-of, part-length}
 use Rattle.bufr_text.specs.Filling.{ends_by_feed}
 use Rattle.bufr_text.proofs.FeedingLemmas.{ends-append}
-use Rattle.bufr_text.proofs.ReaderLemmas.{some-read, feed-read, draft-read}
+use Rattle.bufr_text.proofs.ReaderLemmas.{some-read, feed-read, draft-read, none-read}
 use Rattle.bufr_text.proofs.dump_reader.DumpReader.read_more.Goals as goal
 
 pub returns-in_err-slid-clause-read : goal.returns-in_err-slid-clause-read
@@ -25,7 +25,7 @@ returns-in_err-slid-clause-read g c =
         at = ap (λ s. s.at) c.self.view_is;
         place = ap (λ s. s.place) c.self.view_is;
         fault = ap (λ s. s.fault) c.self.view_is ∙ c.requires.sound;
-        ends = rw is (ap (λ s. s.reads) c.self.view_is, refl, ap (λ s. s.ended) c.self.view_is ∙ c.requires.going);
+        ends = rw is (ap (λ s. s.reads) c.self.view_is, refl, ap (λ s. s.ended) c.self.view_is ∙ c.requires.going, none-read v.reads _ c.self.invariant.6 room.3);
       },
     )
 
@@ -94,6 +94,7 @@ invariant_of-self-then-self g c =
       omega (arith, c.requires.few, ap (λ s. s.reads) c.self.view_is),
       λ e. ap ends_by_feed fed ∙ ends-append ((c.args.self.now.held ++ once.0) ++ []),
       λ e. draft-read v.draft (v.filled - v.start) _ v.reads (c.self.invariant.5 e) (omega (arith, c.if-n-eq0.true, room.0, c.self.invariant)),
+      λ _. c.put_feed.ensures.len ∙ c.read_behind.ensures.len ∙ room.2,
     )
 
 pub returns-then-self-clause-read : goal.returns-then-self-clause-read

@@ -22,6 +22,7 @@ invariant_of-self-in-More c =
       omega (arith, c.self.invariant),
       λ e. taken-ends v.buffer.items v.start v.filled c.in-Ok.len within (c.self.invariant.4 e),
       λ e. draft-more v.draft c.take_lines.new.draft _ v.start v.filled c.in-Ok.len v.reads takes (c.self.invariant.5 e) within,
+      c.self.invariant.6,
     )
 
 pub invariant_of-self-in-Gives : goal.invariant_of-self-in-Gives
@@ -36,6 +37,7 @@ invariant_of-self-in-Gives c =
       omega (arith, c.self.invariant),
       λ e. taken-ends v.buffer.items v.start v.filled c.in-Ok.len within (c.self.invariant.4 e),
       λ e. draft-between v.draft c.take_lines.new.draft c.take_parts-parts.new.draft _ v.start v.filled c.in-Ok.len v.reads _ takes (c.self.invariant.5 e) within c.take_parts-parts.ensures.at c.take_parts-parts.ensures.place,
+      c.self.invariant.6,
     )
 
 pub invariant_of-self-in-Refuses : goal.invariant_of-self-in-Refuses
@@ -50,6 +52,7 @@ invariant_of-self-in-Refuses c =
       omega (arith, c.self.invariant),
       λ e. taken-ends v.buffer.items v.start v.filled c.in-Ok.len within (c.self.invariant.4 e),
       λ e. absurd cc,
+      c.self.invariant.6,
     )
 
 pub returns-in-More-clause-went : goal.returns-in-More-clause-went
