@@ -1,3 +1,4 @@
+pub mod Calling
 pub mod DocumentLine
 pub mod DumpPieces
 pub mod EncodePieces

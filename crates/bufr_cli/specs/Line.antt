@@ -1,8 +1,12 @@
 -- The command line of `bufr`, as clap reads it. (a choice of this project)
 -- Cited by public contracts.
-use Rattle.std.specs.Prelude.{◌≡◌, ℕ, List, Option, Some, None, true, codes, option_map}
-use Rattle.clap.specs.Words.{App, Row, Rule, Text, first_of, new_app, new_rule, with_rule, with_subcommand}
+use Rattle.std.specs.Prelude.{◌≡◌, ◌≢◌, ◌⊎◌, ℕ, List, Option, Some, None, true, codes, option_map}
+use Rattle.clap.specs.Words.{App, IsAmong, Kinds, Row, Rule, Text, first_of, new_app, new_rule, with_rule, with_subcommand}
+use Rattle.clap.specs.declared.error.kind.ErrorKind.{ErrorKind}
+use Rattle.clap.specs.declared.error.kind.ErrorKind.TheVariants.{DisplayHelp, DisplayVersion, OutOfMemory}
 use Rattle.bufr_cli.specs.declared.job.Job.{Job}
+use Rattle.bufr_cli.specs.declared.job.LineFault.{LineFault}
+use Rattle.bufr_cli.specs.declared.job.LineFault.TheVariants.{Help, Usage, Memory}
 use Rattle.bufr_cli.specs.declared.job.Subcommand.{Subcommand}
 use Rattle.bufr_cli.specs.declared.job.Subcommand.TheVariants.{Ls, Dump, Encode}
 use Rattle.bufr_cli.specs.declared.job.TableNames.{TableNames}
@@ -48,3 +52,31 @@ abbrev pub IsJobOf : Option (Text × List Row) → Job → Type 0
 IsJobOf None job = ⊥
 IsJobOf (Some met) job =
     (met.0 ≡ name_of job.command) × HasTables met.1 job.command × (option_map (λ name. name.now) job.file ≡ first_of (codes "FILE") met.1)
+
+-- no tables have these values
+abbrev pub LacksTables : List Row → Type 0
+LacksTables rows = (tables : TableNames) → ¬ AreNamed rows tables
+
+-- no job is that of the subcommand that was met
+abbrev pub HasNoJob : Option (Text × List Row) → Type 0
+HasNoJob met = (job : Job) → ¬ IsJobOf met job
+
+-- the fault that an error of this kind stands for; its text takes memory
+abbrev pub TellsKind : ErrorKind → LineFault → Type 0
+TellsKind kind (Help text) = (kind ≡ DisplayHelp) ⊎ (kind ≡ DisplayVersion)
+TellsKind kind (Usage text) = (kind ≢ OutOfMemory) × (kind ≢ DisplayHelp) × (kind ≢ DisplayVersion)
+TellsKind kind Memory = Unit {0}
+
+-- help or the version is asked for
+abbrev pub AsksHelp : Kinds → Type 0
+AsksHelp kinds = IsAmong DisplayHelp kinds ⊎ IsAmong DisplayVersion kinds
+
+-- the line is refused, or met no job
+abbrev pub IsMistaken : Kinds → Option (Text × List Row) → Type 0
+IsMistaken kinds met = ((kind : ErrorKind) × IsAmong kind kinds × (kind ≢ DisplayHelp) × (kind ≢ DisplayVersion)) ⊎ HasNoJob met
+
+-- why a line whose parse may fail by these kinds, and meets this subcommand, gives no job
+abbrev pub SaysWhy : Kinds → Option (Text × List Row) → LineFault → Type 0
+SaysWhy kinds met (Help text) = AsksHelp kinds
+SaysWhy kinds met (Usage text) = IsMistaken kinds met
+SaysWhy kinds met Memory = Unit {0}

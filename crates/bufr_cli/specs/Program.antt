@@ -1,5 +1,5 @@
 -- What the program does with its input. (a choice of this project)
--- Cited by private steps only.
+-- Cited by public contracts.
 use Rattle.std.specs.Prelude.{◌≡◌, ℕ, List, map, Option, Some, None, Result, Ok, Err, IfSome}
 use Rattle.std.specs.Borrow.{Bor}
 use Rattle.bufr_frame.specs.Scan.{Happening, scan}
@@ -31,11 +31,11 @@ input_octets standard named (Some name) = named name.now
 abbrev pub Tells : (w w' e e' : Option (List ℕ)) → Tally → List Piece → Type 0
 Tells w w' e e' tally pieces = Written w w' e e' pieces × Tallies tally pieces
 
--- what comes of a run over an input: where it went through, this holds of its octets; what cannot be opened is the input
+-- what comes of a run over an input: where it went through, this holds of its octets; what cannot be opened is the input, of which nothing was known
 abbrev pub RunOutcome : (ran : Tally → List ℕ → Type 0) → (standard : Option (List ℕ)) → (named : List ℕ → Option (List ℕ)) → (file : Option (Bor (List ℕ))) → Outcome → Type 0
 RunOutcome ran standard named file (Ran tally) = IfSome (input_octets standard named file) (ran tally)
 RunOutcome ran standard named file (Usage text) = ⊥
-RunOutcome ran standard named file (CannotOpen name) = file ≡ Some name
+RunOutcome ran standard named file (CannotOpen name) = (file ≡ Some name) × (named name.now ≡ None)
 RunOutcome ran standard named file (TableB fault) = ⊥
 RunOutcome ran standard named file (TableD fault) = ⊥
 RunOutcome ran standard named file (Run fault) = Unit {0}
@@ -46,23 +46,27 @@ ran_outcome (Ok tally) = Ran tally
 ran_outcome (Err fault) = Run fault
 
 -- the octets of a file are not read
-abbrev pub FileOutcome : (name : Bor (List ℕ)) → Outcome → Type 0
-FileOutcome name (Ran tally) = ⊥
-FileOutcome name (Usage text) = ⊥
-FileOutcome name (CannotOpen other) = other ≡ name
-FileOutcome name (TableB fault) = ⊥
-FileOutcome name (TableD fault) = ⊥
-FileOutcome name (Run fault) = Unit {0}
+abbrev pub FileOutcome : (named : List ℕ → Option (List ℕ)) → (name : Bor (List ℕ)) → Outcome → Type 0
+FileOutcome named name (Ran tally) = ⊥
+FileOutcome named name (Usage text) = ⊥
+FileOutcome named name (CannotOpen other) = (other ≡ name) × (named name.now ≡ None)
+FileOutcome named name (TableB fault) = ⊥
+FileOutcome named name (TableD fault) = ⊥
+FileOutcome named name (Run fault) = Unit {0}
+
+-- the file of this name is not opened, and it was not known that it can be
+abbrev pub IsClosed : (named : List ℕ → Option (List ℕ)) → (name : Bor (List ℕ)) → Outcome → Type 0
+IsClosed named name outcome = (outcome ≡ CannotOpen name) × (named name.now ≡ None)
 
 -- Table B is not read from the file of this name, or is at fault
 abbrev pub TableBOutcome : (named : List ℕ → Option (List ℕ)) → (name : Bor (List ℕ)) → Outcome → Type 0
 TableBOutcome named name (TableB fault) = IfSome (named name.now) (λ text. Gives (table_b_of (records_of text)) (Err fault))
-TableBOutcome named name outcome = FileOutcome name outcome
+TableBOutcome named name outcome = FileOutcome named name outcome
 
 -- Table D is not read from the file of this name, or is at fault
 abbrev pub TableDOutcome : (named : List ℕ → Option (List ℕ)) → (name : Bor (List ℕ)) → Outcome → Type 0
 TableDOutcome named name (TableD fault) = IfSome (named name.now) (λ text. Reads (records_of text) (Err fault))
-TableDOutcome named name outcome = FileOutcome name outcome
+TableDOutcome named name outcome = FileOutcome named name outcome
 
 -- these are the tables of the files of these names
 pub record AreTables (named : List ℕ → Option (List ℕ)) (tables : TableNames) (b : List Row) (d : List Sequence) : Type 0 where

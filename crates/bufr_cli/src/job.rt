@@ -1,8 +1,9 @@
 //! The command line.
-ghost use Rattle.std.specs.Prelude.{◌≡◌, IfOk, IfSome, map, false, Some};
+ghost use Rattle.std.specs.Prelude.{◌≡◌, IfErr, IfNone, IfOk, IfSome, map, false, Some};
 ghost use Rattle.clap.specs.declared.builder.command.Command.TheViews.{out-Command};
-ghost use Rattle.clap.specs.Words.{app_of, found_of, rows_of, rule_of, subcommand_of};
-ghost use Rattle.bufr_cli.specs.Line.{bufr_app, dump_app, encode_app, ls_app, name_of, table_rule, AreNamed, HasTables, IsJobOf};
+ghost use Rattle.clap.specs.Values.{kind_of};
+ghost use Rattle.clap.specs.Words.{app_of, fault_of, found_of, rows_of, rule_of, subcommand_of};
+ghost use Rattle.bufr_cli.specs.Line.{bufr_app, dump_app, encode_app, ls_app, name_of, table_rule, AreNamed, HasNoJob, HasTables, IsJobOf, LacksTables, SaysWhy, TellsKind};
 
 use clap::error::ErrorKind;
 use clap::{Arg, ArgMatches, Error};
@@ -218,7 +219,9 @@ fn bufr_command<'a>(alloc: Global) -> Result<clap::Command<'a>, AllocError>
 }
 
 /// The fault that an error of clap stands for, with its text.
-fn fault_of(alloc: Global, error: &Error) -> LineFault {
+fn told_fault(alloc: Global, error: &Error) -> LineFault
+    ensures { TellsKind (kind_of error.now) result }
+{
     if error.kind() == ErrorKind::OutOfMemory {
         return LineFault::Memory;
     }
@@ -236,7 +239,8 @@ fn fault_of(alloc: Global, error: &Error) -> LineFault {
 
 /// The names of the tables, where they are there.
 fn tables_of<'a>(found: &ArgMatches<'a>) -> Option<TableNames<'a>>
-    ensures { IfSome result (AreNamed (rows_of (found_of found.now))) }
+    ensures names { IfSome result (AreNamed (rows_of (found_of found.now))) }
+    ensures lacks { IfNone result (LacksTables (rows_of (found_of found.now))) }
 {
     let table_b = found.get_str("B")?;
     let table_d = found.get_str("D")?;
@@ -247,6 +251,7 @@ fn tables_of<'a>(found: &ArgMatches<'a>) -> Option<TableNames<'a>>
 fn command_of<'a>(name: &str, found: &ArgMatches<'a>) -> Option<Subcommand<'a>>
     ensures name { IfSome result (λ command. name.now ≡ name_of command) }
     ensures tables { IfSome result (HasTables (rows_of (found_of found.now))) }
+    ensures lacks { IfNone result (HasNoJob (Some (name.now, rows_of (found_of found.now)))) }
 {
     if name == "ls" {
         return Some(Subcommand::Ls);
@@ -264,7 +269,8 @@ fn command_of<'a>(name: &str, found: &ArgMatches<'a>) -> Option<Subcommand<'a>>
 
 /// The job of a subcommand that was met, where it is known and its tables are there.
 fn job_of<'a>(name: &str, found: &ArgMatches<'a>) -> Option<Job<'a>>
-    ensures { IfSome result (IsJobOf (Some (name.now, rows_of (found_of found.now)))) }
+    ensures job { IfSome result (IsJobOf (Some (name.now, rows_of (found_of found.now)))) }
+    ensures lacks { IfNone result (HasNoJob (Some (name.now, rows_of (found_of found.now)))) }
 {
     let command = command_of(name, found)?;
     let file = found.get_str("FILE");
@@ -284,12 +290,14 @@ fn job_of<'a>(name: &str, found: &ArgMatches<'a>) -> Option<Job<'a>>
 /// [`LineFault::Help`] where help or the version is asked for, [`LineFault::Usage`] where the words are not
 /// understood, no command is among them or a table is missing, and [`LineFault::Memory`].
 pub fn parse_line<'a, S: AsStr>(alloc: Global, words: &'a [S]) -> Result<Job<'a>, LineFault>
-    ensures { IfOk result (λ job. IsJobOf (subcommand_of bufr_app (map S.text words.entry.now)) job) }
+    ensures job { IfOk result (λ job. IsJobOf (subcommand_of bufr_app (map S.text words.entry.now)) job) }
+    // Help only where clap's rules for the line ask for it, a usage fault only where they refuse it or no job is met.
+    ensures fault { IfErr result (SaysWhy (fault_of bufr_app (map S.text words.entry.now)) (subcommand_of bufr_app (map S.text words.entry.now))) }
 {
     let command = bufr_command(alloc)?;
     let matches = match command.try_get_matches_from(words) {
         Ok(matches) => matches,
-        Err(error) => return Err(fault_of(alloc, &error)),
+        Err(error) => return Err(told_fault(alloc, &error)),
     };
     match matches.subcommand() {
         Some((name, found)) => match job_of(name, found) {

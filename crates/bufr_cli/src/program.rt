@@ -1,12 +1,16 @@
 //! The program below `main`: what it does with a command line, its inputs and its writers.
-ghost use Rattle.std.specs.Prelude.{◌≡◌, ◌≤◌, ℕ, List, Option, Ok, IfOk, IfErr, IfSome, map};
+ghost use Rattle.std.specs.Prelude.{◌≡◌, ℕ, List, Option, None, Ok, IfOk, IfErr, IfSome, map};
+ghost use Rattle.clap.specs.Words.{fault_of, subcommand_of};
 ghost use Rattle.bufr_frame.specs.Scan.{Happening, scan};
 ghost use Rattle.bufr_tables.specs.Chain.{Reads};
 ghost use Rattle.bufr_tables.specs.Records.{Record, records_of};
 ghost use Rattle.bufr_tables.specs.TableB.{AreRows, table_b_of};
+ghost use Rattle.bufr_text.specs.Writing.{Writes};
+ghost use Rattle.bufr_cli.specs.Calling.{CallSo};
 ghost use Rattle.bufr_cli.specs.DumpPieces.{IsDumpPiece};
+ghost use Rattle.bufr_cli.specs.Line.{bufr_app};
 ghost use Rattle.bufr_cli.specs.Pieces.{Piece, ls_pieces};
-ghost use Rattle.bufr_cli.specs.Program.{DumpOutcome, EncodeOutcome, Encodes, FileOutcome, OutcomeSo, RunOutcome, TableBOutcome, TableDOutcome, Tells, ran_outcome};
+ghost use Rattle.bufr_cli.specs.Program.{DumpOutcome, EncodeOutcome, Encodes, FileOutcome, IsClosed, OutcomeSo, RunOutcome, TableBOutcome, TableDOutcome, Tells, ran_outcome};
 ghost use Rattle.bufr_cli.specs.Running.{GivesPieces};
 
 use crate::finish::{Outcome, finish};
@@ -45,7 +49,7 @@ pub trait Inputs {
     /// The octets of standard input, where they are known.
     ghost standard_octets: { Self → Option (List ℕ) };
 
-    /// The octets of the file of a name, where they are known.
+    /// The octets of the file of a name, where it is known that it can be opened and what it holds.
     ghost file_octets: { Self → List ℕ → Option (List ℕ) };
 
     /// Standard input.
@@ -58,7 +62,8 @@ pub trait Inputs {
     ///
     /// [`Unopened`] where it cannot be opened.
     fn open(&self, name: &str) -> Result<Self::File, Unopened>
-        ensures { IfOk result (λ file. Self.File.remaining file ≡ file_octets self.now name.now) };
+        ensures octets { IfOk result (λ file. Self.File.remaining file ≡ file_octets self.now name.now) }
+        ensures unknown { IfErr result (λ _. file_octets self.now name.now ≡ None) };
 }
 
 /// Does what the words of a command line ask for, the first of which is the program's name, and
@@ -71,7 +76,9 @@ pub fn run<'a, S: AsStr, I: Inputs, W: Sink, E: Sink>(
     w: &mut W,
     e: &mut E,
 ) -> u8
-    ensures { result ≤ 2 }
+    // What the words ask for was done and told, or help, or why not; the status says which.
+    ensures { CallSo (fault_of bufr_app (map S.text words.entry.now)) (subcommand_of bufr_app (map S.text words.entry.now))
+        (I.standard_octets inputs.now) (I.file_octets inputs.now) (W.taken w.old) (W.taken w.new) (E.taken e.old) (E.taken e.new) result }
 {
     match parse_line(alloc, words) {
         Ok(job) => {
@@ -88,7 +95,9 @@ pub fn run<'a, S: AsStr, I: Inputs, W: Sink, E: Sink>(
 }
 
 /// Writes a text and hands it on.
-fn hand_on<W: Sink>(text: &[u8], w: &mut W) -> Result<(), RunFault> {
+fn hand_on<W: Sink>(text: &[u8], w: &mut W) -> Result<(), RunFault>
+    ensures { Writes (W.taken w.old) (W.taken w.new) text.now result }
+{
     write_all(text, w)?;
     match w.flush() {
         Ok(()) => Ok(()),
@@ -165,7 +174,7 @@ fn encode_job<'a, I: Inputs, W: Sink, E: Sink>(
 /// [`Outcome::CannotOpen`].
 fn open_file<'a, I: Inputs>(name: &'a str, inputs: &I) -> Result<I::File, Outcome<'a>>
     ensures file { IfOk result (λ file. I.File.remaining file ≡ I.file_octets inputs.now name.entry.now) }
-    ensures closed { IfErr result (λ outcome. outcome ≡ Outcome.CannotOpen name.entry) }
+    ensures closed { IfErr result (IsClosed (I.file_octets inputs.now) name.entry) }
 {
     match inputs.open(name) {
         Ok(file) => Ok(file),
@@ -184,7 +193,7 @@ fn read_file<'a, I: Inputs>(
     inputs: &I,
 ) -> Result<Vec<u8>, Outcome<'a>>
     ensures octets { IfOk result (λ octets. IfSome (I.file_octets inputs.now name.entry.now) (λ text. octets.items ≡ text)) }
-    ensures unread { IfErr result (FileOutcome name.entry) }
+    ensures unread { IfErr result (FileOutcome (I.file_octets inputs.now) name.entry) }
 {
     let file = match open_file(name, inputs) {
         Ok(file) => file,

@@ -11,7 +11,7 @@ use bufr_bits::{End, ScriptOut};
 use bufr_frame::RunFault;
 use bufr_tables::{Fxy, TableD, TableFault};
 use std::alloc::{AllocError, Global};
-use std::io::{self, Read};
+use std::io::{self, ErrorKind, Read};
 use std::process::Abort;
 use std::test::Fail;
 
@@ -98,7 +98,11 @@ fn refuses_lines(rt: HostRuntime) {
 
 #[test]
 fn refuses_lines_with_tables(rt: HostRuntime) -> Result<(), Fail> {
-    static REFUSED: [(&[&str], &str); 6] = [
+    static REFUSED: [(&[&str], &str); 7] = [
+        (
+            &["-B", "b", "-D", "d", "--long"],
+            "unexpected argument '--long' found",
+        ),
         (
             &[],
             "required arguments were not provided:\n  -B <FILE>\n  -D <FILE>\n",
@@ -182,7 +186,8 @@ struct Shelf<'a> {
 }
 
 impl<'a> Inputs for Shelf<'a> {
-    ghost use Rattle.std.specs.Prelude.{Some};
+    ghost use Rattle.std.specs.Prelude.{Some, None, if◌then◌else◌};
+    ghost use Rattle.std.specs.Str.{bytes_eq};
 
     type Standard = &'a [u8];
 
@@ -190,7 +195,7 @@ impl<'a> Inputs for Shelf<'a> {
 
     ghost standard_octets = { λ s. Some s.standard.now };
 
-    ghost file_octets = { λ s _. Some s.file.now };
+    ghost file_octets = { λ s name. if bytes_eq name s.name.now then Some s.file.now else None };
 
     fn standard(&self) -> &'a [u8] {
         self.standard
@@ -291,19 +296,23 @@ fn opens_files_of_the_process(rt: HostRuntime) {
     assert!(rt; rt.open("no such file.bufr").is_err());
 }
 
-/// A file that is read.
+/// A file that is read; a torn one fails where its octets end.
 #[derive(Drop)]
 struct Page<'a> {
     octets: &'a [u8],
+    torn: bool,
 }
 
 impl<'a> Read for Page<'a> {
     fn read(&mut self, buf: &mut [u8]) -> io::Result<usize> {
+        if self.torn && self.octets.is_empty() {
+            return Err(ErrorKind::Other.into());
+        }
         self.octets.read(buf)
     }
 }
 
-/// Tables, the file `one` and standard input.
+/// Tables, the file `one`, a torn one and standard input.
 #[derive(Drop)]
 struct Library<'a> {
     one: &'a [u8],
@@ -324,6 +333,7 @@ impl<'a> Inputs for Library<'a> {
     fn standard(&self) -> Page<'a> {
         Page {
             octets: self.standard,
+            torn: false,
         }
     }
 
@@ -336,17 +346,20 @@ impl<'a> Inputs for Library<'a> {
             b"fxy,member\n300001,300002\n300002,300001\n"
         } else if name == "one" {
             self.one
+        } else if name == "torn" {
+            b"fxy"
         } else {
             return Err(Unopened);
         };
-        Ok(Page { octets })
+        let torn = name == "torn";
+        Ok(Page { octets, torn })
     }
 }
 
 /// What stands behind a command that takes tables, the status, whether its output is written, and
 /// what the errors hold; without it, they are those of the file `one`. Table B is read first, then
 /// Table D, then the input.
-static RUNS: [(&[&str], u8, bool, Option<&str>); 9] = [
+static RUNS: [(&[&str], u8, bool, Option<&str>); 12] = [
     (&["-B", "b.csv", "-D", "d.csv"], 0, true, Some("")),
     (&["-B", "b.csv", "-D", "d.csv", "one"], 1, true, None),
     (
@@ -384,6 +397,24 @@ static RUNS: [(&[&str], u8, bool, Option<&str>); 9] = [
         2,
         false,
         Some("table D: 43 cycle 300001\n"),
+    ),
+    (
+        &["-B", "torn", "-D", "none.csv"],
+        2,
+        false,
+        Some("bufr: 70 read failed\n"),
+    ),
+    (
+        &["-B", "b.csv", "-D", "torn", "two"],
+        2,
+        false,
+        Some("bufr: 70 read failed\n"),
+    ),
+    (
+        &["-B", "b.csv", "-D", "d.csv", "torn"],
+        2,
+        false,
+        Some("bufr: 70 read failed\n"),
     ),
     (
         &["-D", "d.csv"],

@@ -1,0 +1,24 @@
+-- What a call of the program comes to. (a choice of this project)
+-- Cited by public contracts.
+use Rattle.std.specs.Prelude.{◌≡◌, ℕ, List, Option}
+use Rattle.std.specs.Io.KnownBytes.{Appends, Keeps}
+use Rattle.clap.specs.Words.{Kinds, Row, Text}
+use Rattle.bufr_frame.specs.declared.fault.RunFault.{RunFault}
+use Rattle.bufr_frame.specs.declared.fault.RunFault.TheVariants.{Memory}
+use Rattle.bufr_text.specs.Writing.{GrowsByFront}
+use Rattle.bufr_cli.specs.Finish.{last_line, run_line, status_of}
+use Rattle.bufr_cli.specs.Line.{AsksHelp, IsJobOf, IsMistaken}
+use Rattle.bufr_cli.specs.Program.{OutcomeSo}
+use Rattle.bufr_cli.specs.declared.finish.Outcome.{Outcome}
+use Rattle.bufr_cli.specs.declared.job.Job.{Job}
+
+-- Of words whose parse may fail by these kinds and meets this subcommand: its job was done, and its outcome told by a
+-- last line (or a front of it) and the status; or help was asked for and written, or a front of it; or the words are
+-- mistaken; or memory ran out before there was a job.
+pub data CallSo (kinds : Kinds) (met : Option (Text × List Row)) (standard : Option (List ℕ)) (named : List ℕ → Option (List ℕ)) (w w' e e' : Option (List ℕ)) (status : ℕ) : Type 0 where
+  Does : (job : Job) → IsJobOf met job → (outcome : Outcome) → (told : Option (List ℕ)) → OutcomeSo standard named job w w' e told outcome
+      → GrowsByFront told e' (last_line outcome) → status ≡ status_of outcome → CallSo kinds met standard named w w' e e' status
+  Helps : AsksHelp kinds → (text : List ℕ) → Appends w w' text → Keeps e e' → status ≡ 0 → CallSo kinds met standard named w w' e e' status
+  HelpsInPart : AsksHelp kinds → (text : List ℕ) → GrowsByFront w w' text → (fault : RunFault) → GrowsByFront e e' (run_line fault) → status ≡ 2 → CallSo kinds met standard named w w' e e' status
+  Refuses : IsMistaken kinds met → Keeps w w' → (text : List ℕ) → GrowsByFront e e' text → status ≡ 2 → CallSo kinds met standard named w w' e e' status
+  WantsMemory : Keeps w w' → GrowsByFront e e' (run_line Memory) → status ≡ 2 → CallSo kinds met standard named w w' e e' status
