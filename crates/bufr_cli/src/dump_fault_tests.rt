@@ -1,14 +1,13 @@
 //! What `dump` refuses, and where its reader and its writers fail.
 
-use crate::dump_tests::assert_dumped;
-use crate::run_dump::run_dump;
 use crate::tally::Tally;
 use crate::test_messages::{
-    TABLE_B, TABLE_D, message_of, octets_of, one_block_number, text_of_one, words_of,
+    ONE_ACCEPTED, ONE_REFUSED, message_of, octets_of, one_block_number, text_of_one, words_of,
 };
-use bufr_bits::{End, ScriptIn, ScriptOut};
-use bufr_frame::RunFault;
-use bufr_tables::{TableB, TableD};
+use crate::test_runs::{
+    Command, assert_run, assert_stops_at_a_failed_read, assert_stops_at_failed_errors,
+    assert_stops_at_failed_writes,
+};
 use std::test::Fail;
 
 /// A message that is refused, and its fault line behind `offset 0: `.
@@ -187,11 +186,6 @@ static REFUSED: [Refused; 20] = [
     },
 ];
 
-const ONE_REFUSED: Tally = Tally {
-    accepted: 0,
-    refused: 1,
-};
-
 #[test]
 fn refuses_worked_examples(rt: HostRuntime) -> Result<(), Fail> {
     for row in &REFUSED {
@@ -200,7 +194,15 @@ fn refuses_worked_examples(rt: HostRuntime) -> Result<(), Fail> {
         let message = message_of(rt.alloc(), row.subsets, row.flags, &words, &data)?;
         let mut line = String::from_str(rt.alloc(), "offset 0: ")?;
         line.push_str(row.fault)?;
-        assert_dumped(&rt, row.name, &message, b"", line.as_bytes(), ONE_REFUSED)?;
+        assert_run(
+            &rt,
+            Command::Dump,
+            row.name,
+            &message,
+            b"",
+            line.as_bytes(),
+            ONE_REFUSED,
+        )?;
     }
     Ok(())
 }
@@ -212,8 +214,9 @@ fn refuses_too_many_values(rt: HostRuntime) -> Result<(), Fail> {
     let mut data = Vec::new(rt.alloc());
     data.extend_from_slice(&[0; 2000])?;
     let message = message_of(rt.alloc(), 65535, 0xC0, &words, &data)?;
-    assert_dumped(
+    assert_run(
         &rt,
+        Command::Dump,
         "too many values",
         &message,
         b"",
@@ -236,8 +239,9 @@ fn goes_on_behind_refused(rt: HostRuntime) -> Result<(), Fail> {
     input.extend_from_slice(&halved)?;
     input.extend_from_slice(&good)?;
     let text = text_of_one(rt.alloc())?;
-    assert_dumped(
+    assert_run(
         &rt,
+        Command::Dump,
         "refused ones",
         &input,
         text.as_bytes(),
@@ -251,76 +255,81 @@ fn goes_on_behind_refused(rt: HostRuntime) -> Result<(), Fail> {
     )
 }
 
+/// The four streams of one good message and a stray one before or in place of it.
+#[test]
+fn tells_strays(rt: HostRuntime) -> Result<(), Fail> {
+    static STREAMS: [(&str, &[u8], &[(usize, u8)], &[u8], &str, u64); 4] = [
+        ("no end", b"", &[(47, b'6')], b"", "offset 0: 3 no end\n", 0),
+        (
+            "a word that states 64 octets",
+            b"BUFR\x00\x00\x40\x04",
+            &[],
+            b"\0\0\0\0\0\0\0\0",
+            "offset 0: 3 no end\n",
+            1,
+        ),
+        (
+            "edition 3",
+            b"",
+            &[(7, 3)],
+            b"",
+            "offset 0: 10 edition 3\n",
+            0,
+        ),
+        (
+            "a short length",
+            b"",
+            &[(6, 11)],
+            b"",
+            "offset 0: 2 short length\n",
+            0,
+        ),
+    ];
+    let text = text_of_one(rt.alloc())?;
+    for (name, before, edits, behind, errors, accepted) in &STREAMS {
+        let mut message = one_block_number(rt.alloc())?;
+        for (place, octet) in *edits {
+            assert!(rt; *place < message.len());
+            message[*place] = *octet;
+        }
+        let mut input = Vec::new(rt.alloc());
+        input.extend_from_slice(before)?;
+        input.extend_from_slice(&message)?;
+        input.extend_from_slice(behind)?;
+        let output = if *accepted > 0 { text.as_bytes() } else { b"" };
+        let tally = Tally {
+            accepted: *accepted,
+            refused: 1,
+        };
+        let errors = errors.as_bytes();
+        assert_run(&rt, Command::Dump, name, &input, output, errors, tally)?;
+    }
+    Ok(())
+}
+
 /// Wherever a read fails, what was certain before stands: a message that was read whole is dumped.
 #[test]
 fn stops_at_a_failed_read(rt: HostRuntime) -> Result<(), Fail> {
-    let table_b = TableB::read(rt.alloc(), TABLE_B).expect(&rt, "table B");
-    let table_d = TableD::read(rt.alloc(), TABLE_D).expect(&rt, "table D");
     let text = text_of_one(rt.alloc())?;
     let message = one_block_number(rt.alloc())?;
     let mut input = Vec::new(rt.alloc());
     input.extend_from_slice(&message)?;
     input.extend_from_slice(&message)?;
     for place in 0..96 {
-        let mut r = ScriptIn::new(&input, 7, Some(place));
-        let mut w = ScriptOut::new(rt.alloc(), 4096, 7, End::Fail)?;
-        let mut e = ScriptOut::new(rt.alloc(), 4096, 7, End::Fail)?;
-        let ran = run_dump(rt.alloc(), &mut r, &mut w, &mut e, &table_b, &table_d);
         let dumped = if place < 48 { b"" } else { text.as_bytes() };
-        assert!(rt; ran == Err(RunFault::Read), "{place}: {ran:?}");
-        assert_eq!(rt; w.taken(), dumped, "{place}");
-        assert!(rt; e.taken().is_empty(), "{place}");
+        assert_stops_at_a_failed_read(&rt, Command::Dump, &input, place, dumped)?;
     }
     Ok(())
 }
 
-/// A writer that fails, takes nothing, or cannot be flushed has taken a front of the text.
+/// Writers that fail, take nothing, or cannot be flushed have taken a front.
 #[test]
 fn stops_at_a_failed_write(rt: HostRuntime) -> Result<(), Fail> {
-    let table_b = TableB::read(rt.alloc(), TABLE_B).expect(&rt, "table B");
-    let table_d = TableD::read(rt.alloc(), TABLE_D).expect(&rt, "table D");
     let text = text_of_one(rt.alloc())?;
     let message = one_block_number(rt.alloc())?;
-    let whole = text.len();
-    assert!(rt; whole > 100);
-    for end in [End::Fail, End::Zero, End::Flush] {
-        for room in 0..whole.saturating_add(1) {
-            let mut r = ScriptIn::new(&message, 4096, None);
-            let mut w = ScriptOut::new(rt.alloc(), room, 5, end)?;
-            let mut e = ScriptOut::new(rt.alloc(), 0, 5, End::Fail)?;
-            let ran = run_dump(rt.alloc(), &mut r, &mut w, &mut e, &table_b, &table_d);
-            let fails = room < whole || end == End::Flush;
-            assert!(rt; ran.is_err() == fails, "{room} of {end:?}: {ran:?}");
-            if fails {
-                assert!(rt; ran == Err(RunFault::Write), "{room} of {end:?}: {ran:?}");
-            }
-            assert!(rt; room <= whole);
-            assert_eq!(rt; w.taken(), &text.as_bytes()[..room], "{end:?}");
-        }
-    }
-    Ok(())
-}
-
-/// The errors' writer fails, takes nothing, or cannot be flushed.
-#[test]
-fn stops_at_a_failed_write_of_errors(rt: HostRuntime) -> Result<(), Fail> {
-    let table_b = TableB::read(rt.alloc(), TABLE_B).expect(&rt, "table B");
-    let table_d = TableD::read(rt.alloc(), TABLE_D).expect(&rt, "table D");
+    let whole = text.as_bytes();
+    assert_stops_at_failed_writes(&rt, Command::Dump, &message, whole, ONE_ACCEPTED)?;
     let line = b"offset 0: 30 data end at subset 1 descriptor 001001 bit 0\n";
     let message = message_of(rt.alloc(), 1, 0x80, &[0x0101], b"")?;
-    for end in [End::Fail, End::Zero, End::Flush] {
-        for room in 0..59 {
-            let mut r = ScriptIn::new(&message, 4096, None);
-            let mut w = ScriptOut::new(rt.alloc(), 0, 5, End::Fail)?;
-            let mut e = ScriptOut::new(rt.alloc(), room, 5, end)?;
-            let ran = run_dump(rt.alloc(), &mut r, &mut w, &mut e, &table_b, &table_d);
-            let fails = room < 58 || end == End::Flush;
-            assert!(rt; ran.is_err() == fails, "{room} of {end:?}: {ran:?}");
-            if fails {
-                assert!(rt; ran == Err(RunFault::Write), "{room} of {end:?}: {ran:?}");
-            }
-            assert_eq!(rt; e.taken(), &line[..room], "{end:?}");
-        }
-    }
-    Ok(())
+    assert_stops_at_failed_errors(&rt, Command::Dump, &message, b"", line, ONE_REFUSED)
 }

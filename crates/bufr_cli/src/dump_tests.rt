@@ -1,15 +1,9 @@
 //! The worked examples of `dump`, run.
 
-use crate::run_dump::run_dump;
-use crate::run_encode::run_encode;
 use crate::tally::Tally;
-use crate::test_messages::{
-    HEAD, ONE_ACCEPTED, TABLE_B, TABLE_D, message_of, octets_of, text_of, words_of,
-};
+use crate::test_messages::{HEAD, ONE_ACCEPTED, message_of, octets_of, text_of, words_of};
+use crate::test_runs::{Command, assert_run, run_over};
 use bufr_bits::{End, ScriptIn, ScriptOut};
-use bufr_tables::{TableB, TableD};
-use std::alloc::Global;
-use std::process::Abort;
 use std::test::Fail;
 
 /// A message, and the lines of its subsets.
@@ -249,55 +243,6 @@ static DUMPED: [Dumped; 24] = [
     },
 ];
 
-/// Table D, with a sequence that doubles seventeen times.
-pub(crate) fn table_d(alloc: Global) -> Result<Vec<u8>, Fail> {
-    let mut text = Vec::new(alloc);
-    text.extend_from_slice(TABLE_D)?;
-    for level in 1u32..18 {
-        let member = if level < 17 {
-            format!(in alloc; "{}", 300_000 + level + 1)?
-        } else {
-            String::from_str(alloc, "001001")?
-        };
-        let sequence = 300_000 + level;
-        let rows = format!(in alloc; "{sequence},{member}\n{sequence},{member}\n")?;
-        text.extend_from_slice(rows.as_str().as_bytes())?;
-    }
-    Ok(text)
-}
-
-/// Dumps `input`, and asserts what comes of it.
-pub(crate) fn assert_dumped(
-    rt: &(impl Abort + AllocGlobal),
-    name: &str,
-    input: &[u8],
-    output: &[u8],
-    errors: &[u8],
-    tally: Tally,
-) -> Result<(), Fail> {
-    let rows = table_d(rt.alloc())?;
-    let table_b = TableB::read(rt.alloc(), TABLE_B).expect(rt, "table B");
-    let table_d = TableD::read(rt.alloc(), &rows).expect(rt, "table D");
-    for step in [1, 7, 4096] {
-        let mut r = ScriptIn::new(input, step, None);
-        let mut w = ScriptOut::new(rt.alloc(), 4096, step, End::Fail)?;
-        let mut e = ScriptOut::new(rt.alloc(), 4096, step, End::Fail)?;
-        let ran = run_dump(rt.alloc(), &mut r, &mut w, &mut e, &table_b, &table_d);
-        assert!(rt; ran == Ok(tally), "{name}: {ran:?}");
-        assert!(rt;
-            w.taken() == output,
-            "{name}: {}",
-            str::from_utf8(w.taken()).expect(rt, "text")
-        );
-        assert!(rt;
-            e.taken() == errors,
-            "{name}: {}",
-            str::from_utf8(e.taken()).expect(rt, "text")
-        );
-    }
-    Ok(())
-}
-
 #[test]
 fn dumps_worked_examples(rt: HostRuntime) -> Result<(), Fail> {
     for row in &DUMPED {
@@ -311,35 +256,12 @@ fn dumps_worked_examples(rt: HostRuntime) -> Result<(), Fail> {
             row.descriptors,
             row.body,
         )?;
-        assert_dumped(&rt, row.name, &message, text.as_bytes(), b"", ONE_ACCEPTED)?;
-    }
-    Ok(())
-}
-
-/// What was dumped and encoded is dumped as before.
-#[test]
-fn dumps_what_was_encoded(rt: HostRuntime) -> Result<(), Fail> {
-    let rows = table_d(rt.alloc())?;
-    let table_b = TableB::read(rt.alloc(), TABLE_B).expect(&rt, "table B");
-    let table_d = TableD::read(rt.alloc(), &rows).expect(&rt, "table D");
-    for row in &DUMPED {
-        let words = words_of(rt.alloc(), row.descriptors)?;
-        let data = octets_of(rt.alloc(), row.data)?;
-        let message = message_of(rt.alloc(), row.subsets, row.flags, &words, &data)?;
-        let mut r = ScriptIn::new(&message, 4096, None);
-        let mut text = ScriptOut::new(rt.alloc(), 4096, 4096, End::Fail)?;
-        let mut e = ScriptOut::new(rt.alloc(), 4096, 4096, End::Fail)?;
-        let ran = run_dump(rt.alloc(), &mut r, &mut text, &mut e, &table_b, &table_d);
-        assert!(rt; ran == Ok(ONE_ACCEPTED), "{}: {ran:?}", row.name);
-        let mut r = ScriptIn::new(text.taken(), 4096, None);
-        let mut octets = ScriptOut::new(rt.alloc(), 4096, 4096, End::Fail)?;
-        let ran = run_encode(rt.alloc(), &mut r, &mut octets, &mut e, &table_b, &table_d);
-        assert!(rt; ran == Ok(ONE_ACCEPTED), "{}: {ran:?}", row.name);
-        assert_dumped(
+        assert_run(
             &rt,
+            Command::Dump,
             row.name,
-            octets.taken(),
-            text.taken(),
+            &message,
+            text.as_bytes(),
             b"",
             ONE_ACCEPTED,
         )?;
@@ -347,7 +269,37 @@ fn dumps_what_was_encoded(rt: HostRuntime) -> Result<(), Fail> {
     Ok(())
 }
 
-/// Local octets and a section 2.
+/// What was dumped and encoded is dumped as before.
+#[test]
+fn dumps_what_was_encoded(rt: HostRuntime) -> Result<(), Fail> {
+    for row in &DUMPED {
+        let words = words_of(rt.alloc(), row.descriptors)?;
+        let data = octets_of(rt.alloc(), row.data)?;
+        let message = message_of(rt.alloc(), row.subsets, row.flags, &words, &data)?;
+        let r = ScriptIn::new(&message, 4096, None);
+        let w = ScriptOut::new(rt.alloc(), 4096, 4096, End::Fail)?;
+        let e = ScriptOut::new(rt.alloc(), 4096, 4096, End::Fail)?;
+        let text = run_over(&rt, Command::Dump, r, w, e);
+        let r = ScriptIn::new(text.output(), 4096, None);
+        let w = ScriptOut::new(rt.alloc(), 4096, 4096, End::Fail)?;
+        let e = ScriptOut::new(rt.alloc(), 4096, 4096, End::Fail)?;
+        let octets = run_over(&rt, Command::Encode, r, w, e);
+        let (octets, text) = (octets.output(), text.output());
+        assert!(rt; !octets.is_empty(), "{}", row.name);
+        assert_run(
+            &rt,
+            Command::Dump,
+            row.name,
+            octets,
+            text,
+            b"",
+            ONE_ACCEPTED,
+        )?;
+    }
+    Ok(())
+}
+
+/// Local octets and a section 2, dumped and encoded.
 #[test]
 fn dumps_local_use(rt: HostRuntime) -> Result<(), Fail> {
     static MESSAGE: [u8; 56] = [
@@ -369,11 +321,15 @@ fn dumps_local_use(rt: HostRuntime) -> Result<(), Fail> {
         001001 10  # WMO BLOCK NUMBER [Numeric]\n\
         end\n",
     )?;
-    assert_dumped(
+    let text = text.as_bytes();
+    let name = "local use";
+    assert_run(&rt, Command::Dump, name, &MESSAGE, text, b"", ONE_ACCEPTED)?;
+    assert_run(
         &rt,
-        "local use",
+        Command::Encode,
+        name,
+        text,
         &MESSAGE,
-        text.as_bytes(),
         b"",
         ONE_ACCEPTED,
     )
@@ -385,5 +341,5 @@ fn dumps_nothing(rt: HostRuntime) -> Result<(), Fail> {
         accepted: 0,
         refused: 0,
     };
-    assert_dumped(&rt, "nothing", b"", b"", b"", nothing)
+    assert_run(&rt, Command::Dump, "nothing", b"", b"", b"", nothing)
 }

@@ -1,29 +1,20 @@
 //! Each fault of a document beside the nearest document that is accepted, and faults of devices.
 
-use crate::encode_tests::assert_encoded;
-use crate::run_dump::run_dump;
+use crate::document_line::write_document_fault;
 use crate::run_encode::run_encode;
-use crate::tally::Tally;
 use crate::test_messages::{
-    TABLE_B, TABLE_D, message_of, octets_of, text_of, text_of_one, words_of,
+    ONE_ACCEPTED, ONE_REFUSED, TABLE_B, TABLE_D, message_of, octets_of, one_block_number, text_of,
+    text_of_one, words_of,
 };
+use crate::test_runs::{Command, assert_run, run_over};
 use bufr_bits::{Device, End, ScriptIn, ScriptOut};
 use bufr_frame::RunFault;
-use bufr_tables::{TableB, TableD};
+use bufr_tables::{Fxy, TableB, TableD};
+use bufr_text::{DocumentFault, WalkRefusal};
 use std::alloc::Global;
 use std::cell::Cell;
 use std::io::{self, ErrorKind, Read};
 use std::test::Fail;
-
-const ACCEPTED: Tally = Tally {
-    accepted: 1,
-    refused: 0,
-};
-
-const REFUSED: Tally = Tally {
-    accepted: 0,
-    refused: 1,
-};
 
 /// A document of these descriptors, and the data of its message or the line of its fault.
 struct Told {
@@ -391,12 +382,13 @@ fn refuses_at_lines(rt: HostRuntime) -> Result<(), Fail> {
             let words = words_of(rt.alloc(), row.descriptors)?;
             let data = octets_of(rt.alloc(), row.data)?;
             let message = message_of(rt.alloc(), row.subsets, flags, &words, &data)?;
-            (message, ACCEPTED)
+            (message, ONE_ACCEPTED)
         } else {
-            (Vec::new(rt.alloc()), REFUSED)
+            (Vec::new(rt.alloc()), ONE_REFUSED)
         };
-        assert_encoded(
+        assert_run(
             &rt,
+            Command::Encode,
             row.body,
             text.as_bytes(),
             &message,
@@ -409,7 +401,7 @@ fn refuses_at_lines(rt: HostRuntime) -> Result<(), Fail> {
 
 /// The document of one block number with another line in a line's place, and its fault line; or the
 /// octets of its message from octet 9 on.
-static LINES: [(usize, &str, &str, &str); 17] = [
+static LINES: [(usize, &str, &str, &str); 16] = [
     (2, "edition 3\n", "", "line 2: 61 header range\n"),
     (2, "edition 5\n", "", "line 2: 61 header range\n"),
     (3, "master 255\n", "000016FF0062", ""),
@@ -418,7 +410,6 @@ static LINES: [(usize, &str, &str, &str); 17] = [
     (4, "centre 65536\n", "", "line 4: 61 header range\n"),
     (18, "observed 2\n", "", "line 18: 61 header range\n"),
     (19, "compressed 2\n", "", "line 19: 61 header range\n"),
-    (20, "optional 1\n", "00001600006200000080", ""),
     (20, "optional 2\n", "", "line 20: 61 header range\n"),
     (21, "subsets 65536\n", "", "line 21: 61 header range\n"),
     (21, "subsets 2\n", "", "line 25: 57 subset count\n"),
@@ -448,23 +439,38 @@ fn with_line(alloc: Global, number: usize, line: &str) -> Result<String, Fail> {
 
 #[test]
 fn refuses_header_lines(rt: HostRuntime) -> Result<(), Fail> {
-    let table_b = TableB::read(rt.alloc(), TABLE_B).expect(&rt, "table B");
-    let table_d = TableD::read(rt.alloc(), TABLE_D).expect(&rt, "table D");
+    let one = one_block_number(rt.alloc())?;
     for (number, line, octets, errors) in &LINES {
         let text = with_line(rt.alloc(), *number, line)?;
-        let mut r = ScriptIn::new(text.as_bytes(), 7, None);
-        let mut w = ScriptOut::new(rt.alloc(), 4096, 4096, End::Fail)?;
-        let mut e = ScriptOut::new(rt.alloc(), 4096, 4096, End::Fail)?;
-        let ran = run_encode(rt.alloc(), &mut r, &mut w, &mut e, &table_b, &table_d);
-        let refused = !errors.is_empty();
-        let tally = if refused { REFUSED } else { ACCEPTED };
-        assert!(rt; ran == Ok(tally), "{line}: {ran:?}");
-        assert_eq!(rt; e.taken(), errors.as_bytes(), "{line}");
-        assert!(rt; w.taken().is_empty() == refused, "{line}");
-        let front = octets_of(rt.alloc(), octets)?;
-        let behind = w.taken().get(8..).unwrap_or(b"");
-        assert!(rt; behind.starts_with(&front), "{line}");
+        let mut message = Vec::new(rt.alloc());
+        if errors.is_empty() {
+            let front = octets_of(rt.alloc(), octets)?;
+            message.extend_from_slice(one.get(..8).unwrap_or(b""))?;
+            message.extend_from_slice(&front)?;
+            let behind = one.get(front.len().saturating_add(8)..);
+            message.extend_from_slice(behind.unwrap_or(b""))?;
+        }
+        let tally = if errors.is_empty() {
+            ONE_ACCEPTED
+        } else {
+            ONE_REFUSED
+        };
+        let errors = errors.as_bytes();
+        let input = text.as_bytes();
+        assert_run(&rt, Command::Encode, line, input, &message, errors, tally)?;
     }
+    Ok(())
+}
+
+/// The least document with too many values has over 134 million lines, so only its line is written.
+#[test]
+fn writes_too_many_values(rt: HostRuntime) -> Result<(), Fail> {
+    let refusal = WalkRefusal::TooManyValues(Fxy::from_word(0x0101));
+    let mut e = ScriptOut::new(rt.alloc(), 64, 7, End::Fail)?;
+    let written = write_document_fault(DocumentFault::Walk(24, refusal), &mut e);
+    assert!(rt; written.is_ok());
+    let line = b"line 24: 62 walk 35 descriptor 001001\n";
+    assert!(rt; e.taken() == line.as_slice());
     Ok(())
 }
 
@@ -481,11 +487,27 @@ fn refuses_a_long_line(rt: HostRuntime) -> Result<(), Fail> {
     let mut text = String::from_str(rt.alloc(), note.as_str())?;
     text.push('\n')?;
     text.push_str(one.as_str())?;
-    assert_encoded(&rt, "4,096", text.as_bytes(), &message, b"", ACCEPTED)?;
+    assert_run(
+        &rt,
+        Command::Encode,
+        "4,096",
+        text.as_bytes(),
+        &message,
+        b"",
+        ONE_ACCEPTED,
+    )?;
     note.push_str("x\n")?;
     note.push_str(one.as_str())?;
     let line = b"line 1: 50 line\n";
-    assert_encoded(&rt, "4,097", note.as_bytes(), b"", line, REFUSED)
+    assert_run(
+        &rt,
+        Command::Encode,
+        "4,097",
+        note.as_bytes(),
+        b"",
+        line,
+        ONE_REFUSED,
+    )
 }
 
 /// Two texts that have so many octets in common, and one behind them in which they differ.
@@ -513,29 +535,43 @@ fn refuses_texts_that_no_increments_tell_apart(rt: HostRuntime) -> Result<(), Fa
     let words = words_of(rt.alloc(), "205064")?;
     let message = message_of(rt.alloc(), 2, 0xC0, &words, &data)?;
     let text = two_texts(rt.alloc(), 62)?;
-    assert_encoded(&rt, "63", text.as_bytes(), &message, b"", ACCEPTED)?;
+    assert_run(
+        &rt,
+        Command::Encode,
+        "63",
+        text.as_bytes(),
+        &message,
+        b"",
+        ONE_ACCEPTED,
+    )?;
     let text = two_texts(rt.alloc(), 63)?;
     let line = b"line 24: 59 increment\n";
-    assert_encoded(&rt, "64", text.as_bytes(), b"", line, REFUSED)
+    assert_run(
+        &rt,
+        Command::Encode,
+        "64",
+        text.as_bytes(),
+        b"",
+        line,
+        ONE_REFUSED,
+    )
 }
 
 /// 66,045 texts of 255 octets are more than a message can have; nothing of them is written.
 #[test]
 fn refuses_a_long_message(rt: HostRuntime) -> Result<(), Fail> {
-    let table_b = TableB::read(rt.alloc(), TABLE_B).expect(&rt, "table B");
-    let table_d = TableD::read(rt.alloc(), TABLE_D).expect(&rt, "table D");
     let mut body = String::from_str(rt.alloc(), "subset 1\n")?;
     for _ in 0..66_045 {
         body.push_str("205255 \"\"\n")?;
     }
     let descriptors = "102255 101255 205255 102004 101255 205255";
     let text = text_of(rt.alloc(), 1, 0x80, descriptors, body.as_str())?;
-    let mut r = ScriptIn::new(text.as_bytes(), 4096, None);
-    let mut w = ScriptOut::new(rt.alloc(), 0, 1, End::Fail)?;
-    let mut e = ScriptOut::new(rt.alloc(), 4096, 4096, End::Fail)?;
-    let ran = run_encode(rt.alloc(), &mut r, &mut w, &mut e, &table_b, &table_d);
-    assert!(rt; ran == Ok(REFUSED), "{ran:?}");
-    assert_eq!(rt; e.taken(), b"line 1: 60 too long\n".as_slice());
+    let r = ScriptIn::new(text.as_bytes(), 4096, None);
+    let w = ScriptOut::new(rt.alloc(), 0, 1, End::Fail)?;
+    let e = ScriptOut::new(rt.alloc(), 4096, 4096, End::Fail)?;
+    let ran = run_over(&rt, Command::Encode, r, w, e);
+    let line = b"line 1: 60 too long\n";
+    ran.assert_left(&rt, "too long", 0, Ok(ONE_REFUSED), b"", line);
     Ok(())
 }
 
@@ -598,59 +634,25 @@ fn stops_at_an_interrupted_read(rt: HostRuntime) -> Result<(), Fail> {
     Ok(())
 }
 
-/// Where the errors' writer fails, the messages before the refused document stand.
-#[test]
-fn keeps_messages_before_a_failed_line(rt: HostRuntime) -> Result<(), Fail> {
-    let table_b = TableB::read(rt.alloc(), TABLE_B).expect(&rt, "table B");
-    let table_d = TableD::read(rt.alloc(), TABLE_D).expect(&rt, "table D");
-    let line = b"line 49: 52 number\n";
-    let words = words_of(rt.alloc(), "001001")?;
-    let message = message_of(rt.alloc(), 1, 0x80, &words, b"\x14")?;
-    let refused = text_of(rt.alloc(), 1, 0x80, "012101", "subset 1\n012101 288.155\n")?;
-    let mut text = text_of_one(rt.alloc())?;
-    text.push_str(refused.as_str())?;
-    for end in [End::Fail, End::Zero, End::Flush] {
-        for room in 0..20 {
-            let mut r = ScriptIn::new(text.as_bytes(), 4096, None);
-            let mut w = ScriptOut::new(rt.alloc(), 48, 1, End::Fail)?;
-            let mut e = ScriptOut::new(rt.alloc(), room, 1, end)?;
-            let ran = run_encode(rt.alloc(), &mut r, &mut w, &mut e, &table_b, &table_d);
-            let fails = room < 19 || end == End::Flush;
-            assert!(rt; ran.is_err() == fails, "{room} of {end:?}: {ran:?}");
-            if fails {
-                assert!(rt; ran == Err(RunFault::Write), "{room} of {end:?}: {ran:?}");
-            }
-            assert_eq!(rt; w.taken(), message.as_slice(), "{room} of {end:?}");
-            assert_eq!(rt; e.taken(), &line[..room], "{end:?}");
-        }
-    }
-    Ok(())
-}
-
 /// Where the output cannot be flushed, all of both writers stands.
 #[test]
 fn keeps_all_behind_a_failed_flush(rt: HostRuntime) -> Result<(), Fail> {
-    let table_b = TableB::read(rt.alloc(), TABLE_B).expect(&rt, "table B");
-    let table_d = TableD::read(rt.alloc(), TABLE_D).expect(&rt, "table D");
     let words = words_of(rt.alloc(), "001001")?;
     let message = message_of(rt.alloc(), 1, 0x80, &words, b"\x14")?;
     let mut text = text_of_one(rt.alloc())?;
     text.push_str("end\n")?;
-    let mut r = ScriptIn::new(text.as_bytes(), 4096, None);
-    let mut w = ScriptOut::new(rt.alloc(), 48, 1, End::Flush)?;
-    let mut e = ScriptOut::new(rt.alloc(), 4096, 1, End::Fail)?;
-    let ran = run_encode(rt.alloc(), &mut r, &mut w, &mut e, &table_b, &table_d);
-    assert!(rt; ran == Err(RunFault::Write), "{ran:?}");
-    assert_eq!(rt; w.taken(), message.as_slice());
-    assert_eq!(rt; e.taken(), b"line 26: 50 line\n".as_slice());
+    let r = ScriptIn::new(text.as_bytes(), 4096, None);
+    let w = ScriptOut::new(rt.alloc(), 48, 1, End::Flush)?;
+    let e = ScriptOut::new(rt.alloc(), 4096, 1, End::Fail)?;
+    let ran = run_over(&rt, Command::Encode, r, w, e);
+    let line = b"line 26: 50 line\n";
+    ran.assert_left(&rt, "flush", 0, Err(RunFault::Write), &message, line);
     Ok(())
 }
 
 /// Names whose increments were read with four octets are written with three, and those with three.
 #[test]
 fn packs_names_anew(rt: HostRuntime) -> Result<(), Fail> {
-    let table_b = TableB::read(rt.alloc(), TABLE_B).expect(&rt, "table B");
-    let table_d = TableD::read(rt.alloc(), TABLE_D).expect(&rt, "table D");
     let words = words_of(rt.alloc(), "001015")?;
     let zeros = "0000000000000000000000000000000000000000";
     let mut read = octets_of(rt.alloc(), zeros)?;
@@ -661,12 +663,21 @@ fn packs_names_anew(rt: HostRuntime) -> Result<(), Fail> {
     let packed = message_of(rt.alloc(), 2, 0xC0, &words, &written)?;
     assert_eq!(rt; (message.len(), packed.len()), (76, 74));
     for octets in [&message, &packed] {
-        let mut r = ScriptIn::new(octets, 4096, None);
-        let mut text = ScriptOut::new(rt.alloc(), 4096, 4096, End::Fail)?;
-        let mut e = ScriptOut::new(rt.alloc(), 4096, 4096, End::Fail)?;
-        let ran = run_dump(rt.alloc(), &mut r, &mut text, &mut e, &table_b, &table_d);
-        assert!(rt; ran == Ok(ACCEPTED), "{ran:?}");
-        assert_encoded(&rt, "names", text.taken(), &packed, b"", ACCEPTED)?;
+        let r = ScriptIn::new(octets, 4096, None);
+        let w = ScriptOut::new(rt.alloc(), 4096, 4096, End::Fail)?;
+        let e = ScriptOut::new(rt.alloc(), 4096, 4096, End::Fail)?;
+        let text = run_over(&rt, Command::Dump, r, w, e);
+        let name = "names";
+        let input = text.output();
+        assert_run(
+            &rt,
+            Command::Encode,
+            name,
+            input,
+            &packed,
+            b"",
+            ONE_ACCEPTED,
+        )?;
     }
     Ok(())
 }

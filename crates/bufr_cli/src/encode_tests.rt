@@ -1,16 +1,18 @@
 //! The worked examples of `encode`, run.
 
 use crate::round_trip::dump_encode_dump;
-use crate::run_encode::run_encode;
 use crate::tally::Tally;
 use crate::test_messages::{
-    TABLE_B, TABLE_D, message_of, octets_of, one_block_number, text_of, text_of_one, words_of,
+    ONE_ACCEPTED, ONE_REFUSED, TABLE_B, TABLE_D, message_of, octets_of, one_block_number, text_of,
+    text_of_one, words_of,
+};
+use crate::test_runs::{
+    Command, assert_run, assert_stops_at_a_failed_read, assert_stops_at_failed_errors,
+    assert_stops_at_failed_writes, run_over,
 };
 use crate::{law, round_trip_law};
 use bufr_bits::{End, ScriptIn, ScriptOut};
-use bufr_frame::RunFault;
 use bufr_tables::{TableB, TableD};
-use std::process::Abort;
 use std::test::Fail;
 
 /// A document, and the data of its message or the line of its fault.
@@ -133,34 +135,6 @@ static ENCODED: [Encoded; 10] = [
     },
 ];
 
-/// Encodes `input`, however it is read, and asserts what comes of it.
-pub(crate) fn assert_encoded(
-    rt: &(impl Abort + AllocGlobal),
-    name: &str,
-    input: &[u8],
-    output: &[u8],
-    errors: &[u8],
-    tally: Tally,
-) -> Result<(), Fail> {
-    let table_b = TableB::read(rt.alloc(), TABLE_B).expect(rt, "table B");
-    let table_d = TableD::read(rt.alloc(), TABLE_D).expect(rt, "table D");
-    for step in [1, 3, 4096] {
-        let mut r = ScriptIn::new(input, step, None);
-        let room = output.len().saturating_add(64);
-        let mut w = ScriptOut::new(rt.alloc(), room, step, End::Fail)?;
-        let mut e = ScriptOut::new(rt.alloc(), 4096, step, End::Fail)?;
-        let ran = run_encode(rt.alloc(), &mut r, &mut w, &mut e, &table_b, &table_d);
-        assert!(rt; ran == Ok(tally), "{name}: {ran:?}");
-        assert!(rt; w.taken() == output, "{name}: {:?}", w.taken());
-        assert!(rt;
-            e.taken() == errors,
-            "{name}: {}",
-            str::from_utf8(e.taken()).expect(rt, "text")
-        );
-    }
-    Ok(())
-}
-
 #[test]
 fn encodes_worked_examples(rt: HostRuntime) -> Result<(), Fail> {
     for row in &ENCODED {
@@ -184,8 +158,9 @@ fn encodes_worked_examples(rt: HostRuntime) -> Result<(), Fail> {
             accepted: u64::from(row.data.is_some()),
             refused: u64::from(!row.errors.is_empty()),
         };
-        assert_encoded(
+        assert_run(
             &rt,
+            Command::Encode,
             row.name,
             text.as_bytes(),
             &message,
@@ -202,7 +177,7 @@ fn encodes_nothing(rt: HostRuntime) -> Result<(), Fail> {
         accepted: 0,
         refused: 0,
     };
-    assert_encoded(&rt, "nothing", b"", b"", b"", nothing)
+    assert_run(&rt, Command::Encode, "nothing", b"", b"", b"", nothing)
 }
 
 /// The first document that is refused ends the run: of what is behind it nothing is written.
@@ -216,8 +191,9 @@ fn stops_at_the_first_refused(rt: HostRuntime) -> Result<(), Fail> {
     text.push_str(good.as_str())?;
     text.push_str("no line of a dump\n")?;
     let message = one_block_number(rt.alloc())?;
-    assert_encoded(
+    assert_run(
         &rt,
+        Command::Encode,
         "the second is refused",
         text.as_bytes(),
         &message,
@@ -282,7 +258,7 @@ fn encodes_a_dumped_stream(rt: HostRuntime) -> Result<(), Fail> {
         accepted: 4,
         refused: 0,
     };
-    assert_encoded(&rt, "stream", text, &messages, b"", all)?;
+    assert_run(&rt, Command::Encode, "stream", text, &messages, b"", all)?;
     assert_eq!(rt; round.messages.output.taken(), messages.as_slice());
     assert!(rt; round.again.tally == all, "{:?}", round.again.tally);
     assert_eq!(rt; round.again.output.taken(), text);
@@ -305,15 +281,21 @@ fn encodes_a_thousand(rt: HostRuntime) -> Result<(), Fail> {
         accepted: 1000,
         refused: 0,
     };
-    assert_encoded(&rt, "a thousand", &text, &messages, b"", all)
+    assert_run(
+        &rt,
+        Command::Encode,
+        "a thousand",
+        &text,
+        &messages,
+        b"",
+        all,
+    )
 }
 
 /// Wherever a read fails, the messages of the documents whose last line was read whole stand, and
 /// no other.
 #[test]
 fn stops_at_a_failed_read(rt: HostRuntime) -> Result<(), Fail> {
-    let table_b = TableB::read(rt.alloc(), TABLE_B).expect(&rt, "table B");
-    let table_d = TableD::read(rt.alloc(), TABLE_D).expect(&rt, "table D");
     let words = words_of(rt.alloc(), "101000 031001 001001")?;
     let message = message_of(rt.alloc(), 1, 0x80, &words, b"\x02\x14\x2C")?;
     let body = "subset 1\n031001 2\n001001 10\n001001 11\n";
@@ -324,73 +306,51 @@ fn stops_at_a_failed_read(rt: HostRuntime) -> Result<(), Fail> {
     let mut both = Vec::new(rt.alloc());
     both.extend_from_slice(&message)?;
     both.extend_from_slice(&message)?;
-    for step in [1, 7] {
-        for place in 0..text.len().saturating_add(1) {
-            assert!(rt; step > 0);
-            let mut r = ScriptIn::new(&text, step, Some(place));
-            let mut w = ScriptOut::new(rt.alloc(), 4096, 7, End::Fail)?;
-            let mut e = ScriptOut::new(rt.alloc(), 4096, 7, End::Fail)?;
-            let ran = run_encode(rt.alloc(), &mut r, &mut w, &mut e, &table_b, &table_d);
-            let encoded = if place < one.len() {
-                b""
-            } else if place < text.len() {
-                message.as_slice()
-            } else {
-                both.as_slice()
-            };
-            assert!(rt; ran == Err(RunFault::Read), "{place}: {ran:?}");
-            assert_eq!(rt; w.taken(), encoded, "{place}");
-            assert!(rt; e.taken().is_empty(), "{place}");
-        }
+    for place in 0..text.len().saturating_add(1) {
+        let encoded = if place < one.len() {
+            b""
+        } else if place < text.len() {
+            message.as_slice()
+        } else {
+            both.as_slice()
+        };
+        assert_stops_at_a_failed_read(&rt, Command::Encode, &text, place, encoded)?;
     }
     Ok(())
 }
 
-/// A writer that fails, takes nothing, or cannot be flushed has taken a front of the message.
+/// A document that is refused ends the run before a read behind it fails.
+#[test]
+fn stops_before_a_failed_read(rt: HostRuntime) -> Result<(), Fail> {
+    let text = text_of(rt.alloc(), 1, 0x80, "012101", "subset 1\n012101 288.155\n")?;
+    let r = ScriptIn::new(text.as_bytes(), 7, Some(text.len()));
+    let w = ScriptOut::new(rt.alloc(), 0, 7, End::Fail)?;
+    let e = ScriptOut::new(rt.alloc(), 64, 7, End::Fail)?;
+    let ran = run_over(&rt, Command::Encode, r, w, e);
+    let line = b"line 24: 52 number\n";
+    ran.assert_left(&rt, "refused", 0, Ok(ONE_REFUSED), b"", line);
+    Ok(())
+}
+
+/// Writers that fail, take nothing, or cannot be flushed have taken a front; where the errors' writer
+/// fails, the messages before the refused document stand.
 #[test]
 fn stops_at_a_failed_write(rt: HostRuntime) -> Result<(), Fail> {
-    let table_b = TableB::read(rt.alloc(), TABLE_B).expect(&rt, "table B");
-    let table_d = TableD::read(rt.alloc(), TABLE_D).expect(&rt, "table D");
-    let text = text_of_one(rt.alloc())?;
+    let good = text_of_one(rt.alloc())?;
     let message = one_block_number(rt.alloc())?;
-    for end in [End::Fail, End::Zero, End::Flush] {
-        for room in 0..49 {
-            let mut r = ScriptIn::new(text.as_bytes(), 4096, None);
-            let mut w = ScriptOut::new(rt.alloc(), room, 5, end)?;
-            let mut e = ScriptOut::new(rt.alloc(), 0, 5, End::Fail)?;
-            let ran = run_encode(rt.alloc(), &mut r, &mut w, &mut e, &table_b, &table_d);
-            let fails = room < 48 || end == End::Flush;
-            assert!(rt; ran.is_err() == fails, "{room} of {end:?}: {ran:?}");
-            if fails {
-                assert!(rt; ran == Err(RunFault::Write), "{room} of {end:?}: {ran:?}");
-            }
-            assert!(rt; room <= message.len());
-            assert_eq!(rt; w.taken(), &message[..room], "{end:?}");
-        }
-    }
-    Ok(())
-}
-
-/// The errors' writer fails, takes nothing, or cannot be flushed.
-#[test]
-fn stops_at_a_failed_write_of_errors(rt: HostRuntime) -> Result<(), Fail> {
-    let table_b = TableB::read(rt.alloc(), TABLE_B).expect(&rt, "table B");
-    let table_d = TableD::read(rt.alloc(), TABLE_D).expect(&rt, "table D");
+    let input = good.as_bytes();
+    assert_stops_at_failed_writes(&rt, Command::Encode, input, &message, ONE_ACCEPTED)?;
+    let refused = text_of(rt.alloc(), 1, 0x80, "012101", "subset 1\n012101 288.155\n")?;
+    let input = refused.as_bytes();
     let line = b"line 24: 52 number\n";
-    let text = text_of(rt.alloc(), 1, 0x80, "012101", "subset 1\n012101 288.155\n")?;
-    for end in [End::Fail, End::Zero, End::Flush] {
-        for room in 0..20 {
-            let mut r = ScriptIn::new(text.as_bytes(), 4096, None);
-            let mut w = ScriptOut::new(rt.alloc(), 0, 5, End::Fail)?;
-            let mut e = ScriptOut::new(rt.alloc(), room, 5, end)?;
-            let ran = run_encode(rt.alloc(), &mut r, &mut w, &mut e, &table_b, &table_d);
-            let fails = room < 19 || end == End::Flush;
-            assert!(rt; ran.is_err() == fails, "{room} of {end:?}: {ran:?}");
-            if fails {
-                assert!(rt; ran == Err(RunFault::Write), "{room} of {end:?}: {ran:?}");
-            }
-            assert_eq!(rt; e.taken(), &line[..room], "{end:?}");
-        }
-    }
-    Ok(())
+    assert_stops_at_failed_errors(&rt, Command::Encode, input, b"", line, ONE_REFUSED)?;
+    let mut both = text_of_one(rt.alloc())?;
+    both.push_str(refused.as_str())?;
+    let input = both.as_bytes();
+    let line = b"line 49: 52 number\n";
+    let tally = Tally {
+        accepted: 1,
+        refused: 1,
+    };
+    assert_stops_at_failed_errors(&rt, Command::Encode, input, &message, line, tally)
 }

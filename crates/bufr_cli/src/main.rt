@@ -37,6 +37,8 @@ mod program_tests;
 #[cfg(test)]
 mod test_messages;
 #[cfg(test)]
+mod test_runs;
+#[cfg(test)]
 mod tests;
 
 /// The inputs of the process, of whose octets nothing is known before they are read.

@@ -22,8 +22,10 @@ pub fn dumped_streams_are_built_again()
         → RoundTrips table_b table_d piece s }
 {}
 
-/// Where the accepted messages of a stream are as an encoder writes them (least lengths, reserved bits
-/// zero, each item packed as its values are packed), they are built of the dump text octet for octet.
+/// Where all accepted messages of a stream are as an encoder writes them (reserved bits and octets
+/// zero, nothing behind the descriptors, no minus zero, each compressed item packed as its values are
+/// packed, the least octets of data with zero bits at their end), they are built of the dump text octet
+/// for octet.
 pub fn canonical_streams_are_built_as_they_are()
     ensures { (records : List Record) (table_b : List Row) (table_d : List Sequence) (piece : Happening → Piece) (s : List ℕ)
         → AreRows records table_b → GivesPieces (IsDumpPiece table_b table_d) piece → AllByRecursion IsOctet s

@@ -1,7 +1,7 @@
 //! Tables, messages and texts for the tests.
 
 use crate::tally::Tally;
-use std::alloc::{AllocError, Global};
+use std::alloc::Global;
 use std::test::Fail;
 
 /// Test data, not WMO's.
@@ -16,8 +16,28 @@ pub(crate) const TABLE_B: &[u8] = b"\
     031001,DELAYED DESCRIPTOR REPLICATION FACTOR,Numeric,0,0,8\n\
     031002,EXTENDED DELAYED DESCRIPTOR REPLICATION FACTOR,Numeric,0,0,16\n";
 
-/// One sequence, of a block number and a temperature.
-pub(crate) const TABLE_D: &[u8] = b"fxy,member\n360192,001001\n360192,012101\n";
+/// A sequence of a block number and a temperature, and one that doubles seventeen times.
+pub(crate) const TABLE_D: &[u8] = b"\
+    fxy,member\n\
+    360192,001001\n\
+    360192,012101\n\
+    300001,300002\n300001,300002\n\
+    300002,300003\n300002,300003\n\
+    300003,300004\n300003,300004\n\
+    300004,300005\n300004,300005\n\
+    300005,300006\n300005,300006\n\
+    300006,300007\n300006,300007\n\
+    300007,300008\n300007,300008\n\
+    300008,300009\n300008,300009\n\
+    300009,300010\n300009,300010\n\
+    300010,300011\n300010,300011\n\
+    300011,300012\n300011,300012\n\
+    300012,300013\n300012,300013\n\
+    300013,300014\n300013,300014\n\
+    300014,300015\n300014,300015\n\
+    300015,300016\n300015,300016\n\
+    300016,300017\n300016,300017\n\
+    300017,001001\n300017,001001\n";
 
 /// The lines of a dump that are the same in each of these messages.
 pub(crate) const HEAD: &str = "\
@@ -45,6 +65,12 @@ pub(crate) const ONE_ACCEPTED: Tally = Tally {
     refused: 0,
 };
 
+/// What comes of a run that refuses one.
+pub(crate) const ONE_REFUSED: Tally = Tally {
+    accepted: 0,
+    refused: 1,
+};
+
 /// The octets of a text of hexadecimal digits.
 pub(crate) fn octets_of(alloc: Global, text: &str) -> Result<Vec<u8>, Fail> {
     let mut octets = Vec::new(alloc);
@@ -52,9 +78,9 @@ pub(crate) fn octets_of(alloc: Global, text: &str) -> Result<Vec<u8>, Fail> {
     for digit in text.chars() {
         let value = u8::try_from(digit.to_digit(16).unwrap_or(0))?;
         high = match high {
-            None => Some(value),
+            None => Some(value << 4),
             Some(first) => {
-                octets.push(u8::wrapping_add(u8::wrapping_mul(first, 16), value))?;
+                octets.push(first | value)?;
                 None
             }
         };
@@ -67,17 +93,10 @@ pub(crate) fn words_of(alloc: Global, text: &str) -> Result<Vec<u16>, Fail> {
     let mut words = Vec::new(alloc);
     for digits in text.split_whitespace() {
         let number = digits.parse::<u32>()?;
-        let word = number / 100_000 * 16384 + number / 1000 % 100 * 256 + number % 1000;
+        let word = number / 100_000 << 14 | number / 1000 % 100 << 8 | number % 1000;
         words.push(u16::try_from(word)?)?;
     }
     Ok(words)
-}
-
-/// Puts a number in two octets.
-fn push_two(octets: &mut Vec<u8>, number: usize) -> Result<(), AllocError> {
-    octets.push((number / 256 % 256) as u8)?;
-    octets.push((number % 256) as u8)?;
-    Ok(())
 }
 
 /// A message of edition 4 with these subsets, flags, descriptors and data.
@@ -89,20 +108,22 @@ pub(crate) fn message_of(
     payload: &[u8],
 ) -> Result<Vec<u8>, Fail> {
     let mut octets = Vec::new(alloc);
-    let (third, fourth) = (descriptors.len() % 1000 * 2 + 7, payload.len() % 60000 + 4);
+    let third = u16::try_from(descriptors.len().saturating_mul(2).saturating_add(7))?;
+    let fourth = u16::try_from(payload.len().saturating_add(4))?;
+    let length = third.saturating_add(fourth).saturating_add(34);
     octets.extend_from_slice(b"BUFR\0")?;
-    push_two(&mut octets, third + fourth + 34)?;
+    octets.extend_from_slice(&length.to_be_bytes())?;
     octets.extend_from_slice(&[4, 0, 0, 22, 0, 0, 98, 0, 0, 0, 0, 0, 0, 0, 14, 0])?;
     octets.extend_from_slice(&[7, 232, 1, 2, 3, 4, 5, 0])?;
-    push_two(&mut octets, third)?;
+    octets.extend_from_slice(&third.to_be_bytes())?;
     octets.push(0)?;
-    push_two(&mut octets, usize::from(subsets))?;
+    octets.extend_from_slice(&subsets.to_be_bytes())?;
     octets.push(flags)?;
     for word in descriptors {
-        push_two(&mut octets, usize::from(*word))?;
+        octets.extend_from_slice(&word.to_be_bytes())?;
     }
     octets.push(0)?;
-    push_two(&mut octets, fourth)?;
+    octets.extend_from_slice(&fourth.to_be_bytes())?;
     octets.push(0)?;
     octets.extend_from_slice(payload)?;
     octets.extend_from_slice(b"7777")?;

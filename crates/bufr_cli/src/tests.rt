@@ -3,11 +3,15 @@
 use crate::read_all::read_all;
 use crate::run_ls::run_ls;
 use crate::tally::Tally;
+use crate::test_messages::{ONE_ACCEPTED, ONE_REFUSED};
+use crate::test_runs::{
+    Command, assert_run, assert_stops_at_a_failed_read, assert_stops_at_failed_errors,
+    assert_stops_at_failed_writes,
+};
 use bufr_bits::{Device, End, ScriptIn, ScriptOut};
 use bufr_frame::RunFault;
 use std::cell::Cell;
 use std::io::{self, Read, Write};
-use std::process::Abort;
 use std::test::Fail;
 
 /// A message of edition 4 with one block number, 48 octets.
@@ -157,27 +161,6 @@ static LISTINGS: [Listing; 13] = [
     },
 ];
 
-/// Lists `input`, and asserts what comes of it.
-fn assert_listed(
-    rt: &(impl Abort + AllocGlobal),
-    name: &str,
-    input: &[u8],
-    output: &[u8],
-    errors: &[u8],
-    tally: Tally,
-) -> Result<(), Fail> {
-    for step in [1, 3, 4096] {
-        let mut r = ScriptIn::new(input, step, None);
-        let mut w = ScriptOut::new(rt.alloc(), 4096, step, End::Fail)?;
-        let mut e = ScriptOut::new(rt.alloc(), 65536, step, End::Fail)?;
-        let ran = run_ls(rt.alloc(), &mut r, &mut w, &mut e);
-        assert!(rt; ran == Ok(tally), "{name}: {ran:?}");
-        assert_eq!(rt; w.taken(), output, "{name}");
-        assert_eq!(rt; e.taken(), errors, "{name}");
-    }
-    Ok(())
-}
-
 #[test]
 fn lists_worked_examples(rt: HostRuntime) -> Result<(), Fail> {
     for listing in &LISTINGS {
@@ -202,8 +185,9 @@ fn lists_worked_examples(rt: HostRuntime) -> Result<(), Fail> {
             accepted,
             refused: listing.refused,
         };
-        assert_listed(
+        assert_run(
             &rt,
+            Command::Ls,
             listing.name,
             &input,
             output.as_bytes(),
@@ -232,25 +216,23 @@ const COMPRESSED: [u8; 50] = [
 
 #[test]
 fn lists_optional_and_compressed(rt: HostRuntime) -> Result<(), Fail> {
-    let one = Tally {
-        accepted: 1,
-        refused: 0,
-    };
-    assert_listed(
+    assert_run(
         &rt,
+        Command::Ls,
         "local use",
         &LOCAL_USE,
         b"offset=0 length=56 edition=4 centre=98/0 update=0 category=0/0/0 tables=0/14/0 time=2024-01-02T03:04:05 subsets=1 observed=1 compressed=0 optional=1 descriptors=1\n",
         b"",
-        one,
+        ONE_ACCEPTED,
     )?;
-    assert_listed(
+    assert_run(
         &rt,
+        Command::Ls,
         "compressed",
         &COMPRESSED,
         b"offset=0 length=50 edition=4 centre=98/0 update=0 category=0/0/0 tables=0/14/0 time=2024-01-02T03:04:05 subsets=2 observed=1 compressed=1 optional=0 descriptors=1\n",
         b"",
-        one,
+        ONE_ACCEPTED,
     )
 }
 
@@ -266,7 +248,15 @@ fn cut_anywhere(rt: HostRuntime) -> Result<(), Fail> {
             accepted: 0,
             refused,
         };
-        assert_listed(&rt, "cut", &ONE_BLOCK_NUMBER[..len], b"", errors, tally)?;
+        assert_run(
+            &rt,
+            Command::Ls,
+            "cut",
+            &ONE_BLOCK_NUMBER[..len],
+            b"",
+            errors,
+            tally,
+        )?;
     }
     Ok(())
 }
@@ -285,7 +275,15 @@ fn words_only(rt: HostRuntime) -> Result<(), Fail> {
         accepted: 0,
         refused: 1024,
     };
-    assert_listed(&rt, "words only", &input, b"", errors.as_bytes(), tally)
+    assert_run(
+        &rt,
+        Command::Ls,
+        "words only",
+        &input,
+        b"",
+        errors.as_bytes(),
+        tally,
+    )
 }
 
 /// Wherever a read fails, what was certain before stands: a message that was read whole is listed.
@@ -297,14 +295,8 @@ fn stops_at_a_failed_read(rt: HostRuntime) -> Result<(), Fail> {
     input.extend_from_slice(&ONE_BLOCK_NUMBER)?;
     input.extend_from_slice(&ONE_BLOCK_NUMBER)?;
     for place in 0..96 {
-        let mut r = ScriptIn::new(&input, 7, Some(place));
-        let mut w = ScriptOut::new(rt.alloc(), 4096, 7, End::Fail)?;
-        let mut e = ScriptOut::new(rt.alloc(), 4096, 7, End::Fail)?;
-        let ran = run_ls(rt.alloc(), &mut r, &mut w, &mut e);
         let listed = if place < 48 { b"" } else { line.as_bytes() };
-        assert!(rt; ran == Err(RunFault::Read), "{place}: {ran:?}");
-        assert_eq!(rt; w.taken(), listed, "{place}");
-        assert!(rt; e.taken().is_empty(), "{place}");
+        assert_stops_at_a_failed_read(&rt, Command::Ls, &input, place, listed)?;
     }
     Ok(())
 }
@@ -390,44 +382,11 @@ fn lists_while_it_reads(rt: HostRuntime) -> Result<(), Fail> {
 fn stops_at_a_failed_write(rt: HostRuntime) -> Result<(), Fail> {
     let mut line = String::from_str(rt.alloc(), "offset=0")?;
     line.push_str(LINE)?;
-    let whole = line.len();
-    for end in [End::Fail, End::Zero, End::Flush] {
-        for room in [0, 1, 9, whole.saturating_sub(1), whole] {
-            let mut r = ScriptIn::new(&ONE_BLOCK_NUMBER, 4096, None);
-            let mut w = ScriptOut::new(rt.alloc(), room, 5, end)?;
-            let mut e = ScriptOut::new(rt.alloc(), 0, 5, End::Fail)?;
-            let ran = run_ls(rt.alloc(), &mut r, &mut w, &mut e);
-            let fails = room < whole || end == End::Flush;
-            assert!(rt; ran.is_err() == fails, "{room} of {end:?}: {ran:?}");
-            if fails {
-                assert!(rt; ran == Err(RunFault::Write), "{room} of {end:?}: {ran:?}");
-            }
-            assert!(rt; room <= whole);
-            assert_eq!(rt; w.taken(), &line.as_bytes()[..room], "{end:?}");
-        }
-    }
-    Ok(())
-}
-
-/// The errors' writer fails, takes nothing, or cannot be flushed.
-#[test]
-fn stops_at_a_failed_write_of_errors(rt: HostRuntime) -> Result<(), Fail> {
+    let whole = line.as_bytes();
+    assert_stops_at_failed_writes(&rt, Command::Ls, &ONE_BLOCK_NUMBER, whole, ONE_ACCEPTED)?;
+    let cut = &ONE_BLOCK_NUMBER[..20];
     let line = b"offset 0: 1 cut\n";
-    for end in [End::Fail, End::Zero, End::Flush] {
-        for room in [0, 1, 9, 15, 16] {
-            let mut r = ScriptIn::new(&ONE_BLOCK_NUMBER[..20], 4096, None);
-            let mut w = ScriptOut::new(rt.alloc(), 0, 5, End::Fail)?;
-            let mut e = ScriptOut::new(rt.alloc(), room, 5, end)?;
-            let ran = run_ls(rt.alloc(), &mut r, &mut w, &mut e);
-            let fails = room < 16 || end == End::Flush;
-            assert!(rt; ran.is_err() == fails, "{room} of {end:?}: {ran:?}");
-            if fails {
-                assert!(rt; ran == Err(RunFault::Write), "{room} of {end:?}: {ran:?}");
-            }
-            assert_eq!(rt; e.taken(), &line[..room], "{end:?}");
-        }
-    }
-    Ok(())
+    assert_stops_at_failed_errors(&rt, Command::Ls, cut, b"", line, ONE_REFUSED)
 }
 
 #[test]
@@ -453,5 +412,5 @@ fn lists_nothing(rt: HostRuntime) -> Result<(), Fail> {
         refused: 0,
     };
     assert!(rt; ran == Ok(nothing), "{ran:?}");
-    assert_listed(&rt, "nothing", b"", b"", b"", nothing)
+    assert_run(&rt, Command::Ls, "nothing", b"", b"", b"", nothing)
 }

@@ -1,0 +1,166 @@
+//! Runs of the three commands over devices in memory. A test sees only what a run left, so that its
+//! own proof does not have to carry the run's contract.
+
+use crate::run_dump::run_dump;
+use crate::run_encode::run_encode;
+use crate::run_ls::run_ls;
+use crate::tally::Tally;
+use crate::test_messages::{TABLE_B, TABLE_D};
+use bufr_bits::{End, ScriptIn, ScriptOut};
+use bufr_frame::RunFault;
+use bufr_tables::{TableB, TableD};
+use std::process::Abort;
+use std::test::Fail;
+
+/// The three commands.
+#[derive(Clone, Copy)]
+pub(crate) enum Command {
+    Ls,
+    Dump,
+    Encode,
+}
+
+/// What a run answered, and its writers.
+#[derive(Drop)]
+pub(crate) struct Ran {
+    answer: Result<Tally, RunFault>,
+    output: ScriptOut,
+    errors: ScriptOut,
+}
+
+impl Ran {
+    /// What the output took.
+    pub(crate) fn output(&self) -> &[u8] {
+        self.output.taken()
+    }
+
+    /// Asserts what the run answered and what its writers took.
+    pub(crate) fn assert_left(
+        &self,
+        rt: &(impl Abort + AllocGlobal),
+        name: &str,
+        place: usize,
+        answer: Result<Tally, RunFault>,
+        output: &[u8],
+        errors: &[u8],
+    ) {
+        assert!(rt; self.answer == answer, "{name} {place}: {:?}", self.answer);
+        let taken = self.output.taken();
+        assert!(rt; taken == output, "{name} {place}: {taken:?}");
+        let taken = self.errors.taken();
+        assert!(rt; taken == errors, "{name} {place}: {taken:?}");
+    }
+}
+
+/// Runs a command with the test tables.
+pub(crate) fn run_over(
+    rt: &(impl Abort + AllocGlobal),
+    command: Command,
+    mut input: ScriptIn<'_>,
+    mut output: ScriptOut,
+    mut errors: ScriptOut,
+) -> Ran {
+    let b = TableB::read(rt.alloc(), TABLE_B).expect(rt, "table B");
+    let d = TableD::read(rt.alloc(), TABLE_D).expect(rt, "table D");
+    let answer = match command {
+        Command::Ls => run_ls(rt.alloc(), &mut input, &mut output, &mut errors),
+        Command::Dump => run_dump(rt.alloc(), &mut input, &mut output, &mut errors, &b, &d),
+        Command::Encode => run_encode(rt.alloc(), &mut input, &mut output, &mut errors, &b, &d),
+    };
+    Ran {
+        answer,
+        output,
+        errors,
+    }
+}
+
+/// Runs a command over `input`, however it is read, and asserts what comes of it.
+pub(crate) fn assert_run(
+    rt: &(impl Abort + AllocGlobal),
+    command: Command,
+    name: &str,
+    input: &[u8],
+    output: &[u8],
+    errors: &[u8],
+    tally: Tally,
+) -> Result<(), Fail> {
+    for step in [1, 3, 7, 4096] {
+        let r = ScriptIn::new(input, step, None);
+        let w = ScriptOut::new(rt.alloc(), output.len().saturating_add(64), step, End::Fail)?;
+        let e = ScriptOut::new(rt.alloc(), errors.len().saturating_add(64), step, End::Fail)?;
+        let ran = run_over(rt, command, r, w, e);
+        ran.assert_left(rt, name, step, Ok(tally), output, errors);
+    }
+    Ok(())
+}
+
+/// An output that fails, takes nothing, or cannot be flushed has taken a front of the whole.
+pub(crate) fn assert_stops_at_failed_writes(
+    rt: &(impl Abort + AllocGlobal),
+    command: Command,
+    input: &[u8],
+    whole: &[u8],
+    tally: Tally,
+) -> Result<(), Fail> {
+    for end in [End::Fail, End::Zero, End::Flush] {
+        for room in 0..whole.len().saturating_add(1) {
+            let w = ScriptOut::new(rt.alloc(), room, 5, end)?;
+            let e = ScriptOut::new(rt.alloc(), 0, 5, End::Fail)?;
+            let ran = run_over(rt, command, ScriptIn::new(input, 4096, None), w, e);
+            let front = whole.get(..room).unwrap_or(whole);
+            let fails = room < whole.len() || end == End::Flush;
+            let answer = if fails {
+                Err(RunFault::Write)
+            } else {
+                Ok(tally)
+            };
+            ran.assert_left(rt, "room", room, answer, front, b"");
+        }
+    }
+    Ok(())
+}
+
+/// The errors' writer fails, takes nothing, or cannot be flushed: it has taken a front of the line,
+/// and the output all that stands before.
+pub(crate) fn assert_stops_at_failed_errors(
+    rt: &(impl Abort + AllocGlobal),
+    command: Command,
+    input: &[u8],
+    output: &[u8],
+    line: &[u8],
+    tally: Tally,
+) -> Result<(), Fail> {
+    for end in [End::Fail, End::Zero, End::Flush] {
+        for room in 0..line.len().saturating_add(1) {
+            let w = ScriptOut::new(rt.alloc(), output.len(), 1, End::Fail)?;
+            let e = ScriptOut::new(rt.alloc(), room, 5, end)?;
+            let ran = run_over(rt, command, ScriptIn::new(input, 4096, None), w, e);
+            let front = line.get(..room).unwrap_or(line);
+            let fails = room < line.len() || end == End::Flush;
+            let answer = if fails {
+                Err(RunFault::Write)
+            } else {
+                Ok(tally)
+            };
+            ran.assert_left(rt, "room", room, answer, output, front);
+        }
+    }
+    Ok(())
+}
+
+/// Runs a command whose reader fails at a place, and asserts that it stops there with this output.
+pub(crate) fn assert_stops_at_a_failed_read(
+    rt: &(impl Abort + AllocGlobal),
+    command: Command,
+    input: &[u8],
+    place: usize,
+    output: &[u8],
+) -> Result<(), Fail> {
+    for step in [1, 7] {
+        let w = ScriptOut::new(rt.alloc(), 4096, 7, End::Fail)?;
+        let e = ScriptOut::new(rt.alloc(), 4096, 7, End::Fail)?;
+        let ran = run_over(rt, command, ScriptIn::new(input, step, Some(place)), w, e);
+        ran.assert_left(rt, "place", place, Err(RunFault::Read), output, b"");
+    }
+    Ok(())
+}
