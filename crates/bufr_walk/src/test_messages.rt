@@ -34,7 +34,7 @@ fn descriptors_of(alloc: Global, text: &str) -> Result<Vec<Fxy>, Fail> {
     let mut descriptors = Vec::new(alloc);
     for digits in text.split_whitespace() {
         let number = digits.parse::<u32>()?;
-        let word = number / 100_000 * 16384 + number / 1000 % 100 * 256 + number % 1000;
+        let word = number / 100_000 << 14 | number / 1000 % 100 << 8 | number % 1000;
         descriptors.push(Fxy::from_word(u16::try_from(word)?))?;
     }
     Ok(descriptors)
@@ -47,21 +47,14 @@ pub(crate) fn octets_of(alloc: Global, text: &str) -> Result<Vec<u8>, Fail> {
     for digit in text.chars() {
         let value = u8::try_from(digit.to_digit(16).unwrap_or(0))?;
         high = match high {
-            None => Some(value),
+            None => Some(value << 4),
             Some(first) => {
-                octets.push(u8::wrapping_add(u8::wrapping_mul(first, 16), value))?;
+                octets.push(first | value)?;
                 None
             }
         };
     }
     Ok(octets)
-}
-
-/// A number's two octets.
-fn push_two(octets: &mut Vec<u8>, number: usize) -> Result<(), AllocError> {
-    octets.push((number / 256 % 256) as u8)?;
-    octets.push((number % 256) as u8)?;
-    Ok(())
 }
 
 /// A message of edition 4 with these subsets, flags, descriptors and data.
@@ -73,20 +66,22 @@ fn message_of(
     payload: &[u8],
 ) -> Result<Vec<u8>, Fail> {
     let mut octets = Vec::new(alloc);
-    let (third, fourth) = (descriptors.len() % 1000 * 2 + 7, payload.len() % 60000 + 4);
+    let third = u16::try_from(descriptors.len().saturating_mul(2).saturating_add(7))?;
+    let fourth = u16::try_from(payload.len().saturating_add(4))?;
+    let length = third.saturating_add(fourth).saturating_add(34);
     octets.extend_from_slice(b"BUFR\0")?;
-    push_two(&mut octets, third + fourth + 34)?;
+    octets.extend_from_slice(&length.to_be_bytes())?;
     octets.extend_from_slice(&[4, 0, 0, 22, 0, 0, 98, 0, 0, 0, 0, 0, 0, 0, 14, 0])?;
     octets.extend_from_slice(&[7, 232, 1, 2, 3, 4, 5, 0])?;
-    push_two(&mut octets, third)?;
+    octets.extend_from_slice(&third.to_be_bytes())?;
     octets.push(0)?;
-    push_two(&mut octets, usize::from(subsets))?;
+    octets.extend_from_slice(&subsets.to_be_bytes())?;
     octets.push(flags)?;
     for fxy in descriptors {
-        push_two(&mut octets, usize::from(fxy.word()))?;
+        octets.extend_from_slice(&fxy.word().to_be_bytes())?;
     }
     octets.push(0)?;
-    push_two(&mut octets, fourth)?;
+    octets.extend_from_slice(&fourth.to_be_bytes())?;
     octets.push(0)?;
     octets.extend_from_slice(payload)?;
     octets.extend_from_slice(b"7777")?;

@@ -181,10 +181,17 @@ fn descriptors_of(alloc: Global, text: &str) -> Result<Vec<Fxy>, Fail> {
     let mut descriptors = Vec::new(alloc);
     for digits in text.split_whitespace() {
         let number = digits.parse::<u32>()?;
-        let word = number / 100_000 * 16384 + number / 1000 % 100 * 256 + number % 1000;
+        let word = number / 100_000 << 14 | number / 1000 % 100 << 8 | number % 1000;
         descriptors.push(Fxy::from_word(u16::try_from(word)?))?;
     }
     Ok(descriptors)
+}
+
+// The tables of most tests.
+fn tables(alloc: Global) -> Result<(TableB, TableD), Fail> {
+    let table_b = TableB::read(alloc, TABLE_B)?;
+    let table_d = TableD::read(alloc, TABLE_D)?;
+    Ok((table_b, table_d))
 }
 
 // The places and the depth, or the fault's number and its text.
@@ -204,8 +211,7 @@ fn told(
 
 #[test]
 fn worked_lists(rt: HostRuntime) -> Result<(), Fail> {
-    let table_b = TableB::read(rt.alloc(), TABLE_B)?;
-    let table_d = TableD::read(rt.alloc(), TABLE_D)?;
+    let (table_b, table_d) = tables(rt.alloc())?;
     for (name, text, want) in ROWS {
         let descriptors = descriptors_of(rt.alloc(), text)?;
         let told = told(rt.alloc(), &descriptors, &table_b, &table_d)?;
@@ -269,8 +275,7 @@ fn written(alloc: Global, cell: Cell) -> Result<String, AllocError> {
 
 #[test]
 fn cells_of_worked_lists(rt: HostRuntime) -> Result<(), Fail> {
-    let table_b = TableB::read(rt.alloc(), TABLE_B)?;
-    let table_d = TableD::read(rt.alloc(), TABLE_D)?;
+    let (table_b, table_d) = tables(rt.alloc())?;
     for (name, text, want) in CELLS {
         let descriptors = descriptors_of(rt.alloc(), text)?;
         let template = Template::build(rt.alloc(), &descriptors, &table_b, &table_d)?;
