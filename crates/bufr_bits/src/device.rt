@@ -88,6 +88,13 @@ pub trait Sink {
 }
 
 /// A reader or writer of `std` as a [`Source`] or a [`Sink`].
+///
+/// ```
+/// let mut source = Device::new(b"abc".as_slice());
+/// let mut buf = [0u8; 2];
+/// assert_eq!(rt; source.read(&mut buf), Ok(2));
+/// assert_eq!(rt; source.read(&mut buf), Ok(1));
+/// ```
 #[derive(Drop)]
 pub struct Device<T> {
     inner: T,

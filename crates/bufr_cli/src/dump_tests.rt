@@ -3,6 +3,7 @@
 use crate::tally::Tally;
 use crate::test_messages::{HEAD, ONE_ACCEPTED, message_of, octets_of, text_of, words_of};
 use crate::test_runs::{Command, assert_run, run_over};
+use crate::tests::LOCAL_USE;
 use bufr_bits::{End, ScriptIn, ScriptOut};
 use std::test::Fail;
 
@@ -302,12 +303,6 @@ fn dumps_what_was_encoded(rt: HostRuntime) -> Result<(), Fail> {
 /// Local octets and a section 2, dumped and encoded.
 #[test]
 fn dumps_local_use(rt: HostRuntime) -> Result<(), Fail> {
-    static MESSAGE: [u8; 56] = [
-        0x42, 0x55, 0x46, 0x52, 0x00, 0x00, 0x38, 0x04, 0x00, 0x00, 0x18, 0x00, 0x00, 0x62, 0x00,
-        0x00, 0x00, 0x80, 0x00, 0x00, 0x00, 0x0E, 0x00, 0x07, 0xE8, 0x01, 0x02, 0x03, 0x04, 0x05,
-        0xAB, 0xCD, 0x00, 0x00, 0x06, 0x00, 0x01, 0x02, 0x00, 0x00, 0x09, 0x00, 0x00, 0x01, 0x80,
-        0x01, 0x01, 0x00, 0x00, 0x05, 0x00, 0x14, 0x37, 0x37, 0x37, 0x37,
-    ];
     let mut text = String::from_str(rt.alloc(), HEAD)?;
     text.push_str(
         "observed 1\n\
@@ -323,13 +318,21 @@ fn dumps_local_use(rt: HostRuntime) -> Result<(), Fail> {
     )?;
     let text = text.as_bytes();
     let name = "local use";
-    assert_run(&rt, Command::Dump, name, &MESSAGE, text, b"", ONE_ACCEPTED)?;
+    assert_run(
+        &rt,
+        Command::Dump,
+        name,
+        &LOCAL_USE,
+        text,
+        b"",
+        ONE_ACCEPTED,
+    )?;
     assert_run(
         &rt,
         Command::Encode,
         name,
         text,
-        &MESSAGE,
+        &LOCAL_USE,
         b"",
         ONE_ACCEPTED,
     )

@@ -14,6 +14,12 @@ use std::marker::Model;
 /// (WMO-No. 306, Volume I.2, FM 94: section 4). One walk takes the items of one subset.
 ///
 /// A contract sees it as the entries that are left and the bits that were written.
+///
+/// ```
+/// let mut out = PlainOut::new(alloc, &entries);
+/// walk(alloc, &template, &table_b, &mut out, &mut steps)?;
+/// let payload = out.into_octets();
+/// ```
 #[derive(Drop)]
 pub struct PlainOut<'s, 'a> {
     entries: &'s [Entry<'a>],

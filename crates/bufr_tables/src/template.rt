@@ -66,6 +66,12 @@ impl Template {
     /// At most 32 groups and sequences are open together, and a template takes at most 65,535 places ([`Template::places`]
     /// counts them), so a list that would expand to more is refused after that many.
     ///
+    /// ```
+    /// let descriptors = [Fxy::from_word(0x0101)]; // 0 01 001
+    /// let template = Template::build(alloc, &descriptors, &table_b, &table_d)?;
+    /// assert_eq!(rt; template.places(), 2); // the element, and the end
+    /// ```
+    ///
     /// # Errors
     ///
     /// The first fault that is met:

@@ -210,6 +210,12 @@ fn write_whole(alloc: Global, document: &Document, payload: &[u8]) -> Result<Vec
 /// are made. They are at most as many as the template has places for each bit of the data, and for
 /// one bit more where the document is refused.
 ///
+/// ```
+/// let document = reader.next_document(&mut r)?.ok_or("a document")?;
+/// let mut steps = Steps::new();
+/// let octets = encode_document(alloc, &document, &table_b, &table_d, &mut steps)?;
+/// ```
+///
 /// # Errors
 ///
 /// The first that is met: [`DocumentFault::Template`]; at an item [`DocumentFault::Walk`],

@@ -9,6 +9,10 @@ use bufr_frame::{Message, RunFault};
 
 /// Writes the line of a message that begins at `offset`, in octets from 0. It takes no memory.
 ///
+/// ```
+/// write_ls(21, &message, &mut w)?; // offset=21 length=48 edition=4 ..
+/// ```
+///
 /// # Errors
 ///
 /// [`RunFault::Write`] where the writer fails or takes nothing; a front of the line was taken.

@@ -17,6 +17,12 @@ use std::alloc::Global;
 /// makes at most as many steps as the template has places, for each bit that its items take; a refusal at most as
 /// many for each bit before the item, and once more.
 ///
+/// ```
+/// let mut steps = Steps::new();
+/// let reading = read_message(alloc, &message, &template, &table_b, &mut steps)?;
+/// assert_eq!(rt; (reading.bits(), steps.count()), (7, 2)); // of one block number
+/// ```
+///
 /// # Errors
 ///
 /// The first that holds, in the order of the data, with the subset (0 where the data are compressed), the descriptor,

@@ -189,6 +189,12 @@ fn walk_cells<S: Fields>(
 /// of a pass of a group, and for the end. No turn is free: each bit that is used pays for at most as many turns as there are
 /// places (WMO-No. 306, Volume I.2, FM 94: section 3, Tables B and C).
 ///
+/// ```
+/// let mut steps = Steps::new();
+/// let mut fields = PlainIn::new(BitSlice::new(&octets));
+/// walk(alloc, &template, &table_b, &mut fields, &mut steps)?; // one subset was read
+/// ```
+///
 /// # Errors
 ///
 /// The first that is met: [`WalkStop::Defining`] for a turn that may not come while references are being defined,
