@@ -5,7 +5,7 @@ use crate::test_messages::{
     ONE_ACCEPTED, ONE_REFUSED, message_of, octets_of, one_block_number, text_of_one, words_of,
 };
 use crate::test_runs::{
-    Command, assert_run, assert_stops_at_a_failed_read, assert_stops_at_failed_errors,
+    Command, assert_run, assert_stops_at_failed_errors, assert_stops_at_failed_reads,
     assert_stops_at_failed_writes,
 };
 use std::test::Fail;
@@ -315,11 +315,8 @@ fn stops_at_a_failed_read(rt: HostRuntime) -> Result<(), Fail> {
     let mut input = Vec::new(rt.alloc());
     input.extend_from_slice(&message)?;
     input.extend_from_slice(&message)?;
-    for place in 0..96 {
-        let dumped = if place < 48 { b"" } else { text.as_bytes() };
-        assert_stops_at_a_failed_read(&rt, Command::Dump, &input, place, dumped)?;
-    }
-    Ok(())
+    assert_stops_at_failed_reads(&rt, Command::Dump, &input, 0..48, b"")?;
+    assert_stops_at_failed_reads(&rt, Command::Dump, &input, 48..96, text.as_bytes())
 }
 
 /// Writers that fail, take nothing, or cannot be flushed have taken a front.

@@ -7,7 +7,7 @@ use crate::test_messages::{
     text_of_one, words_of,
 };
 use crate::test_runs::{
-    Command, assert_run, assert_stops_at_a_failed_read, assert_stops_at_failed_errors,
+    Command, assert_run, assert_stops_at_failed_errors, assert_stops_at_failed_reads,
     assert_stops_at_failed_writes, run_over,
 };
 use crate::{law, round_trip_law};
@@ -306,17 +306,11 @@ fn stops_at_a_failed_read(rt: HostRuntime) -> Result<(), Fail> {
     let mut both = Vec::new(rt.alloc());
     both.extend_from_slice(&message)?;
     both.extend_from_slice(&message)?;
-    for place in 0..text.len().saturating_add(1) {
-        let encoded = if place < one.len() {
-            b""
-        } else if place < text.len() {
-            message.as_slice()
-        } else {
-            both.as_slice()
-        };
-        assert_stops_at_a_failed_read(&rt, Command::Encode, &text, place, encoded)?;
-    }
-    Ok(())
+    let (half, whole) = (one.len(), text.len());
+    let end = whole..whole.saturating_add(1);
+    assert_stops_at_failed_reads(&rt, Command::Encode, &text, 0..half, b"")?;
+    assert_stops_at_failed_reads(&rt, Command::Encode, &text, half..whole, &message)?;
+    assert_stops_at_failed_reads(&rt, Command::Encode, &text, end, &both)
 }
 
 /// A document that is refused ends the run before a read behind it fails.

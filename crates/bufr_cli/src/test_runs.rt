@@ -9,6 +9,8 @@ use crate::test_messages::{TABLE_B, TABLE_D};
 use bufr_bits::{End, ScriptIn, ScriptOut};
 use bufr_frame::RunFault;
 use bufr_tables::{TableB, TableD};
+use std::alloc::Global;
+use std::ops::Range;
 use std::process::Abort;
 use std::test::Fail;
 
@@ -52,26 +54,51 @@ impl Ran {
     }
 }
 
-/// Runs a command with the test tables.
-pub(crate) fn run_over(
-    rt: &(impl Abort + AllocGlobal),
+/// The test tables.
+#[derive(Drop)]
+struct Tables {
+    b: TableB,
+    d: TableD,
+}
+
+fn read_tables(rt: &(impl Abort + AllocGlobal)) -> Tables {
+    Tables {
+        b: TableB::read(rt.alloc(), TABLE_B).expect(rt, "table B"),
+        d: TableD::read(rt.alloc(), TABLE_D).expect(rt, "table D"),
+    }
+}
+
+/// Runs a command by these tables.
+fn run_by(
+    alloc: Global,
+    tables: &Tables,
     command: Command,
     mut input: ScriptIn<'_>,
     mut output: ScriptOut,
     mut errors: ScriptOut,
 ) -> Ran {
-    let b = TableB::read(rt.alloc(), TABLE_B).expect(rt, "table B");
-    let d = TableD::read(rt.alloc(), TABLE_D).expect(rt, "table D");
+    let Tables { b, d } = tables;
     let answer = match command {
-        Command::Ls => run_ls(rt.alloc(), &mut input, &mut output, &mut errors),
-        Command::Dump => run_dump(rt.alloc(), &mut input, &mut output, &mut errors, &b, &d),
-        Command::Encode => run_encode(rt.alloc(), &mut input, &mut output, &mut errors, &b, &d),
+        Command::Ls => run_ls(alloc, &mut input, &mut output, &mut errors),
+        Command::Dump => run_dump(alloc, &mut input, &mut output, &mut errors, b, d),
+        Command::Encode => run_encode(alloc, &mut input, &mut output, &mut errors, b, d),
     };
     Ran {
         answer,
         output,
         errors,
     }
+}
+
+/// Runs a command by the test tables.
+pub(crate) fn run_over(
+    rt: &(impl Abort + AllocGlobal),
+    command: Command,
+    input: ScriptIn<'_>,
+    output: ScriptOut,
+    errors: ScriptOut,
+) -> Ran {
+    run_by(rt.alloc(), &read_tables(rt), command, input, output, errors)
 }
 
 /// Runs a command over `input`, however it is read, and asserts what comes of it.
@@ -84,11 +111,12 @@ pub(crate) fn assert_run(
     errors: &[u8],
     tally: Tally,
 ) -> Result<(), Fail> {
+    let tables = read_tables(rt);
     for step in [1, 3, 7, 4096] {
         let r = ScriptIn::new(input, step, None);
         let w = ScriptOut::new(rt.alloc(), output.len().saturating_add(64), step, End::Fail)?;
         let e = ScriptOut::new(rt.alloc(), errors.len().saturating_add(64), step, End::Fail)?;
-        let ran = run_over(rt, command, r, w, e);
+        let ran = run_by(rt.alloc(), &tables, command, r, w, e);
         ran.assert_left(rt, name, step, Ok(tally), output, errors);
     }
     Ok(())
@@ -102,11 +130,13 @@ pub(crate) fn assert_stops_at_failed_writes(
     whole: &[u8],
     tally: Tally,
 ) -> Result<(), Fail> {
+    let tables = read_tables(rt);
     for end in [End::Fail, End::Zero, End::Flush] {
         for room in 0..whole.len().saturating_add(1) {
             let w = ScriptOut::new(rt.alloc(), room, 5, end)?;
             let e = ScriptOut::new(rt.alloc(), 0, 5, End::Fail)?;
-            let ran = run_over(rt, command, ScriptIn::new(input, 4096, None), w, e);
+            let r = ScriptIn::new(input, 4096, None);
+            let ran = run_by(rt.alloc(), &tables, command, r, w, e);
             let front = whole.get(..room).unwrap_or(whole);
             let fails = room < whole.len() || end == End::Flush;
             let answer = if fails {
@@ -130,11 +160,13 @@ pub(crate) fn assert_stops_at_failed_errors(
     line: &[u8],
     tally: Tally,
 ) -> Result<(), Fail> {
+    let tables = read_tables(rt);
     for end in [End::Fail, End::Zero, End::Flush] {
         for room in 0..line.len().saturating_add(1) {
             let w = ScriptOut::new(rt.alloc(), output.len(), 1, End::Fail)?;
             let e = ScriptOut::new(rt.alloc(), room, 5, end)?;
-            let ran = run_over(rt, command, ScriptIn::new(input, 4096, None), w, e);
+            let r = ScriptIn::new(input, 4096, None);
+            let ran = run_by(rt.alloc(), &tables, command, r, w, e);
             let front = line.get(..room).unwrap_or(line);
             let fails = room < line.len() || end == End::Flush;
             let answer = if fails {
@@ -148,19 +180,23 @@ pub(crate) fn assert_stops_at_failed_errors(
     Ok(())
 }
 
-/// Runs a command whose reader fails at a place, and asserts that it stops there with this output.
-pub(crate) fn assert_stops_at_a_failed_read(
+/// Wherever in these places the reader fails, the run stops with this output.
+pub(crate) fn assert_stops_at_failed_reads(
     rt: &(impl Abort + AllocGlobal),
     command: Command,
     input: &[u8],
-    place: usize,
+    places: Range<usize>,
     output: &[u8],
 ) -> Result<(), Fail> {
-    for step in [1, 7] {
-        let w = ScriptOut::new(rt.alloc(), 4096, 7, End::Fail)?;
-        let e = ScriptOut::new(rt.alloc(), 4096, 7, End::Fail)?;
-        let ran = run_over(rt, command, ScriptIn::new(input, step, Some(place)), w, e);
-        ran.assert_left(rt, "place", place, Err(RunFault::Read), output, b"");
+    let tables = read_tables(rt);
+    for place in places {
+        for step in [1, 7] {
+            let r = ScriptIn::new(input, step, Some(place));
+            let w = ScriptOut::new(rt.alloc(), 4096, 7, End::Fail)?;
+            let e = ScriptOut::new(rt.alloc(), 4096, 7, End::Fail)?;
+            let ran = run_by(rt.alloc(), &tables, command, r, w, e);
+            ran.assert_left(rt, "place", place, Err(RunFault::Read), output, b"");
+        }
     }
     Ok(())
 }

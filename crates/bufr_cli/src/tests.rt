@@ -5,7 +5,7 @@ use crate::run_ls::run_ls;
 use crate::tally::Tally;
 use crate::test_messages::{ONE_ACCEPTED, ONE_REFUSED};
 use crate::test_runs::{
-    Command, assert_run, assert_stops_at_a_failed_read, assert_stops_at_failed_errors,
+    Command, assert_run, assert_stops_at_failed_errors, assert_stops_at_failed_reads,
     assert_stops_at_failed_writes,
 };
 use bufr_bits::{Device, End, ScriptIn, ScriptOut};
@@ -294,11 +294,8 @@ fn stops_at_a_failed_read(rt: HostRuntime) -> Result<(), Fail> {
     let mut input = Vec::new(rt.alloc());
     input.extend_from_slice(&ONE_BLOCK_NUMBER)?;
     input.extend_from_slice(&ONE_BLOCK_NUMBER)?;
-    for place in 0..96 {
-        let listed = if place < 48 { b"" } else { line.as_bytes() };
-        assert_stops_at_a_failed_read(&rt, Command::Ls, &input, place, listed)?;
-    }
-    Ok(())
+    assert_stops_at_failed_reads(&rt, Command::Ls, &input, 0..48, b"")?;
+    assert_stops_at_failed_reads(&rt, Command::Ls, &input, 48..96, line.as_bytes())
 }
 
 /// A writer that counts what it is given.
