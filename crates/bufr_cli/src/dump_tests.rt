@@ -277,14 +277,14 @@ fn dumps_what_was_encoded(rt: HostRuntime) -> Result<(), Fail> {
         let words = words_of(rt.alloc(), row.descriptors)?;
         let data = octets_of(rt.alloc(), row.data)?;
         let message = message_of(rt.alloc(), row.subsets, row.flags, &words, &data)?;
-        let r = ScriptIn::new(&message, 4096, None);
+        let mut r = ScriptIn::new(&message, 4096, None);
         let w = ScriptOut::new(rt.alloc(), 4096, 4096, End::Fail)?;
         let e = ScriptOut::new(rt.alloc(), 4096, 4096, End::Fail)?;
-        let text = run_over(&rt, Command::Dump, r, w, e);
-        let r = ScriptIn::new(text.output(), 4096, None);
+        let text = run_over(&rt, Command::Dump, &mut r, w, e);
+        let mut r = ScriptIn::new(text.output(), 4096, None);
         let w = ScriptOut::new(rt.alloc(), 4096, 4096, End::Fail)?;
         let e = ScriptOut::new(rt.alloc(), 4096, 4096, End::Fail)?;
-        let octets = run_over(&rt, Command::Encode, r, w, e);
+        let octets = run_over(&rt, Command::Encode, &mut r, w, e);
         let (octets, text) = (octets.output(), text.output());
         assert!(rt; !octets.is_empty(), "{}", row.name);
         assert_run(

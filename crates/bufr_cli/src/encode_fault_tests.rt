@@ -1,15 +1,14 @@
 //! Each fault of a document beside the nearest document that is accepted, and faults of devices.
 
 use crate::document_line::write_document_fault;
-use crate::run_encode::run_encode;
 use crate::test_messages::{
-    ONE_ACCEPTED, ONE_REFUSED, TABLE_B, TABLE_D, message_of, octets_of, one_block_number, text_of,
-    text_of_one, words_of,
+    ONE_ACCEPTED, ONE_REFUSED, message_of, octets_of, one_block_number, text_of, text_of_one,
+    words_of,
 };
 use crate::test_runs::{Command, assert_run, run_over};
 use bufr_bits::{Device, End, ScriptIn, ScriptOut};
 use bufr_frame::RunFault;
-use bufr_tables::{Fxy, TableB, TableD};
+use bufr_tables::Fxy;
 use bufr_text::{DocumentFault, WalkRefusal};
 use std::alloc::Global;
 use std::cell::Cell;
@@ -566,10 +565,10 @@ fn refuses_a_long_message(rt: HostRuntime) -> Result<(), Fail> {
     }
     let descriptors = "102255 101255 205255 102004 101255 205255";
     let text = text_of(rt.alloc(), 1, 0x80, descriptors, body.as_str())?;
-    let r = ScriptIn::new(text.as_bytes(), 4096, None);
+    let mut r = ScriptIn::new(text.as_bytes(), 4096, None);
     let w = ScriptOut::new(rt.alloc(), 0, 1, End::Fail)?;
     let e = ScriptOut::new(rt.alloc(), 4096, 4096, End::Fail)?;
-    let ran = run_over(&rt, Command::Encode, r, w, e);
+    let ran = run_over(&rt, Command::Encode, &mut r, w, e);
     let line = b"line 1: 60 too long\n";
     ran.assert_left(&rt, "too long", 0, Ok(ONE_REFUSED), b"", line);
     Ok(())
@@ -601,8 +600,6 @@ impl<'a> Read for Interrupted<'a> {
 /// An interrupted read is a failed one: it is not made again, and what was encoded before stands.
 #[test]
 fn stops_at_an_interrupted_read(rt: HostRuntime) -> Result<(), Fail> {
-    let table_b = TableB::read(rt.alloc(), TABLE_B).expect(&rt, "table B");
-    let table_d = TableD::read(rt.alloc(), TABLE_D).expect(&rt, "table D");
     let one = text_of_one(rt.alloc())?;
     let words = words_of(rt.alloc(), "001001")?;
     let message = message_of(rt.alloc(), 1, 0x80, &words, b"\x14")?;
@@ -617,10 +614,9 @@ fn stops_at_an_interrupted_read(rt: HostRuntime) -> Result<(), Fail> {
             interrupted: &interrupted,
             tried_again: &tried_again,
         });
-        let mut w = ScriptOut::new(rt.alloc(), 4096, 7, End::Fail)?;
-        let mut e = ScriptOut::new(rt.alloc(), 0, 7, End::Fail)?;
-        let ran = run_encode(rt.alloc(), &mut r, &mut w, &mut e, &table_b, &table_d);
-        assert!(rt; ran == Err(RunFault::Read), "{place}: {ran:?}");
+        let w = ScriptOut::new(rt.alloc(), 4096, 7, End::Fail)?;
+        let e = ScriptOut::new(rt.alloc(), 0, 7, End::Fail)?;
+        let ran = run_over(&rt, Command::Encode, &mut r, w, e);
         assert!(rt; interrupted.get() && !tried_again.get(), "{place}");
         let mut encoded = Vec::new(rt.alloc());
         if place >= one.len() {
@@ -629,7 +625,7 @@ fn stops_at_an_interrupted_read(rt: HostRuntime) -> Result<(), Fail> {
         if place == text.len() {
             encoded.extend_from_slice(&message)?;
         }
-        assert_eq!(rt; w.taken(), encoded.as_slice(), "{place}");
+        ran.assert_left(&rt, "place", place, Err(RunFault::Read), &encoded, b"");
     }
     Ok(())
 }
@@ -641,10 +637,10 @@ fn keeps_all_behind_a_failed_flush(rt: HostRuntime) -> Result<(), Fail> {
     let message = message_of(rt.alloc(), 1, 0x80, &words, b"\x14")?;
     let mut text = text_of_one(rt.alloc())?;
     text.push_str("end\n")?;
-    let r = ScriptIn::new(text.as_bytes(), 4096, None);
+    let mut r = ScriptIn::new(text.as_bytes(), 4096, None);
     let w = ScriptOut::new(rt.alloc(), 48, 1, End::Flush)?;
     let e = ScriptOut::new(rt.alloc(), 4096, 1, End::Fail)?;
-    let ran = run_over(&rt, Command::Encode, r, w, e);
+    let ran = run_over(&rt, Command::Encode, &mut r, w, e);
     let line = b"line 26: 50 line\n";
     ran.assert_left(&rt, "flush", 0, Err(RunFault::Write), &message, line);
     Ok(())
@@ -663,10 +659,10 @@ fn packs_names_anew(rt: HostRuntime) -> Result<(), Fail> {
     let packed = message_of(rt.alloc(), 2, 0xC0, &words, &written)?;
     assert_eq!(rt; (message.len(), packed.len()), (76, 74));
     for octets in [&message, &packed] {
-        let r = ScriptIn::new(octets, 4096, None);
+        let mut r = ScriptIn::new(octets, 4096, None);
         let w = ScriptOut::new(rt.alloc(), 4096, 4096, End::Fail)?;
         let e = ScriptOut::new(rt.alloc(), 4096, 4096, End::Fail)?;
-        let text = run_over(&rt, Command::Dump, r, w, e);
+        let text = run_over(&rt, Command::Dump, &mut r, w, e);
         let name = "names";
         let input = text.output();
         assert_run(

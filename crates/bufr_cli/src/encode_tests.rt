@@ -317,10 +317,10 @@ fn stops_at_a_failed_read(rt: HostRuntime) -> Result<(), Fail> {
 #[test]
 fn stops_before_a_failed_read(rt: HostRuntime) -> Result<(), Fail> {
     let text = text_of(rt.alloc(), 1, 0x80, "012101", "subset 1\n012101 288.155\n")?;
-    let r = ScriptIn::new(text.as_bytes(), 7, Some(text.len()));
+    let mut r = ScriptIn::new(text.as_bytes(), 7, Some(text.len()));
     let w = ScriptOut::new(rt.alloc(), 0, 7, End::Fail)?;
     let e = ScriptOut::new(rt.alloc(), 64, 7, End::Fail)?;
-    let ran = run_over(&rt, Command::Encode, r, w, e);
+    let ran = run_over(&rt, Command::Encode, &mut r, w, e);
     let line = b"line 24: 52 number\n";
     ran.assert_left(&rt, "refused", 0, Ok(ONE_REFUSED), b"", line);
     Ok(())

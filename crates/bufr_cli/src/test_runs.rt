@@ -6,7 +6,7 @@ use crate::run_encode::run_encode;
 use crate::run_ls::run_ls;
 use crate::tally::Tally;
 use crate::test_messages::{TABLE_B, TABLE_D};
-use bufr_bits::{End, ScriptIn, ScriptOut};
+use bufr_bits::{End, ScriptIn, ScriptOut, Source};
 use bufr_frame::RunFault;
 use bufr_tables::{TableB, TableD};
 use std::alloc::Global;
@@ -69,19 +69,19 @@ fn read_tables(rt: &(impl Abort + AllocGlobal)) -> Tables {
 }
 
 /// Runs a command by these tables.
-fn run_by(
+fn run_by<R: Source>(
     alloc: Global,
     tables: &Tables,
     command: Command,
-    mut input: ScriptIn<'_>,
+    input: &mut R,
     mut output: ScriptOut,
     mut errors: ScriptOut,
 ) -> Ran {
     let Tables { b, d } = tables;
     let answer = match command {
-        Command::Ls => run_ls(alloc, &mut input, &mut output, &mut errors),
-        Command::Dump => run_dump(alloc, &mut input, &mut output, &mut errors, b, d),
-        Command::Encode => run_encode(alloc, &mut input, &mut output, &mut errors, b, d),
+        Command::Ls => run_ls(alloc, input, &mut output, &mut errors),
+        Command::Dump => run_dump(alloc, input, &mut output, &mut errors, b, d),
+        Command::Encode => run_encode(alloc, input, &mut output, &mut errors, b, d),
     };
     Ran {
         answer,
@@ -91,10 +91,10 @@ fn run_by(
 }
 
 /// Runs a command by the test tables.
-pub(crate) fn run_over(
+pub(crate) fn run_over<R: Source>(
     rt: &(impl Abort + AllocGlobal),
     command: Command,
-    input: ScriptIn<'_>,
+    input: &mut R,
     output: ScriptOut,
     errors: ScriptOut,
 ) -> Ran {
@@ -113,10 +113,10 @@ pub(crate) fn assert_run(
 ) -> Result<(), Fail> {
     let tables = read_tables(rt);
     for step in [1, 3, 7, 4096] {
-        let r = ScriptIn::new(input, step, None);
+        let mut r = ScriptIn::new(input, step, None);
         let w = ScriptOut::new(rt.alloc(), output.len().saturating_add(64), step, End::Fail)?;
         let e = ScriptOut::new(rt.alloc(), errors.len().saturating_add(64), step, End::Fail)?;
-        let ran = run_by(rt.alloc(), &tables, command, r, w, e);
+        let ran = run_by(rt.alloc(), &tables, command, &mut r, w, e);
         ran.assert_left(rt, name, step, Ok(tally), output, errors);
     }
     Ok(())
@@ -135,8 +135,8 @@ pub(crate) fn assert_stops_at_failed_writes(
         for room in 0..whole.len().saturating_add(1) {
             let w = ScriptOut::new(rt.alloc(), room, 5, end)?;
             let e = ScriptOut::new(rt.alloc(), 0, 5, End::Fail)?;
-            let r = ScriptIn::new(input, 4096, None);
-            let ran = run_by(rt.alloc(), &tables, command, r, w, e);
+            let mut r = ScriptIn::new(input, 4096, None);
+            let ran = run_by(rt.alloc(), &tables, command, &mut r, w, e);
             let front = whole.get(..room).unwrap_or(whole);
             let fails = room < whole.len() || end == End::Flush;
             let answer = if fails {
@@ -165,8 +165,8 @@ pub(crate) fn assert_stops_at_failed_errors(
         for room in 0..line.len().saturating_add(1) {
             let w = ScriptOut::new(rt.alloc(), output.len(), 1, End::Fail)?;
             let e = ScriptOut::new(rt.alloc(), room, 5, end)?;
-            let r = ScriptIn::new(input, 4096, None);
-            let ran = run_by(rt.alloc(), &tables, command, r, w, e);
+            let mut r = ScriptIn::new(input, 4096, None);
+            let ran = run_by(rt.alloc(), &tables, command, &mut r, w, e);
             let front = line.get(..room).unwrap_or(line);
             let fails = room < line.len() || end == End::Flush;
             let answer = if fails {
@@ -191,10 +191,10 @@ pub(crate) fn assert_stops_at_failed_reads(
     let tables = read_tables(rt);
     for place in places {
         for step in [1, 7] {
-            let r = ScriptIn::new(input, step, Some(place));
+            let mut r = ScriptIn::new(input, step, Some(place));
             let w = ScriptOut::new(rt.alloc(), 4096, 7, End::Fail)?;
             let e = ScriptOut::new(rt.alloc(), 4096, 7, End::Fail)?;
-            let ran = run_by(rt.alloc(), &tables, command, r, w, e);
+            let ran = run_by(rt.alloc(), &tables, command, &mut r, w, e);
             ran.assert_left(rt, "place", place, Err(RunFault::Read), output, b"");
         }
     }
