@@ -2,100 +2,10 @@
 //! the tables into maps and writes the same text for messages whose templates have elements, fixed
 //! replications and sequences, plain or compressed. No operators, no checks but of the end of the
 //! data, no proof: only a yardstick.
-use std::collections::HashMap;
-use std::fs::File;
 use std::io::Write as _;
-use std::os::fd::AsRawFd;
 
-extern "C" {
-    fn mmap(at: *mut u8, length: usize, access: i32, flags: i32, file: i32, offset: i64) -> *mut u8;
-}
-
-#[derive(Clone)]
-struct Element {
-    text: Vec<u8>,
-    comment: Vec<u8>,
-    is_text: bool,
-    scale: i32,
-    reference: i64,
-    width: u32,
-    always: bool,
-}
-
-type Sequences = HashMap<u16, Vec<u16>>;
-
-fn number(octets: &[u8]) -> usize {
-    octets.iter().fold(0, |n, octet| n << 8 | usize::from(*octet))
-}
-
-fn word(text: &str) -> u16 {
-    let n: u32 = text.parse().expect("a descriptor");
-    ((n / 100_000) << 14 | (n / 1000 % 100) << 8 | n % 1000) as u16
-}
-
-/// The fields of a line; only the name may be quoted.
-fn fields(line: &str) -> Vec<String> {
-    let mut out = vec![String::new()];
-    let mut quoted = false;
-    for c in line.chars() {
-        match c {
-            '"' => quoted = !quoted,
-            ',' if !quoted => out.push(String::new()),
-            c => out.last_mut().expect("a field").push(c),
-        }
-    }
-    out
-}
-
-fn elements(name: &str) -> HashMap<u16, Element> {
-    let text = std::fs::read_to_string(name).expect("table B");
-    let mut map = HashMap::new();
-    for line in text.lines().skip(1) {
-        let f = fields(line);
-        let key = word(&f[0]);
-        let element = Element {
-            text: format!("{} ", f[0]).into_bytes(),
-            comment: format!("  # {} [{}]\n", f[1], f[2]).into_bytes(),
-            is_text: f[2] == "CCITT IA5",
-            scale: f[3].parse().expect("a scale"),
-            reference: f[4].parse().expect("a reference"),
-            width: f[5].parse().expect("a width"),
-            always: key >> 8 & 63 == 31,
-        };
-        map.insert(key, element);
-    }
-    map
-}
-
-fn sequences(name: &str) -> Sequences {
-    let text = std::fs::read_to_string(name).expect("table D");
-    let mut map = Sequences::new();
-    for line in text.lines().skip(1) {
-        let (sequence, member) = line.split_once(',').expect("two fields");
-        map.entry(word(sequence)).or_default().push(word(member));
-    }
-    map
-}
-
-fn expand(list: &[u16], sequences: &Sequences, out: &mut Vec<u16>) {
-    let mut i = 0;
-    while i < list.len() {
-        let d = list[i];
-        i += 1;
-        match d >> 14 {
-            0 => out.push(d),
-            1 => {
-                let many = usize::from(d >> 8 & 63);
-                for _ in 0..d & 255 {
-                    expand(&list[i..i + many], sequences, out);
-                }
-                i += many;
-            }
-            3 => expand(&sequences[&d], sequences, out),
-            _ => panic!("no operators"),
-        }
-    }
-}
+mod by_hand;
+use by_hand::{elements, laid, mapped, number, sequences, Element};
 
 /// A field of up to 57 bits.
 fn field(octets: &[u8], at: usize, width: u32) -> u64 {
@@ -204,12 +114,7 @@ fn main() {
     let names: Vec<String> = std::env::args().skip(1).collect();
     let table_b = elements(&names[0]);
     let table_d = sequences(&names[1]);
-    let file = File::open(&names[2]).expect("a file that opens");
-    let length = file.metadata().expect("its length").len() as usize;
-    let octets = unsafe {
-        let at = mmap(std::ptr::null_mut(), length, 1, 2, file.as_raw_fd(), 0);
-        std::slice::from_raw_parts(at, length)
-    };
+    let octets = mapped(&names[2]);
     let mut file = std::io::BufWriter::with_capacity(1 << 16, std::io::stdout().lock());
     let mut out = Vec::new();
     let mut place = 0;
@@ -221,9 +126,7 @@ fn main() {
         let four = &t[number(&t[..3])..];
         let data = &four[4..number(&four[..3])];
         let list: Vec<u16> = t[7..number(&t[..3])].chunks_exact(2).map(|two| number(two) as u16).collect();
-        let mut flat = Vec::new();
-        expand(&list, &table_d, &mut flat);
-        let flat: Vec<&Element> = flat.iter().map(|d| &table_b[d]).collect();
+        let flat = laid(&list, &table_b, &table_d);
         let subsets = number(&t[4..6]);
         out.clear();
         put_header(&mut out, m, s, t, &list);

@@ -1,12 +1,12 @@
 #!/usr/bin/env python3
-"""Times `bufr ls` and `bufr dump` on generated streams, beside a lister and a dumper written by hand and two plain
-readers, and beside the tools of ecCodes where they are installed.
+"""Times `bufr ls`, `bufr dump` and `bufr encode` on generated streams, beside a lister, a dumper and an encoder written
+by hand and two plain readers, and beside the tools of ecCodes where they are installed.
 
     bench/measure.py [FOLDER]        FOLDER holds the streams, bench/out by default
 
 The program is the one that `rt run` left in crates/bufr_cli/out. Each command runs five times; the
 least processor seconds (its own and the system's for it) count, and the least seconds by the clock;
-the memory is what one run had resident at most. Outside the gate: it wants Linux, python3, rustc, GNU time and 1.2 GB of disk.
+the memory is what one run had resident at most. Outside the gate: it wants Linux, python3, rustc, GNU time and 1.7 GB of disk.
 
 ecCodes reads the first tenth of the streams that take it long, and ten times its seconds are told, with a `*`.
 """
@@ -104,6 +104,32 @@ def dumps(folder):
         )
 
 
+def encodes(folder):
+    """Times the encoding of the dumps, and compares what is built with the stream, and with what the one by hand builds."""
+    hand_encoder = built(folder, "encode_by_hand")
+    tables = [str(TOP / "tables/wmo-39/B.csv"), str(TOP / "tables/wmo-39/D.csv")]
+    program = [str(PROGRAM), "encode", "-B", tables[0], "-D", tables[1]]
+    print(f"{'text of':<14}{'MB':>5}{'text MB':>9}{'bufr encode':>13}{'clock':>8}{'MB/s':>7}{'by hand':>9}{'ratio':>7}{'KiB':>7}  same")
+    for path in sorted(folder.glob("dump_*.bufr")):
+        text = path.with_suffix(".txt")
+        if not text.exists():
+            with text.open("wb") as out:
+                subprocess.run([str(PROGRAM), "dump", "-B", tables[0], "-D", tables[1], str(path)], stdout=out, check=True)
+        name, octets = str(text), path.read_bytes()
+        same = all(
+            subprocess.run([*words, name], stdout=subprocess.PIPE).stdout == octets for words in (program, [hand_encoder, *tables])
+        )
+        ours, clock = best([*program, name])
+        hand, _ = best([hand_encoder, *tables, name])
+        kib = resident([*program, name], folder / "resident.txt")
+        size = text.stat().st_size / 1e6
+        print(
+            f"{path.stem:<14}{len(octets) / 1e6:>5.0f}{size:>9.0f}{ours:>13.3f}{clock:>8.3f}{size / ours:>7.0f}{hand:>9.3f}"
+            f"{ours / hand:>7.2f}{kib:>7}  {'yes' if same else 'NO'}",
+            flush=True,
+        )
+
+
 def listings(folder):
     """Times the listings."""
     baseline = built(folder, "baseline")
@@ -145,6 +171,7 @@ def main() -> None:
         print("ecCodes is not installed: its columns are left empty")
     listings(folder)
     dumps(folder)
+    encodes(folder)
 
 
 if __name__ == "__main__":

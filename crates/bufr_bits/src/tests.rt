@@ -1,8 +1,11 @@
 //! The worked examples, each public call once on its happy path, and `get` against single bits.
+ghost use Rattle.std.specs.Prelude.{◌≤◌, length};
+
 use crate::{
     BitSlice, BitWriter, Device, End, Failed, NumberFault, ScriptIn, ScriptOut, Sink, Source,
     decimal_read, decimal_text,
 };
+use std::alloc::AllocError;
 use std::io::{self, Read, Write};
 use std::test::Fail;
 
@@ -38,6 +41,34 @@ fn bit_by_bit(octets: &[u8], at: u64, width: u32) -> Option<u64> {
     Some(value)
 }
 
+/// The number at a place, with no promise that the proof of a test would carry. So are the next ones.
+fn number_at(octets: &[u8], at: u64, width: u32) -> Option<u64>
+    requires few { length octets.now ≤ 100000 }
+    requires narrow { width ≤ 63 }
+{
+    BitSlice::new(octets).get(at, width)
+}
+
+fn octet_at(octets: &[u8], at: u64) -> Option<u8>
+    requires { length octets.now ≤ 100000 }
+{
+    BitSlice::new(octets).octet(at)
+}
+
+fn all_ones(octets: &[u8], at: u64, width: u32) -> Option<bool>
+    requires { length octets.now ≤ 100000 }
+{
+    BitSlice::new(octets).all_ones(at, width)
+}
+
+fn put_decimal(v: i128, scale: i16, out: &mut Vec<u8>) -> Result<(), AllocError> {
+    decimal_text(v, scale, out)
+}
+
+fn read_decimal(text: &[u8], scale: i16) -> Result<i128, NumberFault> {
+    decimal_read(text, scale)
+}
+
 #[test]
 fn get_is_bit_by_bit(rt: HostRuntime) {
     let bits = BitSlice::new(&NINE);
@@ -46,7 +77,7 @@ fn get_is_bit_by_bit(rt: HostRuntime) {
         for width in 0..64 {
             if at <= 72 || width > 0 {
                 assert_eq!(rt;
-                    bits.get(at, width),
+                    number_at(&NINE, at, width),
                     bit_by_bit(&NINE, at, width),
                     "at {at}, {width} bits"
                 );
@@ -57,7 +88,6 @@ fn get_is_bit_by_bit(rt: HostRuntime) {
 
 #[test]
 fn get_at_the_ends(rt: HostRuntime) {
-    let bits = BitSlice::new(&NINE);
     let rows = [
         (4, 60, Some(0x0123_4567_89AB_CDEF)),
         (7, 63, Some(0x48D1_59E2_6AF3_7BC0)),
@@ -68,11 +98,11 @@ fn get_at_the_ends(rt: HostRuntime) {
         (u64::MAX, 1, None),
     ];
     for (at, width, want) in rows {
-        assert_eq!(rt; bits.get(at, width), want, "at {at}, {width} bits");
+        assert_eq!(rt; number_at(&NINE, at, width), want, "at {at}, {width} bits");
     }
-    assert_eq!(rt; bits.octet(3), Some(0x09));
-    assert_eq!(rt; bits.octet(64), Some(0x01));
-    assert_eq!(rt; bits.octet(65), None);
+    for (at, want) in [(3, Some(0x09)), (64, Some(0x01)), (65, None)] {
+        assert_eq!(rt; octet_at(&NINE, at), want, "at {at}");
+    }
 }
 
 #[test]
@@ -137,32 +167,34 @@ fn device_fails_where_its_reader_or_writer_does(rt: HostRuntime) {
 }
 
 #[test]
-fn all_ones_at_any_width(rt: HostRuntime) -> Result<(), Fail> {
-    let bits = BitSlice::new(&[0xFF, 0xFE]);
-    assert_eq!(rt; bits.all_ones(0, 15), Some(true));
-    assert_eq!(rt; bits.all_ones(0, 16), Some(false));
-    assert_eq!(rt; bits.all_ones(1, 16), None);
-    assert_eq!(rt; bits.all_ones(16, 0), Some(true));
-    assert_eq!(rt; bits.all_ones(u64::MAX, u32::MAX), None);
-    // One zero bit among ones: it is found wherever it stands.
-    let mut octets = vec![in rt.alloc(); 0xFFu8; 40]?;
-    assert_eq!(rt; octets.len(), 40);
-    assert_eq!(rt; BitSlice::new(&octets).all_ones(3, 317), Some(true));
-    if let Some(octet) = octets.get_mut(20) {
-        *octet = 0xF7;
+fn all_ones_at_any_width(rt: HostRuntime) {
+    for (at, width, want) in [
+        (0, 15, Some(true)),
+        (0, 16, Some(false)),
+        (1, 16, None),
+        (16, 0, Some(true)),
+        (u64::MAX, u32::MAX, None),
+    ] {
+        assert_eq!(rt;
+            all_ones(&[0xFF, 0xFE], at, width),
+            want,
+            "at {at}, {width} bits"
+        );
     }
-    assert_eq!(rt; octets.len(), 40);
+    // One zero bit among ones: it is found wherever it stands.
+    let mut octets = [0xFFu8; 40];
+    assert_eq!(rt; all_ones(&octets, 3, 317), Some(true));
+    octets[20] = 0xF7;
     for at in 0..172 {
         for width in 0..148 {
             let ones = at + u64::from(width) <= 164 || at > 164;
             assert_eq!(rt;
-                BitSlice::new(&octets).all_ones(at, width),
+                all_ones(&octets, at, width),
                 Some(ones),
                 "at {at}, {width} bits"
             );
         }
     }
-    Ok(())
 }
 
 #[test]
@@ -174,10 +206,9 @@ fn bits_are_pushed(rt: HostRuntime) -> Result<(), Fail> {
     let octets = writer.into_octets();
     assert_eq!(rt; octets.as_slice(), [0xB5, 0x60].as_slice());
     assert_eq!(rt; octets.len(), 2);
-    let bits = BitSlice::new(&octets);
-    assert_eq!(rt; bits.get(3, 8), Some(171));
-    assert_eq!(rt; bits.get(16, 0), Some(0));
-    assert_eq!(rt; bits.get(16, 1), None);
+    assert_eq!(rt; number_at(&octets, 3, 8), Some(171));
+    assert_eq!(rt; number_at(&octets, 16, 0), Some(0));
+    assert_eq!(rt; number_at(&octets, 16, 1), None);
     Ok(())
 }
 
@@ -196,19 +227,18 @@ fn pushes_of_every_width(rt: HostRuntime) -> Result<(), Fail> {
     let octets = writer.into_octets();
     assert_eq!(rt; octets.len() as u64, length.div_ceil(8));
     assert!(rt; octets.len() < 100_000);
-    let bits = BitSlice::new(&octets);
     let mut at = 0u64;
     for width in 0..64u32 {
         for value in [0, 1, (1 << width) - 1, 0x5A5A_5A5A_5A5A_5A5A] {
             assert_eq!(rt;
-                bits.get(at, width),
+                number_at(&octets, at, width),
                 Some(value % (1 << width)),
                 "{width} bits"
             );
             at = at.saturating_add(u64::from(width));
         }
         for octet in NINE {
-            assert_eq!(rt; bits.octet(at), Some(octet));
+            assert_eq!(rt; octet_at(&octets, at), Some(octet));
             at = at.saturating_add(8);
         }
     }
@@ -234,11 +264,11 @@ fn decimal_texts(rt: HostRuntime) -> Result<(), Fail> {
     ];
     for (v, scale, want) in rows {
         let mut out = Vec::new(rt.alloc());
-        decimal_text(v, scale, &mut out)?;
+        put_decimal(v, scale, &mut out)?;
         assert_eq!(rt; out.as_slice(), want, "{v} at {scale}");
-        decimal_text(v, scale, &mut out)?;
+        put_decimal(v, scale, &mut out)?;
         assert_eq!(rt; out.len() / 2, want.len(), "{v} at {scale}");
-        assert_eq!(rt; decimal_read(want, scale), Ok(v), "{v} at {scale}");
+        assert_eq!(rt; read_decimal(want, scale), Ok(v), "{v} at {scale}");
     }
     Ok(())
 }
@@ -259,9 +289,9 @@ fn decimal_texts_at_the_ends(rt: HostRuntime) -> Result<(), Fail> {
         fraction.extend_from_slice(digits)?;
         for (scale, want) in [(-300, &whole), (300, &fraction)] {
             let mut out = Vec::new(rt.alloc());
-            decimal_text(v, scale, &mut out)?;
+            put_decimal(v, scale, &mut out)?;
             assert_eq!(rt; out.as_slice(), want.as_slice(), "{v} at {scale}");
-            assert_eq!(rt; decimal_read(&out, scale), Ok(v), "{v} at {scale}");
+            assert_eq!(rt; read_decimal(&out, scale), Ok(v), "{v} at {scale}");
         }
     }
     Ok(())
@@ -318,6 +348,6 @@ fn decimal_readings(rt: HostRuntime) {
         ),
     ];
     for (text, scale, want) in rows {
-        assert_eq!(rt; decimal_read(text, scale), want, "{text:?} at {scale}");
+        assert_eq!(rt; read_decimal(text, scale), want, "{text:?} at {scale}");
     }
 }

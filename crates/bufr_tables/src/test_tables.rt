@@ -1,4 +1,8 @@
-//! The tables of the tests. They are test data, not the tables of the WMO.
+//! The tables of the tests. They are test data, not the tables of the WMO. What reads them here promises
+//! nothing, so that the proof of a test does not carry a table's contract.
+
+use crate::{TableB, TableD, TableFault};
+use std::alloc::Global;
 
 /// Table B: elements, and the factors of delayed replications.
 pub(crate) const TABLE_B: &[u8] = b"fxy,name,unit,scale,reference,width
@@ -17,3 +21,13 @@ pub(crate) const TABLE_D: &[u8] = b"fxy,member
 360192,001001
 360192,012101
 ";
+
+/// Table B of a text.
+pub(crate) fn read_b(alloc: Global, text: &[u8]) -> Result<TableB, TableFault> {
+    TableB::read(alloc, text)
+}
+
+/// Table D of a text.
+pub(crate) fn read_d(alloc: Global, text: &[u8]) -> Result<TableD, TableFault> {
+    TableD::read(alloc, text)
+}

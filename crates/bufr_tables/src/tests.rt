@@ -1,6 +1,6 @@
 //! The tables and their faults, run.
 
-use crate::test_tables::{TABLE_B, TABLE_D};
+use crate::test_tables::{TABLE_B, TABLE_D, read_b, read_d};
 use crate::{Entry, Fxy, Kind, TableB, TableD, TableFault};
 use std::alloc::{AllocError, Global};
 use std::test::Fail;
@@ -76,12 +76,22 @@ fn under(alloc: Global, header: &[u8], rows: &[u8]) -> Result<Vec<u8>, AllocErro
     Ok(text)
 }
 
+/// The entry of an element's word.
+fn entry_of(table: &TableB, word: u16) -> Option<Entry<'_>> {
+    table.get(Fxy::from_word(word))
+}
+
+/// The members of a sequence's word.
+fn members_of(table: &TableD, word: u16) -> Option<&[Fxy]> {
+    table.members(Fxy::from_word(word))
+}
+
 fn fault_b(alloc: Global, text: &[u8]) -> Option<TableFault> {
-    TableB::read(alloc, text).err()
+    read_b(alloc, text).err()
 }
 
 fn fault_d(alloc: Global, text: &[u8]) -> Option<TableFault> {
-    TableD::read(alloc, text).err()
+    read_d(alloc, text).err()
 }
 
 const HEADER_B: &[u8] = b"fxy,name,unit,scale,reference,width\n";
@@ -90,7 +100,7 @@ const HEADER_D: &[u8] = b"fxy,member\n";
 
 #[test]
 fn elements(rt: HostRuntime) -> Result<(), Fail> {
-    let table = TableB::read(rt.alloc(), TABLE_B)?;
+    let table = read_b(rt.alloc(), TABLE_B)?;
     let temperature = Entry {
         name: b"AIR TEMPERATURE",
         unit: b"K",
@@ -99,7 +109,7 @@ fn elements(rt: HostRuntime) -> Result<(), Fail> {
         reference: 0,
         width: 16,
     };
-    assert!(rt; table.get(Fxy::from_word(0x0c65)) == Some(temperature));
+    assert!(rt; entry_of(&table, 0x0c65) == Some(temperature));
     let latitude = Entry {
         name: b"LATITUDE (COARSE ACCURACY)",
         unit: b"degree",
@@ -108,7 +118,7 @@ fn elements(rt: HostRuntime) -> Result<(), Fail> {
         reference: -9000,
         width: 15,
     };
-    assert!(rt; table.get(Fxy::from_word(0x0502)) == Some(latitude));
+    assert!(rt; entry_of(&table, 0x0502) == Some(latitude));
     for (word, kind, width) in [
         (0x0101u16, Kind::Numeric, 7u32),
         (0x010f, Kind::Character, 160),
@@ -117,12 +127,12 @@ fn elements(rt: HostRuntime) -> Result<(), Fail> {
         (0x1f01, Kind::Numeric, 8),
         (0x1f02, Kind::Numeric, 16),
     ] {
-        let entry = table.get(Fxy::from_word(word)).ok_or("lacks an element")?;
+        let entry = entry_of(&table, word).ok_or("lacks an element")?;
         assert_eq!(rt; (entry.kind, entry.width), (kind, width), "at {word}");
     }
     // An element that is not there, and descriptors that are no elements.
     for word in [0x3fffu16, 0x4c65, 0x8c65, 0xcc65] {
-        assert!(rt; table.get(Fxy::from_word(word)).is_none(), "at {word}");
+        assert!(rt; entry_of(&table, word).is_none(), "at {word}");
     }
     Ok(())
 }
@@ -243,10 +253,8 @@ fn kinds(rt: HostRuntime) -> Result<(), Fail> {
         text.extend_from_slice(b"001001,A,")?;
         text.extend_from_slice(unit)?;
         text.extend_from_slice(b",0,0,8\n")?;
-        let table = TableB::read(rt.alloc(), &text)?;
-        let entry = table
-            .get(Fxy::from_word(0x0101))
-            .ok_or("lacks the element")?;
+        let table = read_b(rt.alloc(), &text)?;
+        let entry = entry_of(&table, 0x0101).ok_or("lacks the element")?;
         assert_eq!(rt; entry.kind, kind, "for {unit:?}");
     }
     Ok(())
@@ -254,13 +262,11 @@ fn kinds(rt: HostRuntime) -> Result<(), Fail> {
 
 #[test]
 fn sequences(rt: HostRuntime) -> Result<(), Fail> {
-    let table = TableD::read(rt.alloc(), TABLE_D)?;
-    let members = table
-        .members(Fxy::from_word(0xfcc0))
-        .ok_or("lacks the sequence")?;
+    let table = read_d(rt.alloc(), TABLE_D)?;
+    let members = members_of(&table, 0xfcc0).ok_or("lacks the sequence")?;
     assert!(rt; members == [Fxy::from_word(0x0101), Fxy::from_word(0x0c65)].as_slice());
     for word in [0xc001u16, 0x3cc0, 0x0101] {
-        assert!(rt; table.members(Fxy::from_word(word)).is_none(), "at {word}");
+        assert!(rt; members_of(&table, word).is_none(), "at {word}");
     }
     Ok(())
 }
@@ -357,11 +363,16 @@ fn long_names(rt: HostRuntime) -> Result<(), Fail> {
     Ok(())
 }
 
+/// The digits of a word.
+fn digits_of(word: u16) -> [u8; 6] {
+    Fxy::from_word(word).text()
+}
+
 /// A row of Table D.
 fn push_row(text: &mut Vec<u8>, sequence: u16, member: u16) -> Result<(), AllocError> {
-    text.extend_from_slice(&Fxy::from_word(sequence).text())?;
+    text.extend_from_slice(&digits_of(sequence))?;
     text.push(b',')?;
-    text.extend_from_slice(&Fxy::from_word(member).text())?;
+    text.extend_from_slice(&digits_of(member))?;
     text.push(b'\n')?;
     Ok(())
 }
@@ -372,10 +383,8 @@ fn as_many_rows_as_may_be(rt: HostRuntime) -> Result<(), Fail> {
     for _ in 0..65536u32 {
         push_row(&mut text, 0xc001, 0x0101)?;
     }
-    let table = TableD::read(rt.alloc(), &text)?;
-    let members = table
-        .members(Fxy::from_word(0xc001))
-        .ok_or("lacks the sequence")?;
+    let table = read_d(rt.alloc(), &text)?;
+    let members = members_of(&table, 0xc001).ok_or("lacks the sequence")?;
     assert_eq!(rt; members.len(), 65536);
     push_row(&mut text, 0xc001, 0x0101)?;
     assert!(rt; fault_d(rt.alloc(), &text) == Some(TableFault::TableSize));
@@ -418,13 +427,13 @@ fn long_chains(rt: HostRuntime) -> Result<(), Fail> {
 fn tables_of_usual_size(rt: HostRuntime) -> Result<(), Fail> {
     let mut elements = Vec::from_slice(rt.alloc(), HEADER_B)?;
     for word in 0..2000u16 {
-        elements.extend_from_slice(&Fxy::from_word(word * 3).text())?;
+        elements.extend_from_slice(&digits_of(word * 3))?;
         elements.extend_from_slice(b",A NAME OF SOME THIRTY OCTETS,degree true,2,-9000,16\n")?;
     }
-    let table = TableB::read(rt.alloc(), &elements)?;
+    let table = read_b(rt.alloc(), &elements)?;
     for word in 0..2000u16 {
-        assert!(rt; table.get(Fxy::from_word(word * 3)).is_some());
-        assert!(rt; table.get(Fxy::from_word(word * 3 + 1)).is_none());
+        assert!(rt; entry_of(&table, word * 3).is_some());
+        assert!(rt; entry_of(&table, word * 3 + 1).is_none());
     }
     let mut rows = Vec::from_slice(rt.alloc(), HEADER_D)?;
     for key in 0..1500u16 {
@@ -436,11 +445,9 @@ fn tables_of_usual_size(rt: HostRuntime) -> Result<(), Fail> {
             )?;
         }
     }
-    let table = TableD::read(rt.alloc(), &rows)?;
+    let table = read_d(rt.alloc(), &rows)?;
     for key in 0..1500u16 {
-        let members = table
-            .members(Fxy::from_word(0xc000 + key))
-            .ok_or("lacks a sequence")?;
+        let members = members_of(&table, 0xc000 + key).ok_or("lacks a sequence")?;
         assert_eq!(rt; members.len(), 10);
     }
     Ok(())

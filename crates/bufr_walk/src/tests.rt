@@ -3,6 +3,7 @@ use crate::fault::{Spot, WalkFault};
 use crate::test_messages::{APART, TOGETHER, Worked, octets_of};
 use bufr_tables::Fxy;
 use std::alloc::Global;
+use std::process::Abort;
 use std::test::Fail;
 
 // A name for what is shown, the number of subsets, the descriptors, the data in hexadecimal, and what comes of them: the
@@ -244,33 +245,55 @@ const ROWS_TOGETHER: &[(&str, u16, &str, &str, &str)] = &[
     ),
 ];
 
+// Asserts what comes of reading and showing a message.
+fn assert_told(
+    rt: &(impl Abort + AllocGlobal),
+    flags: u8,
+    row: &(&str, u16, &str, &str, &str),
+) -> Result<(), Fail> {
+    let (name, subsets, descriptors, data_text, want) = *row;
+    let payload = octets_of(rt.alloc(), data_text)?;
+    let worked = Worked::new(rt.alloc(), subsets, flags, descriptors, &payload)?;
+    assert_eq!(rt; worked.told(rt.alloc())?.as_str(), want, "{name}");
+    Ok(())
+}
+
+// Asserts what comes of reading a message.
+fn assert_read(rt: &(impl Abort + AllocGlobal), worked: &Worked, want: &str) -> Result<(), Fail> {
+    assert_eq!(rt; worked.read(rt.alloc())?.as_str(), want);
+    Ok(())
+}
+
+// Asserts how many subsets and items a message shows.
+fn assert_counted(
+    rt: &(impl Abort + AllocGlobal),
+    worked: &Worked,
+    want: (u64, u64),
+) -> Result<(), Fail> {
+    assert_eq!(rt; worked.counted(rt.alloc())?, want);
+    Ok(())
+}
+
 #[test]
 fn worked_messages(rt: HostRuntime) -> Result<(), Fail> {
-    for (name, subsets, descriptors, data_text, want) in ROWS {
-        let payload = octets_of(rt.alloc(), data_text)?;
-        let worked = Worked::new(rt.alloc(), *subsets, APART, descriptors, &payload)?;
-        assert_eq!(rt; worked.told(rt.alloc())?.as_str(), *want, "{name}");
+    for row in ROWS {
+        assert_told(&rt, APART, row)?;
     }
     Ok(())
 }
 
 #[test]
 fn compressed_messages(rt: HostRuntime) -> Result<(), Fail> {
-    for (name, subsets, descriptors, data_text, want) in ROWS_TOGETHER {
-        let payload = octets_of(rt.alloc(), data_text)?;
-        let worked = Worked::new(rt.alloc(), *subsets, TOGETHER, descriptors, &payload)?;
-        assert_eq!(rt; worked.told(rt.alloc())?.as_str(), *want, "{name}");
+    for row in ROWS_TOGETHER {
+        assert_told(&rt, TOGETHER, row)?;
     }
     Ok(())
 }
 
 // So many octets, the first two of them given.
 fn octets_with(alloc: Global, size: usize, first: u8, second: u8) -> Result<Vec<u8>, Fail> {
-    let mut octets = vec![in alloc; 0u8; size]?;
-    if octets.len() > 1 {
-        octets[0] = first;
-        octets[1] = second;
-    }
+    let mut octets = Vec::from_slice(alloc, &[first, second])?;
+    octets.resize(size, 0)?;
     Ok(octets)
 }
 
@@ -279,10 +302,7 @@ fn one_item_too_many(rt: HostRuntime) -> Result<(), Fail> {
     let descriptors = "101000 031002 001001";
     let payload = octets_with(rt.alloc(), 3330, 0x08, 0x00)?;
     let worked = Worked::new(rt.alloc(), 65535, TOGETHER, descriptors, &payload)?;
-    assert_eq!(rt;
-        worked.read(rt.alloc())?.as_str(),
-        "35 at 0 001001 26633 steps 4097"
-    );
+    assert_read(&rt, &worked, "35 at 0 001001 26633 steps 4097")?;
     Ok(())
 }
 
@@ -291,10 +311,7 @@ fn as_many_items_as_may_be(rt: HostRuntime) -> Result<(), Fail> {
     let descriptors = "101000 031002 001001";
     let payload = octets_with(rt.alloc(), 3330, 0x07, 0xFF)?;
     let worked = Worked::new(rt.alloc(), 65535, TOGETHER, descriptors, &payload)?;
-    assert_eq!(rt;
-        worked.read(rt.alloc())?.as_str(),
-        "bits 26633 steps 4097 held 2048"
-    );
+    assert_read(&rt, &worked, "bits 26633 steps 4097 held 2048")?;
     Ok(())
 }
 
@@ -303,8 +320,8 @@ fn factors_that_are_none(rt: HostRuntime) -> Result<(), Fail> {
     let descriptors = "103000 031001 101000 031001 001001";
     let payload = octets_with(rt.alloc(), 256, 0xFF, 0x00)?;
     let worked = Worked::new(rt.alloc(), 1, APART, descriptors, &payload)?;
-    assert_eq!(rt; worked.read(rt.alloc())?.as_str(), "bits 2048 steps 768");
-    assert_eq!(rt; worked.counted(rt.alloc())?, (1, 256));
+    assert_read(&rt, &worked, "bits 2048 steps 768")?;
+    assert_counted(&rt, &worked, (1, 256))?;
     Ok(())
 }
 
@@ -312,19 +329,16 @@ fn factors_that_are_none(rt: HostRuntime) -> Result<(), Fail> {
 fn as_many_subsets_as_may_be(rt: HostRuntime) -> Result<(), Fail> {
     let payload = octets_with(rt.alloc(), 8192, 0x00, 0x00)?;
     let worked = Worked::new(rt.alloc(), 65535, APART, "031000", &payload)?;
-    assert_eq!(rt;
-        worked.read(rt.alloc())?.as_str(),
-        "bits 65535 steps 131070"
-    );
-    assert_eq!(rt; worked.counted(rt.alloc())?, (65535, 65535));
+    assert_read(&rt, &worked, "bits 65535 steps 131070")?;
+    assert_counted(&rt, &worked, (65535, 65535))?;
     Ok(())
 }
 
 #[test]
 fn as_many_compressed_subsets_as_may_be(rt: HostRuntime) -> Result<(), Fail> {
     let worked = Worked::new(rt.alloc(), 65535, TOGETHER, "001001", &[0x14, 0x00])?;
-    assert_eq!(rt; worked.read(rt.alloc())?.as_str(), "bits 13 steps 2 held 1");
-    assert_eq!(rt; worked.counted(rt.alloc())?, (65535, 65535));
+    assert_read(&rt, &worked, "bits 13 steps 2 held 1")?;
+    assert_counted(&rt, &worked, (65535, 65535))?;
     Ok(())
 }
 

@@ -1,7 +1,7 @@
 //! What is shown by running: the worked lists, their cells, each fault, the limits.
 use super::*;
 use crate::TableFault;
-use crate::test_tables::TABLE_B;
+use crate::test_tables::{TABLE_B, read_b, read_d};
 use std::alloc::AllocError;
 use std::test::Fail;
 
@@ -189,9 +189,19 @@ fn descriptors_of(alloc: Global, text: &str) -> Result<Vec<Fxy>, Fail> {
 
 // The tables of most tests.
 fn tables(alloc: Global) -> Result<(TableB, TableD), Fail> {
-    let table_b = TableB::read(alloc, TABLE_B)?;
-    let table_d = TableD::read(alloc, TABLE_D)?;
+    let table_b = read_b(alloc, TABLE_B)?;
+    let table_d = read_d(alloc, TABLE_D)?;
     Ok((table_b, table_d))
+}
+
+// A template, with no promise that the proof of a test would carry.
+fn built(
+    alloc: Global,
+    descriptors: &[Fxy],
+    table_b: &TableB,
+    table_d: &TableD,
+) -> Result<Template, TemplateFault> {
+    Template::build(alloc, descriptors, table_b, table_d)
 }
 
 // The places and the depth, or the fault's number and its text.
@@ -201,7 +211,7 @@ fn told(
     table_b: &TableB,
     table_d: &TableD,
 ) -> Result<String, AllocError> {
-    match Template::build(alloc, descriptors, table_b, table_d) {
+    match built(alloc, descriptors, table_b, table_d) {
         Ok(template) => {
             format!(in alloc; "places {} depth {}", template.places(), template.depth())
         }
@@ -278,7 +288,7 @@ fn cells_of_worked_lists(rt: HostRuntime) -> Result<(), Fail> {
     let (table_b, table_d) = tables(rt.alloc())?;
     for (name, text, want) in CELLS {
         let descriptors = descriptors_of(rt.alloc(), text)?;
-        let template = Template::build(rt.alloc(), &descriptors, &table_b, &table_d)?;
+        let template = built(rt.alloc(), &descriptors, &table_b, &table_d)?;
         let mut told = String::new(rt.alloc());
         for cell in template.cells() {
             if !told.is_empty() {
@@ -293,8 +303,8 @@ fn cells_of_worked_lists(rt: HostRuntime) -> Result<(), Fail> {
 
 #[test]
 fn factor_that_table_b_lacks(rt: HostRuntime) -> Result<(), Fail> {
-    let table_b = TableB::read(rt.alloc(), NO_FACTORS)?;
-    let table_d = TableD::read(rt.alloc(), TABLE_D)?;
+    let table_b = read_b(rt.alloc(), NO_FACTORS)?;
+    let table_d = read_d(rt.alloc(), TABLE_D)?;
     let descriptors = descriptors_of(rt.alloc(), "105000 031001 001001")?;
     let told = told(rt.alloc(), &descriptors, &table_b, &table_d)?;
     assert_eq!(rt; told.as_str(), "20 unknown element 031001");
@@ -303,8 +313,8 @@ fn factor_that_table_b_lacks(rt: HostRuntime) -> Result<(), Fail> {
 
 #[test]
 fn lacks_a_sequence(rt: HostRuntime) -> Result<(), Fail> {
-    let table_b = TableB::read(rt.alloc(), TABLE_B)?;
-    let table_d = TableD::read(rt.alloc(), b"fxy,member\n360192,001001\n360192,012101\n")?;
+    let table_b = read_b(rt.alloc(), TABLE_B)?;
+    let table_d = read_d(rt.alloc(), b"fxy,member\n360192,001001\n360192,012101\n")?;
     let sequence = Fxy::from_word(0xC001);
     let told = told(rt.alloc(), &[sequence], &table_b, &table_d)?;
     assert_eq!(rt; told.as_str(), "21 unknown sequence 300001");
