@@ -19,17 +19,13 @@ ls_app = with_rule (new_app (codes "ls")) (new_rule (codes "FILE"))
 abbrev pub table_rule : (id : Text) → (letter : ℕ) → Rule
 table_rule id letter = record (new_rule id) { short = Some letter; value_names = 1; required = true }
 
--- `dump -B FILE -D FILE [FILE]`
-abbrev pub dump_app : App
-dump_app = with_rule (with_rule (with_rule (new_app (codes "dump")) (table_rule (codes "B") 66)) (table_rule (codes "D") 68)) (new_rule (codes "FILE"))
-
--- `encode -B FILE -D FILE [FILE]`
-abbrev pub encode_app : App
-encode_app = with_rule (with_rule (with_rule (new_app (codes "encode")) (table_rule (codes "B") 66)) (table_rule (codes "D") 68)) (new_rule (codes "FILE"))
+-- `NAME -B FILE -D FILE [FILE]`
+abbrev pub tables_app : (name : Text) → App
+tables_app name = with_rule (with_rule (with_rule (new_app name) (table_rule (codes "B") 66)) (table_rule (codes "D") 68)) (new_rule (codes "FILE"))
 
 -- `bufr COMMAND`
 abbrev pub bufr_app : App
-bufr_app = with_subcommand (with_subcommand (with_subcommand (record (new_app (codes "bufr")) { top = record ((new_app (codes "bufr")).top) { has_version = true; subcommand_required = true } }) ls_app.top) dump_app.top) encode_app.top
+bufr_app = with_subcommand (with_subcommand (with_subcommand (record (new_app (codes "bufr")) { top = record ((new_app (codes "bufr")).top) { has_version = true; subcommand_required = true } }) ls_app.top) (tables_app (codes "dump")).top) (tables_app (codes "encode")).top
 
 -- the name of a subcommand
 abbrev pub name_of : Subcommand → Text

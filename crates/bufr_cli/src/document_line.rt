@@ -6,7 +6,7 @@ ghost use Rattle.bufr_tables.specs.FaultNumber.{number_of_template_fault};
 ghost use Rattle.bufr_text.specs.Documents.{LineFault, Refused};
 ghost use Rattle.bufr_text.specs.Reader.{told_by};
 ghost use Rattle.bufr_text.specs.Encoding.{by_template};
-ghost use Rattle.bufr_text.specs.EncodingFault.{told_refusal, walk_told};
+ghost use Rattle.bufr_text.specs.EncodingFault.{number_of_document_fault, told_refusal, walk_told};
 ghost use Rattle.bufr_text.specs.Writing.{Writes, CountsWrites};
 ghost use Rattle.bufr_cli.specs.DocumentLine.{document_line, item_line, refusal_line, refused_line, walk_text};
 
@@ -60,40 +60,53 @@ fn write_descriptor_line<E: Sink>(
 
 /// Writes the line of a document in whose `line` another item, or none, stands where this is
 /// expected.
-fn write_expected<E: Sink>(line: u64, expected: Expected, e: &mut E) -> Result<(), RunFault>
+fn write_expected<E: Sink>(
+    line: u64,
+    number: u8,
+    expected: Expected,
+    e: &mut E,
+) -> Result<(), RunFault>
+    requires { number ≡ number_of_document_fault (DocumentFault.WrongDescriptor line expected) }
     ensures writes { Writes (E.taken e.old) (E.taken e.new) (item_line line (other_than expected)) result }
     ensures counts { CountsWrites (E.failures e.old) (E.failures e.new) (E.empty_writes e.old) (E.empty_writes e.new) result }
     ensures flushes { E.flushes e.new ≡ E.flushes e.old }
 {
     match expected {
-        Expected::Item(fxy) => write_descriptor_line(line, 51, b"expected ", fxy, e),
-        Expected::Reference(fxy) => write_descriptor_line(line, 51, b"expected R ", fxy, e),
-        Expected::EndOfSubset => write_line(line, 51, b"expected end of subset", b"", e),
+        Expected::Item(fxy) => write_descriptor_line(line, number, b"expected ", fxy, e),
+        Expected::Reference(fxy) => write_descriptor_line(line, number, b"expected R ", fxy, e),
+        Expected::EndOfSubset => write_line(line, number, b"expected end of subset", b"", e),
     }
 }
 
 /// Writes the line of a document whose descriptors make no template.
-fn write_template<E: Sink>(line: u64, fault: &TemplateFault, e: &mut E) -> Result<(), RunFault>
-    requires { fault.now ≢ TemplateFault.Memory }
+fn write_template<E: Sink>(
+    line: u64,
+    number: u8,
+    fault: &TemplateFault,
+    e: &mut E,
+) -> Result<(), RunFault>
+    requires some { fault.now ≢ TemplateFault.Memory }
+    requires numbered { number ≡ number_of_document_fault (DocumentFault.Template line fault.now) }
     ensures writes { Writes (E.taken e.old) (E.taken e.new) (refusal_line line (by_template fault.now)) result }
     ensures counts { CountsWrites (E.failures e.old) (E.failures e.new) (E.empty_writes e.old) (E.empty_writes e.new) result }
     ensures flushes { E.flushes e.new ≡ E.flushes e.old }
 {
     let (name, fxy) = name_of_template_fault(fault);
-    let number = fault.number();
+    let why = fault.number();
     let digits = fxy.text();
-    write_template_parts(line, number, name, &digits, e)
+    write_template_parts(line, number, why, name, &digits, e)
 }
 
-/// Writes the line of a template fault of this number, name and descriptor.
+/// Writes the line of a template fault, by the fault's own number, `why`, its name and its descriptor.
 fn write_template_parts<'a, E: Sink>(
     line: u64,
     number: u8,
+    why: u8,
     name: &'a [u8],
     digits: &'a [u8],
     e: &mut E,
 ) -> Result<(), RunFault>
-    ensures writes { Writes (E.taken e.old) (E.taken e.new) (document_line line 56 (codes "template " ∷ decimal number ∷ codes " " ∷ name.entry.now ∷ digits.entry.now ∷ [])) result }
+    ensures writes { Writes (E.taken e.old) (E.taken e.new) (document_line line number (codes "template " ∷ decimal why ∷ codes " " ∷ name.entry.now ∷ digits.entry.now ∷ [])) result }
     ensures counts { CountsWrites (E.failures e.old) (E.failures e.new) (E.empty_writes e.old) (E.empty_writes e.new) result }
     ensures flushes { E.flushes e.new ≡ E.flushes e.old }
 {
@@ -101,10 +114,10 @@ fn write_template_parts<'a, E: Sink>(
         Part::Text(b"line "),
         Part::Decimal(line),
         Part::Text(b": "),
-        Part::Decimal(56),
+        Part::Decimal(u64::from(number)),
         Part::Text(b" "),
         Part::Text(b"template "),
-        Part::Decimal(u64::from(number)),
+        Part::Decimal(u64::from(why)),
         Part::Text(b" "),
         Part::Text(name),
         Part::Text(digits),
@@ -113,9 +126,15 @@ fn write_template_parts<'a, E: Sink>(
     write_parts(&parts, e)
 }
 
-/// Writes the line of a document whose walk is refused.
-fn write_walk_number<E: Sink>(line: u64, number: u8, fxy: Fxy, e: &mut E) -> Result<(), RunFault>
-    ensures writes { Writes (E.taken e.old) (E.taken e.new) (document_line line 62 (walk_text number fxy)) result }
+/// Writes the line of a document whose walk is refused, by the walk's own number, `why`, and a descriptor.
+fn write_walk_parts<E: Sink>(
+    line: u64,
+    number: u8,
+    why: u8,
+    fxy: Fxy,
+    e: &mut E,
+) -> Result<(), RunFault>
+    ensures writes { Writes (E.taken e.old) (E.taken e.new) (document_line line number (walk_text why fxy)) result }
     ensures counts { CountsWrites (E.failures e.old) (E.failures e.new) (E.empty_writes e.old) (E.empty_writes e.new) result }
     ensures flushes { E.flushes e.new ≡ E.flushes e.old }
 {
@@ -124,10 +143,10 @@ fn write_walk_number<E: Sink>(line: u64, number: u8, fxy: Fxy, e: &mut E) -> Res
         Part::Text(b"line "),
         Part::Decimal(line),
         Part::Text(b": "),
-        Part::Decimal(62),
+        Part::Decimal(u64::from(number)),
         Part::Text(b" "),
         Part::Text(b"walk "),
-        Part::Decimal(u64::from(number)),
+        Part::Decimal(u64::from(why)),
         Part::Text(b" descriptor "),
         Part::Text(&digits),
         Part::Text(b"\n"),
@@ -136,15 +155,22 @@ fn write_walk_number<E: Sink>(line: u64, number: u8, fxy: Fxy, e: &mut E) -> Res
 }
 
 /// Writes the line of a document whose walk over the template is refused.
-fn write_walk<E: Sink>(line: u64, refusal: WalkRefusal, e: &mut E) -> Result<(), RunFault>
+fn write_walk<E: Sink>(
+    line: u64,
+    number: u8,
+    refusal: WalkRefusal,
+    e: &mut E,
+) -> Result<(), RunFault>
+    requires { number ≡ number_of_document_fault (DocumentFault.Walk line refusal) }
     ensures writes { Writes (E.taken e.old) (E.taken e.new) (item_line line (walk_told refusal)) result }
     ensures counts { CountsWrites (E.failures e.old) (E.failures e.new) (E.empty_writes e.old) (E.empty_writes e.new) result }
     ensures flushes { E.flushes e.new ≡ E.flushes e.old }
 {
-    match refusal {
-        WalkRefusal::Width(fxy) => write_walk_number(line, 31, fxy, e),
-        WalkRefusal::Defining(fxy) => write_walk_number(line, 32, fxy, e),
-        WalkRefusal::TooManyValues(fxy) => write_walk_number(line, 35, fxy, e),
+    let why = refusal.number();
+    match &refusal {
+        WalkRefusal::Width(fxy) => write_walk_parts(line, number, why, *fxy, e),
+        WalkRefusal::Defining(fxy) => write_walk_parts(line, number, why, *fxy, e),
+        WalkRefusal::TooManyValues(fxy) => write_walk_parts(line, number, why, *fxy, e),
     }
 }
 
@@ -161,19 +187,22 @@ pub fn write_document_fault<E: Sink>(fault: DocumentFault, e: &mut E) -> Result<
     ensures counts { CountsWrites (E.failures e.old) (E.failures e.new) (E.empty_writes e.old) (E.empty_writes e.new) result }
     ensures flushes { E.flushes e.new ≡ E.flushes e.old }
 {
-    match fault {
-        DocumentFault::WrongDescriptor(line, expected) => write_expected(line, expected, e),
-        DocumentFault::Number(line) => write_line(line, 52, b"number", b"", e),
-        DocumentFault::OutOfRange(line) => write_line(line, 53, b"out of range", b"", e),
-        DocumentFault::TextLong(line) => write_line(line, 54, b"text long", b"", e),
+    let number = fault.number();
+    match &fault {
+        DocumentFault::WrongDescriptor(line, expected) => write_expected(
+            *line, number, *expected, e,
+        ),
+        DocumentFault::Number(line) => write_line(*line, number, b"number", b"", e),
+        DocumentFault::OutOfRange(line) => write_line(*line, number, b"out of range", b"", e),
+        DocumentFault::TextLong(line) => write_line(*line, number, b"text long", b"", e),
         DocumentFault::MissingForbidden(line) => {
-            write_line(line, 55, b"missing forbidden", b"", e)
+            write_line(*line, number, b"missing forbidden", b"", e)
         }
-        DocumentFault::Template(line, why) => write_template(line, &why, e),
-        DocumentFault::UnequalFactor(line) => write_line(line, 58, b"unequal factor", b"", e),
-        DocumentFault::Increment(line) => write_line(line, 59, b"increment", b"", e),
-        DocumentFault::TooLong(line) => write_line(line, 60, b"too long", b"", e),
-        DocumentFault::Walk(line, why) => write_walk(line, why, e),
+        DocumentFault::Template(line, why) => write_template(*line, number, why, e),
+        DocumentFault::UnequalFactor(line) => write_line(*line, number, b"unequal factor", b"", e),
+        DocumentFault::Increment(line) => write_line(*line, number, b"increment", b"", e),
+        DocumentFault::TooLong(line) => write_line(*line, number, b"too long", b"", e),
+        DocumentFault::Walk(line, why) => write_walk(*line, number, *why, e),
         DocumentFault::Memory => unreachable!(),
     }
 }
@@ -191,10 +220,11 @@ pub fn write_read_fault<E: Sink>(fault: ReadFault, e: &mut E) -> Result<(), RunF
     ensures counts { CountsWrites (E.failures e.old) (E.failures e.new) (E.empty_writes e.old) (E.empty_writes e.new) result }
     ensures flushes { E.flushes e.new ≡ E.flushes e.old }
 {
+    let number = fault.number();
     match fault {
-        ReadFault::Line(line) => write_line(line, 50, b"line", b"", e),
-        ReadFault::SubsetCount(line) => write_line(line, 57, b"subset count", b"", e),
-        ReadFault::HeaderRange(line) => write_line(line, 61, b"header range", b"", e),
+        ReadFault::Line(line) => write_line(line, number, b"line", b"", e),
+        ReadFault::SubsetCount(line) => write_line(line, number, b"subset count", b"", e),
+        ReadFault::HeaderRange(line) => write_line(line, number, b"header range", b"", e),
         ReadFault::Run(_) => unreachable!(),
     }
 }

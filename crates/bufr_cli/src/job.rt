@@ -1,9 +1,9 @@
 //! The command line.
-ghost use Rattle.std.specs.Prelude.{◌≡◌, IfErr, IfNone, IfOk, IfSome, map, false, Some};
+ghost use Rattle.std.specs.Prelude.{◌≡◌, IfErr, IfNone, IfOk, IfSome, codes, map, false, Some};
 ghost use Rattle.clap.specs.declared.builder.command.Command.TheViews.{out-Command};
 ghost use Rattle.clap.specs.Values.{kind_of};
 ghost use Rattle.clap.specs.Words.{app_of, fault_of, found_of, rows_of, rule_of, subcommand_of};
-ghost use Rattle.bufr_cli.specs.Line.{bufr_app, dump_app, encode_app, ls_app, name_of, table_rule, AreNamed, HasNoJob, HasTables, IsJobOf, LacksTables, SaysWhy, TellsKind};
+ghost use Rattle.bufr_cli.specs.Line.{bufr_app, ls_app, name_of, table_rule, tables_app, AreNamed, HasNoJob, HasTables, IsJobOf, LacksTables, SaysWhy, TellsKind};
 
 use clap::error::ErrorKind;
 use clap::{Arg, ArgMatches, Error};
@@ -168,36 +168,46 @@ fn table_option<'a>(alloc: Global, id: &'a str, letter: char, help: &'a str) -> 
         .help(help)
 }
 
-/// `bufr dump -B FILE -D FILE [FILE]`.
-fn dump_command<'a>(alloc: Global) -> Result<clap::Command<'a>, AllocError>
-    ensures app { IfOk result (λ c. app_of c ≡ dump_app) }
+/// A command of this name that reads tables: `-B FILE -D FILE [FILE]`.
+fn command_with_tables<'a>(
+    alloc: Global,
+    name: &'a str,
+    about: &'a str,
+    notes: &'a str,
+    file: &'a str,
+) -> Result<clap::Command<'a>, AllocError>
+    ensures app { IfOk result (λ c. app_of c ≡ tables_app name.entry.now) }
     ensures local { IfOk result (λ c. (out-Command c).has_globals ≡ false) }
 {
     let table_b = table_option(alloc, "B", 'B', "Table B, the elements, as CSV");
     let table_d = table_option(alloc, "D", 'D', "Table D, the sequences, as CSV");
-    let file = Arg::new(alloc, "FILE").help("The file to dump; standard input without it");
-    clap::Command::new(alloc, "dump")
-        .about("Writes each BUFR message as text")
-        .after_help(DUMP_NOTES)
+    let file = Arg::new(alloc, "FILE").help(file);
+    clap::Command::new(alloc, name)
+        .about(about)
+        .after_help(notes)
         .arg(table_b)?
         .arg(table_d)?
         .arg(file)
 }
 
-/// `bufr encode -B FILE -D FILE [FILE]`.
-fn encode_command<'a>(alloc: Global) -> Result<clap::Command<'a>, AllocError>
-    ensures app { IfOk result (λ c. app_of c ≡ encode_app) }
+/// `bufr dump -B FILE -D FILE [FILE]`.
+fn dump_command<'a>(alloc: Global) -> Result<clap::Command<'a>, AllocError>
+    ensures app { IfOk result (λ c. app_of c ≡ tables_app (codes "dump")) }
     ensures local { IfOk result (λ c. (out-Command c).has_globals ≡ false) }
 {
-    let table_b = table_option(alloc, "B", 'B', "Table B, the elements, as CSV");
-    let table_d = table_option(alloc, "D", 'D', "Table D, the sequences, as CSV");
-    let file = Arg::new(alloc, "FILE").help("The text to encode; standard input without it");
-    clap::Command::new(alloc, "encode")
-        .about("Writes the BUFR message of each document")
-        .after_help(ENCODE_NOTES)
-        .arg(table_b)?
-        .arg(table_d)?
-        .arg(file)
+    let about = "Writes each BUFR message as text";
+    let file = "The file to dump; standard input without it";
+    command_with_tables(alloc, "dump", about, DUMP_NOTES, file)
+}
+
+/// `bufr encode -B FILE -D FILE [FILE]`.
+fn encode_command<'a>(alloc: Global) -> Result<clap::Command<'a>, AllocError>
+    ensures app { IfOk result (λ c. app_of c ≡ tables_app (codes "encode")) }
+    ensures local { IfOk result (λ c. (out-Command c).has_globals ≡ false) }
+{
+    let about = "Writes the BUFR message of each document";
+    let file = "The text to encode; standard input without it";
+    command_with_tables(alloc, "encode", about, ENCODE_NOTES, file)
 }
 
 /// The command line of `bufr`.

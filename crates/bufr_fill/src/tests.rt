@@ -103,7 +103,7 @@ const APART: &[(&str, &str, &str, &str)] = &[
 // The descriptor of six digits; what is none is 000000.
 fn descriptor_of(digits: &str) -> Fxy {
     let number = digits.parse::<u32>().unwrap_or(0);
-    let word = number / 100_000 * 16384 + number / 1000 % 100 * 256 + number % 1000;
+    let word = number / 100_000 << 14 | number / 1000 % 100 << 8 | number % 1000;
     Fxy::from_word(u16::try_from(word).unwrap_or(0))
 }
 

@@ -440,22 +440,22 @@ fn words_of(alloc: Global, text: &str) -> Result<Vec<u16>, Fail> {
     let mut words = Vec::new(alloc);
     for digits in text.split_whitespace() {
         let number = digits.parse::<u32>()?;
-        let word = number / 100_000 * 16384 + number / 1000 % 100 * 256 + number % 1000;
+        let word = number / 100_000 << 14 | number / 1000 % 100 << 8 | number % 1000;
         words.push(u16::try_from(word)?)?;
     }
     Ok(words)
 }
 
 // The octets of a text of hexadecimal digits.
-fn octets_of(alloc: Global, text: &str) -> Result<Vec<u8>, Fail> {
+pub(crate) fn octets_of(alloc: Global, text: &str) -> Result<Vec<u8>, Fail> {
     let mut octets = Vec::new(alloc);
     let mut high = None;
     for digit in text.chars() {
         let value = u8::try_from(digit.to_digit(16).unwrap_or(0))?;
         high = match high {
-            None => Some(value),
+            None => Some(value << 4),
             Some(first) => {
-                octets.push(u8::wrapping_add(u8::wrapping_mul(first, 16), value))?;
+                octets.push(first | value)?;
                 None
             }
         };

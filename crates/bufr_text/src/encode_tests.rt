@@ -1,6 +1,8 @@
 //! Documents and their messages.
 
-use crate::dump_tests::{FIRST_LINES, ROWS as DUMPED, TABLE_B, TABLE_D, dump, message_of};
+use crate::dump_tests::{
+    FIRST_LINES, ROWS as DUMPED, TABLE_B, TABLE_D, dump, message_of, octets_of,
+};
 use crate::{
     Document, DocumentFault, DumpReader, ReadFault, dump_law, encode_document, encode_law,
 };
@@ -217,15 +219,6 @@ static ROWS: [Row; 30] = [
     },
 ];
 
-// Octets in hexadecimal digits.
-fn hexadecimal(alloc: Global, octets: &[u8]) -> Result<String, Fail> {
-    let mut text = String::new(alloc);
-    for octet in octets {
-        text.push_str(format!(in alloc; "{octet:02X}")?.as_str())?;
-    }
-    Ok(text)
-}
-
 // What stands behind octet 22 of section 1, up to section 5.
 fn behind_the_head(octets: &[u8]) -> &[u8] {
     match octets.get(30..octets.len().saturating_sub(4)) {
@@ -263,8 +256,7 @@ fn encoded(
 
 // Whether a message has these octets behind its head.
 fn has_behind_its_head(alloc: Global, octets: &[u8], wanted: &str) -> Result<bool, Fail> {
-    let got = hexadecimal(alloc, behind_the_head(octets))?;
-    Ok(got.as_str() == wanted)
+    Ok(behind_the_head(octets) == octets_of(alloc, wanted)?.as_slice())
 }
 
 #[test]

@@ -1,5 +1,6 @@
 //! Dump texts, read by readers of 1, 3 and 4,096 octets per read.
 
+use crate::dump_tests::FIRST_LINES;
 use crate::{Document, DumpReader, Entry, ReadFault, law};
 use bufr_bits::{Device, ScriptIn, Source};
 use bufr_fill::Form;
@@ -51,16 +52,6 @@ enum Told {
 use ReadFault::{HeaderRange, Line, SubsetCount};
 use Told::{Done, Refused, Spelled};
 
-/// Lines, each with its line feed.
-fn of_lines(alloc: Global, lines: &[&[u8]]) -> Result<Vec<u8>, AllocError> {
-    let mut octets = Vec::new(alloc);
-    for line in lines {
-        octets.extend_from_slice(line)?;
-        octets.push(b'\n')?;
-    }
-    Ok(octets)
-}
-
 /// The lines of the document, with this text in place of a line (from 1).
 fn with_line(alloc: Global, number: usize, text: &[u8]) -> Result<Vec<u8>, AllocError> {
     let mut octets = Vec::new(alloc);
@@ -99,17 +90,8 @@ fn joined(alloc: Global, parts: &[Piece]) -> Result<Vec<u8>, AllocError> {
             Piece::Whole => octets.extend_from_slice(&with_line(alloc, 0, b"")?)?,
             Piece::OneTooFew => octets.extend_from_slice(&with_line(alloc, 21, b"subsets 2\n")?)?,
             Piece::Text(text) => octets.extend_from_slice(text)?,
-            Piece::Notes(times) => octets.extend_from_slice(&repeated(alloc, b'#', times)?)?,
+            Piece::Notes(times) => octets.extend_from_slice(&vec![in alloc; b'#'; times]?)?,
         }
-    }
-    Ok(octets)
-}
-
-/// An octet, so many times.
-fn repeated(alloc: Global, octet: u8, times: usize) -> Result<Vec<u8>, AllocError> {
-    let mut octets = Vec::new(alloc);
-    for _ in 0..times {
-        octets.push(octet)?;
     }
     Ok(octets)
 }
@@ -274,20 +256,24 @@ fn assert_line(
 fn with_digits(alloc: Global, word: &[u8], times: usize) -> Result<Vec<u8>, AllocError> {
     let mut line = Vec::new(alloc);
     line.extend_from_slice(word)?;
-    line.extend_from_slice(&repeated(alloc, b'9', times)?)?;
+    line.extend_from_slice(&vec![in alloc; b'9'; times]?)?;
     line.push(b'\n')?;
     Ok(line)
 }
 
+/// The first lines of a document, and what stands behind them.
+fn behind_the_first(alloc: Global, rest: &[&[u8]]) -> Result<Vec<u8>, AllocError> {
+    let mut text = Vec::from_slice(alloc, FIRST_LINES.as_bytes())?;
+    for part in rest {
+        text.extend_from_slice(part)?;
+    }
+    Ok(text)
+}
+
 /// A document without a subset, with these lines of octets.
 fn with_octets(alloc: Global, octets: &[u8]) -> Result<Vec<u8>, AllocError> {
-    let mut lines = ONE_BLOCK_NUMBER;
-    lines[19] = b"optional 1";
-    lines[20] = b"subsets 0";
-    let mut text = of_lines(alloc, &lines[..21])?;
-    text.extend_from_slice(octets)?;
-    text.extend_from_slice(b"descriptors 001001\nend\n")?;
-    Ok(text)
+    let head = b"observed 1\ncompressed 0\noptional 1\nsubsets 0\n";
+    behind_the_first(alloc, &[head, octets, b"descriptors 001001\nend\n"])
 }
 
 /// Lines of octets have at most 64 digits, and an even number of them.
@@ -517,14 +503,10 @@ fn holds_what_is_behind_a_document(rt: HostRuntime) -> Result<(), Fail> {
 /// A compressed document with two subsets: the items of each stand before its end.
 #[test]
 fn compressed(rt: HostRuntime) -> Result<(), Fail> {
-    let alloc = rt.alloc();
-    let mut lines = ONE_BLOCK_NUMBER;
-    lines[17] = b"observed 0";
-    lines[18] = b"compressed 1";
-    lines[20] = b"subsets 2";
-    lines[23] = b"001001 10\nsubset 2\n001001 11";
-    let text = of_lines(alloc, &lines)?;
-    let document = first_document(alloc, &text).ok_or("a document")?;
+    let rest = b"observed 0\ncompressed 1\noptional 0\nsubsets 2\ndescriptors 001001\n\
+        subset 1\n001001 10\nsubset 2\n001001 11\nend\n";
+    let text = behind_the_first(rt.alloc(), &[rest])?;
+    let document = first_document(rt.alloc(), &text).ok_or("a document")?;
     assert!(rt; document.compressed() && !document.observed());
     assert_eq!(rt; (document.subsets(), document.entries()), (2, 4));
     assert!(rt; document.entries() == 4);
