@@ -176,6 +176,11 @@ pub record Ran (b : List Row) (d : List Sequence) (left mid : Option (List ℕ))
   pub open' : Open (map (told_piece b d) told)
   pub sound : s.fault ≡ None
 
+-- of a reader that is equal the same was done
+pub ran-by-equal : (b : List Row) (d : List Sequence) (left mid : Option (List ℕ)) (reads reads' : ℕ) (w w' e e' : Option (List ℕ)) (s s' : State) (tally : Tally)
+    → s' ≡ s → Ran b d left mid reads reads' w w' e e' s tally → Ran b d left mid reads reads' w w' e e' s' tally
+ran-by-equal b d left mid reads reads' w w' e e' s s' tally is ran = subst (λ x. Ran b d left mid reads reads' w w' e e' x tally) (sym is) ran
+
 -- nothing was done yet
 pub ran-fresh : (b : List Row) (d : List Sequence) (left : Option (List ℕ)) (reads : ℕ) (w e : Option (List ℕ)) (s : State) (tally : Tally)
     → s ≡ fresh → tally.accepted ≡ 0 → tally.refused ≡ 0 → Ran b d left left reads reads w w e e s tally

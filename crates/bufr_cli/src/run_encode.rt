@@ -53,9 +53,10 @@ fn encode_one<W: Sink, E: Sink>(
 }
 
 /// Writes what stands for the next document of a text: its message, or a fault line. At the end of
-/// the text there is nothing.
+/// the text there is nothing. The document's memory goes back to its reader.
 fn encode_next<W: Sink, E: Sink>(
     alloc: Global,
+    reader: &mut DumpReader,
     next: Result<Option<Document>, ReadFault>,
     table_b: &TableB,
     table_d: &TableD,
@@ -63,6 +64,7 @@ fn encode_next<W: Sink, E: Sink>(
     e: &mut E,
 ) -> Result<Option<Verdict>, RunFault>
     requires { next ≢ Err (ReadFault.Run RunFault.Write) }
+    ensures reader { reader.new ≡ reader.old }
     ensures tells { TellsNext (W.taken w.old) (W.taken w.new) (E.taken e.old) (E.taken e.new) (told_piece table_b.now table_d.now) next result }
     ensures counts { BlamesWriter result
         (Stays (W.failures w.old) (W.failures w.new) (W.empty_writes w.old) (W.empty_writes w.new))
@@ -76,6 +78,7 @@ fn encode_next<W: Sink, E: Sink>(
         Ok(None) => Ok(None),
         Ok(Some(document)) => {
             let verdict = encode_one(alloc, &document, table_b, table_d, w, e)?;
+            reader.reuse(document);
             Ok(Some(verdict))
         }
         Err(ReadFault::Run(fault)) => Err(fault),
@@ -114,7 +117,7 @@ fn encode_documents<R: Source, W: Sink, E: Sink>(
     };
     loop {
         let next = reader.next_document(r);
-        let Some(verdict) = encode_next(alloc, next, table_b, table_d, w, e)? else {
+        let Some(verdict) = encode_next(alloc, &mut reader, next, table_b, table_d, w, e)? else {
             return Ok(tally);
         };
         tally.count(verdict);

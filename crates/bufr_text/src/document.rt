@@ -120,6 +120,19 @@ impl Parts {
         }
     }
 
+    /// Begins a document of which its first line was read, in the memory of the one before.
+    pub(crate) fn begin(&mut self, line: u64)
+        ensures { self.new ≡ spec.blank line }
+    {
+        self.line = line;
+        self.known = 0;
+        self.local1.clear();
+        self.section2.clear();
+        self.descriptors.clear();
+        self.octets.clear();
+        self.cells.clear();
+    }
+
     /// How many values of the header were read.
     pub(crate) fn known(&self) -> usize
         ensures value { result ≡ length self.now.header }
@@ -276,6 +289,13 @@ impl Document {
         ensures { result ≡ parts }
     {
         Document { parts }
+    }
+
+    /// Its parts.
+    pub(crate) fn into_parts(self) -> Parts
+        ensures { result ≡ self }
+    {
+        self.parts
     }
 
     /// The number of the line of `message`, from 1.

@@ -45,7 +45,6 @@ fn feed(held: &[u8]) -> Option<usize>
 
 /// A line that is whole.
 pub(crate) fn take_line(
-    alloc: Global,
     draft: &mut Draft,
     line: &[u8],
     octets: &mut [u8; MOST_LINE],
@@ -56,19 +55,15 @@ pub(crate) fn take_line(
     ensures at { draft.new.at ≡ draft.old.at }
 {
     if line.len() > MOST_LINE {
-        return step(alloc, draft.place, &mut draft.parts, draft.at, Said::Wrong);
+        return step(draft.place, &mut draft.parts, draft.at, Said::Wrong);
     }
     let said = read_line(line, octets, words);
-    step(alloc, draft.place, &mut draft.parts, draft.at, said)
+    step(draft.place, &mut draft.parts, draft.at, said)
 }
 
 /// Takes lines that are held, up to the first that makes a document whole or is refused. Answers how
 /// many octets they took.
-pub(crate) fn take_lines(
-    alloc: Global,
-    draft: &mut Draft,
-    held: &[u8],
-) -> Result<(usize, Taken), AllocError>
+pub(crate) fn take_lines(draft: &mut Draft, held: &[u8]) -> Result<(usize, Taken), AllocError>
     requires stands { Stands draft.old.at (place_with draft.old.place draft.old.parts) }
     requires some { 0 < draft.old.at }
     requires few { draft.old.at + length held.now < 2 ^ 63 }
@@ -81,7 +76,7 @@ pub(crate) fn take_lines(
     while let Some(length) = feed(behind(held, from)) {
         let line = ahead(behind(held, from), length);
         let at = draft.at;
-        let turn = take_line(alloc, draft, line, &mut octets, &mut words)?;
+        let turn = take_line(draft, line, &mut octets, &mut words)?;
         draft.at += 1;
         from += length + 1;
         match turn {

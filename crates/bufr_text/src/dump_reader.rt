@@ -18,12 +18,13 @@ const MOST_READS: u64 = 1 << 32;
 ///
 /// It reads only where it holds no whole line, so a document is told before the next one is read.
 /// A read asks for at most 4,096 octets, and at most 8,192 are held. The only memory that it takes
-/// besides is that of the document.
+/// besides is that of the document, which may be handed back to it ([`DumpReader::reuse`]).
 ///
 /// ```
 /// let mut reader = DumpReader::new(rt.alloc());
 /// while let Some(document) = reader.next_document(&mut input)? {
 ///     write(&document)?;
+///     reader.reuse(document);
 /// }
 /// ```
 #[derive(Drop)]
@@ -107,6 +108,17 @@ impl DumpReader {
         }
     }
 
+    /// Takes the memory of a document for those to come, so that a long text of long documents does
+    /// not take and give back memory for each. Nothing else changes. While a document is being read,
+    /// or where one was refused, the memory is given back.
+    pub fn reuse(&mut self, document: Document)
+        ensures { self.new ≡ self.old }
+    {
+        if let Place::Between = self.draft.place {
+            self.draft.parts = document.into_parts();
+        }
+    }
+
     /// How many octets were read and not yet taken as lines: at most 8,192.
     pub fn held(&self) -> usize
         ensures value { result ≡ length self.now.held }
@@ -135,7 +147,7 @@ impl DumpReader {
         ensures reads { self.new.reads ≡ self.old.reads }
     {
         let held = &self.buffer[self.start..self.filled];
-        let Ok((len, taken)) = take_lines(self.alloc, &mut self.draft, held) else {
+        let Ok((len, taken)) = take_lines(&mut self.draft, held) else {
             let fault = ReadFault::Run(RunFault::Memory);
             self.fault = Some(fault);
             return Err(fault);

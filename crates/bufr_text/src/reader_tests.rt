@@ -480,6 +480,23 @@ fn tells_a_thousand_documents(rt: HostRuntime) -> Result<(), Fail> {
     Ok(())
 }
 
+/// Documents are told alike where each takes the memory of the one before, longer or shorter.
+#[test]
+fn reuses_memory(rt: HostRuntime) -> Result<(), Fail> {
+    let text = joined(rt.alloc(), &[Whole, Text(b"# note\n"), Whole, OneTooFew])?;
+    let mut r = ScriptIn::new(&text, 3, None);
+    let mut reader = DumpReader::new(rt.alloc());
+    reader.reuse(first_document(rt.alloc(), &text).ok_or("a document")?);
+    for line in [25, 51] {
+        let document = reader.next_document(&mut r)?.ok_or("a document")?;
+        assert!(rt; as_told(&document) == Spelled(2, line));
+        reader.reuse(document);
+    }
+    let last = next_told(&mut reader, &mut r);
+    assert!(rt; last == Refused(SubsetCount(76)), "{last:?}");
+    Ok(())
+}
+
 /// What was read behind the last line of a document is held, and nothing else.
 #[test]
 fn holds_what_is_behind_a_document(rt: HostRuntime) -> Result<(), Fail> {

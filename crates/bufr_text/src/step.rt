@@ -6,7 +6,7 @@ ghost use Rattle.bufr_text.specs.Documents.{in_range, heading, laying, filling, 
 ghost use Rattle.bufr_text.specs.Step.{meaning, part_number, place_with, turned, Stands};
 
 use crate::document::{Kind, Parts};
-use std::alloc::{AllocError, Global};
+use std::alloc::AllocError;
 
 /// What a line says. Octets of hexadecimal digits and of texts are those that they stand for.
 #[derive(Clone, Copy)]
@@ -189,12 +189,12 @@ fn filling(parts: &mut Parts, at: u64, subset: u32, said: Said<'_>) -> Result<Tu
 }
 
 /// A line between documents.
-fn opening(alloc: Global, parts: &mut Parts, at: u64, said: Said<'_>) -> Turn
+fn opening(parts: &mut Parts, at: u64, said: Said<'_>) -> Turn
     ensures turns { turned result parts.new ≡ opening at (meaning said.entry) }
 {
     match said {
         Said::Opens => {
-            *parts = Parts::blank(alloc, at);
+            parts.begin(at);
             Turn::Goes(Place::Heading)
         }
         _ => Turn::Refuses(Refusal::NotAllowed),
@@ -204,7 +204,6 @@ fn opening(alloc: Global, parts: &mut Parts, at: u64, said: Said<'_>) -> Turn
 /// A line at a place.
 #[tactic(auto, unfolding(crate::specs::Documents::turn))]
 pub(crate) fn step(
-    alloc: Global,
     place: Place,
     parts: &mut Parts,
     at: u64,
@@ -217,7 +216,7 @@ pub(crate) fn step(
         return Ok(Turn::Goes(place));
     }
     match place {
-        Place::Between => Ok(opening(alloc, parts, at, said)),
+        Place::Between => Ok(opening(parts, at, said)),
         Place::Heading => match said {
             Said::Header { key, value } => Ok(heading(parts, key, value)),
             _ => Ok(Turn::Refuses(Refusal::NotAllowed)),

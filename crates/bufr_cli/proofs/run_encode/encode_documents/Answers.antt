@@ -2,7 +2,7 @@ use Rattle.std.proofs.Common.{◌∙◌, Err, Ok, ap, refl, ◌^◌}
 use Rattle.std.proofs.lemmas.Result.{err_from_is_err_and}
 use Rattle.bufr_text.specs.Reader.{failures_by}
 use Rattle.bufr_text.proofs.NextLemmas.{counts-then}
-use Rattle.bufr_cli.proofs.EncodeLemmas.{done-at-refused, done-last, falls, none-else, ran-few, ran-fresh, reads-made, stop-failures, stop-reads, stops, turn-on, verdict-keeps}
+use Rattle.bufr_cli.proofs.EncodeLemmas.{done-at-refused, done-last, falls, none-else, ran-by-equal, ran-few, ran-fresh, reads-made, stop-failures, stop-reads, stops, turn-on, verdict-keeps}
 use Rattle.bufr_cli.proofs.run_encode.encode_documents.Goals as goal
 
 pub loop-reader-init : goal.loop-reader-init
@@ -68,8 +68,8 @@ loop-reader-preserved g c =
     let before = c.loop-reader.invariant in
     let is = c.in_ok-verdict.was ∙ ap Ok c.in-Some.is in
     let counts = rw c.in_ok-verdict.was at c.encode_next.ensures.counts in record {
-      ran = turn-on _ _ _ _ _ _ _ _ _ _ _ _ _ _ _ _ before.ran (c.next_document-next.ensures.next before.ran.sound) c.next_document-next.ensures.counts _ _ c.encode_next.result c.in-Some.verdict _
-          c.encode_next.ensures.tells is c.in_default-verdict.not-Refused c.count.ensures.value;
+      ran = ran-by-equal _ _ _ _ _ _ _ _ _ _ _ _ _ c.encode_next.ensures.reader (turn-on _ _ _ _ _ _ _ _ _ _ _ _ _ _ _ _ before.ran (c.next_document-next.ensures.next before.ran.sound) c.next_document-next.ensures.counts _ _ c.encode_next.result c.in-Some.verdict _
+          c.encode_next.ensures.tells is c.in_default-verdict.not-Refused c.count.ensures.value);
       reader = c.next_document-next.ensures.failed before.ran.sound ∙ verdict-keeps _ _ _ _ _ _ c.next_document-next.result c.encode_next.result c.in-Some.verdict c.encode_next.ensures.tells is ∙ before.reader;
       output_flushes = c.encode_next.ensures.output_flushes ∙ before.output_flushes;
       errors_flushes = c.encode_next.ensures.errors_flushes ∙ before.errors_flushes;

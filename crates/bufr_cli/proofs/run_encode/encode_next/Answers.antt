@@ -32,6 +32,7 @@ returns-in_err-write_read_fault-in-Err g c =
     let p = err_from_is_err_and c.from_residual-in_err-write_read_fault-in-Err.result c.from_residual-in_err-write_read_fault-in-Err.ensures.1 in
     let some : (run : RunFault) → c.in-Err.fault ≡ Run run → ⊥ = λ run is. search rules in
     record {
+      reader = search rules;
       tells = line-cut _ _ _ _ _ c.args.next c.in-Err.fault c.write_read_fault.result _ c.from_residual-in_err-write_read_fault-in-Err.result c.in-Err.is some c.write_read_fault.ensures.writes
           c.in_err-write_read_fault-in-Err.was (p.1 ∙ ap Err p.2);
       counts = search rules;
@@ -43,6 +44,7 @@ pub returns-in_ok-write_read_fault-in-Err : goal.returns-in_ok-write_read_fault-
 returns-in_ok-write_read_fault-in-Err g c =
     let some : (run : RunFault) → c.in-Err.fault ≡ Run run → ⊥ = λ run is. search rules in
     record {
+      reader = search rules;
       tells = line-written _ _ _ _ _ c.args.next c.in-Err.fault c.in-Err.is some c.in_ok-write_read_fault-in-Err.ensures.writes;
       counts = search rules;
       output_flushes = search rules;
