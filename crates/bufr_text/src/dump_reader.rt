@@ -109,8 +109,8 @@ impl DumpReader {
     }
 
     /// Takes the memory of a document for those to come, so that a long text of long documents does
-    /// not take and give back memory for each. Nothing else changes. While a document is being read,
-    /// or where one was refused, the memory is given back.
+    /// not take and give back memory for each. Nothing else changes. Inside of a document that is
+    /// being read, or was refused there, the memory is given back instead.
     pub fn reuse(&mut self, document: Document)
         ensures { self.new ≡ self.old }
     {
