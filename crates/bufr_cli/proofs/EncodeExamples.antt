@@ -7,6 +7,7 @@ use Rattle.bufr_walk.specs.declared.spec.Refusal.TheVariants as walk
 use Rattle.bufr_text.specs.Documents.{Refused, NotAllowed, SubsetCount, HeaderRange}
 use Rattle.bufr_text.specs.Encoding.{by_template, by_item, too_long}
 use Rattle.bufr_cli.specs.DocumentLine.{refused_line, refusal_line}
+use Rattle.bufr_text.specs.declared.form.Form.TheVariants.{AsWritten}
 use Rattle.bufr_cli.specs.EncodePieces.{encode_pieces, up_to_refused}
 use Rattle.bufr_cli.specs.Pieces.{OnOutput, OnErrors}
 
@@ -83,10 +84,10 @@ first-fault : up_to_refused (OnOutput (1 ∷ []) ∷ OnErrors (2 ∷ []) ∷ OnO
 unfolding up_to_refused
 first-fault = refl
 
-nothing : encode_pieces [] [] [] ≡ []
+nothing : encode_pieces AsWritten [] [] [] ≡ []
 unfolding up_to_refused
 nothing = refl
 
-a-line-is-refused : encode_pieces [] [] (Refused 3 NotAllowed ∷ []) ≡ OnErrors (codes "line 3: 50 line\n") ∷ []
+a-line-is-refused : encode_pieces AsWritten [] [] (Refused 3 NotAllowed ∷ []) ≡ OnErrors (codes "line 3: 50 line\n") ∷ []
 unfolding up_to_refused digits
 a-line-is-refused = refl

@@ -18,6 +18,7 @@ use Rattle.bufr_text.specs.Documents as documents
 use Rattle.bufr_text.specs.Reader.{State, fresh, stand, told_by, CallSo, NextSo, ReadsSo, EndsSo, CountsReads, IsOpen, failures_by}
 use Rattle.bufr_text.specs.Writing.{GrowsByFront, Writes}
 use Rattle.bufr_text.specs.declared.fault.ReadFault.{ReadFault}
+use Rattle.bufr_text.specs.declared.form.Form.{Form}
 use Rattle.bufr_text.specs.declared.fault.ReadFault.TheVariants.{Line, SubsetCount, HeaderRange, Run}
 use Rattle.bufr_cli.specs.DocumentLine.{refused_line}
 use Rattle.bufr_cli.specs.EncodePieces.{told_piece, encode_pieces, up_to_refused}
@@ -50,37 +51,37 @@ next-stopped w w' e e' piece next document tell f r is tells stops fails same =
     by Memory tells' stops' = inr (Spelled document, ap told_by is, tells')
 
 -- the line of a fault of the text was stopped
-pub line-cut : {X : Type 0} (w e e' : Option (List ℕ)) (b : List Row) (d : List Sequence) (next : Result (Option Document) ReadFault) (fault : ReadFault) (first : Result X RunFault) (f : RunFault) (r : Result (Option Verdict) RunFault)
+pub line-cut : {X : Type 0} (w e e' : Option (List ℕ)) (form : Form) (b : List Row) (d : List Sequence) (next : Result (Option Document) ReadFault) (fault : ReadFault) (first : Result X RunFault) (f : RunFault) (r : Result (Option Verdict) RunFault)
     → next ≡ Err fault → ((run : RunFault) → fault ≡ Run run → ⊥) → ((line : ℕ) (why : LineFault) → told_by (Err fault) ≡ Refused line why ∷ [] → Writes e e' (refused_line line why) first)
-    → first ≡ Err f → r ≡ Err f → TellsNext w w e e' (told_piece b d) next r
-line-cut {X = X} w e e' b d next fault first f r is some writes fails same =
+    → first ≡ Err f → r ≡ Err f → TellsNext w w e e' (told_piece form b d) next r
+line-cut {X = X} w e e' form b d next fault first f r is some writes fails same =
     by fault is some writes
   where
-    told : (line : ℕ) (why : LineFault) → told_by next ≡ Refused line why ∷ [] → Writes e e' (refused_line line why) first → TellsNext w w e e' (told_piece b d) next r
+    told : (line : ℕ) (why : LineFault) → told_by next ≡ Refused line why ∷ [] → Writes e e' (refused_line line why) first → TellsNext w w e e' (told_piece form b d) next r
     told line why tells written =
         let W : Result X RunFault → Type 0 = λ x. Writes e e' (refused_line line why) x in
-        let P : Result (Option Verdict) RunFault → Type 0 = λ x. TellsNext w w e e' (told_piece b d) next x in
+        let P : Result (Option Verdict) RunFault → Type 0 = λ x. TellsNext w w e e' (told_piece form b d) next x in
         let write : f ≡ Write = (subst W fails written).0 in
         subst P (sym (same ∙ ap Err write)) (Refused line why, tells, line-stopped w e e' (refused_line line why) first Write (Err Write) (OnErrors (refused_line line why)) refl written (fails ∙ ap Err write) refl)
 
     by : (g : ReadFault) → next ≡ Err g → ((run : RunFault) → g ≡ Run run → ⊥) → ((line : ℕ) (why : LineFault) → told_by (Err g) ≡ Refused line why ∷ [] → Writes e e' (refused_line line why) first)
-        → TellsNext w w e e' (told_piece b d) next r
+        → TellsNext w w e e' (told_piece form b d) next r
     by (Line line) is' some' writes' = told line NotAllowed (ap told_by is') (writes' line NotAllowed refl)
     by (SubsetCount line) is' some' writes' = told line documents.SubsetCount (ap told_by is') (writes' line documents.SubsetCount refl)
     by (HeaderRange line) is' some' writes' = told line documents.HeaderRange (ap told_by is') (writes' line documents.HeaderRange refl)
     by (Run run) is' some' writes' = absurd (some' run refl)
 
 -- the line of a fault of the text was written
-pub line-written : (w e e' : Option (List ℕ)) (b : List Row) (d : List Sequence) (next : Result (Option Document) ReadFault) (fault : ReadFault)
+pub line-written : (w e e' : Option (List ℕ)) (form : Form) (b : List Row) (d : List Sequence) (next : Result (Option Document) ReadFault) (fault : ReadFault)
     → next ≡ Err fault → ((run : RunFault) → fault ≡ Run run → ⊥) → ((line : ℕ) (why : LineFault) → told_by (Err fault) ≡ Refused line why ∷ [] → Appends e e' (refused_line line why))
-    → TellsNext w w e e' (told_piece b d) next (Ok (Some verdict.Refused))
-line-written w e e' b d next (Line line) is some writes =
+    → TellsNext w w e e' (told_piece form b d) next (Ok (Some verdict.Refused))
+line-written w e e' form b d next (Line line) is some writes =
     (Refused line NotAllowed, ap told_by is, errors-told w e e' (refused_line line NotAllowed) (OnErrors (refused_line line NotAllowed)) refl (writes line NotAllowed refl))
-line-written w e e' b d next (SubsetCount line) is some writes =
+line-written w e e' form b d next (SubsetCount line) is some writes =
     (Refused line documents.SubsetCount, ap told_by is, errors-told w e e' (refused_line line documents.SubsetCount) (OnErrors (refused_line line documents.SubsetCount)) refl (writes line documents.SubsetCount refl))
-line-written w e e' b d next (HeaderRange line) is some writes =
+line-written w e e' form b d next (HeaderRange line) is some writes =
     (Refused line documents.HeaderRange, ap told_by is, errors-told w e e' (refused_line line documents.HeaderRange) (OnErrors (refused_line line documents.HeaderRange)) refl (writes line documents.HeaderRange refl))
-line-written w e e' b d next (Run run) is some writes = absurd (some run refl)
+line-written w e e' form b d next (Run run) is some writes = absurd (some run refl)
 
 -- the reading ended
 pub run-ended : (w e : Option (List ℕ)) (piece : Told → Piece) (next : Result (Option Document) ReadFault) (fault : RunFault) → next ≡ Err (Run fault) → (next ≡ Err (Run Write) → ⊥) → TellsNext w w e e piece next (Err fault)
@@ -166,26 +167,26 @@ pub falls : (before after n : ℕ) → before < n → after ≡ before + 1 → n
 falls before after n few one = omega (arith, few, one)
 
 -- What a run has done so far: all that was told was written, and none of it was refused.
-pub record Ran (b : List Row) (d : List Sequence) (left mid : Option (List ℕ)) (reads reads' : ℕ) (w w' e e' : Option (List ℕ)) (s : State) (tally : Tally) : Type 0 where
+pub record Ran (form : Form) (b : List Row) (d : List Sequence) (left mid : Option (List ℕ)) (reads reads' : ℕ) (w w' e e' : Option (List ℕ)) (s : State) (tally : Tally) : Type 0 where
   pub octets : List ℕ
   pub told : List Told
   pub call : CallSo left mid fresh s told octets
   pub counts : CountsReads reads reads' fresh s
-  pub written : Written w w' e e' (map (told_piece b d) told)
-  pub tallies : Tallies tally (map (told_piece b d) told)
-  pub open' : Open (map (told_piece b d) told)
+  pub written : Written w w' e e' (map (told_piece form b d) told)
+  pub tallies : Tallies tally (map (told_piece form b d) told)
+  pub open' : Open (map (told_piece form b d) told)
   pub sound : s.fault ≡ None
 
 -- of a reader that is equal the same was done
-pub ran-by-equal : (b : List Row) (d : List Sequence) (left mid : Option (List ℕ)) (reads reads' : ℕ) (w w' e e' : Option (List ℕ)) (s s' : State) (tally : Tally)
-    → s' ≡ s → Ran b d left mid reads reads' w w' e e' s tally → Ran b d left mid reads reads' w w' e e' s' tally
-ran-by-equal b d left mid reads reads' w w' e e' s s' tally is ran = subst (λ x. Ran b d left mid reads reads' w w' e e' x tally) (sym is) ran
+pub ran-by-equal : (form : Form) (b : List Row) (d : List Sequence) (left mid : Option (List ℕ)) (reads reads' : ℕ) (w w' e e' : Option (List ℕ)) (s s' : State) (tally : Tally)
+    → s' ≡ s → Ran form b d left mid reads reads' w w' e e' s tally → Ran form b d left mid reads reads' w w' e e' s' tally
+ran-by-equal form b d left mid reads reads' w w' e e' s s' tally is ran = subst (λ x. Ran form b d left mid reads reads' w w' e e' x tally) (sym is) ran
 
 -- nothing was done yet
-pub ran-fresh : (b : List Row) (d : List Sequence) (left : Option (List ℕ)) (reads : ℕ) (w e : Option (List ℕ)) (s : State) (tally : Tally)
-    → s ≡ fresh → tally.accepted ≡ 0 → tally.refused ≡ 0 → Ran b d left left reads reads w w e e s tally
-ran-fresh b d left reads w e s tally is accepted refused =
-    let P : State → Type 0 = λ x. Ran b d left left reads reads w w e e x tally in
+pub ran-fresh : (form : Form) (b : List Row) (d : List Sequence) (left : Option (List ℕ)) (reads : ℕ) (w e : Option (List ℕ)) (s : State) (tally : Tally)
+    → s ≡ fresh → tally.accepted ≡ 0 → tally.refused ≡ 0 → Ran form b d left left reads reads w w e e s tally
+ran-fresh form b d left reads w e s tally is accepted refused =
+    let P : State → Type 0 = λ x. Ran form b d left left reads reads w w e e x tally in
     subst P (sym is) (record {
       octets = [];
       told = [];
@@ -206,21 +207,21 @@ told-call left left' old new (Err (SubsetCount line)) x so is = let C : List Tol
 told-call left left' old new (Err (HeaderRange line)) x so is = let C : List Told → Type 0 = λ t. CallSo left left' old new t so.octets in subst C is so.reads
 told-call left left' old new (Err (Run run)) x so is = absurd (omega (arith, ap length is))
 
-refused-one : (b : List Row) (d : List Sequence) (line : ℕ) (why : LineFault) (x : Told) → Refused line why ∷ [] ≡ x ∷ [] → accepted_in verdict.Accepted ≡ count_by is_accepted (told_piece b d x ∷ []) → ⊥
-refused-one b d line why x is one =
-    let P : List Told → Type 0 = λ l. 1 ≡ count_by is_accepted (map (told_piece b d) l) in
+refused-one : (form : Form) (b : List Row) (d : List Sequence) (line : ℕ) (why : LineFault) (x : Told) → Refused line why ∷ [] ≡ x ∷ [] → accepted_in verdict.Accepted ≡ count_by is_accepted (told_piece form b d x ∷ []) → ⊥
+refused-one form b d line why x is one =
+    let P : List Told → Type 0 = λ l. 1 ≡ count_by is_accepted (map (told_piece form b d) l) in
     let here : 1 ≡ 0 = subst P (sym is) one in
     omega (arith, here)
 
 -- a document that was accepted leaves the reader without a fault
-accepted-sound : (b : List Row) (d : List Sequence) (left left' : Option (List ℕ)) (old new : State) (next : Result (Option Document) ReadFault) (x : Told) → NextSo left left' old new next → told_by next ≡ x ∷ []
-    → accepted_in verdict.Accepted ≡ count_by is_accepted (told_piece b d x ∷ []) → new.fault ≡ None
-accepted-sound b d left left' old new (Ok None) x so is one = absurd (omega (arith, ap length is))
-accepted-sound b d left left' old new (Ok (Some document)) x so is one = so.ends
-accepted-sound b d left left' old new (Err (Line line)) x so is one = absurd (refused-one b d line NotAllowed x is one)
-accepted-sound b d left left' old new (Err (SubsetCount line)) x so is one = absurd (refused-one b d line documents.SubsetCount x is one)
-accepted-sound b d left left' old new (Err (HeaderRange line)) x so is one = absurd (refused-one b d line documents.HeaderRange x is one)
-accepted-sound b d left left' old new (Err (Run run)) x so is one = absurd (omega (arith, ap length is))
+accepted-sound : (form : Form) (b : List Row) (d : List Sequence) (left left' : Option (List ℕ)) (old new : State) (next : Result (Option Document) ReadFault) (x : Told) → NextSo left left' old new next → told_by next ≡ x ∷ []
+    → accepted_in verdict.Accepted ≡ count_by is_accepted (told_piece form b d x ∷ []) → new.fault ≡ None
+accepted-sound form b d left left' old new (Ok None) x so is one = absurd (omega (arith, ap length is))
+accepted-sound form b d left left' old new (Ok (Some document)) x so is one = so.ends
+accepted-sound form b d left left' old new (Err (Line line)) x so is one = absurd (refused-one form b d line NotAllowed x is one)
+accepted-sound form b d left left' old new (Err (SubsetCount line)) x so is one = absurd (refused-one form b d line documents.SubsetCount x is one)
+accepted-sound form b d left left' old new (Err (HeaderRange line)) x so is one = absurd (refused-one form b d line documents.HeaderRange x is one)
+accepted-sound form b d left left' old new (Err (Run run)) x so is one = absurd (omega (arith, ap length is))
 
 -- the octets that were read to their end are those of the input
 all-read : (left mid : Option (List ℕ)) (bs : List ℕ) → Consumes left mid bs → IsAtEnd mid → IfSome left (λ s. bs ≡ s)
@@ -236,8 +237,8 @@ Tallies-one tally tally' v pieces p before is accepted refused =
     })
 
 -- what was told and then one more, as pieces
-one-more : (b : List Row) (d : List Sequence) (told : List Told) (x : Told) → map (told_piece b d) (told ++ x ∷ []) ≡ map (told_piece b d) told ++ told_piece b d x ∷ []
-one-more b d told x = map-append (told_piece b d) told (x ∷ [])
+one-more : (form : Form) (b : List Row) (d : List Sequence) (told : List Told) (x : Told) → map (told_piece form b d) (told ++ x ∷ []) ≡ map (told_piece form b d) told ++ told_piece form b d x ∷ []
+one-more form b d told x = map-append (told_piece form b d) told (x ∷ [])
 
 -- what was told is the first of what was read
 read-front : (left left' : Option (List ℕ)) (s : State) (told : List Told) (bs : List ℕ) → CallSo left left' fresh s told bs → (more : List Told) × (read_documents s.ended bs ≡ told ++ more)
@@ -302,16 +303,16 @@ as-many piece [] = refl
 as-many piece (x ∷ more) = omega (arith, as-many piece more)
 
 -- a tally cannot overflow
-pub ran-few : (b : List Row) (d : List Sequence) (left mid : Option (List ℕ)) (reads reads' : ℕ) (w w' e e' : Option (List ℕ)) (s : State) (tally : Tally)
-    → Ran b d left mid reads reads' w w' e e' s tally → tally.accepted + tally.refused < 2 ^ 63
-ran-few b d left mid reads reads' w w' e e' s tally ran =
+pub ran-few : (form : Form) (b : List Row) (d : List Sequence) (left mid : Option (List ℕ)) (reads reads' : ℕ) (w w' e e' : Option (List ℕ)) (s : State) (tally : Tally)
+    → Ran form b d left mid reads reads' w w' e e' s tally → tally.accepted + tally.refused < 2 ^ 63
+ran-few form b d left mid reads reads' w w' e e' s tally ran =
     let all : documents_of ran.octets ≡ ran.told ++ spells (stand s) [] = ap documents_of (sym (append-nil ran.octets)) ∙ told-first left mid s ran.told ran.octets [] ran.call (λ ended. refl) in
     omega (
       arith,
       ran.tallies.accepted,
       ran.tallies.refused,
-      counted-all (map (told_piece b d) ran.told),
-      as-many (told_piece b d) ran.told,
+      counted-all (map (told_piece form b d) ran.told),
+      as-many (told_piece form b d) ran.told,
       ap length all,
       length-append ran.told (spells (stand s) []),
       documents-few ran.octets,
@@ -319,30 +320,30 @@ ran-few b d left mid reads reads' w w' e e' s tally ran =
       ran.counts.most,
     )
 
-module _ (b : List Row) (d : List Sequence) (left mid left' : Option (List ℕ)) (reads reads1 reads2 : ℕ) (w w1 e e1 : Option (List ℕ)) (s s' : State) (tally : Tally) (next : Result (Option Document) ReadFault)
-    (ran : Ran b d left mid reads reads1 w w1 e e1 s tally) (so : NextSo mid left' s s' next) (counts : CountsReads reads1 reads2 s s') where
+module _ (form : Form) (b : List Row) (d : List Sequence) (left mid left' : Option (List ℕ)) (reads reads1 reads2 : ℕ) (w w1 e e1 : Option (List ℕ)) (s s' : State) (tally : Tally) (next : Result (Option Document) ReadFault)
+    (ran : Ran form b d left mid reads reads1 w w1 e e1 s tally) (so : NextSo mid left' s s' next) (counts : CountsReads reads1 reads2 s s') where
   -- one more document
-  pub turn : (w2 e2 : Option (List ℕ)) (tally' : Tally) → TellsNext w1 w2 e1 e2 (told_piece b d) next (Ok (Some verdict.Accepted)) → tally' ≡ tally_after tally verdict.Accepted
-      → Ran b d left left' reads reads2 w w2 e e2 s' tally'
+  pub turn : (w2 e2 : Option (List ℕ)) (tally' : Tally) → TellsNext w1 w2 e1 e2 (told_piece form b d) next (Ok (Some verdict.Accepted)) → tally' ≡ tally_after tally verdict.Accepted
+      → Ran form b d left left' reads reads2 w w2 e e2 s' tally'
   turn w2 e2 tally' (x, is, (written, accepted, refused)) after =
-      let more = one-more b d ran.told x in
+      let more = one-more form b d ran.told x in
       let W : List Piece → Type 0 = λ l. Written w w2 e e2 l in
       let T : List Piece → Type 0 = λ l. Tallies tally' l in
       let O : List Piece → Type 0 = λ l. Open l in
-      let p = told_piece b d x in
+      let p = told_piece form b d x in
       record {
         octets = ran.octets ++ so.octets;
         told = ran.told ++ x ∷ [];
         call = call-then left mid left' fresh s s' ran.told (x ∷ []) ran.octets so.octets ran.call (told-call mid left' s s' next x so is);
         counts = counts-then reads reads1 reads2 fresh s s' ran.counts counts;
-        written = subst W (sym more) (Written-then w w1 w2 e e1 e2 (map (told_piece b d) ran.told) (p ∷ []) ran.written written);
-        tallies = subst T (sym more) (Tallies-one tally tally' verdict.Accepted (map (told_piece b d) ran.told) p ran.tallies after accepted refused);
-        open' = subst O (sym more) (accepted-open (map (told_piece b d) ran.told) p accepted ran.open');
-        sound = accepted-sound b d mid left' s s' next x so is accepted;
+        written = subst W (sym more) (Written-then w w1 w2 e e1 e2 (map (told_piece form b d) ran.told) (p ∷ []) ran.written written);
+        tallies = subst T (sym more) (Tallies-one tally tally' verdict.Accepted (map (told_piece form b d) ran.told) p ran.tallies after accepted refused);
+        open' = subst O (sym more) (accepted-open (map (told_piece form b d) ran.told) p accepted ran.open');
+        sound = accepted-sound form b d mid left' s s' next x so is accepted;
       }
 
   -- the end of the text
-  pub done-end : next ≡ Ok None → EncodeDone (encode_pieces b d) left left' w w1 e e1 (ran.octets ++ so.octets) tally
+  pub done-end : next ≡ Ok None → EncodeDone (encode_pieces form b d) left left' w w1 e e1 (ran.octets ++ so.octets) tally
   done-end is =
       let N : Result (Option Document) ReadFault → Type 0 = λ x. ReadsSo mid left' s s' x so.octets in
       let E : Result (Option Document) ReadFault → Type 0 = λ x. EndsSo s' x in
@@ -350,38 +351,38 @@ module _ (b : List Row) (d : List Sequence) (left mid left' : Option (List ℕ))
       let call = call-then left mid left' fresh s s' ran.told [] ran.octets so.octets ran.call (subst N is so.reads) in
       let done = (subst E is so.ends).1 in
       let all : documents_of bs ≡ ran.told = told-at-end left left' s' (ran.told ++ []) bs call done ∙ append-nil ran.told in
-      let pieces : encode_pieces b d (documents_of bs) ≡ map (told_piece b d) ran.told = ap (encode_pieces b d) all ∙ open-all (map (told_piece b d) ran.told) ran.open' in
+      let pieces : encode_pieces form b d (documents_of bs) ≡ map (told_piece form b d) ran.told = ap (encode_pieces form b d) all ∙ open-all (map (told_piece form b d) ran.told) ran.open' in
       record {
         read = call.read;
         ended = true;
         end = λ _. all-read left left' bs call.read (call.end (λ end. absurd (false≢true end)) done.0);
-        written = λ t none. let W : List ℕ → Type 0 = λ l. Written w w1 e e1 (encode_pieces b d (documents_of l)) in
+        written = λ t none. let W : List ℕ → Type 0 = λ l. Written w w1 e e1 (encode_pieces form b d (documents_of l)) in
             let V : List Piece → Type 0 = λ l. Written w w1 e e1 l in
             subst W (sym (append-nil bs) ∙ ap (λ l. bs ++ l) (sym (none refl))) (subst V (sym pieces) ran.written);
         certain = let V : List Piece → Type 0 = λ l. Written w w1 e e1 l in subst V (sym pieces) ran.written;
-        tallies = λ t none. let W : List ℕ → Type 0 = λ l. Tallies tally (encode_pieces b d (documents_of l)) in
+        tallies = λ t none. let W : List ℕ → Type 0 = λ l. Tallies tally (encode_pieces form b d (documents_of l)) in
             let V : List Piece → Type 0 = λ l. Tallies tally l in
             subst W (sym (append-nil bs) ∙ ap (λ l. bs ++ l) (sym (none refl))) (subst V (sym pieces) ran.tallies);
       }
 
   -- a document was refused
-  pub done-refused : (w2 e2 : Option (List ℕ)) (tally' : Tally) → TellsNext w1 w2 e1 e2 (told_piece b d) next (Ok (Some verdict.Refused)) → tally' ≡ tally_after tally verdict.Refused
-      → EncodeDone (encode_pieces b d) left left' w w2 e e2 (ran.octets ++ so.octets) tally'
+  pub done-refused : (w2 e2 : Option (List ℕ)) (tally' : Tally) → TellsNext w1 w2 e1 e2 (told_piece form b d) next (Ok (Some verdict.Refused)) → tally' ≡ tally_after tally verdict.Refused
+      → EncodeDone (encode_pieces form b d) left left' w w2 e e2 (ran.octets ++ so.octets) tally'
   done-refused w2 e2 tally' (x, is, (written, accepted, refused)) after =
       let bs = ran.octets ++ so.octets in
       let call = call-then left mid left' fresh s s' ran.told (x ∷ []) ran.octets so.octets ran.call (told-call mid left' s s' next x so is) in
-      let p = told_piece b d x in
-      let before = map (told_piece b d) ran.told in
+      let p = told_piece form b d x in
+      let before = map (told_piece form b d) ran.told in
       let closed = refused-closed before p accepted ran.open' in
-      let pieces : (t : List ℕ) → (s'.ended ≡ true → t ≡ []) → encode_pieces b d (documents_of (bs ++ t)) ≡ before ++ p ∷ [] = λ t none.
-      ap (encode_pieces b d) (told-first left left' s' (ran.told ++ x ∷ []) bs t call none)
-      ∙ ap up_to_refused (map-append (told_piece b d) (ran.told ++ x ∷ []) (spells (stand s') t) ∙ ap (λ l. l ++ map (told_piece b d) (spells (stand s') t)) (one-more b d ran.told x))
-      ∙ closed (map (told_piece b d) (spells (stand s') t)) in
+      let pieces : (t : List ℕ) → (s'.ended ≡ true → t ≡ []) → encode_pieces form b d (documents_of (bs ++ t)) ≡ before ++ p ∷ [] = λ t none.
+      ap (encode_pieces form b d) (told-first left left' s' (ran.told ++ x ∷ []) bs t call none)
+      ∙ ap up_to_refused (map-append (told_piece form b d) (ran.told ++ x ∷ []) (spells (stand s') t) ∙ ap (λ l. l ++ map (told_piece form b d) (spells (stand s') t)) (one-more form b d ran.told x))
+      ∙ closed (map (told_piece form b d) (spells (stand s') t)) in
       let front = read-front left left' s' (ran.told ++ x ∷ []) bs call in
-      let known : encode_pieces b d (read_documents s'.ended bs) ≡ before ++ p ∷ [] =
-      ap (encode_pieces b d) front.1
-      ∙ ap up_to_refused (map-append (told_piece b d) (ran.told ++ x ∷ []) front.0 ∙ ap (λ l. l ++ map (told_piece b d) front.0) (one-more b d ran.told x))
-      ∙ closed (map (told_piece b d) front.0) in
+      let known : encode_pieces form b d (read_documents s'.ended bs) ≡ before ++ p ∷ [] =
+      ap (encode_pieces form b d) front.1
+      ∙ ap up_to_refused (map-append (told_piece form b d) (ran.told ++ x ∷ []) front.0 ∙ ap (λ l. l ++ map (told_piece form b d) front.0) (one-more form b d ran.told x))
+      ∙ closed (map (told_piece form b d) front.0) in
       let W : List Piece → Type 0 = λ l. Written w w2 e e2 l in
       let T : List Piece → Type 0 = λ l. Tallies tally' l in
       let all = Written-then w w1 w2 e e1 e2 before (p ∷ []) ran.written written in
@@ -395,48 +396,48 @@ module _ (b : List Row) (d : List Sequence) (left mid left' : Option (List ℕ))
       }
 
   -- the end of the text, told by an answer
-  pub done-last : (w2 e2 : Option (List ℕ)) (tell : Result (Option Verdict) RunFault) → TellsNext w1 w2 e1 e2 (told_piece b d) next tell → tell ≡ Ok None
-      → (bs : List ℕ) × EncodeDone (encode_pieces b d) left left' w w2 e e2 bs tally
+  pub done-last : (w2 e2 : Option (List ℕ)) (tell : Result (Option Verdict) RunFault) → TellsNext w1 w2 e1 e2 (told_piece form b d) next tell → tell ≡ Ok None
+      → (bs : List ℕ) × EncodeDone (encode_pieces form b d) left left' w w2 e e2 bs tally
   done-last w2 e2 tell tells is =
-      let T : Result (Option Verdict) RunFault → Type 0 = λ x. TellsNext w1 w2 e1 e2 (told_piece b d) next x in
+      let T : Result (Option Verdict) RunFault → Type 0 = λ x. TellsNext w1 w2 e1 e2 (told_piece form b d) next x in
       let end = subst T is tells in
-      let W : Option (List ℕ) → Type 0 = λ x. EncodeDone (encode_pieces b d) left left' w x e e1 (ran.octets ++ so.octets) tally in
-      let E : Option (List ℕ) → Type 0 = λ x. EncodeDone (encode_pieces b d) left left' w w2 e x (ran.octets ++ so.octets) tally in
+      let W : Option (List ℕ) → Type 0 = λ x. EncodeDone (encode_pieces form b d) left left' w x e e1 (ran.octets ++ so.octets) tally in
+      let E : Option (List ℕ) → Type 0 = λ x. EncodeDone (encode_pieces form b d) left left' w w2 e x (ran.octets ++ so.octets) tally in
       (ran.octets ++ so.octets, subst E (sym end.2) (subst W (sym end.1) (done-end end.0)))
 
   -- a document was refused, told by an answer
-  pub done-at-refused : (w2 e2 : Option (List ℕ)) (tell : Result (Option Verdict) RunFault) (v : Verdict) (tally' : Tally) → TellsNext w1 w2 e1 e2 (told_piece b d) next tell → tell ≡ Ok (Some v) → v ≡ verdict.Refused
-      → tally' ≡ tally_after tally v → (bs : List ℕ) × EncodeDone (encode_pieces b d) left left' w w2 e e2 bs tally'
+  pub done-at-refused : (w2 e2 : Option (List ℕ)) (tell : Result (Option Verdict) RunFault) (v : Verdict) (tally' : Tally) → TellsNext w1 w2 e1 e2 (told_piece form b d) next tell → tell ≡ Ok (Some v) → v ≡ verdict.Refused
+      → tally' ≡ tally_after tally v → (bs : List ℕ) × EncodeDone (encode_pieces form b d) left left' w w2 e e2 bs tally'
   done-at-refused w2 e2 tell v tally' tells is refused after =
-      let T : Result (Option Verdict) RunFault → Type 0 = λ x. TellsNext w1 w2 e1 e2 (told_piece b d) next x in
+      let T : Result (Option Verdict) RunFault → Type 0 = λ x. TellsNext w1 w2 e1 e2 (told_piece form b d) next x in
       (ran.octets ++ so.octets, done-refused w2 e2 tally' (subst T (is ∙ ap (λ (x : Verdict). Ok (Some x)) refused) tells) (after ∙ ap (tally_after tally) refused))
 
   -- one more document, told by an answer
-  pub turn-on : (w2 e2 : Option (List ℕ)) (tell : Result (Option Verdict) RunFault) (v : Verdict) (tally' : Tally) → TellsNext w1 w2 e1 e2 (told_piece b d) next tell → tell ≡ Ok (Some v) → (v ≡ verdict.Refused → ⊥)
-      → tally' ≡ tally_after tally v → Ran b d left left' reads reads2 w w2 e e2 s' tally'
+  pub turn-on : (w2 e2 : Option (List ℕ)) (tell : Result (Option Verdict) RunFault) (v : Verdict) (tally' : Tally) → TellsNext w1 w2 e1 e2 (told_piece form b d) next tell → tell ≡ Ok (Some v) → (v ≡ verdict.Refused → ⊥)
+      → tally' ≡ tally_after tally v → Ran form b d left left' reads reads2 w w2 e e2 s' tally'
   turn-on w2 e2 tell v tally' tells is some after =
-      let T : Result (Option Verdict) RunFault → Type 0 = λ x. TellsNext w1 w2 e1 e2 (told_piece b d) next x in
+      let T : Result (Option Verdict) RunFault → Type 0 = λ x. TellsNext w1 w2 e1 e2 (told_piece form b d) next x in
       let accepted = accepted-else v some in
       turn w2 e2 tally' (subst T (is ∙ ap (λ (x : Verdict). Ok (Some x)) accepted) tells) (after ∙ ap (tally_after tally) accepted)
 
-  stops-read : (w2 e2 : Option (List ℕ)) → (w2 ≡ w1) → (e2 ≡ e1) → CallSo left left' fresh s' (ran.told ++ []) (ran.octets ++ so.octets) → IsOpen s' → EncodeStopped (encode_pieces b d) left left' w w2 e e2 (ran.octets ++ so.octets)
+  stops-read : (w2 e2 : Option (List ℕ)) → (w2 ≡ w1) → (e2 ≡ e1) → CallSo left left' fresh s' (ran.told ++ []) (ran.octets ++ so.octets) → IsOpen s' → EncodeStopped (encode_pieces form b d) left left' w w2 e e2 (ran.octets ++ so.octets)
   stops-read w2 e2 same_w same_e call open' =
       let bs = ran.octets ++ so.octets in
       let all : open_documents_of bs ≡ ran.told = told-at-fault left left' s' (ran.told ++ []) bs call open' ∙ append-nil ran.told in
-      let pieces : encode_pieces b d (open_documents_of bs) ≡ map (told_piece b d) ran.told = ap (encode_pieces b d) all ∙ open-all (map (told_piece b d) ran.told) ran.open' in
+      let pieces : encode_pieces form b d (open_documents_of bs) ≡ map (told_piece form b d) ran.told = ap (encode_pieces form b d) all ∙ open-all (map (told_piece form b d) ran.told) ran.open' in
       let V : Option (List ℕ) → Option (List ℕ) → List Piece → Type 0 = λ x y l. Written w x e y l in
       record { read = call.read; written = rw (same_w, same_e) (subst (V w1 e1) (sym pieces) ran.written) }
 
   -- a writer failed, or memory was refused, in the piece of what was told
-  stops-piece : (w2 e2 : Option (List ℕ)) (f : RunFault) (x : Told) → told_by next ≡ x ∷ [] → TellsPieces w1 w2 e1 e2 (told_piece b d x ∷ []) (Err f)
-      → EncodeCut (encode_pieces b d) left left' w w2 e e2 (Unit {0}) (ran.octets ++ so.octets)
+  stops-piece : (w2 e2 : Option (List ℕ)) (f : RunFault) (x : Told) → told_by next ≡ x ∷ [] → TellsPieces w1 w2 e1 e2 (told_piece form b d x ∷ []) (Err f)
+      → EncodeCut (encode_pieces form b d) left left' w w2 e e2 (Unit {0}) (ran.octets ++ so.octets)
   stops-piece w2 e2 f x is tells =
       let bs = ran.octets ++ so.octets in
       let call = call-then left mid left' fresh s s' ran.told (x ∷ []) ran.octets so.octets ran.call (told-call mid left' s s' next x so is) in
-      let before = map (told_piece b d) ran.told in
-      let p = told_piece b d x in
+      let before = map (told_piece form b d) ran.told in
+      let p = told_piece form b d x in
       let front = read-front left left' s' (ran.told ++ x ∷ []) bs call in
-      let tail = map (told_piece b d) front.0 in
+      let tail = map (told_piece form b d) front.0 in
       let following = next-piece p tail in
       record {
         read = call.read;
@@ -446,8 +447,8 @@ module _ (b : List Row) (d : List Sequence) (left mid left' : Option (List ℕ))
           given = before;
           next = Some p;
           rest = following.0;
-          parts = ap (encode_pieces b d) front.1
-              ∙ ap up_to_refused (map-append (told_piece b d) (ran.told ++ x ∷ []) front.0 ∙ ap (λ l. l ++ tail) (one-more b d ran.told x) ∙ append_assoc before (p ∷ []) tail)
+          parts = ap (encode_pieces form b d) front.1
+              ∙ ap up_to_refused (map-append (told_piece form b d) (ran.told ++ x ∷ []) front.0 ∙ ap (λ l. l ++ tail) (one-more form b d ran.told x) ∙ append_assoc before (p ∷ []) tail)
               ∙ ran.open' (p ∷ tail) ∙ ap (λ l. before ++ l) following.1;
           between_output = w1;
           between_errors = e1;
@@ -464,15 +465,15 @@ module _ (b : List Row) (d : List Sequence) (left mid left' : Option (List ℕ))
     again = let N : Result (Option Document) ReadFault → Type 0 = λ x. ReadsSo mid left' s s' x so.octets in (subst N is so.reads).0
 
     -- the pieces of all that was told stand before those of what is known beyond
-    told-part : (all more : List Told) → all ≡ ran.told ++ more → WrittenInPart w w2 e e2 (encode_pieces b d all)
+    told-part : (all more : List Told) → all ≡ ran.told ++ more → WrittenInPart w w2 e e2 (encode_pieces form b d all)
     told-part all more parts =
         let G : Option (List ℕ) → Type 0 = λ x. GrowsByFront w1 x [] in
         let H : Option (List ℕ) → Type 0 = λ x. GrowsByFront e1 x [] in
         record {
-          given = map (told_piece b d) ran.told;
+          given = map (told_piece form b d) ran.told;
           next = None;
-          rest = up_to_refused (map (told_piece b d) more);
-          parts = ap (encode_pieces b d) parts ∙ ap up_to_refused (map-append (told_piece b d) ran.told more) ∙ ran.open' (map (told_piece b d) more);
+          rest = up_to_refused (map (told_piece form b d) more);
+          parts = ap (encode_pieces form b d) parts ∙ ap up_to_refused (map-append (told_piece form b d) ran.told more) ∙ ran.open' (map (told_piece form b d) more);
           between_output = w1;
           between_errors = e1;
           whole = ran.written;
@@ -480,10 +481,10 @@ module _ (b : List Row) (d : List Sequence) (left mid left' : Option (List ℕ))
           errors = subst H (sym same_e) (grows-nil e1);
         }
 
-    pub stops-memory : (bs : List ℕ) × EncodeCut (encode_pieces b d) left left' w w2 e e2 (Unit {0}) bs
+    pub stops-memory : (bs : List ℕ) × EncodeCut (encode_pieces form b d) left left' w w2 e e2 (Unit {0}) bs
     stops-memory = by s.ended refl
       where
-        by : (ended : Bool) → s.ended ≡ ended → (bs : List ℕ) × EncodeCut (encode_pieces b d) left left' w w2 e e2 (Unit {0}) bs
+        by : (ended : Bool) → s.ended ≡ ended → (bs : List ℕ) × EncodeCut (encode_pieces form b d) left left' w w2 e e2 (Unit {0}) bs
         by true ended =
             let end = ran.call.end (λ start. absurd (false≢true start)) ended in (
               ran.octets,
@@ -507,11 +508,11 @@ module _ (b : List Row) (d : List Sequence) (left mid left' : Option (List ℕ))
         )
 
   -- the run was stopped
-  pub stops : (w2 e2 : Option (List ℕ)) (tell : Result (Option Verdict) RunFault) (f : RunFault) (r : Result Tally RunFault) → TellsNext w1 w2 e1 e2 (told_piece b d) next tell → tell ≡ Err f → r ≡ Err f
-      → (bs : List ℕ) × EncodeSo (encode_pieces b d) left left' w w2 e e2 (Unit {0}) bs r
+  pub stops : (w2 e2 : Option (List ℕ)) (tell : Result (Option Verdict) RunFault) (f : RunFault) (r : Result Tally RunFault) → TellsNext w1 w2 e1 e2 (told_piece form b d) next tell → tell ≡ Err f → r ≡ Err f
+      → (bs : List ℕ) × EncodeSo (encode_pieces form b d) left left' w w2 e e2 (Unit {0}) bs r
   stops w2 e2 tell f r tells fails same =
-      let P : Result Tally RunFault → Type 0 = λ x. (bs : List ℕ) × EncodeSo (encode_pieces b d) left left' w w2 e e2 (Unit {0}) bs x in
-      let T : Result (Option Verdict) RunFault → Type 0 = λ x. TellsNext w1 w2 e1 e2 (told_piece b d) next x in
+      let P : Result Tally RunFault → Type 0 = λ x. (bs : List ℕ) × EncodeSo (encode_pieces form b d) left left' w w2 e e2 (Unit {0}) bs x in
+      let T : Result (Option Verdict) RunFault → Type 0 = λ x. TellsNext w1 w2 e1 e2 (told_piece form b d) next x in
       subst P (sym same) (by f (subst T fails tells))
     where
       reads-so : (g : RunFault) → next ≡ Err (Run g) → ReadsSo mid left' s s' (Err (Run g)) so.octets
@@ -520,7 +521,7 @@ module _ (b : List Row) (d : List Sequence) (left mid left' : Option (List ℕ))
       ends-so : (g : RunFault) → next ≡ Err (Run g) → EndsSo s' (Err (Run g))
       ends-so g is = let E : Result (Option Document) ReadFault → Type 0 = λ x. EndsSo s' x in subst E is so.ends
 
-      by : (g : RunFault) → TellsNext w1 w2 e1 e2 (told_piece b d) next (Err g) → (bs : List ℕ) × EncodeSo (encode_pieces b d) left left' w w2 e e2 (Unit {0}) bs (Err g)
+      by : (g : RunFault) → TellsNext w1 w2 e1 e2 (told_piece form b d) next (Err g) → (bs : List ℕ) × EncodeSo (encode_pieces form b d) left left' w w2 e e2 (Unit {0}) bs (Err g)
       by Read (is, same_w, same_e) = (
         ran.octets ++ so.octets,
         stops-read w2 e2 same_w same_e (call-then left mid left' fresh s s' ran.told [] ran.octets so.octets ran.call (reads-so Read is)) (ends-so Read is).1,

@@ -11,7 +11,7 @@ use Rattle.bufr_tables.specs.TableB.{Row}
 use Rattle.bufr_tables.specs.declared.kind.Kind.TheVariants.{Numeric}
 use Rattle.bufr_walk.specs.Course.{next_item}
 use Rattle.bufr_text.specs.Documents.{lines_of, spelled, turn}
-use Rattle.bufr_text.specs.Encoding.{encoding_of}
+use Rattle.bufr_text.specs.Encoding.{encoding_in}
 use Rattle.bufr_text.specs.Grammar.{front, behind, behind_word, descriptors_read, fxy_read, hex_read, is_hashed, quoted_read}
 use Rattle.bufr_text.specs.Line.{keys, line_of, place_from, value_read, worded}
 use Rattle.bufr_cli.specs.EncodePieces.{up_to_refused}
@@ -47,5 +47,5 @@ abbrev text_piece : Happening → Piece
 text_piece here = OnOutput (codes "message\nedition 4\nmaster 0\ncentre 98\nsubcentre 0\nupdate 0\ncategory 0\nsubcategory 0\nlocalsubcategory 0\nmasterversion 14\nlocalversion 0\nyear 2024\nmonth 1\nday 2\nhour 3\nminute 4\nsecond 5\nobserved 1\ncompressed 0\noptional 0\nsubsets 1\ndescriptors 001001\nsubset 1\n001001 10  # WMO BLOCK NUMBER [Numeric]\nend\n")
 
 built-of-its-text : rebuilt blocks [] text_piece one_block_number ≡ one_block_number
-unfolding scan_from up_to_refused spelled lines_of turn line_of worded front behind place_from keys behind_word descriptors_read fxy_read value_read quoted_read hex_read is_hashed encoding_of tree_of level part_of inner_of next_item decimal_value_of bits_in bits_of
+unfolding scan_from up_to_refused spelled lines_of turn line_of worded front behind place_from keys behind_word descriptors_read fxy_read value_read quoted_read hex_read is_hashed encoding_in tree_of level part_of inner_of next_item decimal_value_of bits_in bits_of
 built-of-its-text = refl

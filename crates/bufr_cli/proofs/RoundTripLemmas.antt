@@ -29,6 +29,7 @@ use Rattle.bufr_text.proofs.EncodedLemmas.{accepted_again, encoded_again, same_t
 use Rattle.bufr_text.proofs.LawLemmas.{text-spells}
 use Rattle.bufr_text.proofs.RowsLemmas.{rows-read, good-rows}
 use Rattle.bufr_cli.specs.DumpPieces.{IsDataPiece, IsTemplatePiece, IsMessagePiece, IsDumpPiece, dump_text}
+use Rattle.bufr_text.specs.declared.form.Form.TheVariants.{AsWritten}
 use Rattle.bufr_cli.specs.EncodePieces.{encoded, told_piece, up_to_refused}
 use Rattle.bufr_cli.specs.Pieces.{Piece, OnOutput, OnErrors, output_of, errors_of, is_accepted, is_refused}
 use Rattle.bufr_cli.specs.RoundTrip.{accepted_in, accepted_messages, dump_pieces, dumped, octets_in, rebuilding, rebuilt, text_pieces, IsBuiltAgain, IsWholeRound, IsWrittenSo, RoundTrips}
@@ -173,7 +174,7 @@ accepted_of piece es = flat_map (λ here. accepted_in here (piece here)) es
 record Built (b : List Row) (d : List Sequence) (piece : Happening → Piece) (text : List ℕ) (accepted : List (List ℕ)) (pieces : List Piece) (most line : ℕ) : Type 0 where
   messages : List (List ℕ)
   readings : AllZip (IsBuiltAgain b d) accepted messages
-  told : map (told_piece b d) (spelled line Between (lines_of text)) ≡ map OnOutput messages
+  told : map (told_piece AsWritten b d) (spelled line Between (lines_of text)) ≡ map OnOutput messages
   no_longer : length (concat messages) ≤ most
   scanned : (at : ℕ) → scan_from 0 at (concat messages) ≡ placed at messages
   again : (at : ℕ) → map piece (placed at messages) ≡ filter is_accepted pieces
@@ -217,11 +218,11 @@ module _ (b : List Row) (d : List Sequence) (piece : Happening → Piece) (gives
       let legal = (tree_fine (tables_of b d) s.descriptors template a.expands).legal in
       let w = encoded_again b d m s template values used line (good-rows b read) legal a in
       let here : (at : ℕ) → piece (Framed at w.octets) ≡ OnOutput (dump_text_of s items) = λ at. same-piece m s template values used at w.octets a w.same in
-      let rest = map (told_piece b d) (spelled (line + length (dump_lines s items)) Between (lines_of text)) in
+      let rest = map (told_piece AsWritten b d) (spelled (line + length (dump_lines s items)) Between (lines_of text)) in
       record {
         messages = w.octets ∷ r.messages;
         readings = (record { sections = s; template = template; values = values; used = used; accepted = a; same = w.same }, r.readings);
-        told = ap (map (told_piece b d)) (text-spells s items line text (dumpable b d m s template values used read legal a))
+        told = ap (map (told_piece AsWritten b d)) (text-spells s items line text (dumpable b d m s template values used read legal a))
             ∙ ap (λ x. encoded x ∷ rest) w.is ∙ ap (λ l. OnOutput w.octets ∷ l) r.told;
         no_longer = omega (arith, length-append w.octets (concat r.messages), w.same.no_longer, r.no_longer);
         scanned = λ at. w.same.framed at (concat r.messages) ∙ ap (λ l. Framed at w.octets ∷ l) (r.scanned (at + length w.octets));
@@ -251,7 +252,7 @@ module _ (b : List Row) (d : List Sequence) (piece : Happening → Piece) (gives
   built records [] line rows small = record {
     messages = [];
     readings = tt;
-    told = ap (map (told_piece b d)) (nothing-spelled line);
+    told = ap (map (told_piece AsWritten b d)) (nothing-spelled line);
     no_longer = omega arith;
     scanned = λ at. scan_from-nil 0 at;
     again = λ at. refl;
@@ -324,7 +325,7 @@ same-pieces b d p q gives given (here ∷ es) =
 
 -- three runs of the program
 pub three-runs : (records : List Record) (b : List Row) (d : List Sequence) (stream text messages lines again faults : List ℕ) (e e' : Option (List ℕ)) (first second third : Tally) → AreRows records b → AllByRecursion IsOctet stream
-    → Dumps b d (Some []) (Some text) e e' first stream → Encodes b d (Some []) (Some messages) (Some []) (Some lines) second text → Dumps b d (Some []) (Some again) (Some []) (Some faults) third messages
+    → Dumps b d (Some []) (Some text) e e' first stream → Encodes AsWritten b d (Some []) (Some messages) (Some []) (Some lines) second text → Dumps b d (Some []) (Some again) (Some []) (Some faults) third messages
     → IsWholeRound stream text messages lines again faults first second third
 three-runs records b d stream text messages lines again faults e e' first second third rows octets (piece, gives, (wrote, counts)) (encodes, counted) (other, given, (dumps, counts')) =
     let same : dump_pieces other messages ≡ dump_pieces piece messages = same-pieces b d other piece given gives (scan messages) in

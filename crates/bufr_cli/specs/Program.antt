@@ -9,6 +9,7 @@ use Rattle.bufr_tables.specs.Records.{records_of}
 use Rattle.bufr_tables.specs.Steps.{Gives}
 use Rattle.bufr_tables.specs.TableB.{Row, table_b_of}
 use Rattle.bufr_tables.specs.TableD.{Sequence}
+use Rattle.bufr_text.specs.declared.form.Form.{Form}
 use Rattle.bufr_text.specs.Documents.{documents_of}
 use Rattle.bufr_cli.specs.DumpPieces.{IsDumpPiece}
 use Rattle.bufr_cli.specs.EncodePieces.{encode_pieces}
@@ -78,8 +79,8 @@ abbrev pub Dumps : List Row → List Sequence → (w w' e e' : Option (List ℕ)
 Dumps b d w w' e e' tally s = (piece : Happening → Piece) × GivesPieces (IsDumpPiece b d) piece × Tells w w' e e' tally (map piece (scan s))
 
 -- the pieces that `encode` has for the octets by these tables were written and counted
-abbrev pub Encodes : List Row → List Sequence → (w w' e e' : Option (List ℕ)) → Tally → List ℕ → Type 0
-Encodes b d w w' e e' tally s = Tells w w' e e' tally (encode_pieces b d (documents_of s))
+abbrev pub Encodes : Form → List Row → List Sequence → (w w' e e' : Option (List ℕ)) → Tally → List ℕ → Type 0
+Encodes form b d w w' e e' tally s = Tells w w' e e' tally (encode_pieces form b d (documents_of s))
 
 -- what comes of a run by tables: Table B is not read, or Table B is and Table D is not, or there is a run by both
 pub data TablesOutcome (ran : List Row → List Sequence → Tally → List ℕ → Type 0) (standard : Option (List ℕ)) (named : List ℕ → Option (List ℕ)) (tables : TableNames) (file : Option (Bor (List ℕ))) (outcome : Outcome) : Type 0 where
@@ -92,14 +93,14 @@ abbrev pub DumpOutcome : (standard : Option (List ℕ)) → (named : List ℕ �
 DumpOutcome standard named tables file w w' e e' outcome = TablesOutcome (λ b d. Dumps b d w w' e e') standard named tables file outcome
 
 -- what comes of an encoding
-abbrev pub EncodeOutcome : (standard : Option (List ℕ)) → (named : List ℕ → Option (List ℕ)) → TableNames → (file : Option (Bor (List ℕ))) → (w w' e e' : Option (List ℕ)) → Outcome → Type 0
-EncodeOutcome standard named tables file w w' e e' outcome = TablesOutcome (λ b d. Encodes b d w w' e e') standard named tables file outcome
+abbrev pub EncodeOutcome : (standard : Option (List ℕ)) → (named : List ℕ → Option (List ℕ)) → TableNames → Form → (file : Option (Bor (List ℕ))) → (w w' e e' : Option (List ℕ)) → Outcome → Type 0
+EncodeOutcome standard named tables form file w w' e e' outcome = TablesOutcome (λ b d. Encodes form b d w w' e e') standard named tables file outcome
 
 -- what comes of a job
 abbrev pub CommandOutcome : (standard : Option (List ℕ)) → (named : List ℕ → Option (List ℕ)) → Subcommand → (file : Option (Bor (List ℕ))) → (w w' e e' : Option (List ℕ)) → Outcome → Type 0
 CommandOutcome standard named Ls file w w' e e' outcome = RunOutcome (λ tally s. Tells w w' e e' tally (ls_pieces s)) standard named file outcome
 CommandOutcome standard named (Dump tables) file w w' e e' outcome = DumpOutcome standard named tables file w w' e e' outcome
-CommandOutcome standard named (Encode tables) file w w' e e' outcome = EncodeOutcome standard named tables file w w' e e' outcome
+CommandOutcome standard named (Encode tables form) file w w' e e' outcome = EncodeOutcome standard named tables form file w w' e e' outcome
 
 abbrev pub OutcomeSo : (standard : Option (List ℕ)) → (named : List ℕ → Option (List ℕ)) → Job → (w w' e e' : Option (List ℕ)) → Outcome → Type 0
 OutcomeSo standard named job w w' e e' outcome = CommandOutcome standard named job.command job.file w w' e e' outcome

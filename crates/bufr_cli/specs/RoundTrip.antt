@@ -12,6 +12,7 @@ use Rattle.bufr_walk.specs.Reading.{Values}
 use Rattle.bufr_text.specs.Canonical.{IsCanonical}
 use Rattle.bufr_text.specs.Documents.{documents_of}
 use Rattle.bufr_text.specs.Encoded.{IsAccepted, HasSameReading}
+use Rattle.bufr_text.specs.declared.form.Form.TheVariants.{AsWritten}
 use Rattle.bufr_cli.specs.EncodePieces.{encode_pieces}
 use Rattle.bufr_cli.specs.Pieces.{Piece, OnOutput, OnErrors, output_of, errors_of, is_accepted, is_refused}
 use Rattle.bufr_cli.specs.Running.{Tallies}
@@ -28,7 +29,7 @@ dumped piece s = flat_map output_of (dump_pieces piece s)
 
 -- what `encode` writes for a text
 abbrev pub text_pieces : List Row → List Sequence → (text : List ℕ) → List Piece
-text_pieces b d text = encode_pieces b d (documents_of text)
+text_pieces b d text = encode_pieces AsWritten b d (documents_of text)
 
 -- what `encode` writes for the dump text of a stream, and what of that is on its output
 abbrev pub rebuilding : List Row → List Sequence → (Happening → Piece) → List ℕ → List Piece

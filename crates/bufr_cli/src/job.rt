@@ -2,9 +2,11 @@
 ghost use Rattle.std.specs.Prelude.{◌≡◌, IfErr, IfNone, IfOk, IfSome, codes, map, false, Some};
 ghost use Rattle.clap.specs.declared.builder.command.Command.TheViews.{out-Command};
 ghost use Rattle.clap.specs.Values.{kind_of};
-ghost use Rattle.clap.specs.Words.{app_of, fault_of, found_of, rows_of, rule_of, subcommand_of};
-ghost use Rattle.bufr_cli.specs.Line.{bufr_app, ls_app, name_of, table_rule, tables_app, AreNamed, HasNoJob, HasTables, IsJobOf, LacksTables, SaysWhy, TellsKind};
+ghost use Rattle.clap.specs.Words.{app_of, fault_of, first_of, found_of, rows_of, rule_of, subcommand_of};
+ghost use Rattle.bufr_text.specs.declared.form.Form.{Form};
+ghost use Rattle.bufr_cli.specs.Line.{bufr_app, encode_app, form_rule, ls_app, name_of, table_rule, tables_app, word_of, AreNamed, HasNoJob, HasTables, IsJobOf, LacksForm, LacksTables, SaysWhy, TellsKind};
 
+use bufr_text::Form;
 use clap::error::ErrorKind;
 use clap::{Arg, ArgMatches, Error};
 use std::alloc::{AllocError, Global};
@@ -26,8 +28,8 @@ pub enum Subcommand<'a> {
     Ls,
     /// `bufr dump`: write the messages as text, by these tables.
     Dump(TableNames<'a>),
-    /// `bufr encode`: write the messages that a text spells, by these tables.
-    Encode(TableNames<'a>),
+    /// `bufr encode`: write the messages that a text spells, by these tables, in this form.
+    Encode(TableNames<'a>, Form),
 }
 
 /// What a command line asks for.
@@ -120,6 +122,8 @@ error that tells the line of the text, from 1, and the fault's number:
   58-59  compressed data: unequal factor, increment
   60-61  a message too long, a header value out of its range
   62     data that the template cannot hold
+With --form plain or --form compressed all messages are written in that form,
+whatever their documents say; 58 and 59 tell what cannot be compressed.
   70-73  reading, writing, an endless input, memory
 Of a document that is refused nothing goes to standard output. A table at fault
 is told before the input is opened:
@@ -130,8 +134,10 @@ Exit status:
   1  a document was refused
   2  the command line, a file, a table, reading, writing or memory failed
 
-Example:
-  bufr encode -B b.csv -D d.csv bulletins.txt > bulletins.bufr";
+Examples:
+  bufr encode -B b.csv -D d.csv bulletins.txt > bulletins.bufr
+  bufr dump -B b.csv -D d.csv plain.bufr |
+    bufr encode -B b.csv -D d.csv --form compressed > compressed.bufr";
 
 impl From<AllocError> for LineFault {
     ghost use Rattle.std.specs.Prelude.{◌≡◌};
@@ -200,14 +206,25 @@ fn dump_command<'a>(alloc: Global) -> Result<clap::Command<'a>, AllocError>
     command_with_tables(alloc, "dump", about, DUMP_NOTES, file)
 }
 
-/// `bufr encode -B FILE -D FILE [FILE]`.
+/// The option of the form.
+fn form_option<'a>(alloc: Global) -> Arg<'a>
+    ensures rule { rule_of result ≡ form_rule }
+    ensures global { result.global ≡ false }
+{
+    Arg::new(alloc, "form").long("form").value_name("WORD").help(
+        "plain or compressed; without it the form that each document says",
+    )
+}
+
+/// `bufr encode -B FILE -D FILE [--form WORD] [FILE]`.
 fn encode_command<'a>(alloc: Global) -> Result<clap::Command<'a>, AllocError>
-    ensures app { IfOk result (λ c. app_of c ≡ tables_app (codes "encode")) }
+    ensures app { IfOk result (λ c. app_of c ≡ encode_app) }
     ensures local { IfOk result (λ c. (out-Command c).has_globals ≡ false) }
 {
     let about = "Writes the BUFR message of each document";
     let file = "The text to encode; standard input without it";
-    command_with_tables(alloc, "encode", about, ENCODE_NOTES, file)
+    let command = command_with_tables(alloc, "encode", about, ENCODE_NOTES, file)?;
+    command.arg(form_option(alloc))
 }
 
 /// The command line of `bufr`.
@@ -257,7 +274,32 @@ fn tables_of<'a>(found: &ArgMatches<'a>) -> Option<TableNames<'a>>
     Some(TableNames { table_b, table_d })
 }
 
-/// The subcommand of this name, where it is known and its tables are there.
+/// The form of this name, where there is one.
+fn form_named(word: &str) -> Option<Form>
+    ensures named { IfSome result (λ form. word_of form ≡ Some word.now) }
+    ensures lacks { IfNone result ((form : Form) → ¬ (word_of form ≡ Some word.now)) }
+{
+    if word == "plain" {
+        return Some(Form::Plain);
+    }
+    if word == "compressed" {
+        return Some(Form::Compressed);
+    }
+    None
+}
+
+/// The form that is asked for, where it is known.
+fn form_of(found: &ArgMatches<'_>) -> Option<Form>
+    ensures named { IfSome result (λ form. word_of form ≡ first_of (codes "form") (rows_of (found_of found.now))) }
+    ensures lacks { IfNone result (LacksForm (rows_of (found_of found.now))) }
+{
+    match found.get_str("form") {
+        None => Some(Form::AsWritten),
+        Some(word) => form_named(word),
+    }
+}
+
+/// The subcommand of this name, where it is known, and its tables and form too.
 fn command_of<'a>(name: &str, found: &ArgMatches<'a>) -> Option<Subcommand<'a>>
     ensures name { IfSome result (λ command. name.now ≡ name_of command) }
     ensures tables { IfSome result (HasTables (rows_of (found_of found.now))) }
@@ -272,12 +314,13 @@ fn command_of<'a>(name: &str, found: &ArgMatches<'a>) -> Option<Subcommand<'a>>
     }
     if name == "encode" {
         let tables = tables_of(found)?;
-        return Some(Subcommand::Encode(tables));
+        let form = form_of(found)?;
+        return Some(Subcommand::Encode(tables, form));
     }
     None
 }
 
-/// The job of a subcommand that was met, where it is known and its tables are there.
+/// The job of a subcommand that was met, where it is known, and its tables and form too.
 fn job_of<'a>(name: &str, found: &ArgMatches<'a>) -> Option<Job<'a>>
     ensures job { IfSome result (IsJobOf (Some (name.now, rows_of (found_of found.now)))) }
     ensures lacks { IfNone result (HasNoJob (Some (name.now, rows_of (found_of found.now)))) }
@@ -298,7 +341,7 @@ fn job_of<'a>(name: &str, found: &ArgMatches<'a>) -> Option<Job<'a>>
 /// # Errors
 ///
 /// [`LineFault::Help`] where help or the version is asked for, [`LineFault::Usage`] where the words are not
-/// understood, no command is among them or a table is missing, and [`LineFault::Memory`].
+/// understood, no command is among them, a table is missing or a form unknown, and [`LineFault::Memory`].
 pub fn parse_line<'a, S: AsStr>(alloc: Global, words: &'a [S]) -> Result<Job<'a>, LineFault>
     ensures job { IfOk result (λ job. IsJobOf (subcommand_of bufr_app (map S.text words.entry.now)) job) }
     // Help only where clap's rules for the line ask for it, a usage fault only where they refuse it or no job is met.
@@ -313,7 +356,8 @@ pub fn parse_line<'a, S: AsStr>(alloc: Global, words: &'a [S]) -> Result<Job<'a>
         Some((name, found)) => match job_of(name, found) {
             Some(job) => Ok(job),
             None => {
-                let text = "error: a command or table is unknown\n";
+                let text =
+                    "error: a command or table is unknown, or --form is not plain or compressed\n";
                 Err(LineFault::Usage(String::from_str(alloc, text)?))
             }
         },

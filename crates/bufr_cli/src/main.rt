@@ -33,6 +33,8 @@ mod encode_fault_tests;
 #[cfg(test)]
 mod encode_tests;
 #[cfg(test)]
+mod form_tests;
+#[cfg(test)]
 mod program_tests;
 #[cfg(test)]
 mod test_messages;

@@ -17,13 +17,13 @@ use crate::finish::{Outcome, finish};
 use crate::job::{Job, LineFault, Subcommand, TableNames, parse_line};
 use crate::read_all::read_all;
 use crate::run_dump::run_dump;
-use crate::run_encode::run_encode;
+use crate::run_encode::run_encode_form;
 use crate::run_ls::run_ls;
 use crate::tally::Tally;
 use bufr_bits::{Device, Sink};
 use bufr_frame::RunFault;
 use bufr_tables::{TableB, TableD};
-use bufr_text::write_all;
+use bufr_text::{Form, write_all};
 use std::alloc::Global;
 use std::convert::AsStr;
 use std::io::{BufReader, Read};
@@ -119,7 +119,7 @@ fn run_job<'a, I: Inputs, W: Sink, E: Sink>(
     match command {
         Subcommand::Ls => list_input(alloc, file, inputs, w, e),
         Subcommand::Dump(tables) => dump_job(alloc, tables, file, inputs, w, e),
-        Subcommand::Encode(tables) => encode_job(alloc, tables, file, inputs, w, e),
+        Subcommand::Encode(tables, form) => encode_job(alloc, tables, form, file, inputs, w, e),
     }
 }
 
@@ -145,16 +145,17 @@ fn dump_job<'a, I: Inputs, W: Sink, E: Sink>(
     dump_input(alloc, file, inputs, &table_b, &table_d, w, e)
 }
 
-/// Reads Table B, then Table D, and encodes the documents of an input by them.
+/// Reads Table B, then Table D, and encodes the documents of an input by them in a form.
 fn encode_job<'a, I: Inputs, W: Sink, E: Sink>(
     alloc: Global,
     tables: TableNames<'a>,
+    form: Form,
     file: Option<&'a str>,
     inputs: &I,
     w: &mut W,
     e: &mut E,
 ) -> Outcome<'a>
-    ensures { EncodeOutcome (I.standard_octets inputs.now) (I.file_octets inputs.now) tables.entry file.entry (W.taken w.old) (W.taken w.new) (E.taken e.old) (E.taken e.new) result }
+    ensures { EncodeOutcome (I.standard_octets inputs.now) (I.file_octets inputs.now) tables.entry form file.entry (W.taken w.old) (W.taken w.new) (E.taken e.old) (E.taken e.new) result }
 {
     let table_b = match read_table_b(alloc, tables.table_b, inputs) {
         Ok(table) => table,
@@ -164,7 +165,7 @@ fn encode_job<'a, I: Inputs, W: Sink, E: Sink>(
         Ok(table) => table,
         Err(outcome) => return outcome,
     };
-    encode_input(alloc, file, inputs, &table_b, &table_d, w, e)
+    encode_input(alloc, form, file, inputs, &table_b, &table_d, w, e)
 }
 
 /// The file of this name.
@@ -303,9 +304,10 @@ fn dump_input<'a, I: Inputs, W: Sink, E: Sink>(
     }
 }
 
-/// Encodes the documents of a file, or of standard input.
+/// Encodes the documents of a file, or of standard input, in a form.
 fn encode_input<'a, I: Inputs, W: Sink, E: Sink>(
     alloc: Global,
+    form: Form,
     file: Option<&'a str>,
     inputs: &I,
     table_b: &TableB,
@@ -313,12 +315,12 @@ fn encode_input<'a, I: Inputs, W: Sink, E: Sink>(
     w: &mut W,
     e: &mut E,
 ) -> Outcome<'a>
-    ensures { RunOutcome (Encodes table_b.now table_d.now (W.taken w.old) (W.taken w.new) (E.taken e.old) (E.taken e.new)) (I.standard_octets inputs.now) (I.file_octets inputs.now) file.entry result }
+    ensures { RunOutcome (Encodes form table_b.now table_d.now (W.taken w.old) (W.taken w.new) (E.taken e.old) (E.taken e.new)) (I.standard_octets inputs.now) (I.file_octets inputs.now) file.entry result }
 {
     match file {
-        None => outcome_of(encode(alloc, inputs.standard(), table_b, table_d, w, e)),
+        None => outcome_of(encode(alloc, inputs.standard(), form, table_b, table_d, w, e)),
         Some(name) => match open_file(name, inputs) {
-            Ok(input) => outcome_of(encode(alloc, input, table_b, table_d, w, e)),
+            Ok(input) => outcome_of(encode(alloc, input, form, table_b, table_d, w, e)),
             Err(outcome) => outcome,
         },
     }
@@ -369,22 +371,23 @@ fn dump<R: Read + Drop, W: Sink, E: Sink>(
     ran
 }
 
-/// Encodes the documents of an input.
+/// Encodes the documents of an input in a form.
 fn encode<R: Read + Drop, W: Sink, E: Sink>(
     alloc: Global,
     input: R,
+    form: Form,
     table_b: &TableB,
     table_d: &TableD,
     w: &mut W,
     e: &mut E,
 ) -> Result<Tally, RunFault>
-    ensures { IfOk result (λ tally. IfSome (R.remaining input) (Encodes table_b.now table_d.now (W.taken w.old) (W.taken w.new) (E.taken e.old) (E.taken e.new) tally)) }
+    ensures { IfOk result (λ tally. IfSome (R.remaining input) (Encodes form table_b.now table_d.now (W.taken w.old) (W.taken w.new) (E.taken e.old) (E.taken e.new) tally)) }
 {
     let Ok(input) = BufReader::with_capacity(alloc, BUFFERED, input) else {
         return Err(RunFault::Memory);
     };
     let mut input = Device::new(input);
-    let ran = run_encode(alloc, &mut input, w, e, table_b, table_d);
+    let ran = run_encode_form(alloc, &mut input, w, e, table_b, table_d, form);
     if ran.is_err() {
         // what was written before the fault is handed on too
         let _ = w.flush();

@@ -10,6 +10,7 @@ use crate::tests::{LINE, ONE_BLOCK_NUMBER};
 use bufr_bits::{End, ScriptOut};
 use bufr_frame::RunFault;
 use bufr_tables::{Fxy, TableD, TableFault};
+use bufr_text::Form;
 use std::alloc::{AllocError, Global};
 use std::io::{self, ErrorKind, Read};
 use std::process::Abort;
@@ -61,9 +62,46 @@ fn parses_lines_with_tables(rt: HostRuntime) -> Result<(), Fail> {
         assert!(rt; job.file == *file, "{words:?}");
         let words = line_of(rt.alloc(), "encode", *arguments)?;
         let job = parse_line(rt.alloc(), words.as_slice()).expect(&rt, "a job");
-        assert!(rt; job.command == Subcommand::Encode(TABLE_NAMES), "{words:?}");
+        assert!(rt;
+            job.command == Subcommand::Encode(TABLE_NAMES, Form::AsWritten),
+            "{words:?}"
+        );
         assert!(rt; job.file == *file, "{words:?}");
     }
+    Ok(())
+}
+
+/// What stands behind `encode` with its tables, and the form that it asks for.
+static FORMS: [(&[&str], Form); 3] = [
+    (
+        &["-B", "b.csv", "-D", "d.csv", "--form", "plain"],
+        Form::Plain,
+    ),
+    (
+        &["--form=compressed", "-B", "b.csv", "-D", "d.csv"],
+        Form::Compressed,
+    ),
+    (&["-B", "b.csv", "-D", "d.csv"], Form::AsWritten),
+];
+
+#[test]
+fn parses_forms(rt: HostRuntime) -> Result<(), Fail> {
+    for (arguments, form) in &FORMS {
+        let words = line_of(rt.alloc(), "encode", *arguments)?;
+        let job = parse_line(rt.alloc(), words.as_slice()).expect(&rt, "a job");
+        assert!(rt;
+            job.command == Subcommand::Encode(TABLE_NAMES, *form),
+            "{words:?}"
+        );
+    }
+    let other = ["bufr", "encode", "-B", "b", "-D", "d", "--form", "other"];
+    assert_usage(&rt, other.as_slice(), "--form is not plain or compressed");
+    let of_dump = ["bufr", "dump", "-B", "b", "-D", "d", "--form", "plain"];
+    assert_usage(
+        &rt,
+        of_dump.as_slice(),
+        "unexpected argument '--form' found",
+    );
     Ok(())
 }
 
@@ -164,9 +202,10 @@ fn gives_help(rt: HostRuntime) {
         (
             &["bufr", "encode", "--help"],
             &[
-                "Usage: bufr encode -B <FILE> -D <FILE> [FILE]",
+                "Usage: bufr encode [OPTIONS] -B <FILE> -D <FILE> [FILE]",
                 "-B <FILE>",
                 "-D <FILE>",
+                "--form <WORD>",
                 "Exit status:",
                 "bufr encode -B b.csv -D d.csv",
             ],

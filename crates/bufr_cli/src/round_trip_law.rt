@@ -6,6 +6,7 @@ ghost use Rattle.bufr_tables.specs.Records.{Record};
 ghost use Rattle.bufr_tables.specs.TableB.{Row, AreRows};
 ghost use Rattle.bufr_tables.specs.TableD.{Sequence};
 ghost use Rattle.bufr_text.specs.Given.{IsOctet};
+ghost use Rattle.bufr_text.specs.declared.form.Form.TheVariants.{AsWritten};
 ghost use Rattle.bufr_cli.specs.DumpPieces.{IsDumpPiece};
 ghost use Rattle.bufr_cli.specs.Pieces.{Piece};
 ghost use Rattle.bufr_cli.specs.Program.{Dumps, Encodes};
@@ -39,7 +40,7 @@ pub fn runs_close_the_round()
     ensures { (records : List Record) (table_b : List Row) (table_d : List Sequence) (stream text messages lines again faults : List ℕ) (e e' : Option (List ℕ)) (first second third : Tally)
         → AreRows records table_b → AllByRecursion IsOctet stream
         → Dumps table_b table_d (Some []) (Some text) e e' first stream
-        → Encodes table_b table_d (Some []) (Some messages) (Some []) (Some lines) second text
+        → Encodes AsWritten table_b table_d (Some []) (Some messages) (Some []) (Some lines) second text
         → Dumps table_b table_d (Some []) (Some again) (Some []) (Some faults) third messages
         → IsWholeRound stream text messages lines again faults first second third }
 {}

@@ -2,24 +2,26 @@
 //! own proof does not have to carry the run's contract.
 
 use crate::run_dump::run_dump;
-use crate::run_encode::run_encode;
+use crate::run_encode::{run_encode, run_encode_form};
 use crate::run_ls::run_ls;
 use crate::tally::Tally;
 use crate::test_messages::{TABLE_B, TABLE_D};
 use bufr_bits::{End, ScriptIn, ScriptOut, Source};
 use bufr_frame::RunFault;
 use bufr_tables::{TableB, TableD};
+use bufr_text::Form;
 use std::alloc::Global;
 use std::ops::Range;
 use std::process::Abort;
 use std::test::Fail;
 
-/// The three commands.
+/// The three commands, and `encode` in a form.
 #[derive(Clone, Copy)]
 pub(crate) enum Command {
     Ls,
     Dump,
     Encode,
+    EncodeIn(Form),
 }
 
 /// What a run answered, and its writers.
@@ -82,6 +84,9 @@ fn run_by<R: Source>(
         Command::Ls => run_ls(alloc, input, &mut output, &mut errors),
         Command::Dump => run_dump(alloc, input, &mut output, &mut errors, b, d),
         Command::Encode => run_encode(alloc, input, &mut output, &mut errors, b, d),
+        Command::EncodeIn(form) => {
+            run_encode_form(alloc, input, &mut output, &mut errors, b, d, form)
+        }
     };
     Ran {
         answer,

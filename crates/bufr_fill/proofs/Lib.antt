@@ -12,6 +12,10 @@ pub mod PackedLaws
 pub mod LeastPacked
 pub mod PackedTrip
 pub mod WholeLaws
+pub mod PlainForm
+pub mod PackedFits
+pub mod PackedForm
+pub mod OtherFormLaws
 pub mod WalkFills
 pub mod Across
 pub mod GoodSpecs

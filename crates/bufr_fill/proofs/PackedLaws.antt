@@ -356,7 +356,7 @@ zero_or_some k b p q = grind (arith, nat_tests)
 
 module _ (n : ℕ) (spec : Asked) (good : IsSpec spec) where
   -- contents that are all the same
-  uniform : (c : Content) (cs : List Content) (most : ℕ) → Fits spec c → are_same c cs ≡ true → length (c ∷ cs) ≡ n → spec.width + 6 ≤ most → IsPacked n spec (c ∷ cs) most
+  pub uniform : (c : Content) (cs : List Content) (most : ℕ) → Fits spec c → are_same c cs ≡ true → length (c ∷ cs) ≡ n → spec.width + 6 ≤ most → IsPacked n spec (c ∷ cs) most
   uniform c cs most fits same_all count room =
       let base = bits_for spec.width c in
       let lb : length base ≡ spec.width = content_length spec good c fits in
@@ -376,7 +376,7 @@ module _ (n : ℕ) (spec : Asked) (good : IsSpec spec) where
       }
 
   -- contents that differ, of an element
-  differing : (r : Role) → spec.role ≡ r → ((k : ℕ) → step_of r spec.kind k ≡ step_by spec.kind k) → ((k : ℕ) (base : List Bool) (is : List (List Bool)) → varied r spec k base is ≡ varied_by spec.kind spec k base is) → ((xs : List Content) → packed_unlike r spec xs ≡ packed_by spec.kind spec xs)
+  pub differing : (r : Role) → spec.role ≡ r → ((k : ℕ) → step_of r spec.kind k ≡ step_by spec.kind k) → ((k : ℕ) (base : List Bool) (is : List (List Bool)) → varied r spec k base is ≡ varied_by spec.kind spec k base is) → ((xs : List Content) → packed_unlike r spec xs ≡ packed_by spec.kind spec xs)
       → ((x : Content) → FitsKind spec.kind spec.may_be_missing spec.width x → Fits spec x) → (c : Content) (cs : List Content) (k most : ℕ) → 1 ≤ k → k ≤ 63 → IsVaried spec.kind spec.may_be_missing spec.width k (c ∷ cs) → are_same c cs ≡ false → length (c ∷ cs) ≡ n → spec.width + 6 + n * step_by spec.kind k ≤ most → IsPacked n spec (c ∷ cs) most
   differing r er steps variations packings fit c cs k most some small varies unlike count room =
       let w = item_written spec (c ∷ cs) k some small spec.kind good.width varies in
@@ -412,7 +412,7 @@ module _ (n : ℕ) (spec : Asked) (good : IsSpec spec) where
   first_fits_kind kind.Coded k c cs v = v.0.0
   first_fits_kind kind.Numeric k c cs v = v.0.0
 
-  step_element : (r : Role) (kd : Kind) (k : ℕ) → r ≢ role.Reference → step_of r kd k ≡ step_by kd k
+  pub step_element : (r : Role) (kd : Kind) (k : ℕ) → r ≢ role.Reference → step_of r kd k ≡ step_by kd k
   step_element role.Element kind.Character k h = refl
   step_element role.Element kind.Coded k h = refl
   step_element role.Element kind.Numeric k h = refl

@@ -24,7 +24,7 @@ one_here : (spec : Asked) → IsSpec spec → (c : Content) (d : Option Draft) (
 one_here spec good c None end_line fits h = absurd h
 one_here spec good c (Some d) end_line fits h = ap (placed d.line) (ap (content_of spec) (same_draft spec c d h) ∙ draft_again spec good d.line c fits)
 
-all_here : (spec : Asked) → IsSpec spec → (cs : List Content) (cells : List Cell) → AllFit spec cs → AreCellsOf spec cs cells → contents_here spec cells ≡ Ok cs
+pub all_here : (spec : Asked) → IsSpec spec → (cs : List Content) (cells : List Cell) → AllFit spec cs → AreCellsOf spec cs cells → contents_here spec cells ≡ Ok cs
 all_here spec good [] [] fits h = refl
 all_here spec good [] (cell ∷ cells) fits h = absurd h
 all_here spec good (c ∷ cs) [] fits h = absurd h
@@ -32,7 +32,7 @@ all_here spec good (c ∷ cs) (cell ∷ cells) fits h =
     ap (λ r. r >>= λ first. contents_here spec cells >>= λ rest. Ok (first ∷ rest)) (one_here spec good c cell.draft cell.end_line fits.0 h.0)
     ∙ ap (λ r. r >>= λ rest. Ok (c ∷ rest)) (all_here spec good cs cells fits.1 h.1)
 
-past : (a b : ℕ) → b ≤ a → nat_lt a b ≡ false
+pub past : (a b : ℕ) → b ≤ a → nat_lt a b ≡ false
 past a b h = grind (arith, nat_tests)
 
 across_again : (n : ℕ) (spec : Asked) → IsSpec spec → (cs : List Content) (a : Across) (out : List Bool) → AllFit spec cs → AreCellsOf spec cs a.cells → length a.cells ≡ n → (a.place + 1) * n ≤ most_values → packing spec cs ≡ Ok out → pack_across spec a ≡ Ok (written cs out)

@@ -20,7 +20,7 @@ use Rattle.bufr_fill.proofs.RoundTrip.{IsRewritten}
 use Rattle.bufr_fill.proofs.DraftLaws.{draft_again}
 use Rattle.bufr_fill.proofs.FieldBits.{kind_back, kind_length, kind_fits, signed_back, signed_below}
 
-width_least : (k : Kind) (w : ℕ) → HasWidth k w → 1 ≤ w
+pub width_least : (k : Kind) (w : ℕ) → HasWidth k w → 1 ≤ w
 width_least kind.Character w h = omega (arith, h.0)
 width_least kind.Coded w h = h.0
 width_least kind.Numeric w h = h.0

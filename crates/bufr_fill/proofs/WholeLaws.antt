@@ -57,7 +57,7 @@ pub plain_template_again : (table : List Row) (tree : Tree) (subsets : List (Lis
 plain_template_again table tree subsets drafts bits behind rows legal dumped h =
     plain_again (next_item table tree) subsets drafts bits behind (plain_specs (next_item table tree) subsets bits behind (template_good table tree rows legal) h) dumped h
 
-reads_specs : (n : ℕ) (table : List Row) (tree : Tree) (items : List (Item (List Content))) (bits behind : List Bool) → AreGoodRows table → IsLegal tree → IsPackedReading n (next_item table tree) items bits behind → AllSpecs items
+pub reads_specs : (n : ℕ) (table : List Row) (tree : Tree) (items : List (Item (List Content))) (bits behind : List Bool) → AreGoodRows table → IsLegal tree → IsPackedReading n (next_item table tree) items bits behind → AllSpecs items
 reads_specs zero table tree items bits behind rows legal h = subst AllSpecs (sym h.0) tt
 reads_specs (suc n) table tree items bits behind rows legal h = packed_specs (suc n) (next_item table tree) items bits behind (template_good table tree rows legal) h.0.0
 

@@ -12,6 +12,7 @@ pub mod Filled
 pub mod Fits
 pub mod Limits
 pub mod WrittenAgain
+pub mod OtherForm
 pub mod Drawn
 pub mod PlainOut
 pub mod PackedOut

@@ -10,7 +10,7 @@ ghost use Rattle.bufr_walk.specs.Content.{Content};
 ghost use Rattle.bufr_walk.specs.Course.{Course, next_item, at_end};
 ghost use Rattle.bufr_walk.specs.PackedField.{packed_field};
 ghost use Rattle.bufr_walk.specs.PlainField.{found};
-ghost use Rattle.bufr_walk.specs.Reading.{Item, ReadsSubsets, IsPackedReading};
+ghost use Rattle.bufr_walk.specs.Reading.{most_values, Item, ReadsSubsets, IsPackedReading};
 ghost use Rattle.bufr_walk.specs.Taking.{Turn, Takes, course_after};
 ghost use Rattle.bufr_walk.specs.Walked.{oks, told_by};
 ghost use Rattle.bufr_fill.specs.DraftContent.{plain_filler};
@@ -20,6 +20,7 @@ ghost use Rattle.bufr_fill.specs.Filling.{fill, and_behind};
 ghost use Rattle.bufr_fill.specs.Encoding.{cells_at, packed_filler, packed_data};
 ghost use Rattle.bufr_fill.specs.LeastK.{HasLeastK};
 ghost use Rattle.bufr_fill.specs.PackedOut.{PackedPen, packed_start, PackedFills, all_end, rows_left, IsFaultHere};
+ghost use Rattle.bufr_fill.specs.OtherForm.{IsWrittenApart, IsTogetherOrNot};
 ghost use Rattle.bufr_fill.specs.PlainOut.{Pen, PlainFills, IsFaultNext, items_left, end_left};
 ghost use Rattle.bufr_fill.specs.WrittenAgain.{AreDumped, AreDumpedFrom, IsWrittenAgain, IsPackedAgain};
 
@@ -39,6 +40,19 @@ pub fn packed_data_round_trip()
 /// that the `k` is the least is a choice of this project).
 pub fn items_are_packed_with_the_least_k()
     ensures { (n : ℕ) (spec : Asked) (contents : List Content) (bits behind : List Bool) → 1 ≤ n → IsSpec spec → packed_field n spec bits ≡ Ok (found contents behind) → HasLeastK n spec contents }
+{}
+
+/// What was read of compressed data is written subset after subset, from the items of its dump, to bits from which each subset's
+/// items are read (WMO-No. 306, Volume I.2, FM 94: section 4): such data are never refused in the plain form.
+pub fn compressed_data_are_written_apart()
+    ensures { (n : ℕ) (records : List Record) (table : List Row) (template : Tree) (items : List (Item (List Content))) (drafts : List Subset) (bits behind : List Bool) → AreRows records table → IsLegal template → length drafts ≡ n → AreDumpedFrom 0 items drafts → IsPackedReading n (next_item table template) items bits behind → IsWrittenApart n (next_item table template) items drafts }
+{}
+
+/// What was read of data that are not compressed is written together, from the items of its dump, to bits from which the items
+/// of each subset are read; or their factors differ, or no increments tell their contents apart, and nothing else is at fault
+/// (WMO-No. 306, Volume I.2, FM 94: section 4, compression).
+pub fn plain_data_are_written_together()
+    ensures { (records : List Record) (table : List Row) (template : Tree) (subsets : List (List (Item Content))) (drafts : List Subset) (bits behind : List Bool) → length bits ≤ most_values → AreRows records table → IsLegal template → AreDumped subsets drafts → ReadsSubsets (next_item table template) subsets bits behind → IsTogetherOrNot (next_item table template) subsets drafts }
 {}
 
 /// A walk over the items of one subset writes what the definition makes of them, up to those that are left.

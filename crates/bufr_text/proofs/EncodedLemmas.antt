@@ -34,7 +34,7 @@ use Rattle.bufr_fill.proofs.WholeLaws.{plain_template_again, packed_template_aga
 use Rattle.bufr_text.specs.Document.{Document, Entry, Ends}
 use Rattle.bufr_text.specs.Dump.{Item, bit, form_of, item_entries, subset_entries, document_of, dump_text_of, lines_before}
 use Rattle.bufr_text.specs.Dumped.{value_of, items_apart, items_together, subsets_together}
-use Rattle.bufr_text.specs.Encoding.{too_long, refused_at, ◌>>=◌, told_of_template, told_of_items, drafts_of, data_bits, octets_of_bits, parts_in, message_of, encoding_of}
+use Rattle.bufr_text.specs.Encoding.{too_long, refused_at, ◌>>=◌, told_of_template, told_of_items, drafts_of, data_bits, octets_of_bits, parts_in, message_of, encoding_in, encoding_of}
 use Rattle.bufr_text.specs.Encoded.{IsAccepted, items_in, SaySame, HasSameReading, IsEncodedAgain}
 use Rattle.bufr_text.specs.Header.{head_in, compressed_in}
 use Rattle.bufr_text.proofs.DumpableLemmas.{octets_are, sections_given}
@@ -111,10 +111,10 @@ all_together table at (suc n) j items =
 
 -- ---- the octets of the data
 
-padded : (bits : List Bool) → length (bits ++ padding (length bits)) ≡ 8 * ((length bits + 7) / 8)
+pub padded : (bits : List Bool) → length (bits ++ padding (length bits)) ≡ 8 * ((length bits + 7) / 8)
 padded bits = omega (arith, length-append bits (padding (length bits)), length-replicate ((8 - length bits % 8) % 8) false)
 
-payload_bits : (bits : List Bool) → bits_of (octets_of_bits bits) ≡ bits ++ padding (length bits)
+pub payload_bits : (bits : List Bool) → bits_of (octets_of_bits bits) ≡ bits ++ padding (length bits)
 payload_bits bits = octet_bits_again ((length bits + 7) / 8) (bits ++ padding (length bits)) (padded bits)
 
 payload_short : (bits : List Bool) (octets : List ℕ) → length bits ≤ length (bits_of octets) → length (octets_of_bits bits) ≤ length octets
@@ -127,7 +127,7 @@ within a b h = grind (arith, nat_tests)
 pub encoded_to : (table : List Row) (sequences : List Sequence) (d : Document) (template : Tree) (bits : List Bool)
     → tree_of (tables_of table sequences) d.descriptors ≡ Ok template → data_bits (compressed_in d) (next_item table template) (drafts_of d.entries) ≡ Ok bits
     → message_size (parts_in d (octets_of_bits bits)) ≤ most_octets → encoding_of table sequences d ≡ Ok (message_octets (head_in d) (parts_in d (octets_of_bits bits)))
-unfolding encoding_of
+unfolding encoding_in
 encoded_to table sequences d template bits expands filled few =
     ap (λ r. told_of_template d.line r >>= λ t. told_of_items (data_bits (compressed_in d) (next_item table t) (drafts_of d.entries)) >>= λ b. message_of d.line (head_in d) (parts_in d (octets_of_bits b))) expands
     ∙ ap (λ r. told_of_items r >>= λ b. message_of d.line (head_in d) (parts_in d (octets_of_bits b))) filled
@@ -138,7 +138,7 @@ pub bit_back : (b : Bool) → (bit b == 1) ≡ b
 bit_back true = refl
 bit_back false = refl
 
-section2_back : (section2 : Option (List ℕ)) → (if bit (is_some section2) == 1 then Some (unwrap_or section2 []) else None) ≡ section2
+pub section2_back : (section2 : Option (List ℕ)) → (if bit (is_some section2) == 1 then Some (unwrap_or section2 []) else None) ≡ section2
 section2_back None = refl
 section2_back (Some octets) = refl
 
@@ -153,10 +153,10 @@ pub size_least : (s : Sections) (payload : List ℕ) (n : ℕ) → length payloa
 unfolding parts_with
 size_least s payload n h g = omega (arith, h, g)
 
-edition_is : (m : List ℕ) (s : Sections) → sections_of m ≡ Ok s → s.head.edition ≡ 4
+pub edition_is : (m : List ℕ) (s : Sections) → sections_of m ≡ Ok s → s.head.edition ≡ 4
 edition_is m s e = let h = sections-ended m s e in ap (λ (x : Sections). x.head.edition) h.is ∙ h.edition
 
-size_is : (m : List ℕ) (s : Sections) → sections_of m ≡ Ok s → s.size ≡ length m
+pub size_is : (m : List ℕ) (s : Sections) → sections_of m ≡ Ok s → s.size ≡ length m
 size_is m s e = ap (λ (x : Sections). x.size) (sections-ended m s e).is
 
 -- the bits that are written for a message's values, and their reading
@@ -166,10 +166,10 @@ record IsFilled (table : List Row) (template : Tree) (s : Sections) (values : Va
   short : length out ≤ length (bits_of s.payload)
   read : (octets : List ℕ) → bits_of octets ≡ out ++ padding (length out) → IsReading (next_item table template) (record { compressed = s.compressed; subsets = s.subsets; bits = bits_of octets }) values (length out)
 
-enough : (out octets : List Bool) (bits : List Bool) → bits ≡ out ++ octets → length out ≤ length bits
+pub enough : (out octets : List Bool) (bits : List Bool) → bits ≡ out ++ octets → length out ≤ length bits
 enough out octets bits e = omega (arith, ap length e, length-append out octets)
 
-behind : (out more bits : List Bool) → bits ≡ out ++ more → drop (length out) bits ≡ more
+pub behind : (out more bits : List Bool) → bits ≡ out ++ more → drop (length out) bits ≡ more
 behind out more bits e = ap (drop (length out)) e ∙ drop_at out more (length out) refl
 
 pub fills_as : (b c : Bool) (course : Course) (drafts : List Subset) (out : List Bool) → b ≡ c → data_bits c course drafts ≡ Ok out → data_bits b course drafts ≡ Ok out

@@ -12,7 +12,7 @@ use Rattle.bufr_walk.specs.declared.spec.Refusal.TheVariants as walk
 use Rattle.bufr_fill.specs.Draft.{draft, number_token, text_form, missing_form}
 use Rattle.bufr_fill.specs.Fault.{wrong_descriptor, wrong_number, out_of_range, text_long, missing_forbidden, unequal_factors, uneven_increment, item_too_many, walk_refused}
 use Rattle.bufr_text.specs.Document.{Document, Entry, Holds, Ends}
-use Rattle.bufr_text.specs.Encoding.{RefusedAt, refused_at, by_template, by_item, encoding_of}
+use Rattle.bufr_text.specs.Encoding.{RefusedAt, refused_at, by_template, by_item, encoding_in, encoding_of}
 
 unfoldable pub listed : (fxy : ℕ) → Kind → (scale reference : ℤ) → (width : ℕ) → Row
 listed fxy k s r w = record { fxy = fxy; name = []; unit = []; kind = k; scale = s; reference = r; width = w }
@@ -52,26 +52,26 @@ message size sections = Ok (codes "BUFR" ++ 0 ∷ 0 ∷ size ∷ 4
 
 one_block_number : encoded (document 0 1 (0x0101 ∷ []) (number 24 0x0101 (codes "10") ∷ Ends 25 ∷ []))
     ≡ message 48 (0 ∷ 0 ∷ 9 ∷ 0 ∷ 0 ∷ 1 ∷ 0x80 ∷ 1 ∷ 1 ∷ 0 ∷ 0 ∷ 5 ∷ 0 ∷ 0x14 ∷ [])
-unfolding listed table document number encoded message encoding_of tree_of level part_of inner_of next_item decimal_value_of bits_in bits_of
+unfolding listed table document number encoded message encoding_in tree_of level part_of inner_of next_item decimal_value_of bits_in bits_of
 one_block_number = refl
 
 delayed_twice : encoded (document 0 1 (0x4100 ∷ 0x1F01 ∷ 0x0101 ∷ []) (number 24 0x1F01 (codes "2") ∷ number 25 0x0101 (codes "10") ∷ number 26 0x0101 (codes "11") ∷ Ends 27 ∷ []))
     ≡ message 54 (0 ∷ 0 ∷ 0x0D ∷ 0 ∷ 0 ∷ 1 ∷ 0x80 ∷ 0x41 ∷ 0 ∷ 0x1F ∷ 1 ∷ 1 ∷ 1 ∷ 0 ∷ 0 ∷ 7 ∷ 0 ∷ 2 ∷ 0x14 ∷ 0x2C ∷ [])
-unfolding listed table document number encoded message encoding_of tree_of level part_of inner_of next_item decimal_value_of bits_in bits_of
+unfolding listed table document number encoded message encoding_in tree_of level part_of inner_of next_item decimal_value_of bits_in bits_of
 delayed_twice = refl
 
 compressed_missing : encoded (document 1 2 (0x0C65 ∷ []) (number 24 0x0C65 (codes "288.15") ∷ Ends 25 ∷ missing 26 0x0C65 ∷ Ends 27 ∷ []))
     ≡ message 50 (0 ∷ 0 ∷ 9 ∷ 0 ∷ 0 ∷ 2 ∷ 0xC0 ∷ 0x0C ∷ 0x65 ∷ 0 ∷ 0 ∷ 7 ∷ 0 ∷ 0x70 ∷ 0x8F ∷ 5 ∷ [])
-unfolding listed table document number missing encoded message encoding_of tree_of level part_of inner_of next_item decimal_value_of bits_in bits_of
+unfolding listed table document number missing encoded message encoding_in tree_of level part_of inner_of next_item decimal_value_of bits_in bits_of
 compressed_missing = refl
 
 -- no subset: the template is still looked at
 no_subsets : encoded (document 0 0 (0x0101 ∷ []) []) ≡ message 47 (0 ∷ 0 ∷ 9 ∷ 0 ∷ 0 ∷ 0 ∷ 0x80 ∷ 1 ∷ 1 ∷ 0 ∷ 0 ∷ 4 ∷ 0 ∷ [])
-unfolding listed table document encoded message encoding_of tree_of level part_of inner_of next_item bits_in bits_of
+unfolding listed table document encoded message encoding_in tree_of level part_of inner_of next_item bits_in bits_of
 no_subsets = refl
 
 no_subsets_of_an_unknown_element : encoded (document 0 0 (0x0102 ∷ []) []) ≡ Err (refused_at 1 (by_template (template.UnknownElement 0x0102)))
-unfolding listed table document encoded encoding_of tree_of level part_of inner_of
+unfolding listed table document encoded encoding_in tree_of level part_of inner_of
 no_subsets_of_an_unknown_element = refl
 
 local_use_sections : encoded (record {
@@ -84,64 +84,64 @@ local_use_sections : encoded (record {
 })
     ≡ Ok (codes "BUFR" ++ 0 ∷ 0 ∷ 56 ∷ 4 ∷ 0 ∷ 0 ∷ 0x18 ∷ 0 ∷ 0 ∷ 0x62 ∷ 0 ∷ 0 ∷ 0 ∷ 0x80 ∷ 0 ∷ 0 ∷ 0 ∷ 0x0E ∷ 0 ∷ 0x07 ∷ 0xE8 ∷ 1 ∷ 2 ∷ 3 ∷ 4 ∷ 5 ∷ 0xAB ∷ 0xCD
     ∷ 0 ∷ 0 ∷ 6 ∷ 0 ∷ 1 ∷ 2 ∷ 0 ∷ 0 ∷ 9 ∷ 0 ∷ 0 ∷ 1 ∷ 0x80 ∷ 1 ∷ 1 ∷ 0 ∷ 0 ∷ 5 ∷ 0 ∷ 0x14 ∷ codes "7777")
-unfolding listed table number encoded encoding_of tree_of level part_of inner_of next_item decimal_value_of bits_in bits_of
+unfolding listed table number encoded encoding_in tree_of level part_of inner_of next_item decimal_value_of bits_in bits_of
 local_use_sections = refl
 
 -- a number with one octet more of data, and faults of numbers
 greatest_temperature : encoded (document 0 1 (0x0C65 ∷ []) (number 24 0x0C65 (codes "655.34") ∷ Ends 25 ∷ []))
     ≡ message 49 (0 ∷ 0 ∷ 9 ∷ 0 ∷ 0 ∷ 1 ∷ 0x80 ∷ 0x0C ∷ 0x65 ∷ 0 ∷ 0 ∷ 6 ∷ 0 ∷ 0xFF ∷ 0xFE ∷ [])
-unfolding listed table document number encoded message encoding_of tree_of level part_of inner_of next_item decimal_value_of bits_in bits_of
+unfolding listed table document number encoded message encoding_in tree_of level part_of inner_of next_item decimal_value_of bits_in bits_of
 greatest_temperature = refl
 
 would_read_as_missing : encoded (document 0 1 (0x0C65 ∷ []) (number 24 0x0C65 (codes "655.35") ∷ Ends 25 ∷ [])) ≡ Err (refused_at 24 (by_item out_of_range))
-unfolding listed table document number encoded encoding_of tree_of level part_of inner_of next_item decimal_value_of
+unfolding listed table document number encoded encoding_in tree_of level part_of inner_of next_item decimal_value_of
 would_read_as_missing = refl
 
 not_whole_at_its_scale : encoded (document 0 1 (0x0C65 ∷ []) (number 24 0x0C65 (codes "288.155") ∷ Ends 25 ∷ [])) ≡ Err (refused_at 24 (by_item wrong_number))
-unfolding listed table document number encoded encoding_of tree_of level part_of inner_of next_item decimal_value_of
+unfolding listed table document number encoded encoding_in tree_of level part_of inner_of next_item decimal_value_of
 not_whole_at_its_scale = refl
 
 -- items that are not those of the template
 another_descriptor : encoded (document 0 1 (0x0101 ∷ []) (number 24 0x0C65 (codes "5") ∷ Ends 25 ∷ [])) ≡ Err (refused_at 24 (by_item (wrong_descriptor 0x0101 false)))
-unfolding listed table document number encoded encoding_of tree_of level part_of inner_of next_item
+unfolding listed table document number encoded encoding_in tree_of level part_of inner_of next_item
 another_descriptor = refl
 
 item_left_out : encoded (document 0 1 (0x0101 ∷ []) (Ends 24 ∷ [])) ≡ Err (refused_at 24 (by_item (wrong_descriptor 0x0101 false)))
-unfolding listed table document encoded encoding_of tree_of level part_of inner_of next_item
+unfolding listed table document encoded encoding_in tree_of level part_of inner_of next_item
 item_left_out = refl
 
 second_item : encoded (document 0 1 (0x0101 ∷ []) (number 24 0x0101 (codes "10") ∷ number 25 0x0101 (codes "10") ∷ Ends 26 ∷ [])) ≡ Err (refused_at 25 (by_item item_too_many))
-unfolding listed table document number encoded encoding_of tree_of level part_of inner_of next_item decimal_value_of bits_in
+unfolding listed table document number encoded encoding_in tree_of level part_of inner_of next_item decimal_value_of bits_in
 second_item = refl
 
 missing_factor : encoded (document 0 1 (0x4100 ∷ 0x1F01 ∷ 0x0101 ∷ []) (missing 24 0x1F01 ∷ Ends 25 ∷ [])) ≡ Err (refused_at 24 (by_item missing_forbidden))
-unfolding listed table document missing encoded encoding_of tree_of level part_of inner_of next_item
+unfolding listed table document missing encoded encoding_in tree_of level part_of inner_of next_item
 missing_factor = refl
 
 name_of_21_characters : encoded (document 0 1 (0x010F ∷ []) (text 24 0x010F (replicate 21 65) ∷ Ends 25 ∷ [])) ≡ Err (refused_at 24 (by_item text_long))
-unfolding listed table document text encoded encoding_of tree_of level part_of inner_of next_item
+unfolding listed table document text encoded encoding_in tree_of level part_of inner_of next_item
 name_of_21_characters = refl
 
 -- items that cannot be packed
 factors_unequal : encoded (document 1 2 (0x4100 ∷ 0x1F01 ∷ 0x0101 ∷ []) (number 24 0x1F01 (codes "1") ∷ number 25 0x0101 (codes "10") ∷ Ends 26 ∷ number 27 0x1F01 (codes "2") ∷ number 28 0x0101 (codes "10") ∷ number 29 0x0101 (codes "11") ∷ Ends 30 ∷ []))
     ≡ Err (refused_at 27 (by_item unequal_factors))
-unfolding listed table document number encoded encoding_of tree_of level part_of inner_of next_item decimal_value_of bits_in
+unfolding listed table document number encoded encoding_in tree_of level part_of inner_of next_item decimal_value_of bits_in
 factors_unequal = refl
 
 texts_too_long_apart : encoded (document 1 2 (0x8540 ∷ []) (text 24 0x8540 (replicate 64 65) ∷ Ends 25 ∷ text 26 0x8540 (replicate 63 65 ++ 66 ∷ []) ∷ Ends 27 ∷ [])) ≡ Err (refused_at 24 (by_item uneven_increment))
-unfolding listed table document text encoded encoding_of tree_of level part_of inner_of next_item bits_in bits_of
+unfolding listed table document text encoded encoding_in tree_of level part_of inner_of next_item bits_in bits_of
 texts_too_long_apart = refl
 
 -- the template, and the walk over it
 empty_group : encoded (document 0 1 (0x8100 ∷ []) (Ends 24 ∷ [])) ≡ Err (refused_at 1 (by_template (template.EmptyGroup 0x8100)))
-unfolding listed table document encoded encoding_of tree_of level part_of inner_of
+unfolding listed table document encoded encoding_in tree_of level part_of inner_of
 empty_group = refl
 
 width_of_none : encoded (document 0 1 (0x8179 ∷ 0x0101 ∷ []) (number 24 0x0101 (codes "0") ∷ Ends 25 ∷ [])) ≡ Err (refused_at 24 (by_item (walk_refused (walk.Width 0x0101))))
-unfolding listed table document number encoded encoding_of tree_of level part_of inner_of next_item
+unfolding listed table document number encoded encoding_in tree_of level part_of inner_of next_item
 width_of_none = refl
 
 -- the template goes before the items
 template_goes_before : encoded (document 0 1 (0x0101 ∷ 0x0102 ∷ []) (number 24 0x0C65 (codes "5") ∷ Ends 25 ∷ [])) ≡ Err (refused_at 1 (by_template (template.UnknownElement 0x0102)))
-unfolding listed table document number encoded encoding_of tree_of level part_of inner_of
+unfolding listed table document number encoded encoding_in tree_of level part_of inner_of
 template_goes_before = refl

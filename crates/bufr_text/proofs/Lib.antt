@@ -11,8 +11,10 @@ pub mod EncodePacked
 pub mod EncodePlain
 pub mod EncodeWhole
 pub mod EncodedLemmas
+pub mod FormLemmas
 pub mod EncodesLemmas
 mod EncodingExamples
+mod FormExamples
 mod Examples
 pub mod FeedLemmas
 pub mod FeedingLemmas

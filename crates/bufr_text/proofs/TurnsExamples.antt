@@ -5,11 +5,12 @@ use Rattle.bufr_bits.specs.DecimalValue.{decimal_value_of}
 use Rattle.bufr_tables.specs.Expansion.{part_of, level, inner_of, tree_of}
 use Rattle.bufr_walk.specs.Course.{next_item}
 use Rattle.bufr_text.specs.Document.{Document, Entry, Ends}
+use Rattle.bufr_text.specs.declared.form.Form.TheVariants.{AsWritten}
 use Rattle.bufr_text.specs.Encodes.{turns_by}
 use Rattle.bufr_text.proofs.EncodingExamples.{listed, table, document, number, missing}
 
 turns : Document → ℕ
-turns d = turns_by table [] d
+turns d = turns_by AsWritten table [] d
 
 block : (line : ℕ) → List ℕ → Entry
 block line digits = number line 0x0101 digits

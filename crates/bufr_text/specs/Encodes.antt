@@ -25,10 +25,10 @@ use Rattle.bufr_fill.specs.Filling.{Written, Filler, fill}
 use Rattle.bufr_fill.specs.PlainOut.{Pen, items_left, end_left}
 use Rattle.bufr_fill.specs.Told.{told_fault}
 use Rattle.bufr_text.specs.declared.encode_fault.DocumentFault.{DocumentFault}
+use Rattle.bufr_text.specs.declared.form.Form.{Form}
 use Rattle.bufr_text.specs.Document.{Document}
-use Rattle.bufr_text.specs.Encoding.{RefusedAt, data_bits, drafts_of, told_of_items}
+use Rattle.bufr_text.specs.Encoding.{RefusedAt, compressed_as, data_bits, drafts_of, told_of_items}
 use Rattle.bufr_text.specs.EncodingFault.{told_refusal}
-use Rattle.bufr_text.specs.Header.{compressed_in}
 
 -- a fault is the definition's refusal; want of memory is none
 abbrev pub RefusesSo : {A : Type 0} → Option RefusedAt → Result A RefusedAt → Type 0
@@ -86,13 +86,13 @@ places_of (Err why) = 0
 abbrev pub places_by : List Row → List Sequence → Document → ℕ
 places_by table sequences d = places_of (tree_of (tables_of table sequences) d.descriptors)
 
-abbrev pub bits_for : List Row → Document → Result Tree TemplateFault → ℕ
-bits_for table d (Ok template) = count_data (compressed_in d) (next_item table template) (drafts_of d.entries)
-bits_for table d (Err why) = 0
+abbrev pub bits_for : Form → List Row → Document → Result Tree TemplateFault → ℕ
+bits_for form table d (Ok template) = count_data (compressed_as form d) (next_item table template) (drafts_of d.entries)
+bits_for form table d (Err why) = 0
 
 -- how many bits of its data go before its first refusal, all where there is none
-abbrev pub bits_by : List Row → List Sequence → Document → ℕ
-bits_by table sequences d = bits_for table d (tree_of (tables_of table sequences) d.descriptors)
+abbrev pub bits_by : Form → List Row → List Sequence → Document → ℕ
+bits_by form table sequences d = bits_for form table d (tree_of (tables_of table sequences) d.descriptors)
 
 -- ---- the turns up to the first refusal, this one's included: those of the template, as the items unroll it (WMO-No. 306, Volume I.2, FM 94: section 3, replications; that they are counted is a choice of this project)
 
@@ -129,13 +129,13 @@ abbrev pub turns_data : (compressed : Bool) → Course → List Subset → ℕ
 turns_data true course subsets = turns_packed course subsets
 turns_data false course subsets = turns_plain course subsets
 
-abbrev pub turns_for : List Row → Document → Result Tree TemplateFault → ℕ
-turns_for table d (Ok template) = turns_data (compressed_in d) (next_item table template) (drafts_of d.entries)
-turns_for table d (Err why) = 0
+abbrev pub turns_for : Form → List Row → Document → Result Tree TemplateFault → ℕ
+turns_for form table d (Ok template) = turns_data (compressed_as form d) (next_item table template) (drafts_of d.entries)
+turns_for form table d (Err why) = 0
 
 -- the turns that the encoding of a document makes, up to its first refusal; with no template there is none
-abbrev pub turns_by : List Row → List Sequence → Document → ℕ
-turns_by table sequences d = turns_for table d (tree_of (tables_of table sequences) d.descriptors)
+abbrev pub turns_by : Form → List Row → List Sequence → Document → ℕ
+turns_by form table sequences d = turns_for form table d (tree_of (tables_of table sequences) d.descriptors)
 
 -- the steps behind so many turns, where the writing was refused; at want of memory they are perhaps not all made
 abbrev pub MakesSo : Option RefusedAt → (before turns after : ℕ) → Type 0

@@ -16,7 +16,10 @@ use Rattle.bufr_fill.specs.Encoding.{plain_data, packed_data}
 use Rattle.bufr_fill.specs.Entries.{Subset, subsets_of}
 use Rattle.bufr_fill.specs.Entries as entries
 use Rattle.bufr_fill.specs.Fault.{Fault, FaultAt}
+use Rattle.bufr_text.specs.declared.form.Form.{Form}
+use Rattle.bufr_text.specs.declared.form.Form.TheVariants.{AsWritten}
 use Rattle.bufr_text.specs.Document.{Document, Entry, Holds, Ends, subsets_in}
+use Rattle.bufr_text.specs.Form.{compressed_by}
 use Rattle.bufr_text.specs.Header.{head_in, observed_in, compressed_in, section2_in}
 
 -- why a document is refused: its descriptors make no template, an item (or where one should be, or the walk there) is at fault, or its
@@ -68,16 +71,27 @@ abbrev pub octets_of_bits : List Bool → List ℕ
 octets_of_bits bits = octets_in ((length bits + 7) / 8) (bits ++ padding (length bits))
 
 -- what is written besides the head
+abbrev pub parts_as : (compressed : Bool) → Document → (payload : List ℕ) → Parts
+parts_as compressed d payload = parts_of d.local1 (section2_in d) d.descriptors (subsets_in d) (observed_in d) compressed payload
+
 abbrev pub parts_in : Document → (payload : List ℕ) → Parts
-parts_in d payload = parts_of d.local1 (section2_in d) d.descriptors (subsets_in d) (observed_in d) (compressed_in d) payload
+parts_in d payload = parts_as (compressed_in d) d payload
+
+-- whether the data of a document are compressed in a form
+abbrev pub compressed_as : Form → Document → Bool
+compressed_as form d = compressed_by form (compressed_in d)
 
 -- a message of these parts, where it is not too long
 abbrev pub message_of : (line : ℕ) → Head → Parts → Result (List ℕ) RefusedAt
 message_of line head parts = if nat_lt most_octets (message_size parts) then Err (refused_at line too_long) else Ok (message_octets head parts)
 
 -- the octets of a document's message, or its first fault: the template goes before all, then the items in the order of the template, then the length
-unfoldable pub encoding_of : List Row → List Sequence → Document → Result (List ℕ) RefusedAt
-encoding_of table sequences d = do
+unfoldable pub encoding_in : Form → List Row → List Sequence → Document → Result (List ℕ) RefusedAt
+encoding_in form table sequences d = do
   template ← told_of_template d.line (tree_of (tables_of table sequences) d.descriptors)
-  bits ← told_of_items (data_bits (compressed_in d) (next_item table template) (drafts_of d.entries))
-  message_of d.line (head_in d) (parts_in d (octets_of_bits bits))
+  bits ← told_of_items (data_bits (compressed_as form d) (next_item table template) (drafts_of d.entries))
+  message_of d.line (head_in d) (parts_as (compressed_as form d) d (octets_of_bits bits))
+
+-- the same in the form that the document says
+abbrev pub encoding_of : List Row → List Sequence → Document → Result (List ℕ) RefusedAt
+encoding_of = encoding_in AsWritten

@@ -7,7 +7,9 @@ pub mod Dump
 pub mod Dumped
 pub mod Dumping
 pub mod Encoded
+pub mod InForm
 pub mod Encodes
+pub mod Form
 pub mod Encoding
 pub mod EncodingFault
 pub mod Faults

@@ -2,18 +2,27 @@
 ghost use Rattle.std.specs.Prelude.{ℕ, ◌≡◌, ◌≢◌, ◌≤◌, ◌*◌, ◌+◌, ◌^◌, List, [], Bool, length, map, IfOk, IfErr, OnOk, OnErr, Ok, option_map, false, true};
 ghost use Rattle.bufr_tables.specs.Expansion.{tree_of};
 ghost use Rattle.bufr_tables.specs.TemplateTables.{tables_of};
-ghost use Rattle.bufr_tables.specs.Tree.{places};
+ghost use Rattle.bufr_tables.specs.Tree.{Tree, places};
+ghost use Rattle.bufr_tables.specs.Records.{Record};
+ghost use Rattle.bufr_tables.specs.TableB.{AreRows};
+ghost use Rattle.bufr_frame.specs.Sections.{Sections};
+ghost use Rattle.bufr_walk.specs.Reading.{Values};
+ghost use Rattle.bufr_text.specs.Dump.{document_of};
+ghost use Rattle.bufr_text.specs.Encoded.{IsAccepted, items_in};
+ghost use Rattle.bufr_text.specs.InForm.{FormSo};
 ghost use Rattle.bufr_walk.specs.Course.{next_item};
 ghost use Rattle.bufr_walk.specs.Ticks.{ticked};
 ghost use Rattle.bufr_fill.specs.Entries.{subsets_of};
 ghost use Rattle.bufr_fill.specs.Given.{entry_in};
-ghost use Rattle.bufr_text.specs.Encoding.{drafts_of, encoding_of, told_of_template, entry_of, octets_of_bits, message_of, parts_in};
+ghost use Rattle.bufr_text.specs.Encoding.{drafts_of, encoding_in, encoding_of, told_of_template, entry_of, octets_of_bits, message_of, compressed_as, parts_as};
 ghost use Rattle.bufr_text.specs.EncodingFault.{told_of_draft, told_refusal};
 ghost use Rattle.bufr_text.specs.Encodes.{AreOctetsOf, RefusesSo, MakesSo, DataSo, SubsetSo, told_stop, places_by, bits_by, turns_by};
-ghost use Rattle.bufr_text.specs.Header.{compressed_in, head_in, most_entries};
+ghost use Rattle.bufr_text.specs.Header.{head_in, most_entries};
+ghost use Rattle.bufr_text.specs.declared.form.Form.TheVariants.{AsWritten};
 
 use crate::document::Document;
 use crate::encode_fault::{DocumentFault, WalkRefusal, of_draft};
+use crate::form::Form;
 use bufr_fill::{DraftFault, Entry, PackedOut, PlainOut};
 use bufr_frame::{WriteFault, write_message};
 use bufr_tables::{Fxy, TableB, TableD, Template, TemplateFault};
@@ -154,30 +163,43 @@ fn write_packed<'a>(
     }
 }
 
-/// The octets of a document's data.
+/// Whether the data of a document are compressed in a form.
+fn is_compressed(document: &Document, form: Form) -> bool
+    ensures { result ≡ compressed_as form document.now }
+{
+    form.is_compressed(document.compressed())
+}
+
+/// The octets of a document's data in a form.
 fn write_data(
     alloc: Global,
     document: &Document,
+    form: Form,
     template: &Template,
     table: &TableB,
     steps: &mut Steps,
 ) -> Result<Vec<u8>, DocumentFault>
     requires { steps.old ≡ 0 }
-    ensures { DataSo (places template.now) (compressed_in document.now) (next_item table.now template.now) (drafts_of document.now.entries) result steps.new }
+    ensures { DataSo (places template.now) (compressed_as form document.now) (next_item table.now template.now) (drafts_of document.now.entries) result steps.new }
 {
     let mut entries = Vec::new(alloc);
     lend_entries(document, &mut entries)?;
-    if document.compressed() {
+    if is_compressed(document, form) {
         write_packed(alloc, &entries, template, table, steps)
     } else {
         write_plain(alloc, &entries, template, table, steps)
     }
 }
 
-/// The message of a document with these data.
-fn write_whole(alloc: Global, document: &Document, payload: &[u8]) -> Result<Vec<u8>, DocumentFault>
-    ensures octets { IfOk result (λ octets. message_of document.now.line (head_in document.now) (parts_in document.now payload.now) ≡ Ok octets.items) }
-    ensures fault { IfErr result (λ why. RefusesSo (told_refusal why) (message_of document.now.line (head_in document.now) (parts_in document.now payload.now))) }
+/// The message of a document with these data, which are in a form.
+fn write_whole(
+    alloc: Global,
+    document: &Document,
+    form: Form,
+    payload: &[u8],
+) -> Result<Vec<u8>, DocumentFault>
+    ensures octets { IfOk result (λ octets. message_of document.now.line (head_in document.now) (parts_as (compressed_as form document.now) document.now payload.now) ≡ Ok octets.items) }
+    ensures fault { IfErr result (λ why. RefusesSo (told_refusal why) (message_of document.now.line (head_in document.now) (parts_as (compressed_as form document.now) document.now payload.now))) }
     ensures payload { (bits : List Bool) → AreOctetsOf payload.now bits → payload.now ≡ octets_of_bits bits }
 {
     let written = write_message(
@@ -188,7 +210,7 @@ fn write_whole(alloc: Global, document: &Document, payload: &[u8]) -> Result<Vec
         document.descriptors(),
         document.subsets(),
         document.observed(),
-        document.compressed(),
+        is_compressed(document, form),
         payload,
     );
     match written {
@@ -198,8 +220,11 @@ fn write_whole(alloc: Global, document: &Document, payload: &[u8]) -> Result<Vec
     }
 }
 
-/// The octets of a document's message, by the tables: its template first, then its items in the
-/// order of the template, then the length (WMO-No. 306, Volume I.2, FM 94: sections 0 to 5).
+/// The octets of a document's message in a form, by the tables: its template first, then its items in
+/// the order of the template, then the length (WMO-No. 306, Volume I.2, FM 94: sections 0 to 5). The
+/// form says whether the data are compressed, in the flag and in the data, whatever the document
+/// says; so the document of a message that was read gives the same message in the other form, where
+/// this can hold it.
 ///
 /// It sets the steps to those that are made for it, up to the greatest `u64`: one for each turn of
 /// the template, subset after subset, or once for all subsets where the data are compressed. A turn
@@ -213,7 +238,7 @@ fn write_whole(alloc: Global, document: &Document, payload: &[u8]) -> Result<Vec
 /// ```
 /// let document = reader.next_document(&mut r)?.ok_or("a document")?;
 /// let mut steps = Steps::new();
-/// let octets = encode_document(alloc, &document, &table_b, &table_d, &mut steps)?;
+/// let octets = encode_form(alloc, &document, Form::Plain, &table_b, &table_d, &mut steps)?;
 /// ```
 ///
 /// # Errors
@@ -224,6 +249,46 @@ fn write_whole(alloc: Global, document: &Document, payload: &[u8]) -> Result<Vec
 /// [`DocumentFault::OutOfRange`], in compressed data for each subset in turn, then
 /// [`DocumentFault::UnequalFactor`] and [`DocumentFault::Increment`]; [`DocumentFault::TooLong`];
 /// and [`DocumentFault::Memory`], and no other, where memory runs out.
+pub fn encode_form(
+    alloc: Global,
+    document: &Document,
+    form: Form,
+    table_b: &TableB,
+    table_d: &TableD,
+    steps: &mut Steps,
+) -> Result<Vec<u8>, DocumentFault>
+    ensures octets { IfOk result (λ octets. encoding_in form table_b.now table_d.now document.now ≡ Ok octets.items) }
+    // Want of memory is the only freedom.
+    ensures fault { IfErr result (λ why. RefusesSo (told_refusal why) (encoding_in form table_b.now table_d.now document.now)) }
+    // It has one name, `Memory`.
+    ensures memory { IfErr result (λ why. (line : ℕ) → why ≢ DocumentFault.Template line TemplateFault.Memory) }
+    ensures made { OnOk result (steps.new ≡ ticked 0 (turns_by form table_b.now table_d.now document.now)) }
+    ensures made_refused { IfErr result (λ why. MakesSo (told_refusal why) 0 (turns_by form table_b.now table_d.now document.now) steps.new) }
+    ensures accepted { OnOk result (steps.new ≤ places_by table_b.now table_d.now document.now * bits_by form table_b.now table_d.now document.now) }
+    ensures refused { OnErr result (steps.new ≤ places_by table_b.now table_d.now document.now * (bits_by form table_b.now table_d.now document.now + 1)) }
+    // The document of an accepted message keeps its reading in each form, but for the flag; it is refused for the form alone.
+    ensures again { (records : List Record) (m : List ℕ) (s : Sections) (template : Tree) (values : Values) (used at : ℕ)
+        → AreRows records table_b.now → IsAccepted table_b.now table_d.now m s template values used → document.now ≡ document_of at s (items_in table_b.now template s values)
+        → FormSo form table_b.now s template values result }
+{
+    *steps = Steps::new();
+    let template = template_of(alloc, document, table_b, table_d)?;
+    let payload = write_data(alloc, document, form, &template, table_b, steps)?;
+    write_whole(alloc, document, form, &payload)
+}
+
+/// The octets of a document's message, in the form that the document says: [`encode_form`] with
+/// [`Form::AsWritten`].
+///
+/// ```
+/// let document = reader.next_document(&mut r)?.ok_or("a document")?;
+/// let mut steps = Steps::new();
+/// let octets = encode_document(alloc, &document, &table_b, &table_d, &mut steps)?;
+/// ```
+///
+/// # Errors
+///
+/// Those of [`encode_form`].
 pub fn encode_document(
     alloc: Global,
     document: &Document,
@@ -236,13 +301,10 @@ pub fn encode_document(
     ensures fault { IfErr result (λ why. RefusesSo (told_refusal why) (encoding_of table_b.now table_d.now document.now)) }
     // It has one name, `Memory`.
     ensures memory { IfErr result (λ why. (line : ℕ) → why ≢ DocumentFault.Template line TemplateFault.Memory) }
-    ensures made { OnOk result (steps.new ≡ ticked 0 (turns_by table_b.now table_d.now document.now)) }
-    ensures made_refused { IfErr result (λ why. MakesSo (told_refusal why) 0 (turns_by table_b.now table_d.now document.now) steps.new) }
-    ensures accepted { OnOk result (steps.new ≤ places_by table_b.now table_d.now document.now * bits_by table_b.now table_d.now document.now) }
-    ensures refused { OnErr result (steps.new ≤ places_by table_b.now table_d.now document.now * (bits_by table_b.now table_d.now document.now + 1)) }
+    ensures made { OnOk result (steps.new ≡ ticked 0 (turns_by AsWritten table_b.now table_d.now document.now)) }
+    ensures made_refused { IfErr result (λ why. MakesSo (told_refusal why) 0 (turns_by AsWritten table_b.now table_d.now document.now) steps.new) }
+    ensures accepted { OnOk result (steps.new ≤ places_by table_b.now table_d.now document.now * bits_by AsWritten table_b.now table_d.now document.now) }
+    ensures refused { OnErr result (steps.new ≤ places_by table_b.now table_d.now document.now * (bits_by AsWritten table_b.now table_d.now document.now + 1)) }
 {
-    *steps = Steps::new();
-    let template = template_of(alloc, document, table_b, table_d)?;
-    let payload = write_data(alloc, document, &template, table_b, steps)?;
-    write_whole(alloc, document, &payload)
+    encode_form(alloc, document, Form::AsWritten, table_b, table_d, steps)
 }

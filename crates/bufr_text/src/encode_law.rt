@@ -13,9 +13,11 @@ ghost use Rattle.bufr_text.specs.Documents.{Spelled, documents_of};
 ghost use Rattle.bufr_text.specs.Dump.{document_of, dump_text_of};
 ghost use Rattle.bufr_text.specs.Encoded.{HasSameReading, IsAccepted, IsEncodedAgain, items_in};
 ghost use Rattle.bufr_text.specs.Encodes.{RefusesSo};
-ghost use Rattle.bufr_text.specs.Encoding.{encoding_of};
+ghost use Rattle.bufr_text.specs.Encoding.{encoding_in, encoding_of};
 ghost use Rattle.bufr_text.specs.EncodingFault.{told_refusal};
 ghost use Rattle.bufr_text.specs.Given.{IsDumpable};
+ghost use Rattle.bufr_text.specs.InForm.{IsFaultIn, IsFormed};
+ghost use Rattle.bufr_text.specs.declared.form.Form.{Form};
 
 /// A message that is accepted can be dumped: its dump text spells its document.
 pub fn accepted_messages_are_dumpable()
@@ -70,4 +72,25 @@ pub fn canonical_messages_are_encoded_to_themselves()
     ensures { (records : List Record) (table : List Row) (sequences : List Sequence) (m : List ℕ) (s : Sections) (template : Tree) (values : Values) (used at : ℕ)
         → AreRows records table → IsAccepted table sequences m s template values used → IsCanonical m s values used
         → encoding_of table sequences (document_of at s (items_in table template s values)) ≡ Ok m }
+{}
+
+/// The document of an accepted message's dump text is encoded in each form to a message with the same
+/// reading, but for the flag of compression: the same head, local octets, section 2, descriptors,
+/// number of subsets, and items of each subset. It is refused for its length alone, and in compressed
+/// form also for factors that differ between subsets and for contents that no increments tell apart.
+pub fn dumped_messages_are_encoded_in_each_form()
+    ensures { (records : List Record) (table : List Row) (sequences : List Sequence) (m : List ℕ) (s : Sections) (template : Tree) (values : Values) (used at : ℕ) (form : Form)
+        → AreRows records table → IsAccepted table sequences m s template values used
+        → IsFormed form table s template values (encoding_in form table sequences (document_of at s (items_in table template s values))) }
+{}
+
+/// A fault that may be told of such an encoding is [`DocumentFault::TooLong`](crate::DocumentFault::TooLong) or
+/// [`DocumentFault::Memory`](crate::DocumentFault::Memory), and in compressed form also
+/// [`DocumentFault::UnequalFactor`](crate::DocumentFault::UnequalFactor) or
+/// [`DocumentFault::Increment`](crate::DocumentFault::Increment).
+pub fn dumped_messages_are_refused_for_their_form_alone()
+    ensures { (records : List Record) (table : List Row) (sequences : List Sequence) (m : List ℕ) (s : Sections) (template : Tree) (values : Values) (used at : ℕ) (form : Form) (why : DocumentFault)
+        → AreRows records table → IsAccepted table sequences m s template values used
+        → RefusesSo (told_refusal why) (encoding_in form table sequences (document_of at s (items_in table template s values)))
+        → IsFaultIn form why }
 {}

@@ -228,7 +228,7 @@ fn behind_the_head(octets: &[u8]) -> &[u8] {
 }
 
 // The first document of a text.
-fn document_of(alloc: Global, text: &[u8]) -> Result<Document, Fail> {
+pub(crate) fn document_of(alloc: Global, text: &[u8]) -> Result<Document, Fail> {
     let mut reader = DumpReader::new(alloc);
     let mut input = ScriptIn::new(text, 4096, None);
     Ok(reader.next_document(&mut input)?.ok_or("a document")?)
@@ -255,7 +255,11 @@ fn encoded(
 }
 
 // Whether a message has these octets behind its head.
-fn has_behind_its_head(alloc: Global, octets: &[u8], wanted: &str) -> Result<bool, Fail> {
+pub(crate) fn has_behind_its_head(
+    alloc: Global,
+    octets: &[u8],
+    wanted: &str,
+) -> Result<bool, Fail> {
     Ok(behind_the_head(octets) == octets_of(alloc, wanted)?.as_slice())
 }
 

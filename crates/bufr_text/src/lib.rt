@@ -12,6 +12,7 @@ mod encode;
 mod encode_fault;
 pub mod encode_law;
 mod fault;
+mod form;
 mod head_lines;
 mod hex;
 mod item;
@@ -29,9 +30,10 @@ pub use bufr_fill::Entry;
 pub use document::Document;
 pub use dump::write_dump;
 pub use dump_reader::DumpReader;
-pub use encode::encode_document;
+pub use encode::{encode_document, encode_form};
 pub use encode_fault::{DocumentFault, WalkRefusal};
 pub use fault::ReadFault;
+pub use form::Form;
 pub use ls::write_ls;
 pub use part::{Part, write_all, write_parts};
 
@@ -41,6 +43,8 @@ mod dump_tests;
 mod encode_fault_tests;
 #[cfg(test)]
 mod encode_tests;
+#[cfg(test)]
+mod form_tests;
 #[cfg(test)]
 mod reader_tests;
 #[cfg(test)]

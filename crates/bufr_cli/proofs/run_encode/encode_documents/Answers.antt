@@ -7,7 +7,7 @@ use Rattle.bufr_cli.proofs.run_encode.encode_documents.Goals as goal
 
 pub loop-reader-init : goal.loop-reader-init
 loop-reader-init g c = record {
-  ran = ran-fresh _ _ _ _ _ _ _ _ c.new-reader.ensures refl refl;
+  ran = ran-fresh _ _ _ _ _ _ _ _ _ c.new-reader.ensures refl refl;
   reader = refl;
   output_flushes = refl;
   errors_flushes = refl;
@@ -19,7 +19,7 @@ pub returns-in_err-verdict-clause-run : goal.returns-in_err-verdict-clause-run
 returns-in_err-verdict-clause-run g c =
     let p = err_from_is_err_and c.from_residual.result c.from_residual.ensures.1 in
     let ran = c.loop-reader.invariant.ran in
-    stops _ _ _ _ _ _ _ _ _ _ _ _ _ _ _ _ ran (c.next_document-next.ensures.next ran.sound) c.next_document-next.ensures.counts _ _ c.encode_next.result _ c.from_residual.result
+    stops _ _ _ _ _ _ _ _ _ _ _ _ _ _ _ _ _ ran (c.next_document-next.ensures.next ran.sound) c.next_document-next.ensures.counts _ _ c.encode_next.result _ c.from_residual.result
     c.encode_next.ensures.tells c.in_err-verdict.was (p.1 ∙ ap Err p.2)
 
 pub returns-in_err-verdict-clause-reader : goal.returns-in_err-verdict-clause-reader
@@ -40,7 +40,7 @@ returns-in_err-verdict-clause-reads g c =
 pub returns-in_default-clause-run : goal.returns-in_default-clause-run
 returns-in_default-clause-run g c =
     let ran = c.loop-reader.invariant.ran in
-    done-last _ _ _ _ _ _ _ _ _ _ _ _ _ _ _ _ ran (c.next_document-next.ensures.next ran.sound) c.next_document-next.ensures.counts _ _ c.encode_next.result
+    done-last _ _ _ _ _ _ _ _ _ _ _ _ _ _ _ _ _ ran (c.next_document-next.ensures.next ran.sound) c.next_document-next.ensures.counts _ _ c.encode_next.result
     c.encode_next.ensures.tells (c.in_ok-verdict.was ∙ ap Ok (none-else c.in_ok-verdict.field-0 c.in_default.not-Some))
 
 pub returns-in_default-clause-reads : goal.returns-in_default-clause-reads
@@ -48,12 +48,12 @@ returns-in_default-clause-reads g c =
     reads-made _ _ c.next_document-next.new.self _ (counts-then _ _ _ _ _ _ c.loop-reader.invariant.ran.counts c.next_document-next.ensures.counts) (λ long. cc)
 
 pub count-requires : goal.count-requires
-count-requires g c = record { few = ran-few _ _ _ _ _ _ _ _ _ _ _ _ c.loop-reader.invariant.ran }
+count-requires g c = record { few = ran-few _ _ _ _ _ _ _ _ _ _ _ _ _ c.loop-reader.invariant.ran }
 
 pub returns-in-Refused-clause-run : goal.returns-in-Refused-clause-run
 returns-in-Refused-clause-run g c =
     let ran = c.loop-reader.invariant.ran in
-    done-at-refused _ _ _ _ _ _ _ _ _ _ _ _ _ _ _ _ ran (c.next_document-next.ensures.next ran.sound) c.next_document-next.ensures.counts _ _ c.encode_next.result c.in-Some.verdict _
+    done-at-refused _ _ _ _ _ _ _ _ _ _ _ _ _ _ _ _ _ ran (c.next_document-next.ensures.next ran.sound) c.next_document-next.ensures.counts _ _ c.encode_next.result c.in-Some.verdict _
     c.encode_next.ensures.tells (c.in_ok-verdict.was ∙ ap Ok c.in-Some.is) c.in-Refused.is c.count.ensures.value
 
 pub returns-in-Refused-clause-reads : goal.returns-in-Refused-clause-reads
@@ -61,14 +61,14 @@ returns-in-Refused-clause-reads g c =
     reads-made _ _ c.next_document-next.new.self _ (counts-then _ _ _ _ _ _ c.loop-reader.invariant.ran.counts c.next_document-next.ensures.counts) (λ long. cc)
 
 pub loop-reader-smaller : goal.loop-reader-smaller
-loop-reader-smaller g c = falls _ _ (2 ^ 63) (ran-few _ _ _ _ _ _ _ _ _ _ _ _ c.loop-reader.invariant.ran) c.count.ensures.one
+loop-reader-smaller g c = falls _ _ (2 ^ 63) (ran-few _ _ _ _ _ _ _ _ _ _ _ _ _ c.loop-reader.invariant.ran) c.count.ensures.one
 
 pub loop-reader-preserved : goal.loop-reader-preserved
 loop-reader-preserved g c =
     let before = c.loop-reader.invariant in
     let is = c.in_ok-verdict.was ∙ ap Ok c.in-Some.is in
     let counts = rw c.in_ok-verdict.was at c.encode_next.ensures.counts in record {
-      ran = ran-by-equal _ _ _ _ _ _ _ _ _ _ _ _ _ c.encode_next.ensures.reader (turn-on _ _ _ _ _ _ _ _ _ _ _ _ _ _ _ _ before.ran (c.next_document-next.ensures.next before.ran.sound) c.next_document-next.ensures.counts _ _ c.encode_next.result c.in-Some.verdict _
+      ran = ran-by-equal _ _ _ _ _ _ _ _ _ _ _ _ _ _ c.encode_next.ensures.reader (turn-on _ _ _ _ _ _ _ _ _ _ _ _ _ _ _ _ _ before.ran (c.next_document-next.ensures.next before.ran.sound) c.next_document-next.ensures.counts _ _ c.encode_next.result c.in-Some.verdict _
           c.encode_next.ensures.tells is c.in_default-verdict.not-Refused c.count.ensures.value);
       reader = c.next_document-next.ensures.failed before.ran.sound ∙ verdict-keeps _ _ _ _ _ _ c.next_document-next.result c.encode_next.result c.in-Some.verdict c.encode_next.ensures.tells is ∙ before.reader;
       output_flushes = c.encode_next.ensures.output_flushes ∙ before.output_flushes;

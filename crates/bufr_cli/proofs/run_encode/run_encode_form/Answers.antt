@@ -4,7 +4,7 @@ use Rattle.std.proofs.KnownBytes.{Keeps-refl}
 use Rattle.bufr_frame.specs.declared.fault.RunFault.TheVariants.{Write}
 use Rattle.bufr_cli.specs.EncodePieces.{encode_pieces}
 use Rattle.bufr_cli.proofs.EncodeLemmas.{encode-flushed, encode-known, reads-after, stays-unflushed, stop-encode-flush, stop-keeps-reads}
-use Rattle.bufr_cli.proofs.run_encode.run_encode.Goals as goal
+use Rattle.bufr_cli.proofs.run_encode.run_encode_form.Goals as goal
 
 pub returns-in_err-tally-clause-run : goal.returns-in_err-tally-clause-run
 returns-in_err-tally-clause-run g c =
@@ -44,7 +44,7 @@ returns-in_err-flush-2-clause-reads g c =
 pub returns-clause-whole : goal.returns-clause-whole
 returns-clause-whole g c =
     let all = encode-flushed _ _ _ _ _ _ _ _ _ c.encode_documents.result _ c.in_ok-tally.was c.flush.ensures.keeps c.flush-2.ensures.keeps c.encode_documents.ensures.run in
-    encode-known (encode_pieces c.args.table_b.now c.args.table_d.now) _ (g.R.Source.left c.encode_documents.new.r) _ _ _ _ (Unit {0}) (Ok c.in_ok-tally.tally) all
+    encode-known (encode_pieces c.args.form c.args.table_b.now c.args.table_d.now) _ (g.R.Source.left c.encode_documents.new.r) _ _ _ _ (Unit {0}) (Ok c.in_ok-tally.tally) all
 
 pub returns-clause-run : goal.returns-clause-run
 returns-clause-run g c =

@@ -1,0 +1,351 @@
+-- Items that were read subset after subset are written together so that they are read again, or their factors differ, or no increments tell them apart.
+use Rattle.std.proofs.Common.{◌≡◌, ◌⊎◌, inl, inr, ℕ, zero, suc, ◌+◌, ◌*◌, ◌<◌, ◌≤◌, max, Bool, true, false, List, [], ◌∷◌, ◌++◌, length, drop, Option, Some, Result, Ok, Err, refl, sym, ◌∙◌, ap, subst, arith, append_assoc}
+use Rattle.std.specs.Prelude.{nat_lt, slice_get, if◌then◌else◌}
+use Rattle.bufr_walk.specs.declared.spec.Taken.{Taken}
+use Rattle.bufr_walk.specs.Asked.{Asked, IsSpec}
+use Rattle.bufr_walk.specs.Calls.{content_at}
+use Rattle.bufr_walk.specs.Content.{Content, missing, told}
+use Rattle.bufr_walk.specs.Course.{Course, Next, take_next, at_end}
+use Rattle.bufr_walk.specs.PackedField.{packed_field, told_first}
+use Rattle.bufr_walk.specs.PlainField.{FieldFault, data_end, increment, unequal_factor, found, plain_field}
+use Rattle.bufr_walk.specs.Reading.{most_values, Item, plain, packed, after, Reads, ReadsAll, ReadsSubsets, IsPackedReading}
+use Rattle.bufr_fill.specs.Draft.{Draft}
+use Rattle.bufr_fill.specs.Encoding.{Cell, Across, across, cells_at, rows, longest, first_line, contents_here, packing_fault, packed_to, are_many, pack_across, packed_filler, packed_data, ◌>>=◌}
+use Rattle.bufr_fill.specs.Entries.{Subset}
+use Rattle.bufr_fill.specs.Fault.{FaultAt, at_line, too_many_values}
+use Rattle.bufr_fill.specs.Filling.{written, fill, fill_one, fill_none, filled, and_behind}
+use Rattle.bufr_fill.specs.Fits.{Fits, AllFit}
+use Rattle.bufr_fill.specs.OtherForm.{subsets_from, IsUnlike, IsWrittenTogether, IsUnwritten, IsTogetherOrNot}
+use Rattle.bufr_fill.specs.Packing.{packing}
+use Rattle.bufr_fill.specs.WrittenAgain.{IsDumped, AreDrafts, AllSpecs, EachSpecs, AreDumped, IsCellOf, AreCellsOf, items_of}
+use Rattle.bufr_fill.proofs.PackedFits.{fitting_again}
+use Rattle.bufr_fill.proofs.PackedTrip.{all_here, past}
+use Rattle.bufr_fill.proofs.PlainForm.{Follows, AllFollow, packed_alike}
+use Rattle.bufr_fill.proofs.PlainLaws.{width_least, plain_read}
+
+-- ---- what is left of each subset
+
+abbrev first_content : List (Item Content) → Content
+first_content [] = missing
+first_content (i ∷ items) = i.content
+
+abbrev firsts : List (List (Item Content)) → List Content
+firsts [] = []
+firsts (r ∷ rs) = first_content r ∷ firsts rs
+
+abbrev tail : List (Item Content) → List (Item Content)
+tail [] = []
+tail (i ∷ items) = items
+
+abbrev tails : List (List (Item Content)) → List (List (Item Content))
+tails [] = []
+tails (r ∷ rs) = tail r ∷ tails rs
+
+-- how many items are left
+abbrev total : List (List (Item Content)) → ℕ
+total [] = 0
+total (r ∷ rs) = length r + total rs
+
+abbrev longest_left : List (List (Item Content)) → ℕ
+longest_left [] = 0
+longest_left (r ∷ rs) = max (length r) (longest_left rs)
+
+-- the drafts from a place on are those of what is left
+abbrev DumpedAt : ℕ → List (List (Item Content)) → List Subset → Type 0
+DumpedAt p [] [] = Unit {0}
+DumpedAt p [] (s ∷ ss) = ⊥
+DumpedAt p (r ∷ rs) [] = ⊥
+DumpedAt p (r ∷ rs) (s ∷ ss) = AreDrafts IsDumped r (drop p s.items) × DumpedAt p rs ss
+
+-- each has an item of this field
+abbrev IsHeaded : Asked → List (Item Content) → Type 0
+IsHeaded spec [] = ⊥
+IsHeaded spec (i ∷ items) = (i.spec ≡ spec) × Fits spec i.content
+
+abbrev AreHeaded : Asked → List (List (Item Content)) → Type 0
+AreHeaded spec [] = Unit {0}
+AreHeaded spec (r ∷ rs) = IsHeaded spec r × AreHeaded spec rs
+
+one_headed : (course : Course) (spec : Asked) (r : List (Item Content)) → (course []).next ≡ take_next spec → Follows course r → IsHeaded spec r
+one_headed course spec [] e h = let x : take_next spec ≡ at_end = sym e ∙ h in absurd cc
+one_headed course spec (i ∷ items) e h = let same = asked_same i.spec spec (sym h.0 ∙ e) in (same, subst (λ s. Fits s i.content) same h.2)
+  where
+    asked_same : (a b : Asked) → take_next a ≡ take_next b → a ≡ b
+    asked_same a b e = cc
+
+headed : (course : Course) (spec : Asked) (rs : List (List (Item Content))) → (course []).next ≡ take_next spec → AllFollow course rs → AreHeaded spec rs
+headed course spec [] e h = tt
+headed course spec (r ∷ rs) e h = (one_headed course spec r e h.0, headed course spec rs e h.1)
+
+all_fit : (spec : Asked) (rs : List (List (Item Content))) → AreHeaded spec rs → AllFit spec (firsts rs)
+all_fit spec [] h = tt
+all_fit spec ([] ∷ rs) h = absurd h.0
+all_fit spec ((i ∷ items) ∷ rs) h = (h.0.1, all_fit spec rs h.1)
+
+length-firsts : (rs : List (List (Item Content))) → length (firsts rs) ≡ length rs
+length-firsts [] = refl
+length-firsts (r ∷ rs) = ap suc (length-firsts rs)
+
+length-tails : (rs : List (List (Item Content))) → length (tails rs) ≡ length rs
+length-tails [] = refl
+length-tails (r ∷ rs) = ap suc (length-tails rs)
+
+total_tails : (spec : Asked) (rs : List (List (Item Content))) → AreHeaded spec rs → total rs ≡ length rs + total (tails rs)
+total_tails spec [] h = refl
+total_tails spec ([] ∷ rs) h = absurd h.0
+total_tails spec ((i ∷ items) ∷ rs) h = omega (arith, total_tails spec rs h.1)
+
+longest_tails : (spec : Asked) (r : List (Item Content)) (rs : List (List (Item Content))) → AreHeaded spec (r ∷ rs) → longest_left (r ∷ rs) ≡ suc (longest_left (tails (r ∷ rs)))
+longest_tails spec [] rs h = absurd h.0
+longest_tails spec (i ∷ items) [] h = omega arith
+longest_tails spec (i ∷ items) (q ∷ rs) h = omega (arith, longest_tails spec q rs h.1)
+
+-- ---- the cells at a place
+
+cell_there : (p : ℕ) (ds : List Draft) (i : Item Content) (items : List (Item Content)) → AreDrafts IsDumped (i ∷ items) (drop p ds) → IsCellOf i.spec i.content (slice_get ds p)
+cell_there zero [] i items h = absurd h
+cell_there zero (d ∷ ds) i items h = h.0
+cell_there (suc p) [] i items h = absurd h
+cell_there (suc p) (d ∷ ds) i items h = cell_there p ds i items h
+
+draft_next : (p : ℕ) (ds : List Draft) (i : Item Content) (items : List (Item Content)) → AreDrafts IsDumped (i ∷ items) (drop p ds) → AreDrafts IsDumped items (drop (suc p) ds)
+draft_next zero [] i items h = absurd h
+draft_next zero (d ∷ ds) i items h = h.1
+draft_next (suc p) [] i items h = absurd h
+draft_next (suc p) (d ∷ ds) i items h = draft_next p ds i items h
+
+cells_there : (spec : Asked) (p : ℕ) (rs : List (List (Item Content))) (ss : List Subset) → AreHeaded spec rs → DumpedAt p rs ss → AreCellsOf spec (firsts rs) (cells_at p ss)
+cells_there spec p [] [] h d = tt
+cells_there spec p [] (s ∷ ss) h d = absurd d
+cells_there spec p (r ∷ rs) [] h d = absurd d
+cells_there spec p ([] ∷ rs) (s ∷ ss) h d = absurd h.0
+cells_there spec p ((i ∷ items) ∷ rs) (s ∷ ss) h d = (subst (λ a. IsCellOf a i.content (slice_get s.items p)) h.0.0 (cell_there p s.items i items d.0), cells_there spec p rs ss h.1 d.1)
+
+dumped_next : (spec : Asked) (p : ℕ) (rs : List (List (Item Content))) (ss : List Subset) → AreHeaded spec rs → DumpedAt p rs ss → DumpedAt (suc p) (tails rs) ss
+dumped_next spec p [] [] h d = tt
+dumped_next spec p [] (s ∷ ss) h d = absurd d
+dumped_next spec p (r ∷ rs) [] h d = absurd d
+dumped_next spec p ([] ∷ rs) (s ∷ ss) h d = absurd h.0
+dumped_next spec p ((i ∷ items) ∷ rs) (s ∷ ss) h d = (draft_next p s.items i items d.0, dumped_next spec p rs ss h.1 d.1)
+
+length-dumped : (p : ℕ) (rs : List (List (Item Content))) (ss : List Subset) → DumpedAt p rs ss → length (cells_at p ss) ≡ length rs
+length-dumped p [] [] d = refl
+length-dumped p [] (s ∷ ss) d = absurd d
+length-dumped p (r ∷ rs) [] d = absurd d
+length-dumped p (r ∷ rs) (s ∷ ss) d = ap suc (length-dumped p rs ss d.1)
+
+-- the item of all subsets is packed, or its contents cannot be
+across_gives : (spec : Asked) → IsSpec spec → (p : ℕ) (rs : List (List (Item Content))) (ss : List Subset) → AreHeaded spec rs → DumpedAt p rs ss → (p + 1) * length rs ≤ most_values
+    → pack_across spec (across p ss) ≡ packed_to (firsts rs) (cells_at p ss) (packing spec (firsts rs))
+across_gives spec good p rs ss h d few =
+    let cells = cells_at p ss in
+    let within : (p + 1) * length cells ≤ most_values = subst (λ n. (p + 1) * n ≤ most_values) (sym (length-dumped p rs ss d)) few in
+    ap (λ b. if b then Err (at_line (first_line cells) (too_many_values spec.fxy)) else (contents_here spec cells >>= λ xs. packed_to xs cells (packing spec xs))) (past most_values ((p + 1) * length cells) within)
+    ∙ ap (λ r. r >>= λ xs. packed_to xs cells (packing spec xs)) (all_here spec good (firsts rs) cells (all_fit spec rs h) (cells_there spec p rs ss h d))
+
+-- ---- the course goes on the same for all
+
+abbrev AllTell : Asked → Taken → List Content → Type 0
+AllTell spec t [] = Unit {0}
+AllTell spec t (c ∷ cs) = (told spec c ≡ t) × AllTell spec t cs
+
+tell_from : (spec : Asked) (t : Taken) (cs : List Content) → ((j : ℕ) → j < length cs → told spec (content_at j cs) ≡ t) → AllTell spec t cs
+tell_from spec t [] h = tt
+tell_from spec t (c ∷ cs) h = (h 0 (omega arith), tell_from spec t cs (λ j l. h (suc j) (omega (arith, l))))
+
+follow_next : (course : Course) (spec : Asked) (t : Taken) (rs : List (List (Item Content))) → AreHeaded spec rs → AllTell spec t (firsts rs) → AllFollow course rs → AllFollow (λ told. course (t ∷ told)) (tails rs)
+follow_next course spec t [] h a f = tt
+follow_next course spec t ([] ∷ rs) h a f = absurd h.0
+follow_next course spec t ((i ∷ items) ∷ rs) h a f =
+    let same : told i.spec i.content ≡ t = ap (λ s. told s i.content) h.0.0 ∙ a.0 in
+    (subst (λ (t : Taken). Follows (λ told. course (t ∷ told)) items) same f.0.3, follow_next course spec t rs h.1 a.1 f.1)
+
+-- ---- the items of all subsets are those of each
+
+abbrev AreParts : ℕ → List (Item (List Content)) → List (List (Item Content)) → Type 0
+AreParts j items [] = Unit {0}
+AreParts j items (r ∷ rs) = (items_of j items ≡ r) × AreParts (suc j) items rs
+
+parts_subsets : (j : ℕ) (items : List (Item (List Content))) (rs : List (List (Item Content))) → AreParts j items rs → subsets_from (length rs) j items ≡ rs
+parts_subsets j items [] h = refl
+parts_subsets j items (r ∷ rs) h = ap (λ x. x ∷ subsets_from (length rs) (suc j) items) h.0 ∙ ap (λ xs. r ∷ xs) (parts_subsets (suc j) items rs h.1)
+
+at_drop : (j : ℕ) (cs : List Content) (c : Content) (rest : List Content) → drop j cs ≡ c ∷ rest → (content_at j cs ≡ c) × (drop (suc j) cs ≡ rest)
+at_drop zero [] c rest e = absurd cc
+at_drop zero (x ∷ cs) c rest e = (cc, cc)
+at_drop (suc j) [] c rest e = absurd cc
+at_drop (suc j) (x ∷ cs) c rest e = at_drop j cs c rest e
+
+no_parts : (course : Course) (j : ℕ) (rs : List (List (Item Content))) → (course []).next ≡ at_end → AllFollow course rs → AreParts j [] rs × (longest_left rs ≡ 0)
+no_parts course j [] e f = (tt, refl)
+no_parts course j ([] ∷ rs) e f = let rest = no_parts course (suc j) rs e f.1 in ((refl, rest.0), omega (arith, rest.1))
+no_parts course j ((i ∷ items) ∷ rs) e f = let x : take_next i.spec ≡ at_end = sym f.0.0 ∙ e in absurd cc
+
+more_parts : (j : ℕ) (spec : Asked) (cs : List Content) (items : List (Item (List Content))) (rs : List (List (Item Content))) → drop j cs ≡ firsts rs → AreHeaded spec rs → AreParts j items (tails rs) → AreParts j (record { spec = spec; content = cs } ∷ items) rs
+more_parts j spec cs items [] e h a = tt
+more_parts j spec cs items ([] ∷ rs) e h a = absurd h.0
+more_parts j spec cs items ((i ∷ r) ∷ rs) e h a =
+    let at = at_drop j cs i.content (firsts rs) e in
+    let same : items_of j (record { spec = spec; content = cs } ∷ items) ≡ i ∷ r = λ k. record { spec = sym h.0.0 k; content = at.0 k } ∷ a.0 k in
+    (same, more_parts (suc j) spec cs items rs at.1 h.1 a.1)
+
+-- ---- row after row
+
+record IsTogether (n : ℕ) (course : Course) (rests : List (List (Item Content))) (drafts : List Across) (end_line : ℕ) (many : Bool) : Type 0 where
+  items : List (Item (List Content))
+  parts : AreParts 0 items rests
+  out : List Bool
+  fills : fill (packed_filler end_line many) course drafts ≡ Ok out
+  again : (more : List Bool) → ReadsAll (packed n) course items (out ++ more) more
+  few : length items * n ≤ total rests
+
+record IsNot (course : Course) (drafts : List Across) (end_line : ℕ) (many : Bool) : Type 0 where
+  why : FaultAt
+  is : fill (packed_filler end_line many) course drafts ≡ Err why
+  unlike : IsUnlike why.fault
+
+abbrev Either : (n : ℕ) → Course → List (List (Item Content)) → List Across → (end_line : ℕ) → (many : Bool) → Type 0
+Either n course rests drafts end_line many = IsTogether n course rests drafts end_line many ⊎ IsNot course drafts end_line many
+
+module _ (end_line : ℕ) (many : Bool) where
+  fill_first : (course : Course) (spec : Asked) (a : Across) (more : List Across) (r : Result (List Bool) FieldFault) (cs : List Content) → (course []).next ≡ take_next spec → pack_across spec a ≡ packed_to cs a.cells r
+      → fill (packed_filler end_line many) course (a ∷ more) ≡ filled (packed_filler end_line many) spec (packed_to cs a.cells r) (λ t. fill (packed_filler end_line many) (λ told. course (t ∷ told)) more)
+  fill_first course spec a more r cs next gives =
+      let filler = packed_filler end_line many in
+      ap (λ n. fill_one filler n a (λ t. fill filler (λ told. course (t ∷ told)) more)) next
+      ∙ ap (λ x. filled filler spec x (λ t. fill filler (λ told. course (t ∷ told)) more)) gives
+
+  fault_unlike : (cs : List Content) (cells : List Cell) (why : FieldFault) → IsUnlike (packing_fault cs cells why).fault
+  fault_unlike cs cells data_end = tt
+  fault_unlike cs cells increment = tt
+  fault_unlike cs cells unequal_factor = tt
+
+  -- the first row, and those behind it
+  onto : (n : ℕ) (course : Course) (spec : Asked) (c : Content) (cs : List Content) (rs : List (List (Item Content))) (a : Across) (more : List Across) → IsSpec spec → (course []).next ≡ take_next spec → AreHeaded spec rs → firsts rs ≡ c ∷ cs → length rs ≡ n
+      → (r : Result (List Bool) FieldFault) → packing spec (c ∷ cs) ≡ r → pack_across spec a ≡ packed_to (c ∷ cs) a.cells r
+      → ((out : List Bool) → packing spec (c ∷ cs) ≡ Ok out → Either n (λ told_so. course (told spec c ∷ told_so)) (tails rs) more end_line many)
+      → Either n course rs (a ∷ more) end_line many
+  onto n course spec c cs rs a more good next h f count (Err why) p gives rest =
+      inr (record { why = packing_fault (c ∷ cs) a.cells why; is = fill_first course spec a more (Err why) (c ∷ cs) next gives; unlike = fault_unlike (c ∷ cs) a.cells why })
+  onto n course spec c cs rs a more good next h f count (Ok w) p gives rest = by (rest w p)
+    where
+      by : Either n (λ told_so. course (told spec c ∷ told_so)) (tails rs) more end_line many → Either n course rs (a ∷ more) end_line many
+      by (inr x) = inr (record {
+        why = x.why;
+        is = fill_first course spec a more (Ok w) (c ∷ cs) next gives ∙ ap (and_behind (packed_filler end_line many) w) x.is;
+        unlike = x.unlike;
+      })
+      by (inl x) =
+          let long : length (c ∷ cs) ≡ n = ap length (sym f) ∙ length-firsts rs ∙ count in
+          let fits : AllFit spec (c ∷ cs) = subst (AllFit spec) f (all_fit spec rs h) in
+          inl (record {
+            items = record { spec = spec; content = c ∷ cs } ∷ x.items;
+            parts = more_parts 0 spec (c ∷ cs) x.items rs (sym f) h x.parts;
+            out = w ++ x.out;
+            fills = fill_first course spec a more (Ok w) (c ∷ cs) next gives ∙ ap (and_behind (packed_filler end_line many) w) x.fills;
+            again = λ bits. let r = x.again bits in (
+              (
+                x.out ++ bits,
+                next,
+                ap (packed_field n spec) (append_assoc w x.out bits) ∙ fitting_again n spec good c cs w (x.out ++ bits) fits long p,
+                r.0,
+              ),
+              r.1,
+            );
+            few = let e : suc (length x.items) * n ≡ n + length x.items * n = grind arith in omega (arith, x.few, e, count, total_tails spec rs h);
+          })
+
+  -- all rows from a place on
+  from_place : (course : Course) (r : List (Item Content)) (rs : List (List (Item Content))) (ss : List Subset) (p : ℕ) → AllFollow course (r ∷ rs) → DumpedAt p (r ∷ rs) ss → p * suc (length rs) + total (r ∷ rs) ≤ most_values
+      → Either (suc (length rs)) course (r ∷ rs) (rows (longest_left (r ∷ rs)) p ss) end_line many
+  from_place course [] rs ss p f d few =
+      let none = no_parts course 0 ([] ∷ rs) f.0 f in
+      inl (subst (λ k. IsTogether (suc (length rs)) course ([] ∷ rs) (rows k p ss) end_line many) (sym none.1) (record {
+        items = [];
+        parts = none.0;
+        out = [];
+        fills = ap (fill_none (packed_filler end_line many)) f.0;
+        again = λ more. (refl, f.0);
+        few = omega arith;
+      }))
+  from_place course (i ∷ items) rs ss p f d few =
+      let n = suc (length rs) in
+      let all = (i ∷ items) ∷ rs in
+      let spec = i.spec in
+      let h = headed course spec all f.0.0 f in
+      let cs = firsts rs in
+      let left = longest_left (tails all) in
+      let more = rows left (p + 1) ss in
+      let one : p * n + n ≡ (p + 1) * n = grind arith in
+      let tot : total all ≡ n + total (tails all) = total_tails spec all h in
+      let within : (p + 1) * n ≤ most_values = omega (arith, few, one, tot) in
+      let gives = across_gives spec f.0.1 p all ss h d within in
+      let forth : suc p ≡ p + 1 = omega arith in
+      subst (λ k. Either n course all (rows k p ss) end_line many) (sym (longest_tails spec (i ∷ items) rs h))
+      (onto n course spec i.content cs all (across p ss) more f.0.1 f.0.0 h refl refl (packing spec (i.content ∷ cs)) refl gives (λ w q.
+      let tells = tell_from spec (told spec i.content) cs (λ j l. packed_alike spec i.content cs w (suc j) q (omega (arith, l))) in
+      let d' = subst (λ k. DumpedAt k (tails all) ss) forth (dumped_next spec p all ss h d) in
+      let f' = follow_next course spec (told spec i.content) all h (refl, tells) f in
+      let same : length (tails rs) ≡ length rs = length-tails rs in
+      subst (λ k. Either (suc k) (λ told_so. course (told spec i.content ∷ told_so)) (tails all) more end_line many) same
+      (from_place (λ told_so. course (told spec i.content ∷ told_so)) items (tails rs) ss (p + 1) f' d' (
+      let e : (p + 1) * suc (length (tails rs)) ≡ (p + 1) * n = ap (λ k. (p + 1) * suc k) same in omega (arith, few, one, tot, e)))))
+
+-- ---- from a reading
+
+follows_plain : (course : Course) (items : List (Item Content)) (bits behind : List Bool) → AllSpecs items → ReadsAll plain course items bits behind → Follows course items × (length items + length behind ≤ length bits)
+follows_plain course [] bits behind specs r = (r.1, omega (arith, ap length r.0))
+follows_plain course (i ∷ items) bits behind specs r =
+    let rest = follows_plain (after plain course i) items r.0.0 behind specs.1 (r.0.3, r.1) in
+    let read = plain_read i.spec specs.0 bits r.0.0 i.content r.0.2 in
+    ((r.0.1, specs.0, read.0, rest.0), omega (arith, rest.1, read.1, width_least i.spec.kind i.spec.width (specs.0).width))
+
+all_plain : (course : Course) (subsets : List (List (Item Content))) (bits behind : List Bool) → EachSpecs subsets → ReadsSubsets course subsets bits behind → AllFollow course subsets × (total subsets + length behind ≤ length bits)
+all_plain course [] bits behind specs r = (tt, omega (arith, ap length r))
+all_plain course (items ∷ subsets) bits behind specs r =
+    let first = follows_plain course items bits r.0 specs.0 r.1 in
+    let rest = all_plain course subsets r.0 behind specs.1 r.2 in
+    ((first.0, rest.0), omega (arith, first.1, rest.1))
+
+lengths : (items : List (Item Content)) (ds : List Draft) → AreDrafts IsDumped items ds → length ds ≡ length items
+lengths [] [] h = refl
+lengths [] (d ∷ ds) h = absurd h
+lengths (i ∷ items) [] h = absurd h
+lengths (i ∷ items) (d ∷ ds) h = ap suc (lengths items ds h.1)
+
+dumped_at : (subsets : List (List (Item Content))) (ss : List Subset) → AreDumped subsets ss → DumpedAt 0 subsets ss × (longest ss ≡ longest_left subsets)
+dumped_at [] [] h = (tt, refl)
+dumped_at [] (s ∷ ss) h = absurd h
+dumped_at (items ∷ subsets) [] h = absurd h
+dumped_at (items ∷ subsets) (s ∷ ss) h =
+    let rest = dumped_at subsets ss h.1 in
+    ((h.0, rest.0), omega (arith, rest.1, lengths items s.items h.0))
+
+-- data that were read subset after subset are written together, where their contents can be
+pub together : (course : Course) (subsets : List (List (Item Content))) (drafts : List Subset) (bits behind : List Bool) → length bits ≤ most_values → EachSpecs subsets → AreDumped subsets drafts → ReadsSubsets course subsets bits behind → IsTogetherOrNot course subsets drafts
+together course [] [] bits behind few specs dumped r = inl (record { items = []; same = refl; out = []; is = refl; again = λ more. (refl, refl) })
+together course [] (s ∷ ss) bits behind few specs dumped r = absurd dumped
+together course (items ∷ subsets) [] bits behind few specs dumped r = absurd dumped
+together course (items ∷ subsets) (s ∷ ss) bits behind few specs dumped r = by (from_place s.end_line many course items subsets (s ∷ ss) 0 all.0 at.0 (omega (arith, all.1, few)))
+  where
+    many : Bool
+    many = are_many (longest (s ∷ ss)) (length (s ∷ ss))
+
+    all : AllFollow course (items ∷ subsets) × (total (items ∷ subsets) + length behind ≤ length bits)
+    all = all_plain course (items ∷ subsets) bits behind specs r
+
+    at : DumpedAt 0 (items ∷ subsets) (s ∷ ss) × (longest (s ∷ ss) ≡ longest_left (items ∷ subsets))
+    at = dumped_at (items ∷ subsets) (s ∷ ss) dumped
+
+    data_are : packed_data course (s ∷ ss) ≡ fill (packed_filler s.end_line many) course (rows (longest_left (items ∷ subsets)) 0 (s ∷ ss))
+    data_are = ap (λ k. fill (packed_filler s.end_line many) course (rows k 0 (s ∷ ss))) at.1
+
+    by : Either (suc (length subsets)) course (items ∷ subsets) (rows (longest_left (items ∷ subsets)) 0 (s ∷ ss)) s.end_line many → IsTogetherOrNot course (items ∷ subsets) (s ∷ ss)
+    by (inr x) = inr (record { why = x.why; is = data_are ∙ x.is; unlike = x.unlike })
+    by (inl x) = inl (record {
+      items = x.items;
+      same = parts_subsets 0 x.items (items ∷ subsets) x.parts;
+      out = x.out;
+      is = data_are ∙ x.fills;
+      again = λ more. (x.again more, omega (arith, x.few, all.1, few));
+    })
