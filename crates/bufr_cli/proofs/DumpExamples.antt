@@ -118,7 +118,7 @@ stray-piece : IsDumpPiece blocks [] (Strayed 4 Cut) (OnErrors (codes "offset 4: 
 unfolding digits
 stray-piece = refl
 
-edition-piece : IsDumpPiece blocks [] (Framed 0 (slice_set one_block_number 7 3)) (OnErrors (codes "offset 0: 10 edition 3\n"))
+edition-piece : IsDumpPiece blocks [] (Framed 0 (slice_set one_block_number 7 2)) (OnErrors (codes "offset 0: 10 edition 2\n"))
 unfolding sections_of section_end digits
 edition-piece = refl
 

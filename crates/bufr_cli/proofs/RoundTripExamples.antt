@@ -16,17 +16,21 @@ use Rattle.bufr_text.specs.Grammar.{front, behind, behind_word, descriptors_read
 use Rattle.bufr_text.specs.Line.{keys, line_of, place_from, value_read, worded}
 use Rattle.bufr_cli.specs.EncodePieces.{up_to_refused}
 use Rattle.bufr_cli.specs.Pieces.{Piece, OnOutput, OnErrors, ls_piece}
-use Rattle.bufr_cli.specs.RoundTrip.{accepted_messages, dumped, rebuilt}
-use Rattle.bufr_cli.proofs.Examples.{one_block_number}
+use Rattle.bufr_cli.specs.RoundTrip.{accepted_messages, dumped, longer_by, rebuilt}
+use Rattle.bufr_cli.proofs.Examples.{edition_3, one_block_number}
 
 -- a stray word, a message, one of another edition, and a message of another centre
 abbrev stream : List ℕ
-stream = codes "BUFR" ++ 0 ∷ 0 ∷ 64 ∷ 4 ∷ (one_block_number ++ (slice_set one_block_number 7 3 ++ slice_set one_block_number 13 99))
+stream = codes "BUFR" ++ 0 ∷ 0 ∷ 64 ∷ 4 ∷ (one_block_number ++ (slice_set one_block_number 7 2 ++ slice_set one_block_number 13 99))
 
 -- what is at fault is no accepted message, and the others are in the order of the stream
 accepted-among : accepted_messages ls_piece stream ≡ one_block_number ∷ slice_set one_block_number 13 99 ∷ []
 unfolding scan_from sections_of section_end digits
 accepted-among = refl
+
+-- two messages of edition 3 among three may grow by two octets each
+grown : longer_by (edition_3 ∷ one_block_number ∷ edition_3 ∷ []) ≡ 4
+grown = refl
 
 -- an event's text is its offset
 abbrev offset_piece : Happening → Piece

@@ -11,10 +11,11 @@ use Rattle.bufr_tables.specs.TemplateTables.{tables_of}
 use Rattle.bufr_tables.specs.Tree.{Tree}
 use Rattle.bufr_tables.specs.declared.template.fault.TemplateFault.{TemplateFault}
 use Rattle.bufr_tables.proofs.SoundLemmas.{tree_fine}
-use Rattle.bufr_frame.specs.Layout.{most_octets}
+use Rattle.bufr_frame.specs.Layout.{longer, most_octets}
 use Rattle.bufr_frame.specs.Scan.{Happening, Framed, Strayed, scan, scan_from}
-use Rattle.bufr_frame.specs.Sections.{Sections, sections_of}
+use Rattle.bufr_frame.specs.Sections.{Sections, edition_of, sections_of}
 use Rattle.bufr_frame.specs.declared.fault.SectionFault.{SectionFault}
+use Rattle.bufr_frame.proofs.AgainLemmas.{sections-ended}
 use Rattle.bufr_frame.proofs.FrameLemmas.{IsSmall, framed_octets, frames-within, small-frames}
 use Rattle.bufr_frame.proofs.ScanLemmas.{scan_from-nil}
 use Rattle.bufr_walk.specs.Reading.{Values, apart, together}
@@ -32,7 +33,7 @@ use Rattle.bufr_cli.specs.DumpPieces.{IsDataPiece, IsTemplatePiece, IsMessagePie
 use Rattle.bufr_text.specs.declared.form.Form.TheVariants.{AsWritten}
 use Rattle.bufr_cli.specs.EncodePieces.{encoded, told_piece, up_to_refused}
 use Rattle.bufr_cli.specs.Pieces.{Piece, OnOutput, OnErrors, output_of, errors_of, is_accepted, is_refused}
-use Rattle.bufr_cli.specs.RoundTrip.{accepted_in, accepted_messages, dump_pieces, dumped, octets_in, rebuilding, rebuilt, text_pieces, IsBuiltAgain, IsWholeRound, IsWrittenSo, RoundTrips}
+use Rattle.bufr_cli.specs.RoundTrip.{accepted_in, accepted_messages, dump_pieces, dumped, longer_by, octets_in, rebuilding, rebuilt, text_pieces, IsBuiltAgain, IsWholeRound, IsWrittenSo, RoundTrips}
 use Rattle.bufr_cli.specs.Program.{Dumps, Encodes}
 use Rattle.bufr_cli.specs.Running.{GivesPieces, Tallies}
 use Rattle.bufr_cli.specs.declared.tally.Tally.{Tally}
@@ -175,7 +176,7 @@ record Built (b : List Row) (d : List Sequence) (piece : Happening → Piece) (t
   messages : List (List ℕ)
   readings : AllZip (IsBuiltAgain b d) accepted messages
   told : map (told_piece AsWritten b d) (spelled line Between (lines_of text)) ≡ map OnOutput messages
-  no_longer : length (concat messages) ≤ most
+  no_longer : length (concat messages) ≤ most + longer_by accepted
   scanned : (at : ℕ) → scan_from 0 at (concat messages) ≡ placed at messages
   again : (at : ℕ) → map piece (placed at messages) ≡ filter is_accepted pieces
   listed : (at : ℕ) → accepted_of piece (placed at messages) ≡ messages
@@ -217,6 +218,8 @@ module _ (b : List Row) (d : List Sequence) (piece : Happening → Piece) (gives
       let read = rows-read records b rows in
       let legal = (tree_fine (tables_of b d) s.descriptors template a.expands).legal in
       let w = encoded_again b d m s template values used line (good-rows b read) legal a in
+      let edition : s.head.edition ≡ edition_of m = ap (λ (x : Sections). x.head.edition) (sections-ended m s a.sections).is in
+      let no_longer : length w.octets ≤ length m + longer (edition_of m) = subst (λ e. length w.octets ≤ length m + longer e) edition w.same.no_longer in
       let here : (at : ℕ) → piece (Framed at w.octets) ≡ OnOutput (dump_text_of s items) = λ at. same-piece m s template values used at w.octets a w.same in
       let rest = map (told_piece AsWritten b d) (spelled (line + length (dump_lines s items)) Between (lines_of text)) in
       record {
@@ -224,7 +227,7 @@ module _ (b : List Row) (d : List Sequence) (piece : Happening → Piece) (gives
         readings = (record { sections = s; template = template; values = values; used = used; accepted = a; same = w.same }, r.readings);
         told = ap (map (told_piece AsWritten b d)) (text-spells s items line text (dumpable b d m s template values used read legal a))
             ∙ ap (λ x. encoded x ∷ rest) w.is ∙ ap (λ l. OnOutput w.octets ∷ l) r.told;
-        no_longer = omega (arith, length-append w.octets (concat r.messages), w.same.no_longer, r.no_longer);
+        no_longer = omega (arith, length-append w.octets (concat r.messages), no_longer, r.no_longer);
         scanned = λ at. w.same.framed at (concat r.messages) ∙ ap (λ l. Framed at w.octets ∷ l) (r.scanned (at + length w.octets));
         again = λ at. ap (λ p. p ∷ map piece (placed (at + length w.octets) r.messages)) (here at) ∙ ap (λ l. OnOutput (dump_text_of s items) ∷ l) (r.again (at + length w.octets));
         listed = λ at. ap (λ p. accepted_in (Framed at w.octets) p ++ accepted_of piece (placed (at + length w.octets) r.messages)) (here at) ∙ ap (λ l. w.octets ∷ l) (r.listed (at + length w.octets));
@@ -301,12 +304,13 @@ module _ (b : List Row) (d : List Sequence) (piece : Happening → Piece) (gives
       → text ≡ dumped piece stream → Tallies first (dump_pieces piece stream)
       → messages ≡ flat_map output_of (text_pieces b d text) → lines ≡ flat_map errors_of (text_pieces b d text) → Tallies second (text_pieces b d text)
       → again ≡ dumped piece messages → faults ≡ flat_map errors_of (dump_pieces piece messages) → Tallies third (dump_pieces piece messages)
-      → IsWholeRound stream text messages lines again faults first second third
+      → IsWholeRound b d stream text messages lines again faults first second third
   whole-round records stream text messages lines again faults first second third rows octets is_text first_counts is_messages is_lines second_counts is_again is_faults third_counts =
       let t = round-trips records stream rows octets in
       let built : text_pieces b d text ≡ rebuilding b d piece stream = ap (text_pieces b d) is_text in
       let are : messages ≡ rebuilt b d piece stream = is_messages ∙ ap (flat_map output_of) built in
       let pieces : dump_pieces piece messages ≡ filter is_accepted (dump_pieces piece stream) = ap (dump_pieces piece) are ∙ t.same_pieces in
+      let R : List ℕ → Type 0 = λ l. AllZip (IsBuiltAgain b d) (accepted_messages piece stream) (accepted_messages piece l) in
       record {
         same_text = is_again ∙ ap (flat_map output_of) pieces ∙ accepted-output (dump_pieces piece stream) ∙ sym is_text;
         as_many = second_counts.accepted ∙ ap (count_by is_accepted) built ∙ t.as_many ∙ sym first_counts.accepted;
@@ -314,7 +318,12 @@ module _ (b : List Row) (d : List Sequence) (piece : Happening → Piece) (gives
         no_line = is_lines ∙ ap (flat_map errors_of) built ∙ t.no_line;
         none_refused_again = third_counts.refused ∙ ap (count_by is_refused) pieces ∙ accepted-count (dump_pieces piece stream);
         no_fault = is_faults ∙ ap (flat_map errors_of) pieces ∙ accepted-silent (dump_pieces piece stream);
+        piece = piece;
+        gives = gives;
+        are_messages = are ∙ t.messages ∙ ap (λ l. concat (accepted_messages piece l)) (sym are);
+        readings = subst R (sym are) t.readings;
         no_longer = omega (arith, ap length are, t.no_longer);
+        canonical = λ all. are ∙ canonical-kept records stream rows octets all;
       }
 
 -- two functions that give each event its piece give the same pieces
@@ -326,7 +335,7 @@ same-pieces b d p q gives given (here ∷ es) =
 -- three runs of the program
 pub three-runs : (records : List Record) (b : List Row) (d : List Sequence) (stream text messages lines again faults : List ℕ) (e e' : Option (List ℕ)) (first second third : Tally) → AreRows records b → AllByRecursion IsOctet stream
     → Dumps b d (Some []) (Some text) e e' first stream → Encodes AsWritten b d (Some []) (Some messages) (Some []) (Some lines) second text → Dumps b d (Some []) (Some again) (Some []) (Some faults) third messages
-    → IsWholeRound stream text messages lines again faults first second third
+    → IsWholeRound b d stream text messages lines again faults first second third
 three-runs records b d stream text messages lines again faults e e' first second third rows octets (piece, gives, (wrote, counts)) (encodes, counted) (other, given, (dumps, counts')) =
     let same : dump_pieces other messages ≡ dump_pieces piece messages = same-pieces b d other piece given gives (scan messages) in
     let T : List Piece → Type 0 = λ ps. Tallies third ps in

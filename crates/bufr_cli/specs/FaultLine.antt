@@ -4,7 +4,7 @@ use Rattle.std.specs.Prelude.{ℕ, List, [], ◌∷◌, ◌++◌, codes, decimal
 use Rattle.bufr_frame.specs.declared.fault.Cause.{Cause}
 use Rattle.bufr_frame.specs.declared.fault.Cause.TheVariants.{Cut, ShortLength, NoEnd}
 use Rattle.bufr_frame.specs.declared.fault.SectionFault.{SectionFault}
-use Rattle.bufr_frame.specs.declared.fault.SectionFault.TheVariants.{Edition, SectionShort, SectionPast, SectionsEnd}
+use Rattle.bufr_frame.specs.declared.fault.SectionFault.TheVariants.{Edition, SectionShort, SectionPast, SectionsEnd, Edition3Long}
 use Rattle.bufr_tables.specs.Fxy.{fxy_text}
 use Rattle.bufr_tables.specs.declared.template.fault.TemplateFault.{TemplateFault}
 use Rattle.bufr_tables.specs.declared.template.fault.TemplateFault.TheVariants as template
@@ -25,6 +25,7 @@ section_fault_text (Edition edition) = codes "edition " ∷ decimal edition ∷ 
 section_fault_text (SectionShort section) = codes "section " ∷ decimal section ∷ codes " short" ∷ []
 section_fault_text (SectionPast section) = codes "section " ∷ decimal section ∷ codes " past the end" ∷ []
 section_fault_text SectionsEnd = codes "sections do not meet the end" ∷ []
+section_fault_text Edition3Long = codes "edition 3 length" ∷ []
 
 -- the text of a template fault, in parts; want of memory ends a run, and no line tells it
 abbrev pub template_fault_text : TemplateFault → List (List ℕ)

@@ -1,10 +1,11 @@
 -- A stream that is dumped, its dump text encoded, and what was encoded dumped again. (a choice of this project)
 -- Cited by public contracts.
-use Rattle.std.specs.Prelude.{◌≡◌, ℕ, ◌≤◌, List, [], ◌∷◌, length, map, flat_map, count_by}
-use Rattle.std.specs.List.{AllZip, concat, filter}
+use Rattle.std.specs.Prelude.{◌≡◌, ℕ, ◌+◌, ◌≤◌, List, [], ◌∷◌, length, map, flat_map, count_by}
+use Rattle.std.specs.List.{AllByRecursion, AllZip, concat, filter}
 use Rattle.bufr_bits.specs.Script.{taken_of}
+use Rattle.bufr_frame.specs.Layout.{longer}
 use Rattle.bufr_frame.specs.Scan.{Happening, Framed, Strayed, scan}
-use Rattle.bufr_frame.specs.Sections.{Sections}
+use Rattle.bufr_frame.specs.Sections.{Sections, edition_of}
 use Rattle.bufr_tables.specs.TableB.{Row}
 use Rattle.bufr_tables.specs.TableD.{Sequence}
 use Rattle.bufr_tables.specs.Tree.{Tree}
@@ -13,9 +14,10 @@ use Rattle.bufr_text.specs.Canonical.{IsCanonical}
 use Rattle.bufr_text.specs.Documents.{documents_of}
 use Rattle.bufr_text.specs.Encoded.{IsAccepted, HasSameReading}
 use Rattle.bufr_text.specs.declared.form.Form.TheVariants.{AsWritten}
+use Rattle.bufr_cli.specs.DumpPieces.{IsDumpPiece}
 use Rattle.bufr_cli.specs.EncodePieces.{encode_pieces}
 use Rattle.bufr_cli.specs.Pieces.{Piece, OnOutput, OnErrors, output_of, errors_of, is_accepted, is_refused}
-use Rattle.bufr_cli.specs.Running.{Tallies}
+use Rattle.bufr_cli.specs.Running.{GivesPieces, Tallies}
 use Rattle.bufr_cli.specs.declared.round_trip.Round.{Round}
 use Rattle.bufr_cli.specs.declared.round_trip.RunInMemory.{RunInMemory}
 use Rattle.bufr_cli.specs.declared.tally.Tally.{Tally}
@@ -52,7 +54,13 @@ accepted_in here (OnErrors text) = []
 abbrev pub accepted_messages : (Happening → Piece) → List ℕ → List (List ℕ)
 accepted_messages piece s = flat_map (λ here. accepted_in here (piece here)) (scan s)
 
--- Of two messages the first is accepted, and the second has the same reading and is no longer.
+-- By how many octets these messages may grow when they are written again: up to two for each of edition 3, whose sections 3 and 4 are made even.
+abbrev pub longer_by : List (List ℕ) → ℕ
+longer_by [] = 0
+longer_by (m ∷ ms) = longer (edition_of m) + longer_by ms
+
+-- Of two messages the first is accepted, and the second has the same reading and is no longer, but that in edition 3 up to two octets make sections
+-- 3 and 4 even.
 pub record IsBuiltAgain (b : List Row) (d : List Sequence) (m written : List ℕ) : Type 0 where
   pub sections : Sections
   pub template : Tree
@@ -71,9 +79,10 @@ pub record RoundTrips (b : List Row) (d : List Sequence) (piece : Happening → 
   pub none_refused : count_by is_refused (rebuilding b d piece s) ≡ 0
   pub no_line : flat_map errors_of (rebuilding b d piece s) ≡ []
   pub as_many : count_by is_accepted (rebuilding b d piece s) ≡ count_by is_accepted (dump_pieces piece s)
-  -- what it writes is these messages and nothing else, is no longer than the stream, and each has the reading of the one that was dumped
+  -- what it writes is these messages and nothing else, is longer than the stream by no more than its messages of edition 3 may grow, and each has the
+  -- reading of the one that was dumped
   pub messages : rebuilt b d piece s ≡ concat (accepted_messages piece (rebuilt b d piece s))
-  pub no_longer : length (rebuilt b d piece s) ≤ length s
+  pub no_longer : length (rebuilt b d piece s) ≤ length s + longer_by (accepted_messages piece s)
   pub readings : AllZip (IsBuiltAgain b d) (accepted_messages piece s) (accepted_messages piece (rebuilt b d piece s))
   -- dumped again it has the pieces of the stream that went to the output, and no other: the same text, octet for octet, and no fault
   pub same_pieces : dump_pieces piece (rebuilt b d piece s) ≡ filter is_accepted (dump_pieces piece s)
@@ -89,17 +98,25 @@ pub record IsRun (ran : RunInMemory) (pieces : List Piece) : Type 0 where
   pub tallies : Tallies ran.tally pieces
 
 -- A stream was dumped to a text, the text encoded to messages with these fault lines, and the messages dumped again to a text with these faults: the
--- two texts are the same, nothing was refused but by the first run, and the messages are no longer than the stream.
-pub record IsWholeRound (stream text messages lines again faults : List ℕ) (first second third : Tally) : Type 0 where
+-- two texts are the same, nothing was refused but by the first run, and the messages have, one by one, the readings of those that were dumped.
+pub record IsWholeRound (b : List Row) (d : List Sequence) (stream text messages lines again faults : List ℕ) (first second third : Tally) : Type 0 where
   pub same_text : again ≡ text
   pub as_many : second.accepted ≡ first.accepted
   pub none_refused : second.refused ≡ 0
   pub no_line : lines ≡ []
   pub none_refused_again : third.refused ≡ 0
   pub no_fault : faults ≡ []
-  pub no_longer : length messages ≤ length stream
+  -- what `dump` writes for each event, by which the accepted messages are known
+  pub piece : Happening → Piece
+  pub gives : GivesPieces (IsDumpPiece b d) piece
+  -- the messages that were written, and nothing else, each with the reading of the one that was dumped
+  pub are_messages : messages ≡ concat (accepted_messages piece messages)
+  pub readings : AllZip (IsBuiltAgain b d) (accepted_messages piece stream) (accepted_messages piece messages)
+  pub no_longer : length messages ≤ length stream + longer_by (accepted_messages piece stream)
+  -- where those that were dumped are as an encoder writes them, these are the same, octet for octet
+  pub canonical : AllByRecursion (IsWrittenSo b d) (accepted_messages piece stream) → messages ≡ concat (accepted_messages piece stream)
 
 -- the same of three runs into memory
-abbrev pub IsWholeRoundOf : (stream : List ℕ) → Round → Type 0
-IsWholeRoundOf stream round = IsWholeRound stream (taken_of round.text.output) (taken_of round.messages.output) (taken_of round.messages.errors)
+abbrev pub IsWholeRoundOf : List Row → List Sequence → (stream : List ℕ) → Round → Type 0
+IsWholeRoundOf b d stream round = IsWholeRound b d stream (taken_of round.text.output) (taken_of round.messages.output) (taken_of round.messages.errors)
     (taken_of round.again.output) (taken_of round.again.errors) round.text.tally round.messages.tally round.again.tally

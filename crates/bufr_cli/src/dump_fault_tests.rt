@@ -225,7 +225,7 @@ fn refuses_too_many_values(rt: HostRuntime) -> Result<(), Fail> {
     )
 }
 
-/// A stray word, a message of edition 3, one whose second subset is refused, and one that is
+/// A stray word, a message of edition 2, one whose second subset is refused, and one that is
 /// accepted: of the refused ones nothing is on the output.
 #[test]
 fn goes_on_behind_refused(rt: HostRuntime) -> Result<(), Fail> {
@@ -234,7 +234,7 @@ fn goes_on_behind_refused(rt: HostRuntime) -> Result<(), Fail> {
     input.extend_from_slice(b"BUFR\x00\x00\x40\x04")?;
     input.extend_from_slice(&good)?;
     assert!(rt; input.len() > 15);
-    input[15] = 3;
+    input[15] = 2;
     let halved = message_of(rt.alloc(), 2, 0x80, &[0x0101], &[0x14])?;
     input.extend_from_slice(&halved)?;
     input.extend_from_slice(&good)?;
@@ -246,7 +246,7 @@ fn goes_on_behind_refused(rt: HostRuntime) -> Result<(), Fail> {
         &input,
         text.as_bytes(),
         b"offset 0: 3 no end\n\
-        offset 8: 10 edition 3\n\
+        offset 8: 10 edition 2\n\
         offset 56: 30 data end at subset 2 descriptor 001001 bit 7\n",
         Tally {
             accepted: 1,
@@ -269,11 +269,11 @@ fn tells_strays(rt: HostRuntime) -> Result<(), Fail> {
             1,
         ),
         (
-            "edition 3",
+            "edition 2",
             b"",
-            &[(7, 3)],
+            &[(7, 2)],
             b"",
-            "offset 0: 10 edition 3\n",
+            "offset 0: 10 edition 2\n",
             0,
         ),
         (

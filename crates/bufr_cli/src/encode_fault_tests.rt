@@ -400,8 +400,9 @@ fn refuses_at_lines(rt: HostRuntime) -> Result<(), Fail> {
 
 /// The document of one block number with another line in a line's place, and its fault line; or the
 /// octets of its message from octet 9 on.
-static LINES: [(usize, &str, &str, &str); 16] = [
-    (2, "edition 3\n", "", "line 2: 61 header range\n"),
+static LINES: [(usize, &str, &str, &str); 17] = [
+    (2, "edition 2\n", "", "line 2: 61 header range\n"),
+    (2, "edition 3\n", "", "line 12: 61 header range\n"),
     (2, "edition 5\n", "", "line 2: 61 header range\n"),
     (3, "master 255\n", "000016FF0062", ""),
     (3, "master 256\n", "", "line 3: 61 header range\n"),

@@ -71,6 +71,10 @@ pub fn write_section_fault<E: Sink>(
             let text = b"sections do not meet the end";
             write_fault(offset, number, text, Part::Text(b""), b"", e)
         }
+        SectionFault::Edition3Long => {
+            let text = b"edition 3 length";
+            write_fault(offset, number, text, Part::Text(b""), b"", e)
+        }
     }
 }
 

@@ -29,6 +29,8 @@ mod dump_fault_tests;
 #[cfg(test)]
 mod dump_tests;
 #[cfg(test)]
+mod edition3_tests;
+#[cfg(test)]
 mod encode_fault_tests;
 #[cfg(test)]
 mod encode_tests;

@@ -38,6 +38,19 @@ impl Ran {
         self.output.taken()
     }
 
+    /// Asserts what the run counted and what its errors took, whatever its output is.
+    pub(crate) fn assert_errors(
+        &self,
+        rt: &(impl Abort + AllocGlobal),
+        name: &str,
+        tally: Tally,
+        errors: &[u8],
+    ) {
+        assert!(rt; self.answer == Ok(tally), "{name}: {:?}", self.answer);
+        let taken = self.errors.taken();
+        assert!(rt; taken == errors, "{name}: {taken:?}");
+    }
+
     /// Asserts what the run answered and what its writers took.
     pub(crate) fn assert_left(
         &self,

@@ -52,12 +52,12 @@ static LISTINGS: [Listing; 13] = [
         refused: 0,
     },
     Listing {
-        name: "edition 3, then 4",
+        name: "edition 2, then 4",
         before: b"",
-        edits: &[(7, 3)],
+        edits: &[(7, 2)],
         behind: &ONE_BLOCK_NUMBER,
         listed: &["48"],
-        errors: "offset 0: 10 edition 3\n",
+        errors: "offset 0: 10 edition 2\n",
         refused: 1,
     },
     Listing {

@@ -1,15 +1,17 @@
 -- A message taken apart, and written again from its parts.
-use Rattle.std.proofs.Common.{inl, inr, ◌≡◌, ◌==◌, ◌∙◌, ℕ, zero, suc, ◌+◌, ◌-◌, ◌*◌, ◌/◌, ◌%◌, ◌<◌, ◌≤◌, Bool, true, false, List, [], ◌∷◌, ◌++◌, length, take, drop, refl, ap, sym, subst, arith, Some, None, Ok, Err, get_or, codes, append_assoc, length-take, length-drop}
-use Rattle.std.specs.Prelude.{Result, if◌then◌else◌, nat_lt, nat_le, not, is_some, slice_range, All}
+use Rattle.std.proofs.Common.{inl, inr, ◌≡◌, ◌≢◌, ◌==◌, ◌∙◌, ℕ, zero, suc, ◌+◌, ◌-◌, ◌*◌, ◌/◌, ◌%◌, ◌<◌, ◌≤◌, Bool, true, false, List, [], ◌∷◌, ◌++◌, length, take, drop, refl, ap, sym, subst, arith, Some, None, Ok, Err, get_or, codes, append_assoc, length-take, length-drop}
+use Rattle.std.specs.Prelude.{Result, if◌then◌else◌, nat_lt, nat_le, not, is_some, slice_range, All, ◌&&◌, ◌||◌}
 use Rattle.std.proofs.Math.Seq.{drop-cons, take-add}
 use Rattle.std.proofs.lemmas.Bool.Decides.{nat_tests}
 use Rattle.std.proofs.lemmas.Bool.{true≢false, cases_Bool}
-use Rattle.std.proofs.lemmas.List.{take-append-drop}
+use Rattle.std.proofs.lemmas.List.{take-append-drop, get_or-take, get_or-drop}
 use Rattle.bufr_frame.specs.declared.fault.SectionFault.{SectionFault}
-use Rattle.bufr_frame.specs.declared.fault.SectionFault.TheVariants.{SectionShort, SectionPast, SectionsEnd}
+use Rattle.bufr_frame.specs.declared.fault.SectionFault.TheVariants.{SectionShort, SectionPast, SectionsEnd, Edition3Long}
 use Rattle.bufr_frame.specs.Octets.{three, two, words, three_octets, two_octets, octets_of_words}
-use Rattle.bufr_frame.specs.Sections.{Sections, sections_of, section_end, parts, has_section2, head_of, ◌>>=◌}
-use Rattle.bufr_frame.specs.Layout.{parts_in, message_size, message_octets, section0_octets, section1_octets, section2_octets, section2_size, section3_octets, section4_octets, head_octets, data_flags}
+use Rattle.bufr_frame.specs.Section1.{Slot, Flags, Single, Double, is_edition, slots_of, slots_3, slots_4, first_least, octets_of_slots, octets_in, value_in, head_in, said}
+use Rattle.bufr_frame.specs.Sections.{Sections, sections_of, section_end, parts, edition_of, slots_in, has_section2, head_of, is_long_edition_3, met, ◌>>=◌}
+use Rattle.bufr_frame.specs.Layout.{parts_in, message_size, message_octets, section0_octets, section1_octets, section2_octets, section2_size, section3_octets, section4_octets, head_octets, data_flags, even_size, evened, longer, most_octets}
+use Rattle.bufr_frame.proofs.LayoutLemmas.{length-octets_of_words}
 use Rattle.bufr_frame.proofs.WordLemmas.{length-words}
 use Rattle.std.proofs.lemmas.List.Elements.{All-take, All-drop}
 use Rattle.std.proofs.lemmas.List.Folds.{drop_split}
@@ -48,6 +50,15 @@ unless-ok : {B : Type 0} (b : Bool) (e : SectionFault) (r : Result B SectionFaul
 unless-ok true e r y is = (refl, is)
 unless-ok false e r y is = cc
 
+met-ok : (m : List ℕ) (p1 p2 p3 p4 : ℕ) (y : Sections) → met m p1 p2 p3 p4 ≡ Ok y → (p4 ≡ length m - 4) × (is_long_edition_3 m p2 p3 p4 ≡ false) × (parts m p1 p2 p3 p4 ≡ y)
+met-ok m p1 p2 p3 p4 y is = by (p4 == (length m - 4)) (is_long_edition_3 m p2 p3 p4) refl refl is
+  where
+    by : (a b : Bool) → (p4 == (length m - 4)) ≡ a → is_long_edition_3 m p2 p3 p4 ≡ b → (if not a then Err SectionsEnd else if b then Err Edition3Long else Ok (parts m p1 p2 p3 p4)) ≡ Ok y
+        → (p4 ≡ length m - 4) × (is_long_edition_3 m p2 p3 p4 ≡ false) × (parts m p1 p2 p3 p4 ≡ y)
+    by false b f g h = absurd (cc)
+    by true true f g h = absurd (cc)
+    by true false f g h = (grind (arith, nat_tests, f), g, (cc))
+
 when-ok : {B : Type 0} (b : Bool) (e : SectionFault) (x y : B) → (if b then Ok x else Err e) ≡ Ok y → (b ≡ true) × (x ≡ y)
 when-ok true e x y is = (refl, (cc))
 when-ok false e x y is = cc
@@ -58,13 +69,14 @@ pub record Ended (m : List ℕ) (s : Sections) : Type 0 where
   pub p2 : ℕ
   pub p3 : ℕ
   pub p4 : ℕ
-  pub edition : get_or m 7 0 ≡ 4
-  pub first : EndsAt m 22 8 p1
+  pub edition : is_edition (edition_of m) ≡ true
+  pub first : EndsAt m (first_least (edition_of m)) 8 p1
   pub second : has_section2 m ≡ true → EndsAt m 4 p1 p2
   pub no_second : has_section2 m ≡ false → p2 ≡ p1
   pub third : EndsAt m 7 p2 p3
   pub fourth : EndsAt m 4 p3 p4
   pub last : p4 ≡ length m - 4
+  pub short : is_long_edition_3 m p2 p3 p4 ≡ false
   pub is : s ≡ parts m p1 p2 p3 p4
 
 second-ended : (m : List ℕ) (p q : ℕ) (b : Bool) → (if b then section_end m 2 4 p else Ok p) ≡ Ok q → (b ≡ true → EndsAt m 4 p q) × (b ≡ false → q ≡ p)
@@ -74,27 +86,37 @@ second-ended m p q false is = (λ yes. absurd (true≢false (sym yes)), λ _. cc
 pub sections-ended : (m : List ℕ) (s : Sections) → sections_of m ≡ Ok s → Ended m s
 unfolding sections_of
 sections-ended m s is =
-    let e = unless-ok (get_or m 7 0 == 4) _ _ s is in
-    let one = then-ok (section_end m 1 22 8) _ s e.1 in
+    let e = unless-ok (is_edition (edition_of m)) _ _ s is in
+    let one = then-ok (section_end m 1 (first_least (edition_of m)) 8) _ s e.1 in
     let two' = then-ok (if has_section2 m then section_end m 2 4 one.0 else Ok one.0) _ s one.2 in
     let three' = then-ok (section_end m 3 7 two'.0) _ s two'.2 in
     let four = then-ok (section_end m 4 4 three'.0) _ s three'.2 in
-    let last = when-ok (four.0 == (length m - 4)) SectionsEnd (parts m one.0 two'.0 three'.0 four.0) s four.2 in
+    let last = met-ok m one.0 two'.0 three'.0 four.0 s four.2 in
     let second = second-ended m one.0 two'.0 (has_section2 m) two'.1 in
     record {
       p1 = one.0;
       p2 = two'.0;
       p3 = three'.0;
       p4 = four.0;
-      edition = grind (arith, nat_tests, e.0);
-      first = section-ended m 1 22 8 one.0 one.1;
+      edition = e.0;
+      first = section-ended m 1 (first_least (edition_of m)) 8 one.0 one.1;
       second = second.0;
       no_second = second.1;
       third = section-ended m 3 7 two'.0 three'.0 three'.1;
       fourth = section-ended m 4 4 three'.0 four.0 four.1;
-      last = grind (arith, nat_tests, last.0);
-      is = sym last.1;
+      last = last.0;
+      short = last.1;
+      is = sym last.2;
     }
+
+-- a message is of edition 3 or 4
+pub edition-cases : {P : Type 0} (edition : ℕ) → is_edition edition ≡ true → (edition ≡ 3 → P) → (edition ≡ 4 → P) → P
+edition-cases {P = P} edition is of_3 of_4 = by (edition == 3) (edition == 4) refl refl is
+  where
+    by : (a b : Bool) → (edition == 3) ≡ a → (edition == 4) ≡ b → (a || b) ≡ true → P
+    by true b f g h = of_3 (grind (arith, nat_tests, f))
+    by false true f g h = of_4 (grind (arith, nat_tests, g))
+    by false false f g h = absurd (cc)
 
 slice-long : (m : List ℕ) (a b : ℕ) → b ≤ length m → length (slice_range m a b) ≡ b - a
 slice-long m a b within = omega (arith, length-take (b - a) (drop a m), length-drop a m)
@@ -104,30 +126,68 @@ second-size : (b : Bool) (m : List ℕ) (p q : ℕ) → q ≤ length m → (b �
 second-size true m p q within there absent = omega (arith, slice-long m (p + 4) q within, there refl)
 second-size false m p q within there absent = omega (arith, absent refl)
 
--- the least lengths that hold the parts leave out what section 3 has left over
-sizes : (m : List ℕ) (s : Sections) (e : Ended m s) → message_size (parts_in (parts m e.p1 e.p2 e.p3 e.p4)) + (e.p3 - (e.p2 + 7)) % 2 ≡ length m
+-- how long the parts are: sections 3 and 4 are as they are made even, without what section 3 has left over
+sizes : (m : List ℕ) (s : Sections) (e : Ended m s)
+    → message_size (edition_of m) (parts_in (parts m e.p1 e.p2 e.p3 e.p4))
+    ≡ e.p2 + even_size (edition_of m) (7 + 2 * ((e.p3 - (e.p2 + 7)) / 2)) + even_size (edition_of m) (e.p4 - e.p3) + 4
 sizes m s e =
     let second = second-size (has_section2 m) m e.p1 e.p2 (omega (arith, e.third.three_long, e.third.least_long)) (λ there. (e.second there).least_long) e.no_second in
-    omega (
-      arith,
-      second,
-      e.first.least_long,
-      e.third.least_long,
-      e.fourth.least_long,
-      e.fourth.within,
-      e.last,
-      slice-long m 30 e.p1 (omega (arith, e.fourth.least_long, e.fourth.within, e.third.least_long, second)),
-      slice-long m (e.p2 + 7) e.p3 (omega (arith, e.fourth.least_long, e.fourth.within)),
-      length-words (slice_range m (e.p2 + 7) e.p3),
-      slice-long m (e.p3 + 4) e.p4 (omega (arith, e.fourth.within)),
-    )
+    let least = first_least (edition_of m) in
+    let l1 : length (slice_range m (8 + least) e.p1) ≡ e.p1 - (8 + least) = slice-long m (8 + least) e.p1 (omega (arith, e.fourth.least_long, e.fourth.within, e.third.least_long, second)) in
+    let l3 : length (words (slice_range m (e.p2 + 7) e.p3)) ≡ (e.p3 - (e.p2 + 7)) / 2 =
+    length-words (slice_range m (e.p2 + 7) e.p3) ∙ ap (λ n. n / 2) (slice-long m (e.p2 + 7) e.p3 (omega (arith, e.fourth.least_long, e.fourth.within))) in
+    let l4 : 4 + length (slice_range m (e.p3 + 4) e.p4) ≡ e.p4 - e.p3 = omega (arith, slice-long m (e.p3 + 4) e.p4 (omega (arith, e.fourth.within)), e.fourth.least_long) in
+    let front : 8 + (least + length (slice_range m (8 + least) e.p1)) + section2_size (if has_section2 m then Some (slice_range m (e.p1 + 4) e.p2) else None) ≡ e.p2 =
+    omega (arith, l1, e.first.least_long, second) in
+    ap (λ n. n + even_size (edition_of m) (7 + 2 * length (words (slice_range m (e.p2 + 7) e.p3))) + even_size (edition_of m) (4 + length (slice_range m (e.p3 + 4) e.p4)) + 4) front
+    ∙ ap (λ n. e.p2 + even_size (edition_of m) (7 + 2 * n) + even_size (edition_of m) (4 + length (slice_range m (e.p3 + 4) e.p4)) + 4) l3
+    ∙ ap (λ n. e.p2 + even_size (edition_of m) (7 + 2 * ((e.p3 - (e.p2 + 7)) / 2)) + even_size (edition_of m) n + 4) l4
 
--- a message written again is no longer
-pub no-longer : (m : List ℕ) (s : Sections) → sections_of m ≡ Ok s → message_size (parts_in s) ≤ length m
+-- in edition 4
+sizes-4 : (m : List ℕ) (s : Sections) (e : Ended m s) → edition_of m ≡ 4 → message_size (edition_of m) (parts_in (parts m e.p1 e.p2 e.p3 e.p4)) + (e.p3 - (e.p2 + 7)) % 2 ≡ length m
+sizes-4 m s e is =
+    let same = ap (λ n. e.p2 + even_size n (7 + 2 * ((e.p3 - (e.p2 + 7)) / 2)) + even_size n (e.p4 - e.p3) + 4) is in
+    let all : message_size (edition_of m) (parts_in (parts m e.p1 e.p2 e.p3 e.p4)) ≡ e.p2 + (7 + 2 * ((e.p3 - (e.p2 + 7)) / 2)) + (e.p4 - e.p3) + 4 = sizes m s e ∙ same in
+    omega (arith, all, e.third.least_long, e.fourth.least_long, e.fourth.three_long, e.last)
+
+-- in edition 3
+sizes-3 : (m : List ℕ) (s : Sections) (e : Ended m s) → edition_of m ≡ 3 → message_size (edition_of m) (parts_in (parts m e.p1 e.p2 e.p3 e.p4)) ≡ length m + (e.p3 - e.p2) % 2 + (e.p4 - e.p3) % 2
+sizes-3 m s e is =
+    let same = ap (λ n. e.p2 + even_size n (7 + 2 * ((e.p3 - (e.p2 + 7)) / 2)) + even_size n (e.p4 - e.p3) + 4) is in
+    let d = (e.p3 - (e.p2 + 7)) / 2 in
+    let all : message_size (edition_of m) (parts_in (parts m e.p1 e.p2 e.p3 e.p4)) ≡ e.p2 + (7 + 2 * d + (7 + 2 * d) % 2) + ((e.p4 - e.p3) + (e.p4 - e.p3) % 2) + 4 = sizes m s e ∙ same in
+    let odd : 7 + 2 * d + (7 + 2 * d) % 2 ≡ (e.p3 - e.p2) + (e.p3 - e.p2) % 2 = omega (arith, e.third.least_long) in
+    omega (arith, all, odd, e.third.least_long, e.fourth.least_long, e.fourth.three_long, e.last)
+
+-- a message written again is no longer, but for what makes its sections even
+pub no-longer : (m : List ℕ) (s : Sections) → sections_of m ≡ Ok s → message_size s.head.edition (parts_in s) ≤ length m + longer s.head.edition
 no-longer m s is =
     let e = sections-ended m s is in
-    let P : Sections → Type 0 = λ x. message_size (parts_in x) ≤ length m in
-    subst P (sym e.is) (omega (arith, sizes m s e))
+    let P : Sections → Type 0 = λ x. message_size x.head.edition (parts_in x) ≤ length m + longer x.head.edition in
+    subst P (sym e.is) (edition-cases (edition_of m) e.edition
+    (λ is. let l : longer (edition_of m) ≡ 2 = ap longer is in omega (arith, sizes-3 m s e is, l))
+    (λ is. omega (arith, sizes-4 m s e is)))
+
+-- nor is it too long
+no-odd : (m : List ℕ) (p2 p3 p4 : ℕ) → edition_of m ≡ 3 → is_long_edition_3 m p2 p3 p4 ≡ false → length m ≤ most_octets → length m + (p3 - p2) % 2 + (p4 - p3) % 2 ≤ most_octets
+no-odd m p2 p3 p4 is short few = by (nat_lt 16777213 (length m)) ((p3 - p2) % 2 == 1) ((p4 - p3) % 2 == 1) refl refl refl (sym (ap (λ n. (n == 3) && (nat_lt 16777213 (length m) && (((p3 - p2) % 2 == 1) || ((p4 - p3) % 2 == 1)))) is) ∙ short)
+  where
+    by : (a b c : Bool) → nat_lt 16777213 (length m) ≡ a → ((p3 - p2) % 2 == 1) ≡ b → ((p4 - p3) % 2 == 1) ≡ c → (a && (b || c)) ≡ false → length m + (p3 - p2) % 2 + (p4 - p3) % 2 ≤ most_octets
+    by false b c f g h none = let l : length m ≤ 16777213 = grind (arith, nat_tests, f) in omega (arith, l)
+    by true true c f g h none = absurd (cc)
+    by true false true f g h none = absurd (cc)
+    by true false false f g h none =
+        let x : (p3 - p2) % 2 ≢ 1 = grind (arith, nat_tests, g) in
+        let y : (p4 - p3) % 2 ≢ 1 = grind (arith, nat_tests, h) in
+        omega (arith, x, y, few)
+
+pub not-too-long : (m : List ℕ) (s : Sections) → sections_of m ≡ Ok s → length m ≤ most_octets → message_size s.head.edition (parts_in s) ≤ most_octets
+not-too-long m s is few =
+    let e = sections-ended m s is in
+    let P : Sections → Type 0 = λ x. message_size x.head.edition (parts_in x) ≤ most_octets in
+    subst P (sym e.is) (edition-cases (edition_of m) e.edition
+    (λ is. omega (arith, sizes-3 m s e is, no-odd m e.p2 e.p3 e.p4 is e.short few))
+    (λ is. omega (arith, sizes-4 m s e is, few)))
 
 -- octets one after another from place a
 octets_from : ℕ → ℕ → List ℕ → List ℕ
@@ -182,6 +242,19 @@ words-back (a ∷ b ∷ m) small even =
     let x : (256 * a + b) / 256 ≡ a = omega arith in
     let y : (256 * a + b) % 256 ≡ b = omega arith in
     rw (x, y) (ap (λ l. a ∷ b ∷ l) (words-back m (λ k d within. small (suc (suc k)) d (omega (arith, within))) (omega (arith, even))))
+
+-- with a zero octet left over
+words-back-odd : (m : List ℕ) → All (λ octet. octet < 256) m → length m % 2 ≡ 1 → get_or m (length m - 1) 0 ≡ 0 → octets_of_words (words m) ++ 0 ∷ [] ≡ m
+words-back-odd [] small odd last = absurd (omega (arith, odd))
+words-back-odd (a ∷ []) small odd last = ap (λ x. x ∷ []) (sym last)
+words-back-odd (a ∷ b ∷ m) small odd last =
+    let lb : b < 256 = small 1 0 (omega arith) in
+    let x : (256 * a + b) / 256 ≡ a = omega arith in
+    let y : (256 * a + b) % 256 ≡ b = omega arith in
+    let some : 1 ≤ length m = omega (arith, odd) in
+    let n : length (a ∷ b ∷ m) - 1 ≡ suc (suc (length m - 1)) = omega (arith, some) in
+    let end : get_or m (length m - 1) 0 ≡ 0 = sym (ap (λ i. get_or (a ∷ b ∷ m) i 0) n) ∙ last in
+    rw (x, y) (ap (λ l. a ∷ b ∷ l) (words-back-odd m (λ k d within. small (suc (suc k)) d (omega (arith, within))) (omega (arith, odd)) end))
 
 flag-back : (b : Bool) (n : ℕ) → nat_le 128 n ≡ b → n < 256 → n % 128 ≡ 0 → (if b then 128 else 0) ≡ n
 flag-back true n is small zero' = let h : 128 ≤ n = grind (arith, nat_tests, is) in omega arith
@@ -239,26 +312,26 @@ module _ (m : List ℕ) (small : All (λ octet. octet < 256) m) where
   some-back true x = refl
   some-back false x = refl
 
-  -- octets 4 to 22 of section 1
+  -- section 1 behind its length
   laid : (centre subcentre year : List ℕ) (flag : ℕ) → List ℕ
   laid centre subcentre year flag = get_or m 11 0 ∷ centre ++ subcentre ++ get_or m 16 0 ∷ flag ∷ get_or m 18 0 ∷ get_or m 19 0 ∷ get_or m 20 0 ∷ get_or m 21 0 ∷ get_or m 22 0 ∷ year
       ++ get_or m 25 0 ∷ get_or m 26 0 ∷ get_or m 27 0 ∷ get_or m 28 0 ∷ get_or m 29 0 ∷ []
 
-  head-laid : (b : Bool) → head_octets (head_of m) b ≡ laid (two_octets (two m 12)) (two_octets (two m 14)) (two_octets (two m 23)) (if b then 128 else 0)
+  head-laid : (edition : ℕ) (b : Bool) → octets_in slots_4 (said (head_in edition slots_4 m 11) b) ≡ laid (two_octets (two m 12)) (two_octets (two m 14)) (two_octets (two m 23)) (if b then 128 else 0)
   unfolding laid
-  head-laid b = refl
+  head-laid edition b = refl
 
   octets-laid : octets_from 19 11 m ≡ laid (get_or m 12 0 ∷ get_or m 13 0 ∷ []) (get_or m 14 0 ∷ get_or m 15 0 ∷ []) (get_or m 23 0 ∷ get_or m 24 0 ∷ []) (get_or m 17 0)
   unfolding laid octets_from
   octets-laid = refl
 
-  head-back : (b : Bool) → 30 ≤ length m → has_section2 m ≡ b → get_or m 17 0 % 128 ≡ 0 → head_octets (head_of m) b ≡ octets_from 19 11 m
-  head-back b long is reserved =
+  head-back-4 : (edition : ℕ) (b : Bool) → 30 ≤ length m → nat_le 128 (get_or m 17 0) ≡ b → get_or m 17 0 % 128 ≡ 0 → octets_in slots_4 (said (head_in edition slots_4 m 11) b) ≡ octets_from 19 11 m
+  head-back-4 edition b long is reserved =
       let c = word-back 12 (omega arith) in
       let s = word-back 14 (omega arith) in
       let y = word-back 23 (omega arith) in
       let f : (if b then 128 else 0) ≡ get_or m 17 0 = flag-back b (get_or m 17 0) is (small 17 0 (omega arith)) reserved in
-      head-laid b ∙ (let e : laid (two_octets (two m 12)) (two_octets (two m 14)) (two_octets (two m 23)) (if b then 128 else 0)
+      head-laid edition b ∙ (let e : laid (two_octets (two m 12)) (two_octets (two m 14)) (two_octets (two m 23)) (if b then 128 else 0)
       ≡ laid (get_or m 12 0 ∷ get_or m 13 0 ∷ []) (get_or m 14 0 ∷ get_or m 15 0 ∷ []) (get_or m 23 0 ∷ get_or m 24 0 ∷ []) (get_or m 17 0) =
       ap (λ l. laid l (two_octets (two m 14)) (two_octets (two m 23)) (if b then 128 else 0)) c
       ∙ ap (λ l. laid (get_or m 12 0 ∷ get_or m 13 0 ∷ []) l (two_octets (two m 23)) (if b then 128 else 0)) s
@@ -266,34 +339,92 @@ module _ (m : List ℕ) (small : All (λ octet. octet < 256) m) where
       ∙ ap (laid (get_or m 12 0 ∷ get_or m 13 0 ∷ []) (get_or m 14 0 ∷ get_or m 15 0 ∷ []) (get_or m 23 0 ∷ get_or m 24 0 ∷ [])) f
       in e) ∙ sym octets-laid
 
-  first-back : (b : Bool) (p : ℕ) → 30 ≤ p → p ≤ length m → p ≡ 8 + three m 8 → has_section2 m ≡ b → get_or m 17 0 % 128 ≡ 0
-      → section1_octets (head_of m) (slice_range m 30 p) b ≡ slice_range m 8 p
-  first-back b p fits within long is reserved =
-      let x = slice_range m 30 p in
-      let n : 22 + length x ≡ three m 8 = omega (arith, slice-long m 30 p within, long) in
-      ap (λ l. l ++ head_octets (head_of m) b ++ x) (length-back 8 (22 + length x) (omega arith) n ∙ sym (three-at m 8))
-      ∙ ap (λ l. octets_from 3 8 m ++ l ++ x) (head-back b (omega arith) is reserved)
-      ∙ ap (λ l. l ++ octets_from 19 11 m ++ x) (sym (slice-octets 3 8 m (omega arith)))
-      ∙ ap (λ l. take 3 (drop 8 m) ++ l ++ x) (sym (slice-octets 19 11 m (omega arith)))
-      ∙ append_assoc (slice_range m 8 11) (slice_range m 11 30) x
-      ∙ ap (λ l. slice_range m 8 11 ++ l) (sym (slice-parts m 11 30 p (omega arith) fits))
+  laid-3 : (flag : ℕ) → List ℕ
+  laid-3 flag = get_or m 11 0 ∷ get_or m 12 0 ∷ get_or m 13 0 ∷ get_or m 14 0 ∷ flag ∷ get_or m 16 0 ∷ get_or m 17 0 ∷ get_or m 18 0 ∷ get_or m 19 0 ∷ get_or m 20 0
+      ∷ get_or m 21 0 ∷ get_or m 22 0 ∷ get_or m 23 0 ∷ get_or m 24 0 ∷ []
+
+  head-laid-3 : (edition : ℕ) (b : Bool) → octets_in slots_3 (said (head_in edition slots_3 m 11) b) ≡ laid-3 (if b then 128 else 0)
+  unfolding laid-3
+  head-laid-3 edition b = refl
+
+  octets-laid-3 : octets_from 14 11 m ≡ laid-3 (get_or m 15 0)
+  unfolding laid-3 octets_from
+  octets-laid-3 = refl
+
+  head-back-3 : (edition : ℕ) (b : Bool) → 25 ≤ length m → nat_le 128 (get_or m 15 0) ≡ b → get_or m 15 0 % 128 ≡ 0 → octets_in slots_3 (said (head_in edition slots_3 m 11) b) ≡ octets_from 14 11 m
+  head-back-3 edition b long is reserved =
+      head-laid-3 edition b ∙ ap laid-3 (flag-back b (get_or m 15 0) is (small 15 0 (omega arith)) reserved) ∙ sym octets-laid-3
+
+  -- by the edition; n octets are laid down behind the length
+  HeadBack : Bool → ℕ → Type 0
+  HeadBack b n = head_octets (head_of m) b ≡ octets_from n 11 m
+
+  head-back : (b : Bool) → is_edition (edition_of m) ≡ true → 8 + first_least (edition_of m) ≤ length m → has_section2 m ≡ b → value_in (slots_in m) m 11 Flags % 128 ≡ 0
+      → head_octets (head_of m) b ≡ octets_from (octets_of_slots (slots_in m)) 11 m
+  head-back b known long is reserved =
+      let P : ℕ → Type 0 = λ n. 8 + first_least n ≤ length m → nat_le 128 (value_in (slots_of n) m 11 Flags) ≡ b → value_in (slots_of n) m 11 Flags % 128 ≡ 0
+      → octets_in (slots_of n) (said (head_in (edition_of m) (slots_of n) m 11) b) ≡ octets_from (octets_of_slots (slots_of n)) 11 m in
+      edition-cases (edition_of m) known
+      (λ e. subst P (sym e) (head-back-3 (edition_of m) b) long is reserved)
+      (λ e. subst P (sym e) (head-back-4 (edition_of m) b) long is reserved)
+
+  first-back : (b : Bool) (p : ℕ) → is_edition (edition_of m) ≡ true → 8 + first_least (edition_of m) ≤ p → p ≤ length m → p ≡ 8 + three m 8 → has_section2 m ≡ b → value_in (slots_in m) m 11 Flags % 128 ≡ 0
+      → section1_octets (head_of m) (slice_range m (8 + first_least (edition_of m)) p) b ≡ slice_range m 8 p
+  first-back b p known fits within long is reserved =
+      let k = octets_of_slots (slots_in m) in
+      let from = 8 + first_least (edition_of m) in
+      let x = slice_range m from p in
+      let n : first_least (edition_of m) + length x ≡ three m 8 = omega (arith, slice-long m from p within, long) in
+      let width : from - 11 ≡ k = omega arith in
+      let part : slice_range m 11 from ≡ octets_from k 11 m = ap (λ j. take j (drop 11 m)) width ∙ slice-octets k 11 m (omega arith) in
+      ap (λ l. l ++ head_octets (head_of m) b ++ x) (length-back 8 (first_least (edition_of m) + length x) (omega arith) n ∙ sym (three-at m 8))
+      ∙ ap (λ l. octets_from 3 8 m ++ l ++ x) (head-back b known (omega arith) is reserved)
+      ∙ ap (λ l. l ++ octets_from k 11 m ++ x) (sym (slice-octets 3 8 m (omega arith)))
+      ∙ ap (λ l. take 3 (drop 8 m) ++ l ++ x) (sym part)
+      ∙ append_assoc (slice_range m 8 11) (slice_range m 11 from) x
+      ∙ ap (λ l. slice_range m 8 11 ++ l) (sym (slice-parts m 11 from p (omega arith) fits))
       ∙ sym (slice-parts m 8 11 p (omega arith) (omega arith))
 
-  third-back : (p q : ℕ) → p + 7 ≤ q → q ≤ length m → q ≡ p + three m p → three m p % 2 ≡ 1 → get_or m (p + 3) 0 ≡ 0 → get_or m (p + 6) 0 % 64 ≡ 0
-      → section3_octets (words (slice_range m (p + 7) q)) (two m (p + 4)) (data_flags (nat_le 128 (get_or m (p + 6) 0)) (nat_le 64 (get_or m (p + 6) 0 % 128))) ≡ slice_range m p q
-  third-back p q fits within long odd reserved flags =
+  -- the octets of the descriptors, in edition 3 with the one left over
+  content-words : (p q : ℕ) → is_edition (edition_of m) ≡ true → p + 7 ≤ q → q ≤ length m → q ≡ p + three m p → (edition_of m ≡ 4 → three m p % 2 ≡ 1) → (edition_of m ≡ 3 → three m p % 2 ≡ 0)
+      → (edition_of m ≡ 3 → get_or m (q - 1) 0 ≡ 0) → evened (edition_of m) 7 (octets_of_words (words (slice_range m (p + 7) q))) ≡ slice_range m (p + 7) q
+  content-words p q known fits within long odd even left_over =
       let x = slice_range m (p + 7) q in
       let lx = slice-long m (p + 7) q within in
-      let lw = length-words x in
-      let n : 7 + 2 * length (words x) ≡ three m p = omega (arith, lx, lw, long, odd) in
-      let even : length x % 2 ≡ 0 = omega (arith, lx, long, odd) in
       let small_x : All (λ octet. octet < 256) x = All-take (λ octet. octet < 256) (q - (p + 7)) (drop (p + 7) m) (All-drop (λ octet. octet < 256) (p + 7) m small) in
+      let w = octets_of_words (words x) in
+      let P : ℕ → Type 0 = λ n. evened n 7 w ≡ x in
+      edition-cases (edition_of m) known
+      (λ e.
+      let odd_x : length x % 2 ≡ 1 = omega (arith, lx, long, even e, fits) in
+      let lw : length w ≡ 2 * (length x / 2) = length-octets_of_words (words x) ∙ ap (λ n. 2 * n) (length-words x) in
+      let more : ((7 + length w) % 2 == 1) ≡ true = ap (λ n. n == 1) (by-odd (length w) (length x / 2) lw) in
+      let last : get_or x (length x - 1) 0 ≡ 0 = last-of (p + 7) q (omega (arith, lx, odd_x)) within ∙ left_over e in
+      subst P (sym e) (ap (λ b. if b then w ++ 0 ∷ [] else w) more ∙ words-back-odd x small_x odd_x last))
+      (λ e. subst P (sym e) (words-back x small_x (omega (arith, lx, long, odd e, fits))))
+    where
+      by-odd : (n k : ℕ) → n ≡ 2 * k → (7 + n) % 2 ≡ 1
+      by-odd n k is = omega (arith, is)
+
+      last-of : (a b : ℕ) → a < b → b ≤ length m → get_or (slice_range m a b) (length (slice_range m a b) - 1) 0 ≡ get_or m (b - 1) 0
+      last-of a b some within =
+          let i = b - a - 1 in
+          let l : length (slice_range m a b) - 1 ≡ i = ap (λ n. n - 1) (slice-long m a b within) in
+          let k : a + i ≡ b - 1 = omega (arith, some) in
+          ap (λ n. get_or (slice_range m a b) n 0) l ∙ get_or-take (b - a) (drop a m) i 0 (omega (arith, some)) ∙ get_or-drop a m i 0 ∙ ap (λ n. get_or m n 0) k
+
+  third-back : (content : List ℕ) (p q : ℕ) → p + 7 ≤ q → q ≤ length m → q ≡ p + three m p → content ≡ slice_range m (p + 7) q → get_or m (p + 3) 0 ≡ 0 → get_or m (p + 6) 0 % 64 ≡ 0
+      → section3_octets content (two m (p + 4)) (data_flags (nat_le 128 (get_or m (p + 6) 0)) (nat_le 64 (get_or m (p + 6) 0 % 128))) ≡ slice_range m p q
+  third-back content p q fits within long is reserved flags =
+      let x = slice_range m (p + 7) q in
+      let lx = slice-long m (p + 7) q within in
+      let n : 7 + length content ≡ three m p = omega (arith, lx, long, ap length is) in
       let f = flags-back (nat_le 128 (get_or m (p + 6) 0)) (nat_le 64 (get_or m (p + 6) 0 % 128)) (get_or m (p + 6) 0) refl refl (small (p + 6) 0 (omega arith)) flags in
-      ap (λ l. l ++ 0 ∷ two_octets (two m (p + 4)) ++ data_flags (nat_le 128 (get_or m (p + 6) 0)) (nat_le 64 (get_or m (p + 6) 0 % 128)) ∷ octets_of_words (words x)) (length-back p (7 + 2 * length (words x)) (omega arith) n)
-      ∙ ap (λ r. get_or m p 0 ∷ get_or m (p + 1) 0 ∷ get_or m (p + 2) 0 ∷ r ∷ two_octets (two m (p + 4)) ++ data_flags (nat_le 128 (get_or m (p + 6) 0)) (nat_le 64 (get_or m (p + 6) 0 % 128)) ∷ octets_of_words (words x)) (sym reserved)
-      ∙ ap (λ l. get_or m p 0 ∷ get_or m (p + 1) 0 ∷ get_or m (p + 2) 0 ∷ get_or m (p + 3) 0 ∷ l ++ data_flags (nat_le 128 (get_or m (p + 6) 0)) (nat_le 64 (get_or m (p + 6) 0 % 128)) ∷ octets_of_words (words x)) (word-back (p + 4) (omega arith))
-      ∙ ap (λ r. get_or m p 0 ∷ get_or m (p + 1) 0 ∷ get_or m (p + 2) 0 ∷ get_or m (p + 3) 0 ∷ get_or m (p + 4) 0 ∷ get_or m (p + 4 + 1) 0 ∷ r ∷ octets_of_words (words x)) f
-      ∙ ap (λ l. get_or m p 0 ∷ get_or m (p + 1) 0 ∷ get_or m (p + 2) 0 ∷ get_or m (p + 3) 0 ∷ get_or m (p + 4) 0 ∷ get_or m (p + 4 + 1) 0 ∷ get_or m (p + 6) 0 ∷ l) (words-back x small_x even)
+      ap (λ l. l ++ 0 ∷ two_octets (two m (p + 4)) ++ data_flags (nat_le 128 (get_or m (p + 6) 0)) (nat_le 64 (get_or m (p + 6) 0 % 128)) ∷ content) (length-back p (7 + length content) (omega arith) n)
+      ∙ ap (λ r. get_or m p 0 ∷ get_or m (p + 1) 0 ∷ get_or m (p + 2) 0 ∷ r ∷ two_octets (two m (p + 4)) ++ data_flags (nat_le 128 (get_or m (p + 6) 0)) (nat_le 64 (get_or m (p + 6) 0 % 128)) ∷ content) (sym reserved)
+      ∙ ap (λ l. get_or m p 0 ∷ get_or m (p + 1) 0 ∷ get_or m (p + 2) 0 ∷ get_or m (p + 3) 0 ∷ l ++ data_flags (nat_le 128 (get_or m (p + 6) 0)) (nat_le 64 (get_or m (p + 6) 0 % 128)) ∷ content) (word-back (p + 4) (omega arith))
+      ∙ ap (λ r. get_or m p 0 ∷ get_or m (p + 1) 0 ∷ get_or m (p + 2) 0 ∷ get_or m (p + 3) 0 ∷ get_or m (p + 4) 0 ∷ get_or m (p + 4 + 1) 0 ∷ r ∷ content) f
+      ∙ ap (λ l. get_or m p 0 ∷ get_or m (p + 1) 0 ∷ get_or m (p + 2) 0 ∷ get_or m (p + 3) 0 ∷ get_or m (p + 4) 0 ∷ get_or m (p + 4 + 1) 0 ∷ get_or m (p + 6) 0 ∷ l) is
       ∙ ap (λ l. l ++ x) (sym (seven-at m p)) ∙ sym (slice-begins 7 m p q fits within)
 
 -- the first eight octets
@@ -318,17 +449,40 @@ module _ (m : List ℕ) (plain : IsPlain m) (s : Sections) (e : Ended m s) where
   at4 : e.p3 ≡ section4_begins m
   at4 = e.third.long ∙ ap (λ p. p + three m p) at3
 
+  known : is_edition (edition_of m) ≡ true
+  known = e.edition
+
   order : (8 ≤ e.p1) × (e.p1 ≤ e.p2) × (e.p2 + 7 ≤ e.p3) × (e.p3 + 4 ≤ e.p4) × (e.p4 + 4 ≡ length m)
   order =
       let second : e.p1 ≤ e.p2 = elim (cases_Bool (has_section2 m)) [ inl there ↦ omega (arith, (e.second there).least_long) | inr absent ↦ omega (arith, e.no_second absent) ] in
       (omega (arith, e.first.least_long), second, e.third.least_long, e.fourth.least_long, omega (arith, e.fourth.three_long, e.last))
 
-  size : message_size (parts_in (parts m e.p1 e.p2 e.p3 e.p4)) ≡ three m 4
+  size : message_size (edition_of m) (parts_in (parts m e.p1 e.p2 e.p3 e.p4)) ≡ three m 4
   size =
+      edition-cases (edition_of m) known
+      (λ is.
+      let P : ℕ → Type 0 = λ p. three m p % 2 ≡ 0 in
+      let even3 : three m e.p2 % 2 ≡ 0 = subst P (sym at3) (plain.even3 is) in
+      let even4 : three m e.p3 % 2 ≡ 0 = subst P (sym at4) (plain.even4 is) in
+      omega (arith, even3, even4, e.third.long, e.fourth.long, sizes-3 m s e is, plain.size))
+      (λ is.
       let P : ℕ → Type 0 = λ p. three m p % 2 ≡ 1 in
-      let odd : three m e.p2 % 2 ≡ 1 = subst P (sym at3) plain.whole in
+      let odd : three m e.p2 % 2 ≡ 1 = subst P (sym at3) (plain.whole is) in
       let even : (e.p3 - (e.p2 + 7)) % 2 ≡ 0 = omega (arith, odd, e.third.long, e.third.least_long) in
-      omega (arith, even, sizes m s e, plain.size)
+      omega (arith, even, sizes-4 m s e is, plain.size))
+
+  -- section 4 is even in edition 3
+  payload : evened (edition_of m) 4 (slice_range m (e.p3 + 4) e.p4) ≡ slice_range m (e.p3 + 4) e.p4
+  payload =
+      let x = slice_range m (e.p3 + 4) e.p4 in
+      let P : ℕ → Type 0 = λ n. evened n 4 x ≡ x in
+      edition-cases (edition_of m) known
+      (λ is.
+      let Q : ℕ → Type 0 = λ p. three m p % 2 ≡ 0 in
+      let even4 : three m e.p3 % 2 ≡ 0 = subst Q (sym at4) (plain.even4 is) in
+      let n : (4 + length x) % 2 ≡ 0 = omega (arith, even4, e.fourth.long, slice-long m (e.p3 + 4) e.p4 (omega (arith, order)), order) in
+      subst P (sym is) (ap (λ k. if k == 1 then x ++ 0 ∷ [] else x) n))
+      (λ is. subst P (sym is) refl)
 
   pub again : message_octets (head_of m) (parts_in (parts m e.p1 e.p2 e.p3 e.p4)) ≡ m
   again =
@@ -336,20 +490,24 @@ module _ (m : List ℕ) (plain : IsPlain m) (s : Sections) (e : Ended m s) where
       let o = order in
       let small = plain.octets in
       let w = words (slice_range m (e.p2 + 7) e.p3) in
-      let P : ℕ → Type 0 = λ p. three m p % 2 ≡ 1 in
       let R : ℕ → Type 0 = λ p. get_or m (p + 3) 0 ≡ 0 in
       let F : ℕ → Type 0 = λ p. get_or m (p + 6) 0 % 64 ≡ 0 in
-      let s0 = front-back m small (omega (arith, o)) plain.word (message_size (parts_in (parts m e.p1 e.p2 e.p3 e.p4))) size in
-      let s1 = first-back m small b e.p1 (omega (arith, e.first.least_long)) (omega (arith, o)) e.first.long refl plain.flags in
+      let L : ℕ → Type 0 = λ p. get_or m (p - 1) 0 ≡ 0 in
+      let odd : edition_of m ≡ 4 → three m e.p2 % 2 ≡ 1 = λ is. subst (λ p. three m p % 2 ≡ 1) (sym at3) (plain.whole is) in
+      let even : edition_of m ≡ 3 → three m e.p2 % 2 ≡ 0 = λ is. subst (λ p. three m p % 2 ≡ 0) (sym at3) (plain.even3 is) in
+      let s0 = front-back m small (omega (arith, o)) plain.word (message_size (edition_of m) (parts_in (parts m e.p1 e.p2 e.p3 e.p4))) size in
+      let s1 = first-back m small b e.p1 known (omega (arith, e.first.least_long)) (omega (arith, o)) e.first.long refl plain.flags in
       let s2 = second-back m small b e.p1 e.p2 (omega (arith, o)) (λ there. ((e.second there).least_long, (e.second there).long, subst R (sym place2) (plain.section2 there))) e.no_second in
-      let s3 = third-back m small e.p2 e.p3 o.2 (omega (arith, o)) e.third.long (subst P (sym at3) plain.whole) (subst R (sym at3) plain.section3) (subst F (sym at3) plain.data_flags) in
-      let s4 = content-back m small e.p3 e.p4 o.3 (omega (arith, o)) e.fourth.long (subst R (sym at4) plain.section4) in
+      let c3 = evened (edition_of m) 7 (octets_of_words w) in
+      let content = content-words m small e.p2 e.p3 known o.2 (omega (arith, o)) e.third.long odd even (λ is. subst L (sym at4) (plain.left_over is)) in
+      let s3 = third-back m small c3 e.p2 e.p3 o.2 (omega (arith, o)) e.third.long content (subst R (sym at3) plain.section3) (subst F (sym at3) plain.data_flags) in
+      let s4 = ap section4_octets payload ∙ content-back m small e.p3 e.p4 o.3 (omega (arith, o)) e.fourth.long (subst R (sym at4) plain.section4) in
       let end : drop e.p4 m ≡ codes "7777" = ap (λ n. drop n m) e.last ∙ plain.end in
       let h = some-back m small b (slice_range m (e.p1 + 4) e.p2) in
-      let t3 = section3_octets w (two m (e.p2 + 4)) (data_flags (nat_le 128 (get_or m (e.p2 + 6) 0)) (nat_le 64 (get_or m (e.p2 + 6) 0 % 128))) in
-      let t4 = section4_octets (slice_range m (e.p3 + 4) e.p4) in
+      let t3 = section3_octets c3 (two m (e.p2 + 4)) (data_flags (nat_le 128 (get_or m (e.p2 + 6) 0)) (nat_le 64 (get_or m (e.p2 + 6) 0 % 128))) in
+      let t4 = section4_octets (evened (edition_of m) 4 (slice_range m (e.p3 + 4) e.p4)) in
       let t2 = section2_octets (if b then Some (slice_range m (e.p1 + 4) e.p2) else None) in
-      let t1 : Bool → List ℕ = λ x. section1_octets (head_of m) (slice_range m 30 e.p1) x in
+      let t1 : Bool → List ℕ = λ x. section1_octets (head_of m) (slice_range m (8 + first_least (edition_of m)) e.p1) x in
       let back : t1 (is_some (if b then Some (slice_range m (e.p1 + 4) e.p2) else None)) ++ (t2 ++ (t3 ++ (t4 ++ codes "7777"))) ≡ drop 8 m =
       ap (λ x. t1 x ++ (t2 ++ (t3 ++ (t4 ++ codes "7777")))) h
       ∙ ap (λ l. l ++ (t2 ++ (t3 ++ (t4 ++ codes "7777")))) s1

@@ -3,7 +3,7 @@ use Rattle.std.proofs.Common.{◌≡◌, ℕ, zero, suc, Bool, true, false, List
 use Rattle.std.specs.Prelude.{slice_set, ◌==◌, ◌&&◌, ◌+◌}
 use Rattle.bufr_frame.specs.Scan.{Happening, Framed, Strayed, scan, scan_from, open_scan}
 use Rattle.bufr_frame.specs.Sections.{sections_of, section_end, Sections}
-use Rattle.bufr_frame.specs.Layout.{Parts, parts_of, parts_in, message_octets}
+use Rattle.bufr_frame.specs.Layout.{Parts, parts_of, parts_in, message_octets, is_writable}
 use Rattle.bufr_frame.specs.Longest.{longest_of, first_event}
 use Rattle.bufr_frame.specs.declared.head.Head.{Head}
 use Rattle.bufr_frame.specs.declared.fault.Cause.TheVariants.{Cut, ShortLength, NoEnd}
@@ -25,6 +25,28 @@ local_use = 0x42 ∷ 0x55 ∷ 0x46 ∷ 0x52 ∷ 0x00 ∷ 0x00 ∷ 0x38 ∷ 0x04 
     0x00 ∷ 0x00 ∷ 0x09 ∷ 0x00 ∷ 0x00 ∷ 0x01 ∷ 0x80 ∷ 0x01 ∷ 0x01 ∷
     0x00 ∷ 0x00 ∷ 0x05 ∷ 0x00 ∷ 0x14 ∷
     0x37 ∷ 0x37 ∷ 0x37 ∷ 0x37 ∷ []
+
+-- a message of edition 3, 46 octets
+abbrev edition_3 : List ℕ
+edition_3 = 0x42 ∷ 0x55 ∷ 0x46 ∷ 0x52 ∷ 0x00 ∷ 0x00 ∷ 0x2E ∷ 0x03 ∷
+    0x00 ∷ 0x00 ∷ 0x12 ∷ 0x00 ∷ 0x00 ∷ 0x62 ∷ 0x00 ∷ 0x00 ∷ 0x00 ∷ 0x00 ∷ 0x0E ∷ 0x00 ∷ 0x18 ∷ 0x01 ∷ 0x02 ∷ 0x03 ∷ 0x04 ∷ 0x00 ∷
+    0x00 ∷ 0x00 ∷ 0x0A ∷ 0x00 ∷ 0x00 ∷ 0x01 ∷ 0x80 ∷ 0x01 ∷ 0x01 ∷ 0x00 ∷
+    0x00 ∷ 0x00 ∷ 0x06 ∷ 0x00 ∷ 0x14 ∷ 0x00 ∷
+    0x37 ∷ 0x37 ∷ 0x37 ∷ 0x37 ∷ []
+
+-- the same with odd sections 3 and 4, 44 octets
+abbrev edition_3_odd : List ℕ
+edition_3_odd = 0x42 ∷ 0x55 ∷ 0x46 ∷ 0x52 ∷ 0x00 ∷ 0x00 ∷ 0x2C ∷ 0x03 ∷
+    0x00 ∷ 0x00 ∷ 0x12 ∷ 0x00 ∷ 0x00 ∷ 0x62 ∷ 0x00 ∷ 0x00 ∷ 0x00 ∷ 0x00 ∷ 0x0E ∷ 0x00 ∷ 0x18 ∷ 0x01 ∷ 0x02 ∷ 0x03 ∷ 0x04 ∷ 0x00 ∷
+    0x00 ∷ 0x00 ∷ 0x09 ∷ 0x00 ∷ 0x00 ∷ 0x01 ∷ 0x80 ∷ 0x01 ∷ 0x01 ∷
+    0x00 ∷ 0x00 ∷ 0x05 ∷ 0x00 ∷ 0x14 ∷
+    0x37 ∷ 0x37 ∷ 0x37 ∷ 0x37 ∷ []
+
+abbrev head_of_edition_3 : Head
+head_of_edition_3 = record { edition = 3; master = 0; centre = 98; subcentre = 0; update = 0; category = 0; subcategory = 0; local_subcategory = 0; master_version = 14; local_version = 0; year = 24; month = 1; day = 2; hour = 3; minute = 4; second = 0 }
+
+abbrev sections_of_edition_3 : (payload : List ℕ) → ℕ → Sections
+sections_of_edition_3 payload size = record { head = head_of_edition_3; local1 = 0 ∷ []; section2 = None; descriptors = 257 ∷ []; subsets = 1; observed = true; compressed = false; payload = payload; size = size }
 
 abbrev the_head : Head
 the_head = record { edition = 4; master = 0; centre = 98; subcentre = 0; update = 0; category = 0; subcategory = 0; local_subcategory = 0; master_version = 14; local_version = 0; year = 2024; month = 1; day = 2; hour = 3; minute = 4; second = 5 }
@@ -49,10 +71,51 @@ local-sections : sections_of local_use ≡ Ok (the_sections (0xAB ∷ 0xCD ∷ [
 unfolding sections_of section_end
 local-sections = refl
 
--- the section faults: another edition, a section short, a section past the end, sections that do not meet the end
-edition-3 : sections_of (slice_set one_block_number 7 3) ≡ Err (Edition 3)
+edition-3-sections : sections_of edition_3 ≡ Ok (sections_of_edition_3 (0x14 ∷ 0 ∷ []) 46)
 unfolding sections_of section_end
-edition-3 = refl
+edition-3-sections = refl
+
+-- odd sections are read, and written even
+edition-3-odd : sections_of edition_3_odd ≡ Ok (sections_of_edition_3 (0x14 ∷ []) 44)
+unfolding sections_of section_end
+edition-3-odd = refl
+
+edition-3-laid-out : message_octets head_of_edition_3 (parts_in (sections_of_edition_3 (0x14 ∷ []) 44)) ≡ edition_3
+edition-3-laid-out = refl
+
+edition-3-again : message_octets head_of_edition_3 (parts_in (sections_of_edition_3 (0x14 ∷ 0 ∷ []) 46)) ≡ edition_3
+edition-3-again = refl
+
+-- octets of edition 4 read as edition 3: other values, and five octets of local use
+abbrev head_by_edition_3 : Head
+head_by_edition_3 = record { edition = 3; master = 0; centre = 98; subcentre = 0; update = 0; category = 0; subcategory = 0; local_subcategory = 0; master_version = 0; local_version = 0; year = 0; month = 14; day = 0; hour = 7; minute = 232; second = 0 }
+
+by-edition-3 : sections_of (slice_set one_block_number 7 3)
+    ≡ Ok (record { head = head_by_edition_3; local1 = 1 ∷ 2 ∷ 3 ∷ 4 ∷ 5 ∷ []; section2 = None; descriptors = 257 ∷ []; subsets = 1; observed = true; compressed = false; payload = 0x14 ∷ []; size = 48 })
+unfolding sections_of section_end
+by-edition-3 = refl
+
+-- what can be written in edition 3
+not-so-large : is_writable (record head_of_edition_3 { centre = 256 }) ≡ false
+not-so-large = refl
+
+no-seconds : is_writable (record head_of_edition_3 { second = 5 }) ≡ false
+no-seconds = refl
+
+-- section 1 of 16 octets is short in edition 3
+first-short-3 : sections_of (slice_set edition_3 10 16) ≡ Err (SectionShort 1)
+unfolding sections_of section_end
+first-short-3 = refl
+
+-- the flags of edition 3 say that there is a section 2
+second-past-3 : sections_of (slice_set (slice_set edition_3 15 128) 28 30) ≡ Err (SectionPast 2)
+unfolding sections_of section_end
+second-past-3 = refl
+
+-- the section faults: another edition, a section short, a section past the end, sections that do not meet the end
+edition-2 : sections_of (slice_set one_block_number 7 2) ≡ Err (Edition 2)
+unfolding sections_of section_end
+edition-2 = refl
 
 first-short : sections_of (slice_set one_block_number 10 21) ≡ Err (SectionShort 1)
 unfolding sections_of section_end

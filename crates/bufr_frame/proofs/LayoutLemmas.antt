@@ -1,12 +1,13 @@
 -- A message that was laid out, read again.
-use Rattle.std.proofs.Common.{◌≡◌, ◌∙◌, ℕ, ◌+◌, ◌-◌, ◌*◌, ◌/◌, ◌%◌, ◌≤◌, Bool, true, false, List, [], ◌∷◌, ◌++◌, length, take, refl, ap, sym, arith, Option, Some, None, Ok, get_or, codes, append_assoc, length-append}
+use Rattle.std.proofs.Common.{◌≡◌, ◌≢◌, ◌==◌, ◌∙◌, ℕ, ◌+◌, ◌-◌, ◌*◌, ◌/◌, ◌%◌, ◌≤◌, Bool, true, false, List, [], ◌∷◌, ◌++◌, length, take, refl, ap, sym, subst, arith, zero, suc, Option, Some, None, Ok, get_or, codes, append_assoc, append-nil, length-append}
 use Rattle.std.proofs.Math.Seq.{get_or-append_right, take-length}
 use Rattle.std.proofs.lemmas.List.{drop_at, take-append-le}
-use Rattle.std.specs.Prelude.{if◌then◌else◌, nat_lt, nat_le, is_some, slice_range}
+use Rattle.std.specs.Prelude.{if◌then◌else◌, nat_lt, nat_le, is_some, slice_range, ◌&&◌, ◌||◌}
 use Rattle.std.proofs.lemmas.Bool.Decides.{nat_tests}
 use Rattle.bufr_frame.specs.Octets.{three, two, words, three_octets, two_octets, octets_of_words}
-use Rattle.bufr_frame.specs.Sections.{sections_of, section_end, parts, has_section2, head_of, Sections}
-use Rattle.bufr_frame.specs.Layout.{Parts, message_octets, message_size, section0_octets, section1_octets, section2_octets, section2_size, section3_octets, section4_octets, data_flags, sections_from, head_octets}
+use Rattle.bufr_frame.specs.Section1.{Slot, Field, Flags, Single, Double, slots_of, slots_3, slots_4, is_edition, first_least, octets_of_slots, write_slot, field_of, octets_in, value_in, said, head_in}
+use Rattle.bufr_frame.specs.Sections.{sections_of, section_end, parts, edition_of, slots_in, has_section2, head_of, Sections, is_long_edition_3}
+use Rattle.bufr_frame.specs.Layout.{Parts, message_octets, message_size, section0_octets, section1_octets, section2_octets, section2_size, section3_octets, section4_octets, data_flags, sections_from, head_octets, even_size, evened, is_writable, fits_3}
 use Rattle.bufr_frame.specs.declared.head.Head.{Head}
 use Rattle.bufr_frame.proofs.SectionLemmas.{sections-are}
 
@@ -27,6 +28,47 @@ words-octets (w ∷ ws) = rw (two-number w, words-octets ws) refl
 pub length-octets_of_words : (ws : List ℕ) → length (octets_of_words ws) ≡ 2 * length ws
 length-octets_of_words [] = refl
 length-octets_of_words (w ∷ ws) = omega (arith, length-octets_of_words ws)
+
+words-left-over : (ws : List ℕ) → words (octets_of_words ws ++ 0 ∷ []) ≡ ws
+words-left-over [] = refl
+words-left-over (w ∷ ws) = rw (two-number w, words-left-over ws) refl
+
+-- a section made even says the same words
+words-if : (b : Bool) (ws : List ℕ) → words (if b then octets_of_words ws ++ 0 ∷ [] else octets_of_words ws) ≡ ws
+words-if true ws = words-left-over ws
+words-if false ws = words-octets ws
+
+pub words-evened : (edition front : ℕ) (ws : List ℕ) → words (evened edition front (octets_of_words ws)) ≡ ws
+words-evened edition front ws = words-if ((edition == 3) && ((front + length (octets_of_words ws)) % 2 == 1)) ws
+
+-- how many octets it has
+length-by : (third : Bool) (odd : Bool) (front : ℕ) (octets : List ℕ) → ((front + length octets) % 2 == 1) ≡ odd
+    → front + length (if third && odd then octets ++ 0 ∷ [] else octets) ≡ (if third then front + length octets + (front + length octets) % 2 else front + length octets)
+length-by false odd front octets is = refl
+length-by true true front octets is = let h : (front + length octets) % 2 ≡ 1 = grind (arith, nat_tests, is) in omega (arith, h, length-append octets (0 ∷ []))
+length-by true false front octets is = let h : (front + length octets) % 2 ≢ 1 = grind (arith, nat_tests, is) in omega (arith, h)
+
+pub length-evened : (edition front : ℕ) (octets : List ℕ) → front + length (evened edition front octets) ≡ even_size edition (front + length octets)
+length-evened edition front octets = length-by (edition == 3) ((front + length octets) % 2 == 1) front octets refl
+
+-- what is put behind
+evened-by : (b : Bool) (octets : List ℕ) → (if b then octets ++ 0 ∷ [] else octets) ≡ octets ++ (if b then 0 ∷ [] else [])
+evened-by true octets = refl
+evened-by false octets = sym (append-nil octets)
+
+pub evened-behind : (edition front : ℕ) (octets : List ℕ) → evened edition front octets ≡ octets ++ (if (edition == 3) && ((front + length octets) % 2 == 1) then 0 ∷ [] else [])
+evened-behind edition front octets = evened-by ((edition == 3) && ((front + length octets) % 2 == 1)) octets
+
+-- in edition 3 it is even
+even-by : (third : Bool) (n : ℕ) → third ≡ true → (if third then n + n % 2 else n) % 2 ≡ 0
+even-by true n is = omega arith
+even-by false n is = absurd (cc)
+
+-- section 1: its octets are those of its slots
+length-octets_in : (slots : List Slot) (says : Field → ℕ) → length (octets_in slots says) ≡ octets_of_slots slots
+length-octets_in [] says = refl
+length-octets_in (Single field ∷ more) says = omega (arith, length-octets_in more says)
+length-octets_in (Double field ∷ more) says = omega (arith, length-octets_in more says)
 
 -- behind a front
 pub index-behind : (front rest : List ℕ) (p k : ℕ) → p ≡ length front → get_or (front ++ rest) (p + k) 0 ≡ get_or rest k 0
@@ -64,6 +106,35 @@ flag-test : (b : Bool) → nat_le 128 (if b then 128 else 0) ≡ b
 flag-test true = refl
 flag-test false = refl
 
+-- what makes a head writable
+or-by : {P : Type 0} (a b : Bool) → (a || b) ≡ true → (a ≡ true → P) → (b ≡ true → P) → P
+or-by true b is first second = first refl
+or-by false b is first second = second is
+
+and-both : (a b : Bool) → (a && b) ≡ true → (a ≡ true) × (b ≡ true)
+and-both true b is = (refl, is)
+and-both false b is = absurd (cc)
+
+equal : (a b : ℕ) → (a == b) ≡ true → a ≡ b
+equal a b is = grind (arith, nat_tests, is)
+
+none-fits : (n : ℕ) → nat_le n 0 ≡ true → n ≡ 0
+none-fits n is = grind (arith, nat_tests, is)
+
+-- a head that can be written is of edition 4, or of edition 3 and then says nothing of what that lacks
+pub by-edition : {P : Type 0} (h : Head) → is_writable h ≡ true → (h.edition ≡ 4 → P) → (h.edition ≡ 3 → h.local_subcategory ≡ 0 → h.second ≡ 0 → P) → P
+by-edition h is four three =
+    or-by (h.edition == 4) _ is (λ e. four (equal h.edition 4 e)) (λ rest.
+    let a = and-both (h.edition == 3) _ rest in
+    let b = and-both (nat_le h.centre 255) _ a.1 in
+    let c = and-both (nat_le h.subcentre 255) _ b.1 in
+    let d = and-both (nat_le h.year 255) _ c.1 in
+    let e = and-both (nat_le h.local_subcategory 0) _ d.1 in
+    three (equal h.edition 3 a.0) (none-fits h.local_subcategory e.0) (none-fits h.second e.1))
+
+pub writable-edition : (h : Head) → is_writable h ≡ true → is_edition h.edition ≡ true
+writable-edition h is = by-edition h is (λ e. ap is_edition e) (λ e l s. ap is_edition e)
+
 observed-test : (o c : Bool) → nat_le 128 (data_flags o c) ≡ o
 observed-test true true = refl
 observed-test true false = refl
@@ -80,6 +151,10 @@ length-section2_octets : (optional : Option (List ℕ)) → length (section2_oct
 length-section2_octets None = refl
 length-section2_octets (Some octets) = omega arith
 
+-- section 1 behind its length
+first-split : (n : ℕ) (head local1 rest : List ℕ) → ((three_octets n ++ head) ++ local1) ++ rest ≡ three_octets n ++ ((head ++ local1) ++ rest)
+first-split n head local1 rest = refl
+
 -- section 2 read back
 second-part : (m front rest : List ℕ) (optional : Option (List ℕ)) (p q : ℕ) → m ≡ front ++ (section2_octets optional ++ rest) → p ≡ length front → q ≡ p + section2_size optional → has_section2 m ≡ is_some optional
     → (if has_section2 m then Some (slice_range m (p + 4) q) else None) ≡ optional
@@ -90,9 +165,29 @@ second-part m front rest (Some octets) p q is at to has =
     let begin : p + 4 ≡ length (front ++ head) = omega (arith, length-append front head) in
     rw has (ap Some (ap (λ l. slice_range l (p + 4) q) same ∙ range-behind (front ++ head) octets rest (p + 4) q begin (omega arith)))
 
-head-same : (h : Head) (c s y : ℕ) → c ≡ h.centre → s ≡ h.subcentre → y ≡ h.year → (record h { centre = c; subcentre = s; year = y }) ≡ h
-head-same h c s y a b d =
-    ap (λ x. record h { centre = x; subcentre = s; year = y }) a ∙ ap (λ x. record h { subcentre = x; year = y }) b ∙ ap (λ x. record h { year = x }) d
+-- section 1 read back, by the slots that it was written by
+module _ (h : Head) (optional : Bool) (size n : ℕ) (local1 rest : List ℕ) where
+  abbrev with_slots : List Slot → List ℕ
+  with_slots slots = section0_octets size h.edition ++ ((three_octets n ++ octets_in slots (said h optional) ++ local1) ++ rest)
+
+  flags-back : (is_writable h ≡ true) → value_in (slots_of h.edition) (with_slots (slots_of h.edition)) 11 Flags ≡ (if optional then 128 else 0)
+  flags-back is =
+      let P : ℕ → Type 0 = λ e. value_in (slots_of e) (with_slots (slots_of e)) 11 Flags ≡ (if optional then 128 else 0) in
+      by-edition h is (λ e. subst P (sym e) refl) (λ e l s. subst P (sym e) refl)
+
+  head-same : (c s y : ℕ) → c ≡ h.centre → s ≡ h.subcentre → y ≡ h.year → (record h { centre = c; subcentre = s; year = y }) ≡ h
+  head-same c s y a b d =
+      ap (λ x. record h { centre = x; subcentre = s; year = y }) a ∙ ap (λ x. record h { subcentre = x; year = y }) b ∙ ap (λ x. record h { year = x }) d
+
+  head-lacking : (l s : ℕ) → l ≡ h.local_subcategory → s ≡ h.second → (record h { local_subcategory = l; second = s }) ≡ h
+  head-lacking l s a b = ap (λ x. record h { local_subcategory = x; second = s }) a ∙ ap (λ x. record h { second = x }) b
+
+  pub head-back : (is_writable h ≡ true) → head_in h.edition (slots_of h.edition) (with_slots (slots_of h.edition)) 11 ≡ h
+  head-back is =
+      let P : ℕ → Type 0 = λ e. head_in h.edition (slots_of e) (with_slots (slots_of e)) 11 ≡ h in
+      by-edition h is
+      (λ e. subst P (sym e) (head-same _ _ _ (two-number h.centre) (two-number h.subcentre) (two-number h.year)))
+      (λ e l s. subst P (sym e) (head-lacking 0 0 (sym l) (sym s)))
 
 make : Head → List ℕ → Option (List ℕ) → List ℕ → ℕ → Bool → Bool → List ℕ → ℕ → Sections
 make head local1 second descriptors subsets observed compressed payload size = record {
@@ -111,25 +206,37 @@ make-same : (h h' : Head) (l l' : List ℕ) (o o' : Option (List ℕ)) (d d' : L
     → h ≡ h' → l ≡ l' → o ≡ o' → d ≡ d' → n ≡ n' → b ≡ b' → c ≡ c' → p ≡ p' → s ≡ s' → make h l o d n b c p s ≡ make h' l' o' d' n' b' c' p' s'
 make-same h h' l l' o o' d d' n n' b b' c c' p p' s s' e1 e2 e3 e4 e5 e6 e7 e8 e9 = cc
 
-parts-make : (m : List ℕ) (p1 p2 p3 p4 : ℕ) → parts m p1 p2 p3 p4 ≡ make (head_of m) (slice_range m 30 p1) (if has_section2 m then Some (slice_range m (p1 + 4) p2) else None)
+parts-make : (m : List ℕ) (p1 p2 p3 p4 : ℕ) → parts m p1 p2 p3 p4 ≡ make (head_of m) (slice_range m (8 + first_least (edition_of m)) p1) (if has_section2 m then Some (slice_range m (p1 + 4) p2) else None)
     (words (slice_range m (p2 + 7) p3)) (two m (p2 + 4)) (nat_le 128 (get_or m (p2 + 6) 0)) (nat_le 64 (get_or m (p2 + 6) 0 % 128)) (slice_range m (p3 + 4) p4) (length m)
 unfolding make
 parts-make m p1 p2 p3 p4 = refl
 
-made-sections : (h : Head) (p : Parts) → make h p.local1 p.section2 p.descriptors p.subsets p.observed p.compressed p.payload (message_size p) ≡ sections_from h p
+made-sections : (h : Head) (p : Parts) → make h p.local1 p.section2 p.descriptors p.subsets p.observed p.compressed (evened h.edition 4 p.payload) (message_size h.edition p) ≡ sections_from h p
 unfolding make
 made-sections h p = refl
 
+-- sections that are even are not too long
+not-long : (third long odd3 odd4 : Bool) → (third ≡ true → odd3 ≡ false) → (third ≡ true → odd4 ≡ false) → (third && (long && (odd3 || odd4))) ≡ false
+not-long false long odd3 odd4 three four = refl
+not-long true false odd3 odd4 three four = refl
+not-long true true odd3 odd4 three four = rw (three refl, four refl) refl
+
+even-not-odd : (n : ℕ) → n % 2 ≡ 0 → (n % 2 == 1) ≡ false
+even-not-odd n is = rw is refl
+
 -- a message of these parts has these sections
-pub read-back : (h : Head) (p : Parts) → h.edition ≡ 4 → sections_of (message_octets h p) ≡ Ok (sections_from h p)
-read-back h p edition =
+pub read-back : (h : Head) (p : Parts) → is_writable h ≡ true → sections_of (message_octets h p) ≡ Ok (sections_from h p)
+read-back h p writable =
     let m = message_octets h p in
-    let s0 = section0_octets (message_size p) h.edition in
+    let edition = h.edition in
+    let s0 = section0_octets (message_size edition p) edition in
     let s1 = section1_octets h p.local1 (is_some p.section2) in
     let s2 = section2_octets p.section2 in
     let flags = data_flags p.observed p.compressed in
-    let s3 = section3_octets p.descriptors p.subsets flags in
-    let s4 = section4_octets p.payload in
+    let c3 = evened edition 7 (octets_of_words p.descriptors) in
+    let c4 = evened edition 4 p.payload in
+    let s3 = section3_octets c3 p.subsets flags in
+    let s4 = section4_octets c4 in
     let end = codes "7777" in
     let f2 = s0 ++ s1 in
     let f3 = f2 ++ s2 in
@@ -137,46 +244,61 @@ read-back h p edition =
     let at2 : m ≡ f2 ++ (s2 ++ (s3 ++ (s4 ++ end))) = sym (append_assoc s0 s1 (s2 ++ (s3 ++ (s4 ++ end)))) in
     let at3 : m ≡ f3 ++ (s3 ++ (s4 ++ end)) = at2 ∙ sym (append_assoc f2 s2 (s3 ++ (s4 ++ end))) in
     let at4 : m ≡ f4 ++ (s4 ++ end) = at3 ∙ sym (append_assoc f3 s3 (s4 ++ end)) in
-    let n1 = 22 + length p.local1 in
+    let least = first_least edition in
+    let ho = head_octets h (is_some p.section2) in
+    let lh : length ho ≡ octets_of_slots (slots_of edition) = length-octets_in (slots_of edition) (said h (is_some p.section2)) in
+    let n1 = least + length p.local1 in
     let n2 = section2_size p.section2 in
-    let n3 = 7 + 2 * length p.descriptors in
-    let n4 = 4 + length p.payload in
+    let n3 = 7 + length c3 in
+    let n4 = 4 + length c4 in
     let l0 : length s0 ≡ 8 = refl in
-    let l1 : length s1 ≡ n1 = omega arith in
+    let l1 : length s1 ≡ n1 = omega (arith, lh, length-append (three_octets n1 ++ ho) p.local1, length-append (three_octets n1) ho) in
     let l2 : length s2 ≡ n2 = length-section2_octets p.section2 in
-    let l3 : length s3 ≡ n3 = omega (arith, length-octets_of_words p.descriptors) in
+    let l3 : length s3 ≡ n3 = omega arith in
     let l4 : length s4 ≡ n4 = omega arith in
-    let k2 : 8 + n1 ≡ length f2 = omega (arith, length-append s0 s1) in
-    let k3 : 8 + n1 + n2 ≡ length f3 = omega (arith, length-append f2 s2) in
-    let k4 : 8 + n1 + n2 + n3 ≡ length f4 = omega (arith, length-append f3 s3) in
-    let lm : length m ≡ 8 + n1 + n2 + n3 + n4 + 4 = ap length at4 ∙ length-append f4 (s4 ++ end) ∙ omega (arith, length-append s4 end) in
+    let k2 : 8 + n1 ≡ length f2 = omega (arith, length-append s0 s1, l1) in
+    let k3 : 8 + n1 + n2 ≡ length f3 = omega (arith, length-append f2 s2, l2, k2) in
+    let k4 : 8 + n1 + n2 + n3 ≡ length f4 = omega (arith, length-append f3 s3, l3, k3) in
+    let lm : length m ≡ 8 + n1 + n2 + n3 + n4 + 4 = ap length at4 ∙ length-append f4 (s4 ++ end) ∙ omega (arith, length-append s4 end, k4, l4) in
     let p1 = 8 + n1 in
     let p2 = p1 + n2 in
     let p3 = p2 + n3 in
     let p4 = p3 + n4 in
-    let has : has_section2 m ≡ is_some p.section2 = flag-test (is_some p.section2) in
-    let e1 : section_end m 1 22 8 ≡ Ok p1 = section-at m s0 ((head_octets h (is_some p.section2) ++ p.local1) ++ (s2 ++ (s3 ++ (s4 ++ end)))) 1 22 8 n1 refl refl (omega arith) (omega arith) (omega (arith, lm)) in
+    let known : is_edition (edition_of m) ≡ true = writable-edition h writable in
+    let has : has_section2 m ≡ is_some p.section2 = ap (nat_le 128) (flags-back h (is_some p.section2) (message_size edition p) n1 p.local1 (s2 ++ (s3 ++ (s4 ++ end))) writable) ∙ flag-test (is_some p.section2) in
+    let e1 : section_end m 1 (first_least (edition_of m)) 8 ≡ Ok p1 = section-at m s0 ((ho ++ p.local1) ++ (s2 ++ (s3 ++ (s4 ++ end)))) 1 least 8 n1 (ap (λ l. s0 ++ l) (first-split n1 ho p.local1 (s2 ++ (s3 ++ (s4 ++ end))))) refl (omega arith) (omega arith) (omega (arith, lm)) in
     let e2 = second-at m f2 (s3 ++ (s4 ++ end)) p.section2 p1 at2 k2 has (omega (arith, lm)) in
-    let e3 : section_end m 3 7 p2 ≡ Ok p3 = section-at m f3 ((0 ∷ two_octets p.subsets ++ flags ∷ octets_of_words p.descriptors) ++ (s4 ++ end)) 3 7 p2 n3 at3 k3 (omega arith) (omega arith) (omega (arith, lm)) in
-    let e4 : section_end m 4 4 p3 ≡ Ok p4 = section-at m f4 ((0 ∷ p.payload) ++ end) 4 4 p3 n4 at4 k4 (omega arith) (omega arith) (omega (arith, lm)) in
+    let e3 : section_end m 3 7 p2 ≡ Ok p3 = section-at m f3 ((0 ∷ two_octets p.subsets ++ flags ∷ c3) ++ (s4 ++ end)) 3 7 p2 n3 at3 k3 (omega arith) (omega arith) (omega (arith, lm)) in
+    let e4 : section_end m 4 4 p3 ≡ Ok p4 = section-at m f4 ((0 ∷ c4) ++ end) 4 4 p3 n4 at4 k4 (omega arith) (omega arith) (omega (arith, lm)) in
     let last : p4 ≡ length m - 4 = omega (arith, lm) in
-    let front1 = s0 ++ (three_octets n1 ++ head_octets h (is_some p.section2)) in
-    let local1 : slice_range m 30 p1 ≡ p.local1 = range-behind front1 p.local1 (s2 ++ (s3 ++ (s4 ++ end))) 30 p1 refl (omega arith) in
+    let size3 : n3 ≡ even_size edition (7 + 2 * length p.descriptors) = length-evened edition 7 (octets_of_words p.descriptors) ∙ ap (λ n. even_size edition (7 + n)) (length-octets_of_words p.descriptors) in
+    let size4 : n4 ≡ even_size edition (4 + length p.payload) = length-evened edition 4 p.payload in
+    let third : p3 - p2 ≡ n3 = omega arith in
+    let fourth : p4 - p3 ≡ n4 = omega arith in
+    let short : is_long_edition_3 m p2 p3 p4 ≡ false = not-long (edition == 3) (nat_lt 16777213 (length m)) ((p3 - p2) % 2 == 1) ((p4 - p3) % 2 == 1)
+    (λ is. even-not-odd (p3 - p2) (ap (λ n. n % 2) (third ∙ size3) ∙ even-by (edition == 3) (7 + 2 * length p.descriptors) is))
+    (λ is. even-not-odd (p4 - p3) (ap (λ n. n % 2) (fourth ∙ size4) ∙ even-by (edition == 3) (4 + length p.payload) is)) in
+    let front1 = s0 ++ (three_octets n1 ++ ho) in
+    let same1 : m ≡ front1 ++ (p.local1 ++ (s2 ++ (s3 ++ (s4 ++ end)))) =
+    ap (λ l. s0 ++ l) (append_assoc (three_octets n1 ++ ho) p.local1 (s2 ++ (s3 ++ (s4 ++ end)))) ∙ sym (append_assoc s0 (three_octets n1 ++ ho) (p.local1 ++ (s2 ++ (s3 ++ (s4 ++ end))))) in
+    let begin1 : 8 + least ≡ length front1 = omega (arith, lh, length-append s0 (three_octets n1 ++ ho), length-append (three_octets n1) ho) in
+    let local1 : slice_range m (8 + least) p1 ≡ p.local1 = ap (λ l. slice_range l (8 + least) p1) same1 ∙ range-behind front1 p.local1 (s2 ++ (s3 ++ (s4 ++ end))) (8 + least) p1 begin1 (omega arith) in
     let head3 = three_octets n3 ++ 0 ∷ two_octets p.subsets ++ flags ∷ [] in
-    let same3 : m ≡ (f3 ++ head3) ++ (octets_of_words p.descriptors ++ (s4 ++ end)) = at3 ∙ sym (append_assoc f3 head3 (octets_of_words p.descriptors ++ (s4 ++ end))) in
-    let descriptors : slice_range m (p2 + 7) p3 ≡ octets_of_words p.descriptors =
-    ap (λ l. slice_range l (p2 + 7) p3) same3 ∙ range-behind (f3 ++ head3) (octets_of_words p.descriptors) (s4 ++ end) (p2 + 7) p3 (omega (arith, length-append f3 head3, k3)) (omega (arith, length-octets_of_words p.descriptors)) in
+    let same3 : m ≡ (f3 ++ head3) ++ (c3 ++ (s4 ++ end)) = at3 ∙ sym (append_assoc f3 head3 (c3 ++ (s4 ++ end))) in
+    let descriptors : slice_range m (p2 + 7) p3 ≡ c3 =
+    ap (λ l. slice_range l (p2 + 7) p3) same3 ∙ range-behind (f3 ++ head3) c3 (s4 ++ end) (p2 + 7) p3 (omega (arith, length-append f3 head3, k3)) (omega arith) in
     let behind3 : (k : ℕ) → get_or m (p2 + k) 0 ≡ get_or (s3 ++ (s4 ++ end)) k 0 = λ k. ap (λ l. get_or l (p2 + k) 0) at3 ∙ index-behind f3 (s3 ++ (s4 ++ end)) p2 k k3 in
     let five : p2 + 4 + 1 ≡ p2 + 5 = omega arith in
     let subsets : two m (p2 + 4) ≡ p.subsets = rw (five, behind3 4, behind3 5) (two-number p.subsets) in
     let head4 = three_octets n4 ++ 0 ∷ [] in
-    let same4 : m ≡ (f4 ++ head4) ++ (p.payload ++ end) = at4 ∙ sym (append_assoc f4 head4 (p.payload ++ end)) in
-    let payload : slice_range m (p3 + 4) p4 ≡ p.payload =
-    ap (λ l. slice_range l (p3 + 4) p4) same4 ∙ range-behind (f4 ++ head4) p.payload end (p3 + 4) p4 (omega (arith, length-append f4 head4, k4)) (omega arith) in
-    sections-are m p1 p2 p3 p4 edition e1 e2 e3 e4 last
+    let same4 : m ≡ (f4 ++ head4) ++ (c4 ++ end) = at4 ∙ sym (append_assoc f4 head4 (c4 ++ end)) in
+    let payload : slice_range m (p3 + 4) p4 ≡ c4 =
+    ap (λ l. slice_range l (p3 + 4) p4) same4 ∙ range-behind (f4 ++ head4) c4 end (p3 + 4) p4 (omega (arith, length-append f4 head4, k4)) (omega arith) in
+    let size : length m ≡ message_size edition p = omega (arith, lm, size3, size4) in
+    sections-are m p1 p2 p3 p4 known e1 e2 e3 e4 last short
     ∙ ap Ok (parts-make m p1 p2 p3 p4
-    ∙ make-same (head_of m) h (slice_range m 30 p1) p.local1 _ p.section2 (words (slice_range m (p2 + 7) p3)) p.descriptors (two m (p2 + 4)) p.subsets _ p.observed _ p.compressed (slice_range m (p3 + 4) p4) p.payload (length m) (message_size p)
-    (head-same h _ _ _ (two-number h.centre) (two-number h.subcentre) (two-number h.year)) local1 (second-part m f2 (s3 ++ (s4 ++ end)) p.section2 p1 p2 at2 k2 refl has)
-    (ap words descriptors ∙ words-octets p.descriptors) subsets (ap (nat_le 128) (behind3 6) ∙ observed-test p.observed p.compressed)
-    (ap (λ n. nat_le 64 (n % 128)) (behind3 6) ∙ compressed-test p.observed p.compressed) payload (lm ∙ omega arith)
+    ∙ make-same (head_of m) h (slice_range m (8 + least) p1) p.local1 _ p.section2 (words (slice_range m (p2 + 7) p3)) p.descriptors (two m (p2 + 4)) p.subsets _ p.observed _ p.compressed (slice_range m (p3 + 4) p4) c4 (length m) (message_size edition p)
+    (head-back h (is_some p.section2) (message_size edition p) n1 p.local1 (s2 ++ (s3 ++ (s4 ++ end))) writable) local1 (second-part m f2 (s3 ++ (s4 ++ end)) p.section2 p1 p2 at2 k2 refl has)
+    (ap words descriptors ∙ words-evened edition 7 p.descriptors) subsets (ap (nat_le 128) (behind3 6) ∙ observed-test p.observed p.compressed)
+    (ap (λ n. nat_le 64 (n % 128)) (behind3 6) ∙ compressed-test p.observed p.compressed) payload size
     ∙ made-sections h p)

@@ -2,8 +2,10 @@ pub mod AdvanceLemmas
 pub mod AgainLemmas
 pub mod BufferLemmas
 pub mod CallLemmas
+pub mod EvenLemmas
 mod Examples
 pub mod FindingLemmas
+pub mod FitLemmas
 pub mod FrameLemmas
 pub mod InputLemmas
 pub mod LayoutLemmas

@@ -1,8 +1,40 @@
 -- Octets appended, part by part.
-use Rattle.std.proofs.Common.{◌≡◌, ◌∙◌, ℕ, List, ◌++◌, ap, Ok, Err, append_assoc}
-use Rattle.std.specs.Prelude.{Result, OnOk, is_ok, if◌then◌else◌}
+use Rattle.std.proofs.Common.{◌≡◌, ◌∙◌, ℕ, ◌+◌, ◌*◌, Bool, true, false, List, [], ◌∷◌, ◌++◌, length, ap, sym, refl, Option, Some, None, Ok, Err, append_assoc}
+use Rattle.std.specs.Prelude.{Result, OnOk, is_ok, is_some, option_map, if◌then◌else◌}
+use Rattle.bufr_frame.specs.Octets.{three_octets, two_octets, octets_of_words}
+use Rattle.bufr_frame.specs.Layout.{even_size, evened, section3_octets}
+use Rattle.bufr_frame.proofs.LayoutLemmas.{evened-behind, length-evened, length-octets_of_words}
 
 -- three parts, the last of which may be refused
 pub three-parts : {X E : Type 0} (r : Result X E) (old a b c one two new : List ℕ) → one ≡ old ++ a → two ≡ one ++ b → new ≡ (if is_ok r then two ++ c else two) → OnOk r (new ≡ old ++ (a ++ (b ++ c)))
 three-parts (Ok x) old a b c one two new p q r = r ∙ ap (λ l. l ++ c) (q ∙ ap (λ l. l ++ b) p ∙ append_assoc old a b) ∙ append_assoc old (a ++ b) c ∙ ap (λ l. old ++ l) (append_assoc a b c)
 three-parts (Err e) old a b c one two new p q r = tt
+
+-- six parts
+pub six-parts : (a b c d e f u v w x y z : List ℕ) → u ≡ a → v ≡ u ++ b → w ≡ v ++ c → x ≡ w ++ d → y ≡ x ++ e → z ≡ y ++ f → z ≡ a ++ (b ++ (c ++ (d ++ (e ++ f))))
+six-parts a b c d e f u v w x y z hu hv hw hx hy hz =
+    hz ∙ ap (λ l. l ++ f) hy ∙ append_assoc x e f
+    ∙ ap (λ l. l ++ (e ++ f)) hx ∙ append_assoc w d (e ++ f)
+    ∙ ap (λ l. l ++ (d ++ (e ++ f))) hw ∙ append_assoc v c (d ++ (e ++ f))
+    ∙ ap (λ l. l ++ (c ++ (d ++ (e ++ f)))) hv ∙ append_assoc u b (c ++ (d ++ (e ++ f)))
+    ∙ ap (λ l. l ++ (b ++ (c ++ (d ++ (e ++ f))))) hu
+
+pub is_some-map : {X Y : Type 0} (f : X → Y) (o : Option X) → is_some o ≡ is_some (option_map f o)
+is_some-map f (Some x) = refl
+is_some-map f None = refl
+
+-- section 3
+pub third : {X E : Type 0} (r : Result X E) (edition : ℕ) (words : List ℕ) (subsets flags n : ℕ) (old one two new : List ℕ) (more : List ℕ)
+    → n ≡ even_size edition (7 + 2 * length words) → one ≡ old ++ three_octets n → two ≡ (one ++ (0 ∷ two_octets subsets ++ flags ∷ [])) ++ octets_of_words words
+    → evened edition 7 (octets_of_words words) ≡ octets_of_words words ++ more
+    → OnOk r (new ≡ two ++ more) → OnOk r (new ≡ old ++ section3_octets (evened edition 7 (octets_of_words words)) subsets flags)
+third (Err e) edition words subsets flags n old one two new more size p q is last = tt
+third (Ok x) edition words subsets flags n old one two new more size p q is last =
+    let w = octets_of_words words in
+    let f = 0 ∷ two_octets subsets ++ flags ∷ [] in
+    let c = evened edition 7 w in
+    let long : n ≡ 7 + length c = size ∙ ap (λ k. even_size edition (7 + k)) (sym (length-octets_of_words words)) ∙ sym (length-evened edition 7 w) in
+    let front : two ≡ ((old ++ three_octets n) ++ f) ++ w = q ∙ ap (λ l. (l ++ f) ++ w) p in
+    let whole : two ++ more ≡ ((old ++ three_octets n) ++ f) ++ c = ap (λ l. l ++ more) front ∙ append_assoc ((old ++ three_octets n) ++ f) w more ∙ ap (λ l. ((old ++ three_octets n) ++ f) ++ l) (sym is) in
+    let apart : ((old ++ three_octets n) ++ f) ++ c ≡ old ++ (three_octets n ++ (f ++ c)) = append_assoc (old ++ three_octets n) f c ∙ append_assoc old (three_octets n) (f ++ c) in
+    last ∙ whole ∙ apart ∙ ap (λ k. old ++ (three_octets k ++ (f ++ c))) long

@@ -1,8 +1,9 @@
--- How a message of edition 4 is laid out. (WMO-No. 306, Volume I.2, FM 94: sections 0 to 5)
+-- How a message of edition 3 or 4 is laid out. (WMO-No. 306, Volume I.2, FM 94: sections 0 to 5)
 -- Cited by public contracts.
--- Lengths are the least that hold the parts; reserved octets and bits are zero, a choice of this project.
-use Rattle.std.specs.Prelude.{ℕ, ◌+◌, ◌*◌, Bool, List, [], ◌∷◌, ◌++◌, Option, Some, None, length, codes, is_some, if◌then◌else◌}
+-- Lengths are the least that hold the parts, in edition 3 sections 3 and 4 made even; reserved octets and bits are zero, a choice of this project.
+use Rattle.std.specs.Prelude.{◌≡◌, ℕ, ◌≤◌, ◌+◌, ◌*◌, ◌%◌, ◌==◌, nat_le, ◌&&◌, ◌||◌, Bool, true, false, List, [], ◌∷◌, ◌++◌, Option, Some, None, length, codes, is_some, if◌then◌else◌}
 use Rattle.bufr_frame.specs.Octets.{three_octets, two_octets, octets_of_words}
+use Rattle.bufr_frame.specs.Section1.{Field, is_edition, Centre, Subcentre, Year, LocalSubcategory, Second, slots_of, slots_3, first_least, most_in, octets_in, said}
 use Rattle.bufr_frame.specs.Sections.{Sections}
 use Rattle.bufr_frame.specs.declared.head.Head.{Head}
 
@@ -25,29 +26,52 @@ abbrev pub section2_size : Option (List ℕ) → ℕ
 section2_size None = 0
 section2_size (Some octets) = 4 + length octets
 
--- the octets of a message: 8 of section 0, 22 or more of section 1, those of section 2, 7 or more of section 3, 4 or more of section 4, 4 of section 5
-abbrev pub size_from : (local1 : ℕ) → Option (List ℕ) → (descriptors payload : ℕ) → ℕ
-size_from local1 section2 descriptors payload = 8 + (22 + local1) + section2_size section2 + (7 + 2 * descriptors) + (4 + payload) + 4
+-- the octets of a section; in edition 3 they are even
+abbrev pub even_size : (edition size : ℕ) → ℕ
+even_size edition size = if edition == 3 then size + size % 2 else size
 
-abbrev pub message_size : Parts → ℕ
-message_size p = size_from (length p.local1) p.section2 (length p.descriptors) (length p.payload)
+-- what stands in a section behind its first octets, `front` of them; in edition 3 a zero octet more where the section would be odd
+abbrev pub evened : (edition front : ℕ) → List ℕ → List ℕ
+evened edition front octets = if (edition == 3) && ((front + length octets) % 2 == 1) then octets ++ 0 ∷ [] else octets
+
+-- the octets of a message: 8 of section 0, those of section 1 with local use, those of section 2, 7 or more of section 3, 4 or more of section 4, 4 of section 5
+abbrev pub size_from : (edition local1 : ℕ) → Option (List ℕ) → (descriptors payload : ℕ) → ℕ
+size_from edition local1 section2 descriptors payload =
+    8 + (first_least edition + local1) + section2_size section2 + even_size edition (7 + 2 * descriptors) + even_size edition (4 + payload) + 4
+
+abbrev pub message_size : (edition : ℕ) → Parts → ℕ
+message_size edition p = size_from edition (length p.local1) p.section2 (length p.descriptors) (length p.payload)
 
 -- the most octets that a message has, since three octets state its length
 abbrev pub most_octets : ℕ
 most_octets = 16777215
 
+-- how many octets more a message may have when it is written again: those that make sections 3 and 4 even
+abbrev pub longer : (edition : ℕ) → ℕ
+longer edition = if edition == 3 then 2 else 0
+
 -- `BUFR`, the length of the message, the edition
 abbrev pub section0_octets : (size edition : ℕ) → List ℕ
 section0_octets size edition = codes "BUFR" ++ three_octets size ++ edition ∷ []
 
--- octets 4 to 22 of section 1; bit 1 of octet 10: there is a section 2
+-- a head that can be written: in edition 3 centre, sub-centre and year have one octet, and local sub-category and second none
+abbrev pub fits_3 : Head → Field → Bool
+fits_3 h field = nat_le (said h false field) (most_in slots_3 field)
+
+abbrev pub is_writable : Head → Bool
+is_writable h = (h.edition == 4) || ((h.edition == 3) && (fits_3 h Centre && (fits_3 h Subcentre && (fits_3 h Year && (fits_3 h LocalSubcategory && fits_3 h Second)))))
+
+-- The edition of a head is one that is read, and each of its values fits the octets that section 1 has for it.
+pub record IsFitting (h : Head) : Type 0 where
+  pub edition : is_edition h.edition ≡ true
+  pub fits : (field : Field) → said h false field ≤ most_in (slots_of h.edition) field
+
+-- section 1 behind its length and before its local use
 abbrev pub head_octets : Head → (optional : Bool) → List ℕ
-head_octets h optional = h.master ∷ two_octets h.centre ++ two_octets h.subcentre ++ h.update ∷ (if optional then 128 else 0)
-    ∷ h.category ∷ h.subcategory ∷ h.local_subcategory ∷ h.master_version ∷ h.local_version ∷ two_octets h.year
-    ++ h.month ∷ h.day ∷ h.hour ∷ h.minute ∷ h.second ∷ []
+head_octets h optional = octets_in (slots_of h.edition) (said h optional)
 
 abbrev pub section1_octets : Head → List ℕ → (optional : Bool) → List ℕ
-section1_octets h local1 optional = three_octets (22 + length local1) ++ head_octets h optional ++ local1
+section1_octets h local1 optional = three_octets (first_least h.edition + length local1) ++ head_octets h optional ++ local1
 
 -- section 4, and section 2 where it is there: the length, a reserved octet, the octets
 abbrev pub section4_octets : List ℕ → List ℕ
@@ -61,15 +85,17 @@ section2_octets (Some octets) = section4_octets octets
 abbrev pub data_flags : (observed compressed : Bool) → ℕ
 data_flags observed compressed = (if observed then 128 else 0) + (if compressed then 64 else 0)
 
+-- section 3: the length, a reserved octet, the number of subsets, the flags, the octets of the descriptors
 abbrev pub section3_octets : List ℕ → (subsets flags : ℕ) → List ℕ
-section3_octets descriptors subsets flags = three_octets (7 + 2 * length descriptors) ++ 0 ∷ two_octets subsets ++ flags ∷ octets_of_words descriptors
+section3_octets content subsets flags = three_octets (7 + length content) ++ 0 ∷ two_octets subsets ++ flags ∷ content
 
 -- the octets of a message, section by section
 abbrev pub message_octets : Head → Parts → List ℕ
-message_octets h p = section0_octets (message_size p) h.edition ++ (section1_octets h p.local1 (is_some p.section2)
-    ++ (section2_octets p.section2 ++ (section3_octets p.descriptors p.subsets (data_flags p.observed p.compressed) ++ (section4_octets p.payload ++ codes "7777"))))
+message_octets h p = section0_octets (message_size h.edition p) h.edition ++ (section1_octets h p.local1 (is_some p.section2)
+    ++ (section2_octets p.section2 ++ (section3_octets (evened h.edition 7 (octets_of_words p.descriptors)) p.subsets (data_flags p.observed p.compressed)
+    ++ (section4_octets (evened h.edition 4 p.payload) ++ codes "7777"))))
 
--- the sections that a message of these parts has
+-- the sections that a message of these parts has; in edition 3 the payload may be followed by the octet that makes section 4 even
 abbrev pub sections_from : Head → Parts → Sections
 sections_from h p = record {
   head = h;
@@ -79,8 +105,8 @@ sections_from h p = record {
   subsets = p.subsets;
   observed = p.observed;
   compressed = p.compressed;
-  payload = p.payload;
-  size = message_size p;
+  payload = evened h.edition 4 p.payload;
+  size = message_size h.edition p;
 }
 
 -- the parts from which a message of these sections is written

@@ -12,6 +12,7 @@ pub mod Passing
 pub mod Plain
 pub mod Runs
 pub mod Scan
+pub mod Section1
 pub mod Sections
 pub mod Sights
 pub mod Words

@@ -22,6 +22,7 @@ number_of_section_fault (section.Edition edition) = 10
 number_of_section_fault (section.SectionShort k) = 11
 number_of_section_fault (section.SectionPast k) = 12
 number_of_section_fault section.SectionsEnd = 13
+number_of_section_fault section.Edition3Long = 14
 
 -- the number of a fault that ends a run
 abbrev pub number_of_run_fault : RunFault → ℕ

@@ -1,17 +1,18 @@
--- The sections of a message of edition 4. (WMO-No. 306, Volume I.2, FM 94: sections 0 to 5)
+-- The sections of a message of edition 3 or 4. (WMO-No. 306, Volume I.2, FM 94: sections 0 to 5)
 -- Cited by public contracts.
 -- Octets count from 0 here: section 1 begins at 8. That reserved octets and bits are ignored, and that bits behind
--- the data stay in the payload, are choices of this project.
-use Rattle.std.specs.Prelude.{◌≡◌, ℕ, ◌+◌, ◌-◌, ◌%◌, ◌==◌, Bool, not, nat_lt, nat_le, List, Option, Some, None, Result, Ok, Err, length, slice_index, slice_range, if◌then◌else◌}
+-- the data stay in the payload, are choices of this project; so is that sections of an odd number of octets are read in edition 3.
+use Rattle.std.specs.Prelude.{◌≡◌, ℕ, ◌+◌, ◌-◌, ◌%◌, ◌==◌, ◌&&◌, ◌||◌, Bool, not, nat_lt, nat_le, List, Option, Some, None, Result, Ok, Err, length, slice_index, slice_range, if◌then◌else◌}
 use Rattle.bufr_frame.specs.Octets.{three, two, words}
+use Rattle.bufr_frame.specs.Section1.{Slot, Flags, slots_of, is_edition, first_least, value_in, head_in}
 use Rattle.bufr_frame.specs.declared.head.Head.{Head}
 use Rattle.bufr_frame.specs.declared.fault.SectionFault.{SectionFault}
-use Rattle.bufr_frame.specs.declared.fault.SectionFault.TheVariants.{Edition, SectionShort, SectionPast, SectionsEnd}
+use Rattle.bufr_frame.specs.declared.fault.SectionFault.TheVariants.{Edition, SectionShort, SectionPast, SectionsEnd, Edition3Long}
 
 -- what a message consists of
 pub record Sections : Type 0 where
   pub head : Head
-  -- section 1 from its octet 23 on
+  -- section 1 behind what its edition lays down
   pub local1 : List ℕ
   -- section 2 from its octet 5 on
   pub section2 : Option (List ℕ)
@@ -38,36 +39,26 @@ section_end m k least p =
     else if nat_lt (length m - 4) (p + three m p) then Err (SectionPast k)
     else Ok (p + three m p)
 
--- bit 1 of octet 10 of section 1: there is a section 2
-abbrev pub has_section2 : List ℕ → Bool
-has_section2 m = nat_le 128 (slice_index m 17)
+-- what octet 8 of section 0 says
+abbrev pub edition_of : List ℕ → ℕ
+edition_of m = slice_index m 7
 
--- what octet 8 of section 0 and octets 4 to 22 of section 1 say
+abbrev pub slots_in : List ℕ → List Slot
+slots_in m = slots_of (edition_of m)
+
+-- bit 1 of the flags of section 1: there is a section 2
+abbrev pub has_section2 : List ℕ → Bool
+has_section2 m = nat_le 128 (value_in (slots_in m) m 11 Flags)
+
+-- what octet 8 of section 0 and section 1 behind its length say
 abbrev pub head_of : List ℕ → Head
-head_of m = record {
-  edition = slice_index m 7;
-  master = slice_index m 11;
-  centre = two m 12;
-  subcentre = two m 14;
-  update = slice_index m 16;
-  category = slice_index m 18;
-  subcategory = slice_index m 19;
-  local_subcategory = slice_index m 20;
-  master_version = slice_index m 21;
-  local_version = slice_index m 22;
-  year = two m 23;
-  month = slice_index m 25;
-  day = slice_index m 26;
-  hour = slice_index m 27;
-  minute = slice_index m 28;
-  second = slice_index m 29;
-}
+head_of m = head_in (edition_of m) (slots_in m) m 11
 
 -- the parts, where sections 1 to 4 end at p1 to p4 (section 2 is empty where there is none)
 abbrev pub parts : List ℕ → (p1 p2 p3 p4 : ℕ) → Sections
 parts m p1 p2 p3 p4 = record {
   head = head_of m;
-  local1 = slice_range m 30 p1;
+  local1 = slice_range m (8 + first_least (edition_of m)) p1;
   section2 = if has_section2 m then Some (slice_range m (p1 + 4) p2) else None;
   descriptors = words (slice_range m (p2 + 7) p3);
   subsets = two m (p2 + 4);
@@ -77,14 +68,25 @@ parts m p1 p2 p3 p4 = record {
   size = length m;
 }
 
+-- a message of edition 3 that is so long, and whose section 3 or 4 is odd, so that it could not be written with even ones
+abbrev pub is_long_edition_3 : List ℕ → (p2 p3 p4 : ℕ) → Bool
+is_long_edition_3 m p2 p3 p4 = (edition_of m == 3) && (nat_lt 16777213 (length m) && (((p3 - p2) % 2 == 1) || ((p4 - p3) % 2 == 1)))
+
+-- the parts, where section 4 ends at the last four octets
+abbrev pub met : List ℕ → (p1 p2 p3 p4 : ℕ) → Result Sections SectionFault
+met m p1 p2 p3 p4 =
+    if not (p4 == (length m - 4)) then Err SectionsEnd
+    else if is_long_edition_3 m p2 p3 p4 then Err Edition3Long
+    else Ok (parts m p1 p2 p3 p4)
+
 -- the sections of a message, or the first fault: the edition goes before all, then the sections in their order, then the end
 unfoldable pub sections_of : List ℕ → Result Sections SectionFault
-sections_of m = if not (slice_index m 7 == 4) then Err (Edition (slice_index m 7)) else do
-  p1 ← section_end m 1 22 8
+sections_of m = if not (is_edition (edition_of m)) then Err (Edition (edition_of m)) else do
+  p1 ← section_end m 1 (first_least (edition_of m)) 8
   p2 ← (if has_section2 m then section_end m 2 4 p1 else Ok p1)
   p3 ← section_end m 3 7 p2
   p4 ← section_end m 4 4 p3
-  if p4 == (length m - 4) then Ok (parts m p1 p2 p3 p4) else Err SectionsEnd
+  met m p1 p2 p3 p4
 
 -- what a function answers, seen by view, is what is stated
 abbrev pub Gives : {X Y : Type 0} → (X → Y) → Result X SectionFault → Result Y SectionFault → Type 0

@@ -1,9 +1,10 @@
 //! Where the sections of a message end.
 ghost use Rattle.std.specs.Prelude.{◌≡◌, ◌≤◌, ◌<◌, ◌+◌, ◌-◌, ◌^◌, ℕ, length, Ok, IfOk, IsTrue, if◌then◌else◌};
-ghost use Rattle.bufr_frame.specs.Sections.{section_end, sections_of, parts, Gives, has_section2};
+ghost use Rattle.bufr_frame.specs.Section1.{Flags, first_least, is_edition, value_in};
+ghost use Rattle.bufr_frame.specs.Sections.{edition_of, slots_in, section_end, sections_of, parts, Gives, has_section2, is_long_edition_3};
 
 use crate::fault::SectionFault;
-use crate::least::{SECTION_0, SECTION_1, SECTION_2, SECTION_3, SECTION_4, SECTION_5};
+use crate::least::{SECTION_0, SECTION_2, SECTION_3, SECTION_4, SECTION_5, section_1};
 use crate::octets::three_at;
 
 /// The places behind the last octets of sections 1 to 4, from 0. A section 2 that is not there
@@ -14,7 +15,7 @@ pub(crate) struct Ends {
     pub(crate) second: usize,
     pub(crate) third: usize,
     pub(crate) fourth: usize,
-    ghost ordered: { (30 ≤ first) × (first ≤ second) × (second + 7 ≤ third) × (third + 4 ≤ fourth) },
+    ghost ordered: { (25 ≤ first) × (first ≤ second) × (second + 7 ≤ third) × (third + 4 ≤ fourth) },
     ghost near: { fourth < 2 ^ 34 },
     ghost short: { fourth < third + 2 ^ 24 },
 }
@@ -43,6 +44,22 @@ fn section_end_at(m: &[u8], k: u8, least: usize, p: usize) -> Result<usize, Sect
     Ok(p + len)
 }
 
+/// The flags of section 1.
+fn flags_at(m: &[u8]) -> u8
+    requires { 18 ≤ length m.now }
+    ensures { result ≡ value_in (slots_in m.now) m.now 11 Flags }
+{
+    if m[7] == 3 { m[15] } else { m[17] }
+}
+
+/// Whether there is a section 2.
+pub(crate) fn has_second(m: &[u8]) -> bool
+    requires { 18 ≤ length m.now }
+    ensures { result ≡ has_section2 m.now }
+{
+    flags_at(m) >= 128
+}
+
 /// Where section 2 ends, if there is one, or else section 1.
 fn second_end(m: &[u8], first: usize) -> Result<usize, SectionFault>
     requires long { 18 ≤ length m.now }
@@ -53,11 +70,32 @@ fn second_end(m: &[u8], first: usize) -> Result<usize, SectionFault>
     ensures section2 { IsTrue (has_section2 m.now) → IfOk result (λ q. first + 4 ≤ q) }
     ensures most { IfOk result (λ q. q < 2 ^ 32) }
 {
-    if m[17] >= 128 {
+    if has_second(m) {
         section_end_at(m, 2, SECTION_2, first)
     } else {
         Ok(first)
     }
+}
+
+/// The most octets of a message of edition 3 of which a section is odd: with both sections made
+/// even its length can still be stated.
+const MOST_ODD: usize = 16_777_213;
+
+/// Whether a message of edition 3, whose sections end there, is too long to have even sections.
+fn is_long(m: &[u8], second: usize, third: usize, fourth: usize) -> bool
+    requires long { 8 ≤ length m.now }
+    requires third { second ≤ third }
+    requires fourth { third ≤ fourth }
+    ensures { result ≡ is_long_edition_3 m.now second third fourth }
+{
+    m[7] == 3 && m.len() > MOST_ODD && ((third - second) % 2 == 1 || (fourth - third) % 2 == 1)
+}
+
+/// Whether messages of this edition are read.
+fn is_known(edition: u8) -> bool
+    ensures { result ≡ is_edition edition }
+{
+    edition == 3 || edition == 4
 }
 
 /// Where the sections of `m` end, or the first fault.
@@ -66,17 +104,21 @@ pub(crate) fn ends_of(m: &[u8]) -> Result<Ends, SectionFault>
     requires long { 12 ≤ length m.now }
     ensures value { Gives (λ e. parts m.now e.first e.second e.third e.fourth) result (sections_of m.now) }
     ensures within { IfOk result (λ e. e.fourth ≤ length m.now - 4) }
+    ensures first { IfOk result (λ e. 8 + first_least (edition_of m.now) ≤ e.first) }
     ensures section2 { IfOk result (λ e. IsTrue (has_section2 m.now) → e.first + 4 ≤ e.second) }
 {
-    if m[7] != 4 {
+    if !is_known(m[7]) {
         return Err(SectionFault::Edition(m[7]));
     }
-    let first = section_end_at(m, 1, SECTION_1, SECTION_0)?;
+    let first = section_end_at(m, 1, section_1(m[7]), SECTION_0)?;
     let second = second_end(m, first)?;
     let third = section_end_at(m, 3, SECTION_3, second)?;
     let fourth = section_end_at(m, 4, SECTION_4, third)?;
     if fourth != m.len() - SECTION_5 {
         return Err(SectionFault::SectionsEnd);
+    }
+    if is_long(m, second, third, fourth) {
+        return Err(SectionFault::Edition3Long);
     }
     Ok(Ends {
         first,

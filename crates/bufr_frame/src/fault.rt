@@ -22,7 +22,7 @@ pub enum Cause {
 /// Why a message cannot be taken apart.
 #[derive(Clone, Copy, Debug, PartialEq, Eq, Error)]
 pub enum SectionFault {
-    /// The edition is another one than 4.
+    /// The edition is another one than 3 or 4.
     #[error("edition {0} is not read")]
     Edition(u8),
     /// This section is shorter than its fixed octets.
@@ -34,6 +34,10 @@ pub enum SectionFault {
     /// Section 4 does not end where section 5 begins.
     #[error("section 4 does not end where section 5 begins")]
     SectionsEnd,
+    /// A message of edition 3 of more than 16,777,213 octets, section 3 or 4 of which has an odd
+    /// number of them: with even sections, as they are written, its length might not be stated.
+    #[error("a message of edition 3 with odd sections is too long")]
+    Edition3Long,
 }
 
 /// What ends a run.
@@ -84,7 +88,7 @@ impl SectionFault {
     ghost use Rattle.std.specs.Prelude.{◌≡◌};
     ghost use Rattle.bufr_frame.specs.Numbers.{number_of_section_fault};
 
-    /// Its number, 10 to 13.
+    /// Its number, 10 to 14.
     pub fn number(self) -> u8
         ensures { result ≡ number_of_section_fault self }
     {
@@ -93,6 +97,7 @@ impl SectionFault {
             SectionFault::SectionShort(_) => 11,
             SectionFault::SectionPast(_) => 12,
             SectionFault::SectionsEnd => 13,
+            SectionFault::Edition3Long => 14,
         }
     }
 }

@@ -1,40 +1,41 @@
 //! What section 1 says.
 
-/// The edition (octet 8 of section 0) and octets 4 to 22 of section 1 of a message, as they stand.
+/// The edition (octet 8 of section 0) and what section 1 of a message says, as it stands.
 ///
-/// Values are not checked against each other: a month of 14 is kept. (WMO-No. 306, Volume I.2,
-/// FM 94, section 1)
+/// Values are not checked against each other: a month of 14 is kept. In edition 3 centre,
+/// sub-centre and year have one octet each, and the local sub-category and the second, which it
+/// lacks, are 0. (WMO-No. 306, Volume I.2, FM 94, section 1)
 #[derive(Clone, Copy, Debug, PartialEq, Eq)]
 pub struct Head {
     /// The edition of FM 94, octet 8 of section 0.
     pub edition: u8,
     /// The master table, octet 4.
     pub master: u8,
-    /// The originating centre, octets 5 and 6.
+    /// The originating centre, octets 5 and 6; in edition 3 octet 6.
     pub centre: u16,
-    /// The originating sub-centre, octets 7 and 8.
+    /// The originating sub-centre, octets 7 and 8; in edition 3 octet 5.
     pub subcentre: u16,
-    /// The update sequence number, octet 9.
+    /// The update sequence number, octet 9; in edition 3 octet 7.
     pub update: u8,
-    /// The data category, octet 11.
+    /// The data category, octet 11; in edition 3 octet 9.
     pub category: u8,
-    /// The international data sub-category, octet 12.
+    /// The international data sub-category, octet 12; in edition 3 the data sub-category, octet 10.
     pub subcategory: u8,
     /// The local data sub-category, octet 13.
     pub local_subcategory: u8,
-    /// The version of the master table, octet 14.
+    /// The version of the master table, octet 14; in edition 3 octet 11.
     pub master_version: u8,
-    /// The version of the local tables, octet 15.
+    /// The version of the local tables, octet 15; in edition 3 octet 12.
     pub local_version: u8,
-    /// The year, four digits, octets 16 and 17.
+    /// The year, four digits, octets 16 and 17; in edition 3 the year of the century, octet 13.
     pub year: u16,
-    /// The month, octet 18.
+    /// The month, octet 18; in edition 3 octet 14.
     pub month: u8,
-    /// The day, octet 19.
+    /// The day, octet 19; in edition 3 octet 15.
     pub day: u8,
-    /// The hour, octet 20.
+    /// The hour, octet 20; in edition 3 octet 16.
     pub hour: u8,
-    /// The minute, octet 21.
+    /// The minute, octet 21; in edition 3 octet 17.
     pub minute: u8,
     /// The second, octet 22.
     pub second: u8,

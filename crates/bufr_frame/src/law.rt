@@ -1,15 +1,16 @@
 //! Laws on what calls say together: the events of a stream, and messages written again.
-ghost use Rattle.std.specs.Prelude.{◌≡◌, List, [], ◌+◌, ◌++◌, ℕ, Option, Result, Ok, ◌≤◌, length, true, false};
+ghost use Rattle.std.specs.Prelude.{◌≡◌, List, [], ◌+◌, ◌++◌, ℕ, Option, Result, Ok, ◌<◌, ◌≤◌, Bool, length, slice_index, true, false};
 ghost use Rattle.bufr_frame.specs.Scan.{Happening, scan, scan_from, open_scan};
 ghost use Rattle.bufr_frame.specs.Look.{Advances, NoneDecided};
 ghost use Rattle.bufr_frame.specs.Longest.{longest_of, first_event};
 ghost use Rattle.bufr_frame.specs.Finding.{State, fresh, StepSo, SeesSo, IsDone};
 ghost use Rattle.bufr_frame.specs.Next.{NextSo, HoldsSo};
-ghost use Rattle.bufr_frame.specs.Layout.{parts_in, message_size, message_octets};
+ghost use Rattle.bufr_frame.specs.Layout.{IsFitting, evened, is_writable, longer, message_octets, message_size, most_octets, parts_in, parts_of, size_from};
 ghost use Rattle.bufr_frame.specs.Plain.{IsPlain};
 ghost use Rattle.bufr_frame.specs.Sections.{Sections, sections_of};
 ghost use Rattle.bufr_frame.specs.declared.fault.RunFault.{RunFault};
 ghost use Rattle.bufr_frame.specs.declared.finder.Event.{Event};
+ghost use Rattle.bufr_frame.specs.declared.head.Head.{Head};
 
 /// The events that are certain while the end is not known stay the first ones, whatever comes
 /// behind.
@@ -66,13 +67,36 @@ pub fn done_comes_again()
         → NextSo left left' reads reads' old new result → IsDone old → (result ≡ Ok Event.Done) × (new.reads ≡ old.reads) }
 {}
 
-/// A message that is written from the parts of another one is no longer than it.
+/// A message that is written from the parts of another one is no longer than it, but that in
+/// edition 3 up to two octets make sections 3 and 4 even.
 pub fn written_again_is_no_longer()
-    ensures { (m : List ℕ) (s : Sections) → sections_of m ≡ Ok s → message_size (parts_in s) ≤ length m }
+    ensures { (m : List ℕ) (s : Sections) → sections_of m ≡ Ok s → message_size s.head.edition (parts_in s) ≤ length m + longer s.head.edition }
+{}
+
+/// A message that is written from the parts of another one is not too long.
+pub fn written_again_is_not_too_long()
+    ensures { (m : List ℕ) (s : Sections) → sections_of m ≡ Ok s → length m ≤ most_octets → message_size s.head.edition (parts_in s) ≤ most_octets }
 {}
 
 /// A message whose reserved octets and bits are zero, and in whose section 3 no octet is left over,
-/// has the same octets when it is written from its own parts.
+/// has the same octets when it is written from its own parts; in edition 3 sections 3 and 4 have an
+/// even number of octets, and the one that is left over in section 3 is zero.
 pub fn plain_messages_are_written_again()
     ensures { (m : List ℕ) (s : Sections) → IsPlain m → sections_of m ≡ Ok s → message_octets s.head (parts_in s) ≡ m }
+{}
+
+/// The head of a message fits its edition, and so can be written.
+pub fn heads_of_messages_can_be_written()
+    ensures { (m : List ℕ) (s : Sections) → ((place : ℕ) → slice_index m place < 256) → sections_of m ≡ Ok s → IsFitting s.head × (is_writable s.head ≡ true) }
+{}
+
+/// A payload that was followed by the octet that makes section 4 even is laid out as without it.
+pub fn even_payloads_are_laid_out_alike()
+    ensures { (h : Head) (local1 : List ℕ) (section2 : Option (List ℕ)) (descriptors : List ℕ) (subsets : ℕ) (observed compressed : Bool) (payload : List ℕ)
+        → message_octets h (parts_of local1 section2 descriptors subsets observed compressed (evened h.edition 4 payload)) ≡ message_octets h (parts_of local1 section2 descriptors subsets observed compressed payload) }
+{}
+
+/// A shorter payload makes no longer message.
+pub fn shorter_payloads_make_no_longer_messages()
+    ensures { (edition local1 : ℕ) (section2 : Option (List ℕ)) (descriptors n k most : ℕ) → n ≤ k → size_from edition local1 section2 descriptors k ≤ most → size_from edition local1 section2 descriptors n ≤ most }
 {}

@@ -1,18 +1,19 @@
 //! A message taken apart into its sections.
 ghost use Rattle.std.specs.Prelude.{◌≡◌, ◌≤◌, ◌+◌, length, IsTrue, Some, None, slice_range, if◌then◌else◌};
 ghost use Rattle.std.specs.Option.{option_map};
-ghost use Rattle.bufr_frame.specs.Sections.{head_of, has_section2};
+ghost use Rattle.bufr_frame.specs.Section1.{first_least, head_in, slots_3, slots_4};
+ghost use Rattle.bufr_frame.specs.Sections.{edition_of, head_of, has_section2};
 
-use crate::ends::{Ends, ends_of};
+use crate::ends::{Ends, ends_of, has_second};
 use crate::fault::SectionFault;
 use crate::head::Head;
-use crate::least::{SECTION_0, SECTION_1, SECTION_2, SECTION_3, SECTION_4};
+use crate::least::{SECTION_0, SECTION_2, SECTION_3, SECTION_4, section_1};
 use crate::octets::two_at;
 use crate::words::Words;
 use bufr_bits::BitSlice;
 use std::marker::Model;
 
-/// A message of edition 4, taken apart. It borrows its octets.
+/// A message of edition 3 or 4, taken apart. It borrows its octets.
 ///
 /// ```
 /// if let Event::Frame(offset, octets) = finder.next(&mut input)? {
@@ -61,10 +62,35 @@ impl<'a> Model for Message<'a> {
     ghost invariant = { λ m. length m.payload.now < 2 ^ 24 };
 }
 
-/// What octet 8 of section 0 and octets 4 to 22 of section 1 say.
-fn head_at(m: &[u8]) -> Head
+/// The edition and section 1 of edition 3, without its length, flags and local use.
+fn head_3(m: &[u8]) -> Head
+    requires { 25 ≤ length m.now }
+    ensures { result ≡ head_in (edition_of m.now) slots_3 m.now 11 }
+{
+    Head {
+        edition: m[7],
+        master: m[11],
+        subcentre: u16::from(m[12]),
+        centre: u16::from(m[13]),
+        update: m[14],
+        category: m[16],
+        subcategory: m[17],
+        local_subcategory: 0,
+        master_version: m[18],
+        local_version: m[19],
+        year: u16::from(m[20]),
+        month: m[21],
+        day: m[22],
+        hour: m[23],
+        minute: m[24],
+        second: 0,
+    }
+}
+
+/// The edition and section 1 of edition 4, without its length, flags and local use.
+fn head_4(m: &[u8]) -> Head
     requires { 30 ≤ length m.now }
-    ensures { result ≡ head_of m.now }
+    ensures { result ≡ head_in (edition_of m.now) slots_4 m.now 11 }
 {
     Head {
         edition: m[7],
@@ -86,6 +112,15 @@ fn head_at(m: &[u8]) -> Head
     }
 }
 
+/// What octet 8 of section 0 and section 1 behind its length say.
+fn head_at(m: &[u8]) -> Head
+    requires long { 8 ≤ length m.now }
+    requires first { 8 + first_least (edition_of m.now) ≤ length m.now }
+    ensures { result ≡ head_of m.now }
+{
+    if m[7] == 3 { head_3(m) } else { head_4(m) }
+}
+
 /// The octets of section 2 from its octet 5 on, where it is there.
 fn section2_of(m: &[u8], first: usize, second: usize) -> Option<&[u8]>
     requires long { 18 ≤ length m.now }
@@ -93,7 +128,7 @@ fn section2_of(m: &[u8], first: usize, second: usize) -> Option<&[u8]>
     requires section2 { IsTrue (has_section2 m.now) → first + 4 ≤ second }
     ensures { option_map (λ s. s.now) result ≡ (if has_section2 m.now then Some (slice_range m.now (first + 4) second) else None) }
 {
-    if m[17] >= 128 {
+    if has_second(m) {
         Some(&m[first + SECTION_2..second])
     } else {
         None
@@ -112,12 +147,13 @@ impl<'a> Message<'a> {
     ///
     /// # Errors
     ///
-    /// The first that holds: [`SectionFault::Edition`] for another edition than 4; then for
-    /// sections 1, 2 (where bit 1 of octet 10 of section 1 is set), 3 and 4 in turn
+    /// The first that holds: [`SectionFault::Edition`] for another edition than 3 or 4; then for
+    /// sections 1, 2 (where bit 1 of the flags of section 1 is set), 3 and 4 in turn
     /// [`SectionFault::SectionPast`] where the section's length octets or its octets reach past
-    /// the last four octets, and [`SectionFault::SectionShort`] where its length is under 22, 4, 7
-    /// or 4; at last [`SectionFault::SectionsEnd`] where section 4 does not end at the last four
-    /// octets.
+    /// the last four octets, and [`SectionFault::SectionShort`] where its length is under 22 (17 in
+    /// edition 3), 4, 7 or 4; [`SectionFault::SectionsEnd`] where section 4 does not end at the last
+    /// four octets; at last, in edition 3, [`SectionFault::Edition3Long`] where section 3 or 4 has an
+    /// odd number of octets and the message more than 16,777,213.
     pub fn parse(octets: &'a [u8]) -> Result<Message<'a>, SectionFault>
         requires { 12 ≤ length octets.now }
         ensures { result ≡ sections_of octets.now }
@@ -129,6 +165,7 @@ impl<'a> Message<'a> {
     /// The message whose sections end there.
     fn between(octets: &'a [u8], ends: Ends) -> Message<'a>
         requires within { ends.fourth ≤ length octets.now }
+        requires first { 8 + first_least (edition_of octets.now) ≤ ends.first }
         requires section2 { IsTrue (has_section2 octets.now) → ends.first + 4 ≤ ends.second }
         ensures { result ≡ parts octets.now ends.first ends.second ends.third ends.fourth }
     {
@@ -136,7 +173,7 @@ impl<'a> Message<'a> {
         Message {
             octets,
             head: head_at(octets),
-            local1: &octets[SECTION_0 + SECTION_1..ends.first],
+            local1: &octets[SECTION_0 + section_1(octets[7])..ends.first],
             section2: section2_of(octets, ends.first, ends.second),
             descriptors: &octets[ends.second + SECTION_3..ends.third],
             subsets: two_at(octets, ends.second + 4),
@@ -146,14 +183,14 @@ impl<'a> Message<'a> {
         }
     }
 
-    /// The edition and what octets 4 to 22 of section 1 say.
+    /// The edition and what section 1 says.
     pub fn head(&self) -> Head
         ensures { result ≡ self.now.head }
     {
         self.head
     }
 
-    /// The octets of section 1 for local use, from its octet 23 on.
+    /// The octets of section 1 for local use, from its octet 23 on, in edition 3 from octet 18 on.
     pub fn local1(&self) -> &'a [u8]
         ensures { result.now ≡ self.now.local1 }
     {

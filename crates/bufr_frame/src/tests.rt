@@ -28,6 +28,20 @@ const COMPRESSED: [u8; 50] = [
     0x37, 0x37,
 ];
 
+/// A message of edition 3 with one block number, 46 octets.
+const EDITION_3: [u8; 46] = [
+    0x42, 0x55, 0x46, 0x52, 0x00, 0x00, 0x2E, 0x03, 0x00, 0x00, 0x12, 0x00, 0x00, 0x62, 0x00, 0x00,
+    0x00, 0x00, 0x0E, 0x00, 0x18, 0x01, 0x02, 0x03, 0x04, 0x00, 0x00, 0x00, 0x0A, 0x00, 0x00, 0x01,
+    0x80, 0x01, 0x01, 0x00, 0x00, 0x00, 0x06, 0x00, 0x14, 0x00, 0x37, 0x37, 0x37, 0x37,
+];
+
+/// The same with odd sections 3 and 4, 44 octets.
+const EDITION_3_ODD: [u8; 44] = [
+    0x42, 0x55, 0x46, 0x52, 0x00, 0x00, 0x2C, 0x03, 0x00, 0x00, 0x12, 0x00, 0x00, 0x62, 0x00, 0x00,
+    0x00, 0x00, 0x0E, 0x00, 0x18, 0x01, 0x02, 0x03, 0x04, 0x00, 0x00, 0x00, 0x09, 0x00, 0x00, 0x01,
+    0x80, 0x01, 0x01, 0x00, 0x00, 0x05, 0x00, 0x14, 0x37, 0x37, 0x37, 0x37,
+];
+
 /// The octets that the parts of a message give when they are written.
 fn written_again(alloc: Global, octets: &[u8]) -> Result<Option<Vec<u8>>, Fail> {
     if octets.len() < 12 {
@@ -37,7 +51,9 @@ fn written_again(alloc: Global, octets: &[u8]) -> Result<Option<Vec<u8>>, Fail> 
         return Ok(None);
     };
     let head = message.head();
-    if head.edition != 4 {
+    let fits = head.centre <= 255 && head.subcentre <= 255 && head.year <= 255;
+    let lacks = head.local_subcategory == 0 && head.second == 0;
+    if !(head.edition == 4 || head.edition == 3 && fits && lacks) {
         return Ok(None);
     }
     let mut descriptors = Vec::new(alloc);
@@ -73,9 +89,41 @@ fn parts_written_again(rt: HostRuntime) -> Result<(), Fail> {
         ONE_BLOCK_NUMBER.as_slice(),
         LOCAL_USE.as_slice(),
         COMPRESSED.as_slice(),
+        EDITION_3.as_slice(),
     ] {
         let again = written_again(rt.alloc(), octets)?.expect(&rt, "a message");
         assert_eq!(rt; again.as_slice(), octets);
+    }
+    Ok(())
+}
+
+#[test]
+fn odd_sections_are_made_even(rt: HostRuntime) -> Result<(), Fail> {
+    let again = written_again(rt.alloc(), &EDITION_3_ODD)?.expect(&rt, "a message");
+    assert_eq!(rt; again.as_slice(), EDITION_3.as_slice());
+    Ok(())
+}
+
+#[test]
+fn odd_sections_of_long_messages_are_refused(rt: HostRuntime) -> Result<(), Fail> {
+    let mut octets = vec![in rt.alloc(); 0u8; 16_777_214]?;
+    for (third, fits) in [(9u8, false), (10, true)] {
+        assert!(rt; octets.len() == 16_777_214);
+        octets[7] = 3;
+        octets[10] = 18;
+        octets[28] = third;
+        let at = 26 + usize::from(third);
+        let fourth = 16_777_214 - 4 - at;
+        octets[at] = (fourth / 65_536) as u8;
+        octets[at + 1] = (fourth / 256 % 256) as u8;
+        octets[at + 2] = (fourth % 256) as u8;
+        match Message::parse(&octets) {
+            Ok(message) => assert!(rt; fits && message.length() == 16_777_214),
+            Err(fault) => {
+                assert!(rt; !fits && fault == SectionFault::Edition3Long, "{fault:?}");
+                assert!(rt; fault.number() == 14);
+            }
+        }
     }
     Ok(())
 }
@@ -134,9 +182,28 @@ fn reads_a_message(rt: HostRuntime) -> Result<(), Fail> {
 }
 
 #[test]
+fn reads_a_message_of_edition_3(rt: HostRuntime) -> Result<(), Fail> {
+    let message = Message::parse(&EDITION_3_ODD).expect(&rt, "a message");
+    let head = message.head();
+    assert!(rt; head.edition == 3 && head.master == 0 && head.centre == 98 && head.subcentre == 0);
+    assert!(rt; head.update == 0 && head.category == 0 && head.subcategory == 0);
+    assert!(rt;
+        head.local_subcategory == 0 && head.master_version == 14 && head.local_version == 0
+    );
+    assert!(rt; head.year == 24 && head.month == 1 && head.day == 2);
+    assert!(rt; head.hour == 3 && head.minute == 4 && head.second == 0);
+    assert_eq!(rt; message.local1(), b"\0".as_slice());
+    assert!(rt; message.section2() == None && message.length() == 44);
+    assert!(rt; message.descriptor(0) == Some(0x0101) && message.descriptor(1) == None);
+    assert!(rt; message.subsets() == 1 && message.observed() && !message.compressed());
+    assert!(rt; message.payload().len_bits() == 8 && message.payload().octet(0) == Some(0x14));
+    Ok(())
+}
+
+#[test]
 fn refuses_a_message(rt: HostRuntime) -> Result<(), Fail> {
     let faults: [(&[(usize, u8)], SectionFault); 8] = [
-        (&[(7, 3)], SectionFault::Edition(3)),
+        (&[(7, 2)], SectionFault::Edition(2)),
         (&[(10, 21)], SectionFault::SectionShort(1)),
         (&[(10, 40)], SectionFault::SectionPast(1)),
         (&[(41, 4)], SectionFault::SectionsEnd),

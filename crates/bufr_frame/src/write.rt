@@ -1,13 +1,14 @@
 //! A message written from its parts.
-ghost use Rattle.std.specs.Prelude.{◌≡◌, ◌≤◌, ◌<◌, ◌+◌, ◌*◌, ◌/◌, ◌%◌, ◌^◌, ◌↔◌, ◌++◌, ◌∷◌, [], length, IfOk, OnOk, Ok, Err, Some, SomeIff, codes, if◌then◌else◌};
+ghost use Rattle.std.specs.Prelude.{◌≡◌, ◌≢◌, ◌≤◌, ◌<◌, ◌+◌, ◌*◌, ◌/◌, ◌%◌, ◌^◌, ◌↔◌, ◌==◌, ◌&&◌, ◌++◌, ◌∷◌, [], length, IfOk, OnOk, Ok, Err, Some, SomeIff, IsTrue, codes, if◌then◌else◌};
 ghost use Rattle.std.specs.Option.{option_map};
 ghost use Rattle.bufr_frame.specs.Octets.{three_octets, two_octets, octets_of_words};
 ghost use Rattle.bufr_frame.specs.Sections.{sections_of};
-ghost use Rattle.bufr_frame.specs.Layout.{head_octets, data_flags, message_octets, message_size, most_octets, parts_of, sections_from, section0_octets, section1_octets, section2_octets, section3_octets, section4_octets, section2_size, size_from};
+ghost use Rattle.bufr_frame.specs.Layout.{data_flags, even_size, evened, is_writable, message_octets, message_size, most_octets, parts_of, sections_from, head_octets, section0_octets, section1_octets, section2_octets, section3_octets, section4_octets, section2_size, size_from};
+ghost use Rattle.bufr_frame.specs.Section1.{first_least, octets_in, said, slots_3, slots_4};
 
 use crate::fault::WriteFault;
 use crate::head::Head;
-use crate::least::{MESSAGE, SECTION_1, SECTION_2, SECTION_3, SECTION_4};
+use crate::least::{SECTION_0, SECTION_2, SECTION_3, SECTION_4, SECTION_5, even_len, section_1};
 use crate::octets::{high, low, three_octets_of};
 use std::alloc::{AllocError, Global};
 
@@ -16,23 +17,26 @@ const MOST_OCTETS: usize = 16_777_215;
 
 /// How many octets the message has, where they are not too many.
 fn size_of(
+    edition: u8,
     local1: &[u8],
     section2: Option<&[u8]>,
     descriptors: &[u16],
     payload: &[u8],
 ) -> Option<usize>
-    ensures { SomeIff result (size_from (length local1.now) (option_map (λ s. s.now) section2.entry) (length descriptors.now) (length payload.now) ≤ most_octets)
-        (size_from (length local1.now) (option_map (λ s. s.now) section2.entry) (length descriptors.now) (length payload.now)) }
+    ensures { SomeIff result (size_from edition (length local1.now) (option_map (λ s. s.now) section2.entry) (length descriptors.now) (length payload.now) ≤ most_octets)
+        (size_from edition (length local1.now) (option_map (λ s. s.now) section2.entry) (length descriptors.now) (length payload.now)) }
 {
     let second = match section2 {
         None => 0,
         Some(octets) => octets.len().saturating_add(SECTION_2),
     };
-    let size = second
+    let third = even_len(edition, SECTION_3 + 2 * descriptors.len());
+    let fourth = even_len(edition, SECTION_4 + payload.len());
+    let size = (SECTION_0 + SECTION_5 + section_1(edition))
         .saturating_add(local1.len())
-        .saturating_add(descriptors.len().saturating_mul(2))
-        .saturating_add(payload.len())
-        .saturating_add(MESSAGE);
+        .saturating_add(second)
+        .saturating_add(third)
+        .saturating_add(fourth);
     if size > MOST_OCTETS { None } else { Some(size) }
 }
 
@@ -44,9 +48,34 @@ fn push_three(octets: &mut Vec<u8>, n: usize) -> Result<(), AllocError>
     octets.extend_from_slice(&three_octets_of(n))
 }
 
-/// Octets 4 to 22 of section 1.
-fn head_octets_of(head: &Head, optional: bool) -> [u8; 19]
-    ensures { result ≡ head_octets head.now optional }
+/// Section 1 of edition 3 behind its length.
+fn head_octets_3(head: &Head, optional: bool) -> [u8; 14]
+    requires centre { head.now.centre ≤ 255 }
+    requires subcentre { head.now.subcentre ≤ 255 }
+    requires year { head.now.year ≤ 255 }
+    ensures { result ≡ octets_in slots_3 (said head.now optional) }
+{
+    [
+        head.master,
+        head.subcentre as u8,
+        head.centre as u8,
+        head.update,
+        if optional { 128 } else { 0 },
+        head.category,
+        head.subcategory,
+        head.master_version,
+        head.local_version,
+        head.year as u8,
+        head.month,
+        head.day,
+        head.hour,
+        head.minute,
+    ]
+}
+
+/// Section 1 of edition 4 behind its length.
+fn head_octets_4(head: &Head, optional: bool) -> [u8; 19]
+    ensures { result ≡ octets_in slots_4 (said head.now optional) }
 {
     [
         head.master,
@@ -71,6 +100,18 @@ fn head_octets_of(head: &Head, optional: bool) -> [u8; 19]
     ]
 }
 
+/// Appends section 1 behind its length and before its local use.
+fn push_head(octets: &mut Vec<u8>, head: &Head, optional: bool) -> Result<(), AllocError>
+    requires { IsTrue (is_writable head.now) }
+    ensures { OnOk result (octets.new.items ≡ octets.old.items ++ head_octets head.now optional) }
+{
+    if head.edition == 3 {
+        octets.extend_from_slice(&head_octets_3(head, optional))
+    } else {
+        octets.extend_from_slice(&head_octets_4(head, optional))
+    }
+}
+
 /// Appends section 1.
 fn push_section1(
     octets: &mut Vec<u8>,
@@ -78,11 +119,12 @@ fn push_section1(
     local1: &[u8],
     optional: bool,
 ) -> Result<(), AllocError>
-    requires { 22 + length local1.now < 2 ^ 24 }
+    requires writable { IsTrue (is_writable head.now) }
+    requires short { first_least head.now.edition + length local1.now < 2 ^ 24 }
     ensures { OnOk result (octets.new.items ≡ octets.old.items ++ section1_octets head.now local1.now optional) }
 {
-    push_three(octets, SECTION_1 + local1.len())?;
-    octets.extend_from_slice(&head_octets_of(head, optional))?;
+    push_three(octets, section_1(head.edition) + local1.len())?;
+    push_head(octets, head, optional)?;
     octets.extend_from_slice(local1)
 }
 
@@ -120,16 +162,41 @@ fn push_words(octets: &mut Vec<u8>, words: &[u16]) -> Result<(), AllocError>
 /// Appends section 3.
 fn push_section3(
     octets: &mut Vec<u8>,
+    edition: u8,
     descriptors: &[u16],
     subsets: u16,
     flags: u8,
 ) -> Result<(), AllocError>
-    requires { 7 + 2 * length descriptors.now < 2 ^ 24 }
-    ensures { OnOk result (octets.new.items ≡ octets.old.items ++ section3_octets descriptors.now subsets flags) }
+    requires { even_size edition (7 + 2 * length descriptors.now) < 2 ^ 24 }
+    ensures { OnOk result (octets.new.items ≡ octets.old.items ++ section3_octets (evened edition 7 (octets_of_words descriptors.now)) subsets flags) }
 {
-    push_three(octets, SECTION_3 + 2 * descriptors.len())?;
+    let len = SECTION_3 + 2 * descriptors.len();
+    push_three(octets, even_len(edition, len))?;
     octets.extend_from_slice(&[0, high(subsets), low(subsets), flags])?;
-    push_words(octets, descriptors)
+    push_words(octets, descriptors)?;
+    push_even(octets, edition, len)
+}
+
+/// Appends the octet that makes a section of edition 3 even, where it has so many.
+fn push_even(octets: &mut Vec<u8>, edition: u8, len: usize) -> Result<(), AllocError>
+    ensures { OnOk result (octets.new.items ≡ octets.old.items ++ (if (edition == 3) && (len % 2 == 1) then 0 ∷ [] else [])) }
+{
+    if edition == 3 && len % 2 == 1 {
+        octets.push(0)?;
+    }
+    Ok(())
+}
+
+/// Appends section 4.
+fn push_section4(octets: &mut Vec<u8>, edition: u8, payload: &[u8]) -> Result<(), AllocError>
+    requires { even_size edition (4 + length payload.now) < 2 ^ 24 }
+    ensures { OnOk result (octets.new.items ≡ octets.old.items ++ section4_octets (evened edition 4 payload.now)) }
+{
+    let len = SECTION_4 + payload.len();
+    push_three(octets, even_len(edition, len))?;
+    octets.push(0)?;
+    octets.extend_from_slice(payload)?;
+    push_even(octets, edition, len)
 }
 
 /// Octet 7 of section 3.
@@ -152,11 +219,14 @@ fn push_section0(octets: &mut Vec<u8>, size: usize, edition: u8) -> Result<(), A
     Ok(())
 }
 
-/// Writes a message of edition 4 from its parts: `BUFR` first, its length in octets 5 to 7, the
-/// sections with the least lengths that hold the parts, reserved octets and bits zero, `7777` last.
-/// `local1` stands in section 1 from its octet 23 on, `section2` in section 2 from its octet 5 on,
-/// `payload` in section 4 from its octet 5 on. The condition is that `head.edition` is 4.
-/// (WMO-No. 306, Volume I.2, FM 94, sections 0 to 5)
+/// Writes a message of edition 3 or 4 from its parts: `BUFR` first, its length in octets 5 to 7,
+/// the sections with the least lengths that hold the parts, reserved octets and bits zero, `7777`
+/// last. `local1` stands in section 1 from its octet 23 on (18 in edition 3), `section2` in section 2
+/// from its octet 5 on, `payload` in section 4 from its octet 5 on. In edition 3 sections 3 and 4
+/// have an even number of octets: a zero octet is put behind the descriptors, and behind the payload
+/// where it is odd. The condition is that `head.edition` is 3 or 4, and that in edition 3 centre,
+/// sub-centre and year fit an octet and the local sub-category and the second are 0. (WMO-No. 306,
+/// Volume I.2, FM 94, sections 0 to 5)
 ///
 /// ```
 /// let message = Message::parse(octets)?;
@@ -181,13 +251,13 @@ pub fn write_message(
     compressed: bool,
     payload: &[u8],
 ) -> Result<Vec<u8>, WriteFault>
-    requires { head.now.edition ≡ 4 }
+    requires { IsTrue (is_writable head.now) }
     // The octets as they are laid out; read as a message they have the parts again.
     ensures layout { IfOk result (λ octets. octets.items ≡ message_octets head.now (parts_of local1.now (option_map (λ s. s.now) section2.entry) descriptors.now subsets observed compressed payload.now)) }
     ensures read_back { IfOk result (λ octets. sections_of octets.items ≡ Ok (sections_from head.now (parts_of local1.now (option_map (λ s. s.now) section2.entry) descriptors.now subsets observed compressed payload.now))) }
-    ensures too_long { (result ≡ Err WriteFault.TooLong) ↔ (most_octets < message_size (parts_of local1.now (option_map (λ s. s.now) section2.entry) descriptors.now subsets observed compressed payload.now)) }
+    ensures too_long { (result ≡ Err WriteFault.TooLong) ↔ (most_octets < message_size head.now.edition (parts_of local1.now (option_map (λ s. s.now) section2.entry) descriptors.now subsets observed compressed payload.now)) }
 {
-    let Some(size) = size_of(local1, section2, descriptors, payload) else {
+    let Some(size) = size_of(head.edition, local1, section2, descriptors, payload) else {
         return Err(WriteFault::TooLong);
     };
     let mut octets = Vec::with_capacity(alloc, size)?;
@@ -196,11 +266,12 @@ pub fn write_message(
     push_section2(&mut octets, section2)?;
     push_section3(
         &mut octets,
+        head.edition,
         descriptors,
         subsets,
         flags_of(observed, compressed),
     )?;
-    push_plain(&mut octets, payload)?;
+    push_section4(&mut octets, head.edition, payload)?;
     octets.extend_from_slice(b"7777")?;
     Ok(octets)
 }

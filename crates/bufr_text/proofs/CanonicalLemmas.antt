@@ -24,10 +24,12 @@ use Rattle.bufr_fill.proofs.PlainLaws.{plain_read, same_draft}
 use Rattle.bufr_fill.proofs.SameBits.{same_bits}
 use Rattle.bufr_walk.specs.Outcome.{data_of}
 use Rattle.bufr_walk.specs.Reading.{Values, IsReading}
-use Rattle.bufr_frame.specs.Layout.{message_octets, message_size, most_octets}
+use Rattle.bufr_frame.specs.Layout.{evened, message_octets, message_size, most_octets}
 use Rattle.bufr_frame.specs.Layout as layout
 use Rattle.bufr_frame.specs.Sections.{Sections}
-use Rattle.bufr_frame.proofs.AgainLemmas.{no-longer, written-again}
+use Rattle.bufr_frame.proofs.AgainLemmas.{not-too-long, written-again}
+use Rattle.bufr_frame.proofs.EvenLemmas.{even-least, laid-even}
+use Rattle.bufr_frame.proofs.LayoutLemmas.{length-evened}
 use Rattle.bufr_fill.specs.Packing.{packing}
 use Rattle.bufr_fill.specs.Draft.{Draft}
 use Rattle.bufr_fill.specs.Limits.{AreGoodRows}
@@ -43,7 +45,7 @@ use Rattle.bufr_text.specs.Dumped.{items_apart, subsets_together}
 use Rattle.bufr_text.specs.Encoded.{IsAccepted, items_in}
 use Rattle.bufr_text.specs.Encoding.{drafts_of, data_bits, octets_of_bits, parts_in, encoding_of}
 use Rattle.bufr_text.specs.Header.{compressed_in}
-use Rattle.bufr_text.proofs.EncodedLemmas.{all_apart, all_together, encoded_to, parts_back, parts_with, fills_as, bit_back}
+use Rattle.bufr_text.proofs.EncodedLemmas.{all_apart, all_together, encoded_to, parts_back, parts_with, size_least, fills_as, bit_back}
 use Rattle.bufr_text.specs.Canonical.{IsMinusZero, HaveNoMinusZero, ArePacked, AreWritten, IsCanonical}
 
 -- ---- one field of data that are not compressed
@@ -226,11 +228,16 @@ canonical_encoded table sequences m s template values used at rows legal a c =
     let course = next_item table template in
     let bits = bits_of s.payload in
     let f = data_filled table template s values used (at + lines_before s) rows legal a.read c.bits in
-    let payload : octets_of_bits f.out ≡ s.payload = ap octets_of_bits (front_is bits f.out used (within_data table template s values used a.read) f.splits) ∙ sym c.least in
-    let same : parts_in d (octets_of_bits f.out) ≡ parts_with s s.payload = parts_back at s items (octets_of_bits f.out) ∙ ap (parts_with s) payload in
-    let least : message_size (parts_with s s.payload) ≤ length m = no-longer m s a.sections in
-    let few : message_size (parts_in d (octets_of_bits f.out)) ≤ most_octets = subst (λ (p : layout.Parts). message_size p ≤ most_octets) (sym same) (omega (arith, least, a.few)) in
+    let edition = s.head.edition in
+    let made = octets_of_bits f.out in
+    let payload : s.payload ≡ evened edition 4 made = c.least ∙ ap (λ (b : List Bool). evened edition 4 (octets_of_bits b)) (sym (front_is bits f.out used (within_data table template s values used a.read) f.splits)) in
+    let same : parts_in d made ≡ parts_with s made = parts_back at s items made in
+    let short : length made ≤ length s.payload = omega (arith, ap length payload, length-evened edition 4 made, even-least edition (4 + length made)) in
+    let most : message_size edition (parts_with s made) ≤ most_octets = size_least s made most_octets short (not-too-long m s a.sections a.few) in
+    let few : message_size edition (parts_in d made) ≤ most_octets = subst (λ (p : layout.Parts). message_size edition p ≤ most_octets) (sym same) most in
     let fills : data_bits (compressed_in d) course (drafts_of d.entries) ≡ Ok f.out = fills_as (compressed_in d) s.compressed course (drafts_of d.entries) f.out (bit_back s.compressed) f.fills in
     encoded_to table sequences d template f.out a.expands fills few
     ∙ ap (λ (p : layout.Parts). Ok (message_octets s.head p)) same
-    ∙ ap Ok (written-again m s c.plain a.sections)
+    ∙ ap Ok (sym (laid-even s.head s.local1 s.section2 s.descriptors s.subsets s.observed s.compressed made)
+    ∙ ap (λ (o : List ℕ). message_octets s.head (parts_with s o)) (sym payload)
+    ∙ written-again m s c.plain a.sections)

@@ -1,7 +1,7 @@
 -- Only an `end` line makes a document whole.
 use Rattle.std.proofs.Common.{◌≡◌, ℕ, ◌+◌, ◌==◌, Bool, true, false, refl, sym, subst}
 use Rattle.std.specs.Prelude.{nat_le, not, ◌&&◌, if◌then◌else◌, length}
-use Rattle.bufr_text.specs.Document.{Document, Ends, optional_in, subsets_in}
+use Rattle.bufr_text.specs.Document.{Document, Ends, edition_in, optional_in, subsets_in}
 use Rattle.bufr_text.specs.Documents.{Place, Between, Heading, Laying, Filling, Stopped, Turn, Goes, Gives, Faults, NotAllowed, SubsetCount, HeaderRange, in_range, with_value, with_local1, with_section2, with_entry, turn}
 use Rattle.bufr_text.specs.Line.{Line, Passed, Opens, Header, Local1, Section2, Descriptors, Begins, Item, Closes, Wrong}
 
@@ -35,8 +35,8 @@ turn-end at Between Closes = tt
 turn-end at Between Wrong = tt
 turn-end at (Heading d) Passed = tt
 turn-end at (Heading d) Opens = tt
-turn-end at (Heading d) (Header key value) = either-turn (Header key value) (not (key == length d.header)) (Faults NotAllowed) (if not (in_range key value) then Faults HeaderRange else Goes (if key == 19 then Laying 0 (with_value d value) else Heading (with_value d value))) tt
-    (either-turn (Header key value) (not (in_range key value)) (Faults HeaderRange) (Goes (if key == 19 then Laying 0 (with_value d value) else Heading (with_value d value))) tt tt)
+turn-end at (Heading d) (Header key value) = either-turn (Header key value) (not (key == length d.header)) (Faults NotAllowed) (if not (in_range (edition_in d) key value) then Faults HeaderRange else Goes (if key == 19 then Laying 0 (with_value d value) else Heading (with_value d value))) tt
+    (either-turn (Header key value) (not (in_range (edition_in d) key value)) (Faults HeaderRange) (Goes (if key == 19 then Laying 0 (with_value d value) else Heading (with_value d value))) tt tt)
 turn-end at (Heading d) (Local1 octets) = tt
 turn-end at (Heading d) (Section2 octets) = tt
 turn-end at (Heading d) (Descriptors words) = tt

@@ -1,10 +1,13 @@
 -- What stands in a message is within the limits of a dump text.
-use Rattle.std.proofs.Common.{◌≡◌, ◌∙◌, ℕ, zero, suc, ◌+◌, ◌-◌, ◌<◌, Bool, true, false, List, [], ◌∷◌, length, get_or, take, drop, map, refl, sym, ap, subst, arith, Some, None, Ok}
+use Rattle.std.proofs.Common.{◌≡◌, ◌∙◌, ℕ, zero, suc, ◌+◌, ◌-◌, ◌<◌, Bool, true, false, List, [], ◌∷◌, length, take, drop, map, refl, sym, ap, subst, arith, Some, None, Ok}
 use Rattle.std.specs.Prelude.{unwrap_or, slice_index, slice_range, if◌then◌else◌}
 use Rattle.std.specs.List.{AllByRecursion}
 use Rattle.bufr_frame.specs.Octets.{two, words}
-use Rattle.bufr_frame.specs.Sections.{Sections, sections_of, head_of, has_section2, parts}
+use Rattle.bufr_frame.specs.Sections.{Sections, sections_of, edition_of, head_of, has_section2, parts}
+use Rattle.bufr_frame.specs.Layout.{IsFitting}
+use Rattle.bufr_frame.specs.Section1.{first_least}
 use Rattle.bufr_frame.proofs.AgainLemmas.{sections-ended}
+use Rattle.bufr_frame.proofs.FitLemmas.{heads-fit}
 use Rattle.bufr_walk.specs.Content.{Content}
 use Rattle.bufr_walk.specs.Outcome as outcome
 use Rattle.bufr_walk.specs.Outcome.{data_of, course_of}
@@ -12,7 +15,7 @@ use Rattle.bufr_walk.specs.Reading.{Item, Values, apart, together, IsReading}
 use Rattle.bufr_tables.specs.TableB.{Row}
 use Rattle.bufr_text.specs.Dump as dump
 use Rattle.bufr_text.specs.Dumped.{items_apart, items_of, subsets_together}
-use Rattle.bufr_text.specs.Given.{IsOctet, IsWord, IsHead, IsItem, IsDumpable}
+use Rattle.bufr_text.specs.Given.{IsOctet, IsWord, IsItem, IsDumpable}
 
 -- as many subsets as there are
 together-count : (table : List Row) (left subset : ℕ) (items : List (Item (List Content))) → length (subsets_together table left subset items) ≡ left
@@ -54,34 +57,14 @@ module _ (m : List ℕ) (octet-at : (p : ℕ) → slice_index m p < 256) where
   octets-in : (i j : ℕ) → AllByRecursion IsOctet (slice_range m i j)
   octets-in i j = all-take (j - i) (drop i m) (all-drop i m (by-recursion m octet-at))
 
-  head-is : get_or m 7 0 ≡ 4 → IsHead (head_of m)
-  head-is edition = record {
-    edition = edition;
-    master = octet-at 11;
-    centre = two-at 12;
-    subcentre = two-at 14;
-    update = octet-at 16;
-    category = octet-at 18;
-    subcategory = octet-at 19;
-    local_subcategory = octet-at 20;
-    master_version = octet-at 21;
-    local_version = octet-at 22;
-    year = two-at 23;
-    month = octet-at 25;
-    day = octet-at 26;
-    hour = octet-at 27;
-    minute = octet-at 28;
-    second = octet-at 29;
-  }
-
   section2-is : (b : Bool) (i j : ℕ) → AllByRecursion IsOctet (unwrap_or (if b then Some (slice_range m i j) else None) [])
   section2-is true i j = octets-in i j
   section2-is false i j = tt
 
-  parts-are : (p1 p2 p3 p4 : ℕ) (subsets : List (List dump.Item)) → get_or m 7 0 ≡ 4 → length subsets ≡ two m (p2 + 4) → AllByRecursion (λ items. AllByRecursion IsItem items) subsets → IsDumpable (parts m p1 p2 p3 p4) subsets
-  parts-are p1 p2 p3 p4 subsets edition count items = record {
-    head = head-is edition;
-    local1 = octets-in 30 p1;
+  parts-are : (p1 p2 p3 p4 : ℕ) (subsets : List (List dump.Item)) → IsFitting (head_of m) → length subsets ≡ two m (p2 + 4) → AllByRecursion (λ items. AllByRecursion IsItem items) subsets → IsDumpable (parts m p1 p2 p3 p4) subsets
+  parts-are p1 p2 p3 p4 subsets head count items = record {
+    head = head;
+    local1 = octets-in (8 + first_least (edition_of m)) p1;
     section2 = section2-is (has_section2 m) (p1 + 4) p2;
     descriptors = words-are (slice_range m (p2 + 7) p3) (octets-in (p2 + 7) p3);
     few = two-at (p2 + 4);
@@ -95,4 +78,4 @@ module _ (m : List ℕ) (octet-at : (p : ℕ) → slice_index m p < 256) where
       let e = sections-ended m s read in
       let P : Sections → Type 0 = λ x. IsDumpable x (items_of r values) in
       let count : length (items_of r values) ≡ two m (e.p2 + 4) = counted r values reading ∙ ap (λ d. d.subsets) source ∙ ap (λ x. x.subsets) e.is in
-      subst P (sym e.is) (parts-are e.p1 e.p2 e.p3 e.p4 (items_of r values) e.edition count items)
+      subst P (sym e.is) (parts-are e.p1 e.p2 e.p3 e.p4 (items_of r values) (subst (λ (x : Sections). IsFitting x.head) e.is (heads-fit m s octet-at read)) count items)

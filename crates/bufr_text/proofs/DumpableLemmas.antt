@@ -13,8 +13,11 @@ use Rattle.bufr_tables.specs.TableB.{Row, entry_of, is_plain, is_printed}
 use Rattle.bufr_tables.specs.TableD.{Sequence}
 use Rattle.bufr_tables.specs.Tree.{Tree}
 use Rattle.bufr_frame.specs.Octets.{two, words}
-use Rattle.bufr_frame.specs.Sections.{Sections, sections_of, parts, head_of, has_section2}
+use Rattle.bufr_frame.specs.Sections.{Sections, sections_of, parts, edition_of, head_of, has_section2}
+use Rattle.bufr_frame.specs.Layout.{IsFitting}
+use Rattle.bufr_frame.specs.Section1.{first_least}
 use Rattle.bufr_frame.proofs.AgainLemmas.{sections-ended}
+use Rattle.bufr_frame.proofs.FitLemmas.{heads-fit}
 use Rattle.bufr_walk.specs.declared.spec.Role.{Role}
 use Rattle.bufr_walk.specs.declared.spec.Role.TheVariants as role
 use Rattle.bufr_walk.specs.Asked.{Asked, IsSpec, HasWidth, HasRole}
@@ -33,7 +36,7 @@ use Rattle.bufr_fill.proofs.PackedLaws.{packed_again}
 use Rattle.bufr_fill.proofs.PlainLaws.{plain_read}
 use Rattle.bufr_text.specs.Dumped.{value_of, comment_of, item_of, items_apart, items_together, subsets_together}
 use Rattle.bufr_text.specs.Encoded.{IsAccepted, items_in}
-use Rattle.bufr_text.specs.Given.{IsOctet, IsWord, IsScale, IsValue, IsName, IsComment, IsItem, IsHead, IsDumpable}
+use Rattle.bufr_text.specs.Given.{IsOctet, IsWord, IsScale, IsValue, IsName, IsComment, IsItem, IsDumpable}
 use Rattle.bufr_text.proofs.RowsLemmas.{IsRead, found-read, good-rows}
 use Rattle.bufr_text.proofs.SpecWords.{HasWord, IsWordCourse, next_word}
 
@@ -65,29 +68,9 @@ all_words [] h = tt
 all_words (a ∷ []) h = tt
 all_words (a ∷ b ∷ more) h = (omega (arith, h.0, h.1.0), all_words more h.1.1)
 
-head_fits : (m : List ℕ) → AllByRecursion IsOctet m → slice_index m 7 ≡ 4 → IsHead (head_of m)
-head_fits m h edition = record {
-  edition = edition;
-  master = octet_at m 11 h;
-  centre = word_at m 12 h;
-  subcentre = word_at m 14 h;
-  update = octet_at m 16 h;
-  category = octet_at m 18 h;
-  subcategory = octet_at m 19 h;
-  local_subcategory = octet_at m 20 h;
-  master_version = octet_at m 21 h;
-  local_version = octet_at m 22 h;
-  year = word_at m 23 h;
-  month = octet_at m 25 h;
-  day = octet_at m 26 h;
-  hour = octet_at m 27 h;
-  minute = octet_at m 28 h;
-  second = octet_at m 29 h;
-}
-
 -- what sections give of the parts of a dump text
 pub record AreGiven (s : Sections) : Type 0 where
-  pub head : IsHead s.head
+  pub head : IsFitting s.head
   pub local1 : AllByRecursion IsOctet s.local1
   pub section2 : AllByRecursion IsOctet (unwrap_or s.section2 [])
   pub descriptors : AllByRecursion IsWord s.descriptors
@@ -97,17 +80,17 @@ optional_octets : (b : Bool) (octets : List ℕ) → AllByRecursion IsOctet octe
 optional_octets true octets h = h
 optional_octets false octets h = tt
 
-parts_given : (m : List ℕ) (p1 p2 p3 p4 : ℕ) → AllByRecursion IsOctet m → slice_index m 7 ≡ 4 → AreGiven (parts m p1 p2 p3 p4)
-parts_given m p1 p2 p3 p4 h edition = record {
-  head = head_fits m h edition;
-  local1 = all_range m 30 p1 h;
+parts_given : (m : List ℕ) (p1 p2 p3 p4 : ℕ) → AllByRecursion IsOctet m → IsFitting (head_of m) → AreGiven (parts m p1 p2 p3 p4)
+parts_given m p1 p2 p3 p4 h head = record {
+  head = head;
+  local1 = all_range m (8 + first_least (edition_of m)) p1 h;
   section2 = optional_octets (has_section2 m) (slice_range m (p1 + 4) p2) (all_range m (p1 + 4) p2 h);
   descriptors = all_words (slice_range m (p2 + 7) p3) (all_range m (p2 + 7) p3 h);
   few = word_at m (p2 + 4) h;
 }
 
 pub sections_given : (m : List ℕ) (s : Sections) → AllByRecursion IsOctet m → sections_of m ≡ Ok s → AreGiven s
-sections_given m s h e = let f = sections-ended m s e in subst AreGiven (sym f.is) (parts_given m f.p1 f.p2 f.p3 f.p4 h f.edition)
+sections_given m s h e = let f = sections-ended m s e in subst AreGiven (sym f.is) (parts_given m f.p1 f.p2 f.p3 f.p4 h (subst (λ (x : Sections). IsFitting x.head) f.is (heads-fit m s (λ i. octet_at m i h) e)))
 
 -- ---- one item
 

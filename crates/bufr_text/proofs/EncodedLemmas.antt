@@ -1,5 +1,5 @@
 -- The document of an accepted message is encoded to a message with the same reading.
-use Rattle.std.proofs.Common.{◌≡◌, ℕ, zero, suc, ◌+◌, ◌-◌, ◌*◌, ◌/◌, ◌%◌, ◌≤◌, Bool, true, false, List, [], ◌∷◌, ◌++◌, length, drop, map, Option, Some, None, Ok, Err, refl, sym, ◌∙◌, ap, subst, arith}
+use Rattle.std.proofs.Common.{◌≡◌, ℕ, zero, suc, ◌+◌, ◌-◌, ◌*◌, ◌/◌, ◌%◌, ◌≤◌, Bool, true, false, List, [], ◌∷◌, ◌++◌, length, drop, map, Option, Some, None, Ok, Err, refl, sym, ◌∙◌, ap, subst, arith, append_assoc}
 use Rattle.std.specs.Prelude.{◌==◌, nat_lt, is_some, unwrap_or, if◌then◌else◌}
 use Rattle.std.proofs.lemmas.Bool.Decides.{nat_tests}
 use Rattle.std.proofs.lemmas.List.{length-append, length-replicate, drop_at}
@@ -11,11 +11,13 @@ use Rattle.bufr_tables.specs.TableD.{Sequence}
 use Rattle.bufr_tables.specs.TemplateTables.{tables_of}
 use Rattle.bufr_tables.specs.Tree.{Tree}
 use Rattle.bufr_tables.specs.Legal.{IsLegal}
-use Rattle.bufr_frame.specs.Layout.{Parts, parts_of, message_octets, message_size, most_octets, sections_from}
+use Rattle.bufr_frame.specs.Layout.{Parts, evened, longer, parts_of, message_octets, message_size, most_octets, sections_from}
 use Rattle.bufr_frame.specs.Layout as layout
 use Rattle.bufr_frame.specs.Sections.{Sections, sections_of}
 use Rattle.bufr_frame.proofs.LayoutLemmas.{read-back}
-use Rattle.bufr_frame.proofs.AgainLemmas.{sections-ended, no-longer}
+use Rattle.bufr_frame.proofs.AgainLemmas.{sections-ended, no-longer, not-too-long}
+use Rattle.bufr_frame.proofs.EvenLemmas.{evened-bits, size-least}
+use Rattle.bufr_frame.proofs.FitLemmas.{fitting-writable}
 use Rattle.bufr_walk.specs.Content.{Content, number, text, missing, reference, shown}
 use Rattle.bufr_walk.specs.Asked.{Asked}
 use Rattle.bufr_walk.specs.Calls.{content_at}
@@ -126,12 +128,12 @@ within a b h = grind (arith, nat_tests)
 
 pub encoded_to : (table : List Row) (sequences : List Sequence) (d : Document) (template : Tree) (bits : List Bool)
     → tree_of (tables_of table sequences) d.descriptors ≡ Ok template → data_bits (compressed_in d) (next_item table template) (drafts_of d.entries) ≡ Ok bits
-    → message_size (parts_in d (octets_of_bits bits)) ≤ most_octets → encoding_of table sequences d ≡ Ok (message_octets (head_in d) (parts_in d (octets_of_bits bits)))
+    → message_size (head_in d).edition (parts_in d (octets_of_bits bits)) ≤ most_octets → encoding_of table sequences d ≡ Ok (message_octets (head_in d) (parts_in d (octets_of_bits bits)))
 unfolding encoding_in
 encoded_to table sequences d template bits expands filled few =
     ap (λ r. told_of_template d.line r >>= λ t. told_of_items (data_bits (compressed_in d) (next_item table t) (drafts_of d.entries)) >>= λ b. message_of d.line (head_in d) (parts_in d (octets_of_bits b))) expands
     ∙ ap (λ r. told_of_items r >>= λ b. message_of d.line (head_in d) (parts_in d (octets_of_bits b))) filled
-    ∙ ap (λ b. if b then Err (refused_at d.line too_long) else Ok (message_octets (head_in d) (parts_in d (octets_of_bits bits)))) (within (message_size (parts_in d (octets_of_bits bits))) most_octets few)
+    ∙ ap (λ b. if b then Err (refused_at d.line too_long) else Ok (message_octets (head_in d) (parts_in d (octets_of_bits bits)))) (within (message_size (head_in d).edition (parts_in d (octets_of_bits bits))) most_octets few)
 
 -- what the document of a message says
 pub bit_back : (b : Bool) → (bit b == 1) ≡ b
@@ -149,12 +151,9 @@ pub parts_back : (at : ℕ) (s : Sections) (items : List (List Item)) (payload :
 unfolding parts_with
 parts_back at s items payload = λ j. parts_of s.local1 (section2_back s.section2 j) s.descriptors s.subsets (bit_back s.observed j) (bit_back s.compressed j) payload
 
-pub size_least : (s : Sections) (payload : List ℕ) (n : ℕ) → length payload ≤ length s.payload → message_size (layout.parts_in s) ≤ n → message_size (parts_with s payload) ≤ n
+pub size_least : (s : Sections) (payload : List ℕ) (n : ℕ) → length payload ≤ length s.payload → message_size s.head.edition (layout.parts_in s) ≤ n → message_size s.head.edition (parts_with s payload) ≤ n
 unfolding parts_with
-size_least s payload n h g = omega (arith, h, g)
-
-pub edition_is : (m : List ℕ) (s : Sections) → sections_of m ≡ Ok s → s.head.edition ≡ 4
-edition_is m s e = let h = sections-ended m s e in ap (λ (x : Sections). x.head.edition) h.is ∙ h.edition
+size_least s payload n h g = size-least s.head.edition (length s.local1) s.section2 (length s.descriptors) (length payload) (length s.payload) n h g
 
 pub size_is : (m : List ℕ) (s : Sections) → sections_of m ≡ Ok s → s.size ≡ length m
 size_is m s e = ap (λ (x : Sections). x.size) (sections-ended m s e).is
@@ -164,7 +163,7 @@ record IsFilled (table : List Row) (template : Tree) (s : Sections) (values : Va
   out : List Bool
   fills : data_bits s.compressed (next_item table template) (drafts_of entries) ≡ Ok out
   short : length out ≤ length (bits_of s.payload)
-  read : (octets : List ℕ) → bits_of octets ≡ out ++ padding (length out) → IsReading (next_item table template) (record { compressed = s.compressed; subsets = s.subsets; bits = bits_of octets }) values (length out)
+  read : (octets : List ℕ) (tail : List Bool) → bits_of octets ≡ out ++ tail → IsReading (next_item table template) (record { compressed = s.compressed; subsets = s.subsets; bits = bits_of octets }) values (length out)
 
 pub enough : (out octets : List Bool) (bits : List Bool) → bits ≡ out ++ octets → length out ≤ length bits
 enough out octets bits e = omega (arith, ap length e, length-append out octets)
@@ -185,12 +184,12 @@ filled table template s (apart subsets) used at rows legal read =
       out = w.out;
       fills = fills_as s.compressed false course (drafts_of entries) w.out read.0 w.is;
       short = omega (arith, w.short);
-      read = λ octets e. (
+      read = λ octets tail e. (
         read.0,
-        enough w.out (padding (length w.out)) (bits_of octets) e,
+        enough w.out tail (bits_of octets) e,
         (
           subst (λ b. ReadsSubsets course subsets b (drop (length w.out) (bits_of octets))) (sym e)
-              (subst (λ b. ReadsSubsets course subsets (w.out ++ padding (length w.out)) b) (sym (behind w.out (padding (length w.out)) (bits_of octets) e)) (w.again (padding (length w.out)))),
+              (subst (λ b. ReadsSubsets course subsets (w.out ++ tail) b) (sym (behind w.out tail (bits_of octets) e)) (w.again tail)),
           read.2.1,
         ),
       );
@@ -204,11 +203,11 @@ filled table template s (together items) used at rows legal read =
       out = w.out;
       fills = fills_as s.compressed true course (drafts_of entries) w.out read.0 w.is;
       short = omega (arith, w.short);
-      read = λ octets e. (
+      read = λ octets tail e. (
         read.0,
-        enough w.out (padding (length w.out)) (bits_of octets) e,
+        enough w.out tail (bits_of octets) e,
         subst (λ b. IsPackedReading s.subsets course items b (drop (length w.out) (bits_of octets))) (sym e)
-            (subst (λ b. IsPackedReading s.subsets course items (w.out ++ padding (length w.out)) b) (sym (behind w.out (padding (length w.out)) (bits_of octets) e)) (w.again (padding (length w.out)))),
+            (subst (λ b. IsPackedReading s.subsets course items (w.out ++ tail) b) (sym (behind w.out tail (bits_of octets) e)) (w.again tail)),
       );
     }
 
@@ -224,25 +223,31 @@ encoded_again table sequences m s template values used at rows legal a =
     let payload = octets_of_bits f.out in
     let parts = parts_with s payload in
     let same = parts_back at s items payload in
-    let least : message_size parts ≤ length m = size_least s payload (length m) (payload_short f.out s.payload f.short) (no-longer m s a.sections) in
-    let few : message_size (parts_in d payload) ≤ most_octets = subst (λ (p : Parts). message_size p ≤ most_octets) (sym same) (omega (arith, least, a.few)) in
+    let edition = s.head.edition in
+    let short = payload_short f.out s.payload f.short in
+    let least : message_size edition parts ≤ length m + longer edition = size_least s payload (length m + longer edition) short (no-longer m s a.sections) in
+    let most : message_size edition parts ≤ most_octets = size_least s payload most_octets short (not-too-long m s a.sections a.few) in
+    let few : message_size edition (parts_in d payload) ≤ most_octets = subst (λ (p : Parts). message_size edition p ≤ most_octets) (sym same) most in
     let fills : data_bits (compressed_in d) (next_item table template) (drafts_of d.entries) ≡ Ok f.out = fills_as (compressed_in d) s.compressed (next_item table template) (drafts_of d.entries) f.out (bit_back s.compressed) f.fills in
     let octets = message_octets s.head parts in
-    let back = read-back s.head parts (edition_is m s a.sections) in
-    let long : length octets ≡ message_size parts = sym (size_is octets (sections_from s.head parts) back) in
     let given = sections_given m s a.octets a.sections in
+    let back = read-back s.head parts (fitting-writable s.head given.head) in
+    let long : length octets ≡ message_size edition parts = sym (size_is octets (sections_from s.head parts) back) in
+    let padded_bits = evened-bits edition 4 payload in
+    let written : bits_of (evened edition 4 payload) ≡ f.out ++ (padding (length f.out) ++ padded_bits.0) = padded_bits.1 ∙ ap (λ (b : List Bool). b ++ padded_bits.0) (payload_bits f.out) ∙ append_assoc f.out (padding (length f.out)) padded_bits.0 in
     record {
       octets = octets;
       is = encoded_to table sequences d template f.out a.expands fills few ∙ ap (λ (p : Parts). Ok (message_octets s.head p)) same;
       same = record {
         no_longer = omega (arith, least, long);
-        octets = octets_small s.head parts given.head given.local1 given.section2 given.descriptors given.few (octets_are payload (octets_in-are ((length f.out + 7) / 8) (f.out ++ padding (length f.out)) (padded f.out))) (omega (arith, least, a.few));
+        few = omega (arith, most, long);
+        octets = octets_small s.head parts given.head given.local1 given.section2 given.descriptors given.few (octets_are payload (octets_in-are ((length f.out + 7) / 8) (f.out ++ padding (length f.out)) (padded f.out))) most;
         framed = λ at behind. framed s.head parts at behind long;
         sections = sections_from s.head parts;
         are = back;
         same = record { head = refl; local1 = refl; section2 = refl; descriptors = refl; subsets = refl; observed = refl; compressed = refl };
         used = length f.out;
-        read = f.read payload (payload_bits f.out);
+        read = f.read (evened edition 4 payload) (padding (length f.out) ++ padded_bits.0) written;
       };
     }
 
@@ -250,7 +255,7 @@ pub accepted_again : (table : List Row) (sequences : List Sequence) (m : List �
     → IsAccepted table sequences m s template values used → (again : HasSameReading table m s template values octets) → IsAccepted table sequences octets again.sections template values again.used
 accepted_again table sequences m s template values used octets a h = record {
   octets = h.octets;
-  few = omega (arith, h.no_longer, a.few);
+  few = h.few;
   sections = h.are;
   expands = ap (tree_of (tables_of table sequences)) h.same.descriptors ∙ a.expands;
   read = h.read;

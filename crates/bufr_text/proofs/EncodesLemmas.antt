@@ -18,7 +18,12 @@ use Rattle.bufr_bits.specs.Bits.{padding}
 use Rattle.bufr_walk.specs.Content.{octets_in}
 use Rattle.bufr_fill.specs.Fits.{AreOctets}
 use Rattle.bufr_fill.proofs.FieldBits.{octets_again}
-use Rattle.bufr_text.specs.Encoding.{octets_of_bits}
+use Rattle.bufr_text.specs.Encoding.{octets_of_bits, message_of, refused_at, too_long}
+use Rattle.bufr_frame.specs.declared.head.Head.{Head}
+use Rattle.bufr_frame.specs.Layout.{Parts, message_octets, message_size, most_octets}
+use Rattle.std.specs.Prelude.{nat_lt, if◌then◌else◌}
+use Rattle.std.proofs.lemmas.Bool.Decides.{nat_tests}
+use Rattle.std.proofs.Common.{true, false}
 use Rattle.bufr_text.specs.Encodes.{AreOctetsOf}
 
 module _ {D C E S : Type 0} (filler : Filler D C E) (left : S → List D) (out : S → List Bool) (takes : S → Asked → Taken → S → Type 0)
@@ -90,3 +95,11 @@ octets_are_bits xs bits small h =
     all : (xs : List ℕ) → ((k : ℕ) → get_or xs k 0 < 256) → AreOctets xs
     all [] g = tt
     all (x ∷ xs) g = (g 0, all xs (λ k. g (suc k)))
+
+-- a message that is not too long is made
+pub message-made : (line : ℕ) (head : Head) (parts : Parts) (octets : List ℕ) → (most_octets < message_size head.edition parts → ⊥) → octets ≡ message_octets head parts → message_of line head parts ≡ Ok octets
+message-made line head parts octets short is = by (nat_lt most_octets (message_size head.edition parts)) refl
+  where
+    by : (b : Bool) → nat_lt most_octets (message_size head.edition parts) ≡ b → (if b then Err (refused_at line too_long) else Ok (message_octets head parts)) ≡ Ok octets
+    by true e = let long : most_octets < message_size head.edition parts = grind (arith, nat_tests, e) in absurd (short long)
+    by false e = ap Ok (sym is)

@@ -145,3 +145,17 @@ width_of_none = refl
 template_goes_before : encoded (document 0 1 (0x0101 ∷ 0x0102 ∷ []) (number 24 0x0C65 (codes "5") ∷ Ends 25 ∷ [])) ≡ Err (refused_at 1 (by_template (template.UnknownElement 0x0102)))
 unfolding listed table document number encoded encoding_in tree_of level part_of inner_of
 template_goes_before = refl
+
+-- edition 3: one octet of local use makes section 1 even, and sections 3 and 4 are made even
+edition_3 : encoded (record {
+  line = 1;
+  header = 3 ∷ 0 ∷ 98 ∷ 0 ∷ 0 ∷ 0 ∷ 0 ∷ 0 ∷ 14 ∷ 0 ∷ 24 ∷ 1 ∷ 2 ∷ 3 ∷ 4 ∷ 0 ∷ 1 ∷ 0 ∷ 0 ∷ 1 ∷ [];
+  local1 = 0 ∷ [];
+  section2 = [];
+  descriptors = 0x0101 ∷ [];
+  entries = number 25 0x0101 (codes "10") ∷ Ends 26 ∷ [];
+})
+    ≡ Ok (codes "BUFR" ++ 0 ∷ 0 ∷ 0x2E ∷ 3 ∷ 0 ∷ 0 ∷ 0x12 ∷ 0 ∷ 0 ∷ 0x62 ∷ 0 ∷ 0 ∷ 0 ∷ 0 ∷ 0x0E ∷ 0 ∷ 0x18 ∷ 1 ∷ 2 ∷ 3 ∷ 4 ∷ 0
+    ∷ 0 ∷ 0 ∷ 0x0A ∷ 0 ∷ 0 ∷ 1 ∷ 0x80 ∷ 1 ∷ 1 ∷ 0 ∷ 0 ∷ 0 ∷ 6 ∷ 0 ∷ 0x14 ∷ 0 ∷ codes "7777")
+unfolding listed table number encoded encoding_in tree_of level part_of inner_of next_item decimal_value_of bits_in bits_of
+edition_3 = refl

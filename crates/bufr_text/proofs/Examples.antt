@@ -1,6 +1,9 @@
 -- The definitions computed on worked examples.
-use Rattle.std.proofs.Common.{◌≡◌, ℕ, true, false, List, [], ◌∷◌, ◌++◌, refl, arith, take, codes, Some, None, pos}
+use Rattle.std.proofs.Common.{◌≡◌, ℕ, ◌≤◌, true, false, List, [], ◌∷◌, ◌++◌, refl, arith, drop, take, codes, Some, None, pos}
 use Rattle.bufr_frame.specs.declared.head.Head.{Head}
+use Rattle.bufr_frame.specs.Layout.{IsFitting}
+use Rattle.bufr_frame.specs.Section1.{Field, Master, Centre, Subcentre, Update, Flags, Category, Subcategory, LocalSubcategory, MasterVersion, LocalVersion, Year, Month, Day, Hour, Minute, Second, most_in, slots_4}
+use Rattle.bufr_frame.specs.Section1 as section1
 use Rattle.bufr_frame.specs.Sections.{Sections}
 use Rattle.bufr_fill.specs.Draft.{draft, number_token}
 use Rattle.bufr_text.specs.Document.{Document, Holds, Ends}
@@ -109,10 +112,76 @@ second_document : documents_of (the_text ++ text_of (codes "centre 98" ∷ [])) 
 unfolding spelled lines_of turn line_of worded front behind place_from keys behind_word descriptors_read fxy_read value_read quoted_read hex_read is_hashed
 second_document = refl
 
+-- the lines of a document of edition 3, with these for `edition`, `centre` and `second`
+abbrev lines_3 : (edition centre second : List ℕ) → List (List ℕ)
+lines_3 edition centre second =
+    codes "message" ∷ edition ∷ codes "master 0" ∷ centre ∷ codes "subcentre 0" ∷ codes "update 0" ∷ codes "category 0"
+    ∷ codes "subcategory 0" ∷ codes "localsubcategory 0" ∷ codes "masterversion 14" ∷ codes "localversion 0" ∷ codes "year 24" ∷ codes "month 1"
+    ∷ codes "day 2" ∷ codes "hour 3" ∷ codes "minute 4" ∷ second ∷ codes "observed 1" ∷ codes "compressed 0" ∷ codes "optional 0"
+    ∷ codes "subsets 1" ∷ codes "local1 00" ∷ codes "descriptors 001001" ∷ []
+
+abbrev document_3 : Document
+document_3 = record {
+  line = 1;
+  header = 3 ∷ 0 ∷ 98 ∷ 0 ∷ 0 ∷ 0 ∷ 0 ∷ 0 ∷ 14 ∷ 0 ∷ 24 ∷ 1 ∷ 2 ∷ 3 ∷ 4 ∷ 0 ∷ 1 ∷ 0 ∷ 0 ∷ 1 ∷ [];
+  local1 = 0 ∷ [];
+  section2 = [];
+  descriptors = 257 ∷ [];
+  entries = Holds (draft 25 257 (number_token (codes "10"))) ∷ Ends 26 ∷ [];
+}
+
+-- edition 3: its ranges are what one octet holds, and 0 for what it lacks
+edition_3 : documents_of (text_of (lines_3 (codes "edition 3") (codes "centre 98") (codes "second 0") ++ item_lines)) ≡ Spelled document_3 ∷ []
+unfolding spelled lines_of turn line_of worded front behind place_from keys behind_word descriptors_read fxy_read value_read quoted_read hex_read is_hashed
+edition_3 = refl
+
+edition_3_centre : documents_of (text_of (lines_3 (codes "edition 3") (codes "centre 256") (codes "second 0") ++ item_lines)) ≡ Refused 4 HeaderRange ∷ []
+unfolding spelled lines_of turn line_of worded front behind place_from keys behind_word descriptors_read fxy_read value_read quoted_read hex_read is_hashed
+edition_3_centre = refl
+
+edition_3_second : documents_of (text_of (lines_3 (codes "edition 3") (codes "centre 98") (codes "second 5") ++ item_lines)) ≡ Refused 17 HeaderRange ∷ []
+unfolding spelled lines_of turn line_of worded front behind place_from keys behind_word descriptors_read fxy_read value_read quoted_read hex_read is_hashed
+edition_3_second = refl
+
+edition_2 : documents_of (text_of (lines_3 (codes "edition 2") (codes "centre 98") (codes "second 0") ++ item_lines)) ≡ Refused 2 HeaderRange ∷ []
+unfolding spelled lines_of turn line_of worded front behind place_from keys behind_word descriptors_read fxy_read value_read quoted_read hex_read is_hashed
+edition_2 = refl
+
+edition_5 : documents_of (text_of (lines_3 (codes "edition 5") (codes "centre 98") (codes "second 0") ++ item_lines)) ≡ Refused 2 HeaderRange ∷ []
+unfolding spelled lines_of turn line_of worded front behind place_from keys behind_word descriptors_read fxy_read value_read quoted_read hex_read is_hashed
+edition_5 = refl
+
+-- a document of edition 4 that says edition 3 is refused at its year
+year_of_edition_4 : documents_of (text_of (codes "message" ∷ codes "edition 3" ∷ drop 2 head_lines ++ item_lines)) ≡ Refused 12 HeaderRange ∷ []
+unfolding spelled lines_of turn line_of worded front behind place_from keys behind_word descriptors_read fxy_read value_read quoted_read hex_read is_hashed
+year_of_edition_4 = refl
+
+-- the head of edition 4 fits its octets
+the_head_fits : IsFitting the_head
+the_head_fits = record { edition = refl; fits = fits }
+  where
+    fits : (field : Field) → section1.said the_head false field ≤ most_in slots_4 field
+    fits Master = omega arith
+    fits Centre = omega arith
+    fits Subcentre = omega arith
+    fits Update = omega arith
+    fits Flags = omega arith
+    fits Category = omega arith
+    fits Subcategory = omega arith
+    fits LocalSubcategory = omega arith
+    fits MasterVersion = omega arith
+    fits LocalVersion = omega arith
+    fits Year = omega arith
+    fits Month = omega arith
+    fits Day = omega arith
+    fits Hour = omega arith
+    fits Minute = omega arith
+    fits Second = omega arith
+
 -- the message and its reading give what the law asks for
 one_is_dumpable : IsDumpable one_block_number block_number
 one_is_dumpable = record {
-  head = record { edition = refl; master = omega arith; centre = omega arith; subcentre = omega arith; update = omega arith; category = omega arith; subcategory = omega arith; local_subcategory = omega arith; master_version = omega arith; local_version = omega arith; year = omega arith; month = omega arith; day = omega arith; hour = omega arith; minute = omega arith; second = omega arith };
+  head = the_head_fits;
   local1 = tt;
   section2 = tt;
   descriptors = (omega arith, tt);

@@ -1,5 +1,5 @@
 -- The document of an accepted message is encoded in a form to a message with the same reading, but for the flag.
-use Rattle.std.proofs.Common.{◌≡◌, ◌⊎◌, inl, inr, ℕ, zero, suc, ◌+◌, ◌-◌, ◌*◌, ◌/◌, ◌≤◌, Bool, true, false, List, [], ◌∷◌, ◌++◌, length, drop, map, Option, Some, None, Result, Ok, Err, refl, sym, ◌∙◌, ap, subst, arith}
+use Rattle.std.proofs.Common.{◌≡◌, ◌⊎◌, inl, inr, ℕ, zero, suc, ◌+◌, ◌-◌, ◌*◌, ◌/◌, ◌≤◌, Bool, true, false, List, [], ◌∷◌, ◌++◌, length, drop, map, Option, Some, None, Result, Ok, Err, refl, sym, ◌∙◌, ap, subst, arith, append_assoc}
 use Rattle.std.specs.Prelude.{nat_lt, if◌then◌else◌}
 use Rattle.std.specs.Global.{Global}
 use Rattle.std.specs.Prelude.{Vec, IfOk, IfErr}
@@ -14,10 +14,12 @@ use Rattle.bufr_tables.specs.TableB.{Row, AreRows}
 use Rattle.bufr_tables.specs.TableD.{Sequence}
 use Rattle.bufr_tables.specs.TemplateTables.{tables_of}
 use Rattle.bufr_tables.specs.Tree.{Tree}
-use Rattle.bufr_frame.specs.Layout.{Parts, parts_of, message_octets, message_size, most_octets, sections_from}
+use Rattle.bufr_frame.specs.Layout.{Parts, evened, parts_of, message_octets, message_size, most_octets, sections_from}
 use Rattle.bufr_frame.specs.Layout as layout
 use Rattle.bufr_frame.specs.Sections.{Sections, sections_of}
-use Rattle.bufr_frame.proofs.AgainLemmas.{no-longer}
+use Rattle.bufr_frame.proofs.AgainLemmas.{not-too-long}
+use Rattle.bufr_frame.proofs.EvenLemmas.{even-least, evened-bits}
+use Rattle.bufr_frame.proofs.FitLemmas.{fitting-writable}
 use Rattle.bufr_frame.proofs.LayoutLemmas.{read-back}
 use Rattle.bufr_walk.specs.Calls.{content_at}
 use Rattle.bufr_walk.specs.Content.{Content}
@@ -51,7 +53,7 @@ use Rattle.bufr_text.specs.Form.{compressed_by}
 use Rattle.bufr_text.specs.Header.{head_in}
 use Rattle.bufr_text.specs.InForm.{each_subset, HasReadingIn, IsForForm, IsFormed, IsFaultIn, FormSo}
 use Rattle.bufr_text.proofs.DumpableLemmas.{octets_are, sections_given}
-use Rattle.bufr_text.proofs.EncodedLemmas.{all_apart, all_together, bit_back, section2_back, padded, payload_bits, edition_is, size_is, enough, behind, encoded_again}
+use Rattle.bufr_text.proofs.EncodedLemmas.{all_apart, all_together, bit_back, section2_back, padded, payload_bits, size_is, enough, behind, encoded_again}
 use Rattle.bufr_text.proofs.EncodeWhole.{as_written, no_data}
 use Rattle.bufr_text.proofs.FramedLemmas.{octets_small, framed}
 use Rattle.bufr_text.proofs.RowsLemmas.{rows-read, good-rows}
@@ -77,19 +79,17 @@ items_each table template s (together items) = apart_subsets table s.subsets 0 i
 -- ---- the data
 
 -- how the bits that are written are read
-plain_reading : (course : Course) (subsets : List (List (reading.Item Content))) (n : ℕ) (out : List Bool) → ((more : List Bool) → IsPlainReading n course subsets (out ++ more) more) → (octets : List ℕ) → bits_of octets ≡ out ++ padding (length out)
+plain_reading : (course : Course) (subsets : List (List (reading.Item Content))) (n : ℕ) (out : List Bool) → ((more : List Bool) → IsPlainReading n course subsets (out ++ more) more) → (octets : List ℕ) (more : List Bool) → bits_of octets ≡ out ++ more
     → IsReading course (record { compressed = false; subsets = n; bits = bits_of octets }) (apart subsets) (length out)
-plain_reading course subsets n out w octets e =
-    let more = padding (length out) in (
+plain_reading course subsets n out w octets more e = (
       refl,
       enough out more (bits_of octets) e,
       subst (λ b. IsPlainReading n course subsets b (drop (length out) (bits_of octets))) (sym e) (subst (λ b. IsPlainReading n course subsets (out ++ more) b) (sym (behind out more (bits_of octets) e)) (w more)),
     )
 
-packed_reading : (course : Course) (items : List (reading.Item (List Content))) (n : ℕ) (out : List Bool) → ((more : List Bool) → IsPackedReading n course items (out ++ more) more) → (octets : List ℕ) → bits_of octets ≡ out ++ padding (length out)
+packed_reading : (course : Course) (items : List (reading.Item (List Content))) (n : ℕ) (out : List Bool) → ((more : List Bool) → IsPackedReading n course items (out ++ more) more) → (octets : List ℕ) (more : List Bool) → bits_of octets ≡ out ++ more
     → IsReading course (record { compressed = true; subsets = n; bits = bits_of octets }) (together items) (length out)
-packed_reading course items n out w octets e =
-    let more = padding (length out) in (
+packed_reading course items n out w octets more e = (
       refl,
       enough out more (bits_of octets) e,
       subst (λ b. IsPackedReading n course items b (drop (length out) (bits_of octets))) (sym e) (subst (λ b. IsPackedReading n course items (out ++ more) b) (sym (behind out more (bits_of octets) e)) (w more)),
@@ -100,7 +100,7 @@ record IsFilled (b : Bool) (table : List Row) (template : Tree) (s : Sections) (
   found : Values
   out : List Bool
   fills : data_bits b (next_item table template) (drafts_of entries) ≡ Ok out
-  read : (octets : List ℕ) → bits_of octets ≡ out ++ padding (length out) → IsReading (next_item table template) (record { compressed = b; subsets = s.subsets; bits = bits_of octets }) found (length out)
+  read : (octets : List ℕ) (more : List Bool) → bits_of octets ≡ out ++ more → IsReading (next_item table template) (record { compressed = b; subsets = s.subsets; bits = bits_of octets }) found (length out)
   each : each_subset s.subsets found ≡ each_subset s.subsets values
 
 record IsUnfilled (table : List Row) (template : Tree) (entries : List Entry) : Type 0 where
@@ -173,21 +173,26 @@ within : (a b : ℕ) → nat_lt a b ≡ false → b ≤ a
 within a b h = grind (arith, nat_tests)
 
 bits_few : (m : List ℕ) (s : Sections) → sections_of m ≡ Ok s → length m ≤ most_octets → length (bits_of s.payload) ≤ most_values
-bits_few m s e few = omega (arith, few, length-bits_of s.payload, no-longer m s e)
+bits_few m s e few =
+    let edition = s.head.edition in
+    omega (arith, not-too-long m s e few, length-bits_of s.payload, even-least edition (4 + length s.payload), even-least edition (7 + 2 * length s.descriptors))
 
 module _ (form : Form) (table : List Row) (sequences : List Sequence) (m : List ℕ) (s : Sections) (template : Tree) (values : Values) (used at : ℕ) (a : IsAccepted table sequences m s template values used) where
   -- a message that is not too long has the reading
   has_reading : (f : IsFilled (compressed_by form s.compressed) table template s values (subset_entries (at + lines_before s) (items_in table template s values)))
-      → message_size (parts_for (compressed_by form s.compressed) s (octets_of_bits f.out)) ≤ most_octets
+      → message_size s.head.edition (parts_for (compressed_by form s.compressed) s (octets_of_bits f.out)) ≤ most_octets
       → HasReadingIn form table s template values (message_octets s.head (parts_for (compressed_by form s.compressed) s (octets_of_bits f.out)))
   unfolding parts_for
   has_reading f few =
       let payload = octets_of_bits f.out in
       let parts = parts_for (compressed_by form s.compressed) s payload in
       let octets = message_octets s.head parts in
-      let back = read-back s.head parts (edition_is m s a.sections) in
-      let long : length octets ≡ message_size parts = sym (size_is octets (sections_from s.head parts) back) in
+      let edition = s.head.edition in
       let given = sections_given m s a.octets a.sections in
+      let back = read-back s.head parts (fitting-writable s.head given.head) in
+      let long : length octets ≡ message_size edition parts = sym (size_is octets (sections_from s.head parts) back) in
+      let padded_bits = evened-bits edition 4 payload in
+      let written : bits_of (evened edition 4 payload) ≡ f.out ++ (padding (length f.out) ++ padded_bits.0) = padded_bits.1 ∙ ap (λ (b : List Bool). b ++ padded_bits.0) (payload_bits f.out) ∙ append_assoc f.out (padding (length f.out)) padded_bits.0 in
       record {
         few = omega (arith, few, long);
         octets = octets_small s.head parts given.head given.local1 given.section2 given.descriptors given.few (octets_are payload (octets_in-are ((length f.out + 7) / 8) (f.out ++ padding (length f.out)) (padded f.out))) few;
@@ -197,7 +202,7 @@ module _ (form : Form) (table : List Row) (sequences : List Sequence) (m : List 
         same = record { head = refl; local1 = refl; section2 = refl; descriptors = refl; subsets = refl; observed = refl; compressed = refl };
         found = f.found;
         used = length f.out;
-        read = f.read payload (payload_bits f.out);
+        read = f.read (evened edition 4 payload) (padding (length f.out) ++ padded_bits.0) written;
         each = f.each;
         items = items_each table template (sections_from s.head parts) f.found ∙ ap (map (items_apart table)) f.each ∙ sym (items_each table template s values);
       }
@@ -207,7 +212,7 @@ module _ (form : Form) (table : List Row) (sequences : List Sequence) (m : List 
 
   -- the data are written: nothing is at fault but the length
   written : IsForForm form too_long → IsFilled (compressed_by form s.compressed) table template s values (subset_entries (at + lines_before s) (items_in table template s values)) → IsFormed form table s template values encoded
-  written long f = subst (IsFormed form table s template values) (sym is) (by (nat_lt most_octets (message_size parts)) refl)
+  written long f = subst (IsFormed form table s template values) (sym is) (by (nat_lt most_octets (message_size s.head.edition parts)) refl)
     where
       d : Document
       d = document_of at s (items_in table template s values)
@@ -218,12 +223,12 @@ module _ (form : Form) (table : List Row) (sequences : List Sequence) (m : List 
       fills : data_bits (compressed_as form d) (next_item table template) (drafts_of d.entries) ≡ Ok f.out
       fills = ap (λ b. data_bits (compressed_by form b) (next_item table template) (drafts_of d.entries)) (bit_back s.compressed) ∙ f.fills
 
-      is : encoded ≡ (if nat_lt most_octets (message_size parts) then Err (refused_at at too_long) else Ok (message_octets s.head parts))
+      is : encoded ≡ (if nat_lt most_octets (message_size s.head.edition parts) then Err (refused_at at too_long) else Ok (message_octets s.head parts))
       is = as_written form table sequences d template f.out (octets_of_bits f.out) a.expands fills refl ∙ ap (message_of at s.head) (parts_back form at s (items_in table template s values) (octets_of_bits f.out))
 
-      by : (b : Bool) → nat_lt most_octets (message_size parts) ≡ b → IsFormed form table s template values (if b then Err (refused_at at too_long) else Ok (message_octets s.head parts))
+      by : (b : Bool) → nat_lt most_octets (message_size s.head.edition parts) ≡ b → IsFormed form table s template values (if b then Err (refused_at at too_long) else Ok (message_octets s.head parts))
       by true e = long
-      by false e = has_reading f (within most_octets (message_size parts) e)
+      by false e = has_reading f (within most_octets (message_size s.head.edition parts) e)
 
 -- an item is at fault
 not_written : (table : List Row) (sequences : List Sequence) (m : List ℕ) (s : Sections) (template : Tree) (values : Values) (used at : ℕ) → IsAccepted table sequences m s template values used
@@ -239,7 +244,7 @@ as_it_is : (table : List Row) (m : List ℕ) (s : Sections) (template : Tree) (v
 as_it_is table m s template values used at sequences few e =
     let h = e.same in
     subst (IsFormed form.AsWritten table s template values) (sym e.is) (record {
-      few = omega (arith, h.no_longer, few);
+      few = h.few;
       octets = h.octets;
       framed = h.framed;
       sections = h.sections;

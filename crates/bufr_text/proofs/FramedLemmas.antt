@@ -1,17 +1,20 @@
 -- A message that was written has octets, and is scanned as one message whatever is behind it.
 use Rattle.std.proofs.Common.{◌≡◌, ℕ, ◌+◌, ◌-◌, ◌*◌, ◌/◌, ◌%◌, ◌^◌, ◌<◌, ◌≤◌, Bool, true, false, List, [], ◌∷◌, ◌++◌, length, take, drop, Option, Some, None, refl, sym, ◌∙◌, ap, subst, arith, codes, append_assoc, length-append}
-use Rattle.std.specs.Prelude.{nat_lt, is_some, unwrap_or, if◌then◌else◌}
+use Rattle.std.specs.Prelude.{◌==◌, ◌&&◌, nat_lt, is_some, unwrap_or, if◌then◌else◌}
 use Rattle.std.specs.List.{AllByRecursion}
 use Rattle.std.specs.Str.{bytes_eq}
 use Rattle.std.proofs.lemmas.Bool.Decides.{nat_tests}
 use Rattle.std.proofs.lemmas.List.{take_at, drop_at}
 use Rattle.bufr_frame.specs.declared.head.Head.{Head}
-use Rattle.bufr_frame.specs.Layout.{Parts, message_octets, message_size, size_from, most_octets, section0_octets, section1_octets, section2_octets, section3_octets, section4_octets, data_flags, head_octets}
+use Rattle.bufr_frame.specs.Layout.{Parts, IsFitting, even_size, evened, message_octets, message_size, size_from, most_octets, section0_octets, section1_octets, section2_octets, section3_octets, section4_octets, data_flags, head_octets}
 use Rattle.bufr_frame.specs.Octets.{three_octets, octets_of_words}
 use Rattle.bufr_frame.specs.Scan.{Framed, stands, stated, verdict, happening, taken, scan_from}
-use Rattle.bufr_frame.proofs.LayoutLemmas.{three-number}
+use Rattle.bufr_frame.specs.Section1.{first_least}
+use Rattle.bufr_frame.proofs.AgainLemmas.{edition-cases}
+use Rattle.bufr_frame.proofs.FitLemmas.{head-small}
+use Rattle.bufr_frame.proofs.LayoutLemmas.{three-number, length-evened, length-octets_of_words}
 use Rattle.bufr_frame.proofs.ScanLemmas.{scan_from-here}
-use Rattle.bufr_text.specs.Given.{IsOctet, IsWord, IsHead}
+use Rattle.bufr_text.specs.Given.{IsOctet, IsWord}
 
 -- ---- octets
 
@@ -32,18 +35,18 @@ words_small : (ws : List ℕ) → AllByRecursion IsWord ws → AllByRecursion Is
 words_small [] h = tt
 words_small (w ∷ ws) h = (high_small w h.0, (low_small w, words_small ws h.1))
 
-flag_small : (b : Bool) → (if b then 128 else 0) < 256
-flag_small true = omega arith
-flag_small false = omega arith
-
 flags_small : (o c : Bool) → data_flags o c < 256
 flags_small true true = omega arith
 flags_small true false = omega arith
 flags_small false true = omega arith
 flags_small false false = omega arith
 
-head_small : (h : Head) (optional : Bool) → IsHead h → AllByRecursion IsOctet (head_octets h optional)
-head_small h optional g = (g.master, (high_small h.centre g.centre, (low_small h.centre, (high_small h.subcentre g.subcentre, (low_small h.subcentre, (g.update, (flag_small optional, (g.category, (g.subcategory, (g.local_subcategory, (g.master_version, (g.local_version, (high_small h.year g.year, (low_small h.year, (g.month, (g.day, (g.hour, (g.minute, (g.second, tt)))))))))))))))))))
+evened_small : (edition front : ℕ) (octets : List ℕ) → AllByRecursion IsOctet octets → AllByRecursion IsOctet (evened edition front octets)
+evened_small edition front octets g = by ((edition == 3) && ((front + length octets) % 2 == 1))
+  where
+    by : (b : Bool) → AllByRecursion IsOctet (if b then octets ++ 0 ∷ [] else octets)
+    by true = both octets (0 ∷ []) g (omega arith, tt)
+    by false = g
 
 plain_small : (octets : List ℕ) → 4 + length octets < 2 ^ 24 → AllByRecursion IsOctet octets → AllByRecursion IsOctet (section4_octets octets)
 plain_small octets h g = both (three_octets (4 + length octets)) (0 ∷ octets) (three_small (4 + length octets) h) (omega arith, g)
@@ -52,39 +55,47 @@ section2_small : (section2 : Option (List ℕ)) (n : ℕ) → n < 2 ^ 24 → len
 section2_small None n few h g = tt
 section2_small (Some octets) n few h g = plain_small octets (omega (arith, few, h)) g
 
-section2_least : (h : Head) (p : Parts) → length (section2_octets p.section2) ≤ message_size p
-section2_least h p = by p.section2 (length p.local1) (length p.descriptors) (length p.payload)
+section2_least : (edition : ℕ) (p : Parts) → length (section2_octets p.section2) ≤ message_size edition p
+section2_least edition p = by p.section2 (length p.local1) (length p.descriptors) (length p.payload)
   where
-    by : (o : Option (List ℕ)) (a b c : ℕ) → length (section2_octets o) ≤ size_from a o b c
+    by : (o : Option (List ℕ)) (a b c : ℕ) → length (section2_octets o) ≤ size_from edition a o b c
     by None a b c = omega arith
     by (Some octets) a b c = omega arith
 
-pub octets_small : (h : Head) (p : Parts) → IsHead h → AllByRecursion IsOctet p.local1 → AllByRecursion IsOctet (unwrap_or p.section2 []) → AllByRecursion IsWord p.descriptors → p.subsets < 65536 → AllByRecursion IsOctet p.payload → message_size p ≤ most_octets
+pub octets_small : (h : Head) (p : Parts) → IsFitting h → AllByRecursion IsOctet p.local1 → AllByRecursion IsOctet (unwrap_or p.section2 []) → AllByRecursion IsWord p.descriptors → p.subsets < 65536 → AllByRecursion IsOctet p.payload → message_size h.edition p ≤ most_octets
     → AllByRecursion IsOctet (message_octets h p)
 octets_small h p head local1 section2 descriptors subsets payload few =
-    let s0 = section0_octets (message_size p) h.edition in
+    let e = h.edition in
+    let n = message_size e p in
+    let least = first_least e in
+    let words = octets_of_words p.descriptors in
+    let third = evened e 7 words in
+    let fourth = evened e 4 p.payload in
+    let s0 = section0_octets n e in
     let s1 = section1_octets h p.local1 (is_some p.section2) in
     let s2 = section2_octets p.section2 in
     let flags = data_flags p.observed p.compressed in
-    let s3 = section3_octets p.descriptors p.subsets flags in
-    let s4 = section4_octets p.payload in
+    let s3 = section3_octets third p.subsets flags in
+    let s4 = section4_octets fourth in
     let end = codes "7777" in
-    let three3 = three_octets (7 + 2 * length p.descriptors) in
-    both s0 (s1 ++ (s2 ++ (s3 ++ (s4 ++ end)))) (section0_small (message_size p) h.edition (omega (arith, few)) (omega (arith, head.edition)))
+    let long3 : 7 + length third ≡ even_size e (7 + 2 * length p.descriptors) = length-evened e 7 words ∙ ap (λ (k : ℕ). even_size e (7 + k)) (length-octets_of_words p.descriptors) in
+    let long4 : 4 + length fourth ≡ even_size e (4 + length p.payload) = length-evened e 4 p.payload in
+    let edition_small : e < 256 = edition-cases e head.edition (λ is. omega (arith, is)) (λ is. omega (arith, is)) in
+    both s0 (s1 ++ (s2 ++ (s3 ++ (s4 ++ end)))) (section0_small n e (omega (arith, few)) edition_small)
     (both s1 (s2 ++ (s3 ++ (s4 ++ end)))
-    (both (three_octets (22 + length p.local1) ++ head_octets h (is_some p.section2)) p.local1
-    (both (three_octets (22 + length p.local1)) (head_octets h (is_some p.section2)) (three_small (22 + length p.local1) (omega (arith, few))) (head_small h (is_some p.section2) head)) local1)
-    (both s2 (s3 ++ (s4 ++ end)) (section2_small p.section2 (message_size p) (omega (arith, few)) (section2_least h p) section2)
-    (both s3 (s4 ++ end) (section3_small p.descriptors p.subsets flags (omega (arith, few)) subsets (flags_small p.observed p.compressed) descriptors)
-    (both s4 end (plain_small p.payload (omega (arith, few)) payload) (omega arith, (omega arith, (omega arith, (omega arith, tt))))))))
+    (both (three_octets (least + length p.local1) ++ head_octets h (is_some p.section2)) p.local1
+    (both (three_octets (least + length p.local1)) (head_octets h (is_some p.section2)) (three_small (least + length p.local1) (omega (arith, few))) (head-small h (is_some p.section2) head)) local1)
+    (both s2 (s3 ++ (s4 ++ end)) (section2_small p.section2 n (omega (arith, few)) (section2_least e p) section2)
+    (both s3 (s4 ++ end) (section3_small third p.subsets flags (omega (arith, few, long3)) subsets (flags_small p.observed p.compressed) (evened_small e 7 words (words_small p.descriptors descriptors)))
+    (both s4 end (plain_small fourth (omega (arith, few, long4)) (evened_small e 4 p.payload payload)) (omega arith, (omega arith, (omega arith, (omega arith, tt))))))))
   where
     section0_small : (size edition : ℕ) → size < 2 ^ 24 → edition < 256 → AllByRecursion IsOctet (section0_octets size edition)
     section0_small size edition h g = let t = three_small size h in (omega arith, (omega arith, (omega arith, (omega arith, (t.0, (t.1.0, (t.1.1.0, (g, tt))))))))
 
-    section3_small : (words : List ℕ) (subsets flags : ℕ) → 7 + 2 * length words < 2 ^ 24 → subsets < 65536 → flags < 256 → AllByRecursion IsWord words → AllByRecursion IsOctet (section3_octets words subsets flags)
-    section3_small words subsets flags h g f w =
-        let t = three_small (7 + 2 * length words) h in
-        (t.0, (t.1.0, (t.1.1.0, (omega arith, (high_small subsets g, (low_small subsets, (f, words_small words w)))))))
+    section3_small : (content : List ℕ) (subsets flags : ℕ) → 7 + length content < 2 ^ 24 → subsets < 65536 → flags < 256 → AllByRecursion IsOctet content → AllByRecursion IsOctet (section3_octets content subsets flags)
+    section3_small content subsets flags h g f w =
+        let t = three_small (7 + length content) h in
+        (t.0, (t.1.0, (t.1.1.0, (omega arith, (high_small subsets g, (low_small subsets, (f, w)))))))
 
 -- ---- the scan
 
@@ -124,22 +135,22 @@ ends_with front t k e =
     ap (λ x. bytes_eq (take 4 (drop k x)) (codes "7777")) (append_assoc front (codes "7777") t)
     ∙ ap (λ x. bytes_eq (take 4 x) (codes "7777")) (drop_at front (codes "7777" ++ t) k e)
 
-pub framed : (h : Head) (p : Parts) (at : ℕ) (t : List ℕ) → length (message_octets h p) ≡ message_size p → scan_from 0 at (message_octets h p ++ t) ≡ Framed at (message_octets h p) ∷ scan_from 0 (at + length (message_octets h p)) t
+pub framed : (h : Head) (p : Parts) (at : ℕ) (t : List ℕ) → length (message_octets h p) ≡ message_size h.edition p → scan_from 0 at (message_octets h p ++ t) ≡ Framed at (message_octets h p) ∷ scan_from 0 (at + length (message_octets h p)) t
 framed h p at t long =
-    let n = message_size p in
+    let n = message_size h.edition p in
     let m = message_octets h p in
     let s0 = section0_octets n h.edition in
     let s1 = section1_octets h p.local1 (is_some p.section2) in
     let s2 = section2_octets p.section2 in
-    let s3 = section3_octets p.descriptors p.subsets (data_flags p.observed p.compressed) in
-    let s4 = section4_octets p.payload in
+    let s3 = section3_octets (evened h.edition 7 (octets_of_words p.descriptors)) p.subsets (data_flags p.observed p.compressed) in
+    let s4 = section4_octets (evened h.edition 4 p.payload) in
     let end = codes "7777" in
     let front = s0 ++ (s1 ++ (s2 ++ (s3 ++ s4))) in
     let split : m ≡ front ++ end =
     ap (λ x. s0 ++ (s1 ++ (s2 ++ x))) (sym (append_assoc s3 s4 end)) ∙ ap (λ x. s0 ++ (s1 ++ x)) (sym (append_assoc s2 (s3 ++ s4) end))
     ∙ ap (λ x. s0 ++ x) (sym (append_assoc s1 (s2 ++ (s3 ++ s4)) end)) ∙ sym (append_assoc s0 (s1 ++ (s2 ++ (s3 ++ s4))) end) in
     let is : stated (m ++ t) ≡ n = three-number n in
-    let least : 45 ≤ n = omega arith in
+    let least : 12 ≤ n = omega arith in
     let at_end : length front ≡ n - 4 = omega (arith, long, ap length split, length-append front end) in
     let whole : length (m ++ t) ≡ n + length t = length-append m t ∙ ap (λ k. k + length t) long in
     let last : stands end (stated (m ++ t) - 4) (m ++ t) ≡ true = ap (λ k. stands end (k - 4) (m ++ t)) is ∙ ap (λ x. stands end (n - 4) (x ++ t)) split ∙ ends_with front t (n - 4) at_end in

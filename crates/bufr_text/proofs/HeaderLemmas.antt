@@ -1,12 +1,15 @@
 -- The values of a header, and what holds of a place behind each line.
 use Rattle.std.proofs.Common.{◌≡◌, ℕ, zero, suc, ◌+◌, ◌<◌, ◌≤◌, ◌==◌, ◌&&◌, not, nat_le, Bool, true, false, if◌then◌else◌, List, [], ◌∷◌, ◌++◌, length, refl, sym, ap, subst, ◌∙◌, arith, length-append}
-use Rattle.std.specs.Prelude.{slice_index}
+use Rattle.std.specs.Prelude.{slice_index, ◌||◌}
 use Rattle.std.proofs.lemmas.Bool.Decides.{nat_tests}
 use Rattle.bufr_bits.proofs.ScaledLemmas.{and_first, and_second}
-use Rattle.bufr_text.specs.Document.{Document, Entry, Holds, Ends, optional_in, subsets_in}
+use Rattle.bufr_frame.specs.Layout.{IsFitting}
+use Rattle.bufr_frame.specs.Section1.{Field, Master, Centre, Subcentre, Update, Flags, Category, Subcategory, LocalSubcategory, MasterVersion, LocalVersion, Year, Month, Day, Hour, Minute, Second, is_edition, most_in, slots_of, slots_3, slots_4}
+use Rattle.bufr_frame.specs.Section1 as section1
+use Rattle.bufr_text.specs.Document.{Document, Entry, Holds, Ends, edition_in, optional_in, subsets_in}
 use Rattle.bufr_text.specs.Line.{Line, Passed, Opens, Header, Local1, Section2, Descriptors, Begins, Item, Closes, Wrong, keys, leasts, mosts}
 use Rattle.bufr_text.specs.Documents.{Place, Between, Heading, Laying, Filling, Stopped, Turn, Goes, Gives, Faults, NotAllowed, SubsetCount, HeaderRange, in_range, heading, laying, filling, beginning, closing, with_value, with_local1, with_section2, with_entry, turn}
-use Rattle.bufr_text.specs.Header.{are_in_range, IsHeaded}
+use Rattle.bufr_text.specs.Header.{are_in_range, head_in, IsHeaded}
 use Rattle.bufr_text.specs.Step.{Stands, StandsAfter}
 use Rattle.bufr_fill.specs.Draft.{draft}
 
@@ -17,33 +20,123 @@ both a b h k = rw (h, k) refl
 below : (a b c : ℕ) → (nat_le a b && nat_le b c) ≡ true → b ≤ c
 below a b c h = let le : nat_le b c ≡ true = and_second (nat_le a b) (nat_le b c) h in grind (arith, nat_tests, le)
 
-value-most : (k i : ℕ) (xs : List ℕ) → are_in_range k xs ≡ true → slice_index xs i ≤ slice_index mosts (k + i)
-value-most k i [] h = omega arith
-value-most k zero (x ∷ xs) h =
+value-most : (e k i : ℕ) (xs : List ℕ) → are_in_range e k xs ≡ true → slice_index xs i ≤ slice_index (mosts (slots_of e)) (k + i)
+value-most e k i [] h = omega arith
+value-most e k zero (x ∷ xs) h =
     let same : k + 0 ≡ k = omega arith in
-    subst (λ (n : ℕ). x ≤ slice_index mosts n) (sym same) (below (slice_index leasts k) x (slice_index mosts k) (and_first (in_range k x) (are_in_range (k + 1) xs) h))
-value-most k (suc i) (x ∷ xs) h =
+    subst (λ (n : ℕ). x ≤ slice_index (mosts (slots_of e)) n) (sym same) (below (slice_index leasts k) x (slice_index (mosts (slots_of e)) k) (and_first (in_range e k x) (are_in_range e (k + 1) xs) h))
+value-most e k (suc i) (x ∷ xs) h =
     let same : k + 1 + i ≡ k + suc i = omega arith in
-    subst (λ (n : ℕ). slice_index xs i ≤ slice_index mosts n) same (value-most (k + 1) i xs (and_second (in_range k x) (are_in_range (k + 1) xs) h))
+    subst (λ (n : ℕ). slice_index xs i ≤ slice_index (mosts (slots_of e)) n) same (value-most e (k + 1) i xs (and_second (in_range e k x) (are_in_range e (k + 1) xs) h))
 
-pub header-most : (d : Document) (i : ℕ) → IsHeaded d → slice_index d.header i ≤ slice_index mosts i
+pub header-most : (d : Document) (i : ℕ) → IsHeaded d → slice_index d.header i ≤ slice_index (mosts (slots_of (edition_in d))) i
 header-most d i h =
     let same : 0 + i ≡ i = omega arith in
-    subst (λ (n : ℕ). slice_index d.header i ≤ slice_index mosts n) same (value-most 0 i d.header h.ranges)
+    subst (λ (n : ℕ). slice_index d.header i ≤ slice_index (mosts (slots_of (edition_in d))) n) same (value-most (edition_in d) 0 i d.header h.ranges)
 
 pub subsets-few : (d : Document) → IsHeaded d → subsets_in d < 65536
 unfolding keys
 subsets-few d h = let most : slice_index d.header 19 ≤ 65535 = header-most d 19 h in omega (arith, most)
 
+-- the greatest values as the reader has them
+pub mosts-3 : (e : ℕ) → e ≡ 3 → mosts (slots_of e) ≡ 4 ∷ 255 ∷ 255 ∷ 255 ∷ 255 ∷ 255 ∷ 255 ∷ 0 ∷ 255 ∷ 255 ∷ 255 ∷ 255 ∷ 255 ∷ 255 ∷ 255 ∷ 0 ∷ 1 ∷ 1 ∷ 1 ∷ 65535 ∷ []
+unfolding keys
+mosts-3 e is = ap (λ (n : ℕ). mosts (slots_of n)) is
+
+not-3 : (e : ℕ) → (e ≡ 3 → ⊥) → (e == 3) ≡ false
+not-3 e other = by (e == 3) refl
+  where
+    by : (b : Bool) → (e == 3) ≡ b → b ≡ false
+    by true is = let three : e ≡ 3 = grind (arith, nat_tests, is) in absurd (other three)
+    by false is = refl
+
+pub mosts-4 : (e : ℕ) → (e ≡ 3 → ⊥) → mosts (slots_of e) ≡ 4 ∷ 255 ∷ 65535 ∷ 65535 ∷ 255 ∷ 255 ∷ 255 ∷ 255 ∷ 255 ∷ 255 ∷ 65535 ∷ 255 ∷ 255 ∷ 255 ∷ 255 ∷ 255 ∷ 1 ∷ 1 ∷ 1 ∷ 65535 ∷ []
+unfolding keys
+mosts-4 e other = ap (λ (b : Bool). mosts (if b then slots_3 else slots_4)) (not-3 e other)
+
+-- no range of edition 3 is wider than that of edition 4
+none-above : List ℕ → List ℕ → Bool
+none-above [] bs = true
+none-above (a ∷ xs) [] = false
+none-above (a ∷ xs) (b ∷ bs) = nat_le a b && none-above xs bs
+
+no-wider : (xs bs : List ℕ) (i : ℕ) → none-above xs bs ≡ true → slice_index xs i ≤ slice_index bs i
+unfolding none-above
+no-wider [] bs i h = omega arith
+no-wider (a ∷ xs) [] i h = absurd cc
+no-wider (a ∷ xs) (b ∷ bs) zero h = let le : nat_le a b ≡ true = and_first (nat_le a b) (none-above xs bs) h in grind (arith, nat_tests, le)
+no-wider (a ∷ xs) (b ∷ bs) (suc i) h = no-wider xs bs i (and_second (nat_le a b) (none-above xs bs) h)
+
+widest : (third : Bool) (i : ℕ) → slice_index (mosts (if third then slots_3 else slots_4)) i ≤ slice_index (mosts slots_4) i
+unfolding keys none-above
+widest false i = omega arith
+widest true i = no-wider (mosts slots_3) (mosts slots_4) i refl
+
+pub header-widest : (d : Document) (i : ℕ) → IsHeaded d → slice_index d.header i ≤ slice_index (mosts slots_4) i
+header-widest d i h = omega (arith, header-most d i h, widest (edition_in d == 3) i)
+
+-- the head can be written
+value-least : (e : ℕ) (xs : List ℕ) → 0 < length xs → are_in_range e 0 xs ≡ true → in_range e 0 (slice_index xs 0) ≡ true
+value-least e [] some h = absurd (omega (arith, some))
+value-least e (x ∷ xs) some h = and_first (in_range e 0 x) (are_in_range e 1 xs) h
+
+known : (n : ℕ) → (nat_le 3 n && nat_le n 4) ≡ true → is_edition n ≡ true
+known n h =
+    let a : nat_le 3 n ≡ true = and_first (nat_le 3 n) (nat_le n 4) h in
+    let b : nat_le n 4 ≡ true = and_second (nat_le 3 n) (nat_le n 4) h in
+    let c : 3 ≤ n = grind (arith, nat_tests, a) in
+    let e : n ≤ 4 = grind (arith, nat_tests, b) in
+    by (n == 3) refl c e
+  where
+    by : (b : Bool) → (n == 3) ≡ b → 3 ≤ n → n ≤ 4 → (b || (n == 4)) ≡ true
+    by true f c e = refl
+    by false f c e =
+        let other : n ≡ 3 → ⊥ = λ is. (let g : (n == 3) ≡ true = grind (arith, nat_tests, is) in cc) in
+        let four : n ≡ 4 = omega (arith, other, c, e) in
+        grind (arith, nat_tests, four)
+
+pub headed-fits : (d : Document) → IsHeaded d → IsFitting (head_in d)
+unfolding keys
+headed-fits d h = record { edition = known (edition_in d) (value-least (edition_in d) d.header (omega (arith, h.whole)) h.ranges); fits = fits d h }
+  where
+    fits : (d : Document) → IsHeaded d → (field : Field) → section1.said (head_in d) false field ≤ most_in (slots_of (edition_in d)) field
+    fits d h Master = header-most d 1 h
+    fits d h Centre = header-most d 2 h
+    fits d h Subcentre = header-most d 3 h
+    fits d h Update = header-most d 4 h
+    fits d h Flags = omega arith
+    fits d h Category = header-most d 5 h
+    fits d h Subcategory = header-most d 6 h
+    fits d h LocalSubcategory = header-most d 7 h
+    fits d h MasterVersion = header-most d 8 h
+    fits d h LocalVersion = header-most d 9 h
+    fits d h Year = header-most d 10 h
+    fits d h Month = header-most d 11 h
+    fits d h Day = header-most d 12 h
+    fits d h Hour = header-most d 13 h
+    fits d h Minute = header-most d 14 h
+    fits d h Second = header-most d 15 h
+
 -- one more value in its range
-ranges-more : (k : ℕ) (xs : List ℕ) (v : ℕ) → are_in_range k xs ≡ true → in_range (k + length xs) v ≡ true → are_in_range k (xs ++ v ∷ []) ≡ true
-ranges-more k [] v h e =
+ranges-more : (e k : ℕ) (xs : List ℕ) (v : ℕ) → are_in_range e k xs ≡ true → in_range e (k + length xs) v ≡ true → are_in_range e k (xs ++ v ∷ []) ≡ true
+ranges-more e k [] v h g =
     let same : k + 0 ≡ k = omega arith in
-    both (in_range k v) true (ap (λ (n : ℕ). in_range n v) (sym same) ∙ e) refl
-ranges-more k (x ∷ xs) v h e =
+    both (in_range e k v) true (ap (λ (n : ℕ). in_range e n v) (sym same) ∙ g) refl
+ranges-more e k (x ∷ xs) v h g =
     let same : k + 1 + length xs ≡ k + suc (length xs) = omega arith in
-    both (in_range k x) (are_in_range (k + 1) (xs ++ v ∷ [])) (and_first (in_range k x) (are_in_range (k + 1) xs) h)
-    (ranges-more (k + 1) xs v (and_second (in_range k x) (are_in_range (k + 1) xs) h) (ap (λ (n : ℕ). in_range n v) same ∙ e))
+    both (in_range e k x) (are_in_range e (k + 1) (xs ++ v ∷ [])) (and_first (in_range e k x) (are_in_range e (k + 1) xs) h)
+    (ranges-more e (k + 1) xs v (and_second (in_range e k x) (are_in_range e (k + 1) xs) h) (ap (λ (n : ℕ). in_range e n v) same ∙ g))
+
+-- the range of the edition itself goes by no edition
+pub any-edition : (a b v : ℕ) → in_range a 0 v ≡ in_range b 0 v
+unfolding keys
+any-edition a b v = refl
+
+ranges-again : (xs : List ℕ) (v : ℕ) → are_in_range (slice_index xs 0) 0 xs ≡ true → in_range (slice_index xs 0) (length xs) v ≡ true → are_in_range (slice_index (xs ++ v ∷ []) 0) 0 (xs ++ v ∷ []) ≡ true
+ranges-again [] v h g = both (in_range v 0 v) true (any-edition v 0 v ∙ g) refl
+ranges-again (x ∷ xs) v h g =
+    let same : length (x ∷ xs) ≡ 0 + length (x ∷ xs) = omega arith in
+    ranges-more x 0 (x ∷ xs) v h (ap (λ (n : ℕ). in_range x n v) (sym same) ∙ g)
 
 pub later : (at : ℕ) (place : Place) → Stands at place → Stands (at + 1) place
 later at Between s = tt
@@ -67,25 +160,22 @@ not-false : (b : Bool) → not b ≡ false → b ≡ true
 not-false true e = refl
 not-false false e = absurd cc
 
-length-key : (d : Document) (key : ℕ) → key ≡ length d.header → 0 + length d.header ≡ key
-length-key d key same = omega (arith, same)
-
-value-so : (at key value : ℕ) (d : Document) (b : Bool) → (key == 19) ≡ b → length d.header < 20 → are_in_range 0 d.header ≡ true → length d.entries < at → key ≡ length d.header → in_range key value ≡ true
+value-so : (at key value : ℕ) (d : Document) (b : Bool) → (key == 19) ≡ b → length d.header < 20 → are_in_range (edition_in d) 0 d.header ≡ true → length d.entries < at → key ≡ length d.header → in_range (edition_in d) key value ≡ true
     → Stands (at + 1) (if b then Laying 0 (with_value d value) else Heading (with_value d value))
 value-so at key value d true last few ranges lines same fits =
     let is : key ≡ 19 = grind (arith, nat_tests, last) in
-    (record { whole = omega (arith, length-append d.header (value ∷ []), is, same); ranges = ranges-more 0 d.header value ranges (ap (λ (n : ℕ). in_range n value) (length-key d key same) ∙ fits) }, omega (arith, lines))
+    (record { whole = omega (arith, length-append d.header (value ∷ []), is, same); ranges = ranges-again d.header value ranges (ap (λ (n : ℕ). in_range (edition_in d) n value) (sym same) ∙ fits) }, omega (arith, lines))
 value-so at key value d false last few ranges lines same fits =
     let other : key ≡ 19 → ⊥ = λ is. (let e : (key == 19) ≡ true = grind (arith, nat_tests, is) in cc) in
-    (omega (arith, length-append d.header (value ∷ []), other, same, few), ranges-more 0 d.header value ranges (ap (λ (n : ℕ). in_range n value) (length-key d key same) ∙ fits), omega (arith, lines))
+    (omega (arith, length-append d.header (value ∷ []), other, same, few), ranges-again d.header value ranges (ap (λ (n : ℕ). in_range (edition_in d) n value) (sym same) ∙ fits), omega (arith, lines))
 
-heading-so : (at key value : ℕ) (d : Document) → length d.header < 20 → are_in_range 0 d.header ≡ true → length d.entries < at → StandsAfter at (heading d (Header key value))
+heading-so : (at key value : ℕ) (d : Document) → length d.header < 20 → are_in_range (edition_in d) 0 d.header ≡ true → length d.entries < at → StandsAfter at (heading d (Header key value))
 heading-so at key value d few ranges lines =
     let taken : Turn = Goes (if key == 19 then Laying 0 (with_value d value) else Heading (with_value d value)) in
-    let ranged : Turn = if not (in_range key value) then Faults HeaderRange else taken in
+    let ranged : Turn = if not (in_range (edition_in d) key value) then Faults HeaderRange else taken in
     if-so at (not (key == length d.header)) (Faults NotAllowed) ranged (λ e. tt) (λ e.
-    if-so at (not (in_range key value)) (Faults HeaderRange) taken (λ f. tt) (λ f.
-    value-so at key value d (key == 19) refl few ranges lines (same-key key (length d.header) e) (not-false (in_range key value) f)))
+    if-so at (not (in_range (edition_in d) key value)) (Faults HeaderRange) taken (λ f. tt) (λ f.
+    value-so at key value d (key == 19) refl few ranges lines (same-key key (length d.header) e) (not-false (in_range (edition_in d) key value) f)))
 
 subset-few : (a b n : ℕ) → ((a == b) && nat_le a n) ≡ true → a ≤ n
 subset-few a b n h = let le : nat_le a n ≡ true = and_second (a == b) (nat_le a n) h in grind (arith, nat_tests, le)

@@ -1,9 +1,13 @@
 -- A dump text spells the document of its message, and nothing else.
-use Rattle.std.proofs.Common.{◌≡◌, ℕ, ◌+◌, ◌<◌, ◌≤◌, ◌&&◌, nat_le, Bool, true, false, List, [], ◌∷◌, ◌++◌, length, refl, sym, ap, ◌∙◌, arith, append_assoc, append-nil, length-append, map, codes, Option, Some, None}
+use Rattle.std.proofs.Common.{◌≡◌, ℕ, ◌+◌, ◌<◌, ◌≤◌, ◌&&◌, nat_le, Bool, true, false, if◌then◌else◌, List, [], ◌∷◌, ◌++◌, length, refl, sym, ap, ◌∙◌, arith, append_assoc, append-nil, length-append, map, codes, Option, Some, None}
 use Rattle.std.specs.Prelude.{is_some, unwrap_or}
 use Rattle.std.specs.List.{concat, AllByRecursion}
 use Rattle.std.proofs.lemmas.List.{length-map}
 use Rattle.std.proofs.lemmas.Bool.Decides.{nat_tests}
+use Rattle.bufr_frame.proofs.AgainLemmas.{edition-cases}
+use Rattle.bufr_frame.specs.Layout.{IsFitting}
+use Rattle.bufr_frame.specs.Section1.{Field, Master, Centre, Subcentre, Update, Category, Subcategory, LocalSubcategory, MasterVersion, LocalVersion, Year, Month, Day, Hour, Minute, Second, Slot, Single, Double, is_edition, is_for, most, most_in, slots_of}
+use Rattle.bufr_frame.specs.Section1 as section1
 use Rattle.bufr_frame.specs.Sections.{Sections}
 use Rattle.bufr_text.specs.Document.{Document, blank}
 use Rattle.bufr_text.specs.Grammar.{runs_of, runs_behind}
@@ -11,7 +15,7 @@ use Rattle.bufr_text.specs.Line.{Line, Opens, Local1, Section2, Descriptors, key
 use Rattle.bufr_text.specs.Documents.{Between, Heading, Spelled, turn, spelled, lines_of, documents_of}
 use Rattle.bufr_text.specs.Dump.{header_of, bit, header_lines, header_line, local1_line, section2_line, descriptors_line, subset_line, subset_lines, item_text, head_lines, dump_lines, dump_text_of, text_of, subset_entries, document_of, lines_before}
 use Rattle.bufr_text.specs.Dump as dump
-use Rattle.bufr_text.specs.Given.{IsOctet, IsWord, IsItem, IsHead, IsDumpable}
+use Rattle.bufr_text.specs.Given.{IsOctet, IsWord, IsItem, IsDumpable}
 use Rattle.bufr_text.proofs.CleanLemmas.{IsLineOf, header-line, local1-line, section2-line, descriptors-line, subset-line, item-line, message-line, end-line}
 use Rattle.bufr_text.proofs.RunsLemmas.{IsRun, runs-are, concat-runs}
 use Rattle.bufr_text.proofs.LinesLemmas.{IsAbove, lines-back}
@@ -25,89 +29,32 @@ bit-few : (on : Bool) → bit on ≤ 1
 bit-few true = omega arith
 bit-few false = omega arith
 
-header-fits : (s : Sections) → IsHead s.head → s.subsets < 65536 → InRange 0 (header_of s)
+most-few : (slots : List Slot) (field : Field) → most_in slots field ≤ 65535
+most-few [] field = omega arith
+most-few (slot ∷ more) field = pick (is_for field slot) (most slot) (most_in more field) (widest slot) (most-few more field)
+  where
+    widest : (slot : Slot) → most slot ≤ 65535
+    widest (Single field) = omega arith
+    widest (Double field) = omega arith
+
+    pick : (b : Bool) (x y : ℕ) → x ≤ 65535 → y ≤ 65535 → (if b then x else y) ≤ 65535
+    pick true x y h k = h
+    pick false x y h k = k
+
+edition-few : (edition : ℕ) → is_edition edition ≡ true → ((nat_le 3 edition && nat_le edition 4) ≡ true) × (edition < 65536)
+edition-few edition known = edition-cases edition known
+    (λ is. (up_to 3 4 edition (omega (arith, is)) (omega (arith, is)), omega (arith, is)))
+    (λ is. (up_to 3 4 edition (omega (arith, is)) (omega (arith, is)), omega (arith, is)))
+
+header-fits : (s : Sections) → IsFitting s.head → s.subsets < 65536 → InRange s.head.edition 0 (header_of s)
 unfolding keys
 header-fits s h few =
-    let octet : (v : ℕ) → v < 256 → (((nat_le 0 v && nat_le v 255) ≡ true) × (v < 65536)) = λ v b. (up_to 0 255 v (omega arith) (omega arith), omega arith) in
-    let word : (v : ℕ) → v < 65536 → (((nat_le 0 v && nat_le v 65535) ≡ true) × (v < 65536)) = λ v b. (up_to 0 65535 v (omega arith) (omega arith), omega arith) in
+    let slots = slots_of s.head.edition in
+    let held : (field : Field) → (((nat_le 0 (section1.said s.head false field) && nat_le (section1.said s.head false field) (most_in slots field)) ≡ true) × (section1.said s.head false field < 65536)) =
+    λ field. (up_to 0 (most_in slots field) (section1.said s.head false field) (omega arith) (h.fits field), omega (arith, h.fits field, most-few slots field)) in
     let flag : (v : ℕ) → v ≤ 1 → (((nat_le 0 v && nat_le v 1) ≡ true) × (v < 65536)) = λ v b. (up_to 0 1 v (omega arith) (omega arith), omega arith) in
-    let o = λ (v : ℕ) (b : v < 256). octet v b in (
-      up_to 4 4 s.head.edition (omega (arith, h.edition)) (omega (arith, h.edition)),
-      omega (arith, h.edition),
-      (
-        (octet s.head.master h.master).0,
-        (octet s.head.master h.master).1,
-        (
-          (word s.head.centre h.centre).0,
-          (word s.head.centre h.centre).1,
-          (
-            (word s.head.subcentre h.subcentre).0,
-            (word s.head.subcentre h.subcentre).1,
-            (
-              (octet s.head.update h.update).0,
-              (octet s.head.update h.update).1,
-              (
-                (octet s.head.category h.category).0,
-                (octet s.head.category h.category).1,
-                (
-                  (octet s.head.subcategory h.subcategory).0,
-                  (octet s.head.subcategory h.subcategory).1,
-                  (
-                    (octet s.head.local_subcategory h.local_subcategory).0,
-                    (octet s.head.local_subcategory h.local_subcategory).1,
-                    (
-                      (octet s.head.master_version h.master_version).0,
-                      (octet s.head.master_version h.master_version).1,
-                      (
-                        (octet s.head.local_version h.local_version).0,
-                        (octet s.head.local_version h.local_version).1,
-                        (
-                          (word s.head.year h.year).0,
-                          (word s.head.year h.year).1,
-                          (
-                            (octet s.head.month h.month).0,
-                            (octet s.head.month h.month).1,
-                            (
-                              (octet s.head.day h.day).0,
-                              (octet s.head.day h.day).1,
-                              (
-                                (octet s.head.hour h.hour).0,
-                                (octet s.head.hour h.hour).1,
-                                (
-                                  (octet s.head.minute h.minute).0,
-                                  (octet s.head.minute h.minute).1,
-                                  (
-                                    (octet s.head.second h.second).0,
-                                    (octet s.head.second h.second).1,
-                                    (
-                                      (flag (bit s.observed) (bit-few s.observed)).0,
-                                      (flag (bit s.observed) (bit-few s.observed)).1,
-                                      (
-                                        (flag (bit s.compressed) (bit-few s.compressed)).0,
-                                        (flag (bit s.compressed) (bit-few s.compressed)).1,
-                                        (
-                                          (flag (bit (is_some s.section2)) (bit-few (is_some s.section2))).0,
-                                          (flag (bit (is_some s.section2)) (bit-few (is_some s.section2))).1,
-                                          ((word s.subsets few).0, (word s.subsets few).1, tt),
-                                        ),
-                                      ),
-                                    ),
-                                  ),
-                                ),
-                              ),
-                            ),
-                          ),
-                        ),
-                      ),
-                    ),
-                  ),
-                ),
-              ),
-            ),
-          ),
-        ),
-      ),
-    )
+    let edition = edition-few s.head.edition h.edition in
+    (edition.0, edition.1, ((held Master).0, (held Master).1, ((held Centre).0, (held Centre).1, ((held Subcentre).0, (held Subcentre).1, ((held Update).0, (held Update).1, ((held Category).0, (held Category).1, ((held Subcategory).0, (held Subcategory).1, ((held LocalSubcategory).0, (held LocalSubcategory).1, ((held MasterVersion).0, (held MasterVersion).1, ((held LocalVersion).0, (held LocalVersion).1, ((held Year).0, (held Year).1, ((held Month).0, (held Month).1, ((held Day).0, (held Day).1, ((held Hour).0, (held Hour).1, ((held Minute).0, (held Minute).1, ((held Second).0, (held Second).1, ((flag (bit s.observed) (bit-few s.observed)).0, (flag (bit s.observed) (bit-few s.observed)).1, ((flag (bit s.compressed) (bit-few s.compressed)).0, (flag (bit s.compressed) (bit-few s.compressed)).1, ((flag (bit (is_some s.section2)) (bit-few (is_some s.section2))).0, (flag (bit (is_some s.section2)) (bit-few (is_some s.section2))).1, (up_to 0 65535 s.subsets (omega arith) (omega (arith, few)), few, tt))))))))))))))))))))
 
 -- section 2 has lines only where it is there
 optional-there : (section2 : Option (List ℕ)) → 0 < length (runs_of 32 (unwrap_or section2 [])) → bit (is_some section2) ≡ 1
@@ -122,7 +69,7 @@ document_with line header local1 section2 descriptors subsets at =
 
 header-tail : Sections → List ℕ
 header-tail s = let h = s.head in
-    h.master ∷ h.centre ∷ h.subcentre ∷ h.update ∷ h.category ∷ h.subcategory ∷ h.local_subcategory ∷ h.master_version
+    h.centre ∷ h.subcentre ∷ h.update ∷ h.category ∷ h.subcategory ∷ h.local_subcategory ∷ h.master_version
     ∷ h.local_version ∷ h.year ∷ h.month ∷ h.day ∷ h.hour ∷ h.minute ∷ h.second ∷ bit s.observed ∷ bit s.compressed
     ∷ bit (is_some s.section2) ∷ s.subsets ∷ []
 
@@ -148,7 +95,7 @@ all-lines-run s subsets at more given =
     let B = map section2_line b ++ C in
     let A = map local1_line a ++ B in
     goes at Between (Heading d0) (codes "message") Opens (header_lines 0 (header_of s) ++ A) message-line refl
-    ∙ header-run 0 s.head.edition (header-tail s) d0 (at + 1) A (omega arith) refl (header-fits s given.head given.few)
+    ∙ header-run s.head.edition s.head.master (header-tail s) at (at + 1) A refl (header-fits s given.head given.few)
     ∙ local1-run a d1 (at + 1 + 1 + 19) B (runs-are IsOctet 31 s.local1 given.local1)
     ∙ section2-run b 0 d2 (at + 1 + 1 + 19 + length a) C (omega arith) (λ some. optional-there s.section2 some) (runs-are IsOctet 31 (unwrap_or s.section2 []) given.section2)
     ∙ descriptors-run c (laid 0 b 1) d3 (at + 1 + 1 + 19 + length a + length b) D (runs-are IsWord 7 s.descriptors given.descriptors)
@@ -220,10 +167,10 @@ above-both : (a b : List (List ℕ)) → AllByRecursion IsAbove a → AllByRecur
 above-both [] b x y = y
 above-both (line ∷ a) b (here, x) y = (here, above-both a b x y)
 
-above-header : (k : ℕ) (values : List ℕ) → k + length values ≤ 20 → InRange k values → AllByRecursion IsAbove (header_lines k values)
+above-header : (edition k : ℕ) (values : List ℕ) → k + length values ≤ 20 → InRange edition k values → AllByRecursion IsAbove (header_lines k values)
 unfolding header_lines
-above-header k [] few fits = tt
-above-header k (v ∷ values) few (range, small, fits) = ((header-line k v (omega (arith, few)) small).clean, above-header (k + 1) values (omega (arith, few)) fits)
+above-header e k [] few fits = tt
+above-header e k (v ∷ values) few (range, small, fits) = ((header-line k v (omega (arith, few)) small).clean, above-header e (k + 1) values (omega (arith, few)) fits)
 
 above-runs : (P : ℕ → Type 0) (most : ℕ) (line : List ℕ → List ℕ) (meaning : List ℕ → Line) (is : (xs : List ℕ) → AllByRecursion P xs → 0 < length xs → length xs ≤ most → IsLineOf (line xs) (meaning xs))
     (runs : List (List ℕ)) → AllByRecursion (IsRun P most) runs → AllByRecursion IsAbove (map line runs)
@@ -252,7 +199,7 @@ above-dump s subsets given =
     let A = map local1_line a ++ B in
     above-both (head_lines s) D (
       message-line.clean,
-      above-both (header_lines 0 (header_of s)) A (above-header 0 (header_of s) (omega arith) (header-fits s given.head given.few))
+      above-both (header_lines 0 (header_of s)) A (above-header s.head.edition 0 (header_of s) (omega arith) (header-fits s given.head given.few))
           (above-both (map local1_line a) B (above-runs IsOctet 32 local1_line Local1 local1-line a (runs-are IsOctet 31 s.local1 given.local1))
           (above-both (map section2_line b) C (above-runs IsOctet 32 section2_line Section2 section2-line b (runs-are IsOctet 31 (unwrap_or s.section2 []) given.section2))
           (above-runs IsWord 8 descriptors_line Descriptors descriptors-line c (runs-are IsWord 7 s.descriptors given.descriptors)))),

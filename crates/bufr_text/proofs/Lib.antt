@@ -11,13 +11,14 @@ pub mod EncodePacked
 pub mod EncodePlain
 pub mod EncodeWhole
 pub mod EncodedLemmas
-pub mod FormLemmas
 pub mod EncodesLemmas
 mod EncodingExamples
-mod FormExamples
 mod Examples
 pub mod FeedLemmas
 pub mod FeedingLemmas
+pub mod FormBack
+mod FormExamples
+pub mod FormLemmas
 pub mod FramedLemmas
 pub mod FxyLemmas
 pub mod GrammarLemmas
@@ -44,7 +45,6 @@ pub mod RunsLemmas
 pub mod ShowingLemmas
 pub mod SpecWords
 pub mod SpelledLemmas
-pub mod StepLemmas
 pub mod TakingLemmas
 pub mod TokenLemmas
 mod TurnsExamples

@@ -1,16 +1,18 @@
 -- The lines of a dump text, one after another, spell one document.
 use Rattle.std.proofs.Common.{◌≡◌, ℕ, ◌+◌, ◌<◌, ◌≤◌, ◌==◌, nat_le, nat_lt, true, false, List, [], ◌∷◌, ◌++◌, length, refl, sym, ap, ◌∙◌, arith, append_assoc, append-nil, length-append, map, codes}
 use Rattle.std.proofs.lemmas.List.{length-map}
+use Rattle.std.specs.Prelude.{slice_index}
 use Rattle.std.specs.List.{concat, AllByRecursion}
 use Rattle.std.proofs.lemmas.Bool.Decides.{nat_tests}
 use Rattle.bufr_fill.specs.Draft.{draft}
-use Rattle.bufr_text.specs.Document.{Document, Entry, Holds, Ends, optional_in, subsets_in}
+use Rattle.bufr_text.specs.Document.{Document, Entry, Holds, Ends, blank, edition_in, optional_in, subsets_in}
 use Rattle.bufr_text.specs.Line.{Line, Header, Local1, Section2, Descriptors, Begins, Item, Closes}
 use Rattle.bufr_text.specs.Documents.{Place, Between, Heading, Laying, Filling, Goes, Gives, Spelled, turn, said, spelled, in_range, with_value, with_local1, with_section2, with_descriptors, with_entry}
 use Rattle.bufr_text.specs.Dump.{header_lines, local1_line, section2_line, descriptors_line, subset_line, subset_lines, item_text, form_of, item_entries, subset_entries}
 use Rattle.bufr_text.specs.Dump as dump
 use Rattle.bufr_text.specs.Given.{IsOctet, IsWord, IsItem}
 use Rattle.bufr_text.proofs.CleanLemmas.{IsLineOf, header-line, local1-line, section2-line, descriptors-line, subset-line, item-line, end-line}
+use Rattle.bufr_text.proofs.HeaderLemmas.{any-edition}
 use Rattle.bufr_text.proofs.RunsLemmas.{IsRun}
 
 -- a line is said whole
@@ -34,9 +36,9 @@ gives at place d line meaning more is e = rw (said-is line meaning is, e) refl
 abbrev pub with_header : Document → List ℕ → Document
 with_header d values = record d { header = values }
 
-abbrev pub InRange : (key : ℕ) → List ℕ → Type 0
-InRange key [] = Unit {0}
-InRange key (value ∷ more) = (in_range key value ≡ true) × (value < 65536) × InRange (key + 1) more
+abbrev pub InRange : (edition key : ℕ) → List ℕ → Type 0
+InRange edition key [] = Unit {0}
+InRange edition key (value ∷ more) = (in_range edition key value ≡ true) × (value < 65536) × InRange edition (key + 1) more
 
 same-key : (k : ℕ) (d : Document) → k ≡ length d.header → (k == length d.header) ≡ true
 same-key k d e = grind (arith, nat_tests)
@@ -44,19 +46,41 @@ same-key k d e = grind (arith, nat_tests)
 not-last : (k : ℕ) → k < 19 → (k == 19) ≡ false
 not-last k h = grind (arith, nat_tests)
 
-pub header-run : (k : ℕ) (value : ℕ) (values : List ℕ) (d : Document) (at : ℕ) (more : List (List ℕ)) → k + length values ≡ 19 → k ≡ length d.header → InRange k (value ∷ values)
+-- the edition stays the first value
+first-stays : (xs ys : List ℕ) → 0 < length xs → slice_index (xs ++ ys) 0 ≡ slice_index xs 0
+first-stays [] ys some = absurd (omega (arith, some))
+first-stays (x ∷ xs) ys some = refl
+
+edition-stays : (edition k : ℕ) (d : Document) (value : ℕ) → 0 < k → k ≡ length d.header → edition_in d ≡ edition → edition_in (with_value d value) ≡ edition
+edition-stays edition k d value behind is same = first-stays d.header (value ∷ []) (omega (arith, behind, is)) ∙ same
+
+ranged : (edition k value : ℕ) (d : Document) → edition_in d ≡ edition → in_range edition k value ≡ true → in_range (edition_in d) k value ≡ true
+ranged edition k value d same range = ap (λ (n : ℕ). in_range n k value) same ∙ range
+
+run-on : (edition k : ℕ) (value : ℕ) (values : List ℕ) (d : Document) (at : ℕ) (more : List (List ℕ)) → 0 < k → k + length values ≡ 19 → k ≡ length d.header → edition_in d ≡ edition → InRange edition k (value ∷ values)
     → spelled at (Heading d) (header_lines k (value ∷ values) ++ more) ≡ spelled (at + 1 + length values) (Laying 0 (with_header d (d.header ++ value ∷ values))) more
 unfolding header_lines turn
-header-run k value [] d at more count is (range, small, rest) =
+run-on edition k value [] d at more behind count is same (range, small, rest) =
     let last : k ≡ 19 = omega (arith, count) in
     let is_last : (k == 19) ≡ true = grind (arith, nat_tests, last) in
-    goes at (Heading d) (Laying 0 (with_value d value)) _ (Header k value) more (header-line k value (omega (arith, last)) small) (rw (same-key k d is, range, is_last) refl)
+    goes at (Heading d) (Laying 0 (with_value d value)) _ (Header k value) more (header-line k value (omega (arith, last)) small) (rw (same-key k d is, ranged edition k value d same range, is_last) refl)
     ∙ ap (λ n. spelled n (Laying 0 (with_value d value)) more) (omega arith)
-header-run k value (v ∷ values) d at more count is (range, small, rest) =
-    goes at (Heading d) (Heading (with_value d value)) _ (Header k value) (header_lines (k + 1) (v ∷ values) ++ more) (header-line k value (omega (arith, count)) small) (rw (same-key k d is, range, not-last k (omega (arith, count))) refl)
-    ∙ header-run (k + 1) v values (with_value d value) (at + 1) more (omega (arith, count)) (omega (arith, length-append d.header (value ∷ []), is)) rest
+run-on edition k value (v ∷ values) d at more behind count is same (range, small, rest) =
+    goes at (Heading d) (Heading (with_value d value)) _ (Header k value) (header_lines (k + 1) (v ∷ values) ++ more) (header-line k value (omega (arith, count)) small) (rw (same-key k d is, ranged edition k value d same range, not-last k (omega (arith, count))) refl)
+    ∙ run-on edition (k + 1) v values (with_value d value) (at + 1) more (omega arith) (omega (arith, count)) (omega (arith, length-append d.header (value ∷ []), is)) (edition-stays edition k d value behind is same) rest
     ∙ ap (λ (t : List ℕ). spelled (at + 1 + 1 + length values) (Laying 0 (with_header d t)) more) (append_assoc d.header (value ∷ []) (v ∷ values))
     ∙ ap (λ n. spelled n (Laying 0 (with_header d (d.header ++ value ∷ v ∷ values))) more) (omega arith)
+
+-- the edition comes first, and its range goes by none
+pub header-run : (edition v : ℕ) (values : List ℕ) (line at : ℕ) (more : List (List ℕ)) → length values ≡ 18 → InRange edition 0 (edition ∷ v ∷ values)
+    → spelled at (Heading (blank line)) (header_lines 0 (edition ∷ v ∷ values) ++ more) ≡ spelled (at + 1 + 19) (Laying 0 (with_header (blank line) (edition ∷ v ∷ values))) more
+unfolding header_lines turn
+header-run edition v values line at more count (range, small, rest) =
+    let d = blank line in
+    let first : in_range 0 0 edition ≡ true = any-edition 0 edition edition ∙ range in
+    goes at (Heading d) (Heading (with_value d edition)) _ (Header 0 edition) (header_lines 1 (v ∷ values) ++ more) (header-line 0 edition (omega arith) small) (rw first refl)
+    ∙ run-on edition 1 v values (with_value d edition) (at + 1) more (omega arith) (omega (arith, count)) refl refl rest
+    ∙ ap (λ n. spelled n (Laying 0 (with_header d (edition ∷ v ∷ values))) more) (omega (arith, count))
 
 -- local use
 pub local1-run : (runs : List (List ℕ)) (d : Document) (at : ℕ) (more : List (List ℕ)) → AllByRecursion (IsRun IsOctet 32) runs

@@ -24,6 +24,10 @@ pub record Document : Type 0 where
 abbrev pub blank : (line : ℕ) → Document
 blank line = record { line = line; header = []; local1 = []; section2 = []; descriptors = []; entries = [] }
 
+-- the edition, the first value
+abbrev pub edition_in : Document → ℕ
+edition_in d = slice_index d.header 0
+
 -- whether there is a section 2, the nineteenth value; the number of subsets, the last
 abbrev pub optional_in : Document → ℕ
 optional_in d = slice_index d.header 18

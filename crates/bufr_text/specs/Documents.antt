@@ -2,7 +2,8 @@
 -- Cited by public contracts.
 use Rattle.std.specs.Prelude.{ℕ, ◌+◌, ◌==◌, nat_le, nat_lt, Bool, not, ◌&&◌, if◌then◌else◌, List, [], ◌∷◌, ◌++◌, length, slice_index}
 use Rattle.bufr_fill.specs.Draft.{draft}
-use Rattle.bufr_text.specs.Document.{Document, Entry, Holds, Ends, blank, optional_in, subsets_in}
+use Rattle.bufr_frame.specs.Section1.{slots_of}
+use Rattle.bufr_text.specs.Document.{Document, Entry, Holds, Ends, blank, edition_in, optional_in, subsets_in}
 use Rattle.bufr_text.specs.Line.{Line, Passed, Opens, Header, Local1, Section2, Descriptors, Begins, Item, Closes, Wrong, leasts, mosts, line_of}
 
 -- why a line is refused: no line that its place allows (50), too few or too many subsets (57), a header value past its range (61)
@@ -47,14 +48,15 @@ with_descriptors d words = record d { descriptors = d.descriptors ++ words }
 abbrev pub with_entry : Document → Entry → Document
 with_entry d entry = record d { entries = d.entries ++ entry ∷ [] }
 
-abbrev pub in_range : (key value : ℕ) → Bool
-in_range key value = nat_le (slice_index leasts key) value && nat_le value (slice_index mosts key)
+-- in the range of its key, which goes by the edition
+abbrev pub in_range : (edition key value : ℕ) → Bool
+in_range edition key value = nat_le (slice_index leasts key) value && nat_le value (slice_index (mosts (slots_of edition)) key)
 
 -- a header line
 abbrev pub heading : Document → Line → Turn
 heading d (Header key value) =
     if not (key == length d.header) then Faults NotAllowed
-    else if not (in_range key value) then Faults HeaderRange
+    else if not (in_range (edition_in d) key value) then Faults HeaderRange
     else Goes (if key == 19 then Laying 0 (with_value d value) else Heading (with_value d value))
 heading d line = Faults NotAllowed
 

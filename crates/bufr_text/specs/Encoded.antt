@@ -7,7 +7,7 @@ use Rattle.bufr_tables.specs.TableB.{Row}
 use Rattle.bufr_tables.specs.TableD.{Sequence}
 use Rattle.bufr_tables.specs.TemplateTables.{tables_of}
 use Rattle.bufr_tables.specs.Tree.{Tree}
-use Rattle.bufr_frame.specs.Layout.{most_octets}
+use Rattle.bufr_frame.specs.Layout.{longer, most_octets}
 use Rattle.bufr_frame.specs.Scan.{Framed, scan_from}
 use Rattle.bufr_frame.specs.Sections.{Sections, sections_of}
 use Rattle.bufr_walk.specs.Course.{next_item}
@@ -41,9 +41,11 @@ pub record SaySame (a b : Sections) : Type 0 where
   pub observed : b.observed ≡ a.observed
   pub compressed : b.compressed ≡ a.compressed
 
--- octets are a message with the same reading as the message m of sections s, and are no longer
+-- octets are a message with the same reading as the message m of sections s, and are no longer, but that in edition 3 up to two octets make sections 3
+-- and 4 even
 pub record HasSameReading (table : List Row) (m : List ℕ) (s : Sections) (template : Tree) (values : Values) (written : List ℕ) : Type 0 where
-  pub no_longer : length written ≤ length m
+  pub no_longer : length written ≤ length m + longer s.head.edition
+  pub few : length written ≤ most_octets
   pub octets : AllByRecursion IsOctet written
   -- in a stream it is one message, whatever is behind it
   pub framed : (at : ℕ) (behind : List ℕ) → scan_from 0 at (written ++ behind) ≡ Framed at written ∷ scan_from 0 (at + length written) behind

@@ -83,7 +83,7 @@ compressed_as form d = compressed_by form (compressed_in d)
 
 -- a message of these parts, where it is not too long
 abbrev pub message_of : (line : ℕ) → Head → Parts → Result (List ℕ) RefusedAt
-message_of line head parts = if nat_lt most_octets (message_size parts) then Err (refused_at line too_long) else Ok (message_octets head parts)
+message_of line head parts = if nat_lt most_octets (message_size head.edition parts) then Err (refused_at line too_long) else Ok (message_octets head parts)
 
 -- the octets of a document's message, or its first fault: the template goes before all, then the items in the order of the template, then the length
 unfoldable pub encoding_in : Form → List Row → List Sequence → Document → Result (List ℕ) RefusedAt

@@ -9,3 +9,8 @@ abbrev pub compressed_by : Form → (written : Bool) → Bool
 compressed_by form.AsWritten written = written
 compressed_by form.Plain written = false
 compressed_by form.Compressed written = true
+
+-- the form that data have
+abbrev pub form_of_flag : (compressed : Bool) → Form
+form_of_flag false = form.Plain
+form_of_flag true = form.Compressed

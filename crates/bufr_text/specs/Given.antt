@@ -3,8 +3,8 @@
 use Rattle.std.specs.Prelude.{◌≡◌, ℕ, suc, ◌^◌, ◌<◌, ◌≤◌, true, List, [], length, Option, Some, None, unwrap_or, ℤ, pos, negsuc, unsigned_abs}
 use Rattle.std.specs.List.{list_all, AllByRecursion}
 use Rattle.bufr_tables.specs.TableB.{is_printed}
+use Rattle.bufr_frame.specs.Layout.{IsFitting}
 use Rattle.bufr_frame.specs.Sections.{Sections}
-use Rattle.bufr_frame.specs.declared.head.Head.{Head}
 use Rattle.bufr_text.specs.Dump.{Value, IsNumber, IsText, IsMissing, IsReference, Comment, Item}
 
 -- an octet, and a descriptor as its 16 bits
@@ -40,28 +40,9 @@ pub record IsItem (item : Item) : Type 0 where
   pub value : IsValue item.value
   pub comment : IsComment item.comment
 
--- the numbers of a head are within their octets, and its edition is 4
-pub record IsHead (h : Head) : Type 0 where
-  pub edition : h.edition ≡ 4
-  pub master : h.master < 256
-  pub centre : h.centre < 65536
-  pub subcentre : h.subcentre < 65536
-  pub update : h.update < 256
-  pub category : h.category < 256
-  pub subcategory : h.subcategory < 256
-  pub local_subcategory : h.local_subcategory < 256
-  pub master_version : h.master_version < 256
-  pub local_version : h.local_version < 256
-  pub year : h.year < 65536
-  pub month : h.month < 256
-  pub day : h.day < 256
-  pub hour : h.hour < 256
-  pub minute : h.minute < 256
-  pub second : h.second < 256
-
 -- sections and as many subsets as they state
 pub record IsDumpable (s : Sections) (subsets : List (List Item)) : Type 0 where
-  pub head : IsHead s.head
+  pub head : IsFitting s.head
   pub local1 : AllByRecursion IsOctet s.local1
   pub section2 : AllByRecursion IsOctet (unwrap_or s.section2 [])
   pub descriptors : AllByRecursion IsWord s.descriptors

@@ -2,7 +2,7 @@
 -- Cited by public contracts.
 use Rattle.std.specs.Prelude.{◌≡◌, ℕ, ◌+◌, ◌^◌, ◌≤◌, ◌==◌, Bool, true, ◌&&◌, if◌then◌else◌, List, [], ◌∷◌, length, slice_index, Option, Some, None}
 use Rattle.bufr_frame.specs.declared.head.Head.{Head}
-use Rattle.bufr_text.specs.Document.{Document, optional_in}
+use Rattle.bufr_text.specs.Document.{Document, edition_in, optional_in}
 use Rattle.bufr_text.specs.Documents.{in_range}
 
 -- the value of a key, by its place
@@ -42,14 +42,14 @@ abbrev pub section2_in : Document → Option (List ℕ)
 section2_in d = if optional_in d == 1 then Some d.section2 else None
 
 -- each value is within the range of its key, from a key on
-abbrev pub are_in_range : (key : ℕ) → List ℕ → Bool
-are_in_range key [] = true
-are_in_range key (value ∷ more) = in_range key value && are_in_range (key + 1) more
+abbrev pub are_in_range : (edition key : ℕ) → List ℕ → Bool
+are_in_range edition key [] = true
+are_in_range edition key (value ∷ more) = in_range edition key value && are_in_range edition (key + 1) more
 
 -- The header is whole, each value within its range.
 pub record IsHeaded (d : Document) : Type 0 where
   pub whole : length d.header ≡ 20
-  pub ranges : are_in_range 0 d.header ≡ true
+  pub ranges : are_in_range (edition_in d) 0 d.header ≡ true
 
 -- the most entries that an input of 2^32 reads of 4,096 octets can give
 abbrev pub most_entries : ℕ

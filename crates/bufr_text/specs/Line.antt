@@ -3,6 +3,7 @@
 use Rattle.std.specs.Prelude.{ℕ, zero, suc, ◌+◌, ◌==◌, nat_le, nat_lt, Bool, not, ◌&&◌, if◌then◌else◌, List, [], ◌∷◌, Option, Some, None, option_map, codes, length, map}
 use Rattle.std.specs.Char.{is_ascii_digit}
 use Rattle.std.specs.Str.{bytes_eq}
+use Rattle.bufr_frame.specs.Section1.{Field, Master, Centre, Subcentre, Update, Category, Subcategory, LocalSubcategory, MasterVersion, LocalVersion, Year, Month, Day, Hour, Minute, Second, Slot, most_in}
 use Rattle.bufr_fill.specs.Draft.{Form, number_token, text_form, missing_form, reference_token}
 use Rattle.bufr_text.specs.Grammar.{front, behind, behind_word, behind_space, hex_read, fxy_read, descriptors_read, number_read, quoted_read, is_number_octet, is_passed_behind}
 
@@ -19,36 +20,55 @@ pub data Line : Type 0 where
   Closes : Line
   Wrong : Line
 
--- a key of the header, and the least and the greatest value that it can have
+-- what bounds the value of a key: an edition that is read, what section 1 holds for a field, a bit, what two octets hold
+pub data Bound : Type 0 where
+  Editions : Bound
+  Holds : (field : Field) → Bound
+  Bit : Bound
+  Count : Bound
+
+abbrev pub least_of : Bound → ℕ
+least_of Editions = 3
+least_of (Holds field) = 0
+least_of Bit = 0
+least_of Count = 0
+
+abbrev pub most_of : List Slot → Bound → ℕ
+most_of slots Editions = 4
+most_of slots (Holds field) = most_in slots field
+most_of slots Bit = 1
+most_of slots Count = 65535
+
+-- a key of the header
 pub record Key : Type 0 where
   pub name : List ℕ
-  pub least : ℕ
-  pub most : ℕ
+  pub bound : Bound
 
-abbrev pub key : List ℕ → (least most : ℕ) → Key
-key name least most = record { name = name; least = least; most = most }
+abbrev pub key : List ℕ → Bound → Key
+key name bound = record { name = name; bound = bound }
 
 -- the keys of the header, in their order
 unfoldable pub keys : List Key
 keys =
-    key (codes "edition") 4 4 ∷ key (codes "master") 0 255 ∷ key (codes "centre") 0 65535 ∷ key (codes "subcentre") 0 65535
-    ∷ key (codes "update") 0 255 ∷ key (codes "category") 0 255 ∷ key (codes "subcategory") 0 255 ∷ key (codes "localsubcategory") 0 255
-    ∷ key (codes "masterversion") 0 255 ∷ key (codes "localversion") 0 255 ∷ key (codes "year") 0 65535 ∷ key (codes "month") 0 255
-    ∷ key (codes "day") 0 255 ∷ key (codes "hour") 0 255 ∷ key (codes "minute") 0 255 ∷ key (codes "second") 0 255
-    ∷ key (codes "observed") 0 1 ∷ key (codes "compressed") 0 1 ∷ key (codes "optional") 0 1 ∷ key (codes "subsets") 0 65535 ∷ []
+    key (codes "edition") Editions ∷ key (codes "master") (Holds Master) ∷ key (codes "centre") (Holds Centre) ∷ key (codes "subcentre") (Holds Subcentre)
+    ∷ key (codes "update") (Holds Update) ∷ key (codes "category") (Holds Category) ∷ key (codes "subcategory") (Holds Subcategory)
+    ∷ key (codes "localsubcategory") (Holds LocalSubcategory) ∷ key (codes "masterversion") (Holds MasterVersion) ∷ key (codes "localversion") (Holds LocalVersion)
+    ∷ key (codes "year") (Holds Year) ∷ key (codes "month") (Holds Month) ∷ key (codes "day") (Holds Day) ∷ key (codes "hour") (Holds Hour)
+    ∷ key (codes "minute") (Holds Minute) ∷ key (codes "second") (Holds Second)
+    ∷ key (codes "observed") Bit ∷ key (codes "compressed") Bit ∷ key (codes "optional") Bit ∷ key (codes "subsets") Count ∷ []
 
 -- the key at a place
 abbrev pub key_in : List Key → (place : ℕ) → Key
-key_in [] place = key [] 0 0
+key_in [] place = key [] Bit
 key_in (k ∷ more) zero = k
 key_in (k ∷ more) (suc place) = key_in more place
 
--- the least and the greatest values of the keys
+-- the least values of the keys, and the greatest where section 1 has these slots
 abbrev pub leasts : List ℕ
-leasts = map (λ k. k.least) keys
+leasts = map (λ k. least_of k.bound) keys
 
-abbrev pub mosts : List ℕ
-mosts = map (λ k. k.most) keys
+abbrev pub mosts : List Slot → List ℕ
+mosts slots = map (λ k. most_of slots k.bound) keys
 
 -- the place of a key of this name, where the first of these keys has place `at`
 unfoldable pub place_from : (at : ℕ) → (name : List ℕ) → List Key → Option ℕ

@@ -58,7 +58,7 @@ turned (turn.Refuses refusal) d = documents.Faults (fault_of refusal)
 -- of a subset is small, and each entry has a line.
 abbrev pub Stands : (at : ℕ) → documents.Place → Type 0
 Stands at documents.Between = Unit {0}
-Stands at (documents.Heading d) = (length d.header < 20) × (are_in_range 0 d.header ≡ true) × (length d.entries < at)
+Stands at (documents.Heading d) = (length d.header < 20) × (are_in_range (spec.edition_in d) 0 d.header ≡ true) × (length d.entries < at)
 Stands at (documents.Laying part d) = IsHeaded d × (length d.entries < at)
 Stands at (documents.Filling subset d) = IsHeaded d × (length d.entries < at) × (subset < 65536)
 Stands at documents.Stopped = Unit {0}

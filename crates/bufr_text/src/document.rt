@@ -1,6 +1,8 @@
 //! A message as its text gives it.
-ghost use Rattle.std.specs.Prelude.{◌≡◌, ℕ, ◌+◌, ◌<◌, ◌≤◌, List, [], ◌∷◌, ◌++◌, length, take, map, OnOk, slice_index, slice_index_or, option_map};
+ghost use Rattle.std.specs.Prelude.{◌≡◌, ℕ, ◌+◌, ◌<◌, ◌≤◌, List, [], ◌∷◌, ◌++◌, length, take, map, OnOk, IsTrue, slice_index, slice_index_or, option_map};
 ghost use Rattle.bufr_fill.specs.Draft.{draft};
+ghost use Rattle.bufr_frame.specs.Layout.{is_writable};
+ghost use Rattle.bufr_frame.specs.Section1.{slots_4};
 ghost use Rattle.bufr_fill.specs.Given.{form_in};
 ghost use Rattle.bufr_text.specs.Document as spec;
 ghost use Rattle.bufr_text.specs.Document.{subsets_in};
@@ -305,20 +307,20 @@ impl Document {
         self.parts.line()
     }
 
-    /// The value of a key that has one octet.
+    /// The value of a key that has one octet; none has more in edition 3.
     fn octet(&self, key: usize) -> u8
         requires place { key < 20 }
-        requires few { slice_index mosts key ≤ 255 }
+        requires few { slice_index (mosts slots_4) key ≤ 255 }
         ensures { result ≡ slice_index self.now.header key }
     {
         self.parts.value(key) as u8
     }
 
-    /// The edition, which is 4, and what section 1 says.
+    /// The edition, which is 3 or 4, and what section 1 says; it can be written.
     #[tactic(auto, unfolding(crate::specs::Line::keys))]
     pub fn head(&self) -> Head
         ensures value { result ≡ head_in self.now }
-        ensures edition { result.edition ≡ 4 }
+        ensures writable { IsTrue (is_writable result) }
     {
         Head {
             edition: self.octet(0),

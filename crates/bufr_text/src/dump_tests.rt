@@ -575,6 +575,37 @@ fn dumps_local_use_sections(rt: HostRuntime) -> Result<(), Fail> {
     Ok(())
 }
 
+/// A message of edition 3 with one block number, 46 octets.
+pub(crate) const EDITION_3: [u8; 46] = [
+    0x42, 0x55, 0x46, 0x52, 0x00, 0x00, 0x2E, 0x03, 0x00, 0x00, 0x12, 0x00, 0x00, 0x62, 0x00, 0x00,
+    0x00, 0x00, 0x0E, 0x00, 0x18, 0x01, 0x02, 0x03, 0x04, 0x00, 0x00, 0x00, 0x0A, 0x00, 0x00, 0x01,
+    0x80, 0x01, 0x01, 0x00, 0x00, 0x00, 0x06, 0x00, 0x14, 0x00, 0x37, 0x37, 0x37, 0x37,
+];
+
+/// The same with sections 3 and 4 odd, 44 octets.
+pub(crate) const ODD_EDITION_3: [u8; 44] = [
+    0x42, 0x55, 0x46, 0x52, 0x00, 0x00, 0x2C, 0x03, 0x00, 0x00, 0x12, 0x00, 0x00, 0x62, 0x00, 0x00,
+    0x00, 0x00, 0x0E, 0x00, 0x18, 0x01, 0x02, 0x03, 0x04, 0x00, 0x00, 0x00, 0x09, 0x00, 0x00, 0x01,
+    0x80, 0x01, 0x01, 0x00, 0x00, 0x05, 0x00, 0x14, 0x37, 0x37, 0x37, 0x37,
+];
+
+/// The text of both.
+pub(crate) const EDITION_3_TEXT: &str = "\
+    message\nedition 3\nmaster 0\ncentre 98\nsubcentre 0\nupdate 0\ncategory 0\nsubcategory 0\n\
+    localsubcategory 0\nmasterversion 14\nlocalversion 0\nyear 24\nmonth 1\nday 2\nhour 3\n\
+    minute 4\nsecond 0\nobserved 1\ncompressed 0\noptional 0\nsubsets 1\nlocal1 00\n\
+    descriptors 001001\nsubset 1\n001001 10  # WMO BLOCK NUMBER [Numeric]\nend\n";
+
+#[test]
+fn dumps_edition_3(rt: HostRuntime) -> Result<(), Fail> {
+    for octets in [EDITION_3.as_slice(), ODD_EDITION_3.as_slice()] {
+        let dumped = dump(rt.alloc(), octets, 65536, 4096)?;
+        assert_eq!(rt; dumped.written, Ok(()));
+        assert_eq!(rt; dumped.taken.as_slice(), EDITION_3_TEXT.as_bytes());
+    }
+    Ok(())
+}
+
 /// A line has 32 octets for local use at most; an empty section 2 has no line.
 #[test]
 fn dumps_many_local_octets(rt: HostRuntime) -> Result<(), Fail> {

@@ -16,7 +16,8 @@ ghost use Rattle.bufr_text.specs.Encodes.{RefusesSo};
 ghost use Rattle.bufr_text.specs.Encoding.{encoding_in, encoding_of};
 ghost use Rattle.bufr_text.specs.EncodingFault.{told_refusal};
 ghost use Rattle.bufr_text.specs.Given.{IsDumpable};
-ghost use Rattle.bufr_text.specs.InForm.{IsFaultIn, IsFormed};
+ghost use Rattle.bufr_text.specs.Form.{form_of_flag};
+ghost use Rattle.bufr_text.specs.InForm.{HasReadingIn, IsFaultIn, IsFormed};
 ghost use Rattle.bufr_text.specs.declared.form.Form.{Form};
 
 /// A message that is accepted can be dumped: its dump text spells its document.
@@ -27,7 +28,7 @@ pub fn accepted_messages_are_dumpable()
 
 /// The document of an accepted message's dump text is encoded, wherever it stands: to a message
 /// with the same head, local octets, section 2, descriptors, number of subsets, flags and values,
-/// and no longer.
+/// and no longer, but that in edition 3 up to two octets make sections 3 and 4 even.
 pub fn dumped_messages_are_encoded_again()
     ensures { (records : List Record) (table : List Row) (sequences : List Sequence) (m : List ℕ) (s : Sections) (template : Tree) (values : Values) (used at : ℕ)
         → AreRows records table → IsAccepted table sequences m s template values used → IsEncodedAgain table sequences m s template values (document_of at s (items_in table template s values)) }
@@ -50,7 +51,7 @@ pub fn encoded_messages_are_accepted()
 {}
 
 /// The dump text of an accepted message is one document, which is encoded to a message with the
-/// same reading, and no longer.
+/// same reading, and no longer, but that in edition 3 up to two octets make sections 3 and 4 even.
 pub fn dump_texts_are_encoded_again()
     ensures { (records : List Record) (table : List Row) (sequences : List Sequence) (m : List ℕ) (s : Sections) (template : Tree) (values : Values) (used : ℕ)
         → AreRows records table → IsAccepted table sequences m s template values used
@@ -93,4 +94,20 @@ pub fn dumped_messages_are_refused_for_their_form_alone()
         → AreRows records table → IsAccepted table sequences m s template values used
         → RefusesSo (told_refusal why) (encoding_in form table sequences (document_of at s (items_in table template s values)))
         → IsFaultIn form why }
+{}
+
+/// A message that was encoded in another form is accepted, with the same items of each subset.
+pub fn messages_in_each_form_are_accepted()
+    ensures { (form : Form) (table : List Row) (sequences : List Sequence) (m : List ℕ) (s : Sections) (template : Tree) (values : Values) (used : ℕ) (octets : List ℕ)
+        → IsAccepted table sequences m s template values used → (again : HasReadingIn form table s template values octets)
+        → IsAccepted table sequences octets again.sections template again.found again.used }
+{}
+
+/// A canonical message that was encoded in another form comes back octet for octet: the document of
+/// that message's dump text, encoded in the form that the first one has, gives the first one.
+pub fn canonical_messages_come_back_from_each_form()
+    ensures { (form : Form) (records : List Record) (table : List Row) (sequences : List Sequence) (m : List ℕ) (s : Sections) (template : Tree) (values : Values) (used at : ℕ) (octets : List ℕ)
+        → AreRows records table → IsAccepted table sequences m s template values used → IsCanonical m s values used
+        → (again : HasReadingIn form table s template values octets)
+        → encoding_in (form_of_flag s.compressed) table sequences (document_of at again.sections (items_in table template again.sections again.found)) ≡ Ok m }
 {}

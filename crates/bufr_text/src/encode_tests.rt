@@ -1,7 +1,8 @@
 //! Documents and their messages.
 
 use crate::dump_tests::{
-    FIRST_LINES, ROWS as DUMPED, TABLE_B, TABLE_D, dump, message_of, octets_of,
+    EDITION_3, EDITION_3_TEXT, FIRST_LINES, ODD_EDITION_3, ROWS as DUMPED, TABLE_B, TABLE_D, dump,
+    message_of, octets_of,
 };
 use crate::{
     Document, DocumentFault, DumpReader, ReadFault, dump_law, encode_document, encode_law,
@@ -364,5 +365,17 @@ fn encodes_what_was_dumped(rt: HostRuntime) -> Result<(), Fail> {
         assert_eq!(rt; octets == message, !packed_otherwise, "{}", row.name);
         assert!(rt; octets.len() <= message.len(), "{}", row.name);
     }
+    Ok(())
+}
+
+/// Sections 3 and 4 of edition 3 are made even, with zero octets.
+#[test]
+fn encodes_edition_3(rt: HostRuntime) -> Result<(), Fail> {
+    let document = document_of(rt.alloc(), EDITION_3_TEXT.as_bytes())?;
+    let (octets, _) = encoded(rt.alloc(), &document)?;
+    assert_eq!(rt; octets?.as_slice(), EDITION_3.as_slice());
+    let text = dump(rt.alloc(), &ODD_EDITION_3, 65536, 4096)?;
+    let (again, _) = encoded(rt.alloc(), &document_of(rt.alloc(), &text.taken)?)?;
+    assert_eq!(rt; again?.as_slice(), EDITION_3.as_slice());
     Ok(())
 }

@@ -158,6 +158,8 @@ fn refuses_a_form_at_its_line(rt: HostRuntime) -> Result<(), Fail> {
 fn comes_back_from_the_plain_form(rt: HostRuntime) -> Result<(), Fail> {
     encode_law::dumped_messages_are_encoded_in_each_form();
     encode_law::dumped_messages_are_refused_for_their_form_alone();
+    encode_law::messages_in_each_form_are_accepted();
+    encode_law::canonical_messages_come_back_from_each_form();
     let mut text = String::from_str(rt.alloc(), FIRST_LINES)?;
     text.push_str(COMPRESSED_MISSING)?;
     let document = document_of(rt.alloc(), text.as_bytes())?;

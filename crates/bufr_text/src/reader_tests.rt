@@ -146,7 +146,7 @@ fn assert_told(
 /// its nearest wrong neighbour.
 #[test]
 fn rules(rt: HostRuntime) -> Result<(), Fail> {
-    let table: [(usize, &[u8], Told); 70] = [
+    let table: [(usize, &[u8], Told); 72] = [
         (24, b"001001 10\n", Spelled(2, 25)),
         (24, b"001001\t10\n", Refused(Line(24))),
         (24, b"001001  10\n", Refused(Line(24))),
@@ -217,7 +217,9 @@ fn rules(rt: HostRuntime) -> Result<(), Fail> {
         (4, b"centre 65536x\n", Refused(Line(4))),
         (4, b"subcentre 65536\n", Refused(Line(4))),
         (3, b"master 256\n", Refused(HeaderRange(3))),
-        (2, b"edition 3\n", Refused(HeaderRange(2))),
+        (2, b"edition 2\n", Refused(HeaderRange(2))),
+        (2, b"edition 3\n", Refused(HeaderRange(12))),
+        (2, b"edition 5\n", Refused(HeaderRange(2))),
         (18, b"observed 2\n", Refused(HeaderRange(18))),
         (19, b"compressed 2\n", Refused(HeaderRange(19))),
         (20, b"optional 2\n", Refused(HeaderRange(20))),

@@ -1,7 +1,9 @@
 //! What a line does to a document that is being read.
-ghost use Rattle.std.specs.Prelude.{◌≡◌, ℕ, ◌+◌, ◌<◌, ◌≤◌, length, true, IfOk};
+ghost use Rattle.std.specs.Prelude.{◌≡◌, ℕ, ◌+◌, ◌<◌, ◌≤◌, length, slice_index, true, IfOk};
+ghost use Rattle.bufr_frame.specs.Section1.{slots_of};
 ghost use Rattle.bufr_text.specs.Document as spec;
 ghost use Rattle.bufr_text.specs.Line as line;
+ghost use Rattle.bufr_text.specs.Line.{mosts};
 ghost use Rattle.bufr_text.specs.Documents.{in_range, heading, laying, filling, beginning, closing, opening, turn};
 ghost use Rattle.bufr_text.specs.Step.{meaning, part_number, place_with, turned, Stands};
 
@@ -81,22 +83,40 @@ pub(crate) enum Turn {
     Refuses(Refusal),
 }
 
-/// The least and the greatest value of each key of the header.
-const LEASTS: [u32; 20] = [4, 0, 0, 0, 0, 0, 0, 0, 0, 0, 0, 0, 0, 0, 0, 0, 0, 0, 0, 0];
+/// The least value of each key of the header.
+const LEASTS: [u16; 20] = [3, 0, 0, 0, 0, 0, 0, 0, 0, 0, 0, 0, 0, 0, 0, 0, 0, 0, 0, 0];
 
-const MOSTS: [u32; 20] = [
+/// The greatest value of each key in edition 3.
+const MOSTS_3: [u16; 20] = [
+    4, 255, 255, 255, 255, 255, 255, 0, 255, 255, 255, 255, 255, 255, 255, 0, 1, 1, 1, 65535,
+];
+
+/// The greatest value of each key in edition 4.
+const MOSTS_4: [u16; 20] = [
     4, 255, 65535, 65535, 255, 255, 255, 255, 255, 255, 65535, 255, 255, 255, 255, 255, 1, 1, 1,
     65535,
 ];
 
-/// Whether a value is in the range of its key.
-#[tactic(auto, unfolding(crate::specs::Line::keys))]
-fn in_range(key: usize, value: u32) -> bool
+/// The greatest value of a key.
+fn most(edition: u16, key: usize) -> u16
     requires { key < 20 }
-    ensures value { result ≡ in_range key value }
+    ensures { result ≡ slice_index (mosts (slots_of edition)) key }
+{
+    if edition == 3 {
+        MOSTS_3[key]
+    } else {
+        MOSTS_4[key]
+    }
+}
+
+/// Whether a value is in the range of its key, which goes by the edition.
+#[tactic(auto, unfolding(crate::specs::Line::keys))]
+fn in_range(edition: u16, key: usize, value: u32) -> bool
+    requires { key < 20 }
+    ensures value { result ≡ in_range edition key value }
     ensures few { result ≡ true → value < 65536 }
 {
-    LEASTS[key] <= value && value <= MOSTS[key]
+    u32::from(LEASTS[key]) <= value && value <= u32::from(most(edition, key))
 }
 
 /// A header line.
@@ -107,7 +127,8 @@ fn heading(parts: &mut Parts, key: usize, value: u32) -> Turn
     if key != parts.known() {
         return Turn::Refuses(Refusal::NotAllowed);
     }
-    if !in_range(key, value) {
+    // The edition is the first value; its own range goes by none.
+    if !in_range(parts.value(0), key, value) {
         return Turn::Refuses(Refusal::HeaderRange);
     }
     parts.push_value(value as u16);

@@ -16,3 +16,9 @@ returns-in-SectionsEnd-clause-writes g c =
     let number = c.number-number.ensures ∙ ap number_of_section_fault c.in-SectionsEnd.is in
     let P : ℕ → Type 0 = λ n. Writes (g.E.Sink.taken c.args.e.now) (g.E.Sink.taken c.write_fault-in-SectionsEnd.new.e) (fault_line c.args.offset n (codes "sections do not meet the end" ∷ [])) c.write_fault-in-SectionsEnd.result in
     rw c.in-SectionsEnd.is (subst P number c.write_fault-in-SectionsEnd.ensures.writes)
+
+pub returns-in-Edition3Long-clause-writes : goal.returns-in-Edition3Long-clause-writes
+returns-in-Edition3Long-clause-writes g c =
+    let number = c.number-number.ensures ∙ ap number_of_section_fault c.in-Edition3Long.is in
+    let P : ℕ → Type 0 = λ n. Writes (g.E.Sink.taken c.args.e.now) (g.E.Sink.taken c.write_fault-in-Edition3Long.new.e) (fault_line c.args.offset n (codes "edition 3 length" ∷ [])) c.write_fault-in-Edition3Long.result in
+    rw c.in-Edition3Long.is (subst P number c.write_fault-in-Edition3Long.ensures.writes)

@@ -1,0 +1,157 @@
+-- Section 1 by edition: what stands in it, in which order, and in how many octets. (WMO-No. 306, Volume I.2, FM 94: section 1)
+-- Cited by public contracts.
+-- The rest stands on these two tables: where a value is read, what is written, and which values fit.
+use Rattle.std.specs.Prelude.{ℕ, ◌+◌, ◌==◌, ◌||◌, Bool, List, [], ◌∷◌, ◌++◌, slice_index, if◌then◌else◌}
+use Rattle.bufr_frame.specs.Octets.{two, two_octets}
+use Rattle.bufr_frame.specs.declared.head.Head.{Head}
+
+-- what section 1 says behind its length
+pub data Field : Type 0 where
+  Master : Field
+  Centre : Field
+  Subcentre : Field
+  Update : Field
+  Flags : Field
+  Category : Field
+  Subcategory : Field
+  LocalSubcategory : Field
+  MasterVersion : Field
+  LocalVersion : Field
+  Year : Field
+  Month : Field
+  Day : Field
+  Hour : Field
+  Minute : Field
+  Second : Field
+
+-- a field in one octet, or in two
+pub data Slot : Type 0 where
+  Single : Field → Slot
+  Double : Field → Slot
+
+-- edition 3; the sub-category is the data sub-category, the year that of the century as it stands
+abbrev pub slots_3 : List Slot
+slots_3 =
+    Single Master ∷ Single Subcentre ∷ Single Centre ∷ Single Update ∷ Single Flags ∷ Single Category ∷ Single Subcategory
+    ∷ Single MasterVersion ∷ Single LocalVersion ∷ Single Year ∷ Single Month ∷ Single Day ∷ Single Hour ∷ Single Minute ∷ []
+
+-- edition 4
+abbrev pub slots_4 : List Slot
+slots_4 =
+    Single Master ∷ Double Centre ∷ Double Subcentre ∷ Single Update ∷ Single Flags ∷ Single Category ∷ Single Subcategory ∷ Single LocalSubcategory
+    ∷ Single MasterVersion ∷ Single LocalVersion ∷ Double Year ∷ Single Month ∷ Single Day ∷ Single Hour ∷ Single Minute ∷ Single Second ∷ []
+
+-- the editions that are read and written
+abbrev pub is_edition : ℕ → Bool
+is_edition edition = (edition == 3) || (edition == 4)
+
+abbrev pub slots_of : (edition : ℕ) → List Slot
+slots_of edition = if edition == 3 then slots_3 else slots_4
+
+-- the number of a field, by which it is found
+abbrev pub order : Field → ℕ
+order Master = 0
+order Centre = 1
+order Subcentre = 2
+order Update = 3
+order Flags = 4
+order Category = 5
+order Subcategory = 6
+order LocalSubcategory = 7
+order MasterVersion = 8
+order LocalVersion = 9
+order Year = 10
+order Month = 11
+order Day = 12
+order Hour = 13
+order Minute = 14
+order Second = 15
+
+abbrev pub field_of : Slot → Field
+field_of (Single field) = field
+field_of (Double field) = field
+
+abbrev pub is_for : Field → Slot → Bool
+is_for field slot = order field == order (field_of slot)
+
+abbrev pub width : Slot → ℕ
+width (Single field) = 1
+width (Double field) = 2
+
+-- the greatest number that it holds
+abbrev pub most : Slot → ℕ
+most (Single field) = 255
+most (Double field) = 65535
+
+-- the number that stands at place p, and the octets that write a number
+abbrev pub read_slot : List ℕ → (p : ℕ) → Slot → ℕ
+read_slot m p (Single field) = slice_index m p
+read_slot m p (Double field) = two m p
+
+abbrev pub write_slot : Slot → ℕ → List ℕ
+write_slot (Single field) n = n ∷ []
+write_slot (Double field) n = two_octets n
+
+-- how many octets these have
+abbrev pub octets_of_slots : List Slot → ℕ
+octets_of_slots [] = 0
+octets_of_slots (slot ∷ more) = width slot + octets_of_slots more
+
+-- the octets of section 1 without those for local use: three of its length, and these
+abbrev pub first_least : (edition : ℕ) → ℕ
+first_least edition = 3 + octets_of_slots (slots_of edition)
+
+-- the value of a field, where the first slot begins at place p; 0 where the edition lacks it
+abbrev pub value_in : List Slot → List ℕ → (p : ℕ) → Field → ℕ
+value_in [] m p field = 0
+value_in (slot ∷ more) m p field = if is_for field slot then read_slot m p slot else value_in more m (p + width slot) field
+
+-- the greatest value of a field; 0 where the edition lacks it
+abbrev pub most_in : List Slot → Field → ℕ
+most_in [] field = 0
+most_in (slot ∷ more) field = if is_for field slot then most slot else most_in more field
+
+-- the octets of the slots, where `said` has the values
+abbrev pub octets_in : List Slot → (said : Field → ℕ) → List ℕ
+octets_in [] said = []
+octets_in (slot ∷ more) said = write_slot slot (said (field_of slot)) ++ octets_in more said
+
+-- what a head says; bit 1 of the flags: there is a section 2
+abbrev pub said : Head → (optional : Bool) → Field → ℕ
+said h optional Master = h.master
+said h optional Centre = h.centre
+said h optional Subcentre = h.subcentre
+said h optional Update = h.update
+said h optional Flags = if optional then 128 else 0
+said h optional Category = h.category
+said h optional Subcategory = h.subcategory
+said h optional LocalSubcategory = h.local_subcategory
+said h optional MasterVersion = h.master_version
+said h optional LocalVersion = h.local_version
+said h optional Year = h.year
+said h optional Month = h.month
+said h optional Day = h.day
+said h optional Hour = h.hour
+said h optional Minute = h.minute
+said h optional Second = h.second
+
+-- a head as it stands in slots, the first of which begins at place p
+abbrev pub head_in : (edition : ℕ) → List Slot → List ℕ → (p : ℕ) → Head
+head_in edition slots m p = record {
+  edition = edition;
+  master = value_in slots m p Master;
+  centre = value_in slots m p Centre;
+  subcentre = value_in slots m p Subcentre;
+  update = value_in slots m p Update;
+  category = value_in slots m p Category;
+  subcategory = value_in slots m p Subcategory;
+  local_subcategory = value_in slots m p LocalSubcategory;
+  master_version = value_in slots m p MasterVersion;
+  local_version = value_in slots m p LocalVersion;
+  year = value_in slots m p Year;
+  month = value_in slots m p Month;
+  day = value_in slots m p Day;
+  hour = value_in slots m p Hour;
+  minute = value_in slots m p Minute;
+  second = value_in slots m p Second;
+}

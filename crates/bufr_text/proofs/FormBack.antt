@@ -1,0 +1,58 @@
+-- A message in another form is accepted, and from it a canonical message comes back in its own.
+use Rattle.std.proofs.Common.{◌≡◌, ◌∙◌, ℕ, Bool, true, false, List, Ok, refl, ap}
+use Rattle.bufr_tables.specs.Expansion.{tree_of}
+use Rattle.bufr_tables.specs.Legal.{IsLegal}
+use Rattle.bufr_tables.specs.TableB.{Row}
+use Rattle.bufr_tables.specs.TableD.{Sequence}
+use Rattle.bufr_tables.specs.TemplateTables.{tables_of}
+use Rattle.bufr_tables.specs.Tree.{Tree}
+use Rattle.bufr_frame.specs.Sections.{Sections}
+use Rattle.bufr_walk.specs.Reading.{Values}
+use Rattle.bufr_fill.specs.Limits.{AreGoodRows}
+use Rattle.bufr_text.specs.declared.form.Form.{Form}
+use Rattle.bufr_text.specs.Canonical.{IsCanonical}
+use Rattle.bufr_text.specs.Dump.{Item, document_of}
+use Rattle.bufr_text.specs.Encoded.{IsAccepted, items_in}
+use Rattle.bufr_text.specs.Encoding.{encoding_in, encoding_of}
+use Rattle.bufr_text.specs.Form.{form_of_flag}
+use Rattle.bufr_text.specs.InForm.{HasReadingIn}
+use Rattle.bufr_text.proofs.CanonicalLemmas.{canonical_encoded}
+
+pub formed_accepted : (form : Form) (table : List Row) (sequences : List Sequence) (m : List ℕ) (s : Sections) (template : Tree) (values : Values) (used : ℕ) (octets : List ℕ)
+    → IsAccepted table sequences m s template values used → (again : HasReadingIn form table s template values octets) → IsAccepted table sequences octets again.sections template again.found again.used
+formed_accepted form table sequences m s template values used octets a h = record {
+  octets = h.octets;
+  few = h.few;
+  sections = h.are;
+  expands = ap (tree_of (tables_of table sequences)) h.same.descriptors ∙ a.expands;
+  read = h.read;
+}
+
+-- in the form that is asked for, a document is encoded alike whatever it says of its form
+in_the_form : (table : List Row) (sequences : List Sequence) (at : ℕ) (s : Sections) (said flag : Bool) (items : List (List Item))
+    → encoding_in (form_of_flag flag) table sequences (document_of at (record s { compressed = said }) items) ≡ encoding_of table sequences (document_of at (record s { compressed = flag }) items)
+unfolding encoding_in
+in_the_form table sequences at s said true items = refl
+in_the_form table sequences at s said false items = refl
+
+pub canonical_back : (form : Form) (table : List Row) (sequences : List Sequence) (m : List ℕ) (s : Sections) (template : Tree) (values : Values) (used at : ℕ) (octets : List ℕ) → AreGoodRows table → IsLegal template
+    → IsAccepted table sequences m s template values used → IsCanonical m s values used → (again : HasReadingIn form table s template values octets)
+    → encoding_in (form_of_flag s.compressed) table sequences (document_of at again.sections (items_in table template again.sections again.found)) ≡ Ok m
+canonical_back form table sequences m s template values used at octets rows legal a canonical again =
+    let own = form_of_flag s.compressed in
+    let items = items_in table template s values in
+    let same = again.same in
+    ap (λ xs. encoding_in own table sequences (document_of at again.sections xs)) again.items
+    ∙ (λ j. encoding_in own table sequences (document_of at (record {
+      head = same.head j;
+      local1 = same.local1 j;
+      section2 = same.section2 j;
+      descriptors = same.descriptors j;
+      subsets = same.subsets j;
+      observed = same.observed j;
+      compressed = again.sections.compressed;
+      payload = s.payload;
+      size = s.size;
+    }) items))
+    ∙ in_the_form table sequences at s again.sections.compressed s.compressed items
+    ∙ canonical_encoded table sequences m s template values used at rows legal a canonical
