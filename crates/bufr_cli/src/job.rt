@@ -75,8 +75,9 @@ const LS_NOTES: &str = "\
 A line for each message goes to standard output, and a line for each fault to
 standard error, with its offset in octets and its number:
   1-3    a BUFR that begins no message: cut, a length under 12, no 7777
-  10     another edition than 4
+  10     another edition than 3 or 4
   11-13  sections that do not fit the message
+  14     a message of edition 3 that is too long for its sections to be even
   70-73  reading, writing, an endless input, memory
 
 Exit status:
@@ -92,8 +93,9 @@ const DUMP_NOTES: &str = "\
 The text of each message goes to standard output, and a line for each fault to
 standard error, with its offset in octets and its number:
   1-3    a BUFR that begins no message: cut, a length under 12, no 7777
-  10     another edition than 4
+  10     another edition than 3 or 4
   11-13  sections that do not fit the message
+  14     a message of edition 3 that is too long for its sections to be even
   20-28  descriptors that the tables do not know, or that make no template
   30-35  data that do not fit the template
   70-73  reading, writing, an endless input, memory
@@ -122,12 +124,16 @@ error that tells the line of the text, from 1, and the fault's number:
   58-59  compressed data: unequal factor, increment
   60-61  a message too long, a header value out of its range
   62     data that the template cannot hold
-With --form plain or --form compressed all messages are written in that form,
-whatever their documents say; 58 and 59 tell what cannot be compressed.
   70-73  reading, writing, an endless input, memory
 Of a document that is refused nothing goes to standard output. A table at fault
 is told before the input is opened:
   40-45  header, row, duplicate, cycle, size, number of fields
+
+With --form plain or --form compressed each message is written in that form,
+whatever its document says. Compressed, 58 tells a replication factor that
+differs between subsets, 59 texts that differ where one has more than 63 octets
+without the spaces at its end, or reference values that differ: such data can
+be written plain alone. Plain data may be too long (60).
 
 Exit status:
   0  nothing was refused

@@ -82,18 +82,18 @@ items_each table template s (together items) = apart_subsets table s.subsets 0 i
 plain_reading : (course : Course) (subsets : List (List (reading.Item Content))) (n : ℕ) (out : List Bool) → ((more : List Bool) → IsPlainReading n course subsets (out ++ more) more) → (octets : List ℕ) (more : List Bool) → bits_of octets ≡ out ++ more
     → IsReading course (record { compressed = false; subsets = n; bits = bits_of octets }) (apart subsets) (length out)
 plain_reading course subsets n out w octets more e = (
-      refl,
-      enough out more (bits_of octets) e,
-      subst (λ b. IsPlainReading n course subsets b (drop (length out) (bits_of octets))) (sym e) (subst (λ b. IsPlainReading n course subsets (out ++ more) b) (sym (behind out more (bits_of octets) e)) (w more)),
-    )
+  refl,
+  enough out more (bits_of octets) e,
+  subst (λ b. IsPlainReading n course subsets b (drop (length out) (bits_of octets))) (sym e) (subst (λ b. IsPlainReading n course subsets (out ++ more) b) (sym (behind out more (bits_of octets) e)) (w more)),
+)
 
 packed_reading : (course : Course) (items : List (reading.Item (List Content))) (n : ℕ) (out : List Bool) → ((more : List Bool) → IsPackedReading n course items (out ++ more) more) → (octets : List ℕ) (more : List Bool) → bits_of octets ≡ out ++ more
     → IsReading course (record { compressed = true; subsets = n; bits = bits_of octets }) (together items) (length out)
 packed_reading course items n out w octets more e = (
-      refl,
-      enough out more (bits_of octets) e,
-      subst (λ b. IsPackedReading n course items b (drop (length out) (bits_of octets))) (sym e) (subst (λ b. IsPackedReading n course items (out ++ more) b) (sym (behind out more (bits_of octets) e)) (w more)),
-    )
+  refl,
+  enough out more (bits_of octets) e,
+  subst (λ b. IsPackedReading n course items b (drop (length out) (bits_of octets))) (sym e) (subst (λ b. IsPackedReading n course items (out ++ more) b) (sym (behind out more (bits_of octets) e)) (w more)),
+)
 
 -- the bits that are written for a message's values in a form, and what is read from them
 record IsFilled (b : Bool) (table : List Row) (template : Tree) (s : Sections) (values : Values) (entries : List Entry) : Type 0 where
