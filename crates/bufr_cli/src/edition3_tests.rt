@@ -8,6 +8,7 @@ use crate::test_runs::{Command, assert_run, run_over};
 use crate::tests::{LINE, ONE_BLOCK_NUMBER};
 use bufr_bits::{End, ScriptIn, ScriptOut};
 use bufr_tables::{TableB, TableD};
+use bufr_text::Form;
 use std::alloc::Global;
 use std::test::Fail;
 
@@ -205,13 +206,34 @@ fn lists_editions_side_by_side(rt: HostRuntime) -> Result<(), Fail> {
 /// Cut behind each octet but the last: from four octets on it is told as cut.
 #[test]
 fn tells_a_cut_anywhere(rt: HostRuntime) -> Result<(), Fail> {
-    let whole = message(rt.alloc(), EVEN)?;
-    for length in 4..46 {
-        let front = whole.get(..length).unwrap_or(b"");
-        let line = b"offset 0: 1 cut\n";
-        assert_run(&rt, Command::Dump, "cut", front, b"", line, ONE_REFUSED)?;
+    for row in &LAYOUTS {
+        let whole = message(rt.alloc(), row.octets)?;
+        for length in 4..whole.len() {
+            let front = whole.get(..length).unwrap_or(b"");
+            let line = b"offset 0: 1 cut\n";
+            assert_run(&rt, Command::Dump, row.name, front, b"", line, ONE_REFUSED)?;
+        }
     }
     Ok(())
+}
+
+/// A message in compressed form, and back in plain form: even sections both ways.
+#[test]
+fn encodes_in_each_form(rt: HostRuntime) -> Result<(), Fail> {
+    let packed = message(
+        rt.alloc(),
+        "425546520000 2E03 000012000062000000000E001801020304 00 00000A000001C0010100 000006001400 37373737",
+    )?;
+    let plain = text(rt.alloc(), 0, "local1 00\n")?;
+    let said = changed(rt.alloc(), "compressed 0", "compressed 1")?;
+    let compressed = Command::EncodeIn(Form::Compressed);
+    let (text, tally) = (plain.as_bytes(), ONE_ACCEPTED);
+    assert_run(&rt, compressed, "compressed", text, &packed, b"", tally)?;
+    let said = said.as_bytes();
+    assert_run(&rt, Command::Dump, "compressed", &packed, said, b"", tally)?;
+    let even = message(rt.alloc(), EVEN)?;
+    let plain = Command::EncodeIn(Form::Plain);
+    assert_run(&rt, plain, "plain", said, &even, b"", tally)
 }
 
 /// A stream with a message of each edition, and one of edition 3 with odd sections: dumped, encoded

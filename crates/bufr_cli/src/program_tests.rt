@@ -94,8 +94,18 @@ fn parses_forms(rt: HostRuntime) -> Result<(), Fail> {
             "{words:?}"
         );
     }
-    let other = ["bufr", "encode", "-B", "b", "-D", "d", "--form", "other"];
-    assert_usage(&rt, other.as_slice(), "--form is not plain or compressed");
+    for word in ["other", "", "Plain", "plain ", "compress"] {
+        let words = ["bufr", "encode", "-B", "b", "-D", "d", "--form", word];
+        assert_usage(
+            &rt,
+            words.as_slice(),
+            "[possible values: plain, compressed]",
+        );
+    }
+    let twice = [
+        "bufr", "encode", "-B", "b", "-D", "d", "--form", "plain", "--form", "plain",
+    ];
+    assert_usage(&rt, twice.as_slice(), "cannot be used multiple times");
     let of_dump = ["bufr", "dump", "-B", "b", "-D", "d", "--form", "plain"];
     assert_usage(
         &rt,

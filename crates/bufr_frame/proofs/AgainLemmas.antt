@@ -434,20 +434,31 @@ front-back m small long word n is =
     ap (λ l. codes "BUFR" ++ l ++ get_or m 7 0 ∷ []) (length-back m small 4 n (omega arith) is)
     ∙ ap (λ l. codes "BUFR" ++ l) (sym (four ∙ four-at m 4)) ∙ ap (λ l. l ++ take 4 (drop 4 m)) (sym word) ∙ sym (take-add 4 4 m)
 
+-- where sections 3 and 4 begin
+module _ (m : List ℕ) (s : Sections) (e : Ended m s) where
+  begins2 : e.p1 ≡ section2_begins m
+  begins2 = e.first.long
+
+  begins : (b : Bool) → has_section2 m ≡ b → e.p2 ≡ (if b then section2_begins m + three m (section2_begins m) else section2_begins m)
+  begins true is = (e.second is).long ∙ ap (λ p. p + three m p) begins2
+  begins false is = e.no_second is ∙ begins2
+
+  begins3 : e.p2 ≡ section3_begins m
+  begins3 = begins (has_section2 m) refl
+
+  begins4 : e.p3 ≡ section4_begins m
+  begins4 = e.third.long ∙ ap (λ p. p + three m p) begins3
+
 -- a plain message, written again, has the same octets
 module _ (m : List ℕ) (plain : IsPlain m) (s : Sections) (e : Ended m s) where
   place2 : e.p1 ≡ section2_begins m
-  place2 = e.first.long
-
-  place3 : (b : Bool) → has_section2 m ≡ b → e.p2 ≡ (if b then section2_begins m + three m (section2_begins m) else section2_begins m)
-  place3 true is = (e.second is).long ∙ ap (λ p. p + three m p) place2
-  place3 false is = e.no_second is ∙ place2
+  place2 = begins2 m s e
 
   at3 : e.p2 ≡ section3_begins m
-  at3 = place3 (has_section2 m) refl
+  at3 = begins3 m s e
 
   at4 : e.p3 ≡ section4_begins m
-  at4 = e.third.long ∙ ap (λ p. p + three m p) at3
+  at4 = begins4 m s e
 
   known : is_edition (edition_of m) ≡ true
   known = e.edition
@@ -521,6 +532,15 @@ module _ (m : List ℕ) (plain : IsPlain m) (s : Sections) (e : Ended m s) where
       ∙ sym (drop_split m 8 e.p1 (omega (arith, o))) in
       ap (λ l. l ++ (t1 (is_some (if b then Some (slice_range m (e.p1 + 4) e.p2) else None)) ++ (t2 ++ (t3 ++ (t4 ++ codes "7777"))))) s0
       ∙ ap (λ l. take 8 m ++ l) back ∙ take-append-drop 8 m
+
+-- where sections 3 and 4 are even, it is no longer in edition 3 either
+pub least-when-even : (m : List ℕ) (s : Sections) → sections_of m ≡ Ok s → edition_of m ≡ 3 → three m (section3_begins m) % 2 ≡ 0 → three m (section4_begins m) % 2 ≡ 0 → message_size s.head.edition (parts_in s) ≤ length m
+least-when-even m s is edition even3 even4 =
+    let e = sections-ended m s is in
+    let third : three m e.p2 % 2 ≡ 0 = ap (λ p. three m p % 2) (begins3 m s e) ∙ even3 in
+    let fourth : three m e.p3 % 2 ≡ 0 = ap (λ p. three m p % 2) (begins4 m s e) ∙ even4 in
+    let P : Sections → Type 0 = λ x. message_size x.head.edition (parts_in x) ≤ length m in
+    subst P (sym e.is) (omega (arith, third, fourth, e.third.long, e.fourth.long, sizes-3 m s e edition))
 
 pub written-again : (m : List ℕ) (s : Sections) → IsPlain m → sections_of m ≡ Ok s → message_octets s.head (parts_in s) ≡ m
 written-again m s plain is =

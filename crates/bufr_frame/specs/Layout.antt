@@ -39,6 +39,7 @@ abbrev pub size_from : (edition local1 : ℕ) → Option (List ℕ) → (descrip
 size_from edition local1 section2 descriptors payload =
     8 + (first_least edition + local1) + section2_size section2 + even_size edition (7 + 2 * descriptors) + even_size edition (4 + payload) + 4
 
+-- the octets of a message of these parts
 abbrev pub message_size : (edition : ℕ) → Parts → ℕ
 message_size edition p = size_from edition (length p.local1) p.section2 (length p.descriptors) (length p.payload)
 
@@ -54,10 +55,11 @@ longer edition = if edition == 3 then 2 else 0
 abbrev pub section0_octets : (size edition : ℕ) → List ℕ
 section0_octets size edition = codes "BUFR" ++ three_octets size ++ edition ∷ []
 
--- a head that can be written: in edition 3 centre, sub-centre and year have one octet, and local sub-category and second none
+-- the value of a field fits the octets that edition 3 has for it
 abbrev pub fits_3 : Head → Field → Bool
 fits_3 h field = nat_le (said h false field) (most_in slots_3 field)
 
+-- a head that can be written: in edition 3 centre, sub-centre and year have one octet, and local sub-category and second none
 abbrev pub is_writable : Head → Bool
 is_writable h = (h.edition == 4) || ((h.edition == 3) && (fits_3 h Centre && (fits_3 h Subcentre && (fits_3 h Year && (fits_3 h LocalSubcategory && fits_3 h Second)))))
 
@@ -85,7 +87,7 @@ section2_octets (Some octets) = section4_octets octets
 abbrev pub data_flags : (observed compressed : Bool) → ℕ
 data_flags observed compressed = (if observed then 128 else 0) + (if compressed then 64 else 0)
 
--- section 3: the length, a reserved octet, the number of subsets, the flags, the octets of the descriptors
+-- section 3: the length, a reserved octet, the number of subsets, the flags, and behind them the octets of the descriptors with what makes it even
 abbrev pub section3_octets : List ℕ → (subsets flags : ℕ) → List ℕ
 section3_octets content subsets flags = three_octets (7 + length content) ++ 0 ∷ two_octets subsets ++ flags ∷ content
 

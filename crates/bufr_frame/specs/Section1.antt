@@ -45,6 +45,7 @@ slots_4 =
 abbrev pub is_edition : ℕ → Bool
 is_edition edition = (edition == 3) || (edition == 4)
 
+-- what section 1 has in an edition
 abbrev pub slots_of : (edition : ℕ) → List Slot
 slots_of edition = if edition == 3 then slots_3 else slots_4
 
@@ -67,13 +68,16 @@ order Hour = 13
 order Minute = 14
 order Second = 15
 
+-- whose octets they are
 abbrev pub field_of : Slot → Field
 field_of (Single field) = field
 field_of (Double field) = field
 
+-- whether a slot is for a field
 abbrev pub is_for : Field → Slot → Bool
 is_for field slot = order field == order (field_of slot)
 
+-- how many octets it has
 abbrev pub width : Slot → ℕ
 width (Single field) = 1
 width (Double field) = 2

@@ -43,6 +43,7 @@ section_end m k least p =
 abbrev pub edition_of : List ℕ → ℕ
 edition_of m = slice_index m 7
 
+-- what section 1 of a message has, in the order of its edition
 abbrev pub slots_in : List ℕ → List Slot
 slots_in m = slots_of (edition_of m)
 
@@ -68,7 +69,7 @@ parts m p1 p2 p3 p4 = record {
   size = length m;
 }
 
--- a message of edition 3 that is so long, and whose section 3 or 4 is odd, so that it could not be written with even ones
+-- a message of edition 3 that is so long that with even sections 3 and 4, of which one is odd, its length might not be stated any more
 abbrev pub is_long_edition_3 : List ℕ → (p2 p3 p4 : ℕ) → Bool
 is_long_edition_3 m p2 p3 p4 = (edition_of m == 3) && (nat_lt 16777213 (length m) && (((p3 - p2) % 2 == 1) || ((p4 - p3) % 2 == 1)))
 

@@ -1,13 +1,14 @@
 //! Laws on what calls say together: the events of a stream, and messages written again.
-ghost use Rattle.std.specs.Prelude.{◌≡◌, List, [], ◌+◌, ◌++◌, ℕ, Option, Result, Ok, ◌<◌, ◌≤◌, Bool, length, slice_index, true, false};
+ghost use Rattle.std.specs.Prelude.{◌≡◌, List, [], ◌+◌, ◌++◌, ℕ, Option, Result, Ok, ◌<◌, ◌≤◌, ◌%◌, Bool, length, slice_index, true, false};
 ghost use Rattle.bufr_frame.specs.Scan.{Happening, scan, scan_from, open_scan};
 ghost use Rattle.bufr_frame.specs.Look.{Advances, NoneDecided};
 ghost use Rattle.bufr_frame.specs.Longest.{longest_of, first_event};
 ghost use Rattle.bufr_frame.specs.Finding.{State, fresh, StepSo, SeesSo, IsDone};
 ghost use Rattle.bufr_frame.specs.Next.{NextSo, HoldsSo};
 ghost use Rattle.bufr_frame.specs.Layout.{IsFitting, evened, is_writable, longer, message_octets, message_size, most_octets, parts_in, parts_of, size_from};
-ghost use Rattle.bufr_frame.specs.Plain.{IsPlain};
-ghost use Rattle.bufr_frame.specs.Sections.{Sections, sections_of};
+ghost use Rattle.bufr_frame.specs.Octets.{three};
+ghost use Rattle.bufr_frame.specs.Plain.{IsPlain, section3_begins, section4_begins};
+ghost use Rattle.bufr_frame.specs.Sections.{Sections, edition_of, sections_of};
 ghost use Rattle.bufr_frame.specs.declared.fault.RunFault.{RunFault};
 ghost use Rattle.bufr_frame.specs.declared.finder.Event.{Event};
 ghost use Rattle.bufr_frame.specs.declared.head.Head.{Head};
@@ -71,6 +72,14 @@ pub fn done_comes_again()
 /// edition 3 up to two octets make sections 3 and 4 even.
 pub fn written_again_is_no_longer()
     ensures { (m : List ℕ) (s : Sections) → sections_of m ≡ Ok s → message_size s.head.edition (parts_in s) ≤ length m + longer s.head.edition }
+{}
+
+/// Where a message of edition 3 has even sections 3 and 4, a message that is written from its parts
+/// is no longer: what is written has the least length of all messages with these parts whose sections
+/// 3 and 4 are even.
+pub fn even_sections_are_written_no_longer()
+    ensures { (m : List ℕ) (s : Sections) → sections_of m ≡ Ok s → edition_of m ≡ 3 → three m (section3_begins m) % 2 ≡ 0 → three m (section4_begins m) % 2 ≡ 0
+        → message_size s.head.edition (parts_in s) ≤ length m }
 {}
 
 /// A message that is written from the parts of another one is not too long.

@@ -293,5 +293,10 @@ fn laws() {
     law::steps_compose();
     law::done_comes_again();
     law::written_again_is_no_longer();
+    law::even_sections_are_written_no_longer();
+    law::written_again_is_not_too_long();
+    law::heads_of_messages_can_be_written();
+    law::even_payloads_are_laid_out_alike();
+    law::shorter_payloads_make_no_longer_messages();
     law::plain_messages_are_written_again();
 }

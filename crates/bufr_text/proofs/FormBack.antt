@@ -1,4 +1,4 @@
--- A message in another form is accepted, and from it a canonical message comes back in its own.
+-- A message in another form is accepted, its dump text differs in the flag alone, and from it a canonical message comes back in its own.
 use Rattle.std.proofs.Common.{◌≡◌, ◌∙◌, ℕ, Bool, true, false, List, Ok, refl, ap}
 use Rattle.bufr_tables.specs.Expansion.{tree_of}
 use Rattle.bufr_tables.specs.Legal.{IsLegal}
@@ -11,10 +11,10 @@ use Rattle.bufr_walk.specs.Reading.{Values}
 use Rattle.bufr_fill.specs.Limits.{AreGoodRows}
 use Rattle.bufr_text.specs.declared.form.Form.{Form}
 use Rattle.bufr_text.specs.Canonical.{IsCanonical}
-use Rattle.bufr_text.specs.Dump.{Item, document_of}
+use Rattle.bufr_text.specs.Dump.{Item, document_of, dump_text_of}
 use Rattle.bufr_text.specs.Encoded.{IsAccepted, items_in}
 use Rattle.bufr_text.specs.Encoding.{encoding_in, encoding_of}
-use Rattle.bufr_text.specs.Form.{form_of_flag}
+use Rattle.bufr_text.specs.Form.{compressed_by, form_of_flag}
 use Rattle.bufr_text.specs.InForm.{HasReadingIn}
 use Rattle.bufr_text.proofs.CanonicalLemmas.{canonical_encoded}
 
@@ -27,6 +27,24 @@ formed_accepted form table sequences m s template values used octets a h = recor
   expands = ap (tree_of (tables_of table sequences)) h.same.descriptors ∙ a.expands;
   read = h.read;
 }
+
+-- its dump text is that of the message with the flag of the form
+pub formed_text : (form : Form) (table : List Row) (s : Sections) (template : Tree) (values : Values) (octets : List ℕ) → (again : HasReadingIn form table s template values octets)
+    → dump_text_of again.sections (items_in table template again.sections again.found) ≡ dump_text_of (record s { compressed = compressed_by form s.compressed }) (items_in table template s values)
+formed_text form table s template values octets again =
+    let same = again.same in
+    ap (dump_text_of again.sections) again.items
+    ∙ (λ j. dump_text_of (record {
+      head = same.head j;
+      local1 = same.local1 j;
+      section2 = same.section2 j;
+      descriptors = same.descriptors j;
+      subsets = same.subsets j;
+      observed = same.observed j;
+      compressed = same.compressed j;
+      payload = s.payload;
+      size = s.size;
+    }) (items_in table template s values))
 
 -- in the form that is asked for, a document is encoded alike whatever it says of its form
 in_the_form : (table : List Row) (sequences : List Sequence) (at : ℕ) (s : Sections) (said flag : Bool) (items : List (List Item))

@@ -16,7 +16,7 @@ ghost use Rattle.bufr_text.specs.Encodes.{RefusesSo};
 ghost use Rattle.bufr_text.specs.Encoding.{encoding_in, encoding_of};
 ghost use Rattle.bufr_text.specs.EncodingFault.{told_refusal};
 ghost use Rattle.bufr_text.specs.Given.{IsDumpable};
-ghost use Rattle.bufr_text.specs.Form.{form_of_flag};
+ghost use Rattle.bufr_text.specs.Form.{compressed_by, form_of_flag};
 ghost use Rattle.bufr_text.specs.InForm.{HasReadingIn, IsFaultIn, IsFormed};
 ghost use Rattle.bufr_text.specs.declared.form.Form.{Form};
 
@@ -77,16 +77,17 @@ pub fn canonical_messages_are_encoded_to_themselves()
 
 /// The document of an accepted message's dump text is encoded in each form to a message with the same
 /// reading, but for the flag of compression: the same head, local octets, section 2, descriptors,
-/// number of subsets, and items of each subset. It is refused for its length alone, and in compressed
-/// form also for factors that differ between subsets and for contents that no increments tell apart.
+/// number of subsets, and items of each subset. In the form that it says nothing refuses it; in plain
+/// form its length may, and in compressed form its length, factors that differ between subsets, and
+/// contents that no increments tell apart.
 pub fn dumped_messages_are_encoded_in_each_form()
     ensures { (records : List Record) (table : List Row) (sequences : List Sequence) (m : List ℕ) (s : Sections) (template : Tree) (values : Values) (used at : ℕ) (form : Form)
         → AreRows records table → IsAccepted table sequences m s template values used
         → IsFormed form table s template values (encoding_in form table sequences (document_of at s (items_in table template s values))) }
 {}
 
-/// A fault that may be told of such an encoding is [`DocumentFault::TooLong`](crate::DocumentFault::TooLong) or
-/// [`DocumentFault::Memory`](crate::DocumentFault::Memory), and in compressed form also
+/// A fault that may be told of such an encoding is [`DocumentFault::Memory`](crate::DocumentFault::Memory), in plain
+/// and compressed form also [`DocumentFault::TooLong`](crate::DocumentFault::TooLong), and in compressed form
 /// [`DocumentFault::UnequalFactor`](crate::DocumentFault::UnequalFactor) or
 /// [`DocumentFault::Increment`](crate::DocumentFault::Increment).
 pub fn dumped_messages_are_refused_for_their_form_alone()
@@ -101,6 +102,14 @@ pub fn messages_in_each_form_are_accepted()
     ensures { (form : Form) (table : List Row) (sequences : List Sequence) (m : List ℕ) (s : Sections) (template : Tree) (values : Values) (used : ℕ) (octets : List ℕ)
         → IsAccepted table sequences m s template values used → (again : HasReadingIn form table s template values octets)
         → IsAccepted table sequences octets again.sections template again.found again.used }
+{}
+
+/// Its dump text is that of the first message but for the flag of compression, which is that of the
+/// form.
+pub fn forms_change_the_flag_of_a_dump_text_alone()
+    ensures { (form : Form) (table : List Row) (s : Sections) (template : Tree) (values : Values) (octets : List ℕ)
+        → (again : HasReadingIn form table s template values octets)
+        → dump_text_of again.sections (items_in table template again.sections again.found) ≡ dump_text_of (record s { compressed = compressed_by form s.compressed }) (items_in table template s values) }
 {}
 
 /// A canonical message that was encoded in another form comes back octet for octet: the document of

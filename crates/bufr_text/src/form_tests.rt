@@ -152,6 +152,11 @@ fn refuses_a_form_at_its_line(rt: HostRuntime) -> Result<(), Fail> {
     Ok(())
 }
 
+/// A text with another line in the place of one.
+fn with_other(alloc: Global, text: &[u8], line: &str, other: &str) -> Result<String, Fail> {
+    Ok(str::from_utf8(text)?.replacen(alloc, line, other, 1)?)
+}
+
 /// A compressed message, in plain form and back again: the same octets, and between them a dump text
 /// that differs in the flag alone.
 #[test]
@@ -159,6 +164,7 @@ fn comes_back_from_the_plain_form(rt: HostRuntime) -> Result<(), Fail> {
     encode_law::dumped_messages_are_encoded_in_each_form();
     encode_law::dumped_messages_are_refused_for_their_form_alone();
     encode_law::messages_in_each_form_are_accepted();
+    encode_law::forms_change_the_flag_of_a_dump_text_alone();
     encode_law::canonical_messages_come_back_from_each_form();
     let mut text = String::from_str(rt.alloc(), FIRST_LINES)?;
     text.push_str(COMPRESSED_MISSING)?;
@@ -166,7 +172,11 @@ fn comes_back_from_the_plain_form(rt: HostRuntime) -> Result<(), Fail> {
     let first = formed(rt.alloc(), &document, Form::AsWritten)?.0?;
     let plain = formed(rt.alloc(), &document, Form::Plain)?.0?;
     assert_eq!(rt; (first.len(), plain.len()), (50, 51));
+    let packed = dump(rt.alloc(), &first, 65536, 4096)?;
     let dumped = dump(rt.alloc(), &plain, 65536, 4096)?;
+    let (said, says) = ("compressed 1\n", "compressed 0\n");
+    let wanted = with_other(rt.alloc(), &packed.taken, said, says)?;
+    assert_eq!(rt; dumped.taken.as_slice(), wanted.as_bytes());
     let again = document_of(rt.alloc(), &dumped.taken)?;
     let back = formed(rt.alloc(), &again, Form::Compressed)?.0?;
     assert!(rt; back == first);
