@@ -1,5 +1,5 @@
 -- What a writer of bits stands for, after each of its calls.
-use Rattle.std.proofs.Common.{◌≡◌, ℕ, ◌+◌, ◌-◌, ◌*◌, ◌/◌, ◌%◌, ◌^◌, ◌<◌, ◌≤◌, Bool, false, List, [], ◌∷◌, ◌++◌, length, take, replicate, get_or, refl, sym, ap, ◌∙◌, subst, arith, append_assoc, append-nil, length-append, pow_mono}
+use Rattle.std.proofs.Common.{◌≡◌, ℕ, suc, ◌+◌, ◌-◌, ◌*◌, ◌/◌, ◌%◌, ◌^◌, ◌<◌, ◌≤◌, Bool, false, List, [], ◌∷◌, ◌++◌, length, take, replicate, get_or, drop, refl, sym, ap, ◌∙◌, subst, arith, append_assoc, append-nil, length-append, length-take-le, take-append-drop, take_at, drop-cons, pow_mono}
 use Rattle.std.proofs.lemmas.Nat.{shr_high, shr_split, mod_below, mod_low, pow-add, pow_pos, shl_whole, shr_below}
 use Rattle.std.proofs.Math.Nat.{mul-le-mul_right}
 use Rattle.std.proofs.lemmas.List.{take_more}
@@ -173,3 +173,35 @@ appended_whole xs ys octets last count bits none v e =
 pub nothing_behind : (xs : List ℕ) (last count : ℕ) → bits_of xs ++ bits_in last count ≡ bits_of xs ++ bits_in last count ++ bits_of []
 unfolding bits_of
 nothing_behind xs last count = sym (append-nil (bits_of xs ++ bits_in last count))
+
+-- ---- the first of the bits
+-- bits that are cut behind a front of them
+cut_behind : (front kept behind : List Bool) (n : ℕ) → length (front ++ kept) ≡ n → take n (front ++ (kept ++ behind)) ≡ front ++ kept
+cut_behind front kept behind n e = ap (take n) (sym (append_assoc front kept behind)) ∙ take_at (front ++ kept) behind n e
+
+pub cut_in_last : (xs : List ℕ) (last count kept : ℕ) → kept ≤ count → take (8 * length xs + kept) (bits_of xs ++ bits_in last count) ≡ bits_of xs ++ bits_in (last / 2 ^ (count - kept)) kept
+cut_in_last xs last count kept few =
+    let cut = count - kept in
+    let sum : count ≡ kept + cut = omega arith in
+    ap (λ (bs : List Bool). take (8 * length xs + kept) (bits_of xs ++ bs)) (ap (bits_in last) sum ∙ bits_in-split last kept cut) ∙ cut_behind (bits_of xs) (bits_in (last / 2 ^ cut) kept) (bits_in last cut) (8 * length xs + kept) (length-written xs (last / 2 ^ cut) kept)
+
+pub cut_in_octet : (xs : List ℕ) (behind : List Bool) (whole kept : ℕ) → whole < length xs → kept < 8 → get_or xs whole 0 < 256 → take (8 * whole + kept) (bits_of xs ++ behind) ≡ bits_of (take whole xs) ++ bits_in (get_or xs whole 0 / 2 ^ (8 - kept)) kept
+unfolding bits_of
+cut_in_octet xs behind whole kept inside few small =
+    let x = get_or xs whole 0 in
+    let rest = drop (suc whole) xs in
+    let cut = 8 - kept in
+    let sum : 8 ≡ kept + cut = omega arith in
+    let same : x % 256 ≡ x = omega arith in
+    let octet : bits_of_octet x ≡ bits_in (x / 2 ^ cut) kept ++ bits_in x cut = ap bits_of_octet (sym same) ∙ sym (bits_in-octet x) ∙ ap (bits_in x) sum ∙ bits_in-split x kept cut in
+    let parts : xs ≡ take whole xs ++ x ∷ rest = sym (take-append-drop whole xs) ∙ ap (λ (ys : List ℕ). take whole xs ++ ys) (drop-cons xs whole 0 inside) in
+    let long : length (take whole xs) ≡ whole = length-take-le whole xs (omega arith) in
+    let bits : bits_of xs ++ behind ≡ bits_of (take whole xs) ++ (bits_in (x / 2 ^ cut) kept ++ (bits_in x cut ++ (bits_of rest ++ behind))) =
+    ap (λ (ys : List ℕ). bits_of ys ++ behind) parts ∙ ap (λ (bs : List Bool). bs ++ behind) (bits_of-append (take whole xs) (x ∷ rest)) ∙ append_assoc (bits_of (take whole xs)) (bits_of_octet x ++ bits_of rest) behind ∙ ap (λ (bs : List Bool). bits_of (take whole xs) ++ bs) (append_assoc (bits_of_octet x) (bits_of rest) behind ∙ ap (λ (bs : List Bool). bs ++ (bits_of rest ++ behind)) octet ∙ append_assoc (bits_in (x / 2 ^ cut) kept) (bits_in x cut) (bits_of rest ++ behind)) in
+    ap (take (8 * whole + kept)) bits ∙ cut_behind (bits_of (take whole xs)) (bits_in (x / 2 ^ cut) kept) (bits_in x cut ++ (bits_of rest ++ behind)) (8 * whole + kept) (length-written (take whole xs) (x / 2 ^ cut) kept ∙ ap (λ (m : ℕ). 8 * m + kept) long)
+
+-- what is left of an octet, or of a few bits, fits in the bits that are kept
+pub cut_low : (n kept width : ℕ) → kept ≤ width → n < 2 ^ width → n / 2 ^ (width - kept) < 2 ^ kept
+cut_low n kept width few small =
+    let sum : width ≡ kept + (width - kept) = omega arith in
+    shr_below n kept (width - kept) (subst (λ (w : ℕ). n < 2 ^ w) sum small)

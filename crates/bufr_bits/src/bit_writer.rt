@@ -1,5 +1,5 @@
 //! Bits written behind each other, most significant first.
-ghost use Rattle.std.specs.Prelude.{◌≡◌, ◌≤◌, ◌<◌, ◌+◌, ◌*◌, ◌/◌, ◌%◌, ◌^◌, ◌++◌, [], Bool, List, ℕ, length, slice_index, vec_len, vec_capacity, OnOk, OnErr};
+ghost use Rattle.std.specs.Prelude.{◌≡◌, ◌≤◌, ◌<◌, ◌+◌, ◌*◌, ◌/◌, ◌%◌, ◌^◌, ◌++◌, [], Bool, List, ℕ, length, take, slice_index, vec_len, vec_capacity, OnOk, OnErr};
 ghost use Rattle.bufr_bits.specs.Bits.{bits_of, bits_in, bits_at, number_of, padding};
 
 use crate::append::put;
@@ -99,6 +99,20 @@ impl BitWriter {
         Ok(())
     }
 
+    /// Keeps the first `bits` of the bits, or all of them where there are no more. It takes no memory.
+    pub fn truncate(&mut self, bits: u64)
+        ensures bits { self.new ≡ take bits self.old }
+    {
+        if bits >= self.len_bits() {
+            return;
+        }
+        let whole = (bits / 8) as usize;
+        let kept = (bits % 8) as u32;
+        self.last = tail_of(self.octets.as_slice(), self.last, self.count, whole, kept);
+        self.octets.truncate(whole);
+        self.count = kept;
+    }
+
     /// The octets of the bits, with zero bits up to the next octet. It takes no memory.
     pub fn into_octets(self) -> Vec<u8>
         ensures bits { bits_of result.items ≡ self ++ padding (length self) }
@@ -133,6 +147,22 @@ fn joined(last: u8, count: u32, value: u64, width: u32) -> (u64, u8)
     let kept = total % 8;
     let head = (u64::from(last) << (width - kept)) + (value >> kept);
     (head, (value % (1 << kept)) as u8)
+}
+
+/// The `kept` bits behind the first `whole` octets, where more bits than these stand there.
+fn tail_of(octets: &[u8], last: u8, count: u32, whole: usize, kept: u32) -> u8
+    requires few { count < 8 }
+    requires low { last < 2 ^ count }
+    requires kept { kept < 8 }
+    requires within { 8 * whole + kept < 8 * length octets.now + count }
+    ensures bits { take (8 * whole + kept) (bits_of octets.now ++ bits_in last count) ≡ bits_of (take whole octets.now) ++ bits_in result kept }
+    ensures low { result < 2 ^ kept }
+{
+    if whole < octets.len() {
+        (u16::from(octets[whole]) >> (8 - kept)) as u8
+    } else {
+        last >> (count - kept)
+    }
 }
 
 /// Appends octets behind `count` bits, and answers the bits that then stand last.

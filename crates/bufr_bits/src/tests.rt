@@ -213,6 +213,24 @@ fn bits_are_pushed(rt: HostRuntime) -> Result<(), Fail> {
 }
 
 #[test]
+fn bits_are_cut_off(rt: HostRuntime) -> Result<(), Fail> {
+    for bits in 0..22u32 {
+        let kept = bits.min(19);
+        let mut writer = BitWriter::new(rt.alloc());
+        writer.push_octets(&[0xA5, 0xFF])?;
+        writer.push(5, 3)?;
+        writer.truncate(u64::from(bits));
+        assert_eq!(rt; writer.len_bits(), u64::from(kept));
+        writer.push(1, 1)?;
+        let octets = writer.into_octets();
+        assert!(rt; octets.len() < 4);
+        let number = (0x5_2FFD >> (19 - kept)) * 2 + 1;
+        assert_eq!(rt; number_at(&octets, 0, kept + 1), Some(number));
+    }
+    Ok(())
+}
+
+#[test]
 fn pushes_of_every_width(rt: HostRuntime) -> Result<(), Fail> {
     let mut writer = BitWriter::new(rt.alloc());
     for width in 0..64u32 {

@@ -1,5 +1,5 @@
 -- One item of all subsets, as the code writes it.
-use Rattle.std.proofs.Common.{◌≡◌, ℕ, zero, suc, ◌+◌, ◌*◌, ◌<◌, ◌≤◌, ◌&&◌, Bool, true, false, List, [], ◌∷◌, ◌++◌, length, take, get_or, Option, Some, None, Ok, Err, refl, sym, ◌∙◌, ap, subst, arith}
+use Rattle.std.proofs.Common.{◌≡◌, ℕ, zero, suc, ◌+◌, ◌*◌, ◌<◌, ◌≤◌, ◌&&◌, Bool, true, false, List, [], ◌∷◌, length, take, get_or, Option, Some, None, Ok, Err, refl, sym, ◌∙◌, ap, subst, arith}
 use Rattle.std.specs.Prelude.{nat_lt, if◌then◌else◌}
 use Rattle.std.proofs.lemmas.Bool.Decides.{nat_tests}
 use Rattle.bufr_walk.specs.declared.spec.Taken.{Taken}
@@ -77,33 +77,34 @@ packed_apart spec count (d ∷ ds) z h e =
     ap (λ b. if b then Ok (packed_bits (bits_for spec.width (content_drawn count d)) 0 []) else packed_unlike spec.role spec (contents_drawn count (d ∷ ds)))
     (ap (λ t. t && are_same (content_drawn count d) (contents_drawn count ds)) (sym (content_self (content_drawn count d))) ∙ e)
 
--- a call of the writer: of the bits that stand there so many are those of whole items
-abbrev pub pen_at : List Subset → ℕ → List Bool → ℕ → PackedPen
-pen_at subsets place bits used = record { subsets = subsets; place = place; bits = take used bits }
+-- a call of the writer
+abbrev pub pen_at : List Subset → ℕ → List Bool → PackedPen
+pen_at subsets place bits = record { subsets = subsets; place = place; bits = bits }
 
-pub refuse_step : (o : Option FaultAt) (subsets : List Subset) (place : ℕ) (old new : List Bool) (used : ℕ) (spec : Asked) (s : PackedPen) → pen_at subsets place old used ≡ s → used ≡ length old → PutFault o old new spec (across place subsets)
-    → WhereTold o (IsFaultAcross spec s) × (pen_at subsets place new used ≡ s)
-refuse_step o subsets place old new used spec s view whole h = subst (λ z. WhereTold o (IsFaultAcross spec z) × (pen_at subsets place new used ≡ z)) view (by o h)
+-- a refusal: what was written of the item is cut off
+pub refuse_step : (o : Option FaultAt) (subsets : List Subset) (place : ℕ) (old new cut : List Bool) (n : ℕ) (spec : Asked) (s : PackedPen) → pen_at subsets place old ≡ s → n ≡ length old → PutFault o old new spec (across place subsets) → cut ≡ take n new
+    → WhereTold o (IsFaultAcross spec s) × (pen_at subsets place cut ≡ s)
+refuse_step o subsets place old new cut n spec s view whole h is = subst (λ z. WhereTold o (IsFaultAcross spec z) × (pen_at subsets place cut ≡ z)) view (by o h)
   where
-    by : (o : Option FaultAt) → PutFault o old new spec (across place subsets) → WhereTold o (IsFaultAcross spec (pen_at subsets place old used)) × (pen_at subsets place new used ≡ pen_at subsets place old used)
-    by None h = (tt, ap (λ b. record { subsets = subsets; place = place; bits = b }) (still_there used old new (omega (arith, whole)) h))
-    by (Some f) h = (h.0, ap (λ b. pen_at subsets place b used) h.1)
+    as_before : take n new ≡ old → pen_at subsets place cut ≡ pen_at subsets place old
+    as_before e = ap (pen_at subsets place) (is ∙ e)
 
-pub take_step : (subsets : List Subset) (place : ℕ) (old new : List Bool) (used used' most : ℕ) (spec : Asked) (t : Taken) (s : PackedPen) → pen_at subsets place old used ≡ s → used ≡ length old → used' ≡ length new
-    → IsPutAcross old new spec (across place subsets) most t → IsPacked s spec t (pen_at subsets (place + 1) new used')
-take_step subsets place old new used used' most spec t s view whole is h =
-    let before = take_whole used old whole in
-    let after = take_whole used' new is in
-    subst (λ z. IsPacked z spec t (pen_at subsets (place + 1) new used')) view (record {
-      contents = h.contents;
-      item = h.item;
-      is = h.is;
-      tells = h.tells;
-      bits = after ∙ h.bits ∙ ap (λ b. b ++ h.item) (sym before);
-      place = refl;
-      subsets = refl;
-      forth = omega (arith, ap length before, ap length after, h.some);
-    })
+    by : (o : Option FaultAt) → PutFault o old new spec (across place subsets) → WhereTold o (IsFaultAcross spec (pen_at subsets place old)) × (pen_at subsets place cut ≡ pen_at subsets place old)
+    by None h = (tt, as_before (still_there n old new (omega (arith, whole)) h ∙ take_whole n old whole))
+    by (Some f) h = (h.0, as_before (ap (take n) h.1 ∙ take_whole n old whole))
+
+pub take_step : (subsets : List Subset) (place : ℕ) (old new : List Bool) (most : ℕ) (spec : Asked) (t : Taken) (s : PackedPen) → pen_at subsets place old ≡ s
+    → IsPutAcross old new spec (across place subsets) most t → IsPacked s spec t (pen_at subsets (place + 1) new)
+take_step subsets place old new most spec t s view h = subst (λ z. IsPacked z spec t (pen_at subsets (place + 1) new)) view (record {
+  contents = h.contents;
+  item = h.item;
+  is = h.is;
+  tells = h.tells;
+  bits = h.bits;
+  place = refl;
+  subsets = refl;
+  forth = h.some;
+})
 
 -- numbers of values, and room for what is written
 next_values : (place n : ℕ) → (place + 1) * n ≡ place * n + n
@@ -116,9 +117,8 @@ some_place place (suc n) h = let e : place * suc n ≡ place * n + place = grind
 pub some_values : (place n : ℕ) → n ≤ (place + 1) * n
 some_values place n = omega (arith, next_values place n)
 
-pub next_out : (entries : List Entry) (ends : List ℕ) (place used stand used' item : ℕ) → IsPackedOut entries ends place used stand → (place + 1) * length ends ≤ most_values → used' ≡ used + item → item ≤ 2046 + 504 * length ends → IsPackedOut entries ends (place + 1) used' used'
-next_out entries ends place used stand used' item h few is most = record {
-  within = omega arith;
+pub next_out : (entries : List Entry) (ends : List ℕ) (place bits bits' item : ℕ) → IsPackedOut entries ends place bits → (place + 1) * length ends ≤ most_values → bits' ≡ bits + item → item ≤ 2046 + 504 * length ends → IsPackedOut entries ends (place + 1) bits'
+next_out entries ends place bits bits' item h few is most = record {
   few = h.few;
   ends_are = h.ends_are;
   some = h.some;

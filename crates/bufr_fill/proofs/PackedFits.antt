@@ -1,5 +1,5 @@
 -- Contents that fit a field and can be packed are packed so that they are read again.
-use Rattle.std.proofs.Common.{◌≡◌, ℕ, zero, suc, ◌+◌, ◌-◌, ◌*◌, ◌/◌, ◌^◌, ◌<◌, ◌≤◌, ◌≢◌, ◌&&◌, Bool, true, false, not, List, [], ◌∷◌, ◌++◌, length, take, replicate, Option, Some, Result, Ok, Err, refl, sym, ◌∙◌, ap, subst, arith}
+use Rattle.std.proofs.Common.{◌≡◌, ℕ, zero, suc, ◌+◌, ◌-◌, ◌*◌, ◌/◌, ◌<◌, ◌≤◌, ◌&&◌, Bool, true, false, not, List, [], ◌∷◌, ◌++◌, length, take, replicate, Result, Ok, Err, refl, sym, ◌∙◌, ap, subst, arith}
 use Rattle.std.specs.Prelude.{◌==◌, nat_lt, nat_le, if◌then◌else◌}
 use Rattle.std.specs.List.{list_all, flat_map}
 use Rattle.std.proofs.lemmas.List.{append-nil, take_all}
@@ -12,8 +12,8 @@ use Rattle.bufr_walk.specs.Asked.{Asked, IsSpec, HasWidth}
 use Rattle.bufr_walk.specs.Content.{Content, number, text, missing, reference, bits_for}
 use Rattle.bufr_walk.specs.PackedField.{packed_field}
 use Rattle.bufr_walk.specs.PlainField.{FieldFault, increment, found}
-use Rattle.bufr_fill.specs.Fits.{FitsNumber, FitsText, FitsKind, FitsRole, Fits, AllFit}
-use Rattle.bufr_fill.specs.Packing.{top, same_octets, are_same, lowest, has_bits, gives_again, has_octets, first_from, least_k, octet_bits, packed_bits, packed_texts, packed_by, packed_unlike, packing}
+use Rattle.bufr_fill.specs.Fits.{FitsNumber, FitsText, FitsKind, FitsRole, AllFit}
+use Rattle.bufr_fill.specs.Packing.{top, same_octets, are_same, has_bits, gives_again, has_octets, first_from, least_k, octet_bits, packed_bits, packed_by, packed_unlike, packing}
 use Rattle.bufr_fill.proofs.LeastLemmas.{AreNumbers, first_least, first_from_start, octets_self}
 use Rattle.bufr_fill.proofs.PackedBack.{AreTexts}
 use Rattle.bufr_fill.proofs.PackedLaws.{IsVaried, step_by, IsPacked, uniform, differing, step_element}

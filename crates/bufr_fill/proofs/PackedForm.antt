@@ -1,21 +1,21 @@
 -- Items that were read subset after subset are written together so that they are read again, or their factors differ, or no increments tell them apart.
-use Rattle.std.proofs.Common.{◌≡◌, ◌⊎◌, inl, inr, ℕ, zero, suc, ◌+◌, ◌*◌, ◌<◌, ◌≤◌, max, Bool, true, false, List, [], ◌∷◌, ◌++◌, length, drop, Option, Some, Result, Ok, Err, refl, sym, ◌∙◌, ap, subst, arith, append_assoc}
-use Rattle.std.specs.Prelude.{nat_lt, slice_get, if◌then◌else◌}
+use Rattle.std.proofs.Common.{◌≡◌, ◌⊎◌, inl, inr, ℕ, zero, suc, ◌+◌, ◌*◌, ◌<◌, ◌≤◌, max, Bool, List, [], ◌∷◌, ◌++◌, length, drop, Result, Ok, Err, refl, sym, ◌∙◌, ap, subst, arith, append_assoc}
+use Rattle.std.specs.Prelude.{slice_get, if◌then◌else◌}
 use Rattle.bufr_walk.specs.declared.spec.Taken.{Taken}
 use Rattle.bufr_walk.specs.Asked.{Asked, IsSpec}
 use Rattle.bufr_walk.specs.Calls.{content_at}
 use Rattle.bufr_walk.specs.Content.{Content, missing, told}
-use Rattle.bufr_walk.specs.Course.{Course, Next, take_next, at_end}
-use Rattle.bufr_walk.specs.PackedField.{packed_field, told_first}
-use Rattle.bufr_walk.specs.PlainField.{FieldFault, data_end, increment, unequal_factor, found, plain_field}
-use Rattle.bufr_walk.specs.Reading.{most_values, Item, plain, packed, after, Reads, ReadsAll, ReadsSubsets, IsPackedReading}
+use Rattle.bufr_walk.specs.Course.{Course, take_next, at_end}
+use Rattle.bufr_walk.specs.PackedField.{packed_field}
+use Rattle.bufr_walk.specs.PlainField.{FieldFault, data_end, increment, unequal_factor}
+use Rattle.bufr_walk.specs.Reading.{most_values, Item, plain, packed, after, ReadsAll, ReadsSubsets}
 use Rattle.bufr_fill.specs.Draft.{Draft}
 use Rattle.bufr_fill.specs.Encoding.{Cell, Across, across, cells_at, rows, longest, first_line, contents_here, packing_fault, packed_to, are_many, pack_across, packed_filler, packed_data, ◌>>=◌}
 use Rattle.bufr_fill.specs.Entries.{Subset}
 use Rattle.bufr_fill.specs.Fault.{FaultAt, at_line, too_many_values}
-use Rattle.bufr_fill.specs.Filling.{written, fill, fill_one, fill_none, filled, and_behind}
+use Rattle.bufr_fill.specs.Filling.{fill, fill_one, fill_none, filled, and_behind}
 use Rattle.bufr_fill.specs.Fits.{Fits, AllFit}
-use Rattle.bufr_fill.specs.OtherForm.{subsets_from, IsUnlike, IsWrittenTogether, IsUnwritten, IsTogetherOrNot}
+use Rattle.bufr_fill.specs.OtherForm.{subsets_from, IsUnlike, IsTogetherOrNot}
 use Rattle.bufr_fill.specs.Packing.{packing}
 use Rattle.bufr_fill.specs.WrittenAgain.{IsDumped, AreDrafts, AllSpecs, EachSpecs, AreDumped, IsCellOf, AreCellsOf, items_of}
 use Rattle.bufr_fill.proofs.PackedFits.{fitting_again}

@@ -1,23 +1,22 @@
 -- Items that fit their fields are written subset after subset so that they are read again; those of compressed data are such items.
-use Rattle.std.proofs.Common.{◌≡◌, ℕ, zero, suc, ◌+◌, ◌<◌, ◌≤◌, Bool, true, false, List, [], ◌∷◌, ◌++◌, length, drop, Result, Ok, Err, refl, sym, ◌∙◌, ap, subst, arith, append_assoc}
+use Rattle.std.proofs.Common.{◌≡◌, ℕ, zero, suc, ◌+◌, ◌<◌, ◌≤◌, Bool, true, false, List, [], ◌∷◌, ◌++◌, length, Result, Ok, refl, sym, ◌∙◌, ap, subst, arith, append_assoc}
 use Rattle.std.specs.Prelude.{if◌then◌else◌}
-use Rattle.std.proofs.lemmas.List.{length-append}
 use Rattle.bufr_bits.proofs.ScaledLemmas.{and_first, and_second}
 use Rattle.bufr_walk.specs.declared.spec.Role.{Role}
 use Rattle.bufr_walk.specs.declared.spec.Role.TheVariants as role
 use Rattle.bufr_walk.specs.declared.spec.Taken.{Taken}
 use Rattle.bufr_walk.specs.Asked.{Asked, IsSpec}
 use Rattle.bufr_walk.specs.Calls.{content_at}
-use Rattle.bufr_walk.specs.Content.{Content, missing, bits_for, told_by, told}
+use Rattle.bufr_walk.specs.Content.{Content, bits_for, told_by, told}
 use Rattle.bufr_walk.specs.Course.{Course, take_next, at_end}
 use Rattle.bufr_walk.specs.PackedField.{packed_field, told_first}
 use Rattle.bufr_walk.specs.PlainField.{FieldFault, found, plain_field}
-use Rattle.bufr_walk.specs.Reading.{Item, plain, packed, after, Reads, ReadsAll, ReadsSubsets, IsPackedReading, IsPlainReading}
+use Rattle.bufr_walk.specs.Reading.{Item, plain, packed, after, ReadsAll, ReadsSubsets, IsPackedReading}
 use Rattle.bufr_fill.specs.Draft.{Draft}
-use Rattle.bufr_fill.specs.DraftContent.{content_of, form_of, plainly, plain_filler}
+use Rattle.bufr_fill.specs.DraftContent.{content_of, plainly, plain_filler}
 use Rattle.bufr_fill.specs.Encoding.{plain_data, ◌>>=◌}
 use Rattle.bufr_fill.specs.Entries.{Subset}
-use Rattle.bufr_fill.specs.Filling.{written, fill, fill_one, fill_none, filled, and_behind}
+use Rattle.bufr_fill.specs.Filling.{fill, fill_one, fill_none, filled, and_behind}
 use Rattle.bufr_fill.specs.Fits.{Fits, AllFit}
 use Rattle.bufr_fill.specs.OtherForm.{subsets_from, IsWrittenApart}
 use Rattle.bufr_fill.specs.Packing.{same, are_same, packed_bits, packed_unlike, packing}

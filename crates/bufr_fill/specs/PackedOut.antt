@@ -37,13 +37,12 @@ ends_of from [] = []
 ends_of from (Holds d ∷ more) = ends_of (from + 1) more
 ends_of from (Ends line ∷ more) = from ∷ ends_of (from + 1) more
 
--- what the writer keeps: where the subsets end, and room for what is written; of the bits that stand there so many are those of whole items
-pub record IsPackedOut (entries : List Entry) (ends : List ℕ) (place used stand : ℕ) : Type 0 where
-  pub within : used ≤ stand
+-- what the writer keeps: where the subsets end, and room for what is written
+pub record IsPackedOut (entries : List Entry) (ends : List ℕ) (place bits : ℕ) : Type 0 where
   pub few : length entries ≤ 2 ^ 45
   pub ends_are : ends ≡ ends_of 0 entries
   pub some : 1 ≤ length ends
-  pub room : used ≤ 2550 * (place * length ends)
+  pub room : bits ≤ 2550 * (place * length ends)
   pub values : place * length ends ≤ most_values
 
 -- the next item of all subsets was written

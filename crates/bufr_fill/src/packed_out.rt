@@ -1,6 +1,5 @@
 //! Items of a dump text written as compressed data.
-ghost use Rattle.std.specs.Prelude.{◌≡◌, ◌≤◌, ◌<◌, ◌+◌, ◌*◌, ◌/◌, ◌^◌, ◌++◌, IfOk, Ok, length, map, take, vec_len};
-ghost use Rattle.bufr_bits.specs.Bits.{bits_of, padding};
+ghost use Rattle.std.specs.Prelude.{◌≡◌, ◌≤◌, ◌<◌, ◌+◌, ◌*◌, ◌/◌, ◌^◌, IfOk, Ok, length, map};
 ghost use Rattle.bufr_walk.specs.Asked.{IsFor};
 ghost use Rattle.bufr_walk.specs.Reading.{most_values};
 ghost use Rattle.bufr_fill.specs.Encoding.{across, cells_at, contents_here};
@@ -27,9 +26,8 @@ const MOST_VALUES: u64 = 134_217_728;
 /// Items of a dump text, each written once for all subsets as a base, six bits `k`, and an increment for each subset
 /// where `k` is above 0 (WMO-No. 306, Volume I.2, FM 94: section 4, compression). One walk takes the items of all subsets.
 ///
-/// A contract sees it as the subsets, how many items of each were taken, and the bits of these items. A refusal changes none
-/// of them. Where memory ran out within an item, its first bits are kept aside and never given, and each further item is
-/// refused for want of memory too.
+/// A contract sees it as the subsets, how many items of each were taken, and the bits of these items. A refusal, for want of
+/// memory too, changes none of them: what was written of the item is cut off again.
 #[derive(Drop)]
 pub struct PackedOut<'s, 'a> {
     entries: &'s [Entry<'a>],
@@ -37,20 +35,19 @@ pub struct PackedOut<'s, 'a> {
     place: usize,
     drawn: Vec<Drawn<'a>>,
     out: BitWriter,
-    used: u64,
 }
 
 impl<'s, 'a> Model for PackedOut<'s, 'a> {
-    ghost use Rattle.std.specs.Prelude.{length, map, take};
+    ghost use Rattle.std.specs.Prelude.{length, map};
     ghost use Rattle.bufr_fill.specs.Entries.{subsets_of};
     ghost use Rattle.bufr_fill.specs.Given.{entry_in};
     ghost use Rattle.bufr_fill.specs.PackedOut.{PackedPen, IsPackedOut};
 
     ghost Value = { PackedPen };
 
-    ghost view = { λ s. record { subsets = subsets_of (map entry_in s.entries.now); place = s.place; bits = take s.used s.out } };
+    ghost view = { λ s. record { subsets = subsets_of (map entry_in s.entries.now); place = s.place; bits = s.out } };
 
-    ghost invariant = { λ s. IsPackedOut (map entry_in s.entries.now) s.ends.items s.place s.used (length s.out) };
+    ghost invariant = { λ s. IsPackedOut (map entry_in s.entries.now) s.ends.items s.place (length s.out) };
 }
 
 /// The places of the entries that end subsets.
@@ -128,24 +125,6 @@ fn pack_next<'a>(
     }
 }
 
-/// The first bits of octets, with zero bits to the next octet.
-fn first_octets(mut octets: Vec<u8>, count: u64) -> Vec<u8>
-    requires { count ≤ 8 * vec_len octets }
-    ensures bits { bits_of result.items ≡ take count (bits_of octets.items) ++ padding count }
-    ensures len { vec_len result ≡ (count + 7) / 8 }
-{
-    let whole = (count / 8) as usize;
-    let left = (count % 8) as u32;
-    if left == 0 {
-        octets.truncate(whole);
-    } else {
-        let last = octets[whole] >> (8 - left) << (8 - left);
-        octets.truncate(whole + 1);
-        octets[whole] = last;
-    }
-    octets
-}
-
 impl<'s, 'a> PackedOut<'s, 'a> {
     ghost use Rattle.std.specs.Prelude.{◌≡◌, ◌≤◌, ◌<◌, ◌+◌, ◌/◌, ◌^◌, ◌++◌, length, map, vec_len, IfOk};
     ghost use Rattle.bufr_bits.specs.Bits.{bits_of, padding};
@@ -176,7 +155,6 @@ impl<'s, 'a> PackedOut<'s, 'a> {
             place: 0,
             drawn: Vec::new(alloc),
             out: BitWriter::new(alloc),
-            used: 0,
         }))
     }
 
@@ -209,9 +187,8 @@ impl<'s, 'a> PackedOut<'s, 'a> {
             place: _,
             drawn: _,
             out,
-            used,
         } = self;
-        first_octets(out.into_octets(), used)
+        out.into_octets()
     }
 }
 
@@ -231,10 +208,7 @@ impl<'s, 'a> Fields for PackedOut<'s, 'a> {
     ghost refuses = { λ s spec e next h. ap (λ c. length c.bits) h.1 };
 
     fn take(&mut self, spec: &Spec) -> Result<Taken, DraftFault> {
-        // The first bits of an item in which memory ran out stand behind those of whole items.
-        if self.out.len_bits() != self.used {
-            return Err(DraftFault::Memory);
-        }
+        let bits = self.out.len_bits();
         match pack_next(
             self.entries,
             &self.ends,
@@ -245,14 +219,17 @@ impl<'s, 'a> Fields for PackedOut<'s, 'a> {
         ) {
             Ok(told) => {
                 self.place += 1;
-                self.used = self.out.len_bits();
                 Ok(told)
             }
-            Err(why) => Err(why),
+            Err(why) => {
+                // Memory may have run out within the item.
+                self.out.truncate(bits);
+                Err(why)
+            }
         }
     }
 
     fn bits(&self) -> u64 {
-        self.used
+        self.out.len_bits()
     }
 }

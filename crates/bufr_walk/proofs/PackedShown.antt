@@ -1,18 +1,20 @@
 -- A reading of compressed data is shown by what it keeps.
-use Rattle.std.proofs.Common.{◌≡◌, ℕ, zero, suc, Bool, true, false, List, drop, Vec, Result, refl, sym, ◌∙◌, ap, subst}
+use Rattle.std.proofs.Common.{◌≡◌, ℕ, zero, suc, Bool, true, false, List, [], ◌∷◌, drop, Vec, Result, length, refl, sym, ◌∙◌, ap, subst}
 use Rattle.std.specs.List.{list_all}
 use Rattle.std.specs.declared.alloc.Global.{Global}
 use Rattle.bufr_walk.specs.declared.fault.ShowFault.{ShowFault}
 use Rattle.bufr_walk.specs.declared.read_packed.KeptItem.{KeptItem}
+use Rattle.bufr_walk.specs.declared.reading.Kept.{Kept}
 use Rattle.bufr_walk.specs.declared.reading.Kept.TheVariants as kept
 use Rattle.bufr_walk.specs.Calls.{Call, calls_of, turns_shown, subsets_together}
 use Rattle.bufr_walk.specs.Content.{Content}
 use Rattle.bufr_walk.specs.Course.{Course}
-use Rattle.bufr_walk.specs.Kept.{IsHeld, KeepsValues}
+use Rattle.bufr_walk.specs.Kept.{IsHeld, KeepsValues, held_of}
 use Rattle.bufr_walk.specs.Outcome.{Read, course_of}
 use Rattle.bufr_walk.specs.PackedIn.{items_at, stands_at}
-use Rattle.bufr_walk.specs.Reading.{Item, packed, ReadsAll, Values, apart, together, IsReading, IsPackedReading}
+use Rattle.bufr_walk.specs.Reading.{Item, packed, ReadsAll, Values, apart, together, IsReading, IsPackedReading, items_kept}
 use Rattle.bufr_walk.specs.Shows.{Shows}
+use Rattle.bufr_walk.proofs.OneReading.{one_reading}
 use Rattle.bufr_walk.proofs.OneOutcome.{HasOutcome, ended, outcome_of, one_outcome}
 
 -- compressed data are read in one way
@@ -42,3 +44,17 @@ packed_shown sees r entries items v v' result steps h are none shows values read
     by (together held) k w (together others) g =
         let same : items_at r.source.bits r.source.subsets entries.items ≡ others = w.0 ∙ one_packed r.source.subsets (course_of r) held others r.source.bits (drop r.bits r.source.bits) (drop r.bits r.source.bits) k.2 g.2 in
         subst (λ is. Shows sees v (subsets_together r.table r.source.subsets 0 is) 0 result v' 0) (ap (items_at r.source.bits r.source.subsets) are ∙ same) shows
+
+-- each item of compressed data is kept, and nothing of other data
+length-items_at : (bits : List Bool) (n : ℕ) (entries : List KeptItem) → length entries ≡ length (items_at bits n entries)
+length-items_at bits n [] = refl
+length-items_at bits n (e ∷ entries) = ap suc (length-items_at bits n entries)
+
+pub all_kept : (r : Read) (k : Kept) → IsHeld r k → (values : Values) → IsReading (course_of r) r.source values r.bits → held_of k ≡ items_kept values
+all_kept r k h values reading = by k h.values h.keeps ∙ ap items_kept (one_reading (course_of r) r.source h.values values r.bits r.bits h.reading reading).0
+  where
+    by : (k : Kept) (held : Values) → KeepsValues k r.source held → held_of k ≡ items_kept held
+    by kept.Apart (apart all) w = refl
+    by kept.Apart (together items) w = absurd w
+    by (kept.Together entries) (apart all) w = absurd w
+    by (kept.Together entries) (together items) w = length-items_at r.source.bits r.source.subsets entries.items ∙ ap length w.0

@@ -5,6 +5,8 @@ use Rattle.bufr_walk.specs.declared.spec.Refusal.TheVariants as refusal
 use Rattle.bufr_walk.specs.declared.fault.Spot.{Spot}
 use Rattle.bufr_walk.specs.declared.fault.WalkFault.{WalkFault}
 use Rattle.bufr_walk.specs.declared.fault.WalkFault.TheVariants as fault
+use Rattle.bufr_walk.specs.declared.packed_in.PackedFault.{PackedFault}
+use Rattle.bufr_walk.specs.declared.packed_in.PackedFault.TheVariants as wrong
 use Rattle.bufr_walk.specs.PlainField.{data_end, increment, unequal_factor}
 use Rattle.bufr_walk.specs.Refusal.{Stop, walk_stop, too_many, field_stop}
 
@@ -40,3 +42,11 @@ number_of_fault (fault.UnequalFactor s) = 33
 number_of_fault (fault.Increment s) = 34
 number_of_fault (fault.TooManyValues s) = 35
 number_of_fault fault.Memory = 73
+
+-- the number of a fault of compressed data
+abbrev pub number_of_packed : PackedFault → ℕ
+number_of_packed (wrong.DataEnd fxy) = 30
+number_of_packed (wrong.Increment fxy) = 34
+number_of_packed (wrong.UnequalFactor fxy) = 33
+number_of_packed (wrong.TooManyValues fxy) = 35
+number_of_packed wrong.Memory = 73

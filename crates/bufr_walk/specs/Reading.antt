@@ -93,6 +93,11 @@ pub data Values : Type 0 where
   apart : (subsets : List (List (Item Content))) → Values
   together : (items : List (Item (List Content))) → Values
 
+-- how many items a reading keeps: those of compressed data, each once for all subsets, and none of other data
+abbrev pub items_kept : Values → ℕ
+items_kept (apart subsets) = 0
+items_kept (together items) = length items
+
 -- the items of the data, and how many bits they take
 abbrev pub IsReading : Course → Data → Values → (used : ℕ) → Type 0
 IsReading course d (apart subsets) used =

@@ -75,10 +75,12 @@ impl WalkFault {
 }
 
 /// Why a reading was not shown to its end.
-#[derive(Debug, PartialEq, Eq, Drop)]
+#[derive(Debug, PartialEq, Eq, Drop, Error)]
 pub enum ShowFault<E> {
     /// The visitor's own fault.
+    #[error("the visitor stopped the showing")]
     Visitor(E),
     /// Memory ran out.
+    #[error("out of memory")]
     Memory,
 }

@@ -20,20 +20,44 @@ use bufr_bits::BitSlice;
 use bufr_tables::{Fxy, Kind};
 use std::alloc::Global;
 use std::marker::Model;
+use thiserror::Error;
 
 /// What is wrong with an item of compressed data, with its descriptor.
-#[derive(Clone, Copy, Debug, PartialEq, Eq)]
+#[derive(Clone, Copy, Debug, PartialEq, Eq, Error)]
 pub enum PackedFault {
     /// The data end inside the item.
+    #[error("the data end inside an item")]
     DataEnd(Fxy),
     /// A sum past the width of a number, more octets than a text has, or a redefined reference with increments.
+    #[error("an increment that cannot be")]
     Increment(Fxy),
     /// The factor of a replication is not the same in all subsets.
+    #[error("a factor is not the same in all subsets")]
     UnequalFactor(Fxy),
     /// With this item there are more than 134,217,728 values.
+    #[error("too many values")]
     TooManyValues(Fxy),
     /// Memory ran out: room is made at every 64th item, from the first on.
+    #[error("out of memory")]
     Memory,
+}
+
+impl PackedFault {
+    ghost use Rattle.std.specs.Prelude.{◌≡◌};
+    ghost use Rattle.bufr_walk.specs.Fault.{number_of_packed};
+
+    /// Its number, as that of the [`WalkFault`](crate::WalkFault) that it is: 30, 33 to 35, and 73 for want of memory.
+    pub fn number(self) -> u8
+        ensures { result ≡ number_of_packed self }
+    {
+        match self {
+            PackedFault::DataEnd(_) => 30,
+            PackedFault::UnequalFactor(_) => 33,
+            PackedFault::Increment(_) => 34,
+            PackedFault::TooManyValues(_) => 35,
+            PackedFault::Memory => 73,
+        }
+    }
 }
 
 /// The number to which the increments of an item are added.

@@ -12,11 +12,7 @@ fn told(answer: Result<Taken, PackedFault>) -> (u8, u64) {
         Ok(Taken::Count(count)) => (0, count),
         Ok(Taken::Plain) => (0, 0),
         Ok(Taken::Reference(_)) => (0, 0),
-        Err(PackedFault::DataEnd(_)) => (30, 0),
-        Err(PackedFault::UnequalFactor(_)) => (33, 0),
-        Err(PackedFault::Increment(_)) => (34, 0),
-        Err(PackedFault::TooManyValues(_)) => (35, 0),
-        Err(PackedFault::Memory) => (73, 0),
+        Err(why) => (why.number(), 0),
     }
 }
 
@@ -150,4 +146,19 @@ fn one_value_for_all_subsets(rt: HostRuntime) -> Result<(), Fail> {
     assert_eq!(rt; told(fields.take(&block()?)).0, 0);
     assert_eq!(rt; fields.bits(), 13);
     Ok(())
+}
+
+#[test]
+fn packed_faults_have_numbers(rt: HostRuntime) {
+    let fxy = Fxy::from_word(257);
+    let rows = [
+        (PackedFault::DataEnd(fxy), 30),
+        (PackedFault::UnequalFactor(fxy), 33),
+        (PackedFault::Increment(fxy), 34),
+        (PackedFault::TooManyValues(fxy), 35),
+        (PackedFault::Memory, 73),
+    ];
+    for (fault, number) in rows {
+        assert_eq!(rt; fault.number(), number, "{fault:?}");
+    }
 }

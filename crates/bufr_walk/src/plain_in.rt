@@ -203,7 +203,7 @@ impl<'a> PlainIn<'a> {
     ///
     /// [`DataEnd`] where the data end inside the field.
     #[tactic(auto, using(crate::proofs::PlainLemmas::taken_here, crate::proofs::PlainLemmas::ends_here, crate::proofs::PlainLemmas::bits_length))]
-    pub fn peek(&self, spec: &Spec) -> Result<Taken, DataEnd>
+    pub(crate) fn peek(&self, spec: &Spec) -> Result<Taken, DataEnd>
         ensures found { MatchResult result (λ t. PlainTakes self.now spec.now (Ok t) (past self.now spec.now)) (λ e. PlainTakes self.now spec.now (Err e) self.now) }
         ensures shape { IfOk result (λ t. IsFor spec.now t) }
         ensures within { IfOk result (λ t. self.now.at + spec.now.width ≤ length self.now.bits) }

@@ -56,7 +56,7 @@ impl<'a> Reading<'a> {
     ghost use Rattle.bufr_walk.specs.Fault.{bits_before};
     ghost use Rattle.bufr_walk.specs.Calls.{calls_of, items_called, turns_shown};
     ghost use Rattle.bufr_walk.specs.Outcome.{course_of, data_of, IsFault, IsReadingOf};
-    ghost use Rattle.bufr_walk.specs.Reading.{Values, IsReading, most_values};
+    ghost use Rattle.bufr_walk.specs.Reading.{Values, IsReading, items_kept, most_values};
     ghost use Rattle.bufr_walk.specs.Shows.{Shows};
 
     /// Reads the data of a message by its template.
@@ -113,9 +113,11 @@ impl<'a> Reading<'a> {
         self.used
     }
 
-    /// How many items are kept: none where the data are not compressed, else at most one for seven bits.
+    /// How many items are kept: none where the data are not compressed, else each item of all subsets, at most one for
+    /// seven bits.
     pub fn held(&self) -> u64
         ensures value { result ≡ self.now.held }
+        ensures items { (values : Values) → IsReading (course_of self.now) self.now.source values self.now.bits → result ≡ items_kept values }
         ensures few { 7 * result ≤ self.now.bits }
         ensures none { self.now.source.compressed ≡ false → result ≡ 0 }
     {

@@ -10,7 +10,7 @@ use bufr_tables::{Fxy, Kind};
 use std::marker::Model;
 
 /// What a field is for.
-#[derive(Clone, Copy, PartialEq, Eq)]
+#[derive(Clone, Copy, Debug, PartialEq, Eq)]
 pub enum Role {
     /// The value of an element.
     Element,
@@ -23,7 +23,7 @@ pub enum Role {
 }
 
 /// Why a turn is refused: a width that no field may have, or a turn that may not come while references are defined.
-#[derive(Clone, Copy)]
+#[derive(Clone, Copy, Debug, PartialEq, Eq)]
 pub enum Refusal {
     /// A field that is not text would be under 1 or over 63 bits wide.
     Width(Fxy),
@@ -32,7 +32,7 @@ pub enum Refusal {
 }
 
 /// What a field told the walk.
-#[derive(Clone, Copy)]
+#[derive(Clone, Copy, Debug, PartialEq, Eq)]
 pub enum Taken {
     /// Nothing that the walk needs.
     Plain,
@@ -44,7 +44,7 @@ pub enum Taken {
 
 /// How one field is to be read.
 // The widest field stands first: with room between the fields each copy would cost as much as the reading of a number.
-#[derive(Clone, Copy)]
+#[derive(Clone, Copy, Debug, PartialEq, Eq)]
 pub struct Spec {
     reference: i128,
     width: u32,

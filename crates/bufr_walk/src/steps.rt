@@ -33,7 +33,7 @@ impl Steps {
     }
 
     /// One more turn, up to the greatest `u64`.
-    pub fn tick(&mut self)
+    pub(crate) fn tick(&mut self)
         ensures { self.new ≡ ticked self.old 1 }
     {
         self.count = self.count.saturating_add(1);

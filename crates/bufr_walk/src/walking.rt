@@ -21,7 +21,7 @@ use bufr_tables::{Cell, Fxy, TableB, Template};
 use std::alloc::Global;
 
 /// Why a walk stopped.
-#[derive(Drop)]
+#[derive(Debug, PartialEq, Eq, Drop)]
 pub enum WalkStop<E> {
     /// A field that is not text would be under 1 or over 63 bits wide.
     Width(Fxy),

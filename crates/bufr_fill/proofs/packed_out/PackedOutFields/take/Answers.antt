@@ -5,4 +5,4 @@ use Rattle.bufr_fill.proofs.packed_out.PackedOutFields.take.Goals as goal
 
 pub pack_next-requires-clause-room : goal.pack_next-requires-clause-room
 pack_next-requires-clause-room c =
-    omega (arith, c.if-len_bits-self.false, c.len_bits.ensures, c.self.invariant.room, c.self.invariant.values, c.self.invariant.few, ends_few 0 (map entry_in c.self.inside.entries.now), ap length c.self.invariant.ends_are, ap length c.deref.ensures.value)
+    omega (arith, c.self.invariant.room, c.self.invariant.values, c.self.invariant.few, ends_few 0 (map entry_in c.self.inside.entries.now), ap length c.self.invariant.ends_are, ap length c.deref.ensures.value)
