@@ -85,9 +85,8 @@ module _ (left mid : Option (List ℕ)) (old s s1 : State) (place size : ℕ) (s
   open-room = omega (arith, ap (λ x. length x.rest) is, ap (λ x. x.longest) is, looks.1.few)
 
   -- where no more reads are made
-  pub stop-open : (s2 : State) (fault : RunFault) → s2 ≡ record s1 { fault = Some fault } → (bs : List ℕ) × StepSo left mid old s2 bs [] × SeesSo old s2 bs (first_event (scan_from 0 s2.at s2.rest))
+  pub stop-open : (s2 : State) (fault : RunFault) → s2 ≡ record s1 { fault = Some fault } → StepSo left mid old s2 steps.0 [] × SeesSo old s2 steps.0 (first_event (scan_from 0 s2.at s2.rest))
   stop-open s2 fault stops = (
-    steps.0,
     turn-stop left mid old s1 s2 steps.0 there (Some fault) stops,
     open-sees old s s2 steps.0 place size steps.1.follows raised looks.1 looks.2.0
         (ap (λ x. x.at) stops ∙ ap (λ x. x.at) is) (ap (λ x. x.rest) stops ∙ ap (λ x. x.rest) is) (ap (λ x. x.longest) stops ∙ ap (λ x. x.longest) is),
@@ -120,13 +119,12 @@ module _ (left mid : Option (List ℕ)) (old s s1 : State) (place size : ℕ) (s
         by InputTooLong ends = absurd ends
         by Memory ends = (ends.1, ends.2)
 
-    pub stop-read : (s3 : State) (fault : RunFault) → result ≡ Err fault → s3 ≡ record s2 { fault = Some fault } → (bs : List ℕ) × StepSo left left' old s3 bs [] × SeesSo old s3 bs (first_event (scan_from 0 s3.at s3.rest))
+    pub stop-read : (s3 : State) (fault : RunFault) → result ≡ Err fault → s3 ≡ record s2 { fault = Some fault } → StepSo left left' old s3 (steps.0 ++ next.0) [] × SeesSo old s3 (steps.0 ++ next.0) (first_event (scan_from 0 s3.at s3.rest))
     stop-read s3 fault same stops =
         let none = nothing-read fault same in
         let bs_is : steps.0 ++ next.0 ≡ steps.0 = ap (λ l. steps.0 ++ l) none.0 ∙ append-nil steps.0 in
         let rest_is : s3.rest ≡ drop place s.rest = ap (λ x. x.rest) stops ∙ next.1.rest ∙ ap (λ l. s1.rest ++ l) none.0 ∙ append-nil s1.rest ∙ ap (λ x. x.rest) is in
         let S : List ℕ → Type 0 = λ l. SeesSo old s3 l (first_event (scan_from 0 s3.at s3.rest)) in (
-          steps.0 ++ next.0,
           turn-stop left left' old s2 s3 (steps.0 ++ next.0) turn-on (Some fault) stops,
           subst S (sym bs_is) (open-sees old s s3 steps.0 place size steps.1.follows raised looks.1 looks.2.0
               (ap (λ x. x.at) stops ∙ next.1.at ∙ ap (λ x. x.at) is) rest_is (ap (λ x. x.longest) stops ∙ next.1.longest ∙ ap (λ x. x.longest) is)),

@@ -58,19 +58,17 @@ Follows-then at at' at'' r r' r'' bs one two =
 pub Follows-none : (at : ℕ) (r : List ℕ) → Follows at r at r
 Follows-none at r = record { passed = 0; within = omega arith; offset = omega arith; left = refl }
 
-pub step-none : (left : Option (List ℕ)) (s : State) → (bs : List ℕ) × StepSo left left s s bs []
+pub step-none : (left : Option (List ℕ)) (s : State) → StepSo left left s s [] []
 step-none left s =
     let A : List ℕ → Type 0 = λ l. Advances s.ended s.at l [] s.at s.rest in
-    let F : List ℕ → Type 0 = λ l. Follows s.at l s.at s.rest in (
-      [],
-      record {
-        read = Consumes-nil left;
-        advances = subst A (sym (append-nil s.rest)) (Advances-none s.ended s.at s.rest);
-        follows = subst F (sym (append-nil s.rest)) (Follows-none s.at s.rest);
-        kept = λ end. (end, refl, refl);
-        end = λ before. before;
-      },
-    )
+    let F : List ℕ → Type 0 = λ l. Follows s.at l s.at s.rest in
+    record {
+      read = Consumes-nil left;
+      advances = subst A (sym (append-nil s.rest)) (Advances-none s.ended s.at s.rest);
+      follows = subst F (sym (append-nil s.rest)) (Follows-none s.at s.rest);
+      kept = λ end. (end, refl, refl);
+      end = λ before. before;
+    }
 
 module _ (left mid : Option (List ℕ)) (old s s' : State) (bs : List ℕ) (es : List Happening) where
   -- events are passed, and nothing is read

@@ -3,6 +3,7 @@ pub mod AgainLemmas
 pub mod BufferLemmas
 pub mod CallLemmas
 pub mod EvenLemmas
+pub mod EachReadLemmas
 mod Examples
 pub mod FindingLemmas
 pub mod FitLemmas

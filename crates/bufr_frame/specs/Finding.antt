@@ -1,6 +1,7 @@
 -- What a finder does, call by call.
 -- Cited by public contracts.
-use Rattle.std.specs.Prelude.{◌≡◌, ◌≢◌, ℕ, ◌+◌, ◌-◌, ◌*◌, ◌<◌, ◌≤◌, max, Bool, true, false, List, [], ◌++◌, Option, Some, None, length, drop}
+use Rattle.std.specs.Prelude.{◌≡◌, ◌≢◌, ℕ, ◌+◌, ◌-◌, ◌*◌, ◌<◌, ◌≤◌, max, Bool, true, false, List, [], ◌∷◌, ◌++◌, Option, Some, None, length, drop}
+use Rattle.std.specs.List.{concat}
 use Rattle.std.specs.Io.KnownBytes.{Consumes, IsAtEnd}
 use Rattle.bufr_bits.specs.Counts.{counted}
 use Rattle.bufr_frame.specs.Scan.{Happening, scan_from}
@@ -94,6 +95,19 @@ StopsSo new Memory = IsOpen new Memory × (new.reads < most_reads)
 -- a read is made only where no event is certain in what is left
 abbrev pub WaitsSo : State → State → Type 0
 WaitsSo old new = old.reads ≢ new.reads → NoneDecided old.at old.rest
+
+-- Reads one after another, where these octets were left before the first, and what each gave: none was made while an event was certain in
+-- what was left then with what the reads before it gave, and none gave more than so many octets.
+abbrev pub AreWaited : (most at : ℕ) (left : List ℕ) (given : List (List ℕ)) → Type 0
+AreWaited most at left [] = Unit {0}
+AreWaited most at left (octets ∷ more) = NoneDecided at left × (length octets ≤ most) × AreWaited most at (left ++ octets) more
+
+-- The octets that a call read are what its reads gave, each of which waited, and gave no more than may be held.
+pub record EachWaits (old new : State) (bs : List ℕ) : Type 0 where
+  pub given : List (List ℕ)
+  pub octets : bs ≡ concat given
+  pub made : new.reads ≡ old.reads + length given
+  pub waited : AreWaited (max 4096 new.longest) old.at old.rest given
 
 -- memory is wanted only where the room was less than twice the octets that may be held
 abbrev pub WantsSo : State → State → RunFault → Type 0

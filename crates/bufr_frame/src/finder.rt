@@ -113,7 +113,7 @@ impl Finder {
     ghost use Rattle.bufr_frame.specs.Sights.{LooksSo, FoundSo};
     ghost use Rattle.bufr_frame.specs.Longest.{length_here};
     ghost use Rattle.bufr_frame.specs.Runs.{read_failures_after, most_reads};
-    ghost use Rattle.bufr_frame.specs.Finding.{State, held, StepSo, SeesSo, Follows, CountsReads, IsDone, WaitsSo, fresh};
+    ghost use Rattle.bufr_frame.specs.Finding.{State, held, StepSo, SeesSo, Follows, CountsReads, IsDone, WaitsSo, EachWaits, fresh};
     ghost use Rattle.bufr_frame.specs.Passing.{OutcomeSo, PassedSo, ReadSo, KeepsRun, events_by, seen_by, passed_events, gone_to};
     ghost use Rattle.bufr_frame.specs.Next.{NextSo, AgainSo, told_by};
 
@@ -231,6 +231,7 @@ impl Finder {
         requires going { self.old.ended ≡ false }
         requires sound { self.old.fault ≡ None }
         ensures read { (bs : List ℕ) × ReadSo (R.left r.old) (R.left r.new) self.old self.new result bs }
+        ensures bound { held self.new ≤ max 4096 self.new.longest }
         ensures failed { R.failures r.new ≡ read_failures_after (R.failures r.old) result }
         ensures made { R.reads r.new ≡ counted (R.reads r.old) (self.new.reads - self.old.reads) }
     {
@@ -265,7 +266,7 @@ impl Finder {
 
     /// Goes on behind the next event, where there is one.
     fn advance<R: Source>(&mut self, r: &mut R) -> Result<Option<Passed>, RunFault>
-        ensures steps { (bs : List ℕ) × StepSo (R.left r.old) (R.left r.new) self.old self.new bs (events_by self.new result) × (self.old.fault ≡ None → SeesSo self.old self.new bs (seen_by self.new result)) }
+        ensures steps { (bs : List ℕ) × StepSo (R.left r.old) (R.left r.new) self.old self.new bs (events_by self.new result) × (self.old.fault ≡ None → SeesSo self.old self.new bs (seen_by self.new result)) × EachWaits self.old self.new bs }
         ensures counts { CountsReads (R.reads r.old) (R.reads r.new) self.old self.new }
         ensures waits { WaitsSo self.old self.new }
         ensures outcome { OutcomeSo self.old self.new result }

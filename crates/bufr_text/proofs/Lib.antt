@@ -1,10 +1,10 @@
+mod AcceptedExamples
 pub mod CallLemmas
 pub mod CanonicalLemmas
 pub mod CleanLemmas
 pub mod ClosingLemmas
 pub mod DescribingLemmas
 mod DumpExamples
-pub mod DumpLawLemmas
 pub mod DumpLemmas
 pub mod DumpableLemmas
 pub mod EncodePacked

@@ -4,9 +4,7 @@ use crate::dump_tests::{
     EDITION_3, EDITION_3_TEXT, FIRST_LINES, ODD_EDITION_3, ROWS as DUMPED, TABLE_B, TABLE_D, dump,
     message_of, octets_of,
 };
-use crate::{
-    Document, DocumentFault, DumpReader, ReadFault, dump_law, encode_document, encode_law,
-};
+use crate::{Document, DocumentFault, DumpReader, ReadFault, encode_document, encode_law};
 use bufr_bits::ScriptIn;
 use bufr_tables::{TableB, TableD};
 use bufr_walk::Steps;
@@ -346,7 +344,6 @@ fn encodes_the_longest_message(rt: HostRuntime) -> Result<(), Fail> {
 /// has the same text, and to itself where it is canonical.
 #[test]
 fn encodes_what_was_dumped(rt: HostRuntime) -> Result<(), Fail> {
-    dump_law::sections_are_dumpable(b"");
     encode_law::accepted_messages_are_dumpable();
     encode_law::dumped_messages_are_encoded_again();
     encode_law::same_readings_have_the_same_dump_text();

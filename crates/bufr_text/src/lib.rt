@@ -6,7 +6,6 @@ mod descriptors;
 mod document;
 mod draft;
 mod dump;
-pub mod dump_law;
 mod dump_reader;
 mod encode;
 mod encode_fault;

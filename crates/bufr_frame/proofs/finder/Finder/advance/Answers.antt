@@ -6,17 +6,18 @@ use Rattle.bufr_frame.specs.Runs.{most_reads}
 use Rattle.bufr_frame.specs.declared.fault.RunFault.{RunFault}
 use Rattle.bufr_frame.proofs.AdvanceLemmas.{stopped-told, sound-unless, counts-none, counts-same, counts-read, reads-grow, passed-from, stop-open, turn-on, raised-on, stop-read, stops-read, wants-read, waits-by, waits-open}
 use Rattle.bufr_frame.proofs.LongestLemmas.{found-sees}
+use Rattle.bufr_frame.proofs.EachReadLemmas.{none-waited, waits-still, waits-read}
 use Rattle.bufr_frame.proofs.FindingLemmas.{step-none, still-open, pass-step}
 use Rattle.bufr_frame.proofs.finder.Finder.advance.Goals as goal
 
 pub returns-in-Stopped-clause-steps : goal.returns-in-Stopped-clause-steps
 returns-in-Stopped-clause-steps g c =
-    let none = step-none _ c.args.self.now in
-    (none.0, none.1, λ sound. absurd (stopped-told c.self.inside.phase c.in-Stopped.fault c.in-Stopped.is (ap (λ s. s.fault) c.self.view_is ∙ sound)))
+    ([], step-none _ c.args.self.now, λ sound. absurd (stopped-told c.self.inside.phase c.in-Stopped.fault c.in-Stopped.is (ap (λ s. s.fault) c.self.view_is ∙ sound)), none-waited c.args.self.now)
 
 pub loop-found-init : goal.loop-found-init
 loop-found-init g c = record {
-  steps = step-none _ _;
+  steps = ([], step-none _ _);
+  each = none-waited _;
   counts = counts-none _ _ (omega (arith, c.self.invariant, ap (λ s. s.reads) c.self.view_is));
   failed = refl;
   sound = sym (ap (λ s. s.fault) c.self.view_is) ∙ sound-unless c.self.inside.phase c.in_default.not-Stopped;
@@ -35,6 +36,7 @@ returns-in-Decided-clause-steps g c =
       bs,
       pass-step _ _ c.args.self.now c.loop-found.self c.pass_event.new.self bs [] (passed_events c.pass_event.new.self c.pass_event.result) before.steps.1 pe.same.ended pe.same.reads pe.advances pe.follows,
       λ _. subst V (sym pe.here) (found-sees c.args.self.now c.loop-found.self c.pass_event.new.self bs c.pass_event.result.offset c.pass_event.result.len c.in-Decided.found.place c.in-Decided.found.stated c.in-Decided.found.here before.steps.1.follows before.raised looks.0 looks.1.0 pe.offset pe.longest),
+      waits-still c.args.self.now c.loop-found.self c.pass_event.new.self bs before.each pe.same.reads (omega (arith, pe.longest)),
     )
 
 pub returns-in-Decided-clause-counts : goal.returns-in-Decided-clause-counts
@@ -47,7 +49,7 @@ pub returns-then-self-eq-MOST_READS-clause-steps : goal.returns-then-self-eq-MOS
 returns-then-self-eq-MOST_READS-clause-steps g c =
     let before = c.loop-found.invariant in
     let s = stop-open _ _ c.args.self.now c.loop-found.self c.go_to.new.self _ _ before.steps before.raised c.in-Open.ensures.looks c.go_to.ensures c.stop.new.self _ c.stop.ensures.new in
-    (s.0, s.1, λ _. s.2)
+    (before.steps.0, s.0, λ _. s.1, waits-still c.args.self.now c.loop-found.self c.stop.new.self before.steps.0 before.each (ap (λ s. s.reads) c.stop.ensures.new ∙ ap (λ s. s.reads) c.go_to.ensures) (omega (arith, ap (λ s. s.longest) c.stop.ensures.new, ap (λ s. s.longest) c.go_to.ensures)))
 
 pub returns-then-self-eq-MOST_READS-clause-counts : goal.returns-then-self-eq-MOST_READS-clause-counts
 returns-then-self-eq-MOST_READS-clause-counts g c = counts-same _ _ _ c.loop-found.self c.stop.new.self c.loop-found.invariant.counts (ap (λ s. s.reads) c.stop.ensures.new ∙ ap (λ s. s.reads) c.go_to.ensures)
@@ -56,7 +58,10 @@ pub returns-in-Err-clause-steps : goal.returns-in-Err-clause-steps
 returns-in-Err-clause-steps g c =
     let before = c.loop-found.invariant in
     let s = stop-read _ _ c.args.self.now c.loop-found.self c.go_to.new.self _ _ before.steps before.raised c.in-Open.ensures.looks c.go_to.ensures _ c.read_more.new.self c.read_more.result c.read_more.ensures.read c.stop-in-Err.new.self _ c.in-Err.is c.stop-in-Err.ensures.new in
-    (s.0, s.1, λ _. s.2)
+    let next = c.read_more.ensures.read in
+    let looks = c.in-Open.ensures.looks in
+    let each = waits-read _ _ c.args.self.now c.loop-found.self c.go_to.new.self c.read_more.new.self _ _ before.steps.0 before.each before.steps.1 looks.0 looks.1 c.go_to.ensures c.read_more.ensures.bound _ c.read_more.result next.0 next.1 in
+    (before.steps.0 ++ next.0, s.0, λ _. s.1, waits-still c.args.self.now c.read_more.new.self c.stop-in-Err.new.self (before.steps.0 ++ next.0) each (ap (λ s. s.reads) c.stop-in-Err.ensures.new) (omega (arith, ap (λ s. s.longest) c.stop-in-Err.ensures.new)))
 
 pub returns-in-Err-clause-counts : goal.returns-in-Err-clause-counts
 returns-in-Err-clause-counts g c =
@@ -101,6 +106,7 @@ loop-found-preserved g c =
     let grow = reads-grow _ c.go_to.new.self c.read_more.new.self next.0 c.read_more.result next.1.ends few in
     record {
       steps = (before.steps.0 ++ next.0, turn-on _ _ c.args.self.now c.loop-found.self c.go_to.new.self _ _ before.steps before.raised c.in-Open.ensures.looks c.go_to.ensures _ c.read_more.new.self c.read_more.result next);
+      each = waits-read _ _ c.args.self.now c.loop-found.self c.go_to.new.self c.read_more.new.self _ _ before.steps.0 before.each before.steps.1 c.in-Open.ensures.looks.0 c.in-Open.ensures.looks.1 c.go_to.ensures c.read_more.ensures.bound _ c.read_more.result next.0 next.1;
       counts = counts-read _ _ _ c.args.self.now c.go_to.new.self c.read_more.new.self (counts-same _ _ _ c.loop-found.self c.go_to.new.self before.counts reads) c.read_more.ensures.made grow.0 grow.1;
       failed = (rw c.in_default-read_more.is at c.read_more.ensures.failed) ∙ before.failed;
       sound = next.1.fault;

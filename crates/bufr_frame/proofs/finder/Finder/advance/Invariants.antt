@@ -1,5 +1,5 @@
 use Rattle.std.proofs.Common.{◌⊎◌, ◌≡◌, ◌-◌, ◌≤◌, ℕ, List, [], None}
-use Rattle.bufr_frame.specs.Finding.{StepSo, CountsReads}
+use Rattle.bufr_frame.specs.Finding.{StepSo, CountsReads, EachWaits}
 use Rattle.bufr_frame.specs.Sights.{Raised}
 use Rattle.bufr_frame.specs.Look.{NoneDecided}
 use Rattle.bufr_frame.specs.Runs.{most_reads}
@@ -9,6 +9,7 @@ use Rattle.bufr_frame.proofs.finder.Finder.advance.Given as goal
 abbrev pub invariant-loop-found : goal.invariant-loop-found
 invariant-loop-found g l = record {
   steps : (bs : List ℕ) × StepSo (g.R.Source.left l.fn.r) (g.R.Source.left l.r) l.fn.self l.self bs [];
+  each : EachWaits l.fn.self l.self steps.0;
   counts : CountsReads (g.R.Source.reads l.fn.r) (g.R.Source.reads l.r) l.fn.self l.self;
   failed : g.R.Source.failures l.r ≡ g.R.Source.failures l.fn.r;
   sound : l.self.fault ≡ None;
