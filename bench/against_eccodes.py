@@ -37,6 +37,13 @@ KEYS = """edition masterTableNumber bufrHeaderCentre bufrHeaderSubCentre updateS
 internationalDataSubCategory dataSubCategory masterTablesVersionNumber localTablesVersionNumber typicalYear
 typicalMonth typicalDay typicalHour typicalMinute typicalSecond observedData compressedData section2Present
 numberOfSubsets""".split()
+# what stands in their place in edition 3, where it is another key, or nothing, which is 0 in a dump
+KEYS_3 = {
+    "internationalDataSubCategory": "[dataSubCategory]",
+    "dataSubCategory": "0",
+    "typicalYear": "[typicalYearOfCentury]",
+    "typicalSecond": "0",
+}
 MISSING = -1e100
 
 # What the two are known to read differently: what ecCodes 2.28 does, subsets, flags, descriptors, and the data as
@@ -114,7 +121,9 @@ def ours(text: bytes) -> Reading:
 
 def theirs(path: pathlib.Path) -> Foreign:
     flat = json.loads(run(["bufr_dump", "-jf", str(path)]).decode("latin-1"), strict=False)["messages"]
-    rules = "set unpack = 1; " + " ".join(f'print "[{key}]";' for key in KEYS) + ' print "[numericValues!9%.17g]";'
+    others = KEYS_3 if path.read_bytes()[7] == 3 else {}
+    shown = [others.get(key, f"[{key}]") for key in KEYS]
+    rules = "set unpack = 1; " + " ".join(f'print "{each}";' for each in shown) + ' print "[numericValues!9%.17g]";'
     told = run(["bufr_filter", "-", str(path)], rules.encode()).decode().split()
     header = [int(number) for number in told[: len(KEYS)]]
     entries = [entry for entry in flat if entry["key"] != "subsetNumber"]
@@ -174,6 +183,7 @@ def compare(reading: Reading, foreign: Foreign, tally: collections.Counter) -> N
         raise Different("ecCodes has more items")
     tally["subsets"] += len(reading.subsets)
     tally["compressed messages"] += reading.header[-3]
+    tally[f"messages of edition {reading.header[0]}"] += 1
     for operator in {fxy[:3] for fxy in reading.descriptors if fxy[0] == "2"}:
         tally[f"messages with {operator}"] += 1
 

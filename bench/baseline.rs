@@ -2,17 +2,13 @@
 //! with the C library's `memmem`, checks the sections and prints the same lines. No proof, no
 //! stream, no tests: only a yardstick.
 use std::fmt::Write as _;
-use std::fs::File;
 use std::io::Write as _;
-use std::os::fd::AsRawFd;
+
+mod by_hand;
+use by_hand::{head, is_optional, least_first, mapped, number};
 
 extern "C" {
-    fn mmap(at: *mut u8, length: usize, access: i32, flags: i32, file: i32, offset: i64) -> *mut u8;
     fn memmem(hay: *const u8, length: usize, needle: *const u8, width: usize) -> *const u8;
-}
-
-fn number(octets: &[u8]) -> usize {
-    octets.iter().fold(0, |n, octet| n << 8 | usize::from(*octet))
 }
 
 fn find(octets: &[u8]) -> Option<usize> {
@@ -24,16 +20,17 @@ fn find(octets: &[u8]) -> Option<usize> {
     }
 }
 
-/// The places of sections 1, 3 and 4, or the text of the fault.
-fn sections(m: &[u8]) -> Result<(usize, bool, usize), String> {
-    if m[7] != 4 {
+/// Whether there is a section 2, and the place of section 3, or the text of the fault.
+fn sections(m: &[u8]) -> Result<(bool, usize), String> {
+    if m[7] != 3 && m[7] != 4 {
         return Err(format!("10 edition {}", m[7]));
     }
     let end = m.len() - 4;
     let mut place = 8;
     let mut optional = false;
     let mut three = 0;
-    for (section, least) in [(1, 22), (2, 4), (3, 7), (4, 4)] {
+    let mut odd = false;
+    for (section, least) in [(1, least_first(m[7])), (2, 4), (3, 7), (4, 4)] {
         if section == 2 && !optional {
             continue;
         }
@@ -48,27 +45,26 @@ fn sections(m: &[u8]) -> Result<(usize, bool, usize), String> {
             return Err(format!("12 section {section} past the end"));
         }
         if section == 1 {
-            optional = m[place + 9] & 128 != 0;
+            optional = is_optional(m[7], &m[place..]);
         }
         if section == 3 {
             three = place;
         }
+        odd |= section > 2 && length % 2 == 1;
         place += length;
     }
     if place != end {
         return Err("13 sections do not meet the end".to_string());
     }
-    Ok((8, optional, three))
+    if m[7] == 3 && odd && m.len() > 16_777_213 {
+        return Err("14 edition 3 length".to_string());
+    }
+    Ok((optional, three))
 }
 
 fn main() {
     let name = std::env::args().nth(1).expect("a file");
-    let file = File::open(&name).expect("a file that opens");
-    let length = file.metadata().expect("its length").len() as usize;
-    let octets = unsafe {
-        let at = mmap(std::ptr::null_mut(), length, 1, 2, file.as_raw_fd(), 0);
-        std::slice::from_raw_parts(at, length)
-    };
+    let octets = mapped(&name);
     let mut out = std::io::BufWriter::with_capacity(1 << 16, std::io::stdout().lock());
     let mut errors = std::io::BufWriter::with_capacity(1 << 16, std::io::stderr().lock());
     let mut line = String::new();
@@ -96,16 +92,17 @@ fn main() {
             Err(fault) => {
                 let _ = writeln!(errors, "offset {o}: {fault}");
             }
-            Ok((one, optional, three)) => {
-                let s = &m[one..];
+            Ok((optional, three)) => {
                 let t = &m[three..];
+                let [
+                    master, centre, subcentre, update, category, subcategory, local, version, local_version, year,
+                    month, day, hour, minute, second,
+                ] = head(m[7], &m[8..]);
                 line.clear();
                 let _ = writeln!(
                     line,
-                    "offset={o} length={stated} edition={} centre={}/{} update={} category={}/{}/{} tables={}/{}/{} time={:04}-{:02}-{:02}T{:02}:{:02}:{:02} subsets={} observed={} compressed={} optional={} descriptors={}",
-                    m[7], number(&s[4..6]), number(&s[6..8]), s[8], s[10], s[11], s[12], s[3], s[13], s[14],
-                    number(&s[15..17]), s[17], s[18], s[19], s[20], s[21],
-                    number(&t[4..6]), t[6] >> 7, t[6] >> 6 & 1, optional as u8, (number(&t[..3]) - 7) / 2,
+                    "offset={o} length={stated} edition={} centre={centre}/{subcentre} update={update} category={category}/{subcategory}/{local} tables={master}/{version}/{local_version} time={year:04}-{month:02}-{day:02}T{hour:02}:{minute:02}:{second:02} subsets={} observed={} compressed={} optional={} descriptors={}",
+                    m[7], number(&t[4..6]), t[6] >> 7, t[6] >> 6 & 1, optional as u8, (number(&t[..3]) - 7) / 2,
                 );
                 let _ = out.write_all(line.as_bytes());
             }

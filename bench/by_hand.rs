@@ -1,5 +1,5 @@
-//! What the dumper and the encoder by hand share: the tables in maps, a list of descriptors laid out,
-//! and a file that is mapped.
+//! What the lister, the dumper and the encoder by hand share: the numbers of section 1, the tables in
+//! maps, a list of descriptors laid out, and a file that is mapped.
 #![allow(dead_code)] // each of them has no use for some of it
 use std::collections::HashMap;
 use std::fs::File;
@@ -21,6 +21,13 @@ pub struct Element {
 }
 
 pub type Sequences = HashMap<u16, Vec<u16>>;
+
+/// What the lines of a header say, in their order.
+pub const KEYS: [&str; 20] = [
+    "edition", "master", "centre", "subcentre", "update", "category", "subcategory", "localsubcategory",
+    "masterversion", "localversion", "year", "month", "day", "hour", "minute", "second", "observed",
+    "compressed", "optional", "subsets",
+];
 
 pub fn number(octets: &[u8]) -> usize {
     octets.iter().fold(0, |n, octet| n << 8 | usize::from(*octet))
@@ -92,6 +99,33 @@ pub fn expand(list: &[u16], sequences: &Sequences, out: &mut Vec<u16>) {
             3 => expand(&sequences[&d], sequences, out),
             _ => panic!("no operators"),
         }
+    }
+}
+
+/// The octets of section 1 without those for local use.
+pub fn least_first(edition: u8) -> usize {
+    if edition == 3 { 17 } else { 22 }
+}
+
+/// Whether section 1 says that there is a section 2.
+pub fn is_optional(edition: u8, s: &[u8]) -> bool {
+    s[if edition == 3 { 7 } else { 9 }] & 128 != 0
+}
+
+/// The numbers of section 1 in the order of a dump's header, from the master table to the second.
+pub fn head(edition: u8, s: &[u8]) -> [usize; 15] {
+    let one = |at: usize| usize::from(s[at]);
+    let two = |at: usize| number(&s[at..at + 2]);
+    if edition == 3 {
+        [
+            one(3), one(5), one(4), one(6), one(8), one(9), 0, one(10), one(11), one(12), one(13), one(14), one(15),
+            one(16), 0,
+        ]
+    } else {
+        [
+            one(3), two(4), two(6), one(8), one(10), one(11), one(12), one(13), one(14), two(15), one(17), one(18),
+            one(19), one(20), one(21),
+        ]
     }
 }
 

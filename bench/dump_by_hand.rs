@@ -1,11 +1,12 @@
 //! A dumper written by hand in plain Rust, to measure `bufr dump` against: it maps the file, reads
 //! the tables into maps and writes the same text for messages whose templates have elements, fixed
-//! replications and sequences, plain or compressed. No operators, no checks but of the end of the
-//! data, no proof: only a yardstick.
+//! replications and sequences, plain or compressed (numbers alone where compressed), of edition 3 or 4, one
+//! message behind the other. No operators, no section 2, no checks but of the end of the data, no proof:
+//! only a yardstick.
 use std::io::Write as _;
 
 mod by_hand;
-use by_hand::{elements, laid, mapped, number, sequences, Element};
+use by_hand::{elements, head, laid, least_first, mapped, number, sequences, Element, KEYS};
 
 /// A field of up to 57 bits.
 fn field(octets: &[u8], at: usize, width: u32) -> u64 {
@@ -88,18 +89,17 @@ fn put_plain(out: &mut Vec<u8>, element: &Element, data: &[u8], at: usize) {
 }
 
 fn put_header(out: &mut Vec<u8>, m: &[u8], s: &[u8], t: &[u8], list: &[u16]) {
-    let values = [
-        ("edition", usize::from(m[7])), ("master", s[3].into()), ("centre", number(&s[4..6])),
-        ("subcentre", number(&s[6..8])), ("update", s[8].into()), ("category", s[10].into()),
-        ("subcategory", s[11].into()), ("localsubcategory", s[12].into()), ("masterversion", s[13].into()),
-        ("localversion", s[14].into()), ("year", number(&s[15..17])), ("month", s[17].into()),
-        ("day", s[18].into()), ("hour", s[19].into()), ("minute", s[20].into()), ("second", s[21].into()),
-        ("observed", usize::from(t[6] >> 7)), ("compressed", usize::from(t[6] >> 6 & 1)),
-        ("optional", 0), ("subsets", number(&t[4..6])),
-    ];
-    out.extend_from_slice(b"message\n");
-    for (key, value) in values {
+    let data = [usize::from(t[6] >> 7), usize::from(t[6] >> 6 & 1), 0, number(&t[4..6])];
+    writeln!(out, "message\nedition {}", m[7]).expect("room");
+    for (key, value) in KEYS[1..].iter().zip(head(m[7], s).into_iter().chain(data)) {
         writeln!(out, "{key} {value}").expect("room");
+    }
+    for octets in s[least_first(m[7])..number(&s[..3])].chunks(32) {
+        out.extend_from_slice(b"local1 ");
+        for octet in octets {
+            write!(out, "{octet:02X}").expect("room");
+        }
+        out.push(b'\n');
     }
     for eight in list.chunks(8) {
         out.extend_from_slice(b"descriptors");

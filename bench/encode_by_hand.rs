@@ -1,12 +1,12 @@
 //! An encoder written by hand in plain Rust, to measure `bufr encode` against: it maps the text, reads
 //! the tables into maps and writes the same octets for documents whose templates have elements, fixed
-//! replications and sequences, plain or compressed (numbers alone where compressed). No operators, no
-//! section 2, no proof, and of bad input it panics: only a yardstick.
+//! replications and sequences, plain or compressed (numbers alone where compressed), of edition 3 or 4. No
+//! operators, no section 2, no proof, and of bad input it panics: only a yardstick.
 use std::collections::HashMap;
 use std::io::Write as _;
 
 mod by_hand;
-use by_hand::{elements, laid, mapped, sequences, word, Element, Sequences};
+use by_hand::{elements, laid, least_first, mapped, sequences, word, Element, Sequences, KEYS};
 
 extern "C" {
     fn memchr(at: *const u8, octet: i32, length: usize) -> *const u8;
@@ -179,35 +179,56 @@ fn three(n: usize) -> [u8; 3] {
     [a, b, c]
 }
 
-/// What the lines of a header say, in their order.
-const KEYS: [&str; 20] = [
-    "edition", "master", "centre", "subcentre", "update", "category", "subcategory", "localsubcategory",
-    "masterversion", "localversion", "year", "month", "day", "hour", "minute", "second", "observed",
-    "compressed", "optional", "subsets",
-];
+/// The octets of a section, in edition 3 made even.
+fn even(edition: u8, many: usize) -> usize {
+    if edition == 3 { many + many % 2 } else { many }
+}
 
-/// Sections 0, 1 and 3 with the lengths that they come to.
-fn head(values: &[usize; 20], list: &[u16], data: usize) -> Vec<u8> {
-    let three_long = 7 + 2 * list.len();
+/// Section 1 behind its length and before its local use.
+fn put_head(out: &mut Vec<u8>, values: &[usize; 20]) {
+    let one = |at: usize| u8::try_from(values[at]).expect("an octet");
+    let two = |at: usize| u16::try_from(values[at]).expect("two octets").to_be_bytes();
+    if values[0] == 3 {
+        assert!(values[7] == 0 && values[15] == 0, "no local sub-category and no second");
+        out.extend([one(1), one(3), one(2), one(4), 0, one(5), one(6), one(8), one(9)]);
+        out.extend([10, 11, 12, 13, 14].map(one));
+    } else {
+        out.push(one(1));
+        out.extend([2, 3].map(two).as_flattened());
+        out.extend([one(4), 0]);
+        out.extend([5, 6, 7, 8, 9].map(one));
+        out.extend(two(10));
+        out.extend([11, 12, 13, 14, 15].map(one));
+    }
+}
+
+/// All that stands before the data, with the lengths that come of their octets.
+fn head(values: &[usize; 20], local: &[u8], list: &[u16], data: usize) -> Vec<u8> {
+    let edition = values[0] as u8;
+    assert!(edition == 3 || edition == 4, "edition 3 or 4");
+    let first = least_first(edition) + local.len();
+    let (third, fourth) = (even(edition, 7 + 2 * list.len()), even(edition, 4 + data));
     let mut out = b"BUFR".to_vec();
-    out.extend(three(8 + 22 + three_long + 4 + data + 4));
-    out.push(values[0] as u8);
-    out.extend(three(22));
-    out.push(values[1] as u8);
-    out.extend((values[2] as u16).to_be_bytes());
-    out.extend((values[3] as u16).to_be_bytes());
-    out.extend([values[4] as u8, 0]);
-    out.extend(values[5..10].iter().map(|n| *n as u8));
-    out.extend((values[10] as u16).to_be_bytes());
-    out.extend(values[11..16].iter().map(|n| *n as u8));
-    out.extend(three(three_long));
+    out.extend(three(8 + first + third + fourth + 4));
+    out.push(edition);
+    out.extend(three(first));
+    put_head(&mut out, values);
+    out.extend(local);
+    let behind = out.len() + third;
+    out.extend(three(third));
     out.push(0);
     out.extend((values[19] as u16).to_be_bytes());
     out.push((values[16] << 7 | values[17] << 6) as u8);
     out.extend(list.iter().flat_map(|d| d.to_be_bytes()));
-    out.extend(three(4 + data));
+    out.resize(behind, 0);
+    out.extend(three(fourth));
     out.push(0);
     out
+}
+
+/// The octets that a line of hexadecimal digits has.
+fn octets(digits: &[u8]) -> impl Iterator<Item = u8> + '_ {
+    digits.chunks(2).map(|two| u8::from_str_radix(std::str::from_utf8(two).expect("digits"), 16).expect("digits"))
 }
 
 /// The data of a document's subsets, up to its line `end`.
@@ -246,16 +267,22 @@ fn encode(text: &'static [u8], table_b: &HashMap<u16, Element>, table_d: &Sequen
         for (value, key) in values.iter_mut().zip(KEYS) {
             *value = keyed(lines.next().expect("a line"), key);
         }
-        let mut list = Vec::new();
+        let (mut local, mut list) = (Vec::new(), Vec::new());
         let mut line = lines.next().expect("a line");
+        while let Some(digits) = line.strip_prefix(b"local1 ") {
+            local.extend(octets(digits));
+            line = lines.next().expect("a line");
+        }
         while let Some(rest) = line.strip_prefix(b"descriptors ") {
             list.extend(rest.split(|octet| *octet == b' ').map(|d| word(std::str::from_utf8(d).expect("digits"))));
             line = lines.next().expect("a line");
         }
         let flat = laid(&list, table_b, table_d);
         let bits = data(&mut lines, line, &flat, values[19], values[17] == 1);
-        out.write_all(&head(&values, &list, bits.octets.len())).expect("written");
+        let many = bits.octets.len();
+        out.write_all(&head(&values, &local, &list, many)).expect("written");
         out.write_all(&bits.octets).expect("written");
+        out.write_all(&[0][..even(values[0] as u8, many) - many]).expect("written");
         out.write_all(b"7777").expect("written");
     }
 }

@@ -7,15 +7,24 @@ import pathlib
 import random
 import sys
 
-SECTION_1 = bytes.fromhex("00001600006200000000000000" "0E0007E80102030405")
+# by edition, with one octet for local use in edition 3
+SECTION_1 = {
+    3: bytes.fromhex("000012000062000000000E00180102030400"),
+    4: bytes.fromhex("000016000062000000000000000E0007E80102030405"),
+}
 
 
-def message(data: bytes, descriptors: bytes = b"\x01\x01", subsets: int = 1, flags: int = 0x80) -> bytes:
-    """A message of edition 4 with least lengths and no optional section."""
-    three = (7 + len(descriptors)).to_bytes(3, "big") + b"\0" + subsets.to_bytes(2, "big") + bytes([flags]) + descriptors
-    four = (4 + len(data)).to_bytes(3, "big") + b"\0" + data
-    length = 8 + len(SECTION_1) + len(three) + len(four) + 4
-    return b"BUFR" + length.to_bytes(3, "big") + b"\x04" + SECTION_1 + three + four + b"7777"
+def section(content: bytes, edition: int) -> bytes:
+    """A section with its length; in edition 3 a zero octet makes it even."""
+    content += b"\0" * (edition == 3 and len(content) % 2 == 0)
+    return (len(content) + 3).to_bytes(3, "big") + content
+
+
+def message(data: bytes, descriptors: bytes = b"\x01\x01", subsets: int = 1, flags: int = 0x80, edition: int = 4) -> bytes:
+    """A message with least lengths and no optional section."""
+    three = section(b"\0" + subsets.to_bytes(2, "big") + bytes([flags]) + descriptors, edition)
+    body = SECTION_1[edition] + three + section(b"\0" + data, edition) + b"7777"
+    return b"BUFR" + (8 + len(body)).to_bytes(3, "big") + bytes([edition]) + body
 
 
 def words(text: str) -> bytes:
@@ -72,7 +81,7 @@ def packed(subsets: int, times: int) -> bytes:
     return message(bits.octets(), words(f"105{times:03} {FIVE}"), subsets, 0xC0)
 
 
-def report() -> bytes:
+def report(edition: int) -> bytes:
     """A short report: a station's numbers and name, a place, a time, four measurements."""
     bits = Bits()
     for number, width in [(10, 7), (381, 10)]:
@@ -83,7 +92,8 @@ def report() -> bytes:
         bits.put(number, width)
     for number, width in zip((28815, 10132, 270, 53, 511), WIDTHS):
         bits.put(number, width)
-    return message(bits.octets(), words("001001 001002 001015 004001 004002 004003 004004 004005 005001 006001 " + FIVE))
+    descriptors = words("001001 001002 001015 004001 004002 004003 004004 004005 005001 006001 " + FIVE)
+    return message(bits.octets(), descriptors, edition=edition)
 
 
 def repeated(piece: bytes, times: int):
@@ -103,6 +113,8 @@ def streams():
     return {
         # many messages of 48 octets
         "small": lambda: repeated(message(b"\x14"), 500_000),
+        # the same in edition 3, of 46 octets
+        "small_3": lambda: repeated(message(b"\x14", edition=3), 500_000),
         # messages of 10 KB
         "middle": lambda: repeated(ten_thousand, 25_600),
         # messages of 1 MB
@@ -113,8 +125,9 @@ def streams():
         "bulletins": lambda: repeated(b"\x01\r\r\n123\r\r\nISMD01 EDZW 221200\r\r\n" + ten_thousand + b"\r\r\n\x03", 25_600),
         # the word every eight octets, each with a stated length of 1 MB, so that nothing is decided at once
         "hostile": lambda: repeated(b"BUFR\x10\x00\x00\x04", 6_000_000),
-        # for `dump`: short reports, and 1,000 subsets of 500 elements, plain and compressed
-        "dump_reports": lambda: repeated(report(), 100_000),
+        # for `dump`: short reports in each edition, and 1,000 subsets of 500 elements, plain and compressed
+        "dump_reports": lambda: repeated(report(4), 100_000),
+        "dump_reports_3": lambda: repeated(report(3), 100_000),
         "dump_plain": lambda: repeated(plain(1000, 100), 10),
         "dump_packed": lambda: repeated(packed(1000, 100), 10),
     }

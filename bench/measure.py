@@ -21,7 +21,7 @@ TOP = pathlib.Path(__file__).resolve().parent.parent
 PROGRAM = TOP / "crates/bufr_cli/out/bufr_cli"
 RUNS = 5
 # the streams of which ecCodes reads a tenth, and the one at which it is not timed: a tenth takes it minutes
-SHORTENED = ("small", "dump_reports", "dump_plain")
+SHORTENED = ("small", "small_3", "dump_reports", "dump_reports_3", "dump_plain")
 LEFT_OUT = ("hostile",)
 
 

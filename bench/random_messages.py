@@ -11,7 +11,7 @@ import pathlib
 import random
 from typing import NamedTuple
 
-from generate import Bits, words
+from generate import Bits, section, words
 
 TABLES = pathlib.Path(__file__).resolve().parent.parent / "tables/wmo-39"
 FACTORS = ("031000", "031001", "031002")
@@ -360,16 +360,18 @@ class Message(NamedTuple):
     lines: list
 
 
-def lengthy(section: bytes) -> bytes:
-    return (len(section) + 3).to_bytes(3, "big") + section
-
-
-def section_1(rng: random.Random, optional: bool) -> bytes:
+def section_1(rng: random.Random, optional: bool, edition: int) -> bytes:
     """Section 1 with any numbers that are a date, and tables of version 39 without local ones."""
-    numbers = [0, 0, rng.randint(1, 254), 0, rng.randint(0, 254), rng.randint(0, 9), 128 * optional]
-    numbers += [rng.randint(0, 255), rng.randint(0, 255), rng.randint(0, 255), 39, 0]
+    centre, subcentre, update = rng.randint(1, 254), rng.randint(0, 254), rng.randint(0, 9)
+    category, subcategory, local = rng.randint(0, 255), rng.randint(0, 255), rng.randint(0, 255)
     date = [rng.randint(1, 12), rng.randint(1, 28), rng.randint(0, 23), rng.randint(0, 59), rng.randint(0, 59)]
-    return bytes(numbers) + rng.randint(1950, 2100).to_bytes(2, "big") + bytes(date) + rng.randbytes(rng.choice((0, 0, 5)))
+    year = rng.randint(1950, 2100)
+    if edition == 3:
+        numbers = [0, subcentre, centre, update, 128 * optional, category, subcategory, 39, 0, year % 100, *date[:-1]]
+    else:
+        numbers = [0, 0, centre, 0, subcentre, update, 128 * optional, category, subcategory, local, 39, 0]
+        numbers += [year >> 8, year & 255, *date]
+    return bytes(numbers) + rng.randbytes(rng.choice((0, 0, 5)))
 
 
 def message(number: int) -> Message:
@@ -384,8 +386,10 @@ def message(number: int) -> Message:
             continue
         break
     optional = rng.random() < 0.1
-    listed = words(" ".join(descriptors))
     flags = 128 * rng.getrandbits(1) + 64 * compressed
-    body = lengthy(section_1(rng, optional)) + (lengthy(b"\0" + rng.randbytes(9)) if optional else b"")
-    body += lengthy(b"\0" + subsets.to_bytes(2, "big") + bytes([flags]) + listed) + lengthy(b"\0" + payload) + b"7777"
-    return Message(b"BUFR" + (len(body) + 8).to_bytes(3, "big") + b"\4" + body, descriptors, lines)
+    edition = rng.choice((3, 4))
+    contents = [section_1(rng, optional, edition)] + [b"\0" + rng.randbytes(9)] * optional
+    contents.append(b"\0" + subsets.to_bytes(2, "big") + bytes([flags]) + words(" ".join(descriptors)))
+    contents.append(b"\0" + payload)
+    body = b"".join(section(content, edition) for content in contents) + b"7777"
+    return Message(b"BUFR" + (len(body) + 8).to_bytes(3, "big") + bytes([edition]) + body, descriptors, lines)
