@@ -8,7 +8,7 @@ use Rattle.std.proofs.lemmas.List.{take-append-drop, get_or-take, get_or-drop}
 use Rattle.bufr_frame.specs.declared.fault.SectionFault.{SectionFault}
 use Rattle.bufr_frame.specs.declared.fault.SectionFault.TheVariants.{SectionShort, SectionPast, SectionsEnd, Edition3Long}
 use Rattle.bufr_frame.specs.Octets.{three, two, words, three_octets, two_octets, octets_of_words}
-use Rattle.bufr_frame.specs.Section1.{Slot, Flags, Single, Double, is_edition, slots_of, slots_3, slots_4, first_least, octets_of_slots, octets_in, value_in, head_in, said}
+use Rattle.bufr_frame.specs.Section1.{Flags, is_edition, slots_of, slots_3, slots_4, first_least, octets_of_slots, octets_in, value_in, head_in, said}
 use Rattle.bufr_frame.specs.Sections.{Sections, sections_of, section_end, parts, edition_of, slots_in, has_section2, head_of, is_long_edition_3, met, ◌>>=◌}
 use Rattle.bufr_frame.specs.Layout.{parts_in, message_size, message_octets, section0_octets, section1_octets, section2_octets, section2_size, section3_octets, section4_octets, head_octets, data_flags, even_size, evened, longer, most_octets}
 use Rattle.bufr_frame.proofs.LayoutLemmas.{length-octets_of_words}

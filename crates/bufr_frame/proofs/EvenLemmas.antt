@@ -1,10 +1,10 @@
 -- Sections made even.
-use Rattle.std.proofs.Common.{◌≡◌, ◌==◌, ℕ, zero, suc, ◌+◌, ◌*◌, ◌/◌, ◌%◌, ◌<◌, ◌≤◌, ◌&&◌, Bool, true, false, List, [], ◌∷◌, ◌++◌, length, refl, sym, ap, subst, ◌∙◌, arith, Option, Some, None, Ok, append-nil, append_assoc, length-append}
+use Rattle.std.proofs.Common.{◌≡◌, ◌==◌, ℕ, ◌+◌, ◌*◌, ◌%◌, ◌≤◌, ◌&&◌, Bool, true, false, List, [], ◌∷◌, ◌++◌, length, refl, sym, ap, ◌∙◌, arith, Option, append-nil, append_assoc, length-append}
 use Rattle.std.specs.Prelude.{if◌then◌else◌, is_some, codes}
 use Rattle.std.proofs.lemmas.Bool.Decides.{nat_tests}
 use Rattle.bufr_bits.specs.Bits.{bits_of, bits_of_octet}
 use Rattle.bufr_frame.specs.declared.head.Head.{Head}
-use Rattle.bufr_frame.specs.Layout.{Parts, even_size, evened, size_from, message_size, message_octets, parts_of, section0_octets, section1_octets, section2_octets, section2_size, section3_octets, section4_octets, data_flags}
+use Rattle.bufr_frame.specs.Layout.{even_size, evened, size_from, message_octets, parts_of, section0_octets, section1_octets, section2_octets, section2_size, section3_octets, section4_octets, data_flags}
 use Rattle.bufr_frame.specs.Octets.{octets_of_words}
 use Rattle.bufr_frame.specs.Section1.{first_least}
 use Rattle.bufr_frame.proofs.LayoutLemmas.{length-evened}

@@ -1,13 +1,13 @@
 -- A message that was laid out, read again.
-use Rattle.std.proofs.Common.{◌≡◌, ◌≢◌, ◌==◌, ◌∙◌, ℕ, ◌+◌, ◌-◌, ◌*◌, ◌/◌, ◌%◌, ◌≤◌, Bool, true, false, List, [], ◌∷◌, ◌++◌, length, take, refl, ap, sym, subst, arith, zero, suc, Option, Some, None, Ok, get_or, codes, append_assoc, append-nil, length-append}
+use Rattle.std.proofs.Common.{◌≡◌, ◌≢◌, ◌==◌, ◌∙◌, ℕ, ◌+◌, ◌-◌, ◌*◌, ◌/◌, ◌%◌, ◌≤◌, Bool, true, false, List, [], ◌∷◌, ◌++◌, length, take, refl, ap, sym, subst, arith, Option, Some, None, Ok, get_or, codes, append_assoc, append-nil, length-append}
 use Rattle.std.proofs.Math.Seq.{get_or-append_right, take-length}
 use Rattle.std.proofs.lemmas.List.{drop_at, take-append-le}
 use Rattle.std.specs.Prelude.{if◌then◌else◌, nat_lt, nat_le, is_some, slice_range, ◌&&◌, ◌||◌}
 use Rattle.std.proofs.lemmas.Bool.Decides.{nat_tests}
 use Rattle.bufr_frame.specs.Octets.{three, two, words, three_octets, two_octets, octets_of_words}
-use Rattle.bufr_frame.specs.Section1.{Slot, Field, Flags, Single, Double, slots_of, slots_3, slots_4, is_edition, first_least, octets_of_slots, write_slot, field_of, octets_in, value_in, said, head_in}
-use Rattle.bufr_frame.specs.Sections.{sections_of, section_end, parts, edition_of, slots_in, has_section2, head_of, Sections, is_long_edition_3}
-use Rattle.bufr_frame.specs.Layout.{Parts, message_octets, message_size, section0_octets, section1_octets, section2_octets, section2_size, section3_octets, section4_octets, data_flags, sections_from, head_octets, even_size, evened, is_writable, fits_3}
+use Rattle.bufr_frame.specs.Section1.{Slot, Field, Flags, Single, Double, slots_of, is_edition, first_least, octets_of_slots, octets_in, value_in, said, head_in}
+use Rattle.bufr_frame.specs.Sections.{sections_of, section_end, parts, edition_of, has_section2, head_of, Sections, is_long_edition_3}
+use Rattle.bufr_frame.specs.Layout.{Parts, message_octets, message_size, section0_octets, section1_octets, section2_octets, section2_size, section3_octets, section4_octets, data_flags, sections_from, head_octets, even_size, evened, is_writable}
 use Rattle.bufr_frame.specs.declared.head.Head.{Head}
 use Rattle.bufr_frame.proofs.SectionLemmas.{sections-are}
 

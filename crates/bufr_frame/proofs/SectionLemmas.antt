@@ -1,5 +1,5 @@
 -- The sections of a message, one after another.
-use Rattle.std.proofs.Common.{◌≡◌, ◌==◌, ◌-◌, ℕ, true, false, List, Ok, length, refl, get_or, eq-eqb}
+use Rattle.std.proofs.Common.{◌≡◌, ◌==◌, ◌-◌, ℕ, true, false, List, Ok, length, refl, eq-eqb}
 use Rattle.std.specs.Prelude.{if◌then◌else◌}
 use Rattle.bufr_frame.specs.Section1.{is_edition, first_least}
 use Rattle.bufr_frame.specs.Sections.{sections_of, section_end, parts, edition_of, has_section2, is_long_edition_3}

@@ -1,9 +1,9 @@
 -- Octets appended, part by part.
-use Rattle.std.proofs.Common.{◌≡◌, ◌∙◌, ℕ, ◌+◌, ◌*◌, Bool, true, false, List, [], ◌∷◌, ◌++◌, length, ap, sym, refl, Option, Some, None, Ok, Err, append_assoc}
+use Rattle.std.proofs.Common.{◌≡◌, ◌∙◌, ℕ, ◌+◌, ◌*◌, List, [], ◌∷◌, ◌++◌, length, ap, sym, refl, Option, Some, None, Ok, Err, append_assoc}
 use Rattle.std.specs.Prelude.{Result, OnOk, is_ok, is_some, option_map, if◌then◌else◌}
 use Rattle.bufr_frame.specs.Octets.{three_octets, two_octets, octets_of_words}
 use Rattle.bufr_frame.specs.Layout.{even_size, evened, section3_octets}
-use Rattle.bufr_frame.proofs.LayoutLemmas.{evened-behind, length-evened, length-octets_of_words}
+use Rattle.bufr_frame.proofs.LayoutLemmas.{length-evened, length-octets_of_words}
 
 -- three parts, the last of which may be refused
 pub three-parts : {X E : Type 0} (r : Result X E) (old a b c one two new : List ℕ) → one ≡ old ++ a → two ≡ one ++ b → new ≡ (if is_ok r then two ++ c else two) → OnOk r (new ≡ old ++ (a ++ (b ++ c)))

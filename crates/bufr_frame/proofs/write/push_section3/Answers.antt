@@ -1,5 +1,5 @@
-use Rattle.std.proofs.Common.{◌≡◌, ◌∙◌, ap, arith, ◌++◌, length}
-use Rattle.std.specs.Prelude.{◌+◌, ◌*◌, ◌/◌, ◌%◌, ◌==◌, ◌&&◌, [], ◌∷◌, if◌then◌else◌}
+use Rattle.std.proofs.Common.{◌≡◌, ◌∙◌, ap, ◌++◌}
+use Rattle.std.specs.Prelude.{◌+◌, ◌/◌, ◌%◌, ◌==◌, ◌&&◌, [], ◌∷◌, if◌then◌else◌}
 use Rattle.bufr_frame.specs.Octets.{two_octets, octets_of_words}
 use Rattle.bufr_frame.proofs.LayoutLemmas.{evened-behind, length-octets_of_words}
 use Rattle.bufr_frame.proofs.WriteLemmas.{third}

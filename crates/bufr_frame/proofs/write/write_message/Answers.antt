@@ -1,6 +1,6 @@
-use Rattle.std.proofs.Common.{◌≡◌, ◌∙◌, ◌++◌, ap, arith, codes}
+use Rattle.std.proofs.Common.{◌≡◌, ◌∙◌, ◌++◌, ap, codes}
 use Rattle.bufr_frame.specs.Sections.{sections_of}
-use Rattle.bufr_frame.specs.Layout.{Parts, parts_of, message_octets, message_size, section0_octets, section1_octets, section2_octets, section3_octets, section4_octets, data_flags, evened}
+use Rattle.bufr_frame.specs.Layout.{Parts, parts_of, message_size, section0_octets, section1_octets, section2_octets, section3_octets, section4_octets, data_flags, evened}
 use Rattle.bufr_frame.specs.Octets.{octets_of_words}
 use Rattle.std.specs.Prelude.{is_some, option_map}
 use Rattle.bufr_frame.proofs.LayoutLemmas.{read-back}
