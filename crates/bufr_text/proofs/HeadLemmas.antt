@@ -32,7 +32,7 @@ header-text key (value ∷ more) =
 -- the first lines
 abbrev pub origin_text : Head → List ℕ
 origin_text h = joined (
-    codes "message\nedition " ∷ decimal h.edition ∷ codes "\nmaster " ∷ decimal h.master ∷ codes "\ncentre " ∷ decimal h.centre
+    codes "message" ∷ codes "\nedition " ∷ decimal h.edition ∷ codes "\nmaster " ∷ decimal h.master ∷ codes "\ncentre " ∷ decimal h.centre
     ∷ codes "\nsubcentre " ∷ decimal h.subcentre ∷ codes "\nupdate " ∷ decimal h.update ∷ codes "\ncategory " ∷ decimal h.category
     ∷ codes "\nsubcategory " ∷ decimal h.subcategory ∷ codes "\nlocalsubcategory " ∷ decimal h.local_subcategory
     ∷ codes "\nmasterversion " ∷ decimal h.master_version ∷ codes "\nlocalversion " ∷ decimal h.local_version ∷ codes "\n" ∷ [])

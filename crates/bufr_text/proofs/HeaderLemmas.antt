@@ -38,21 +38,12 @@ pub subsets-few : (d : Document) → IsHeaded d → subsets_in d < 65536
 unfolding keys
 subsets-few d h = let most : slice_index d.header 19 ≤ 65535 = header-most d 19 h in omega (arith, most)
 
--- the greatest values as the reader has them
-pub mosts-3 : (e : ℕ) → e ≡ 3 → mosts (slots_of e) ≡ 4 ∷ 255 ∷ 255 ∷ 255 ∷ 255 ∷ 255 ∷ 255 ∷ 0 ∷ 255 ∷ 255 ∷ 255 ∷ 255 ∷ 255 ∷ 255 ∷ 255 ∷ 0 ∷ 1 ∷ 1 ∷ 1 ∷ 65535 ∷ []
-unfolding keys
-mosts-3 e is = ap (λ (n : ℕ). mosts (slots_of n)) is
-
-not-3 : (e : ℕ) → (e ≡ 3 → ⊥) → (e == 3) ≡ false
+pub not-3 : (e : ℕ) → (e ≡ 3 → ⊥) → (e == 3) ≡ false
 not-3 e other = by (e == 3) refl
   where
     by : (b : Bool) → (e == 3) ≡ b → b ≡ false
     by true is = let three : e ≡ 3 = grind (arith, nat_tests, is) in absurd (other three)
     by false is = refl
-
-pub mosts-4 : (e : ℕ) → (e ≡ 3 → ⊥) → mosts (slots_of e) ≡ 4 ∷ 255 ∷ 65535 ∷ 65535 ∷ 255 ∷ 255 ∷ 255 ∷ 255 ∷ 255 ∷ 255 ∷ 65535 ∷ 255 ∷ 255 ∷ 255 ∷ 255 ∷ 255 ∷ 1 ∷ 1 ∷ 1 ∷ 65535 ∷ []
-unfolding keys
-mosts-4 e other = ap (λ (b : Bool). mosts (if b then slots_3 else slots_4)) (not-3 e other)
 
 -- no range of edition 3 is wider than that of edition 4
 none-above : List ℕ → List ℕ → Bool

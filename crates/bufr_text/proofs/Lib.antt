@@ -26,6 +26,7 @@ pub mod HeadLemmas
 pub mod HeaderLemmas
 pub mod ItemLemmas
 pub mod KeptLemmas
+pub mod KeyLemmas
 pub mod LawLemmas
 mod LineExamples
 pub mod LineLemmas

@@ -18,6 +18,7 @@ pub mod Given
 pub mod Grammar
 pub mod Header
 pub mod Kept
+pub mod Key
 pub mod Lent
 pub mod Line
 pub mod LsLine

@@ -5,6 +5,7 @@ ghost use Rattle.bufr_text.specs.Dump.{descriptors_line, head_lines, header_line
 ghost use Rattle.bufr_text.specs.Dumping.{CountsFaults, WritesFront};
 ghost use Rattle.bufr_text.specs.Grammar.{hex_text, runs_of};
 
+use crate::key::KEYS;
 use crate::part::{Part, write_all, write_parts};
 use crate::put::{make_descriptor_line, make_octet_line};
 use bufr_bits::Sink;
@@ -21,25 +22,26 @@ fn write_origin<W: Sink>(message: &Message<'_>, w: &mut W) -> Result<(), RunFaul
 {
     let head = message.head();
     let parts = [
-        Part::Text(b"message\nedition "),
+        Part::Text(b"message"),
+        Part::Text(KEYS[0].0),
         Part::Decimal(head.edition as u64),
-        Part::Text(b"\nmaster "),
+        Part::Text(KEYS[1].0),
         Part::Decimal(head.master as u64),
-        Part::Text(b"\ncentre "),
+        Part::Text(KEYS[2].0),
         Part::Decimal(head.centre as u64),
-        Part::Text(b"\nsubcentre "),
+        Part::Text(KEYS[3].0),
         Part::Decimal(head.subcentre as u64),
-        Part::Text(b"\nupdate "),
+        Part::Text(KEYS[4].0),
         Part::Decimal(head.update as u64),
-        Part::Text(b"\ncategory "),
+        Part::Text(KEYS[5].0),
         Part::Decimal(head.category as u64),
-        Part::Text(b"\nsubcategory "),
+        Part::Text(KEYS[6].0),
         Part::Decimal(head.subcategory as u64),
-        Part::Text(b"\nlocalsubcategory "),
+        Part::Text(KEYS[7].0),
         Part::Decimal(head.local_subcategory as u64),
-        Part::Text(b"\nmasterversion "),
+        Part::Text(KEYS[8].0),
         Part::Decimal(head.master_version as u64),
-        Part::Text(b"\nlocalversion "),
+        Part::Text(KEYS[9].0),
         Part::Decimal(head.local_version as u64),
         Part::Text(b"\n"),
     ];
@@ -54,25 +56,25 @@ fn write_date<W: Sink>(message: &Message<'_>, w: &mut W) -> Result<(), RunFault>
 {
     let head = message.head();
     let parts = [
-        Part::Text(b"year "),
+        Part::Text(&KEYS[10].0[1..]),
         Part::Decimal(head.year as u64),
-        Part::Text(b"\nmonth "),
+        Part::Text(KEYS[11].0),
         Part::Decimal(head.month as u64),
-        Part::Text(b"\nday "),
+        Part::Text(KEYS[12].0),
         Part::Decimal(head.day as u64),
-        Part::Text(b"\nhour "),
+        Part::Text(KEYS[13].0),
         Part::Decimal(head.hour as u64),
-        Part::Text(b"\nminute "),
+        Part::Text(KEYS[14].0),
         Part::Decimal(head.minute as u64),
-        Part::Text(b"\nsecond "),
+        Part::Text(KEYS[15].0),
         Part::Decimal(head.second as u64),
-        Part::Text(b"\nobserved "),
+        Part::Text(KEYS[16].0),
         Part::Flag(message.observed()),
-        Part::Text(b"\ncompressed "),
+        Part::Text(KEYS[17].0),
         Part::Flag(message.compressed()),
-        Part::Text(b"\noptional "),
+        Part::Text(KEYS[18].0),
         Part::Flag(message.section2().is_some()),
-        Part::Text(b"\nsubsets "),
+        Part::Text(KEYS[19].0),
         Part::Decimal(message.subsets() as u64),
         Part::Text(b"\n"),
     ];

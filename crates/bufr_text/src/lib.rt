@@ -15,6 +15,7 @@ mod form;
 mod head_lines;
 mod hex;
 mod item;
+mod key;
 pub mod law;
 mod line;
 mod ls;

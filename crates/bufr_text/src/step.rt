@@ -1,13 +1,12 @@
 //! What a line does to a document that is being read.
 ghost use Rattle.std.specs.Prelude.{◌≡◌, ℕ, ◌+◌, ◌<◌, ◌≤◌, length, slice_index, true, IfOk};
-ghost use Rattle.bufr_frame.specs.Section1.{slots_of};
 ghost use Rattle.bufr_text.specs.Document as spec;
 ghost use Rattle.bufr_text.specs.Line as line;
-ghost use Rattle.bufr_text.specs.Line.{mosts};
-ghost use Rattle.bufr_text.specs.Documents.{in_range, heading, laying, filling, beginning, closing, opening, turn};
+ghost use Rattle.bufr_text.specs.Documents.{heading, laying, filling, beginning, closing, opening, turn};
 ghost use Rattle.bufr_text.specs.Step.{meaning, part_number, place_with, turned, Stands};
 
 use crate::document::{Kind, Parts};
+use crate::key::in_range;
 use std::alloc::AllocError;
 
 /// What a line says. Octets of hexadecimal digits and of texts are those that they stand for.
@@ -81,42 +80,6 @@ pub(crate) enum Turn {
     Goes(Place),
     Gives,
     Refuses(Refusal),
-}
-
-/// The least value of each key of the header.
-const LEASTS: [u16; 20] = [3, 0, 0, 0, 0, 0, 0, 0, 0, 0, 0, 0, 0, 0, 0, 0, 0, 0, 0, 0];
-
-/// The greatest value of each key in edition 3.
-const MOSTS_3: [u16; 20] = [
-    4, 255, 255, 255, 255, 255, 255, 0, 255, 255, 255, 255, 255, 255, 255, 0, 1, 1, 1, 65535,
-];
-
-/// The greatest value of each key in edition 4.
-const MOSTS_4: [u16; 20] = [
-    4, 255, 65535, 65535, 255, 255, 255, 255, 255, 255, 65535, 255, 255, 255, 255, 255, 1, 1, 1,
-    65535,
-];
-
-/// The greatest value of a key.
-fn most(edition: u16, key: usize) -> u16
-    requires { key < 20 }
-    ensures { result ≡ slice_index (mosts (slots_of edition)) key }
-{
-    if edition == 3 {
-        MOSTS_3[key]
-    } else {
-        MOSTS_4[key]
-    }
-}
-
-/// Whether a value is in the range of its key, which goes by the edition.
-#[tactic(auto, unfolding(crate::specs::Line::keys))]
-fn in_range(edition: u16, key: usize, value: u32) -> bool
-    requires { key < 20 }
-    ensures value { result ≡ in_range edition key value }
-    ensures few { result ≡ true → value < 65536 }
-{
-    u32::from(LEASTS[key]) <= value && value <= u32::from(most(edition, key))
 }
 
 /// A header line.
