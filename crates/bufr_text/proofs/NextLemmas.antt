@@ -72,7 +72,7 @@ module _ (left mid : Option (List ℕ)) (old s s' : State) (bs : List ℕ) (call
   went-fault (Run Read) went = absurd went
   went-fault (Run Write) went = absurd went
   went-fault (Run InputTooLong) went = absurd went
-  went-fault (Run Memory) went = record { octets = bs; reads = (call.read, omega (arith, call.few, reads), λ e. held-before left mid old s bs [] call e (some-held s.held went.1)); waits = waits-same left old s s' bs bs waits reads refl; ends = (went.0, inl (ap has_no_feed went.2 ∙ went.1)) }
+  went-fault (Run Memory) went = record { octets = bs; reads = (call.read, omega (arith, call.few, reads), λ e. held-before left mid old s bs [] call e (some-held s.held went.1), inr (record { mid = went.3.mid; taken = call-takes left mid old s went.3.mid bs [] call went.3.taken went.3.ended went.3.reads; next = went.3.next })); waits = waits-same left old s s' bs bs waits reads refl; ends = (went.0, inl (ap has_no_feed went.2 ∙ went.1)) }
 
 -- the end
 module _ (left mid : Option (List ℕ)) (old s s' : State) (bs : List ℕ) (call : CallSo left mid old s [] bs) (waits : (s.reads ≡ old.reads) ⊎ WaitsSo left old s.reads bs) (sound : s.fault ≡ None) (ended : s.ended ≡ true) where
@@ -195,7 +195,7 @@ module _ (left mid left' : Option (List ℕ)) (old s s' : State) (bs bs' : List 
       let N : State → Type 0 = λ n. NextSo left left' old n (Err (Run Memory)) in
       subst N (sym is) (record {
         octets = bs ++ bs';
-        reads = (Consumes-trans left mid left' bs bs' call.read read.read, omega (arith, call.few, ap length read.ends.1, length-append bs bs', read.ends.0), λ e. absurd (true≢false (sym (call.kept e).0 ∙ open')));
+        reads = (Consumes-trans left mid left' bs bs' call.read read.read, omega (arith, call.few, ap length read.ends.1, length-append bs bs', read.ends.0), λ e. absurd (true≢false (sym (call.kept e).0 ∙ open')), inl read.ends.3);
         waits = waits-same left old s (stopped x (Run Memory)) bs (bs ++ bs') waits read.ends.0 (nothing read.ends.1);
         ends = (refl, inr read.ends.3);
       })

@@ -8,10 +8,10 @@ use Rattle.bufr_text.specs.Document as spec
 use Rattle.bufr_text.specs.Documents as documents
 use Rattle.bufr_text.specs.Documents.{Between, Heading, Laying, Filling, Stopped, Told, Refused, NotAllowed, spelled, lines_of, told_at_end}
 use Rattle.bufr_text.specs.Reading.{has_no_feed, GoesOn, Passes, PassesEnd, spells}
-use Rattle.bufr_text.specs.Reader.{State, stand}
-use Rattle.bufr_text.specs.Filling.{place_now, ends_by_feed, DraftSo, Tells, WentSo, fault_at, stopped}
+use Rattle.bufr_text.specs.Reader.{State, stand, AddsNext}
+use Rattle.bufr_text.specs.Filling.{place_now, ends_by_feed, DraftSo, Tells, WantsHere, WentSo, fault_at, stopped}
 use Rattle.bufr_text.specs.Step.{place_with, fault_of, Stands}
-use Rattle.bufr_text.specs.Taking.{told_of, place_behind, TakesSo}
+use Rattle.bufr_text.specs.Taking.{told_of, place_behind, TakesSo, WantsAt}
 use Rattle.bufr_text.specs.declared.draft.Draft.{Draft}
 use Rattle.bufr_text.specs.declared.draft.Taken.{Taken}
 use Rattle.bufr_text.specs.declared.draft.Taken.TheVariants as taken
@@ -60,6 +60,26 @@ takes-tells old new f f' items held start filled len ended reads step p takes no
     record {
       goes = subst A (sym (place-sound f old none)) (subst B (sym place) (subst C is (subst D rest (takes.goes ended))));
       passes = subst E is (subst F rest takes.passes);
+    }
+
+-- where memory was wanted
+pub wants-here : (old : Draft) (f : Option ReadFault) (items held : List ℕ) (start filled : ℕ) (ended : Bool) (reads : ℕ) → WantsAt old held → f ≡ None → held ≡ slice_range items start filled
+    → WantsHere (state old.at (place_now f old) (slice_range items start filled) ended f reads)
+wants-here old f items held start filled ended reads w none is =
+    let n = w.draft in
+    let place = place_with n.place n.parts in
+    let A : documents.Place → Type 0 = λ q. GoesOn (record { at = old.at; place = q; held = slice_range items start filled; ended = ended }) (record { at = n.at; place = place; held = drop w.place held; ended = ended }) [] in
+    let C : List ℕ → Type 0 = λ h. GoesOn (record { at = old.at; place = place_with old.place old.parts; held = h; ended = ended }) (record { at = n.at; place = place; held = drop w.place held; ended = ended }) [] in
+    let E : List ℕ → Type 0 = λ h. Passes old.at h n.at (drop w.place held) in
+    record {
+      mid = state n.at place (drop w.place held) ended None reads;
+      taken = record {
+        goes = subst A (sym (place-sound f old none)) (subst C is (w.taking.goes ended));
+        passes = subst E is w.taking.passes;
+      };
+      ended = refl;
+      reads = refl;
+      next = record { line = w.line; rest = w.rest; held = w.stands; single = w.single; adds_to = w.adds_to };
     }
 
 -- the `end` line of a document that they tell

@@ -1,6 +1,6 @@
 -- The documents that a text spells. (a choice of this project)
 -- Cited by public contracts.
-use Rattle.std.specs.Prelude.{ℕ, ◌+◌, ◌==◌, nat_le, nat_lt, Bool, not, ◌&&◌, if◌then◌else◌, List, [], ◌∷◌, ◌++◌, length, slice_index}
+use Rattle.std.specs.Prelude.{ℕ, ◌+◌, ◌==◌, nat_le, nat_lt, Bool, true, false, not, ◌&&◌, if◌then◌else◌, List, [], ◌∷◌, ◌++◌, length, slice_index}
 use Rattle.bufr_fill.specs.Draft.{draft}
 use Rattle.bufr_frame.specs.Section1.{slots_of}
 use Rattle.bufr_text.specs.Document.{Document, Entry, Holds, Ends, blank, edition_in, optional_in, subsets_in}
@@ -97,6 +97,16 @@ turn at (Heading d) line = heading d line
 turn at (Laying part d) line = laying part d line
 turn at (Filling subset d) line = filling at subset d line
 turn at Stopped line = Goes Stopped
+
+-- whether a line adds to the document that is being read: octets, descriptors, an item, or the end of a subset
+abbrev pub adds : Place → Line → Bool
+adds (Laying part d) (Local1 octets) = true
+adds (Laying part d) (Section2 octets) = true
+adds (Laying part d) (Descriptors words) = true
+adds (Filling subset d) (Item fxy form) = true
+adds (Filling subset d) (Begins next) = true
+adds (Filling subset d) Closes = true
+adds place line = false
 
 -- a line has at most 4,096 octets
 abbrev pub said : List ℕ → Line

@@ -9,7 +9,7 @@ use Rattle.bufr_text.specs.Document.{Document}
 use Rattle.bufr_text.specs.Documents as documents
 use Rattle.bufr_text.specs.Documents.{Place, Between, Stopped, Told, Spelled, Refused}
 use Rattle.bufr_text.specs.Reading.{has_no_feed, GoesOn, Passes, PassesEnd, spells}
-use Rattle.bufr_text.specs.Reader.{State, stand}
+use Rattle.bufr_text.specs.Reader.{State, stand, AddsNext}
 use Rattle.bufr_text.specs.Step.{place_with, Stands}
 use Rattle.bufr_text.specs.declared.draft.Draft.{Draft}
 use Rattle.bufr_text.specs.declared.step.Refusal.{Refusal}
@@ -42,6 +42,14 @@ pub record Tells (old new : State) (told : List Told) : Type 0 where
   pub goes : GoesOn (stand old) (stand new) told
   pub passes : Passes old.at old.held new.at new.held
 
+-- Lines were taken and tell nothing, and the next one adds to the document.
+pub record WantsHere (old : State) : Type 0 where
+  pub mid : State
+  pub taken : Tells old mid []
+  pub ended : mid.ended ≡ old.ended
+  pub reads : mid.reads ≡ old.reads
+  pub next : AddsNext mid
+
 -- what the lines come to that were held
 abbrev pub WentSo : State → State → Result (Option Document) ReadFault → Type 0
 WentSo old new (Ok None) = Tells old new [] × (new.fault ≡ None) × (has_no_feed new.held ≡ true)
@@ -49,7 +57,7 @@ WentSo old new (Ok (Some document)) = Tells old new (Spelled document ∷ []) ×
 WentSo old new (Err (Line line)) = Tells old new (Refused line documents.NotAllowed ∷ []) × (new.fault ≡ Some (Line line))
 WentSo old new (Err (SubsetCount line)) = Tells old new (Refused line documents.SubsetCount ∷ []) × (new.fault ≡ Some (SubsetCount line))
 WentSo old new (Err (HeaderRange line)) = Tells old new (Refused line documents.HeaderRange ∷ []) × (new.fault ≡ Some (HeaderRange line))
-WentSo old new (Err (Run Memory)) = (new.fault ≡ Some (Run Memory)) × (has_no_feed old.held ≡ false) × (new.held ≡ old.held)
+WentSo old new (Err (Run Memory)) = (new.fault ≡ Some (Run Memory)) × (has_no_feed old.held ≡ false) × (new.held ≡ old.held) × WantsHere old
 WentSo old new (Err (Run Read)) = ⊥
 WentSo old new (Err (Run Write)) = ⊥
 WentSo old new (Err (Run InputTooLong)) = ⊥

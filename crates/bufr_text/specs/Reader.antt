@@ -7,7 +7,7 @@ use Rattle.bufr_frame.specs.Runs.{most_reads}
 use Rattle.bufr_frame.specs.declared.fault.RunFault.TheVariants.{Read, Write, InputTooLong, Memory}
 use Rattle.bufr_text.specs.Document.{Document}
 use Rattle.bufr_text.specs.Documents as documents
-use Rattle.bufr_text.specs.Documents.{Place, Between, Told, Spelled, Refused}
+use Rattle.bufr_text.specs.Documents.{Place, Between, Told, Spelled, Refused, adds, said}
 use Rattle.bufr_text.specs.Reading.{has_no_feed, Stand, GoesOn, Passes, PassesEnd, spells, spells_openly}
 use Rattle.bufr_text.specs.declared.fault.ReadFault.{ReadFault}
 use Rattle.bufr_text.specs.declared.fault.ReadFault.TheVariants.{Line, SubsetCount, HeaderRange, Run}
@@ -103,8 +103,22 @@ EndsSo new (Err (Run Write)) = ⊥
 EndsSo new (Err (Run InputTooLong)) = (new.fault ≡ Some (Run InputTooLong)) × IsOpen new × (new.reads ≡ most_reads)
 EndsSo new (Err (Run Memory)) = (new.fault ≡ Some (Run Memory)) × ((has_no_feed new.held ≡ false) ⊎ (new.reads ≡ 0))
 
+-- Behind what was taken stands a whole line that adds to the document.
+pub record AddsNext (s : State) : Type 0 where
+  pub line : List ℕ
+  pub rest : List ℕ
+  pub held : s.held ≡ line ++ 10 ∷ rest
+  pub single : has_no_feed line ≡ true
+  pub adds_to : adds s.place (said line) ≡ true
+
+-- The lines that were read tell nothing, up to one that adds to the document: there memory was wanted.
+pub record WantsSo (left left' : Option (List ℕ)) (old : State) (bs : List ℕ) : Type 0 where
+  pub mid : State
+  pub taken : CallSo left left' old mid [] bs
+  pub next : AddsNext mid
+
 -- what a call reads and tells; where memory was wanted it tells nothing, and says no more of what it holds, but that it is wanted only
--- where a line was held or the end was not reached
+-- where a line was held or the end was not reached, and, behind the first read, only for a line that adds to the document
 abbrev pub ReadsSo : (left left' : Option (List ℕ)) → (old new : State) → Result (Option Document) ReadFault → List ℕ → Type 0
 ReadsSo left left' old new (Ok None) bs = CallSo left left' old new (told_by (Ok None)) bs
 ReadsSo left left' old new (Ok (Some document)) bs = CallSo left left' old new (told_by (Ok (Some document))) bs × ClosesSo old new bs
@@ -114,7 +128,7 @@ ReadsSo left left' old new (Err (HeaderRange line)) bs = CallSo left left' old n
 ReadsSo left left' old new (Err (Run Read)) bs = CallSo left left' old new [] bs
 ReadsSo left left' old new (Err (Run Write)) bs = ⊥
 ReadsSo left left' old new (Err (Run InputTooLong)) bs = CallSo left left' old new [] bs
-ReadsSo left left' old new (Err (Run Memory)) bs = Consumes left left' bs × (length bs ≤ 4096 * (new.reads - old.reads)) × (old.ended ≡ true → 0 < length old.held)
+ReadsSo left left' old new (Err (Run Memory)) bs = Consumes left left' bs × (length bs ≤ 4096 * (new.reads - old.reads)) × (old.ended ≡ true → 0 < length old.held) × ((new.reads ≡ 0) ⊎ WantsSo left left' old bs)
 
 -- A call tells the next document, or why there is none.
 pub record NextSo (left left' : Option (List ℕ)) (old new : State) (result : Result (Option Document) ReadFault) : Type 0 where

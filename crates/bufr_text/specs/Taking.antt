@@ -2,6 +2,7 @@
 -- Cited by private steps only.
 use Rattle.std.specs.Prelude.{◌≡◌, ℕ, ◌+◌, ◌<◌, ◌≤◌, List, [], ◌∷◌, ◌++◌, length, take, drop, Bool, true, Option, None, Some}
 use Rattle.bufr_text.specs.Documents as documents
+use Rattle.bufr_text.specs.Documents.{adds, said}
 use Rattle.bufr_text.specs.Document as spec
 use Rattle.bufr_text.specs.Header.{IsHeaded}
 use Rattle.bufr_text.specs.Reading.{has_no_feed, Stand, GoesOn, Passes, PassesEnd}
@@ -57,3 +58,14 @@ pub record IsTaking (old new : Draft) (held : List ℕ) (place : ℕ) : Type 0 w
   pub some : 0 < new.at
   pub near : new.at ≤ old.at + place
   pub passes : Passes old.at held new.at (drop place held)
+
+-- Lines were taken that told nothing, and the next one is whole and adds to the document.
+pub record WantsAt (old : Draft) (held : List ℕ) : Type 0 where
+  pub draft : Draft
+  pub place : ℕ
+  pub taking : IsTaking old draft held place
+  pub line : List ℕ
+  pub rest : List ℕ
+  pub stands : drop place held ≡ line ++ 10 ∷ rest
+  pub single : has_no_feed line ≡ true
+  pub adds_to : adds (place_with draft.place draft.parts) (said line) ≡ true

@@ -2,11 +2,11 @@
 ghost use Rattle.std.specs.Prelude.{◌≡◌, ℕ, ◌+◌, ◌^◌, ◌<◌, ◌≤◌, length, take, drop, true, false, IfOk, OnErr};
 ghost use Rattle.bufr_text.specs.Line.{line_of};
 ghost use Rattle.bufr_text.specs.Documents as documents;
-ghost use Rattle.bufr_text.specs.Documents.{said};
+ghost use Rattle.bufr_text.specs.Documents.{said, adds};
 ghost use Rattle.bufr_text.specs.Reading.{has_no_feed};
 ghost use Rattle.bufr_text.specs.Step.{meaning, place_with, turned, Stands};
 ghost use Rattle.bufr_text.specs.declared.step.Place.TheVariants.{Between};
-ghost use Rattle.bufr_text.specs.Taking.{TakesSo, FeedAt};
+ghost use Rattle.bufr_text.specs.Taking.{TakesSo, FeedAt, WantsAt};
 
 use crate::descriptors::MOST_WORDS;
 use crate::document::Parts;
@@ -53,6 +53,7 @@ pub(crate) fn take_line(
     requires stands { Stands draft.old.at (place_with draft.old.place draft.old.parts) }
     ensures turns { IfOk result (λ t. turned t draft.new.parts ≡ documents.turn draft.old.at (place_with draft.old.place draft.old.parts) (said line.now)) }
     ensures at { draft.new.at ≡ draft.old.at }
+    ensures wants { OnErr result (adds (place_with draft.old.place draft.old.parts) (said line.now) ≡ true) }
 {
     if line.len() > MOST_LINE {
         return step(draft.place, &mut draft.parts, draft.at, Said::Wrong);
@@ -69,6 +70,7 @@ pub(crate) fn take_lines(draft: &mut Draft, held: &[u8]) -> Result<(usize, Taken
     requires few { draft.old.at + length held.now < 2 ^ 63 }
     ensures takes { IfOk result (λ r. TakesSo draft.old draft.new held.now r.0 r.1) }
     ensures wants { OnErr result (has_no_feed held.now ≡ false) }
+    ensures adds { OnErr result (WantsAt draft.old held.now) }
 {
     let mut octets = [0; MOST_LINE];
     let mut words = [0; MOST_WORDS];

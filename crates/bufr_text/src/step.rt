@@ -1,8 +1,8 @@
 //! What a line does to a document that is being read.
-ghost use Rattle.std.specs.Prelude.{◌≡◌, ℕ, ◌+◌, ◌<◌, ◌≤◌, length, slice_index, true, IfOk};
+ghost use Rattle.std.specs.Prelude.{◌≡◌, ℕ, ◌+◌, ◌<◌, ◌≤◌, length, slice_index, true, IfOk, OnErr};
 ghost use Rattle.bufr_text.specs.Document as spec;
 ghost use Rattle.bufr_text.specs.Line as line;
-ghost use Rattle.bufr_text.specs.Documents.{heading, laying, filling, beginning, closing, opening, turn};
+ghost use Rattle.bufr_text.specs.Documents.{heading, laying, filling, beginning, closing, opening, turn, adds};
 ghost use Rattle.bufr_text.specs.Step.{meaning, part_number, place_with, turned, Stands};
 
 use crate::document::{Kind, Parts};
@@ -128,6 +128,7 @@ fn closing(parts: &Parts, read: u32) -> Turn
 /// A line behind the header and before the first subset.
 fn laying(parts: &mut Parts, part: Part, said: Said<'_>) -> Result<Turn, AllocError>
     ensures turns { IfOk result (λ t. turned t parts.new ≡ laying (part_number part) parts.old (meaning said.entry)) }
+    ensures wants { OnErr result (adds (place_with (Place.Laying part) parts.old) (meaning said.entry) ≡ true) }
 {
     let turn = match said {
         Said::Local1(octets) if part.number() == 0 => {
@@ -153,6 +154,7 @@ fn laying(parts: &mut Parts, part: Part, said: Said<'_>) -> Result<Turn, AllocEr
 fn filling(parts: &mut Parts, at: u64, subset: u32, said: Said<'_>) -> Result<Turn, AllocError>
     requires { subset < 65536 }
     ensures turns { IfOk result (λ t. turned t parts.new ≡ filling at subset parts.old (meaning said.entry)) }
+    ensures wants { OnErr result (adds (place_with (Place.Filling subset) parts.old) (meaning said.entry) ≡ true) }
 {
     let turn = match said {
         Said::Item { fxy, kind, octets } => {
@@ -195,6 +197,7 @@ pub(crate) fn step(
 ) -> Result<Turn, AllocError>
     requires { Stands at (place_with place parts.old) }
     ensures turns { IfOk result (λ t. turned t parts.new ≡ turn at (place_with place parts.old) (meaning said.entry)) }
+    ensures wants { OnErr result (adds (place_with place parts.old) (meaning said.entry) ≡ true) }
 {
     if matches!(said, Said::Passed) {
         return Ok(Turn::Goes(place));

@@ -3,11 +3,11 @@ use Rattle.std.specs.Prelude.{Some, Err, slice_range}
 use Rattle.bufr_text.specs.Document as spec
 use Rattle.bufr_text.specs.Documents as documents
 use Rattle.bufr_text.specs.Reader.{State}
-use Rattle.bufr_text.specs.Filling.{place_now, Tells, WentSo}
-use Rattle.bufr_text.specs.Reading.{PassesEnd}
+use Rattle.bufr_text.specs.Filling.{place_now, Tells, WantsHere, WentSo}
+use Rattle.bufr_text.specs.Reading.{has_no_feed, PassesEnd}
 use Rattle.bufr_text.specs.Step.{place_with}
 use Rattle.bufr_text.specs.declared.draft.Taken.TheVariants as taken
-use Rattle.bufr_text.proofs.ReaderLemmas.{state, place-sound, takes-tells, takes-end, rest-clean, taken-within, taken-ends, draft-more, draft-between, refuses-went}
+use Rattle.bufr_text.proofs.ReaderLemmas.{state, place-sound, wants-here, takes-tells, takes-end, rest-clean, taken-within, taken-ends, draft-more, draft-between, refuses-went}
 use Rattle.bufr_text.proofs.dump_reader.DumpReader.take_held.Goals as goal
 
 pub invariant_of-self-in-More : goal.invariant_of-self-in-More
@@ -103,3 +103,11 @@ returns-in-Refuses-clause-went c =
     let f = c.at-fault.result in
     let W : State → Type 0 = λ s. WentSo s (state n.at (place_now (Some f) n) held v.ended (Some f) v.reads) (Err f) in
     subst W c.self.view_is (refuses-went old n.at c.in-Refuses.line n held v.ended v.reads c.in-Refuses.refusal f c.at-fault.ensures (λ g. takes-tells v.draft n v.fault g v.buffer.items _ v.start v.filled c.in-Ok.len v.ended v.reads (taken.Refuses c.in-Refuses.line c.in-Refuses.refusal) documents.Stopped takes sound is inside refl))
+
+pub returns-in_default-clause-went : goal.returns-in_default-clause-went
+returns-in_default-clause-went c =
+    let v = c.self.inside in
+    let sound = ap (λ s. s.fault) c.self.view_is ∙ c.requires.sound in
+    let is = ap (λ l. slice_range l v.start v.filled) c.deref.ensures.value in
+    let held = ap (λ s. s.held) c.self.view_is in
+    (refl, ap has_no_feed (sym (is ∙ held)) ∙ c.in_default.ensures.wants, held, subst WantsHere c.self.view_is (wants-here v.draft v.fault v.buffer.items _ v.start v.filled v.ended v.reads c.in_default.ensures.adds sound is))
