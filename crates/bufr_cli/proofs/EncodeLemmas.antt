@@ -123,6 +123,26 @@ map-append piece xs ys = grind (arith, common_steps)
 count-append : (f : Piece → Bool) (xs ys : List Piece) → count_by f (xs ++ ys) ≡ count_by f xs + count_by f ys
 count-append f xs ys = grind (arith, common_steps)
 
+-- a run ends at its first refusal
+at-most-one : (pieces : List Piece) → count_by is_refused (up_to_refused pieces) ≤ 1
+unfolding up_to_refused
+at-most-one [] = omega arith
+at-most-one (OnOutput text ∷ more) =
+    let r : count_by is_refused (OnOutput text ∷ up_to_refused more) ≡ 0 + count_by is_refused (up_to_refused more) = count-append is_refused (OnOutput text ∷ []) (up_to_refused more) in
+    omega (arith, r, at-most-one more)
+at-most-one (OnErrors text ∷ more) =
+    let one : count_by is_refused (OnErrors text ∷ []) ≡ 1 = refl in
+    omega (arith, one)
+
+-- so none of those that do not end it is one
+open-accepts : (pieces : List Piece) → Open pieces → count_by is_refused pieces ≡ 0
+unfolding up_to_refused
+open-accepts pieces open' =
+    let last = OnErrors [] ∷ [] in
+    let one : count_by is_refused last ≡ 1 = refl in
+    let same : up_to_refused (pieces ++ last) ≡ pieces ++ last = open' last in
+    omega (arith, at-most-one (pieces ++ last), ap (count_by is_refused) same, count-append is_refused pieces last, one)
+
 open-all : (pieces : List Piece) → Open pieces → up_to_refused pieces ≡ pieces
 unfolding up_to_refused
 open-all pieces open' = ap up_to_refused (sym (append-nil pieces)) ∙ open' [] ∙ append-nil pieces
@@ -426,11 +446,15 @@ module _ (form : Form) (b : List Row) (d : List Sequence) (left mid left' : Opti
       let all : open_documents_of bs ≡ ran.told = told-at-fault left left' s' (ran.told ++ []) bs call open' ∙ append-nil ran.told in
       let pieces : encode_pieces form b d (open_documents_of bs) ≡ map (told_piece form b d) ran.told = ap (encode_pieces form b d) all ∙ open-all (map (told_piece form b d) ran.told) ran.open' in
       let V : Option (List ℕ) → Option (List ℕ) → List Piece → Type 0 = λ x y l. Written w x e y l in
-      record { read = call.read; written = rw (same_w, same_e) (subst (V w1 e1) (sym pieces) ran.written) }
+      record {
+        read = call.read;
+        written = rw (same_w, same_e) (subst (V w1 e1) (sym pieces) ran.written);
+        accepted = ap (count_by is_refused) pieces ∙ open-accepts (map (told_piece form b d) ran.told) ran.open';
+      }
 
   -- a writer failed, or memory was refused, in the piece of what was told
   stops-piece : (w2 e2 : Option (List ℕ)) (f : RunFault) (x : Told) → told_by next ≡ x ∷ [] → TellsPieces w1 w2 e1 e2 (told_piece form b d x ∷ []) (Err f)
-      → EncodeCut (encode_pieces form b d) left left' w w2 e e2 (Unit {0}) (ran.octets ++ so.octets)
+      → EncodeSo (encode_pieces form b d) left left' w w2 e e2 (Unit {0}) (ran.octets ++ so.octets) (Err Memory)
   stops-piece w2 e2 f x is tells =
       let bs = ran.octets ++ so.octets in
       let call = call-then left mid left' fresh s s' ran.told (x ∷ []) ran.octets so.octets ran.call (told-call mid left' s s' next x so is) in
@@ -438,26 +462,28 @@ module _ (form : Form) (b : List Row) (d : List Sequence) (left mid left' : Opti
       let p = told_piece form b d x in
       let front = read-front left left' s' (ran.told ++ x ∷ []) bs call in
       let tail = map (told_piece form b d) front.0 in
-      let following = next-piece p tail in
-      record {
-        read = call.read;
-        ended = s'.ended;
-        end = λ ended. all-read left left' bs call.read (call.end (λ end. absurd (false≢true end)) ended);
-        written = record {
-          given = before;
-          next = Some p;
-          rest = following.0;
-          parts = ap (encode_pieces form b d) front.1
-              ∙ ap up_to_refused (map-append (told_piece form b d) (ran.told ++ x ∷ []) front.0 ∙ ap (λ l. l ++ tail) (one-more form b d ran.told x) ∙ append_assoc before (p ∷ []) tail)
-              ∙ ran.open' (p ∷ tail) ∙ ap (λ l. before ++ l) following.1;
-          between_output = w1;
-          between_errors = e1;
-          whole = ran.written;
-          output = tells.0;
-          errors = tells.1;
-        };
-        flushed = λ not. absurd (not tt);
-      }
+      let following = next-piece p tail in (
+        record {
+          read = call.read;
+          ended = s'.ended;
+          end = λ ended. all-read left left' bs call.read (call.end (λ end. absurd (false≢true end)) ended);
+          written = record {
+            given = before;
+            next = Some p;
+            rest = following.0;
+            parts = ap (encode_pieces form b d) front.1
+                ∙ ap up_to_refused (map-append (told_piece form b d) (ran.told ++ x ∷ []) front.0 ∙ ap (λ l. l ++ tail) (one-more form b d ran.told x) ∙ append_assoc before (p ∷ []) tail)
+                ∙ ran.open' (p ∷ tail) ∙ ap (λ l. before ++ l) following.1;
+            between_output = w1;
+            between_errors = e1;
+            whole = ran.written;
+            output = tells.0;
+            errors = tells.1;
+          };
+          flushed = λ not. absurd (not tt);
+        },
+        open-accepts before ran.open',
+      )
 
   -- memory was refused to the reader
   module _ (w2 e2 : Option (List ℕ)) (same_w : w2 ≡ w1) (same_e : e2 ≡ e1) (is : next ≡ Err (Run Memory)) where
@@ -465,47 +491,57 @@ module _ (form : Form) (b : List Row) (d : List Sequence) (left mid left' : Opti
     again = let N : Result (Option Document) ReadFault → Type 0 = λ x. ReadsSo mid left' s s' x so.octets in (subst N is so.reads).0
 
     -- the pieces of all that was told stand before those of what is known beyond
-    told-part : (all more : List Told) → all ≡ ran.told ++ more → WrittenInPart w w2 e e2 (encode_pieces form b d all)
+    told-part : (all more : List Told) → all ≡ ran.told ++ more → (part : WrittenInPart w w2 e e2 (encode_pieces form b d all)) × (count_by is_refused part.given ≡ 0)
     told-part all more parts =
         let G : Option (List ℕ) → Type 0 = λ x. GrowsByFront w1 x [] in
-        let H : Option (List ℕ) → Type 0 = λ x. GrowsByFront e1 x [] in
-        record {
-          given = map (told_piece form b d) ran.told;
-          next = None;
-          rest = up_to_refused (map (told_piece form b d) more);
-          parts = ap (encode_pieces form b d) parts ∙ ap up_to_refused (map-append (told_piece form b d) ran.told more) ∙ ran.open' (map (told_piece form b d) more);
-          between_output = w1;
-          between_errors = e1;
-          whole = ran.written;
-          output = subst G (sym same_w) (grows-nil w1);
-          errors = subst H (sym same_e) (grows-nil e1);
-        }
+        let H : Option (List ℕ) → Type 0 = λ x. GrowsByFront e1 x [] in (
+          record {
+            given = map (told_piece form b d) ran.told;
+            next = None;
+            rest = up_to_refused (map (told_piece form b d) more);
+            parts = ap (encode_pieces form b d) parts ∙ ap up_to_refused (map-append (told_piece form b d) ran.told more) ∙ ran.open' (map (told_piece form b d) more);
+            between_output = w1;
+            between_errors = e1;
+            whole = ran.written;
+            output = subst G (sym same_w) (grows-nil w1);
+            errors = subst H (sym same_e) (grows-nil e1);
+          },
+          open-accepts (map (told_piece form b d) ran.told) ran.open',
+        )
 
-    pub stops-memory : (bs : List ℕ) × EncodeCut (encode_pieces form b d) left left' w w2 e e2 (Unit {0}) bs
+    pub stops-memory : (bs : List ℕ) × EncodeSo (encode_pieces form b d) left left' w w2 e e2 (Unit {0}) bs (Err Memory)
     stops-memory = by s.ended refl
       where
-        by : (ended : Bool) → s.ended ≡ ended → (bs : List ℕ) × EncodeCut (encode_pieces form b d) left left' w w2 e e2 (Unit {0}) bs
+        by : (ended : Bool) → s.ended ≡ ended → (bs : List ℕ) × EncodeSo (encode_pieces form b d) left left' w w2 e e2 (Unit {0}) bs (Err Memory)
         by true ended =
-            let end = ran.call.end (λ start. absurd (false≢true start)) ended in (
+            let end = ran.call.end (λ start. absurd (false≢true start)) ended in
+            let part = told-part (documents_of ran.octets) (spells (stand s) []) (ap documents_of (sym (append-nil ran.octets)) ∙ told-first left mid s ran.told ran.octets [] ran.call (λ _. refl)) in (
               ran.octets,
-              record {
-                read = end-stays left mid left' ran.octets so.octets ran.call.read end again;
-                ended = true;
-                end = λ _. all-read left mid ran.octets ran.call.read end;
-                written = told-part (documents_of ran.octets) (spells (stand s) []) (ap documents_of (sym (append-nil ran.octets)) ∙ told-first left mid s ran.told ran.octets [] ran.call (λ _. refl));
-                flushed = λ not. absurd (not tt);
-              },
+              (
+                record {
+                  read = end-stays left mid left' ran.octets so.octets ran.call.read end again;
+                  ended = true;
+                  end = λ _. all-read left mid ran.octets ran.call.read end;
+                  written = part.0;
+                  flushed = λ not. absurd (not tt);
+                },
+                part.1,
+              ),
             )
-        by false unended = (
-          ran.octets ++ so.octets,
-          record {
-            read = Consumes-trans left mid left' ran.octets so.octets ran.call.read again;
-            ended = false;
-            end = λ end. absurd (false≢true end);
-            written = told-part (open_documents_of (ran.octets ++ so.octets)) (spells_openly (stand s) so.octets) (told-first-openly left mid s ran.told ran.octets so.octets ran.call unended);
-            flushed = λ not. absurd (not tt);
-          },
-        )
+        by false unended =
+            let part = told-part (open_documents_of (ran.octets ++ so.octets)) (spells_openly (stand s) so.octets) (told-first-openly left mid s ran.told ran.octets so.octets ran.call unended) in (
+              ran.octets ++ so.octets,
+              (
+                record {
+                  read = Consumes-trans left mid left' ran.octets so.octets ran.call.read again;
+                  ended = false;
+                  end = λ end. absurd (false≢true end);
+                  written = part.0;
+                  flushed = λ not. absurd (not tt);
+                },
+                part.1,
+              ),
+            )
 
   -- the run was stopped
   pub stops : (w2 e2 : Option (List ℕ)) (tell : Result (Option Verdict) RunFault) (f : RunFault) (r : Result Tally RunFault) → TellsNext w1 w2 e1 e2 (told_piece form b d) next tell → tell ≡ Err f → r ≡ Err f
@@ -530,7 +566,7 @@ module _ (form : Form) (b : List Row) (d : List Sequence) (left mid left' : Opti
         ran.octets ++ so.octets,
         stops-read w2 e2 same_w same_e (call-then left mid left' fresh s s' ran.told [] ran.octets so.octets ran.call (reads-so InputTooLong is)) (ends-so InputTooLong is).1,
       )
-      by Write (x, is, tells') = (ran.octets ++ so.octets, stops-piece w2 e2 Write x is tells')
+      by Write (x, is, tells') = (ran.octets ++ so.octets, (stops-piece w2 e2 Write x is tells').0)
       by Memory (inl (is, same_w, same_e)) = stops-memory w2 e2 same_w same_e is
       by Memory (inr (x, is, tells')) = (ran.octets ++ so.octets, stops-piece w2 e2 Memory x is tells')
 
@@ -590,16 +626,13 @@ stays-unflushed pieces_of left left' w w' e e' unflushed kept first f r fails sa
     let F : Result Tally RunFault → Type 0 = λ x. EncodeSo pieces_of left left' w w' e e' (Unit {0}) bs x in
     (bs, subst P (sym same) (by f (subst F fails so)))
   where
-    cut : EncodeCut pieces_of left left' w w' e e' (Unit {0}) bs → EncodeCut pieces_of left left' w w' e e' unflushed bs
-    cut before = record { read = before.read; ended = before.ended; end = before.end; written = before.written; flushed = λ not. absurd (not kept) }
-
     by : (g : RunFault) → EncodeSo pieces_of left left' w w' e e' (Unit {0}) bs (Err g) → EncodeSo pieces_of left left' w w' e e' unflushed bs (Err g)
     by Read before = before
     by InputTooLong before = before
-    by Memory before = cut before
-    by Write before = cut before
+    by Memory (cut, accepted) = (record { read = cut.read; ended = cut.ended; end = cut.end; written = cut.written; flushed = λ not. absurd (not kept) }, accepted)
+    by Write cut = record { read = cut.read; ended = cut.ended; end = cut.end; written = cut.written; flushed = λ not. absurd (not kept) }
 
-written-kept : (w w1 w2 e e1 e2 : Option (List ℕ)) (pieces : List Piece) → Keeps w1 w2 → Keeps e1 e2 → Written w w1 e e1 pieces → Written w w2 e e2 pieces
+pub written-kept : (w w1 w2 e e1 e2 : Option (List ℕ)) (pieces : List Piece) → Keeps w1 w2 → Keeps e1 e2 → Written w w1 e e1 pieces → Written w w2 e e2 pieces
 written-kept w w1 w2 e e1 e2 pieces kept_w kept_e before = record {
   output = Appends-kept w w1 w2 (flat_map output_of pieces) before.output kept_w;
   errors = Appends-kept e e1 e2 (flat_map errors_of pieces) before.errors kept_e;

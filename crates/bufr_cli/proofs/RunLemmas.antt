@@ -21,7 +21,7 @@ use Rattle.bufr_frame.specs.Next.{NextSo, EndsSo}
 use Rattle.bufr_frame.proofs.FindingLemmas.{Advances-none, Follows-none, StepSo-then, CountsReads-then, whole-scan, events-are-certain}
 use Rattle.bufr_text.specs.Writing.{Writes, GrowsByFront, Stays, Fails}
 use Rattle.bufr_cli.specs.Pieces.{Piece, OnErrors, output_of, errors_of, is_accepted, is_refused}
-use Rattle.bufr_cli.specs.Running.{Written, Tallies, RunSo, RunDone, RunStopped, RunCut, read_events, GivesPieces, BlamesWriter}
+use Rattle.bufr_cli.specs.Running.{Written, Tallies, RunSo, RunDone, RunStopped, RunCut, ReadsFewer, read_events, GivesPieces, BlamesWriter}
 use Rattle.bufr_cli.specs.Telling.{TellsPieces, StopsPiece, RunReads, accepted_in, refused_in, tally_after}
 use Rattle.bufr_cli.specs.declared.tally.Tally.{Tally}
 use Rattle.bufr_cli.specs.declared.tally.Verdict.{Verdict}
@@ -129,13 +129,16 @@ told-then piece w w1 w2 e e1 e2 tally tally' verdict events here before tells co
       };
     }
 
+some-none : (p : Piece) → Some p ≡ None → ⊥
+some-none p is = cc
+
 -- a piece was stopped by a writer, or by want of memory
-cut-by : (pieces_of : List Happening → List Piece) (left left' w w' e e' : Option (List ℕ)) (unflushed : Type 0) (bs : List ℕ) (takes : Bool) (f : RunFault) → StopsPiece takes (Err f)
-    → RunCut pieces_of left left' w w' e e' unflushed bs → RunSo pieces_of left left' w w' e e' unflushed bs (Err f)
-cut-by pieces_of left left' w w' e e' unflushed bs takes Read stops cut = absurd stops
-cut-by pieces_of left left' w w' e e' unflushed bs takes Write stops cut = cut
-cut-by pieces_of left left' w w' e e' unflushed bs takes InputTooLong stops cut = absurd stops
-cut-by pieces_of left left' w w' e e' unflushed bs takes Memory stops cut = cut
+cut-by : (pieces_of : List Happening → List Piece) (left left' w w' e e' : Option (List ℕ)) (unflushed early : Type 0) (bs : List ℕ) (takes : Bool) (f : RunFault) → StopsPiece takes (Err f)
+    → (cut : RunCut pieces_of left left' w w' e e' unflushed bs) → (cut.written.next ≡ None → ⊥) → RunSo pieces_of left left' w w' e e' unflushed early bs (Err f)
+cut-by pieces_of left left' w w' e e' unflushed early bs takes Read stops cut some = absurd stops
+cut-by pieces_of left left' w w' e e' unflushed early bs takes Write stops cut some = cut
+cut-by pieces_of left left' w w' e e' unflushed early bs takes InputTooLong stops cut some = absurd stops
+cut-by pieces_of left left' w w' e e' unflushed early bs takes Memory stops cut some = (cut, λ none. absurd (some none))
 
 module _ (is_piece : Happening → Piece → Type 0) (left mid left' : Option (List ℕ)) (reads reads1 reads2 : ℕ) (w w1 e e1 : Option (List ℕ)) (s s' : State) (tally : Tally) (result : Result Event RunFault)
     (ran : Ran is_piece left mid reads reads1 w w1 e e1 s tally) (next : NextSo mid left' reads1 reads2 s s' result) where
@@ -159,7 +162,7 @@ module _ (is_piece : Happening → Piece → Type 0) (left mid left' : Option (L
 
   -- the finder stopped
   pub stop-next : (unflushed : Type 0) → unflushed → (f : RunFault) (r : Result Tally RunFault) → result ≡ Err f → r ≡ Err f
-      → (bs : List ℕ) × ((piece : Happening → Piece) → GivesPieces is_piece piece → RunSo (map piece) left left' w w1 e e1 unflushed bs r)
+      → (bs : List ℕ) × ((piece : Happening → Piece) → GivesPieces is_piece piece → RunSo (map piece) left left' w w1 e e1 unflushed (ReadsFewer reads reads2) bs r)
   stop-next unflushed kept f r is same =
       let steps = rw is at next.steps in
       let ends = rw is at next.ends in
@@ -167,10 +170,16 @@ module _ (is_piece : Happening → Piece → Type 0) (left mid left' : Option (L
       let step = StepSo-then left mid left' s s' ran.octets steps.0 ran.events [] ran.step steps.1 in (
         bs,
         λ piece gives.
-            let P : Result Tally RunFault → Type 0 = λ x. RunSo (map piece) left left' w w1 e e1 unflushed bs x in
+            let P : Result Tally RunFault → Type 0 = λ x. RunSo (map piece) left left' w w1 e e1 unflushed (ReadsFewer reads reads2) bs x in
             subst P (sym same) (by piece (ran.wrote piece gives).written bs step f (ends.1 ran.sound)),
       )
     where
+      fewer : s'.reads < most_reads → ReadsFewer reads reads2
+      fewer few =
+          let counts = CountsReads-then reads reads1 reads2 s s' ran.counts next.counts in
+          let e : s'.reads - 0 ≡ s'.reads = omega arith in
+          (s'.reads, few, counts.made ∙ ap (counted reads) e)
+
       opens : (piece : Happening → Piece) (bs : List ℕ) → StepSo left left' fresh s' bs (ran.events ++ []) → (g : RunFault) → IsOpen s' g → map piece (open_scan bs) ≡ map piece ran.events
       opens piece bs step g so =
           let E : Bool → Type 0 = λ x. Advances x 0 bs (ran.events ++ []) s'.at s'.rest in
@@ -203,16 +212,16 @@ module _ (is_piece : Happening → Piece → Type 0) (left mid left' : Option (L
       }
 
       by : (piece : Happening → Piece) → Written w w1 e e1 (map piece ran.events) → (bs : List ℕ) → StepSo left left' fresh s' bs (ran.events ++ []) → (g : RunFault) → StopsSo s' g
-          → RunSo (map piece) left left' w w1 e e1 unflushed bs (Err g)
+          → RunSo (map piece) left left' w w1 e e1 unflushed (ReadsFewer reads reads2) bs (Err g)
       by piece written bs step Read so = stopped piece written bs step Read so
       by piece written bs step InputTooLong so = stopped piece written bs step InputTooLong so.0
       by piece written bs step Write so = absurd so
-      by piece written bs step Memory so = cut piece written bs step Memory so.0
+      by piece written bs step Memory so = (cut piece written bs step Memory so.0, λ _. fewer so.1)
 
   -- the telling of an event was stopped
   pub stop-tell : (unflushed : Type 0) → unflushed → (w2 e2 : Option (List ℕ)) (event : Event) (takes : Bool) (tell : Result Verdict RunFault) (f : RunFault) (r : Result Tally RunFault) → result ≡ Ok event → IsEvent event
       → ((piece : Happening → Piece) → GivesPieces is_piece piece → TellsPieces w1 w2 e1 e2 (map piece (told event)) tell) → StopsPiece takes tell → tell ≡ Err f → r ≡ Err f
-      → (bs : List ℕ) × ((piece : Happening → Piece) → GivesPieces is_piece piece → RunSo (map piece) left left' w w2 e e2 unflushed bs r)
+      → (bs : List ℕ) × ((piece : Happening → Piece) → GivesPieces is_piece piece → RunSo (map piece) left left' w w2 e e2 unflushed (ReadsFewer reads reads2) bs r)
   stop-tell unflushed kept w2 e2 event takes tell f r is some tells stops fails same =
       let steps = rw is at next.steps in
       let bs = ran.octets ++ steps.0 in
@@ -226,8 +235,8 @@ module _ (is_piece : Happening → Piece → Type 0) (left mid left' : Option (L
             let lines = subst S fails (tells piece gives) in
             let O : List Happening → Type 0 = λ l. GrowsByFront w1 w2 (flat_map output_of (map piece l)) in
             let E : List Happening → Type 0 = λ l. GrowsByFront e1 e2 (flat_map errors_of (map piece l)) in
-            let P : Result Tally RunFault → Type 0 = λ x. RunSo (map piece) left left' w w2 e e2 unflushed bs x in
-            subst P (sym same) (cut-by (map piece) left left' w w2 e e2 unflushed bs takes f (rw fails at stops) (record {
+            let P : Result Tally RunFault → Type 0 = λ x. RunSo (map piece) left left' w w2 e e2 unflushed (ReadsFewer reads reads2) bs x in
+            subst P (sym same) (cut-by (map piece) left left' w w2 e e2 unflushed (ReadsFewer reads reads2) bs takes f (rw fails at stops) (record {
               read = step.read;
               ended = s'.ended;
               end = step.end (λ end. absurd (false≢true end));
@@ -246,7 +255,7 @@ module _ (is_piece : Happening → Piece → Type 0) (left mid left' : Option (L
                 errors = subst E one.1 lines.1;
               };
               flushed = λ not. absurd (not kept);
-            })),
+            }) (some-none (piece one.0))),
       )
 
   -- all was read and written, and then flushed
@@ -273,11 +282,11 @@ module _ (is_piece : Happening → Piece → Type 0) (left mid left' : Option (L
 
     -- a flush failed
     pub stop-flush : (unflushed : Type 0) (f : RunFault) (r : Result Tally RunFault) → f ≡ Write → r ≡ Err f
-        → (bs : List ℕ) × ((piece : Happening → Piece) → GivesPieces is_piece piece → RunSo (map piece) left left' w w2 e e2 unflushed bs r)
+        → (bs : List ℕ) × ((piece : Happening → Piece) → GivesPieces is_piece piece → RunSo (map piece) left left' w w2 e e2 unflushed (ReadsFewer reads reads2) bs r)
     stop-flush unflushed f r write same = (
       flushed.0,
       λ piece gives.
-          let P : Result Tally RunFault → Type 0 = λ x. RunSo (map piece) left left' w w2 e e2 unflushed flushed.0 x in
+          let P : Result Tally RunFault → Type 0 = λ x. RunSo (map piece) left left' w w2 e e2 unflushed (ReadsFewer reads reads2) flushed.0 x in
           let done = flushed.1 piece gives in
           let all = map piece (scan flushed.0) in
           subst P (sym (same ∙ ap Err write)) (record {
@@ -300,11 +309,11 @@ module _ (is_piece : Happening → Piece → Type 0) (left mid left' : Option (L
     )
 
 -- the octets that a reader tells are those that were read to its end
-pub all-known : (pieces_of : List Happening → List Piece) (left left' w w' e e' : Option (List ℕ)) (unflushed : Type 0) (r : Result Tally RunFault)
-    → ((bs : List ℕ) × RunSo pieces_of left left' w w' e e' unflushed bs r) → IfOk r (λ tally. IfSome left (λ s. Written w w' e e' (pieces_of (scan s)) × Tallies tally (pieces_of (scan s))))
-all-known pieces_of left left' w w' e e' unflushed (Ok tally) (bs, done) =
+pub all-known : (pieces_of : List Happening → List Piece) (left left' w w' e e' : Option (List ℕ)) (unflushed early : Type 0) (r : Result Tally RunFault)
+    → ((bs : List ℕ) × RunSo pieces_of left left' w w' e e' unflushed early bs r) → IfOk r (λ tally. IfSome left (λ s. Written w w' e e' (pieces_of (scan s)) × Tallies tally (pieces_of (scan s))))
+all-known pieces_of left left' w w' e e' unflushed early (Ok tally) (bs, done) =
     Consumes-whole left left' bs (λ s. Written w w' e e' (pieces_of (scan s)) × Tallies tally (pieces_of (scan s))) done.read done.end (done.written, done.tallies)
-all-known pieces_of left left' w w' e e' unflushed (Err f) so = tt
+all-known pieces_of left left' w w' e e' unflushed early (Err f) so = tt
 
 -- the reads of a run
 pub makes-reads : {X : Type 0} (reads reads' : ℕ) (s : State) (r : Result X RunFault) → CountsReads reads reads' fresh s → (r ≡ Err InputTooLong → s.reads ≡ most_reads) → (r ≡ Err Memory → s.reads < most_reads) → MakesReads reads reads' r

@@ -1,11 +1,11 @@
 -- What a run of `encode` leaves, by its answer. (a choice of this project)
 -- Cited by public contracts.
-use Rattle.std.specs.Prelude.{◌≡◌, ℕ, Bool, true, false, List, [], ◌++◌, Option, Result, Ok, Err, IfSome}
+use Rattle.std.specs.Prelude.{◌≡◌, ℕ, Bool, true, false, List, [], ◌++◌, Option, Result, Ok, Err, IfSome, count_by}
 use Rattle.std.specs.Io.KnownBytes.{Consumes}
 use Rattle.bufr_frame.specs.declared.fault.RunFault.{RunFault}
 use Rattle.bufr_frame.specs.declared.fault.RunFault.TheVariants.{Read, Write, InputTooLong, Memory}
 use Rattle.bufr_text.specs.Documents.{Told, documents_of, open_documents_of}
-use Rattle.bufr_cli.specs.Pieces.{Piece}
+use Rattle.bufr_cli.specs.Pieces.{Piece, is_refused}
 use Rattle.bufr_cli.specs.Running.{Written, WrittenInPart, Tallies}
 use Rattle.bufr_cli.specs.declared.tally.Tally.{Tally}
 
@@ -25,10 +25,12 @@ pub record EncodeDone (pieces_of : List Told → List Piece) (left left' w w' e 
   pub certain : Written w w' e e' (pieces_of (read_documents ended bs))
   pub tallies : (t : List ℕ) → (ended ≡ true → t ≡ []) → Tallies tally (pieces_of (documents_of (bs ++ t)))
 
--- The run stopped before the end, and the pieces of the documents whose `end` was read with its line feed were written.
+-- The run stopped before the end, and the pieces of the documents whose `end` was read with its line feed were written: none of these was
+-- refused, since that would have ended the run.
 pub record EncodeStopped (pieces_of : List Told → List Piece) (left left' w w' e e' : Option (List ℕ)) (bs : List ℕ) : Type 0 where
   pub read : Consumes left left' bs
   pub written : Written w w' e e' (pieces_of (open_documents_of bs))
+  pub accepted : count_by is_refused (pieces_of (open_documents_of bs)) ≡ 0
 
 -- A writer failed, or memory was refused: of what was read a front was written; where a flush was tried, all stands.
 pub record EncodeCut (pieces_of : List Told → List Piece) (left left' w w' e e' : Option (List ℕ)) (unflushed : Type 0) (bs : List ℕ) : Type 0 where
@@ -38,10 +40,10 @@ pub record EncodeCut (pieces_of : List Told → List Piece) (left left' w w' e e
   pub written : WrittenInPart w w' e e' (pieces_of (read_documents ended bs))
   pub flushed : ¬ unflushed → (t : List ℕ) → (ended ≡ true → t ≡ []) → Written w w' e e' (pieces_of (documents_of (bs ++ t)))
 
--- what a run leaves that reads these octets
+-- what a run leaves that reads these octets; where memory is wanted no document before was refused
 abbrev pub EncodeSo : (pieces_of : List Told → List Piece) → (left left' w w' e e' : Option (List ℕ)) → (unflushed : Type 0) → List ℕ → Result Tally RunFault → Type 0
 EncodeSo pieces_of left left' w w' e e' unflushed bs (Ok tally) = EncodeDone pieces_of left left' w w' e e' bs tally
 EncodeSo pieces_of left left' w w' e e' unflushed bs (Err Read) = EncodeStopped pieces_of left left' w w' e e' bs
 EncodeSo pieces_of left left' w w' e e' unflushed bs (Err InputTooLong) = EncodeStopped pieces_of left left' w w' e e' bs
-EncodeSo pieces_of left left' w w' e e' unflushed bs (Err Memory) = EncodeCut pieces_of left left' w w' e e' unflushed bs
+EncodeSo pieces_of left left' w w' e e' unflushed bs (Err Memory) = (cut : EncodeCut pieces_of left left' w w' e e' unflushed bs) × (count_by is_refused cut.written.given ≡ 0)
 EncodeSo pieces_of left left' w w' e e' unflushed bs (Err Write) = EncodeCut pieces_of left left' w w' e e' unflushed bs

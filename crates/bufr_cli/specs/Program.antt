@@ -13,8 +13,9 @@ use Rattle.bufr_text.specs.declared.form.Form.{Form}
 use Rattle.bufr_text.specs.Documents.{documents_of}
 use Rattle.bufr_cli.specs.DumpPieces.{IsDumpPiece}
 use Rattle.bufr_cli.specs.EncodePieces.{encode_pieces}
-use Rattle.bufr_cli.specs.Pieces.{Piece, ls_pieces}
-use Rattle.bufr_cli.specs.Running.{Written, GivesPieces, Tallies}
+use Rattle.bufr_cli.specs.EncodeRun.{EncodeSo}
+use Rattle.bufr_cli.specs.Pieces.{Piece, ls_piece, ls_pieces}
+use Rattle.bufr_cli.specs.Running.{Written, GivesPieces, RunSo, Tallies}
 use Rattle.bufr_cli.specs.declared.finish.Outcome.{Outcome}
 use Rattle.bufr_cli.specs.declared.finish.Outcome.TheVariants.{Ran, Usage, CannotOpen, TableB, TableD, Run}
 use Rattle.bufr_cli.specs.declared.job.Job.{Job}
@@ -32,14 +33,23 @@ input_octets standard named (Some name) = named name.now
 abbrev pub Tells : (w w' e e' : Option (List ℕ)) → Tally → List Piece → Type 0
 Tells w w' e e' tally pieces = Written w w' e e' pieces × Tallies tally pieces
 
--- what comes of a run over an input: where it went through, this holds of its octets; what cannot be opened is the input, of which nothing was known
-abbrev pub RunOutcome : (ran : Tally → List ℕ → Type 0) → (standard : Option (List ℕ)) → (named : List ℕ → Option (List ℕ)) → (file : Option (Bor (List ℕ))) → Outcome → Type 0
-RunOutcome ran standard named file (Ran tally) = IfSome (input_octets standard named file) (ran tally)
-RunOutcome ran standard named file (Usage text) = ⊥
-RunOutcome ran standard named file (CannotOpen name) = (file ≡ Some name) × (named name.now ≡ None)
-RunOutcome ran standard named file (TableB fault) = ⊥
-RunOutcome ran standard named file (TableD fault) = ⊥
-RunOutcome ran standard named file (Run fault) = Unit {0}
+-- nothing was written
+abbrev pub WritesNothing : (w w' e e' : Option (List ℕ)) → Type 0
+WritesNothing w w' e e' = (w' ≡ w) × (e' ≡ e)
+
+-- a run over the events of an input was ended by this fault: of octets that it read it left what such a run leaves
+abbrev pub RunLeft : (pieces_of : List Happening → List Piece) → (w w' e e' : Option (List ℕ)) → (left : Option (List ℕ)) → RunFault → Type 0
+RunLeft pieces_of w w' e e' left fault = (left' : Option (List ℕ)) × (bs : List ℕ) × RunSo pieces_of left left' w w' e e' (Unit {0}) (Unit {0}) bs (Err fault)
+
+-- what comes of a run over an input: where it went through, this holds of its octets, and where a fault ended it, that of them and of the
+-- fault; what cannot be opened is the input, of which nothing was known, and then nothing was written
+abbrev pub RunOutcome : (ran : Tally → List ℕ → Type 0) → (ended : Option (List ℕ) → RunFault → Type 0) → (nothing : Type 0) → (standard : Option (List ℕ)) → (named : List ℕ → Option (List ℕ)) → (file : Option (Bor (List ℕ))) → Outcome → Type 0
+RunOutcome ran ended nothing standard named file (Ran tally) = IfSome (input_octets standard named file) (ran tally)
+RunOutcome ran ended nothing standard named file (Usage text) = ⊥
+RunOutcome ran ended nothing standard named file (CannotOpen name) = (file ≡ Some name) × (named name.now ≡ None) × nothing
+RunOutcome ran ended nothing standard named file (TableB fault) = ⊥
+RunOutcome ran ended nothing standard named file (TableD fault) = ⊥
+RunOutcome ran ended nothing standard named file (Run fault) = ended (input_octets standard named file) fault
 
 -- how a run came out
 abbrev pub ran_outcome : Result Tally RunFault → Outcome
@@ -78,27 +88,42 @@ pub record AreTables (named : List ℕ → Option (List ℕ)) (tables : TableNam
 abbrev pub Dumps : List Row → List Sequence → (w w' e e' : Option (List ℕ)) → Tally → List ℕ → Type 0
 Dumps b d w w' e e' tally s = (piece : Happening → Piece) × GivesPieces (IsDumpPiece b d) piece × Tells w w' e e' tally (map piece (scan s))
 
+-- a dump by these tables was ended by this fault
+abbrev pub DumpLeft : List Row → List Sequence → (w w' e e' : Option (List ℕ)) → (left : Option (List ℕ)) → RunFault → Type 0
+DumpLeft b d w w' e e' left fault = (piece : Happening → Piece) × GivesPieces (IsDumpPiece b d) piece × RunLeft (map piece) w w' e e' left fault
+
 -- the pieces that `encode` has for the octets by these tables were written and counted
 abbrev pub Encodes : Form → List Row → List Sequence → (w w' e e' : Option (List ℕ)) → Tally → List ℕ → Type 0
 Encodes form b d w w' e e' tally s = Tells w w' e e' tally (encode_pieces form b d (documents_of s))
 
--- what comes of a run by tables: Table B is not read, or Table B is and Table D is not, or there is a run by both
-pub data TablesOutcome (ran : List Row → List Sequence → Tally → List ℕ → Type 0) (standard : Option (List ℕ)) (named : List ℕ → Option (List ℕ)) (tables : TableNames) (file : Option (Bor (List ℕ))) (outcome : Outcome) : Type 0 where
-  NoTableB : TableBOutcome named tables.table_b outcome → TablesOutcome ran standard named tables file outcome
-  NoTableD : (b : List Row) → IfSome (named tables.table_b.now) (λ text. table_b_of (records_of text) ≡ Ok b) → TableDOutcome named tables.table_d outcome → TablesOutcome ran standard named tables file outcome
-  ByTables : (b : List Row) (d : List Sequence) → AreTables named tables b d → RunOutcome (ran b d) standard named file outcome → TablesOutcome ran standard named tables file outcome
+-- an encoding by these tables was ended by this fault
+abbrev pub EncodeLeft : Form → List Row → List Sequence → (w w' e e' : Option (List ℕ)) → (left : Option (List ℕ)) → RunFault → Type 0
+EncodeLeft form b d w w' e e' left fault = (left' : Option (List ℕ)) × (bs : List ℕ) × EncodeSo (encode_pieces form b d) left left' w w' e e' (Unit {0}) bs (Err fault)
+
+-- what comes of a run by tables: Table B is not read, or Table B is and Table D is not, and nothing was written; or there is a run by both
+pub data TablesOutcome (run : List Row → List Sequence → Outcome → Type 0) (nothing : Type 0) (named : List ℕ → Option (List ℕ)) (tables : TableNames) (outcome : Outcome) : Type 0 where
+  NoTableB : nothing → TableBOutcome named tables.table_b outcome → TablesOutcome run nothing named tables outcome
+  NoTableD : nothing → (b : List Row) → IfSome (named tables.table_b.now) (λ text. table_b_of (records_of text) ≡ Ok b) → TableDOutcome named tables.table_d outcome → TablesOutcome run nothing named tables outcome
+  ByTables : (b : List Row) (d : List Sequence) → AreTables named tables b d → run b d outcome → TablesOutcome run nothing named tables outcome
+
+-- what comes of a listing
+abbrev pub LsOutcome : (standard : Option (List ℕ)) → (named : List ℕ → Option (List ℕ)) → (file : Option (Bor (List ℕ))) → (w w' e e' : Option (List ℕ)) → Outcome → Type 0
+LsOutcome standard named file w w' e e' outcome =
+    RunOutcome (λ tally s. Tells w w' e e' tally (ls_pieces s)) (RunLeft (map ls_piece) w w' e e') (WritesNothing w w' e e') standard named file outcome
 
 -- what comes of a dump
 abbrev pub DumpOutcome : (standard : Option (List ℕ)) → (named : List ℕ → Option (List ℕ)) → TableNames → (file : Option (Bor (List ℕ))) → (w w' e e' : Option (List ℕ)) → Outcome → Type 0
-DumpOutcome standard named tables file w w' e e' outcome = TablesOutcome (λ b d. Dumps b d w w' e e') standard named tables file outcome
+DumpOutcome standard named tables file w w' e e' outcome =
+    TablesOutcome (λ b d. RunOutcome (Dumps b d w w' e e') (DumpLeft b d w w' e e') (WritesNothing w w' e e') standard named file) (WritesNothing w w' e e') named tables outcome
 
 -- what comes of an encoding
 abbrev pub EncodeOutcome : (standard : Option (List ℕ)) → (named : List ℕ → Option (List ℕ)) → TableNames → Form → (file : Option (Bor (List ℕ))) → (w w' e e' : Option (List ℕ)) → Outcome → Type 0
-EncodeOutcome standard named tables form file w w' e e' outcome = TablesOutcome (λ b d. Encodes form b d w w' e e') standard named tables file outcome
+EncodeOutcome standard named tables form file w w' e e' outcome =
+    TablesOutcome (λ b d. RunOutcome (Encodes form b d w w' e e') (EncodeLeft form b d w w' e e') (WritesNothing w w' e e') standard named file) (WritesNothing w w' e e') named tables outcome
 
 -- what comes of a job
 abbrev pub CommandOutcome : (standard : Option (List ℕ)) → (named : List ℕ → Option (List ℕ)) → Subcommand → (file : Option (Bor (List ℕ))) → (w w' e e' : Option (List ℕ)) → Outcome → Type 0
-CommandOutcome standard named Ls file w w' e e' outcome = RunOutcome (λ tally s. Tells w w' e e' tally (ls_pieces s)) standard named file outcome
+CommandOutcome standard named Ls file w w' e e' outcome = LsOutcome standard named file w w' e e' outcome
 CommandOutcome standard named (Dump tables) file w w' e e' outcome = DumpOutcome standard named tables file w w' e e' outcome
 CommandOutcome standard named (Encode tables form) file w w' e e' outcome = EncodeOutcome standard named tables form file w w' e e' outcome
 

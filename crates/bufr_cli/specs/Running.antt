@@ -1,6 +1,6 @@
 -- What a run leaves, by its answer. (a choice of this project)
 -- Cited by public contracts.
-use Rattle.std.specs.Prelude.{◌≡◌, ◌⊎◌, ℕ, ◌≤◌, Bool, true, false, List, ◌++◌, Option, Result, Ok, Err, flat_map, count_by, option_to_list}
+use Rattle.std.specs.Prelude.{◌≡◌, ◌⊎◌, ℕ, ◌<◌, ◌≤◌, Bool, true, false, List, ◌++◌, Option, None, Result, Ok, Err, flat_map, count_by, option_to_list}
 use Rattle.std.specs.Io.KnownBytes.{Consumes, Appends, IsAtEnd}
 use Rattle.bufr_bits.specs.Counts.{counted}
 use Rattle.bufr_frame.specs.Runs.{most_reads}
@@ -58,13 +58,17 @@ pub record RunCut (pieces_of : List Happening → List Piece) (left left' w w' e
   pub written : WrittenInPart w w' e e' (pieces_of (read_events ended bs))
   pub flushed : ¬ unflushed → (ended ≡ true) × Written w w' e e' (pieces_of (scan bs))
 
--- what a run leaves that reads these octets
-abbrev pub RunSo : (pieces_of : List Happening → List Piece) → (left left' w w' e e' : Option (List ℕ)) → (unflushed : Type 0) → List ℕ → Result Tally RunFault → Type 0
-RunSo pieces_of left left' w w' e e' unflushed bs (Ok tally) = RunDone pieces_of left left' w w' e e' bs tally
-RunSo pieces_of left left' w w' e e' unflushed bs (Err Read) = RunStopped pieces_of left left' w w' e e' bs
-RunSo pieces_of left left' w w' e e' unflushed bs (Err InputTooLong) = RunStopped pieces_of left left' w w' e e' bs
-RunSo pieces_of left left' w w' e e' unflushed bs (Err Memory) = RunCut pieces_of left left' w w' e e' unflushed bs
-RunSo pieces_of left left' w w' e e' unflushed bs (Err Write) = RunCut pieces_of left left' w w' e e' unflushed bs
+-- fewer than 2^32 reads were made
+abbrev pub ReadsFewer : (reads reads' : ℕ) → Type 0
+ReadsFewer reads reads' = (n : ℕ) × (n < most_reads) × (reads' ≡ counted reads n)
+
+-- what a run leaves that reads these octets; memory is wanted where a piece was to be written, or early, before all of the reads were made
+abbrev pub RunSo : (pieces_of : List Happening → List Piece) → (left left' w w' e e' : Option (List ℕ)) → (unflushed early : Type 0) → List ℕ → Result Tally RunFault → Type 0
+RunSo pieces_of left left' w w' e e' unflushed early bs (Ok tally) = RunDone pieces_of left left' w w' e e' bs tally
+RunSo pieces_of left left' w w' e e' unflushed early bs (Err Read) = RunStopped pieces_of left left' w w' e e' bs
+RunSo pieces_of left left' w w' e e' unflushed early bs (Err InputTooLong) = RunStopped pieces_of left left' w w' e e' bs
+RunSo pieces_of left left' w w' e e' unflushed early bs (Err Memory) = (cut : RunCut pieces_of left left' w w' e e' unflushed bs) × (cut.written.next ≡ None → early)
+RunSo pieces_of left left' w w' e e' unflushed early bs (Err Write) = RunCut pieces_of left left' w w' e e' unflushed bs
 
 -- a run's pieces, each what its event is to put on the writers
 abbrev pub GivesPieces : (Happening → Piece → Type 0) → (Happening → Piece) → Type 0

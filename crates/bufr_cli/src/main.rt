@@ -1,6 +1,7 @@
 //! `bufr`: lists, dumps and encodes messages of FM 94 BUFR.
 #![tactic(auto)]
 
+mod buffered;
 mod document_line;
 mod fault_line;
 mod finish;
@@ -16,6 +17,7 @@ mod run_events;
 mod run_ls;
 mod tally;
 
+use buffered::Buffered;
 use bufr_bits::{Device, Sink};
 use bufr_frame::RunFault;
 use finish::{Outcome, finish};
@@ -82,9 +84,9 @@ fn status(rt: &HostRuntime) -> u8 {
             &mut Device::new(rt.stderr()),
         );
     };
-    let mut e = Device::new(errors);
+    let mut e = Device::new(Buffered::new(errors));
     let status = match BufWriter::with_capacity(rt.alloc(), BUFFERED, rt.stdout()) {
-        Ok(output) => run_words(rt, &mut Device::new(output), &mut e),
+        Ok(output) => run_words(rt, &mut Device::new(Buffered::new(output)), &mut e),
         Err(_) => finish(&Outcome::Run(RunFault::Memory), &mut e),
     };
     let _ = e.flush();

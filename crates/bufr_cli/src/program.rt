@@ -1,5 +1,6 @@
 //! The program below `main`: what it does with a command line, its inputs and its writers.
-ghost use Rattle.std.specs.Prelude.{◌≡◌, ℕ, List, Option, None, Ok, IfOk, IfErr, IfSome, map};
+ghost use Rattle.std.specs.Prelude.{◌≡◌, ℕ, List, Option, None, Ok, IfOk, IfErr, IfSome, OnOk, map};
+ghost use Rattle.std.specs.Io.KnownBytes.{Keeps};
 ghost use Rattle.clap.specs.Words.{fault_of, subcommand_of};
 ghost use Rattle.bufr_frame.specs.Scan.{Happening, scan};
 ghost use Rattle.bufr_tables.specs.Chain.{Reads};
@@ -9,8 +10,8 @@ ghost use Rattle.bufr_text.specs.Writing.{Writes};
 ghost use Rattle.bufr_cli.specs.Calling.{CallSo};
 ghost use Rattle.bufr_cli.specs.DumpPieces.{IsDumpPiece};
 ghost use Rattle.bufr_cli.specs.Line.{bufr_app};
-ghost use Rattle.bufr_cli.specs.Pieces.{Piece, ls_pieces};
-ghost use Rattle.bufr_cli.specs.Program.{DumpOutcome, EncodeOutcome, Encodes, FileOutcome, IsClosed, OutcomeSo, RunOutcome, TableBOutcome, TableDOutcome, Tells, ran_outcome};
+ghost use Rattle.bufr_cli.specs.Pieces.{Piece, ls_piece, ls_pieces};
+ghost use Rattle.bufr_cli.specs.Program.{DumpOutcome, EncodeLeft, EncodeOutcome, Encodes, FileOutcome, IsClosed, LsOutcome, OutcomeSo, RunLeft, RunOutcome, TableBOutcome, TableDOutcome, Tells, WritesNothing, ran_outcome};
 ghost use Rattle.bufr_cli.specs.Running.{GivesPieces};
 
 use crate::finish::{Outcome, finish};
@@ -271,7 +272,7 @@ fn list_input<'a, I: Inputs, W: Sink, E: Sink>(
     w: &mut W,
     e: &mut E,
 ) -> Outcome<'a>
-    ensures { RunOutcome (λ tally s. Tells (W.taken w.old) (W.taken w.new) (E.taken e.old) (E.taken e.new) tally (ls_pieces s)) (I.standard_octets inputs.now) (I.file_octets inputs.now) file.entry result }
+    ensures { LsOutcome (I.standard_octets inputs.now) (I.file_octets inputs.now) file.entry (W.taken w.old) (W.taken w.new) (E.taken e.old) (E.taken e.new) result }
 {
     match file {
         None => outcome_of(list(alloc, inputs.standard(), w, e)),
@@ -293,7 +294,7 @@ fn dump_input<'a, I: Inputs, W: Sink, E: Sink>(
     e: &mut E,
 ) -> Outcome<'a>
     ensures { (piece : Happening → Piece) → GivesPieces (IsDumpPiece table_b.now table_d.now) piece
-        → RunOutcome (λ tally s. Tells (W.taken w.old) (W.taken w.new) (E.taken e.old) (E.taken e.new) tally (map piece (scan s))) (I.standard_octets inputs.now) (I.file_octets inputs.now) file.entry result }
+        → RunOutcome (λ tally s. Tells (W.taken w.old) (W.taken w.new) (E.taken e.old) (E.taken e.new) tally (map piece (scan s))) (RunLeft (map piece) (W.taken w.old) (W.taken w.new) (E.taken e.old) (E.taken e.new)) (WritesNothing (W.taken w.old) (W.taken w.new) (E.taken e.old) (E.taken e.new)) (I.standard_octets inputs.now) (I.file_octets inputs.now) file.entry result }
 {
     match file {
         None => outcome_of(dump(alloc, inputs.standard(), table_b, table_d, w, e)),
@@ -315,7 +316,7 @@ fn encode_input<'a, I: Inputs, W: Sink, E: Sink>(
     w: &mut W,
     e: &mut E,
 ) -> Outcome<'a>
-    ensures { RunOutcome (Encodes form table_b.now table_d.now (W.taken w.old) (W.taken w.new) (E.taken e.old) (E.taken e.new)) (I.standard_octets inputs.now) (I.file_octets inputs.now) file.entry result }
+    ensures { RunOutcome (Encodes form table_b.now table_d.now (W.taken w.old) (W.taken w.new) (E.taken e.old) (E.taken e.new)) (EncodeLeft form table_b.now table_d.now (W.taken w.old) (W.taken w.new) (E.taken e.old) (E.taken e.new)) (WritesNothing (W.taken w.old) (W.taken w.new) (E.taken e.old) (E.taken e.new)) (I.standard_octets inputs.now) (I.file_octets inputs.now) file.entry result }
 {
     match file {
         None => outcome_of(encode(alloc, inputs.standard(), form, table_b, table_d, w, e)),
@@ -326,6 +327,22 @@ fn encode_input<'a, I: Inputs, W: Sink, E: Sink>(
     }
 }
 
+/// Hands on what a run has written that a fault ended, and answers as the run did. Behind a fault of
+/// a write nothing is tried again; a run that went through has handed on all.
+fn hand_on_rest<W: Sink>(ran: Result<Tally, RunFault>, w: &mut W) -> Result<Tally, RunFault>
+    ensures same { result ≡ ran }
+    ensures ok { OnOk ran (W.taken w.new ≡ W.taken w.old) }
+    ensures kept { Keeps (W.taken w.old) (W.taken w.new) }
+{
+    match ran {
+        Ok(_) | Err(RunFault::Write) => {}
+        Err(_) => {
+            let _ = w.flush();
+        }
+    }
+    ran
+}
+
 /// Lists the messages of an input.
 fn list<R: Read + Drop, W: Sink, E: Sink>(
     alloc: Global,
@@ -333,18 +350,15 @@ fn list<R: Read + Drop, W: Sink, E: Sink>(
     w: &mut W,
     e: &mut E,
 ) -> Result<Tally, RunFault>
-    ensures { IfOk result (λ tally. IfSome (R.remaining input) (λ s. Tells (W.taken w.old) (W.taken w.new) (E.taken e.old) (E.taken e.new) tally (ls_pieces s))) }
+    ensures whole { IfOk result (λ tally. IfSome (R.remaining input) (λ s. Tells (W.taken w.old) (W.taken w.new) (E.taken e.old) (E.taken e.new) tally (ls_pieces s))) }
+    ensures ended { IfErr result (RunLeft (map ls_piece) (W.taken w.old) (W.taken w.new) (E.taken e.old) (E.taken e.new) (R.remaining input)) }
 {
     let Ok(input) = BufReader::with_capacity(alloc, BUFFERED, input) else {
         return Err(RunFault::Memory);
     };
     let mut input = Device::new(input);
     let ran = run_ls(alloc, &mut input, w, e);
-    if ran.is_err() {
-        // what was written before the fault is handed on too
-        let _ = w.flush();
-    }
-    ran
+    hand_on_rest(ran, w)
 }
 
 /// Dumps the messages of an input.
@@ -356,19 +370,17 @@ fn dump<R: Read + Drop, W: Sink, E: Sink>(
     w: &mut W,
     e: &mut E,
 ) -> Result<Tally, RunFault>
-    ensures { (piece : Happening → Piece) → GivesPieces (IsDumpPiece table_b.now table_d.now) piece
+    ensures whole { (piece : Happening → Piece) → GivesPieces (IsDumpPiece table_b.now table_d.now) piece
         → IfOk result (λ tally. IfSome (R.remaining input) (λ s. Tells (W.taken w.old) (W.taken w.new) (E.taken e.old) (E.taken e.new) tally (map piece (scan s)))) }
+    ensures ended { (piece : Happening → Piece) → GivesPieces (IsDumpPiece table_b.now table_d.now) piece
+        → IfErr result (RunLeft (map piece) (W.taken w.old) (W.taken w.new) (E.taken e.old) (E.taken e.new) (R.remaining input)) }
 {
     let Ok(input) = BufReader::with_capacity(alloc, BUFFERED, input) else {
         return Err(RunFault::Memory);
     };
     let mut input = Device::new(input);
     let ran = run_dump(alloc, &mut input, w, e, table_b, table_d);
-    if ran.is_err() {
-        // what was written before the fault is handed on too
-        let _ = w.flush();
-    }
-    ran
+    hand_on_rest(ran, w)
 }
 
 /// Encodes the documents of an input in a form.
@@ -381,16 +393,13 @@ fn encode<R: Read + Drop, W: Sink, E: Sink>(
     w: &mut W,
     e: &mut E,
 ) -> Result<Tally, RunFault>
-    ensures { IfOk result (λ tally. IfSome (R.remaining input) (Encodes form table_b.now table_d.now (W.taken w.old) (W.taken w.new) (E.taken e.old) (E.taken e.new) tally)) }
+    ensures whole { IfOk result (λ tally. IfSome (R.remaining input) (Encodes form table_b.now table_d.now (W.taken w.old) (W.taken w.new) (E.taken e.old) (E.taken e.new) tally)) }
+    ensures ended { IfErr result (EncodeLeft form table_b.now table_d.now (W.taken w.old) (W.taken w.new) (E.taken e.old) (E.taken e.new) (R.remaining input)) }
 {
     let Ok(input) = BufReader::with_capacity(alloc, BUFFERED, input) else {
         return Err(RunFault::Memory);
     };
     let mut input = Device::new(input);
     let ran = run_encode_form(alloc, &mut input, w, e, table_b, table_d, form);
-    if ran.is_err() {
-        // what was written before the fault is handed on too
-        let _ = w.flush();
-    }
-    ran
+    hand_on_rest(ran, w)
 }

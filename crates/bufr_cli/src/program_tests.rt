@@ -1,18 +1,20 @@
 //! Command lines: which are understood, what comes of them over inputs in memory, and the last line
 //! and status.
 
+use crate::buffered::Buffered;
 use crate::finish::{Outcome, finish};
 use crate::job::{LineFault, Subcommand, TableNames, parse_line};
 use crate::program::{Inputs, Unopened, run};
 use crate::tally::Tally;
 use crate::test_messages::{TABLE_B, TABLE_D, one_block_number, text_of_one};
 use crate::tests::{LINE, ONE_BLOCK_NUMBER};
-use bufr_bits::{End, ScriptOut};
+use bufr_bits::{Device, End, ScriptOut, Sink};
 use bufr_frame::RunFault;
 use bufr_tables::{Fxy, TableD, TableFault};
 use bufr_text::Form;
 use std::alloc::{AllocError, Global};
-use std::io::{self, ErrorKind, Read};
+use std::cell::Cell;
+use std::io::{self, BufWriter, ErrorKind, Read, Write};
 use std::process::Abort;
 use std::test::Fail;
 
@@ -397,10 +399,12 @@ impl<'a> Inputs for Library<'a> {
             self.one
         } else if name == "torn" {
             b"fxy"
+        } else if name == "torn.bufr" {
+            self.standard
         } else {
             return Err(Unopened);
         };
-        let torn = name == "torn";
+        let torn = name == "torn" || name == "torn.bufr";
         Ok(Page { octets, torn })
     }
 }
@@ -495,6 +499,64 @@ fn assert_runs(
         assert!(rt; told.contains(errors), "{words:?}: {told}");
         assert!(rt; told.is_empty() == errors.is_empty(), "{words:?}: {told}");
     }
+    Ok(())
+}
+
+/// A file that is torn behind its message: the message's line is handed on, and the fault is told.
+#[test]
+fn lists_a_torn_file(rt: HostRuntime) -> Result<(), Fail> {
+    let library = Library {
+        one: b"",
+        standard: &ONE_BLOCK_NUMBER,
+    };
+    let mut w = ScriptOut::new(rt.alloc(), 4096, 4096, End::Fail)?;
+    let mut e = ScriptOut::new(rt.alloc(), 4096, 4096, End::Fail)?;
+    let words = ["bufr", "ls", "torn.bufr"].as_slice();
+    assert_eq!(rt; run(rt.alloc(), words, &library, &mut w, &mut e), 2);
+    let mut want = String::new(rt.alloc());
+    want.push_str("offset=0")?;
+    want.push_str(LINE)?;
+    assert_eq!(rt; w.taken(), want.as_bytes());
+    assert_eq!(rt; e.taken(), b"bufr: 70 read failed\n".as_slice());
+    Ok(())
+}
+
+/// A writer that is full, and counts the writes that it is given.
+#[derive(Drop)]
+struct Full<'a> {
+    writes: &'a Cell<usize>,
+}
+
+impl<'a> Write for Full<'a> {
+    fn write(&mut self, _buf: &[u8]) -> io::Result<usize> {
+        self.writes.set(self.writes.get().saturating_add(1));
+        Err(ErrorKind::Other.into())
+    }
+
+    fn flush(&mut self) -> io::Result<()> {
+        Ok(())
+    }
+}
+
+/// A write that failed is not tried again, neither by the run, nor by a flush, nor at the writer's
+/// end.
+#[test]
+fn tries_no_write_again(rt: HostRuntime) -> Result<(), Fail> {
+    let shelf = Shelf {
+        name: "",
+        file: b"",
+        standard: &ONE_BLOCK_NUMBER,
+    };
+    let writes = Cell::new(0);
+    let full = BufWriter::with_capacity(rt.alloc(), 1000, Full { writes: &writes });
+    let mut w = Device::new(Buffered::new(full.expect(&rt, "memory")));
+    let mut e = ScriptOut::new(rt.alloc(), 4096, 4096, End::Fail)?;
+    let words = ["bufr", "ls"].as_slice();
+    assert_eq!(rt; run(rt.alloc(), words, &shelf, &mut w, &mut e), 2);
+    assert!(rt; w.flush().is_err());
+    drop(w);
+    assert_eq!(rt; writes.get(), 1);
+    assert_eq!(rt; e.taken(), b"bufr: 71 write failed\n".as_slice());
     Ok(())
 }
 

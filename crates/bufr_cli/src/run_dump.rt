@@ -6,7 +6,7 @@ ghost use Rattle.bufr_frame.specs.Scan.{Happening, Framed, Strayed, scan};
 ghost use Rattle.bufr_text.specs.Writing.{Stays, Fails};
 ghost use Rattle.bufr_cli.specs.DumpPieces.{IsDataPiece, IsDumpPiece, IsMessagePiece};
 ghost use Rattle.bufr_cli.specs.Pieces.{Piece};
-ghost use Rattle.bufr_cli.specs.Running.{RunSo, Written, BlamesWriter, GivesPieces, ReadsAtMost, Tallies};
+ghost use Rattle.bufr_cli.specs.Running.{RunSo, Written, BlamesWriter, GivesPieces, ReadsAtMost, ReadsFewer, Tallies};
 ghost use Rattle.bufr_cli.specs.Telling.{StopsPiece, TellsPieces};
 
 use crate::fault_line::{write_section_fault, write_stray, write_template_fault, write_walk_fault};
@@ -202,7 +202,7 @@ pub fn run_dump<R: Source, W: Sink, E: Sink>(
     // The same over the octets that were read, and what a fault leaves.
     ensures run { (bs : List ℕ) × ((piece : Happening → Piece) → GivesPieces (IsDumpPiece table_b.now table_d.now) piece
         → RunSo (map piece) (R.left r.old) (R.left r.new) (W.taken w.old) (W.taken w.new) (E.taken e.old) (E.taken e.new)
-        ((W.flushes w.new ≡ W.flushes w.old) × (E.flushes e.new ≡ E.flushes e.old)) bs result) }
+        ((W.flushes w.new ≡ W.flushes w.old) × (E.flushes e.new ≡ E.flushes e.old)) (ReadsFewer (R.reads r.old) (R.reads r.new)) bs result) }
 
     // Each fault comes only where its device failed in this call.
     ensures reader { R.failures r.new ≡ read_failures_after (R.failures r.old) result }

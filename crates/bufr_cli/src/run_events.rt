@@ -7,7 +7,7 @@ ghost use Rattle.bufr_frame.specs.Runs.{read_failures_after};
 ghost use Rattle.bufr_frame.specs.Scan.{Happening};
 ghost use Rattle.bufr_text.specs.Writing.{Stays, Fails, CountsWrites};
 ghost use Rattle.bufr_cli.specs.Pieces.{Piece};
-ghost use Rattle.bufr_cli.specs.Running.{RunSo, BlamesWriter, GivesPieces};
+ghost use Rattle.bufr_cli.specs.Running.{RunSo, BlamesWriter, GivesPieces, ReadsFewer};
 ghost use Rattle.bufr_cli.specs.Telling.{RunReads, StopsPiece, TellsPieces};
 
 use crate::tally::{Tally, Verdict};
@@ -79,7 +79,7 @@ pub fn run_events<T: Teller, R: Source, W: Sink, E: Sink>(
     ensures flushed { OnOk result ((W.handed_on w.new ≡ true) × (E.handed_on e.new ≡ true)) }
     ensures run { (bs : List ℕ) × ((piece : Happening → Piece) → GivesPieces (T.is_piece teller.now) piece
         → RunSo (map piece) (R.left r.old) (R.left r.new) (W.taken w.old) (W.taken w.new) (E.taken e.old) (E.taken e.new)
-        ((W.flushes w.new ≡ W.flushes w.old) × (E.flushes e.new ≡ E.flushes e.old)) bs result) }
+        ((W.flushes w.new ≡ W.flushes w.old) × (E.flushes e.new ≡ E.flushes e.old)) (ReadsFewer (R.reads r.old) (R.reads r.new)) bs result) }
     ensures reader { R.failures r.new ≡ read_failures_after (R.failures r.old) result }
     ensures reads { RunReads (T.takes_memory teller.now) (R.reads r.old) (R.reads r.new) result }
     ensures writers { BlamesWriter result

@@ -4,7 +4,7 @@ ghost use Rattle.bufr_frame.specs.Events.{told, IsEvent};
 ghost use Rattle.bufr_frame.specs.Runs.{read_failures_after, MakesReads};
 ghost use Rattle.bufr_text.specs.Writing.{Stays, Fails};
 ghost use Rattle.bufr_cli.specs.Pieces.{ls_piece, ls_pieces};
-ghost use Rattle.bufr_cli.specs.Running.{RunSo, Written, BlamesWriter, Tallies};
+ghost use Rattle.bufr_cli.specs.Running.{RunSo, Written, BlamesWriter, ReadsFewer, Tallies};
 ghost use Rattle.bufr_cli.specs.Telling.{StopsPiece, TellsPieces};
 
 use crate::fault_line::{write_section_fault, write_stray};
@@ -99,7 +99,7 @@ pub fn run_ls<R: Source, W: Sink, E: Sink>(
     ensures flushed { OnOk result ((W.handed_on w.new ≡ true) × (E.handed_on e.new ≡ true)) }
     // The same over the octets that were read, and what a fault leaves.
     ensures run { (bs : List ℕ) × RunSo (map ls_piece) (R.left r.old) (R.left r.new) (W.taken w.old) (W.taken w.new) (E.taken e.old) (E.taken e.new)
-        ((W.flushes w.new ≡ W.flushes w.old) × (E.flushes e.new ≡ E.flushes e.old)) bs result }
+        ((W.flushes w.new ≡ W.flushes w.old) × (E.flushes e.new ≡ E.flushes e.old)) (ReadsFewer (R.reads r.old) (R.reads r.new)) bs result }
 
     // Each fault comes only where its device failed in this call.
     ensures reader { R.failures r.new ≡ read_failures_after (R.failures r.old) result }

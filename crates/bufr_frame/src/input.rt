@@ -1,10 +1,11 @@
 //! An input read to its end.
-ghost use Rattle.std.specs.Prelude.{◌≡◌, ◌≤◌, ◌<◌, ◌+◌, ◌-◌, ℕ, List, ◌++◌, length, Ok, IfOk, IfErr, vec_len, vec_capacity};
+ghost use Rattle.std.specs.Prelude.{◌≡◌, ◌≤◌, ◌<◌, ◌+◌, ◌-◌, ℕ, List, ◌++◌, take, length, Ok, IfOk, IfErr, vec_len};
 ghost use Rattle.std.specs.Io.KnownBytes.{Consumes, IsAtEnd};
 ghost use Rattle.bufr_bits.specs.Counts.{counted};
 ghost use Rattle.bufr_frame.specs.Runs.{read_failures_after, most_reads};
 ghost use Rattle.bufr_frame.specs.Input.{ReadsOnce, ReadsInput};
 
+use crate::buffer::read_behind;
 use crate::fault::RunFault;
 use bufr_bits::Source;
 
@@ -14,24 +15,35 @@ pub(crate) const MOST_READS: u64 = 1 << 32;
 /// How many octets one read asks for.
 const CHUNK: usize = 65536;
 
-/// Reads once, behind the octets that are held. `chunk` is room to read into.
-fn read_once<R: Source>(
-    r: &mut R,
-    octets: &mut Vec<u8>,
-    chunk: &mut [u8],
-) -> Result<usize, RunFault>
-    requires some { 0 < length chunk.old }
-    requires room { vec_len octets.old + length chunk.old ≤ vec_capacity octets.old }
-    ensures read { (bs : List ℕ) × ReadsOnce (R.left r.old) (R.left r.new) octets.old.items octets.new.items result bs }
+/// Makes room of `CHUNK` octets behind those that are held, and answers how many are held.
+fn make_room_behind(octets: &mut Vec<u8>) -> Result<usize, RunFault>
+    ensures held { IfOk result (λ held. take held octets.new.items ≡ octets.old.items) }
+    ensures room { IfOk result (λ held. vec_len octets.new ≡ held + CHUNK) }
+    ensures err { IfErr result (λ fault. (fault ≡ RunFault.Memory) × (octets.new.items ≡ octets.old.items)) }
+{
+    let held = octets.len();
+    match octets.resize(held + CHUNK, 0) {
+        Ok(()) => Ok(held),
+        Err(_) => Err(RunFault::Memory),
+    }
+}
+
+/// Reads once behind the first `held` octets, into the room that is there, and keeps no room.
+fn read_once<R: Source>(r: &mut R, octets: &mut Vec<u8>, held: usize) -> Result<usize, RunFault>
+    requires room { vec_len octets.old ≡ held + CHUNK }
+    ensures read { (bs : List ℕ) × ReadsOnce (R.left r.old) (R.left r.new) (take held octets.old.items) octets.new.items result bs }
     ensures failed { R.failures r.new ≡ read_failures_after (R.failures r.old) result }
     ensures made { R.reads r.new ≡ counted (R.reads r.old) 1 }
 {
-    match r.read(chunk) {
+    match read_behind(r, octets, held, held + CHUNK) {
         Ok(n) => {
-            octets.extend_from_slice(&chunk[..n]).unwrap();
+            octets.truncate(held + n);
             Ok(n)
         }
-        Err(_) => Err(RunFault::Read),
+        Err(fault) => {
+            octets.truncate(held);
+            Err(fault)
+        }
     }
 }
 
@@ -54,11 +66,10 @@ pub fn read_to_end<R: Source>(
     ensures made { R.reads r.new ≡ counted (R.reads r.old) (reads.new - reads.old) }
     ensures within { (reads.old ≤ reads.new) × (reads.new ≤ most_reads) }
 {
-    let mut chunk = [0; CHUNK];
     while *reads < MOST_READS {
-        octets.reserve(CHUNK)?;
+        let held = make_room_behind(octets)?;
         *reads += 1;
-        if read_once(r, octets, &mut chunk)? == 0 {
+        if read_once(r, octets, held)? == 0 {
             return Ok(());
         }
     }

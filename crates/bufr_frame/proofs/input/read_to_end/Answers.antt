@@ -1,4 +1,4 @@
-use Rattle.std.proofs.Common.{◌≡◌, ◌-◌, ◌∙◌, Err, ap, sym, refl, arith}
+use Rattle.std.proofs.Common.{◌≡◌, ◌-◌, ◌∙◌, Err, ap, sym, refl, arith, take}
 use Rattle.std.proofs.lemmas.Result.{err_from_is_err_and}
 use Rattle.bufr_bits.proofs.CountLemmas.{counted-none}
 use Rattle.bufr_bits.specs.Counts.{counted}
@@ -13,12 +13,13 @@ loop-reads-init g c = record {
   within = omega (arith, c.requires);
 }
 
-pub returns-in_err-reserve : goal.returns-in_err-reserve
-returns-in_err-reserve g c =
+pub returns-in_err-held : goal.returns-in_err-held
+returns-in_err-held g c =
     let p = err_from_is_err_and c.from_residual.result c.from_residual.ensures.1 in
-    let is = p.1 ∙ ap Err p.2 in
+    let refused = rw c.in_err-held.was at c.make_room_behind.ensures.err in
+    let is = p.1 ∙ ap Err (p.2 ∙ refused.0) in
     let before = c.loop-reads.invariant in record {
-      read = reads-input _ _ _ _ _ c.from_residual.result (rw (c.reserve.ensures.items) before.so_far) (rw is (omega (arith, c.loop-reads-test.true)));
+      read = reads-input _ _ _ _ _ c.from_residual.result (rw (refused.1) before.so_far) (rw is (omega (arith, c.loop-reads-test.true)));
       failed = rw is before.failed;
       made = before.made;
       within = before.within;
@@ -32,7 +33,7 @@ returns-in_err-read_once g c =
     let is = p.1 ∙ ap Err (p.2 ∙ fault) in
     let before = c.loop-reads.invariant in
     let failed = rw (c.in_err-read_once.was, fault) at c.read_once.ensures.failed in record {
-      read = reads-input _ _ _ _ _ c.from_residual-in_err-read_once.result (read-more _ _ _ _ c.reserve.new.self.items _ _ c.read_once.result (rw (c.reserve.ensures.items) before.so_far) once) (rw is tt);
+      read = reads-input _ _ _ _ _ c.from_residual-in_err-read_once.result (read-more _ _ _ _ (take c.in_ok-held.held c.make_room_behind.new.octets.items) _ _ c.read_once.result (rw (c.in_ok-held.ensures.held) before.so_far) once) (rw is tt);
       failed = rw is (failed ∙ ap (λ n. counted n 1) before.failed);
       made = counted-one-more _ _ _ _ _ before.made c.read_once.ensures.made before.within.0;
       within = omega (arith, before.within, c.loop-reads-test.true);
@@ -44,7 +45,7 @@ returns-then-branch-eq0 g c =
     let end = read-end _ _ _ _ _ c.read_once.result _ c.in_ok-read_once.was c.if-branch-eq0.true once in
     let before = c.loop-reads.invariant in
     let failed = rw c.in_ok-read_once.was at c.read_once.ensures.failed in record {
-      read = reads-input _ _ _ _ _ _ (read-more _ _ _ _ c.reserve.new.self.items _ _ c.read_once.result (rw (c.reserve.ensures.items) before.so_far) once) end;
+      read = reads-input _ _ _ _ _ _ (read-more _ _ _ _ (take c.in_ok-held.held c.make_room_behind.new.octets.items) _ _ c.read_once.result (rw (c.in_ok-held.ensures.held) before.so_far) once) end;
       failed = failed ∙ before.failed;
       made = counted-one-more _ _ _ _ _ before.made c.read_once.ensures.made before.within.0;
       within = omega (arith, before.within, c.loop-reads-test.true);
@@ -55,7 +56,7 @@ loop-reads-preserved g c =
     let once = c.read_once.ensures.read.1 in
     let before = c.loop-reads.invariant in
     let failed = rw c.in_ok-read_once.was at c.read_once.ensures.failed in record {
-      so_far = read-more _ _ _ _ c.reserve.new.self.items _ _ c.read_once.result (rw (c.reserve.ensures.items) before.so_far) once;
+      so_far = read-more _ _ _ _ (take c.in_ok-held.held c.make_room_behind.new.octets.items) _ _ c.read_once.result (rw (c.in_ok-held.ensures.held) before.so_far) once;
       failed = failed ∙ before.failed;
       made = counted-one-more _ _ _ _ _ before.made c.read_once.ensures.made before.within.0;
       within = omega (arith, before.within, c.loop-reads-test.true);
