@@ -363,7 +363,7 @@ pub fn parse_line<'a, S: AsStr>(alloc: Global, words: &'a [S]) -> Result<Job<'a>
             Some(job) => Ok(job),
             None => {
                 let text =
-                    "error: '--form <WORD>' takes another word\n  [possible values: plain, compressed]\n\nFor more information, try '--help'.\n";
+                    "error: invalid value for '--form <WORD>'\n  [possible values: plain, compressed]\n\nFor more information, try '--help'.\n";
                 Err(LineFault::Usage(String::from_str(alloc, text)?))
             }
         },
