@@ -119,7 +119,8 @@ impl DumpReader {
         }
     }
 
-    /// How many octets were read and not yet taken as lines: at most 8,192.
+    /// How many octets were read and not yet taken as lines: at most 8,192. From the end of the input
+    /// until it is taken, a last line that lacks its line feed counts with one.
     pub fn held(&self) -> usize
         ensures value { result ≡ length self.now.held }
         ensures bound { result ≤ 8192 }
