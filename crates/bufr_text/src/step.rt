@@ -1,5 +1,5 @@
 //! What a line does to a document that is being read.
-ghost use Rattle.std.specs.Prelude.{◌≡◌, ◌<◌, length, IfOk, OnErr};
+ghost use Rattle.std.specs.Prelude.{◌≡◌, ◌<◌, length, true, IfOk, OnErr};
 ghost use Rattle.bufr_text.specs.Document as spec;
 ghost use Rattle.bufr_text.specs.Line as line;
 ghost use Rattle.bufr_text.specs.Documents.{heading, laying, filling, beginning, closing, opening, turn, adds};
