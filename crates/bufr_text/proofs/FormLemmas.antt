@@ -1,12 +1,11 @@
 -- The document of an accepted message is encoded in a form to a message with the same reading, but for the flag.
-use Rattle.std.proofs.Common.{◌≡◌, ◌⊎◌, inl, inr, ℕ, zero, suc, ◌+◌, ◌-◌, ◌*◌, ◌/◌, ◌≤◌, Bool, true, false, List, [], ◌∷◌, ◌++◌, length, drop, map, Option, Some, None, Result, Ok, Err, refl, sym, ◌∙◌, ap, subst, arith, append_assoc}
+use Rattle.std.proofs.Common.{◌≡◌, ◌⊎◌, inl, inr, ℕ, zero, suc, ◌+◌, ◌*◌, ◌/◌, ◌≤◌, Bool, true, false, List, [], ◌∷◌, ◌++◌, length, drop, map, Some, Result, Ok, Err, refl, sym, ◌∙◌, ap, subst, arith, append_assoc}
 use Rattle.std.specs.Prelude.{nat_lt, if◌then◌else◌}
 use Rattle.std.specs.Global.{Global}
 use Rattle.std.specs.Prelude.{Vec, IfOk, IfErr}
 use Rattle.std.proofs.lemmas.Bool.Decides.{nat_tests}
 use Rattle.bufr_bits.specs.Bits.{bits_of, padding}
 use Rattle.bufr_bits.proofs.BitLemmas.{length-bits_of}
-use Rattle.bufr_tables.specs.Expansion.{tree_of}
 use Rattle.bufr_tables.specs.Legal.{IsLegal}
 use Rattle.bufr_tables.proofs.SoundLemmas.{tree_fine}
 use Rattle.bufr_tables.specs.Records.{Record}
@@ -15,7 +14,6 @@ use Rattle.bufr_tables.specs.TableD.{Sequence}
 use Rattle.bufr_tables.specs.TemplateTables.{tables_of}
 use Rattle.bufr_tables.specs.Tree.{Tree}
 use Rattle.bufr_frame.specs.Layout.{Parts, evened, parts_of, message_octets, message_size, most_octets, sections_from}
-use Rattle.bufr_frame.specs.Layout as layout
 use Rattle.bufr_frame.specs.Sections.{Sections, sections_of}
 use Rattle.bufr_frame.proofs.AgainLemmas.{not-too-long}
 use Rattle.bufr_frame.proofs.EvenLemmas.{even-least, evened-bits}
@@ -27,8 +25,6 @@ use Rattle.bufr_walk.specs.Course.{Course, next_item}
 use Rattle.bufr_walk.specs.Outcome.{data_of}
 use Rattle.bufr_walk.specs.Reading.{most_values, Values, apart, together, IsReading, IsPlainReading, ReadsSubsets, IsPackedReading}
 use Rattle.bufr_walk.specs.Reading as reading
-use Rattle.bufr_fill.specs.Encoding.{plain_data, packed_data}
-use Rattle.bufr_fill.specs.Entries.{Subset}
 use Rattle.bufr_fill.specs.Fault.{FaultAt}
 use Rattle.bufr_fill.specs.Limits.{AreGoodRows}
 use Rattle.bufr_fill.specs.OtherForm.{subsets_from, IsUnlike, IsTogetherOrNot}
@@ -43,14 +39,13 @@ use Rattle.bufr_fill.specs.declared.fault.Expected.TheVariants as expected
 use Rattle.bufr_text.specs.declared.form.Form.{Form}
 use Rattle.bufr_text.specs.declared.form.Form.TheVariants as form
 use Rattle.bufr_text.specs.Document.{Document, Entry}
-use Rattle.bufr_text.specs.Dump.{Item, bit, subset_entries, document_of, lines_before}
+use Rattle.bufr_text.specs.Dump.{Item, subset_entries, document_of, lines_before}
 use Rattle.bufr_text.specs.Dumped.{items_apart, items_together, subsets_together}
 use Rattle.bufr_text.specs.Encoded.{IsAccepted, IsEncodedAgain, items_in}
 use Rattle.bufr_text.specs.Encodes.{RefusesSo}
-use Rattle.bufr_text.specs.Encoding.{Refusal, by_item, too_long, RefusedAt, refused_at, ◌>>=◌, told_of_template, told_of_items, drafts_of, data_bits, octets_of_bits, parts_as, compressed_as, message_of, encoding_in, encoding_of}
+use Rattle.bufr_text.specs.Encoding.{by_item, too_long, RefusedAt, refused_at, told_of_items, drafts_of, data_bits, octets_of_bits, parts_as, compressed_as, message_of, encoding_in}
 use Rattle.bufr_text.specs.EncodingFault.{told_refusal}
 use Rattle.bufr_text.specs.Form.{compressed_by}
-use Rattle.bufr_text.specs.Header.{head_in}
 use Rattle.bufr_text.specs.InForm.{each_subset, HasReadingIn, IsForForm, IsFormed, IsFaultIn, FormSo}
 use Rattle.bufr_text.proofs.DumpableLemmas.{octets_are, sections_given}
 use Rattle.bufr_text.proofs.EncodedLemmas.{all_apart, all_together, bit_back, section2_back, padded, payload_bits, size_is, enough, behind, encoded_again}

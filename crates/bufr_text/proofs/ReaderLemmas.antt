@@ -8,7 +8,7 @@ use Rattle.bufr_text.specs.Document as spec
 use Rattle.bufr_text.specs.Documents as documents
 use Rattle.bufr_text.specs.Documents.{Between, Heading, Laying, Filling, Stopped, Told, Refused, NotAllowed, spelled, lines_of, told_at_end}
 use Rattle.bufr_text.specs.Reading.{has_no_feed, GoesOn, Passes, PassesEnd, spells}
-use Rattle.bufr_text.specs.Reader.{State, stand, AddsNext}
+use Rattle.bufr_text.specs.Reader.{State, stand}
 use Rattle.bufr_text.specs.Filling.{place_now, ends_by_feed, DraftSo, Tells, WantsHere, WentSo, fault_at, stopped}
 use Rattle.bufr_text.specs.Step.{place_with, fault_of, Stands}
 use Rattle.bufr_text.specs.Taking.{told_of, place_behind, TakesSo, WantsAt}
