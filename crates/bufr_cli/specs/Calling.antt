@@ -1,15 +1,16 @@
 -- What a call of the program comes to. (a choice of this project)
 -- Cited by public contracts.
-use Rattle.std.specs.Prelude.{◌≡◌, ℕ, List, Option}
+use Rattle.std.specs.Prelude.{◌≡◌, ℕ, List, Option, None, codes}
 use Rattle.std.specs.Io.KnownBytes.{Appends, Keeps}
-use Rattle.clap.specs.Words.{Kinds, Row, Text}
+use Rattle.clap.specs.Words.{Kinds, Row, Text, fault_of, subcommand_of}
 use Rattle.bufr_frame.specs.declared.fault.RunFault.{RunFault}
 use Rattle.bufr_frame.specs.declared.fault.RunFault.TheVariants.{Memory}
 use Rattle.bufr_text.specs.Writing.{GrowsByFront}
 use Rattle.bufr_cli.specs.Finish.{last_line, run_line, status_of}
-use Rattle.bufr_cli.specs.Line.{AsksHelp, IsJobOf, IsMistaken}
+use Rattle.bufr_cli.specs.Line.{AsksHelp, IsJobOf, IsMistaken, bufr_app}
 use Rattle.bufr_cli.specs.Program.{OutcomeSo}
 use Rattle.bufr_cli.specs.declared.finish.Outcome.{Outcome}
+use Rattle.bufr_cli.specs.declared.finish.Outcome.TheVariants.{Ran, Usage, CannotOpen, TableB, TableD, Run}
 use Rattle.bufr_cli.specs.declared.job.Job.{Job}
 
 -- Of words whose parse may fail by these kinds and meets this subcommand: its job was done, and its outcome told by a
@@ -22,3 +23,18 @@ pub data CallSo (kinds : Kinds) (met : Option (Text × List Row)) (standard : Op
   HelpsInPart : AsksHelp kinds → (text : List ℕ) → GrowsByFront w w' text → (fault : RunFault) → GrowsByFront e e' (run_line fault) → status ≡ 2 → CallSo kinds met standard named w w' e e' status
   Refuses : IsMistaken kinds met → Keeps w w' → (text : List ℕ) → GrowsByFront e e' text → status ≡ 2 → CallSo kinds met standard named w w' e e' status
   WantsMemory : Keeps w w' → GrowsByFront e e' (run_line Memory) → status ≡ 2 → CallSo kinds met standard named w w' e e' status
+
+-- the words cannot be had: memory ran out, or one of them is no text
+abbrev pub IsWordless : Outcome → Type 0
+IsWordless (Ran tally) = ⊥
+IsWordless (Usage text) = text.now ≡ codes "error: an argument is not UTF-8\n"
+IsWordless (CannotOpen name) = ⊥
+IsWordless (TableB fault) = ⊥
+IsWordless (TableD fault) = ⊥
+IsWordless (Run fault) = fault ≡ Memory
+
+-- What the process does with its words, whichever they are: what a call of the program with them comes to, of whose inputs nothing is known;
+-- or they cannot be had, and that is told by a last line (or a front of it) and the status, with no output.
+pub data WordsSo (w w' e e' : Option (List ℕ)) (status : ℕ) : Type 0 where
+  Calls : (words : List (List ℕ)) → CallSo (fault_of bufr_app words) (subcommand_of bufr_app words) None (λ _. None) w w' e e' status → WordsSo w w' e e' status
+  NoWords : (outcome : Outcome) → IsWordless outcome → w' ≡ w → GrowsByFront e e' (last_line outcome) → status ≡ status_of outcome → WordsSo w w' e e' status

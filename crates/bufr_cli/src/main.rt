@@ -1,6 +1,8 @@
 //! `bufr`: lists, dumps and encodes messages of FM 94 BUFR.
 #![tactic(auto)]
 
+ghost use Rattle.bufr_cli.specs.Calling.{IsWordless, WordsSo};
+
 mod buffered;
 mod document_line;
 mod fault_line;
@@ -23,7 +25,7 @@ use bufr_frame::RunFault;
 use finish::{Outcome, finish};
 use program::{BUFFERED, Inputs, Unopened, run};
 use std::fs::{self, File};
-use std::io::{BufWriter, ErrorKind, Stdin};
+use std::io::{BufWriter, Error, ErrorKind, Stdin};
 use std::process::ExitCode;
 
 #[cfg(test)]
@@ -93,18 +95,24 @@ fn status(rt: &HostRuntime) -> u8 {
     status
 }
 
+/// Why there are no words of a command line.
+fn wordless(error: &Error) -> Outcome<'static>
+    ensures { IsWordless result }
+{
+    if error.kind() == ErrorKind::OutOfMemory {
+        Outcome::Run(RunFault::Memory)
+    } else {
+        Outcome::Usage("error: an argument is not UTF-8\n")
+    }
+}
+
 /// Runs the words of the command line.
-fn run_words<W: Sink, E: Sink>(rt: &HostRuntime, w: &mut W, e: &mut E) -> u8 {
+fn run_words<W: Sink, E: Sink>(rt: &HostRuntime, w: &mut W, e: &mut E) -> u8
+    ensures { WordsSo (W.taken w.old) (W.taken w.new) (E.taken e.old) (E.taken e.new) result }
+{
     let words: Result<Vec<String>, _> = match std::env::args(rt) {
         Ok(words) => words.collect(rt.alloc()),
-        Err(error) => {
-            let outcome = if error.kind() == ErrorKind::OutOfMemory {
-                Outcome::Run(RunFault::Memory)
-            } else {
-                Outcome::Usage("error: an argument is not UTF-8\n")
-            };
-            return finish(&outcome, e);
-        }
+        Err(error) => return finish(&wordless(&error), e),
     };
     match words {
         Ok(words) => run(rt.alloc(), words.as_slice(), rt, w, e),
