@@ -22,7 +22,7 @@ use Rattle.bufr_text.specs.declared.form.Form.{Form}
 use Rattle.bufr_text.specs.declared.fault.ReadFault.TheVariants.{Line, SubsetCount, HeaderRange, Run}
 use Rattle.bufr_cli.specs.DocumentLine.{refused_line}
 use Rattle.bufr_cli.specs.EncodePieces.{told_piece, encode_pieces, up_to_refused}
-use Rattle.bufr_cli.specs.EncodeRun.{EncodeDone, EncodeStopped, EncodeCut, EncodeSo, read_documents}
+use Rattle.bufr_cli.specs.EncodeRun.{EncodeDone, EncodeStopped, EncodeSo, read_documents}
 use Rattle.bufr_cli.specs.EncodeTelling.{TellsNext}
 use Rattle.bufr_cli.specs.Pieces.{Piece, OnOutput, OnErrors, errors_of, is_accepted, is_refused, output_of}
 use Rattle.bufr_cli.specs.Running.{BlamesWriter, ReadsAtMost, Tallies, Written, WrittenInPart}

@@ -1,5 +1,5 @@
 -- Which words give no job, and why.
-use Rattle.std.proofs.Common.{◌≡◌, ◌⊎◌, inl, inr, ℕ, List, Option, Some, None, sym, subst}
+use Rattle.std.proofs.Common.{◌≡◌, inl, inr, List, Option, Some, None, sym, subst}
 use Rattle.std.specs.Prelude.{IfNone}
 use Rattle.clap.specs.Words.{HasKind, IsAmong, Kinds, Row, Text}
 use Rattle.clap.specs.Values.{kind_of}

@@ -14,10 +14,10 @@ use Rattle.bufr_text.specs.declared.form.Form.{Form}
 use Rattle.bufr_text.specs.Documents.{Told, open_documents_of}
 use Rattle.bufr_text.specs.Writing.{GrowsByFront}
 use Rattle.bufr_cli.specs.EncodePieces.{encode_pieces}
-use Rattle.bufr_cli.specs.EncodeRun.{EncodeCut, EncodeSo, EncodeStopped}
+use Rattle.bufr_cli.specs.EncodeRun.{EncodeSo, EncodeStopped}
 use Rattle.bufr_cli.specs.Pieces.{Piece, is_refused}
 use Rattle.bufr_cli.specs.Program.{EncodeLeft, RunLeft, RunOutcome, input_octets, ran_outcome}
-use Rattle.bufr_cli.specs.Running.{RunCut, RunSo, RunStopped, Written, WrittenInPart}
+use Rattle.bufr_cli.specs.Running.{RunCut, RunSo, RunStopped, WrittenInPart}
 use Rattle.bufr_cli.specs.declared.finish.Outcome.{Outcome}
 use Rattle.bufr_cli.specs.declared.finish.Outcome.TheVariants.{Ran, Usage, CannotOpen, TableB, TableD, Run}
 use Rattle.bufr_cli.specs.declared.tally.Tally.{Tally}

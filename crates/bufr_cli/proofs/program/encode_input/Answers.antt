@@ -1,4 +1,4 @@
-use Rattle.std.proofs.Common.{◌∙◌, sym, ap, map}
+use Rattle.std.proofs.Common.{◌∙◌, sym, ap}
 use Rattle.bufr_cli.specs.Program.{EncodeLeft, Encodes, WritesNothing, input_octets}
 use Rattle.bufr_cli.proofs.ProgramLemmas.{run-outcome}
 use Rattle.bufr_cli.proofs.program.encode_input.Goals as goal
