@@ -1,13 +1,10 @@
 //! Runs of the three commands over messages of edition 3.
 
-use crate::round_trip::dump_encode_dump;
-use crate::run_ls::run_ls;
 use crate::tally::Tally;
-use crate::test_messages::{ONE_ACCEPTED, ONE_REFUSED, TABLE_B, TABLE_D, octets_of};
+use crate::test_messages::{ONE_ACCEPTED, ONE_REFUSED, octets_of, text_of_one};
 use crate::test_runs::{Command, assert_run, run_over};
 use crate::tests::{LINE, ONE_BLOCK_NUMBER};
 use bufr_bits::{End, ScriptIn, ScriptOut};
-use bufr_tables::{TableB, TableD};
 use bufr_text::Form;
 use std::alloc::Global;
 use std::test::Fail;
@@ -236,29 +233,33 @@ fn encodes_in_each_form(rt: HostRuntime) -> Result<(), Fail> {
     assert_run(&rt, plain, "plain", said, &even, b"", tally)
 }
 
-/// A stream with a message of each edition, and one of edition 3 with odd sections: dumped, encoded
-/// and dumped again the two texts are the same, and the octets are those with even sections.
+/// A stream with messages of both editions, one of edition 3 with odd sections: its text is encoded to
+/// the messages with even sections, which have the same text.
 #[test]
 fn closes_the_round_of_both_editions(rt: HostRuntime) -> Result<(), Fail> {
     let even = message(rt.alloc(), EVEN)?;
     let odd = message(rt.alloc(), ODD)?;
+    let of_3 = text(rt.alloc(), 0, "local1 00\n")?;
+    let of_4 = text_of_one(rt.alloc())?;
     let mut stream = Vec::new(rt.alloc());
     let mut built = Vec::new(rt.alloc());
+    let mut text = String::new(rt.alloc());
     for (from, to) in [(&even, &even), (&odd, &even)] {
         stream.extend_from_slice(from)?;
         stream.extend_from_slice(&ONE_BLOCK_NUMBER)?;
         built.extend_from_slice(to)?;
         built.extend_from_slice(&ONE_BLOCK_NUMBER)?;
+        text.push_str(of_3.as_str())?;
+        text.push_str(of_4.as_str())?;
     }
-    let table_b = TableB::read(rt.alloc(), TABLE_B).expect(&rt, "table B");
-    let table_d = TableD::read(rt.alloc(), TABLE_D).expect(&rt, "table D");
-    let round = dump_encode_dump(rt.alloc(), &stream, 4096, &table_b, &table_d).expect(
-        &rt, "a round",
-    );
-    assert_eq!(rt; round.messages.output.taken(), built.as_slice());
-    assert_eq!(rt; round.again.output.taken(), round.text.output.taken());
-    assert!(rt; round.again.tally.accepted == 4, "{:?}", round.again.tally);
-    Ok(())
+    let text = text.as_bytes();
+    let all = Tally {
+        accepted: 4,
+        refused: 0,
+    };
+    assert_run(&rt, Command::Dump, "dumped", &stream, text, b"", all)?;
+    assert_run(&rt, Command::Encode, "encoded", text, &built, b"", all)?;
+    assert_run(&rt, Command::Dump, "again", &built, text, b"", all)
 }
 
 /// A line of the document (its key from the front, its value) and whether that value fits edition 3.
@@ -323,10 +324,10 @@ fn tells_a_long_message_with_an_odd_section(rt: HostRuntime) -> Result<(), Fail>
     octets.resize(16_777_210, 0)?;
     octets.extend_from_slice(b"7777")?;
     let mut r = ScriptIn::new(&octets, 65_536, None);
-    let mut w = ScriptOut::new(rt.alloc(), 64, 64, End::Fail)?;
-    let mut e = ScriptOut::new(rt.alloc(), 64, 64, End::Fail)?;
-    let ran = run_ls(rt.alloc(), &mut r, &mut w, &mut e);
-    assert!(rt; ran == Ok(ONE_REFUSED), "{ran:?}");
-    assert!(rt; e.taken() == b"offset 0: 14 edition 3 length\n".as_slice());
+    let w = ScriptOut::new(rt.alloc(), 64, 64, End::Fail)?;
+    let e = ScriptOut::new(rt.alloc(), 64, 64, End::Fail)?;
+    let ran = run_over(&rt, Command::Ls, &mut r, w, e);
+    let line = b"offset 0: 14 edition 3 length\n";
+    ran.assert_left(&rt, "long", 0, Ok(ONE_REFUSED), b"", line);
     Ok(())
 }
