@@ -1,6 +1,6 @@
 -- What a call of the program comes to. (a choice of this project)
 -- Cited by public contracts.
-use Rattle.std.specs.Prelude.{◌≡◌, ℕ, List, Option, None, codes}
+use Rattle.std.specs.Prelude.{◌≡◌, ℕ, Bool, true, List, Option, None, codes}
 use Rattle.std.specs.Io.KnownBytes.{Appends, Keeps}
 use Rattle.clap.specs.Words.{Kinds, Row, Text, fault_of, subcommand_of}
 use Rattle.bufr_frame.specs.declared.fault.RunFault.{RunFault}
@@ -14,15 +14,15 @@ use Rattle.bufr_cli.specs.declared.finish.Outcome.TheVariants.{Ran, Usage, Canno
 use Rattle.bufr_cli.specs.declared.job.Job.{Job}
 
 -- Of words whose parse may fail by these kinds and meets this subcommand: its job was done, and its outcome told by a
--- last line (or a front of it) and the status; or help was asked for and written, or a front of it; or the words are
--- mistaken; or memory ran out before there was a job.
-pub data CallSo (kinds : Kinds) (met : Option (Text × List Row)) (standard : Option (List ℕ)) (named : List ℕ → Option (List ℕ)) (w w' e e' : Option (List ℕ)) (status : ℕ) : Type 0 where
+-- last line (or a front of it) and the status; or help was asked for, written and handed on, or a front of it was written; or the
+-- words are mistaken; or memory ran out before there was a job.
+pub data CallSo (kinds : Kinds) (met : Option (Text × List Row)) (standard : Option (List ℕ)) (named : List ℕ → Option (List ℕ)) (w w' e e' : Option (List ℕ)) (handed : Bool) (status : ℕ) : Type 0 where
   Does : (job : Job) → IsJobOf met job → (outcome : Outcome) → (told : Option (List ℕ)) → OutcomeSo standard named job w w' e told outcome
-      → GrowsByFront told e' (last_line outcome) → status ≡ status_of outcome → CallSo kinds met standard named w w' e e' status
-  Helps : AsksHelp kinds → (text : List ℕ) → Appends w w' text → Keeps e e' → status ≡ 0 → CallSo kinds met standard named w w' e e' status
-  HelpsInPart : AsksHelp kinds → (text : List ℕ) → GrowsByFront w w' text → (fault : RunFault) → GrowsByFront e e' (run_line fault) → status ≡ 2 → CallSo kinds met standard named w w' e e' status
-  Refuses : IsMistaken kinds met → Keeps w w' → (text : List ℕ) → GrowsByFront e e' text → status ≡ 2 → CallSo kinds met standard named w w' e e' status
-  WantsMemory : Keeps w w' → GrowsByFront e e' (run_line Memory) → status ≡ 2 → CallSo kinds met standard named w w' e e' status
+      → GrowsByFront told e' (last_line outcome) → status ≡ status_of outcome → CallSo kinds met standard named w w' e e' handed status
+  Helps : AsksHelp kinds → (text : List ℕ) → Appends w w' text → handed ≡ true → Keeps e e' → status ≡ 0 → CallSo kinds met standard named w w' e e' handed status
+  HelpsInPart : AsksHelp kinds → (text : List ℕ) → GrowsByFront w w' text → (fault : RunFault) → GrowsByFront e e' (run_line fault) → status ≡ 2 → CallSo kinds met standard named w w' e e' handed status
+  Refuses : IsMistaken kinds met → Keeps w w' → (text : List ℕ) → GrowsByFront e e' text → status ≡ 2 → CallSo kinds met standard named w w' e e' handed status
+  WantsMemory : Keeps w w' → GrowsByFront e e' (run_line Memory) → status ≡ 2 → CallSo kinds met standard named w w' e e' handed status
 
 -- the words cannot be had: memory ran out, or one of them is no text
 abbrev pub IsWordless : Outcome → Type 0
@@ -35,6 +35,6 @@ IsWordless (Run fault) = fault ≡ Memory
 
 -- What the process does with its words, whichever they are: what a call of the program with them comes to, of whose inputs nothing is known;
 -- or they cannot be had, and that is told by a last line (or a front of it) and the status, with no output.
-pub data WordsSo (w w' e e' : Option (List ℕ)) (status : ℕ) : Type 0 where
-  Calls : (words : List (List ℕ)) → CallSo (fault_of bufr_app words) (subcommand_of bufr_app words) None (λ _. None) w w' e e' status → WordsSo w w' e e' status
-  NoWords : (outcome : Outcome) → IsWordless outcome → w' ≡ w → GrowsByFront e e' (last_line outcome) → status ≡ status_of outcome → WordsSo w w' e e' status
+pub data WordsSo (w w' e e' : Option (List ℕ)) (handed : Bool) (status : ℕ) : Type 0 where
+  Calls : (words : List (List ℕ)) → CallSo (fault_of bufr_app words) (subcommand_of bufr_app words) None (λ _. None) w w' e e' handed status → WordsSo w w' e e' handed status
+  NoWords : (outcome : Outcome) → IsWordless outcome → w' ≡ w → GrowsByFront e e' (last_line outcome) → status ≡ status_of outcome → WordsSo w w' e e' handed status

@@ -1,18 +1,18 @@
 //! The worked examples of `encode`, run.
 
-use crate::round_trip::dump_encode_dump;
+use crate::round_trip::{Round, dump_encode_dump};
 use crate::tally::Tally;
 use crate::test_messages::{
-    ONE_ACCEPTED, ONE_REFUSED, TABLE_B, TABLE_D, message_of, octets_of, one_block_number, text_of,
-    text_of_one, words_of,
+    ONE_ACCEPTED, ONE_REFUSED, message_of, octets_of, one_block_number, text_of, text_of_one,
+    words_of,
 };
 use crate::test_runs::{
-    Command, assert_run, assert_stops_at_failed_errors, assert_stops_at_failed_reads,
-    assert_stops_at_failed_writes, run_over,
+    Command, Tables, assert_run, assert_stops_at_failed_errors, assert_stops_at_failed_reads,
+    assert_stops_at_failed_writes, read_tables, run_over,
 };
 use crate::{law, round_trip_law};
 use bufr_bits::{End, ScriptIn, ScriptOut};
-use bufr_tables::{TableB, TableD};
+use std::process::Abort;
 use std::test::Fail;
 
 /// A document, and the data of its message or the line of its fault.
@@ -229,24 +229,32 @@ const STREAM: [u8; 305] = [
     0x64,
 ];
 
-/// A stream is dumped; its text is encoded to the four messages, which are dumped to the same text.
+/// The stream dumped, encoded and dumped again.
+fn round_of_the_stream(rt: &(impl Abort + AllocGlobal)) -> Round {
+    let Tables { b, d } = read_tables(rt);
+    dump_encode_dump(rt.alloc(), &STREAM, 4096, &b, &d).expect(rt, "a round")
+}
+
+/// What is proved of pieces and of whole streams can be called.
 #[test]
-fn encodes_a_dumped_stream(rt: HostRuntime) -> Result<(), Fail> {
+fn has_laws(_rt: HostRuntime) -> Result<(), Fail> {
     law::each_event_has_a_piece();
     law::an_event_has_one_piece();
     round_trip_law::dumped_streams_are_built_again();
     round_trip_law::canonical_streams_are_built_as_they_are();
     round_trip_law::runs_close_the_round();
-    let table_b = TableB::read(rt.alloc(), TABLE_B).expect(&rt, "table B");
-    let table_d = TableD::read(rt.alloc(), TABLE_D).expect(&rt, "table D");
+    Ok(())
+}
+
+/// A stream is dumped; its text is encoded to the four messages, which are dumped to the same text.
+#[test]
+fn encodes_a_dumped_stream(rt: HostRuntime) -> Result<(), Fail> {
     let mut messages = Vec::new(rt.alloc());
     messages.extend_from_slice(&STREAM[21..69])?;
     messages.extend_from_slice(&STREAM[77..131])?;
     messages.extend_from_slice(&STREAM[139..189])?;
     messages.extend_from_slice(&STREAM[238..294])?;
-    let round = dump_encode_dump(rt.alloc(), &STREAM, 4096, &table_b, &table_d).expect(
-        &rt, "a round",
-    );
+    let round = round_of_the_stream(&rt);
     let dumped = Tally {
         accepted: 4,
         refused: 3,

@@ -1,5 +1,5 @@
 //! The program below `main`: what it does with a command line, its inputs and its writers.
-ghost use Rattle.std.specs.Prelude.{◌≡◌, ℕ, List, Option, None, Ok, IfOk, IfErr, IfSome, OnOk, map};
+ghost use Rattle.std.specs.Prelude.{◌≡◌, ℕ, true, List, Option, None, Ok, IfOk, IfErr, IfSome, OnOk, map};
 ghost use Rattle.std.specs.Io.KnownBytes.{Keeps};
 ghost use Rattle.clap.specs.Words.{fault_of, subcommand_of};
 ghost use Rattle.bufr_frame.specs.Scan.{Happening, scan};
@@ -77,9 +77,9 @@ pub fn run<'a, S: AsStr, I: Inputs, W: Sink, E: Sink>(
     w: &mut W,
     e: &mut E,
 ) -> u8
-    // What the words ask for was done and told, or help, or why not; the status says which.
+    // What the words ask for was done and told, or help (all of it handed on), or why not; the status says which.
     ensures { CallSo (fault_of bufr_app (map S.text words.entry.now)) (subcommand_of bufr_app (map S.text words.entry.now))
-        (I.standard_octets inputs.now) (I.file_octets inputs.now) (W.taken w.old) (W.taken w.new) (E.taken e.old) (E.taken e.new) result }
+        (I.standard_octets inputs.now) (I.file_octets inputs.now) (W.taken w.old) (W.taken w.new) (E.taken e.old) (E.taken e.new) (W.handed_on w.new) result }
 {
     match parse_line(alloc, words) {
         Ok(job) => {
@@ -97,7 +97,8 @@ pub fn run<'a, S: AsStr, I: Inputs, W: Sink, E: Sink>(
 
 /// Writes a text and hands it on.
 fn hand_on<W: Sink>(text: &[u8], w: &mut W) -> Result<(), RunFault>
-    ensures { Writes (W.taken w.old) (W.taken w.new) text.now result }
+    ensures writes { Writes (W.taken w.old) (W.taken w.new) text.now result }
+    ensures handed { OnOk result (W.handed_on w.new ≡ true) }
 {
     write_all(text, w)?;
     match w.flush() {

@@ -228,6 +228,18 @@ fn gives_help(rt: HostRuntime) {
     }
 }
 
+/// Calls the program. A test sees only what a call left, so that its own proof does not have to carry
+/// the call's contract.
+fn call<'a, I: Inputs, W: Sink, E: Sink>(
+    alloc: Global,
+    words: &'a [&'a str],
+    inputs: &I,
+    w: &mut W,
+    e: &mut E,
+) -> u8 {
+    run(alloc, words, inputs, w, e)
+}
+
 /// An input of one file and of standard input.
 #[derive(Drop)]
 struct Shelf<'a> {
@@ -304,7 +316,7 @@ fn runs_lines(rt: HostRuntime) -> Result<(), Fail> {
         }
         let mut w = ScriptOut::new(rt.alloc(), 4096, 4096, End::Fail)?;
         let mut e = ScriptOut::new(rt.alloc(), 4096, 4096, End::Fail)?;
-        let answer = run(rt.alloc(), *words, &shelf, &mut w, &mut e);
+        let answer = call(rt.alloc(), *words, &shelf, &mut w, &mut e);
         assert_eq!(rt; answer, *status, "{words:?}");
         assert_eq!(rt; w.taken(), want.as_bytes(), "{words:?}");
         let told = str::from_utf8(e.taken()).expect(&rt, "text");
@@ -330,12 +342,12 @@ fn shows_help(rt: HostRuntime) -> Result<(), Fail> {
     ] {
         let mut w = ScriptOut::new(rt.alloc(), 4096, 4096, End::Zero)?;
         let mut e = ScriptOut::new(rt.alloc(), 4096, 4096, End::Zero)?;
-        assert_eq!(rt; run(rt.alloc(), words, &shelf, &mut w, &mut e), 0);
+        assert_eq!(rt; call(rt.alloc(), words, &shelf, &mut w, &mut e), 0);
         let told = str::from_utf8(w.taken()).expect(&rt, "text");
         assert!(rt; told.contains("Exit status:"), "{told}");
         assert!(rt; e.taken().is_empty());
         let mut w = ScriptOut::new(rt.alloc(), 4096, 4096, End::Flush)?;
-        assert_eq!(rt; run(rt.alloc(), words, &shelf, &mut w, &mut e), 2);
+        assert_eq!(rt; call(rt.alloc(), words, &shelf, &mut w, &mut e), 2);
         assert_eq!(rt; e.taken(), b"bufr: 71 write failed\n".as_slice());
     }
     Ok(())
@@ -492,7 +504,7 @@ fn assert_runs(
         let errors = other.unwrap_or(errors);
         let mut w = ScriptOut::new(rt.alloc(), 4096, 4096, End::Fail)?;
         let mut e = ScriptOut::new(rt.alloc(), 4096, 4096, End::Fail)?;
-        let answer = run(rt.alloc(), words.as_slice(), library, &mut w, &mut e);
+        let answer = call(rt.alloc(), words.as_slice(), library, &mut w, &mut e);
         assert_eq!(rt; answer, *status, "{words:?}");
         assert_eq!(rt; w.taken(), want, "{words:?}");
         let told = str::from_utf8(e.taken()).expect(rt, "text");
@@ -512,7 +524,7 @@ fn lists_a_torn_file(rt: HostRuntime) -> Result<(), Fail> {
     let mut w = ScriptOut::new(rt.alloc(), 4096, 4096, End::Fail)?;
     let mut e = ScriptOut::new(rt.alloc(), 4096, 4096, End::Fail)?;
     let words = ["bufr", "ls", "torn.bufr"].as_slice();
-    assert_eq!(rt; run(rt.alloc(), words, &library, &mut w, &mut e), 2);
+    assert_eq!(rt; call(rt.alloc(), words, &library, &mut w, &mut e), 2);
     let mut want = String::new(rt.alloc());
     want.push_str("offset=0")?;
     want.push_str(LINE)?;
@@ -552,7 +564,7 @@ fn tries_no_write_again(rt: HostRuntime) -> Result<(), Fail> {
     let mut w = Device::new(Buffered::new(full.expect(&rt, "memory")));
     let mut e = ScriptOut::new(rt.alloc(), 4096, 4096, End::Fail)?;
     let words = ["bufr", "ls"].as_slice();
-    assert_eq!(rt; run(rt.alloc(), words, &shelf, &mut w, &mut e), 2);
+    assert_eq!(rt; call(rt.alloc(), words, &shelf, &mut w, &mut e), 2);
     assert!(rt; w.flush().is_err());
     drop(w);
     assert_eq!(rt; writes.get(), 1);

@@ -88,13 +88,19 @@ pub(crate) fn octets_of(alloc: Global, text: &str) -> Result<Vec<u8>, Fail> {
     Ok(octets)
 }
 
+/// The word of a descriptor whose six digits are this number.
+fn word_of(number: u32) -> Result<u16, Fail> {
+    let f = (number / 100_000).saturating_mul(16_384);
+    let x = (number / 1000 % 100).saturating_mul(256);
+    let word = f.saturating_add(x).saturating_add(number % 1000);
+    Ok(u16::try_from(word)?)
+}
+
 /// The words of a text of descriptors.
 pub(crate) fn words_of(alloc: Global, text: &str) -> Result<Vec<u16>, Fail> {
     let mut words = Vec::new(alloc);
     for digits in text.split_whitespace() {
-        let number = digits.parse::<u32>()?;
-        let word = number / 100_000 << 14 | number / 1000 % 100 << 8 | number % 1000;
-        words.push(u16::try_from(word)?)?;
+        words.push(word_of(digits.parse::<u32>()?)?)?;
     }
     Ok(words)
 }

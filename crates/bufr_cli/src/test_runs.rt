@@ -6,7 +6,7 @@ use crate::run_encode::{run_encode, run_encode_form};
 use crate::run_ls::run_ls;
 use crate::tally::Tally;
 use crate::test_messages::{TABLE_B, TABLE_D};
-use bufr_bits::{End, ScriptIn, ScriptOut, Source};
+use bufr_bits::{End, ScriptIn, ScriptOut, Sink, Source};
 use bufr_frame::RunFault;
 use bufr_tables::{TableB, TableD};
 use bufr_text::Form;
@@ -71,16 +71,26 @@ impl Ran {
 
 /// The test tables.
 #[derive(Drop)]
-struct Tables {
-    b: TableB,
-    d: TableD,
+pub(crate) struct Tables {
+    pub(crate) b: TableB,
+    pub(crate) d: TableD,
 }
 
-fn read_tables(rt: &(impl Abort + AllocGlobal)) -> Tables {
+pub(crate) fn read_tables(rt: &(impl Abort + AllocGlobal)) -> Tables {
     Tables {
         b: TableB::read(rt.alloc(), TABLE_B).expect(rt, "table B"),
         d: TableD::read(rt.alloc(), TABLE_D).expect(rt, "table D"),
     }
+}
+
+/// Lists a stream over any devices.
+pub(crate) fn list<R: Source, W: Sink, E: Sink>(
+    alloc: Global,
+    r: &mut R,
+    w: &mut W,
+    e: &mut E,
+) -> Result<Tally, RunFault> {
+    run_ls(alloc, r, w, e)
 }
 
 /// Runs a command by these tables.

@@ -1,12 +1,11 @@
 //! The worked examples of `ls`, run.
 
 use crate::read_all::read_all;
-use crate::run_ls::run_ls;
 use crate::tally::Tally;
 use crate::test_messages::{ONE_ACCEPTED, ONE_REFUSED};
 use crate::test_runs::{
     Command, assert_run, assert_stops_at_failed_errors, assert_stops_at_failed_reads,
-    assert_stops_at_failed_writes,
+    assert_stops_at_failed_writes, list,
 };
 use bufr_bits::{Device, End, ScriptIn, ScriptOut};
 use bufr_frame::RunFault;
@@ -359,7 +358,7 @@ fn lists_while_it_reads(rt: HostRuntime) -> Result<(), Fail> {
         torn: &torn,
     });
     let mut e = ScriptOut::new(rt.alloc(), 0, 1, End::Fail)?;
-    let ran = run_ls(rt.alloc(), &mut r, &mut w, &mut e);
+    let ran = list(rt.alloc(), &mut r, &mut w, &mut e);
     let both = Tally {
         accepted: 2,
         refused: 0,
@@ -403,7 +402,7 @@ fn lists_nothing(rt: HostRuntime) -> Result<(), Fail> {
     let mut r = Device::new(input);
     let mut w = Device::new(Vec::new(rt.alloc()));
     let mut e = Device::new(Vec::new(rt.alloc()));
-    let ran = run_ls(rt.alloc(), &mut r, &mut w, &mut e);
+    let ran = list(rt.alloc(), &mut r, &mut w, &mut e);
     let nothing = Tally {
         accepted: 0,
         refused: 0,

@@ -113,6 +113,10 @@ pub(crate) fn look(word: &memmem::Finder<'_>, rest: &[u8], ended: bool) -> Sight
     requires { word.now ≡ codes "BUFR" }
     ensures { LooksSo ended rest.now result }
 {
+    // where messages follow one another there is nothing to search
+    if rest.starts_with(b"BUFR") {
+        return look_at(rest, 0, ended);
+    }
     match word.find(rest) {
         None => {
             if ended {

@@ -12,7 +12,7 @@ use std::io::{self, Write};
 use std::test::Fail;
 
 // Test data, not WMO's.
-pub(crate) const TABLE_B: &[u8] = b"\
+const TABLE_B: &[u8] = b"\
     fxy,name,unit,scale,reference,width\n\
     001001,WMO BLOCK NUMBER,Numeric,0,0,7\n\
     001015,STATION OR SITE NAME,CCITT IA5,0,0,160\n\
@@ -23,7 +23,7 @@ pub(crate) const TABLE_B: &[u8] = b"\
     031001,DELAYED DESCRIPTOR REPLICATION FACTOR,Numeric,0,0,8\n\
     031002,EXTENDED DELAYED DESCRIPTOR REPLICATION FACTOR,Numeric,0,0,16\n";
 
-pub(crate) const TABLE_D: &[u8] = b"fxy,member\n360192,001001\n360192,012101\n";
+const TABLE_D: &[u8] = b"fxy,member\n360192,001001\n360192,012101\n";
 
 // What section 1 of each message says.
 const HEAD: Head = Head {
@@ -435,13 +435,19 @@ pub(crate) static ROWS: [Row; 21] = [
     },
 ];
 
+// The word of a descriptor whose six digits are this number.
+fn word_of(number: u32) -> Result<u16, Fail> {
+    let f = (number / 100_000).saturating_mul(16_384);
+    let x = (number / 1000 % 100).saturating_mul(256);
+    let word = f.saturating_add(x).saturating_add(number % 1000);
+    Ok(u16::try_from(word)?)
+}
+
 // The words of descriptors: six digits each, with spaces between them.
 fn words_of(alloc: Global, text: &str) -> Result<Vec<u16>, Fail> {
     let mut words = Vec::new(alloc);
     for digits in text.split_whitespace() {
-        let number = digits.parse::<u32>()?;
-        let word = number / 100_000 << 14 | number / 1000 % 100 << 8 | number % 1000;
-        words.push(u16::try_from(word)?)?;
+        words.push(word_of(digits.parse::<u32>()?)?)?;
     }
     Ok(words)
 }
@@ -482,14 +488,33 @@ pub(crate) struct Outcome {
     pub(crate) taken: Vec<u8>,
 }
 
-// The template of a message.
-fn template_of(alloc: Global, message: &Message<'_>, table_b: &TableB) -> Result<Template, Fail> {
-    let table_d = TableD::read(alloc, TABLE_D)?;
+// The test tables.
+#[derive(Drop)]
+pub(crate) struct Tables {
+    pub(crate) b: TableB,
+    pub(crate) d: TableD,
+}
+
+pub(crate) fn read_tables(alloc: Global) -> Result<Tables, Fail> {
+    Ok(Tables {
+        b: TableB::read(alloc, TABLE_B)?,
+        d: TableD::read(alloc, TABLE_D)?,
+    })
+}
+
+// The descriptors of a message.
+fn descriptors_in(alloc: Global, message: &Message<'_>) -> Result<Vec<Fxy>, Fail> {
     let mut descriptors = Vec::new(alloc);
     for word in message.descriptors() {
         descriptors.push(Fxy::from_word(word))?;
     }
-    Ok(Template::build(alloc, &descriptors, table_b, &table_d)?)
+    Ok(descriptors)
+}
+
+// The template of a message.
+fn template_of(alloc: Global, message: &Message<'_>, tables: &Tables) -> Result<Template, Fail> {
+    let descriptors = descriptors_in(alloc, message)?;
+    Ok(Template::build(alloc, &descriptors, &tables.b, &tables.d)?)
 }
 
 // Dumps a message.
@@ -500,9 +525,9 @@ fn dump_to<W: Sink>(
     w: &mut W,
 ) -> Result<Result<(), RunFault>, Fail> {
     let message = message_in(octets).ok_or("a message")?;
-    let table_b = TableB::read(alloc, TABLE_B)?;
-    let template = template_of(alloc, &message, &table_b)?;
-    let reading = read_message(alloc, &message, &template, &table_b, steps)?;
+    let tables = read_tables(alloc)?;
+    let template = template_of(alloc, &message, &tables)?;
+    let reading = read_message(alloc, &message, &template, &tables.b, steps)?;
     Ok(write_dump(alloc, &message, &reading, steps, w))
 }
 

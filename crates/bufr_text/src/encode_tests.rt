@@ -1,12 +1,11 @@
 //! Documents and their messages.
 
 use crate::dump_tests::{
-    EDITION_3, EDITION_3_TEXT, FIRST_LINES, ODD_EDITION_3, ROWS as DUMPED, TABLE_B, TABLE_D, dump,
-    message_of, octets_of,
+    EDITION_3, EDITION_3_TEXT, FIRST_LINES, ODD_EDITION_3, ROWS as DUMPED, Tables, dump,
+    message_of, octets_of, read_tables,
 };
 use crate::{Document, DocumentFault, DumpReader, ReadFault, encode_document, encode_law};
 use bufr_bits::ScriptIn;
-use bufr_tables::{TableB, TableD};
 use bufr_walk::Steps;
 use std::alloc::Global;
 use std::test::Fail;
@@ -240,16 +239,25 @@ fn document_in(alloc: Global, row: &Row) -> Result<Document, Fail> {
     document_of(alloc, text.as_bytes())
 }
 
-// What a document is encoded to, and the steps; those of an earlier call do not count.
+// What a document is encoded to by the test tables.
+fn encoded_by(
+    alloc: Global,
+    document: &Document,
+    tables: &Tables,
+    steps: &mut Steps,
+) -> Result<Vec<u8>, DocumentFault> {
+    encode_document(alloc, document, &tables.b, &tables.d, steps)
+}
+
+// The same, and the steps; those of an earlier call do not count.
 fn encoded(
     alloc: Global,
     document: &Document,
 ) -> Result<(Result<Vec<u8>, DocumentFault>, u64), Fail> {
-    let table_b = TableB::read(alloc, TABLE_B)?;
-    let table_d = TableD::read(alloc, TABLE_D)?;
+    let tables = read_tables(alloc)?;
     let mut steps = Steps::new();
-    let _ = encode_document(alloc, document, &table_b, &table_d, &mut steps);
-    let result = encode_document(alloc, document, &table_b, &table_d, &mut steps);
+    let _ = encoded_by(alloc, document, &tables, &mut steps);
+    let result = encoded_by(alloc, document, &tables, &mut steps);
     Ok((result, steps.count()))
 }
 

@@ -1,9 +1,8 @@
 //! Documents and their messages in another form than they say.
 
-use crate::dump_tests::{FIRST_LINES, TABLE_B, TABLE_D, dump};
+use crate::dump_tests::{FIRST_LINES, Tables, dump, read_tables};
 use crate::encode_tests::{document_of, has_behind_its_head};
 use crate::{Document, DocumentFault, Form, encode_form, encode_law};
-use bufr_tables::{TableB, TableD};
 use bufr_walk::Steps;
 use std::alloc::Global;
 use std::test::Fail;
@@ -105,17 +104,27 @@ fn document_in(alloc: Global, row: &Row) -> Result<Document, Fail> {
     document_of(alloc, text.as_bytes())
 }
 
-// What a document is encoded to in a form, and the steps; those of an earlier call do not count.
+// What a document is encoded to in a form by the test tables.
+fn encoded_by(
+    alloc: Global,
+    document: &Document,
+    form: Form,
+    tables: &Tables,
+    steps: &mut Steps,
+) -> Result<Vec<u8>, DocumentFault> {
+    encode_form(alloc, document, form, &tables.b, &tables.d, steps)
+}
+
+// The same, and the steps; those of an earlier call do not count.
 fn formed(
     alloc: Global,
     document: &Document,
     form: Form,
 ) -> Result<(Result<Vec<u8>, DocumentFault>, u64), Fail> {
-    let table_b = TableB::read(alloc, TABLE_B)?;
-    let table_d = TableD::read(alloc, TABLE_D)?;
+    let tables = read_tables(alloc)?;
     let mut steps = Steps::new();
-    let _ = encode_form(alloc, document, form, &table_b, &table_d, &mut steps);
-    let result = encode_form(alloc, document, form, &table_b, &table_d, &mut steps);
+    let _ = encoded_by(alloc, document, form, &tables, &mut steps);
+    let result = encoded_by(alloc, document, form, &tables, &mut steps);
     Ok((result, steps.count()))
 }
 

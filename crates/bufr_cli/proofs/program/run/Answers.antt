@@ -13,13 +13,13 @@ pub returns-in-Ok-hand_on : goal.returns-in-Ok-hand_on
 returns-in-Ok-hand_on g c =
     let words = map g.S.AsStr.text c.args.words.now in
     let asks = subst (SaysWhy (fault_of bufr_app words) (subcommand_of bufr_app words)) c.in-Err-Help.field-0-is c.in-Err-Help.ensures.fault in
-    Helps asks c.as_bytes.result.now c.in-Ok-hand_on.ensures (Keeps-refl (g.E.Sink.taken c.args.e.now)) refl
+    Helps asks c.as_bytes.result.now c.in-Ok-hand_on.ensures.writes c.in-Ok-hand_on.ensures.handed (Keeps-refl (g.E.Sink.taken c.args.e.now)) refl
 
 pub returns-in-Err-Help : goal.returns-in-Err-Help
 returns-in-Err-Help g c =
     let words = map g.S.AsStr.text c.args.words.now in
     let asks = subst (SaysWhy (fault_of bufr_app words) (subcommand_of bufr_app words)) c.in-Err-Help.field-0-is c.in-Err-Help.ensures.fault in
-    HelpsInPart asks c.as_bytes.result.now c.in-Err.ensures.1 c.in-Err.fault c.finish-in-Err.ensures.front c.finish-in-Err.ensures.status
+    HelpsInPart asks c.as_bytes.result.now c.in-Err.ensures.writes.1 c.in-Err.fault c.finish-in-Err.ensures.front c.finish-in-Err.ensures.status
 
 pub returns-in-Err-Usage : goal.returns-in-Err-Usage
 returns-in-Err-Usage g c =
