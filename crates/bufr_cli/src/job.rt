@@ -103,6 +103,12 @@ Of a message that is refused nothing goes to standard output. A table at fault
 is told before the input is opened:
   40-45  header, row, duplicate, cycle, size, number of fields
 
+The tables are CSV files whose first line names these columns:
+  B  fxy,name,unit,scale,reference,width
+  D  fxy,member
+They have to be those of the message's version, which bufr ls shows: with
+tables=0/24/0 it is 24. Those of another can give wrong values and no fault.
+
 Exit status:
   0  nothing was refused
   1  a message was refused, or a BUFR begins none
@@ -128,6 +134,11 @@ error that tells the line of the text, from 1, and the fault's number:
 Of a document that is refused nothing goes to standard output. A table at fault
 is told before the input is opened:
   40-45  header, row, duplicate, cycle, size, number of fields
+
+The tables are CSV files whose first line names these columns:
+  B  fxy,name,unit,scale,reference,width
+  D  fxy,member
+They have to be those that the text was dumped by.
 
 With --form plain or --form compressed each message is written in that form,
 whatever its document says. Compressed, 58 tells a replication factor that
