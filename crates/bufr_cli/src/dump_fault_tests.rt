@@ -5,8 +5,8 @@ use crate::test_messages::{
     ONE_ACCEPTED, ONE_REFUSED, message_of, octets_of, one_block_number, text_of_one, words_of,
 };
 use crate::test_runs::{
-    Command, assert_run, assert_stops_at_failed_errors, assert_stops_at_failed_reads,
-    assert_stops_at_failed_writes,
+    Command, assert_run, assert_stops_around_a_stray, assert_stops_at_failed_errors,
+    assert_stops_at_failed_reads, assert_stops_at_failed_writes, stray_before,
 };
 use std::test::Fail;
 
@@ -315,8 +315,17 @@ fn stops_at_a_failed_read(rt: HostRuntime) -> Result<(), Fail> {
     let mut input = Vec::new(rt.alloc());
     input.extend_from_slice(&message)?;
     input.extend_from_slice(&message)?;
-    assert_stops_at_failed_reads(&rt, Command::Dump, &input, 0..48, b"")?;
-    assert_stops_at_failed_reads(&rt, Command::Dump, &input, 48..96, text.as_bytes())
+    assert_stops_at_failed_reads(&rt, Command::Dump, &input, 0..48, b"", b"")?;
+    assert_stops_at_failed_reads(&rt, Command::Dump, &input, 48..96, text.as_bytes(), b"")
+}
+
+/// A stray word that states 64 octets, the message behind it, and eight octets behind that.
+#[test]
+fn stops_behind_a_stray(rt: HostRuntime) -> Result<(), Fail> {
+    let text = text_of_one(rt.alloc())?;
+    let message = one_block_number(rt.alloc())?;
+    let input = stray_before(rt.alloc(), &message)?;
+    assert_stops_around_a_stray(&rt, Command::Dump, &input, text.as_bytes())
 }
 
 /// Writers that fail, take nothing, or cannot be flushed have taken a front.
@@ -325,8 +334,8 @@ fn stops_at_a_failed_write(rt: HostRuntime) -> Result<(), Fail> {
     let text = text_of_one(rt.alloc())?;
     let message = one_block_number(rt.alloc())?;
     let whole = text.as_bytes();
-    assert_stops_at_failed_writes(&rt, Command::Dump, &message, whole, ONE_ACCEPTED)?;
+    assert_stops_at_failed_writes(&rt, Command::Dump, &message, whole, b"", ONE_ACCEPTED)?;
     let line = b"offset 0: 30 data end at subset 1 descriptor 001001 bit 0\n";
     let message = message_of(rt.alloc(), 1, 0x80, &[0x0101], b"")?;
-    assert_stops_at_failed_errors(&rt, Command::Dump, &message, b"", line, ONE_REFUSED)
+    assert_stops_at_failed_errors(&rt, Command::Dump, &message, b"", b"", line, ONE_REFUSED)
 }

@@ -316,9 +316,9 @@ fn stops_at_a_failed_read(rt: HostRuntime) -> Result<(), Fail> {
     both.extend_from_slice(&message)?;
     let (half, whole) = (one.len(), text.len());
     let end = whole..whole.saturating_add(1);
-    assert_stops_at_failed_reads(&rt, Command::Encode, &text, 0..half, b"")?;
-    assert_stops_at_failed_reads(&rt, Command::Encode, &text, half..whole, &message)?;
-    assert_stops_at_failed_reads(&rt, Command::Encode, &text, end, &both)
+    assert_stops_at_failed_reads(&rt, Command::Encode, &text, 0..half, b"", b"")?;
+    assert_stops_at_failed_reads(&rt, Command::Encode, &text, half..whole, &message, b"")?;
+    assert_stops_at_failed_reads(&rt, Command::Encode, &text, end, &both, b"")
 }
 
 /// A document that is refused ends the run before a read behind it fails.
@@ -341,11 +341,11 @@ fn stops_at_a_failed_write(rt: HostRuntime) -> Result<(), Fail> {
     let good = text_of_one(rt.alloc())?;
     let message = one_block_number(rt.alloc())?;
     let input = good.as_bytes();
-    assert_stops_at_failed_writes(&rt, Command::Encode, input, &message, ONE_ACCEPTED)?;
+    assert_stops_at_failed_writes(&rt, Command::Encode, input, &message, b"", ONE_ACCEPTED)?;
     let refused = text_of(rt.alloc(), 1, 0x80, "012101", "subset 1\n012101 288.155\n")?;
     let input = refused.as_bytes();
     let line = b"line 24: 52 number\n";
-    assert_stops_at_failed_errors(&rt, Command::Encode, input, b"", line, ONE_REFUSED)?;
+    assert_stops_at_failed_errors(&rt, Command::Encode, input, b"", b"", line, ONE_REFUSED)?;
     let mut both = text_of_one(rt.alloc())?;
     both.push_str(refused.as_str())?;
     let input = both.as_bytes();
@@ -354,5 +354,6 @@ fn stops_at_a_failed_write(rt: HostRuntime) -> Result<(), Fail> {
         accepted: 1,
         refused: 1,
     };
-    assert_stops_at_failed_errors(&rt, Command::Encode, input, &message, line, tally)
+    let output = message.as_slice();
+    assert_stops_at_failed_errors(&rt, Command::Encode, input, output, output, line, tally)
 }

@@ -150,19 +150,21 @@ pub(crate) fn assert_run(
     Ok(())
 }
 
-/// An output that fails, takes nothing, or cannot be flushed has taken a front of the whole.
+/// An output that fails, takes nothing, or cannot be flushed has taken a front of the whole, and the
+/// errors all that stands before.
 pub(crate) fn assert_stops_at_failed_writes(
     rt: &(impl Abort + AllocGlobal),
     command: Command,
     input: &[u8],
     whole: &[u8],
+    errors: &[u8],
     tally: Tally,
 ) -> Result<(), Fail> {
     let tables = read_tables(rt);
     for end in [End::Fail, End::Zero, End::Flush] {
         for room in 0..whole.len().saturating_add(1) {
             let w = ScriptOut::new(rt.alloc(), room, 5, end)?;
-            let e = ScriptOut::new(rt.alloc(), 0, 5, End::Fail)?;
+            let e = ScriptOut::new(rt.alloc(), errors.len(), 5, End::Fail)?;
             let mut r = ScriptIn::new(input, 4096, None);
             let ran = run_by(rt.alloc(), &tables, command, &mut r, w, e);
             let front = whole.get(..room).unwrap_or(whole);
@@ -172,18 +174,19 @@ pub(crate) fn assert_stops_at_failed_writes(
             } else {
                 Ok(tally)
             };
-            ran.assert_left(rt, "room", room, answer, front, b"");
+            ran.assert_left(rt, "room", room, answer, front, errors);
         }
     }
     Ok(())
 }
 
 /// The errors' writer fails, takes nothing, or cannot be flushed: it has taken a front of the line,
-/// and the output all that stands before.
+/// and the output all that stands before it, or all where the line was taken.
 pub(crate) fn assert_stops_at_failed_errors(
     rt: &(impl Abort + AllocGlobal),
     command: Command,
     input: &[u8],
+    before: &[u8],
     output: &[u8],
     line: &[u8],
     tally: Tally,
@@ -202,19 +205,21 @@ pub(crate) fn assert_stops_at_failed_errors(
             } else {
                 Ok(tally)
             };
+            let output = if room < line.len() { before } else { output };
             ran.assert_left(rt, "room", room, answer, output, front);
         }
     }
     Ok(())
 }
 
-/// Wherever in these places the reader fails, the run stops with this output.
+/// Wherever in these places the reader fails, the run stops with this output and these errors.
 pub(crate) fn assert_stops_at_failed_reads(
     rt: &(impl Abort + AllocGlobal),
     command: Command,
     input: &[u8],
     places: Range<usize>,
     output: &[u8],
+    errors: &[u8],
 ) -> Result<(), Fail> {
     let tables = read_tables(rt);
     for place in places {
@@ -223,8 +228,36 @@ pub(crate) fn assert_stops_at_failed_reads(
             let w = ScriptOut::new(rt.alloc(), 4096, 7, End::Fail)?;
             let e = ScriptOut::new(rt.alloc(), 4096, 7, End::Fail)?;
             let ran = run_by(rt.alloc(), &tables, command, &mut r, w, e);
-            ran.assert_left(rt, "place", place, Err(RunFault::Read), output, b"");
+            ran.assert_left(rt, "place", place, Err(RunFault::Read), output, errors);
         }
     }
     Ok(())
+}
+
+/// A stream of a message behind a stray word that states 64 octets, with zero octets to as many.
+pub(crate) fn stray_before(alloc: Global, message: &[u8]) -> Result<Vec<u8>, Fail> {
+    let mut input = Vec::new(alloc);
+    input.extend_from_slice(b"BUFR\0\0\x40\x04")?;
+    input.extend_from_slice(message)?;
+    input.resize(64, 0)?;
+    Ok(input)
+}
+
+/// Where the reader or a writer fails of such a stream, nothing was certain before its last octet, and
+/// the stray's line was written before the output.
+pub(crate) fn assert_stops_around_a_stray(
+    rt: &(impl Abort + AllocGlobal),
+    command: Command,
+    input: &[u8],
+    output: &[u8],
+) -> Result<(), Fail> {
+    let line = b"offset 0: 3 no end\n";
+    let tally = Tally {
+        accepted: 1,
+        refused: 1,
+    };
+    assert_stops_at_failed_reads(rt, command, input, 0..64, b"", b"")?;
+    assert_stops_at_failed_reads(rt, command, input, 64..65, output, line)?;
+    assert_stops_at_failed_writes(rt, command, input, output, line, tally)?;
+    assert_stops_at_failed_errors(rt, command, input, b"", output, line, tally)
 }

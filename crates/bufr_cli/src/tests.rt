@@ -4,8 +4,8 @@ use crate::read_all::read_all;
 use crate::tally::Tally;
 use crate::test_messages::{ONE_ACCEPTED, ONE_REFUSED};
 use crate::test_runs::{
-    Command, assert_run, assert_stops_at_failed_errors, assert_stops_at_failed_reads,
-    assert_stops_at_failed_writes, list,
+    Command, assert_run, assert_stops_around_a_stray, assert_stops_at_failed_errors,
+    assert_stops_at_failed_reads, assert_stops_at_failed_writes, list, stray_before,
 };
 use bufr_bits::{Device, End, ScriptIn, ScriptOut};
 use bufr_frame::RunFault;
@@ -293,8 +293,18 @@ fn stops_at_a_failed_read(rt: HostRuntime) -> Result<(), Fail> {
     let mut input = Vec::new(rt.alloc());
     input.extend_from_slice(&ONE_BLOCK_NUMBER)?;
     input.extend_from_slice(&ONE_BLOCK_NUMBER)?;
-    assert_stops_at_failed_reads(&rt, Command::Ls, &input, 0..48, b"")?;
-    assert_stops_at_failed_reads(&rt, Command::Ls, &input, 48..96, line.as_bytes())
+    assert_stops_at_failed_reads(&rt, Command::Ls, &input, 0..48, b"", b"")?;
+    assert_stops_at_failed_reads(&rt, Command::Ls, &input, 48..96, line.as_bytes(), b"")
+}
+
+/// A stray word that states 64 octets, the message behind it, and eight octets behind that, 64 in all:
+/// nothing is certain before the last octet. The stray's line goes out before the message's.
+#[test]
+fn stops_behind_a_stray(rt: HostRuntime) -> Result<(), Fail> {
+    let input = stray_before(rt.alloc(), &ONE_BLOCK_NUMBER)?;
+    let mut listed = String::from_str(rt.alloc(), "offset=8")?;
+    listed.push_str(LINE)?;
+    assert_stops_around_a_stray(&rt, Command::Ls, &input, listed.as_bytes())
 }
 
 /// A writer that counts what it is given.
@@ -379,10 +389,11 @@ fn stops_at_a_failed_write(rt: HostRuntime) -> Result<(), Fail> {
     let mut line = String::from_str(rt.alloc(), "offset=0")?;
     line.push_str(LINE)?;
     let whole = line.as_bytes();
-    assert_stops_at_failed_writes(&rt, Command::Ls, &ONE_BLOCK_NUMBER, whole, ONE_ACCEPTED)?;
+    let one = &ONE_BLOCK_NUMBER;
+    assert_stops_at_failed_writes(&rt, Command::Ls, one, whole, b"", ONE_ACCEPTED)?;
     let cut = &ONE_BLOCK_NUMBER[..20];
     let line = b"offset 0: 1 cut\n";
-    assert_stops_at_failed_errors(&rt, Command::Ls, cut, b"", line, ONE_REFUSED)
+    assert_stops_at_failed_errors(&rt, Command::Ls, cut, b"", b"", line, ONE_REFUSED)
 }
 
 #[test]

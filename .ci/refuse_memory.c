@@ -1,0 +1,55 @@
+// A library that is preloaded into a program and refuses one of its calls for memory, so that a script can try
+// what the program does at each of them. REFUSE_COUNT names a file of eight octets: it is mapped, and the calls are
+// counted in it, since a program may end at any time and without a word. REFUSE_AT is the number of the call
+// that is refused, from 1; at 0 none is.
+#include <errno.h>
+#include <fcntl.h>
+#include <stddef.h>
+#include <stdint.h>
+#include <stdlib.h>
+#include <sys/mman.h>
+#include <unistd.h>
+
+// What stands behind these calls in the GNU C library.
+void *__libc_malloc(size_t size);
+void *__libc_calloc(size_t count, size_t size);
+void *__libc_realloc(void *old, size_t size);
+void *__libc_memalign(size_t alignment, size_t size);
+
+static volatile uint64_t *calls; // what is asked for before it is mapped is not the program's
+static uint64_t refused;
+
+__attribute__((constructor)) static void begin(void) {
+    const char *name = getenv("REFUSE_COUNT"), *number = getenv("REFUSE_AT");
+    int file = name && number ? open(name, O_RDWR) : -1;
+    void *map = mmap(NULL, sizeof *calls, PROT_READ | PROT_WRITE, MAP_SHARED, file, 0);
+    if (map == MAP_FAILED)
+        _exit(99); // no status of the program
+    close(file);
+    refused = strtoull(number, NULL, 10);
+    calls = map;
+}
+
+static int refuses(void) {
+    if (!calls || ++*calls != refused)
+        return 0;
+    errno = ENOMEM;
+    return 1;
+}
+
+void *malloc(size_t size) { return refuses() ? NULL : __libc_malloc(size); }
+
+void *calloc(size_t count, size_t size) { return refuses() ? NULL : __libc_calloc(count, size); }
+
+void *realloc(void *old, size_t size) { return refuses() ? NULL : __libc_realloc(old, size); }
+
+void *memalign(size_t alignment, size_t size) { return refuses() ? NULL : __libc_memalign(alignment, size); }
+
+void *aligned_alloc(size_t alignment, size_t size) { return memalign(alignment, size); }
+
+int posix_memalign(void **made, size_t alignment, size_t size) {
+    void *block = memalign(alignment, size);
+    if (block)
+        *made = block;
+    return block ? 0 : ENOMEM;
+}
