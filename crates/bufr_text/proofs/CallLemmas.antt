@@ -3,6 +3,7 @@ use Rattle.std.proofs.Common.{inl, inr, ◌⊎◌, ◌≡◌, ℕ, ◌<◌, Bool
 use Rattle.std.specs.Prelude.{Option, Ok}
 use Rattle.std.proofs.KnownBytes.{Consumes-nil, Consumes-trans}
 use Rattle.std.proofs.lemmas.Bool.{true≢false}
+use Rattle.std.proofs.lemmas.List.{nil_from_length}
 use Rattle.bufr_text.specs.Documents.{Place, Told, spelled, spelled_openly, lines_of, split_of}
 use Rattle.bufr_text.specs.Dump.{text_of}
 use Rattle.bufr_text.specs.Reading.{has_no_feed, Stand, GoesOn, Passes, PassesEnd}
@@ -110,6 +111,32 @@ module _ (left mid left' : Option (List ℕ)) (old s s' : State) (told told' : L
   lines (inl e) = lines-open e
   lines (inr both) = lines-ended both
 
+  fed-open : one.lines.0 ≡ [] → old.ended ≡ false → s'.ended ≡ true → two.lines.0 ≡ [] → s'.held ≡ []
+  fed-open e before ended none = by s.ended refl
+    where
+      by : (b : Bool) → s.ended ≡ b → s'.held ≡ []
+      by false open' = two.fed open' ended none
+      by true reached =
+          let held : length s.held ≡ 0 = ap length (one.fed before reached e) in
+          nil_from_length s'.held (omega (
+            arith,
+            held,
+            ap length (two.kept reached).1,
+            ap length none,
+            length-append s.held bs',
+            length-append (s.held ++ bs') two.lines.0,
+            ap length two.lines.2.octets,
+            length-append (text_of two.lines.2.lines) s'.held,
+          ))
+
+  fed : (feed : IsMissingFeed old.ended s.ended one.lines.0) → old.ended ≡ false → s'.ended ≡ true → (lines feed).0 ≡ [] → s'.held ≡ []
+  unfolding lines lines-open lines-ended
+  fed (inl e) before ended none = fed-open e before ended none
+  fed (inr (a, b, e)) before ended none = absurd (some-feed (sym e ∙ none))
+    where
+      some-feed : ◌≡◌ {A = List ℕ} (10 ∷ []) [] → ⊥
+      some-feed h = omega (arith, ap length h)
+
   pub call-then : CallSo left left' old s' (told ++ told') (bs ++ bs')
   call-then = record {
     read = Consumes-trans left mid left' bs bs' one.read two.read;
@@ -122,6 +149,7 @@ module _ (left mid left' : Option (List ℕ)) (old s s' : State) (told told' : L
         let b = two.kept a.0 in
         (b.0, ap (λ (z : List ℕ). z ++ bs') a.1 ∙ b.1, b.2 ∙ a.2);
     end = λ before. two.end (one.end before);
+    fed = fed one.lines.1;
   }
 
 pub call-none : (left : Option (List ℕ)) (s : State) → CallSo left left s s [] []
@@ -136,6 +164,7 @@ call-none left s =
       lines = ([], inl refl, subst P (sym (append-nil (s.held ++ []) ∙ append-nil s.held)) (passes-none s.at s.held));
       kept = λ e. (e, refl, refl);
       end = λ before. before;
+      fed = λ before ended _. absurd (true≢false (sym ended ∙ before));
     }
 
 -- lines that are taken
@@ -151,6 +180,7 @@ takes-call left s s' told tells ended reads =
       lines = ([], inl refl, subst P (sym (append-nil (s.held ++ []) ∙ append-nil s.held)) tells.passes);
       kept = λ e. (ended ∙ e, refl, reads);
       end = λ before e. before (sym ended ∙ e);
+      fed = λ before e _. absurd (true≢false (sym e ∙ ended ∙ before));
     }
 
 module _ (left left' : Option (List ℕ)) (s s' : State) (bs : List ℕ) (read : ReadSo left left' s s' (Ok tt) bs) (open' : s.ended ≡ false) (clean : has_no_feed s.held ≡ true) where
@@ -195,4 +225,6 @@ module _ (left left' : Option (List ℕ)) (s s' : State) (bs : List ℕ) (read :
         lines = (read.feed, feed-missing read.missing, subst P read.held (subst A (sym read.at) (passes-none s.at s'.held)));
         kept = λ e. absurd (true≢false (sym e ∙ open'));
         end = λ before ended. (read.ends.1 ended).1;
+        fed = λ before ended none.
+            read.held ∙ ap (λ (z : List ℕ). (s.held ++ bs) ++ z) none ∙ append-nil (s.held ++ bs) ∙ ap (λ (z : List ℕ). z ++ bs) (read.fed ended none) ∙ (read.ends.1 ended).0;
       }

@@ -50,6 +50,7 @@ pub mod TakingLemmas
 pub mod TokenLemmas
 mod TurnsExamples
 pub mod TurnsLemmas
+pub mod UnfedLemmas
 pub mod UnhexLemmas
 pub mod UnquoteLemmas
 pub mod WordLemmas

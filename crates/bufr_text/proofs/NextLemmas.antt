@@ -12,13 +12,14 @@ use Rattle.bufr_text.specs.Document.{Document}
 use Rattle.bufr_text.specs.Documents.{Place, Told, Spelled, Refused, NotAllowed, spelled, spelled_openly, lines_of, split_of, documents_of, open_documents_of}
 use Rattle.bufr_text.specs.Dump.{text_of}
 use Rattle.bufr_text.specs.Reading.{has_no_feed, GoesOn, Passes, spells, spells_openly}
-use Rattle.bufr_text.specs.Reader.{State, fresh, stand, IsMissingFeed, IsDone, CallSo, WaitsSo, NextSo, IsOpen, CountsReads}
+use Rattle.bufr_text.specs.Reader.{State, fresh, stand, IsMissingFeed, IsDone, KeepsSo, CallSo, WaitsSo, NextSo, IsOpen, CountsReads}
 use Rattle.bufr_text.specs.Filling.{Tells, WentSo, EndSo, FillSo, stopped}
 use Rattle.bufr_text.specs.declared.fault.ReadFault.{ReadFault}
 use Rattle.bufr_text.specs.declared.fault.ReadFault.TheVariants.{Line, SubsetCount, HeaderRange, Run}
 use Rattle.bufr_text.proofs.ReadingLemmas.{nothing-yet}
 use Rattle.bufr_text.proofs.FeedLemmas.{some-held}
 use Rattle.bufr_text.proofs.TakingLemmas.{passes-none}
+use Rattle.bufr_text.proofs.UnfedLemmas.{call-keeps, keeps-same}
 use Rattle.bufr_text.proofs.CallLemmas.{call-then, closes-then, takes-call, read-call}
 
 -- the reads of a turn
@@ -59,20 +60,24 @@ module _ (left mid : Option (List ℕ)) (old s s' : State) (bs : List ℕ) (call
   pub went-document : (d : Document) → WentSo s s' (Ok (Some d)) → NextSo left mid old s' (Ok (Some d))
   went-document d went = record {
     octets = bs;
+    keeps = call-keeps left mid old s' (Spelled d ∷ []) bs (call-takes left mid old s s' bs (Spelled d ∷ []) call went.0 ended reads);
     reads = (call-takes left mid old s s' bs (Spelled d ∷ []) call went.0 ended reads, closes-then left mid old s s' [] bs call went.2 ended);
     waits = waits-same left old s s' bs bs waits reads refl;
     ends = went.1;
   }
 
+  went-keeps : (told : List Told) → Tells s s' told → KeepsSo old s' bs
+  went-keeps told tells = call-keeps left mid old s' told bs (call-takes left mid old s s' bs told call tells ended reads)
+
   -- a line that is refused, or want of memory
   pub went-fault : (f : ReadFault) → WentSo s s' (Err f) → NextSo left mid old s' (Err f)
-  went-fault (Line line) went = record { octets = bs; reads = call-takes left mid old s s' bs _ call went.0 ended reads; waits = waits-same left old s s' bs bs waits reads refl; ends = went.1 }
-  went-fault (SubsetCount line) went = record { octets = bs; reads = call-takes left mid old s s' bs _ call went.0 ended reads; waits = waits-same left old s s' bs bs waits reads refl; ends = went.1 }
-  went-fault (HeaderRange line) went = record { octets = bs; reads = call-takes left mid old s s' bs _ call went.0 ended reads; waits = waits-same left old s s' bs bs waits reads refl; ends = went.1 }
+  went-fault (Line line) went = record { octets = bs; reads = call-takes left mid old s s' bs _ call went.0 ended reads; keeps = went-keeps _ went.0; waits = waits-same left old s s' bs bs waits reads refl; ends = went.1 }
+  went-fault (SubsetCount line) went = record { octets = bs; reads = call-takes left mid old s s' bs _ call went.0 ended reads; keeps = went-keeps _ went.0; waits = waits-same left old s s' bs bs waits reads refl; ends = went.1 }
+  went-fault (HeaderRange line) went = record { octets = bs; reads = call-takes left mid old s s' bs _ call went.0 ended reads; keeps = went-keeps _ went.0; waits = waits-same left old s s' bs bs waits reads refl; ends = went.1 }
   went-fault (Run Read) went = absurd went
   went-fault (Run Write) went = absurd went
   went-fault (Run InputTooLong) went = absurd went
-  went-fault (Run Memory) went = record { octets = bs; reads = (call.read, omega (arith, call.few, reads), λ e. held-before left mid old s bs [] call e (some-held s.held went.1), inr (record { mid = went.3.mid; taken = call-takes left mid old s went.3.mid bs [] call went.3.taken went.3.ended went.3.reads; next = went.3.next })); waits = waits-same left old s s' bs bs waits reads refl; ends = (went.0, inl (ap has_no_feed went.2 ∙ went.1)) }
+  went-fault (Run Memory) went = record { octets = bs; keeps = keeps-same old s s' bs (call-keeps left mid old s [] bs call) went.2 ended; reads = (call.read, omega (arith, call.few, reads), λ e. held-before left mid old s bs [] call e (some-held s.held went.1), inr (record { mid = went.3.mid; taken = call-takes left mid old s went.3.mid bs [] call went.3.taken went.3.ended went.3.reads; next = went.3.next })); waits = waits-same left old s s' bs bs waits reads refl; ends = (went.0, inl (ap has_no_feed went.2 ∙ went.1)) }
 
 -- the end
 module _ (left mid : Option (List ℕ)) (old s s' : State) (bs : List ℕ) (call : CallSo left mid old s [] bs) (waits : (s.reads ≡ old.reads) ⊎ WaitsSo left old s.reads bs) (sound : s.fault ≡ None) (ended : s.ended ≡ true) where
@@ -81,11 +86,12 @@ module _ (left mid : Option (List ℕ)) (old s s' : State) (bs : List ℕ) (call
       let C : State → Type 0 = λ x. CallSo left mid old x [] bs in record {
         octets = bs;
         reads = subst C (sym so.0) call;
+        keeps = keeps-same old s s' bs (call-keeps left mid old s [] bs call) (ap (λ x. x.held) so.0) (ap (λ x. x.ended) so.0);
         waits = waits-same left old s s' bs bs waits (ap (λ x. x.reads) so.0) refl;
         ends = (ap (λ x. x.fault) so.0 ∙ sound, (ap (λ x. x.ended) so.0 ∙ ended, so.1, so.2));
       }
   end-next (Ok (Some d)) so = absurd so
-  end-next (Err (Line line)) so = record { octets = bs; reads = call-takes left mid old s s' bs _ call so.0 so.2 so.3; waits = waits-same left old s s' bs bs waits so.3 refl; ends = so.1 }
+  end-next (Err (Line line)) so = record { octets = bs; reads = call-takes left mid old s s' bs _ call so.0 so.2 so.3; keeps = call-keeps left mid old s' _ bs (call-takes left mid old s s' bs _ call so.0 so.2 so.3); waits = waits-same left old s s' bs bs waits so.3 refl; ends = so.1 }
   end-next (Err (SubsetCount line)) so = absurd so
   end-next (Err (HeaderRange line)) so = absurd so
   end-next (Err (Run f)) so = absurd so
@@ -118,6 +124,7 @@ open-call left left' s s' told bs none read tells before after order =
       lines = ([], inl refl, subst P (sym (append-nil (s.held ++ bs) ∙ same)) tells.passes);
       kept = λ e. absurd (true≢false (sym e ∙ before));
       end = λ reached e. absurd (true≢false (sym e ∙ after));
+      fed = λ _ e _. absurd (true≢false (sym e ∙ after));
     }
 
 -- a read, behind what was read so far in a call
@@ -165,9 +172,11 @@ module _ (left mid left' : Option (List ℕ)) (old s s' : State) (bs bs' : List 
 
   pub fill-fault : (f : ReadFault) → FillSo mid left' s s' (Err f) bs' → NextSo left left' old s' (Err f)
   fill-fault (Line line) so =
-      let unended : s'.ended ≡ false = so.4 ∙ open' in record {
+      let unended : s'.ended ≡ false = so.4 ∙ open' in
+      let whole = call-then left mid left' old s s' [] (Refused line NotAllowed ∷ []) bs bs' call (open-call mid left' s s' (Refused line NotAllowed ∷ []) bs' so.1 so.0 so.2 open' unended (omega (arith, so.5))) in record {
         octets = bs ++ bs';
-        reads = call-then left mid left' old s s' [] (Refused line NotAllowed ∷ []) bs bs' call (open-call mid left' s s' (Refused line NotAllowed ∷ []) bs' so.1 so.0 so.2 open' unended (omega (arith, so.5)));
+        reads = whole;
+        keeps = call-keeps left left' old s' (Refused line NotAllowed ∷ []) (bs ++ bs') whole;
         waits = waits-same left old s s' bs (bs ++ bs') waits so.5 (nothing so.1);
         ends = so.3;
       }
@@ -176,9 +185,11 @@ module _ (left mid left' : Option (List ℕ)) (old s s' : State) (bs bs' : List 
   fill-fault (Run Read) (x, read, is, short) =
       let N : State → Type 0 = λ n. NextSo left left' old n (Err (Run Read)) in
       let held = same-held x read.feed read.ends.1 (no-feed x read.feed read.ends.2 read.missing) read.held in
+      let whole = quiet-call (stopped x (Run Read)) read.ends.1 read.read read.at read.place held read.ends.2 (omega (arith, read.ends.0)) in
       subst N (sym is) (record {
         octets = bs ++ bs';
-        reads = quiet-call (stopped x (Run Read)) read.ends.1 read.read read.at read.place held read.ends.2 (omega (arith, read.ends.0));
+        reads = whole;
+        keeps = call-keeps left left' old (stopped x (Run Read)) [] (bs ++ bs') whole;
         waits = inr (waited x.reads read.ends.0 short read.few);
         ends = (refl, still-open (stopped x (Run Read)) read.ends.2 held short);
       })
@@ -188,6 +199,7 @@ module _ (left mid left' : Option (List ℕ)) (old s s' : State) (bs bs' : List 
       subst N (sym is) (record {
         octets = bs ++ bs';
         reads = quiet-call (stopped s (Run InputTooLong)) none read refl refl refl open' (omega arith);
+        keeps = call-keeps left left' old (stopped s (Run InputTooLong)) [] (bs ++ bs') (quiet-call (stopped s (Run InputTooLong)) none read refl refl refl open' (omega arith));
         waits = waits-same left old s (stopped s (Run InputTooLong)) bs (bs ++ bs') waits refl (nothing none);
         ends = (refl, still-open (stopped s (Run InputTooLong)) open' refl short, most);
       })
@@ -196,6 +208,8 @@ module _ (left mid left' : Option (List ℕ)) (old s s' : State) (bs bs' : List 
       subst N (sym is) (record {
         octets = bs ++ bs';
         reads = (Consumes-trans left mid left' bs bs' call.read read.read, omega (arith, call.few, ap length read.ends.1, length-append bs bs', read.ends.0), λ e. absurd (true≢false (sym (call.kept e).0 ∙ open')), inl read.ends.3);
+        keeps = call-keeps left left' old (stopped x (Run Memory)) [] (bs ++ bs')
+            (quiet-call (stopped x (Run Memory)) read.ends.1 read.read read.at read.place (same-held x read.feed read.ends.1 (no-feed x read.feed read.ends.2 read.missing) read.held) read.ends.2 (omega (arith, read.ends.0)));
         waits = waits-same left old s (stopped x (Run Memory)) bs (bs ++ bs') waits read.ends.0 (nothing read.ends.1);
         ends = (refl, inr read.ends.3);
       })

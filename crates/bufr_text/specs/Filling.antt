@@ -76,6 +76,7 @@ pub record ReadSo (left left' : Option (List ℕ)) (old new : State) (result : R
   pub few : length bs ≤ 4096
   pub feed : List ℕ
   pub missing : (feed ≡ []) ⊎ ((new.ended ≡ true) × (feed ≡ 10 ∷ []) × (0 < length old.held))
+  pub fed : new.ended ≡ true → feed ≡ [] → old.held ≡ []
   pub held : new.held ≡ (old.held ++ bs) ++ feed
   pub at : new.at ≡ old.at
   pub place : new.place ≡ old.place

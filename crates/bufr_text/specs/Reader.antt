@@ -1,6 +1,6 @@
 -- What a reader of dump texts does, call by call. (a choice of this project)
 -- Cited by public contracts.
-use Rattle.std.specs.Prelude.{◌≡◌, ◌⊎◌, ℕ, ◌+◌, ◌-◌, ◌*◌, ◌<◌, ◌≤◌, Bool, true, false, List, [], ◌∷◌, ◌++◌, length, Option, Some, None, Result, Ok, Err}
+use Rattle.std.specs.Prelude.{◌≡◌, ◌⊎◌, ℕ, ◌+◌, ◌-◌, ◌*◌, ◌<◌, ◌≤◌, Bool, true, false, if◌then◌else◌, List, [], ◌∷◌, ◌++◌, length, take, Option, Some, None, Result, Ok, Err}
 use Rattle.std.specs.Io.KnownBytes.{Consumes, IsAtEnd}
 use Rattle.bufr_bits.specs.Counts.{counted}
 use Rattle.bufr_frame.specs.Runs.{most_reads}
@@ -51,6 +51,14 @@ told_by (Err (Run fault)) = []
 abbrev pub IsMissingFeed : (ended ended' : Bool) → List ℕ → Type 0
 IsMissingFeed ended ended' feed = (feed ≡ []) ⊎ ((ended ≡ false) × (ended' ≡ true) × (feed ≡ 10 ∷ []))
 
+-- The octets of the text itself that are held. Where the end was reached, what is held ends by the line feed that the text lacks.
+abbrev pub unfed : State → List ℕ
+unfed s = if s.ended then take (length s.held - 1) s.held else s.held
+
+-- What was held of the text and what was read is what was taken of it, and behind that what is held of it.
+abbrev pub KeepsSo : (old new : State) → List ℕ → Type 0
+KeepsSo old new bs = (taken : List ℕ) × (unfed old ++ bs ≡ taken ++ unfed new)
+
 -- Octets were read, and what was held spells with them what was told and then what is held now. What was taken are whole lines.
 pub record CallSo (left left' : Option (List ℕ)) (old new : State) (told : List Told) (bs : List ℕ) : Type 0 where
   pub read : Consumes left left' bs
@@ -58,6 +66,8 @@ pub record CallSo (left left' : Option (List ℕ)) (old new : State) (told : Lis
   pub few : length bs ≤ 4096 * (new.reads - old.reads)
   pub goes : GoesOn (behind old bs) (stand new) told
   pub lines : (feed : List ℕ) × IsMissingFeed old.ended new.ended feed × Passes old.at ((old.held ++ bs) ++ feed) new.at new.held
+  -- where the end was reached now and no line feed was lacking, nothing is held
+  pub fed : old.ended ≡ false → new.ended ≡ true → lines.0 ≡ [] → new.held ≡ []
   pub kept : old.ended ≡ true → (new.ended ≡ true) × (bs ≡ []) × (new.reads ≡ old.reads)
   pub end : (old.ended ≡ true → IsAtEnd left) → new.ended ≡ true → IsAtEnd left'
 
@@ -134,6 +144,7 @@ ReadsSo left left' old new (Err (Run Memory)) bs = Consumes left left' bs × (le
 pub record NextSo (left left' : Option (List ℕ)) (old new : State) (result : Result (Option Document) ReadFault) : Type 0 where
   pub octets : List ℕ
   pub reads : ReadsSo left left' old new result octets
+  pub keeps : KeepsSo old new octets
   pub waits : (new.reads ≡ old.reads) ⊎ WaitsSo left old new.reads octets
   pub ends : EndsSo new result
 

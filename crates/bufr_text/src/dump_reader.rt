@@ -85,7 +85,7 @@ impl DumpReader {
     ghost use Rattle.bufr_bits.specs.Counts.{counted};
     ghost use Rattle.bufr_frame.specs.Runs.{read_failures_after, most_reads};
     ghost use Rattle.bufr_text.specs.Reading.{has_no_feed};
-    ghost use Rattle.bufr_text.specs.Reader.{State, fresh, NextSo, CountsReads, failures_by};
+    ghost use Rattle.bufr_text.specs.Reader.{State, fresh, unfed, NextSo, CountsReads, failures_by};
     ghost use Rattle.bufr_text.specs.Filling.{WentSo, EndSo, FillSo, ReadSo, stopped};
 
     /// A reader that has read nothing. It takes no memory.
@@ -119,13 +119,18 @@ impl DumpReader {
         }
     }
 
-    /// How many octets were read and not yet taken as lines: at most 8,192. From the end of the input
-    /// until it is taken, a last line that lacks its line feed counts with one.
+    /// How many octets were read and not yet taken as lines: at most 8,192.
     pub fn held(&self) -> usize
-        ensures value { result ≡ length self.now.held }
+        ensures value { result ≡ length (unfed self.now) }
         ensures bound { result ≤ 8192 }
     {
-        self.filled - self.start
+        let held = self.filled - self.start;
+        // Behind the end what is held ends by the line feed that the text lacks.
+        if self.ended {
+            held.saturating_sub(1)
+        } else {
+            held
+        }
     }
 
     /// Stops for good.

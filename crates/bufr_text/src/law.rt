@@ -6,7 +6,7 @@ ghost use Rattle.bufr_text.specs.Dump.{Item, document_of, dump_lines, dump_text_
 ghost use Rattle.bufr_text.specs.Given.{IsDumpable};
 ghost use Rattle.bufr_text.specs.Document.{Document};
 ghost use Rattle.bufr_text.specs.Reading.{Passes, spells, spells_openly};
-ghost use Rattle.bufr_text.specs.Reader.{State, fresh, stand, IsMissingFeed, CallSo, NextSo, IsDone, IsOpen};
+ghost use Rattle.bufr_text.specs.Reader.{State, fresh, unfed, stand, IsMissingFeed, CallSo, NextSo, IsDone, IsOpen};
 ghost use Rattle.bufr_text.specs.declared.fault.ReadFault.{ReadFault};
 
 /// The dump text of a message spells its document, and the reading goes on behind it.
@@ -61,10 +61,10 @@ pub fn documents_told_are_the_open_documents()
 
 /// The octets that calls read are the lines that they took, and behind those exactly what is held: as
 /// many lines were taken as line numbers were passed. Where the end was reached, a last line that
-/// lacks its line feed was given one.
+/// lacks its line feed was given one, which is none of the octets that are said to be held.
 pub fn octets_behind_the_lines_are_held()
     ensures { (left left' : Option (List ℕ)) (s : State) (told : List Told) (bs : List ℕ)
-        → CallSo left left' fresh s told bs → (feed : List ℕ) × IsMissingFeed false s.ended feed × Passes 1 (bs ++ feed) s.at s.held }
+        → CallSo left left' fresh s told bs → (feed : List ℕ) × IsMissingFeed false s.ended feed × Passes 1 (bs ++ feed) s.at s.held × ((taken : List ℕ) × (bs ≡ taken ++ unfed s)) }
 {}
 
 /// After the end was told it is told again, and nothing is read.

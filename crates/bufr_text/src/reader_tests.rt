@@ -519,6 +519,23 @@ fn holds_what_is_behind_a_document(rt: HostRuntime) -> Result<(), Fail> {
     Ok(())
 }
 
+/// Of a last line that lacks its line feed its own octets are held, and none besides.
+#[test]
+fn holds_the_octets_of_the_text_alone(rt: HostRuntime) -> Result<(), Fail> {
+    let text = joined(rt.alloc(), &[Whole, Text(b"# note")])?;
+    let mut r = ScriptIn::new(&text, 4096, None);
+    let mut reader = DumpReader::new(rt.alloc());
+    let told = next_told(&mut reader, &mut r);
+    assert!(rt;
+        told == Spelled(2, 25) && reader.held() == 6,
+        "{}",
+        reader.held()
+    );
+    let end = next_told(&mut reader, &mut r);
+    assert!(rt; end == Done && reader.held() == 0, "{}", reader.held());
+    Ok(())
+}
+
 /// A compressed document with two subsets: the items of each stand before its end.
 #[test]
 fn compressed(rt: HostRuntime) -> Result<(), Fail> {
