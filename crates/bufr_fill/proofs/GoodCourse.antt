@@ -1,6 +1,6 @@
 -- What comes next in a template is a specification as every one is.
 use Rattle.std.proofs.Common.{◌≡◌, ℕ, zero, suc, ◌*◌, ◌≤◌, ◌&&◌, ◌||◌, Bool, true, false, not, List, [], ◌∷◌, Result, Ok, Err, refl, sym, ◌∙◌, ap, subst, arith}
-use Rattle.std.specs.Prelude.{◌==◌, nat_le, if◌then◌else◌}
+use Rattle.std.specs.Prelude.{◌==◌, ◌^◌, nat_le, nat_lt, unsigned_abs, if◌then◌else◌, ℤ}
 use Rattle.std.proofs.lemmas.Bool.Decides.{nat_tests}
 use Rattle.bufr_tables.specs.Fxy.{x_of, y_of}
 use Rattle.bufr_tables.specs.TableB.{Row}
@@ -13,7 +13,7 @@ use Rattle.bufr_walk.specs.declared.spec.Role.TheVariants as role
 use Rattle.bufr_walk.specs.declared.spec.Refusal.{Refusal}
 use Rattle.bufr_walk.specs.declared.spec.Refusal.TheVariants as refusal
 use Rattle.bufr_walk.specs.Asked.{Asked, IsSpec}
-use Rattle.bufr_walk.specs.Settings.{Settings, Redefined, begin, is_defining, with_references, with_operator, after_operator, after_field, without}
+use Rattle.bufr_walk.specs.Settings.{Settings, Redefined, begin, is_defining, with_references, with_operator, after_operator, after_field, with_reference}
 use Rattle.bufr_walk.specs.Rules.{text_of, element_spec, factor_spec, inserted_spec}
 use Rattle.bufr_walk.specs.Turns.{Turns, finish, open_end, group, pass_end, factor_turn, element_turn, operator_turn, Rest, passes, unroll, turns_of}
 use Rattle.bufr_walk.specs.Course.{take_next, Ahead, asked, operated, ahead, next_item, counts_of}
@@ -93,19 +93,21 @@ operator_good s x y set most legal = by (x == 1) (x == 2) (x == 3) (x == 6) (x =
     by false false false false true p q = record { widened = set.widened; rescaled = set.rescaled; defining = set.defining; refined = operand_seven x y q legal; lettered = set.lettered; given = set.given; redefined = set.redefined }
     by false false false false false p q = record { widened = set.widened; rescaled = set.rescaled; defining = set.defining; refined = set.refined; lettered = most; given = set.given; redefined = set.redefined }
 
--- the references of other elements
-others_good : (fxy : ℕ) (known : List Redefined) → AreRedefined known → AreRedefined (without fxy known)
-others_good fxy [] h = h
-others_good fxy (r ∷ more) h = by (r.fxy == fxy) (others_good fxy more h.1)
+-- the references with one more that was told
+references_kept : (fxy : ℕ) (reference : ℤ) (known : List Redefined) → unsigned_abs reference ≤ 2 ^ 63 → AreRedefined known → AreRedefined (with_reference fxy reference known)
+references_kept fxy reference [] told h = (told, h)
+references_kept fxy reference (r ∷ more) told h = by (nat_lt fxy r.fxy) (fxy == r.fxy) (references_kept fxy reference more told h.1)
   where
-    by : (b : Bool) → AreRedefined (without fxy more) → AreRedefined (if b then without fxy more else r ∷ without fxy more)
-    by true others = others
-    by false others = (h.0, others)
+    by : (below same : Bool) → AreRedefined (with_reference fxy reference more)
+        → AreRedefined (if below then record { fxy = fxy; reference = reference } ∷ r ∷ more else if same then record r { reference = reference } ∷ more else r ∷ with_reference fxy reference more)
+    by true same others = (told, h)
+    by false true others = (told, h.1)
+    by false false others = (h.0, others)
 
 field_good : (s : Settings) (fxy : ℕ) (t : Taken) → IsSettings s → IsWithin t → IsSettings (after_field s fxy t)
 field_good s fxy taken.Plain set h = record { widened = set.widened; rescaled = set.rescaled; defining = set.defining; refined = set.refined; lettered = set.lettered; given = omega arith; redefined = set.redefined }
 field_good s fxy (taken.Count n) set h = record { widened = set.widened; rescaled = set.rescaled; defining = set.defining; refined = set.refined; lettered = set.lettered; given = omega arith; redefined = set.redefined }
-field_good s fxy (taken.Reference r) set h = record { widened = set.widened; rescaled = set.rescaled; defining = set.defining; refined = set.refined; lettered = set.lettered; given = omega arith; redefined = (h, others_good fxy s.redefined set.redefined) }
+field_good s fxy (taken.Reference r) set h = record { widened = set.widened; rescaled = set.rescaled; defining = set.defining; refined = set.refined; lettered = set.lettered; given = omega arith; redefined = references_kept fxy r s.redefined h set.redefined }
 
 module _ (table : List Row) (rows : AreGoodRows table) where
   asked_good : (r : Result Asked Refusal) (go : Taken → List Taken → Ahead) (told : List Taken) (spec : Asked) → AreWithin told → ((x : Asked) → r ≡ Ok x → IsSpec x) → ((t : Taken) (more : List Taken) → IsWithin t → AreWithin more → (go t more).next ≡ take_next spec → IsSpec spec) → (asked r go told).next ≡ take_next spec → IsSpec spec

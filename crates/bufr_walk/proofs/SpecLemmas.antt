@@ -1,5 +1,5 @@
 -- What is built is a specification as every one is.
-use Rattle.std.proofs.Common.{◌≡◌, ℕ, ◌*◌, ◌≤◌, ◌^◌, Bool, true, false, List, [], ◌∷◌, ◌++◌, subst, refl, arith, ◌∙◌, ap, sym, ℤ, pos, ◌*ℤ◌}
+use Rattle.std.proofs.Common.{◌≡◌, ℕ, ◌*◌, ◌≤◌, ◌^◌, Bool, true, false, List, [], ◌∷◌, subst, refl, arith, ◌∙◌, ap, sym, ℤ, pos, ◌*ℤ◌}
 use Rattle.std.proofs.lemmas.Int.{unsigned_abs-mul}
 use Rattle.std.proofs.Math.Nat.{mul-le-mul_left, mul-le-mul_right, pow-le-pow_right}
 use Rattle.std.specs.Prelude.{◌==◌, nat_le}
@@ -7,13 +7,15 @@ use Rattle.std.proofs.lemmas.Bool.Decides.{nat_tests}
 use Rattle.bufr_tables.specs.Fxy.{x_of, y_of}
 use Rattle.bufr_tables.specs.Operators.{is_legal_operator, has_legal_operand}
 use Rattle.bufr_tables.specs.Tree.{is_inserted_text}
-use Rattle.std.proofs.Common.{◌<◌, ◌+◌, length, get_or, take}
-use Rattle.std.specs.Prelude.{if◌then◌else◌, not}
-use Rattle.std.specs.List.{filter}
-use Rattle.std.proofs.lemmas.List.{take_more}
-use Rattle.bufr_walk.specs.Settings.{Redefined, reference_in, without}
-use Rattle.bufr_walk.specs.InForce.{latest, latest_onto}
-use Rattle.bufr_walk.specs.declared.in_force.Redefinition.{Redefinition}
+use Rattle.std.specs.Prelude.{if◌then◌else◌, nat_lt, cond, Some}
+use Rattle.std.specs.Ordering.{nat_cmp, is_eq, match_ordering}
+use Rattle.std.specs.declared.cmp.Ordering.TheVariants.{Less, Equal, Greater}
+use Rattle.std.specs.BTreeMap.{insert_entry, is_at}
+use Rattle.std.specs.Map.{lookup}
+use Rattle.std.specs.Option.{unwrap_or}
+use Rattle.std.specs.Cmp.{unsigned_tied}
+use Rattle.bufr_walk.specs.Settings.{Redefined, reference_in, with_reference}
+use Rattle.bufr_walk.specs.InForce.{known_by}
 use Rattle.std.specs.Prelude.{◌%◌, unsigned_abs}
 use Rattle.bufr_tables.specs.declared.kind.Kind.{Kind}
 use Rattle.bufr_tables.specs.declared.kind.Kind.TheVariants as kind
@@ -54,29 +56,100 @@ inserted_width fxy legal x = by (x_of fxy) (y_of fxy) (equal_from (x_of fxy) 5 x
     by : (x y : ℕ) → x ≡ 5 → has_legal_operand x y ≡ true → y ≤ 255 → HasWidth kind.Character (8 * y)
     by x y e h most = let some : 1 ≤ y = le_from y (subst (λ z. has_legal_operand z y ≡ true) e h) in (omega arith, omega arith, omega arith)
 
-latest_onto_more : (kept : List Redefinition) (r : Redefinition) (known : List Redefined) → latest_onto (kept ++ r ∷ []) known ≡ record { fxy = r.fxy; reference = r.reference } ∷ latest_onto kept known
-latest_onto_more [] r known = refl
-latest_onto_more (k ∷ kept) r known = latest_onto_more kept r (record { fxy = k.fxy; reference = k.reference } ∷ known)
-
-pub latest_more : (kept : List Redefinition) (r : Redefinition) → latest (kept ++ r ∷ []) ≡ record { fxy = r.fxy; reference = r.reference } ∷ latest kept
-latest_more kept r = latest_onto_more kept r []
-
--- where the reference of an element is dropped from what is kept, those of others are left
-latest_onto_others : (fxy : ℕ) (kept : List Redefinition) (known : List Redefined) → latest_onto (filter (λ r. not (r.fxy == fxy)) kept) (without fxy known) ≡ without fxy (latest_onto kept known)
-latest_onto_others fxy [] known = refl
-latest_onto_others fxy (k ∷ kept) known =
-    let r : Redefined = record { fxy = k.fxy; reference = k.reference } in
-    by (k.fxy == fxy) ∙ latest_onto_others fxy kept (r ∷ known)
+-- the references as the map of their words keeps them
+pub known_more : (kept : List (ℕ × ℤ)) (fxy : ℕ) (reference : ℤ) → known_by (insert_entry nat_cmp kept fxy reference) ≡ with_reference fxy reference (known_by kept)
+known_more [] fxy reference = refl
+known_more (e ∷ kept) fxy reference = by (nat_lt fxy e.0) (fxy == e.0) (known_more kept fxy reference)
   where
-    others : List Redefinition
-    others = filter (λ r. not (r.fxy == fxy)) kept
+    by : (below same : Bool) → known_by (insert_entry nat_cmp kept fxy reference) ≡ with_reference fxy reference (known_by kept)
+        → known_by (match_ordering (cond below Less (cond same Equal Greater)) ((fxy, reference) ∷ e ∷ kept) ((e.0, reference) ∷ kept) (e ∷ insert_entry nat_cmp kept fxy reference))
+        ≡ (if below then record { fxy = fxy; reference = reference } ∷ known_by (e ∷ kept) else if same then record { fxy = e.0; reference = reference } ∷ known_by kept else record { fxy = e.0; reference = e.1 } ∷ with_reference fxy reference (known_by kept))
+    by true same more = refl
+    by false true more = refl
+    by false false more = let r : Redefined = record { fxy = e.0; reference = e.1 } in ap (λ known. r ∷ known) more
 
-    by : (b : Bool) → latest_onto (if not b then k ∷ others else others) (without fxy known) ≡ latest_onto others (if b then without fxy known else record { fxy = k.fxy; reference = k.reference } ∷ without fxy known)
-    by true = refl
-    by false = refl
+not_below : (n : ℕ) → nat_lt n n ≡ false
+not_below n = grind (arith, nat_tests)
 
-pub latest_others : (fxy : ℕ) (kept : List Redefinition) → latest (filter (λ r. not (r.fxy == fxy)) kept) ≡ without fxy (latest kept)
-latest_others fxy kept = latest_onto_others fxy kept []
+same_is : (n : ℕ) → (n == n) ≡ true
+same_is n = grind (arith, nat_tests)
+
+with_first : (fxy : ℕ) (old reference : ℤ) (known : List Redefined) → with_reference fxy reference (record { fxy = fxy; reference = old } ∷ known) ≡ record { fxy = fxy; reference = reference } ∷ known
+with_first fxy old reference known = by (nat_lt fxy fxy) (fxy == fxy) (not_below fxy) (same_is fxy)
+  where
+    by : (below same : Bool) → below ≡ false → same ≡ true
+        → (if below then record { fxy = fxy; reference = reference } ∷ record { fxy = fxy; reference = old } ∷ known else if same then record { fxy = fxy; reference = reference } ∷ known else record { fxy = fxy; reference = old } ∷ with_reference fxy reference known)
+        ≡ record { fxy = fxy; reference = reference } ∷ known
+    by true same p q = absurd cc
+    by false true p q = refl
+    by false false p q = absurd cc
+
+-- of two references of an element the second counts
+pub with_again : (fxy : ℕ) (old reference : ℤ) (known : List Redefined) → with_reference fxy reference (with_reference fxy old known) ≡ with_reference fxy reference known
+with_again fxy old reference [] = with_first fxy old reference []
+with_again fxy old reference (r ∷ known) = by (nat_lt fxy r.fxy) (fxy == r.fxy) refl refl (with_again fxy old reference known)
+  where
+    among : (x : Redefined) (more : List Redefined) (below same : Bool) → List Redefined
+    among x more below same =
+        if below then record { fxy = fxy; reference = reference } ∷ x ∷ more
+        else if same then record x { reference = reference } ∷ more
+        else x ∷ with_reference fxy reference more
+
+    by : (below same : Bool) → nat_lt fxy r.fxy ≡ below → (fxy == r.fxy) ≡ same
+        → with_reference fxy reference (with_reference fxy old known) ≡ with_reference fxy reference known
+        → with_reference fxy reference (if below then record { fxy = fxy; reference = old } ∷ r ∷ known else if same then record r { reference = old } ∷ known else r ∷ with_reference fxy old known)
+        ≡ among r known below same
+    by true same p q again = with_first fxy old reference (r ∷ known)
+    by false true p q again = ap (λ b. among (record r { reference = old }) known b (fxy == r.fxy)) p ∙ ap (λ b. among (record r { reference = old }) known false b) q
+    by false false p q again =
+        ap (λ b. among r (with_reference fxy old known) b (fxy == r.fxy)) p ∙ ap (λ b. among r (with_reference fxy old known) false b) q
+        ∙ ap (λ more. r ∷ more) again
+
+same_either_way : (a b : ℕ) → (a == b) ≡ (b == a)
+same_either_way a b = grind (arith, nat_tests)
+
+-- the reference that the map of words has, where it has one
+pub reference_found : (kept : List (ℕ × ℤ)) (fxy : ℕ) (listed : ℤ) → unwrap_or (lookup (is_at (nat_cmp fxy)) kept) listed ≡ reference_in (known_by kept) fxy listed
+reference_found [] fxy listed = refl
+reference_found (e ∷ kept) fxy listed = by (is_eq (nat_cmp fxy e.0)) (e.0 == fxy) (unsigned_tied fxy e.0 ∙ same_either_way fxy e.0) (reference_found kept fxy listed)
+  where
+    by : (a b : Bool) → a ≡ b → unwrap_or (lookup (is_at (nat_cmp fxy)) kept) listed ≡ reference_in (known_by kept) fxy listed
+        → unwrap_or (cond a (Some e.1) (lookup (is_at (nat_cmp fxy)) kept)) listed ≡ (if b then e.1 else reference_in (known_by kept) fxy listed)
+    by true true q more = refl
+    by false false q more = more
+    by true false q more = absurd cc
+    by false true q more = absurd cc
+
+equal_from : (a b : ℕ) → (a == b) ≡ true → a ≡ b
+equal_from a b h = grind (arith, nat_tests)
+
+differ : (a b c : ℕ) → (a == b) ≡ false → (b == c) ≡ true → (a == c) ≡ true → ⊥
+differ a b c h g k = grind (arith, nat_tests)
+
+-- an element has the reference that was given to it last, and every other the one that it had
+pub given_last : (fxy : ℕ) (reference : ℤ) (known : List Redefined) (other : ℕ) (listed : ℤ) → reference_in (with_reference fxy reference known) other listed ≡ (if fxy == other then reference else reference_in known other listed)
+given_last fxy reference [] other listed = refl
+given_last fxy reference (r ∷ known) other listed = by (nat_lt fxy r.fxy) (fxy == r.fxy) (r.fxy == other) (fxy == other) refl refl refl (given_last fxy reference known other listed)
+  where
+    others : Bool → ℤ → ℤ
+    others a before = if a then r.reference else before
+
+    by : (below same a b : Bool) → (fxy == r.fxy) ≡ same → (r.fxy == other) ≡ a → (fxy == other) ≡ b
+        → reference_in (with_reference fxy reference known) other listed ≡ (if b then reference else reference_in known other listed)
+        → reference_in (if below then record { fxy = fxy; reference = reference } ∷ r ∷ known else if same then record r { reference = reference } ∷ known else r ∷ with_reference fxy reference known) other listed
+        ≡ (if b then reference else others a (reference_in known other listed))
+    by true same a b p q t more = ap (λ x. if x then reference else if r.fxy == other then r.reference else reference_in known other listed) t ∙ ap (λ x. if b then reference else others x (reference_in known other listed)) q
+    by false true a b p q t more =
+        ap (λ x. if x then reference else reference_in known other listed) q ∙ at a b (sym q ∙ ap (λ n. n == other) (sym (equal_from fxy r.fxy p)) ∙ t)
+      where
+        at : (a b : Bool) → a ≡ b → (if a then reference else reference_in known other listed) ≡ (if b then reference else others a (reference_in known other listed))
+        at true true e = refl
+        at false false e = refl
+        at true false e = absurd cc
+        at false true e = absurd cc
+    by false false true true p q t more = absurd (differ fxy r.fxy other p q t)
+    by false false true false p q t more = ap (λ x. if x then r.reference else reference_in (with_reference fxy reference known) other listed) q
+    by false false false b p q t more = ap (λ x. if x then r.reference else reference_in (with_reference fxy reference known) other listed) q ∙ more
 
 pub power_small : (y : ℕ) → y ≤ 18 → 10 ^ y ≤ 10 ^ 18
 power_small y h = pow-le-pow_right {n = 10} (omega arith) h
@@ -88,25 +161,6 @@ product_small r y h g =
     let a : unsigned_abs r * 10 ^ y ≤ unsigned_abs r * 10 ^ 18 = mul-le-mul_left (unsigned_abs r) p in
     let b : unsigned_abs r * 10 ^ 18 ≤ 2 ^ 63 * 10 ^ 18 = mul-le-mul_right (10 ^ 18) h in
     omega (arith, e, a, b)
-
--- the latest reference, after one redefinition more
-reference_more : (kept : List Redefinition) (i : ℕ) (r : Redefinition) (fxy : ℕ) (listed : ℤ) → i < length kept → r ≡ get_or kept i r → reference_in (latest (take (i + 1) kept)) fxy listed ≡ (if r.fxy == fxy then r.reference else reference_in (latest (take i kept)) fxy listed)
-reference_more kept i r fxy listed h is =
-    ap (λ rs. reference_in rs fxy listed) (ap latest (take_more kept i r h ∙ ap (λ x. take i kept ++ x ∷ []) (sym is)) ∙ latest_more (take i kept) r)
-
-equal_is : (a b : ℕ) → a ≡ b → (a == b) ≡ true
-equal_is a b h = grind (arith, nat_tests)
-
-other_is : (a b : ℕ) → (a ≡ b → ⊥) → (a == b) ≡ false
-other_is a b h = grind (arith, nat_tests)
-
-pub reference_here : (kept : List Redefinition) (place i : ℕ) (r : Redefinition) (fxy : ℕ) (listed : ℤ) → place ≡ i + 1 → i < length kept → r ≡ get_or kept i r → r.fxy ≡ fxy → r.reference ≡ reference_in (latest (take place kept)) fxy listed
-reference_here kept place i r fxy listed at h is e =
-    sym (ap (λ j. reference_in (latest (take j kept)) fxy listed) at ∙ reference_more kept i r fxy listed h is ∙ ap (λ b. if b then r.reference else reference_in (latest (take i kept)) fxy listed) (equal_is r.fxy fxy e))
-
-pub reference_before : (kept : List Redefinition) (place i : ℕ) (r : Redefinition) (fxy : ℕ) (listed : ℤ) → place ≡ i + 1 → i < length kept → r ≡ get_or kept i r → (r.fxy ≡ fxy → ⊥) → reference_in (latest (take place kept)) fxy listed ≡ reference_in (latest (take i kept)) fxy listed
-reference_before kept place i r fxy listed at h is e =
-    ap (λ j. reference_in (latest (take j kept)) fxy listed) at ∙ reference_more kept i r fxy listed h is ∙ ap (λ b. if b then r.reference else reference_in (latest (take i kept)) fxy listed) (other_is r.fxy fxy e)
 
 pub some_width : (a : Asked) → IsSpec a → 1 ≤ a.width
 some_width a h = by a.kind a.width h.width

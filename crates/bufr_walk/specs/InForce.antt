@@ -1,29 +1,24 @@
 -- The settings in force, as the walk keeps them.
 -- Cited by private steps only.
-use Rattle.std.specs.Prelude.{◌≤◌, List, [], ◌∷◌}
+use Rattle.std.specs.Prelude.{◌≤◌, ℕ, ℤ, List, [], ◌∷◌}
 use Rattle.bufr_walk.specs.Settings.{Settings, Redefined}
 use Rattle.bufr_walk.specs.declared.in_force.Operands.{Operands}
-use Rattle.bufr_walk.specs.declared.in_force.Redefinition.{Redefinition}
 
--- redefined references, the latest first, before others
-abbrev pub latest_onto : List Redefinition → List Redefined → List Redefined
-latest_onto [] known = known
-latest_onto (r ∷ later) known = latest_onto later (record { fxy = r.fxy; reference = r.reference } ∷ known)
-
--- kept in the order in which they came
-abbrev pub latest : List Redefinition → List Redefined
-latest kept = latest_onto kept []
+-- redefined references, by the words of their descriptors
+abbrev pub known_by : List (ℕ × ℤ) → List Redefined
+known_by [] = []
+known_by (e ∷ more) = record { fxy = e.0; reference = e.1 } ∷ known_by more
 
 -- operands and redefined references together
-abbrev pub set_by : Operands → List Redefinition → Settings
-set_by o kept = record {
+abbrev pub set_by : Operands → List Redefined → Settings
+set_by o known = record {
   widened = o.widened;
   rescaled = o.rescaled;
   defining = o.defining;
   refined = o.refined;
   lettered = o.lettered;
   given = o.given;
-  redefined = latest kept;
+  redefined = known;
 }
 
 -- operands of legal operators

@@ -14,7 +14,7 @@ pub record Redefined : Type 0 where
 
 -- the operand of each operator in force, 0 where none is: changed width, changed scale, references that are being defined and their width,
 -- increased precision, changed text width, and the width that is given to the next descriptor; and the references defined, one for an element,
--- the latest first
+-- in the order of descriptors
 pub record Settings : Type 0 where
   pub widened : ℕ
   pub rescaled : ℕ
@@ -55,14 +55,13 @@ after_operator s fxy =
     if is_defining s && not (x_of fxy == 3 && y_of fxy == 255) then Err (refusal.Defining fxy)
     else Ok (with_operator (x_of fxy) (y_of fxy) s)
 
--- the references of other elements
-abbrev pub without : (fxy : ℕ) → List Redefined → List Redefined
-without fxy [] = []
-without fxy (r ∷ more) = if r.fxy == fxy then without fxy more else r ∷ without fxy more
-
 -- the references with that of an element, in place of the one that it had
 abbrev pub with_reference : (fxy : ℕ) → (reference : ℤ) → List Redefined → List Redefined
-with_reference fxy reference known = record { fxy = fxy; reference = reference } ∷ without fxy known
+with_reference fxy reference [] = record { fxy = fxy; reference = reference } ∷ []
+with_reference fxy reference (r ∷ more) =
+    if nat_lt fxy r.fxy then record { fxy = fxy; reference = reference } ∷ r ∷ more
+    else if fxy == r.fxy then record r { reference = reference } ∷ more
+    else r ∷ with_reference fxy reference more
 
 -- what a field makes of the settings: a given width is used up, and a reference is kept
 abbrev pub after_field : Settings → ℕ → Taken → Settings
@@ -70,7 +69,7 @@ after_field s fxy taken.Plain = record s { given = 0 }
 after_field s fxy (taken.Count n) = record s { given = 0 }
 after_field s fxy (taken.Reference r) = record s { given = 0; redefined = with_reference fxy r s.redefined }
 
--- the reference of an element: the latest that the data gave it, or that of Table B
+-- the reference of an element: that which the data gave it, or that of Table B
 abbrev pub reference_in : List Redefined → ℕ → ℤ → ℤ
 reference_in [] fxy listed = listed
 reference_in (r ∷ more) fxy listed = if r.fxy == fxy then r.reference else reference_in more fxy listed

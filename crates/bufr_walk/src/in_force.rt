@@ -1,12 +1,14 @@
 //! What the operators have set, and how a field is read under it.
-ghost use Rattle.std.specs.Prelude.{◌≡◌, ◌≤◌, ◌<◌, ◌*◌, ◌+◌, ◌^◌, ◌+ℤ◌, ◌*ℤ◌, if◌then◌else◌, ◌==◌, pos, unsigned_abs, length, Result, Ok, Err, Some, OnOk, OnErr, IfOk, IfErr, true, false, [], ◌∷◌, filter, not, vec_len, vec_capacity};
+ghost use Rattle.std.specs.Prelude.{◌≡◌, ◌≤◌, ◌<◌, ◌*◌, ◌+◌, ◌^◌, ◌+ℤ◌, ◌*ℤ◌, if◌then◌else◌, ◌==◌, pos, unsigned_abs, List, Result, Ok, Err, Some, OnOk, OnErr, IfOk, IfErr, IsSome, true, false};
+ghost use Rattle.std.specs.Ordering.{nat_cmp};
+ghost use Rattle.std.specs.BTreeMap.{get};
 ghost use Rattle.bufr_tables.specs.Entry.{row_with};
 ghost use Rattle.bufr_tables.specs.Operators.{is_legal_operator};
 ghost use Rattle.bufr_tables.specs.TableB.{IsRow, entry_of, is_character};
 ghost use Rattle.bufr_tables.specs.Tree.{is_inserted_text};
 ghost use Rattle.bufr_walk.specs.Rules.{fitting, quantity, figure, by_kind, defined_by, unsigned_of, given_by, element_spec, factor_by, factor_spec, inserted_spec, change_of, changed_width, extra_bits, text_width};
-ghost use Rattle.bufr_walk.specs.Settings.{Settings, begin, after_operator, after_field, reference_in, with_reference};
-ghost use Rattle.bufr_walk.specs.InForce.{AreOperands, latest, set_by};
+ghost use Rattle.bufr_walk.specs.Settings.{Settings, Redefined, begin, after_operator, after_field, reference_in, with_reference};
+ghost use Rattle.bufr_walk.specs.InForce.{AreOperands, known_by, set_by};
 ghost use Rattle.bufr_walk.specs.declared.in_force.Operands.{Operands};
 ghost use Rattle.bufr_tables.specs.declared.kind.Kind.TheVariants as kinds;
 
@@ -14,7 +16,8 @@ use crate::fields::Fields;
 use crate::spec::{Refusal, Role, Spec, Taken};
 use crate::walking::WalkStop;
 use bufr_tables::{Entry, Fxy, Kind, TableB};
-use std::alloc::Global;
+use std::alloc::{AllocError, Global};
+use std::collections::BTreeMap;
 use std::marker::Model;
 
 /// The operand of each operator in force, 0 where none is.
@@ -43,18 +46,12 @@ fn nothing() -> Operands
     }
 }
 
-/// A reference that the data gave to an element.
-#[derive(Clone, Copy)]
-pub(crate) struct Redefinition {
-    fxy: Fxy,
-    reference: i64,
-}
-
-/// What the operators have set so far, and the references that the data gave.
+/// What the operators have set so far, and the references that the data gave, by the word of their descriptor: data may
+/// define thousands of them, and each item looks for its own.
 #[derive(Drop)]
 pub(crate) struct InForce {
     operands: Operands,
-    redefined: Vec<Redefinition>,
+    redefined: BTreeMap<u16, i64>,
 }
 
 impl Model for InForce {
@@ -62,55 +59,46 @@ impl Model for InForce {
 
     ghost Value = { Settings };
 
-    ghost use Rattle.bufr_walk.specs.InForce.{AreOperands, set_by};
+    ghost use Rattle.bufr_walk.specs.InForce.{AreOperands, known_by, set_by};
 
-    ghost view = { λ a. set_by a.operands a.redefined.items };
+    ghost view = { λ a. set_by a.operands (known_by a.redefined.entries) };
 
     ghost invariant = { λ a. AreOperands a.operands };
 }
 
-/// Drops the reference of an element, if it has one.
-fn forget(redefined: &mut Vec<Redefinition>, fxy: Fxy)
-    ensures items { redefined.new.items ≡ filter (λ r. not (r.fxy == fxy)) redefined.old.items }
-    ensures len { vec_len redefined.new ≤ vec_len redefined.old }
-    ensures capacity { vec_capacity redefined.new ≡ vec_capacity redefined.old }
+/// Makes room for the reference of an element, which is 0 then.
+#[tactic(auto, using(crate::proofs::SpecLemmas::known_more))]
+fn make_room(redefined: &mut BTreeMap<u16, i64>, fxy: Fxy) -> Result<(), AllocError>
+    ensures known { OnOk result (known_by redefined.new.entries ≡ with_reference fxy (pos 0) (known_by redefined.old.entries)) }
+    ensures room { OnOk result (IsSome (get nat_cmp redefined.new fxy)) }
 {
-    redefined.retain(|given| given.fxy.word() != fxy.word());
+    redefined.insert(fxy.word(), 0)?;
+    Ok(())
 }
 
-/// Keeps a reference that the data gave, for which there is room, in place of the one that the element had: else data could
-/// make the list long, and each look into it slow.
-fn redefine(redefined: &mut Vec<Redefinition>, fxy: Fxy, reference: i64)
-    requires { vec_len redefined.old < vec_capacity redefined.old }
-    ensures { latest redefined.new.items ≡ with_reference fxy reference (latest redefined.old.items) }
+/// Keeps a reference that the data gave, for which there is room, in place of the one that the element has.
+#[tactic(auto, using(crate::proofs::SpecLemmas::known_more))]
+fn redefine(redefined: &mut BTreeMap<u16, i64>, fxy: Fxy, reference: i64)
+    requires { IsSome (get nat_cmp redefined.old fxy) }
+    ensures { known_by redefined.new.entries ≡ with_reference fxy reference (known_by redefined.old.entries) }
 {
-    forget(redefined, fxy);
-    match redefined.push(Redefinition { fxy, reference }) {
-        Ok(()) => {}
+    match redefined.insert(fxy.word(), reference) {
+        Ok(_) => {}
         Err(_) => unreachable!(),
     }
 }
 
-/// The latest reference of an element, or the listed one.
-fn reference_of(redefined: &[Redefinition], fxy: Fxy, listed: i64) -> i64
-    ensures { result ≡ reference_in (latest redefined.now) fxy listed }
+/// The reference that the data gave to an element, or the listed one.
+#[tactic(auto, using(crate::proofs::SpecLemmas::reference_found))]
+#[inline(always)]
+fn reference_of(redefined: &BTreeMap<u16, i64>, fxy: Fxy, entry: &Entry<'_>) -> i64
+    ensures { result ≡ reference_in (known_by redefined.now.entries) fxy entry.now.reference }
 {
-    let mut place = redefined.len();
-    while place > 0 {
-        place -= 1;
-        let given = &redefined[place];
-        if given.fxy.word() == fxy.word() {
-            return told(given);
-        }
+    if redefined.is_empty() {
+        return entry.reference;
     }
-    listed
-}
-
-/// The reference that the data gave.
-fn told(given: &Redefinition) -> i64
-    ensures { result ≡ given.now.reference }
-{
-    given.reference
+    let given = redefined.get(&fxy.word()).copied();
+    given.unwrap_or(entry.reference)
 }
 
 /// A width with the changes in force.
@@ -177,15 +165,14 @@ fn scaled(reference: i64, refined: u8) -> i128
 #[inline(always)]
 fn quantity(
     operands: Operands,
-    redefined: &[Redefinition],
+    reference: i64,
     fxy: Fxy,
     entry: &Entry<'_>,
 ) -> Result<Spec, Refusal>
     requires row { IsRow (row_with fxy entry.now) }
     requires operands { AreOperands operands }
-    ensures { result ≡ fitting (quantity (set_by operands redefined.now) (row_with fxy entry.now)) }
+    ensures { (known : List Redefined) → reference ≡ reference_in known fxy entry.now.reference → result ≡ fitting (quantity (set_by operands known) (row_with fxy entry.now)) }
 {
-    let reference = reference_of(redefined, fxy, entry.reference);
     Spec::number(
         fxy,
         Role::Element,
@@ -200,11 +187,10 @@ fn quantity(
 
 /// A figure of a code table.
 #[inline(always)]
-fn figure(redefined: &[Redefinition], fxy: Fxy, entry: &Entry<'_>) -> Result<Spec, Refusal>
+fn figure(reference: i64, fxy: Fxy, entry: &Entry<'_>) -> Result<Spec, Refusal>
     requires row { IsRow (row_with fxy entry.now) }
-    ensures { (operands : Operands) → result ≡ fitting (figure (set_by operands redefined.now) (row_with fxy entry.now)) }
+    ensures { (operands : Operands) (known : List Redefined) → reference ≡ reference_in known fxy entry.now.reference → result ≡ fitting (figure (set_by operands known) (row_with fxy entry.now)) }
 {
-    let reference = reference_of(redefined, fxy, entry.reference);
     Spec::number(
         fxy,
         Role::Element,
@@ -229,21 +215,16 @@ fn lettered(width: u32, lettered: u8) -> u32
     }
 }
 
-/// An element by its row.
+/// An element by its row and its reference.
 #[inline(always)]
-fn by_kind(
-    operands: Operands,
-    redefined: &[Redefinition],
-    fxy: Fxy,
-    entry: &Entry<'_>,
-) -> Result<Spec, Refusal>
+fn by_kind(operands: Operands, reference: i64, fxy: Fxy, entry: &Entry<'_>) -> Result<Spec, Refusal>
     requires row { IsRow (row_with fxy entry.now) }
     requires operands { AreOperands operands }
-    ensures { result ≡ by_kind entry.now.kind (set_by operands redefined.now) (row_with fxy entry.now) }
+    ensures { (known : List Redefined) → reference ≡ reference_in known fxy entry.now.reference → result ≡ by_kind entry.now.kind (set_by operands known) (row_with fxy entry.now) }
 {
     match entry.kind {
-        Kind::Numeric => quantity(operands, redefined, fxy, entry),
-        Kind::Coded => figure(redefined, fxy, entry),
+        Kind::Numeric => quantity(operands, reference, fxy, entry),
+        Kind::Coded => figure(reference, fxy, entry),
         Kind::Character => Ok(Spec::text(
             Role::Element,
             fxy,
@@ -297,8 +278,7 @@ fn given(given: u8, fxy: Fxy, entry: &Entry<'_>) -> Result<Spec, Refusal>
     ensures { (s : Settings) → s.given ≡ given → result ≡ given_by (Some (row_with fxy entry.now)) s fxy }
 {
     if entry.width == u32::from(given) {
-        let none: [Redefinition; 0] = [];
-        by_kind(nothing(), &none, fxy, entry)
+        by_kind(nothing(), entry.reference, fxy, entry)
     } else {
         unsigned(fxy, given)
     }
@@ -338,7 +318,7 @@ impl InForce {
     {
         InForce {
             operands: nothing(),
-            redefined: Vec::new(alloc),
+            redefined: BTreeMap::new(alloc),
         }
     }
 
@@ -355,7 +335,8 @@ impl InForce {
                 } else if operands.defining > 0 {
                     defined(operands.defining, fxy, entry.kind)
                 } else {
-                    by_kind(operands, self.redefined.as_slice(), fxy, &entry)
+                    let reference = reference_of(&self.redefined, fxy, &entry);
+                    by_kind(operands, reference, fxy, &entry)
                 }
             }
             None => {
@@ -429,6 +410,7 @@ impl InForce {
     }
 
     /// Takes a reference, and keeps it. The place for it is made before.
+    #[tactic(auto, using(crate::proofs::SpecLemmas::with_again))]
     fn take_reference<S: Fields>(
         &mut self,
         fxy: Fxy,
@@ -439,7 +421,7 @@ impl InForce {
         ensures took { Took S.takes (Ok spec.now) fields.old result fields.new }
         ensures kept { IfOk result (λ t. self.new ≡ after_field self.old fxy t) }
     {
-        match self.redefined.reserve(1) {
+        match make_room(&mut self.redefined, fxy) {
             Ok(()) => {}
             Err(_) => return Err(WalkStop::Memory),
         }
