@@ -129,6 +129,69 @@ pub(crate) fn run_over<R: Source>(
     run_by(rt.alloc(), &read_tables(rt), command, input, output, errors)
 }
 
+/// No message and no fault, for runs that do not come to a tally.
+const NONE: Tally = Tally {
+    accepted: 0,
+    refused: 0,
+};
+
+/// A run over an input in memory, and what is wanted of it where no device fails.
+struct Wanted<'a> {
+    command: Command,
+    name: &'a str,
+    input: &'a [u8],
+    output: &'a [u8],
+    errors: &'a [u8],
+    tally: Tally,
+}
+
+/// A writer that takes so many octets, at most `step` of them at once, and then fails so.
+fn writer(
+    rt: &(impl Abort + AllocGlobal),
+    room: usize,
+    step: usize,
+    end: End,
+) -> Result<ScriptOut, Fail>
+    requires { 1 ≤ step }
+{
+    Ok(ScriptOut::new(rt.alloc(), room, step, end)?)
+}
+
+/// Runs a command over an input that gives at most `step` octets a read, and may fail at a place.
+fn run_in_steps(
+    rt: &(impl Abort + AllocGlobal),
+    tables: &Tables,
+    command: Command,
+    input: &[u8],
+    step: usize,
+    place: Option<usize>,
+    output: ScriptOut,
+    errors: ScriptOut,
+) -> Ran
+    requires { 1 ≤ step }
+{
+    let mut r = ScriptIn::new(input, step, place);
+    run_by(rt.alloc(), tables, command, &mut r, output, errors)
+}
+
+/// Asserts what comes of a run over devices that take and give so many octets at once.
+fn assert_run_in_steps(
+    rt: &(impl Abort + AllocGlobal),
+    tables: &Tables,
+    wanted: &Wanted<'_>,
+    step: usize,
+) -> Result<(), Fail>
+    requires { 1 ≤ step }
+{
+    let w = writer(rt, wanted.output.len().saturating_add(64), step, End::Fail)?;
+    let e = writer(rt, wanted.errors.len().saturating_add(64), step, End::Fail)?;
+    let (command, input) = (wanted.command, wanted.input);
+    let ran = run_in_steps(rt, tables, command, input, step, None, w, e);
+    let answer = Ok(wanted.tally);
+    ran.assert_left(rt, wanted.name, step, answer, wanted.output, wanted.errors);
+    Ok(())
+}
+
 /// Runs a command over `input`, however it is read, and asserts what comes of it.
 pub(crate) fn assert_run(
     rt: &(impl Abort + AllocGlobal),
@@ -139,14 +202,47 @@ pub(crate) fn assert_run(
     errors: &[u8],
     tally: Tally,
 ) -> Result<(), Fail> {
+    let wanted = Wanted {
+        command,
+        name,
+        input,
+        output,
+        errors,
+        tally,
+    };
     let tables = read_tables(rt);
-    for step in [1, 3, 7, 4096] {
-        let mut r = ScriptIn::new(input, step, None);
-        let w = ScriptOut::new(rt.alloc(), output.len().saturating_add(64), step, End::Fail)?;
-        let e = ScriptOut::new(rt.alloc(), errors.len().saturating_add(64), step, End::Fail)?;
-        let ran = run_by(rt.alloc(), &tables, command, &mut r, w, e);
-        ran.assert_left(rt, name, step, Ok(tally), output, errors);
+    assert_run_in_steps(rt, &tables, &wanted, 1)?;
+    assert_run_in_steps(rt, &tables, &wanted, 3)?;
+    assert_run_in_steps(rt, &tables, &wanted, 7)?;
+    assert_run_in_steps(rt, &tables, &wanted, 4096)
+}
+
+/// What a run answers whose writer has room for so many octets of `text`, and then ends so.
+fn answer_at(room: usize, text: &[u8], end: End, tally: Tally) -> Result<Tally, RunFault> {
+    if room < text.len() || end == End::Flush {
+        Err(RunFault::Write)
+    } else {
+        Ok(tally)
     }
+}
+
+/// An output with this room that fails so has taken a front of the whole, and the errors all that
+/// stands before.
+fn assert_stops_at_the_output(
+    rt: &(impl Abort + AllocGlobal),
+    tables: &Tables,
+    wanted: &Wanted<'_>,
+    end: End,
+    room: usize,
+) -> Result<(), Fail> {
+    let whole = wanted.output;
+    let w = writer(rt, room, 5, end)?;
+    let e = writer(rt, wanted.errors.len(), 5, End::Fail)?;
+    let (command, input) = (wanted.command, wanted.input);
+    let ran = run_in_steps(rt, tables, command, input, 4096, None, w, e);
+    let front = whole.get(..room).unwrap_or(whole);
+    let answer = answer_at(room, whole, end, wanted.tally);
+    ran.assert_left(rt, wanted.name, room, answer, front, wanted.errors);
     Ok(())
 }
 
@@ -156,27 +252,50 @@ pub(crate) fn assert_stops_at_failed_writes(
     rt: &(impl Abort + AllocGlobal),
     command: Command,
     input: &[u8],
-    whole: &[u8],
+    output: &[u8],
     errors: &[u8],
     tally: Tally,
 ) -> Result<(), Fail> {
+    let wanted = Wanted {
+        command,
+        name: "room",
+        input,
+        output,
+        errors,
+        tally,
+    };
     let tables = read_tables(rt);
-    for end in [End::Fail, End::Zero, End::Flush] {
-        for room in 0..whole.len().saturating_add(1) {
-            let w = ScriptOut::new(rt.alloc(), room, 5, end)?;
-            let e = ScriptOut::new(rt.alloc(), errors.len(), 5, End::Fail)?;
-            let mut r = ScriptIn::new(input, 4096, None);
-            let ran = run_by(rt.alloc(), &tables, command, &mut r, w, e);
-            let front = whole.get(..room).unwrap_or(whole);
-            let fails = room < whole.len() || end == End::Flush;
-            let answer = if fails {
-                Err(RunFault::Write)
-            } else {
-                Ok(tally)
-            };
-            ran.assert_left(rt, "room", room, answer, front, errors);
-        }
+    for room in 0..output.len().saturating_add(1) {
+        assert_stops_at_the_output(rt, &tables, &wanted, End::Fail, room)?;
+        assert_stops_at_the_output(rt, &tables, &wanted, End::Zero, room)?;
+        assert_stops_at_the_output(rt, &tables, &wanted, End::Flush, room)?;
     }
+    Ok(())
+}
+
+/// The errors' writer with this room that fails so has taken a front of the line; the output has taken
+/// all that stands before it, or all where the line was taken.
+fn assert_stops_at_the_errors(
+    rt: &(impl Abort + AllocGlobal),
+    tables: &Tables,
+    wanted: &Wanted<'_>,
+    before: &[u8],
+    end: End,
+    room: usize,
+) -> Result<(), Fail> {
+    let line = wanted.errors;
+    let w = writer(rt, wanted.output.len(), 1, End::Fail)?;
+    let e = writer(rt, room, 5, end)?;
+    let (command, input) = (wanted.command, wanted.input);
+    let ran = run_in_steps(rt, tables, command, input, 4096, None, w, e);
+    let front = line.get(..room).unwrap_or(line);
+    let answer = answer_at(room, line, end, wanted.tally);
+    let output = if room < line.len() {
+        before
+    } else {
+        wanted.output
+    };
+    ran.assert_left(rt, wanted.name, room, answer, output, front);
     Ok(())
 }
 
@@ -188,27 +307,42 @@ pub(crate) fn assert_stops_at_failed_errors(
     input: &[u8],
     before: &[u8],
     output: &[u8],
-    line: &[u8],
+    errors: &[u8],
     tally: Tally,
 ) -> Result<(), Fail> {
+    let wanted = Wanted {
+        command,
+        name: "room",
+        input,
+        output,
+        errors,
+        tally,
+    };
     let tables = read_tables(rt);
-    for end in [End::Fail, End::Zero, End::Flush] {
-        for room in 0..line.len().saturating_add(1) {
-            let w = ScriptOut::new(rt.alloc(), output.len(), 1, End::Fail)?;
-            let e = ScriptOut::new(rt.alloc(), room, 5, end)?;
-            let mut r = ScriptIn::new(input, 4096, None);
-            let ran = run_by(rt.alloc(), &tables, command, &mut r, w, e);
-            let front = line.get(..room).unwrap_or(line);
-            let fails = room < line.len() || end == End::Flush;
-            let answer = if fails {
-                Err(RunFault::Write)
-            } else {
-                Ok(tally)
-            };
-            let output = if room < line.len() { before } else { output };
-            ran.assert_left(rt, "room", room, answer, output, front);
-        }
+    for room in 0..errors.len().saturating_add(1) {
+        assert_stops_at_the_errors(rt, &tables, &wanted, before, End::Fail, room)?;
+        assert_stops_at_the_errors(rt, &tables, &wanted, before, End::Zero, room)?;
+        assert_stops_at_the_errors(rt, &tables, &wanted, before, End::Flush, room)?;
     }
+    Ok(())
+}
+
+/// A reader that fails at this place stops the run with this output and these errors.
+fn assert_stops_at_the_read(
+    rt: &(impl Abort + AllocGlobal),
+    tables: &Tables,
+    wanted: &Wanted<'_>,
+    step: usize,
+    place: usize,
+) -> Result<(), Fail>
+    requires { 1 ≤ step }
+{
+    let w = writer(rt, 4096, 7, End::Fail)?;
+    let e = writer(rt, 4096, 7, End::Fail)?;
+    let (command, input) = (wanted.command, wanted.input);
+    let ran = run_in_steps(rt, tables, command, input, step, Some(place), w, e);
+    let answer = Err(RunFault::Read);
+    ran.assert_left(rt, wanted.name, place, answer, wanted.output, wanted.errors);
     Ok(())
 }
 
@@ -221,15 +355,18 @@ pub(crate) fn assert_stops_at_failed_reads(
     output: &[u8],
     errors: &[u8],
 ) -> Result<(), Fail> {
+    let wanted = Wanted {
+        command,
+        name: "place",
+        input,
+        output,
+        errors,
+        tally: NONE,
+    };
     let tables = read_tables(rt);
     for place in places {
-        for step in [1, 7] {
-            let mut r = ScriptIn::new(input, step, Some(place));
-            let w = ScriptOut::new(rt.alloc(), 4096, 7, End::Fail)?;
-            let e = ScriptOut::new(rt.alloc(), 4096, 7, End::Fail)?;
-            let ran = run_by(rt.alloc(), &tables, command, &mut r, w, e);
-            ran.assert_left(rt, "place", place, Err(RunFault::Read), output, errors);
-        }
+        assert_stops_at_the_read(rt, &tables, &wanted, 1, place)?;
+        assert_stops_at_the_read(rt, &tables, &wanted, 7, place)?;
     }
     Ok(())
 }

@@ -19,17 +19,17 @@ draft_at (x ∷ items) [] p i rest h e = absurd h
 draft_at (x ∷ items) (d ∷ ds) zero i rest h e = let is : x ≡ i = cc in subst (λ (y : Item Content). IsCellOf y.spec y.content (Some d)) is h.0
 draft_at (x ∷ items) (d ∷ ds) (suc p) i rest h e = draft_at items ds p i rest h.1 e
 
-drop-items_of : (j p : ℕ) (items : List (Item (List Content))) → drop p (items_of j items) ≡ items_of j (drop p items)
+pub drop-items_of : (j p : ℕ) (items : List (Item (List Content))) → drop p (items_of j items) ≡ items_of j (drop p items)
 drop-items_of j zero items = refl
 drop-items_of j (suc p) [] = refl
 drop-items_of j (suc p) (i ∷ items) = drop-items_of j p items
 
-content_more : (j : ℕ) (cs : List Content) → j < length cs → drop j cs ≡ content_at j cs ∷ drop (suc j) cs
+pub content_more : (j : ℕ) (cs : List Content) → j < length cs → drop j cs ≡ content_at j cs ∷ drop (suc j) cs
 content_more j [] h = absurd (omega (arith, h))
 content_more zero (c ∷ cs) h = refl
 content_more (suc j) (c ∷ cs) h = content_more j cs (omega (arith, h))
 
-content_none : (j : ℕ) (cs : List Content) → length cs ≡ j → drop j cs ≡ []
+pub content_none : (j : ℕ) (cs : List Content) → length cs ≡ j → drop j cs ≡ []
 content_none zero [] h = refl
 content_none (suc j) [] h = refl
 content_none zero (c ∷ cs) h = absurd (omega (arith, h))
@@ -45,11 +45,11 @@ cells_there items p i rest j (s ∷ ss) e n h =
       cells_there items p i rest (suc j) ss e (omega (arith, n)) h.1,
     )
 
-length-cells : (p : ℕ) (ss : List Subset) → length (cells_at p ss) ≡ length ss
+pub length-cells : (p : ℕ) (ss : List Subset) → length (cells_at p ss) ≡ length ss
 length-cells p [] = refl
 length-cells p (s ∷ ss) = ap suc (length-cells p ss)
 
-drop_next : (items : List (Item (List Content))) (p : ℕ) (i : Item (List Content)) (rest : List (Item (List Content))) → drop p items ≡ i ∷ rest → drop (p + 1) items ≡ rest
+pub drop_next : (items : List (Item (List Content))) (p : ℕ) (i : Item (List Content)) (rest : List (Item (List Content))) → drop p items ≡ i ∷ rest → drop (p + 1) items ≡ rest
 drop_next [] zero i rest e = absurd cc
 drop_next [] (suc p) i rest e = absurd cc
 drop_next (x ∷ items) zero i rest e = cc
@@ -67,13 +67,13 @@ rows_are n items ss (i ∷ rest) p count have h e few = (
   rows_are n items ss rest (p + 1) count have.1 h (drop_next items p i rest e) (let q : p + 1 + length rest ≡ p + length (i ∷ rest) = omega arith in subst (λ k. k * n ≤ most_values) (sym q) few),
 )
 
-drafts_length : {C D : Type 0} (r : Item C → D → Type 0) (items : List (Item C)) (ds : List D) → AreDrafts r items ds → length ds ≡ length items
+pub drafts_length : {C D : Type 0} (r : Item C → D → Type 0) (items : List (Item C)) (ds : List D) → AreDrafts r items ds → length ds ≡ length items
 drafts_length r [] [] h = refl
 drafts_length r [] (d ∷ ds) h = absurd h
 drafts_length r (i ∷ items) [] h = absurd h
 drafts_length r (i ∷ items) (d ∷ ds) h = ap suc (drafts_length r items ds h.1)
 
-length-items_of : (j : ℕ) (items : List (Item (List Content))) → length (items_of j items) ≡ length items
+pub length-items_of : (j : ℕ) (items : List (Item (List Content))) → length (items_of j items) ≡ length items
 length-items_of j [] = refl
 length-items_of j (i ∷ items) = ap suc (length-items_of j items)
 

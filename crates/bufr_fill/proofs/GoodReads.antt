@@ -33,7 +33,7 @@ narrow kind.Numeric w h e = h.1
 narrow kind.Coded w h e = h.1
 narrow kind.Character w h e = absurd cc
 
-told_within : (r : Role) (spec : Asked) (c : Content) → IsSpec spec → HasRole r spec.kind spec.may_be_missing → FitsRole r spec c → IsWithin (told_by r c)
+pub told_within : (r : Role) (spec : Asked) (c : Content) → IsSpec spec → HasRole r spec.kind spec.may_be_missing → FitsRole r spec c → IsWithin (told_by r c)
 told_within role.Element spec c good hr h = tt
 told_within role.Inserted spec c good hr h = tt
 told_within role.Factor spec c good hr h = tt

@@ -1,10 +1,13 @@
 mod ExampleTables
 mod PlainExamples
 mod PackedExamples
+mod ReadBackExamples
 pub mod RoundTrip
 pub mod FieldBits
 pub mod PlainLaws
 pub mod DraftLaws
+pub mod Fitting
+pub mod NormalLemmas
 pub mod LeastLemmas
 pub mod PackedBack
 pub mod PackedRead
@@ -36,6 +39,9 @@ pub mod GrowthSteps
 pub mod AcrossSteps
 pub mod PlainWalks
 pub mod TableRows
+pub mod BackLaws
+pub mod SaidWritten
+pub mod SaidDumped
 pub mod Laws
 pub mod PackedWalks
 pub mod PackedFaults

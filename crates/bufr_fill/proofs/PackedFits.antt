@@ -13,8 +13,10 @@ use Rattle.bufr_walk.specs.Content.{Content, number, text, missing, reference, b
 use Rattle.bufr_walk.specs.PackedField.{packed_field}
 use Rattle.bufr_walk.specs.PlainField.{FieldFault, increment, found}
 use Rattle.bufr_fill.specs.Fits.{FitsNumber, FitsText, FitsKind, FitsRole, AllFit}
+use Rattle.bufr_fill.specs.LeastK.{HasLeastK}
 use Rattle.bufr_fill.specs.Packing.{top, same_octets, are_same, has_bits, gives_again, has_octets, first_from, least_k, octet_bits, packed_bits, packed_by, packed_unlike, packing}
 use Rattle.bufr_fill.proofs.LeastLemmas.{AreNumbers, first_least, first_from_start, octets_self}
+use Rattle.bufr_fill.proofs.LeastPacked.{least_k_packed}
 use Rattle.bufr_fill.proofs.PackedBack.{AreTexts}
 use Rattle.bufr_fill.proofs.PackedLaws.{IsVaried, step_by, IsPacked, uniform, differing, step_element}
 
@@ -143,3 +145,8 @@ module _ (n : ℕ) (spec : Asked) (good : IsSpec spec) where
       let p = by_same (are_same c cs) c cs out fits count refl e in
       let is : out ≡ p.1.out = same_out out p.1.out (sym e ∙ p.1.is) in
       ap (λ bits. packed_field n spec (bits ++ more)) is ∙ p.1.again more
+
+-- and with the least k
+pub fitting_least_k : (n : ℕ) (spec : Asked) (contents : List Content) (out : List Bool) → 1 ≤ n → IsSpec spec → AllFit spec contents → length contents ≡ n → packing spec contents ≡ Ok out → HasLeastK n spec contents
+fitting_least_k n spec [] out some good fits count e = absurd (omega (arith, some, count))
+fitting_least_k n spec (c ∷ cs) out some good fits count e = least_k_packed n spec (c ∷ cs) (out ++ []) [] some good (fitting_again n spec good c cs out [] fits count e)

@@ -300,7 +300,7 @@ follows_plain course (i ∷ items) bits behind specs r =
     let read = plain_read i.spec specs.0 bits r.0.0 i.content r.0.2 in
     ((r.0.1, specs.0, read.0, rest.0), omega (arith, rest.1, read.1, width_least i.spec.kind i.spec.width (specs.0).width))
 
-all_plain : (course : Course) (subsets : List (List (Item Content))) (bits behind : List Bool) → EachSpecs subsets → ReadsSubsets course subsets bits behind → AllFollow course subsets × (total subsets + length behind ≤ length bits)
+pub all_plain : (course : Course) (subsets : List (List (Item Content))) (bits behind : List Bool) → EachSpecs subsets → ReadsSubsets course subsets bits behind → AllFollow course subsets × (total subsets + length behind ≤ length bits)
 all_plain course [] bits behind specs r = (tt, omega (arith, ap length r))
 all_plain course (items ∷ subsets) bits behind specs r =
     let first = follows_plain course items bits r.0 specs.0 r.1 in

@@ -165,7 +165,7 @@ length-subsets_from : (n j : ℕ) (items : List (Item (List Content))) → lengt
 length-subsets_from zero j items = refl
 length-subsets_from (suc n) j items = ap suc (length-subsets_from n (suc j) items)
 
-follow_reading : (n : ℕ) (course : Course) (items : List (Item (List Content))) (bits behind : List Bool) → AllSpecs items → IsPackedReading n course items bits behind → AllFollow course (subsets_from n 0 items)
+pub follow_reading : (n : ℕ) (course : Course) (items : List (Item (List Content))) (bits behind : List Bool) → AllSpecs items → IsPackedReading n course items bits behind → AllFollow course (subsets_from n 0 items)
 follow_reading zero course items bits behind specs r = tt
 follow_reading (suc n) course items bits behind specs r = all_follow (suc n) 0 (suc n) course items bits behind (omega arith) specs r.0
 

@@ -22,19 +22,20 @@ pub record AreRewritten {C D E : Type 0} (form : Form C) (filler : Filler D C E)
   pub again : (more : List Bool) → Reads form course items (out ++ more) more
   pub short : length out + length behind ≤ length bits
 
-module _ {C D E : Type 0} (form : Form C) (filler : Filler D C E) (of_item : Item C → D → Type 0)
-    (same_told : (spec : Asked) (c : C) → filler.tells spec c ≡ form.tells spec c)
-    (one : (i : Item C) (d : D) (bits mid : List Bool) → IsSpec i.spec → of_item i d → form.field i.spec bits ≡ Ok (found i.content mid) → IsRewritten form filler i d bits mid) where
-  fill_end : (n : Next) → n ≡ at_end → fill_none filler n ≡ Ok []
-  fill_end n e = ap (fill_none filler) e
-
+module _ {C D E : Type 0} (form : Form C) (filler : Filler D C E) (same_told : (spec : Asked) (c : C) → filler.tells spec c ≡ form.tells spec c) where
   -- the bits of the first item, and those of the rest
-  join : (course : Course) (i : Item C) (d : D) (ds : List D) (w out : List Bool) → (course []).next ≡ take_next i.spec → filler.fills i.spec d ≡ Ok (written i.content w) → fill filler (after form course i) ds ≡ Ok out → fill filler course (d ∷ ds) ≡ Ok (w ++ out)
+  pub join : (course : Course) (i : Item C) (d : D) (ds : List D) (w out : List Bool) → (course []).next ≡ take_next i.spec → filler.fills i.spec d ≡ Ok (written i.content w) → fill filler (after form course i) ds ≡ Ok out → fill filler course (d ∷ ds) ≡ Ok (w ++ out)
   join course i d ds w out next fills rest =
       ap (λ n. fill_one filler n d (λ t. fill filler (λ told. course (t ∷ told)) ds)) next
       ∙ ap (λ r. filled filler i.spec r (λ t. fill filler (λ told. course (t ∷ told)) ds)) fills
       ∙ ap (λ t. and_behind filler w (fill filler (λ told. course (t ∷ told)) ds)) (same_told i.spec i.content)
       ∙ ap (and_behind filler w) rest
+
+module _ {C D E : Type 0} (form : Form C) (filler : Filler D C E) (of_item : Item C → D → Type 0)
+    (same_told : (spec : Asked) (c : C) → filler.tells spec c ≡ form.tells spec c)
+    (one : (i : Item C) (d : D) (bits mid : List Bool) → IsSpec i.spec → of_item i d → form.field i.spec bits ≡ Ok (found i.content mid) → IsRewritten form filler i d bits mid) where
+  fill_end : (n : Next) → n ≡ at_end → fill_none filler n ≡ Ok []
+  fill_end n e = ap (fill_none filler) e
 
   pub rewritten : (course : Course) (items : List (Item C)) (ds : List D) (bits behind : List Bool) → AllSpecs items → AreDrafts of_item items ds → ReadsAll form course items bits behind → AreRewritten form filler course items ds bits behind
   rewritten course [] [] bits behind specs drafts h = record {
@@ -51,7 +52,7 @@ module _ {C D E : Type 0} (form : Form C) (filler : Filler D C E) (of_item : Ite
       let rest = rewritten (after form course i) items ds mid behind specs.1 drafts.1 (h.0.3, h.1) in
       record {
         out = here.out ++ rest.out;
-        fills = join course i d ds here.out rest.out h.0.1 here.fills rest.fills;
+        fills = join form filler same_told course i d ds here.out rest.out h.0.1 here.fills rest.fills;
         again = λ more. (rest.out ++ more, h.0.1, subst (λ bits'. form.field i.spec bits' ≡ Ok (found i.content (rest.out ++ more))) (sym (append_assoc here.out rest.out more)) (here.again (rest.out ++ more)), rest.again more);
         short = omega (arith, here.short, rest.short, length-append here.out rest.out);
       }

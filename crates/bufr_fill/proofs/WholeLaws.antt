@@ -38,7 +38,7 @@ plain_again course (items ∷ subsets) (s ∷ ss) bits behind specs dumped h =
       short = omega (arith, first.short, rest.short, length-append first.out rest.out);
     }
 
-have_contents : (n : ℕ) (course : Course) (items : List (Item (List Content))) (bits behind : List Bool) → AllSpecs items → Reads (packed n) course items bits behind → HaveContents n items
+pub have_contents : (n : ℕ) (course : Course) (items : List (Item (List Content))) (bits behind : List Bool) → AllSpecs items → Reads (packed n) course items bits behind → HaveContents n items
 have_contents n course [] bits behind specs h = tt
 have_contents n course (i ∷ items) bits behind specs h = (packed_count n i.spec specs.0 i.content bits h.0 h.2, have_contents n (after (packed n) course i) items h.0 behind specs.1 h.3)
 

@@ -1,5 +1,5 @@
 -- Which contents a field can have (WMO-No. 306, Volume I.2, FM 94: section 4).
--- Cited by private steps only.
+-- Cited by public contracts.
 use Rattle.std.specs.Prelude.{ℕ, ◌≡◌, ◌<◌, ◌-◌, ◌/◌, ◌^◌, ◌==◌, Bool, true, false, List, [], ◌∷◌, length, nat_abs}
 use Rattle.std.specs.List.{list_all}
 use Rattle.bufr_tables.specs.declared.kind.Kind.{Kind}

@@ -12,6 +12,8 @@ pub mod Filled
 pub mod Fits
 pub mod Limits
 pub mod WrittenAgain
+pub mod ReadBack
+pub mod Normal
 pub mod OtherForm
 pub mod Drawn
 pub mod PlainOut

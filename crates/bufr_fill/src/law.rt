@@ -17,8 +17,11 @@ ghost use Rattle.bufr_fill.specs.DraftContent.{plain_filler};
 ghost use Rattle.bufr_fill.specs.Entries.{Entry, Subset};
 ghost use Rattle.bufr_fill.specs.Fault.{FaultAt};
 ghost use Rattle.bufr_fill.specs.Filling.{fill, and_behind};
-ghost use Rattle.bufr_fill.specs.Encoding.{cells_at, packed_filler, packed_data};
+ghost use Rattle.bufr_fill.specs.Encoding.{cells_at, packed_filler, packed_data, plain_data};
 ghost use Rattle.bufr_fill.specs.LeastK.{HasLeastK};
+ghost use Rattle.bufr_fill.specs.Fits.{AllFit};
+ghost use Rattle.bufr_fill.specs.Packing.{packing};
+ghost use Rattle.bufr_fill.specs.ReadBack.{AllHaveOctets, AreSaid, AreSaidFrom, IsReadBack, IsPackedReadBack};
 ghost use Rattle.bufr_fill.specs.PackedOut.{PackedPen, packed_start, PackedFills, all_end, rows_left, IsFaultHere};
 ghost use Rattle.bufr_fill.specs.OtherForm.{IsWrittenApart, IsTogetherOrNot};
 ghost use Rattle.bufr_fill.specs.PlainOut.{Pen, PlainFills, IsFaultNext, items_left, end_left};
@@ -40,6 +43,34 @@ pub fn packed_data_round_trip()
 /// that the `k` is the least is a choice of this project).
 pub fn items_are_packed_with_the_least_k()
     ensures { (n : ℕ) (spec : Asked) (contents : List Content) (bits behind : List Bool) → 1 ≤ n → IsSpec spec → packed_field n spec bits ≡ Ok (found contents behind) → HasLeastK n spec contents }
+{}
+
+/// Contents that fit their field, and that are packed, are packed with the least `k` of all from which they can be read,
+/// whatever they come from.
+pub fn fitting_items_are_packed_with_the_least_k()
+    ensures { (n : ℕ) (spec : Asked) (contents : List Content) (out : List Bool) → 1 ≤ n → IsSpec spec → AllFit spec contents → length contents ≡ n → packing spec contents ≡ Ok out → HasLeastK n spec contents }
+{}
+
+/// The data that are written of any drafts, without compression, are read as what the drafts say, whatever bits are behind
+/// them (WMO-No. 306, Volume I.2, FM 94: section 4).
+pub fn written_plain_data_are_read()
+    ensures { (records : List Record) (table : List Row) (template : Tree) (drafts : List Subset) (bits : List Bool) → AreRows records table → IsLegal template → AllHaveOctets drafts → plain_data (next_item table template) drafts ≡ Ok bits → IsReadBack (next_item table template) drafts bits }
+{}
+
+/// The same of compressed data.
+pub fn written_packed_data_are_read()
+    ensures { (records : List Record) (table : List Row) (template : Tree) (drafts : List Subset) (bits : List Bool) → AreRows records table → IsLegal template → AllHaveOctets drafts → packed_data (next_item table template) drafts ≡ Ok bits → IsPackedReadBack (next_item table template) drafts bits }
+{}
+
+/// Drafts that say the items of a reading are written, without compression, to bits that the items tell: other drafts that say
+/// the same are written to the same bits.
+pub fn plain_data_are_told_by_what_is_said()
+    ensures { (records : List Record) (table : List Row) (template : Tree) (subsets : List (List (Item Content))) (drafts others : List Subset) (bits behind : List Bool) → AreRows records table → IsLegal template → ReadsSubsets (next_item table template) subsets bits behind → AreSaid subsets drafts → AreSaid subsets others → plain_data (next_item table template) drafts ≡ plain_data (next_item table template) others }
+{}
+
+/// The same of compressed data.
+pub fn packed_data_are_told_by_what_is_said()
+    ensures { (n : ℕ) (records : List Record) (table : List Row) (template : Tree) (items : List (Item (List Content))) (drafts others : List Subset) (bits behind : List Bool) → AreRows records table → IsLegal template → IsPackedReading n (next_item table template) items bits behind → length drafts ≡ n → AreSaidFrom 0 items drafts → length others ≡ n → AreSaidFrom 0 items others → packed_data (next_item table template) drafts ≡ packed_data (next_item table template) others }
 {}
 
 /// What was read of compressed data is written subset after subset, from the items of its dump, to bits from which each subset's

@@ -232,6 +232,9 @@ pub(crate) fn bits_together(
 #[test]
 fn items_together(rt: HostRuntime) -> Result<(), Fail> {
     law::packed_data_round_trip();
+    law::written_packed_data_are_read();
+    law::packed_data_are_told_by_what_is_said();
+    law::fitting_items_are_packed_with_the_least_k();
     law::items_are_packed_with_the_least_k();
     law::packed_walk_writes_as_defined();
     law::packed_data_are_written_as_defined();

@@ -335,6 +335,8 @@ pub(crate) fn assert_rows(
 #[test]
 fn items_apart(rt: HostRuntime) -> Result<(), Fail> {
     law::plain_data_round_trip();
+    law::written_plain_data_are_read();
+    law::plain_data_are_told_by_what_is_said();
     law::plain_walk_writes_as_defined();
     law::plain_fault_is_as_defined();
     assert_rows(&rt, Way::Apart, APART)

@@ -76,7 +76,7 @@ unfolding item_entries
 items_drafted at line [] more = refl
 items_drafted at line (item ∷ items) more = ap (onto_first (draft at item.fxy (form_of item.value))) (items_drafted (at + 1) line items more)
 
-same_form : (spec : Asked) (c : Content) → form_of (value_of (shown spec c)) ≡ fill.form_of spec c
+pub same_form : (spec : Asked) (c : Content) → form_of (value_of (shown spec c)) ≡ fill.form_of spec c
 same_form spec (number raw) = refl
 same_form spec (text octets) = refl
 same_form spec missing = refl

@@ -67,14 +67,14 @@ apart_subsets table (suc n) j items =
     ∙ ap (λ k. items_apart table (again.items_of j items) ∷ subsets_together table n k items) next
     ∙ ap (λ xs. items_apart table (again.items_of j items) ∷ xs) (apart_subsets table n (suc j) items)
 
-items_each : (table : List Row) (template : Tree) (s : Sections) (values : Values) → items_in table template s values ≡ map (items_apart table) (each_subset s.subsets values)
+pub items_each : (table : List Row) (template : Tree) (s : Sections) (values : Values) → items_in table template s values ≡ map (items_apart table) (each_subset s.subsets values)
 items_each table template s (apart subsets) = refl
 items_each table template s (together items) = apart_subsets table s.subsets 0 items
 
 -- ---- the data
 
 -- how the bits that are written are read
-plain_reading : (course : Course) (subsets : List (List (reading.Item Content))) (n : ℕ) (out : List Bool) → ((more : List Bool) → IsPlainReading n course subsets (out ++ more) more) → (octets : List ℕ) (more : List Bool) → bits_of octets ≡ out ++ more
+pub plain_reading : (course : Course) (subsets : List (List (reading.Item Content))) (n : ℕ) (out : List Bool) → ((more : List Bool) → IsPlainReading n course subsets (out ++ more) more) → (octets : List ℕ) (more : List Bool) → bits_of octets ≡ out ++ more
     → IsReading course (record { compressed = false; subsets = n; bits = bits_of octets }) (apart subsets) (length out)
 plain_reading course subsets n out w octets more e = (
   refl,
@@ -82,7 +82,7 @@ plain_reading course subsets n out w octets more e = (
   subst (λ b. IsPlainReading n course subsets b (drop (length out) (bits_of octets))) (sym e) (subst (λ b. IsPlainReading n course subsets (out ++ more) b) (sym (behind out more (bits_of octets) e)) (w more)),
 )
 
-packed_reading : (course : Course) (items : List (reading.Item (List Content))) (n : ℕ) (out : List Bool) → ((more : List Bool) → IsPackedReading n course items (out ++ more) more) → (octets : List ℕ) (more : List Bool) → bits_of octets ≡ out ++ more
+pub packed_reading : (course : Course) (items : List (reading.Item (List Content))) (n : ℕ) (out : List Bool) → ((more : List Bool) → IsPackedReading n course items (out ++ more) more) → (octets : List ℕ) (more : List Bool) → bits_of octets ≡ out ++ more
     → IsReading course (record { compressed = true; subsets = n; bits = bits_of octets }) (together items) (length out)
 packed_reading course items n out w octets more e = (
   refl,

@@ -35,9 +35,12 @@ mod LsExamples
 pub mod LsLineLemmas
 pub mod MemoryLemmas
 pub mod NextLemmas
+mod NormalExamples
+pub mod NormalLemmas
 pub mod NumberLemmas
 pub mod OpenLemmas
 pub mod PutLemmas
+pub mod ReadBackLemmas
 pub mod ReaderLemmas
 pub mod ReadingLemmas
 pub mod RowsLemmas

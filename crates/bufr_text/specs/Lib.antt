@@ -22,7 +22,10 @@ pub mod Key
 pub mod Lent
 pub mod Line
 pub mod LsLine
+pub mod Normal
 pub mod Pen
+pub mod Proper
+pub mod ReadBack
 pub mod Reader
 pub mod Reading
 pub mod Step

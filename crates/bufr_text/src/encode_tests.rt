@@ -250,7 +250,7 @@ fn encoded_by(
 }
 
 // The same, and the steps; those of an earlier call do not count.
-fn encoded(
+pub(crate) fn encoded(
     alloc: Global,
     document: &Document,
 ) -> Result<(Result<Vec<u8>, DocumentFault>, u64), Fail> {

@@ -23,6 +23,7 @@ mod number;
 mod part;
 mod put;
 mod quoted;
+pub mod readback_law;
 mod slice;
 mod step;
 
@@ -45,6 +46,8 @@ mod encode_fault_tests;
 mod encode_tests;
 #[cfg(test)]
 mod form_tests;
+#[cfg(test)]
+mod readback_tests;
 #[cfg(test)]
 mod reader_tests;
 #[cfg(test)]

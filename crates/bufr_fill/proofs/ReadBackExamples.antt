@@ -1,0 +1,114 @@
+-- Worked examples of what drafts say, and of the one spelling of an item.
+use Rattle.std.proofs.Common.{◌≡◌, ℕ, ℤ, pos, true, [], ◌∷◌, Err, refl, arith}
+use Rattle.std.specs.Prelude.{codes}
+use Rattle.std.specs.Fmt.{digits}
+use Rattle.bufr_bits.specs.DecimalText.{decimal_text_of, unsigned_text}
+use Rattle.bufr_bits.specs.DecimalValue.{decimal_value_of}
+use Rattle.bufr_tables.specs.declared.kind.Kind.{Kind}
+use Rattle.bufr_tables.specs.declared.kind.Kind.TheVariants as kind
+use Rattle.bufr_walk.specs.declared.spec.Role.{Role}
+use Rattle.bufr_walk.specs.declared.spec.Role.TheVariants as role
+use Rattle.bufr_walk.specs.Asked.{Asked}
+use Rattle.bufr_walk.specs.Content.{Content, number, text, missing, reference}
+use Rattle.bufr_walk.specs.Reading.{Item}
+use Rattle.bufr_fill.specs.Draft.{draft, number_token, text_form, missing_form, reference_token}
+use Rattle.bufr_fill.specs.DraftContent.{content_of}
+use Rattle.bufr_fill.specs.Entries.{subset}
+use Rattle.bufr_fill.specs.Fault.{out_of_range, text_long}
+use Rattle.bufr_fill.specs.Normal.{normal_form}
+use Rattle.bufr_fill.specs.ReadBack.{HasOctets, AllHaveOctets, IsSaid, AreSaid, AreSaidFrom}
+
+-- fields: a number in 7 bits, one of two places in 16, a text of four octets, and a reference in 10 bits
+abbrev asked_as : Role → Kind → (width : ℕ) → (scale : ℤ) → Asked
+asked_as r k w s = record { fxy = 257; role = r; kind = k; width = w; scale = s; reference = pos 0; may_be_missing = true; listed = true }
+
+abbrev block : Asked
+block = asked_as role.Element kind.Numeric 7 (pos 0)
+
+abbrev temperature : Asked
+temperature = asked_as role.Element kind.Numeric 16 (pos 2)
+
+abbrev letters : Asked
+letters = asked_as role.Element kind.Character 32 (pos 0)
+
+abbrev redefining : Asked
+redefining = asked_as role.Reference kind.Numeric 10 (pos 0)
+
+abbrev item : Asked → Content → Item Content
+item spec content = record { spec = spec; content = content }
+
+-- ---- what an item says
+
+point_and_zero : IsSaid (item block (number 1)) (draft 24 257 (number_token (codes "1.0")))
+unfolding decimal_value_of
+point_and_zero = refl
+
+minus_zero : IsSaid (item block (number 0)) (draft 24 257 (number_token (codes "-0")))
+unfolding decimal_value_of
+minus_zero = refl
+
+zeros_in_front : IsSaid (item temperature (number 1250)) (draft 24 257 (number_token (codes "0012.5000")))
+unfolding decimal_value_of
+zeros_in_front = refl
+
+greatest_number : IsSaid (item block (number 126)) (draft 24 257 (number_token (codes "126")))
+unfolding decimal_value_of
+greatest_number = refl
+
+-- all ones would be read as missing
+one_above : content_of block (draft 24 257 (number_token (codes "127"))) ≡ Err out_of_range
+unfolding decimal_value_of
+one_above = refl
+
+short_text : IsSaid (item letters (text (codes "AB  "))) (draft 24 257 (text_form (codes "AB")))
+short_text = refl
+
+text_too_long : content_of letters (draft 24 257 (text_form (codes "ABCDE"))) ≡ Err text_long
+text_too_long = refl
+
+nothing_there : IsSaid (item temperature missing) (draft 24 257 missing_form)
+nothing_there = refl
+
+minus_zero_reference : IsSaid (item redefining (reference (pos 0))) (draft 24 257 (reference_token (codes "-0.0")))
+unfolding decimal_value_of
+minus_zero_reference = refl
+
+-- ---- all items, one by one
+
+two_subsets : AreSaid ((item block (number 1) ∷ []) ∷ (item block missing ∷ []) ∷ []) (subset (draft 24 257 (number_token (codes "1.0")) ∷ []) 25 ∷ subset (draft 26 257 missing_form ∷ []) 27 ∷ [])
+unfolding decimal_value_of
+two_subsets = ((refl, tt), ((refl, tt), tt))
+
+two_together : AreSaidFrom 0 (record { spec = block; content = number 1 ∷ missing ∷ [] } ∷ []) (subset (draft 24 257 (number_token (codes "1.0")) ∷ []) 25 ∷ subset (draft 26 257 missing_form ∷ []) 27 ∷ [])
+unfolding decimal_value_of
+two_together = ((refl, tt), ((refl, tt), tt))
+
+of_octets : AllHaveOctets (subset (draft 24 257 (text_form (65 ∷ 255 ∷ [])) ∷ draft 25 257 missing_form ∷ []) 26 ∷ [])
+of_octets = (((omega arith, (omega arith, tt)), (tt, tt)), tt)
+
+no_octet : HasOctets (text_form (256 ∷ [])) → ⊥
+no_octet h = omega (arith, h.0)
+
+-- ---- the one spelling
+
+one : normal_form block (number_token (codes "1.0")) ≡ number_token (codes "1")
+unfolding decimal_value_of decimal_text_of unsigned_text digits
+one = refl
+
+zero : normal_form temperature (number_token (codes "-0")) ≡ number_token (codes "0.00")
+unfolding decimal_value_of decimal_text_of unsigned_text digits
+zero = refl
+
+twelve_and_half : normal_form temperature (number_token (codes "0012.5000")) ≡ number_token (codes "12.50")
+unfolding decimal_value_of decimal_text_of unsigned_text digits
+twelve_and_half = refl
+
+padded : normal_form letters (text_form (codes "AB")) ≡ text_form (codes "AB  ")
+padded = refl
+
+still_missing : normal_form temperature missing_form ≡ missing_form
+still_missing = refl
+
+whole_reference : normal_form redefining (reference_token (codes "-007.0")) ≡ reference_token (codes "-7")
+unfolding decimal_value_of decimal_text_of unsigned_text digits
+whole_reference = refl

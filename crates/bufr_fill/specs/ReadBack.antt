@@ -1,0 +1,52 @@
+-- What is read of data that were written: what the drafts say. (a choice of this project)
+-- Cited by public contracts.
+use Rattle.std.specs.Prelude.{◌≡◌, ℕ, suc, Bool, List, [], ◌∷◌, ◌++◌, length, Ok}
+use Rattle.std.specs.List.{AllByRecursion}
+use Rattle.bufr_walk.specs.Content.{Content}
+use Rattle.bufr_walk.specs.Course.{Course}
+use Rattle.bufr_walk.specs.Reading.{Item, ReadsSubsets, IsPackedReading}
+use Rattle.bufr_fill.specs.Draft.{Form, number_token, text_form, missing_form, reference_token, Draft}
+use Rattle.bufr_fill.specs.DraftContent.{content_of}
+use Rattle.bufr_fill.specs.Entries.{Subset}
+use Rattle.bufr_fill.specs.Fits.{AreOctets}
+use Rattle.bufr_fill.specs.WrittenAgain.{AreDrafts, items_of}
+
+-- a text is of octets
+abbrev pub HasOctets : Form → Type 0
+HasOctets (number_token digits) = Unit {0}
+HasOctets (text_form octets) = AreOctets octets
+HasOctets missing_form = Unit {0}
+HasOctets (reference_token digits) = Unit {0}
+
+abbrev pub HaveOctets : List Draft → Type 0
+HaveOctets ds = AllByRecursion (λ (d : Draft). HasOctets d.form) ds
+
+abbrev pub AllHaveOctets : List Subset → Type 0
+AllHaveOctets ss = AllByRecursion (λ (s : Subset). HaveOctets s.items) ss
+
+-- an item's content is what the draft says at its field
+abbrev pub IsSaid : Item Content → Draft → Type 0
+IsSaid i d = content_of i.spec d ≡ Ok i.content
+
+-- each subset's items are what its drafts say, one by one
+abbrev pub AreSaid : List (List (Item Content)) → List Subset → Type 0
+AreSaid [] [] = Unit {0}
+AreSaid [] (s ∷ ss) = ⊥
+AreSaid (items ∷ subsets) [] = ⊥
+AreSaid (items ∷ subsets) (s ∷ ss) = AreDrafts IsSaid items s.items × AreSaid subsets ss
+
+-- the same of the subsets of compressed data, from one on
+abbrev pub AreSaidFrom : (subset : ℕ) → List (Item (List Content)) → List Subset → Type 0
+AreSaidFrom j items [] = Unit {0}
+AreSaidFrom j items (s ∷ ss) = AreDrafts IsSaid (items_of j items) s.items × AreSaidFrom (suc j) items ss
+
+-- bits are read as what the drafts say, whatever is behind them
+pub record IsReadBack (course : Course) (drafts : List Subset) (bits : List Bool) : Type 0 where
+  pub subsets : List (List (Item Content))
+  pub said : AreSaid subsets drafts
+  pub read : (behind : List Bool) → ReadsSubsets course subsets (bits ++ behind) behind
+
+pub record IsPackedReadBack (course : Course) (drafts : List Subset) (bits : List Bool) : Type 0 where
+  pub items : List (Item (List Content))
+  pub said : AreSaidFrom 0 items drafts
+  pub read : (behind : List Bool) → IsPackedReading (length drafts) course items (bits ++ behind) behind

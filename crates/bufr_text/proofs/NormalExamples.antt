@@ -1,0 +1,102 @@
+-- Documents that lines can spell, and their texts in one spelling.
+use Rattle.std.proofs.Common.{◌≡◌, ℕ, List, [], ◌∷◌, refl, codes, ℤ, pos, arith}
+use Rattle.std.specs.Fmt.{digits}
+use Rattle.bufr_bits.specs.DecimalText.{decimal_text_of, unsigned_text}
+use Rattle.bufr_bits.specs.DecimalValue.{decimal_value_of}
+use Rattle.bufr_tables.specs.declared.kind.Kind.{Kind}
+use Rattle.bufr_tables.specs.declared.kind.Kind.TheVariants as kind
+use Rattle.bufr_tables.specs.TableB.{Row}
+use Rattle.bufr_tables.specs.Tree.{Tree, bare, element, operator, delayed}
+use Rattle.bufr_walk.specs.Course.{next_item}
+use Rattle.bufr_fill.specs.Draft.{draft, text_form, reference_token}
+use Rattle.bufr_text.specs.declared.form.Form.{Form}
+use Rattle.bufr_text.specs.declared.form.Form.TheVariants.{AsWritten, Plain, Compressed}
+use Rattle.bufr_text.specs.Document.{Document, Entry, Holds, Ends}
+use Rattle.bufr_text.specs.Dump.{header_lines, text_of}
+use Rattle.bufr_text.specs.Encoding.{drafts_of}
+use Rattle.bufr_text.specs.Grammar.{runs_behind, hex_text, descriptors_text, quoted}
+use Rattle.bufr_text.specs.Line.{keys}
+use Rattle.bufr_text.specs.Normal.{header_as, normal_subsets, normal}
+use Rattle.bufr_text.specs.Proper.{AreEnded, IsProper}
+use Rattle.bufr_text.proofs.EncodingExamples.{document, number, missing}
+
+-- ---- documents that lines can spell
+
+one_item : IsProper (document 0 1 (257 ∷ []) (number 24 257 (codes "10") ∷ Ends 25 ∷ []))
+unfolding document number keys
+one_item = record {
+  headed = record { whole = refl; ranges = refl };
+  local1 = tt;
+  section2 = tt;
+  no_section2 = λ e. refl;
+  descriptors = (omega arith, tt);
+  texts = ((tt, tt), tt);
+  counted = refl;
+  ended = tt;
+}
+
+no_end : AreEnded (Ends 24 ∷ number 25 257 (codes "10") ∷ []) → ⊥
+unfolding number
+no_end h = h
+
+-- ---- texts in one spelling
+
+unfoldable listed : (fxy : ℕ) → (name unit : List ℕ) → Kind → (scale : ℤ) → (width : ℕ) → Row
+listed fxy name unit k scale width = record { fxy = fxy; name = name; unit = unit; kind = k; scale = scale; reference = pos 0; width = width }
+
+-- block, a name of four octets, temperature and factor
+unfoldable table : List Row
+unfolding listed
+table =
+    listed 257 (codes "WMO BLOCK NUMBER") (codes "Numeric") kind.Numeric (pos 0) 7
+    ∷ listed 271 (codes "NAME") (codes "CCITT IA5") kind.Character (pos 0) 32
+    ∷ listed 3173 (codes "AIR TEMPERATURE") (codes "K") kind.Numeric (pos 2) 16
+    ∷ listed 7937 (codes "FACTOR") (codes "Numeric") kind.Numeric (pos 0) 8
+    ∷ []
+
+-- the lines of the subsets alone
+unfoldable items_in : Tree → List Entry → List ℕ
+unfolding table next_item
+items_in tree entries = text_of (normal_subsets table (next_item table tree) 1 (drafts_of entries))
+
+unfoldable spelled : Form → Tree → Document → List ℕ
+unfolding table next_item
+spelled form tree d = normal form table tree d
+
+-- a point and zeros are gone, and the comment comes
+point_and_zeros : spelled AsWritten (element 257 bare) (document 0 1 (257 ∷ []) (number 24 257 (codes "010.0") ∷ Ends 25 ∷ []))
+    ≡ codes "message\nedition 4\nmaster 0\ncentre 98\nsubcentre 0\nupdate 0\ncategory 0\nsubcategory 0\nlocalsubcategory 0\nmasterversion 14\nlocalversion 0\nyear 2024\nmonth 1\nday 2\nhour 3\nminute 4\nsecond 5\nobserved 1\ncompressed 0\noptional 0\nsubsets 1\ndescriptors 001001\nsubset 1\n001001 10  # WMO BLOCK NUMBER [Numeric]\nend\n"
+unfolding spelled document number keys header_lines runs_behind hex_text descriptors_text digits decimal_text_of unsigned_text decimal_value_of
+point_and_zeros = refl
+
+-- in a form the flag is the form's
+compressed_flag : header_as Compressed (1 ∷ 2 ∷ 3 ∷ 4 ∷ 5 ∷ 6 ∷ 7 ∷ 8 ∷ 9 ∷ 10 ∷ 11 ∷ 12 ∷ 13 ∷ 14 ∷ 15 ∷ 16 ∷ 17 ∷ 0 ∷ 19 ∷ 20 ∷ []) ≡ 1 ∷ 2 ∷ 3 ∷ 4 ∷ 5 ∷ 6 ∷ 7 ∷ 8 ∷ 9 ∷ 10 ∷ 11 ∷ 12 ∷ 13 ∷ 14 ∷ 15 ∷ 16 ∷ 17 ∷ 1 ∷ 19 ∷ 20 ∷ []
+compressed_flag = refl
+
+plain_flag : header_as Plain (1 ∷ 2 ∷ 3 ∷ 4 ∷ 5 ∷ 6 ∷ 7 ∷ 8 ∷ 9 ∷ 10 ∷ 11 ∷ 12 ∷ 13 ∷ 14 ∷ 15 ∷ 16 ∷ 17 ∷ 1 ∷ 19 ∷ 20 ∷ []) ≡ 1 ∷ 2 ∷ 3 ∷ 4 ∷ 5 ∷ 6 ∷ 7 ∷ 8 ∷ 9 ∷ 10 ∷ 11 ∷ 12 ∷ 13 ∷ 14 ∷ 15 ∷ 16 ∷ 17 ∷ 0 ∷ 19 ∷ 20 ∷ []
+plain_flag = refl
+
+-- the scale's places, and zeros in front are gone
+two_places : items_in (element 3173 bare) (number 24 3173 (codes "0288.1") ∷ Ends 25 ∷ missing 26 3173 ∷ Ends 27 ∷ [])
+    ≡ codes "subset 1\n012101 288.10  # AIR TEMPERATURE [K]\nsubset 2\n012101 MISSING  # AIR TEMPERATURE [K]\n"
+unfolding items_in number missing digits decimal_text_of unsigned_text decimal_value_of
+two_places = refl
+
+minus_zero : items_in (element 3173 bare) (number 24 3173 (codes "-0") ∷ Ends 25 ∷ []) ≡ codes "subset 1\n012101 0.00  # AIR TEMPERATURE [K]\n"
+unfolding items_in number digits decimal_text_of unsigned_text decimal_value_of
+minus_zero = refl
+
+short_text : items_in (element 271 bare) (Holds (draft 24 271 (text_form (codes "AB"))) ∷ Ends 25 ∷ []) ≡ codes "subset 1\n001015 \"AB  \"  # NAME [CCITT IA5]\n"
+unfolding items_in quoted digits
+short_text = refl
+
+-- a factor tells how many items follow
+factor : items_in (delayed 7937 (element 257 bare) bare) (number 24 7937 (codes "02") ∷ number 25 257 (codes "1.0") ∷ number 26 257 (codes "2") ∷ Ends 27 ∷ [])
+    ≡ codes "subset 1\n031001 2  # FACTOR [Numeric]\n001001 1  # WMO BLOCK NUMBER [Numeric]\n001001 2  # WMO BLOCK NUMBER [Numeric]\n"
+unfolding items_in number digits decimal_text_of unsigned_text decimal_value_of
+factor = refl
+
+-- 2 03 010: a redefined reference is a whole number
+redefined : items_in (operator 0x830A (element 3173 (operator 0x83FF bare))) (Holds (draft 24 3173 (reference_token (codes "-400.0"))) ∷ Ends 25 ∷ []) ≡ codes "subset 1\nR 012101 -400\n"
+unfolding items_in digits decimal_text_of unsigned_text decimal_value_of
+redefined = refl

@@ -1,0 +1,296 @@
+-- The dump of what a document is encoded to is the document's text in one spelling, and is encoded to the same octets.
+use Rattle.std.proofs.Common.{◌≡◌, ℕ, zero, suc, ◌+◌, ◌≤◌, Bool, true, false, List, [], ◌∷◌, ◌++◌, length, map, take, drop, Some, None, Result, Ok, Err, refl, sym, ◌∙◌, ap, subst, arith}
+use Rattle.std.specs.Prelude.{◌==◌, nat_lt, codes, is_some, unwrap_or, slice_index, if◌then◌else◌}
+use Rattle.std.proofs.lemmas.Bool.Decides.{nat_tests}
+use Rattle.bufr_bits.specs.Bits.{bits_of}
+use Rattle.bufr_tables.specs.Expansion.{tree_of}
+use Rattle.bufr_tables.specs.Legal.{IsLegal}
+use Rattle.bufr_tables.specs.Records.{Record}
+use Rattle.bufr_tables.specs.TableB.{Row, AreRows}
+use Rattle.bufr_tables.specs.TableD.{Sequence}
+use Rattle.bufr_tables.specs.TemplateTables.{tables_of}
+use Rattle.bufr_tables.proofs.SoundLemmas.{tree_fine}
+use Rattle.bufr_frame.specs.declared.head.Head.{Head}
+use Rattle.bufr_frame.specs.Layout.{Parts, parts_of, message_octets, message_size, most_octets}
+use Rattle.bufr_walk.specs.Asked.{Asked}
+use Rattle.bufr_walk.specs.Calls.{view_of}
+use Rattle.bufr_walk.specs.Content.{Content}
+use Rattle.bufr_walk.specs.Course.{Course, next_item}
+use Rattle.bufr_walk.specs.Outcome.{data_of}
+use Rattle.bufr_walk.specs.Reading.{Values, apart, together, IsReading, plain, after}
+use Rattle.bufr_walk.specs.Reading as reading
+use Rattle.bufr_fill.specs.Draft.{Draft}
+use Rattle.bufr_fill.specs.DraftContent.{content_of}
+use Rattle.bufr_fill.specs.Entries.{Subset}
+use Rattle.bufr_fill.specs.Fault.{FaultAt}
+use Rattle.bufr_fill.specs.Normal.{normal_form}
+use Rattle.bufr_fill.specs.ReadBack.{IsSaid, AreSaid}
+use Rattle.bufr_fill.specs.WrittenAgain.{AreDrafts}
+use Rattle.bufr_fill.proofs.NormalLemmas.{normal_dumped, said_fxy}
+use Rattle.bufr_fill.proofs.PlainForm.{Follows, AllFollow}
+use Rattle.bufr_fill.proofs.SaidDumped.{subsets_said, together_said, said_from, plain_follows, packed_follows}
+use Rattle.bufr_fill.proofs.SaidWritten.{plain_said_alike, packed_said_alike}
+use Rattle.bufr_text.specs.declared.form.Form.{Form}
+use Rattle.bufr_text.specs.declared.form.Form.TheVariants.{AsWritten, Plain, Compressed}
+use Rattle.bufr_text.specs.Document.{Document, optional_in}
+use Rattle.bufr_text.specs.Documents.{Spelled, documents_of}
+use Rattle.bufr_text.specs.Dump.{Item, bit, header_lines, local1_line, section2_line, descriptors_line, head_lines, form_text, comment_text, item_text, subset_line, subset_lines, text_of, dump_text_of, subset_entries, lines_before, document_of}
+use Rattle.bufr_text.specs.Dumped.{item_of, items_apart, subsets_together}
+use Rattle.bufr_text.specs.Encoded.{items_in}
+use Rattle.bufr_text.specs.Encoding.{RefusedAt, too_long, refused_at, ◌>>=◌, told_of_template, told_of_items, drafts_of, data_bits, octets_of_bits, parts_as, parts_in, compressed_as, message_of, encoding_in, encoding_of}
+use Rattle.bufr_text.specs.Grammar.{runs_of}
+use Rattle.bufr_text.specs.Header.{IsHeaded, head_in, observed_in, compressed_in, section2_in}
+use Rattle.bufr_text.specs.InForm.{each_subset}
+use Rattle.bufr_text.specs.Line.{keys}
+use Rattle.bufr_text.specs.Normal.{header_as, normal_head, comment_at, normal_line, told_of, line_and, normal_items, normal_subsets, normal}
+use Rattle.bufr_text.specs.Proper.{IsProper}
+use Rattle.bufr_text.specs.ReadBack.{AreValuesOf, IsReadAs}
+use Rattle.bufr_text.proofs.DumpableLemmas.{dumpable}
+use Rattle.bufr_text.proofs.EncodedLemmas.{same_form, all_apart, all_together, bit_back, parts_back, parts_with}
+use Rattle.bufr_text.proofs.FormLemmas.{items_each}
+use Rattle.bufr_text.proofs.HeaderLemmas.{header-widest}
+use Rattle.bufr_text.proofs.LawLemmas.{one-document}
+use Rattle.bufr_text.proofs.ReadBackLemmas.{said_length}
+use Rattle.bufr_text.proofs.RowsLemmas.{rows-read}
+
+-- ---- the items
+
+line_is : (table : List Row) (spec : Asked) (d : Draft) (c : Content) → content_of spec d ≡ Ok c → normal_line table spec d ≡ item_text (item_of (view_of table spec c))
+line_is table spec d c said =
+    ap (λ f. form_text f (normal_form spec d.form) ++ comment_text (comment_at table spec)) (said_fxy spec d c said)
+    ∙ ap (λ f. form_text spec.fxy f ++ comment_text (comment_at table spec)) (normal_dumped spec d c said ∙ sym (same_form spec c))
+
+items_are : (table : List Row) (course : Course) (items : List (reading.Item Content)) (ds : List Draft) → Follows course items → AreDrafts IsSaid items ds → normal_items table course ds ≡ map item_text (items_apart table items)
+items_are table course [] [] f said = refl
+items_are table course [] (d ∷ ds) f said = absurd said
+items_are table course (i ∷ items) [] f said = absurd said
+items_are table course (i ∷ items) (d ∷ ds) f said =
+    ap (λ n. line_and table n d (λ t. normal_items table (λ told. course (t ∷ told)) ds)) f.0
+    ∙ ap (λ r. normal_line table i.spec d ∷ normal_items table (λ told. course (told_of i.spec r ∷ told)) ds) said.0
+    ∙ ap (λ x. x ∷ normal_items table (after plain course i) ds) (line_is table i.spec d i.content said.0)
+    ∙ ap (λ xs. item_text (item_of (view_of table i.spec i.content)) ∷ xs) (items_are table (after plain course i) items ds f.3 said.1)
+
+pub subsets_are : (table : List Row) (course : Course) (n : ℕ) (subsets : List (List (reading.Item Content))) (drafts : List Subset) → AllFollow course subsets → AreSaid subsets drafts → normal_subsets table course n drafts ≡ subset_lines n (map (items_apart table) subsets)
+unfolding subset_lines
+subsets_are table course n [] [] f said = refl
+subsets_are table course n [] (s ∷ ss) f said = absurd said
+subsets_are table course n (items ∷ subsets) [] f said = absurd said
+subsets_are table course n (items ∷ subsets) (s ∷ ss) f said =
+    ap (λ xs. subset_line n ∷ (xs ++ normal_subsets table course (n + 1) ss)) (items_are table course items s.items f.0 said.0)
+    ∙ ap (λ xs. subset_line n ∷ (map item_text (items_apart table items) ++ xs)) (subsets_are table course (n + 1) subsets ss f.1 said.1)
+
+-- ---- the header
+
+-- so many values, from a place on
+abbrev values_from : (count place : ℕ) → List ℕ → List ℕ
+values_from zero k xs = []
+values_from (suc n) k xs = slice_index xs k ∷ values_from n (suc k) xs
+
+values_behind : (n k : ℕ) (x : ℕ) (xs : List ℕ) → values_from n (suc k) (x ∷ xs) ≡ values_from n k xs
+values_behind zero k x xs = refl
+values_behind (suc n) k x xs = ap (λ more. slice_index xs k ∷ more) (values_behind n (suc k) x xs)
+
+all_values : (n : ℕ) (xs : List ℕ) → length xs ≡ n → xs ≡ values_from n 0 xs
+all_values zero [] h = refl
+all_values zero (x ∷ xs) h = absurd (omega (arith, h))
+all_values (suc n) [] h = absurd (omega (arith, h))
+all_values (suc n) (x ∷ xs) h = let l : length xs ≡ n = omega (arith, h) in ap (λ more. x ∷ more) (all_values n xs l ∙ sym (values_behind n 0 x xs))
+
+-- a flag of 0 or 1
+flag_back : (v : ℕ) → v ≤ 1 → bit (v == 1) ≡ v
+flag_back v h = by (v == 1) refl
+  where
+    by : (b : Bool) → (v == 1) ≡ b → bit b ≡ v
+    by true e = let is : v ≡ 1 = grind (arith, nat_tests) in sym is
+    by false e = let is : v ≡ 0 = grind (arith, nat_tests) in sym is
+
+section2_flag : (b : Bool) (octets : List ℕ) → bit (is_some (if b then Some octets else None)) ≡ bit b
+section2_flag true octets = refl
+section2_flag false octets = refl
+
+section2_same : (b : Bool) (octets : List ℕ) → (b ≡ false → octets ≡ []) → unwrap_or (if b then Some octets else None) [] ≡ octets
+section2_same true octets h = refl
+section2_same false octets h = sym (h refl)
+
+-- the twenty values, the three flags as given
+abbrev with_flags : List ℕ → (observed compressed optional : ℕ) → List ℕ
+with_flags h o c s =
+    slice_index h 0 ∷ slice_index h 1 ∷ slice_index h 2 ∷ slice_index h 3 ∷ slice_index h 4 ∷ slice_index h 5 ∷ slice_index h 6 ∷ slice_index h 7 ∷ slice_index h 8
+    ∷ slice_index h 9 ∷ slice_index h 10 ∷ slice_index h 11 ∷ slice_index h 12 ∷ slice_index h 13 ∷ slice_index h 14 ∷ slice_index h 15 ∷ o ∷ c ∷ s ∷ slice_index h 19 ∷ []
+
+whole_header : (h : List ℕ) → length h ≡ 20 → h ≡ with_flags h (slice_index h 16) (slice_index h 17) (slice_index h 18)
+whole_header h l = all_values 20 h l
+
+flags_few : (d : Document) → IsHeaded d → (slice_index d.header 16 ≤ 1) × (slice_index d.header 17 ≤ 1) × (slice_index d.header 18 ≤ 1)
+unfolding keys
+flags_few d h = (header-widest d 16 h, header-widest d 17 h, header-widest d 18 h)
+
+abbrev head_with : Document → (header section2 : List ℕ) → List (List ℕ)
+head_with d header section2 =
+    codes "message" ∷ (header_lines 0 header ++ (map local1_line (runs_of 32 d.local1) ++ (map section2_line (runs_of 32 section2) ++ map descriptors_line (runs_of 8 d.descriptors))))
+
+module _ (form : Form) (d : Document) (proper : IsProper d) where
+  abbrev value : ℕ → ℕ
+  value i = slice_index d.header i
+
+  few : (value 16 ≤ 1) × (value 17 ≤ 1) × (value 18 ≤ 1)
+  few = flags_few d proper.headed
+
+  whole : d.header ≡ with_flags d.header (value 16) (value 17) (value 18)
+  whole = whole_header d.header proper.headed.whole
+
+  -- the flag of compression is the form's
+  form_flag : (f : Form) → with_flags d.header (value 16) (bit (compressed_as f d)) (value 18) ≡ header_as f d.header
+  form_flag AsWritten = ap (λ c. with_flags d.header (value 16) c (value 18)) (flag_back (value 17) few.1) ∙ sym whole
+  form_flag Plain = ap (λ (h : List ℕ). take 17 h ++ 0 ∷ drop 18 h) (sym whole)
+  form_flag Compressed = ap (λ (h : List ℕ). take 17 h ++ 1 ∷ drop 18 h) (sym whole)
+
+  header_is : with_flags d.header (bit (observed_in d)) (bit (compressed_as form d)) (bit (is_some (section2_in d))) ≡ header_as form d.header
+  header_is =
+      ap (λ o. with_flags d.header o (bit (compressed_as form d)) (bit (is_some (section2_in d)))) (flag_back (value 16) few.0)
+      ∙ ap (λ s. with_flags d.header (value 16) (bit (compressed_as form d)) s) (section2_flag (optional_in d == 1) d.section2 ∙ flag_back (value 18) few.2)
+      ∙ form_flag form
+
+  -- the head of a message that says what the document says
+  head_is : (table : List Row) (sequences : List Sequence) (octets : List ℕ) → (h : IsReadAs form table sequences d octets) → head_lines h.sections ≡ normal_head form d
+  head_is table sequences octets h =
+      (λ j. head_lines (record {
+        head = h.head j;
+        local1 = h.local1 j;
+        section2 = h.section2 j;
+        descriptors = h.descriptors j;
+        subsets = h.subsets j;
+        observed = h.observed j;
+        compressed = h.compressed j;
+        payload = [];
+        size = 0;
+      }))
+      ∙ (λ j. head_with d (header_is j) (section2_same (optional_in d == 1) d.section2 proper.no_section2 j))
+
+-- ---- the text
+
+module _ (form : Form) (records : List Record) (table : List Row) (sequences : List Sequence) (rows : AreRows records table) (d : Document) (octets : List ℕ) (h : IsReadAs form table sequences d octets) where
+  legal : IsLegal h.template
+  legal = (tree_fine (tables_of table sequences) h.sections.descriptors h.template h.accepted.expands).legal
+
+  abbrev course : Course
+  course = next_item table h.template
+
+  abbrev bits : List Bool
+  bits = bits_of h.sections.payload
+
+  abbrev shown_items : List (List Item)
+  shown_items = items_in table h.template h.sections h.values
+
+  -- each subset of a reading follows the template, and says what the drafts say
+  follow : (values : Values) (used : ℕ) → IsReading course (data_of h.sections) values used → AllFollow course (each_subset h.sections.subsets values)
+  follow (apart subsets) used read = plain_follows records table h.template rows legal subsets bits (drop used bits) read.2.0
+  follow (together items) used read = packed_follows records table h.template rows legal h.sections.subsets items bits (drop used bits) read.2
+
+  says : (values : Values) (drafts : List Subset) → length drafts ≡ h.sections.subsets → AreValuesOf values drafts → AreSaid (each_subset h.sections.subsets values) drafts
+  says (apart subsets) drafts count said = said
+  says (together items) drafts count said = said_from h.sections.subsets 0 items drafts count said
+
+  lines_of_items : (drafts : List Subset) → length drafts ≡ h.sections.subsets → AreValuesOf h.values drafts → subset_lines 1 shown_items ≡ normal_subsets table course 1 drafts
+  lines_of_items drafts count said =
+      ap (subset_lines 1) (items_each table h.template h.sections h.values)
+      ∙ sym (subsets_are table course 1 (each_subset h.sections.subsets h.values) drafts (follow h.values h.used h.accepted.read) (says h.values drafts count said))
+
+  pub dump_is_normal : IsProper d → dump_text_of h.sections shown_items ≡ normal form table h.template d
+  dump_is_normal proper =
+      ap (λ hs. text_of (hs ++ (subset_lines 1 shown_items ++ codes "end" ∷ []))) (head_is form d proper table sequences octets h)
+      ∙ ap (λ ls. text_of (normal_head form d ++ (ls ++ codes "end" ∷ []))) (lines_of_items (drafts_of d.entries) (proper.counted ∙ sym h.subsets) h.said)
+
+  -- ---- the document of the dump
+
+  module _ (at : ℕ) where
+    abbrev again : Document
+    again = document_of at h.sections shown_items
+
+    abbrev drafts_again : List Subset
+    drafts_again = drafts_of again.entries
+
+    -- the drafts of the dump
+    record AreAgain (values : Values) (drafts : List Subset) : Type 0 where
+      count : length drafts ≡ h.sections.subsets
+      said : AreValuesOf values drafts
+      alike : (others : List Subset) → length others ≡ h.sections.subsets → AreValuesOf values others → data_bits h.sections.compressed course others ≡ data_bits h.sections.compressed course drafts
+
+    by_flag : (b c : Bool) (xs ys : List Subset) → b ≡ c → data_bits c course xs ≡ data_bits c course ys → data_bits b course xs ≡ data_bits b course ys
+    by_flag b c xs ys e g = subst (λ x. data_bits x course xs ≡ data_bits x course ys) (sym e) g
+
+    are_again : (values : Values) (used place : ℕ) → IsReading course (data_of h.sections) values used → AreAgain values (drafts_of (subset_entries place (items_in table h.template h.sections values)))
+    are_again (apart subsets) used place read =
+        let drafts = drafts_of (subset_entries place (map (items_apart table) subsets)) in
+        let dumped = all_apart table place subsets in
+        let said = subsets_said course subsets drafts (plain_follows records table h.template rows legal subsets bits (drop used bits) read.2.0) dumped in
+        record {
+          count = sym (said_length subsets drafts said) ∙ read.2.1;
+          said = said;
+          alike = λ others count is. by_flag h.sections.compressed false others drafts read.0 (plain_said_alike records table h.template subsets others drafts bits (drop used bits) rows legal read.2.0 is said);
+        }
+    are_again (together items) used place read =
+        let drafts = drafts_of (subset_entries place (subsets_together table h.sections.subsets 0 items)) in
+        let dumped = all_together table place h.sections.subsets 0 items in
+        let said = together_said course h.sections.subsets 0 items drafts dumped.1 (packed_follows records table h.template rows legal h.sections.subsets items bits (drop used bits) read.2) dumped.0 in
+        record {
+          count = dumped.1;
+          said = said;
+          alike = λ others count is. by_flag h.sections.compressed true others drafts read.0 (packed_said_alike h.sections.subsets records table h.template items others drafts bits (drop used bits) rows legal read.2 count is dumped.1 said);
+        }
+
+    drafts_are : AreAgain h.values drafts_again
+    drafts_are = are_again h.values h.used (at + lines_before h.sections) h.accepted.read
+
+    -- its text is its own in one spelling
+    pub normal_again : normal AsWritten table h.template again ≡ dump_text_of h.sections shown_items
+    normal_again = sym (ap (λ ls. text_of (head_lines h.sections ++ (ls ++ codes "end" ∷ []))) (lines_of_items drafts_again drafts_are.count drafts_are.said))
+
+    -- what is made of the bits of the data
+    abbrev message_with : (line : ℕ) → Head → (List ℕ → Parts) → Result (List Bool) FaultAt → Result (List ℕ) RefusedAt
+    message_with line head parts r = told_of_items r >>= λ b. message_of line head (parts (octets_of_bits b))
+
+    -- the line stands in a refusal alone
+    other_line : (line : ℕ) (head : Head) (parts : List ℕ → Parts) (r : Result (List Bool) FaultAt) → message_with line head parts r ≡ Ok octets → message_with at head parts r ≡ Ok octets
+    other_line line head parts (Err why) e = absurd cc
+    other_line line head parts (Ok b) e = by (nat_lt most_octets (message_size head.edition (parts (octets_of_bits b)))) e
+      where
+        by : (x : Bool) → (if x then Err (refused_at line too_long) else Ok (message_octets head (parts (octets_of_bits b)))) ≡ Ok octets → (if x then Err (refused_at at too_long) else Ok (message_octets head (parts (octets_of_bits b)))) ≡ Ok octets
+        by true q = absurd cc
+        by false q = q
+
+    abbrev parts_said : List ℕ → Parts
+    parts_said = parts_as (compressed_as form d) d
+
+    parts_are : (payload : List ℕ) → parts_in again payload ≡ parts_said payload
+    unfolding parts_with
+    parts_are payload = parts_back at h.sections shown_items payload ∙ (λ j. parts_of (h.local1 j) (h.section2 j) (h.descriptors j) (h.subsets j) (h.observed j) (h.compressed j) payload)
+
+    -- the bits of the data are the same
+    data_are : IsProper d → data_bits (compressed_as form d) course (drafts_of d.entries) ≡ data_bits (compressed_in again) course drafts_again
+    data_are proper =
+        ap (λ b. data_bits b course (drafts_of d.entries)) (sym h.compressed)
+        ∙ drafts_are.alike (drafts_of d.entries) (proper.counted ∙ sym h.subsets) h.said
+        ∙ ap (λ b. data_bits b course drafts_again) (sym (bit_back h.sections.compressed))
+
+    encoded_from : encoding_in form table sequences d ≡ message_with d.line (head_in d) parts_said (data_bits (compressed_as form d) course (drafts_of d.entries))
+    unfolding encoding_in
+    encoded_from =
+        ap (λ r. told_of_template d.line r >>= λ t. message_with d.line (head_in d) parts_said (data_bits (compressed_as form d) (next_item table t) (drafts_of d.entries)))
+        (ap (tree_of (tables_of table sequences)) (sym h.descriptors) ∙ h.accepted.expands)
+
+    again_from : encoding_of table sequences again ≡ message_with at h.sections.head (parts_in again) (data_bits (compressed_in again) course drafts_again)
+    unfolding encoding_in
+    again_from = ap (λ r. told_of_template at r >>= λ t. message_with at h.sections.head (parts_in again) (data_bits (compressed_in again) (next_item table t) drafts_again)) h.accepted.expands
+
+    -- and it is encoded to the same octets
+    pub encoded_again_same : IsProper d → encoding_in form table sequences d ≡ Ok octets → encoding_of table sequences again ≡ Ok octets
+    encoded_again_same proper e =
+        again_from
+        ∙ (λ j. message_with at (h.head j) (λ payload. parts_are payload j) (sym (data_are proper) j))
+        ∙ other_line d.line (head_in d) parts_said (data_bits (compressed_as form d) course (drafts_of d.entries)) (sym encoded_from ∙ e)
+
+  pub one_document_again : IsProper d → documents_of (normal form table h.template d) ≡ Spelled (document_of 1 h.sections shown_items) ∷ []
+  one_document_again proper =
+      ap documents_of (sym (dump_is_normal proper))
+      ∙ one-document h.sections shown_items (dumpable table sequences octets h.sections h.template h.values h.used (rows-read records table rows) legal h.accepted)
