@@ -2,7 +2,7 @@
 
 use crate::tally::Tally;
 use crate::test_messages::{
-    ONE_ACCEPTED, ONE_REFUSED, message_of, octets_of, one_block_number, text_of_one, words_of,
+    ONE_ACCEPTED, ONE_REFUSED, message_in, message_of, one_block_number, text_of_one, words_of,
 };
 use crate::test_runs::{
     Command, assert_run, assert_stops_around_a_stray, assert_stops_at_failed_errors,
@@ -189,11 +189,14 @@ static REFUSED: [Refused; 20] = [
 #[test]
 fn refuses_worked_examples(rt: HostRuntime) -> Result<(), Fail> {
     for row in &REFUSED {
-        let words = words_of(rt.alloc(), row.descriptors)?;
-        let data = octets_of(rt.alloc(), row.data)?;
-        let message = message_of(rt.alloc(), row.subsets, row.flags, &words, &data)?;
-        let mut line = String::from_str(rt.alloc(), "offset 0: ")?;
-        line.push_str(row.fault)?;
+        let message = message_in(
+            rt.alloc(),
+            row.subsets,
+            row.flags,
+            row.descriptors,
+            row.data,
+        )?;
+        let line = format!(in rt.alloc(); "offset 0: {}", row.fault)?;
         assert_run(
             &rt,
             Command::Dump,
@@ -212,7 +215,7 @@ fn refuses_worked_examples(rt: HostRuntime) -> Result<(), Fail> {
 fn refuses_too_many_values(rt: HostRuntime) -> Result<(), Fail> {
     let words = words_of(rt.alloc(), "201122 102009 101228 001001")?;
     let mut data = Vec::new(rt.alloc());
-    data.extend_from_slice(&[0; 2000])?;
+    data.resize(2000, 0)?;
     let message = message_of(rt.alloc(), 65535, 0xC0, &words, &data)?;
     assert_run(
         &rt,

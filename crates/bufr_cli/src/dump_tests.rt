@@ -1,10 +1,10 @@
 //! The worked examples of `dump`, run.
 
 use crate::tally::Tally;
-use crate::test_messages::{HEAD, ONE_ACCEPTED, message_of, octets_of, text_of, words_of};
-use crate::test_runs::{Command, assert_run, run_over};
+use crate::test_messages::{HEAD, ONE_ACCEPTED, message_in, text_of};
+use crate::test_runs::{Command, assert_run, run_whole};
 use crate::tests::LOCAL_USE;
-use bufr_bits::{End, ScriptIn, ScriptOut};
+use std::process::Abort;
 use std::test::Fail;
 
 /// A message, and the lines of its subsets.
@@ -247,9 +247,13 @@ static DUMPED: [Dumped; 24] = [
 #[test]
 fn dumps_worked_examples(rt: HostRuntime) -> Result<(), Fail> {
     for row in &DUMPED {
-        let words = words_of(rt.alloc(), row.descriptors)?;
-        let data = octets_of(rt.alloc(), row.data)?;
-        let message = message_of(rt.alloc(), row.subsets, row.flags, &words, &data)?;
+        let message = message_in(
+            rt.alloc(),
+            row.subsets,
+            row.flags,
+            row.descriptors,
+            row.data,
+        )?;
         let text = text_of(
             rt.alloc(),
             row.subsets,
@@ -270,52 +274,52 @@ fn dumps_worked_examples(rt: HostRuntime) -> Result<(), Fail> {
     Ok(())
 }
 
+/// A message is dumped so.
+fn assert_dumped(
+    rt: &(impl Abort + AllocGlobal),
+    name: &str,
+    message: &[u8],
+    text: &[u8],
+) -> Result<(), Fail> {
+    assert_run(rt, Command::Dump, name, message, text, b"", ONE_ACCEPTED)
+}
+
 /// What was dumped and encoded is dumped as before.
 #[test]
 fn dumps_what_was_encoded(rt: HostRuntime) -> Result<(), Fail> {
     for row in &DUMPED {
-        let words = words_of(rt.alloc(), row.descriptors)?;
-        let data = octets_of(rt.alloc(), row.data)?;
-        let message = message_of(rt.alloc(), row.subsets, row.flags, &words, &data)?;
-        let mut r = ScriptIn::new(&message, 4096, None);
-        let w = ScriptOut::new(rt.alloc(), 4096, 4096, End::Fail)?;
-        let e = ScriptOut::new(rt.alloc(), 4096, 4096, End::Fail)?;
-        let text = run_over(&rt, Command::Dump, &mut r, w, e);
-        let mut r = ScriptIn::new(text.output(), 4096, None);
-        let w = ScriptOut::new(rt.alloc(), 4096, 4096, End::Fail)?;
-        let e = ScriptOut::new(rt.alloc(), 4096, 4096, End::Fail)?;
-        let octets = run_over(&rt, Command::Encode, &mut r, w, e);
-        let (octets, text) = (octets.output(), text.output());
-        assert!(rt; !octets.is_empty(), "{}", row.name);
-        assert_run(
-            &rt,
-            Command::Dump,
-            row.name,
-            octets,
-            text,
-            b"",
-            ONE_ACCEPTED,
+        let message = message_in(
+            rt.alloc(),
+            row.subsets,
+            row.flags,
+            row.descriptors,
+            row.data,
         )?;
+        let text = run_whole(&rt, Command::Dump, &message)?;
+        let octets = run_whole(&rt, Command::Encode, text.output())?;
+        assert!(rt; !octets.output().is_empty(), "{}", row.name);
+        assert_dumped(&rt, row.name, octets.output(), text.output())?;
     }
     Ok(())
 }
+
+/// The dump text of the message below, from `observed` on.
+const LOCAL_USE_TEXT: &str = "observed 1\n\
+    compressed 0\n\
+    optional 1\n\
+    subsets 1\n\
+    local1 ABCD\n\
+    section2 0102\n\
+    descriptors 001001\n\
+    subset 1\n\
+    001001 10  # WMO BLOCK NUMBER [Numeric]\n\
+    end\n";
 
 /// Local octets and a section 2, dumped and encoded.
 #[test]
 fn dumps_local_use(rt: HostRuntime) -> Result<(), Fail> {
     let mut text = String::from_str(rt.alloc(), HEAD)?;
-    text.push_str(
-        "observed 1\n\
-        compressed 0\n\
-        optional 1\n\
-        subsets 1\n\
-        local1 ABCD\n\
-        section2 0102\n\
-        descriptors 001001\n\
-        subset 1\n\
-        001001 10  # WMO BLOCK NUMBER [Numeric]\n\
-        end\n",
-    )?;
+    text.push_str(LOCAL_USE_TEXT)?;
     let text = text.as_bytes();
     let name = "local use";
     assert_run(

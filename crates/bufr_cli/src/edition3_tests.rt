@@ -2,9 +2,8 @@
 
 use crate::tally::Tally;
 use crate::test_messages::{ONE_ACCEPTED, ONE_REFUSED, octets_of, text_of_one};
-use crate::test_runs::{Command, assert_run, run_over};
+use crate::test_runs::{Command, assert_run, run_whole};
 use crate::tests::{LINE, ONE_BLOCK_NUMBER};
-use bufr_bits::{End, ScriptIn, ScriptOut};
 use bufr_text::Form;
 use std::alloc::Global;
 use std::test::Fail;
@@ -37,11 +36,10 @@ fn message(alloc: Global, digits: &str) -> Result<Vec<u8>, Fail> {
 
 /// The dump text of such a message with these lines of sections 1 and 2.
 fn text(alloc: Global, optional: u8, local: &str) -> Result<String, Fail> {
-    let counts = format!(in alloc;
-        "second 0\nobserved 1\ncompressed 0\noptional {optional}\nsubsets 1\n"
-    )?;
     let mut text = String::from_str(alloc, HEAD)?;
-    text.push_str(counts.as_str())?;
+    text.push_str("second 0\nobserved 1\ncompressed 0\noptional ")?;
+    text.push_str(if optional == 0 { "0" } else { "1" })?;
+    text.push_str("\nsubsets 1\n")?;
     text.push_str(local)?;
     text.push_str(BODY)?;
     Ok(text)
@@ -214,13 +212,14 @@ fn tells_a_cut_anywhere(rt: HostRuntime) -> Result<(), Fail> {
     Ok(())
 }
 
+/// A compressed message with even sections.
+const PACKED: &str = "425546520000 2E03 000012000062000000000E001801020304 00 00000A000001C0010100 \
+    000006001400 37373737";
+
 /// A message in compressed form, and back in plain form: even sections both ways.
 #[test]
 fn encodes_in_each_form(rt: HostRuntime) -> Result<(), Fail> {
-    let packed = message(
-        rt.alloc(),
-        "425546520000 2E03 000012000062000000000E001801020304 00 00000A000001C0010100 000006001400 37373737",
-    )?;
+    let packed = message(rt.alloc(), PACKED)?;
     let plain = text(rt.alloc(), 0, "local1 00\n")?;
     let said = changed(rt.alloc(), "compressed 0", "compressed 1")?;
     let compressed = Command::EncodeIn(Form::Compressed);
@@ -297,36 +296,37 @@ fn counts(line: u8) -> Tally {
     if line == 0 { ONE_ACCEPTED } else { ONE_REFUSED }
 }
 
+/// The fault line of such a value, none where there is none.
+fn errors_at(alloc: Global, line: u8) -> Result<String, Fail> {
+    if line == 0 {
+        return Ok(String::new(alloc));
+    }
+    Ok(format!(in alloc; "line {line}: 61 header range\n")?)
+}
+
 /// A value past the octets of edition 3 is refused at its line.
 #[test]
 fn refuses_values_past_their_octets(rt: HostRuntime) -> Result<(), Fail> {
     for (old, new, line) in &VALUES {
         let text = changed(rt.alloc(), old, new)?;
-        let mut r = ScriptIn::new(text.as_bytes(), 4096, None);
-        let w = ScriptOut::new(rt.alloc(), 64, 7, End::Fail)?;
-        let e = ScriptOut::new(rt.alloc(), 64, 7, End::Fail)?;
-        let ran = run_over(&rt, Command::Encode, &mut r, w, e);
-        let errors = if *line == 0 {
-            String::new(rt.alloc())
-        } else {
-            format!(in rt.alloc(); "line {line}: 61 header range\n")?
-        };
+        let ran = run_whole(&rt, Command::Encode, text.as_bytes())?;
+        let errors = errors_at(rt.alloc(), *line)?;
         ran.assert_errors(&rt, new, counts(*line), errors.as_bytes());
     }
     Ok(())
 }
 
+/// A message of 16,777,214 octets with an odd section 3, up to its data.
+const LONG: &str =
+    "42554652FFFFFE03 000012000062000000000E00180102030400 000009000001800101 FFFFD7";
+
 /// A message that could not be written with even sections is told by `ls` too.
 #[test]
 fn tells_a_long_message_with_an_odd_section(rt: HostRuntime) -> Result<(), Fail> {
-    let front = "42554652FFFFFE03 000012000062000000000E00180102030400 000009000001800101 FFFFD7";
-    let mut octets = message(rt.alloc(), front)?;
+    let mut octets = message(rt.alloc(), LONG)?;
     octets.resize(16_777_210, 0)?;
     octets.extend_from_slice(b"7777")?;
-    let mut r = ScriptIn::new(&octets, 65_536, None);
-    let w = ScriptOut::new(rt.alloc(), 64, 64, End::Fail)?;
-    let e = ScriptOut::new(rt.alloc(), 64, 64, End::Fail)?;
-    let ran = run_over(&rt, Command::Ls, &mut r, w, e);
+    let ran = run_whole(&rt, Command::Ls, &octets)?;
     let line = b"offset 0: 14 edition 3 length\n";
     ran.assert_left(&rt, "long", 0, Ok(ONE_REFUSED), b"", line);
     Ok(())

@@ -55,20 +55,26 @@ const TABLE_NAMES: TableNames<'static> = TableNames {
     table_d: "d.csv",
 };
 
+/// Words are understood as this command with this FILE.
+fn assert_parsed(
+    rt: &(impl Abort + AllocGlobal),
+    words: &[&str],
+    command: Subcommand<'_>,
+    file: Option<&str>,
+) {
+    let job = parse_line(rt.alloc(), words).expect(rt, "a job");
+    assert!(rt; job.command == command, "{words:?}");
+    assert!(rt; job.file == file, "{words:?}");
+}
+
 #[test]
 fn parses_lines_with_tables(rt: HostRuntime) -> Result<(), Fail> {
+    let encodes = Subcommand::Encode(TABLE_NAMES, Form::AsWritten);
     for (arguments, file) in &ARGUMENTS {
         let words = line_of(rt.alloc(), "dump", *arguments)?;
-        let job = parse_line(rt.alloc(), words.as_slice()).expect(&rt, "a job");
-        assert!(rt; job.command == Subcommand::Dump(TABLE_NAMES), "{words:?}");
-        assert!(rt; job.file == *file, "{words:?}");
+        assert_parsed(&rt, words.as_slice(), Subcommand::Dump(TABLE_NAMES), *file);
         let words = line_of(rt.alloc(), "encode", *arguments)?;
-        let job = parse_line(rt.alloc(), words.as_slice()).expect(&rt, "a job");
-        assert!(rt;
-            job.command == Subcommand::Encode(TABLE_NAMES, Form::AsWritten),
-            "{words:?}"
-        );
-        assert!(rt; job.file == *file, "{words:?}");
+        assert_parsed(&rt, words.as_slice(), encodes, *file);
     }
     Ok(())
 }
@@ -90,11 +96,8 @@ static FORMS: [(&[&str], Form); 3] = [
 fn parses_forms(rt: HostRuntime) -> Result<(), Fail> {
     for (arguments, form) in &FORMS {
         let words = line_of(rt.alloc(), "encode", *arguments)?;
-        let job = parse_line(rt.alloc(), words.as_slice()).expect(&rt, "a job");
-        assert!(rt;
-            job.command == Subcommand::Encode(TABLE_NAMES, *form),
-            "{words:?}"
-        );
+        let encodes = Subcommand::Encode(TABLE_NAMES, *form);
+        assert_parsed(&rt, words.as_slice(), encodes, None);
     }
     for word in ["other", "", "Plain", "plain ", "compress"] {
         let words = ["bufr", "encode", "-B", "b", "-D", "d", "--form", word];
@@ -240,6 +243,27 @@ fn call<'a, I: Inputs, W: Sink, E: Sink>(
     run(alloc, words, inputs, w, e)
 }
 
+/// Asserts what comes of a call: its status, its output, and what its errors hold, where they hold
+/// something.
+fn assert_called<I: Inputs>(
+    rt: &(impl Abort + AllocGlobal),
+    words: &[&str],
+    inputs: &I,
+    status: u8,
+    output: &[u8],
+    errors: &str,
+) -> Result<(), Fail> {
+    let mut w = ScriptOut::new(rt.alloc(), 4096, 4096, End::Fail)?;
+    let mut e = ScriptOut::new(rt.alloc(), 4096, 4096, End::Fail)?;
+    let answer = call(rt.alloc(), words, inputs, &mut w, &mut e);
+    assert_eq!(rt; answer, status, "{words:?}");
+    assert_eq!(rt; w.taken(), output, "{words:?}");
+    let told = str::from_utf8(e.taken()).expect(rt, "text");
+    assert!(rt; told.contains(errors), "{words:?}: {told}");
+    assert!(rt; told.is_empty() == errors.is_empty(), "{words:?}: {told}");
+    Ok(())
+}
+
 /// An input of one file and of standard input.
 #[derive(Drop)]
 struct Shelf<'a> {
@@ -314,14 +338,7 @@ fn runs_lines(rt: HostRuntime) -> Result<(), Fail> {
         for part in *output {
             want.push_str(part)?;
         }
-        let mut w = ScriptOut::new(rt.alloc(), 4096, 4096, End::Fail)?;
-        let mut e = ScriptOut::new(rt.alloc(), 4096, 4096, End::Fail)?;
-        let answer = call(rt.alloc(), *words, &shelf, &mut w, &mut e);
-        assert_eq!(rt; answer, *status, "{words:?}");
-        assert_eq!(rt; w.taken(), want.as_bytes(), "{words:?}");
-        let told = str::from_utf8(e.taken()).expect(&rt, "text");
-        assert!(rt; told.contains(*errors), "{words:?}: {told}");
-        assert!(rt; told.is_empty() == errors.is_empty(), "{words:?}: {told}");
+        assert_called(&rt, *words, &shelf, *status, want.as_bytes(), *errors)?;
     }
     Ok(())
 }
@@ -502,14 +519,7 @@ fn assert_runs(
         let words = line_of(rt.alloc(), command, *arguments)?;
         let want = if *written { output } else { b"" };
         let errors = other.unwrap_or(errors);
-        let mut w = ScriptOut::new(rt.alloc(), 4096, 4096, End::Fail)?;
-        let mut e = ScriptOut::new(rt.alloc(), 4096, 4096, End::Fail)?;
-        let answer = call(rt.alloc(), words.as_slice(), library, &mut w, &mut e);
-        assert_eq!(rt; answer, *status, "{words:?}");
-        assert_eq!(rt; w.taken(), want, "{words:?}");
-        let told = str::from_utf8(e.taken()).expect(rt, "text");
-        assert!(rt; told.contains(errors), "{words:?}: {told}");
-        assert!(rt; told.is_empty() == errors.is_empty(), "{words:?}: {told}");
+        assert_called(rt, words.as_slice(), library, *status, want, errors)?;
     }
     Ok(())
 }
@@ -521,16 +531,11 @@ fn lists_a_torn_file(rt: HostRuntime) -> Result<(), Fail> {
         one: b"",
         standard: &ONE_BLOCK_NUMBER,
     };
-    let mut w = ScriptOut::new(rt.alloc(), 4096, 4096, End::Fail)?;
-    let mut e = ScriptOut::new(rt.alloc(), 4096, 4096, End::Fail)?;
-    let words = ["bufr", "ls", "torn.bufr"].as_slice();
-    assert_eq!(rt; call(rt.alloc(), words, &library, &mut w, &mut e), 2);
-    let mut want = String::new(rt.alloc());
-    want.push_str("offset=0")?;
+    let words = ["bufr", "ls", "torn.bufr"];
+    let mut want = String::from_str(rt.alloc(), "offset=0")?;
     want.push_str(LINE)?;
-    assert_eq!(rt; w.taken(), want.as_bytes());
-    assert_eq!(rt; e.taken(), b"bufr: 70 read failed\n".as_slice());
-    Ok(())
+    let fault = "bufr: 70 read failed\n";
+    assert_called(&rt, words.as_slice(), &library, 2, want.as_bytes(), fault)
 }
 
 /// A writer that is full, and counts the writes that it is given.
@@ -604,6 +609,18 @@ fn runs_encode_lines(rt: HostRuntime) -> Result<(), Fail> {
     assert_runs(&rt, "encode", &library, &message, errors)
 }
 
+/// What `finish` answers, and what it wrote to a writer with this room.
+fn finished(
+    alloc: Global,
+    outcome: &Outcome<'_>,
+    room: usize,
+    end: End,
+) -> Result<(u8, ScriptOut), Fail> {
+    let mut e = ScriptOut::new(alloc, room, 3, end)?;
+    let status = finish(outcome, &mut e);
+    Ok((status, e))
+}
+
 /// Asserts what `finish` writes and answers, also where it cannot write.
 fn assert_finished(
     rt: &(impl Abort + AllocGlobal),
@@ -611,11 +628,11 @@ fn assert_finished(
     line: &str,
     status: u8,
 ) -> Result<(), Fail> {
-    let mut e = ScriptOut::new(rt.alloc(), 100, 3, End::Fail)?;
-    assert_eq!(rt; finish(outcome, &mut e), status, "{line}");
+    let (answer, e) = finished(rt.alloc(), outcome, 100, End::Fail)?;
+    assert_eq!(rt; answer, status, "{line}");
     assert_eq!(rt; e.taken(), line.as_bytes(), "{line}");
-    let mut e = ScriptOut::new(rt.alloc(), 4, 3, End::Zero)?;
-    assert_eq!(rt; finish(outcome, &mut e), status, "{line}");
+    let (answer, _) = finished(rt.alloc(), outcome, 4, End::Zero)?;
+    assert_eq!(rt; answer, status, "{line}");
     Ok(())
 }
 

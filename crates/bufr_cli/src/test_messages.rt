@@ -136,6 +136,19 @@ pub(crate) fn message_of(
     Ok(octets)
 }
 
+/// Such a message of descriptors, six digits each, and data in hexadecimal digits.
+pub(crate) fn message_in(
+    alloc: Global,
+    subsets: u16,
+    flags: u8,
+    descriptors: &str,
+    data: &str,
+) -> Result<Vec<u8>, Fail> {
+    let words = words_of(alloc, descriptors)?;
+    let data = octets_of(alloc, data)?;
+    message_of(alloc, subsets, flags, &words, &data)
+}
+
 /// The dump text of one of these messages.
 pub(crate) fn text_of(
     alloc: Global,

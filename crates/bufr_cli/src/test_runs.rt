@@ -1,5 +1,6 @@
 //! Runs of the three commands over devices in memory. A test sees only what a run left, so that its
 //! own proof does not have to carry the run's contract.
+ghost use Rattle.std.specs.Prelude.{◌≤◌};
 
 use crate::run_dump::run_dump;
 use crate::run_encode::{run_encode, run_encode_form};
@@ -129,20 +130,22 @@ pub(crate) fn run_over<R: Source>(
     run_by(rt.alloc(), &read_tables(rt), command, input, output, errors)
 }
 
-/// No message and no fault, for runs that do not come to a tally.
-const NONE: Tally = Tally {
-    accepted: 0,
-    refused: 0,
-};
-
-/// A run over an input in memory, and what is wanted of it where no device fails.
+/// A run over an input in memory, and what is wanted of it.
+#[derive(Clone, Copy)]
 struct Wanted<'a> {
     command: Command,
     name: &'a str,
     input: &'a [u8],
     output: &'a [u8],
     errors: &'a [u8],
-    tally: Tally,
+    answer: Result<Tally, RunFault>,
+}
+
+impl<'a> Wanted<'a> {
+    /// Asserts that a run left this, by its place in a list of runs.
+    fn assert_left(&self, rt: &(impl Abort + AllocGlobal), ran: &Ran, place: usize) {
+        ran.assert_left(rt, self.name, place, self.answer, self.output, self.errors);
+    }
 }
 
 /// A writer that takes so many octets, at most `step` of them at once, and then fails so.
@@ -187,9 +190,21 @@ fn assert_run_in_steps(
     let e = writer(rt, wanted.errors.len().saturating_add(64), step, End::Fail)?;
     let (command, input) = (wanted.command, wanted.input);
     let ran = run_in_steps(rt, tables, command, input, step, None, w, e);
-    let answer = Ok(wanted.tally);
-    ran.assert_left(rt, wanted.name, step, answer, wanted.output, wanted.errors);
+    wanted.assert_left(rt, &ran, step);
     Ok(())
+}
+
+/// Runs a command over an input, to writers with room for 4,096 octets.
+pub(crate) fn run_whole(
+    rt: &(impl Abort + AllocGlobal),
+    command: Command,
+    input: &[u8],
+) -> Result<Ran, Fail> {
+    let w = writer(rt, 4096, 4096, End::Fail)?;
+    let e = writer(rt, 4096, 4096, End::Fail)?;
+    let tables = read_tables(rt);
+    let ran = run_in_steps(rt, &tables, command, input, 4096, None, w, e);
+    Ok(ran)
 }
 
 /// Runs a command over `input`, however it is read, and asserts what comes of it.
@@ -208,7 +223,7 @@ pub(crate) fn assert_run(
         input,
         output,
         errors,
-        tally,
+        answer: Ok(tally),
     };
     let tables = read_tables(rt);
     assert_run_in_steps(rt, &tables, &wanted, 1)?;
@@ -217,12 +232,18 @@ pub(crate) fn assert_run(
     assert_run_in_steps(rt, &tables, &wanted, 4096)
 }
 
-/// What a run answers whose writer has room for so many octets of `text`, and then ends so.
-fn answer_at(room: usize, text: &[u8], end: End, tally: Tally) -> Result<Tally, RunFault> {
+/// What a run answers whose writer has room for so many octets of `text`, and then ends so: this, where
+/// all of them are taken and handed on.
+fn answer_at(
+    room: usize,
+    text: &[u8],
+    end: End,
+    answer: Result<Tally, RunFault>,
+) -> Result<Tally, RunFault> {
     if room < text.len() || end == End::Flush {
         Err(RunFault::Write)
     } else {
-        Ok(tally)
+        answer
     }
 }
 
@@ -241,7 +262,7 @@ fn assert_stops_at_the_output(
     let (command, input) = (wanted.command, wanted.input);
     let ran = run_in_steps(rt, tables, command, input, 4096, None, w, e);
     let front = whole.get(..room).unwrap_or(whole);
-    let answer = answer_at(room, whole, end, wanted.tally);
+    let answer = answer_at(room, whole, end, wanted.answer);
     ran.assert_left(rt, wanted.name, room, answer, front, wanted.errors);
     Ok(())
 }
@@ -262,7 +283,7 @@ pub(crate) fn assert_stops_at_failed_writes(
         input,
         output,
         errors,
-        tally,
+        answer: Ok(tally),
     };
     let tables = read_tables(rt);
     for room in 0..output.len().saturating_add(1) {
@@ -289,7 +310,7 @@ fn assert_stops_at_the_errors(
     let (command, input) = (wanted.command, wanted.input);
     let ran = run_in_steps(rt, tables, command, input, 4096, None, w, e);
     let front = line.get(..room).unwrap_or(line);
-    let answer = answer_at(room, line, end, wanted.tally);
+    let answer = answer_at(room, line, end, wanted.answer);
     let output = if room < line.len() {
         before
     } else {
@@ -316,7 +337,7 @@ pub(crate) fn assert_stops_at_failed_errors(
         input,
         output,
         errors,
-        tally,
+        answer: Ok(tally),
     };
     let tables = read_tables(rt);
     for room in 0..errors.len().saturating_add(1) {
@@ -341,8 +362,7 @@ fn assert_stops_at_the_read(
     let e = writer(rt, 4096, 7, End::Fail)?;
     let (command, input) = (wanted.command, wanted.input);
     let ran = run_in_steps(rt, tables, command, input, step, Some(place), w, e);
-    let answer = Err(RunFault::Read);
-    ran.assert_left(rt, wanted.name, place, answer, wanted.output, wanted.errors);
+    wanted.assert_left(rt, &ran, place);
     Ok(())
 }
 
@@ -361,7 +381,7 @@ pub(crate) fn assert_stops_at_failed_reads(
         input,
         output,
         errors,
-        tally: NONE,
+        answer: Err(RunFault::Read),
     };
     let tables = read_tables(rt);
     for place in places {
