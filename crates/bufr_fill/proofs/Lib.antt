@@ -41,6 +41,7 @@ pub mod PlainWalks
 pub mod TableRows
 pub mod BackLaws
 pub mod SaidWritten
+pub mod AlikeLaws
 pub mod SaidDumped
 pub mod Laws
 pub mod PackedWalks

@@ -11,6 +11,7 @@ use Rattle.bufr_walk.specs.declared.spec.Role.TheVariants as role
 use Rattle.bufr_walk.specs.Asked.{Asked}
 use Rattle.bufr_walk.specs.Content.{Content, number, text, missing, reference}
 use Rattle.bufr_walk.specs.Reading.{Item}
+use Rattle.bufr_fill.specs.Alike.{AllAlike}
 use Rattle.bufr_fill.specs.Draft.{draft, number_token, text_form, missing_form, reference_token}
 use Rattle.bufr_fill.specs.DraftContent.{content_of}
 use Rattle.bufr_fill.specs.Entries.{subset}
@@ -112,3 +113,11 @@ still_missing = refl
 whole_reference : normal_form redefining (reference_token (codes "-007.0")) ≡ reference_token (codes "-7")
 unfolding decimal_value_of decimal_text_of unsigned_text digits
 whole_reference = refl
+
+-- ---- drafts that say the same
+
+on_other_lines : AllAlike (subset (draft 24 257 (number_token (codes "10")) ∷ []) 25 ∷ []) (subset (draft 34 257 (number_token (codes "10")) ∷ []) 36 ∷ [])
+on_other_lines = ((λ spec. refl, tt), tt)
+
+one_subset_more : AllAlike [] (subset [] 24 ∷ []) → ⊥
+one_subset_more h = h

@@ -13,6 +13,7 @@ pub mod Fits
 pub mod Limits
 pub mod WrittenAgain
 pub mod ReadBack
+pub mod Alike
 pub mod Normal
 pub mod OtherForm
 pub mod Drawn

@@ -1,5 +1,5 @@
 -- The one spelling that a dump has of an item. (a choice of this project)
--- Cited by private steps only.
+-- Cited by public contracts.
 use Rattle.std.specs.Prelude.{ℕ, ◌-◌, ◌/◌, List, ◌++◌, length, replicate, ℤ, pos, Result, Ok, Err}
 use Rattle.bufr_bits.specs.DecimalText.{decimal_text_of}
 use Rattle.bufr_bits.specs.DecimalValue.{decimal_value_of}

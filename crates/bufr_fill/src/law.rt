@@ -13,6 +13,7 @@ ghost use Rattle.bufr_walk.specs.PlainField.{found};
 ghost use Rattle.bufr_walk.specs.Reading.{most_values, Item, ReadsSubsets, IsPackedReading};
 ghost use Rattle.bufr_walk.specs.Taking.{Turn, Takes, course_after};
 ghost use Rattle.bufr_walk.specs.Walked.{oks, told_by};
+ghost use Rattle.bufr_fill.specs.Alike.{AllAlike};
 ghost use Rattle.bufr_fill.specs.DraftContent.{plain_filler};
 ghost use Rattle.bufr_fill.specs.Entries.{Entry, Subset};
 ghost use Rattle.bufr_fill.specs.Fault.{FaultAt};
@@ -71,6 +72,16 @@ pub fn plain_data_are_told_by_what_is_said()
 /// The same of compressed data.
 pub fn packed_data_are_told_by_what_is_said()
     ensures { (n : ℕ) (records : List Record) (table : List Row) (template : Tree) (items : List (Item (List Content))) (drafts others : List Subset) (bits behind : List Bool) → AreRows records table → IsLegal template → IsPackedReading n (next_item table template) items bits behind → length drafts ≡ n → AreSaidFrom 0 items drafts → length others ≡ n → AreSaidFrom 0 items others → packed_data (next_item table template) drafts ≡ packed_data (next_item table template) others }
+{}
+
+/// Drafts that say the same at every field, where the first can be written, without compression, are written to the same bits.
+pub fn alike_drafts_have_the_same_plain_data()
+    ensures { (records : List Record) (table : List Row) (template : Tree) (drafts others : List Subset) (bits : List Bool) → AreRows records table → IsLegal template → AllHaveOctets drafts → AllAlike drafts others → plain_data (next_item table template) drafts ≡ Ok bits → plain_data (next_item table template) others ≡ Ok bits }
+{}
+
+/// The same of compressed data.
+pub fn alike_drafts_have_the_same_packed_data()
+    ensures { (records : List Record) (table : List Row) (template : Tree) (drafts others : List Subset) (bits : List Bool) → AreRows records table → IsLegal template → AllHaveOctets drafts → AllAlike drafts others → packed_data (next_item table template) drafts ≡ Ok bits → packed_data (next_item table template) others ≡ Ok bits }
 {}
 
 /// What was read of compressed data is written subset after subset, from the items of its dump, to bits from which each subset's

@@ -234,6 +234,7 @@ fn items_together(rt: HostRuntime) -> Result<(), Fail> {
     law::packed_data_round_trip();
     law::written_packed_data_are_read();
     law::packed_data_are_told_by_what_is_said();
+    law::alike_drafts_have_the_same_packed_data();
     law::fitting_items_are_packed_with_the_least_k();
     law::items_are_packed_with_the_least_k();
     law::packed_walk_writes_as_defined();

@@ -337,6 +337,7 @@ fn items_apart(rt: HostRuntime) -> Result<(), Fail> {
     law::plain_data_round_trip();
     law::written_plain_data_are_read();
     law::plain_data_are_told_by_what_is_said();
+    law::alike_drafts_have_the_same_plain_data();
     law::plain_walk_writes_as_defined();
     law::plain_fault_is_as_defined();
     assert_rows(&rt, Way::Apart, APART)

@@ -1,0 +1,24 @@
+-- Drafts that say the same, however they are spelled. (a choice of this project)
+-- Cited by public contracts.
+use Rattle.std.specs.Prelude.{◌≡◌, List, [], ◌∷◌}
+use Rattle.bufr_walk.specs.Asked.{Asked}
+use Rattle.bufr_fill.specs.Draft.{Draft}
+use Rattle.bufr_fill.specs.DraftContent.{content_of}
+use Rattle.bufr_fill.specs.Entries.{Subset}
+
+-- at each field they are the same content, or the same fault
+abbrev pub IsAlike : Draft → Draft → Type 0
+IsAlike a b = (spec : Asked) → content_of spec a ≡ content_of spec b
+
+abbrev pub AreAlike : List Draft → List Draft → Type 0
+AreAlike [] [] = Unit {0}
+AreAlike [] (b ∷ bs) = ⊥
+AreAlike (a ∷ more) [] = ⊥
+AreAlike (a ∷ more) (b ∷ bs) = IsAlike a b × AreAlike more bs
+
+-- subset by subset, whatever lines end them
+abbrev pub AllAlike : List Subset → List Subset → Type 0
+AllAlike [] [] = Unit {0}
+AllAlike [] (t ∷ ts) = ⊥
+AllAlike (s ∷ ss) [] = ⊥
+AllAlike (s ∷ ss) (t ∷ ts) = AreAlike s.items t.items × AllAlike ss ts
