@@ -1,6 +1,8 @@
 -- The values of a header, and what holds of a place behind each line.
 use Rattle.std.proofs.Common.{◌≡◌, ℕ, zero, suc, ◌+◌, ◌<◌, ◌≤◌, ◌==◌, ◌&&◌, not, nat_le, Bool, true, false, if◌then◌else◌, List, [], ◌∷◌, ◌++◌, length, refl, sym, ap, subst, ◌∙◌, arith, length-append}
 use Rattle.std.specs.Prelude.{slice_index, ◌||◌}
+use Rattle.std.specs.List.{AllByRecursion}
+use Rattle.std.proofs.lemmas.Bool.{true≢false}
 use Rattle.std.proofs.lemmas.Bool.Decides.{nat_tests}
 use Rattle.bufr_bits.proofs.ScaledLemmas.{and_first, and_second}
 use Rattle.bufr_frame.specs.Layout.{IsFitting}
@@ -10,7 +12,12 @@ use Rattle.bufr_text.specs.Document.{Document, Entry, Holds, Ends, edition_in, o
 use Rattle.bufr_text.specs.Line.{Line, Passed, Opens, Header, Local1, Section2, Descriptors, Begins, Item, Closes, Wrong, keys, leasts, mosts}
 use Rattle.bufr_text.specs.Documents.{Place, Between, Heading, Laying, Filling, Stopped, Turn, Goes, Gives, Faults, NotAllowed, SubsetCount, HeaderRange, in_range, heading, laying, filling, beginning, closing, with_value, with_local1, with_section2, with_entry, turn}
 use Rattle.bufr_text.specs.Header.{are_in_range, head_in, IsHeaded}
-use Rattle.bufr_text.specs.Step.{Stands, StandsAfter}
+use Rattle.bufr_text.specs.Encoding.{drafts_of}
+use Rattle.bufr_text.specs.Given.{IsOctet, IsWord}
+use Rattle.bufr_text.specs.Proper.{AreEnded}
+use Rattle.bufr_text.specs.Step.{IsBare, IsLaid, EntryHasOctets, HasSubsets, Stands, StandsAfter}
+use Rattle.bufr_text.proofs.ProperLemmas.{all-more, item-ends-none, end-ends-one, ends-last, drafts-octets, laid-bare}
+use Rattle.bufr_text.proofs.SoundLemmas.{IsSound}
 use Rattle.bufr_fill.specs.Draft.{draft}
 
 both : (a b : Bool) → a ≡ true → b ≡ true → (a && b) ≡ true
@@ -131,9 +138,9 @@ ranges-again (x ∷ xs) v h g =
 
 pub later : (at : ℕ) (place : Place) → Stands at place → Stands (at + 1) place
 later at Between s = tt
-later at (Heading d) s = (s.0, s.1, omega (arith, s.2))
-later at (Laying part d) s = (s.0, omega (arith, s.1))
-later at (Filling subset d) s = (s.0, omega (arith, s.1), s.2)
+later at (Heading d) s = (s.0, s.1, omega (arith, s.2), s.3)
+later at (Laying part d) s = (s.0, omega (arith, s.1), s.2, s.3)
+later at (Filling subset d) s = (s.0, omega (arith, s.1), s.2, s.3, s.4)
 later at Stopped s = tt
 
 if-so : (at : ℕ) (b : Bool) (x y : Turn) → (b ≡ true → StandsAfter at x) → (b ≡ false → StandsAfter at y) → StandsAfter at (if b then x else y)
@@ -151,111 +158,188 @@ not-false : (b : Bool) → not b ≡ false → b ≡ true
 not-false true e = refl
 not-false false e = absurd cc
 
-value-so : (at key value : ℕ) (d : Document) (b : Bool) → (key == 19) ≡ b → length d.header < 20 → are_in_range (edition_in d) 0 d.header ≡ true → length d.entries < at → key ≡ length d.header → in_range (edition_in d) key value ≡ true
-    → Stands (at + 1) (if b then Laying 0 (with_value d value) else Heading (with_value d value))
-value-so at key value d true last few ranges lines same fits =
-    let is : key ≡ 19 = grind (arith, nat_tests, last) in
-    (record { whole = omega (arith, length-append d.header (value ∷ []), is, same); ranges = ranges-again d.header value ranges (ap (λ (n : ℕ). in_range (edition_in d) n value) (sym same) ∙ fits) }, omega (arith, lines))
-value-so at key value d false last few ranges lines same fits =
-    let other : key ≡ 19 → ⊥ = λ is. (let e : (key == 19) ≡ true = grind (arith, nat_tests, is) in cc) in
-    (omega (arith, length-append d.header (value ∷ []), other, same, few), ranges-again d.header value ranges (ap (λ (n : ℕ). in_range (edition_in d) n value) (sym same) ∙ fits), omega (arith, lines))
+still-bare : (d : Document) (value : ℕ) → IsBare d → IsBare (with_value d value)
+still-bare d value bare = record { local1 = bare.local1; section2 = bare.section2; descriptors = bare.descriptors; entries = bare.entries }
 
-heading-so : (at key value : ℕ) (d : Document) → length d.header < 20 → are_in_range (edition_in d) 0 d.header ≡ true → length d.entries < at → StandsAfter at (heading d (Header key value))
-heading-so at key value d few ranges lines =
+value-so : (at key value : ℕ) (d : Document) (b : Bool) → (key == 19) ≡ b → length d.header < 20 → are_in_range (edition_in d) 0 d.header ≡ true → length d.entries < at → key ≡ length d.header → in_range (edition_in d) key value ≡ true → IsBare d
+    → Stands (at + 1) (if b then Laying 0 (with_value d value) else Heading (with_value d value))
+value-so at key value d true last few ranges lines same fits bare =
+    let is : key ≡ 19 = grind (arith, nat_tests, last) in
+    (record { whole = omega (arith, length-append d.header (value ∷ []), is, same); ranges = ranges-again d.header value ranges (ap (λ (n : ℕ). in_range (edition_in d) n value) (sym same) ∙ fits) }, omega (arith, lines), laid-bare (with_value d value) (still-bare d value bare), bare.entries)
+value-so at key value d false last few ranges lines same fits bare =
+    let other : key ≡ 19 → ⊥ = λ is. (let e : (key == 19) ≡ true = grind (arith, nat_tests, is) in cc) in
+    (omega (arith, length-append d.header (value ∷ []), other, same, few), ranges-again d.header value ranges (ap (λ (n : ℕ). in_range (edition_in d) n value) (sym same) ∙ fits), omega (arith, lines), still-bare d value bare)
+
+heading-so : (at key value : ℕ) (d : Document) → length d.header < 20 → are_in_range (edition_in d) 0 d.header ≡ true → length d.entries < at → IsBare d → StandsAfter at (heading d (Header key value))
+heading-so at key value d few ranges lines bare =
     let taken : Turn = Goes (if key == 19 then Laying 0 (with_value d value) else Heading (with_value d value)) in
     let ranged : Turn = if not (in_range (edition_in d) key value) then Faults HeaderRange else taken in
     if-so at (not (key == length d.header)) (Faults NotAllowed) ranged (λ e. tt) (λ e.
     if-so at (not (in_range (edition_in d) key value)) (Faults HeaderRange) taken (λ f. tt) (λ f.
-    value-so at key value d (key == 19) refl few ranges lines (same-key key (length d.header) e) (not-false (in_range (edition_in d) key value) f)))
+    value-so at key value d (key == 19) refl few ranges lines (same-key key (length d.header) e) (not-false (in_range (edition_in d) key value) f) bare))
 
 subset-few : (a b n : ℕ) → ((a == b) && nat_le a n) ≡ true → a ≤ n
 subset-few a b n h = let le : nat_le a n ≡ true = and_second (a == b) (nat_le a n) h in grind (arith, nat_tests, le)
 
-beginning-so : (at read subset : ℕ) (d : Document) → IsHeaded d → length d.entries < at + 1 → StandsAfter at (beginning read d subset)
-beginning-so at read subset d h lines =
+same-number : (a b n : ℕ) → ((a == b) && nat_le a n) ≡ true → a ≡ b
+same-number a b n h = let is : (a == b) ≡ true = and_first (a == b) (nat_le a n) h in grind (arith, nat_tests, is)
+
+beginning-so : (at read subset : ℕ) (d : Document) → IsHeaded d → length d.entries < at + 1 → IsLaid d → HasSubsets read d → StandsAfter at (beginning read d subset)
+beginning-so at read subset d h lines laid has =
     if-so at ((subset == read + 1) && nat_le subset (subsets_in d)) (Goes (Filling subset d)) (Faults SubsetCount)
-    (λ e. (h, lines, omega (arith, subset-few subset (read + 1) (subsets_in d) e, subsets-few d h))) (λ e. tt)
+    (λ e. (h, lines, omega (arith, subset-few subset (read + 1) (subsets_in d) e, subsets-few d h), laid, (read, same-number subset (read + 1) (subsets_in d) e, has))) (λ e. tt)
 
-closing-so : (at read : ℕ) (d : Document) → IsHeaded d → length d.entries ≤ at → StandsAfter at (closing read d)
-closing-so at read d h lines = if-so at (read == subsets_in d) (Gives d) (Faults SubsetCount) (λ e. (h, lines)) (λ e. tt)
+equal : (a b : ℕ) → (a == b) ≡ true → a ≡ b
+equal a b e = grind (arith, nat_tests, e)
 
-laying-so : (at part : ℕ) (d : Document) (line : Line) → IsHeaded d → length d.entries < at → StandsAfter at (laying part d line)
-laying-so at part d Passed h lines = tt
-laying-so at part d Opens h lines = tt
-laying-so at part d (Header key value) h lines = tt
-laying-so at part d (Local1 octets) h lines = if-so at (part == 0) (Goes (Laying 0 (with_local1 d octets))) (Faults NotAllowed) (λ e. (record { whole = h.whole; ranges = h.ranges }, omega (arith, lines))) (λ e. tt)
-laying-so at part d (Section2 octets) h lines = if-so at (nat_le part 1 && (optional_in d == 1)) (Goes (Laying 1 (with_section2 d octets))) (Faults NotAllowed) (λ e. (record { whole = h.whole; ranges = h.ranges }, omega (arith, lines))) (λ e. tt)
-laying-so at part d (Descriptors words) h lines = (record { whole = h.whole; ranges = h.ranges }, omega (arith, lines))
-laying-so at part d (Begins subset) h lines = beginning-so at 0 subset d h (omega (arith, lines))
-laying-so at part d (Item fxy form) h lines = tt
-laying-so at part d Closes h lines = closing-so at 0 d h (omega (arith, lines))
-laying-so at part d Wrong h lines = tt
+closing-so : (at read : ℕ) (d : Document) → IsHeaded d → length d.entries ≤ at → IsLaid d → HasSubsets read d → AreEnded d.entries → StandsAfter at (closing read d)
+closing-so at read d h lines laid has closed =
+    if-so at (read == subsets_in d) (Gives d) (Faults SubsetCount) (λ e. (
+      record {
+        headed = h;
+        local1 = laid.local1;
+        section2 = laid.section2;
+        no_section2 = laid.no_section2;
+        descriptors = laid.descriptors;
+        texts = drafts-octets d.entries has.texts;
+        counted = has.counted ∙ equal read (subsets_in d) e;
+        ended = closed;
+      },
+      lines,
+    )) (λ e. tt)
+
+-- no entries, no subsets
+none-ended : (d : Document) → d.entries ≡ [] → HasSubsets 0 d
+none-ended d none = record { texts = subst (λ (l : List Entry). AllByRecursion EntryHasOctets l) (sym none) tt; counted = ap (λ (l : List Entry). length (drafts_of l)) none }
+
+none-last : (es : List Entry) → es ≡ [] → AreEnded es
+none-last es none = subst (λ (l : List Entry). AreEnded l) (sym none) tt
+
+laying-so : (at part : ℕ) (d : Document) (line : Line) → IsSound line → IsHeaded d → length d.entries < at → IsLaid d → d.entries ≡ [] → StandsAfter at (laying part d line)
+laying-so at part d Passed sound h lines laid none = tt
+laying-so at part d Opens sound h lines laid none = tt
+laying-so at part d (Header key value) sound h lines laid none = tt
+laying-so at part d (Local1 octets) sound h lines laid none =
+    if-so at (part == 0) (Goes (Laying 0 (with_local1 d octets))) (Faults NotAllowed) (λ e. (
+      record { whole = h.whole; ranges = h.ranges },
+      omega (arith, lines),
+      record { local1 = all-more IsOctet d.local1 octets laid.local1 sound; section2 = laid.section2; no_section2 = laid.no_section2; descriptors = laid.descriptors },
+      none,
+    )) (λ e. tt)
+laying-so at part d (Section2 octets) sound h lines laid none =
+    if-so at (nat_le part 1 && (optional_in d == 1)) (Goes (Laying 1 (with_section2 d octets))) (Faults NotAllowed) (λ e. (
+      record { whole = h.whole; ranges = h.ranges },
+      omega (arith, lines),
+      record { local1 = laid.local1; section2 = all-more IsOctet d.section2 octets laid.section2 sound; no_section2 = λ other. absurd (true≢false (sym (and_second (nat_le part 1) (optional_in d == 1) e) ∙ other)); descriptors = laid.descriptors },
+      none,
+    )) (λ e. tt)
+laying-so at part d (Descriptors words) sound h lines laid none = (
+  record { whole = h.whole; ranges = h.ranges },
+  omega (arith, lines),
+  record { local1 = laid.local1; section2 = laid.section2; no_section2 = laid.no_section2; descriptors = all-more IsWord d.descriptors words laid.descriptors sound },
+  none,
+)
+laying-so at part d (Begins subset) sound h lines laid none = beginning-so at 0 subset d h (omega (arith, lines)) laid (none-ended d none)
+laying-so at part d (Item fxy form) sound h lines laid none = tt
+laying-so at part d Closes sound h lines laid none = closing-so at 0 d h (omega (arith, lines)) laid (none-ended d none) (none-last d.entries none)
+laying-so at part d Wrong sound h lines laid none = tt
 
 one-entry : (d : Document) (entry : Entry) → length (with_entry d entry).entries ≡ length d.entries + 1
 one-entry d entry = omega (arith, length-append d.entries (entry ∷ []))
 
-filling-so : (at subset : ℕ) (d : Document) (line : Line) → IsHeaded d → length d.entries < at → subset < 65536 → StandsAfter at (filling at subset d line)
-filling-so at subset d Passed h lines few = tt
-filling-so at subset d Opens h lines few = tt
-filling-so at subset d (Header key value) h lines few = tt
-filling-so at subset d (Local1 octets) h lines few = tt
-filling-so at subset d (Section2 octets) h lines few = tt
-filling-so at subset d (Descriptors words) h lines few = tt
-filling-so at subset d (Begins next) h lines few = beginning-so at subset next (with_entry d (Ends at)) (record { whole = h.whole; ranges = h.ranges }) (omega (arith, lines, one-entry d (Ends at)))
-filling-so at subset d (Item fxy form) h lines few = (record { whole = h.whole; ranges = h.ranges }, omega (arith, lines, one-entry d (Holds (draft at fxy form))), few)
-filling-so at subset d Closes h lines few = closing-so at subset (with_entry d (Ends at)) (record { whole = h.whole; ranges = h.ranges }) (omega (arith, lines, one-entry d (Ends at)))
-filling-so at subset d Wrong h lines few = tt
+-- one more entry leaves the other parts
+still-headed : (d : Document) (entry : Entry) → IsHeaded d → IsHeaded (with_entry d entry)
+still-headed d entry h = record { whole = h.whole; ranges = h.ranges }
+
+still-laid : (d : Document) (entry : Entry) → IsLaid d → IsLaid (with_entry d entry)
+still-laid d entry laid = record { local1 = laid.local1; section2 = laid.section2; no_section2 = laid.no_section2; descriptors = laid.descriptors }
+
+one-more : (at ended : ℕ) (d : Document) → HasSubsets ended d → HasSubsets (ended + 1) (with_entry d (Ends at))
+one-more at ended d has = record {
+  texts = all-more EntryHasOctets d.entries (Ends at ∷ []) has.texts (tt, tt);
+  counted = end-ends-one d.entries at ∙ ap (λ (n : ℕ). n + 1) has.counted;
+}
+
+by-number : (subset ended : ℕ) (d : Document) → subset ≡ ended + 1 → HasSubsets (ended + 1) d → HasSubsets subset d
+by-number subset ended d is has = subst (λ (n : ℕ). HasSubsets n d) (sym is) has
+
+filling-so : (at subset : ℕ) (d : Document) (line : Line) → IsSound line → IsHeaded d → length d.entries < at → subset < 65536 → IsLaid d → ((ended : ℕ) × (subset ≡ ended + 1) × HasSubsets ended d) → StandsAfter at (filling at subset d line)
+filling-so at subset d Passed sound h lines few laid has = tt
+filling-so at subset d Opens sound h lines few laid has = tt
+filling-so at subset d (Header key value) sound h lines few laid has = tt
+filling-so at subset d (Local1 octets) sound h lines few laid has = tt
+filling-so at subset d (Section2 octets) sound h lines few laid has = tt
+filling-so at subset d (Descriptors words) sound h lines few laid has = tt
+filling-so at subset d (Begins next) sound h lines few laid (ended, is, has) =
+    beginning-so at subset next (with_entry d (Ends at)) (still-headed d (Ends at) h) (omega (arith, lines, one-entry d (Ends at))) (still-laid d (Ends at) laid) (by-number subset ended (with_entry d (Ends at)) is (one-more at ended d has))
+filling-so at subset d (Item fxy form) sound h lines few laid (ended, is, has) = (
+  still-headed d (Holds (draft at fxy form)) h,
+  omega (arith, lines, one-entry d (Holds (draft at fxy form))),
+  few,
+  still-laid d (Holds (draft at fxy form)) laid,
+  (
+    ended,
+    is,
+    record {
+      texts = all-more EntryHasOctets d.entries (Holds (draft at fxy form) ∷ []) has.texts (sound, tt);
+      counted = item-ends-none d.entries (draft at fxy form) ∙ has.counted;
+    },
+  ),
+)
+filling-so at subset d Closes sound h lines few laid (ended, is, has) =
+    closing-so at subset (with_entry d (Ends at)) (still-headed d (Ends at) h) (omega (arith, lines, one-entry d (Ends at))) (still-laid d (Ends at) laid) (by-number subset ended (with_entry d (Ends at)) is (one-more at ended d has)) (ends-last d.entries at)
+filling-so at subset d Wrong sound h lines few laid has = tt
 
 -- what holds of a place holds of the place behind the line
-pub turn-stands : (at : ℕ) (place : Place) (line : Line) → 0 < at → Stands at place → StandsAfter at (turn at place line)
+pub turn-stands : (at : ℕ) (place : Place) (line : Line) → 0 < at → IsSound line → Stands at place → StandsAfter at (turn at place line)
 unfolding turn
-turn-stands at Between Passed some s = tt
-turn-stands at Between Opens some s = (omega arith, refl, omega arith)
-turn-stands at Between (Header key value) some s = tt
-turn-stands at Between (Local1 octets) some s = tt
-turn-stands at Between (Section2 octets) some s = tt
-turn-stands at Between (Descriptors words) some s = tt
-turn-stands at Between (Begins subset) some s = tt
-turn-stands at Between (Item fxy form) some s = tt
-turn-stands at Between Closes some s = tt
-turn-stands at Between Wrong some s = tt
-turn-stands at (Heading d) Passed some s = later at (Heading d) s
-turn-stands at (Heading d) Opens some s = tt
-turn-stands at (Heading d) (Header key value) some s = heading-so at key value d s.0 s.1 s.2
-turn-stands at (Heading d) (Local1 octets) some s = tt
-turn-stands at (Heading d) (Section2 octets) some s = tt
-turn-stands at (Heading d) (Descriptors words) some s = tt
-turn-stands at (Heading d) (Begins subset) some s = tt
-turn-stands at (Heading d) (Item fxy form) some s = tt
-turn-stands at (Heading d) Closes some s = tt
-turn-stands at (Heading d) Wrong some s = tt
-turn-stands at (Laying part d) Passed some s = later at (Laying part d) s
-turn-stands at (Laying part d) Opens some s = tt
-turn-stands at (Laying part d) (Header key value) some s = tt
-turn-stands at (Laying part d) (Local1 octets) some s = laying-so at part d (Local1 octets) s.0 s.1
-turn-stands at (Laying part d) (Section2 octets) some s = laying-so at part d (Section2 octets) s.0 s.1
-turn-stands at (Laying part d) (Descriptors words) some s = laying-so at part d (Descriptors words) s.0 s.1
-turn-stands at (Laying part d) (Begins subset) some s = laying-so at part d (Begins subset) s.0 s.1
-turn-stands at (Laying part d) (Item fxy form) some s = tt
-turn-stands at (Laying part d) Closes some s = laying-so at part d Closes s.0 s.1
-turn-stands at (Laying part d) Wrong some s = tt
-turn-stands at (Filling subset d) Passed some s = later at (Filling subset d) s
-turn-stands at (Filling subset d) Opens some s = tt
-turn-stands at (Filling subset d) (Header key value) some s = tt
-turn-stands at (Filling subset d) (Local1 octets) some s = tt
-turn-stands at (Filling subset d) (Section2 octets) some s = tt
-turn-stands at (Filling subset d) (Descriptors words) some s = tt
-turn-stands at (Filling subset d) (Begins next) some s = filling-so at subset d (Begins next) s.0 s.1 s.2
-turn-stands at (Filling subset d) (Item fxy form) some s = filling-so at subset d (Item fxy form) s.0 s.1 s.2
-turn-stands at (Filling subset d) Closes some s = filling-so at subset d Closes s.0 s.1 s.2
-turn-stands at (Filling subset d) Wrong some s = tt
-turn-stands at Stopped Passed some s = tt
-turn-stands at Stopped Opens some s = tt
-turn-stands at Stopped (Header key value) some s = tt
-turn-stands at Stopped (Local1 octets) some s = tt
-turn-stands at Stopped (Section2 octets) some s = tt
-turn-stands at Stopped (Descriptors words) some s = tt
-turn-stands at Stopped (Begins subset) some s = tt
-turn-stands at Stopped (Item fxy form) some s = tt
-turn-stands at Stopped Closes some s = tt
-turn-stands at Stopped Wrong some s = tt
+turn-stands at Between Passed some sound s = tt
+turn-stands at Between Opens some sound s = (omega arith, refl, omega arith, record { local1 = refl; section2 = refl; descriptors = refl; entries = refl })
+turn-stands at Between (Header key value) some sound s = tt
+turn-stands at Between (Local1 octets) some sound s = tt
+turn-stands at Between (Section2 octets) some sound s = tt
+turn-stands at Between (Descriptors words) some sound s = tt
+turn-stands at Between (Begins subset) some sound s = tt
+turn-stands at Between (Item fxy form) some sound s = tt
+turn-stands at Between Closes some sound s = tt
+turn-stands at Between Wrong some sound s = tt
+turn-stands at (Heading d) Passed some sound s = later at (Heading d) s
+turn-stands at (Heading d) Opens some sound s = tt
+turn-stands at (Heading d) (Header key value) some sound s = heading-so at key value d s.0 s.1 s.2 s.3
+turn-stands at (Heading d) (Local1 octets) some sound s = tt
+turn-stands at (Heading d) (Section2 octets) some sound s = tt
+turn-stands at (Heading d) (Descriptors words) some sound s = tt
+turn-stands at (Heading d) (Begins subset) some sound s = tt
+turn-stands at (Heading d) (Item fxy form) some sound s = tt
+turn-stands at (Heading d) Closes some sound s = tt
+turn-stands at (Heading d) Wrong some sound s = tt
+turn-stands at (Laying part d) Passed some sound s = later at (Laying part d) s
+turn-stands at (Laying part d) Opens some sound s = tt
+turn-stands at (Laying part d) (Header key value) some sound s = tt
+turn-stands at (Laying part d) (Local1 octets) some sound s = laying-so at part d (Local1 octets) sound s.0 s.1 s.2 s.3
+turn-stands at (Laying part d) (Section2 octets) some sound s = laying-so at part d (Section2 octets) sound s.0 s.1 s.2 s.3
+turn-stands at (Laying part d) (Descriptors words) some sound s = laying-so at part d (Descriptors words) sound s.0 s.1 s.2 s.3
+turn-stands at (Laying part d) (Begins subset) some sound s = laying-so at part d (Begins subset) sound s.0 s.1 s.2 s.3
+turn-stands at (Laying part d) (Item fxy form) some sound s = tt
+turn-stands at (Laying part d) Closes some sound s = laying-so at part d Closes sound s.0 s.1 s.2 s.3
+turn-stands at (Laying part d) Wrong some sound s = tt
+turn-stands at (Filling subset d) Passed some sound s = later at (Filling subset d) s
+turn-stands at (Filling subset d) Opens some sound s = tt
+turn-stands at (Filling subset d) (Header key value) some sound s = tt
+turn-stands at (Filling subset d) (Local1 octets) some sound s = tt
+turn-stands at (Filling subset d) (Section2 octets) some sound s = tt
+turn-stands at (Filling subset d) (Descriptors words) some sound s = tt
+turn-stands at (Filling subset d) (Begins next) some sound s = filling-so at subset d (Begins next) sound s.0 s.1 s.2 s.3 s.4
+turn-stands at (Filling subset d) (Item fxy form) some sound s = filling-so at subset d (Item fxy form) sound s.0 s.1 s.2 s.3 s.4
+turn-stands at (Filling subset d) Closes some sound s = filling-so at subset d Closes sound s.0 s.1 s.2 s.3 s.4
+turn-stands at (Filling subset d) Wrong some sound s = tt
+turn-stands at Stopped Passed some sound s = tt
+turn-stands at Stopped Opens some sound s = tt
+turn-stands at Stopped (Header key value) some sound s = tt
+turn-stands at Stopped (Local1 octets) some sound s = tt
+turn-stands at Stopped (Section2 octets) some sound s = tt
+turn-stands at Stopped (Descriptors words) some sound s = tt
+turn-stands at Stopped (Begins subset) some sound s = tt
+turn-stands at Stopped (Item fxy form) some sound s = tt
+turn-stands at Stopped Closes some sound s = tt
+turn-stands at Stopped Wrong some sound s = tt

@@ -39,6 +39,7 @@ mod NormalExamples
 pub mod NormalLemmas
 pub mod NumberLemmas
 pub mod OpenLemmas
+pub mod ProperLemmas
 pub mod PutLemmas
 pub mod ReadBackLemmas
 pub mod ReaderLemmas
@@ -48,7 +49,9 @@ mod RuleExamples
 pub mod RunsLemmas
 pub mod ShowingLemmas
 pub mod SpecWords
+pub mod SoundLemmas
 pub mod SpelledLemmas
+pub mod SpelledProper
 pub mod TakingLemmas
 pub mod TokenLemmas
 mod TurnsExamples

@@ -1,6 +1,6 @@
 -- What a call of a reader of dump texts tells.
 use Rattle.std.proofs.Common.{inl, inr, ◌⊎◌, ◌≡◌, ℕ, ◌+◌, ◌-◌, ◌<◌, ◌≤◌, true, false, List, [], ◌∷◌, ◌++◌, length, refl, sym, ap, subst, ◌∙◌, arith, append-nil, length-append}
-use Rattle.std.specs.Prelude.{Option, Some, None, Result, Ok, Err}
+use Rattle.std.specs.Prelude.{Option, Some, None, Result, Ok, Err, IfOk, IfSome}
 use Rattle.std.specs.Io.KnownBytes.{Consumes}
 use Rattle.std.proofs.KnownBytes.{Consumes-trans}
 use Rattle.std.proofs.lemmas.Bool.{true≢false}
@@ -11,6 +11,7 @@ use Rattle.bufr_frame.specs.declared.fault.RunFault.TheVariants.{Read, Write, In
 use Rattle.bufr_text.specs.Document.{Document}
 use Rattle.bufr_text.specs.Documents.{Place, Told, Spelled, Refused, NotAllowed, spelled, spelled_openly, lines_of, split_of, documents_of, open_documents_of}
 use Rattle.bufr_text.specs.Dump.{text_of}
+use Rattle.bufr_text.specs.Proper.{IsProper}
 use Rattle.bufr_text.specs.Reading.{has_no_feed, GoesOn, Passes, spells, spells_openly}
 use Rattle.bufr_text.specs.Reader.{State, fresh, stand, IsMissingFeed, IsDone, KeepsSo, CallSo, WaitsSo, NextSo, IsOpen, CountsReads}
 use Rattle.bufr_text.specs.Filling.{Tells, WentSo, EndSo, FillSo, stopped}
@@ -95,6 +96,12 @@ module _ (left mid : Option (List ℕ)) (old s s' : State) (bs : List ℕ) (call
   end-next (Err (SubsetCount line)) so = absurd so
   end-next (Err (HeaderRange line)) so = absurd so
   end-next (Err (Run f)) so = absurd so
+
+-- the end tells no document
+pub end-proper : (s s' : State) (result : Result (Option Document) ReadFault) → EndSo s s' result → IfOk result (λ found. IfSome found (λ document. IsProper document))
+end-proper s s' (Ok None) so = tt
+end-proper s s' (Ok (Some d)) so = absurd so
+end-proper s s' (Err f) so = tt
 
 -- nothing is told, and nothing but the fault and the reads is new
 quiet-tells : (s s' : State) → s'.at ≡ s.at → s'.place ≡ s.place → s'.held ≡ s.held → s'.ended ≡ s.ended → Tells s s' []

@@ -15,6 +15,7 @@ use Rattle.bufr_text.specs.declared.step.Turn.TheVariants as turn
 use Rattle.bufr_text.specs.declared.step.Place.{Place}
 use Rattle.bufr_text.specs.declared.step.Refusal.{Refusal}
 use Rattle.bufr_text.proofs.HeaderLemmas.{turn-stands}
+use Rattle.bufr_text.proofs.SoundLemmas.{said-sound}
 use Rattle.bufr_text.proofs.ClosingLemmas.{gives-end}
 use Rattle.bufr_text.proofs.ReadingLemmas.{takes-line, goes-further}
 
@@ -67,7 +68,7 @@ passes-feed at at' held from n p feed =
 
 -- what holds behind a turn
 stands-behind : (new : Draft) (t : documents.Turn) (line : List ℕ) → Stands new.at (place_with new.place new.parts) → 0 < new.at → t ≡ documents.turn new.at (place_with new.place new.parts) (said line) → StandsAfter new.at t
-stands-behind new t line s some e = subst (StandsAfter new.at) (sym e) (turn-stands new.at (place_with new.place new.parts) (said line) some s)
+stands-behind new t line s some e = subst (StandsAfter new.at) (sym e) (turn-stands new.at (place_with new.place new.parts) (said line) some (said-sound line) s)
 
 further : (a b c : Stand) (x : List documents.Told) → b.ended ≡ c.ended → GoesOn a b [] → GoesOn b c x → GoesOn a c x
 further a b c x same f g = goes-further a b c [] x (λ e. sym same ∙ e) f g

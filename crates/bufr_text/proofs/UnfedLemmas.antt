@@ -1,11 +1,11 @@
 -- What is held of the text itself.
-use Rattle.std.proofs.Common.{inl, inr, ◌⊎◌, ◌≡◌, ℕ, suc, ◌-◌, ◌<◌, Bool, true, false, List, [], ◌∷◌, ◌++◌, length, take, refl, sym, ap, ◌∙◌, arith, append-nil, length-append}
+use Rattle.std.proofs.Common.{inl, inr, ◌≡◌, ℕ, suc, ◌-◌, Bool, true, false, List, [], ◌∷◌, ◌++◌, length, take, refl, sym, ap, ◌∙◌, arith, append-nil, length-append}
 use Rattle.std.specs.Prelude.{Option, if◌then◌else◌}
 use Rattle.std.proofs.lemmas.Bool.{true≢false}
 use Rattle.std.proofs.lemmas.List.{take_at}
 use Rattle.bufr_text.specs.Documents.{Told}
 use Rattle.bufr_text.specs.Dump.{text_of}
-use Rattle.bufr_text.specs.Reader.{State, unfed, KeepsSo, IsMissingFeed, CallSo}
+use Rattle.bufr_text.specs.Reader.{State, KeepsSo, IsMissingFeed, CallSo}
 
 abbrev cut : List ℕ → List ℕ
 cut xs = take (length xs - 1) xs

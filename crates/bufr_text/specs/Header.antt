@@ -1,6 +1,6 @@
 -- What the header of a document says, in the words of a message. (a choice of this project)
 -- Cited by public contracts.
-use Rattle.std.specs.Prelude.{◌≡◌, ℕ, ◌+◌, ◌^◌, ◌≤◌, ◌==◌, Bool, true, ◌&&◌, if◌then◌else◌, List, [], ◌∷◌, length, slice_index, Option, Some, None}
+use Rattle.std.specs.Prelude.{◌≡◌, ℕ, ◌+◌, ◌^◌, ◌==◌, Bool, true, ◌&&◌, if◌then◌else◌, List, [], ◌∷◌, length, slice_index, Option, Some, None}
 use Rattle.bufr_frame.specs.declared.head.Head.{Head}
 use Rattle.bufr_text.specs.Document.{Document, edition_in, optional_in}
 use Rattle.bufr_text.specs.Documents.{in_range}
@@ -54,8 +54,3 @@ pub record IsHeaded (d : Document) : Type 0 where
 -- the most entries that an input of 2^32 reads of 4,096 octets can give
 abbrev pub most_entries : ℕ
 most_entries = 2 ^ 44
-
--- A document that was read whole.
-pub record IsWhole (d : Document) : Type 0 where
-  pub headed : IsHeaded d
-  pub few : length d.entries ≤ most_entries

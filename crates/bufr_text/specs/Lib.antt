@@ -32,4 +32,5 @@ pub mod Step
 pub mod Taking
 pub mod Unhexing
 pub mod Unquoting
+pub mod Whole
 pub mod Writing

@@ -1,11 +1,16 @@
 -- What a step of the reader does.
 -- Cited by private steps only.
-use Rattle.std.specs.Prelude.{◌≡◌, ◌<◌, ◌≤◌, ◌+◌, ℕ, true, length}
+use Rattle.std.specs.Prelude.{◌≡◌, ◌<◌, ◌≤◌, ◌+◌, ◌==◌, ℕ, true, false, [], length}
+use Rattle.std.specs.List.{AllByRecursion}
+use Rattle.bufr_fill.specs.ReadBack.{HasOctets}
 use Rattle.bufr_text.specs.Document as spec
 use Rattle.bufr_text.specs.Line as line
 use Rattle.bufr_text.specs.Documents as documents
 use Rattle.bufr_text.specs.Header.{are_in_range, IsHeaded}
+use Rattle.bufr_text.specs.Encoding.{drafts_of}
+use Rattle.bufr_text.specs.Given.{IsOctet, IsWord}
 use Rattle.bufr_text.specs.Kept.{form_by}
+use Rattle.bufr_text.specs.Proper.{IsProper}
 use Rattle.bufr_text.specs.declared.step.Said.{Said}
 use Rattle.bufr_text.specs.declared.step.Said.TheVariants as said
 use Rattle.bufr_text.specs.declared.step.Part.{Part}
@@ -54,17 +59,41 @@ turned (turn.Goes place) d = documents.Goes (place_with place d)
 turned turn.Gives d = documents.Gives d
 turned (turn.Refuses refusal) d = documents.Faults (fault_of refusal)
 
+-- Nothing was read behind the header.
+pub record IsBare (d : spec.Document) : Type 0 where
+  pub local1 : d.local1 ≡ []
+  pub section2 : d.section2 ≡ []
+  pub descriptors : d.descriptors ≡ []
+  pub entries : d.entries ≡ []
+
+-- The parts before the subsets are octets and descriptors, and there are no octets of a section 2 that is absent.
+pub record IsLaid (d : spec.Document) : Type 0 where
+  pub local1 : AllByRecursion IsOctet d.local1
+  pub section2 : AllByRecursion IsOctet d.section2
+  pub no_section2 : (spec.optional_in d == 1) ≡ false → d.section2 ≡ []
+  pub descriptors : AllByRecursion IsWord d.descriptors
+
+-- the text of an item is of octets
+abbrev pub EntryHasOctets : spec.Entry → Type 0
+EntryHasOctets (spec.Holds item) = HasOctets item.form
+EntryHasOctets (spec.Ends line) = Unit {0}
+
+-- So many subsets were ended, and each text is of octets.
+pub record HasSubsets (ended : ℕ) (d : spec.Document) : Type 0 where
+  pub texts : AllByRecursion EntryHasOctets d.entries
+  pub counted : length (drafts_of d.entries) ≡ ended
+
 -- What holds of a place where the line of this number is next: the header is not whole in the header and whole behind it, the number
--- of a subset is small, and each entry has a line.
+-- of a subset is small and one more than those that were ended, and each entry has a line.
 abbrev pub Stands : (at : ℕ) → documents.Place → Type 0
 Stands at documents.Between = Unit {0}
-Stands at (documents.Heading d) = (length d.header < 20) × (are_in_range (spec.edition_in d) 0 d.header ≡ true) × (length d.entries < at)
-Stands at (documents.Laying part d) = IsHeaded d × (length d.entries < at)
-Stands at (documents.Filling subset d) = IsHeaded d × (length d.entries < at) × (subset < 65536)
+Stands at (documents.Heading d) = (length d.header < 20) × (are_in_range (spec.edition_in d) 0 d.header ≡ true) × (length d.entries < at) × IsBare d
+Stands at (documents.Laying part d) = IsHeaded d × (length d.entries < at) × IsLaid d × (d.entries ≡ [])
+Stands at (documents.Filling subset d) = IsHeaded d × (length d.entries < at) × (subset < 65536) × IsLaid d × ((ended : ℕ) × (subset ≡ ended + 1) × HasSubsets ended d)
 Stands at documents.Stopped = Unit {0}
 
 -- the same behind a turn at a line
 abbrev pub StandsAfter : (at : ℕ) → documents.Turn → Type 0
 StandsAfter at (documents.Goes place) = Stands (at + 1) place
-StandsAfter at (documents.Gives d) = IsHeaded d × (length d.entries ≤ at)
+StandsAfter at (documents.Gives d) = IsProper d × (length d.entries ≤ at)
 StandsAfter at (documents.Faults fault) = Unit {0}

@@ -4,7 +4,7 @@ use Rattle.std.specs.Prelude.{◌≡◌, ℕ, ◌+◌, ◌<◌, ◌≤◌, List,
 use Rattle.bufr_text.specs.Documents as documents
 use Rattle.bufr_text.specs.Documents.{adds, said}
 use Rattle.bufr_text.specs.Document as spec
-use Rattle.bufr_text.specs.Header.{IsHeaded}
+use Rattle.bufr_text.specs.Proper.{IsProper}
 use Rattle.bufr_text.specs.Reading.{has_no_feed, Stand, GoesOn, Passes, PassesEnd}
 use Rattle.bufr_text.specs.Step.{place_with, fault_of, Stands}
 use Rattle.bufr_text.specs.declared.draft.Draft.{Draft}
@@ -37,7 +37,7 @@ stand_behind step draft held ended = record { at = draft.at; place = place_behin
 -- a document that is whole has a line for each entry
 abbrev pub StandsBehind : Taken → Draft → Type 0
 StandsBehind taken.More draft = Stands draft.at (place_with draft.place draft.parts)
-StandsBehind taken.Gives draft = IsHeaded draft.parts × (length draft.parts.entries < draft.at)
+StandsBehind taken.Gives draft = IsProper draft.parts × (length draft.parts.entries < draft.at)
 StandsBehind (taken.Refuses line refusal) draft = Unit {0}
 
 -- The lines up to a place were taken.

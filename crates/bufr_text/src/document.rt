@@ -7,7 +7,8 @@ ghost use Rattle.bufr_fill.specs.Given.{form_in};
 ghost use Rattle.bufr_text.specs.Document as spec;
 ghost use Rattle.bufr_text.specs.Document.{subsets_in};
 ghost use Rattle.bufr_text.specs.Documents.{with_value, with_local1, with_section2, with_descriptors, with_entry};
-ghost use Rattle.bufr_text.specs.Header.{head_in, observed_in, compressed_in, section2_in, most_entries, IsWhole};
+ghost use Rattle.bufr_text.specs.Header.{head_in, observed_in, compressed_in, section2_in, most_entries};
+ghost use Rattle.bufr_text.specs.Whole.{IsWhole};
 ghost use Rattle.bufr_text.specs.Kept.{form_by, entry_in, IsInside};
 ghost use Rattle.bufr_text.specs.Lent.{entry_said};
 ghost use Rattle.bufr_text.specs.Line.{mosts};
@@ -275,7 +276,7 @@ pub struct Document {
 
 impl Model for Document {
     ghost use Rattle.bufr_text.specs.Document as spec;
-    ghost use Rattle.bufr_text.specs.Header.{IsWhole};
+    ghost use Rattle.bufr_text.specs.Whole.{IsWhole};
 
     ghost Value = { spec.Document };
 

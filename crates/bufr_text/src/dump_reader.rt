@@ -81,9 +81,10 @@ impl Refusal {
 }
 
 impl DumpReader {
-    ghost use Rattle.std.specs.Prelude.{◌≡◌, ◌≤◌, ◌<◌, ◌-◌, ℕ, List, None, Some, Err, true, false, length, IfSome};
+    ghost use Rattle.std.specs.Prelude.{◌≡◌, ◌≤◌, ◌<◌, ◌-◌, ℕ, List, None, Some, Err, true, false, length, IfSome, IfOk};
     ghost use Rattle.bufr_bits.specs.Counts.{counted};
     ghost use Rattle.bufr_frame.specs.Runs.{read_failures_after, most_reads};
+    ghost use Rattle.bufr_text.specs.Proper.{IsProper};
     ghost use Rattle.bufr_text.specs.Reading.{has_no_feed};
     ghost use Rattle.bufr_text.specs.Reader.{State, fresh, unfed, NextSo, CountsReads, failures_by};
     ghost use Rattle.bufr_text.specs.Filling.{WentSo, EndSo, FillSo, ReadSo, stopped};
@@ -148,6 +149,7 @@ impl DumpReader {
     fn take_held(&mut self) -> Result<Option<Document>, ReadFault>
         requires sound { self.old.fault ≡ None }
         ensures went { WentSo self.old self.new result }
+        ensures proper { IfOk result (λ found. IfSome found (λ document. IsProper document)) }
         ensures bound { length self.new.held ≤ 8192 }
         ensures ended { self.new.ended ≡ self.old.ended }
         ensures reads { self.new.reads ≡ self.old.reads }
@@ -240,7 +242,9 @@ impl DumpReader {
     }
 
     /// The next document of the input `r`, which is to be the same at each call, or `None` where the
-    /// end was reached and no line is left. After `None` it comes again.
+    /// end was reached and no line is left. After `None` it comes again. A document is as its header
+    /// says: it has so many subsets and nothing behind them, and octets of section 2 only where there
+    /// is one.
     ///
     /// # Errors
     ///
@@ -252,6 +256,7 @@ impl DumpReader {
     /// given before. After a fault each call answers the same one, and reads nothing.
     pub fn next_document<R: Source>(&mut self, r: &mut R) -> Result<Option<Document>, ReadFault>
         ensures next { self.old.fault ≡ None → NextSo (R.left r.old) (R.left r.new) self.old self.new result }
+        ensures proper { IfOk result (λ found. IfSome found (λ document. IsProper document)) }
         ensures failed { self.old.fault ≡ None → R.failures r.new ≡ failures_by (R.failures r.old) result }
         ensures counts { CountsReads (R.reads r.old) (R.reads r.new) self.old self.new }
         ensures held { length self.new.held ≤ 8192 }

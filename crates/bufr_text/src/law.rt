@@ -7,6 +7,7 @@ ghost use Rattle.bufr_text.specs.Given.{IsDumpable};
 ghost use Rattle.bufr_text.specs.Document.{Document};
 ghost use Rattle.bufr_text.specs.Reading.{Passes, spells, spells_openly};
 ghost use Rattle.bufr_text.specs.Reader.{State, fresh, unfed, stand, IsMissingFeed, CallSo, NextSo, IsDone, IsOpen};
+ghost use Rattle.bufr_text.specs.Whole.{AreProper};
 ghost use Rattle.bufr_text.specs.declared.fault.ReadFault.{ReadFault};
 
 /// The dump text of a message spells its document, and the reading goes on behind it.
@@ -17,6 +18,12 @@ pub fn dump_text_spells_its_document()
 /// The dump text of a message spells one document, and nothing else.
 pub fn dump_text_is_one_document()
     ensures { (s : Sections) (subsets : List (List Item)) → IsDumpable s subsets → documents_of (dump_text_of s subsets) ≡ Spelled (document_of 1 s subsets) ∷ [] }
+{}
+
+/// Each document of a text is proper: its header is whole, it has as many subsets as that says and
+/// nothing behind them, and octets of section 2 only where there is one.
+pub fn documents_are_proper()
+    ensures { (text : List ℕ) → AreProper (documents_of text) }
 {}
 
 /// The documents that are told while the end is not known stay the first ones, whatever comes

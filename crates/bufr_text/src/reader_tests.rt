@@ -455,6 +455,7 @@ fn thousand_documents(alloc: Global) -> Result<Vec<u8>, AllocError> {
 fn tells_a_thousand_documents(rt: HostRuntime) -> Result<(), Fail> {
     law::dump_text_spells_its_document();
     law::dump_text_is_one_document();
+    law::documents_are_proper();
     law::open_documents_are_front();
     law::calls_compose();
     law::documents_told_are_the_first();

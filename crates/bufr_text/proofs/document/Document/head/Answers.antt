@@ -15,7 +15,7 @@ returns-clause-writable c =
     let centre : c.value.result ≡ slice_index d.header 2 = c.value.ensures ∙ ap (λ (x : Document). slice_index x.header 2) (sym same) in
     let subcentre : c.value-2.result ≡ slice_index d.header 3 = c.value-2.ensures ∙ ap (λ (x : Document). slice_index x.header 3) (sym same) in
     let year : c.value-3.result ≡ slice_index d.header 10 = c.value-3.ensures ∙ ap (λ (x : Document). slice_index x.header 10) (sym same) in
-    let fits : IsFitting (head_in d) = subst (λ (x : Document). IsFitting (head_in x)) (sym same) (headed-fits parts c.self.invariant.headed) in
+    let fits : IsFitting (head_in d) = subst (λ (x : Document). IsFitting (head_in x)) (sym same) (headed-fits parts c.self.invariant.proper.headed) in
     (λ j. is_writable (record {
       edition = c.octet.ensures j;
       master = c.octet-2.ensures j;

@@ -5,7 +5,7 @@ use Rattle.bufr_text.specs.Document.{Document}
 use Rattle.bufr_text.specs.Reader.{NextSo}
 use Rattle.bufr_text.specs.declared.fault.ReadFault.{ReadFault}
 use Rattle.bufr_text.proofs.CallLemmas.{call-none}
-use Rattle.bufr_text.proofs.NextLemmas.{counts-none, counts-then, counts-same, waits-same, call-takes, went-document, went-fault, end-next, fill-call, fill-waits, fill-fault, none-unless}
+use Rattle.bufr_text.proofs.NextLemmas.{counts-none, counts-then, counts-same, waits-same, call-takes, went-document, went-fault, end-next, fill-call, fill-waits, fill-fault, end-proper, none-unless}
 use Rattle.bufr_text.proofs.dump_reader.DumpReader.next_document.Goals as goal
 
 pub loop-document-init : goal.loop-document-init
@@ -68,3 +68,9 @@ returns-in_err-fill-clause-next g c =
     let p = err_from_is_err_and c.from_residual-in_err-fill.result c.from_residual-in_err-fill.ensures.1 in
     let N : Result (Option Document) ReadFault → Type 0 = λ r. NextSo (g.R.Source.left c.args.r.now) (g.R.Source.left c.fill.new.r) c.args.self.now c.fill.new.self r in
     λ _. subst N (sym (p.1 ∙ ap Err p.2)) (fill-fault _ _ _ c.args.self.now s c.fill.new.self before.octets c.fill.ensures.read.0 call waits open' went.2 _ (rw c.in_err-fill.was at c.fill.ensures.read.1))
+
+pub returns-in-Some-2-clause-proper : goal.returns-in-Some-2-clause-proper
+returns-in-Some-2-clause-proper g c = rw (c.in_ok-document.was, c.in-Some-2.is) at c.take_held.ensures.proper
+
+pub returns-then-self-clause-proper : goal.returns-then-self-clause-proper
+returns-then-self-clause-proper g c = end-proper _ _ c.finish.result c.finish.ensures.end

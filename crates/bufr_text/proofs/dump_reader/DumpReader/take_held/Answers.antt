@@ -2,6 +2,7 @@ use Rattle.std.proofs.Common.{◌∙◌, ◌+◌, ◌≤◌, ℕ, [], ◌∷◌,
 use Rattle.std.specs.Prelude.{Some, Err, slice_range}
 use Rattle.bufr_text.specs.Document as spec
 use Rattle.bufr_text.specs.Documents as documents
+use Rattle.bufr_text.specs.Proper.{IsProper}
 use Rattle.bufr_text.specs.Reader.{State}
 use Rattle.bufr_text.specs.Filling.{place_now, Tells, WantsHere, WentSo}
 use Rattle.bufr_text.specs.Reading.{has_no_feed, PassesEnd}
@@ -111,3 +112,8 @@ returns-in_default-clause-went c =
     let is = ap (λ l. slice_range l v.start v.filled) c.deref.ensures.value in
     let held = ap (λ s. s.held) c.self.view_is in
     (refl, ap has_no_feed (sym (is ∙ held)) ∙ c.in_default.ensures.wants, held, subst WantsHere c.self.view_is (wants-here v.draft v.fault v.buffer.items _ v.start v.filled v.ended v.reads c.in_default.ensures.adds sound is))
+
+pub returns-in-Gives-clause-proper : goal.returns-in-Gives-clause-proper
+returns-in-Gives-clause-proper c =
+    let takes = rw c.in-Gives.is at c.in-Ok.ensures.takes in
+    subst (λ (d : spec.Document). IsProper d) (sym (c.whole.ensures ∙ c.take_parts-parts.ensures.parts)) takes.stands.0
