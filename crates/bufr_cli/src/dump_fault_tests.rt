@@ -2,12 +2,14 @@
 
 use crate::tally::Tally;
 use crate::test_messages::{
-    ONE_ACCEPTED, ONE_REFUSED, message_in, message_of, one_block_number, text_of_one, words_of,
+    ONE_ACCEPTED, ONE_REFUSED, joined, message_in, message_of, one_block_number, text_of_one,
+    words_of,
 };
 use crate::test_runs::{
     Command, assert_run, assert_stops_around_a_stray, assert_stops_at_failed_errors,
     assert_stops_at_failed_reads, assert_stops_at_failed_writes, stray_before,
 };
+use crate::tests::ONE_BLOCK_NUMBER;
 use std::test::Fail;
 
 /// A message that is refused, and its fault line behind `offset 0: `.
@@ -233,14 +235,11 @@ fn refuses_too_many_values(rt: HostRuntime) -> Result<(), Fail> {
 #[test]
 fn goes_on_behind_refused(rt: HostRuntime) -> Result<(), Fail> {
     let good = one_block_number(rt.alloc())?;
-    let mut input = Vec::new(rt.alloc());
-    input.extend_from_slice(b"BUFR\x00\x00\x40\x04")?;
-    input.extend_from_slice(&good)?;
-    assert!(rt; input.len() > 15);
-    input[15] = 2;
+    let mut other = ONE_BLOCK_NUMBER;
+    other[7] = 2;
     let halved = message_of(rt.alloc(), 2, 0x80, &[0x0101], &[0x14])?;
-    input.extend_from_slice(&halved)?;
-    input.extend_from_slice(&good)?;
+    let stray: &[u8] = b"BUFR\x00\x00\x40\x04";
+    let input = joined(rt.alloc(), &[stray, &other, &halved, &good])?;
     let text = text_of_one(rt.alloc())?;
     assert_run(
         &rt,
@@ -315,9 +314,7 @@ fn tells_strays(rt: HostRuntime) -> Result<(), Fail> {
 fn stops_at_a_failed_read(rt: HostRuntime) -> Result<(), Fail> {
     let text = text_of_one(rt.alloc())?;
     let message = one_block_number(rt.alloc())?;
-    let mut input = Vec::new(rt.alloc());
-    input.extend_from_slice(&message)?;
-    input.extend_from_slice(&message)?;
+    let input = joined(rt.alloc(), &[&message, &message])?;
     assert_stops_at_failed_reads(&rt, Command::Dump, &input, 0..48, b"", b"")?;
     assert_stops_at_failed_reads(&rt, Command::Dump, &input, 48..96, text.as_bytes(), b"")
 }

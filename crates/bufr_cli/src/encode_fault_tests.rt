@@ -5,7 +5,7 @@ use crate::test_messages::{
     ONE_ACCEPTED, ONE_REFUSED, message_of, octets_of, one_block_number, text_of, text_of_one,
     words_of,
 };
-use crate::test_runs::{Command, assert_run, run_over};
+use crate::test_runs::{Command, assert_run, run_over, run_whole};
 use bufr_bits::{Device, End, ScriptIn, ScriptOut};
 use bufr_frame::RunFault;
 use bufr_tables::Fxy;
@@ -474,40 +474,33 @@ fn writes_too_many_values(rt: HostRuntime) -> Result<(), Fail> {
     Ok(())
 }
 
+/// A document behind a comment line of so many octets.
+fn behind_a_note(alloc: Global, octets: usize) -> Result<Vec<u8>, Fail> {
+    let mut text = Vec::new(alloc);
+    text.push(b'#')?;
+    text.resize(octets, b'x')?;
+    text.push(b'\n')?;
+    text.extend_from_slice(text_of_one(alloc)?.as_bytes())?;
+    Ok(text)
+}
+
 /// A line of 4,096 octets is passed over; one more is refused.
 #[test]
 fn refuses_a_long_line(rt: HostRuntime) -> Result<(), Fail> {
-    let one = text_of_one(rt.alloc())?;
-    let words = words_of(rt.alloc(), "001001")?;
-    let message = message_of(rt.alloc(), 1, 0x80, &words, b"\x14")?;
-    let mut note = String::from_str(rt.alloc(), "#")?;
-    for _ in 0..4095 {
-        note.push('x')?;
-    }
-    let mut text = String::from_str(rt.alloc(), note.as_str())?;
-    text.push('\n')?;
-    text.push_str(one.as_str())?;
+    let message = one_block_number(rt.alloc())?;
+    let text = behind_a_note(rt.alloc(), 4096)?;
     assert_run(
         &rt,
         Command::Encode,
         "4,096",
-        text.as_bytes(),
+        &text,
         &message,
         b"",
         ONE_ACCEPTED,
     )?;
-    note.push_str("x\n")?;
-    note.push_str(one.as_str())?;
+    let text = behind_a_note(rt.alloc(), 4097)?;
     let line = b"line 1: 50 line\n";
-    assert_run(
-        &rt,
-        Command::Encode,
-        "4,097",
-        note.as_bytes(),
-        b"",
-        line,
-        ONE_REFUSED,
-    )
+    assert_run(&rt, Command::Encode, "4,097", &text, b"", line, ONE_REFUSED)
 }
 
 /// Two texts that have so many octets in common, and one behind them in which they differ.
@@ -557,19 +550,22 @@ fn refuses_texts_that_no_increments_tell_apart(rt: HostRuntime) -> Result<(), Fa
     )
 }
 
-/// 66,045 texts of 255 octets are more than a message can have; nothing of them is written.
-#[test]
-fn refuses_a_long_message(rt: HostRuntime) -> Result<(), Fail> {
-    let mut body = String::from_str(rt.alloc(), "subset 1\n")?;
+/// A subset of 66,045 empty texts.
+fn empty_texts(alloc: Global) -> Result<String, Fail> {
+    let mut body = String::from_str(alloc, "subset 1\n")?;
     for _ in 0..66_045 {
         body.push_str("205255 \"\"\n")?;
     }
+    Ok(body)
+}
+
+/// 66,045 texts of 255 octets are more than a message can have; nothing of them is written.
+#[test]
+fn refuses_a_long_message(rt: HostRuntime) -> Result<(), Fail> {
     let descriptors = "102255 101255 205255 102004 101255 205255";
+    let body = empty_texts(rt.alloc())?;
     let text = text_of(rt.alloc(), 1, 0x80, descriptors, body.as_str())?;
-    let mut r = ScriptIn::new(text.as_bytes(), 4096, None);
-    let w = ScriptOut::new(rt.alloc(), 0, 1, End::Fail)?;
-    let e = ScriptOut::new(rt.alloc(), 4096, 4096, End::Fail)?;
-    let ran = run_over(&rt, Command::Encode, &mut r, w, e);
+    let ran = run_whole(&rt, Command::Encode, text.as_bytes())?;
     let line = b"line 1: 60 too long\n";
     ran.assert_left(&rt, "too long", 0, Ok(ONE_REFUSED), b"", line);
     Ok(())

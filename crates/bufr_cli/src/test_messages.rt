@@ -149,6 +149,15 @@ pub(crate) fn message_in(
     message_of(alloc, subsets, flags, &words, &data)
 }
 
+/// Octets one after another.
+pub(crate) fn joined(alloc: Global, parts: &[&[u8]]) -> Result<Vec<u8>, Fail> {
+    let mut octets = Vec::new(alloc);
+    for part in parts {
+        octets.extend_from_slice(part)?;
+    }
+    Ok(octets)
+}
+
 /// The dump text of one of these messages.
 pub(crate) fn text_of(
     alloc: Global,

@@ -52,6 +52,7 @@ pub mod SpecWords
 pub mod SoundLemmas
 pub mod SpelledLemmas
 pub mod SpelledProper
+pub mod SpellingLemmas
 pub mod TakingLemmas
 pub mod TokenLemmas
 mod TurnsExamples

@@ -28,6 +28,7 @@ pub mod Proper
 pub mod ReadBack
 pub mod Reader
 pub mod Reading
+pub mod Spelling
 pub mod Step
 pub mod Taking
 pub mod Unhexing

@@ -7,6 +7,7 @@ ghost use Rattle.bufr_text.specs.Given.{IsDumpable};
 ghost use Rattle.bufr_text.specs.Document.{Document};
 ghost use Rattle.bufr_text.specs.Reading.{Passes, spells, spells_openly};
 ghost use Rattle.bufr_text.specs.Reader.{State, fresh, unfed, stand, IsMissingFeed, CallSo, NextSo, IsDone, IsOpen};
+ghost use Rattle.bufr_text.specs.Spelling.{AreTold, heard_from};
 ghost use Rattle.bufr_text.specs.Whole.{AreProper};
 ghost use Rattle.bufr_text.specs.declared.fault.ReadFault.{ReadFault};
 
@@ -24,6 +25,12 @@ pub fn dump_text_is_one_document()
 /// nothing behind them, and octets of section 2 only where there is one.
 pub fn documents_are_proper()
     ensures { (text : List ℕ) → AreProper (documents_of text) }
+{}
+
+/// The lines of a text that are no comment and not empty are the lines of its documents, one document
+/// after another, up to the end or to the first line that is refused.
+pub fn lines_are_those_of_the_documents()
+    ensures { (text : List ℕ) → AreTold (heard_from 1 (lines_of text)) (documents_of text) }
 {}
 
 /// The documents that are told while the end is not known stay the first ones, whatever comes

@@ -456,6 +456,7 @@ fn tells_a_thousand_documents(rt: HostRuntime) -> Result<(), Fail> {
     law::dump_text_spells_its_document();
     law::dump_text_is_one_document();
     law::documents_are_proper();
+    law::lines_are_those_of_the_documents();
     law::open_documents_are_front();
     law::calls_compose();
     law::documents_told_are_the_first();

@@ -1,0 +1,478 @@
+-- The lines of a text are those of its documents, in the order of the format.
+use Rattle.std.proofs.Common.{inl, inr, ◌⊎◌, ◌≡◌, ◌∙◌, ℕ, ◌+◌, ◌≤◌, ◌==◌, ◌&&◌, nat_le, not, Bool, true, false, if◌then◌else◌, List, [], ◌∷◌, ◌++◌, length, map, refl, sym, ap, subst, arith, append_assoc, append-nil, length-append}
+use Rattle.std.specs.List.{concat}
+use Rattle.std.proofs.lemmas.Bool.Decides.{nat_tests}
+use Rattle.std.proofs.lemmas.List.{map-append}
+use Rattle.bufr_bits.proofs.ScaledLemmas.{and_first, and_second}
+use Rattle.bufr_fill.specs.Draft.{Form, draft}
+use Rattle.bufr_text.specs.Document.{Document, Entry, Holds, Ends, edition_in, optional_in, subsets_in}
+use Rattle.bufr_text.specs.Documents.{Place, Between, Heading, Laying, Filling, Stopped, Turn, Goes, Gives, Faults, NotAllowed, SubsetCount, HeaderRange, in_range, heading, beginning, closing, with_value, with_local1, with_section2, with_descriptors, with_entry, turn, said, spelled, place_after, told_at, told_at_end, lines_of, documents_of}
+use Rattle.bufr_text.specs.Line.{Line, Passed, Opens, Header, Local1, Section2, Descriptors, Begins, Item, Closes, Wrong}
+use Rattle.bufr_text.specs.Spelling.{Heard, heard, onto_heard, heard_from, header_lines, Element, Part, subset_lines, first_at, subset_entries, IsDocument, AreTold}
+use Rattle.bufr_text.specs.Step.{IsBare}
+use Rattle.bufr_text.proofs.ReadingLemmas.{stopped-tells}
+
+abbrev says : List Heard → List Line
+says lines = map (λ l. l.says) lines
+
+-- one line that is not passed over
+abbrev one : ℕ → Line → List Heard
+one at line = onto_heard at line []
+
+onto-one : (at : ℕ) (line : Line) (more : List Heard) → onto_heard at line more ≡ one at line ++ more
+onto-one at Passed more = refl
+onto-one at Opens more = refl
+onto-one at (Header key value) more = refl
+onto-one at (Local1 octets) more = refl
+onto-one at (Section2 octets) more = refl
+onto-one at (Descriptors words) more = refl
+onto-one at (Begins subset) more = refl
+onto-one at (Item fxy form) more = refl
+onto-one at Closes more = refl
+onto-one at Wrong more = refl
+
+-- lists of lines
+headers-more : (key : ℕ) (values : List ℕ) (value : ℕ) → header_lines key (values ++ value ∷ []) ≡ header_lines key values ++ Header (key + length values) value ∷ []
+headers-more key [] value = let e : key ≡ key + 0 = omega arith in ap (λ (k : ℕ). Header k value ∷ []) e
+headers-more key (v ∷ more) value =
+    let e : key + 1 + length more ≡ key + length (v ∷ more) = omega arith in
+    ap (λ (t : List Line). Header key v ∷ t) (headers-more (key + 1) more value ∙ ap (λ (k : ℕ). header_lines (key + 1) more ++ Header k value ∷ []) e)
+
+concat-more : (xs : List (List ℕ)) (x : List ℕ) → concat (xs ++ x ∷ []) ≡ concat xs ++ x
+concat-more [] x = append-nil x
+concat-more (y ∷ xs) x = ap (λ (t : List ℕ). y ++ t) (concat-more xs x) ∙ sym (append_assoc y (concat xs) x)
+
+abbrev element : (at fxy : ℕ) → Form → Element
+element at fxy form = record { at = at; fxy = fxy; form = form }
+
+-- the line of an item, and its entry
+abbrev item_line : Element → Heard
+item_line i = heard i.at (Item i.fxy i.form)
+
+abbrev item_entry : Element → Entry
+item_entry i = Holds (draft i.at i.fxy i.form)
+
+abbrev with_item : Part → Element → Part
+with_item part i = record { at = part.at; items = part.items ++ i ∷ [] }
+
+abbrev bare_part : ℕ → Part
+bare_part at = record { at = at; items = [] }
+
+item-more : (k : ℕ) (done : List Part) (last : Part) (i : Element) → subset_lines k (done ++ with_item last i ∷ []) ≡ subset_lines k (done ++ last ∷ []) ++ item_line i ∷ []
+item-more k [] last i =
+    ap (λ (t : List Heard). heard last.at (Begins k) ∷ t) (append-nil (map item_line (last.items ++ i ∷ [])) ∙ map-append item_line last.items (i ∷ []) ∙ ap (λ (t : List Heard). t ++ item_line i ∷ []) (sym (append-nil (map item_line last.items))))
+item-more k (part ∷ done) last i =
+    ap (λ (t : List Heard). heard part.at (Begins k) ∷ t) (ap (λ (t : List Heard). map item_line part.items ++ t) (item-more (k + 1) done last i)
+    ∙ sym (append_assoc (map item_line part.items) (subset_lines (k + 1) (done ++ last ∷ [])) (item_line i ∷ [])))
+
+part-more : (k : ℕ) (done : List Part) (at : ℕ) → subset_lines k (done ++ bare_part at ∷ []) ≡ subset_lines k done ++ heard at (Begins (k + length done)) ∷ []
+part-more k [] at = let e : k ≡ k + 0 = omega arith in ap (λ (n : ℕ). heard at (Begins n) ∷ []) e
+part-more k (part ∷ done) at =
+    let e : k + 1 + length done ≡ k + length (part ∷ done) = omega arith in
+    ap (λ (t : List Heard). heard part.at (Begins k) ∷ t) (ap (λ (t : List Heard). map item_line part.items ++ t) (part-more (k + 1) done at ∙ ap (λ (n : ℕ). subset_lines (k + 1) done ++ heard at (Begins n) ∷ []) e)
+    ∙ sym (append_assoc (map item_line part.items) (subset_lines (k + 1) done) (heard at (Begins (k + length (part ∷ done))) ∷ [])))
+
+first-more : (done : List Part) (last : Part) (end : ℕ) → first_at (done ++ last ∷ []) end ≡ first_at done last.at
+first-more [] last end = refl
+first-more (part ∷ done) last end = refl
+
+entries-more : (done : List Part) (last : Part) (end : ℕ) → subset_entries (done ++ last ∷ []) end ≡ (subset_entries done last.at ++ map item_entry last.items) ++ Ends end ∷ []
+entries-more [] last end = refl
+entries-more (part ∷ done) last end =
+    let here = map item_entry part.items in
+    let f = first_at done last.at in
+    let rest = subset_entries done last.at in
+    let items = map item_entry last.items in
+    ap (λ (n : ℕ). here ++ Ends n ∷ subset_entries (done ++ last ∷ []) end) (first-more done last end)
+    ∙ ap (λ (t : List Entry). here ++ Ends f ∷ t) (entries-more done last end)
+    ∙ sym (append_assoc here (Ends f ∷ rest ++ items) (Ends end ∷ []))
+    ∙ ap (λ (t : List Entry). t ++ Ends end ∷ []) (sym (append_assoc here (Ends f ∷ rest) items))
+
+-- The lines before the subsets, as far as they were read.
+record IsBegun (d : Document) (own : List Heard) : Type 0 where
+  header : List Heard
+  laid : List Heard
+  local1 : List (List ℕ)
+  section2 : List (List ℕ)
+  descriptors : List (List ℕ)
+  are : own ≡ (heard d.line Opens ∷ header) ++ laid
+  in_order : says header ≡ header_lines 0 d.header
+  parts : says laid ≡ map Local1 local1 ++ (map Section2 section2 ++ map Descriptors descriptors)
+  local1_is : d.local1 ≡ concat local1
+  section2_is : d.section2 ≡ concat section2
+  descriptors_are : d.descriptors ≡ concat descriptors
+  flagged : (section2 ≡ []) ⊎ (optional_in d ≡ 1)
+
+-- `message` and header lines
+record IsHeading (d : Document) (own : List Heard) : Type 0 where
+  header : List Heard
+  are : own ≡ heard d.line Opens ∷ header
+  in_order : says header ≡ header_lines 0 d.header
+  bare : IsBare d
+
+-- the parts before the subsets stand in their order
+record IsLaying (part : ℕ) (d : Document) (own : List Heard) : Type 0 where
+  begun : IsBegun d own
+  before_section2 : part ≡ 0 → begun.section2 ≡ []
+  before_descriptors : part ≤ 1 → begun.descriptors ≡ []
+  none : d.entries ≡ []
+
+-- the subsets that were ended, and the one that is being read
+record IsFilling (subset : ℕ) (d : Document) (own : List Heard) : Type 0 where
+  front : List Heard
+  begun : IsBegun d front
+  done : List Part
+  last : Part
+  are : own ≡ front ++ subset_lines 1 (done ++ last ∷ [])
+  counted : subset ≡ length done + 1
+  entries : d.entries ≡ subset_entries done last.at ++ map item_entry last.items
+
+-- which lines stand before a place in a document
+abbrev IsOpen : Place → List Heard → Type 0
+IsOpen Between own = own ≡ []
+IsOpen (Heading d) own = IsHeading d own
+IsOpen (Laying part d) own = IsLaying part d own
+IsOpen (Filling subset d) own = IsFilling subset d own
+IsOpen Stopped own = ⊥
+
+abbrev IsOpenBehind : Turn → List Heard → Type 0
+IsOpenBehind (Goes place) own = IsOpen place own
+IsOpenBehind (Gives d) own = IsDocument d own
+IsOpenBehind (Faults fault) own = Unit {0}
+
+if-open : (own : List Heard) (b : Bool) (x y : Turn) → (b ≡ true → IsOpenBehind x own) → (b ≡ false → IsOpenBehind y own) → IsOpenBehind (if b then x else y) own
+if-open own true x y p q = p refl
+if-open own false x y p q = q refl
+
+equal : (a b : ℕ) → (a == b) ≡ true → a ≡ b
+equal a b e = grind (arith, nat_tests, e)
+
+not-false : (b : Bool) → not b ≡ false → b ≡ true
+not-false true e = refl
+not-false false e = absurd cc
+
+-- a line that is passed over
+passed : (place : Place) (own : List Heard) → IsOpen place own → IsOpen place (own ++ [])
+passed place own is = subst (λ (t : List Heard). IsOpen place t) (sym (append-nil own)) is
+
+-- a header line
+in-order : (d : Document) (at key value : ℕ) (header : List Heard) → key ≡ length d.header → says header ≡ header_lines 0 d.header → says (header ++ heard at (Header key value) ∷ []) ≡ header_lines 0 (d.header ++ value ∷ [])
+in-order d at key value header is order =
+    let e : key ≡ 0 + length d.header = omega (arith, is) in
+    map-append (λ (l : Heard). l.says) header (heard at (Header key value) ∷ []) ∙ ap (λ (t : List Line). t ++ Header key value ∷ []) order
+    ∙ ap (λ (k : ℕ). header_lines 0 d.header ++ Header k value ∷ []) e ∙ sym (headers-more 0 d.header value)
+
+heading-open : (at key value : ℕ) (d : Document) (own : List Heard) → IsHeading d own → IsOpenBehind (heading d (Header key value)) (own ++ heard at (Header key value) ∷ [])
+heading-open at key value d own is =
+    let here = own ++ heard at (Header key value) ∷ [] in
+    let next = with_value d value in
+    let taken : Turn = Goes (if key == 19 then Laying 0 next else Heading next) in
+    let ranged : Turn = if not (in_range (edition_in d) key value) then Faults HeaderRange else taken in
+    if-open here (not (key == length d.header)) (Faults NotAllowed) ranged (λ e. tt) (λ e.
+    if-open here (not (in_range (edition_in d) key value)) (Faults HeaderRange) taken (λ f. tt) (λ f. by (key == 19) (equal key (length d.header) (not-false (key == length d.header) e))))
+  where
+    by : (last : Bool) → key ≡ length d.header → IsOpen (if last then Laying 0 (with_value d value) else Heading (with_value d value)) (own ++ heard at (Header key value) ∷ [])
+    by true same = record {
+      begun = record {
+        header = is.header ++ heard at (Header key value) ∷ [];
+        laid = [];
+        local1 = [];
+        section2 = [];
+        descriptors = [];
+        are = ap (λ (t : List Heard). t ++ heard at (Header key value) ∷ []) is.are ∙ sym (append-nil (heard d.line Opens ∷ is.header ++ heard at (Header key value) ∷ []));
+        in_order = in-order d at key value is.header same is.in_order;
+        parts = refl;
+        local1_is = is.bare.local1;
+        section2_is = is.bare.section2;
+        descriptors_are = is.bare.descriptors;
+        flagged = inl refl;
+      };
+      before_section2 = λ _. refl;
+      before_descriptors = λ _. refl;
+      none = is.bare.entries;
+    }
+    by false same = record {
+      header = is.header ++ heard at (Header key value) ∷ [];
+      are = ap (λ (t : List Heard). t ++ heard at (Header key value) ∷ []) is.are;
+      in_order = in-order d at key value is.header same is.in_order;
+      bare = record { local1 = is.bare.local1; section2 = is.bare.section2; descriptors = is.bare.descriptors; entries = is.bare.entries };
+    }
+
+-- one more line of the parts before the subsets
+laid-more : (d : Document) (own : List Heard) (b : IsBegun d own) (x : Heard) → own ++ x ∷ [] ≡ (heard d.line Opens ∷ b.header) ++ (b.laid ++ x ∷ [])
+laid-more d own b x = ap (λ (t : List Heard). t ++ x ∷ []) b.are ∙ append_assoc (heard d.line Opens ∷ b.header) b.laid (x ∷ [])
+
+says-more : (laid : List Heard) (x : Heard) (lines : List Line) → says laid ≡ lines → says (laid ++ x ∷ []) ≡ lines ++ x.says ∷ []
+says-more laid x lines is = map-append (λ (l : Heard). l.says) laid (x ∷ []) ∙ ap (λ (t : List Line). t ++ x.says ∷ []) is
+
+local1-open : (at : ℕ) (d : Document) (octets : List ℕ) (own : List Heard) → IsLaying 0 d own → IsLaying 0 (with_local1 d octets) (own ++ heard at (Local1 octets) ∷ [])
+local1-open at d octets own is =
+    let b = is.begun in
+    let none2 = is.before_section2 refl in
+    let none3 = is.before_descriptors (omega arith) in
+    let before : says b.laid ≡ map Local1 b.local1 = b.parts ∙ ap (λ (t : List (List ℕ)). map Local1 b.local1 ++ (map Section2 t ++ map Descriptors b.descriptors)) none2 ∙ ap (λ (t : List (List ℕ)). map Local1 b.local1 ++ map Descriptors t) none3 ∙ append-nil (map Local1 b.local1) in
+    record {
+      begun = record {
+        header = b.header;
+        laid = b.laid ++ heard at (Local1 octets) ∷ [];
+        local1 = b.local1 ++ octets ∷ [];
+        section2 = [];
+        descriptors = [];
+        are = laid-more d own b (heard at (Local1 octets));
+        in_order = b.in_order;
+        parts = says-more b.laid (heard at (Local1 octets)) (map Local1 b.local1) before ∙ sym (map-append Local1 b.local1 (octets ∷ [])) ∙ sym (append-nil (map Local1 (b.local1 ++ octets ∷ [])));
+        local1_is = ap (λ (t : List ℕ). t ++ octets) b.local1_is ∙ sym (concat-more b.local1 octets);
+        section2_is = b.section2_is ∙ ap (λ (t : List (List ℕ)). concat t) none2;
+        descriptors_are = b.descriptors_are ∙ ap (λ (t : List (List ℕ)). concat t) none3;
+        flagged = inl refl;
+      };
+      before_section2 = λ _. refl;
+      before_descriptors = λ _. refl;
+      none = is.none;
+    }
+
+section2-open : (at part : ℕ) (d : Document) (octets : List ℕ) (own : List Heard) → part ≤ 1 → optional_in d ≡ 1 → IsLaying part d own → IsLaying 1 (with_section2 d octets) (own ++ heard at (Section2 octets) ∷ [])
+section2-open at part d octets own early flag is =
+    let b = is.begun in
+    let none3 = is.before_descriptors early in
+    let first = map Local1 b.local1 in
+    let before : says b.laid ≡ first ++ map Section2 b.section2 = b.parts ∙ ap (λ (t : List (List ℕ)). first ++ (map Section2 b.section2 ++ map Descriptors t)) none3 ∙ ap (λ (t : List Line). first ++ t) (append-nil (map Section2 b.section2)) in
+    record {
+      begun = record {
+        header = b.header;
+        laid = b.laid ++ heard at (Section2 octets) ∷ [];
+        local1 = b.local1;
+        section2 = b.section2 ++ octets ∷ [];
+        descriptors = [];
+        are = laid-more d own b (heard at (Section2 octets));
+        in_order = b.in_order;
+        parts = says-more b.laid (heard at (Section2 octets)) (first ++ map Section2 b.section2) before ∙ append_assoc first (map Section2 b.section2) (Section2 octets ∷ [])
+            ∙ ap (λ (t : List Line). first ++ t) (sym (map-append Section2 b.section2 (octets ∷ [])) ∙ sym (append-nil (map Section2 (b.section2 ++ octets ∷ []))));
+        local1_is = b.local1_is;
+        section2_is = ap (λ (t : List ℕ). t ++ octets) b.section2_is ∙ sym (concat-more b.section2 octets);
+        descriptors_are = b.descriptors_are ∙ ap (λ (t : List (List ℕ)). concat t) none3;
+        flagged = inr flag;
+      };
+      before_section2 = λ e. absurd (omega (arith, e));
+      before_descriptors = λ _. refl;
+      none = is.none;
+    }
+
+descriptors-open : (at part : ℕ) (d : Document) (words : List ℕ) (own : List Heard) → IsLaying part d own → IsLaying 2 (with_descriptors d words) (own ++ heard at (Descriptors words) ∷ [])
+descriptors-open at part d words own is =
+    let b = is.begun in
+    let first = map Local1 b.local1 in
+    let second = map Section2 b.section2 in
+    record {
+      begun = record {
+        header = b.header;
+        laid = b.laid ++ heard at (Descriptors words) ∷ [];
+        local1 = b.local1;
+        section2 = b.section2;
+        descriptors = b.descriptors ++ words ∷ [];
+        are = laid-more d own b (heard at (Descriptors words));
+        in_order = b.in_order;
+        parts = says-more b.laid (heard at (Descriptors words)) (first ++ (second ++ map Descriptors b.descriptors)) b.parts ∙ append_assoc first (second ++ map Descriptors b.descriptors) (Descriptors words ∷ [])
+            ∙ ap (λ (t : List Line). first ++ t) (append_assoc second (map Descriptors b.descriptors) (Descriptors words ∷ []) ∙ ap (λ (t : List Line). second ++ t) (sym (map-append Descriptors b.descriptors (words ∷ []))));
+        local1_is = b.local1_is;
+        section2_is = b.section2_is;
+        descriptors_are = ap (λ (t : List ℕ). t ++ words) b.descriptors_are ∙ sym (concat-more b.descriptors words);
+        flagged = b.flagged;
+      };
+      before_section2 = λ e. absurd (omega (arith, e));
+      before_descriptors = λ e. absurd (omega (arith, e));
+      none = is.none;
+    }
+
+-- the first subset, the next one, and the end
+is-next : (subset read most : ℕ) → ((subset == read + 1) && nat_le subset most) ≡ true → subset ≡ read + 1
+is-next subset read most e = equal subset (read + 1) (and_first (subset == read + 1) (nat_le subset most) e)
+
+first-open : (at part subset : ℕ) (d : Document) (own : List Heard) → IsLaying part d own → IsOpenBehind (beginning 0 d subset) (own ++ heard at (Begins subset) ∷ [])
+first-open at part subset d own is =
+    if-open (own ++ heard at (Begins subset) ∷ []) ((subset == 0 + 1) && nat_le subset (subsets_in d)) (Goes (Filling subset d)) (Faults SubsetCount) (λ e.
+    let number : subset ≡ 1 = is-next subset 0 (subsets_in d) e in record {
+      front = own;
+      begun = is.begun;
+      done = [];
+      last = bare_part at;
+      are = ap (λ (n : ℕ). own ++ heard at (Begins n) ∷ []) number;
+      counted = number;
+      entries = is.none;
+    }) (λ e. tt)
+
+none-open : (at part : ℕ) (d : Document) (own : List Heard) → IsLaying part d own → IsOpenBehind (closing 0 d) (own ++ heard at Closes ∷ [])
+none-open at part d own is =
+    let b = is.begun in
+    if-open (own ++ heard at Closes ∷ []) (0 == subsets_in d) (Gives d) (Faults SubsetCount) (λ e. record {
+      header = b.header;
+      local1 = b.local1;
+      section2 = b.section2;
+      descriptors = b.descriptors;
+      laid = b.laid;
+      subsets = [];
+      end = at;
+      are = laid-more d own b (heard at Closes);
+      in_order = b.in_order;
+      parts = b.parts;
+      local1_is = b.local1_is;
+      section2_is = b.section2_is;
+      descriptors_are = b.descriptors_are;
+      flagged = b.flagged;
+      counted = equal 0 (subsets_in d) e;
+      entries = is.none;
+    }) (λ e. tt)
+
+begun-still : (d : Document) (entry : Entry) (own : List Heard) → IsBegun d own → IsBegun (with_entry d entry) own
+begun-still d entry own b = record {
+  header = b.header;
+  laid = b.laid;
+  local1 = b.local1;
+  section2 = b.section2;
+  descriptors = b.descriptors;
+  are = b.are;
+  in_order = b.in_order;
+  parts = b.parts;
+  local1_is = b.local1_is;
+  section2_is = b.section2_is;
+  descriptors_are = b.descriptors_are;
+  flagged = b.flagged;
+}
+
+-- the entries of the subsets that are ended at a line
+ended-entries : (at subset : ℕ) (d : Document) (own : List Heard) (is : IsFilling subset d own) → d.entries ++ Ends at ∷ [] ≡ subset_entries (is.done ++ is.last ∷ []) at
+ended-entries at subset d own is = ap (λ (t : List Entry). t ++ Ends at ∷ []) is.entries ∙ sym (entries-more is.done is.last at)
+
+next-open : (at subset next : ℕ) (d : Document) (own : List Heard) → IsFilling subset d own → IsOpenBehind (beginning subset (with_entry d (Ends at)) next) (own ++ heard at (Begins next) ∷ [])
+next-open at subset next d own is =
+    let parts = is.done ++ is.last ∷ [] in
+    if-open (own ++ heard at (Begins next) ∷ []) ((next == subset + 1) && nat_le next (subsets_in d)) (Goes (Filling next (with_entry d (Ends at)))) (Faults SubsetCount) (λ e.
+    let number : next ≡ 1 + length parts = omega (arith, is-next next subset (subsets_in d) e, is.counted, length-append is.done (is.last ∷ [])) in record {
+      front = is.front;
+      begun = begun-still d (Ends at) is.front is.begun;
+      done = parts;
+      last = bare_part at;
+      are = ap (λ (t : List Heard). t ++ heard at (Begins next) ∷ []) is.are ∙ append_assoc is.front (subset_lines 1 parts) (heard at (Begins next) ∷ [])
+          ∙ ap (λ (t : List Heard). is.front ++ t) (ap (λ (n : ℕ). subset_lines 1 parts ++ heard at (Begins n) ∷ []) number ∙ sym (part-more 1 parts at));
+      counted = omega (arith, number);
+      entries = ended-entries at subset d own is ∙ sym (append-nil (subset_entries parts at));
+    }) (λ e. tt)
+
+item-open : (at subset : ℕ) (d : Document) (own : List Heard) (i : Element) → i.at ≡ at → IsFilling subset d own → IsFilling subset (with_entry d (item_entry i)) (own ++ item_line i ∷ [])
+item-open at subset d own i here is = record {
+  front = is.front;
+  begun = begun-still d (item_entry i) is.front is.begun;
+  done = is.done;
+  last = with_item is.last i;
+  are = ap (λ (t : List Heard). t ++ item_line i ∷ []) is.are ∙ append_assoc is.front (subset_lines 1 (is.done ++ is.last ∷ [])) (item_line i ∷ []) ∙ ap (λ (t : List Heard). is.front ++ t) (sym (item-more 1 is.done is.last i));
+  counted = is.counted;
+  entries = ap (λ (t : List Entry). t ++ item_entry i ∷ []) is.entries ∙ append_assoc (subset_entries is.done is.last.at) (map item_entry is.last.items) (item_entry i ∷ [])
+      ∙ ap (λ (t : List Entry). subset_entries is.done is.last.at ++ t) (sym (map-append item_entry is.last.items (i ∷ [])));
+}
+
+end-open : (at subset : ℕ) (d : Document) (own : List Heard) → IsFilling subset d own → IsOpenBehind (closing subset (with_entry d (Ends at))) (own ++ heard at Closes ∷ [])
+end-open at subset d own is =
+    let b = is.begun in
+    let parts = is.done ++ is.last ∷ [] in
+    if-open (own ++ heard at Closes ∷ []) (subset == subsets_in d) (Gives (with_entry d (Ends at))) (Faults SubsetCount) (λ e. record {
+      header = b.header;
+      local1 = b.local1;
+      section2 = b.section2;
+      descriptors = b.descriptors;
+      laid = b.laid;
+      subsets = parts;
+      end = at;
+      are = ap (λ (t : List Heard). t ++ heard at Closes ∷ []) (is.are ∙ ap (λ (t : List Heard). t ++ subset_lines 1 parts) b.are ∙ append_assoc (heard d.line Opens ∷ b.header) b.laid (subset_lines 1 parts))
+          ∙ append_assoc (heard d.line Opens ∷ b.header) (b.laid ++ subset_lines 1 parts) (heard at Closes ∷ [])
+          ∙ ap (λ (t : List Heard). (heard d.line Opens ∷ b.header) ++ t) (append_assoc b.laid (subset_lines 1 parts) (heard at Closes ∷ []));
+      in_order = b.in_order;
+      parts = b.parts;
+      local1_is = b.local1_is;
+      section2_is = b.section2_is;
+      descriptors_are = b.descriptors_are;
+      flagged = b.flagged;
+      counted = omega (arith, equal subset (subsets_in d) e, is.counted, length-append is.done (is.last ∷ []));
+      entries = ended-entries at subset d own is;
+    }) (λ e. tt)
+
+by-part : (at part : ℕ) (d : Document) (octets : List ℕ) (own : List Heard) (b : Bool) → (part == 0) ≡ b → IsLaying part d own → IsOpenBehind (if b then Goes (Laying 0 (with_local1 d octets)) else Faults NotAllowed) (own ++ heard at (Local1 octets) ∷ [])
+by-part at part d octets own true e is = local1-open at d octets own (subst (λ (n : ℕ). IsLaying n d own) (equal part 0 e) is)
+by-part at part d octets own false e is = tt
+
+by-flag : (at part : ℕ) (d : Document) (octets : List ℕ) (own : List Heard) → IsLaying part d own → IsOpenBehind (if nat_le part 1 && (optional_in d == 1) then Goes (Laying 1 (with_section2 d octets)) else Faults NotAllowed) (own ++ heard at (Section2 octets) ∷ [])
+by-flag at part d octets own is =
+    if-open (own ++ heard at (Section2 octets) ∷ []) (nat_le part 1 && (optional_in d == 1)) (Goes (Laying 1 (with_section2 d octets))) (Faults NotAllowed) (λ e.
+    let early : nat_le part 1 ≡ true = and_first (nat_le part 1) (optional_in d == 1) e in
+    let most : part ≤ 1 = grind (arith, nat_tests, early) in
+    section2-open at part d octets own most (equal (optional_in d) 1 (and_second (nat_le part 1) (optional_in d == 1) e)) is) (λ e. tt)
+
+-- each line keeps it
+turn-opens : (at : ℕ) (place : Place) (line : Line) (own : List Heard) → IsOpen place own → IsOpenBehind (turn at place line) (own ++ one at line)
+unfolding turn
+turn-opens at Between Passed own is = passed Between own is
+turn-opens at Between Opens own is = record { header = []; are = ap (λ (t : List Heard). t ++ heard at Opens ∷ []) is; in_order = refl; bare = record { local1 = refl; section2 = refl; descriptors = refl; entries = refl } }
+turn-opens at Between (Header key value) own is = tt
+turn-opens at Between (Local1 octets) own is = tt
+turn-opens at Between (Section2 octets) own is = tt
+turn-opens at Between (Descriptors words) own is = tt
+turn-opens at Between (Begins subset) own is = tt
+turn-opens at Between (Item fxy form) own is = tt
+turn-opens at Between Closes own is = tt
+turn-opens at Between Wrong own is = tt
+turn-opens at (Heading d) Passed own is = passed (Heading d) own is
+turn-opens at (Heading d) Opens own is = tt
+turn-opens at (Heading d) (Header key value) own is = heading-open at key value d own is
+turn-opens at (Heading d) (Local1 octets) own is = tt
+turn-opens at (Heading d) (Section2 octets) own is = tt
+turn-opens at (Heading d) (Descriptors words) own is = tt
+turn-opens at (Heading d) (Begins subset) own is = tt
+turn-opens at (Heading d) (Item fxy form) own is = tt
+turn-opens at (Heading d) Closes own is = tt
+turn-opens at (Heading d) Wrong own is = tt
+turn-opens at (Laying part d) Passed own is = passed (Laying part d) own is
+turn-opens at (Laying part d) Opens own is = tt
+turn-opens at (Laying part d) (Header key value) own is = tt
+turn-opens at (Laying part d) (Local1 octets) own is = by-part at part d octets own (part == 0) refl is
+turn-opens at (Laying part d) (Section2 octets) own is = by-flag at part d octets own is
+turn-opens at (Laying part d) (Descriptors words) own is = descriptors-open at part d words own is
+turn-opens at (Laying part d) (Begins subset) own is = first-open at part subset d own is
+turn-opens at (Laying part d) (Item fxy form) own is = tt
+turn-opens at (Laying part d) Closes own is = none-open at part d own is
+turn-opens at (Laying part d) Wrong own is = tt
+turn-opens at (Filling subset d) Passed own is = passed (Filling subset d) own is
+turn-opens at (Filling subset d) Opens own is = tt
+turn-opens at (Filling subset d) (Header key value) own is = tt
+turn-opens at (Filling subset d) (Local1 octets) own is = tt
+turn-opens at (Filling subset d) (Section2 octets) own is = tt
+turn-opens at (Filling subset d) (Descriptors words) own is = tt
+turn-opens at (Filling subset d) (Begins next) own is = next-open at subset next d own is
+turn-opens at (Filling subset d) (Item fxy form) own is = item-open at subset d own (element at fxy form) refl is
+turn-opens at (Filling subset d) Closes own is = end-open at subset d own is
+turn-opens at (Filling subset d) Wrong own is = tt
+turn-opens at Stopped line own is = absurd is
+
+on : (at : ℕ) (line : List ℕ) (more : List (List ℕ)) (own : List Heard) → (own ++ one at (said line)) ++ heard_from (at + 1) more ≡ own ++ heard_from at (line ∷ more)
+unfolding heard_from
+on at line more own = append_assoc own (one at (said line)) (heard_from (at + 1) more) ∙ ap (λ (t : List Heard). own ++ t) (sym (onto-one at (said line) (heard_from (at + 1) more)))
+
+end-told : (at : ℕ) (place : Place) (own : List Heard) → IsOpen place own → AreTold (own ++ []) (told_at_end at place)
+end-told at Between own is = append-nil own ∙ is
+end-told at (Heading d) own is = refl
+end-told at (Laying part d) own is = refl
+end-told at (Filling subset d) own is = refl
+end-told at Stopped own is = absurd is
+
+told-on : (at : ℕ) (line : List ℕ) (more : List (List ℕ)) (own : List Heard) (here : Turn) → IsOpenBehind here (own ++ one at (said line))
+    → ((next : Place) (own' : List Heard) → IsOpen next own' → AreTold (own' ++ heard_from (at + 1) more) (spelled (at + 1) next more))
+    → AreTold (own ++ heard_from at (line ∷ more)) (told_at at here ++ spelled (at + 1) (place_after here) more)
+told-on at line more own (Goes next) opens rest = subst (λ (t : List Heard). AreTold t (spelled (at + 1) next more)) (on at line more own) (rest next (own ++ one at (said line)) opens)
+told-on at line more own (Gives d) is rest = (own ++ one at (said line), heard_from (at + 1) more, sym (on at line more own), is, rest Between [] refl)
+told-on at line more own (Faults fault) is rest = stopped-tells (at + 1) more
+
+lines-told : (at : ℕ) (place : Place) (lines : List (List ℕ)) (own : List Heard) → IsOpen place own → AreTold (own ++ heard_from at lines) (spelled at place lines)
+unfolding spelled heard_from
+lines-told at place [] own is = end-told at place own is
+lines-told at place (line ∷ more) own is = told-on at line more own (turn at place (said line)) (turn-opens at place (said line) own is) (λ next own' opens. lines-told (at + 1) next more own' opens)
+
+pub text-told : (text : List ℕ) → AreTold (heard_from 1 (lines_of text)) (documents_of text)
+text-told text = lines-told 1 Between (lines_of text) [] refl
