@@ -348,10 +348,8 @@ fn encodes_the_longest_message(rt: HostRuntime) -> Result<(), Fail> {
     Ok(())
 }
 
-/// The messages whose dump texts are worked out: each is encoded to a message that is no longer and
-/// has the same text, and to itself where it is canonical.
-#[test]
-fn encodes_what_was_dumped(rt: HostRuntime) -> Result<(), Fail> {
+// What is proved of dumps that are encoded. A test that calls it does not have to carry the contracts.
+fn laws() {
     encode_law::accepted_messages_are_dumpable();
     encode_law::dumped_messages_are_encoded_again();
     encode_law::same_readings_have_the_same_dump_text();
@@ -359,6 +357,13 @@ fn encodes_what_was_dumped(rt: HostRuntime) -> Result<(), Fail> {
     encode_law::dump_texts_are_encoded_again();
     encode_law::dumped_messages_are_refused_for_want_of_memory_alone();
     encode_law::canonical_messages_are_encoded_to_themselves();
+}
+
+/// The messages whose dump texts are worked out: each is encoded to a message that is no longer and
+/// has the same text, and to itself where it is canonical.
+#[test]
+fn encodes_what_was_dumped(rt: HostRuntime) -> Result<(), Fail> {
+    laws();
     for row in &DUMPED {
         let message = message_of(rt.alloc(), row)?;
         let text = dump(rt.alloc(), &message, 65536, 4096)?;

@@ -42,6 +42,10 @@ const UNEQUAL_FACTORS: &str = "observed 1\ncompressed 0\noptional 0\nsubsets 2\n
 const UNEQUAL_REFERENCES: &str = "observed 1\ncompressed 0\noptional 0\nsubsets 2\n\
     descriptors 203010 012101 203255\nsubset 1\nR 012101 -400\nsubset 2\nR 012101 -401\nend\n";
 
+/// As many subsets as there may be, of two texts each.
+const MANY_SUBSETS: &str =
+    "observed 1\ncompressed 1\noptional 0\nsubsets 65535\ndescriptors 205255 205002\n";
+
 /// No subset.
 const NO_SUBSETS: &str =
     "observed 1\ncompressed 0\noptional 0\nsubsets 0\ndescriptors 001001\nend\n";
@@ -97,10 +101,10 @@ static ROWS: [Row; 8] = [
     },
 ];
 
-// The document of a row.
-fn document_in(alloc: Global, row: &Row) -> Result<Document, Fail> {
+// The document of a text behind the first lines.
+fn document_behind(alloc: Global, rest: &str) -> Result<Document, Fail> {
     let mut text = String::from_str(alloc, FIRST_LINES)?;
-    text.push_str(row.text)?;
+    text.push_str(rest)?;
     document_of(alloc, text.as_bytes())
 }
 
@@ -128,10 +132,16 @@ fn formed(
     Ok((result, steps.count()))
 }
 
+// The octets that a document is encoded to in a form.
+fn octets_in(alloc: Global, document: &Document, form: Form) -> Result<Vec<u8>, Fail> {
+    let (octets, _) = formed(alloc, document, form)?;
+    Ok(octets?)
+}
+
 #[test]
 fn encodes_in_a_form(rt: HostRuntime) -> Result<(), Fail> {
     for row in &ROWS {
-        let document = document_in(rt.alloc(), row)?;
+        let document = document_behind(rt.alloc(), row.text)?;
         let (result, steps) = formed(rt.alloc(), &document, row.form)?;
         match (result, row.wanted) {
             (Ok(octets), Octets(wanted, turns)) => {
@@ -152,7 +162,7 @@ fn encodes_in_a_form(rt: HostRuntime) -> Result<(), Fail> {
 #[test]
 fn refuses_a_form_at_its_line(rt: HostRuntime) -> Result<(), Fail> {
     for row in &ROWS {
-        let document = document_in(rt.alloc(), row)?;
+        let document = document_behind(rt.alloc(), row.text)?;
         let (result, _) = formed(rt.alloc(), &document, row.form)?;
         if let (Err(fault), Refused(_, line, _)) = (result, row.wanted) {
             assert_eq!(rt; fault.line(), Some(line), "{}", row.name);
@@ -166,20 +176,23 @@ fn with_other(alloc: Global, text: &[u8], line: &str, other: &str) -> Result<Str
     Ok(str::from_utf8(text)?.replacen(alloc, line, other, 1)?)
 }
 
-/// A compressed message, in plain form and back again: the same octets, and between them a dump text
-/// that differs in the flag alone.
-#[test]
-fn comes_back_from_the_plain_form(rt: HostRuntime) -> Result<(), Fail> {
+// What is proved of forms. A test that calls it does not have to carry the contracts.
+fn laws() {
     encode_law::dumped_messages_are_encoded_in_each_form();
     encode_law::dumped_messages_are_refused_for_their_form_alone();
     encode_law::messages_in_each_form_are_accepted();
     encode_law::forms_change_the_flag_of_a_dump_text_alone();
     encode_law::canonical_messages_come_back_from_each_form();
-    let mut text = String::from_str(rt.alloc(), FIRST_LINES)?;
-    text.push_str(COMPRESSED_MISSING)?;
-    let document = document_of(rt.alloc(), text.as_bytes())?;
-    let first = formed(rt.alloc(), &document, Form::AsWritten)?.0?;
-    let plain = formed(rt.alloc(), &document, Form::Plain)?.0?;
+}
+
+/// A compressed message, in plain form and back again: the same octets, and between them a dump text
+/// that differs in the flag alone.
+#[test]
+fn comes_back_from_the_plain_form(rt: HostRuntime) -> Result<(), Fail> {
+    laws();
+    let document = document_behind(rt.alloc(), COMPRESSED_MISSING)?;
+    let first = octets_in(rt.alloc(), &document, Form::AsWritten)?;
+    let plain = octets_in(rt.alloc(), &document, Form::Plain)?;
     assert_eq!(rt; (first.len(), plain.len()), (50, 51));
     let packed = dump(rt.alloc(), &first, 65536, 4096)?;
     let dumped = dump(rt.alloc(), &plain, 65536, 4096)?;
@@ -187,24 +200,28 @@ fn comes_back_from_the_plain_form(rt: HostRuntime) -> Result<(), Fail> {
     let wanted = with_other(rt.alloc(), &packed.taken, said, says)?;
     assert_eq!(rt; dumped.taken.as_slice(), wanted.as_bytes());
     let again = document_of(rt.alloc(), &dumped.taken)?;
-    let back = formed(rt.alloc(), &again, Form::Compressed)?.0?;
+    let back = octets_in(rt.alloc(), &again, Form::Compressed)?;
     assert!(rt; back == first);
     Ok(())
+}
+
+// Two texts of spaces in each of 65,535 subsets.
+fn many_texts(alloc: Global) -> Result<String, Fail> {
+    let mut text = String::from_str(alloc, MANY_SUBSETS)?;
+    for subset in 1..=65_535 {
+        let lines = format!(in alloc; "subset {subset}\n205255 \"\"\n205002 \"\"\n")?;
+        text.push_str(&lines)?;
+    }
+    text.push_str("end\n")?;
+    Ok(text)
 }
 
 /// Two texts of spaces in each of 65,535 subsets: compressed they are few octets, and plain too many.
 #[test]
 fn refuses_a_long_plain_form(rt: HostRuntime) -> Result<(), Fail> {
-    let mut text = String::from_str(rt.alloc(), FIRST_LINES)?;
-    text.push_str("observed 1\ncompressed 1\noptional 0\nsubsets 65535\n")?;
-    text.push_str("descriptors 205255 205002\n")?;
-    for subset in 1..=65_535 {
-        let lines = format!(in rt.alloc(); "subset {subset}\n205255 \"\"\n205002 \"\"\n")?;
-        text.push_str(&lines)?;
-    }
-    text.push_str("end\n")?;
-    let document = document_of(rt.alloc(), text.as_bytes())?;
-    let packed = formed(rt.alloc(), &document, Form::AsWritten)?.0?;
+    let text = many_texts(rt.alloc())?;
+    let document = document_behind(rt.alloc(), text.as_str())?;
+    let packed = octets_in(rt.alloc(), &document, Form::AsWritten)?;
     assert_eq!(rt; packed.len(), 308);
     let refused = formed(rt.alloc(), &document, Form::Plain)?.0;
     assert!(rt; matches!(refused, Err(DocumentFault::TooLong(1))));

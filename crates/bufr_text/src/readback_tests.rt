@@ -29,14 +29,19 @@ fn octets_for(alloc: Global, text: &[u8]) -> Result<Vec<u8>, Fail> {
     Ok(octets?)
 }
 
-/// What is encoded of a text by hand has that text in a dump's spelling, from which come the same
-/// octets.
-#[test]
-fn dumps_what_was_written_by_hand(rt: HostRuntime) -> Result<(), Fail> {
+// What is proved of documents that are encoded. A test that calls it does not have to carry the contracts.
+fn laws() {
     readback_law::encoded_documents_are_read();
     readback_law::normal_is_the_dump();
     readback_law::normal_is_encoded_the_same();
     readback_law::normal_of_normal();
+}
+
+/// What is encoded of a text by hand has that text in a dump's spelling, from which come the same
+/// octets.
+#[test]
+fn dumps_what_was_written_by_hand(rt: HostRuntime) -> Result<(), Fail> {
+    laws();
     let octets = octets_for(rt.alloc(), whole(rt.alloc(), BY_HAND)?.as_bytes())?;
     let text = dump(rt.alloc(), &octets, 65536, 4096)?;
     assert!(rt; text.taken.as_slice() == whole(rt.alloc(), AS_DUMPED)?.as_bytes());

@@ -449,10 +449,8 @@ fn thousand_documents(alloc: Global) -> Result<Vec<u8>, AllocError> {
     Ok(text)
 }
 
-/// However a text is read, its documents are told one after another, the end comes again, and at
-/// most 8,192 octets are held.
-#[test]
-fn tells_a_thousand_documents(rt: HostRuntime) -> Result<(), Fail> {
+// What is proved of readers. A test that calls it does not have to carry the contracts.
+fn laws() {
     law::dump_text_spells_its_document();
     law::dump_text_is_one_document();
     law::documents_are_proper();
@@ -464,6 +462,13 @@ fn tells_a_thousand_documents(rt: HostRuntime) -> Result<(), Fail> {
     law::documents_told_are_the_documents();
     law::documents_told_are_the_open_documents();
     law::none_comes_again();
+}
+
+/// However a text is read, its documents are told one after another, the end comes again, and at
+/// most 8,192 octets are held.
+#[test]
+fn tells_a_thousand_documents(rt: HostRuntime) -> Result<(), Fail> {
+    laws();
     let text = thousand_documents(rt.alloc())?;
     for step in STEPS {
         assert!(rt; step > 0);
