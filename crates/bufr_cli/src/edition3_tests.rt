@@ -1,7 +1,9 @@
 //! Runs of the three commands over messages of edition 3.
 
 use crate::tally::Tally;
-use crate::test_messages::{ONE_ACCEPTED, ONE_REFUSED, joined, octets_of, text_of_one};
+use crate::test_messages::{
+    ONE_ACCEPTED, ONE_REFUSED, joined, octets_of, one_block_number, text_of_one,
+};
 use crate::test_runs::{Command, assert_run, run_whole};
 use crate::tests::{LINE, ONE_BLOCK_NUMBER};
 use bufr_text::Form;
@@ -240,11 +242,11 @@ fn closes_the_round_of_both_editions(rt: HostRuntime) -> Result<(), Fail> {
     let odd = message(rt.alloc(), ODD)?;
     let of_3 = text(rt.alloc(), 0, "local1 00\n")?;
     let of_4 = text_of_one(rt.alloc())?;
-    let (of_3, of_4) = (of_3.as_bytes(), of_4.as_bytes());
-    let one = ONE_BLOCK_NUMBER.as_slice();
-    let stream = joined(rt.alloc(), &[&even, one, &odd, one])?;
-    let built = joined(rt.alloc(), &[&even, one, &even, one])?;
-    let text = joined(rt.alloc(), &[of_3, of_4, of_3, of_4])?;
+    let one = one_block_number(rt.alloc())?;
+    let stream = joined(rt.alloc(), &[&even, &one, &odd, &one])?;
+    let built = joined(rt.alloc(), &[&even, &one, &even, &one])?;
+    let both = joined(rt.alloc(), &[of_3.as_bytes(), of_4.as_bytes()])?;
+    let text = joined(rt.alloc(), &[&both, &both])?;
     let text = text.as_slice();
     let all = Tally {
         accepted: 4,

@@ -235,7 +235,7 @@ fn gives_help(rt: HostRuntime) {
 /// the call's contract.
 fn call<'a, I: Inputs, W: Sink, E: Sink>(
     alloc: Global,
-    words: &'a [&'a str],
+    words: &'a [&'static str],
     inputs: &I,
     w: &mut W,
     e: &mut E,
@@ -245,9 +245,9 @@ fn call<'a, I: Inputs, W: Sink, E: Sink>(
 
 /// Asserts what comes of a call: its status, its output, and what its errors hold, where they hold
 /// something.
-fn assert_called<I: Inputs>(
+fn assert_called<'a, I: Inputs>(
     rt: &(impl Abort + AllocGlobal),
-    words: &[&str],
+    words: &'a [&'static str],
     inputs: &I,
     status: u8,
     output: &[u8],
