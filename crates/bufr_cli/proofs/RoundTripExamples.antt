@@ -43,7 +43,7 @@ unfolding scan_from
 output-alone = refl
 
 -- a table of one element
-abbrev blocks : List Row
+abbrev pub blocks : List Row
 blocks = record { fxy = 257; name = codes "WMO BLOCK NUMBER"; unit = codes "Numeric"; kind = Numeric; scale = pos 0; reference = pos 0; width = 7 } ∷ []
 
 -- a message with this text is built of it

@@ -47,24 +47,24 @@ octets-all (c ∷ s) small = (small 0, octets-all s (λ i. small (suc i)))
 -- ---- the pieces of lists
 
 -- all that is on the output is written
-outputs-whole : (ms : List (List ℕ)) → up_to_refused (map OnOutput ms) ≡ map OnOutput ms
+pub outputs-whole : (ms : List (List ℕ)) → up_to_refused (map OnOutput ms) ≡ map OnOutput ms
 unfolding up_to_refused
 outputs-whole [] = refl
 outputs-whole (m ∷ ms) = ap (λ l. OnOutput m ∷ l) (outputs-whole ms)
 
-outputs-octets : (ms : List (List ℕ)) → flat_map output_of (map OnOutput ms) ≡ concat ms
+pub outputs-octets : (ms : List (List ℕ)) → flat_map output_of (map OnOutput ms) ≡ concat ms
 outputs-octets [] = refl
 outputs-octets (m ∷ ms) = ap (λ l. m ++ l) (outputs-octets ms)
 
-outputs-silent : (ms : List (List ℕ)) → flat_map errors_of (map OnOutput ms) ≡ []
+pub outputs-silent : (ms : List (List ℕ)) → flat_map errors_of (map OnOutput ms) ≡ []
 outputs-silent [] = refl
 outputs-silent (m ∷ ms) = outputs-silent ms
 
-outputs-refused : (ms : List (List ℕ)) → filter is_refused (map OnOutput ms) ≡ []
+pub outputs-refused : (ms : List (List ℕ)) → filter is_refused (map OnOutput ms) ≡ []
 outputs-refused [] = refl
 outputs-refused (m ∷ ms) = outputs-refused ms
 
-outputs-accepted : (ms : List (List ℕ)) → length (filter is_accepted (map OnOutput ms)) ≡ length ms
+pub outputs-accepted : (ms : List (List ℕ)) → length (filter is_accepted (map OnOutput ms)) ≡ length ms
 outputs-accepted [] = refl
 outputs-accepted (m ∷ ms) = ap suc (outputs-accepted ms)
 
@@ -88,7 +88,7 @@ accepted-count : (ps : List Piece) → count_by is_refused (filter is_accepted p
 accepted-count ps = sym (length-filter is_refused (filter is_accepted ps)) ∙ ap length (accepted-refused ps)
 
 -- an empty text spells nothing
-nothing-spelled : (line : ℕ) → spelled line Between (lines_of []) ≡ []
+pub nothing-spelled : (line : ℕ) → spelled line Between (lines_of []) ≡ []
 unfolding spelled lines_of
 nothing-spelled line = refl
 
@@ -143,7 +143,7 @@ event-kind b d (Framed offset m) p small so = message-kind b d offset m small (s
 event-kind b d (Strayed offset cause) p small so = inl (_, so)
 
 -- the piece of an accepted message is its dump text, wherever it stands
-accepted-piece : (b : List Row) (d : List Sequence) (m : List ℕ) (s : Sections) (template : Tree) (values : Values) (used offset : ℕ) → IsAccepted b d m s template values used
+pub accepted-piece : (b : List Row) (d : List Sequence) (m : List ℕ) (s : Sections) (template : Tree) (values : Values) (used offset : ℕ) → IsAccepted b d m s template values used
     → IsDumpPiece b d (Framed offset m) (OnOutput (dump_text_of s (items_in b template s values)))
 accepted-piece b d m s template values used offset a =
     let p = OnOutput (dump_text_of s (items_in b template s values)) in
@@ -158,11 +158,11 @@ octets_or_none (Err refused) = []
 -- ---- the messages of a stream
 
 -- messages one after another, from an offset on
-abbrev placed : (at : ℕ) → List (List ℕ) → List Happening
+abbrev pub placed : (at : ℕ) → List (List ℕ) → List Happening
 placed at [] = []
 placed at (m ∷ ms) = Framed at m ∷ placed (at + length m) ms
 
-placed-count : (piece : Happening → Piece) (at : ℕ) (ms : List (List ℕ)) → length (map piece (placed at ms)) ≡ length ms
+pub placed-count : (piece : Happening → Piece) (at : ℕ) (ms : List (List ℕ)) → length (map piece (placed at ms)) ≡ length ms
 placed-count piece at [] = refl
 placed-count piece at (m ∷ ms) = ap suc (placed-count piece (at + length m) ms)
 

@@ -1,4 +1,5 @@
 pub mod Calling
+pub mod Corrected
 pub mod DocumentLine
 pub mod DumpPieces
 pub mod EncodePieces

@@ -10,7 +10,7 @@ use crate::test_runs::{
     Command, Tables, assert_run, assert_stops_at_failed_errors, assert_stops_at_failed_reads,
     assert_stops_at_failed_writes, read_tables, run_over,
 };
-use crate::{law, round_trip_law};
+use crate::{corrected_law, law, round_trip_law};
 use bufr_bits::{End, ScriptIn, ScriptOut};
 use std::process::Abort;
 use std::test::Fail;
@@ -243,6 +243,7 @@ fn has_laws(_rt: HostRuntime) -> Result<(), Fail> {
     round_trip_law::dumped_streams_are_built_again();
     round_trip_law::canonical_streams_are_built_as_they_are();
     round_trip_law::runs_close_the_round();
+    corrected_law::encoded_texts_are_dumped_in_one_spelling();
     Ok(())
 }
 

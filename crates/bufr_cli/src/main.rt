@@ -4,6 +4,7 @@
 ghost use Rattle.bufr_cli.specs.Calling.{IsWordless, WordsSo};
 
 mod buffered;
+pub mod corrected_law;
 mod document_line;
 mod fault_line;
 mod finish;
