@@ -1,8 +1,8 @@
 -- The subsets of a document, written together.
 use Rattle.std.proofs.Common.{◌≡◌, ◌≤◌, ◌+◌, ◌-◌, ◌*◌, ℕ, zero, suc, Bool, true, List, [], ◌∷◌, length, Option, Some, None, Result, Ok, Err, refl, sym, ◌∙◌, ap, subst, arith}
 use Rattle.std.specs.Option.{option_map}
-use Rattle.bufr_walk.specs.declared.stop.WalkStop.{WalkStop}
-use Rattle.bufr_walk.specs.declared.stop.WalkStop.TheVariants as stops
+use Rattle.bufr_walk.specs.declared.walking.WalkStop.{WalkStop}
+use Rattle.bufr_walk.specs.declared.walking.WalkStop.TheVariants as stops
 use Rattle.bufr_walk.specs.Course.{Course, Next, take_next, at_end, astray, refused}
 use Rattle.bufr_walk.specs.Taking.{Turn, Takes, course_after}
 use Rattle.bufr_walk.specs.Ticks.{ticked}
@@ -20,8 +20,9 @@ use Rattle.bufr_fill.proofs.PackedWalks.{fills}
 use Rattle.bufr_bits.specs.Bits.{bits_of}
 use Rattle.bufr_text.specs.declared.encode_fault.DocumentFault.{DocumentFault}
 use Rattle.bufr_text.specs.EncodingFault.{told_of_draft, told_refusal}
-use Rattle.bufr_text.specs.Encodes.{told_stop, count_filled, count_packed, turns_filled, turns_packed, AreOctetsOf, IsData, IsNoData}
-use Rattle.bufr_text.proofs.EncodesLemmas.{walk_counts, refuses_so, told_refused}
+use Rattle.bufr_text.specs.DataWritten.{told_stop, AreOctetsOf, IsData, IsNoData}
+use Rattle.bufr_text.specs.EncodingCost.{count_filled, count_packed, turns_filled, turns_packed}
+use Rattle.bufr_text.proofs.EncodingCostLemmas.{walk_counts, refuses_so, told_refused}
 use Rattle.bufr_text.proofs.TurnsLemmas.{AddsTurns, walk_turns, IsLast, last_turns, some_turns, ticked_at_most, all_made, makes_so}
 use Rattle.bufr_text.proofs.EncodePlain.{mul_most}
 

@@ -10,8 +10,7 @@ pub mod DumpableLemmas
 pub mod EncodePacked
 pub mod EncodePlain
 pub mod EncodeWhole
-pub mod EncodedLemmas
-pub mod EncodesLemmas
+pub mod EncodingCostLemmas
 mod EncodingExamples
 mod Examples
 pub mod FeedLemmas
@@ -45,6 +44,7 @@ pub mod ReadBackLemmas
 pub mod ReaderLemmas
 pub mod ReadingLemmas
 pub mod RowsLemmas
+pub mod RoundTripLemmas
 mod RuleExamples
 pub mod RunsLemmas
 pub mod ShowingLemmas
@@ -52,6 +52,7 @@ pub mod SpecWords
 pub mod SoundLemmas
 pub mod SpelledLemmas
 pub mod SpelledProper
+mod SpellingExamples
 pub mod SpellingLemmas
 pub mod TakingLemmas
 pub mod TokenLemmas

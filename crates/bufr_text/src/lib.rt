@@ -1,10 +1,10 @@
-//! The texts of FM 94 BUFR messages: the line that lists one, the text that dumps one, and its reading.
+//! The texts of FM 94 BUFR messages: the line that lists one, the text that dumps one, and its
+//! reading.
 #![tactic(auto)]
 
 mod buffer;
 mod descriptors;
 mod document;
-mod draft;
 mod dump;
 mod dump_reader;
 mod encode;
@@ -21,6 +21,7 @@ mod line;
 mod ls;
 mod number;
 mod part;
+mod progress;
 mod put;
 mod quoted;
 pub mod readback_law;

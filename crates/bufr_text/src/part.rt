@@ -1,8 +1,9 @@
 //! Texts put together from parts and written whole, with nothing allocated.
-ghost use Rattle.std.specs.Prelude.{◌≡◌, ◌≤◌, ◌-◌, length, drop, flat_map, decimal, replicate};
+ghost use Rattle.std.specs.Prelude.{◌≡◌, ◌≤◌, ◌-◌, flat_map, decimal, replicate};
 ghost use Rattle.std.specs.List.{AllByRecursion};
 ghost use Rattle.bufr_text.specs.Writing.{Writes, Composes, CountsWrites, part_text, padded, IsShort};
 
+use crate::slice::behind;
 use arrayvec::ArrayVec;
 use bufr_bits::Sink;
 use bufr_frame::RunFault;
@@ -26,14 +27,6 @@ const LINE: usize = 256;
 
 /// A line, or its first part, before it is written.
 type Line = ArrayVec<u8, LINE>;
-
-/// The octets from `n` on.
-pub(crate) fn behind(s: &[u8], n: usize) -> &[u8]
-    requires { n ≤ length s.now }
-    ensures { result.now ≡ drop n s.now }
-{
-    &s[n..]
-}
 
 /// So many digits `0`.
 fn zero_digits(n: usize) -> &'static [u8]

@@ -10,7 +10,8 @@ ghost use Rattle.bufr_text.specs.Dump.{comment_text, descriptors_line, form_of, 
 ghost use Rattle.bufr_text.specs.Dumped.{comment_of, item_of, value_of};
 ghost use Rattle.bufr_text.specs.Grammar.{descriptors_text, escaped, hex_digit, hex_pair, hex_text, is_plain, quoted};
 
-use crate::part::behind;
+use crate::quoted::is_plain;
+use crate::slice::behind;
 use bufr_bits::decimal_text;
 use bufr_frame::Words;
 use bufr_tables::{Entry, Fxy};
@@ -93,13 +94,6 @@ pub(crate) fn make_descriptor_line(
     line.extend_from_slice(b"descriptors")?;
     put_descriptors(words, line)?;
     line.extend_from_slice(b"\n")
-}
-
-/// Whether an octet of a text stands for itself.
-fn is_plain(octet: u8) -> bool
-    ensures { result ≡ is_plain octet }
-{
-    octet >= 32 && octet <= 126 && octet != b'"' && octet != b'\\'
 }
 
 /// Puts an octet that does not stand for itself.
