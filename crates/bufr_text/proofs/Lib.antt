@@ -10,7 +10,8 @@ pub mod DumpableLemmas
 pub mod EncodePacked
 pub mod EncodePlain
 pub mod EncodeWhole
-pub mod EncodingCostLemmas
+pub mod EncodedLemmas
+pub mod EncodesLemmas
 mod EncodingExamples
 mod Examples
 pub mod FeedLemmas
@@ -24,8 +25,10 @@ pub mod GrammarLemmas
 pub mod HeadLemmas
 pub mod HeaderLemmas
 pub mod ItemLemmas
+pub mod ItemLineLemmas
 pub mod KeptLemmas
 pub mod KeyLemmas
+pub mod LaidLemmas
 pub mod LawLemmas
 mod LineExamples
 pub mod LineLemmas
@@ -44,7 +47,6 @@ pub mod ReadBackLemmas
 pub mod ReaderLemmas
 pub mod ReadingLemmas
 pub mod RowsLemmas
-pub mod RoundTripLemmas
 mod RuleExamples
 pub mod RunsLemmas
 pub mod ShowingLemmas
@@ -52,7 +54,6 @@ pub mod SpecWords
 pub mod SoundLemmas
 pub mod SpelledLemmas
 pub mod SpelledProper
-mod SpellingExamples
 pub mod SpellingLemmas
 pub mod TakingLemmas
 pub mod TokenLemmas
