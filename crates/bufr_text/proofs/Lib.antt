@@ -25,10 +25,8 @@ pub mod GrammarLemmas
 pub mod HeadLemmas
 pub mod HeaderLemmas
 pub mod ItemLemmas
-pub mod ItemLineLemmas
 pub mod KeptLemmas
 pub mod KeyLemmas
-pub mod LaidLemmas
 pub mod LawLemmas
 mod LineExamples
 pub mod LineLemmas

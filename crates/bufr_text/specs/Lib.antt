@@ -19,7 +19,6 @@ pub mod Grammar
 pub mod Header
 pub mod Kept
 pub mod Key
-pub mod Laid
 pub mod Lent
 pub mod Line
 pub mod LsLine
