@@ -1,104 +1,359 @@
-//! What the lister, the dumper and the encoder by hand share: the numbers of section 1, the tables in
-//! maps, a list of descriptors laid out, and a file that is mapped.
+//! What the lister, the dumper and the encoder by hand share: a file that is mapped, the messages in
+//! it, the numbers of section 1, the tables, a list of descriptors laid out, and an output that is put
+//! together in one buffer.
 #![allow(dead_code)] // each of them has no use for some of it
-use std::collections::HashMap;
+use std::cell::OnceCell;
 use std::fs::File;
-use std::os::fd::AsRawFd;
+use std::io::Write as _;
+use std::mem::ManuallyDrop;
+use std::os::fd::{AsRawFd, FromRawFd};
 
 extern "C" {
     fn mmap(at: *mut u8, length: usize, access: i32, flags: i32, file: i32, offset: i64) -> *mut u8;
 }
 
-#[derive(Clone)]
-pub struct Element {
-    pub text: Vec<u8>,
-    pub comment: Vec<u8>,
-    pub is_text: bool,
-    pub scale: i32,
-    pub reference: i64,
-    pub width: u32,
-    pub always: bool,
+/// The octets of a file, mapped.
+pub fn mapped(name: &str) -> &'static [u8] {
+    let file = File::open(name).expect("a file that opens");
+    let length = file.metadata().expect("its length").len() as usize;
+    if length == 0 {
+        return &[];
+    }
+    unsafe {
+        let at = mmap(std::ptr::null_mut(), length, 1, 2, file.as_raw_fd(), 0);
+        assert!(at as isize != -1, "a file that can be mapped");
+        std::slice::from_raw_parts(at, length)
+    }
 }
-
-pub type Sequences = HashMap<u16, Vec<u16>>;
-
-/// What the lines of a header say, in their order.
-pub const KEYS: [&str; 20] = [
-    "edition", "master", "centre", "subcentre", "update", "category", "subcategory", "localsubcategory",
-    "masterversion", "localversion", "year", "month", "day", "hour", "minute", "second", "observed",
-    "compressed", "optional", "subsets",
-];
 
 pub fn number(octets: &[u8]) -> usize {
     octets.iter().fold(0, |n, octet| n << 8 | usize::from(*octet))
 }
 
-pub fn word(text: &str) -> u16 {
-    let n: u32 = text.parse().expect("a descriptor");
-    ((n / 100_000) << 14 | (n / 1000 % 100) << 8 | n % 1000) as u16
+// ---------------------------------------------------------------- the output
+
+/// How many octets are held back before they are handed on, and how many a line has at most.
+const HELD: usize = 1 << 16;
+const LINE: usize = 1 << 13;
+
+/// A piece of a text that is copied at once, whatever of it counts.
+pub type Block = [u8; 32];
+
+/// The text in whole blocks.
+pub fn blocks(text: &[u8]) -> Vec<Block> {
+    let filled = |piece: &[u8]| {
+        let mut block = [0; 32];
+        block[..piece.len()].copy_from_slice(piece);
+        block
+    };
+    text.chunks(32).map(filled).collect()
 }
 
-/// The fields of a line; only the name may be quoted.
-fn fields(line: &str) -> Vec<String> {
-    let mut out = vec![String::new()];
-    let mut quoted = false;
-    for c in line.chars() {
-        match c {
-            '"' => quoted = !quoted,
-            ',' if !quoted => out.push(String::new()),
-            c => out.last_mut().expect("a field").push(c),
+/// Eight digits `0`.
+const ZEROS: u64 = 0x3030_3030_3030_3030;
+
+/// The eight digits of a number under 100,000,000, the first one in the lowest octet, without the
+/// `0` that makes them text. All are found at once: two numbers of four digits, four of two, eight.
+#[inline(always)]
+fn eight_digits(n: u32) -> u64 {
+    let fours = u64::from(n / 10_000) | u64::from(n % 10_000) << 32;
+    let hundreds = fours * 10_486 >> 20 & 0x0000_007F_0000_007F;
+    let twos = hundreds | (fours - 100 * hundreds) << 16;
+    let tens = twos * 103 >> 10 & 0x000F_000F_000F_000F;
+    tens | (twos - 10 * tens) << 8
+}
+
+/// The room that lines are put together in.
+type Room = [u8; HELD + LINE];
+
+/// Where a line is put together. Its place is kept here and not beside the room, so that it can stay in
+/// a register.
+pub struct Pen<'r> {
+    room: &'r mut Room,
+    at: usize,
+}
+
+impl Pen<'_> {
+    /// Puts the first of some octets, and passes over as many.
+    #[inline(always)]
+    pub fn put_first<const N: usize>(&mut self, octets: &[u8; N], many: usize) {
+        self.room[self.at..][..N].copy_from_slice(octets);
+        self.at += many;
+    }
+
+    #[inline(always)]
+    pub fn put<const N: usize>(&mut self, octets: &[u8; N]) {
+        self.put_first(octets, N);
+    }
+
+    /// Puts so many octets that stand in blocks.
+    #[inline(always)]
+    pub fn put_blocks(&mut self, blocks: &[Block], many: usize) {
+        let mut place = self.at;
+        for block in blocks {
+            self.room[place..][..32].copy_from_slice(block);
+            place += 32;
+        }
+        self.at += many;
+    }
+
+    #[inline(always)]
+    pub fn put_all(&mut self, octets: &[u8]) {
+        self.room[self.at..][..octets.len()].copy_from_slice(octets);
+        self.at += octets.len();
+    }
+
+    #[inline(always)]
+    pub fn put_number(&mut self, n: u64) {
+        self.put_padded(n, 1);
+    }
+
+    /// Puts a number in at least so many digits, from one to eight.
+    #[inline(always)]
+    pub fn put_padded(&mut self, n: u64, least: u32) {
+        if n < 100_000_000 {
+            self.put_decimal(n as u32, 0, least);
+        } else {
+            self.at = put_long(self.room, self.at, n, 0);
         }
     }
-    out
-}
 
-pub fn elements(name: &str) -> HashMap<u16, Element> {
-    let text = std::fs::read_to_string(name).expect("table B");
-    let mut map = HashMap::new();
-    for line in text.lines().skip(1) {
-        let f = fields(line);
-        let key = word(&f[0]);
-        let element = Element {
-            text: format!("{} ", f[0]).into_bytes(),
-            comment: format!("  # {} [{}]\n", f[1], f[2]).into_bytes(),
-            is_text: f[2] == "CCITT IA5",
-            scale: f[3].parse().expect("a scale"),
-            reference: f[4].parse().expect("a reference"),
-            width: f[5].parse().expect("a width"),
-            always: key >> 8 & 63 == 31,
-        };
-        map.insert(key, element);
+    /// Puts a number under 100,000,000 in at least so many digits, the last of them behind a point.
+    #[inline(always)]
+    fn put_decimal(&mut self, n: u32, behind: u32, least: u32) {
+        let digits = eight_digits(n);
+        let many = (8 - digits.trailing_zeros() / 8).max(least);
+        let text = (digits | ZEROS) >> (8 * (8 - many));
+        self.put_first(&text.to_le_bytes(), (many - behind) as usize);
+        if behind > 0 {
+            self.put(b".");
+            self.put_first(&(text >> (8 * (many - behind))).to_le_bytes(), behind as usize);
+        }
     }
-    map
-}
 
-pub fn sequences(name: &str) -> Sequences {
-    let text = std::fs::read_to_string(name).expect("table D");
-    let mut map = Sequences::new();
-    for line in text.lines().skip(1) {
-        let (sequence, member) = line.split_once(',').expect("two fields");
-        map.entry(word(sequence)).or_default().push(word(member));
+    /// Puts the decimal of a number and its scale.
+    #[inline(always)]
+    pub fn put_scaled(&mut self, n: i64, scale: i32) {
+        self.put_first(b"-", usize::from(n < 0));
+        if !(-7..8).contains(&scale) || n.unsigned_abs() >= 100_000_000 {
+            self.at = put_long(self.room, self.at, n.unsigned_abs(), scale);
+            return;
+        }
+        let behind = scale.max(0) as u32;
+        self.put_decimal(n.unsigned_abs() as u32, behind, behind + 1);
+        if scale < 0 && n != 0 {
+            self.put_first(&ZEROS.to_le_bytes(), -scale as usize);
+        }
     }
-    map
 }
 
-pub fn expand(list: &[u16], sequences: &Sequences, out: &mut Vec<u16>) {
-    let mut i = 0;
-    while i < list.len() {
-        let d = list[i];
-        i += 1;
-        match d >> 14 {
-            0 => out.push(d),
-            1 => {
-                let many = usize::from(d >> 8 & 63);
-                for _ in 0..d & 255 {
-                    expand(&list[i..i + many], sequences, out);
-                }
-                i += many;
+/// Puts the decimal of a number of any size and scale; the place behind it.
+#[cold]
+fn put_long(room: &mut Room, at: usize, n: u64, scale: i32) -> usize {
+    let mut pen = Pen { room, at };
+    let mut digits = [b'0'; 160];
+    let eights = [n / 10_000_000_000_000_000, n / 100_000_000 % 100_000_000, n % 100_000_000];
+    for (place, eight) in digits[136..].chunks_exact_mut(8).zip(eights) {
+        place.copy_from_slice(&(eight_digits(eight as u32) | ZEROS).to_le_bytes());
+    }
+    let point = 160 - scale.max(0) as usize;
+    let first = digits.iter().position(|digit| *digit != b'0').unwrap_or(160).min(point - 1);
+    pen.put_all(&digits[first..point]);
+    if scale > 0 {
+        pen.put(b".");
+        pen.put_all(&digits[point..]);
+    } else if n > 0 {
+        (0..-scale).for_each(|_| pen.put(b"0"));
+    }
+    pen.at
+}
+
+/// Lines that are put together in one room, and handed on to a file.
+pub struct Out {
+    room: Box<Room>,
+    at: usize,
+    file: ManuallyDrop<File>,
+}
+
+impl Out {
+    /// To a file that is open already: 1 is standard output, 2 standard error.
+    pub fn to(descriptor: i32) -> Out {
+        let room = vec![0; HELD + LINE].into_boxed_slice().try_into().expect("of this size");
+        let file = ManuallyDrop::new(unsafe { File::from_raw_fd(descriptor) });
+        Out { room, at: 0, file }
+    }
+
+    pub fn hand_on(&mut self) {
+        self.file.write_all(&self.room[..self.at]).expect("written");
+        self.at = 0;
+    }
+
+    /// Puts a line, or a few that are no longer together, and makes room for the next.
+    #[inline(always)]
+    pub fn line(&mut self, put: impl FnOnce(&mut Pen)) {
+        let mut pen = Pen { room: &mut self.room, at: self.at };
+        put(&mut pen);
+        self.at = pen.at;
+        if self.at >= HELD {
+            self.hand_on();
+        }
+    }
+
+    /// Makes a line without putting it.
+    pub fn made(&mut self, put: impl FnOnce(&mut Pen)) -> &[u8] {
+        let mut pen = Pen { room: &mut self.room, at: self.at };
+        put(&mut pen);
+        let behind = pen.at;
+        &self.room[self.at..behind]
+    }
+
+    /// Puts octets of any length.
+    pub fn put_all(&mut self, octets: &[u8]) {
+        if octets.len() <= LINE {
+            return self.line(|pen| pen.put_all(octets));
+        }
+        self.hand_on();
+        self.file.write_all(octets).expect("written");
+    }
+}
+
+impl Drop for Out {
+    fn drop(&mut self) {
+        self.hand_on();
+    }
+}
+
+// ---------------------------------------------------------------- the messages of a stream
+
+/// Whether `BU` begins at one of 64 octets.
+fn may_begin(octets: &[u8; 65]) -> bool {
+    let mut found = 0;
+    for place in 0..64 {
+        found |= u8::from(octets[place] == b'B') & u8::from(octets[place + 1] == b'U');
+    }
+    found != 0
+}
+
+/// The place of the next word `BUFR`.
+fn find(octets: &[u8], from: usize) -> Option<usize> {
+    let mut at = from;
+    if octets[at..].starts_with(b"BUFR") {
+        return Some(at);
+    }
+    while let Some(piece) = octets[at..].first_chunk::<65>() {
+        if may_begin(piece) {
+            let piece = &octets[at..octets.len().min(at + 67)];
+            if let Some(ahead) = piece.windows(4).position(|four| four == b"BUFR") {
+                return Some(at + ahead);
             }
-            3 => expand(&sequences[&d], sequences, out),
-            _ => panic!("no operators"),
         }
+        at += 64;
+    }
+    octets[at..].windows(4).position(|four| four == b"BUFR").map(|ahead| at + ahead)
+}
+
+/// Puts a fault line: its text, perhaps with a number inside.
+fn put_fault(out: &mut Out, offset: usize, text: &str, inside: Option<u8>, rest: &str) {
+    out.line(|pen| {
+        pen.put(b"offset ");
+        pen.put_number(offset as u64);
+        pen.put(b": ");
+        pen.put_all(text.as_bytes());
+        if let Some(n) = inside {
+            pen.put_number(n.into());
+        }
+        pen.put_all(rest.as_bytes());
+        pen.put(b"\n");
+    });
+}
+
+/// A message: its octets with all that stands behind them, and where its sections begin.
+pub struct Message {
+    pub offset: usize,
+    pub length: usize,
+    pub octets: &'static [u8],
+    pub edition: u8,
+    pub optional: bool,
+    pub three: usize,
+    pub four: usize,
+}
+
+/// The messages of a stream, and its fault lines.
+pub struct Messages {
+    octets: &'static [u8],
+    at: usize,
+    faults: Out,
+}
+
+impl Messages {
+    pub fn of(octets: &'static [u8]) -> Messages {
+        Messages { octets, at: 0, faults: Out::to(2) }
+    }
+
+    fn refuse(&mut self, offset: usize, text: &str) {
+        put_fault(&mut self.faults, offset, text, None, "");
+    }
+
+    pub fn next(&mut self) -> Option<Message> {
+        loop {
+            let offset = find(self.octets, self.at)?;
+            self.at = offset + 4;
+            let rest = &self.octets[offset..];
+            let stated = if rest.len() < 8 { usize::MAX } else { number(&rest[4..7]) };
+            if stated > rest.len() {
+                self.refuse(offset, "1 cut");
+            } else if stated < 12 {
+                self.refuse(offset, "2 short length");
+            } else if &rest[stated - 4..stated] != b"7777" {
+                self.refuse(offset, "3 no end");
+            } else {
+                self.at = offset + stated;
+                if let Some(message) = self.sections(offset, rest, stated) {
+                    return Some(message);
+                }
+            }
+        }
+    }
+
+    /// Takes a message apart, or puts its fault.
+    fn sections(&mut self, offset: usize, octets: &'static [u8], length: usize) -> Option<Message> {
+        let edition = octets[7];
+        let faults = &mut self.faults;
+        if edition != 3 && edition != 4 {
+            put_fault(faults, offset, "10 edition ", Some(edition), "");
+            return None;
+        }
+        let (end, mut place, mut places, mut optional, mut odd) = (length - 4, 8, [0; 5], false, false);
+        for (section, least) in [(1, least_first(edition)), (2, 4), (3, 7), (4, 4)] {
+            if section == 2 && !optional {
+                continue;
+            }
+            let stated = if place + 3 > end { usize::MAX } else { number(&octets[place..place + 3]) };
+            if stated < least {
+                put_fault(faults, offset, "11 section ", Some(section), " short");
+                return None;
+            }
+            if stated > end - place {
+                put_fault(faults, offset, "12 section ", Some(section), " past the end");
+                return None;
+            }
+            if section == 1 {
+                optional = octets[place + if edition == 3 { 7 } else { 9 }] & 128 != 0;
+            }
+            odd |= section > 2 && stated % 2 == 1;
+            places[usize::from(section)] = place;
+            place += stated;
+        }
+        if place != end {
+            put_fault(faults, offset, "13 sections do not meet the end", None, "");
+            return None;
+        }
+        if edition == 3 && odd && length > 16_777_213 {
+            put_fault(faults, offset, "14 edition 3 length", None, "");
+            return None;
+        }
+        let [_, _, _, three, four] = places;
+        Some(Message { offset, length, octets, edition, optional, three, four })
     }
 }
 
@@ -107,41 +362,207 @@ pub fn least_first(edition: u8) -> usize {
     if edition == 3 { 17 } else { 22 }
 }
 
-/// Whether section 1 says that there is a section 2.
-pub fn is_optional(edition: u8, s: &[u8]) -> bool {
-    s[if edition == 3 { 7 } else { 9 }] & 128 != 0
-}
+impl Message {
+    /// The octets of the section that begins at a place.
+    pub fn section(&self, place: usize) -> &'static [u8] {
+        &self.octets[place..place + number(&self.octets[place..place + 3])]
+    }
 
-/// The numbers of section 1 in the order of a dump's header, from the master table to the second.
-pub fn head(edition: u8, s: &[u8]) -> [usize; 15] {
-    let one = |at: usize| usize::from(s[at]);
-    let two = |at: usize| number(&s[at..at + 2]);
-    if edition == 3 {
-        [
-            one(3), one(5), one(4), one(6), one(8), one(9), 0, one(10), one(11), one(12), one(13), one(14), one(15),
-            one(16), 0,
-        ]
-    } else {
-        [
-            one(3), two(4), two(6), one(8), one(10), one(11), one(12), one(13), one(14), two(15), one(17), one(18),
-            one(19), one(20), one(21),
-        ]
+    /// The numbers of section 1 in the order of a dump's header, from the master table to the second.
+    pub fn head(&self) -> [u64; 15] {
+        let s: &[u8; 22] = self.octets[8..].first_chunk().expect("more behind section 1");
+        let one = |at: usize| u64::from(s[at]);
+        let two = |at: usize| u64::from(s[at]) << 8 | u64::from(s[at + 1]);
+        if self.edition == 3 {
+            [
+                one(3), one(5), one(4), one(6), one(8), one(9), 0, one(10), one(11), one(12), one(13), one(14),
+                one(15), one(16), 0,
+            ]
+        } else {
+            [
+                one(3), two(4), two(6), one(8), one(10), one(11), one(12), one(13), one(14), two(15), one(17),
+                one(18), one(19), one(20), one(21),
+            ]
+        }
+    }
+
+    /// Section 3 behind its length.
+    pub fn subsets(&self) -> usize {
+        number(&self.octets[self.three + 4..self.three + 6])
+    }
+
+    pub fn observed(&self) -> bool {
+        self.octets[self.three + 6] & 128 != 0
+    }
+
+    pub fn compressed(&self) -> bool {
+        self.octets[self.three + 6] & 64 != 0
+    }
+
+    /// The octets of the descriptors.
+    pub fn descriptors(&self) -> &'static [u8] {
+        let listed = &self.section(self.three)[7..];
+        &listed[..listed.len() / 2 * 2]
     }
 }
 
-/// The octets of a file, mapped.
-pub fn mapped(name: &str) -> &'static [u8] {
-    let file = File::open(name).expect("a file that opens");
-    let length = file.metadata().expect("its length").len() as usize;
-    unsafe {
-        let at = mmap(std::ptr::null_mut(), length, 1, 2, file.as_raw_fd(), 0);
-        std::slice::from_raw_parts(at, length)
+// ---------------------------------------------------------------- the header of a text
+
+/// What stands before the numbers of a header, from the line feed in front on: 24 octets each, and how
+/// many of them count.
+pub const FRONTS: [([u8; 24], usize); 19] = fronts();
+
+const fn fronts() -> [([u8; 24], usize); 19] {
+    let keys = [
+        "\nmaster ", "\ncentre ", "\nsubcentre ", "\nupdate ", "\ncategory ", "\nsubcategory ", "\nlocalsubcategory ",
+        "\nmasterversion ", "\nlocalversion ", "\nyear ", "\nmonth ", "\nday ", "\nhour ", "\nminute ", "\nsecond ",
+        "\nobserved ", "\ncompressed ", "\noptional ", "\nsubsets ",
+    ];
+    let mut fronts = [([0; 24], 0); 19];
+    let mut key = 0;
+    while key < 19 {
+        let text = keys[key].as_bytes();
+        while fronts[key].1 < text.len() {
+            fronts[key].0[fronts[key].1] = text[fronts[key].1];
+            fronts[key].1 += 1;
+        }
+        key += 1;
+    }
+    fronts
+}
+
+// ---------------------------------------------------------------- the tables
+
+/// What a line of an item needs to know of its element.
+pub struct Element {
+    /// The descriptor's six digits and a space, the first digit in the lowest octet.
+    pub front: u64,
+    /// The comment and the line feed.
+    pub comment: Vec<u8>,
+    pub blocks: Vec<Block>,
+    pub is_text: bool,
+    pub scale: i32,
+    pub reference: i64,
+    pub width: u32,
+    /// All ones where they are missing; else a number that no field has.
+    pub missing: u64,
+}
+
+/// The number of a descriptor's six digits.
+pub fn word(six: &[u8]) -> u16 {
+    let n = digits(six) as u32;
+    ((n / 100_000) << 14 | (n / 1000 % 100) << 8 | n % 1000) as u16
+}
+
+pub fn digits(text: &[u8]) -> u64 {
+    text.iter().fold(0, |n, digit| {
+        assert!(digit.is_ascii_digit(), "a digit");
+        10 * n + u64::from(digit - b'0')
+    })
+}
+
+/// The fields of a row.
+fn fields(row: &[u8]) -> Vec<String> {
+    let row = std::str::from_utf8(row).expect("UTF-8");
+    let (mut out, mut quoted, mut before) = (vec![String::new()], false, ',');
+    for c in row.chars() {
+        match c {
+            '"' => {
+                quoted = !quoted;
+                if quoted && before == '"' {
+                    out.last_mut().expect("a field").push('"');
+                }
+            }
+            ',' if !quoted => out.push(String::new()),
+            c => out.last_mut().expect("a field").push(c),
+        }
+        before = c;
+    }
+    out
+}
+
+fn element(row: &[u8]) -> Element {
+    let f = fields(row);
+    let comment = format!("  # {} [{}]\n", f[1], f[2]).into_bytes();
+    let width: u32 = f[5].parse().expect("a width");
+    let is_text = f[2].eq_ignore_ascii_case("CCITT IA5");
+    let always = is_text || f[0].starts_with("031");
+    Element {
+        front: f[0].bytes().rev().fold(b' '.into(), |n, digit| n << 8 | u64::from(digit)),
+        blocks: blocks(&comment),
+        comment,
+        is_text,
+        scale: f[3].parse().expect("a scale"),
+        reference: f[4].parse().expect("a reference"),
+        width,
+        missing: if always { u64::MAX } else { (1 << width) - 1 },
     }
 }
 
-/// The elements of a list, laid out.
-pub fn laid<'a>(list: &[u16], table_b: &'a HashMap<u16, Element>, table_d: &Sequences) -> Vec<&'a Element> {
-    let mut flat = Vec::new();
-    expand(list, table_d, &mut flat);
-    flat.iter().map(|d| &table_b[d]).collect()
+/// The two tables: rows and members by X and Y, and each element made where it is first met.
+pub struct Tables {
+    rows: Vec<&'static [u8]>,
+    elements: Vec<OnceCell<Box<Element>>>,
+    sequences: Vec<(u32, u32)>,
+    members: Vec<u16>,
+}
+
+impl Tables {
+    pub fn read(table_b: &str, table_d: &str) -> Tables {
+        let mut tables = Tables {
+            rows: vec![&[]; 1 << 14],
+            elements: (0..1 << 14).map(|_| OnceCell::new()).collect(),
+            sequences: vec![(0, 0); 1 << 14],
+            members: Vec::new(),
+        };
+        let rows = |name: &str| mapped(name).split(|octet| *octet == b'\n').skip(1);
+        for row in rows(table_b).filter(|row| !row.is_empty()) {
+            tables.rows[usize::from(word(&row[..6]))] = row;
+        }
+        for row in rows(table_d).filter(|row| !row.is_empty()) {
+            let sequence = &mut tables.sequences[usize::from(word(&row[..6])) & 0x3FFF];
+            if sequence.1 == 0 {
+                *sequence = (tables.members.len() as u32, tables.members.len() as u32);
+            }
+            sequence.1 += 1;
+            tables.members.push(word(&row[7..13]));
+        }
+        tables
+    }
+
+    fn element(&self, descriptor: u16) -> &Element {
+        let place = usize::from(descriptor);
+        self.elements[place].get_or_init(|| Box::new(element(self.rows[place])))
+    }
+
+    /// Adds the elements that a list stands for.
+    fn lay<'t>(&'t self, list: &[u16], flat: &mut Vec<&'t Element>) {
+        let mut at = 0;
+        while at < list.len() {
+            let d = list[at];
+            at += 1;
+            match d >> 14 {
+                0 => flat.push(self.element(d)),
+                1 => {
+                    assert!(d & 255 > 0, "no delayed replication");
+                    let group = &list[at..at + usize::from(d >> 8 & 63)];
+                    at += group.len();
+                    (0..d & 255).for_each(|_| self.lay(group, flat));
+                }
+                3 => {
+                    let (from, behind) = self.sequences[usize::from(d & 0x3FFF)];
+                    assert!(from < behind, "a sequence of Table D");
+                    self.lay(&self.members[from as usize..behind as usize], flat);
+                }
+                _ => panic!("no operator"),
+            }
+        }
+    }
+
+    /// The elements that a list stands for, laid out.
+    pub fn laid<'t>(&'t self, list: &[u16]) -> Vec<&'t Element> {
+        let mut flat = Vec::new();
+        self.lay(list, &mut flat);
+        flat
+    }
 }

@@ -1,178 +1,254 @@
-//! A dumper written by hand in plain Rust, to measure `bufr dump` against: it maps the file, reads
-//! the tables into maps and writes the same text for messages whose templates have elements, fixed
-//! replications and sequences, plain or compressed (numbers alone where compressed), of edition 3 or 4, one
-//! message behind the other. No operators, no section 2, no checks but of the end of the data, no proof:
-//! only a yardstick.
-use std::io::Write as _;
-
+//! A dumper written by hand in plain Rust, to measure `bufr dump` against: it maps the file and writes
+//! the same text for messages whose templates have elements, fixed replications and sequences, plain or
+//! compressed, of edition 3 or 4. What a template's lines begin and end with stands ready, a template
+//! is kept while the descriptors are the same, and of compressed data a line that all subsets share is
+//! made once. No operators, no section 2, numbers in 64 bits, no check of the data but of their end, no
+//! proof: only a yardstick.
 mod by_hand;
-use by_hand::{elements, head, laid, least_first, mapped, number, sequences, Element, KEYS};
+use by_hand::{blocks, least_first, mapped, number, Block, Element, Message, Messages, Out, Pen, Tables, FRONTS};
 
-/// A field of up to 57 bits.
+/// A field of 1 to 63 bits.
+#[inline(always)]
 fn field(octets: &[u8], at: usize, width: u32) -> u64 {
-    let place = at / 8;
-    let window = match octets.get(place..place + 8) {
-        Some(eight) => u64::from_be_bytes(eight.try_into().expect("eight")),
-        None => {
-            let mut eight = [0; 8];
-            let rest = &octets[place..];
-            eight[..rest.len()].copy_from_slice(rest);
-            u64::from_be_bytes(eight)
+    match octets.get(at / 8..at / 8 + 8) {
+        Some(eight) if width <= 57 => {
+            let window = u64::from_be_bytes(eight.try_into().expect("eight"));
+            window << (at % 8) >> (64 - width)
         }
-    };
-    window << (at % 8) >> (64 - width)
-}
-
-fn put_digits(out: &mut Vec<u8>, mut n: u64, least: usize) {
-    let mut digits = [b'0'; 40];
-    let mut i = 40;
-    while n > 0 {
-        i -= 1;
-        digits[i] = b'0' + (n % 10) as u8;
-        n /= 10;
-    }
-    out.extend_from_slice(&digits[i.min(40 - least)..]);
-}
-
-fn put_decimal(out: &mut Vec<u8>, v: i64, scale: i32) {
-    if v < 0 {
-        out.push(b'-');
-    }
-    if scale > 0 {
-        put_digits(out, v.unsigned_abs(), scale as usize + 1);
-        out.insert(out.len() - scale as usize, b'.');
-    } else {
-        put_digits(out, v.unsigned_abs(), 1);
-        if v != 0 {
-            out.resize(out.len() + (-scale) as usize, b'0');
-        }
+        _ => field_by_octets(octets, at, width),
     }
 }
 
-fn put_number(out: &mut Vec<u8>, element: &Element, raw: u64) {
-    if raw == (1 << element.width) - 1 && !element.always {
-        out.extend_from_slice(b"MISSING");
-    } else {
-        put_decimal(out, raw as i64 + element.reference, element.scale);
-    }
+/// The same for a wide field, and at the end of the file.
+#[cold]
+fn field_by_octets(octets: &[u8], at: usize, width: u32) -> u64 {
+    let behind = at + width as usize;
+    let octets = octets[at / 8..behind.div_ceil(8)].iter();
+    let window = octets.fold(0u128, |n, octet| n << 8 | u128::from(*octet));
+    (window >> ((8 - behind % 8) % 8)) as u64 & ((1 << width) - 1)
 }
 
-fn put_text(out: &mut Vec<u8>, octets: &[u8]) {
+/// Puts a text of so many octets, which begins at any bit.
+fn put_text(pen: &mut Pen, data: &[u8], at: usize, many: usize) {
+    let mut octets = [0; 256];
+    for (i, four) in octets[..many].chunks_mut(4).enumerate() {
+        let window = field(data, at + 32 * i, 8 * four.len() as u32) << (32 - 8 * four.len());
+        four.copy_from_slice(&(window as u32).to_be_bytes()[..four.len()]);
+    }
+    put_octets(pen, &octets[..many]);
+}
+
+fn put_octets(pen: &mut Pen, octets: &[u8]) {
     if octets.iter().all(|octet| *octet == 255) {
-        out.extend_from_slice(b"MISSING");
-        return;
+        return pen.put(b"MISSING");
     }
-    out.push(b'"');
-    for octet in octets {
-        match octet {
-            b'"' | b'\\' => out.extend_from_slice(&[b'\\', *octet]),
-            32..=126 => out.push(*octet),
-            _ => write!(out, "\\x{octet:02X}").expect("room"),
-        }
-    }
-    out.push(b'"');
-}
-
-fn put_plain(out: &mut Vec<u8>, element: &Element, data: &[u8], at: usize) {
-    out.extend_from_slice(&element.text);
-    if element.is_text {
-        let mut octets = [0; 255];
-        let many = (element.width / 8) as usize;
-        for (i, octet) in octets[..many].iter_mut().enumerate() {
-            *octet = field(data, at + 8 * i, 8) as u8;
-        }
-        put_text(out, &octets[..many]);
+    let is_plain = |octet: &u8| (32..=126).contains(octet) && *octet != b'"' && *octet != b'\\';
+    pen.put(b"\"");
+    if octets.iter().fold(true, |plain, octet| plain & is_plain(octet)) {
+        pen.put_all(octets);
     } else {
-        put_number(out, element, field(data, at, element.width));
+        octets.iter().for_each(|octet| put_octet(pen, *octet));
     }
-    out.extend_from_slice(&element.comment);
+    pen.put(b"\"");
 }
 
-fn put_header(out: &mut Vec<u8>, m: &[u8], s: &[u8], t: &[u8], list: &[u16]) {
-    let data = [usize::from(t[6] >> 7), usize::from(t[6] >> 6 & 1), 0, number(&t[4..6])];
-    writeln!(out, "message\nedition {}", m[7]).expect("room");
-    for (key, value) in KEYS[1..].iter().zip(head(m[7], s).into_iter().chain(data)) {
-        writeln!(out, "{key} {value}").expect("room");
-    }
-    for octets in s[least_first(m[7])..number(&s[..3])].chunks(32) {
-        out.extend_from_slice(b"local1 ");
-        for octet in octets {
-            write!(out, "{octet:02X}").expect("room");
+fn put_octet(pen: &mut Pen, octet: u8) {
+    match octet {
+        b'"' | b'\\' => pen.put(&[b'\\', octet]),
+        32..=126 => pen.put(&[octet]),
+        _ => {
+            pen.put(b"\\x");
+            put_hex(pen, octet);
         }
-        out.push(b'\n');
     }
+}
+
+fn put_hex(pen: &mut Pen, octet: u8) {
+    const DIGITS: &[u8; 16] = b"0123456789ABCDEF";
+    pen.put(&[DIGITS[usize::from(octet >> 4)], DIGITS[usize::from(octet & 15)]]);
+}
+
+#[inline(always)]
+fn put_number(pen: &mut Pen, element: &Element, raw: u64) {
+    if raw == element.missing {
+        pen.put_first(b"MISSING ", 7);
+    } else {
+        pen.put_scaled(raw as i64 + element.reference, element.scale);
+    }
+}
+
+/// Puts what begins and what ends an item's line around its value.
+#[inline(always)]
+fn put_item(pen: &mut Pen, element: &Element, put_value: impl FnOnce(&mut Pen)) {
+    pen.put_first(&element.front.to_le_bytes(), 7);
+    put_value(pen);
+    pen.put_blocks(&element.blocks, element.comment.len());
+}
+
+/// A list of descriptors, its lines, and the elements that it stands for.
+struct Plan<'t> {
+    descriptors: &'static [u8],
+    lines: Vec<u8>,
+    elements: Vec<&'t Element>,
+    bits: usize,
+}
+
+fn planned<'t>(descriptors: &'static [u8], tables: &'t Tables) -> Plan<'t> {
+    let list: Vec<u16> = descriptors.chunks_exact(2).map(|two| number(two) as u16).collect();
+    let elements = tables.laid(&list);
+    let mut lines = String::new();
     for eight in list.chunks(8) {
-        out.extend_from_slice(b"descriptors");
-        for d in eight {
-            write!(out, " {}{:02}{:03}", d >> 14, d >> 8 & 63, d & 255).expect("room");
+        lines += "descriptors";
+        eight.iter().for_each(|d| lines += &format!(" {}{:02}{:03}", d >> 14, d >> 8 & 63, d & 255));
+        lines += "\n";
+    }
+    let bits = elements.iter().map(|element| element.width as usize).sum();
+    Plan { descriptors, lines: lines.into_bytes(), elements, bits }
+}
+
+fn put_header(out: &mut Out, message: &Message, plan: &Plan) {
+    assert!(!message.optional, "no section 2");
+    let flags = [message.observed().into(), message.compressed().into(), 0, message.subsets() as u64];
+    out.line(|pen| {
+        pen.put(b"message\nedition ");
+        pen.put_number(message.edition.into());
+        for ((front, many), value) in FRONTS.iter().zip(message.head().into_iter().chain(flags)) {
+            pen.put_first(front, *many);
+            pen.put_number(value);
         }
-        out.push(b'\n');
+        pen.put(b"\n");
+    });
+    for octets in message.section(8)[least_first(message.edition)..].chunks(32) {
+        out.line(|pen| {
+            pen.put(b"local1 ");
+            octets.iter().for_each(|octet| put_hex(pen, *octet));
+            pen.put(b"\n");
+        });
+    }
+    out.put_all(&plan.lines);
+}
+
+fn put_subset(out: &mut Out, subset: usize) {
+    out.line(|pen| {
+        pen.put(b"subset ");
+        pen.put_number(subset as u64);
+        pen.put(b"\n");
+    });
+}
+
+fn put_plain(out: &mut Out, data: &[u8], elements: &[&Element], subsets: usize) {
+    let mut at = 0;
+    for subset in 1..=subsets {
+        put_subset(out, subset);
+        for element in elements {
+            if element.is_text {
+                let many = element.width as usize / 8;
+                out.line(|pen| put_item(pen, element, |pen| put_text(pen, data, at, many)));
+            } else {
+                let raw = field(data, at, element.width);
+                out.line(|pen| put_item(pen, element, |pen| put_number(pen, element, raw)));
+            }
+            at += element.width as usize;
+        }
+    }
+}
+
+/// An item of compressed data: what all subsets share, or where the first subset's increment stands.
+struct Column<'t> {
+    element: &'t Element,
+    shared: Vec<Block>,
+    many: usize,
+    base: u64,
+    at: usize,
+    step: u32,
+    missing: u64,
+}
+
+/// The item that stands at a bit, and the bit behind it.
+fn column<'t>(out: &mut Out, data: &[u8], at: usize, element: &'t Element, subsets: usize) -> (Column<'t>, usize) {
+    let behind = at + element.width as usize + 6;
+    let mut step = field(data, behind - 6, 6) as u32 * if element.is_text { 8 } else { 1 };
+    let next = behind + subsets * step as usize;
+    let base = if element.is_text { 0 } else { field(data, at, element.width) };
+    if base == element.missing {
+        step = 0;
+    }
+    let line = match (step, element.is_text) {
+        (0, true) => {
+            let many = element.width as usize / 8;
+            out.made(|pen| put_item(pen, element, |pen| put_text(pen, data, at, many)))
+        }
+        (0, false) => out.made(|pen| put_item(pen, element, |pen| put_number(pen, element, base))),
+        _ => &[],
+    };
+    let missing = if element.missing == u64::MAX { u64::MAX } else { (1 << step.min(63)) - 1 };
+    (Column { element, shared: blocks(line), many: line.len(), base, at: behind, step, missing }, next)
+}
+
+/// Puts one subset's text of an item, with spaces behind.
+fn put_short_text(pen: &mut Pen, data: &[u8], at: usize, many: usize, whole: usize) {
+    let mut octets = [b' '; 256];
+    for (i, octet) in octets[..many].iter_mut().enumerate() {
+        *octet = field(data, at + 8 * i, 8) as u8;
+    }
+    let is_missing = octets[..many].iter().all(|octet| *octet == 255);
+    put_octets(pen, if is_missing { &octets[..many] } else { &octets[..whole] });
+}
+
+/// Puts one subset's item that has increments.
+#[inline(always)]
+fn put_increased(out: &mut Out, data: &[u8], column: &Column, subset: usize) {
+    let (element, at) = (column.element, column.at + subset * column.step as usize);
+    if element.is_text {
+        let (many, whole) = (column.step as usize / 8, element.width as usize / 8);
+        out.line(|pen| put_item(pen, element, |pen| put_short_text(pen, data, at, many, whole)));
+    } else {
+        let more = field(data, at, column.step);
+        let raw = if more == column.missing { element.missing } else { column.base + more };
+        out.line(|pen| put_item(pen, element, |pen| put_number(pen, element, raw)));
+    }
+}
+
+fn put_compressed(out: &mut Out, data: &[u8], most: usize, elements: &[&Element], subsets: usize) {
+    let mut at = 0;
+    let mut columns = Vec::with_capacity(elements.len());
+    for element in elements {
+        assert!(at + element.width as usize + 6 <= most, "data that do not end");
+        let (column, next) = column(out, data, at, element, subsets);
+        columns.push(column);
+        at = next;
+    }
+    assert!(at <= most, "data that do not end");
+    for subset in 0..subsets {
+        put_subset(out, subset + 1);
+        for column in &columns {
+            match column.step {
+                0 => out.line(|pen| pen.put_blocks(&column.shared, column.many)),
+                _ => put_increased(out, data, column, subset),
+            }
+        }
     }
 }
 
 fn main() {
     let names: Vec<String> = std::env::args().skip(1).collect();
-    let table_b = elements(&names[0]);
-    let table_d = sequences(&names[1]);
-    let octets = mapped(&names[2]);
-    let mut file = std::io::BufWriter::with_capacity(1 << 16, std::io::stdout().lock());
-    let mut out = Vec::new();
-    let mut place = 0;
-    while place < octets.len() {
-        let m = &octets[place..place + number(&octets[place + 4..place + 7])];
-        place += m.len();
-        let s = &m[8..];
-        let t = &s[number(&s[..3])..];
-        let four = &t[number(&t[..3])..];
-        let data = &four[4..number(&four[..3])];
-        let list: Vec<u16> = t[7..number(&t[..3])].chunks_exact(2).map(|two| number(two) as u16).collect();
-        let flat = laid(&list, &table_b, &table_d);
-        let subsets = number(&t[4..6]);
-        out.clear();
-        put_header(&mut out, m, s, t, &list);
-        if t[6] & 64 == 0 {
-            let mut at = 0;
-            for subset in 1..=subsets {
-                writeln!(out, "subset {subset}").expect("room");
-                for element in &flat {
-                    assert!(at + element.width as usize <= 8 * data.len());
-                    put_plain(&mut out, element, data, at);
-                    at += element.width as usize;
-                }
-                file.write_all(&out).expect("written");
-                out.clear();
-            }
-        } else {
-            let mut places = Vec::new();
-            let mut at = 0;
-            for element in &flat {
-                let many = field(data, at + element.width as usize, 6) as usize;
-                places.push((at, many));
-                at += element.width as usize + 6 + subsets * many;
-            }
-            assert!(at <= 8 * data.len());
-            for subset in 0..subsets {
-                writeln!(out, "subset {}", subset + 1).expect("room");
-                for (element, (at, many)) in flat.iter().zip(&places) {
-                    out.extend_from_slice(&element.text);
-                    let base = field(data, *at, element.width);
-                    let more = if *many == 0 {
-                        0
-                    } else {
-                        field(data, at + element.width as usize + 6 + subset * many, *many as u32)
-                    };
-                    if *many > 0 && more == (1 << many) - 1 {
-                        out.extend_from_slice(b"MISSING");
-                    } else {
-                        put_number(&mut out, element, base + more);
-                    }
-                    out.extend_from_slice(&element.comment);
-                }
-                file.write_all(&out).expect("written");
-                out.clear();
-            }
+    let tables = Tables::read(&names[0], &names[1]);
+    let mut messages = Messages::of(mapped(&names[2]));
+    let mut out = Out::to(1);
+    let mut plan = planned(&[], &tables);
+    while let Some(message) = messages.next() {
+        if message.descriptors() != plan.descriptors {
+            plan = planned(message.descriptors(), &tables);
         }
-        out.extend_from_slice(b"end\n");
-        file.write_all(&out).expect("written");
+        let data = &message.octets[message.four + 4..];
+        let (most, subsets) = (8 * (message.section(message.four).len() - 4), message.subsets());
+        put_header(&mut out, &message, &plan);
+        if message.compressed() {
+            put_compressed(&mut out, data, most, &plan.elements, subsets);
+        } else {
+            assert!(subsets * plan.bits <= most, "data that do not end");
+            put_plain(&mut out, data, &plan.elements, subsets);
+        }
+        out.put_all(b"end\n");
     }
 }

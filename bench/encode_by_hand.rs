@@ -1,33 +1,153 @@
-//! An encoder written by hand in plain Rust, to measure `bufr encode` against: it maps the text, reads
-//! the tables into maps and writes the same octets for documents whose templates have elements, fixed
-//! replications and sequences, plain or compressed (numbers alone where compressed), of edition 3 or 4. No
-//! operators, no section 2, no proof, and of bad input it panics: only a yardstick.
-use std::collections::HashMap;
-use std::io::Write as _;
-
+//! An encoder written by hand in plain Rust, to measure `bufr encode` against: it maps the text, goes
+//! over it once and writes the same octets for documents as `bufr dump` writes them, whose templates
+//! have elements, fixed replications and sequences, plain or compressed, of edition 3 or 4. A template
+//! is kept while the descriptors are the same, and no document is kept. No operators, no section 2, no
+//! comments between the lines, numbers in 64 bits, no proof, and of bad input it panics: only a
+//! yardstick.
 mod by_hand;
-use by_hand::{elements, laid, least_first, mapped, sequences, word, Element, Sequences, KEYS};
+use by_hand::{digits, least_first, mapped, word, Element, Out, Tables, FRONTS};
 
-extern "C" {
-    fn memchr(at: *const u8, octet: i32, length: usize) -> *const u8;
+/// What stands in a column for a value that is missing.
+const MISSING: u64 = u64::MAX;
+
+/// A text, and how far it was read.
+struct Text {
+    octets: &'static [u8],
+    at: usize,
 }
 
-/// The lines of a text, from the first on.
-struct Lines {
-    rest: &'static [u8],
-}
-
-impl Lines {
-    fn next(&mut self) -> Option<&'static [u8]> {
-        if self.rest.is_empty() {
-            return None;
-        }
-        let found = unsafe { memchr(self.rest.as_ptr(), i32::from(b'\n'), self.rest.len()) };
-        assert!(!found.is_null(), "a line feed");
-        let (line, rest) = self.rest.split_at(found as usize - self.rest.as_ptr() as usize);
-        self.rest = &rest[1..];
-        Some(line)
+impl Text {
+    fn rest(&self) -> &'static [u8] {
+        &self.octets[self.at..]
     }
+
+    fn skip(&mut self, what: &[u8]) -> bool {
+        let there = self.rest().starts_with(what);
+        self.at += if there { what.len() } else { 0 };
+        there
+    }
+
+    fn expect(&mut self, what: &[u8]) {
+        assert!(self.skip(what), "{:?} at {}", String::from_utf8_lossy(what), self.at);
+    }
+
+    /// What is left of the line; the line feed is passed over.
+    fn line(&mut self) -> &'static [u8] {
+        let rest = self.rest();
+        let end = rest.iter().position(|octet| *octet == b'\n').expect("a line feed");
+        self.at += end + 1;
+        &rest[..end]
+    }
+
+    fn number(&mut self) -> u64 {
+        let rest = self.rest();
+        let end = rest.iter().position(|octet| !octet.is_ascii_digit()).unwrap_or(rest.len());
+        assert!(0 < end && end < 19, "a number");
+        self.at += end;
+        digits(&rest[..end])
+    }
+
+    /// The descriptor of an item, and the space behind it.
+    #[inline(always)]
+    fn item(&mut self, element: &Element) {
+        let eight = self.rest().first_chunk().expect("an item");
+        let front = u64::from_le_bytes(*eight);
+        assert!((front ^ element.front) << 8 == 0, "the descriptor that comes next, at {}", self.at);
+        self.at += 7;
+    }
+
+    /// The comment of an item and the line feed.
+    #[inline(always)]
+    fn comment(&mut self, element: &Element) {
+        if !self.skip(&element.comment) {
+            let rest = self.line();
+            assert!(rest.trim_ascii_start().first().is_none_or(|octet| *octet == b'#'), "a comment");
+        }
+    }
+
+    /// The raw number of an item's decimal, in one pass.
+    #[inline(always)]
+    fn raw(&mut self, element: &Element) -> u64 {
+        let rest = self.rest();
+        if rest[0] == b'M' {
+            self.expect(b"MISSING");
+            assert!(element.missing != u64::MAX, "no missing value");
+            return MISSING;
+        }
+        let is_negative = rest[0] == b'-';
+        let (mut n, mut place, mut point) = (0i64, usize::from(is_negative), usize::MAX);
+        loop {
+            let octet = rest[place];
+            if octet.is_ascii_digit() {
+                n = 10 * n + i64::from(octet - b'0');
+            } else if octet == b'.' && point == usize::MAX {
+                point = place + 1;
+            } else {
+                break;
+            }
+            place += 1;
+        }
+        assert!(0 < place && place < 19, "a number of 64 bits");
+        self.at += place;
+        let behind = if point == usize::MAX { 0 } else { (place - point) as i32 };
+        let n = if behind == element.scale { n } else { scaled(n, behind, element.scale) };
+        let raw = (if is_negative { -n } else { n } - element.reference) as u64;
+        assert!(raw >> element.width == 0 && raw != element.missing, "in the element's width");
+        raw
+    }
+
+    /// Goes past an item's text.
+    fn pass_quoted(&mut self) {
+        if self.skip(b"MISSING") {
+            return;
+        }
+        self.expect(b"\"");
+        while self.octets[self.at] != b'"' {
+            self.at += if self.octets[self.at] == b'\\' { 2 } else { 1 };
+        }
+        self.at += 1;
+    }
+
+    /// The octets of an item's text, with spaces up to so many, or all ones where it is missing.
+    fn quoted(&mut self, many: usize, octets: &mut Vec<u8>) {
+        let whole = octets.len() + many;
+        if self.skip(b"MISSING") {
+            return octets.resize(whole, 255);
+        }
+        self.expect(b"\"");
+        loop {
+            let rest = self.rest();
+            let plain = rest.iter().position(|octet| matches!(octet, b'"' | b'\\')).expect("a quote");
+            octets.extend_from_slice(&rest[..plain]);
+            self.at += plain + 1;
+            match (rest[plain], rest[plain + 1]) {
+                (b'"', _) => break,
+                (_, b'x') => {
+                    octets.extend(hex(&rest[plain + 2..plain + 4]));
+                    self.at += 3;
+                }
+                (_, other) => {
+                    octets.push(other);
+                    self.at += 1;
+                }
+            }
+        }
+        assert!(octets.len() <= whole, "room for the text");
+        octets.resize(whole, b' ');
+    }
+}
+
+/// A number with so many digits behind the point, at another scale.
+#[cold]
+fn scaled(mut n: i64, behind: i32, scale: i32) -> i64 {
+    for _ in behind..scale {
+        n = n.checked_mul(10).expect("64 bits");
+    }
+    for _ in scale..behind {
+        assert!(n % 10 == 0, "of the element's scale");
+        n /= 10;
+    }
+    n
 }
 
 /// Bits that are put together, the first ones first.
@@ -39,138 +159,135 @@ struct Bits {
 }
 
 impl Bits {
-    /// Of at most 32 bits.
+    /// Of 1 to 63 bits.
+    #[inline(always)]
     fn put(&mut self, number: u64, width: u32) {
-        self.window = self.window << width | number;
-        self.count += width;
-        if self.count >= 32 {
-            self.count -= 32;
-            let four = (self.window >> self.count) as u32;
-            self.octets.extend_from_slice(&four.to_be_bytes());
+        let free = 64 - self.count;
+        if width < free {
+            self.window |= number << (free - width);
+            self.count += width;
+        } else {
+            self.count = width - free;
+            self.octets.extend_from_slice(&(self.window | number >> self.count).to_be_bytes());
+            self.window = if self.count == 0 { 0 } else { number << (64 - self.count) };
         }
+    }
+
+    fn put_octets(&mut self, octets: &[u8]) {
+        let (fours, rest) = octets.as_chunks::<4>();
+        fours.iter().for_each(|four| self.put(u32::from_be_bytes(*four).into(), 32));
+        rest.iter().for_each(|octet| self.put((*octet).into(), 8));
     }
 
     fn end(&mut self) {
-        while self.count > 0 {
-            let octet = if self.count >= 8 { self.window >> (self.count - 8) } else { self.window << (8 - self.count) };
-            self.octets.push(octet as u8);
-            self.count = self.count.saturating_sub(8);
-        }
-        self.window = 0;
+        let rest = self.window.to_be_bytes();
+        self.octets.extend_from_slice(&rest[..self.count.div_ceil(8) as usize]);
+        (self.window, self.count) = (0, 0);
     }
 }
 
-fn digits(text: &[u8]) -> u64 {
-    text.iter().fold(0, |n, digit| {
-        assert!(digit.is_ascii_digit(), "a digit");
-        10 * n + u64::from(digit - b'0')
-    })
-}
-
-/// The value behind the key of a line of the header.
-fn keyed(line: &[u8], key: &str) -> usize {
-    let value = line.strip_prefix(key.as_bytes()).and_then(|rest| rest.strip_prefix(b" "));
-    digits(value.expect("the key of a header line")) as usize
-}
-
-/// The raw number of a decimal, or all ones.
-fn raw(text: &[u8], element: &Element) -> Option<u64> {
-    if text == b"MISSING" {
-        return None;
+/// A compressed item of numbers: the least value, the bits of an increment, the increments.
+fn put_numbers(bits: &mut Bits, values: &[u64], element: &Element) {
+    let (mut least, mut most, mut lacks) = (u64::MAX, 0, false);
+    for value in values {
+        let is_missing = *value == MISSING;
+        lacks |= is_missing;
+        least = least.min(*value);
+        most = most.max(if is_missing { 0 } else { *value });
     }
-    let (sign, text) = match text.strip_prefix(b"-") {
-        Some(rest) => (-1, rest),
-        None => (1, text),
-    };
-    let (mut n, mut behind, mut pointed) = (0i64, 0, false);
-    for octet in text {
-        match octet {
-            b'.' => pointed = true,
-            b'0'..=b'9' => {
-                n = 10 * n + i64::from(octet - b'0');
-                behind += i32::from(pointed);
-            }
-            _ => panic!("a decimal"),
-        }
+    if least == MISSING {
+        bits.put((1 << element.width) - 1, element.width);
+        return bits.put(0, 6);
     }
-    while behind < element.scale {
-        n *= 10;
-        behind += 1;
+    bits.put(least, element.width);
+    if least == most && !lacks {
+        return bits.put(0, 6);
     }
-    while behind > element.scale {
-        assert!(n % 10 == 0, "of the element's scale");
-        n /= 10;
-        behind -= 1;
-    }
-    let raw = u64::try_from(sign * n - element.reference).expect("not below the reference");
-    let most = (1 << element.width) - 1;
-    assert!(raw < most || element.always && raw == most, "in the element's width");
-    Some(raw)
-}
-
-/// The octets of a quoted text, filled up with spaces.
-fn put_text(bits: &mut Bits, text: &[u8], element: &Element) {
-    let mut many = element.width / 8;
-    if text == b"MISSING" {
-        (0..many).for_each(|_| bits.put(255, 8));
-        return;
-    }
-    let mut inside = text[1..text.len() - 1].iter();
-    while let Some(octet) = inside.next() {
-        let octet = match octet {
-            b'\\' => match inside.next().expect("an escape") {
-                b'x' => {
-                    let two = [*inside.next().expect("a digit"), *inside.next().expect("a digit")];
-                    u8::from_str_radix(std::str::from_utf8(&two).expect("digits"), 16).expect("digits")
-                }
-                other => *other,
-            },
-            other => *other,
-        };
-        bits.put(octet.into(), 8);
-        many = many.checked_sub(1).expect("room for the text");
-    }
-    (0..many).for_each(|_| bits.put(32, 8));
-}
-
-/// The value that a line gives an element: what stands between its descriptor and its comment.
-fn value<'a>(line: &'a [u8], element: &Element) -> &'a [u8] {
-    let rest = line.strip_prefix(&element.text[..]).expect("the descriptor that comes next");
-    if !element.is_text {
-        let end = rest.iter().position(|octet| *octet == b' ').unwrap_or(rest.len());
-        return &rest[..end];
-    }
-    if rest.starts_with(b"MISSING") {
-        return &rest[..7];
-    }
-    let mut end = 1;
-    while rest[end] != b'"' {
-        end += if rest[end] == b'\\' { 2 } else { 1 };
-    }
-    &rest[..end + 1]
-}
-
-/// A compressed item: the least value, the bits of an increment, the increments.
-fn put_packed(bits: &mut Bits, values: &[Option<u64>], element: &Element) {
-    let all = (1u64 << element.width) - 1;
-    let least = values.iter().flatten().min().copied();
-    let Some(base) = least else {
-        bits.put(all, element.width);
-        bits.put(0, 6);
-        return;
-    };
-    let most = values.iter().flatten().max().copied().expect("as there is a least");
-    let lacks = values.iter().any(Option::is_none);
-    bits.put(base, element.width);
-    if most == base && !lacks {
-        bits.put(0, 6);
-        return;
-    }
-    let width = u64::BITS - (most - base + u64::from(!element.always)).leading_zeros();
-    let width = width.max(1);
+    let all_ones = u64::from(element.missing != u64::MAX);
+    let width = (u64::BITS - (most - least + all_ones).leading_zeros()).max(1);
     bits.put(width.into(), 6);
-    for it in values {
-        bits.put(it.map_or((1 << width) - 1, |it| it - base), width);
+    for value in values {
+        bits.put((value - least).min((1 << width) - 1), width);
+    }
+}
+
+/// How many octets tell a text: those before its last spaces, and one more where they read as missing.
+fn needed(text: &[u8]) -> usize {
+    let told = text.iter().rposition(|octet| *octet != b' ').map_or(0, |last| last + 1);
+    told + usize::from(text[..told].iter().all(|octet| *octet == 255))
+}
+
+/// A compressed item of texts, which stand at these places.
+fn put_texts(bits: &mut Bits, text: &mut Text, places: &[u64], element: &Element) {
+    let (behind, whole) = (text.at, element.width as usize / 8);
+    let mut texts = Vec::with_capacity(whole * places.len());
+    for place in places {
+        text.at = *place as usize;
+        text.quoted(whole, &mut texts);
+    }
+    text.at = behind;
+    let texts = || texts.chunks_exact(whole);
+    let first = texts().next().unwrap_or(&[]);
+    if texts().all(|text| text == first) {
+        bits.put_octets(first);
+        return bits.put(0, 6);
+    }
+    let many = texts().map(|text| if text.iter().all(|octet| *octet == 255) { 1 } else { needed(text) });
+    let many = many.max().expect("texts");
+    assert!(many <= 63, "texts that can be compressed");
+    (0..whole).for_each(|_| bits.put(0, 8));
+    bits.put(many as u64, 6);
+    texts().for_each(|text| bits.put_octets(&text[..many]));
+}
+
+/// Puts the items of subsets that are not compressed.
+fn put_plain(bits: &mut Bits, text: &mut Text, elements: &[&Element], subsets: usize) {
+    let mut octets = Vec::new();
+    for subset in 1..=subsets {
+        begin_subset(text, subset);
+        for element in elements {
+            text.item(element);
+            if element.is_text {
+                octets.clear();
+                text.quoted(element.width as usize / 8, &mut octets);
+                bits.put_octets(&octets);
+            } else {
+                let raw = text.raw(element);
+                bits.put(if raw == MISSING { element.missing } else { raw }, element.width);
+            }
+            text.comment(element);
+        }
+    }
+}
+
+fn begin_subset(text: &mut Text, subset: usize) {
+    text.expect(b"subset ");
+    assert_eq!(text.number(), subset as u64);
+    text.expect(b"\n");
+}
+
+/// Puts the items of compressed subsets: of each item the values stand together, or where they are.
+fn put_compressed(bits: &mut Bits, text: &mut Text, elements: &[&Element], subsets: usize, columns: &mut Vec<u64>) {
+    columns.resize(elements.len() * subsets, 0);
+    for subset in 0..subsets {
+        begin_subset(text, subset + 1);
+        for (at, element) in elements.iter().enumerate() {
+            text.item(element);
+            columns[at * subsets + subset] = if element.is_text {
+                let place = text.at as u64;
+                text.pass_quoted();
+                place
+            } else {
+                text.raw(element)
+            };
+            text.comment(element);
+        }
+    }
+    for (values, element) in columns.chunks_exact(subsets.max(1)).zip(elements) {
+        match element.is_text {
+            true => put_texts(bits, text, values, element),
+            false => put_numbers(bits, values, element),
+        }
     }
 }
 
@@ -185,109 +302,109 @@ fn even(edition: u8, many: usize) -> usize {
 }
 
 /// Section 1 behind its length and before its local use.
-fn put_head(out: &mut Vec<u8>, values: &[usize; 20]) {
+fn put_head(out: &mut Vec<u8>, edition: u8, values: &[u64; 19]) {
     let one = |at: usize| u8::try_from(values[at]).expect("an octet");
     let two = |at: usize| u16::try_from(values[at]).expect("two octets").to_be_bytes();
-    if values[0] == 3 {
-        assert!(values[7] == 0 && values[15] == 0, "no local sub-category and no second");
-        out.extend([one(1), one(3), one(2), one(4), 0, one(5), one(6), one(8), one(9)]);
-        out.extend([10, 11, 12, 13, 14].map(one));
+    if edition == 3 {
+        assert!(values[6] == 0 && values[14] == 0, "no local sub-category and no second");
+        out.extend([one(0), one(2), one(1), one(3), 0, one(4), one(5), one(7), one(8)]);
+        out.extend([9, 10, 11, 12, 13].map(one));
     } else {
-        out.push(one(1));
-        out.extend([2, 3].map(two).as_flattened());
-        out.extend([one(4), 0]);
-        out.extend([5, 6, 7, 8, 9].map(one));
-        out.extend(two(10));
-        out.extend([11, 12, 13, 14, 15].map(one));
+        out.push(one(0));
+        out.extend([1, 2].map(two).as_flattened());
+        out.extend([one(3), 0]);
+        out.extend([4, 5, 6, 7, 8].map(one));
+        out.extend(two(9));
+        out.extend([10, 11, 12, 13, 14].map(one));
     }
 }
 
 /// All that stands before the data, with the lengths that come of their octets.
-fn head(values: &[usize; 20], local: &[u8], list: &[u16], data: usize) -> Vec<u8> {
-    let edition = values[0] as u8;
+fn put_front(out: &mut Vec<u8>, edition: u8, values: &[u64; 19], local: &[u8], list: &[u16], data: usize) {
     assert!(edition == 3 || edition == 4, "edition 3 or 4");
     let first = least_first(edition) + local.len();
     let (third, fourth) = (even(edition, 7 + 2 * list.len()), even(edition, 4 + data));
-    let mut out = b"BUFR".to_vec();
+    out.extend(b"BUFR");
     out.extend(three(8 + first + third + fourth + 4));
     out.push(edition);
     out.extend(three(first));
-    put_head(&mut out, values);
+    put_head(out, edition, values);
     out.extend(local);
     let behind = out.len() + third;
     out.extend(three(third));
     out.push(0);
-    out.extend((values[19] as u16).to_be_bytes());
-    out.push((values[16] << 7 | values[17] << 6) as u8);
+    out.extend((values[18] as u16).to_be_bytes());
+    out.push((values[15] << 7 | values[16] << 6) as u8);
     out.extend(list.iter().flat_map(|d| d.to_be_bytes()));
     out.resize(behind, 0);
     out.extend(three(fourth));
     out.push(0);
-    out
 }
 
 /// The octets that a line of hexadecimal digits has.
-fn octets(digits: &[u8]) -> impl Iterator<Item = u8> + '_ {
+fn hex(digits: &[u8]) -> impl Iterator<Item = u8> + '_ {
     digits.chunks(2).map(|two| u8::from_str_radix(std::str::from_utf8(two).expect("digits"), 16).expect("digits"))
 }
 
-/// The data of a document's subsets, up to its line `end`.
-fn data(lines: &mut Lines, line: &'static [u8], flat: &[&Element], subsets: usize, compressed: bool) -> Bits {
-    let mut bits = Bits::default();
-    let mut columns = vec![vec![None; subsets]; if compressed { flat.len() } else { 0 }];
-    let mut line = line;
-    for subset in 0..subsets {
-        assert_eq!(keyed(line, "subset"), subset + 1);
-        for (at, element) in flat.iter().enumerate() {
-            let value = value(lines.next().expect("a line"), element);
-            if compressed {
-                columns[at][subset] = raw(value, element);
-            } else if element.is_text {
-                put_text(&mut bits, value, element);
-            } else {
-                bits.put(raw(value, element).unwrap_or((1 << element.width) - 1), element.width);
-            }
-        }
-        line = lines.next().expect("a line");
-    }
-    assert_eq!(line, b"end");
-    for (values, element) in columns.iter().zip(flat) {
-        put_packed(&mut bits, values, element);
-    }
-    bits.end();
-    bits
+/// The descriptors that lines of them say, and the elements that they stand for.
+struct Plan<'t> {
+    lines: &'static [u8],
+    list: Vec<u16>,
+    elements: Vec<&'t Element>,
 }
 
-fn encode(text: &'static [u8], table_b: &HashMap<u16, Element>, table_d: &Sequences) {
-    let mut out = std::io::BufWriter::with_capacity(1 << 16, std::io::stdout().lock());
-    let mut lines = Lines { rest: text };
-    while let Some(line) = lines.next() {
-        assert_eq!(line, b"message");
-        let mut values = [0; 20];
-        for (value, key) in values.iter_mut().zip(KEYS) {
-            *value = keyed(lines.next().expect("a line"), key);
+/// Reads the lines of descriptors; where they are those of the plan it stays.
+fn read_plan<'t>(text: &mut Text, tables: &'t Tables, plan: &mut Plan<'t>) {
+    if text.rest().starts_with(plan.lines) && !text.octets[text.at + plan.lines.len()..].starts_with(b"descriptors ") {
+        text.at += plan.lines.len();
+        return;
+    }
+    let from = text.at;
+    plan.list.clear();
+    while text.skip(b"descriptors ") {
+        plan.list.extend(text.line().split(|octet| *octet == b' ').map(word));
+    }
+    plan.lines = &text.octets[from..text.at];
+    plan.elements = tables.laid(&plan.list);
+}
+
+fn encode(octets: &'static [u8], tables: &Tables) {
+    let mut out = Out::to(1);
+    let mut text = Text { octets, at: 0 };
+    let mut plan = Plan { lines: b"none", list: Vec::new(), elements: Vec::new() };
+    let (mut local, mut front, mut bits, mut columns) = (Vec::new(), Vec::new(), Bits::default(), Vec::new());
+    while text.at < octets.len() {
+        text.expect(b"message\nedition ");
+        let edition = text.number() as u8;
+        let mut values = [0; 19];
+        for (value, (front, many)) in values.iter_mut().zip(&FRONTS) {
+            text.expect(&front[..*many]);
+            *value = text.number();
         }
-        let (mut local, mut list) = (Vec::new(), Vec::new());
-        let mut line = lines.next().expect("a line");
-        while let Some(digits) = line.strip_prefix(b"local1 ") {
-            local.extend(octets(digits));
-            line = lines.next().expect("a line");
+        text.expect(b"\n");
+        local.clear();
+        while text.skip(b"local1 ") {
+            local.extend(hex(text.line()));
         }
-        while let Some(rest) = line.strip_prefix(b"descriptors ") {
-            list.extend(rest.split(|octet| *octet == b' ').map(|d| word(std::str::from_utf8(d).expect("digits"))));
-            line = lines.next().expect("a line");
+        read_plan(&mut text, tables, &mut plan);
+        bits.octets.clear();
+        match values[16] {
+            0 => put_plain(&mut bits, &mut text, &plan.elements, values[18] as usize),
+            _ => put_compressed(&mut bits, &mut text, &plan.elements, values[18] as usize, &mut columns),
         }
-        let flat = laid(&list, table_b, table_d);
-        let bits = data(&mut lines, line, &flat, values[19], values[17] == 1);
+        text.expect(b"end\n");
+        bits.end();
         let many = bits.octets.len();
-        out.write_all(&head(&values, &local, &list, many)).expect("written");
-        out.write_all(&bits.octets).expect("written");
-        out.write_all(&[0][..even(values[0] as u8, many) - many]).expect("written");
-        out.write_all(b"7777").expect("written");
+        bits.octets.resize(even(edition, many), 0);
+        front.clear();
+        put_front(&mut front, edition, &values, &local, &plan.list, many);
+        out.put_all(&front);
+        out.put_all(&bits.octets);
+        out.put_all(b"7777");
     }
 }
 
 fn main() {
     let names: Vec<String> = std::env::args().skip(1).collect();
-    encode(mapped(&names[2]), &elements(&names[0]), &sequences(&names[1]));
+    encode(mapped(&names[2]), &Tables::read(&names[0], &names[1]));
 }

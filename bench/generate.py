@@ -81,6 +81,47 @@ def packed(subsets: int, times: int) -> bytes:
     return message(bits.octets(), words(f"105{times:03} {FIVE}"), subsets, 0xC0)
 
 
+def pack_numbers(bits: Bits, values: list, width: int) -> None:
+    """A compressed item of numbers, `None` where they are missing."""
+    there = [value for value in values if value is not None]
+    base = min(there, default=(1 << width) - 1)
+    k = 0 if not there or set(values) == {base} else (max(there) - base + 1).bit_length()
+    bits.put(base, width)
+    bits.put(k, 6)
+    for value in values if k else []:
+        bits.put((1 << k) - 1 if value is None else value - base, k)
+
+
+def pack_texts(bits: Bits, texts: list, octets: int) -> None:
+    """A compressed item of texts that differ."""
+    k = max(len(text) for text in texts)
+    bits.put(0, 8 * octets)
+    bits.put(k, 6)
+    for text in texts:
+        bits.put(int.from_bytes(text.ljust(k), "big"), 8 * k)
+
+
+def packed_reports(subsets: int) -> bytes:
+    """Short reports, compressed: half of the items are the same in all, some are texts, some are missing."""
+    bits, stations = Bits(), range(subsets)
+    pack_numbers(bits, [n // 100 for n in stations], 7)
+    pack_numbers(bits, [n * 5 for n in stations], 10)
+    pack_texts(bits, [b"STATION \\%d\\" % (n * n) for n in stations], 20)
+    bits.put(int.from_bytes(b"EDDB    ", "big"), 64)
+    bits.put(0, 6)
+    bits.put((1 << 72) - 1, 72)
+    bits.put(0, 6)
+    for number, width in [(2024, 12), (1, 4), (2, 6), (6, 5), (0, 6)]:
+        pack_numbers(bits, [number] * subsets, width)
+    pack_numbers(bits, [142500 + 2000 * n for n in stations], 25)
+    pack_numbers(bits, [193100 + 3000 * n for n in stations], 26)
+    for item, width in enumerate(WIDTHS):
+        values = [value(n, item, width) for n in stations]
+        pack_numbers(bits, [None if v == (1 << width) - 1 else v for v in values], width)
+    descriptors = "001001 001002 001015 001063 001011 004001 004002 004003 004004 004005 005001 006001 " + FIVE
+    return message(bits.octets(), words(descriptors), subsets, 0xC0)
+
+
 def report(edition: int) -> bytes:
     """A short report: a station's numbers and name, a place, a time, four measurements."""
     bits = Bits()
@@ -125,16 +166,17 @@ def streams():
         "bulletins": lambda: repeated(b"\x01\r\r\n123\r\r\nISMD01 EDZW 221200\r\r\n" + ten_thousand + b"\r\r\n\x03", 25_600),
         # the word every eight octets, each with a stated length of 1 MB, so that nothing is decided at once
         "hostile": lambda: repeated(b"BUFR\x10\x00\x00\x04", 6_000_000),
-        # for `dump`: short reports in each edition, and 1,000 subsets of 500 elements, plain and compressed
+        # for `dump`: short reports in each edition, and compressed 200 together; 1,000 subsets of 500 elements, plain
+        # and compressed
         "dump_reports": lambda: repeated(report(4), 100_000),
         "dump_reports_3": lambda: repeated(report(3), 100_000),
+        "dump_packed_reports": lambda: repeated(packed_reports(200), 1_000),
         "dump_plain": lambda: repeated(plain(1000, 100), 10),
         "dump_packed": lambda: repeated(packed(1000, 100), 10),
     }
 
 
-def main() -> None:
-    folder = pathlib.Path(sys.argv[1])
+def write_streams(folder: pathlib.Path) -> None:
     folder.mkdir(parents=True, exist_ok=True)
     for name, pieces in streams().items():
         path = folder / f"{name}.bufr"
@@ -146,4 +188,4 @@ def main() -> None:
 
 
 if __name__ == "__main__":
-    main()
+    write_streams(pathlib.Path(sys.argv[1]))

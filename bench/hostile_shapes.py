@@ -1,10 +1,11 @@
 #!/usr/bin/env python3
-"""Times `bufr dump` on messages that ask for much: each shape once, twice and four times as large.
+"""Times `bufr dump` on streams that ask for much: each shape once, twice and four times as large.
 
     bench/hostile_shapes.py [PROGRAM]        the program that `rt run` left in crates/bufr_cli/out by default
 
-A shape whose seconds grow faster than its octets is told with a `!`. The tables and messages lie in bench/out/shapes; the
-tables hold 12,000 elements of their own. Outside the gate: it wants Linux, python3 and GNU time.
+It prints a table in Markdown; measure.py prints it too. A shape whose seconds grow faster than its octets is told with a
+`!`. The tables and streams lie in bench/out/shapes; the tables hold 12,000 elements and 15 sequences of their own.
+Outside the gate: it wants Linux, python3 and GNU time.
 """
 import os
 import pathlib
@@ -31,11 +32,12 @@ def delayed(members: int) -> list:
 
 
 def tables() -> tuple:
-    """A Table B of numbers of 1 bit and the factors, and a Table D without a sequence."""
+    """A Table B of numbers of 1 bit and the factors, and a Table D whose sequences are twice the next one each."""
     rows = [f"{f >> 14}{f >> 8 & 63:02}{f & 255:03},ELEMENT,K,0,0,1" for f in ELEMENTS]
     rows += ["031000,SHORT FACTOR,NUMERIC,0,0,1", "031001,FACTOR,NUMERIC,0,0,8", "031002,LONG FACTOR,NUMERIC,0,0,16"]
     (FOLDER / "B.csv").write_text("fxy,name,unit,scale,reference,width\n" + "\n".join(rows) + "\n")
-    (FOLDER / "D.csv").write_text("fxy,member\n")
+    members = [f"3600{n:02},{f'3600{n + 1:02}' if n < 15 else '001001'}" for n in range(1, 16) for _ in range(2)]
+    (FOLDER / "D.csv").write_text("fxy,member\n" + "\n".join(members) + "\n")
     return "-B", str(FOLDER / "B.csv"), "-D", str(FOLDER / "D.csv")
 
 
@@ -44,7 +46,7 @@ def listed(descriptors: list, data: bytes, subsets: int = 1, flags: int = 0x80) 
 
 
 def references(times: int) -> bytes:
-    """References of 2 bits for many elements, and then many items of them."""
+    """2,000 references that the data define, then 45,000 items of three of them"""
     elements = ELEMENTS[: 2_000 * times]
     group = [elements[0], elements[len(elements) // 2], elements[-1]]
     bits = Bits()
@@ -57,7 +59,7 @@ def references(times: int) -> bytes:
 
 
 def redefinitions(times: int) -> bytes:
-    """Many references, and one after another of them defined anew."""
+    """2,000 references, then 36,000 of them defined anew"""
     elements = ELEMENTS[: 2_000 * times]
     body = [operator(3, 2), *elements[:60], operator(3, 255)]
     bits = Bits()
@@ -70,7 +72,7 @@ def redefinitions(times: int) -> bytes:
 
 
 def subsets(times: int) -> bytes:
-    """Many subsets, each with one reference."""
+    """16,000 subsets with a reference each"""
     bits = Bits()
     for _ in range(16_000 * times):
         bits.put(1, 2)
@@ -78,7 +80,7 @@ def subsets(times: int) -> bytes:
 
 
 def dropped(times: int) -> bytes:
-    """References that are defined and dropped, pass after pass."""
+    """50,000 references that are defined and dropped again, 50 at a time"""
     body = [operator(3, 2), *ELEMENTS[:50], operator(3, 255), operator(3, 0)]
     bits = Bits()
     bits.put(1_000 * times, 16)
@@ -88,7 +90,7 @@ def dropped(times: int) -> bytes:
 
 
 def items(times: int) -> bytes:
-    """Items of 1 bit."""
+    """300,000 items of 1 bit"""
     bits = Bits()
     bits.put(15_000 * times, 16)
     for _ in range(15_000 * times * 20):
@@ -97,7 +99,7 @@ def items(times: int) -> bytes:
 
 
 def template(times: int) -> bytes:
-    """A long template, with operators between its elements."""
+    """9,000 descriptors, each third an element"""
     descriptors = [d for e in ELEMENTS[: 3_000 * times] for d in (operator(1, 130), e, operator(1, 0))]
     bits = Bits()
     for _ in range(3_000 * times):
@@ -105,8 +107,13 @@ def template(times: int) -> bytes:
     return listed(descriptors, bits.octets())
 
 
+def expanded(times: int) -> bytes:
+    """100 messages of 47 octets, each with one descriptor that stands for 32,768, and no subsets"""
+    return listed([3 << 14 | 60 << 8 | 1], b"", 0) * (100 * times)
+
+
 def together(times: int) -> bytes:
-    """Items of 1 bit, compressed, for one subset."""
+    """300,000 items of 7 bits, compressed, one subset"""
     bits = Bits()
     bits.put(15_000 * times, 16)
     bits.put(0, 6)
@@ -115,36 +122,47 @@ def together(times: int) -> bytes:
     return listed([*delayed(20), *ELEMENTS[:20]], bits.octets(), 1, 0xC0)
 
 
+SHAPES = (references, redefinitions, subsets, dropped, items, template, expanded, together)
+
+
 def told(words: list) -> tuple:
-    """The least processor seconds of some runs, the KiB that one had resident at most, and the octets that it wrote."""
+    """The least processor seconds of some runs, and the KiB that one had resident at most."""
     seconds = []
     for _ in range(RUNS):
-        with open(FOLDER / "told", "wb") as output:
-            child = subprocess.Popen(words, stdout=output)
-            _, status, usage = os.wait4(child.pid, 0)
+        child = subprocess.Popen(words, stdout=subprocess.DEVNULL)
+        _, status, usage = os.wait4(child.pid, 0)
         assert status == 0, words
         seconds.append(usage.ru_utime + usage.ru_stime)
     resident = FOLDER / "resident"
     subprocess.run(["/usr/bin/env", "time", "-q", "-f", "%M", "-o", str(resident), *words], stdout=subprocess.DEVNULL)
-    return min(seconds), int(resident.read_text()), (FOLDER / "told").stat().st_size
+    return min(seconds), int(resident.read_text())
 
 
-def main() -> None:
-    program = sys.argv[1] if len(sys.argv) > 1 else str(TOP / "crates/bufr_cli/out/bufr_cli")
+def row(program: str, words: tuple, shape) -> str:
+    """A row of the table: a shape, and what it takes once, twice and four times as large."""
+    octets, seconds, resident = [], [], []
+    for times in (1, 2, 4):
+        path = FOLDER / f"{shape.__name__}_{times}.bufr"
+        if not path.exists():
+            path.write_bytes(shape(times))
+        least, kib = told([program, "dump", *words, str(path)])
+        octets.append(path.stat().st_size)
+        seconds.append(least)
+        resident.append(kib)
+    grows = any(seconds[i] / seconds[0] > 1.5 * octets[i] / octets[0] for i in (1, 2))
+    cells = " | ".join(f"{least:.3f}" for least in seconds)
+    return f"| {shape.__doc__} | {octets[0]:,} | {cells}{' !' * grows} | {resident[0]:,} | {resident[2]:,} |"
+
+
+def table(program: str) -> None:
+    """Prints the table."""
     FOLDER.mkdir(parents=True, exist_ok=True)
     words = tables()
-    for shape in (references, redefinitions, subsets, dropped, items, template, together):
-        first = None
-        for times in (1, 2, 4):
-            path = FOLDER / f"{shape.__name__}_{times}.bufr"
-            if not path.exists():
-                path.write_bytes(shape(times))
-            seconds, resident, written = told([program, "dump", *words, str(path)])
-            octets = path.stat().st_size
-            first = first or (seconds, octets)
-            fast = seconds / first[0] > 1.5 * octets / first[1]
-            print(f"{shape.__name__:14} {times} {octets:9} octets {written:10} written {seconds:7.3f} s {resident:8} KiB{' !' * fast}", flush=True)
+    print("| stream, once | octets | once | twice | four times | KiB, once | KiB, four times |")
+    print("|---|---|---|---|---|---|---|")
+    for shape in SHAPES:
+        print(row(program, words, shape), flush=True)
 
 
 if __name__ == "__main__":
-    main()
+    table(sys.argv[1] if len(sys.argv) > 1 else str(TOP / "crates/bufr_cli/out/bufr_cli"))

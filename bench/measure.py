@@ -1,12 +1,14 @@
 #!/usr/bin/env python3
 """Times `bufr ls`, `bufr dump` and `bufr encode` on generated streams, beside a lister, a dumper and an encoder written
-by hand and two plain readers, and beside the tools of ecCodes where they are installed.
+by hand, and beside the tools of ecCodes where they are installed; then `bufr dump` on hostile shapes.
 
-    bench/measure.py [FOLDER]        FOLDER holds the streams, bench/out by default
+    bench/measure.py [PROGRAM [FOLDER]]
 
-The program is the one that `rt run` left in crates/bufr_cli/out. Each command runs five times; the
-least processor seconds (its own and the system's for it) count, and the least seconds by the clock;
-the memory is what one run had resident at most. Outside the gate: it wants Linux, python3, rustc, GNU time and 1.7 GB of disk.
+PROGRAM is what `rt run` left in crates/bufr_cli/out by default, FOLDER holds the streams, bench/out by default. It prints
+tables in Markdown, as docs/MEASUREMENTS.md has them. The program and the one by hand run in turn, seven rounds; of each
+the least processor seconds count, its own and the system's for it, its output thrown away. Before that the two have to
+write the same octets. The memory is what one run had resident at most. Outside the gate: it wants Linux, python3, rustc,
+GNU time and 2 GB of disk.
 
 ecCodes reads the first tenth of the streams that take it long, and ten times its seconds are told, with a `*`.
 """
@@ -17,161 +19,181 @@ import subprocess
 import sys
 import time
 
+sys.dont_write_bytecode = True  # nothing is written beside bench/out
+
+import generate
+import hostile_shapes
+
 TOP = pathlib.Path(__file__).resolve().parent.parent
-PROGRAM = TOP / "crates/bufr_cli/out/bufr_cli"
-RUNS = 5
+TABLES = [str(TOP / "tables/wmo-39/B.csv"), str(TOP / "tables/wmo-39/D.csv")]
+ROUNDS = 7
+# by hand less is not told from starting up
+SHORT = 0.01
+AIMS = {"ls": 1.0, "dump": 1.5, "encode": 2.0}
+
+STREAMS = {
+    "small": "500,000 messages of 48 octets",
+    "small_3": "the same in edition 3, of 46 octets",
+    "middle": "messages of 10 KB",
+    "bulletins": "bulletins, a message of 10 KB in each",
+    "large": "messages of 1 MB",
+    "noise": "no message",
+    "hostile": "six million words, each stating 1 MB",
+    "dump_reports": "100,000 short reports of 15 elements",
+    "dump_reports_3": "the same in edition 3",
+    "dump_packed_reports": "1,000 messages of 200 short reports, compressed",
+    "dump_plain": "10 messages of 1,000 subsets by 500 elements",
+    "dump_packed": "the same, compressed",
+}
+LISTED = [name for name in STREAMS if not name.startswith("dump_")]
+DUMPED = [name for name in STREAMS if name.startswith("dump_")]
+# the columns of the table of ratios, and the streams that `ls`, `dump` and `encode` have there
+RATIOS = {
+    "many small messages": ("small", "dump_reports", "dump_reports"),
+    "long, plain": (None, "dump_plain", "dump_plain"),
+    "long, compressed": (None, "dump_packed", "dump_packed"),
+    "compressed reports": (None, "dump_packed_reports", "dump_packed_reports"),
+    "six million stray words": ("hostile", "hostile", None),
+    "noise": ("noise", "noise", None),
+}
 # the streams of which ecCodes reads a tenth, and the one at which it is not timed: a tenth takes it minutes
 SHORTENED = ("small", "small_3", "dump_reports", "dump_reports_3", "dump_plain")
 LEFT_OUT = ("hostile",)
 
 
-def run(words, stdin=None):
-    """The processor seconds and the seconds by the clock of one run, its output thrown away."""
-    with open(os.devnull, "wb") as nowhere:
-        begin = time.monotonic()
-        child = subprocess.Popen(words, stdin=stdin, stdout=nowhere, stderr=nowhere)
-        _, _, usage = os.wait4(child.pid, 0)
-        return usage.ru_utime + usage.ru_stime, time.monotonic() - begin
+def seconds(words: list) -> float:
+    """The processor seconds of one run, its output thrown away."""
+    child = subprocess.Popen(words, stdout=subprocess.DEVNULL, stderr=subprocess.DEVNULL)
+    _, _, usage = os.wait4(child.pid, 0)
+    return usage.ru_utime + usage.ru_stime
 
 
-def resident(words, told):
+def least(*commands: list) -> list:
+    """The least processor seconds of each command; they run in turn."""
+    rounds = [[seconds(words) for words in commands] for _ in range(ROUNDS)]
+    return [min(column) for column in zip(*rounds)]
+
+
+def resident(words: list, told: pathlib.Path) -> int:
     """The most KiB that a run had resident, as GNU time writes them to a file; it is small itself."""
     with open(os.devnull, "wb") as nowhere:
         subprocess.run(["/usr/bin/env", "time", "-q", "-f", "%M", "-o", str(told), *words], stdout=nowhere, stderr=nowhere)
     return int(told.read_text())
 
 
-def best(words, piped=None):
-    runs = []
-    for _ in range(RUNS):
-        if piped is None:
-            runs.append(run(words))
-        else:
-            source = subprocess.Popen(["cat", str(piped)], stdout=subprocess.PIPE)
-            runs.append(run(words, source.stdout))
-            source.wait()
-    return min(r[0] for r in runs), min(r[1] for r in runs)
+def written(words: list, by_hand: list) -> int:
+    """The octets that a command writes; those of the one by hand have to be the same."""
+    ours, theirs = (subprocess.run(command, capture_output=True) for command in (words, by_hand))
+    if (ours.stdout, ours.stderr) != (theirs.stdout, theirs.stderr):
+        sys.exit(f"{' '.join(words)}: the one by hand writes other octets")
+    return len(ours.stdout) + len(ours.stderr)
 
 
-def eccodes(words, path, folder):
-    """The processor seconds of a tool of ecCodes as text, its most KiB, and the size of what it wrote, by the tenth where
-    the stream is shortened."""
-    if shutil.which(words[0]) is None or path.stem in LEFT_OUT:
-        return "-", "-", "-"
-    times = 10 if path.stem in SHORTENED else 1
-    part = folder / "tenth.part"
-    if times > 1:
-        part.write_bytes(path.read_bytes()[: path.stat().st_size // times])
-        path = part
-    seconds, _ = best([*words, str(path)])
-    kib = resident([*words, str(path)], folder / "resident.txt")
-    text = len(subprocess.run([*words, str(path)], stdout=subprocess.PIPE).stdout) * times / 1e6
-    part.unlink(missing_ok=True)
-    return f"{seconds * times:.2f}" + "*" * (times > 1), str(kib), f"{text:.0f}"
+class Measuring:
+    """What is measured: the program, the ones by hand, and the folder of the streams."""
 
+    def __init__(self, program: str, folder: pathlib.Path) -> None:
+        self.folder, self.ratios = folder, {}
+        names = {"ls": "baseline", "dump": "dump_by_hand", "encode": "encode_by_hand"}
+        tables = ["-B", TABLES[0], "-D", TABLES[1]]
+        self.ours = {command: [program, command, *(tables if command != "ls" else [])] for command in names}
+        self.by_hand = {c: [self.built(name), *(TABLES if c != "ls" else [])] for c, name in names.items()}
 
-def built(folder, name):
-    """A yardstick, compiled."""
-    program = folder / name
-    subprocess.run(["rustc", "--edition", "2021", "-O", "-o", str(program), str(TOP / "bench" / f"{name}.rs")], check=True)
-    return str(program)
+    def built(self, name: str) -> str:
+        """A program by hand, compiled for the processors that `rt` compiles for."""
+        program, source = self.folder / name, TOP / "bench" / f"{name}.rs"
+        options = ["--edition", "2021", "-O", "-C", "target-cpu=x86-64-v2", "-C", "codegen-units=1"]
+        subprocess.run(["rustc", *options, "-o", str(program), str(source)], check=True)
+        return str(program)
 
+    def row(self, command: str, stream: str, path: pathlib.Path, others=()) -> None:
+        """Prints a row of a command's table."""
+        ours, by_hand = [*self.ours[command], str(path)], [*self.by_hand[command], str(path)]
+        text = written(ours, by_hand)
+        times = least(ours, by_hand, *([*other, str(path)] for other in others))
+        kib = resident(ours, self.folder / "resident.txt")
+        ratio = "" if times[1] < SHORT else f"{times[0] / times[1]:.1f}"
+        self.ratios[command, stream] = ratio or "–"
+        size = path.stat().st_size
+        speed = max(size, text) / times[0] / 1e6
+        cells = [STREAMS[stream], f"{size / 1e6:.0f}", f"{text / 1e6:.0f}", f"{times[0]:.3f}", f"{speed:,.0f}"]
+        cells += [f"{times[1]:.3f}", ratio, *(f"{other:.3f}" for other in times[2:]), f"{kib:,}"]
+        print("| " + " | ".join(cells) + " |", flush=True)
 
-def dumps(folder):
-    """Times the dumps, and compares their texts with those by hand."""
-    hand_dumper = built(folder, "dump_by_hand")
-    tables = [str(TOP / "tables/wmo-39/B.csv"), str(TOP / "tables/wmo-39/D.csv")]
-    program = [str(PROGRAM), "dump", "-B", tables[0], "-D", tables[1]]
-    start, clock = best(program + ["/dev/null"])
-    print(f"start-up with the largest tables: {1000 * start:.1f} ms, {1000 * clock:.1f} by the clock")
-    print(
-        f"{'stream':<14}{'MB':>5}{'text MB':>9}{'bufr dump':>11}{'clock':>8}{'MB/s':>7}{'by hand':>9}{'ratio':>7}{'KiB':>7}"
-        f"{'bufr_dump -p':>14}{'text MB':>9}{'KiB':>9}  same"
-    )
-    for path in sorted(folder.glob("dump_*.bufr")):
-        name = str(path)
-        by_hand = subprocess.run([hand_dumper, *tables, name], stdout=subprocess.PIPE, check=True).stdout
-        same = subprocess.run(program + [name], stdout=subprocess.PIPE).stdout == by_hand
-        ours, clock = best(program + [name])
-        hand, _ = best([hand_dumper, *tables, name])
-        kib = resident(program + [name], folder / "resident.txt")
-        theirs, their_kib, their_text = eccodes(["bufr_dump", "-p"], path, folder)
-        text = len(by_hand) / 1e6
-        print(
-            f"{path.stem:<14}{path.stat().st_size / 1e6:>5.0f}{text:>9.0f}{ours:>11.3f}{clock:>8.3f}{text / ours:>7.0f}{hand:>9.3f}"
-            f"{ours / hand:>7.2f}{kib:>7}{theirs:>14}{their_text:>9}{their_kib:>9}  {'yes' if same else 'NO'}",
-            flush=True,
-        )
+    def head(self, command: str, others=()) -> None:
+        columns = ["stream", "MB read", "MB written", f"`bufr {command}`", "MB a second", "by hand", "ratio", *others, "KiB"]
+        print("\n| " + " | ".join(columns) + " |\n" + "|---" * len(columns) + "|")
 
+    def listings(self) -> None:
+        self.head("ls", ("`cat`",))
+        for stream in LISTED:
+            self.row("ls", stream, self.folder / f"{stream}.bufr", (["cat"],))
 
-def encodes(folder):
-    """Times the encoding of the dumps, and compares what is built with the stream, and with what the one by hand builds."""
-    hand_encoder = built(folder, "encode_by_hand")
-    tables = [str(TOP / "tables/wmo-39/B.csv"), str(TOP / "tables/wmo-39/D.csv")]
-    program = [str(PROGRAM), "encode", "-B", tables[0], "-D", tables[1]]
-    print(f"{'text of':<14}{'MB':>5}{'text MB':>9}{'bufr encode':>13}{'clock':>8}{'MB/s':>7}{'by hand':>9}{'ratio':>7}{'KiB':>7}  same")
-    for path in sorted(folder.glob("dump_*.bufr")):
-        text = path.with_suffix(".txt")
-        if not text.exists():
+    def dumps(self) -> None:
+        self.head("dump")
+        for stream in [*DUMPED, "hostile", "noise"]:
+            self.row("dump", stream, self.folder / f"{stream}.bufr")
+
+    def encodes(self) -> None:
+        """Encodes the dumps; what is built has to be the stream again."""
+        self.head("encode")
+        for stream in DUMPED:
+            path, text = self.folder / f"{stream}.bufr", self.folder / f"{stream}.txt"
             with text.open("wb") as out:
-                subprocess.run([str(PROGRAM), "dump", "-B", tables[0], "-D", tables[1], str(path)], stdout=out, check=True)
-        name, octets = str(text), path.read_bytes()
-        same = all(
-            subprocess.run([*words, name], stdout=subprocess.PIPE).stdout == octets for words in (program, [hand_encoder, *tables])
-        )
-        ours, clock = best([*program, name])
-        hand, _ = best([hand_encoder, *tables, name])
-        kib = resident([*program, name], folder / "resident.txt")
-        size = text.stat().st_size / 1e6
-        print(
-            f"{path.stem:<14}{len(octets) / 1e6:>5.0f}{size:>9.0f}{ours:>13.3f}{clock:>8.3f}{size / ours:>7.0f}{hand:>9.3f}"
-            f"{ours / hand:>7.2f}{kib:>7}  {'yes' if same else 'NO'}",
-            flush=True,
-        )
+                subprocess.run([*self.ours["dump"], str(path)], stdout=out, check=True)
+            if subprocess.run([*self.ours["encode"], str(text)], capture_output=True).stdout != path.read_bytes():
+                sys.exit(f"{stream}: its text is encoded to other octets")
+            self.row("encode", stream, text)
 
+    def summary(self) -> None:
+        """Prints the ratios."""
+        print("\n| to the one by hand | " + " | ".join(RATIOS) + " |\n" + "|---" * (1 + len(RATIOS)) + "|")
+        for place, (command, aim) in enumerate(AIMS.items()):
+            cells = [self.ratios.get((command, streams[place]), "–") for streams in RATIOS.values()]
+            print(f"| `{command}`, aim {aim} | " + " | ".join(cells) + " |")
 
-def listings(folder):
-    """Times the listings."""
-    baseline = built(folder, "baseline")
-    print("processor seconds; `clock` are those of the clock; ratio: bufr ls to the one by hand")
-    print(
-        f"{'stream':<11}{'MB':>5}{'bufr ls':>9}{'clock':>8}{'piped':>8}{'by hand':>9}{'cat':>7}{'wc -c':>7}{'ratio':>7}{'KiB':>7}"
-        f"{'bufr_ls':>9}{'KiB':>7}{'bufr_count':>12}"
-    )
-    for path in sorted(folder.glob("*.bufr")):
-        if path.stem.startswith("dump_"):
-            continue
-        name = str(path)
-        ours, clock = best([str(PROGRAM), "ls", name])
-        piped, _ = best([str(PROGRAM), "ls"], path)
-        hand, _ = best([baseline, name])
-        cat, _ = best(["cat", name])
-        count, _ = best(["wc", "-c"], path)
-        kib = resident([str(PROGRAM), "ls", name], folder / "resident.txt")
-        listed, listed_kib, _ = eccodes(["bufr_ls"], path, folder)
-        counted, _, _ = eccodes(["bufr_count"], path, folder)
-        size = path.stat().st_size / 1e6
-        ratio = f"{ours / hand:.2f}" if hand >= 0.02 else "-"
-        print(
-            f"{path.stem:<11}{size:>5.0f}{ours:>9.3f}{clock:>8.3f}{piped:>8.3f}{hand:>9.3f}{cat:>7.3f}{count:>7.3f}"
-            f"{ratio:>7}{kib:>7}{listed:>9}{listed_kib:>7}{counted:>12}",
-            flush=True,
-        )
+    def eccodes(self) -> None:
+        """Prints what the tools of ecCodes take."""
+        print("\n| stream | tool | seconds | MB written | KiB |\n|---|---|---|---|---|")
+        for stream in STREAMS:
+            if stream in LEFT_OUT:
+                continue
+            for words in [["bufr_dump", "-p"]] if stream in DUMPED else [["bufr_ls"], ["bufr_count"]]:
+                print(f"| {STREAMS[stream]} | `{' '.join(words)}` | {self.eccodes_cells(words, stream)} |", flush=True)
+
+    def eccodes_cells(self, words: list, stream: str) -> str:
+        """A tool's processor seconds, the size of what it wrote, and its most KiB; by the tenth where it is shortened."""
+        path, times = self.folder / f"{stream}.bufr", 10 if stream in SHORTENED else 1
+        part = self.folder / "tenth.part"
+        part.write_bytes(path.read_bytes()[: path.stat().st_size // times])
+        command = [*words, str(part)]
+        taken, kib = least(command)[0] * times, resident(command, self.folder / "resident.txt")
+        text = len(subprocess.run(command, stdout=subprocess.PIPE).stdout) * times / 1e6
+        part.unlink()
+        mark = "*" * (times > 1)
+        return f"{taken:.2f}{mark} | {text:.0f}{mark} | {kib:,}"
 
 
 def main() -> None:
-    folder = pathlib.Path(sys.argv[1]) if len(sys.argv) > 1 else TOP / "bench/out"
-    if not PROGRAM.exists():
-        sys.exit(f"{PROGRAM} is not there: build it first (README.md, On a fresh machine)")
+    program = sys.argv[1] if len(sys.argv) > 1 else str(TOP / "crates/bufr_cli/out/bufr_cli")
+    folder = pathlib.Path(sys.argv[2]) if len(sys.argv) > 2 else TOP / "bench/out"
+    if not pathlib.Path(program).exists():
+        sys.exit(f"{program} is not there: build it first (README.md, On a fresh machine)")
     for tool in ["rustc", "time"]:
         if shutil.which(tool) is None:
             sys.exit(f"{tool} is not there")
-    subprocess.run([sys.executable, str(TOP / "bench/generate.py"), str(folder)], check=True)
-    if shutil.which("bufr_dump") is None:
-        print("ecCodes is not installed: its columns are left empty")
-    listings(folder)
-    dumps(folder)
-    encodes(folder)
+    generate.write_streams(folder)
+    measuring = Measuring(program, folder)
+    start = least([*measuring.ours["dump"], os.devnull], [*measuring.by_hand["dump"], os.devnull])
+    print(f"On {time.strftime('%d %B %Y')}. Start-up of a dump: {1000 * start[0]:.1f} ms, by hand {1000 * start[1]:.1f}.")
+    measuring.listings()
+    measuring.dumps()
+    measuring.encodes()
+    measuring.summary()
+    print()
+    hostile_shapes.table(program)
+    if shutil.which("bufr_dump") is not None:
+        measuring.eccodes()
 
 
 if __name__ == "__main__":
