@@ -19,7 +19,7 @@ from generate import Bits, message
 TOP = pathlib.Path(__file__).resolve().parent.parent
 FOLDER = TOP / "bench/out/shapes"
 ELEMENTS = [x << 8 | y for x in range(1, 64) if x != 31 for y in range(1, 256)][:12_000]
-RUNS = 3
+RUNS = 7
 
 
 def operator(x: int, y: int) -> int:

@@ -5,7 +5,7 @@ by hand, and beside the tools of ecCodes where they are installed; then `bufr du
     bench/measure.py [PROGRAM [FOLDER]]
 
 PROGRAM is what `rt run` left in crates/bufr_cli/out by default, FOLDER holds the streams, bench/out by default. It prints
-tables in Markdown, as docs/MEASUREMENTS.md has them. The program and the one by hand run in turn, seven rounds; of each
+tables in Markdown, as docs/MEASUREMENTS.md has them. The program and the one by hand run in turn, fifteen rounds; of each
 the least processor seconds count, its own and the system's for it, its output thrown away. Before that the two have to
 write the same octets. The memory is what one run had resident at most. Outside the gate: it wants Linux, python3, rustc,
 GNU time and 2 GB of disk.
@@ -26,7 +26,7 @@ import hostile_shapes
 
 TOP = pathlib.Path(__file__).resolve().parent.parent
 TABLES = [str(TOP / "tables/wmo-39/B.csv"), str(TOP / "tables/wmo-39/D.csv")]
-ROUNDS = 7
+ROUNDS = 15
 # by hand less is not told from starting up
 SHORT = 0.01
 AIMS = {"ls": 1.0, "dump": 1.5, "encode": 2.0}
