@@ -7,9 +7,11 @@ use crate::test_messages::{
 };
 use crate::test_runs::{
     Command, assert_run, assert_stops_around_a_stray, assert_stops_at_failed_errors,
-    assert_stops_at_failed_reads, assert_stops_at_failed_writes, stray_before,
+    assert_stops_at_failed_reads, assert_stops_at_failed_writes, assert_stops_at_interrupted_reads,
+    stray_before,
 };
-use crate::tests::ONE_BLOCK_NUMBER;
+use crate::tests::{LOCAL_USE, ONE_BLOCK_NUMBER};
+use std::process::Abort;
 use std::test::Fail;
 
 /// A message that is refused, and its fault line behind `offset 0: `.
@@ -317,6 +319,49 @@ fn stops_at_a_failed_read(rt: HostRuntime) -> Result<(), Fail> {
     let input = joined(rt.alloc(), &[&message, &message])?;
     assert_stops_at_failed_reads(&rt, Command::Dump, &input, 0..48, b"", b"")?;
     assert_stops_at_failed_reads(&rt, Command::Dump, &input, 48..96, text.as_bytes(), b"")
+}
+
+/// An interrupted read is a failed one, and the texts of the messages that were read whole stand.
+#[test]
+fn stops_at_an_interrupted_read(rt: HostRuntime) -> Result<(), Fail> {
+    let text = text_of_one(rt.alloc())?;
+    let message = one_block_number(rt.alloc())?;
+    let input = joined(rt.alloc(), &[&message, &message])?;
+    let both = joined(rt.alloc(), &[text.as_bytes(), text.as_bytes()])?;
+    assert_stops_at_interrupted_reads(&rt, Command::Dump, &input, text.as_bytes(), &both)
+}
+
+/// Cut behind each octet but the last a message is told as cut, and nothing is told of fewer than
+/// the four octets of its word.
+fn assert_told_as_cut(
+    rt: &(impl Abort + AllocGlobal),
+    name: &str,
+    whole: &[u8],
+) -> Result<(), Fail> {
+    for length in 0..whole.len() {
+        let front = whole.get(..length).unwrap_or(b"");
+        let (line, refused): (&[u8], u64) = if length < 4 {
+            (b"", 0)
+        } else {
+            (b"offset 0: 1 cut\n", 1)
+        };
+        let tally = Tally {
+            accepted: 0,
+            refused,
+        };
+        assert_run(rt, Command::Dump, name, front, b"", line, tally)?;
+    }
+    Ok(())
+}
+
+/// A delayed group, compressed data, and a message with octets for local use and a section 2.
+#[test]
+fn tells_a_cut_anywhere(rt: HostRuntime) -> Result<(), Fail> {
+    let delayed = message_in(rt.alloc(), 1, 0x80, "101000 031001 001001", "02142C")?;
+    assert_told_as_cut(&rt, "delayed", &delayed)?;
+    let compressed = message_in(rt.alloc(), 2, 0xC0, "012101", "708F05")?;
+    assert_told_as_cut(&rt, "compressed", &compressed)?;
+    assert_told_as_cut(&rt, "local use", &LOCAL_USE)
 }
 
 /// A stray word that states 64 octets, the message behind it, and eight octets behind that.

@@ -2,17 +2,17 @@
 
 use crate::document_line::write_document_fault;
 use crate::test_messages::{
-    ONE_ACCEPTED, ONE_REFUSED, message_of, octets_of, one_block_number, text_of, text_of_one,
-    words_of,
+    ONE_ACCEPTED, ONE_REFUSED, joined, message_of, octets_of, one_block_number, text_of,
+    text_of_one, words_of,
 };
-use crate::test_runs::{Command, assert_run, run_over, run_whole};
-use bufr_bits::{Device, End, ScriptIn, ScriptOut};
+use crate::test_runs::{
+    Command, assert_run, assert_stops_at_interrupted_reads, run_over, run_whole,
+};
+use bufr_bits::{End, ScriptIn, ScriptOut};
 use bufr_frame::RunFault;
 use bufr_tables::Fxy;
 use bufr_text::{DocumentFault, WalkRefusal};
 use std::alloc::Global;
-use std::cell::Cell;
-use std::io::{self, ErrorKind, Read};
 use std::test::Fail;
 
 /// A document of these descriptors, and the data of its message or the line of its fault.
@@ -571,60 +571,14 @@ fn refuses_a_long_message(rt: HostRuntime) -> Result<(), Fail> {
     Ok(())
 }
 
-/// A reader that is interrupted once, behind its front, and notes a read that is made then.
-#[derive(Drop)]
-struct Interrupted<'a> {
-    front: &'a [u8],
-    rest: &'a [u8],
-    interrupted: &'a Cell<bool>,
-    tried_again: &'a Cell<bool>,
-}
-
-impl<'a> Read for Interrupted<'a> {
-    fn read(&mut self, buf: &mut [u8]) -> io::Result<usize> {
-        if !self.front.is_empty() {
-            return self.front.read(buf);
-        }
-        if self.interrupted.get() {
-            self.tried_again.set(true);
-            return self.rest.read(buf);
-        }
-        self.interrupted.set(true);
-        Err(ErrorKind::Interrupted.into())
-    }
-}
-
-/// An interrupted read is a failed one: it is not made again, and what was encoded before stands.
+/// An interrupted read is a failed one, and the messages of the documents that were read whole stand.
 #[test]
 fn stops_at_an_interrupted_read(rt: HostRuntime) -> Result<(), Fail> {
     let one = text_of_one(rt.alloc())?;
-    let words = words_of(rt.alloc(), "001001")?;
-    let message = message_of(rt.alloc(), 1, 0x80, &words, b"\x14")?;
-    let mut text = Vec::new(rt.alloc());
-    text.extend_from_slice(one.as_bytes())?;
-    text.extend_from_slice(one.as_bytes())?;
-    for place in [0, 1, one.len().saturating_sub(1), one.len(), text.len()] {
-        let (interrupted, tried_again) = (Cell::new(false), Cell::new(false));
-        let mut r = Device::new(Interrupted {
-            front: text.get(..place).ok_or("a front")?,
-            rest: text.get(place..).ok_or("a rest")?,
-            interrupted: &interrupted,
-            tried_again: &tried_again,
-        });
-        let w = ScriptOut::new(rt.alloc(), 4096, 7, End::Fail)?;
-        let e = ScriptOut::new(rt.alloc(), 0, 7, End::Fail)?;
-        let ran = run_over(&rt, Command::Encode, &mut r, w, e);
-        assert!(rt; interrupted.get() && !tried_again.get(), "{place}");
-        let mut encoded = Vec::new(rt.alloc());
-        if place >= one.len() {
-            encoded.extend_from_slice(&message)?;
-        }
-        if place == text.len() {
-            encoded.extend_from_slice(&message)?;
-        }
-        ran.assert_left(&rt, "place", place, Err(RunFault::Read), &encoded, b"");
-    }
-    Ok(())
+    let message = one_block_number(rt.alloc())?;
+    let text = joined(rt.alloc(), &[one.as_bytes(), one.as_bytes()])?;
+    let both = joined(rt.alloc(), &[&message, &message])?;
+    assert_stops_at_interrupted_reads(&rt, Command::Encode, &text, &message, &both)
 }
 
 /// Where the output cannot be flushed, all of both writers stands.

@@ -7,11 +7,13 @@ use crate::run_encode::{run_encode, run_encode_form};
 use crate::run_ls::run_ls;
 use crate::tally::Tally;
 use crate::test_messages::{TABLE_B, TABLE_D};
-use bufr_bits::{End, ScriptIn, ScriptOut, Sink, Source};
+use bufr_bits::{Device, End, ScriptIn, ScriptOut, Sink, Source};
 use bufr_frame::RunFault;
 use bufr_tables::{TableB, TableD};
 use bufr_text::Form;
 use std::alloc::Global;
+use std::cell::Cell;
+use std::io::{self, ErrorKind, Read};
 use std::ops::Range;
 use std::process::Abort;
 use std::test::Fail;
@@ -387,6 +389,76 @@ pub(crate) fn assert_stops_at_failed_reads(
     for place in places {
         assert_stops_at_the_read(rt, &tables, &wanted, 1, place)?;
         assert_stops_at_the_read(rt, &tables, &wanted, 7, place)?;
+    }
+    Ok(())
+}
+
+/// A reader that is interrupted once, behind its front, and notes a read that is made then.
+#[derive(Drop)]
+struct Interrupted<'a> {
+    front: &'a [u8],
+    rest: &'a [u8],
+    interrupted: &'a Cell<bool>,
+    tried_again: &'a Cell<bool>,
+}
+
+impl<'a> Read for Interrupted<'a> {
+    fn read(&mut self, buf: &mut [u8]) -> io::Result<usize> {
+        if !self.front.is_empty() {
+            return self.front.read(buf);
+        }
+        if self.interrupted.get() {
+            self.tried_again.set(true);
+            return self.rest.read(buf);
+        }
+        self.interrupted.set(true);
+        Err(ErrorKind::Interrupted.into())
+    }
+}
+
+/// A read that is interrupted at this place is not made again: the run stops with this output, as
+/// at a failed one, and flushes nothing.
+fn assert_stops_where_interrupted(
+    rt: &(impl Abort + AllocGlobal),
+    command: Command,
+    input: &[u8],
+    place: usize,
+    output: &[u8],
+) -> Result<(), Fail> {
+    let (interrupted, tried_again) = (Cell::new(false), Cell::new(false));
+    let mut r = Device::new(Interrupted {
+        front: input.get(..place).ok_or("a front")?,
+        rest: input.get(place..).ok_or("a rest")?,
+        interrupted: &interrupted,
+        tried_again: &tried_again,
+    });
+    let w = writer(rt, 4096, 7, End::Flush)?;
+    let e = writer(rt, 0, 7, End::Flush)?;
+    let ran = run_over(rt, command, &mut r, w, e);
+    assert!(rt; interrupted.get() && !tried_again.get(), "{place}");
+    ran.assert_left(rt, "place", place, Err(RunFault::Read), output, b"");
+    Ok(())
+}
+
+/// The input is two messages, or two documents, of as many octets. Wherever a read is interrupted,
+/// what stands for those that were read whole was written: `first` for the first, `both` for both.
+pub(crate) fn assert_stops_at_interrupted_reads(
+    rt: &(impl Abort + AllocGlobal),
+    command: Command,
+    input: &[u8],
+    first: &[u8],
+    both: &[u8],
+) -> Result<(), Fail> {
+    let half = input.len() / 2;
+    for place in [0, 1, half.saturating_sub(1), half, input.len()] {
+        let output = if place == input.len() {
+            both
+        } else if place >= half {
+            first
+        } else {
+            b""
+        };
+        assert_stops_where_interrupted(rt, command, input, place, output)?;
     }
     Ok(())
 }

@@ -2,10 +2,11 @@
 
 use crate::read_all::read_all;
 use crate::tally::Tally;
-use crate::test_messages::{ONE_ACCEPTED, ONE_REFUSED};
+use crate::test_messages::{ONE_ACCEPTED, ONE_REFUSED, joined};
 use crate::test_runs::{
     Command, assert_run, assert_stops_around_a_stray, assert_stops_at_failed_errors,
-    assert_stops_at_failed_reads, assert_stops_at_failed_writes, list, stray_before,
+    assert_stops_at_failed_reads, assert_stops_at_failed_writes, assert_stops_at_interrupted_reads,
+    list, stray_before,
 };
 use bufr_bits::{Device, End, ScriptIn, ScriptOut};
 use bufr_frame::RunFault;
@@ -295,6 +296,20 @@ fn stops_at_a_failed_read(rt: HostRuntime) -> Result<(), Fail> {
     input.extend_from_slice(&ONE_BLOCK_NUMBER)?;
     assert_stops_at_failed_reads(&rt, Command::Ls, &input, 0..48, b"", b"")?;
     assert_stops_at_failed_reads(&rt, Command::Ls, &input, 48..96, line.as_bytes(), b"")
+}
+
+/// An interrupted read is a failed one, and the lines of the messages that were read whole stand.
+#[test]
+fn stops_at_an_interrupted_read(rt: HostRuntime) -> Result<(), Fail> {
+    let mut lines = String::from_str(rt.alloc(), "offset=0")?;
+    lines.push_str(LINE)?;
+    let first = lines.len();
+    lines.push_str("offset=48")?;
+    lines.push_str(LINE)?;
+    let input = joined(rt.alloc(), &[&ONE_BLOCK_NUMBER, &ONE_BLOCK_NUMBER])?;
+    let both = lines.as_bytes();
+    let first = both.get(..first).ok_or("a line")?;
+    assert_stops_at_interrupted_reads(&rt, Command::Ls, &input, first, both)
 }
 
 /// A stray word that states 64 octets, the message behind it, and eight octets behind that, 64 in all:
