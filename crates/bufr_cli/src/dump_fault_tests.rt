@@ -2,15 +2,14 @@
 
 use crate::tally::Tally;
 use crate::test_messages::{
-    ONE_ACCEPTED, ONE_REFUSED, joined, message_in, message_of, one_block_number, text_of_one,
-    words_of,
+    COMPRESSED, LOCAL_USE, ONE_ACCEPTED, ONE_REFUSED, STRAY, delayed_twice, joined, message_in,
+    message_of, of_edition_2, one_block_number, text_of_one, words_of,
 };
 use crate::test_runs::{
     Command, assert_run, assert_stops_around_a_stray, assert_stops_at_failed_errors,
     assert_stops_at_failed_reads, assert_stops_at_failed_writes, assert_stops_at_interrupted_reads,
     stray_before,
 };
-use crate::tests::{LOCAL_USE, ONE_BLOCK_NUMBER};
 use std::process::Abort;
 use std::test::Fail;
 
@@ -237,11 +236,9 @@ fn refuses_too_many_values(rt: HostRuntime) -> Result<(), Fail> {
 #[test]
 fn goes_on_behind_refused(rt: HostRuntime) -> Result<(), Fail> {
     let good = one_block_number(rt.alloc())?;
-    let mut other = ONE_BLOCK_NUMBER;
-    other[7] = 2;
+    let other = of_edition_2();
     let halved = message_of(rt.alloc(), 2, 0x80, &[0x0101], &[0x14])?;
-    let stray: &[u8] = b"BUFR\x00\x00\x40\x04";
-    let input = joined(rt.alloc(), &[stray, &other, &halved, &good])?;
+    let input = joined(rt.alloc(), &[STRAY, &other, &halved, &good])?;
     let text = text_of_one(rt.alloc())?;
     assert_run(
         &rt,
@@ -266,7 +263,7 @@ fn tells_strays(rt: HostRuntime) -> Result<(), Fail> {
         ("no end", b"", &[(47, b'6')], b"", "offset 0: 3 no end\n", 0),
         (
             "a word that states 64 octets",
-            b"BUFR\x00\x00\x40\x04",
+            STRAY,
             &[],
             b"\0\0\0\0\0\0\0\0",
             "offset 0: 3 no end\n",
@@ -357,10 +354,9 @@ fn assert_told_as_cut(
 /// A delayed group, compressed data, and a message with octets for local use and a section 2.
 #[test]
 fn tells_a_cut_anywhere(rt: HostRuntime) -> Result<(), Fail> {
-    let delayed = message_in(rt.alloc(), 1, 0x80, "101000 031001 001001", "02142C")?;
+    let delayed = delayed_twice(rt.alloc())?;
     assert_told_as_cut(&rt, "delayed", &delayed)?;
-    let compressed = message_in(rt.alloc(), 2, 0xC0, "012101", "708F05")?;
-    assert_told_as_cut(&rt, "compressed", &compressed)?;
+    assert_told_as_cut(&rt, "compressed", &COMPRESSED)?;
     assert_told_as_cut(&rt, "local use", &LOCAL_USE)
 }
 

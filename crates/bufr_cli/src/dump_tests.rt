@@ -1,9 +1,7 @@
 //! The worked examples of `dump`, run.
 
-use crate::tally::Tally;
-use crate::test_messages::{HEAD, ONE_ACCEPTED, message_in, text_of};
+use crate::test_messages::{HEAD, LOCAL_USE, NOTHING, ONE_ACCEPTED, message_in, text_of};
 use crate::test_runs::{Command, assert_run, run_whole};
-use crate::tests::LOCAL_USE;
 use std::process::Abort;
 use std::test::Fail;
 
@@ -303,7 +301,7 @@ fn dumps_what_was_encoded(rt: HostRuntime) -> Result<(), Fail> {
     Ok(())
 }
 
-/// The dump text of the message below, from `observed` on.
+/// The dump text of the message with octets for local use, from `observed` on.
 const LOCAL_USE_TEXT: &str = "observed 1\n\
     compressed 0\n\
     optional 1\n\
@@ -344,9 +342,5 @@ fn dumps_local_use(rt: HostRuntime) -> Result<(), Fail> {
 
 #[test]
 fn dumps_nothing(rt: HostRuntime) -> Result<(), Fail> {
-    let nothing = Tally {
-        accepted: 0,
-        refused: 0,
-    };
-    assert_run(&rt, Command::Dump, "nothing", b"", b"", b"", nothing)
+    assert_run(&rt, Command::Dump, "nothing", b"", b"", b"", NOTHING)
 }

@@ -2,10 +2,10 @@
 
 use crate::tally::Tally;
 use crate::test_messages::{
-    ONE_ACCEPTED, ONE_REFUSED, joined, octets_of, one_block_number, text_of_one,
+    ONE_ACCEPTED, ONE_BLOCK_NUMBER, ONE_REFUSED, joined, line_of_one, octets_of, one_block_number,
+    text_of_one,
 };
 use crate::test_runs::{Command, assert_run, run_whole};
-use crate::tests::{LINE, ONE_BLOCK_NUMBER};
 use bufr_text::Form;
 use std::alloc::Global;
 use std::test::Fail;
@@ -20,7 +20,7 @@ const ODD: &str =
     "425546520000 2C03 000012000062000000000E001801020304 00 000009000001800101 0000050014 37373737";
 
 /// The lines of its dump up to the minute.
-const HEAD: &str = "\
+const HEAD_OF_EDITION_3: &str = "\
     message\nedition 3\nmaster 0\ncentre 98\nsubcentre 0\nupdate 0\ncategory 0\nsubcategory 0\n\
     localsubcategory 0\nmasterversion 14\nlocalversion 0\nyear 24\nmonth 1\nday 2\nhour 3\nminute 4\n";
 
@@ -38,7 +38,7 @@ fn message(alloc: Global, digits: &str) -> Result<Vec<u8>, Fail> {
 
 /// The dump text of such a message with these lines of sections 1 and 2.
 fn text(alloc: Global, optional: u8, local: &str) -> Result<String, Fail> {
-    let mut text = String::from_str(alloc, HEAD)?;
+    let mut text = String::from_str(alloc, HEAD_OF_EDITION_3)?;
     text.push_str("second 0\nobserved 1\ncompressed 0\noptional ")?;
     text.push_str(if optional == 0 { "0" } else { "1" })?;
     text.push_str("\nsubsets 1\n")?;
@@ -174,17 +174,14 @@ fn lists_messages(rt: HostRuntime) -> Result<(), Fail> {
 /// own.
 #[test]
 fn lists_editions_side_by_side(rt: HostRuntime) -> Result<(), Fail> {
-    let mut input = Vec::new(rt.alloc());
-    input.extend_from_slice(&ONE_BLOCK_NUMBER)?;
-    input.extend_from_slice(&ONE_BLOCK_NUMBER)?;
+    let mut input = joined(rt.alloc(), &[&ONE_BLOCK_NUMBER, &ONE_BLOCK_NUMBER])?;
     assert!(rt; input.len() > 7);
     input[7] = 3;
     let mut output = String::new(rt.alloc());
     output.push_str(
         "offset=0 length=48 edition=3 centre=98/0 update=0 category=0/0/0 tables=0/0/0 time=0000-14-00T07:232:00 subsets=1 observed=1 compressed=0 optional=0 descriptors=1\n",
     )?;
-    output.push_str("offset=48")?;
-    output.push_str(LINE)?;
+    output.push_str(line_of_one(rt.alloc(), "48")?.as_str())?;
     let tally = Tally {
         accepted: 2,
         refused: 0,

@@ -2,8 +2,8 @@
 
 use crate::document_line::write_document_fault;
 use crate::test_messages::{
-    ONE_ACCEPTED, ONE_REFUSED, joined, message_of, octets_of, one_block_number, text_of,
-    text_of_one, words_of,
+    ONE_ACCEPTED, ONE_REFUSED, joined, message_in, message_of, octets_of, one_block_number,
+    text_of, text_of_one, words_of,
 };
 use crate::test_runs::{
     Command, assert_run, assert_stops_at_interrupted_reads, run_over, run_whole,
@@ -16,7 +16,7 @@ use std::alloc::Global;
 use std::test::Fail;
 
 /// A document of these descriptors, and the data of its message or the line of its fault.
-struct Told {
+struct ToldDocument {
     /// Where there are two, the data are compressed.
     subsets: u16,
     descriptors: &'static str,
@@ -28,23 +28,23 @@ struct Told {
     errors: &'static str,
 }
 
-static TOLD: [Told; 47] = [
+static TOLD: [ToldDocument; 47] = [
     // 50: the line's form
-    Told {
+    ToldDocument {
         subsets: 1,
         descriptors: "001001",
         body: "subset 1\n001001 10 #x\n",
         data: "14",
         errors: "",
     },
-    Told {
+    ToldDocument {
         subsets: 1,
         descriptors: "001001",
         body: "subset 1\n001001 10 x\n",
         data: "",
         errors: "line 24: 50 line\n",
     },
-    Told {
+    ToldDocument {
         subsets: 1,
         descriptors: "001001",
         body: "\n# a note\nsubset 1\n001001 x\n",
@@ -52,56 +52,56 @@ static TOLD: [Told; 47] = [
         errors: "line 26: 50 line\n",
     },
     // 51: the item that is expected
-    Told {
+    ToldDocument {
         subsets: 1,
         descriptors: "001001",
         body: "subset 1\n001001 5\n",
         data: "0A",
         errors: "",
     },
-    Told {
+    ToldDocument {
         subsets: 1,
         descriptors: "001001",
         body: "subset 1\n012101 5\n",
         data: "",
         errors: "line 24: 51 expected 001001\n",
     },
-    Told {
+    ToldDocument {
         subsets: 1,
         descriptors: "001001",
         body: "subset 1\n",
         data: "",
         errors: "line 24: 51 expected 001001\n",
     },
-    Told {
+    ToldDocument {
         subsets: 1,
         descriptors: "001001",
         body: "subset 1\n001001 5\n001001 5\n",
         data: "",
         errors: "line 25: 51 expected end of subset\n",
     },
-    Told {
+    ToldDocument {
         subsets: 1,
         descriptors: "203010 012101 203255 012101",
         body: "subset 1\nR 012101 -400\n012101 284.15\n",
         data: "E41C23C0",
         errors: "",
     },
-    Told {
+    ToldDocument {
         subsets: 1,
         descriptors: "203010 012101 203255 012101",
         body: "subset 1\n012101 -400\n012101 284.15\n",
         data: "",
         errors: "line 24: 51 expected R 012101\n",
     },
-    Told {
+    ToldDocument {
         subsets: 1,
         descriptors: "203010 012101 203255 012101",
         body: "subset 1\nR 012101 -400\nR 012101 284\n",
         data: "",
         errors: "line 25: 51 expected 012101\n",
     },
-    Told {
+    ToldDocument {
         subsets: 2,
         descriptors: "001001 012101",
         body: "subset 1\n001001 10\n012101 288.15\nsubset 2\n001001 10\n",
@@ -109,49 +109,49 @@ static TOLD: [Told; 47] = [
         errors: "line 28: 51 expected 012101\n",
     },
     // 52: whole at the scale, the syntax, the kind
-    Told {
+    ToldDocument {
         subsets: 1,
         descriptors: "012101",
         body: "subset 1\n012101 288.150\n",
         data: "708F",
         errors: "",
     },
-    Told {
+    ToldDocument {
         subsets: 1,
         descriptors: "012101",
         body: "subset 1\n012101 288.155\n",
         data: "",
         errors: "line 24: 52 number\n",
     },
-    Told {
+    ToldDocument {
         subsets: 1,
         descriptors: "001001",
         body: "subset 1\n001001 1.0\n",
         data: "02",
         errors: "",
     },
-    Told {
+    ToldDocument {
         subsets: 1,
         descriptors: "001001",
         body: "subset 1\n001001 1.\n",
         data: "",
         errors: "line 24: 52 number\n",
     },
-    Told {
+    ToldDocument {
         subsets: 1,
         descriptors: "205001",
         body: "subset 1\n205001 \"5\"\n",
         data: "35",
         errors: "",
     },
-    Told {
+    ToldDocument {
         subsets: 1,
         descriptors: "205001",
         body: "subset 1\n205001 5\n",
         data: "",
         errors: "line 24: 52 number\n",
     },
-    Told {
+    ToldDocument {
         subsets: 1,
         descriptors: "001001",
         body: "subset 1\n001001 \"5\"\n",
@@ -159,14 +159,14 @@ static TOLD: [Told; 47] = [
         errors: "line 24: 52 number\n",
     },
     // a reference has scale 0; minus zero is written as zero
-    Told {
+    ToldDocument {
         subsets: 1,
         descriptors: "203010 012101 203255 012101",
         body: "subset 1\nR 012101 -0\n012101 288.15\n",
         data: "001C23C0",
         errors: "",
     },
-    Told {
+    ToldDocument {
         subsets: 1,
         descriptors: "203010 012101 203255 012101",
         body: "subset 1\nR 012101 -0.5\n012101 288.15\n",
@@ -174,56 +174,56 @@ static TOLD: [Told; 47] = [
         errors: "line 24: 52 number\n",
     },
     // 53: the greatest and the least, of any length
-    Told {
+    ToldDocument {
         subsets: 1,
         descriptors: "012101",
         body: "subset 1\n012101 655.34\n",
         data: "FFFE",
         errors: "",
     },
-    Told {
+    ToldDocument {
         subsets: 1,
         descriptors: "012101",
         body: "subset 1\n012101 655.35\n",
         data: "",
         errors: "line 24: 53 out of range\n",
     },
-    Told {
+    ToldDocument {
         subsets: 1,
         descriptors: "005002",
         body: "subset 1\n005002 -90\n",
         data: "0000",
         errors: "",
     },
-    Told {
+    ToldDocument {
         subsets: 1,
         descriptors: "005002",
         body: "subset 1\n005002 -90.01\n",
         data: "",
         errors: "line 24: 53 out of range\n",
     },
-    Told {
+    ToldDocument {
         subsets: 1,
         descriptors: "001001",
         body: "subset 1\n001001 0000000000000000000000000000000000000000126\n",
         data: "FC",
         errors: "",
     },
-    Told {
+    ToldDocument {
         subsets: 1,
         descriptors: "001001",
         body: "subset 1\n001001 9999999999999999999999999999999999999999\n",
         data: "",
         errors: "line 24: 53 out of range\n",
     },
-    Told {
+    ToldDocument {
         subsets: 1,
         descriptors: "205001",
         body: "subset 1\n205001 \"\\xFE\"\n",
         data: "FE",
         errors: "",
     },
-    Told {
+    ToldDocument {
         subsets: 1,
         descriptors: "205001",
         body: "subset 1\n205001 \"\\xFF\"\n",
@@ -231,14 +231,14 @@ static TOLD: [Told; 47] = [
         errors: "line 24: 53 out of range\n",
     },
     // 54: the octets of a field
-    Told {
+    ToldDocument {
         subsets: 1,
         descriptors: "001015",
         body: "subset 1\n001015 \"ABCDEFGHIJKLMNOPQRST\"\n",
         data: "4142434445464748494A4B4C4D4E4F5051525354",
         errors: "",
     },
-    Told {
+    ToldDocument {
         subsets: 1,
         descriptors: "001015",
         body: "subset 1\n001015 \"ABCDEFGHIJKLMNOPQRSTU\"\n",
@@ -246,14 +246,14 @@ static TOLD: [Told; 47] = [
         errors: "line 24: 54 text long\n",
     },
     // 55: a factor is never missing
-    Told {
+    ToldDocument {
         subsets: 1,
         descriptors: "101000 031001 001001",
         body: "subset 1\n031001 0\n",
         data: "00",
         errors: "",
     },
-    Told {
+    ToldDocument {
         subsets: 1,
         descriptors: "101000 031001 001001",
         body: "subset 1\n031001 MISSING\n",
@@ -261,14 +261,14 @@ static TOLD: [Told; 47] = [
         errors: "line 24: 55 missing forbidden\n",
     },
     // 56: the template
-    Told {
+    ToldDocument {
         subsets: 1,
         descriptors: "201000 001001",
         body: "subset 1\n001001 10\n",
         data: "14",
         errors: "",
     },
-    Told {
+    ToldDocument {
         subsets: 1,
         descriptors: "201000",
         body: "subset 1\n001001 10\n",
@@ -276,28 +276,28 @@ static TOLD: [Told; 47] = [
         errors: "line 1: 56 template 25 empty group 201000\n",
     },
     // 57: the number of subsets
-    Told {
+    ToldDocument {
         subsets: 2,
         descriptors: "012101",
         body: "subset 1\n012101 288.15\nsubset 2\n012101 288.15\n",
         data: "708F00",
         errors: "",
     },
-    Told {
+    ToldDocument {
         subsets: 2,
         descriptors: "012101",
         body: "subset 1\n012101 288.15\n",
         data: "",
         errors: "line 25: 57 subset count\n",
     },
-    Told {
+    ToldDocument {
         subsets: 1,
         descriptors: "012101",
         body: "subset 1\n012101 288.15\nsubset 2\n012101 288.15\n",
         data: "",
         errors: "line 25: 57 subset count\n",
     },
-    Told {
+    ToldDocument {
         subsets: 0,
         descriptors: "001001",
         body: "",
@@ -305,14 +305,14 @@ static TOLD: [Told; 47] = [
         errors: "",
     },
     // 58: the factors of compressed data
-    Told {
+    ToldDocument {
         subsets: 2,
         descriptors: "101000 031001 001001",
         body: "subset 1\n031001 1\n001001 10\nsubset 2\n031001 1\n001001 10\n",
         data: "01005000",
         errors: "",
     },
-    Told {
+    ToldDocument {
         subsets: 2,
         descriptors: "101000 031001 001001",
         body: "subset 1\n031001 1\n001001 10\nsubset 2\n031001 2\n001001 10\n001001 11\n",
@@ -320,14 +320,14 @@ static TOLD: [Told; 47] = [
         errors: "line 27: 58 unequal factor\n",
     },
     // 59: the references of compressed data
-    Told {
+    ToldDocument {
         subsets: 2,
         descriptors: "203010 012101 203255 012101",
         body: "subset 1\nR 012101 -400\n012101 284.15\nsubset 2\nR 012101 -400\n012101 284.15\n",
         data: "E400708F00",
         errors: "",
     },
-    Told {
+    ToldDocument {
         subsets: 2,
         descriptors: "203010 012101 203255 012101",
         body: "subset 1\nR 012101 -400\n012101 284.15\nsubset 2\nR 012101 -401\n012101 284.15\n",
@@ -335,35 +335,35 @@ static TOLD: [Told; 47] = [
         errors: "line 24: 59 increment\n",
     },
     // 62: the width, and what may come while references are defined
-    Told {
+    ToldDocument {
         subsets: 1,
         descriptors: "201122 001001",
         body: "subset 1\n001001 0\n",
         data: "00",
         errors: "",
     },
-    Told {
+    ToldDocument {
         subsets: 1,
         descriptors: "201121 001001",
         body: "subset 1\n001001 0\n",
         data: "",
         errors: "line 24: 62 walk 31 descriptor 001001\n",
     },
-    Told {
+    ToldDocument {
         subsets: 1,
         descriptors: "203010 203255 001015",
         body: "subset 1\n001015 \"A\"\n",
         data: "4120202020202020202020202020202020202020",
         errors: "",
     },
-    Told {
+    ToldDocument {
         subsets: 1,
         descriptors: "203010 001015",
         body: "subset 1\n001015 \"A\"\n",
         data: "",
         errors: "line 24: 62 walk 32 descriptor 001015\n",
     },
-    Told {
+    ToldDocument {
         subsets: 2,
         descriptors: "001001 203010 001015",
         body: "subset 1\n001001 10\nsubset 2\n001001 10\n",
@@ -378,9 +378,7 @@ fn refuses_at_lines(rt: HostRuntime) -> Result<(), Fail> {
         let flags = if row.subsets == 2 { 0xC0 } else { 0x80 };
         let text = text_of(rt.alloc(), row.subsets, flags, row.descriptors, row.body)?;
         let (message, tally) = if row.errors.is_empty() {
-            let words = words_of(rt.alloc(), row.descriptors)?;
-            let data = octets_of(rt.alloc(), row.data)?;
-            let message = message_of(rt.alloc(), row.subsets, flags, &words, &data)?;
+            let message = message_in(rt.alloc(), row.subsets, flags, row.descriptors, row.data)?;
             (message, ONE_ACCEPTED)
         } else {
             (Vec::new(rt.alloc()), ONE_REFUSED)
@@ -584,8 +582,7 @@ fn stops_at_an_interrupted_read(rt: HostRuntime) -> Result<(), Fail> {
 /// Where the output cannot be flushed, all of both writers stands.
 #[test]
 fn keeps_all_behind_a_failed_flush(rt: HostRuntime) -> Result<(), Fail> {
-    let words = words_of(rt.alloc(), "001001")?;
-    let message = message_of(rt.alloc(), 1, 0x80, &words, b"\x14")?;
+    let message = one_block_number(rt.alloc())?;
     let mut text = text_of_one(rt.alloc())?;
     text.push_str("end\n")?;
     let mut r = ScriptIn::new(text.as_bytes(), 4096, None);

@@ -3,8 +3,8 @@
 use crate::round_trip::{Round, dump_encode_dump};
 use crate::tally::Tally;
 use crate::test_messages::{
-    ONE_ACCEPTED, ONE_REFUSED, message_of, octets_of, one_block_number, text_of, text_of_one,
-    words_of,
+    NOTHING, ONE_ACCEPTED, ONE_REFUSED, bulletins, delayed_twice, joined, message_in,
+    messages_of_bulletins, one_block_number, text_of, text_of_one,
 };
 use crate::test_runs::{
     Command, Tables, assert_run, assert_stops_at_failed_errors, assert_stops_at_failed_reads,
@@ -138,7 +138,6 @@ static ENCODED: [Encoded; 10] = [
 #[test]
 fn encodes_worked_examples(rt: HostRuntime) -> Result<(), Fail> {
     for row in &ENCODED {
-        let words = words_of(rt.alloc(), row.descriptors)?;
         let mut text = text_of(
             rt.alloc(),
             row.subsets,
@@ -149,8 +148,7 @@ fn encodes_worked_examples(rt: HostRuntime) -> Result<(), Fail> {
         text.push_str(row.behind)?;
         let message = match row.data {
             Some(digits) => {
-                let data = octets_of(rt.alloc(), digits)?;
-                message_of(rt.alloc(), row.subsets, row.flags, &words, &data)?
+                message_in(rt.alloc(), row.subsets, row.flags, row.descriptors, digits)?
             }
             None => Vec::new(rt.alloc()),
         };
@@ -173,11 +171,7 @@ fn encodes_worked_examples(rt: HostRuntime) -> Result<(), Fail> {
 
 #[test]
 fn encodes_nothing(rt: HostRuntime) -> Result<(), Fail> {
-    let nothing = Tally {
-        accepted: 0,
-        refused: 0,
-    };
-    assert_run(&rt, Command::Encode, "nothing", b"", b"", b"", nothing)
+    assert_run(&rt, Command::Encode, "nothing", b"", b"", b"", NOTHING)
 }
 
 /// The first document that is refused ends the run: of what is behind it nothing is written.
@@ -205,34 +199,10 @@ fn stops_at_the_first_refused(rt: HostRuntime) -> Result<(), Fail> {
     )
 }
 
-/// The stream of the examples: a heading, four messages, junk, a message of edition 2, a short one.
-const STREAM: [u8; 305] = [
-    0x49, 0x55, 0x53, 0x58, 0x34, 0x30, 0x20, 0x45, 0x43, 0x4D, 0x57, 0x20, 0x30, 0x32, 0x30, 0x33,
-    0x30, 0x30, 0x0D, 0x0D, 0x0A, 0x42, 0x55, 0x46, 0x52, 0x00, 0x00, 0x30, 0x04, 0x00, 0x00, 0x16,
-    0x00, 0x00, 0x62, 0x00, 0x00, 0x00, 0x00, 0x00, 0x00, 0x00, 0x0E, 0x00, 0x07, 0xE8, 0x01, 0x02,
-    0x03, 0x04, 0x05, 0x00, 0x00, 0x09, 0x00, 0x00, 0x01, 0x80, 0x01, 0x01, 0x00, 0x00, 0x05, 0x00,
-    0x14, 0x37, 0x37, 0x37, 0x37, 0x0D, 0x0D, 0x0A, 0x4E, 0x4E, 0x4E, 0x4E, 0x0A, 0x42, 0x55, 0x46,
-    0x52, 0x00, 0x00, 0x36, 0x04, 0x00, 0x00, 0x16, 0x00, 0x00, 0x62, 0x00, 0x00, 0x00, 0x00, 0x00,
-    0x00, 0x00, 0x0E, 0x00, 0x07, 0xE8, 0x01, 0x02, 0x03, 0x04, 0x05, 0x00, 0x00, 0x0D, 0x00, 0x00,
-    0x01, 0x80, 0x41, 0x00, 0x1F, 0x01, 0x01, 0x01, 0x00, 0x00, 0x07, 0x00, 0x02, 0x14, 0x2C, 0x37,
-    0x37, 0x37, 0x37, 0x42, 0x55, 0x46, 0x52, 0x6A, 0x75, 0x6E, 0x6B, 0x42, 0x55, 0x46, 0x52, 0x00,
-    0x00, 0x32, 0x04, 0x00, 0x00, 0x16, 0x00, 0x00, 0x62, 0x00, 0x00, 0x00, 0x00, 0x00, 0x00, 0x00,
-    0x0E, 0x00, 0x07, 0xE8, 0x01, 0x02, 0x03, 0x04, 0x05, 0x00, 0x00, 0x09, 0x00, 0x00, 0x02, 0xC0,
-    0x0C, 0x65, 0x00, 0x00, 0x07, 0x00, 0x70, 0x8F, 0x05, 0x37, 0x37, 0x37, 0x37, 0x42, 0x55, 0x46,
-    0x52, 0x00, 0x00, 0x30, 0x02, 0x00, 0x00, 0x16, 0x00, 0x00, 0x62, 0x00, 0x00, 0x00, 0x00, 0x00,
-    0x00, 0x00, 0x0E, 0x00, 0x07, 0xE8, 0x01, 0x02, 0x03, 0x04, 0x05, 0x00, 0x00, 0x09, 0x00, 0x00,
-    0x01, 0x80, 0x01, 0x01, 0x00, 0x00, 0x05, 0x00, 0x14, 0x37, 0x37, 0x37, 0x37, 0x0A, 0x42, 0x55,
-    0x46, 0x52, 0x00, 0x00, 0x38, 0x04, 0x00, 0x00, 0x18, 0x00, 0x00, 0x62, 0x00, 0x00, 0x00, 0x80,
-    0x00, 0x00, 0x00, 0x0E, 0x00, 0x07, 0xE8, 0x01, 0x02, 0x03, 0x04, 0x05, 0xAB, 0xCD, 0x00, 0x00,
-    0x06, 0x00, 0x01, 0x02, 0x00, 0x00, 0x09, 0x00, 0x00, 0x01, 0x80, 0x01, 0x01, 0x00, 0x00, 0x05,
-    0x00, 0x14, 0x37, 0x37, 0x37, 0x37, 0x42, 0x55, 0x46, 0x52, 0x00, 0x00, 0x0B, 0x04, 0x65, 0x6E,
-    0x64,
-];
-
-/// The stream dumped, encoded and dumped again.
-fn round_of_the_stream(rt: &(impl Abort + AllocGlobal)) -> Round {
+/// A stream dumped, encoded and dumped again.
+fn round_of(rt: &(impl Abort + AllocGlobal), stream: &[u8]) -> Round {
     let Tables { b, d } = read_tables(rt);
-    dump_encode_dump(rt.alloc(), &STREAM, 4096, &b, &d).expect(rt, "a round")
+    dump_encode_dump(rt.alloc(), stream, 4096, &b, &d).expect(rt, "a round")
 }
 
 /// What is proved of pieces and of whole streams can be called.
@@ -250,12 +220,9 @@ fn has_laws(_rt: HostRuntime) -> Result<(), Fail> {
 /// A stream is dumped; its text is encoded to the four messages, which are dumped to the same text.
 #[test]
 fn encodes_a_dumped_stream(rt: HostRuntime) -> Result<(), Fail> {
-    let mut messages = Vec::new(rt.alloc());
-    messages.extend_from_slice(&STREAM[21..69])?;
-    messages.extend_from_slice(&STREAM[77..131])?;
-    messages.extend_from_slice(&STREAM[139..189])?;
-    messages.extend_from_slice(&STREAM[238..294])?;
-    let round = round_of_the_stream(&rt);
+    let messages = messages_of_bulletins(rt.alloc())?;
+    let stream = bulletins(rt.alloc())?;
+    let round = round_of(&rt, &stream);
     let dumped = Tally {
         accepted: 4,
         refused: 3,
@@ -305,16 +272,11 @@ fn encodes_a_thousand(rt: HostRuntime) -> Result<(), Fail> {
 /// no other.
 #[test]
 fn stops_at_a_failed_read(rt: HostRuntime) -> Result<(), Fail> {
-    let words = words_of(rt.alloc(), "101000 031001 001001")?;
-    let message = message_of(rt.alloc(), 1, 0x80, &words, b"\x02\x14\x2C")?;
+    let message = delayed_twice(rt.alloc())?;
     let body = "subset 1\n031001 2\n001001 10\n001001 11\n";
     let one = text_of(rt.alloc(), 1, 0x80, "101000 031001 001001", body)?;
-    let mut text = Vec::new(rt.alloc());
-    text.extend_from_slice(one.as_bytes())?;
-    text.extend_from_slice(one.as_bytes())?;
-    let mut both = Vec::new(rt.alloc());
-    both.extend_from_slice(&message)?;
-    both.extend_from_slice(&message)?;
+    let text = joined(rt.alloc(), &[one.as_bytes(), one.as_bytes()])?;
+    let both = joined(rt.alloc(), &[&message, &message])?;
     let (half, whole) = (one.len(), text.len());
     let end = whole..whole.saturating_add(1);
     assert_stops_at_failed_reads(&rt, Command::Encode, &text, 0..half, b"", b"")?;

@@ -1,7 +1,7 @@
 //! Runs of `encode` in another form than the documents say.
 
 use crate::tally::Tally;
-use crate::test_messages::{message_of, octets_of, text_of, words_of};
+use crate::test_messages::{ONE_ACCEPTED, message_in, text_of};
 use crate::test_runs::{Command, assert_run};
 use bufr_text::Form;
 use std::test::Fail;
@@ -16,9 +16,7 @@ fn encodes_a_stream_compressed(rt: HostRuntime) -> Result<(), Fail> {
     let mut text = text_of(rt.alloc(), 1, 0x80, descriptors, first)?;
     let other = text_of(rt.alloc(), 2, 0x80, descriptors, second)?;
     text.push_str(other.as_str())?;
-    let words = words_of(rt.alloc(), descriptors)?;
-    let data = octets_of(rt.alloc(), "02005002C0")?;
-    let message = message_of(rt.alloc(), 1, 0xC0, &words, &data)?;
+    let message = message_in(rt.alloc(), 1, 0xC0, descriptors, "02005002C0")?;
     let tally = Tally {
         accepted: 1,
         refused: 1,
@@ -39,13 +37,8 @@ fn encodes_a_stream_compressed(rt: HostRuntime) -> Result<(), Fail> {
 fn encodes_a_stream_plain(rt: HostRuntime) -> Result<(), Fail> {
     let body = "subset 1\n012101 288.15\nsubset 2\n012101 MISSING\n";
     let text = text_of(rt.alloc(), 2, 0xC0, "012101", body)?;
-    let words = words_of(rt.alloc(), "012101")?;
-    let data = octets_of(rt.alloc(), "708FFFFF")?;
-    let message = message_of(rt.alloc(), 2, 0x80, &words, &data)?;
-    let tally = Tally {
-        accepted: 1,
-        refused: 0,
-    };
+    let message = message_in(rt.alloc(), 2, 0x80, "012101", "708FFFFF")?;
     let command = Command::EncodeIn(Form::Plain);
-    assert_run(&rt, command, "plain", text.as_bytes(), &message, b"", tally)
+    let text = text.as_bytes();
+    assert_run(&rt, command, "plain", text, &message, b"", ONE_ACCEPTED)
 }

@@ -6,8 +6,9 @@ use crate::finish::{Outcome, finish};
 use crate::job::{LineFault, Subcommand, TableNames, parse_line};
 use crate::program::{Inputs, Unopened, run};
 use crate::tally::Tally;
-use crate::test_messages::{TABLE_B, TABLE_D, one_block_number, text_of_one};
-use crate::tests::{LINE, ONE_BLOCK_NUMBER};
+use crate::test_messages::{
+    ONE_BLOCK_NUMBER, TABLE_B, TABLE_D, joined, line_of_one, one_block_number, text_of_one,
+};
 use bufr_bits::{Device, End, ScriptOut, Sink};
 use bufr_frame::RunFault;
 use bufr_tables::{Fxy, TableD, TableFault};
@@ -19,7 +20,7 @@ use std::process::Abort;
 use std::test::Fail;
 
 /// The words of a command line: the program's name, a command, and what stands behind it.
-fn line_of(
+fn words_behind(
     alloc: Global,
     command: &'static str,
     arguments: &'static [&'static str],
@@ -71,9 +72,9 @@ fn assert_parsed(
 fn parses_lines_with_tables(rt: HostRuntime) -> Result<(), Fail> {
     let encodes = Subcommand::Encode(TABLE_NAMES, Form::AsWritten);
     for (arguments, file) in &ARGUMENTS {
-        let words = line_of(rt.alloc(), "dump", *arguments)?;
+        let words = words_behind(rt.alloc(), "dump", *arguments)?;
         assert_parsed(&rt, words.as_slice(), Subcommand::Dump(TABLE_NAMES), *file);
-        let words = line_of(rt.alloc(), "encode", *arguments)?;
+        let words = words_behind(rt.alloc(), "encode", *arguments)?;
         assert_parsed(&rt, words.as_slice(), encodes, *file);
     }
     Ok(())
@@ -95,7 +96,7 @@ static FORMS: [(&[&str], Form); 3] = [
 #[test]
 fn parses_forms(rt: HostRuntime) -> Result<(), Fail> {
     for (arguments, form) in &FORMS {
-        let words = line_of(rt.alloc(), "encode", *arguments)?;
+        let words = words_behind(rt.alloc(), "encode", *arguments)?;
         let encodes = Subcommand::Encode(TABLE_NAMES, *form);
         assert_parsed(&rt, words.as_slice(), encodes, None);
     }
@@ -179,9 +180,9 @@ fn refuses_lines_with_tables(rt: HostRuntime) -> Result<(), Fail> {
         ),
     ];
     for (arguments, part) in &REFUSED {
-        let words = line_of(rt.alloc(), "dump", *arguments)?;
+        let words = words_behind(rt.alloc(), "dump", *arguments)?;
         assert_usage(&rt, words.as_slice(), *part);
-        let words = line_of(rt.alloc(), "encode", *arguments)?;
+        let words = words_behind(rt.alloc(), "encode", *arguments)?;
         assert_usage(&rt, words.as_slice(), *part);
     }
     Ok(())
@@ -301,44 +302,40 @@ impl<'a> Inputs for Shelf<'a> {
 /// word, and standard input, which has the message alone.
 #[test]
 fn runs_lines(rt: HostRuntime) -> Result<(), Fail> {
-    static ROWS: [(&[&str], u8, &[&str], &str); 7] = [
-        (&["bufr", "ls"], 0, &["offset=0", LINE], ""),
-        (
-            &["bufr", "ls", "one.bufr"],
-            1,
-            &["offset=4", LINE],
-            "offset 0: 1 cut\n",
-        ),
+    static LISTED: [(&[&str], u8, &str, &str); 2] = [
+        (&["bufr", "ls"], 0, "0", ""),
+        (&["bufr", "ls", "one.bufr"], 1, "4", "offset 0: 1 cut\n"),
+    ];
+    static ROWS: [(&[&str], u8, &str, &str); 5] = [
         (
             &["bufr", "ls", "two.bufr"],
             2,
-            &[],
+            "",
             "bufr: cannot open two.bufr\n",
         ),
-        (&["bufr", "ls", "-"], 2, &[], "bufr: cannot open -\n"),
-        (&["bufr"], 2, &[], "Usage: bufr <COMMAND>"),
-        (&["bufr", "--version"], 0, &["bufr 0.1.0\n"], ""),
+        (&["bufr", "ls", "-"], 2, "", "bufr: cannot open -\n"),
+        (&["bufr"], 2, "", "Usage: bufr <COMMAND>"),
+        (&["bufr", "--version"], 0, "bufr 0.1.0\n", ""),
         (
             &["bufr", "ls", "one.bufr", "two.bufr"],
             2,
-            &[],
+            "",
             "unexpected argument 'two.bufr' found",
         ),
     ];
-    let mut file = Vec::new(rt.alloc());
-    file.extend_from_slice(b"BUFR")?;
-    file.extend_from_slice(&ONE_BLOCK_NUMBER)?;
+    let stray: &[u8] = b"BUFR";
+    let file = joined(rt.alloc(), &[stray, &ONE_BLOCK_NUMBER])?;
     let shelf = Shelf {
         name: "one.bufr",
         file: &file,
         standard: &ONE_BLOCK_NUMBER,
     };
+    for (words, status, offset, errors) in &LISTED {
+        let line = line_of_one(rt.alloc(), offset)?;
+        assert_called(&rt, *words, &shelf, *status, line.as_bytes(), *errors)?;
+    }
     for (words, status, output, errors) in &ROWS {
-        let mut want = String::new(rt.alloc());
-        for part in *output {
-            want.push_str(part)?;
-        }
-        assert_called(&rt, *words, &shelf, *status, want.as_bytes(), *errors)?;
+        assert_called(&rt, *words, &shelf, *status, output.as_bytes(), *errors)?;
     }
     Ok(())
 }
@@ -516,7 +513,7 @@ fn assert_runs(
     errors: &str,
 ) -> Result<(), Fail> {
     for (arguments, status, written, other) in &RUNS {
-        let words = line_of(rt.alloc(), command, *arguments)?;
+        let words = words_behind(rt.alloc(), command, *arguments)?;
         let want = if *written { output } else { b"" };
         let errors = other.unwrap_or(errors);
         assert_called(rt, words.as_slice(), library, *status, want, errors)?;
@@ -532,8 +529,7 @@ fn lists_a_torn_file(rt: HostRuntime) -> Result<(), Fail> {
         standard: &ONE_BLOCK_NUMBER,
     };
     let words = ["bufr", "ls", "torn.bufr"];
-    let mut want = String::from_str(rt.alloc(), "offset=0")?;
-    want.push_str(LINE)?;
+    let want = line_of_one(rt.alloc(), "0")?;
     let fault = "bufr: 70 read failed\n";
     assert_called(&rt, words.as_slice(), &library, 2, want.as_bytes(), fault)
 }
@@ -582,9 +578,8 @@ fn tries_no_write_again(rt: HostRuntime) -> Result<(), Fail> {
 fn runs_dump_lines(rt: HostRuntime) -> Result<(), Fail> {
     let message = one_block_number(rt.alloc())?;
     let text = text_of_one(rt.alloc())?;
-    let mut one = Vec::new(rt.alloc());
-    one.extend_from_slice(b"BUFR")?;
-    one.extend_from_slice(&message)?;
+    let stray: &[u8] = b"BUFR";
+    let one = joined(rt.alloc(), &[stray, &message])?;
     let library = Library {
         one: &one,
         standard: &message,

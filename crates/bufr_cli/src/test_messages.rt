@@ -59,6 +59,42 @@ pub(crate) const HEAD: &str = "\
     minute 4\n\
     second 5\n";
 
+/// A message of edition 4 with one block number, 48 octets.
+pub(crate) const ONE_BLOCK_NUMBER: [u8; 48] = [
+    0x42, 0x55, 0x46, 0x52, 0x00, 0x00, 0x30, 0x04, 0x00, 0x00, 0x16, 0x00, 0x00, 0x62, 0x00, 0x00,
+    0x00, 0x00, 0x00, 0x00, 0x00, 0x0E, 0x00, 0x07, 0xE8, 0x01, 0x02, 0x03, 0x04, 0x05, 0x00, 0x00,
+    0x09, 0x00, 0x00, 0x01, 0x80, 0x01, 0x01, 0x00, 0x00, 0x05, 0x00, 0x14, 0x37, 0x37, 0x37, 0x37,
+];
+
+/// Its line in a listing, behind its offset.
+const LINE_OF_ONE: &str =
+    " length=48 edition=4 centre=98/0 update=0 category=0/0/0 tables=0/14/0 time=2024-01-02T03:04:05 subsets=1 observed=1 compressed=0 optional=0 descriptors=1\n";
+
+/// A message with octets for local use in section 1 and a section 2, 56 octets.
+pub(crate) const LOCAL_USE: [u8; 56] = [
+    0x42, 0x55, 0x46, 0x52, 0x00, 0x00, 0x38, 0x04, 0x00, 0x00, 0x18, 0x00, 0x00, 0x62, 0x00, 0x00,
+    0x00, 0x80, 0x00, 0x00, 0x00, 0x0E, 0x00, 0x07, 0xE8, 0x01, 0x02, 0x03, 0x04, 0x05, 0xAB, 0xCD,
+    0x00, 0x00, 0x06, 0x00, 0x01, 0x02, 0x00, 0x00, 0x09, 0x00, 0x00, 0x01, 0x80, 0x01, 0x01, 0x00,
+    0x00, 0x05, 0x00, 0x14, 0x37, 0x37, 0x37, 0x37,
+];
+
+/// A compressed message with two subsets, 50 octets.
+pub(crate) const COMPRESSED: [u8; 50] = [
+    0x42, 0x55, 0x46, 0x52, 0x00, 0x00, 0x32, 0x04, 0x00, 0x00, 0x16, 0x00, 0x00, 0x62, 0x00, 0x00,
+    0x00, 0x00, 0x00, 0x00, 0x00, 0x0E, 0x00, 0x07, 0xE8, 0x01, 0x02, 0x03, 0x04, 0x05, 0x00, 0x00,
+    0x09, 0x00, 0x00, 0x02, 0xC0, 0x0C, 0x65, 0x00, 0x00, 0x07, 0x00, 0x70, 0x8F, 0x05, 0x37, 0x37,
+    0x37, 0x37,
+];
+
+/// A word that begins no message, and states 64 octets.
+pub(crate) const STRAY: &[u8] = b"BUFR\0\0\x40\x04";
+
+/// What comes of a run that meets nothing.
+pub(crate) const NOTHING: Tally = Tally {
+    accepted: 0,
+    refused: 0,
+};
+
 /// What comes of a run that accepts one message or document.
 pub(crate) const ONE_ACCEPTED: Tally = Tally {
     accepted: 1,
@@ -193,13 +229,59 @@ pub(crate) fn text_of(
     Ok(text)
 }
 
-/// A message with the block number 10, 48 octets.
+/// The message with one block number, to be changed.
 pub(crate) fn one_block_number(alloc: Global) -> Result<Vec<u8>, Fail> {
-    message_of(alloc, 1, 0x80, &[0x0101], &[0x14])
+    joined(alloc, &[&ONE_BLOCK_NUMBER])
+}
+
+/// Its line in a listing, at this offset.
+pub(crate) fn line_of_one(alloc: Global, offset: &str) -> Result<String, Fail> {
+    let mut line = String::from_str(alloc, "offset=")?;
+    line.push_str(offset)?;
+    line.push_str(LINE_OF_ONE)?;
+    Ok(line)
 }
 
 /// Its dump text.
 pub(crate) fn text_of_one(alloc: Global) -> Result<String, Fail> {
     let body = "subset 1\n001001 10  # WMO BLOCK NUMBER [Numeric]\n";
     text_of(alloc, 1, 0x80, "001001", body)
+}
+
+/// A message with a delayed group of two block numbers, 10 and 11, 54 octets.
+pub(crate) fn delayed_twice(alloc: Global) -> Result<Vec<u8>, Fail> {
+    message_in(alloc, 1, 0x80, "101000 031001 001001", "02142C")
+}
+
+/// The message with one block number, of edition 2, which is refused.
+pub(crate) fn of_edition_2() -> [u8; 48] {
+    let mut message = ONE_BLOCK_NUMBER;
+    message[7] = 2;
+    message
+}
+
+/// The four messages of the bulletins below.
+pub(crate) fn messages_of_bulletins(alloc: Global) -> Result<Vec<u8>, Fail> {
+    let delayed = delayed_twice(alloc)?;
+    joined(
+        alloc,
+        &[&ONE_BLOCK_NUMBER, &delayed, &COMPRESSED, &LOCAL_USE],
+    )
+}
+
+/// The stream of `examples/bulletins.bufr`: a heading, four messages, a stray word behind the second,
+/// a message of edition 2 before the last, and a short stray word at the end, 305 octets.
+pub(crate) fn bulletins(alloc: Global) -> Result<Vec<u8>, Fail> {
+    let delayed = delayed_twice(alloc)?;
+    let other = of_edition_2();
+    let heading: &[u8] = b"IUSX40 ECMW 020300\r\r\n";
+    let between: &[u8] = b"\r\r\nNNNN\n";
+    let first = joined(alloc, &[heading, &ONE_BLOCK_NUMBER, between, &delayed])?;
+    let stray: &[u8] = b"BUFRjunk";
+    let feed: &[u8] = b"\n";
+    let short: &[u8] = b"BUFR\0\0\x0B\x04end";
+    joined(
+        alloc,
+        &[&first, stray, &COMPRESSED, &other, feed, &LOCAL_USE, short],
+    )
 }

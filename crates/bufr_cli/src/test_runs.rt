@@ -6,7 +6,7 @@ use crate::run_dump::run_dump;
 use crate::run_encode::{run_encode, run_encode_form};
 use crate::run_ls::run_ls;
 use crate::tally::Tally;
-use crate::test_messages::{TABLE_B, TABLE_D};
+use crate::test_messages::{STRAY, TABLE_B, TABLE_D, joined};
 use bufr_bits::{Device, End, ScriptIn, ScriptOut, Sink, Source};
 use bufr_frame::RunFault;
 use bufr_tables::{TableB, TableD};
@@ -143,6 +143,25 @@ struct Wanted<'a> {
     answer: Result<Tally, RunFault>,
 }
 
+/// A run at whose end all of this was written and counted.
+fn wanted_whole<'a>(
+    command: Command,
+    name: &'a str,
+    input: &'a [u8],
+    output: &'a [u8],
+    errors: &'a [u8],
+    tally: Tally,
+) -> Wanted<'a> {
+    Wanted {
+        command,
+        name,
+        input,
+        output,
+        errors,
+        answer: Ok(tally),
+    }
+}
+
 impl<'a> Wanted<'a> {
     /// Asserts that a run left this, by its place in a list of runs.
     fn assert_left(&self, rt: &(impl Abort + AllocGlobal), ran: &Ran, place: usize) {
@@ -219,14 +238,7 @@ pub(crate) fn assert_run(
     errors: &[u8],
     tally: Tally,
 ) -> Result<(), Fail> {
-    let wanted = Wanted {
-        command,
-        name,
-        input,
-        output,
-        errors,
-        answer: Ok(tally),
-    };
+    let wanted = wanted_whole(command, name, input, output, errors, tally);
     let tables = read_tables(rt);
     assert_run_in_steps(rt, &tables, &wanted, 1)?;
     assert_run_in_steps(rt, &tables, &wanted, 3)?;
@@ -279,14 +291,7 @@ pub(crate) fn assert_stops_at_failed_writes(
     errors: &[u8],
     tally: Tally,
 ) -> Result<(), Fail> {
-    let wanted = Wanted {
-        command,
-        name: "room",
-        input,
-        output,
-        errors,
-        answer: Ok(tally),
-    };
+    let wanted = wanted_whole(command, "room", input, output, errors, tally);
     let tables = read_tables(rt);
     for room in 0..output.len().saturating_add(1) {
         assert_stops_at_the_output(rt, &tables, &wanted, End::Fail, room)?;
@@ -333,14 +338,7 @@ pub(crate) fn assert_stops_at_failed_errors(
     errors: &[u8],
     tally: Tally,
 ) -> Result<(), Fail> {
-    let wanted = Wanted {
-        command,
-        name: "room",
-        input,
-        output,
-        errors,
-        answer: Ok(tally),
-    };
+    let wanted = wanted_whole(command, "room", input, output, errors, tally);
     let tables = read_tables(rt);
     for room in 0..errors.len().saturating_add(1) {
         assert_stops_at_the_errors(rt, &tables, &wanted, before, End::Fail, room)?;
@@ -465,9 +463,7 @@ pub(crate) fn assert_stops_at_interrupted_reads(
 
 /// A stream of a message behind a stray word that states 64 octets, with zero octets to as many.
 pub(crate) fn stray_before(alloc: Global, message: &[u8]) -> Result<Vec<u8>, Fail> {
-    let mut input = Vec::new(alloc);
-    input.extend_from_slice(b"BUFR\0\0\x40\x04")?;
-    input.extend_from_slice(message)?;
+    let mut input = joined(alloc, &[STRAY, message])?;
     input.resize(64, 0)?;
     Ok(input)
 }

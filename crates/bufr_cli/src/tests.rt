@@ -2,7 +2,10 @@
 
 use crate::read_all::read_all;
 use crate::tally::Tally;
-use crate::test_messages::{ONE_ACCEPTED, ONE_REFUSED, joined};
+use crate::test_messages::{
+    COMPRESSED, LOCAL_USE, NOTHING, ONE_ACCEPTED, ONE_BLOCK_NUMBER, ONE_REFUSED, STRAY, joined,
+    line_of_one,
+};
 use crate::test_runs::{
     Command, assert_run, assert_stops_around_a_stray, assert_stops_at_failed_errors,
     assert_stops_at_failed_reads, assert_stops_at_failed_writes, assert_stops_at_interrupted_reads,
@@ -14,19 +17,8 @@ use std::cell::Cell;
 use std::io::{self, Read, Write};
 use std::test::Fail;
 
-/// A message of edition 4 with one block number, 48 octets.
-pub(crate) const ONE_BLOCK_NUMBER: [u8; 48] = [
-    0x42, 0x55, 0x46, 0x52, 0x00, 0x00, 0x30, 0x04, 0x00, 0x00, 0x16, 0x00, 0x00, 0x62, 0x00, 0x00,
-    0x00, 0x00, 0x00, 0x00, 0x00, 0x0E, 0x00, 0x07, 0xE8, 0x01, 0x02, 0x03, 0x04, 0x05, 0x00, 0x00,
-    0x09, 0x00, 0x00, 0x01, 0x80, 0x01, 0x01, 0x00, 0x00, 0x05, 0x00, 0x14, 0x37, 0x37, 0x37, 0x37,
-];
-
-/// Its line behind the offset.
-pub(crate) const LINE: &str =
-    " length=48 edition=4 centre=98/0 update=0 category=0/0/0 tables=0/14/0 time=2024-01-02T03:04:05 subsets=1 observed=1 compressed=0 optional=0 descriptors=1\n";
-
-/// A stream made of that message, and what `ls` makes of it.
-struct Listing {
+/// A stream made of the message with one block number, and what `ls` makes of it.
+struct ListedStream {
     name: &'static str,
     /// Octets before the message.
     before: &'static [u8],
@@ -41,8 +33,8 @@ struct Listing {
     refused: u64,
 }
 
-static LISTINGS: [Listing; 13] = [
-    Listing {
+static LISTINGS: [ListedStream; 13] = [
+    ListedStream {
         name: "one block number",
         before: b"",
         edits: &[],
@@ -51,7 +43,7 @@ static LISTINGS: [Listing; 13] = [
         errors: "",
         refused: 0,
     },
-    Listing {
+    ListedStream {
         name: "edition 2, then 4",
         before: b"",
         edits: &[(7, 2)],
@@ -60,7 +52,7 @@ static LISTINGS: [Listing; 13] = [
         errors: "offset 0: 10 edition 2\n",
         refused: 1,
     },
-    Listing {
+    ListedStream {
         name: "no end",
         before: b"",
         edits: &[(47, 0x36)],
@@ -69,16 +61,16 @@ static LISTINGS: [Listing; 13] = [
         errors: "offset 0: 3 no end\n",
         refused: 1,
     },
-    Listing {
+    ListedStream {
         name: "a stray word in front of a message",
-        before: b"BUFR\x00\x00\x40\x04",
+        before: STRAY,
         edits: &[],
         behind: b"\x00\x00\x00\x00\x00\x00\x00\x00",
         listed: &["8"],
         errors: "offset 0: 3 no end\n",
         refused: 1,
     },
-    Listing {
+    ListedStream {
         name: "a stated length of 11 octets",
         before: b"",
         edits: &[],
@@ -87,7 +79,7 @@ static LISTINGS: [Listing; 13] = [
         errors: "offset 48: 2 short length\n",
         refused: 1,
     },
-    Listing {
+    ListedStream {
         name: "a length past the end is told before a short one",
         before: b"",
         edits: &[],
@@ -96,7 +88,7 @@ static LISTINGS: [Listing; 13] = [
         errors: "offset 48: 1 cut\n",
         refused: 1,
     },
-    Listing {
+    ListedStream {
         name: "octets between messages are passed over",
         before: b"IUSX40 ECMW\r\r\nBUBUF",
         edits: &[],
@@ -105,7 +97,7 @@ static LISTINGS: [Listing; 13] = [
         errors: "",
         refused: 0,
     },
-    Listing {
+    ListedStream {
         name: "section 1 short",
         before: b"",
         edits: &[(10, 21)],
@@ -114,7 +106,7 @@ static LISTINGS: [Listing; 13] = [
         errors: "offset 0: 11 section 1 short\n",
         refused: 1,
     },
-    Listing {
+    ListedStream {
         name: "section 1 past the end",
         before: b"",
         edits: &[(10, 40)],
@@ -123,7 +115,7 @@ static LISTINGS: [Listing; 13] = [
         errors: "offset 0: 12 section 1 past the end\n",
         refused: 1,
     },
-    Listing {
+    ListedStream {
         name: "sections that do not meet the end",
         before: b"",
         edits: &[(41, 4)],
@@ -132,7 +124,7 @@ static LISTINGS: [Listing; 13] = [
         errors: "offset 0: 13 sections do not meet the end\n",
         refused: 1,
     },
-    Listing {
+    ListedStream {
         name: "a section 2 that is too short",
         before: b"",
         edits: &[(17, 0x80), (32, 3)],
@@ -141,7 +133,7 @@ static LISTINGS: [Listing; 13] = [
         errors: "offset 0: 11 section 2 short\n",
         refused: 1,
     },
-    Listing {
+    ListedStream {
         name: "another edition is told before a section fault",
         before: b"",
         edits: &[(7, 2), (10, 21)],
@@ -150,7 +142,7 @@ static LISTINGS: [Listing; 13] = [
         errors: "offset 0: 10 edition 2\n",
         refused: 1,
     },
-    Listing {
+    ListedStream {
         name: "no word at all",
         before: b"",
         edits: &[(0, 0)],
@@ -176,9 +168,7 @@ fn lists_worked_examples(rt: HostRuntime) -> Result<(), Fail> {
         let mut output = String::new(rt.alloc());
         let mut accepted = 0u64;
         for offset in listing.listed {
-            output.push_str("offset=")?;
-            output.push_str(offset)?;
-            output.push_str(LINE)?;
+            output.push_str(line_of_one(rt.alloc(), offset)?.as_str())?;
             accepted = accepted.saturating_add(1);
         }
         let tally = Tally {
@@ -197,22 +187,6 @@ fn lists_worked_examples(rt: HostRuntime) -> Result<(), Fail> {
     }
     Ok(())
 }
-
-/// A message with octets for local use in section 1 and a section 2, 56 octets.
-pub(crate) const LOCAL_USE: [u8; 56] = [
-    0x42, 0x55, 0x46, 0x52, 0x00, 0x00, 0x38, 0x04, 0x00, 0x00, 0x18, 0x00, 0x00, 0x62, 0x00, 0x00,
-    0x00, 0x80, 0x00, 0x00, 0x00, 0x0E, 0x00, 0x07, 0xE8, 0x01, 0x02, 0x03, 0x04, 0x05, 0xAB, 0xCD,
-    0x00, 0x00, 0x06, 0x00, 0x01, 0x02, 0x00, 0x00, 0x09, 0x00, 0x00, 0x01, 0x80, 0x01, 0x01, 0x00,
-    0x00, 0x05, 0x00, 0x14, 0x37, 0x37, 0x37, 0x37,
-];
-
-/// A compressed message with two subsets, 50 octets.
-const COMPRESSED: [u8; 50] = [
-    0x42, 0x55, 0x46, 0x52, 0x00, 0x00, 0x32, 0x04, 0x00, 0x00, 0x16, 0x00, 0x00, 0x62, 0x00, 0x00,
-    0x00, 0x00, 0x00, 0x00, 0x00, 0x0E, 0x00, 0x07, 0xE8, 0x01, 0x02, 0x03, 0x04, 0x05, 0x00, 0x00,
-    0x09, 0x00, 0x00, 0x02, 0xC0, 0x0C, 0x65, 0x00, 0x00, 0x07, 0x00, 0x70, 0x8F, 0x05, 0x37, 0x37,
-    0x37, 0x37,
-];
 
 #[test]
 fn lists_optional_and_compressed(rt: HostRuntime) -> Result<(), Fail> {
@@ -289,11 +263,8 @@ fn words_only(rt: HostRuntime) -> Result<(), Fail> {
 /// Wherever a read fails, what was certain before stands: a message that was read whole is listed.
 #[test]
 fn stops_at_a_failed_read(rt: HostRuntime) -> Result<(), Fail> {
-    let mut line = String::from_str(rt.alloc(), "offset=0")?;
-    line.push_str(LINE)?;
-    let mut input = Vec::new(rt.alloc());
-    input.extend_from_slice(&ONE_BLOCK_NUMBER)?;
-    input.extend_from_slice(&ONE_BLOCK_NUMBER)?;
+    let line = line_of_one(rt.alloc(), "0")?;
+    let input = joined(rt.alloc(), &[&ONE_BLOCK_NUMBER, &ONE_BLOCK_NUMBER])?;
     assert_stops_at_failed_reads(&rt, Command::Ls, &input, 0..48, b"", b"")?;
     assert_stops_at_failed_reads(&rt, Command::Ls, &input, 48..96, line.as_bytes(), b"")
 }
@@ -301,15 +272,11 @@ fn stops_at_a_failed_read(rt: HostRuntime) -> Result<(), Fail> {
 /// An interrupted read is a failed one, and the lines of the messages that were read whole stand.
 #[test]
 fn stops_at_an_interrupted_read(rt: HostRuntime) -> Result<(), Fail> {
-    let mut lines = String::from_str(rt.alloc(), "offset=0")?;
-    lines.push_str(LINE)?;
-    let first = lines.len();
-    lines.push_str("offset=48")?;
-    lines.push_str(LINE)?;
+    let first = line_of_one(rt.alloc(), "0")?;
+    let second = line_of_one(rt.alloc(), "48")?;
+    let both = joined(rt.alloc(), &[first.as_bytes(), second.as_bytes()])?;
     let input = joined(rt.alloc(), &[&ONE_BLOCK_NUMBER, &ONE_BLOCK_NUMBER])?;
-    let both = lines.as_bytes();
-    let first = both.get(..first).ok_or("a line")?;
-    assert_stops_at_interrupted_reads(&rt, Command::Ls, &input, first, both)
+    assert_stops_at_interrupted_reads(&rt, Command::Ls, &input, first.as_bytes(), &both)
 }
 
 /// A stray word that states 64 octets, the message behind it, and eight octets behind that, 64 in all:
@@ -317,8 +284,7 @@ fn stops_at_an_interrupted_read(rt: HostRuntime) -> Result<(), Fail> {
 #[test]
 fn stops_behind_a_stray(rt: HostRuntime) -> Result<(), Fail> {
     let input = stray_before(rt.alloc(), &ONE_BLOCK_NUMBER)?;
-    let mut listed = String::from_str(rt.alloc(), "offset=8")?;
-    listed.push_str(LINE)?;
+    let listed = line_of_one(rt.alloc(), "8")?;
     assert_stops_around_a_stray(&rt, Command::Ls, &input, listed.as_bytes())
 }
 
@@ -369,7 +335,7 @@ impl<'a> Read for Watching<'a> {
 /// Each line is on the writer, whole and in one write, before the next message is read.
 #[test]
 fn lists_while_it_reads(rt: HostRuntime) -> Result<(), Fail> {
-    let line = LINE.len().saturating_add("offset=0".len());
+    let line = line_of_one(rt.alloc(), "0")?.len();
     let (octets, writes, torn) = (Cell::new(0), Cell::new(0), Cell::new(false));
     let mut watching = Watching {
         octets: &octets,
@@ -401,8 +367,7 @@ fn lists_while_it_reads(rt: HostRuntime) -> Result<(), Fail> {
 /// A writer that fails, takes nothing, or cannot be flushed has taken a front of the line.
 #[test]
 fn stops_at_a_failed_write(rt: HostRuntime) -> Result<(), Fail> {
-    let mut line = String::from_str(rt.alloc(), "offset=0")?;
-    line.push_str(LINE)?;
+    let line = line_of_one(rt.alloc(), "0")?;
     let whole = line.as_bytes();
     let one = &ONE_BLOCK_NUMBER;
     assert_stops_at_failed_writes(&rt, Command::Ls, one, whole, b"", ONE_ACCEPTED)?;
@@ -429,10 +394,6 @@ fn lists_nothing(rt: HostRuntime) -> Result<(), Fail> {
     let mut w = Device::new(Vec::new(rt.alloc()));
     let mut e = Device::new(Vec::new(rt.alloc()));
     let ran = list(rt.alloc(), &mut r, &mut w, &mut e);
-    let nothing = Tally {
-        accepted: 0,
-        refused: 0,
-    };
-    assert!(rt; ran == Ok(nothing), "{ran:?}");
-    assert_run(&rt, Command::Ls, "nothing", b"", b"", b"", nothing)
+    assert!(rt; ran == Ok(NOTHING), "{ran:?}");
+    assert_run(&rt, Command::Ls, "nothing", b"", b"", b"", NOTHING)
 }
