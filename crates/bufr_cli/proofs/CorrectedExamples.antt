@@ -1,4 +1,4 @@
--- Texts that were written by hand, in the one spelling that a dump has, computed on worked examples.
+-- Texts that were written by hand, in the one spelling that a dump has, on worked examples.
 use Rattle.std.proofs.Common.{◌≡◌, ℕ, List, [], ◌∷◌, ◌++◌, refl, codes}
 use Rattle.std.specs.Fmt.{digits}
 use Rattle.bufr_bits.specs.Bits.{bits_of, bits_in}
@@ -22,7 +22,8 @@ by_hand edition rest =
     ++ (codes "\nmaster 0\ncentre 98\nsubcentre 0\nupdate 0\ncategory 0\nsubcategory 0\nlocalsubcategory 0\nmasterversion 14\nlocalversion 0\nyear 2024\nmonth 1\nday 2\nhour 3\nminute 4\nsecond 5\nobserved 1\ncompressed 0\noptional 0\nsubsets 1\ndescriptors 001001\n"
     ++ rest))
 
--- comments, an empty line, zeros and a point are gone, the item's comment comes, and the second `end` is refused
+-- comments, an empty line, zeros and a point are gone, the item's comment comes, and the second
+-- `end` is refused
 one-before-a-refused-line : normal_texts AsWritten blocks [] (documents_of (codes "# by hand\n" ++ by_hand (codes "04") (codes "\nsubset 01\n001001 010.0  # changed\nend\nend\n")))
     ≡ by_hand (codes "4") (codes "subset 1\n001001 10  # WMO BLOCK NUMBER [Numeric]\nend\n") ∷ []
 unfolding normal_texts spelled lines_of turn line_of worded front behind place_from keys behind_word descriptors_read fxy_read value_read quoted_read hex_read is_hashed encoding_in tree_of level part_of inner_of next_item decimal_value_of bits_of bits_in header_lines runs_behind hex_text descriptors_text digits decimal_text_of unsigned_text

@@ -56,7 +56,8 @@ edition-3-length-line : fault_line 0 (number_of_section_fault Edition3Long) (sec
 unfolding digits
 edition-3-length-line = refl
 
--- the same octets said to be of edition 3: the versions of tables and the year are taken for the month, the day, the hour and the minute
+-- the same octets said to be of edition 3: the versions of tables and the year are taken for the
+-- month, the day, the hour and the minute
 edition-3-listed : ls_pieces (slice_set one_block_number 7 3) ≡ OnOutput (codes "offset=0 length=48 edition=3 centre=98/0 update=0 category=0/0/0 tables=0/0/0 time=0000-14-00T07:232:00 subsets=1 observed=1 compressed=0 optional=0 descriptors=1\n") ∷ []
 unfolding scan_from sections_of section_end digits
 edition-3-listed = refl

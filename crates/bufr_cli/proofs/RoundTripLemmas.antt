@@ -170,8 +170,9 @@ placed-count piece at (m ∷ ms) = ap suc (placed-count piece (at + length m) ms
 abbrev accepted_of : (Happening → Piece) → List Happening → List (List ℕ)
 accepted_of piece es = flat_map (λ here. accepted_in here (piece here)) es
 
--- Events with these pieces, this dump text and these accepted messages: the text is encoded, from a line of a text on, to as many messages with
--- the same readings, which are framed one by one and have the same pieces.
+-- Events with these pieces, this dump text and these accepted messages: the text is encoded, from a
+-- line of a text on, to as many messages with the same readings, which are framed one by one and
+-- have the same pieces.
 record Built (b : List Row) (d : List Sequence) (piece : Happening → Piece) (text : List ℕ) (accepted : List (List ℕ)) (pieces : List Piece) (most line : ℕ) : Type 0 where
   messages : List (List ℕ)
   readings : AllZip (IsBuiltAgain b d) accepted messages
@@ -299,7 +300,8 @@ module _ (b : List Row) (d : List Sequence) (piece : Happening → Piece) (gives
 
   -- ---- three runs
 
-  -- the first dumps a stream, the second encodes what the first wrote, the third dumps what the second wrote
+  -- the first dumps a stream, the second encodes what the first wrote, the third dumps what the
+  -- second wrote
   pub whole-round : (records : List Record) (stream text messages lines again faults : List ℕ) (first second third : Tally) → AreRows records b → AllByRecursion IsOctet stream
       → text ≡ dumped piece stream → Tallies first (dump_pieces piece stream)
       → messages ≡ flat_map output_of (text_pieces b d text) → lines ≡ flat_map errors_of (text_pieces b d text) → Tallies second (text_pieces b d text)

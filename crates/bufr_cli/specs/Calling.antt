@@ -13,9 +13,10 @@ use Rattle.bufr_cli.specs.declared.finish.Outcome.{Outcome}
 use Rattle.bufr_cli.specs.declared.finish.Outcome.TheVariants.{Ran, Usage, CannotOpen, TableB, TableD, Run}
 use Rattle.bufr_cli.specs.declared.job.Job.{Job}
 
--- Of words whose parse may fail by these kinds and meets this subcommand: its job was done, and its outcome told by a
--- last line (or a front of it) and the status; or help was asked for, written and handed on, or a front of it was written; or the
--- words are mistaken; or memory ran out before there was a job.
+-- Of words whose parse may fail by these kinds and meets this subcommand: its job was done, and its
+-- outcome told by a last line (or a front of it) and the status; or help was asked for, written and
+-- handed on, or a front of it was written; or the words are mistaken; or memory ran out before
+-- there was a job.
 pub data CallSo (kinds : Kinds) (met : Option (Text × List Row)) (standard : Option (List ℕ)) (named : List ℕ → Option (List ℕ)) (w w' e e' : Option (List ℕ)) (handed : Bool) (status : ℕ) : Type 0 where
   Does : (job : Job) → IsJobOf met job → (outcome : Outcome) → (told : Option (List ℕ)) → OutcomeSo standard named job w w' e told outcome
       → GrowsByFront told e' (last_line outcome) → status ≡ status_of outcome → CallSo kinds met standard named w w' e e' handed status
@@ -33,8 +34,9 @@ IsWordless (TableB fault) = ⊥
 IsWordless (TableD fault) = ⊥
 IsWordless (Run fault) = fault ≡ Memory
 
--- What the process does with its words, whichever they are: what a call of the program with them comes to, of whose inputs nothing is known;
--- or they cannot be had, and that is told by a last line (or a front of it) and the status, with no output.
+-- What the process does with its words, whichever they are: what a call of the program with them
+-- comes to, of whose inputs nothing is known; or they cannot be had, and that is told by a last
+-- line (or a front of it) and the status, with no output.
 pub data WordsSo (w w' e e' : Option (List ℕ)) (handed : Bool) (status : ℕ) : Type 0 where
   Calls : (words : List (List ℕ)) → CallSo (fault_of bufr_app words) (subcommand_of bufr_app words) None (λ _. None) w w' e e' handed status → WordsSo w w' e e' handed status
   NoWords : (outcome : Outcome) → IsWordless outcome → w' ≡ w → GrowsByFront e e' (last_line outcome) → status ≡ status_of outcome → WordsSo w w' e e' handed status

@@ -20,7 +20,8 @@ refused_line line NotAllowed = document_line line 50 (codes "line" ∷ [])
 refused_line line SubsetCount = document_line line 57 (codes "subset count" ∷ [])
 refused_line line HeaderRange = document_line line 61 (codes "header range" ∷ [])
 
--- the walk that is refused: the number that a message's data would be refused by, and the descriptor
+-- the walk that is refused: the number that a message's data would be refused by, and the
+-- descriptor
 abbrev pub walk_text : (number fxy : ℕ) → List (List ℕ)
 walk_text number fxy = codes "walk " ∷ decimal number ∷ codes " descriptor " ∷ fxy_text fxy ∷ []
 

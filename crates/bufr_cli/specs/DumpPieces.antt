@@ -29,14 +29,16 @@ template_piece offset fault = OnErrors (fault_line offset (number_of_template_fa
 abbrev pub dump_text : List Row → Tree → Sections → Values → (used : ℕ) → List ℕ
 dump_text table template s values used = dump_text_of s (items_of (read_by table template (data_of s) used 0) values)
 
--- the text of a message whose data are read by a template, or the fault line of one whose data are refused
+-- the text of a message whose data are read by a template, or the fault line of one whose data are
+-- refused
 abbrev pub IsDataPiece : List Row → ℕ → Sections → Tree → Piece → Type 0
 IsDataPiece table offset s template (OnOutput text) =
     (values : Values) × (used : ℕ) × IsReading (next_item table template) (data_of s) values used × (text ≡ dump_text table template s values used)
 IsDataPiece table offset s template (OnErrors text) =
     (why : WalkFault) × (turns : ℕ) × IsRefused (next_item table template) (data_of s) why turns × (text ≡ fault_line offset (number_of_fault why) (walk_fault_text why))
 
--- what is written for a message, by the template that its descriptors make, or by the fault of these
+-- what is written for a message, by the template that its descriptors make, or by the fault of
+-- these
 abbrev pub IsTemplatePiece : List Row → ℕ → Sections → Result Tree TemplateFault → Piece → Type 0
 IsTemplatePiece table offset s (Ok template) piece = IsDataPiece table offset s template piece
 IsTemplatePiece table offset s (Err fault) piece = piece ≡ template_piece offset fault

@@ -1,4 +1,4 @@
--- What `encode` writes for the documents of a text, in which form, by which tables. (a choice of this project)
+-- What `encode` writes for the documents of a text, by which tables. (a choice of this project)
 -- Cited by public contracts.
 use Rattle.std.specs.Prelude.{ℕ, List, [], ◌∷◌, map, Result, Ok, Err}
 use Rattle.bufr_tables.specs.TableB.{Row}

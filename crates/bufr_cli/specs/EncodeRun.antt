@@ -14,8 +14,9 @@ abbrev pub read_documents : (ended : Bool) → List ℕ → List Told
 read_documents true bs = documents_of bs
 read_documents false bs = open_documents_of bs
 
--- The pieces of the whole input were written and counted, whatever is behind the octets that were read: nothing, where the end was reached, and
--- all that comes behind a refused document counts for nothing.
+-- The pieces of the whole input were written and counted, whatever is behind the octets that were
+-- read: nothing, where the end was reached, and all that comes behind a refused document counts for
+-- nothing.
 pub record EncodeDone (pieces_of : List Told → List Piece) (left left' w w' e e' : Option (List ℕ)) (bs : List ℕ) (tally : Tally) : Type 0 where
   pub read : Consumes left left' bs
   pub ended : Bool
@@ -25,14 +26,15 @@ pub record EncodeDone (pieces_of : List Told → List Piece) (left left' w w' e 
   pub certain : Written w w' e e' (pieces_of (read_documents ended bs))
   pub tallies : (t : List ℕ) → (ended ≡ true → t ≡ []) → Tallies tally (pieces_of (documents_of (bs ++ t)))
 
--- The run stopped before the end, and the pieces of the documents whose `end` was read with its line feed were written: none of these was
--- refused, since that would have ended the run.
+-- The run stopped before the end, and the pieces of the documents whose `end` was read with its
+-- line feed were written: none of these was refused, since that would have ended the run.
 pub record EncodeStopped (pieces_of : List Told → List Piece) (left left' w w' e e' : Option (List ℕ)) (bs : List ℕ) : Type 0 where
   pub read : Consumes left left' bs
   pub written : Written w w' e e' (pieces_of (open_documents_of bs))
   pub accepted : count_by is_refused (pieces_of (open_documents_of bs)) ≡ 0
 
--- A writer failed, or memory was refused: of what was read a front was written; where a flush was tried, all stands.
+-- A writer failed, or memory was refused: of what was read a front was written; where a flush was
+-- tried, all stands.
 pub record EncodeCut (pieces_of : List Told → List Piece) (left left' w w' e e' : Option (List ℕ)) (unflushed : Type 0) (bs : List ℕ) : Type 0 where
   pub read : Consumes left left' bs
   pub ended : Bool

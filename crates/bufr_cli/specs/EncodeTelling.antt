@@ -12,7 +12,8 @@ use Rattle.bufr_cli.specs.Pieces.{Piece}
 use Rattle.bufr_cli.specs.Telling.{TellsPieces}
 use Rattle.bufr_cli.specs.declared.tally.Verdict.{Verdict}
 
--- the piece of what the reader told was written and counted, or a front of it; at the end of the text there is none
+-- the piece of what the reader told was written and counted, or a front of it; at the end of the
+-- text there is none
 abbrev pub TellsNext : (w w' e e' : Option (List ℕ)) → (Told → Piece) → Result (Option Document) ReadFault → Result (Option Verdict) RunFault → Type 0
 TellsNext w w' e e' piece next (Ok None) = (next ≡ Ok None) × (w' ≡ w) × (e' ≡ e)
 TellsNext w w' e e' piece next (Ok (Some verdict)) = (x : Told) × (told_by next ≡ x ∷ []) × TellsPieces w w' e e' (piece x ∷ []) (Ok verdict)

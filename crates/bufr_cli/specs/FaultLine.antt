@@ -1,4 +1,4 @@
--- The lines that tell the faults of a stream, of a message, of its template and of its data. (a choice of this project)
+-- The lines that tell the faults of a stream and of its messages. (a choice of this project)
 -- Cited by public contracts.
 use Rattle.std.specs.Prelude.{ℕ, List, [], ◌∷◌, ◌++◌, codes, decimal}
 use Rattle.bufr_frame.specs.declared.fault.Cause.{Cause}

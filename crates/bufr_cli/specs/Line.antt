@@ -53,7 +53,8 @@ word_of AsWritten = None
 word_of Plain = Some (codes "plain")
 word_of Compressed = Some (codes "compressed")
 
--- the tables of a subcommand that reads them are the values of -B and -D, and its form is that of --form
+-- the tables of a subcommand that reads them are the values of -B and -D, and its form is that of
+-- --form
 abbrev pub HasTables : List Row → Subcommand → Type 0
 HasTables rows Ls = Unit {0}
 HasTables rows (Dump tables) = AreNamed rows tables

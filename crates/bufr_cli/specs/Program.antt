@@ -24,7 +24,8 @@ use Rattle.bufr_cli.specs.declared.job.Subcommand.TheVariants.{Ls, Dump, Encode}
 use Rattle.bufr_cli.specs.declared.job.TableNames.{TableNames}
 use Rattle.bufr_cli.specs.declared.tally.Tally.{Tally}
 
--- the octets of the input, where they are known: those of the file of this name, or of standard input
+-- the octets of the input, where they are known: those of the file of this name, or of standard
+-- input
 abbrev pub input_octets : (standard : Option (List ℕ)) → (named : List ℕ → Option (List ℕ)) → (file : Option (Bor (List ℕ))) → Option (List ℕ)
 input_octets standard named None = standard
 input_octets standard named (Some name) = named name.now
@@ -37,12 +38,14 @@ Tells w w' e e' tally pieces = Written w w' e e' pieces × Tallies tally pieces
 abbrev pub WritesNothing : (w w' e e' : Option (List ℕ)) → Type 0
 WritesNothing w w' e e' = (w' ≡ w) × (e' ≡ e)
 
--- a run over the events of an input was ended by this fault: of octets that it read it left what such a run leaves
+-- a run over the events of an input was ended by this fault: of octets that it read it left what
+-- such a run leaves
 abbrev pub RunLeft : (pieces_of : List Happening → List Piece) → (w w' e e' : Option (List ℕ)) → (left : Option (List ℕ)) → RunFault → Type 0
 RunLeft pieces_of w w' e e' left fault = (left' : Option (List ℕ)) × (bs : List ℕ) × RunSo pieces_of left left' w w' e e' (Unit {0}) (Unit {0}) bs (Err fault)
 
--- what comes of a run over an input: where it went through, this holds of its octets, and where a fault ended it, that of them and of the
--- fault; what cannot be opened is the input, of which nothing was known, and then nothing was written
+-- what comes of a run over an input: where it went through, this holds of its octets, and where a
+-- fault ended it, that of them and of the fault; what cannot be opened is the input, of which
+-- nothing was known, and then nothing was written
 abbrev pub RunOutcome : (ran : Tally → List ℕ → Type 0) → (ended : Option (List ℕ) → RunFault → Type 0) → (nothing : Type 0) → (standard : Option (List ℕ)) → (named : List ℕ → Option (List ℕ)) → (file : Option (Bor (List ℕ))) → Outcome → Type 0
 RunOutcome ran ended nothing standard named file (Ran tally) = IfSome (input_octets standard named file) (ran tally)
 RunOutcome ran ended nothing standard named file (Usage text) = ⊥
@@ -100,7 +103,8 @@ Encodes form b d w w' e e' tally s = Tells w w' e e' tally (encode_pieces form b
 abbrev pub EncodeLeft : Form → List Row → List Sequence → (w w' e e' : Option (List ℕ)) → (left : Option (List ℕ)) → RunFault → Type 0
 EncodeLeft form b d w w' e e' left fault = (left' : Option (List ℕ)) × (bs : List ℕ) × EncodeSo (encode_pieces form b d) left left' w w' e e' (Unit {0}) bs (Err fault)
 
--- what comes of a run by tables: Table B is not read, or Table B is and Table D is not, and nothing was written; or there is a run by both
+-- what comes of a run by tables: Table B is not read, or Table B is and Table D is not, and nothing
+-- was written; or there is a run by both
 pub data TablesOutcome (run : List Row → List Sequence → Outcome → Type 0) (nothing : Type 0) (named : List ℕ → Option (List ℕ)) (tables : TableNames) (outcome : Outcome) : Type 0 where
   NoTableB : nothing → TableBOutcome named tables.table_b outcome → TablesOutcome run nothing named tables outcome
   NoTableD : nothing → (b : List Row) → IfSome (named tables.table_b.now) (λ text. table_b_of (records_of text) ≡ Ok b) → TableDOutcome named tables.table_d outcome → TablesOutcome run nothing named tables outcome

@@ -1,4 +1,4 @@
--- A stream that is dumped, its dump text encoded, and what was encoded dumped again. (a choice of this project)
+-- A stream dumped, its text encoded, and what was encoded dumped again. (a choice of this project)
 -- Cited by public contracts.
 use Rattle.std.specs.Prelude.{◌≡◌, ℕ, ◌+◌, ◌≤◌, List, [], ◌∷◌, length, map, flat_map, count_by}
 use Rattle.std.specs.List.{AllByRecursion, AllZip, concat, filter}
@@ -54,13 +54,14 @@ accepted_in here (OnErrors text) = []
 abbrev pub accepted_messages : (Happening → Piece) → List ℕ → List (List ℕ)
 accepted_messages piece s = flat_map (λ here. accepted_in here (piece here)) (scan s)
 
--- By how many octets these messages may grow when they are written again: up to two for each of edition 3, whose sections 3 and 4 are made even.
+-- By how many octets these messages may grow when they are written again: up to two for each of
+-- edition 3, whose sections 3 and 4 are made even.
 abbrev pub longer_by : List (List ℕ) → ℕ
 longer_by [] = 0
 longer_by (m ∷ ms) = longer (edition_of m) + longer_by ms
 
--- Of two messages the first is accepted, and the second has the same reading and is no longer, but that in edition 3 up to two octets make sections
--- 3 and 4 even.
+-- Of two messages the first is accepted, and the second has the same reading and is no longer, but
+-- that in edition 3 up to two octets make sections 3 and 4 even.
 pub record IsBuiltAgain (b : List Row) (d : List Sequence) (m written : List ℕ) : Type 0 where
   pub sections : Sections
   pub template : Tree
@@ -79,12 +80,13 @@ pub record RoundTrips (b : List Row) (d : List Sequence) (piece : Happening → 
   pub none_refused : count_by is_refused (rebuilding b d piece s) ≡ 0
   pub no_line : flat_map errors_of (rebuilding b d piece s) ≡ []
   pub as_many : count_by is_accepted (rebuilding b d piece s) ≡ count_by is_accepted (dump_pieces piece s)
-  -- what it writes is these messages and nothing else, is longer than the stream by no more than its messages of edition 3 may grow, and each has the
-  -- reading of the one that was dumped
+  -- what it writes is these messages and nothing else, is longer than the stream by no more than
+  -- its messages of edition 3 may grow, and each has the reading of the one that was dumped
   pub messages : rebuilt b d piece s ≡ concat (accepted_messages piece (rebuilt b d piece s))
   pub no_longer : length (rebuilt b d piece s) ≤ length s + longer_by (accepted_messages piece s)
   pub readings : AllZip (IsBuiltAgain b d) (accepted_messages piece s) (accepted_messages piece (rebuilt b d piece s))
-  -- dumped again it has the pieces of the stream that went to the output, and no other: the same text, octet for octet, and no fault
+  -- dumped again it has the pieces of the stream that went to the output, and no other: the same
+  -- text, octet for octet, and no fault
   pub same_pieces : dump_pieces piece (rebuilt b d piece s) ≡ filter is_accepted (dump_pieces piece s)
   pub same_text : dumped piece (rebuilt b d piece s) ≡ dumped piece s
   pub no_fault : flat_map errors_of (dump_pieces piece (rebuilt b d piece s)) ≡ []
@@ -97,8 +99,10 @@ pub record IsRun (ran : RunInMemory) (pieces : List Piece) : Type 0 where
   pub errors : taken_of ran.errors ≡ flat_map errors_of pieces
   pub tallies : Tallies ran.tally pieces
 
--- A stream was dumped to a text, the text encoded to messages with these fault lines, and the messages dumped again to a text with these faults: the
--- two texts are the same, nothing was refused but by the first run, and the messages have, one by one, the readings of those that were dumped.
+-- A stream was dumped to a text, the text encoded to messages with these fault lines, and the
+-- messages dumped again to a text with these faults: the two texts are the same, nothing was
+-- refused but by the first run, and the messages have, one by one, the readings of those that were
+-- dumped.
 pub record IsWholeRound (b : List Row) (d : List Sequence) (stream text messages lines again faults : List ℕ) (first second third : Tally) : Type 0 where
   pub same_text : again ≡ text
   pub as_many : second.accepted ≡ first.accepted
@@ -109,7 +113,8 @@ pub record IsWholeRound (b : List Row) (d : List Sequence) (stream text messages
   -- what `dump` writes for each event, by which the accepted messages are known
   pub piece : Happening → Piece
   pub gives : GivesPieces (IsDumpPiece b d) piece
-  -- the messages that were written, and nothing else, each with the reading of the one that was dumped
+  -- the messages that were written, and nothing else, each with the reading of the one that was
+  -- dumped
   pub are_messages : messages ≡ concat (accepted_messages piece messages)
   pub readings : AllZip (IsBuiltAgain b d) (accepted_messages piece stream) (accepted_messages piece messages)
   pub no_longer : length messages ≤ length stream + longer_by (accepted_messages piece stream)

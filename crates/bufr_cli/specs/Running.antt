@@ -45,12 +45,14 @@ pub record RunStopped (pieces_of : List Happening → List Piece) (left left' w 
   pub read : Consumes left left' bs
   pub written : Written w w' e e' (pieces_of (open_scan bs))
 
--- the events of the octets that were read: all, where the end was reached, and else those that are certain
+-- the events of the octets that were read: all, where the end was reached, and else those that are
+-- certain
 abbrev pub read_events : (ended : Bool) → List ℕ → List Happening
 read_events true bs = scan bs
 read_events false bs = open_scan bs
 
--- A writer failed, or memory was refused: of what was read a front was written; where a flush was tried, all stands.
+-- A writer failed, or memory was refused: of what was read a front was written; where a flush was
+-- tried, all stands.
 pub record RunCut (pieces_of : List Happening → List Piece) (left left' w w' e e' : Option (List ℕ)) (unflushed : Type 0) (bs : List ℕ) : Type 0 where
   pub read : Consumes left left' bs
   pub ended : Bool
@@ -62,7 +64,8 @@ pub record RunCut (pieces_of : List Happening → List Piece) (left left' w w' e
 abbrev pub ReadsFewer : (reads reads' : ℕ) → Type 0
 ReadsFewer reads reads' = (n : ℕ) × (n < most_reads) × (reads' ≡ counted reads n)
 
--- what a run leaves that reads these octets; memory is wanted where a piece was to be written, or early, before all of the reads were made
+-- what a run leaves that reads these octets; memory is wanted where a piece was to be written, or
+-- early, before all of the reads were made
 abbrev pub RunSo : (pieces_of : List Happening → List Piece) → (left left' w w' e e' : Option (List ℕ)) → (unflushed early : Type 0) → List ℕ → Result Tally RunFault → Type 0
 RunSo pieces_of left left' w w' e e' unflushed early bs (Ok tally) = RunDone pieces_of left left' w w' e e' bs tally
 RunSo pieces_of left left' w w' e e' unflushed early bs (Err Read) = RunStopped pieces_of left left' w w' e e' bs

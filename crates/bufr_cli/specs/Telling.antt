@@ -38,7 +38,8 @@ StopsPiece takes_memory (Err Write) = Unit {0}
 StopsPiece takes_memory (Err InputTooLong) = ⊥
 StopsPiece takes_memory (Err Memory) = takes_memory ≡ true
 
--- the reads of a run; where its texts take no memory, it is wanted only before all of the reads were made
+-- the reads of a run; where its texts take no memory, it is wanted only before all of the reads
+-- were made
 abbrev pub RunReads : {X : Type 0} → (takes_memory : Bool) → (reads reads' : ℕ) → Result X RunFault → Type 0
 RunReads false reads reads' result = MakesReads reads reads' result
 RunReads true reads reads' result = ReadsAtMost reads reads' result

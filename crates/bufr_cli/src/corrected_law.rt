@@ -1,5 +1,5 @@
-//! A law of texts that were changed, or written by hand: what `encode` builds of them, `dump` writes
-//! in its one spelling.
+//! A law of texts that were changed, or written by hand: what `encode` builds of them, `dump`
+//! writes in its one spelling.
 ghost use Rattle.std.specs.Prelude.{List, ℕ};
 ghost use Rattle.bufr_frame.specs.Scan.{Happening};
 ghost use Rattle.bufr_tables.specs.Records.{Record};
@@ -12,9 +12,9 @@ ghost use Rattle.bufr_cli.specs.Pieces.{Piece};
 ghost use Rattle.bufr_cli.specs.Running.{GivesPieces};
 
 /// For every text, in every form and by all tables that were read: what `encode` builds of it is
-/// dumped without a fault to the texts, one after another, of its documents before the first that is
-/// refused (or before the line that is), each in the one spelling that a dump has; and these texts
-/// are encoded to the same octets again.
+/// dumped without a fault to the texts, one after another, of its documents before the first that
+/// is refused (or before the line that is), each in the one spelling that a dump has; and these
+/// texts are encoded to the same octets again.
 pub fn encoded_texts_are_dumped_in_one_spelling()
     ensures { (form : Form) (records : List Record) (table_b : List Row) (table_d : List Sequence) (piece : Happening → Piece) (text : List ℕ)
         → AreRows records table_b → GivesPieces (IsDumpPiece table_b table_d) piece → IsDumpedInOneSpelling form table_b table_d piece text }

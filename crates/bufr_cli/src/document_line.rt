@@ -17,7 +17,8 @@ use bufr_frame::RunFault;
 use bufr_tables::{Fxy, TemplateFault};
 use bufr_text::{DocumentFault, Part, ReadFault, WalkRefusal, write_parts};
 
-/// Writes a fault line: the line of the text, from 1, the fault's number, and its text in two parts.
+/// Writes a fault line: the line of the text, from 1, the fault's number, and its text in two
+/// parts.
 fn write_line<'a, E: Sink>(
     line: u64,
     number: u8,
@@ -97,7 +98,8 @@ fn write_template<E: Sink>(
     write_template_parts(line, number, why, name, &digits, e)
 }
 
-/// Writes the line of a template fault, by the fault's own number, `why`, its name and its descriptor.
+/// Writes the line of a template fault, by the fault's own number, `why`, its name and its
+/// descriptor.
 fn write_template_parts<'a, E: Sink>(
     line: u64,
     number: u8,
@@ -126,7 +128,8 @@ fn write_template_parts<'a, E: Sink>(
     write_parts(&parts, e)
 }
 
-/// Writes the line of a document whose walk is refused, by the walk's own number, `why`, and a descriptor.
+/// Writes the line of a document whose walk is refused, by the walk's own number, `why`, and a
+/// descriptor.
 fn write_walk_parts<E: Sink>(
     line: u64,
     number: u8,

@@ -10,8 +10,8 @@ use bufr_text::Form;
 use std::alloc::Global;
 use std::test::Fail;
 
-/// The message of one block number in edition 3: section 1 has one octet for local use behind the 17
-/// that the edition lays down, and sections 3 and 4 each have an octet that makes them even.
+/// The message of one block number in edition 3: section 1 has one octet for local use behind the
+/// 17 that the edition lays down, and sections 3 and 4 each have an octet that makes them even.
 const EVEN: &str =
     "425546520000 2E03 000012000062000000000E001801020304 00 00000A00000180010100 000006001400 37373737";
 
@@ -47,7 +47,8 @@ fn text(alloc: Global, optional: u8, local: &str) -> Result<String, Fail> {
     Ok(text)
 }
 
-/// A message of edition 3 with this block number: how its sections are laid out, and what that says.
+/// A message of edition 3 with this block number: how its sections are laid out, and what that
+/// says.
 struct Layout {
     name: &'static str,
     octets: &'static str,
@@ -155,7 +156,8 @@ fn dumps_and_encodes_each_layout(rt: HostRuntime) -> Result<(), Fail> {
     Ok(())
 }
 
-/// The sub-centre stands before the centre, the flags in octet 8, and the year as the message has it.
+/// The sub-centre stands before the centre, the flags in octet 8, and the year as the message has
+/// it.
 #[test]
 fn lists_messages(rt: HostRuntime) -> Result<(), Fail> {
     let mut input = message(rt.alloc(), EVEN)?;
@@ -170,8 +172,8 @@ fn lists_messages(rt: HostRuntime) -> Result<(), Fail> {
     assert_run(&rt, Command::Ls, "centres", &input, line, b"", ONE_ACCEPTED)
 }
 
-/// A message of edition 4 whose edition is changed to 3 is read by the other layout, the next by its
-/// own.
+/// A message of edition 4 whose edition is changed to 3 is read by the other layout, the next by
+/// its own.
 #[test]
 fn lists_editions_side_by_side(rt: HostRuntime) -> Result<(), Fail> {
     let mut input = joined(rt.alloc(), &[&ONE_BLOCK_NUMBER, &ONE_BLOCK_NUMBER])?;
@@ -231,8 +233,8 @@ fn encodes_in_each_form(rt: HostRuntime) -> Result<(), Fail> {
     assert_run(&rt, plain, "plain", said, &even, b"", tally)
 }
 
-/// A stream with messages of both editions, one of edition 3 with odd sections: its text is encoded to
-/// the messages with even sections, which have the same text.
+/// A stream with messages of both editions, one of edition 3 with odd sections: its text is encoded
+/// to the messages with even sections, which have the same text.
 #[test]
 fn closes_the_round_of_both_editions(rt: HostRuntime) -> Result<(), Fail> {
     let even = message(rt.alloc(), EVEN)?;
@@ -254,7 +256,8 @@ fn closes_the_round_of_both_editions(rt: HostRuntime) -> Result<(), Fail> {
     assert_run(&rt, Command::Dump, "again", &built, text, b"", all)
 }
 
-/// A line of the document (its key from the front, its value) and whether that value fits edition 3.
+/// A line of the document (its key from the front, its value) and whether that value fits edition
+/// 3.
 static VALUES: [(&str, &str, u8); 20] = [
     ("edition 3", "edition 2", 2),
     ("edition 3", "edition 5", 2),

@@ -569,7 +569,8 @@ fn refuses_a_long_message(rt: HostRuntime) -> Result<(), Fail> {
     Ok(())
 }
 
-/// An interrupted read is a failed one, and the messages of the documents that were read whole stand.
+/// An interrupted read is a failed one, and the messages of the documents that were read whole
+/// stand.
 #[test]
 fn stops_at_an_interrupted_read(rt: HostRuntime) -> Result<(), Fail> {
     let one = text_of_one(rt.alloc())?;

@@ -297,8 +297,8 @@ fn stops_before_a_failed_read(rt: HostRuntime) -> Result<(), Fail> {
     Ok(())
 }
 
-/// Writers that fail, take nothing, or cannot be flushed have taken a front; where the errors' writer
-/// fails, the messages before the refused document stand.
+/// Writers that fail, take nothing, or cannot be flushed have taken a front; where the errors'
+/// writer fails, the messages before the refused document stand.
 #[test]
 fn stops_at_a_failed_write(rt: HostRuntime) -> Result<(), Fail> {
     let good = text_of_one(rt.alloc())?;

@@ -168,7 +168,8 @@ pub fn write_walk_fault<E: Sink>(offset: u64, fault: &WalkFault, e: &mut E) -> R
     write_spot_fault(offset, number, name, spot, &digits, e)
 }
 
-/// Writes the line of a fault that stands at an item of the data, whose descriptor has these digits.
+/// Writes the line of a fault that stands at an item of the data, whose descriptor has these
+/// digits.
 fn write_spot_fault<'a, E: Sink>(
     offset: u64,
     number: u8,

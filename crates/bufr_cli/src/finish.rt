@@ -147,7 +147,8 @@ fn write_last<E: Sink>(outcome: &Outcome<'_>, e: &mut E) -> Result<(), RunFault>
 /// for all else. A write that fails leaves the status as it is. It takes no memory.
 pub fn finish<E: Sink>(outcome: &Outcome<'_>, e: &mut E) -> u8
     ensures status { result ≡ status_of outcome.now }
-    // A front of the line is written, and all of it where no call of the writer failed or took nothing.
+    // A front of the line is written, and all of it where no call of the writer failed or took
+    // nothing.
     ensures front { GrowsByFront (E.taken e.old) (E.taken e.new) (last_line outcome.now) }
     ensures whole { E.failures e.old < 2 ^ 64 - 1 → E.empty_writes e.old < 2 ^ 64 - 1 → Stays (E.failures e.old) (E.failures e.new) (E.empty_writes e.old) (E.empty_writes e.new) → Appends (E.taken e.old) (E.taken e.new) (last_line outcome.now) }
 {

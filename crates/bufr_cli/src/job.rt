@@ -357,11 +357,13 @@ fn job_of<'a>(name: &str, found: &ArgMatches<'a>) -> Option<Job<'a>>
 ///
 /// # Errors
 ///
-/// [`LineFault::Help`] where help or the version is asked for, [`LineFault::Usage`] where the words are not
-/// understood, no command is among them, a table is missing or a form unknown, and [`LineFault::Memory`].
+/// [`LineFault::Help`] where help or the version is asked for, [`LineFault::Usage`] where the words
+/// are not understood, no command is among them, a table is missing or a form unknown, and
+/// [`LineFault::Memory`].
 pub fn parse_line<'a, S: AsStr>(alloc: Global, words: &'a [S]) -> Result<Job<'a>, LineFault>
     ensures job { IfOk result (λ job. IsJobOf (subcommand_of bufr_app (map S.text words.entry.now)) job) }
-    // Help only where clap's rules for the line ask for it, a usage fault only where they refuse it or no job is met.
+    // Help only where clap's rules for the line ask for it, a usage fault only where they refuse it
+    // or no job is met.
     ensures fault { IfErr result (SaysWhy (fault_of bufr_app (map S.text words.entry.now)) (subcommand_of bufr_app (map S.text words.entry.now))) }
 {
     let command = bufr_command(alloc)?;

@@ -1,4 +1,13 @@
 //! `bufr`: lists, dumps and encodes messages of FM 94 BUFR.
+//!
+//! `bufr ls [FILE]` writes a line for each message of a stream, `bufr dump -B FILE -D FILE [FILE]`
+//! the text of each by Tables B and D, and `bufr encode -B FILE -D FILE [--form WORD] [FILE]` the
+//! messages that such texts spell. Faults go to standard error, a line each. The exit status is 0
+//! where nothing was refused, 1 where a message or a document was, and 2 where the command line, a
+//! file, a table, reading, writing or memory failed.
+//!
+//! What stands here only wraps the process's own inputs and writers. What the words ask for is done
+//! by [`program::run`], over any inputs and writers.
 #![tactic(auto)]
 
 ghost use Rattle.bufr_cli.specs.Calling.{IsWordless, WordsSo};

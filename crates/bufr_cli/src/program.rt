@@ -77,7 +77,8 @@ pub fn run<'a, S: AsStr, I: Inputs, W: Sink, E: Sink>(
     w: &mut W,
     e: &mut E,
 ) -> u8
-    // What the words ask for was done and told, or help (all of it handed on), or why not; the status says which.
+    // What the words ask for was done and told, or help (all of it handed on), or why not; the
+    // status says which.
     ensures { CallSo (fault_of bufr_app (map S.text words.entry.now)) (subcommand_of bufr_app (map S.text words.entry.now))
         (I.standard_octets inputs.now) (I.file_octets inputs.now) (W.taken w.old) (W.taken w.new) (E.taken e.old) (E.taken e.new) (W.handed_on w.new) result }
 {
@@ -328,8 +329,8 @@ fn encode_input<'a, I: Inputs, W: Sink, E: Sink>(
     }
 }
 
-/// Hands on what a run has written that a fault ended, and answers as the run did. Behind a fault of
-/// a write nothing is tried again; a run that went through has handed on all.
+/// Hands on what a run has written that a fault ended, and answers as the run did. Behind a fault
+/// of a write nothing is tried again; a run that went through has handed on all.
 fn hand_on_rest<W: Sink>(ran: Result<Tally, RunFault>, w: &mut W) -> Result<Tally, RunFault>
     ensures same { result ≡ ran }
     ensures ok { OnOk ran (W.taken w.new ≡ W.taken w.old) }

@@ -232,8 +232,8 @@ fn gives_help(rt: HostRuntime) {
     }
 }
 
-/// Calls the program. A test sees only what a call left, so that its own proof does not have to carry
-/// the call's contract.
+/// Calls the program. A test sees only what a call left, so that its own proof does not have to
+/// carry the call's contract.
 fn call<'a, I: Inputs, W: Sink, E: Sink>(
     alloc: Global,
     words: &'a [&'static str],

@@ -14,10 +14,11 @@ ghost use Rattle.bufr_cli.specs.RoundTrip.{RoundTrips, IsWholeRound, IsWrittenSo
 ghost use Rattle.bufr_cli.specs.Running.{GivesPieces};
 ghost use Rattle.bufr_cli.specs.declared.tally.Tally.{Tally};
 
-/// For every stream of octets and all tables that were read: of the text that `dump` writes, `encode`
-/// refuses nothing; the messages that it builds have, one by one, the same readings as those that were
-/// dumped, and are no longer, but for up to two octets for each message of edition 3, whose sections 3
-/// and 4 are made even; and dumped again they are the same text, octet for octet.
+/// For every stream of octets and all tables that were read: of the text that `dump` writes,
+/// `encode` refuses nothing; the messages that it builds have, one by one, the same readings as
+/// those that were dumped, and are no longer, but for up to two octets for each message of edition
+/// 3, whose sections 3 and 4 are made even; and dumped again they are the same text, octet for
+/// octet.
 pub fn dumped_streams_are_built_again()
     ensures { (records : List Record) (table_b : List Row) (table_d : List Sequence) (piece : Happening → Piece) (s : List ℕ)
         → AreRows records table_b → GivesPieces (IsDumpPiece table_b table_d) piece → AllByRecursion IsOctet s
@@ -25,9 +26,9 @@ pub fn dumped_streams_are_built_again()
 {}
 
 /// Where all accepted messages of a stream are as an encoder writes them (reserved bits and octets
-/// zero, nothing behind the descriptors, no minus zero, each compressed item packed as its values are
-/// packed, the least octets of data with zero bits at their end), they are built of the dump text octet
-/// for octet.
+/// zero, nothing behind the descriptors, no minus zero, each compressed item packed as its values
+/// are packed, the least octets of data with zero bits at their end), they are built of the dump
+/// text octet for octet.
 pub fn canonical_streams_are_built_as_they_are()
     ensures { (records : List Record) (table_b : List Row) (table_d : List Sequence) (piece : Happening → Piece) (s : List ℕ)
         → AreRows records table_b → GivesPieces (IsDumpPiece table_b table_d) piece → AllByRecursion IsOctet s
@@ -35,9 +36,9 @@ pub fn canonical_streams_are_built_as_they_are()
 {}
 
 /// Runs of the program that went through, each over what the one before wrote, by the same tables:
-/// after `dump`, `encode` and `dump` again the two texts are the same, nothing was refused but by the
-/// first, the messages have one by one the readings of those that were dumped, and canonical messages
-/// are the same octet for octet.
+/// after `dump`, `encode` and `dump` again the two texts are the same, nothing was refused but by
+/// the first, the messages have one by one the readings of those that were dumped, and canonical
+/// messages are the same octet for octet.
 pub fn runs_close_the_round()
     ensures { (records : List Record) (table_b : List Row) (table_d : List Sequence) (stream text messages lines again faults : List ℕ) (e e' : Option (List ℕ)) (first second third : Tally)
         → AreRows records table_b → AllByRecursion IsOctet stream

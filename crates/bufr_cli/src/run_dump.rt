@@ -167,8 +167,8 @@ impl<'b, 'd> Teller for Dumping<'b, 'd> {
 /// and each message that is refused a fault line on `e` and nothing on `w`, in the order of the
 /// stream, each as soon as it is certain. At the end `w`, then `e` is flushed.
 ///
-/// A message is refused for its sections, then for its descriptors ([`TemplateFault`]), then for its
-/// data ([`WalkFault`]).
+/// A message is refused for its sections, then for its descriptors ([`TemplateFault`]), then for
+/// its data ([`WalkFault`]).
 ///
 /// ```
 /// let table_b = TableB::read(rt.alloc(), b"fxy,name,unit,scale,reference,width\n")?;
@@ -182,9 +182,9 @@ impl<'b, 'd> Teller for Dumping<'b, 'd> {
 ///
 /// # Errors
 ///
-/// [`RunFault::Read`] and [`RunFault::InputTooLong`] as [`bufr_frame::Finder::next`] gives them; the
-/// texts of all that was certain were written then. [`RunFault::Write`] where a writer failed or took
-/// nothing, and [`RunFault::Memory`]: a front of the texts was written.
+/// [`RunFault::Read`] and [`RunFault::InputTooLong`] as [`bufr_frame::Finder::next`] gives them;
+/// the texts of all that was certain were written then. [`RunFault::Write`] where a writer failed
+/// or took nothing, and [`RunFault::Memory`]: a front of the texts was written.
 pub fn run_dump<R: Source, W: Sink, E: Sink>(
     alloc: Global,
     r: &mut R,

@@ -93,7 +93,8 @@ fn encode_next<W: Sink, E: Sink>(
     }
 }
 
-/// Encodes the documents of `r` in a form, up to the first one that is refused, and flushes nothing.
+/// Encodes the documents of `r` in a form, up to the first one that is refused, and flushes
+/// nothing.
 fn encode_documents<R: Source, W: Sink, E: Sink>(
     alloc: Global,
     r: &mut R,
@@ -133,9 +134,10 @@ fn encode_documents<R: Source, W: Sink, E: Sink>(
     }
 }
 
-/// Encodes the documents of the text `r` in a form, by these tables: for each its message on `w`, in
-/// the order of the text, each as soon as its `end` was read. The first document that is refused ends
-/// the run, with its fault line on `e` and nothing of it on `w`. At the end `w`, then `e` is flushed.
+/// Encodes the documents of the text `r` in a form, by these tables: for each its message on `w`,
+/// in the order of the text, each as soon as its `end` was read. The first document that is refused
+/// ends the run, with its fault line on `e` and nothing of it on `w`. At the end `w`, then `e` is
+/// flushed.
 ///
 /// ```
 /// let table_b = TableB::read(rt.alloc(), b"fxy,name,unit,scale,reference,width\n")?;
@@ -143,15 +145,16 @@ fn encode_documents<R: Source, W: Sink, E: Sink>(
 /// let mut r = Device::new(b"subset 1\n".as_slice());
 /// let mut w = Device::new(Vec::new(rt.alloc()));
 /// let mut e = Device::new(Vec::new(rt.alloc()));
-/// let tally = run_encode_form(rt.alloc(), &mut r, &mut w, &mut e, &table_b, &table_d, Form::Plain)?;
+/// let form = Form::Plain;
+/// let tally = run_encode_form(rt.alloc(), &mut r, &mut w, &mut e, &table_b, &table_d, form)?;
 /// assert_eq!(rt; tally.refused, 1); // `line 1: 50 line` is on `e`
 /// ```
 ///
 /// # Errors
 ///
-/// [`RunFault::Read`] and [`RunFault::InputTooLong`] as [`DumpReader::next_document`] gives them; the
-/// messages of all documents that were read whole were written then. [`RunFault::Write`] where a
-/// writer failed or took nothing, and [`RunFault::Memory`]: a front of the messages was written.
+/// [`RunFault::Read`] and [`RunFault::InputTooLong`] as [`DumpReader::next_document`] gives them;
+/// the messages of all documents that were read whole were written then. [`RunFault::Write`] where
+/// a writer failed or took nothing, and [`RunFault::Memory`]: a front of the messages was written.
 pub fn run_encode_form<R: Source, W: Sink, E: Sink>(
     alloc: Global,
     r: &mut R,

@@ -27,8 +27,8 @@ pub trait Teller {
     ///
     /// # Errors
     ///
-    /// [`RunFault::Write`] where a writer fails or takes nothing, and [`RunFault::Memory`]; a front of
-    /// the piece was written.
+    /// [`RunFault::Write`] where a writer fails or takes nothing, and [`RunFault::Memory`]; a front
+    /// of the piece was written.
     fn tell<W: Sink, E: Sink>(
         &self,
         event: Event<'_>,
@@ -67,7 +67,8 @@ pub(crate) fn flush<W: Sink>(w: &mut W) -> Result<(), RunFault>
 ///
 /// # Errors
 ///
-/// The faults of [`Finder::next`], of [`Teller::tell`], and [`RunFault::Write`] where a flush failed.
+/// The faults of [`Finder::next`], of [`Teller::tell`], and [`RunFault::Write`] where a flush
+/// failed.
 pub fn run_events<T: Teller, R: Source, W: Sink, E: Sink>(
     alloc: Global,
     teller: &T,

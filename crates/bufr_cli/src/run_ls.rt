@@ -69,8 +69,8 @@ impl Teller for Listing {
 }
 
 /// Lists the messages of `r`: for each a line on `w`, and for each stray `BUFR` and each message
-/// that cannot be taken apart a fault line on `e`, in the order of the stream, each as soon as it is
-/// certain. At the end `w`, then `e` is flushed.
+/// that cannot be taken apart a fault line on `e`, in the order of the stream, each as soon as it
+/// is certain. At the end `w`, then `e` is flushed.
 ///
 /// ```
 /// let mut r = Device::new(b"BUFR".as_slice());

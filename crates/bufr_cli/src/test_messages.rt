@@ -269,8 +269,8 @@ pub(crate) fn messages_of_bulletins(alloc: Global) -> Result<Vec<u8>, Fail> {
     )
 }
 
-/// The stream of `examples/bulletins.bufr`: a heading, four messages, a stray word behind the second,
-/// a message of edition 2 before the last, and a short stray word at the end, 305 octets.
+/// The stream of `examples/bulletins.bufr`: a heading, four messages, a stray word behind the
+/// second, a message of edition 2 before the last, and a short stray word at the end, 305 octets.
 pub(crate) fn bulletins(alloc: Global) -> Result<Vec<u8>, Fail> {
     let delayed = delayed_twice(alloc)?;
     let other = of_edition_2();

@@ -246,8 +246,8 @@ pub(crate) fn assert_run(
     assert_run_in_steps(rt, &tables, &wanted, 4096)
 }
 
-/// What a run answers whose writer has room for so many octets of `text`, and then ends so: this, where
-/// all of them are taken and handed on.
+/// What a run answers whose writer has room for so many octets of `text`, and then ends so: this,
+/// where all of them are taken and handed on.
 fn answer_at(
     room: usize,
     text: &[u8],
@@ -281,8 +281,8 @@ fn assert_stops_at_the_output(
     Ok(())
 }
 
-/// An output that fails, takes nothing, or cannot be flushed has taken a front of the whole, and the
-/// errors all that stands before.
+/// An output that fails, takes nothing, or cannot be flushed has taken a front of the whole, and
+/// the errors all that stands before.
 pub(crate) fn assert_stops_at_failed_writes(
     rt: &(impl Abort + AllocGlobal),
     command: Command,
@@ -301,8 +301,8 @@ pub(crate) fn assert_stops_at_failed_writes(
     Ok(())
 }
 
-/// The errors' writer with this room that fails so has taken a front of the line; the output has taken
-/// all that stands before it, or all where the line was taken.
+/// The errors' writer with this room that fails so has taken a front of the line; the output has
+/// taken all that stands before it, or all where the line was taken.
 fn assert_stops_at_the_errors(
     rt: &(impl Abort + AllocGlobal),
     tables: &Tables,
@@ -468,8 +468,8 @@ pub(crate) fn stray_before(alloc: Global, message: &[u8]) -> Result<Vec<u8>, Fai
     Ok(input)
 }
 
-/// Where the reader or a writer fails of such a stream, nothing was certain before its last octet, and
-/// the stray's line was written before the output.
+/// Where the reader or a writer fails of such a stream, nothing was certain before its last octet,
+/// and the stray's line was written before the output.
 pub(crate) fn assert_stops_around_a_stray(
     rt: &(impl Abort + AllocGlobal),
     command: Command,

@@ -279,8 +279,8 @@ fn stops_at_an_interrupted_read(rt: HostRuntime) -> Result<(), Fail> {
     assert_stops_at_interrupted_reads(&rt, Command::Ls, &input, first.as_bytes(), &both)
 }
 
-/// A stray word that states 64 octets, the message behind it, and eight octets behind that, 64 in all:
-/// nothing is certain before the last octet. The stray's line goes out before the message's.
+/// A stray word that states 64 octets, the message behind it, and eight octets behind that, 64 in
+/// all: nothing is certain before the last octet. The stray's line goes out before the message's.
 #[test]
 fn stops_behind_a_stray(rt: HostRuntime) -> Result<(), Fail> {
     let input = stray_before(rt.alloc(), &ONE_BLOCK_NUMBER)?;
