@@ -26,7 +26,7 @@ use Rattle.bufr_cli.specs.EncodeRun.{EncodeDone, EncodeStopped, EncodeSo, read_d
 use Rattle.bufr_cli.specs.EncodeTelling.{TellsNext}
 use Rattle.bufr_cli.specs.Pieces.{Piece, OnOutput, OnErrors, errors_of, is_accepted, is_refused, output_of}
 use Rattle.bufr_cli.specs.Running.{BlamesWriter, ReadsAtMost, Tallies, Written, WrittenInPart}
-use Rattle.bufr_cli.specs.Telling.{TellsPieces, StopsPiece, accepted_in, refused_in, tally_after}
+use Rattle.bufr_cli.specs.Telling.{TellsPieces, StopsPiece, counted_accepted, counted_refused, tally_after}
 use Rattle.bufr_cli.specs.declared.tally.Tally.{Tally}
 use Rattle.bufr_cli.specs.declared.tally.Verdict.{Verdict}
 use Rattle.bufr_cli.specs.declared.tally.Verdict.TheVariants as verdict
@@ -148,11 +148,11 @@ unfolding up_to_refused
 open-all pieces open' = ap up_to_refused (sym (append-nil pieces)) ∙ open' [] ∙ append-nil pieces
 
 -- a verdict tells on which writer its piece is
-accepted-open : (pieces : List Piece) (p : Piece) → accepted_in verdict.Accepted ≡ count_by is_accepted (p ∷ []) → Open pieces → Open (pieces ++ p ∷ [])
+accepted-open : (pieces : List Piece) (p : Piece) → counted_accepted verdict.Accepted ≡ count_by is_accepted (p ∷ []) → Open pieces → Open (pieces ++ p ∷ [])
 accepted-open pieces (OnOutput text) is open' = open-accepted pieces text open'
 accepted-open pieces (OnErrors text) is open' = absurd (omega (arith, is))
 
-refused-closed : (pieces : List Piece) (p : Piece) → accepted_in verdict.Refused ≡ count_by is_accepted (p ∷ []) → Open pieces → Closed (pieces ++ p ∷ [])
+refused-closed : (pieces : List Piece) (p : Piece) → counted_accepted verdict.Refused ≡ count_by is_accepted (p ∷ []) → Open pieces → Closed (pieces ++ p ∷ [])
 refused-closed pieces (OnOutput text) is open' = absurd (omega (arith, is))
 refused-closed pieces (OnErrors text) is open' = closed-refused pieces text open'
 
@@ -187,7 +187,7 @@ pub falls : (before after n : ℕ) → before < n → after ≡ before + 1 → n
 falls before after n few one = omega (arith, few, one)
 
 -- What a run has done so far: all that was told was written, and none of it was refused.
-pub record Ran (form : Form) (b : List Row) (d : List Sequence) (left mid : Option (List ℕ)) (reads reads' : ℕ) (w w' e e' : Option (List ℕ)) (s : State) (tally : Tally) : Type 0 where
+pub record EncodedSoFar (form : Form) (b : List Row) (d : List Sequence) (left mid : Option (List ℕ)) (reads reads' : ℕ) (w w' e e' : Option (List ℕ)) (s : State) (tally : Tally) : Type 0 where
   pub octets : List ℕ
   pub told : List Told
   pub call : CallSo left mid fresh s told octets
@@ -199,14 +199,14 @@ pub record Ran (form : Form) (b : List Row) (d : List Sequence) (left mid : Opti
 
 -- of a reader that is equal the same was done
 pub ran-by-equal : (form : Form) (b : List Row) (d : List Sequence) (left mid : Option (List ℕ)) (reads reads' : ℕ) (w w' e e' : Option (List ℕ)) (s s' : State) (tally : Tally)
-    → s' ≡ s → Ran form b d left mid reads reads' w w' e e' s tally → Ran form b d left mid reads reads' w w' e e' s' tally
-ran-by-equal form b d left mid reads reads' w w' e e' s s' tally is ran = subst (λ x. Ran form b d left mid reads reads' w w' e e' x tally) (sym is) ran
+    → s' ≡ s → EncodedSoFar form b d left mid reads reads' w w' e e' s tally → EncodedSoFar form b d left mid reads reads' w w' e e' s' tally
+ran-by-equal form b d left mid reads reads' w w' e e' s s' tally is ran = subst (λ x. EncodedSoFar form b d left mid reads reads' w w' e e' x tally) (sym is) ran
 
 -- nothing was done yet
 pub ran-fresh : (form : Form) (b : List Row) (d : List Sequence) (left : Option (List ℕ)) (reads : ℕ) (w e : Option (List ℕ)) (s : State) (tally : Tally)
-    → s ≡ fresh → tally.accepted ≡ 0 → tally.refused ≡ 0 → Ran form b d left left reads reads w w e e s tally
+    → s ≡ fresh → tally.accepted ≡ 0 → tally.refused ≡ 0 → EncodedSoFar form b d left left reads reads w w e e s tally
 ran-fresh form b d left reads w e s tally is accepted refused =
-    let P : State → Type 0 = λ x. Ran form b d left left reads reads w w e e x tally in
+    let P : State → Type 0 = λ x. EncodedSoFar form b d left left reads reads w w e e x tally in
     subst P (sym is) (record {
       octets = [];
       told = [];
@@ -227,7 +227,7 @@ told-call left left' old new (Err (SubsetCount line)) x so is = let C : List Tol
 told-call left left' old new (Err (HeaderRange line)) x so is = let C : List Told → Type 0 = λ t. CallSo left left' old new t so.octets in subst C is so.reads
 told-call left left' old new (Err (Run run)) x so is = absurd (omega (arith, ap length is))
 
-refused-one : (form : Form) (b : List Row) (d : List Sequence) (line : ℕ) (why : LineFault) (x : Told) → Refused line why ∷ [] ≡ x ∷ [] → accepted_in verdict.Accepted ≡ count_by is_accepted (told_piece form b d x ∷ []) → ⊥
+refused-one : (form : Form) (b : List Row) (d : List Sequence) (line : ℕ) (why : LineFault) (x : Told) → Refused line why ∷ [] ≡ x ∷ [] → counted_accepted verdict.Accepted ≡ count_by is_accepted (told_piece form b d x ∷ []) → ⊥
 refused-one form b d line why x is one =
     let P : List Told → Type 0 = λ l. 1 ≡ count_by is_accepted (map (told_piece form b d) l) in
     let here : 1 ≡ 0 = subst P (sym is) one in
@@ -235,7 +235,7 @@ refused-one form b d line why x is one =
 
 -- a document that was accepted leaves the reader without a fault
 accepted-sound : (form : Form) (b : List Row) (d : List Sequence) (left left' : Option (List ℕ)) (old new : State) (next : Result (Option Document) ReadFault) (x : Told) → NextSo left left' old new next → told_by next ≡ x ∷ []
-    → accepted_in verdict.Accepted ≡ count_by is_accepted (told_piece form b d x ∷ []) → new.fault ≡ None
+    → counted_accepted verdict.Accepted ≡ count_by is_accepted (told_piece form b d x ∷ []) → new.fault ≡ None
 accepted-sound form b d left left' old new (Ok None) x so is one = absurd (omega (arith, ap length is))
 accepted-sound form b d left left' old new (Ok (Some document)) x so is one = so.ends
 accepted-sound form b d left left' old new (Err (Line line)) x so is one = absurd (refused-one form b d line NotAllowed x is one)
@@ -248,12 +248,12 @@ all-read : (left mid : Option (List ℕ)) (bs : List ℕ) → Consumes left mid 
 all-read left mid bs read end = Consumes-whole left mid bs (λ s. bs ≡ s) read end refl
 
 Tallies-one : (tally tally' : Tally) (v : Verdict) (pieces : List Piece) (p : Piece) → Tallies tally pieces → tally' ≡ tally_after tally v
-    → accepted_in v ≡ count_by is_accepted (p ∷ []) → refused_in v ≡ count_by is_refused (p ∷ []) → Tallies tally' (pieces ++ p ∷ [])
+    → counted_accepted v ≡ count_by is_accepted (p ∷ []) → counted_refused v ≡ count_by is_refused (p ∷ []) → Tallies tally' (pieces ++ p ∷ [])
 Tallies-one tally tally' v pieces p before is accepted refused =
     let T : Tally → Type 0 = λ t. Tallies t (pieces ++ p ∷ []) in
     subst T (sym is) (record {
-      accepted = ap (λ n. n + accepted_in v) before.accepted ∙ ap (λ n. count_by is_accepted pieces + n) accepted ∙ sym (count-append is_accepted pieces (p ∷ []));
-      refused = ap (λ n. n + refused_in v) before.refused ∙ ap (λ n. count_by is_refused pieces + n) refused ∙ sym (count-append is_refused pieces (p ∷ []));
+      accepted = ap (λ n. n + counted_accepted v) before.accepted ∙ ap (λ n. count_by is_accepted pieces + n) accepted ∙ sym (count-append is_accepted pieces (p ∷ []));
+      refused = ap (λ n. n + counted_refused v) before.refused ∙ ap (λ n. count_by is_refused pieces + n) refused ∙ sym (count-append is_refused pieces (p ∷ []));
     })
 
 -- what was told and then one more, as pieces
@@ -324,7 +324,7 @@ as-many piece (x ∷ more) = omega (arith, as-many piece more)
 
 -- a tally cannot overflow
 pub ran-few : (form : Form) (b : List Row) (d : List Sequence) (left mid : Option (List ℕ)) (reads reads' : ℕ) (w w' e e' : Option (List ℕ)) (s : State) (tally : Tally)
-    → Ran form b d left mid reads reads' w w' e e' s tally → tally.accepted + tally.refused < 2 ^ 63
+    → EncodedSoFar form b d left mid reads reads' w w' e e' s tally → tally.accepted + tally.refused < 2 ^ 63
 ran-few form b d left mid reads reads' w w' e e' s tally ran =
     let all : documents_of ran.octets ≡ ran.told ++ spells (stand s) [] = ap documents_of (sym (append-nil ran.octets)) ∙ told-first left mid s ran.told ran.octets [] ran.call (λ ended. refl) in
     omega (
@@ -341,10 +341,10 @@ ran-few form b d left mid reads reads' w w' e e' s tally ran =
     )
 
 module _ (form : Form) (b : List Row) (d : List Sequence) (left mid left' : Option (List ℕ)) (reads reads1 reads2 : ℕ) (w w1 e e1 : Option (List ℕ)) (s s' : State) (tally : Tally) (next : Result (Option Document) ReadFault)
-    (ran : Ran form b d left mid reads reads1 w w1 e e1 s tally) (so : NextSo mid left' s s' next) (counts : CountsReads reads1 reads2 s s') where
+    (ran : EncodedSoFar form b d left mid reads reads1 w w1 e e1 s tally) (so : NextSo mid left' s s' next) (counts : CountsReads reads1 reads2 s s') where
   -- one more document
   pub turn : (w2 e2 : Option (List ℕ)) (tally' : Tally) → TellsNext w1 w2 e1 e2 (told_piece form b d) next (Ok (Some verdict.Accepted)) → tally' ≡ tally_after tally verdict.Accepted
-      → Ran form b d left left' reads reads2 w w2 e e2 s' tally'
+      → EncodedSoFar form b d left left' reads reads2 w w2 e e2 s' tally'
   turn w2 e2 tally' (x, is, (written, accepted, refused)) after =
       let more = one-more form b d ran.told x in
       let W : List Piece → Type 0 = λ l. Written w w2 e e2 l in
@@ -434,7 +434,7 @@ module _ (form : Form) (b : List Row) (d : List Sequence) (left mid left' : Opti
 
   -- one more document, told by an answer
   pub turn-on : (w2 e2 : Option (List ℕ)) (tell : Result (Option Verdict) RunFault) (v : Verdict) (tally' : Tally) → TellsNext w1 w2 e1 e2 (told_piece form b d) next tell → tell ≡ Ok (Some v) → (v ≡ verdict.Refused → ⊥)
-      → tally' ≡ tally_after tally v → Ran form b d left left' reads reads2 w w2 e e2 s' tally'
+      → tally' ≡ tally_after tally v → EncodedSoFar form b d left left' reads reads2 w w2 e e2 s' tally'
   turn-on w2 e2 tell v tally' tells is some after =
       let T : Result (Option Verdict) RunFault → Type 0 = λ x. TellsNext w1 w2 e1 e2 (told_piece form b d) next x in
       let accepted = accepted-else v some in

@@ -22,7 +22,7 @@ use Rattle.bufr_frame.proofs.FindingLemmas.{Advances-none, Follows-none, StepSo-
 use Rattle.bufr_text.specs.Writing.{Writes, GrowsByFront, Stays, Fails}
 use Rattle.bufr_cli.specs.Pieces.{Piece, OnErrors, output_of, errors_of, is_accepted, is_refused}
 use Rattle.bufr_cli.specs.Running.{Written, Tallies, RunSo, RunDone, RunStopped, RunCut, ReadsFewer, read_events, GivesPieces, BlamesWriter}
-use Rattle.bufr_cli.specs.Telling.{TellsPieces, StopsPiece, RunReads, accepted_in, refused_in, tally_after}
+use Rattle.bufr_cli.specs.Telling.{TellsPieces, StopsPiece, RunReads, counted_accepted, counted_refused, tally_after}
 use Rattle.bufr_cli.specs.declared.tally.Tally.{Tally}
 use Rattle.bufr_cli.specs.declared.tally.Verdict.{Verdict}
 
@@ -47,7 +47,7 @@ pub Written-nil : (w e : Option (List ℕ)) → Written w w e e []
 Written-nil w e = record { output = Appends-nil w; errors = Appends-nil e }
 
 -- Pieces were written and counted.
-pub record Told (w w' e e' : Option (List ℕ)) (tally : Tally) (pieces : List Piece) : Type 0 where
+pub record ToldSoFar (w w' e e' : Option (List ℕ)) (tally : Tally) (pieces : List Piece) : Type 0 where
   pub written : Written w w' e e' pieces
   pub tallies : Tallies tally pieces
 
@@ -57,7 +57,7 @@ pub record Ran (is_piece : Happening → Piece → Type 0) (left mid : Option (L
   pub events : List Happening
   pub step : StepSo left mid fresh s octets events
   pub counts : CountsReads reads reads' fresh s
-  pub wrote : (piece : Happening → Piece) → GivesPieces is_piece piece → Told w w' e e' tally (map piece events)
+  pub wrote : (piece : Happening → Piece) → GivesPieces is_piece piece → ToldSoFar w w' e e' tally (map piece events)
   pub sound : s.fault ≡ None
   pub few : tally.accepted + tally.refused ≤ s.at
   pub near : s.at < 2 ^ 63
@@ -114,17 +114,17 @@ count-append p xs ys = grind (arith, common_steps)
 
 -- the pieces of one more event were written and counted
 told-then : (piece : Happening → Piece) (w w1 w2 e e1 e2 : Option (List ℕ)) (tally tally' : Tally) (verdict : Verdict) (events here : List Happening)
-    → Told w w1 e e1 tally (map piece events) → TellsPieces w1 w2 e1 e2 (map piece here) (Ok verdict) → tally' ≡ tally_after tally verdict
-    → Told w w2 e e2 tally' (map piece (events ++ here))
+    → ToldSoFar w w1 e e1 tally (map piece events) → TellsPieces w1 w2 e1 e2 (map piece here) (Ok verdict) → tally' ≡ tally_after tally verdict
+    → ToldSoFar w w2 e e2 tally' (map piece (events ++ here))
 told-then piece w w1 w2 e e1 e2 tally tally' verdict events here before tells counts =
     let W : List Piece → Type 0 = λ l. Written w w2 e e2 l in
     let both = sym (map-append piece events here) in
     record {
       written = subst W both (Written-then w w1 w2 e e1 e2 (map piece events) (map piece here) before.written tells.0);
       tallies = record {
-        accepted = ap (λ t. t.accepted) counts ∙ ap (λ n. n + accepted_in verdict) before.tallies.accepted ∙ ap (λ n. count_by is_accepted (map piece events) + n) tells.1
+        accepted = ap (λ t. t.accepted) counts ∙ ap (λ n. n + counted_accepted verdict) before.tallies.accepted ∙ ap (λ n. count_by is_accepted (map piece events) + n) tells.1
             ∙ sym (count-append is_accepted (map piece events) (map piece here)) ∙ ap (count_by is_accepted) both;
-        refused = ap (λ t. t.refused) counts ∙ ap (λ n. n + refused_in verdict) before.tallies.refused ∙ ap (λ n. count_by is_refused (map piece events) + n) tells.2
+        refused = ap (λ t. t.refused) counts ∙ ap (λ n. n + counted_refused verdict) before.tallies.refused ∙ ap (λ n. count_by is_refused (map piece events) + n) tells.2
             ∙ sym (count-append is_refused (map piece events) (map piece here)) ∙ ap (count_by is_refused) both;
       };
     }

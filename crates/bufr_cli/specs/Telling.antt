@@ -12,22 +12,22 @@ use Rattle.bufr_cli.specs.declared.tally.Verdict.{Verdict}
 use Rattle.bufr_cli.specs.declared.tally.Verdict.TheVariants.{Accepted, Refused}
 
 -- how many pieces a verdict counts on the output, and on the errors
-abbrev pub accepted_in : Verdict → ℕ
-accepted_in Accepted = 1
-accepted_in Refused = 0
+abbrev pub counted_accepted : Verdict → ℕ
+counted_accepted Accepted = 1
+counted_accepted Refused = 0
 
-abbrev pub refused_in : Verdict → ℕ
-refused_in Accepted = 0
-refused_in Refused = 1
+abbrev pub counted_refused : Verdict → ℕ
+counted_refused Accepted = 0
+counted_refused Refused = 1
 
 -- one more piece in a tally
 abbrev pub tally_after : Tally → Verdict → Tally
-tally_after tally verdict = record { accepted = tally.accepted + accepted_in verdict; refused = tally.refused + refused_in verdict }
+tally_after tally verdict = record { accepted = tally.accepted + counted_accepted verdict; refused = tally.refused + counted_refused verdict }
 
 -- pieces were written and counted, or a front of them, where a writer failed or memory was refused
 abbrev pub TellsPieces : (w w' e e' : Option (List ℕ)) → List Piece → Result Verdict RunFault → Type 0
 TellsPieces w w' e e' pieces (Ok verdict) =
-    Written w w' e e' pieces × (accepted_in verdict ≡ count_by is_accepted pieces) × (refused_in verdict ≡ count_by is_refused pieces)
+    Written w w' e e' pieces × (counted_accepted verdict ≡ count_by is_accepted pieces) × (counted_refused verdict ≡ count_by is_refused pieces)
 TellsPieces w w' e e' pieces (Err fault) = GrowsByFront w w' (flat_map output_of pieces) × GrowsByFront e e' (flat_map errors_of pieces)
 
 -- a piece is stopped by a writer, or by want of memory where its text takes memory

@@ -28,7 +28,7 @@ const HEAD_OF_EDITION_3: &str = "\
 const BODY: &str = "descriptors 001001\nsubset 1\n001001 10  # WMO BLOCK NUMBER [Numeric]\nend\n";
 
 /// The octets of a text of hexadecimal digits and blanks.
-fn message(alloc: Global, digits: &str) -> Result<Vec<u8>, Fail> {
+fn octets_in(alloc: Global, digits: &str) -> Result<Vec<u8>, Fail> {
     let mut close = String::new(alloc);
     for part in digits.split_whitespace() {
         close.push_str(part)?;
@@ -37,7 +37,7 @@ fn message(alloc: Global, digits: &str) -> Result<Vec<u8>, Fail> {
 }
 
 /// The dump text of such a message with these lines of sections 1 and 2.
-fn text(alloc: Global, optional: u8, local: &str) -> Result<String, Fail> {
+fn text_with(alloc: Global, optional: u8, local: &str) -> Result<String, Fail> {
     let mut text = String::from_str(alloc, HEAD_OF_EDITION_3)?;
     text.push_str("second 0\nobserved 1\ncompressed 0\noptional ")?;
     text.push_str(if optional == 0 { "0" } else { "1" })?;
@@ -130,9 +130,9 @@ static LAYOUTS: [Layout; 9] = [
 #[test]
 fn dumps_and_encodes_each_layout(rt: HostRuntime) -> Result<(), Fail> {
     for row in &LAYOUTS {
-        let octets = message(rt.alloc(), row.octets)?;
-        let again = message(rt.alloc(), row.again)?;
-        let text = text(rt.alloc(), row.optional, row.local)?;
+        let octets = octets_in(rt.alloc(), row.octets)?;
+        let again = octets_in(rt.alloc(), row.again)?;
+        let text = text_with(rt.alloc(), row.optional, row.local)?;
         let text = text.as_bytes();
         assert_run(
             &rt,
@@ -160,7 +160,7 @@ fn dumps_and_encodes_each_layout(rt: HostRuntime) -> Result<(), Fail> {
 /// it.
 #[test]
 fn lists_messages(rt: HostRuntime) -> Result<(), Fail> {
-    let mut input = message(rt.alloc(), EVEN)?;
+    let mut input = octets_in(rt.alloc(), EVEN)?;
     let line =
         b"offset=0 length=46 edition=3 centre=98/0 update=0 category=0/0/0 tables=0/14/0 time=0024-01-02T03:04:00 subsets=1 observed=1 compressed=0 optional=0 descriptors=1\n";
     assert_run(&rt, Command::Ls, "listed", &input, line, b"", ONE_ACCEPTED)?;
@@ -203,7 +203,7 @@ fn lists_editions_side_by_side(rt: HostRuntime) -> Result<(), Fail> {
 #[test]
 fn tells_a_cut_anywhere(rt: HostRuntime) -> Result<(), Fail> {
     for row in &LAYOUTS {
-        let whole = message(rt.alloc(), row.octets)?;
+        let whole = octets_in(rt.alloc(), row.octets)?;
         for length in 4..whole.len() {
             let front = whole.get(..length).unwrap_or(b"");
             let line = b"offset 0: 1 cut\n";
@@ -220,15 +220,15 @@ const PACKED: &str = "425546520000 2E03 000012000062000000000E001801020304 00 00
 /// A message in compressed form, and back in plain form: even sections both ways.
 #[test]
 fn encodes_in_each_form(rt: HostRuntime) -> Result<(), Fail> {
-    let packed = message(rt.alloc(), PACKED)?;
-    let plain = text(rt.alloc(), 0, "local1 00\n")?;
+    let packed = octets_in(rt.alloc(), PACKED)?;
+    let plain = text_with(rt.alloc(), 0, "local1 00\n")?;
     let said = changed(rt.alloc(), "compressed 0", "compressed 1")?;
     let compressed = Command::EncodeIn(Form::Compressed);
     let (text, tally) = (plain.as_bytes(), ONE_ACCEPTED);
     assert_run(&rt, compressed, "compressed", text, &packed, b"", tally)?;
     let said = said.as_bytes();
     assert_run(&rt, Command::Dump, "compressed", &packed, said, b"", tally)?;
-    let even = message(rt.alloc(), EVEN)?;
+    let even = octets_in(rt.alloc(), EVEN)?;
     let plain = Command::EncodeIn(Form::Plain);
     assert_run(&rt, plain, "plain", said, &even, b"", tally)
 }
@@ -237,9 +237,9 @@ fn encodes_in_each_form(rt: HostRuntime) -> Result<(), Fail> {
 /// to the messages with even sections, which have the same text.
 #[test]
 fn closes_the_round_of_both_editions(rt: HostRuntime) -> Result<(), Fail> {
-    let even = message(rt.alloc(), EVEN)?;
-    let odd = message(rt.alloc(), ODD)?;
-    let of_3 = text(rt.alloc(), 0, "local1 00\n")?;
+    let even = octets_in(rt.alloc(), EVEN)?;
+    let odd = octets_in(rt.alloc(), ODD)?;
+    let of_3 = text_with(rt.alloc(), 0, "local1 00\n")?;
     let of_4 = text_of_one(rt.alloc())?;
     let one = one_block_number(rt.alloc())?;
     let stream = joined(rt.alloc(), &[&even, &one, &odd, &one])?;
@@ -283,7 +283,7 @@ static VALUES: [(&str, &str, u8); 20] = [
 
 /// The text of a message with even sections, with another line in a line's place.
 fn changed(alloc: Global, old: &str, new: &str) -> Result<String, Fail> {
-    let text = text(alloc, 0, "local1 00\n")?;
+    let text = text_with(alloc, 0, "local1 00\n")?;
     Ok(text.as_str().replacen(alloc, old, new, 1)?)
 }
 
@@ -319,7 +319,7 @@ const LONG: &str =
 /// A message that could not be written with even sections is told by `ls` too.
 #[test]
 fn tells_a_long_message_with_an_odd_section(rt: HostRuntime) -> Result<(), Fail> {
-    let mut octets = message(rt.alloc(), LONG)?;
+    let mut octets = octets_in(rt.alloc(), LONG)?;
     octets.resize(16_777_210, 0)?;
     octets.extend_from_slice(b"7777")?;
     let ran = run_whole(&rt, Command::Ls, &octets)?;

@@ -14,7 +14,7 @@ use bufr_text::{Part, write_parts};
 use bufr_walk::{Spot, WalkFault};
 
 /// The text of a stray word.
-fn text_of(cause: Cause) -> &'static [u8]
+fn stray_text(cause: Cause) -> &'static [u8]
     ensures { result.now ≡ cause_text cause }
 {
     match cause {
@@ -35,7 +35,7 @@ pub fn write_stray<E: Sink>(offset: u64, cause: Cause, e: &mut E) -> Result<(), 
     ensures flushes { E.flushes e.new ≡ E.flushes e.old }
 {
     let number = cause.number();
-    write_fault(offset, number, text_of(cause), Part::Text(b""), b"", e)
+    write_fault(offset, number, stray_text(cause), Part::Text(b""), b"", e)
 }
 
 /// Writes the line of a message at `offset`, in octets from 0, that cannot be taken apart. It takes

@@ -28,7 +28,7 @@ pub enum Outcome<'a> {
 }
 
 /// The text of a fault that ends a run.
-fn text_of(fault: RunFault) -> &'static [u8]
+fn text_of_run_fault(fault: RunFault) -> &'static [u8]
     ensures { result.now ≡ run_fault_text fault }
 {
     match fault {
@@ -72,7 +72,7 @@ fn write_run_fault<E: Sink>(fault: RunFault, e: &mut E) -> Result<(), RunFault>
         Part::Text(b"bufr: "),
         Part::Decimal(u64::from(fault.number())),
         Part::Text(b" "),
-        Part::Text(text_of(fault)),
+        Part::Text(text_of_run_fault(fault)),
         Part::Text(b"\n"),
     ];
     write_parts(&parts, e)

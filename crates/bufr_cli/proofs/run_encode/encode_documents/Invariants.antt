@@ -1,12 +1,12 @@
 use Rattle.std.proofs.Common.{◌≡◌, ◌+◌, ◌-◌, ◌^◌}
 use Rattle.bufr_text.specs.Writing.{Stays}
-use Rattle.bufr_cli.proofs.EncodeLemmas.{Ran}
+use Rattle.bufr_cli.proofs.EncodeLemmas.{EncodedSoFar}
 use Rattle.bufr_cli.proofs.run_encode.encode_documents.Given as goal
 
 -- documents were read and their messages written, and no device failed
 abbrev pub invariant-loop-reader : goal.invariant-loop-reader
 invariant-loop-reader g l = record {
-  ran : Ran l.fn.form l.fn.table_b l.fn.table_d (g.R.Source.left l.fn.r) (g.R.Source.left l.r) (g.R.Source.reads l.fn.r) (g.R.Source.reads l.r)
+  ran : EncodedSoFar l.fn.form l.fn.table_b l.fn.table_d (g.R.Source.left l.fn.r) (g.R.Source.left l.r) (g.R.Source.reads l.fn.r) (g.R.Source.reads l.r)
       (g.W.Sink.taken l.fn.w) (g.W.Sink.taken l.w) (g.E.Sink.taken l.fn.e) (g.E.Sink.taken l.e) l.reader l.tally;
   reader : g.R.Source.failures l.r ≡ g.R.Source.failures l.fn.r;
   output_flushes : g.W.Sink.flushes l.w ≡ g.W.Sink.flushes l.fn.w;
