@@ -25,7 +25,7 @@ use Rattle.bufr_cli.specs.EncodePieces.{told_piece, encode_pieces, up_to_refused
 use Rattle.bufr_cli.specs.EncodeRun.{EncodeDone, EncodeStopped, EncodeSo, read_documents}
 use Rattle.bufr_cli.specs.EncodeTelling.{TellsNext}
 use Rattle.bufr_cli.specs.Pieces.{Piece, OnOutput, OnErrors, errors_of, is_accepted, is_refused, output_of}
-use Rattle.bufr_cli.specs.Running.{BlamesWriter, ReadsAtMost, Tallies, Written, WrittenInPart}
+use Rattle.bufr_cli.specs.Running.{Blames, ReadsAtMost, Tallies, Written, WrittenInPart}
 use Rattle.bufr_cli.specs.Telling.{TellsPieces, StopsPiece, counted_accepted, counted_refused, tally_after}
 use Rattle.bufr_cli.specs.declared.tally.Tally.{Tally}
 use Rattle.bufr_cli.specs.declared.tally.Verdict.{Verdict}
@@ -91,7 +91,7 @@ run-ended w e piece next Memory is some = inl (is, refl, refl)
 run-ended w e piece next Write is some = absurd (some is)
 
 -- a fault that is none of a writer blames none
-pub blames-none : (X a b c d : Type 0) (fault : RunFault) → (fault ≡ Write → ⊥) → a → c → BlamesWriter {X = X} (Err fault) a b c d
+pub blames-none : (X a b c d : Type 0) (fault : RunFault) → (fault ≡ Write → ⊥) → a → c → Blames {X = X} (Err fault) a b c d
 blames-none X a b c d Read some x y = (x, y)
 blames-none X a b c d InputTooLong some x y = (x, y)
 blames-none X a b c d Memory some x y = (x, y)

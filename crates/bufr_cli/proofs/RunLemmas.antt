@@ -21,7 +21,7 @@ use Rattle.bufr_frame.specs.Next.{NextSo, EndsSo}
 use Rattle.bufr_frame.proofs.FindingLemmas.{Advances-none, Follows-none, StepSo-then, CountsReads-then, whole-scan, events-are-certain}
 use Rattle.bufr_text.specs.Writing.{Writes, GrowsByFront, Stays, Fails}
 use Rattle.bufr_cli.specs.Pieces.{Piece, OnErrors, output_of, errors_of, is_accepted, is_refused}
-use Rattle.bufr_cli.specs.Running.{Written, Tallies, RunSo, RunDone, RunStopped, RunCut, ReadsFewer, read_events, GivesPieces, BlamesWriter}
+use Rattle.bufr_cli.specs.Running.{Written, Tallies, RunSo, RunDone, RunStopped, RunCut, ReadsFewer, read_events, GivesPieces, Blames}
 use Rattle.bufr_cli.specs.Telling.{TellsPieces, StopsPiece, RunReads, counted_accepted, counted_refused, tally_after}
 use Rattle.bufr_cli.specs.declared.tally.Tally.{Tally}
 use Rattle.bufr_cli.specs.declared.tally.Verdict.{Verdict}
@@ -371,13 +371,13 @@ fails-then f f1 f2 n n1 n2 before (inr more) = inr (more.0 ∙ before.0, more.1 
 
 -- the writers' counts, where the telling of an event was stopped
 pub blames-tell : {a b c d a' b' c' d' : Type 0} (tell : Result Verdict RunFault) (f : RunFault) (r : Result Tally RunFault) → tell ≡ Err f → r ≡ Err f
-    → (a → a') → (b → b') → (c → c') → (d → d') → BlamesWriter tell a b c d → BlamesWriter r a' b' c' d'
+    → (a → a') → (b → b') → (c → c') → (d → d') → Blames tell a b c d → Blames r a' b' c' d'
 blames-tell {a} {b} {c} {d} {a'} {b'} {c'} {d'} tell f r is same go_a go_b go_c go_d blames =
-    let B : Result Verdict RunFault → Type 0 = λ x. BlamesWriter x a b c d in
-    let B' : Result Tally RunFault → Type 0 = λ x. BlamesWriter x a' b' c' d' in
+    let B : Result Verdict RunFault → Type 0 = λ x. Blames x a b c d in
+    let B' : Result Tally RunFault → Type 0 = λ x. Blames x a' b' c' d' in
     subst B' (sym same) (by f (subst B is blames))
   where
-    by : (g : RunFault) → BlamesWriter {X = Verdict} (Err g) a b c d → BlamesWriter {X = Tally} (Err g) a' b' c' d'
+    by : (g : RunFault) → Blames {X = Verdict} (Err g) a b c d → Blames {X = Tally} (Err g) a' b' c' d'
     by Read (x, y) = (go_a x, go_c y)
     by InputTooLong (x, y) = (go_a x, go_c y)
     by Memory (x, y) = (go_a x, go_c y)

@@ -7,7 +7,7 @@ use Rattle.bufr_frame.specs.Runs.{most_reads}
 use Rattle.bufr_frame.specs.Scan.{Happening, scan, open_scan}
 use Rattle.bufr_frame.specs.declared.fault.RunFault.{RunFault}
 use Rattle.bufr_frame.specs.declared.fault.RunFault.TheVariants.{Read, Write, InputTooLong, Memory}
-use Rattle.bufr_text.specs.Writing.{GrowsByFront}
+use Rattle.bufr_text.specs.Writing.{GrowsByFront, Stays, Fails}
 use Rattle.bufr_cli.specs.Pieces.{Piece, output_of, errors_of, is_accepted, is_refused}
 use Rattle.bufr_cli.specs.declared.tally.Tally.{Tally}
 
@@ -82,9 +82,21 @@ abbrev pub ReadsAtMost : {X : Type 0} → (reads reads' : ℕ) → Result X RunF
 ReadsAtMost reads reads' result = (n : ℕ) × (n ≤ most_reads) × (reads' ≡ counted reads n) × (result ≡ Err InputTooLong → n ≡ most_reads)
 
 -- a write fault comes from one of the two writers; without one both stay
-abbrev pub BlamesWriter : {X : Type 0} → Result X RunFault → (output_stays output_fails errors_stays errors_fails : Type 0) → Type 0
-BlamesWriter (Ok x) output_stays output_fails errors_stays errors_fails = output_stays × errors_stays
-BlamesWriter (Err Read) output_stays output_fails errors_stays errors_fails = output_stays × errors_stays
-BlamesWriter (Err InputTooLong) output_stays output_fails errors_stays errors_fails = output_stays × errors_stays
-BlamesWriter (Err Memory) output_stays output_fails errors_stays errors_fails = output_stays × errors_stays
-BlamesWriter (Err Write) output_stays output_fails errors_stays errors_fails = (output_fails × errors_stays) ⊎ (output_stays × errors_fails)
+abbrev pub Blames : {X : Type 0} → Result X RunFault → (output_stays output_fails errors_stays errors_fails : Type 0) → Type 0
+Blames (Ok x) output_stays output_fails errors_stays errors_fails = output_stays × errors_stays
+Blames (Err Read) output_stays output_fails errors_stays errors_fails = output_stays × errors_stays
+Blames (Err InputTooLong) output_stays output_fails errors_stays errors_fails = output_stays × errors_stays
+Blames (Err Memory) output_stays output_fails errors_stays errors_fails = output_stays × errors_stays
+Blames (Err Write) output_stays output_fails errors_stays errors_fails = (output_fails × errors_stays) ⊎ (output_stays × errors_fails)
+
+-- a writer stays, or fails, as it counts its failed calls and its empty writes
+abbrev pub IsSame : {S : Type 0} → (failures empty : S → ℕ) → (old new : S) → Type 0
+IsSame failures empty old new = Stays (failures old) (failures new) (empty old) (empty new)
+
+abbrev pub HasFailed : {S : Type 0} → (failures empty : S → ℕ) → (old new : S) → Type 0
+HasFailed failures empty old new = Fails (failures old) (failures new) (empty old) (empty new)
+
+-- a write fault comes from a call of the output or of the errors that its own ghosts count
+abbrev pub BlamesWriter : {X W E : Type 0} → (W → ℕ) → (W → ℕ) → (w w' : W) → (E → ℕ) → (E → ℕ) → (e e' : E) → Result X RunFault → Type 0
+BlamesWriter failures empty w w' failures' empty' e e' result =
+    Blames result (IsSame failures empty w w') (HasFailed failures empty w w') (IsSame failures' empty' e e') (HasFailed failures' empty' e e')

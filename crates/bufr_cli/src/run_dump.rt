@@ -3,7 +3,6 @@ ghost use Rattle.std.specs.Prelude.{◌≡◌, ◌≢◌, ℕ, List, [], ◌∷�
 ghost use Rattle.bufr_frame.specs.Events.{told, IsEvent};
 ghost use Rattle.bufr_frame.specs.Runs.{read_failures_after};
 ghost use Rattle.bufr_frame.specs.Scan.{Happening, Framed, Strayed, scan};
-ghost use Rattle.bufr_text.specs.Writing.{Stays, Fails};
 ghost use Rattle.bufr_cli.specs.DumpPieces.{IsDataPiece, IsDumpPiece, IsMessagePiece};
 ghost use Rattle.bufr_cli.specs.Pieces.{Piece};
 ghost use Rattle.bufr_cli.specs.Running.{RunSo, Written, BlamesWriter, GivesPieces, ReadsAtMost, ReadsFewer, Tallies};
@@ -45,11 +44,7 @@ fn dump_data<W: Sink, E: Sink>(
     ensures tells { (piece : Piece) → IsDataPiece table_b.now offset message.now template.now piece
         → TellsPieces (W.taken w.old) (W.taken w.new) (E.taken e.old) (E.taken e.new) (piece ∷ []) result }
     ensures stops { StopsPiece true result }
-    ensures counts { BlamesWriter result
-        (Stays (W.failures w.old) (W.failures w.new) (W.empty_writes w.old) (W.empty_writes w.new))
-        (Fails (W.failures w.old) (W.failures w.new) (W.empty_writes w.old) (W.empty_writes w.new))
-        (Stays (E.failures e.old) (E.failures e.new) (E.empty_writes e.old) (E.empty_writes e.new))
-        (Fails (E.failures e.old) (E.failures e.new) (E.empty_writes e.old) (E.empty_writes e.new)) }
+    ensures counts { BlamesWriter W.failures W.empty_writes w.old w.new E.failures E.empty_writes e.old e.new result }
     ensures output_flushes { W.flushes w.new ≡ W.flushes w.old }
     ensures errors_flushes { E.flushes e.new ≡ E.flushes e.old }
 {
@@ -81,11 +76,7 @@ fn dump_message<W: Sink, E: Sink>(
     ensures tells { (piece : Piece) → IsMessagePiece table_b.now table_d.now offset (Ok message.now) piece
         → TellsPieces (W.taken w.old) (W.taken w.new) (E.taken e.old) (E.taken e.new) (piece ∷ []) result }
     ensures stops { StopsPiece true result }
-    ensures counts { BlamesWriter result
-        (Stays (W.failures w.old) (W.failures w.new) (W.empty_writes w.old) (W.empty_writes w.new))
-        (Fails (W.failures w.old) (W.failures w.new) (W.empty_writes w.old) (W.empty_writes w.new))
-        (Stays (E.failures e.old) (E.failures e.new) (E.empty_writes e.old) (E.empty_writes e.new))
-        (Fails (E.failures e.old) (E.failures e.new) (E.empty_writes e.old) (E.empty_writes e.new)) }
+    ensures counts { BlamesWriter W.failures W.empty_writes w.old w.new E.failures E.empty_writes e.old e.new result }
     ensures output_flushes { W.flushes w.new ≡ W.flushes w.old }
     ensures errors_flushes { E.flushes e.new ≡ E.flushes e.old }
 {
@@ -113,11 +104,7 @@ fn dump_event<W: Sink, E: Sink>(
     ensures tells { (piece : Happening → Piece) → GivesPieces (IsDumpPiece table_b.now table_d.now) piece
         → TellsPieces (W.taken w.old) (W.taken w.new) (E.taken e.old) (E.taken e.new) (map piece (told event.entry)) result }
     ensures stops { StopsPiece true result }
-    ensures counts { BlamesWriter result
-        (Stays (W.failures w.old) (W.failures w.new) (W.empty_writes w.old) (W.empty_writes w.new))
-        (Fails (W.failures w.old) (W.failures w.new) (W.empty_writes w.old) (W.empty_writes w.new))
-        (Stays (E.failures e.old) (E.failures e.new) (E.empty_writes e.old) (E.empty_writes e.new))
-        (Fails (E.failures e.old) (E.failures e.new) (E.empty_writes e.old) (E.empty_writes e.new)) }
+    ensures counts { BlamesWriter W.failures W.empty_writes w.old w.new E.failures E.empty_writes e.old e.new result }
     ensures output_flushes { W.flushes w.new ≡ W.flushes w.old }
     ensures errors_flushes { E.flushes e.new ≡ E.flushes e.old }
 {
@@ -207,11 +194,7 @@ pub fn run_dump<R: Source, W: Sink, E: Sink>(
     // Each fault comes only where its device failed in this call.
     ensures reader { R.failures r.new ≡ read_failures_after (R.failures r.old) result }
     ensures reads { ReadsAtMost (R.reads r.old) (R.reads r.new) result }
-    ensures writers { BlamesWriter result
-        (Stays (W.failures w.old) (W.failures w.new) (W.empty_writes w.old) (W.empty_writes w.new))
-        (Fails (W.failures w.old) (W.failures w.new) (W.empty_writes w.old) (W.empty_writes w.new))
-        (Stays (E.failures e.old) (E.failures e.new) (E.empty_writes e.old) (E.empty_writes e.new))
-        (Fails (E.failures e.old) (E.failures e.new) (E.empty_writes e.old) (E.empty_writes e.new)) }
+    ensures writers { BlamesWriter W.failures W.empty_writes w.old w.new E.failures E.empty_writes e.old e.new result }
 {
     let dumping = Dumping {
         alloc,

@@ -2,7 +2,6 @@
 ghost use Rattle.std.specs.Prelude.{◌≡◌, ◌≢◌, ℕ, List, [], ◌∷◌, Err, true, IfOk, OnOk, IfSome};
 ghost use Rattle.bufr_frame.specs.Runs.{read_failures_after};
 ghost use Rattle.bufr_text.specs.Documents.{Spelled, documents_of};
-ghost use Rattle.bufr_text.specs.Writing.{Stays, Fails};
 ghost use Rattle.bufr_text.specs.declared.form.Form.TheVariants.{AsWritten};
 ghost use Rattle.bufr_cli.specs.EncodePieces.{encode_pieces, told_piece};
 ghost use Rattle.bufr_cli.specs.EncodeRun.{EncodeSo};
@@ -33,11 +32,7 @@ fn encode_one<W: Sink, E: Sink>(
 ) -> Result<Verdict, RunFault>
     ensures tells { TellsPieces (W.taken w.old) (W.taken w.new) (E.taken e.old) (E.taken e.new) (told_piece form table_b.now table_d.now (Spelled document.now) ∷ []) result }
     ensures stops { StopsPiece true result }
-    ensures counts { BlamesWriter result
-        (Stays (W.failures w.old) (W.failures w.new) (W.empty_writes w.old) (W.empty_writes w.new))
-        (Fails (W.failures w.old) (W.failures w.new) (W.empty_writes w.old) (W.empty_writes w.new))
-        (Stays (E.failures e.old) (E.failures e.new) (E.empty_writes e.old) (E.empty_writes e.new))
-        (Fails (E.failures e.old) (E.failures e.new) (E.empty_writes e.old) (E.empty_writes e.new)) }
+    ensures counts { BlamesWriter W.failures W.empty_writes w.old w.new E.failures E.empty_writes e.old e.new result }
     ensures output_flushes { W.flushes w.new ≡ W.flushes w.old }
     ensures errors_flushes { E.flushes e.new ≡ E.flushes e.old }
 {
@@ -70,11 +65,7 @@ fn encode_next<W: Sink, E: Sink>(
     requires { next ≢ Err (ReadFault.Run RunFault.Write) }
     ensures reader { reader.new ≡ reader.old }
     ensures tells { TellsNext (W.taken w.old) (W.taken w.new) (E.taken e.old) (E.taken e.new) (told_piece form table_b.now table_d.now) next result }
-    ensures counts { BlamesWriter result
-        (Stays (W.failures w.old) (W.failures w.new) (W.empty_writes w.old) (W.empty_writes w.new))
-        (Fails (W.failures w.old) (W.failures w.new) (W.empty_writes w.old) (W.empty_writes w.new))
-        (Stays (E.failures e.old) (E.failures e.new) (E.empty_writes e.old) (E.empty_writes e.new))
-        (Fails (E.failures e.old) (E.failures e.new) (E.empty_writes e.old) (E.empty_writes e.new)) }
+    ensures counts { BlamesWriter W.failures W.empty_writes w.old w.new E.failures E.empty_writes e.old e.new result }
     ensures output_flushes { W.flushes w.new ≡ W.flushes w.old }
     ensures errors_flushes { E.flushes e.new ≡ E.flushes e.old }
 {
@@ -108,11 +99,7 @@ fn encode_documents<R: Source, W: Sink, E: Sink>(
         (Unit {0}) bs result }
     ensures reader { R.failures r.new ≡ read_failures_after (R.failures r.old) result }
     ensures reads { ReadsAtMost (R.reads r.old) (R.reads r.new) result }
-    ensures writers { BlamesWriter result
-        (Stays (W.failures w.old) (W.failures w.new) (W.empty_writes w.old) (W.empty_writes w.new))
-        (Fails (W.failures w.old) (W.failures w.new) (W.empty_writes w.old) (W.empty_writes w.new))
-        (Stays (E.failures e.old) (E.failures e.new) (E.empty_writes e.old) (E.empty_writes e.new))
-        (Fails (E.failures e.old) (E.failures e.new) (E.empty_writes e.old) (E.empty_writes e.new)) }
+    ensures writers { BlamesWriter W.failures W.empty_writes w.old w.new E.failures E.empty_writes e.old e.new result }
     ensures output_flushes { W.flushes w.new ≡ W.flushes w.old }
     ensures errors_flushes { E.flushes e.new ≡ E.flushes e.old }
 {
@@ -178,11 +165,7 @@ pub fn run_encode_form<R: Source, W: Sink, E: Sink>(
     // Each fault comes only where its device failed in this call.
     ensures reader { R.failures r.new ≡ read_failures_after (R.failures r.old) result }
     ensures reads { ReadsAtMost (R.reads r.old) (R.reads r.new) result }
-    ensures writers { BlamesWriter result
-        (Stays (W.failures w.old) (W.failures w.new) (W.empty_writes w.old) (W.empty_writes w.new))
-        (Fails (W.failures w.old) (W.failures w.new) (W.empty_writes w.old) (W.empty_writes w.new))
-        (Stays (E.failures e.old) (E.failures e.new) (E.empty_writes e.old) (E.empty_writes e.new))
-        (Fails (E.failures e.old) (E.failures e.new) (E.empty_writes e.old) (E.empty_writes e.new)) }
+    ensures writers { BlamesWriter W.failures W.empty_writes w.old w.new E.failures E.empty_writes e.old e.new result }
 {
     let tally = encode_documents(alloc, r, w, e, table_b, table_d, form)?;
     flush(w)?;
@@ -228,11 +211,7 @@ pub fn run_encode<R: Source, W: Sink, E: Sink>(
     // Each fault comes only where its device failed in this call.
     ensures reader { R.failures r.new ≡ read_failures_after (R.failures r.old) result }
     ensures reads { ReadsAtMost (R.reads r.old) (R.reads r.new) result }
-    ensures writers { BlamesWriter result
-        (Stays (W.failures w.old) (W.failures w.new) (W.empty_writes w.old) (W.empty_writes w.new))
-        (Fails (W.failures w.old) (W.failures w.new) (W.empty_writes w.old) (W.empty_writes w.new))
-        (Stays (E.failures e.old) (E.failures e.new) (E.empty_writes e.old) (E.empty_writes e.new))
-        (Fails (E.failures e.old) (E.failures e.new) (E.empty_writes e.old) (E.empty_writes e.new)) }
+    ensures writers { BlamesWriter W.failures W.empty_writes w.old w.new E.failures E.empty_writes e.old e.new result }
 {
     run_encode_form(alloc, r, w, e, table_b, table_d, Form::AsWritten)
 }

@@ -5,7 +5,7 @@ ghost use Rattle.bufr_bits.specs.Counts.{counted};
 ghost use Rattle.bufr_frame.specs.Events.{told, IsEvent};
 ghost use Rattle.bufr_frame.specs.Runs.{read_failures_after};
 ghost use Rattle.bufr_frame.specs.Scan.{Happening};
-ghost use Rattle.bufr_text.specs.Writing.{Stays, Fails, CountsWrites};
+ghost use Rattle.bufr_text.specs.Writing.{CountsWrites};
 ghost use Rattle.bufr_cli.specs.Pieces.{Piece};
 ghost use Rattle.bufr_cli.specs.Running.{RunSo, BlamesWriter, GivesPieces, ReadsFewer};
 ghost use Rattle.bufr_cli.specs.Telling.{RunReads, StopsPiece, TellsPieces};
@@ -39,11 +39,7 @@ pub trait Teller {
         ensures tells { (piece : Happening → Piece) → GivesPieces (is_piece self.now) piece
             → TellsPieces (W.taken w.old) (W.taken w.new) (E.taken e.old) (E.taken e.new) (map piece (told event.entry)) result }
         ensures stops { StopsPiece (takes_memory self.now) result }
-        ensures counts { BlamesWriter result
-            (Stays (W.failures w.old) (W.failures w.new) (W.empty_writes w.old) (W.empty_writes w.new))
-            (Fails (W.failures w.old) (W.failures w.new) (W.empty_writes w.old) (W.empty_writes w.new))
-            (Stays (E.failures e.old) (E.failures e.new) (E.empty_writes e.old) (E.empty_writes e.new))
-            (Fails (E.failures e.old) (E.failures e.new) (E.empty_writes e.old) (E.empty_writes e.new)) }
+        ensures counts { BlamesWriter W.failures W.empty_writes w.old w.new E.failures E.empty_writes e.old e.new result }
         ensures output_flushes { W.flushes w.new ≡ W.flushes w.old }
         ensures errors_flushes { E.flushes e.new ≡ E.flushes e.old };
 }
@@ -83,11 +79,7 @@ pub fn run_events<T: Teller, R: Source, W: Sink, E: Sink>(
         ((W.flushes w.new ≡ W.flushes w.old) × (E.flushes e.new ≡ E.flushes e.old)) (ReadsFewer (R.reads r.old) (R.reads r.new)) bs result) }
     ensures reader { R.failures r.new ≡ read_failures_after (R.failures r.old) result }
     ensures reads { RunReads (T.takes_memory teller.now) (R.reads r.old) (R.reads r.new) result }
-    ensures writers { BlamesWriter result
-        (Stays (W.failures w.old) (W.failures w.new) (W.empty_writes w.old) (W.empty_writes w.new))
-        (Fails (W.failures w.old) (W.failures w.new) (W.empty_writes w.old) (W.empty_writes w.new))
-        (Stays (E.failures e.old) (E.failures e.new) (E.empty_writes e.old) (E.empty_writes e.new))
-        (Fails (E.failures e.old) (E.failures e.new) (E.empty_writes e.old) (E.empty_writes e.new)) }
+    ensures writers { BlamesWriter W.failures W.empty_writes w.old w.new E.failures E.empty_writes e.old e.new result }
 {
     let mut finder = Finder::new(alloc);
     let mut tally = Tally {

@@ -2,7 +2,6 @@
 ghost use Rattle.std.specs.Prelude.{◌≡◌, ◌≢◌, ℕ, List, true, false, IfOk, OnOk, IfSome, map};
 ghost use Rattle.bufr_frame.specs.Events.{told, IsEvent};
 ghost use Rattle.bufr_frame.specs.Runs.{read_failures_after, MakesReads};
-ghost use Rattle.bufr_text.specs.Writing.{Stays, Fails};
 ghost use Rattle.bufr_cli.specs.Pieces.{ls_piece, ls_pieces};
 ghost use Rattle.bufr_cli.specs.Running.{RunSo, Written, BlamesWriter, ReadsFewer, Tallies};
 ghost use Rattle.bufr_cli.specs.Telling.{StopsPiece, TellsPieces};
@@ -20,11 +19,7 @@ fn list_event<W: Sink, E: Sink>(event: Event<'_>, w: &mut W, e: &mut E) -> Resul
     requires { IsEvent event }
     ensures tells { TellsPieces (W.taken w.old) (W.taken w.new) (E.taken e.old) (E.taken e.new) (map ls_piece (told event.entry)) result }
     ensures stops { StopsPiece false result }
-    ensures counts { BlamesWriter result
-        (Stays (W.failures w.old) (W.failures w.new) (W.empty_writes w.old) (W.empty_writes w.new))
-        (Fails (W.failures w.old) (W.failures w.new) (W.empty_writes w.old) (W.empty_writes w.new))
-        (Stays (E.failures e.old) (E.failures e.new) (E.empty_writes e.old) (E.empty_writes e.new))
-        (Fails (E.failures e.old) (E.failures e.new) (E.empty_writes e.old) (E.empty_writes e.new)) }
+    ensures counts { BlamesWriter W.failures W.empty_writes w.old w.new E.failures E.empty_writes e.old e.new result }
     ensures output_flushes { W.flushes w.new ≡ W.flushes w.old }
     ensures errors_flushes { E.flushes e.new ≡ E.flushes e.old }
 {
@@ -104,11 +99,7 @@ pub fn run_ls<R: Source, W: Sink, E: Sink>(
     // Each fault comes only where its device failed in this call.
     ensures reader { R.failures r.new ≡ read_failures_after (R.failures r.old) result }
     ensures reads { MakesReads (R.reads r.old) (R.reads r.new) result }
-    ensures writers { BlamesWriter result
-        (Stays (W.failures w.old) (W.failures w.new) (W.empty_writes w.old) (W.empty_writes w.new))
-        (Fails (W.failures w.old) (W.failures w.new) (W.empty_writes w.old) (W.empty_writes w.new))
-        (Stays (E.failures e.old) (E.failures e.new) (E.empty_writes e.old) (E.empty_writes e.new))
-        (Fails (E.failures e.old) (E.failures e.new) (E.empty_writes e.old) (E.empty_writes e.new)) }
+    ensures writers { BlamesWriter W.failures W.empty_writes w.old w.new E.failures E.empty_writes e.old e.new result }
 {
     run_events(alloc, &Listing, r, w, e)
 }
