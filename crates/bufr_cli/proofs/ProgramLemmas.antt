@@ -81,6 +81,19 @@ whole-then ran w1 w2 r r' same stays whole =
     of (Ok tally) stays' so = let Q : Option (List ℕ) → Type 0 = λ y. ran tally y in subst Q (sym stays') so
     of (Err fault) stays' so = tt
 
+-- what holds of a run by each function that gives such pieces
+pub ok-any : (r : Result Tally RunFault) (octets : Option (List ℕ)) (gives : (Happening → Piece) → Type 0) (ran : (Happening → Piece) → Tally → List ℕ → Type 0)
+    → ((piece : Happening → Piece) → gives piece → IfOk r (λ tally. IfSome octets (ran piece tally)))
+    → IfOk r (λ tally. IfSome octets (λ s. (piece : Happening → Piece) → gives piece → ran piece tally s))
+ok-any (Ok tally) None gives ran so = tt
+ok-any (Ok tally) (Some s) gives ran so = so
+ok-any (Err fault) octets gives ran so = tt
+
+pub err-any : (r : Result Tally RunFault) (gives : (Happening → Piece) → Type 0) (ended : (Happening → Piece) → RunFault → Type 0)
+    → ((piece : Happening → Piece) → gives piece → IfErr r (ended piece)) → IfErr r (λ fault. (piece : Happening → Piece) → gives piece → ended piece fault)
+err-any (Ok tally) gives ended so = tt
+err-any (Err fault) gives ended so = so
+
 -- a run over events that a fault ended, and then a flush
 pub left-then : (pieces_of : List Happening → List Piece) (left left' w w1 w2 e e' : Option (List ℕ)) (unflushed early : Type 0) → Keeps w1 w2 → (r r' : Result Tally RunFault) → r' ≡ r
     → ((bs : List ℕ) × RunSo pieces_of left left' w w1 e e' unflushed early bs r) → IfErr r' (RunLeft pieces_of w w2 e e' left)

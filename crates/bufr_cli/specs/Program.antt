@@ -95,6 +95,13 @@ Dumps b d w w' e e' tally s = (piece : Happening → Piece) × GivesPieces (IsDu
 abbrev pub DumpLeft : List Row → List Sequence → (w w' e e' : Option (List ℕ)) → (left : Option (List ℕ)) → RunFault → Type 0
 DumpLeft b d w w' e e' left fault = (piece : Happening → Piece) × GivesPieces (IsDumpPiece b d) piece × RunLeft (map piece) w w' e e' left fault
 
+-- the same of each function that gives the pieces, of which there is one
+abbrev pub DumpsByAny : List Row → List Sequence → (w w' e e' : Option (List ℕ)) → Tally → List ℕ → Type 0
+DumpsByAny b d w w' e e' tally s = (piece : Happening → Piece) → GivesPieces (IsDumpPiece b d) piece → Tells w w' e e' tally (map piece (scan s))
+
+abbrev pub DumpLeftByAny : List Row → List Sequence → (w w' e e' : Option (List ℕ)) → (left : Option (List ℕ)) → RunFault → Type 0
+DumpLeftByAny b d w w' e e' left fault = (piece : Happening → Piece) → GivesPieces (IsDumpPiece b d) piece → RunLeft (map piece) w w' e e' left fault
+
 -- the pieces that `encode` has for the octets by these tables were written and counted
 abbrev pub Encodes : Form → List Row → List Sequence → (w w' e e' : Option (List ℕ)) → Tally → List ℕ → Type 0
 Encodes form b d w w' e e' tally s = Tells w w' e e' tally (encode_pieces form b d (documents_of s))
@@ -103,11 +110,15 @@ Encodes form b d w w' e e' tally s = Tells w w' e e' tally (encode_pieces form b
 abbrev pub EncodeLeft : Form → List Row → List Sequence → (w w' e e' : Option (List ℕ)) → (left : Option (List ℕ)) → RunFault → Type 0
 EncodeLeft form b d w w' e e' left fault = (left' : Option (List ℕ)) × (bs : List ℕ) × EncodeSo (encode_pieces form b d) left left' w w' e e' (Unit {0}) bs (Err fault)
 
--- what comes of a run by tables: Table B is not read, or Table B is and Table D is not, and nothing
--- was written; or there is a run by both
+-- not both tables are read: Table B is not, or Table B is and Table D is not
+pub data AreUnread (named : List ℕ → Option (List ℕ)) (tables : TableNames) (outcome : Outcome) : Type 0 where
+  NoTableB : TableBOutcome named tables.table_b outcome → AreUnread named tables outcome
+  NoTableD : (b : List Row) → IfSome (named tables.table_b.now) (λ text. table_b_of (records_of text) ≡ Ok b) → TableDOutcome named tables.table_d outcome → AreUnread named tables outcome
+
+-- what comes of a run by tables: they are not both read, and nothing was written; or there is a run
+-- by both
 pub data TablesOutcome (run : List Row → List Sequence → Outcome → Type 0) (nothing : Type 0) (named : List ℕ → Option (List ℕ)) (tables : TableNames) (outcome : Outcome) : Type 0 where
-  NoTableB : nothing → TableBOutcome named tables.table_b outcome → TablesOutcome run nothing named tables outcome
-  NoTableD : nothing → (b : List Row) → IfSome (named tables.table_b.now) (λ text. table_b_of (records_of text) ≡ Ok b) → TableDOutcome named tables.table_d outcome → TablesOutcome run nothing named tables outcome
+  NoTables : nothing → AreUnread named tables outcome → TablesOutcome run nothing named tables outcome
   ByTables : (b : List Row) (d : List Sequence) → AreTables named tables b d → run b d outcome → TablesOutcome run nothing named tables outcome
 
 -- what comes of a listing

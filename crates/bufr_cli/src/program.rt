@@ -2,17 +2,16 @@
 ghost use Rattle.std.specs.Prelude.{◌≡◌, ℕ, true, List, Option, None, Ok, IfOk, IfErr, IfSome, OnOk, map};
 ghost use Rattle.std.specs.Io.KnownBytes.{Keeps};
 ghost use Rattle.clap.specs.Words.{fault_of, subcommand_of};
-ghost use Rattle.bufr_frame.specs.Scan.{Happening, scan};
+ghost use Rattle.bufr_frame.specs.declared.fault.RunFault.{RunFault};
 ghost use Rattle.bufr_tables.specs.Chain.{Reads};
 ghost use Rattle.bufr_tables.specs.Records.{Record, records_of};
 ghost use Rattle.bufr_tables.specs.TableB.{AreRows, table_b_of};
 ghost use Rattle.bufr_text.specs.Writing.{Writes};
 ghost use Rattle.bufr_cli.specs.Calling.{CallSo};
-ghost use Rattle.bufr_cli.specs.DumpPieces.{IsDumpPiece};
 ghost use Rattle.bufr_cli.specs.Line.{bufr_app};
-ghost use Rattle.bufr_cli.specs.Pieces.{Piece, ls_piece, ls_pieces};
-ghost use Rattle.bufr_cli.specs.Program.{DumpOutcome, EncodeLeft, EncodeOutcome, Encodes, FileOutcome, IsClosed, LsOutcome, OutcomeSo, RunLeft, RunOutcome, TableBOutcome, TableDOutcome, Tells, WritesNothing, ran_outcome};
-ghost use Rattle.bufr_cli.specs.Running.{GivesPieces};
+ghost use Rattle.bufr_cli.specs.Program.{AreTables, AreUnread, DumpOutcome, EncodeOutcome, FileOutcome, IsClosed, OutcomeSo, RunOutcome};
+ghost use Rattle.bufr_cli.specs.Program.{TableBOutcome, TableDOutcome, WritesNothing, ran_outcome};
+ghost use Rattle.bufr_cli.specs.declared.tally.Tally.{Tally};
 
 use crate::finish::{Outcome, finish};
 use crate::job::{Job, LineFault, Subcommand, TableNames, parse_line};
@@ -120,55 +119,58 @@ fn run_job<'a, I: Inputs, W: Sink, E: Sink>(
 {
     let Job { command, file } = job;
     match command {
-        Subcommand::Ls => list_input(alloc, file, inputs, w, e),
-        Subcommand::Dump(tables) => dump_job(alloc, tables, file, inputs, w, e),
-        Subcommand::Encode(tables, form) => encode_job(alloc, tables, form, file, inputs, w, e),
+        Subcommand::Ls => run_input(alloc, &Lister, file, inputs, w, e),
+        Subcommand::Dump(names) => dump_job(alloc, names, file, inputs, w, e),
+        Subcommand::Encode(names, form) => encode_job(alloc, names, form, file, inputs, w, e),
     }
 }
 
-/// Reads Table B, then Table D, and dumps the messages of an input by them.
+/// Reads the tables of these names, and dumps the messages of an input by them.
 fn dump_job<'a, I: Inputs, W: Sink, E: Sink>(
     alloc: Global,
-    tables: TableNames<'a>,
+    names: TableNames<'a>,
     file: Option<&'a str>,
     inputs: &I,
     w: &mut W,
     e: &mut E,
 ) -> Outcome<'a>
-    ensures { DumpOutcome (I.standard_octets inputs.now) (I.file_octets inputs.now) tables.entry file.entry (W.taken w.old) (W.taken w.new) (E.taken e.old) (E.taken e.new) result }
+    ensures { DumpOutcome (I.standard_octets inputs.now) (I.file_octets inputs.now) names.entry file.entry (W.taken w.old) (W.taken w.new) (E.taken e.old) (E.taken e.new) result }
 {
-    let table_b = match read_table_b(alloc, tables.table_b, inputs) {
-        Ok(table) => table,
-        Err(outcome) => return outcome,
-    };
-    let table_d = match read_table_d(alloc, tables.table_d, inputs) {
-        Ok(table) => table,
-        Err(outcome) => return outcome,
-    };
-    dump_input(alloc, file, inputs, &table_b, &table_d, w, e)
+    match read_tables(alloc, names, inputs) {
+        Ok(tables) => {
+            let dumper = Dumper {
+                table_b: &tables.table_b,
+                table_d: &tables.table_d,
+            };
+            run_input(alloc, &dumper, file, inputs, w, e)
+        }
+        Err(outcome) => outcome,
+    }
 }
 
-/// Reads Table B, then Table D, and encodes the documents of an input by them in a form.
+/// Reads the tables of these names, and encodes the documents of an input by them in a form.
 fn encode_job<'a, I: Inputs, W: Sink, E: Sink>(
     alloc: Global,
-    tables: TableNames<'a>,
+    names: TableNames<'a>,
     form: Form,
     file: Option<&'a str>,
     inputs: &I,
     w: &mut W,
     e: &mut E,
 ) -> Outcome<'a>
-    ensures { EncodeOutcome (I.standard_octets inputs.now) (I.file_octets inputs.now) tables.entry form file.entry (W.taken w.old) (W.taken w.new) (E.taken e.old) (E.taken e.new) result }
+    ensures { EncodeOutcome (I.standard_octets inputs.now) (I.file_octets inputs.now) names.entry form file.entry (W.taken w.old) (W.taken w.new) (E.taken e.old) (E.taken e.new) result }
 {
-    let table_b = match read_table_b(alloc, tables.table_b, inputs) {
-        Ok(table) => table,
-        Err(outcome) => return outcome,
-    };
-    let table_d = match read_table_d(alloc, tables.table_d, inputs) {
-        Ok(table) => table,
-        Err(outcome) => return outcome,
-    };
-    encode_input(alloc, form, file, inputs, &table_b, &table_d, w, e)
+    match read_tables(alloc, names, inputs) {
+        Ok(tables) => {
+            let encoder = Encoder {
+                form,
+                table_b: &tables.table_b,
+                table_d: &tables.table_d,
+            };
+            run_input(alloc, &encoder, file, inputs, w, e)
+        }
+        Err(outcome) => outcome,
+    }
 }
 
 /// The file of this name.
@@ -256,6 +258,38 @@ fn read_table_d<'a, I: Inputs>(
     }
 }
 
+/// Tables B and D of a command.
+#[derive(Drop)]
+struct Tables {
+    table_b: TableB,
+    table_d: TableD,
+}
+
+/// Table B, then Table D, of the files of these names.
+///
+/// # Errors
+///
+/// Those of [`read_table_b`], then those of [`read_table_d`].
+fn read_tables<'a, I: Inputs>(
+    alloc: Global,
+    names: TableNames<'a>,
+    inputs: &I,
+) -> Result<Tables, Outcome<'a>>
+    ensures tables { IfOk result (λ tables. AreTables (I.file_octets inputs.now) names.entry tables.table_b tables.table_d) }
+    ensures rows { IfOk result (λ tables. (records : List Record) × AreRows records tables.table_b) }
+    ensures unread { IfErr result (AreUnread (I.file_octets inputs.now) names.entry) }
+{
+    let table_b = match read_table_b(alloc, names.table_b, inputs) {
+        Ok(table) => table,
+        Err(outcome) => return Err(outcome),
+    };
+    let table_d = match read_table_d(alloc, names.table_d, inputs) {
+        Ok(table) => table,
+        Err(outcome) => return Err(outcome),
+    };
+    Ok(Tables { table_b, table_d })
+}
+
 /// How a run came out.
 fn outcome_of<'a>(ran: Result<Tally, RunFault>) -> Outcome<'a>
     ensures { result ≡ ran_outcome ran }
@@ -266,64 +300,53 @@ fn outcome_of<'a>(ran: Result<Tally, RunFault>) -> Outcome<'a>
     }
 }
 
-/// Lists the messages of a file, or of standard input.
-fn list_input<'a, I: Inputs, W: Sink, E: Sink>(
-    alloc: Global,
-    file: Option<&'a str>,
-    inputs: &I,
-    w: &mut W,
-    e: &mut E,
-) -> Outcome<'a>
-    ensures { LsOutcome (I.standard_octets inputs.now) (I.file_octets inputs.now) file.entry (W.taken w.old) (W.taken w.new) (E.taken e.old) (E.taken e.new) result }
-{
-    match file {
-        None => outcome_of(list(alloc, inputs.standard(), w, e)),
-        Some(name) => match open_file(name, inputs) {
-            Ok(input) => outcome_of(list(alloc, input, w, e)),
-            Err(outcome) => outcome,
-        },
-    }
+/// What a command does with an input.
+trait Runner {
+    /// What holds of both writers, before and after, of the counts and of the input's octets where
+    /// the run went through.
+    ghost went_through: { Self → Option (List ℕ) → Option (List ℕ) → Option (List ℕ) → Option (List ℕ) → Tally → List ℕ → Type 0 };
+
+    /// What holds of both writers, before and after, of the input's octets, where they are known,
+    /// and of the fault where one ended it.
+    ghost was_ended: { Self → Option (List ℕ) → Option (List ℕ) → Option (List ℕ) → Option (List ℕ) → Option (List ℕ) → RunFault → Type 0 };
+
+    /// Runs over an input, and hands on what was written.
+    ///
+    /// # Errors
+    ///
+    /// Those of the command's run, and [`RunFault::Memory`] before anything is read.
+    fn run<R: Read + Drop, W: Sink, E: Sink>(
+        &self,
+        alloc: Global,
+        input: R,
+        w: &mut W,
+        e: &mut E,
+    ) -> Result<Tally, RunFault>
+        ensures whole { IfOk result (λ tally. IfSome (R.remaining input)
+            (went_through self.now (W.taken w.old) (W.taken w.new) (E.taken e.old) (E.taken e.new) tally)) }
+        ensures ended { IfErr result
+            (was_ended self.now (W.taken w.old) (W.taken w.new) (E.taken e.old) (E.taken e.new) (R.remaining input)) };
 }
 
-/// Dumps the messages of a file, or of standard input.
-fn dump_input<'a, I: Inputs, W: Sink, E: Sink>(
+/// Runs over a file, or over standard input.
+fn run_input<'a, T: Runner, I: Inputs, W: Sink, E: Sink>(
     alloc: Global,
+    runner: &T,
     file: Option<&'a str>,
     inputs: &I,
-    table_b: &TableB,
-    table_d: &TableD,
     w: &mut W,
     e: &mut E,
 ) -> Outcome<'a>
-    ensures { (piece : Happening → Piece) → GivesPieces (IsDumpPiece table_b.now table_d.now) piece
-        → RunOutcome (λ tally s. Tells (W.taken w.old) (W.taken w.new) (E.taken e.old) (E.taken e.new) tally (map piece (scan s))) (RunLeft (map piece) (W.taken w.old) (W.taken w.new) (E.taken e.old) (E.taken e.new)) (WritesNothing (W.taken w.old) (W.taken w.new) (E.taken e.old) (E.taken e.new)) (I.standard_octets inputs.now) (I.file_octets inputs.now) file.entry result }
+    ensures { RunOutcome
+        (T.went_through runner.now (W.taken w.old) (W.taken w.new) (E.taken e.old) (E.taken e.new))
+        (T.was_ended runner.now (W.taken w.old) (W.taken w.new) (E.taken e.old) (E.taken e.new))
+        (WritesNothing (W.taken w.old) (W.taken w.new) (E.taken e.old) (E.taken e.new))
+        (I.standard_octets inputs.now) (I.file_octets inputs.now) file.entry result }
 {
     match file {
-        None => outcome_of(dump(alloc, inputs.standard(), table_b, table_d, w, e)),
+        None => outcome_of(runner.run(alloc, inputs.standard(), w, e)),
         Some(name) => match open_file(name, inputs) {
-            Ok(input) => outcome_of(dump(alloc, input, table_b, table_d, w, e)),
-            Err(outcome) => outcome,
-        },
-    }
-}
-
-/// Encodes the documents of a file, or of standard input, in a form.
-fn encode_input<'a, I: Inputs, W: Sink, E: Sink>(
-    alloc: Global,
-    form: Form,
-    file: Option<&'a str>,
-    inputs: &I,
-    table_b: &TableB,
-    table_d: &TableD,
-    w: &mut W,
-    e: &mut E,
-) -> Outcome<'a>
-    ensures { RunOutcome (Encodes form table_b.now table_d.now (W.taken w.old) (W.taken w.new) (E.taken e.old) (E.taken e.new)) (EncodeLeft form table_b.now table_d.now (W.taken w.old) (W.taken w.new) (E.taken e.old) (E.taken e.new)) (WritesNothing (W.taken w.old) (W.taken w.new) (E.taken e.old) (E.taken e.new)) (I.standard_octets inputs.now) (I.file_octets inputs.now) file.entry result }
-{
-    match file {
-        None => outcome_of(encode(alloc, inputs.standard(), form, table_b, table_d, w, e)),
-        Some(name) => match open_file(name, inputs) {
-            Ok(input) => outcome_of(encode(alloc, input, form, table_b, table_d, w, e)),
+            Ok(input) => outcome_of(runner.run(alloc, input, w, e)),
             Err(outcome) => outcome,
         },
     }
@@ -346,62 +369,91 @@ fn hand_on_rest<W: Sink>(ran: Result<Tally, RunFault>, w: &mut W) -> Result<Tall
 }
 
 /// Lists the messages of an input.
-fn list<R: Read + Drop, W: Sink, E: Sink>(
-    alloc: Global,
-    input: R,
-    w: &mut W,
-    e: &mut E,
-) -> Result<Tally, RunFault>
-    ensures whole { IfOk result (λ tally. IfSome (R.remaining input) (λ s. Tells (W.taken w.old) (W.taken w.new) (E.taken e.old) (E.taken e.new) tally (ls_pieces s))) }
-    ensures ended { IfErr result (RunLeft (map ls_piece) (W.taken w.old) (W.taken w.new) (E.taken e.old) (E.taken e.new) (R.remaining input)) }
-{
-    let Ok(input) = BufReader::with_capacity(alloc, BUFFERED, input) else {
-        return Err(RunFault::Memory);
-    };
-    let mut input = Device::new(input);
-    let ran = run_ls(alloc, &mut input, w, e);
-    hand_on_rest(ran, w)
+struct Lister;
+
+impl Runner for Lister {
+    ghost use Rattle.std.specs.Prelude.{map};
+    ghost use Rattle.bufr_cli.specs.Pieces.{ls_piece, ls_pieces};
+    ghost use Rattle.bufr_cli.specs.Program.{RunLeft, Tells};
+
+    ghost went_through = { λ _ w w' e e' tally s. Tells w w' e e' tally (ls_pieces s) };
+
+    ghost was_ended = { λ _. RunLeft (map ls_piece) };
+
+    fn run<R: Read + Drop, W: Sink, E: Sink>(
+        &self,
+        alloc: Global,
+        input: R,
+        w: &mut W,
+        e: &mut E,
+    ) -> Result<Tally, RunFault> {
+        let Ok(input) = BufReader::with_capacity(alloc, BUFFERED, input) else {
+            return Err(RunFault::Memory);
+        };
+        let mut input = Device::new(input);
+        let ran = run_ls(alloc, &mut input, w, e);
+        hand_on_rest(ran, w)
+    }
 }
 
-/// Dumps the messages of an input.
-fn dump<R: Read + Drop, W: Sink, E: Sink>(
-    alloc: Global,
-    input: R,
-    table_b: &TableB,
-    table_d: &TableD,
-    w: &mut W,
-    e: &mut E,
-) -> Result<Tally, RunFault>
-    ensures whole { (piece : Happening → Piece) → GivesPieces (IsDumpPiece table_b.now table_d.now) piece
-        → IfOk result (λ tally. IfSome (R.remaining input) (λ s. Tells (W.taken w.old) (W.taken w.new) (E.taken e.old) (E.taken e.new) tally (map piece (scan s)))) }
-    ensures ended { (piece : Happening → Piece) → GivesPieces (IsDumpPiece table_b.now table_d.now) piece
-        → IfErr result (RunLeft (map piece) (W.taken w.old) (W.taken w.new) (E.taken e.old) (E.taken e.new) (R.remaining input)) }
-{
-    let Ok(input) = BufReader::with_capacity(alloc, BUFFERED, input) else {
-        return Err(RunFault::Memory);
-    };
-    let mut input = Device::new(input);
-    let ran = run_dump(alloc, &mut input, w, e, table_b, table_d);
-    hand_on_rest(ran, w)
+/// Dumps the messages of an input by these tables.
+#[derive(Drop)]
+struct Dumper<'b, 'd> {
+    table_b: &'b TableB,
+    table_d: &'d TableD,
 }
 
-/// Encodes the documents of an input in a form.
-fn encode<R: Read + Drop, W: Sink, E: Sink>(
-    alloc: Global,
-    input: R,
+impl<'b, 'd> Runner for Dumper<'b, 'd> {
+    ghost use Rattle.bufr_cli.specs.Program.{DumpLeftByAny, DumpsByAny};
+
+    ghost went_through = { λ d. DumpsByAny d.table_b.now d.table_d.now };
+
+    ghost was_ended = { λ d. DumpLeftByAny d.table_b.now d.table_d.now };
+
+    fn run<R: Read + Drop, W: Sink, E: Sink>(
+        &self,
+        alloc: Global,
+        input: R,
+        w: &mut W,
+        e: &mut E,
+    ) -> Result<Tally, RunFault> {
+        let Ok(input) = BufReader::with_capacity(alloc, BUFFERED, input) else {
+            return Err(RunFault::Memory);
+        };
+        let mut input = Device::new(input);
+        let ran = run_dump(alloc, &mut input, w, e, self.table_b, self.table_d);
+        hand_on_rest(ran, w)
+    }
+}
+
+/// Encodes the documents of an input by these tables, in this form.
+#[derive(Drop)]
+struct Encoder<'b, 'd> {
     form: Form,
-    table_b: &TableB,
-    table_d: &TableD,
-    w: &mut W,
-    e: &mut E,
-) -> Result<Tally, RunFault>
-    ensures whole { IfOk result (λ tally. IfSome (R.remaining input) (Encodes form table_b.now table_d.now (W.taken w.old) (W.taken w.new) (E.taken e.old) (E.taken e.new) tally)) }
-    ensures ended { IfErr result (EncodeLeft form table_b.now table_d.now (W.taken w.old) (W.taken w.new) (E.taken e.old) (E.taken e.new) (R.remaining input)) }
-{
-    let Ok(input) = BufReader::with_capacity(alloc, BUFFERED, input) else {
-        return Err(RunFault::Memory);
-    };
-    let mut input = Device::new(input);
-    let ran = run_encode_form(alloc, &mut input, w, e, table_b, table_d, form);
-    hand_on_rest(ran, w)
+    table_b: &'b TableB,
+    table_d: &'d TableD,
+}
+
+impl<'b, 'd> Runner for Encoder<'b, 'd> {
+    ghost use Rattle.bufr_cli.specs.Program.{EncodeLeft, Encodes};
+
+    ghost went_through = { λ x. Encodes x.form x.table_b.now x.table_d.now };
+
+    ghost was_ended = { λ x. EncodeLeft x.form x.table_b.now x.table_d.now };
+
+    fn run<R: Read + Drop, W: Sink, E: Sink>(
+        &self,
+        alloc: Global,
+        input: R,
+        w: &mut W,
+        e: &mut E,
+    ) -> Result<Tally, RunFault> {
+        let Ok(input) = BufReader::with_capacity(alloc, BUFFERED, input) else {
+            return Err(RunFault::Memory);
+        };
+        let mut input = Device::new(input);
+        let (b, d) = (self.table_b, self.table_d);
+        let ran = run_encode_form(alloc, &mut input, w, e, b, d, self.form);
+        hand_on_rest(ran, w)
+    }
 }

@@ -1,9 +1,9 @@
 use Rattle.std.proofs.Common.{refl}
-use Rattle.bufr_cli.specs.Program.{ByTables, NoTableD}
+use Rattle.bufr_cli.specs.Program.{ByTables, NoTables}
 use Rattle.bufr_cli.proofs.program.encode_job.Goals as goal
 
-pub returns : goal.returns
-returns g c = ByTables c.in-Ok.table c.in-Ok-read_table_d.table (record { table_b = c.in-Ok.ensures.table; table_d = c.in-Ok-read_table_d.ensures.table }) c.encode_input.ensures
+pub returns-in-Ok : goal.returns-in-Ok
+returns-in-Ok g c = ByTables c.in-Ok.tables.table_b c.in-Ok.tables.table_d c.in-Ok.ensures.tables c.run_input.ensures
 
-pub returns-in-Err-read_table_d : goal.returns-in-Err-read_table_d
-returns-in-Err-read_table_d g c = NoTableD (refl, refl) c.in-Ok.table c.in-Ok.ensures.table c.in-Err-read_table_d.ensures.unread
+pub returns-in-Err : goal.returns-in-Err
+returns-in-Err g c = NoTables (refl, refl) c.in-Err.ensures.unread

@@ -3,6 +3,12 @@ use Rattle.bufr_cli.specs.Program.{CommandOutcome}
 use Rattle.bufr_cli.specs.declared.job.Subcommand.{Subcommand}
 use Rattle.bufr_cli.proofs.program.run_job.Goals as goal
 
+pub returns-in-Ls : goal.returns-in-Ls
+returns-in-Ls g c =
+    let P : Subcommand → Type 0 = λ command. CommandOutcome (g.I.Inputs.standard_octets c.args.inputs.now) (g.I.Inputs.file_octets c.args.inputs.now) command c.args.job.file
+    (g.W.Sink.taken c.args.w.now) (g.W.Sink.taken c.run_input.new.w) (g.E.Sink.taken c.args.e.now) (g.E.Sink.taken c.run_input.new.e) c.run_input.result in
+    subst P (sym c.in-Ls.is) c.run_input.ensures
+
 pub returns-in-Dump : goal.returns-in-Dump
 returns-in-Dump g c =
     let P : Subcommand → Type 0 = λ command. CommandOutcome (g.I.Inputs.standard_octets c.args.inputs.now) (g.I.Inputs.file_octets c.args.inputs.now) command c.args.job.file

@@ -2,7 +2,7 @@ use Rattle.std.proofs.Common.{IfSome, map, rules}
 use Rattle.bufr_cli.specs.Pieces.{ls_piece, ls_pieces}
 use Rattle.bufr_cli.specs.Program.{Tells}
 use Rattle.bufr_cli.proofs.ProgramLemmas.{left-nothing, left-then, whole-then}
-use Rattle.bufr_cli.proofs.program.list.Goals as goal
+use Rattle.bufr_cli.proofs.program.ListerRunner.run.Goals as goal
 
 pub returns-in_default-clause-ended : goal.returns-in_default-clause-ended
 returns-in_default-clause-ended g c = left-nothing (map ls_piece) _ _ _
