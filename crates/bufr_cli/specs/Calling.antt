@@ -17,13 +17,18 @@ use Rattle.bufr_cli.specs.declared.job.Job.{Job}
 -- outcome told by a last line (or a front of it) and the status; or help was asked for, written and
 -- handed on, or a front of it was written; or the words are mistaken; or memory ran out before
 -- there was a job.
-pub data CallSo (kinds : Kinds) (met : Option (Text × List Row)) (standard : Option (List ℕ)) (named : List ℕ → Option (List ℕ)) (w w' e e' : Option (List ℕ)) (handed : Bool) (status : ℕ) : Type 0 where
-  Does : (job : Job) → IsJobOf met job → (outcome : Outcome) → (told : Option (List ℕ)) → OutcomeSo standard named job w w' e told outcome
-      → GrowsByFront told e' (last_line outcome) → status ≡ status_of outcome → CallSo kinds met standard named w w' e e' handed status
-  Helps : AsksHelp kinds → (text : List ℕ) → Appends w w' text → handed ≡ true → Keeps e e' → status ≡ 0 → CallSo kinds met standard named w w' e e' handed status
-  HelpsInPart : AsksHelp kinds → (text : List ℕ) → GrowsByFront w w' text → (fault : RunFault) → GrowsByFront e e' (run_line fault) → status ≡ 2 → CallSo kinds met standard named w w' e e' handed status
-  Refuses : IsMistaken kinds met → Keeps w w' → (text : List ℕ) → GrowsByFront e e' text → status ≡ 2 → CallSo kinds met standard named w w' e e' handed status
-  WantsMemory : Keeps w w' → GrowsByFront e e' (run_line Memory) → status ≡ 2 → CallSo kinds met standard named w w' e e' handed status
+pub data CallSo (kinds : Kinds) (subcommand : Option (Text × List Row)) (standard : Option (List ℕ)) (named : List ℕ → Option (List ℕ))
+    (output output' errors errors' : Option (List ℕ)) (handed : Bool) (status : ℕ) : Type 0 where
+  Does : (job : Job) → IsJobOf subcommand job → (outcome : Outcome) → (between : Option (List ℕ)) → OutcomeSo standard named job output output' errors between outcome
+      → GrowsByFront between errors' (last_line outcome) → status ≡ status_of outcome → CallSo kinds subcommand standard named output output' errors errors' handed status
+  Helps : AsksHelp kinds → (text : List ℕ) → Appends output output' text → handed ≡ true → Keeps errors errors' → status ≡ 0
+      → CallSo kinds subcommand standard named output output' errors errors' handed status
+  HelpsInPart : AsksHelp kinds → (text : List ℕ) → GrowsByFront output output' text → (fault : RunFault) → GrowsByFront errors errors' (run_line fault) → status ≡ 2
+      → CallSo kinds subcommand standard named output output' errors errors' handed status
+  Refuses : IsMistaken kinds subcommand → Keeps output output' → (text : List ℕ) → GrowsByFront errors errors' text → status ≡ 2
+      → CallSo kinds subcommand standard named output output' errors errors' handed status
+  WantsMemory : Keeps output output' → GrowsByFront errors errors' (run_line Memory) → status ≡ 2
+      → CallSo kinds subcommand standard named output output' errors errors' handed status
 
 -- the words cannot be had: memory ran out, or one of them is no text
 abbrev pub IsWordless : Outcome → Type 0
@@ -37,6 +42,8 @@ IsWordless (Run fault) = fault ≡ Memory
 -- What the process does with its words, whichever they are: what a call of the program with them
 -- comes to, of whose inputs nothing is known; or they cannot be had, and that is told by a last
 -- line (or a front of it) and the status, with no output.
-pub data WordsSo (w w' e e' : Option (List ℕ)) (handed : Bool) (status : ℕ) : Type 0 where
-  Calls : (words : List (List ℕ)) → CallSo (fault_of bufr_app words) (subcommand_of bufr_app words) None (λ _. None) w w' e e' handed status → WordsSo w w' e e' handed status
-  NoWords : (outcome : Outcome) → IsWordless outcome → w' ≡ w → GrowsByFront e e' (last_line outcome) → status ≡ status_of outcome → WordsSo w w' e e' handed status
+pub data WordsSo (output output' errors errors' : Option (List ℕ)) (handed : Bool) (status : ℕ) : Type 0 where
+  Calls : (words : List (List ℕ)) → CallSo (fault_of bufr_app words) (subcommand_of bufr_app words) None (λ _. None) output output' errors errors' handed status
+      → WordsSo output output' errors errors' handed status
+  NoWords : (outcome : Outcome) → IsWordless outcome → output' ≡ output → GrowsByFront errors errors' (last_line outcome) → status ≡ status_of outcome
+      → WordsSo output output' errors errors' handed status

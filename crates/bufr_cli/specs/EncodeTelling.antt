@@ -14,11 +14,11 @@ use Rattle.bufr_cli.specs.declared.tally.Verdict.{Verdict}
 
 -- the piece of what the reader told was written and counted, or a front of it; at the end of the
 -- text there is none
-abbrev pub TellsNext : (w w' e e' : Option (List ℕ)) → (Told → Piece) → Result (Option Document) ReadFault → Result (Option Verdict) RunFault → Type 0
-TellsNext w w' e e' piece next (Ok None) = (next ≡ Ok None) × (w' ≡ w) × (e' ≡ e)
-TellsNext w w' e e' piece next (Ok (Some verdict)) = (x : Told) × (told_by next ≡ x ∷ []) × TellsPieces w w' e e' (piece x ∷ []) (Ok verdict)
-TellsNext w w' e e' piece next (Err Read) = (next ≡ Err (Run Read)) × (w' ≡ w) × (e' ≡ e)
-TellsNext w w' e e' piece next (Err InputTooLong) = (next ≡ Err (Run InputTooLong)) × (w' ≡ w) × (e' ≡ e)
-TellsNext w w' e e' piece next (Err Write) = (x : Told) × (told_by next ≡ x ∷ []) × TellsPieces w w' e e' (piece x ∷ []) (Err Write)
-TellsNext w w' e e' piece next (Err Memory) =
-    ((next ≡ Err (Run Memory)) × (w' ≡ w) × (e' ≡ e)) ⊎ ((x : Told) × (told_by next ≡ x ∷ []) × TellsPieces w w' e e' (piece x ∷ []) (Err Memory))
+abbrev pub TellsNext : (output output' errors errors' : Option (List ℕ)) → (Told → Piece) → Result (Option Document) ReadFault → Result (Option Verdict) RunFault → Type 0
+TellsNext output output' errors errors' piece next (Ok None) = (next ≡ Ok None) × (output' ≡ output) × (errors' ≡ errors)
+TellsNext output output' errors errors' piece next (Ok (Some verdict)) = (x : Told) × (told_by next ≡ x ∷ []) × TellsPieces output output' errors errors' (piece x ∷ []) (Ok verdict)
+TellsNext output output' errors errors' piece next (Err Read) = (next ≡ Err (Run Read)) × (output' ≡ output) × (errors' ≡ errors)
+TellsNext output output' errors errors' piece next (Err InputTooLong) = (next ≡ Err (Run InputTooLong)) × (output' ≡ output) × (errors' ≡ errors)
+TellsNext output output' errors errors' piece next (Err Write) = (x : Told) × (told_by next ≡ x ∷ []) × TellsPieces output output' errors errors' (piece x ∷ []) (Err Write)
+TellsNext output output' errors errors' piece next (Err Memory) =
+    ((next ≡ Err (Run Memory)) × (output' ≡ output) × (errors' ≡ errors)) ⊎ ((x : Told) × (told_by next ≡ x ∷ []) × TellsPieces output output' errors errors' (piece x ∷ []) (Err Memory))

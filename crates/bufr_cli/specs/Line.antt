@@ -33,9 +33,13 @@ form_rule = record (new_rule (codes "form")) { long = Some (codes "form"); value
 abbrev pub encode_app : App
 encode_app = with_rule (tables_app (codes "encode")) form_rule
 
+-- `bufr`, which has a version and wants a subcommand
+abbrev pub top_app : App
+top_app = record (new_app (codes "bufr")) { top = record ((new_app (codes "bufr")).top) { has_version = true; subcommand_required = true } }
+
 -- `bufr COMMAND`
 abbrev pub bufr_app : App
-bufr_app = with_subcommand (with_subcommand (with_subcommand (record (new_app (codes "bufr")) { top = record ((new_app (codes "bufr")).top) { has_version = true; subcommand_required = true } }) ls_app.top) (tables_app (codes "dump")).top) encode_app.top
+bufr_app = with_subcommand (with_subcommand (with_subcommand top_app ls_app.top) (tables_app (codes "dump")).top) encode_app.top
 
 -- the name of a subcommand
 abbrev pub name_of : Subcommand → Text
@@ -63,8 +67,8 @@ HasTables rows (Encode tables form) = AreNamed rows tables × (word_of form ≡ 
 -- the job has the subcommand that was met, its tables and form, and the value of FILE there
 abbrev pub IsJobOf : Option (Text × List Row) → Job → Type 0
 IsJobOf None job = ⊥
-IsJobOf (Some met) job =
-    (met.0 ≡ name_of job.command) × HasTables met.1 job.command × (option_map (λ name. name.now) job.file ≡ first_of (codes "FILE") met.1)
+IsJobOf (Some subcommand) job =
+    (subcommand.0 ≡ name_of job.command) × HasTables subcommand.1 job.command × (option_map (λ name. name.now) job.file ≡ first_of (codes "FILE") subcommand.1)
 
 -- no tables have these values
 abbrev pub LacksTables : List Row → Type 0
@@ -76,7 +80,7 @@ LacksForm rows = (form : Form) → ¬ (word_of form ≡ first_of (codes "form") 
 
 -- no job is that of the subcommand that was met
 abbrev pub HasNoJob : Option (Text × List Row) → Type 0
-HasNoJob met = (job : Job) → ¬ IsJobOf met job
+HasNoJob subcommand = (job : Job) → ¬ IsJobOf subcommand job
 
 -- the fault that an error of this kind stands for; its text takes memory
 abbrev pub TellsKind : ErrorKind → LineFault → Type 0
@@ -90,10 +94,10 @@ AsksHelp kinds = IsAmong DisplayHelp kinds ⊎ IsAmong DisplayVersion kinds
 
 -- the line is refused, or met no job
 abbrev pub IsMistaken : Kinds → Option (Text × List Row) → Type 0
-IsMistaken kinds met = ((kind : ErrorKind) × IsAmong kind kinds × (kind ≢ DisplayHelp) × (kind ≢ DisplayVersion)) ⊎ HasNoJob met
+IsMistaken kinds subcommand = ((kind : ErrorKind) × IsAmong kind kinds × (kind ≢ DisplayHelp) × (kind ≢ DisplayVersion)) ⊎ HasNoJob subcommand
 
 -- why a line whose parse may fail by these kinds, and meets this subcommand, gives no job
 abbrev pub SaysWhy : Kinds → Option (Text × List Row) → LineFault → Type 0
-SaysWhy kinds met (Help text) = AsksHelp kinds
-SaysWhy kinds met (Usage text) = IsMistaken kinds met
-SaysWhy kinds met Memory = Unit {0}
+SaysWhy kinds subcommand (Help text) = AsksHelp kinds
+SaysWhy kinds subcommand (Usage text) = IsMistaken kinds subcommand
+SaysWhy kinds subcommand Memory = Unit {0}

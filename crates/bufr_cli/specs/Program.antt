@@ -31,22 +31,24 @@ input_octets standard named None = standard
 input_octets standard named (Some name) = named name.now
 
 -- the pieces were written and counted
-abbrev pub Tells : (w w' e e' : Option (List ℕ)) → Tally → List Piece → Type 0
-Tells w w' e e' tally pieces = Written w w' e e' pieces × Tallies tally pieces
+abbrev pub Tells : (output output' errors errors' : Option (List ℕ)) → Tally → List Piece → Type 0
+Tells output output' errors errors' tally pieces = Written output output' errors errors' pieces × Tallies tally pieces
 
 -- nothing was written
-abbrev pub WritesNothing : (w w' e e' : Option (List ℕ)) → Type 0
-WritesNothing w w' e e' = (w' ≡ w) × (e' ≡ e)
+abbrev pub WritesNothing : (output output' errors errors' : Option (List ℕ)) → Type 0
+WritesNothing output output' errors errors' = (output' ≡ output) × (errors' ≡ errors)
 
 -- a run over the events of an input was ended by this fault: of octets that it read it left what
 -- such a run leaves
-abbrev pub RunLeft : (pieces_of : List Happening → List Piece) → (w w' e e' : Option (List ℕ)) → (left : Option (List ℕ)) → RunFault → Type 0
-RunLeft pieces_of w w' e e' left fault = (left' : Option (List ℕ)) × (bs : List ℕ) × RunSo pieces_of left left' w w' e e' (Unit {0}) (Unit {0}) bs (Err fault)
+abbrev pub RunLeft : (pieces_of : List Happening → List Piece) → (output output' errors errors' : Option (List ℕ)) → (left : Option (List ℕ)) → RunFault → Type 0
+RunLeft pieces_of output output' errors errors' left fault =
+    (left' : Option (List ℕ)) × (bs : List ℕ) × RunSo pieces_of left left' output output' errors errors' (Unit {0}) (Unit {0}) bs (Err fault)
 
 -- what comes of a run over an input: where it went through, this holds of its octets, and where a
 -- fault ended it, that of them and of the fault; what cannot be opened is the input, of which
 -- nothing was known, and then nothing was written
-abbrev pub RunOutcome : (ran : Tally → List ℕ → Type 0) → (ended : Option (List ℕ) → RunFault → Type 0) → (nothing : Type 0) → (standard : Option (List ℕ)) → (named : List ℕ → Option (List ℕ)) → (file : Option (Bor (List ℕ))) → Outcome → Type 0
+abbrev pub RunOutcome : (ran : Tally → List ℕ → Type 0) → (ended : Option (List ℕ) → RunFault → Type 0) → (nothing : Type 0)
+    → (standard : Option (List ℕ)) → (named : List ℕ → Option (List ℕ)) → (file : Option (Bor (List ℕ))) → Outcome → Type 0
 RunOutcome ran ended nothing standard named file (Ran tally) = IfSome (input_octets standard named file) (ran tally)
 RunOutcome ran ended nothing standard named file (Usage text) = ⊥
 RunOutcome ran ended nothing standard named file (CannotOpen name) = (file ≡ Some name) × (named name.now ≡ None) × nothing
@@ -88,59 +90,75 @@ pub record AreTables (named : List ℕ → Option (List ℕ)) (tables : TableNam
   pub table_d : IfSome (named tables.table_d.now) (λ text. Reads (records_of text) (Ok d))
 
 -- the pieces that `dump` has for the octets by these tables were written and counted
-abbrev pub Dumps : List Row → List Sequence → (w w' e e' : Option (List ℕ)) → Tally → List ℕ → Type 0
-Dumps b d w w' e e' tally s = (piece : Happening → Piece) × GivesPieces (IsDumpPiece b d) piece × Tells w w' e e' tally (map piece (scan s))
+abbrev pub Dumps : List Row → List Sequence → (output output' errors errors' : Option (List ℕ)) → Tally → List ℕ → Type 0
+Dumps b d output output' errors errors' tally s =
+    (piece : Happening → Piece) × GivesPieces (IsDumpPiece b d) piece × Tells output output' errors errors' tally (map piece (scan s))
 
 -- a dump by these tables was ended by this fault
-abbrev pub DumpLeft : List Row → List Sequence → (w w' e e' : Option (List ℕ)) → (left : Option (List ℕ)) → RunFault → Type 0
-DumpLeft b d w w' e e' left fault = (piece : Happening → Piece) × GivesPieces (IsDumpPiece b d) piece × RunLeft (map piece) w w' e e' left fault
+abbrev pub DumpLeft : List Row → List Sequence → (output output' errors errors' : Option (List ℕ)) → (left : Option (List ℕ)) → RunFault → Type 0
+DumpLeft b d output output' errors errors' left fault =
+    (piece : Happening → Piece) × GivesPieces (IsDumpPiece b d) piece × RunLeft (map piece) output output' errors errors' left fault
 
 -- the same of each function that gives the pieces, of which there is one
-abbrev pub DumpsByAny : List Row → List Sequence → (w w' e e' : Option (List ℕ)) → Tally → List ℕ → Type 0
-DumpsByAny b d w w' e e' tally s = (piece : Happening → Piece) → GivesPieces (IsDumpPiece b d) piece → Tells w w' e e' tally (map piece (scan s))
+abbrev pub DumpsByAny : List Row → List Sequence → (output output' errors errors' : Option (List ℕ)) → Tally → List ℕ → Type 0
+DumpsByAny b d output output' errors errors' tally s =
+    (piece : Happening → Piece) → GivesPieces (IsDumpPiece b d) piece → Tells output output' errors errors' tally (map piece (scan s))
 
-abbrev pub DumpLeftByAny : List Row → List Sequence → (w w' e e' : Option (List ℕ)) → (left : Option (List ℕ)) → RunFault → Type 0
-DumpLeftByAny b d w w' e e' left fault = (piece : Happening → Piece) → GivesPieces (IsDumpPiece b d) piece → RunLeft (map piece) w w' e e' left fault
+abbrev pub DumpLeftByAny : List Row → List Sequence → (output output' errors errors' : Option (List ℕ)) → (left : Option (List ℕ)) → RunFault → Type 0
+DumpLeftByAny b d output output' errors errors' left fault =
+    (piece : Happening → Piece) → GivesPieces (IsDumpPiece b d) piece → RunLeft (map piece) output output' errors errors' left fault
 
 -- the pieces that `encode` has for the octets by these tables were written and counted
-abbrev pub Encodes : Form → List Row → List Sequence → (w w' e e' : Option (List ℕ)) → Tally → List ℕ → Type 0
-Encodes form b d w w' e e' tally s = Tells w w' e e' tally (encode_pieces form b d (documents_of s))
+abbrev pub Encodes : Form → List Row → List Sequence → (output output' errors errors' : Option (List ℕ)) → Tally → List ℕ → Type 0
+Encodes form b d output output' errors errors' tally s = Tells output output' errors errors' tally (encode_pieces form b d (documents_of s))
 
 -- an encoding by these tables was ended by this fault
-abbrev pub EncodeLeft : Form → List Row → List Sequence → (w w' e e' : Option (List ℕ)) → (left : Option (List ℕ)) → RunFault → Type 0
-EncodeLeft form b d w w' e e' left fault = (left' : Option (List ℕ)) × (bs : List ℕ) × EncodeSo (encode_pieces form b d) left left' w w' e e' (Unit {0}) bs (Err fault)
+abbrev pub EncodeLeft : Form → List Row → List Sequence → (output output' errors errors' : Option (List ℕ)) → (left : Option (List ℕ)) → RunFault → Type 0
+EncodeLeft form b d output output' errors errors' left fault =
+    (left' : Option (List ℕ)) × (bs : List ℕ) × EncodeSo (encode_pieces form b d) left left' output output' errors errors' (Unit {0}) bs (Err fault)
 
 -- not both tables are read: Table B is not, or Table B is and Table D is not
 pub data AreUnread (named : List ℕ → Option (List ℕ)) (tables : TableNames) (outcome : Outcome) : Type 0 where
   NoTableB : TableBOutcome named tables.table_b outcome → AreUnread named tables outcome
-  NoTableD : (b : List Row) → IfSome (named tables.table_b.now) (λ text. table_b_of (records_of text) ≡ Ok b) → TableDOutcome named tables.table_d outcome → AreUnread named tables outcome
+  NoTableD : (b : List Row) → IfSome (named tables.table_b.now) (λ text. table_b_of (records_of text) ≡ Ok b) → TableDOutcome named tables.table_d outcome
+      → AreUnread named tables outcome
 
 -- what comes of a run by tables: they are not both read, and nothing was written; or there is a run
 -- by both
-pub data TablesOutcome (run : List Row → List Sequence → Outcome → Type 0) (nothing : Type 0) (named : List ℕ → Option (List ℕ)) (tables : TableNames) (outcome : Outcome) : Type 0 where
+pub data TablesOutcome (run : List Row → List Sequence → Outcome → Type 0) (nothing : Type 0)
+    (named : List ℕ → Option (List ℕ)) (tables : TableNames) (outcome : Outcome) : Type 0 where
   NoTables : nothing → AreUnread named tables outcome → TablesOutcome run nothing named tables outcome
   ByTables : (b : List Row) (d : List Sequence) → AreTables named tables b d → run b d outcome → TablesOutcome run nothing named tables outcome
 
 -- what comes of a listing
-abbrev pub LsOutcome : (standard : Option (List ℕ)) → (named : List ℕ → Option (List ℕ)) → (file : Option (Bor (List ℕ))) → (w w' e e' : Option (List ℕ)) → Outcome → Type 0
-LsOutcome standard named file w w' e e' outcome =
-    RunOutcome (λ tally s. Tells w w' e e' tally (ls_pieces s)) (RunLeft (map ls_piece) w w' e e') (WritesNothing w w' e e') standard named file outcome
+abbrev pub LsOutcome : (standard : Option (List ℕ)) → (named : List ℕ → Option (List ℕ)) → (file : Option (Bor (List ℕ)))
+    → (output output' errors errors' : Option (List ℕ)) → Outcome → Type 0
+LsOutcome standard named file output output' errors errors' outcome =
+    RunOutcome (λ tally s. Tells output output' errors errors' tally (ls_pieces s)) (RunLeft (map ls_piece) output output' errors errors')
+    (WritesNothing output output' errors errors') standard named file outcome
 
 -- what comes of a dump
-abbrev pub DumpOutcome : (standard : Option (List ℕ)) → (named : List ℕ → Option (List ℕ)) → TableNames → (file : Option (Bor (List ℕ))) → (w w' e e' : Option (List ℕ)) → Outcome → Type 0
-DumpOutcome standard named tables file w w' e e' outcome =
-    TablesOutcome (λ b d. RunOutcome (Dumps b d w w' e e') (DumpLeft b d w w' e e') (WritesNothing w w' e e') standard named file) (WritesNothing w w' e e') named tables outcome
+abbrev pub DumpOutcome : (standard : Option (List ℕ)) → (named : List ℕ → Option (List ℕ)) → TableNames → (file : Option (Bor (List ℕ)))
+    → (output output' errors errors' : Option (List ℕ)) → Outcome → Type 0
+DumpOutcome standard named tables file output output' errors errors' outcome =
+    let nothing = WritesNothing output output' errors errors' in
+    TablesOutcome (λ b d. RunOutcome (Dumps b d output output' errors errors') (DumpLeft b d output output' errors errors') nothing standard named file)
+    nothing named tables outcome
 
 -- what comes of an encoding
-abbrev pub EncodeOutcome : (standard : Option (List ℕ)) → (named : List ℕ → Option (List ℕ)) → TableNames → Form → (file : Option (Bor (List ℕ))) → (w w' e e' : Option (List ℕ)) → Outcome → Type 0
-EncodeOutcome standard named tables form file w w' e e' outcome =
-    TablesOutcome (λ b d. RunOutcome (Encodes form b d w w' e e') (EncodeLeft form b d w w' e e') (WritesNothing w w' e e') standard named file) (WritesNothing w w' e e') named tables outcome
+abbrev pub EncodeOutcome : (standard : Option (List ℕ)) → (named : List ℕ → Option (List ℕ)) → TableNames → Form → (file : Option (Bor (List ℕ)))
+    → (output output' errors errors' : Option (List ℕ)) → Outcome → Type 0
+EncodeOutcome standard named tables form file output output' errors errors' outcome =
+    let nothing = WritesNothing output output' errors errors' in
+    TablesOutcome (λ b d. RunOutcome (Encodes form b d output output' errors errors') (EncodeLeft form b d output output' errors errors') nothing standard named file)
+    nothing named tables outcome
 
 -- what comes of a job
-abbrev pub CommandOutcome : (standard : Option (List ℕ)) → (named : List ℕ → Option (List ℕ)) → Subcommand → (file : Option (Bor (List ℕ))) → (w w' e e' : Option (List ℕ)) → Outcome → Type 0
-CommandOutcome standard named Ls file w w' e e' outcome = LsOutcome standard named file w w' e e' outcome
-CommandOutcome standard named (Dump tables) file w w' e e' outcome = DumpOutcome standard named tables file w w' e e' outcome
-CommandOutcome standard named (Encode tables form) file w w' e e' outcome = EncodeOutcome standard named tables form file w w' e e' outcome
+abbrev pub CommandOutcome : (standard : Option (List ℕ)) → (named : List ℕ → Option (List ℕ)) → Subcommand → (file : Option (Bor (List ℕ)))
+    → (output output' errors errors' : Option (List ℕ)) → Outcome → Type 0
+CommandOutcome standard named Ls file output output' errors errors' outcome = LsOutcome standard named file output output' errors errors' outcome
+CommandOutcome standard named (Dump tables) file output output' errors errors' outcome = DumpOutcome standard named tables file output output' errors errors' outcome
+CommandOutcome standard named (Encode tables form) file output output' errors errors' outcome = EncodeOutcome standard named tables form file output output' errors errors' outcome
 
-abbrev pub OutcomeSo : (standard : Option (List ℕ)) → (named : List ℕ → Option (List ℕ)) → Job → (w w' e e' : Option (List ℕ)) → Outcome → Type 0
-OutcomeSo standard named job w w' e e' outcome = CommandOutcome standard named job.command job.file w w' e e' outcome
+abbrev pub OutcomeSo : (standard : Option (List ℕ)) → (named : List ℕ → Option (List ℕ)) → Job → (output output' errors errors' : Option (List ℕ)) → Outcome → Type 0
+OutcomeSo standard named job output output' errors errors' outcome = CommandOutcome standard named job.command job.file output output' errors errors' outcome

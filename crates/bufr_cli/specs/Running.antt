@@ -12,21 +12,21 @@ use Rattle.bufr_cli.specs.Pieces.{Piece, output_of, errors_of, is_accepted, is_r
 use Rattle.bufr_cli.specs.declared.tally.Tally.{Tally}
 
 -- All of the pieces were written, each on its writer, in order.
-pub record Written (w w' e e' : Option (List ℕ)) (pieces : List Piece) : Type 0 where
-  pub output : Appends w w' (flat_map output_of pieces)
-  pub errors : Appends e e' (flat_map errors_of pieces)
+pub record Written (old_output new_output old_errors new_errors : Option (List ℕ)) (pieces : List Piece) : Type 0 where
+  pub output : Appends old_output new_output (flat_map output_of pieces)
+  pub errors : Appends old_errors new_errors (flat_map errors_of pieces)
 
 -- The first pieces were written whole, and of the next one a front.
-pub record WrittenInPart (w w' e e' : Option (List ℕ)) (pieces : List Piece) : Type 0 where
+pub record WrittenInPart (old_output new_output old_errors new_errors : Option (List ℕ)) (pieces : List Piece) : Type 0 where
   pub given : List Piece
   pub next : Option Piece
   pub rest : List Piece
   pub parts : pieces ≡ given ++ (option_to_list next ++ rest)
   pub between_output : Option (List ℕ)
   pub between_errors : Option (List ℕ)
-  pub whole : Written w between_output e between_errors given
-  pub output : GrowsByFront between_output w' (flat_map output_of (option_to_list next))
-  pub errors : GrowsByFront between_errors e' (flat_map errors_of (option_to_list next))
+  pub whole : Written old_output between_output old_errors between_errors given
+  pub output : GrowsByFront between_output new_output (flat_map output_of (option_to_list next))
+  pub errors : GrowsByFront between_errors new_errors (flat_map errors_of (option_to_list next))
 
 -- The tally counts the pieces on each writer.
 pub record Tallies (tally : Tally) (pieces : List Piece) : Type 0 where
@@ -34,16 +34,16 @@ pub record Tallies (tally : Tally) (pieces : List Piece) : Type 0 where
   pub refused : tally.refused ≡ count_by is_refused pieces
 
 -- The input was read to its end, its pieces were written and counted.
-pub record RunDone (pieces_of : List Happening → List Piece) (left left' w w' e e' : Option (List ℕ)) (bs : List ℕ) (tally : Tally) : Type 0 where
+pub record RunDone (pieces_of : List Happening → List Piece) (left left' output output' errors errors' : Option (List ℕ)) (bs : List ℕ) (tally : Tally) : Type 0 where
   pub read : Consumes left left' bs
   pub end : IsAtEnd left'
-  pub written : Written w w' e e' (pieces_of (scan bs))
+  pub written : Written output output' errors errors' (pieces_of (scan bs))
   pub tallies : Tallies tally (pieces_of (scan bs))
 
 -- The run stopped before the end, and the pieces of all that was certain were written.
-pub record RunStopped (pieces_of : List Happening → List Piece) (left left' w w' e e' : Option (List ℕ)) (bs : List ℕ) : Type 0 where
+pub record RunStopped (pieces_of : List Happening → List Piece) (left left' output output' errors errors' : Option (List ℕ)) (bs : List ℕ) : Type 0 where
   pub read : Consumes left left' bs
-  pub written : Written w w' e e' (pieces_of (open_scan bs))
+  pub written : Written output output' errors errors' (pieces_of (open_scan bs))
 
 -- the events of the octets that were read: all, where the end was reached, and else those that are
 -- certain
@@ -53,12 +53,12 @@ read_events false bs = open_scan bs
 
 -- A writer failed, or memory was refused: of what was read a front was written; where a flush was
 -- tried, all stands.
-pub record RunCut (pieces_of : List Happening → List Piece) (left left' w w' e e' : Option (List ℕ)) (unflushed : Type 0) (bs : List ℕ) : Type 0 where
+pub record RunCut (pieces_of : List Happening → List Piece) (left left' output output' errors errors' : Option (List ℕ)) (unflushed : Type 0) (bs : List ℕ) : Type 0 where
   pub read : Consumes left left' bs
   pub ended : Bool
   pub end : ended ≡ true → IsAtEnd left'
-  pub written : WrittenInPart w w' e e' (pieces_of (read_events ended bs))
-  pub flushed : ¬ unflushed → (ended ≡ true) × Written w w' e e' (pieces_of (scan bs))
+  pub written : WrittenInPart output output' errors errors' (pieces_of (read_events ended bs))
+  pub flushed : ¬ unflushed → (ended ≡ true) × Written output output' errors errors' (pieces_of (scan bs))
 
 -- fewer than 2^32 reads were made
 abbrev pub ReadsFewer : (reads reads' : ℕ) → Type 0
@@ -66,12 +66,14 @@ ReadsFewer reads reads' = (n : ℕ) × (n < most_reads) × (reads' ≡ counted r
 
 -- what a run leaves that reads these octets; memory is wanted where a piece was to be written, or
 -- early, before all of the reads were made
-abbrev pub RunSo : (pieces_of : List Happening → List Piece) → (left left' w w' e e' : Option (List ℕ)) → (unflushed early : Type 0) → List ℕ → Result Tally RunFault → Type 0
-RunSo pieces_of left left' w w' e e' unflushed early bs (Ok tally) = RunDone pieces_of left left' w w' e e' bs tally
-RunSo pieces_of left left' w w' e e' unflushed early bs (Err Read) = RunStopped pieces_of left left' w w' e e' bs
-RunSo pieces_of left left' w w' e e' unflushed early bs (Err InputTooLong) = RunStopped pieces_of left left' w w' e e' bs
-RunSo pieces_of left left' w w' e e' unflushed early bs (Err Memory) = (cut : RunCut pieces_of left left' w w' e e' unflushed bs) × (cut.written.next ≡ None → early)
-RunSo pieces_of left left' w w' e e' unflushed early bs (Err Write) = RunCut pieces_of left left' w w' e e' unflushed bs
+abbrev pub RunSo : (pieces_of : List Happening → List Piece) → (left left' output output' errors errors' : Option (List ℕ))
+    → (unflushed early : Type 0) → List ℕ → Result Tally RunFault → Type 0
+RunSo pieces_of left left' output output' errors errors' unflushed early bs (Ok tally) = RunDone pieces_of left left' output output' errors errors' bs tally
+RunSo pieces_of left left' output output' errors errors' unflushed early bs (Err Read) = RunStopped pieces_of left left' output output' errors errors' bs
+RunSo pieces_of left left' output output' errors errors' unflushed early bs (Err InputTooLong) = RunStopped pieces_of left left' output output' errors errors' bs
+RunSo pieces_of left left' output output' errors errors' unflushed early bs (Err Memory) =
+    (cut : RunCut pieces_of left left' output output' errors errors' unflushed bs) × (cut.written.next ≡ None → early)
+RunSo pieces_of left left' output output' errors errors' unflushed early bs (Err Write) = RunCut pieces_of left left' output output' errors errors' unflushed bs
 
 -- a run's pieces, each what its event is to put on the writers
 abbrev pub GivesPieces : (Happening → Piece → Type 0) → (Happening → Piece) → Type 0
@@ -97,6 +99,7 @@ abbrev pub HasFailed : {S : Type 0} → (failures empty : S → ℕ) → (old ne
 HasFailed failures empty old new = Fails (failures old) (failures new) (empty old) (empty new)
 
 -- a write fault comes from a call of the output or of the errors that its own ghosts count
-abbrev pub BlamesWriter : {X W E : Type 0} → (W → ℕ) → (W → ℕ) → (w w' : W) → (E → ℕ) → (E → ℕ) → (e e' : E) → Result X RunFault → Type 0
-BlamesWriter failures empty w w' failures' empty' e e' result =
-    Blames result (IsSame failures empty w w') (HasFailed failures empty w w') (IsSame failures' empty' e e') (HasFailed failures' empty' e e')
+abbrev pub BlamesWriter : {X W E : Type 0} → (W → ℕ) → (W → ℕ) → (output output' : W) → (E → ℕ) → (E → ℕ) → (errors errors' : E) → Result X RunFault → Type 0
+BlamesWriter failures empty output output' failures' empty' errors errors' result =
+    Blames result (IsSame failures empty output output') (HasFailed failures empty output output')
+    (IsSame failures' empty' errors errors') (HasFailed failures' empty' errors errors')

@@ -25,10 +25,10 @@ abbrev pub tally_after : Tally → Verdict → Tally
 tally_after tally verdict = record { accepted = tally.accepted + counted_accepted verdict; refused = tally.refused + counted_refused verdict }
 
 -- pieces were written and counted, or a front of them, where a writer failed or memory was refused
-abbrev pub TellsPieces : (w w' e e' : Option (List ℕ)) → List Piece → Result Verdict RunFault → Type 0
-TellsPieces w w' e e' pieces (Ok verdict) =
-    Written w w' e e' pieces × (counted_accepted verdict ≡ count_by is_accepted pieces) × (counted_refused verdict ≡ count_by is_refused pieces)
-TellsPieces w w' e e' pieces (Err fault) = GrowsByFront w w' (flat_map output_of pieces) × GrowsByFront e e' (flat_map errors_of pieces)
+abbrev pub TellsPieces : (output output' errors errors' : Option (List ℕ)) → List Piece → Result Verdict RunFault → Type 0
+TellsPieces output output' errors errors' pieces (Ok verdict) =
+    Written output output' errors errors' pieces × (counted_accepted verdict ≡ count_by is_accepted pieces) × (counted_refused verdict ≡ count_by is_refused pieces)
+TellsPieces output output' errors errors' pieces (Err fault) = GrowsByFront output output' (flat_map output_of pieces) × GrowsByFront errors errors' (flat_map errors_of pieces)
 
 -- a piece is stopped by a writer, or by want of memory where its text takes memory
 abbrev pub StopsPiece : (takes_memory : Bool) → Result Verdict RunFault → Type 0
