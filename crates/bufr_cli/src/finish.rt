@@ -150,7 +150,9 @@ pub fn finish<E: Sink>(outcome: &Outcome<'_>, e: &mut E) -> u8
     // A front of the line is written, and all of it where no call of the writer failed or took
     // nothing.
     ensures front { GrowsByFront (E.taken e.old) (E.taken e.new) (last_line outcome.now) }
-    ensures whole { E.failures e.old < 2 ^ 64 - 1 → E.empty_writes e.old < 2 ^ 64 - 1 → Stays (E.failures e.old) (E.failures e.new) (E.empty_writes e.old) (E.empty_writes e.new) → Appends (E.taken e.old) (E.taken e.new) (last_line outcome.now) }
+    ensures whole { E.failures e.old < 2 ^ 64 - 1 → E.empty_writes e.old < 2 ^ 64 - 1
+        → Stays (E.failures e.old) (E.failures e.new) (E.empty_writes e.old) (E.empty_writes e.new)
+        → Appends (E.taken e.old) (E.taken e.new) (last_line outcome.now) }
 {
     let _ = write_last(outcome, e);
     status(outcome)

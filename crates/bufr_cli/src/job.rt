@@ -4,7 +4,8 @@ ghost use Rattle.clap.specs.declared.builder.command.Command.TheViews.{out-Comma
 ghost use Rattle.clap.specs.Values.{kind_of};
 ghost use Rattle.clap.specs.Words.{app_of, fault_of, first_of, found_of, rows_of, rule_of, subcommand_of};
 ghost use Rattle.bufr_text.specs.declared.form.Form.{Form};
-ghost use Rattle.bufr_cli.specs.Line.{bufr_app, encode_app, form_rule, ls_app, name_of, table_rule, tables_app, word_of, AreNamed, HasNoJob, HasTables, IsJobOf, LacksForm, LacksTables, SaysWhy, TellsKind};
+ghost use Rattle.bufr_cli.specs.Line.{bufr_app, encode_app, form_rule, ls_app, name_of, table_rule, tables_app, word_of};
+ghost use Rattle.bufr_cli.specs.Line.{AreNamed, HasNoJob, HasTables, IsJobOf, LacksForm, LacksTables, SaysWhy, TellsKind};
 
 use bufr_text::Form;
 use clap::error::ErrorKind;
