@@ -7,7 +7,7 @@ use Rattle.bufr_frame.specs.Runs.{most_reads}
 use Rattle.bufr_frame.specs.Scan.{Happening, scan, open_scan}
 use Rattle.bufr_frame.specs.declared.fault.RunFault.{RunFault}
 use Rattle.bufr_frame.specs.declared.fault.RunFault.TheVariants.{Read, Write, InputTooLong, Memory}
-use Rattle.bufr_text.specs.Writing.{GrowsByFront, Stays, Fails}
+use Rattle.bufr_text.specs.Writing.{GrowsByFront, Stays, Fails, CountsWrites}
 use Rattle.bufr_cli.specs.Pieces.{Piece, output_of, errors_of, is_accepted, is_refused}
 use Rattle.bufr_cli.specs.declared.tally.Tally.{Tally}
 
@@ -97,6 +97,10 @@ IsSame failures empty old new = Stays (failures old) (failures new) (empty old) 
 
 abbrev pub HasFailed : {S : Type 0} → (failures empty : S → ℕ) → (old new : S) → Type 0
 HasFailed failures empty old new = Fails (failures old) (failures new) (empty old) (empty new)
+
+-- a write fault comes only from a call that the writer's ghosts count
+abbrev pub CountsCalls : {X S : Type 0} → (failures empty : S → ℕ) → (old new : S) → Result X RunFault → Type 0
+CountsCalls failures empty old new result = CountsWrites (failures old) (failures new) (empty old) (empty new) result
 
 -- a write fault comes from a call of the output or of the errors that its own ghosts count
 abbrev pub BlamesWriter : {X W E : Type 0} → (W → ℕ) → (W → ℕ) → (output output' : W) → (E → ℕ) → (E → ℕ) → (errors errors' : E) → Result X RunFault → Type 0

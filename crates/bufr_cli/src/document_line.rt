@@ -7,8 +7,9 @@ ghost use Rattle.bufr_text.specs.Documents.{LineFault, Refused};
 ghost use Rattle.bufr_text.specs.Reader.{told_by};
 ghost use Rattle.bufr_text.specs.Encoding.{by_template};
 ghost use Rattle.bufr_text.specs.EncodingFault.{number_of_document_fault, told_refusal, walk_told};
-ghost use Rattle.bufr_text.specs.Writing.{Writes, CountsWrites};
+ghost use Rattle.bufr_text.specs.Writing.{Writes};
 ghost use Rattle.bufr_cli.specs.DocumentLine.{document_line, item_line, refusal_line, refused_line, walk_text};
+ghost use Rattle.bufr_cli.specs.Running.{CountsCalls};
 
 use crate::fault_line::name_of_template_fault;
 use bufr_bits::Sink;
@@ -27,7 +28,7 @@ fn write_line<'a, E: Sink>(
     e: &mut E,
 ) -> Result<(), RunFault>
     ensures writes { Writes (E.taken e.old) (E.taken e.new) (document_line line number (text.entry.now ∷ digits.entry.now ∷ [])) result }
-    ensures counts { CountsWrites (E.failures e.old) (E.failures e.new) (E.empty_writes e.old) (E.empty_writes e.new) result }
+    ensures counts { CountsCalls E.failures E.empty_writes e.old e.new result }
     ensures flushes { E.flushes e.new ≡ E.flushes e.old }
 {
     let parts = [
@@ -52,7 +53,7 @@ fn write_descriptor_line<E: Sink>(
     e: &mut E,
 ) -> Result<(), RunFault>
     ensures writes { Writes (E.taken e.old) (E.taken e.new) (document_line line number (text.now ∷ fxy_text fxy ∷ [])) result }
-    ensures counts { CountsWrites (E.failures e.old) (E.failures e.new) (E.empty_writes e.old) (E.empty_writes e.new) result }
+    ensures counts { CountsCalls E.failures E.empty_writes e.old e.new result }
     ensures flushes { E.flushes e.new ≡ E.flushes e.old }
 {
     let digits = fxy.text();
@@ -69,7 +70,7 @@ fn write_expected<E: Sink>(
 ) -> Result<(), RunFault>
     requires { number ≡ number_of_document_fault (DocumentFault.WrongDescriptor line expected) }
     ensures writes { Writes (E.taken e.old) (E.taken e.new) (item_line line (other_than expected)) result }
-    ensures counts { CountsWrites (E.failures e.old) (E.failures e.new) (E.empty_writes e.old) (E.empty_writes e.new) result }
+    ensures counts { CountsCalls E.failures E.empty_writes e.old e.new result }
     ensures flushes { E.flushes e.new ≡ E.flushes e.old }
 {
     match expected {
@@ -89,7 +90,7 @@ fn write_template<E: Sink>(
     requires some { fault.now ≢ TemplateFault.Memory }
     requires numbered { number ≡ number_of_document_fault (DocumentFault.Template line fault.now) }
     ensures writes { Writes (E.taken e.old) (E.taken e.new) (refusal_line line (by_template fault.now)) result }
-    ensures counts { CountsWrites (E.failures e.old) (E.failures e.new) (E.empty_writes e.old) (E.empty_writes e.new) result }
+    ensures counts { CountsCalls E.failures E.empty_writes e.old e.new result }
     ensures flushes { E.flushes e.new ≡ E.flushes e.old }
 {
     let (name, fxy) = name_of_template_fault(fault);
@@ -109,7 +110,7 @@ fn write_template_parts<'a, E: Sink>(
     e: &mut E,
 ) -> Result<(), RunFault>
     ensures writes { Writes (E.taken e.old) (E.taken e.new) (document_line line number (codes "template " ∷ decimal why ∷ codes " " ∷ name.entry.now ∷ digits.entry.now ∷ [])) result }
-    ensures counts { CountsWrites (E.failures e.old) (E.failures e.new) (E.empty_writes e.old) (E.empty_writes e.new) result }
+    ensures counts { CountsCalls E.failures E.empty_writes e.old e.new result }
     ensures flushes { E.flushes e.new ≡ E.flushes e.old }
 {
     let parts = [
@@ -138,7 +139,7 @@ fn write_walk_parts<E: Sink>(
     e: &mut E,
 ) -> Result<(), RunFault>
     ensures writes { Writes (E.taken e.old) (E.taken e.new) (document_line line number (walk_text why fxy)) result }
-    ensures counts { CountsWrites (E.failures e.old) (E.failures e.new) (E.empty_writes e.old) (E.empty_writes e.new) result }
+    ensures counts { CountsCalls E.failures E.empty_writes e.old e.new result }
     ensures flushes { E.flushes e.new ≡ E.flushes e.old }
 {
     let digits = fxy.text();
@@ -166,7 +167,7 @@ fn write_walk<E: Sink>(
 ) -> Result<(), RunFault>
     requires { number ≡ number_of_document_fault (DocumentFault.Walk line refusal) }
     ensures writes { Writes (E.taken e.old) (E.taken e.new) (item_line line (walk_told refusal)) result }
-    ensures counts { CountsWrites (E.failures e.old) (E.failures e.new) (E.empty_writes e.old) (E.empty_writes e.new) result }
+    ensures counts { CountsCalls E.failures E.empty_writes e.old e.new result }
     ensures flushes { E.flushes e.new ≡ E.flushes e.old }
 {
     let why = refusal.number();
@@ -187,7 +188,7 @@ pub fn write_document_fault<E: Sink>(fault: DocumentFault, e: &mut E) -> Result<
     requires some { fault ≢ DocumentFault.Memory }
     requires template { (line : ℕ) → fault ≢ DocumentFault.Template line TemplateFault.Memory }
     ensures writes { IfSome (told_refusal fault) (λ refused. Writes (E.taken e.old) (E.taken e.new) (refusal_line refused.line refused.why) result) }
-    ensures counts { CountsWrites (E.failures e.old) (E.failures e.new) (E.empty_writes e.old) (E.empty_writes e.new) result }
+    ensures counts { CountsCalls E.failures E.empty_writes e.old e.new result }
     ensures flushes { E.flushes e.new ≡ E.flushes e.old }
 {
     let number = fault.number();
@@ -220,7 +221,7 @@ pub fn write_read_fault<E: Sink>(fault: ReadFault, e: &mut E) -> Result<(), RunF
     requires { (run : RunFault) → fault ≢ ReadFault.Run run }
     ensures writes { (line : ℕ) (why : LineFault) → told_by (Err fault) ≡ Refused line why ∷ [] → Writes (E.taken e.old) (E.taken e.new) (refused_line line why) result }
     ensures err { IfErr result (λ why. why ≡ RunFault.Write) }
-    ensures counts { CountsWrites (E.failures e.old) (E.failures e.new) (E.empty_writes e.old) (E.empty_writes e.new) result }
+    ensures counts { CountsCalls E.failures E.empty_writes e.old e.new result }
     ensures flushes { E.flushes e.new ≡ E.flushes e.old }
 {
     let number = fault.number();

@@ -4,8 +4,9 @@ ghost use Rattle.bufr_tables.specs.Fxy.{fxy_text};
 ghost use Rattle.bufr_tables.specs.FaultNumber.{number_of_template_fault};
 ghost use Rattle.bufr_walk.specs.Fault.{number_of_fault};
 ghost use Rattle.bufr_frame.specs.Numbers.{number_of_cause, number_of_section_fault};
-ghost use Rattle.bufr_text.specs.Writing.{Writes, CountsWrites, part_text, IsShort};
+ghost use Rattle.bufr_text.specs.Writing.{Writes, part_text, IsShort};
 ghost use Rattle.bufr_cli.specs.FaultLine.{fault_line, cause_text, section_fault_text, template_fault_text, walk_fault_text, spot_text};
+ghost use Rattle.bufr_cli.specs.Running.{CountsCalls};
 
 use bufr_bits::Sink;
 use bufr_frame::{Cause, RunFault, SectionFault};
@@ -31,7 +32,7 @@ fn stray_text(cause: Cause) -> &'static [u8]
 /// [`RunFault::Write`] where the writer fails or takes nothing; a front of the line was taken.
 pub fn write_stray<E: Sink>(offset: u64, cause: Cause, e: &mut E) -> Result<(), RunFault>
     ensures writes { Writes (E.taken e.old) (E.taken e.new) (fault_line offset (number_of_cause cause) (cause_text cause ∷ [])) result }
-    ensures counts { CountsWrites (E.failures e.old) (E.failures e.new) (E.empty_writes e.old) (E.empty_writes e.new) result }
+    ensures counts { CountsCalls E.failures E.empty_writes e.old e.new result }
     ensures flushes { E.flushes e.new ≡ E.flushes e.old }
 {
     let number = cause.number();
@@ -50,7 +51,7 @@ pub fn write_section_fault<E: Sink>(
     e: &mut E,
 ) -> Result<(), RunFault>
     ensures writes { Writes (E.taken e.old) (E.taken e.new) (fault_line offset (number_of_section_fault fault) (section_fault_text fault)) result }
-    ensures counts { CountsWrites (E.failures e.old) (E.failures e.new) (E.empty_writes e.old) (E.empty_writes e.new) result }
+    ensures counts { CountsCalls E.failures E.empty_writes e.old e.new result }
     ensures flushes { E.flushes e.new ≡ E.flushes e.old }
 {
     let number = fault.number();
@@ -110,7 +111,7 @@ pub fn write_template_fault<E: Sink>(
 ) -> Result<(), RunFault>
     requires { fault.now ≢ TemplateFault.Memory }
     ensures writes { Writes (E.taken e.old) (E.taken e.new) (fault_line offset (number_of_template_fault fault.now) (template_fault_text fault.now)) result }
-    ensures counts { CountsWrites (E.failures e.old) (E.failures e.new) (E.empty_writes e.old) (E.empty_writes e.new) result }
+    ensures counts { CountsCalls E.failures E.empty_writes e.old e.new result }
     ensures flushes { E.flushes e.new ≡ E.flushes e.old }
 {
     let (name, fxy) = name_of_template_fault(fault);
@@ -127,7 +128,7 @@ fn write_descriptor_fault<E: Sink>(
     e: &mut E,
 ) -> Result<(), RunFault>
     ensures writes { Writes (E.taken e.old) (E.taken e.new) (fault_line offset number (name.now ∷ fxy_text fxy ∷ [])) result }
-    ensures counts { CountsWrites (E.failures e.old) (E.failures e.new) (E.empty_writes e.old) (E.empty_writes e.new) result }
+    ensures counts { CountsCalls E.failures E.empty_writes e.old e.new result }
     ensures flushes { E.flushes e.new ≡ E.flushes e.old }
 {
     let digits = fxy.text();
@@ -159,7 +160,7 @@ fn name_of_walk_fault(fault: &WalkFault) -> (&'static [u8], Spot)
 pub fn write_walk_fault<E: Sink>(offset: u64, fault: &WalkFault, e: &mut E) -> Result<(), RunFault>
     requires { fault.now ≢ WalkFault.Memory }
     ensures writes { Writes (E.taken e.old) (E.taken e.new) (fault_line offset (number_of_fault fault.now) (walk_fault_text fault.now)) result }
-    ensures counts { CountsWrites (E.failures e.old) (E.failures e.new) (E.empty_writes e.old) (E.empty_writes e.new) result }
+    ensures counts { CountsCalls E.failures E.empty_writes e.old e.new result }
     ensures flushes { E.flushes e.new ≡ E.flushes e.old }
 {
     let (name, spot) = name_of_walk_fault(fault);
@@ -180,7 +181,7 @@ fn write_spot_fault<'a, E: Sink>(
 ) -> Result<(), RunFault>
     requires { digits.now ≡ fxy_text spot.fxy }
     ensures writes { Writes (E.taken e.old) (E.taken e.new) (fault_line offset number (spot_text name.now spot)) result }
-    ensures counts { CountsWrites (E.failures e.old) (E.failures e.new) (E.empty_writes e.old) (E.empty_writes e.new) result }
+    ensures counts { CountsCalls E.failures E.empty_writes e.old e.new result }
     ensures flushes { E.flushes e.new ≡ E.flushes e.old }
 {
     let parts = [
@@ -213,7 +214,7 @@ fn write_fault<'a, E: Sink>(
 ) -> Result<(), RunFault>
     requires { IsShort value }
     ensures writes { Writes (E.taken e.old) (E.taken e.new) (fault_line offset number (before.entry.now ∷ part_text value.entry ∷ after.entry.now ∷ [])) result }
-    ensures counts { CountsWrites (E.failures e.old) (E.failures e.new) (E.empty_writes e.old) (E.empty_writes e.new) result }
+    ensures counts { CountsCalls E.failures E.empty_writes e.old e.new result }
     ensures flushes { E.flushes e.new ≡ E.flushes e.old }
 {
     let parts = [

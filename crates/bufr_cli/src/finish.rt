@@ -1,8 +1,9 @@
 //! The end of a run: its last line and its exit status.
 ghost use Rattle.std.specs.Prelude.{◌≡◌, ◌<◌, ◌-◌, ◌^◌, ◌∷◌, []};
 ghost use Rattle.std.specs.Io.KnownBytes.{Appends};
-ghost use Rattle.bufr_text.specs.Writing.{CountsWrites, GrowsByFront, IsShort, Stays, Writes, part_text};
+ghost use Rattle.bufr_text.specs.Writing.{GrowsByFront, IsShort, Writes, part_text};
 ghost use Rattle.bufr_cli.specs.Finish.{last_line, numbered, run_fault_text, run_line, status_of, table_line};
+ghost use Rattle.bufr_cli.specs.Running.{CountsCalls, IsSame};
 
 use crate::tally::Tally;
 use bufr_bits::Sink;
@@ -53,7 +54,7 @@ fn status(outcome: &Outcome<'_>) -> u8
 /// Writes that the file of this name cannot be opened.
 fn write_cannot_open<E: Sink>(name: &str, e: &mut E) -> Result<(), RunFault>
     ensures writes { Writes (E.taken e.old) (E.taken e.new) (last_line (Outcome.CannotOpen name.entry)) result }
-    ensures counts { CountsWrites (E.failures e.old) (E.failures e.new) (E.empty_writes e.old) (E.empty_writes e.new) result }
+    ensures counts { CountsCalls E.failures E.empty_writes e.old e.new result }
 {
     let parts = [
         Part::Text(b"bufr: cannot open "),
@@ -66,7 +67,7 @@ fn write_cannot_open<E: Sink>(name: &str, e: &mut E) -> Result<(), RunFault>
 /// Writes the number and the text of a fault that ended the run.
 fn write_run_fault<E: Sink>(fault: RunFault, e: &mut E) -> Result<(), RunFault>
     ensures writes { Writes (E.taken e.old) (E.taken e.new) (run_line fault) result }
-    ensures counts { CountsWrites (E.failures e.old) (E.failures e.new) (E.empty_writes e.old) (E.empty_writes e.new) result }
+    ensures counts { CountsCalls E.failures E.empty_writes e.old e.new result }
 {
     let parts = [
         Part::Text(b"bufr: "),
@@ -89,7 +90,7 @@ fn write_numbered<'a, E: Sink>(
 ) -> Result<(), RunFault>
     requires { IsShort value }
     ensures writes { Writes (E.taken e.old) (E.taken e.new) (numbered table.entry.now number (text.entry.now ∷ part_text value.entry ∷ [])) result }
-    ensures counts { CountsWrites (E.failures e.old) (E.failures e.new) (E.empty_writes e.old) (E.empty_writes e.new) result }
+    ensures counts { CountsCalls E.failures E.empty_writes e.old e.new result }
 {
     let parts = [
         Part::Text(table),
@@ -105,7 +106,7 @@ fn write_numbered<'a, E: Sink>(
 /// Writes the line of a table that cannot be read.
 fn write_table_fault<E: Sink>(table: &[u8], fault: &TableFault, e: &mut E) -> Result<(), RunFault>
     ensures writes { Writes (E.taken e.old) (E.taken e.new) (table_line table.now fault.now) result }
-    ensures counts { CountsWrites (E.failures e.old) (E.failures e.new) (E.empty_writes e.old) (E.empty_writes e.new) result }
+    ensures counts { CountsCalls E.failures E.empty_writes e.old e.new result }
 {
     let number = fault.number();
     match fault {
@@ -130,7 +131,7 @@ fn write_table_fault<E: Sink>(table: &[u8], fault: &TableFault, e: &mut E) -> Re
 /// Writes the line that goes before status 2, or the usage text, or nothing.
 fn write_last<E: Sink>(outcome: &Outcome<'_>, e: &mut E) -> Result<(), RunFault>
     ensures writes { Writes (E.taken e.old) (E.taken e.new) (last_line outcome.now) result }
-    ensures counts { CountsWrites (E.failures e.old) (E.failures e.new) (E.empty_writes e.old) (E.empty_writes e.new) result }
+    ensures counts { CountsCalls E.failures E.empty_writes e.old e.new result }
 {
     match outcome {
         Outcome::Ran(_) => Ok(()),
@@ -151,7 +152,7 @@ pub fn finish<E: Sink>(outcome: &Outcome<'_>, e: &mut E) -> u8
     // nothing.
     ensures front { GrowsByFront (E.taken e.old) (E.taken e.new) (last_line outcome.now) }
     ensures whole { E.failures e.old < 2 ^ 64 - 1 → E.empty_writes e.old < 2 ^ 64 - 1
-        → Stays (E.failures e.old) (E.failures e.new) (E.empty_writes e.old) (E.empty_writes e.new)
+        → IsSame E.failures E.empty_writes e.old e.new
         → Appends (E.taken e.old) (E.taken e.new) (last_line outcome.now) }
 {
     let _ = write_last(outcome, e);

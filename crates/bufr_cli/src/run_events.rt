@@ -5,9 +5,8 @@ ghost use Rattle.bufr_bits.specs.Counts.{counted};
 ghost use Rattle.bufr_frame.specs.Events.{told, IsEvent};
 ghost use Rattle.bufr_frame.specs.Runs.{read_failures_after};
 ghost use Rattle.bufr_frame.specs.Scan.{Happening};
-ghost use Rattle.bufr_text.specs.Writing.{CountsWrites};
 ghost use Rattle.bufr_cli.specs.Pieces.{Piece};
-ghost use Rattle.bufr_cli.specs.Running.{RunSo, BlamesWriter, GivesPieces, ReadsFewer};
+ghost use Rattle.bufr_cli.specs.Running.{CountsCalls, RunSo, BlamesWriter, GivesPieces, ReadsFewer};
 ghost use Rattle.bufr_cli.specs.Telling.{RunReads, StopsPiece, TellsPieces};
 
 use crate::tally::{Tally, Verdict};
@@ -50,7 +49,7 @@ pub(crate) fn flush<W: Sink>(w: &mut W) -> Result<(), RunFault>
     ensures flushes { W.flushes w.new ≡ counted (W.flushes w.old) 1 }
     ensures handed_on { OnOk result (W.handed_on w.new ≡ true) }
     ensures err { IfErr result (λ fault. fault ≡ RunFault.Write) }
-    ensures counts { CountsWrites (W.failures w.old) (W.failures w.new) (W.empty_writes w.old) (W.empty_writes w.new) result }
+    ensures counts { CountsCalls W.failures W.empty_writes w.old w.new result }
 {
     match w.flush() {
         Ok(()) => Ok(()),
