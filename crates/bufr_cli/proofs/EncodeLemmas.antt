@@ -25,7 +25,8 @@ use Rattle.bufr_cli.specs.EncodePieces.{told_piece, encode_pieces, up_to_refused
 use Rattle.bufr_cli.specs.EncodeRun.{EncodeDone, EncodeStopped, EncodeSo, read_documents}
 use Rattle.bufr_cli.specs.EncodeTelling.{TellsNext}
 use Rattle.bufr_cli.specs.Pieces.{Piece, OnOutput, OnErrors, errors_of, is_accepted, is_refused, output_of}
-use Rattle.bufr_cli.specs.Running.{Blames, ReadsAtMost, Tallies, Written, WrittenInPart}
+use Rattle.bufr_cli.specs.Counting.{Blames}
+use Rattle.bufr_cli.specs.Running.{ReadsAtMost, Tallies, Written, WrittenInPart}
 use Rattle.bufr_cli.specs.Telling.{TellsPieces, StopsPiece, counted_accepted, counted_refused, tally_after}
 use Rattle.bufr_cli.specs.declared.tally.Tally.{Tally}
 use Rattle.bufr_cli.specs.declared.tally.Verdict.{Verdict}

@@ -21,7 +21,8 @@ use Rattle.bufr_frame.specs.Next.{NextSo, EndsSo}
 use Rattle.bufr_frame.proofs.FindingLemmas.{Advances-none, Follows-none, StepSo-then, CountsReads-then, whole-scan, events-are-certain}
 use Rattle.bufr_text.specs.Writing.{Writes, GrowsByFront, Stays, Fails}
 use Rattle.bufr_cli.specs.Pieces.{Piece, OnErrors, output_of, errors_of, is_accepted, is_refused}
-use Rattle.bufr_cli.specs.Running.{Written, Tallies, RunSo, RunDone, RunStopped, RunCut, ReadsFewer, read_events, GivesPieces, Blames}
+use Rattle.bufr_cli.specs.Counting.{Blames}
+use Rattle.bufr_cli.specs.Running.{Written, Tallies, RunSo, RunDone, RunStopped, RunCut, ReadsFewer, read_events, GivesPieces}
 use Rattle.bufr_cli.specs.Telling.{TellsPieces, StopsPiece, RunReads, counted_accepted, counted_refused, tally_after}
 use Rattle.bufr_cli.specs.declared.tally.Tally.{Tally}
 use Rattle.bufr_cli.specs.declared.tally.Verdict.{Verdict}

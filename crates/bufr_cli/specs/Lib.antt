@@ -2,6 +2,8 @@
 pub mod Calling
 -- a text encoded, and that dumped: its documents in the one spelling that a dump has
 pub mod Corrected
+-- which writer a fault is of, by what the writers count
+pub mod Counting
 -- the fault lines of a document, each with the line of the text
 pub mod DocumentLine
 -- what `dump` writes for an event: its text, or the line of the fault that comes first
@@ -26,7 +28,7 @@ pub mod Program
 pub mod ReadAll
 -- a stream dumped, its text encoded, and that dumped again: the same text, the same readings
 pub mod RoundTrip
--- what a run over events leaves, by its answer; which writer a fault is of, how many reads it makes
+-- what a run over events leaves, by its answer, and how many reads it makes
 pub mod Running
 -- what telling one event does to the writers and to the counts
 pub mod Telling

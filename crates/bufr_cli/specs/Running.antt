@@ -1,13 +1,13 @@
 -- What a run leaves, by its answer. (a choice of this project)
 -- Cited by public contracts.
-use Rattle.std.specs.Prelude.{◌≡◌, ◌⊎◌, ℕ, ◌<◌, ◌≤◌, Bool, true, false, List, ◌++◌, Option, None, Result, Ok, Err, flat_map, count_by, option_to_list}
+use Rattle.std.specs.Prelude.{◌≡◌, ℕ, ◌<◌, ◌≤◌, Bool, true, false, List, ◌++◌, Option, None, Result, Ok, Err, flat_map, count_by, option_to_list}
 use Rattle.std.specs.Io.KnownBytes.{Consumes, Appends, IsAtEnd}
 use Rattle.bufr_bits.specs.Counts.{counted}
 use Rattle.bufr_frame.specs.Runs.{most_reads}
 use Rattle.bufr_frame.specs.Scan.{Happening, scan, open_scan}
 use Rattle.bufr_frame.specs.declared.fault.RunFault.{RunFault}
 use Rattle.bufr_frame.specs.declared.fault.RunFault.TheVariants.{Read, Write, InputTooLong, Memory}
-use Rattle.bufr_text.specs.Writing.{GrowsByFront, Stays, Fails, CountsWrites}
+use Rattle.bufr_text.specs.Writing.{GrowsByFront}
 use Rattle.bufr_cli.specs.Pieces.{Piece, output_of, errors_of, is_accepted, is_refused}
 use Rattle.bufr_cli.specs.declared.tally.Tally.{Tally}
 
@@ -82,28 +82,3 @@ GivesPieces is_piece piece = (here : Happening) → is_piece here (piece here)
 -- at most 2^32 reads were made; an input is too long only after all of them
 abbrev pub ReadsAtMost : {X : Type 0} → (reads reads' : ℕ) → Result X RunFault → Type 0
 ReadsAtMost reads reads' result = (n : ℕ) × (n ≤ most_reads) × (reads' ≡ counted reads n) × (result ≡ Err InputTooLong → n ≡ most_reads)
-
--- a write fault comes from one of the two writers; without one both stay
-abbrev pub Blames : {X : Type 0} → Result X RunFault → (output_stays output_fails errors_stays errors_fails : Type 0) → Type 0
-Blames (Ok x) output_stays output_fails errors_stays errors_fails = output_stays × errors_stays
-Blames (Err Read) output_stays output_fails errors_stays errors_fails = output_stays × errors_stays
-Blames (Err InputTooLong) output_stays output_fails errors_stays errors_fails = output_stays × errors_stays
-Blames (Err Memory) output_stays output_fails errors_stays errors_fails = output_stays × errors_stays
-Blames (Err Write) output_stays output_fails errors_stays errors_fails = (output_fails × errors_stays) ⊎ (output_stays × errors_fails)
-
--- a writer stays, or fails, as it counts its failed calls and its empty writes
-abbrev pub IsSame : {S : Type 0} → (failures empty : S → ℕ) → (old new : S) → Type 0
-IsSame failures empty old new = Stays (failures old) (failures new) (empty old) (empty new)
-
-abbrev pub HasFailed : {S : Type 0} → (failures empty : S → ℕ) → (old new : S) → Type 0
-HasFailed failures empty old new = Fails (failures old) (failures new) (empty old) (empty new)
-
--- a write fault comes only from a call that the writer's ghosts count
-abbrev pub CountsCalls : {X S : Type 0} → (failures empty : S → ℕ) → (old new : S) → Result X RunFault → Type 0
-CountsCalls failures empty old new result = CountsWrites (failures old) (failures new) (empty old) (empty new) result
-
--- a write fault comes from a call of the output or of the errors that its own ghosts count
-abbrev pub BlamesWriter : {X W E : Type 0} → (W → ℕ) → (W → ℕ) → (output output' : W) → (E → ℕ) → (E → ℕ) → (errors errors' : E) → Result X RunFault → Type 0
-BlamesWriter failures empty output output' failures' empty' errors errors' result =
-    Blames result (IsSame failures empty output output') (HasFailed failures empty output output')
-    (IsSame failures' empty' errors errors') (HasFailed failures' empty' errors errors')

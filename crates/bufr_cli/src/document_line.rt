@@ -9,7 +9,7 @@ ghost use Rattle.bufr_text.specs.Encoding.{by_template};
 ghost use Rattle.bufr_text.specs.EncodingFault.{number_of_document_fault, told_refusal, walk_told};
 ghost use Rattle.bufr_text.specs.Writing.{Writes};
 ghost use Rattle.bufr_cli.specs.DocumentLine.{document_line, item_line, refusal_line, refused_line, walk_text};
-ghost use Rattle.bufr_cli.specs.Running.{CountsCalls};
+ghost use Rattle.bufr_cli.specs.Counting.{OnlyWrites};
 
 use crate::fault_line::name_of_template_fault;
 use bufr_bits::Sink;
@@ -28,8 +28,7 @@ fn write_line<'a, E: Sink>(
     e: &mut E,
 ) -> Result<(), RunFault>
     ensures writes { Writes (E.taken e.old) (E.taken e.new) (document_line line number (text.entry.now ∷ digits.entry.now ∷ [])) result }
-    ensures counts { CountsCalls E.failures E.empty_writes e.old e.new result }
-    ensures flushes { E.flushes e.new ≡ E.flushes e.old }
+    ensures counts { OnlyWrites E.failures E.empty_writes E.flushes e.old e.new result }
 {
     let parts = [
         Part::Text(b"line "),
@@ -53,8 +52,7 @@ fn write_descriptor_line<E: Sink>(
     e: &mut E,
 ) -> Result<(), RunFault>
     ensures writes { Writes (E.taken e.old) (E.taken e.new) (document_line line number (text.now ∷ fxy_text fxy ∷ [])) result }
-    ensures counts { CountsCalls E.failures E.empty_writes e.old e.new result }
-    ensures flushes { E.flushes e.new ≡ E.flushes e.old }
+    ensures counts { OnlyWrites E.failures E.empty_writes E.flushes e.old e.new result }
 {
     let digits = fxy.text();
     write_line(line, number, text, &digits, e)
@@ -70,8 +68,7 @@ fn write_expected<E: Sink>(
 ) -> Result<(), RunFault>
     requires { number ≡ number_of_document_fault (DocumentFault.WrongDescriptor line expected) }
     ensures writes { Writes (E.taken e.old) (E.taken e.new) (item_line line (other_than expected)) result }
-    ensures counts { CountsCalls E.failures E.empty_writes e.old e.new result }
-    ensures flushes { E.flushes e.new ≡ E.flushes e.old }
+    ensures counts { OnlyWrites E.failures E.empty_writes E.flushes e.old e.new result }
 {
     match expected {
         Expected::Item(fxy) => write_descriptor_line(line, number, b"expected ", fxy, e),
@@ -90,8 +87,7 @@ fn write_template<E: Sink>(
     requires some { fault.now ≢ TemplateFault.Memory }
     requires numbered { number ≡ number_of_document_fault (DocumentFault.Template line fault.now) }
     ensures writes { Writes (E.taken e.old) (E.taken e.new) (refusal_line line (by_template fault.now)) result }
-    ensures counts { CountsCalls E.failures E.empty_writes e.old e.new result }
-    ensures flushes { E.flushes e.new ≡ E.flushes e.old }
+    ensures counts { OnlyWrites E.failures E.empty_writes E.flushes e.old e.new result }
 {
     let (name, fxy) = name_of_template_fault(fault);
     let why = fault.number();
@@ -110,8 +106,7 @@ fn write_template_parts<'a, E: Sink>(
     e: &mut E,
 ) -> Result<(), RunFault>
     ensures writes { Writes (E.taken e.old) (E.taken e.new) (document_line line number (codes "template " ∷ decimal why ∷ codes " " ∷ name.entry.now ∷ digits.entry.now ∷ [])) result }
-    ensures counts { CountsCalls E.failures E.empty_writes e.old e.new result }
-    ensures flushes { E.flushes e.new ≡ E.flushes e.old }
+    ensures counts { OnlyWrites E.failures E.empty_writes E.flushes e.old e.new result }
 {
     let parts = [
         Part::Text(b"line "),
@@ -139,8 +134,7 @@ fn write_walk_parts<E: Sink>(
     e: &mut E,
 ) -> Result<(), RunFault>
     ensures writes { Writes (E.taken e.old) (E.taken e.new) (document_line line number (walk_text why fxy)) result }
-    ensures counts { CountsCalls E.failures E.empty_writes e.old e.new result }
-    ensures flushes { E.flushes e.new ≡ E.flushes e.old }
+    ensures counts { OnlyWrites E.failures E.empty_writes E.flushes e.old e.new result }
 {
     let digits = fxy.text();
     let parts = [
@@ -167,8 +161,7 @@ fn write_walk<E: Sink>(
 ) -> Result<(), RunFault>
     requires { number ≡ number_of_document_fault (DocumentFault.Walk line refusal) }
     ensures writes { Writes (E.taken e.old) (E.taken e.new) (item_line line (walk_told refusal)) result }
-    ensures counts { CountsCalls E.failures E.empty_writes e.old e.new result }
-    ensures flushes { E.flushes e.new ≡ E.flushes e.old }
+    ensures counts { OnlyWrites E.failures E.empty_writes E.flushes e.old e.new result }
 {
     let why = refusal.number();
     match &refusal {
@@ -188,8 +181,7 @@ pub fn write_document_fault<E: Sink>(fault: DocumentFault, e: &mut E) -> Result<
     requires some { fault ≢ DocumentFault.Memory }
     requires template { (line : ℕ) → fault ≢ DocumentFault.Template line TemplateFault.Memory }
     ensures writes { IfSome (told_refusal fault) (λ refused. Writes (E.taken e.old) (E.taken e.new) (refusal_line refused.line refused.why) result) }
-    ensures counts { CountsCalls E.failures E.empty_writes e.old e.new result }
-    ensures flushes { E.flushes e.new ≡ E.flushes e.old }
+    ensures counts { OnlyWrites E.failures E.empty_writes E.flushes e.old e.new result }
 {
     let number = fault.number();
     match &fault {
@@ -221,8 +213,7 @@ pub fn write_read_fault<E: Sink>(fault: ReadFault, e: &mut E) -> Result<(), RunF
     requires { (run : RunFault) → fault ≢ ReadFault.Run run }
     ensures writes { (line : ℕ) (why : LineFault) → told_by (Err fault) ≡ Refused line why ∷ [] → Writes (E.taken e.old) (E.taken e.new) (refused_line line why) result }
     ensures err { IfErr result (λ why. why ≡ RunFault.Write) }
-    ensures counts { CountsCalls E.failures E.empty_writes e.old e.new result }
-    ensures flushes { E.flushes e.new ≡ E.flushes e.old }
+    ensures counts { OnlyWrites E.failures E.empty_writes E.flushes e.old e.new result }
 {
     let number = fault.number();
     match fault {

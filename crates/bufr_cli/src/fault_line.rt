@@ -6,7 +6,7 @@ ghost use Rattle.bufr_walk.specs.Fault.{number_of_fault};
 ghost use Rattle.bufr_frame.specs.Numbers.{number_of_cause, number_of_section_fault};
 ghost use Rattle.bufr_text.specs.Writing.{Writes, part_text, IsShort};
 ghost use Rattle.bufr_cli.specs.FaultLine.{fault_line, cause_text, section_fault_text, template_fault_text, walk_fault_text, spot_text};
-ghost use Rattle.bufr_cli.specs.Running.{CountsCalls};
+ghost use Rattle.bufr_cli.specs.Counting.{OnlyWrites};
 
 use bufr_bits::Sink;
 use bufr_frame::{Cause, RunFault, SectionFault};
@@ -32,8 +32,7 @@ fn stray_text(cause: Cause) -> &'static [u8]
 /// [`RunFault::Write`] where the writer fails or takes nothing; a front of the line was taken.
 pub fn write_stray<E: Sink>(offset: u64, cause: Cause, e: &mut E) -> Result<(), RunFault>
     ensures writes { Writes (E.taken e.old) (E.taken e.new) (fault_line offset (number_of_cause cause) (cause_text cause ∷ [])) result }
-    ensures counts { CountsCalls E.failures E.empty_writes e.old e.new result }
-    ensures flushes { E.flushes e.new ≡ E.flushes e.old }
+    ensures counts { OnlyWrites E.failures E.empty_writes E.flushes e.old e.new result }
 {
     let number = cause.number();
     write_fault(offset, number, stray_text(cause), Part::Text(b""), b"", e)
@@ -51,8 +50,7 @@ pub fn write_section_fault<E: Sink>(
     e: &mut E,
 ) -> Result<(), RunFault>
     ensures writes { Writes (E.taken e.old) (E.taken e.new) (fault_line offset (number_of_section_fault fault) (section_fault_text fault)) result }
-    ensures counts { CountsCalls E.failures E.empty_writes e.old e.new result }
-    ensures flushes { E.flushes e.new ≡ E.flushes e.old }
+    ensures counts { OnlyWrites E.failures E.empty_writes E.flushes e.old e.new result }
 {
     let number = fault.number();
     match fault {
@@ -111,8 +109,7 @@ pub fn write_template_fault<E: Sink>(
 ) -> Result<(), RunFault>
     requires { fault.now ≢ TemplateFault.Memory }
     ensures writes { Writes (E.taken e.old) (E.taken e.new) (fault_line offset (number_of_template_fault fault.now) (template_fault_text fault.now)) result }
-    ensures counts { CountsCalls E.failures E.empty_writes e.old e.new result }
-    ensures flushes { E.flushes e.new ≡ E.flushes e.old }
+    ensures counts { OnlyWrites E.failures E.empty_writes E.flushes e.old e.new result }
 {
     let (name, fxy) = name_of_template_fault(fault);
     let number = fault.number();
@@ -128,8 +125,7 @@ fn write_descriptor_fault<E: Sink>(
     e: &mut E,
 ) -> Result<(), RunFault>
     ensures writes { Writes (E.taken e.old) (E.taken e.new) (fault_line offset number (name.now ∷ fxy_text fxy ∷ [])) result }
-    ensures counts { CountsCalls E.failures E.empty_writes e.old e.new result }
-    ensures flushes { E.flushes e.new ≡ E.flushes e.old }
+    ensures counts { OnlyWrites E.failures E.empty_writes E.flushes e.old e.new result }
 {
     let digits = fxy.text();
     write_fault(offset, number, name, Part::Text(&digits), b"", e)
@@ -160,8 +156,7 @@ fn name_of_walk_fault(fault: &WalkFault) -> (&'static [u8], Spot)
 pub fn write_walk_fault<E: Sink>(offset: u64, fault: &WalkFault, e: &mut E) -> Result<(), RunFault>
     requires { fault.now ≢ WalkFault.Memory }
     ensures writes { Writes (E.taken e.old) (E.taken e.new) (fault_line offset (number_of_fault fault.now) (walk_fault_text fault.now)) result }
-    ensures counts { CountsCalls E.failures E.empty_writes e.old e.new result }
-    ensures flushes { E.flushes e.new ≡ E.flushes e.old }
+    ensures counts { OnlyWrites E.failures E.empty_writes E.flushes e.old e.new result }
 {
     let (name, spot) = name_of_walk_fault(fault);
     let number = fault.number();
@@ -181,8 +176,7 @@ fn write_spot_fault<'a, E: Sink>(
 ) -> Result<(), RunFault>
     requires { digits.now ≡ fxy_text spot.fxy }
     ensures writes { Writes (E.taken e.old) (E.taken e.new) (fault_line offset number (spot_text name.now spot)) result }
-    ensures counts { CountsCalls E.failures E.empty_writes e.old e.new result }
-    ensures flushes { E.flushes e.new ≡ E.flushes e.old }
+    ensures counts { OnlyWrites E.failures E.empty_writes E.flushes e.old e.new result }
 {
     let parts = [
         Part::Text(b"offset "),
@@ -214,8 +208,7 @@ fn write_fault<'a, E: Sink>(
 ) -> Result<(), RunFault>
     requires { IsShort value }
     ensures writes { Writes (E.taken e.old) (E.taken e.new) (fault_line offset number (before.entry.now ∷ part_text value.entry ∷ after.entry.now ∷ [])) result }
-    ensures counts { CountsCalls E.failures E.empty_writes e.old e.new result }
-    ensures flushes { E.flushes e.new ≡ E.flushes e.old }
+    ensures counts { OnlyWrites E.failures E.empty_writes E.flushes e.old e.new result }
 {
     let parts = [
         Part::Text(b"offset "),

@@ -5,7 +5,8 @@ ghost use Rattle.bufr_frame.specs.Runs.{read_failures_after};
 ghost use Rattle.bufr_frame.specs.Scan.{Happening, Framed, Strayed, scan};
 ghost use Rattle.bufr_cli.specs.DumpPieces.{IsDataPiece, IsDumpPiece, IsMessagePiece};
 ghost use Rattle.bufr_cli.specs.Pieces.{Piece};
-ghost use Rattle.bufr_cli.specs.Running.{RunSo, Written, BlamesWriter, GivesPieces, ReadsAtMost, ReadsFewer, Tallies};
+ghost use Rattle.bufr_cli.specs.Counting.{BlamesWriter};
+ghost use Rattle.bufr_cli.specs.Running.{RunSo, Written, GivesPieces, ReadsAtMost, ReadsFewer, Tallies};
 ghost use Rattle.bufr_cli.specs.Telling.{StopsPiece, TellsPieces};
 
 use crate::fault_line::{write_section_fault, write_stray, write_template_fault, write_walk_fault};

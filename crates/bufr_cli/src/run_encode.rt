@@ -6,7 +6,8 @@ ghost use Rattle.bufr_text.specs.declared.form.Form.TheVariants.{AsWritten};
 ghost use Rattle.bufr_cli.specs.EncodePieces.{encode_pieces, told_piece};
 ghost use Rattle.bufr_cli.specs.EncodeRun.{EncodeSo};
 ghost use Rattle.bufr_cli.specs.EncodeTelling.{TellsNext};
-ghost use Rattle.bufr_cli.specs.Running.{Written, BlamesWriter, ReadsAtMost, Tallies};
+ghost use Rattle.bufr_cli.specs.Counting.{BlamesWriter};
+ghost use Rattle.bufr_cli.specs.Running.{Written, ReadsAtMost, Tallies};
 ghost use Rattle.bufr_cli.specs.Telling.{StopsPiece, TellsPieces};
 
 use crate::document_line::{write_document_fault, write_read_fault};

@@ -6,7 +6,8 @@ ghost use Rattle.bufr_frame.specs.Events.{told, IsEvent};
 ghost use Rattle.bufr_frame.specs.Runs.{read_failures_after};
 ghost use Rattle.bufr_frame.specs.Scan.{Happening};
 ghost use Rattle.bufr_cli.specs.Pieces.{Piece};
-ghost use Rattle.bufr_cli.specs.Running.{CountsCalls, RunSo, BlamesWriter, GivesPieces, ReadsFewer};
+ghost use Rattle.bufr_cli.specs.Counting.{BlamesWriter, CountsCalls};
+ghost use Rattle.bufr_cli.specs.Running.{RunSo, GivesPieces, ReadsFewer};
 ghost use Rattle.bufr_cli.specs.Telling.{RunReads, StopsPiece, TellsPieces};
 
 use crate::tally::{Tally, Verdict};

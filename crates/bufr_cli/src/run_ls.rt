@@ -3,7 +3,8 @@ ghost use Rattle.std.specs.Prelude.{◌≡◌, ◌≢◌, ℕ, List, true, false
 ghost use Rattle.bufr_frame.specs.Events.{told, IsEvent};
 ghost use Rattle.bufr_frame.specs.Runs.{read_failures_after, MakesReads};
 ghost use Rattle.bufr_cli.specs.Pieces.{ls_piece, ls_pieces};
-ghost use Rattle.bufr_cli.specs.Running.{RunSo, Written, BlamesWriter, ReadsFewer, Tallies};
+ghost use Rattle.bufr_cli.specs.Counting.{BlamesWriter};
+ghost use Rattle.bufr_cli.specs.Running.{RunSo, Written, ReadsFewer, Tallies};
 ghost use Rattle.bufr_cli.specs.Telling.{StopsPiece, TellsPieces};
 
 use crate::fault_line::{write_section_fault, write_stray};
