@@ -16,10 +16,9 @@ use Rattle.bufr_text.specs.Writing.{GrowsByFront}
 use Rattle.bufr_cli.specs.EncodePieces.{encode_pieces}
 use Rattle.bufr_cli.specs.EncodeRun.{EncodeSo, EncodeStopped}
 use Rattle.bufr_cli.specs.Pieces.{Piece, is_refused}
-use Rattle.bufr_cli.specs.Program.{EncodeLeft, RunLeft, RunOutcome, input_octets, ran_outcome}
+use Rattle.bufr_cli.specs.Program.{EncodeLeft, IsNotOpened, RunLeft, RunOutcome, WasEnded, WentThrough, input_octets, ran_outcome}
 use Rattle.bufr_cli.specs.Running.{RunCut, RunSo, RunStopped, WrittenInPart}
 use Rattle.bufr_cli.specs.declared.finish.Outcome.{Outcome}
-use Rattle.bufr_cli.specs.declared.finish.Outcome.TheVariants.{Ran, Usage, CannotOpen, TableB, TableD, Run}
 use Rattle.bufr_cli.specs.declared.tally.Tally.{Tally}
 use Rattle.bufr_cli.proofs.EncodeLemmas.{written-kept}
 use Rattle.bufr_cli.proofs.RunLemmas.{Written-nil, grows-nil}
@@ -28,13 +27,11 @@ use Rattle.bufr_cli.proofs.RunLemmas.{Written-nil, grows-nil}
 pub run-outcome : (ran : Tally → List ℕ → Type 0) (ended : Option (List ℕ) → RunFault → Type 0) (nothing : Type 0) (standard : Option (List ℕ)) (named : List ℕ → Option (List ℕ)) (file : Option (Bor (List ℕ))) (octets : Option (List ℕ)) (r : Result Tally RunFault) (outcome : Outcome)
     → outcome ≡ ran_outcome r → input_octets standard named file ≡ octets → IfOk r (λ tally. IfSome octets (ran tally)) → IfErr r (ended octets) → RunOutcome ran ended nothing standard named file outcome
 run-outcome ran ended nothing standard named file octets (Ok tally) outcome is same so left =
-    let P : Outcome → Type 0 = λ o. RunOutcome ran ended nothing standard named file o in
     let Q : Option (List ℕ) → Type 0 = λ o. IfSome o (ran tally) in
-    subst P (sym is) (subst Q (sym same) so)
+    WentThrough tally is (subst Q (sym same) so)
 run-outcome ran ended nothing standard named file octets (Err fault) outcome is same so left =
-    let P : Outcome → Type 0 = λ o. RunOutcome ran ended nothing standard named file o in
     let Q : Option (List ℕ) → Type 0 = λ o. ended o fault in
-    subst P (sym is) (subst Q (sym same) left)
+    WasEnded fault is (subst Q (sym same) left)
 
 some-weaker : (o : Option (List ℕ)) (P Q : List ℕ → Type 0) → ((s : List ℕ) → P s → Q s) → IfSome o P → IfSome o Q
 some-weaker None P Q go h = h
@@ -44,12 +41,11 @@ some-weaker (Some s) P Q go h = go s h
 pub outcome-weaker : (ran ran' : Tally → List ℕ → Type 0) (ended ended' : Option (List ℕ) → RunFault → Type 0) (nothing : Type 0) (standard : Option (List ℕ)) (named : List ℕ → Option (List ℕ)) (file : Option (Bor (List ℕ)))
     → ((tally : Tally) (s : List ℕ) → ran tally s → ran' tally s) → ((left : Option (List ℕ)) (fault : RunFault) → ended left fault → ended' left fault)
     → (outcome : Outcome) → RunOutcome ran ended nothing standard named file outcome → RunOutcome ran' ended' nothing standard named file outcome
-outcome-weaker ran ran' ended ended' nothing standard named file go stop (Ran tally) h = some-weaker (input_octets standard named file) (ran tally) (ran' tally) (go tally) h
-outcome-weaker ran ran' ended ended' nothing standard named file go stop (Usage text) h = h
-outcome-weaker ran ran' ended ended' nothing standard named file go stop (CannotOpen name) h = h
-outcome-weaker ran ran' ended ended' nothing standard named file go stop (TableB fault) h = h
-outcome-weaker ran ran' ended ended' nothing standard named file go stop (TableD fault) h = h
-outcome-weaker ran ran' ended ended' nothing standard named file go stop (Run fault) h = stop (input_octets standard named file) fault h
+outcome-weaker ran ran' ended ended' nothing standard named file go stop outcome (WentThrough tally is h) =
+    WentThrough tally is (some-weaker (input_octets standard named file) (ran tally) (ran' tally) (go tally) h)
+outcome-weaker ran ran' ended ended' nothing standard named file go stop outcome (IsNotOpened name is closed none) = IsNotOpened name is closed none
+outcome-weaker ran ran' ended ended' nothing standard named file go stop outcome (WasEnded fault is h) =
+    WasEnded fault is (stop (input_octets standard named file) fault h)
 
 -- a front of a text, and then a flush
 grows-kept : (w w1 w2 : Option (List ℕ)) (text : List ℕ) → Keeps w1 w2 → GrowsByFront w w1 text → GrowsByFront w w2 text

@@ -1,6 +1,7 @@
 -- What a call of the program comes to. (a choice of this project)
 -- Cited by public contracts.
-use Rattle.std.specs.Prelude.{◌≡◌, ℕ, Bool, true, List, Option, None, codes}
+use Rattle.std.specs.Prelude.{◌≡◌, ◌⊎◌, ℕ, Bool, true, List, Option, None, codes}
+use Rattle.std.specs.Borrow.{Bor}
 use Rattle.std.specs.Io.KnownBytes.{Appends, Keeps}
 use Rattle.clap.specs.Words.{Kinds, Row, Text, fault_of, subcommand_of}
 use Rattle.bufr_frame.specs.declared.fault.RunFault.{RunFault}
@@ -10,7 +11,7 @@ use Rattle.bufr_cli.specs.Finish.{last_line, run_line, status_of}
 use Rattle.bufr_cli.specs.Line.{AsksHelp, IsJobOf, IsMistaken, bufr_app}
 use Rattle.bufr_cli.specs.Program.{OutcomeSo}
 use Rattle.bufr_cli.specs.declared.finish.Outcome.{Outcome}
-use Rattle.bufr_cli.specs.declared.finish.Outcome.TheVariants.{Ran, Usage, CannotOpen, TableB, TableD, Run}
+use Rattle.bufr_cli.specs.declared.finish.Outcome.TheVariants.{Usage, Run}
 use Rattle.bufr_cli.specs.declared.job.Job.{Job}
 
 -- Of words whose parse may fail by these kinds and meets this subcommand: its job was done, and its
@@ -32,12 +33,7 @@ pub data CallSo (kinds : Kinds) (subcommand : Option (Text × List Row)) (standa
 
 -- the words cannot be had: memory ran out, or one of them is no text
 abbrev pub IsWordless : Outcome → Type 0
-IsWordless (Ran tally) = ⊥
-IsWordless (Usage text) = text.now ≡ codes "error: an argument is not UTF-8\n"
-IsWordless (CannotOpen name) = ⊥
-IsWordless (TableB fault) = ⊥
-IsWordless (TableD fault) = ⊥
-IsWordless (Run fault) = fault ≡ Memory
+IsWordless outcome = (outcome ≡ Run Memory) ⊎ ((text : Bor (List ℕ)) × (outcome ≡ Usage text) × (text.now ≡ codes "error: an argument is not UTF-8\n"))
 
 -- What the process does with its words, whichever they are: what a call of the program with them
 -- comes to, of whose inputs nothing is known; or they cannot be had, and that is told by a last

@@ -1,6 +1,6 @@
 -- What the program does with its input. (a choice of this project)
 -- Cited by public contracts.
-use Rattle.std.specs.Prelude.{◌≡◌, ℕ, List, map, Option, Some, None, Result, Ok, Err, IfSome}
+use Rattle.std.specs.Prelude.{◌≡◌, ◌⊎◌, ℕ, List, map, Option, Some, None, Result, Ok, Err, IfSome}
 use Rattle.std.specs.Borrow.{Bor}
 use Rattle.bufr_frame.specs.Scan.{Happening, scan}
 use Rattle.bufr_frame.specs.declared.fault.RunFault.{RunFault}
@@ -9,6 +9,7 @@ use Rattle.bufr_tables.specs.Records.{records_of}
 use Rattle.bufr_tables.specs.Steps.{Gives}
 use Rattle.bufr_tables.specs.TableB.{Row, table_b_of}
 use Rattle.bufr_tables.specs.TableD.{Sequence}
+use Rattle.bufr_tables.specs.declared.fault.TableFault.{TableFault}
 use Rattle.bufr_text.specs.declared.form.Form.{Form}
 use Rattle.bufr_text.specs.Documents.{documents_of}
 use Rattle.bufr_cli.specs.DumpPieces.{IsDumpPiece}
@@ -17,7 +18,7 @@ use Rattle.bufr_cli.specs.EncodeRun.{EncodeSo}
 use Rattle.bufr_cli.specs.Pieces.{Piece, ls_piece, ls_pieces}
 use Rattle.bufr_cli.specs.Running.{Written, GivesPieces, RunSo, Tallies}
 use Rattle.bufr_cli.specs.declared.finish.Outcome.{Outcome}
-use Rattle.bufr_cli.specs.declared.finish.Outcome.TheVariants.{Ran, Usage, CannotOpen, TableB, TableD, Run}
+use Rattle.bufr_cli.specs.declared.finish.Outcome.TheVariants.{Ran, CannotOpen, TableB, TableD, Run}
 use Rattle.bufr_cli.specs.declared.job.Job.{Job}
 use Rattle.bufr_cli.specs.declared.job.Subcommand.{Subcommand}
 use Rattle.bufr_cli.specs.declared.job.Subcommand.TheVariants.{Ls, Dump, Encode}
@@ -44,45 +45,40 @@ abbrev pub RunLeft : (pieces_of : List Happening → List Piece) → (output out
 RunLeft pieces_of output output' errors errors' left fault =
     (left' : Option (List ℕ)) × (bs : List ℕ) × RunSo pieces_of left left' output output' errors errors' (Unit {0}) (Unit {0}) bs (Err fault)
 
--- what comes of a run over an input: where it went through, this holds of its octets, and where a
--- fault ended it, that of them and of the fault; what cannot be opened is the input, of which
--- nothing was known, and then nothing was written
-abbrev pub RunOutcome : (ran : Tally → List ℕ → Type 0) → (ended : Option (List ℕ) → RunFault → Type 0) → (nothing : Type 0)
-    → (standard : Option (List ℕ)) → (named : List ℕ → Option (List ℕ)) → (file : Option (Bor (List ℕ))) → Outcome → Type 0
-RunOutcome ran ended nothing standard named file (Ran tally) = IfSome (input_octets standard named file) (ran tally)
-RunOutcome ran ended nothing standard named file (Usage text) = ⊥
-RunOutcome ran ended nothing standard named file (CannotOpen name) = (file ≡ Some name) × (named name.now ≡ None) × nothing
-RunOutcome ran ended nothing standard named file (TableB fault) = ⊥
-RunOutcome ran ended nothing standard named file (TableD fault) = ⊥
-RunOutcome ran ended nothing standard named file (Run fault) = ended (input_octets standard named file) fault
+-- the file of this name is not opened, and it was not known that it can be
+abbrev pub IsClosed : (named : List ℕ → Option (List ℕ)) → (name : Bor (List ℕ)) → Outcome → Type 0
+IsClosed named name outcome = (outcome ≡ CannotOpen name) × (named name.now ≡ None)
+
+-- What comes of a run over an input: it went through, and this holds of the input's octets; or the
+-- input cannot be opened, and nothing was written; or a fault ended it, and that holds of them and
+-- of the fault.
+pub data RunOutcome (ran : Tally → List ℕ → Type 0) (ended : Option (List ℕ) → RunFault → Type 0) (nothing : Type 0)
+    (standard : Option (List ℕ)) (named : List ℕ → Option (List ℕ)) (file : Option (Bor (List ℕ))) (outcome : Outcome) : Type 0 where
+  WentThrough : (tally : Tally) → outcome ≡ Ran tally → IfSome (input_octets standard named file) (ran tally)
+      → RunOutcome ran ended nothing standard named file outcome
+  IsNotOpened : (name : Bor (List ℕ)) → file ≡ Some name → IsClosed named name outcome → nothing
+      → RunOutcome ran ended nothing standard named file outcome
+  WasEnded : (fault : RunFault) → outcome ≡ Run fault → ended (input_octets standard named file) fault
+      → RunOutcome ran ended nothing standard named file outcome
 
 -- how a run came out
 abbrev pub ran_outcome : Result Tally RunFault → Outcome
 ran_outcome (Ok tally) = Ran tally
 ran_outcome (Err fault) = Run fault
 
--- the octets of a file are not read
+-- the octets of the file of this name are not read
 abbrev pub FileOutcome : (named : List ℕ → Option (List ℕ)) → (name : Bor (List ℕ)) → Outcome → Type 0
-FileOutcome named name (Ran tally) = ⊥
-FileOutcome named name (Usage text) = ⊥
-FileOutcome named name (CannotOpen other) = (other ≡ name) × (named name.now ≡ None)
-FileOutcome named name (TableB fault) = ⊥
-FileOutcome named name (TableD fault) = ⊥
-FileOutcome named name (Run fault) = Unit {0}
-
--- the file of this name is not opened, and it was not known that it can be
-abbrev pub IsClosed : (named : List ℕ → Option (List ℕ)) → (name : Bor (List ℕ)) → Outcome → Type 0
-IsClosed named name outcome = (outcome ≡ CannotOpen name) × (named name.now ≡ None)
+FileOutcome named name outcome = IsClosed named name outcome ⊎ ((fault : RunFault) × (outcome ≡ Run fault))
 
 -- Table B is not read from the file of this name, or is at fault
 abbrev pub TableBOutcome : (named : List ℕ → Option (List ℕ)) → (name : Bor (List ℕ)) → Outcome → Type 0
-TableBOutcome named name (TableB fault) = IfSome (named name.now) (λ text. Gives (table_b_of (records_of text)) (Err fault))
-TableBOutcome named name outcome = FileOutcome named name outcome
+TableBOutcome named name outcome =
+    FileOutcome named name outcome ⊎ ((fault : TableFault) × (outcome ≡ TableB fault) × IfSome (named name.now) (λ text. Gives (table_b_of (records_of text)) (Err fault)))
 
 -- Table D is not read from the file of this name, or is at fault
 abbrev pub TableDOutcome : (named : List ℕ → Option (List ℕ)) → (name : Bor (List ℕ)) → Outcome → Type 0
-TableDOutcome named name (TableD fault) = IfSome (named name.now) (λ text. Reads (records_of text) (Err fault))
-TableDOutcome named name outcome = FileOutcome named name outcome
+TableDOutcome named name outcome =
+    FileOutcome named name outcome ⊎ ((fault : TableFault) × (outcome ≡ TableD fault) × IfSome (named name.now) (λ text. Reads (records_of text) (Err fault)))
 
 -- these are the tables of the files of these names
 pub record AreTables (named : List ℕ → Option (List ℕ)) (tables : TableNames) (b : List Row) (d : List Sequence) : Type 0 where

@@ -1,4 +1,4 @@
-use Rattle.std.proofs.Common.{map, refl, string_bytes}
+use Rattle.std.proofs.Common.{inl, map, refl, string_bytes}
 use Rattle.bufr_frame.specs.declared.fault.RunFault.TheVariants.{Memory}
 use Rattle.bufr_cli.specs.Calling.{Calls, NoWords}
 use Rattle.bufr_cli.specs.declared.finish.Outcome.TheVariants.{Run}
@@ -11,4 +11,4 @@ pub returns-in-Ok-words : goal.returns-in-Ok-words
 returns-in-Ok-words g c = Calls (map string_bytes c.as_slice.result.now) c.run.ensures
 
 pub returns-in-Err-words : goal.returns-in-Err-words
-returns-in-Err-words g c = NoWords (Run Memory) refl refl c.finish-in-Err-words.ensures.front c.finish-in-Err-words.ensures.status
+returns-in-Err-words g c = NoWords (Run Memory) (inl refl) refl c.finish-in-Err-words.ensures.front c.finish-in-Err-words.ensures.status

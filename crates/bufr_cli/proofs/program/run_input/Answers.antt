@@ -1,5 +1,5 @@
-use Rattle.std.proofs.Common.{◌∙◌, sym, ap}
-use Rattle.bufr_cli.specs.Program.{WritesNothing, input_octets}
+use Rattle.std.proofs.Common.{◌∙◌, refl, sym, ap}
+use Rattle.bufr_cli.specs.Program.{IsNotOpened, WritesNothing, input_octets}
 use Rattle.bufr_cli.proofs.ProgramLemmas.{run-outcome}
 use Rattle.bufr_cli.proofs.program.run_input.Goals as goal
 
@@ -18,3 +18,6 @@ returns-in-Ok g c =
     (g.T.Runner.was_ended c.args.runner.now (g.W.Sink.taken c.args.w.now) (g.W.Sink.taken c.run-in-Ok.new.w) (g.E.Sink.taken c.args.e.now) (g.E.Sink.taken c.run-in-Ok.new.e))
     (WritesNothing (g.W.Sink.taken c.args.w.now) (g.W.Sink.taken c.run-in-Ok.new.w) (g.E.Sink.taken c.args.e.now) (g.E.Sink.taken c.run-in-Ok.new.e))
     _ _ c.args.file _ c.run-in-Ok.result c.outcome_of-in-Ok.result c.outcome_of-in-Ok.ensures same c.run-in-Ok.ensures.whole c.run-in-Ok.ensures.ended
+
+pub returns-in-Err : goal.returns-in-Err
+returns-in-Err g c = IsNotOpened c.in-Some.name c.in-Some.is c.in-Err.ensures.closed (refl, refl)
