@@ -1,4 +1,5 @@
--- The number of a decimal text at a scale, by the digits that are kept and those that ten divides away.
+-- The number of a decimal text at a scale, by the digits that are kept and those that ten divides
+-- away.
 use Rattle.std.proofs.Common.{◌≡◌, ℕ, zero, suc, min, ◌+◌, ◌-◌, ◌*◌, ◌^◌, ◌<◌, ◌==◌, ◌&&◌, Bool, true, false, if◌then◌else◌, List, [], ◌++◌, length, take, drop, Result, Ok, Err, ℤ, refl, sym, ap, ◌∙◌, subst, arith, length-drop, length-take-le, take-append-drop}
 use Rattle.std.specs.List.{list_all}
 use Rattle.std.specs.Char.{is_ascii_digit}

@@ -1,4 +1,5 @@
--- Octets as bits, most significant first, and bits as a number. (WMO-No. 306, Volume I.2, FM 94: binary numbers are written most significant bit first)
+-- Octets as bits, most significant first, and bits as a number. (WMO-No. 306, Volume I.2, FM 94:
+-- binary numbers are written most significant bit first)
 -- Cited by public contracts.
 use Rattle.std.specs.Prelude.{ℕ, zero, suc, ◌+◌, ◌-◌, ◌*◌, ◌^◌, ◌/◌, ◌%◌, ◌==◌, Bool, false, if◌then◌else◌, List, [], ◌∷◌, ◌++◌, take, drop, replicate}
 use Rattle.std.specs.List.{list_all}

@@ -1,4 +1,5 @@
--- Numbers that stop at the greatest u128, as the code keeps them while it reads digits. (a choice of this project)
+-- Numbers that stop at the greatest u128, as the code keeps them while it reads digits. (a choice
+-- of this project)
 -- Cited by private steps only.
 use Rattle.std.specs.Prelude.{ℕ, ◌-◌, ◌^◌, min, Result, Ok, Err}
 

@@ -11,7 +11,8 @@ abbrev pub failures_after : {A E : Type 0} → ℕ → Result A E → ℕ
 failures_after count (Ok x) = count
 failures_after count (Err e) = counted count 1
 
--- the count of empty writes after a write of these octets: one more where there were octets and none was taken
+-- the count of empty writes after a write of these octets: one more where there were octets and
+-- none was taken
 abbrev pub empty_writes_after : {E : Type 0} → ℕ → List ℕ → Result ℕ E → ℕ
 empty_writes_after count octets (Err e) = count
 empty_writes_after count octets (Ok (suc taken)) = count

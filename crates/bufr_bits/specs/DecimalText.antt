@@ -1,4 +1,5 @@
--- Numbers as decimal text with a scale: the number v at scale s is written as v / 10^s. (a choice of this project)
+-- Numbers as decimal text with a scale: the number v at scale s is written as v / 10^s. (a choice
+-- of this project)
 -- Cited by public contracts.
 use Rattle.std.specs.Prelude.{ℕ, zero, suc, ◌+◌, ◌-◌, List, [], ◌∷◌, ◌++◌, length, take, drop, replicate, ℤ, pos, negsuc, unsigned_abs}
 use Rattle.std.specs.Fmt.{decimal}
@@ -10,7 +11,8 @@ pointed places digits =
     let whole = length padded - places in
     take whole padded ++ 46 ∷ drop whole padded
 
--- a number without its sign as text: at a scale above 0 a point before the last digits, at one below 0 zeros behind them
+-- a number without its sign as text: at a scale above 0 a point before the last digits, at one
+-- below 0 zeros behind them
 unfoldable pub unsigned_text : (n : ℕ) (scale : ℤ) → List ℕ
 unsigned_text n (pos zero) = decimal n
 unsigned_text n (pos (suc places)) = pointed (suc places) (decimal n)

@@ -1,4 +1,5 @@
--- Decimal text with a scale as a number: the text of x at scale s is read as x * 10^s. (a choice of this project)
+-- Decimal text with a scale as a number: the text of x at scale s is read as x * 10^s. (a choice of
+-- this project)
 -- Cited by public contracts.
 use Rattle.std.specs.Prelude.{◌≡◌, ℕ, ◌+◌, ◌*◌, ◌/◌, ◌%◌, ◌^◌, ◌==◌, nat_lt, nat_le, Bool, true, false, ◌&&◌, if◌then◌else◌, List, ◌++◌, length, Result, Ok, Err, ℤ, pos, negsuc, neg_ℤ, drop, is_some}
 use Rattle.std.specs.List.{list_all, position, before_first, after_first}

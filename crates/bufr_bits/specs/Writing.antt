@@ -1,4 +1,5 @@
--- The state of a writer of bits: whole octets, and the bits behind them in an octet of their own. (a choice of this project)
+-- The state of a writer of bits: whole octets, and the bits behind them in an octet of their own.
+-- (a choice of this project)
 -- Cited by private steps only.
 use Rattle.std.specs.Prelude.{ℕ, ◌+◌, ◌*◌, ◌/◌, ◌^◌, ◌<◌, ◌≤◌}
 

@@ -113,8 +113,8 @@ impl<'a> BitSlice<'a> {
         Some(octet as u8)
     }
 
-    /// The `count` octets that begin with bit `at`, borrowed; `None` exactly where `at` is within an octet or they go
-    /// past the end.
+    /// The `count` octets that begin with bit `at`, borrowed; `None` exactly where `at` is within
+    /// an octet or they go past the end.
     pub fn octets(&self, at: u64, count: usize) -> Option<&'a [u8]>
         ensures value { SomeIff (option_map (λ s. s.now) result) ((at % 8 ≡ 0) × (at + 8 * count ≤ 8 * length (octets_of self.now))) (slice_range (octets_of self.now) (at / 8) (at / 8 + count)) }
         ensures octets { IfSome result (λ s. (k : ℕ) → slice_index s.now k < 2 ^ 8) }
@@ -129,8 +129,8 @@ impl<'a> BitSlice<'a> {
         Some(part(self.octets, (at / 8) as usize, count))
     }
 
-    /// Whether `width` bits, of any number, are all ones from bit `at` on; `None` exactly where they
-    /// go past the end. Where there are no bits they are.
+    /// Whether `width` bits, of any number, are all ones from bit `at` on; `None` exactly where
+    /// they go past the end. Where there are no bits they are.
     pub fn all_ones(&self, at: u64, width: u32) -> Option<bool>
         ensures { SomeIff result (at + width ≤ 8 * length (octets_of self.now)) (all_set (bits_at (octets_of self.now) at width)) }
     {

@@ -99,7 +99,8 @@ impl BitWriter {
         Ok(())
     }
 
-    /// Keeps the first `bits` of the bits, or all of them where there are no more. It takes no memory.
+    /// Keeps the first `bits` of the bits, or all of them where there are no more. It takes no
+    /// memory.
     pub fn truncate(&mut self, bits: u64)
         ensures bits { self.new ≡ take bits self.old }
     {

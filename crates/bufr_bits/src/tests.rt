@@ -41,7 +41,8 @@ fn bit_by_bit(octets: &[u8], at: u64, width: u32) -> Option<u64> {
     Some(value)
 }
 
-/// The number at a place, with no promise that the proof of a test would carry. So are the next ones.
+/// The number at a place, with no promise that the proof of a test would carry. So are the next
+/// ones.
 fn number_at(octets: &[u8], at: u64, width: u32) -> Option<u64>
     requires few { length octets.now ≤ 100000 }
     requires narrow { width ≤ 63 }

@@ -9,9 +9,9 @@ use Rattle.bufr_frame.specs.declared.fault.SectionFault.{SectionFault}
 use Rattle.bufr_frame.specs.declared.fault.SectionFault.TheVariants.{SectionShort, SectionPast, SectionsEnd, Edition3Long}
 use Rattle.bufr_frame.specs.Octets.{three, two, words, three_octets, two_octets, octets_of_words}
 use Rattle.bufr_frame.specs.Section1.{Flags, is_edition, slots_of, slots_3, slots_4, first_least, octets_of_slots, octets_in, value_in, head_in, said}
-use Rattle.bufr_frame.specs.Sections.{Sections, sections_of, section_end, parts, edition_of, slots_in, has_section2, head_of, is_long_edition_3, met, ◌>>=◌}
+use Rattle.bufr_frame.specs.Sections.{Sections, sections_of, section_end, parts, edition_of, slots_in, has_section2, head_of, is_long_edition_3, is_padded, met, ◌>>=◌}
 use Rattle.bufr_frame.specs.Layout.{parts_in, message_size, message_octets, section0_octets, section1_octets, section2_octets, section2_size, section3_octets, section4_octets, head_octets, data_flags, even_size, evened, longer, most_octets}
-use Rattle.bufr_frame.proofs.LayoutLemmas.{length-octets_of_words}
+use Rattle.bufr_frame.proofs.LayoutLemmas.{length-octets_of_words, even-3}
 use Rattle.bufr_frame.proofs.WordLemmas.{length-words}
 use Rattle.std.proofs.lemmas.List.Elements.{All-take, All-drop}
 use Rattle.std.proofs.lemmas.List.Folds.{drop_split}
@@ -126,7 +126,8 @@ second-size : (b : Bool) (m : List ℕ) (p q : ℕ) → q ≤ length m → (b �
 second-size true m p q within there absent = omega (arith, slice-long m (p + 4) q within, there refl)
 second-size false m p q within there absent = omega (arith, absent refl)
 
--- how long the parts are: sections 3 and 4 are as they are made even, without what section 3 has left over
+-- how long the parts are: sections 3 and 4 are as they are made even, without what section 3 has
+-- left over
 sizes : (m : List ℕ) (s : Sections) (e : Ended m s)
     → message_size (edition_of m) (parts_in (parts m e.p1 e.p2 e.p3 e.p4))
     ≡ e.p2 + even_size (edition_of m) (7 + 2 * ((e.p3 - (e.p2 + 7)) / 2)) + even_size (edition_of m) (e.p4 - e.p3) + 4
@@ -153,9 +154,11 @@ sizes-4 m s e is =
 -- in edition 3
 sizes-3 : (m : List ℕ) (s : Sections) (e : Ended m s) → edition_of m ≡ 3 → message_size (edition_of m) (parts_in (parts m e.p1 e.p2 e.p3 e.p4)) ≡ length m + (e.p3 - e.p2) % 2 + (e.p4 - e.p3) % 2
 sizes-3 m s e is =
-    let same = ap (λ n. e.p2 + even_size n (7 + 2 * ((e.p3 - (e.p2 + 7)) / 2)) + even_size n (e.p4 - e.p3) + 4) is in
     let d = (e.p3 - (e.p2 + 7)) / 2 in
-    let all : message_size (edition_of m) (parts_in (parts m e.p1 e.p2 e.p3 e.p4)) ≡ e.p2 + (7 + 2 * d + (7 + 2 * d) % 2) + ((e.p4 - e.p3) + (e.p4 - e.p3) % 2) + 4 = sizes m s e ∙ same in
+    let k = e.p4 - e.p3 in
+    let all : message_size (edition_of m) (parts_in (parts m e.p1 e.p2 e.p3 e.p4)) ≡ e.p2 + (7 + 2 * d + (7 + 2 * d) % 2) + (k + k % 2) + 4 =
+    sizes m s e ∙ ap (λ n. e.p2 + even_size n (7 + 2 * d) + even_size n k + 4) is
+    ∙ ap (λ n. e.p2 + n + even_size 3 k + 4) (even-3 (7 + 2 * d)) ∙ ap (λ n. e.p2 + (7 + 2 * d + (7 + 2 * d) % 2) + n + 4) (even-3 k) in
     let odd : 7 + 2 * d + (7 + 2 * d) % 2 ≡ (e.p3 - e.p2) + (e.p3 - e.p2) % 2 = omega (arith, e.third.least_long) in
     omega (arith, all, odd, e.third.least_long, e.fourth.least_long, e.fourth.three_long, e.last)
 
@@ -170,7 +173,7 @@ no-longer m s is =
 
 -- nor is it too long
 no-odd : (m : List ℕ) (p2 p3 p4 : ℕ) → edition_of m ≡ 3 → is_long_edition_3 m p2 p3 p4 ≡ false → length m ≤ most_octets → length m + (p3 - p2) % 2 + (p4 - p3) % 2 ≤ most_octets
-no-odd m p2 p3 p4 is short few = by (nat_lt 16777213 (length m)) ((p3 - p2) % 2 == 1) ((p4 - p3) % 2 == 1) refl refl refl (sym (ap (λ n. (n == 3) && (nat_lt 16777213 (length m) && (((p3 - p2) % 2 == 1) || ((p4 - p3) % 2 == 1)))) is) ∙ short)
+no-odd m p2 p3 p4 is short few = by (nat_lt 16777213 (length m)) ((p3 - p2) % 2 == 1) ((p4 - p3) % 2 == 1) refl refl refl (sym (ap (λ n. nat_lt 16777213 (length m) && (is_padded n (p3 - p2) || is_padded n (p4 - p3))) is) ∙ short)
   where
     by : (a b c : Bool) → nat_lt 16777213 (length m) ≡ a → ((p3 - p2) % 2 == 1) ≡ b → ((p4 - p3) % 2 == 1) ≡ c → (a && (b || c)) ≡ false → length m + (p3 - p2) % 2 + (p4 - p3) % 2 ≤ most_octets
     by false b c f g h none = let l : length m ≤ 16777213 = grind (arith, nat_tests, f) in omega (arith, l)

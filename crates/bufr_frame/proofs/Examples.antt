@@ -112,7 +112,8 @@ second-past-3 : sections_of (slice_set (slice_set edition_3 15 128) 28 30) ≡ E
 unfolding sections_of section_end
 second-past-3 = refl
 
--- the section faults: another edition, a section short, a section past the end, sections that do not meet the end
+-- the section faults: another edition, a section short, a section past the end, sections that do
+-- not meet the end
 edition-2 : sections_of (slice_set one_block_number 7 2) ≡ Err (Edition 2)
 unfolding sections_of section_end
 edition-2 = refl
@@ -154,7 +155,8 @@ fourth-past : sections_of (slice_set one_block_number 41 6) ≡ Err (SectionPast
 unfolding sections_of section_end
 fourth-past = refl
 
--- the events: one message, two, a message without its end, a stray word in front, short and cut lengths
+-- the events: one message, two, a message without its end, a stray word in front, short and cut
+-- lengths
 one-event : scan one_block_number ≡ Framed 0 one_block_number ∷ []
 unfolding scan_from
 one-event = refl
@@ -247,7 +249,8 @@ goes-on : scan (one_block_number ++ one_block_number) ≡ Framed 0 one_block_num
 unfolding scan_from
 goes-on = refl
 
--- the greatest length: of a message, with the word behind it that is not yet certain, and of a word without a length
+-- the greatest length: of a message, with the word behind it that is not yet certain, and of a word
+-- without a length
 longest-of-one : longest_of 0 one_block_number (scan one_block_number) ≡ 48
 unfolding scan_from
 longest-of-one = refl
@@ -266,7 +269,8 @@ stray-behind-messages : scan (codes "BUFR" ++ 0 ∷ 0 ∷ 64 ∷ 4 ∷ one_block
 unfolding scan_from
 stray-behind-messages = refl
 
--- parts written again: the message that is plain has the same octets; one with a reserved bit set has not, and is as long
+-- parts written again: the message that is plain has the same octets; one with a reserved bit set
+-- has not, and is as long
 one-again : message_octets (the_sections [] None 48).head (parts_in (the_sections [] None 48)) ≡ one_block_number
 one-again = refl
 

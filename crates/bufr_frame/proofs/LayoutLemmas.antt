@@ -1,13 +1,13 @@
 -- A message that was laid out, read again.
-use Rattle.std.proofs.Common.{◌≡◌, ◌≢◌, ◌==◌, ◌∙◌, ℕ, ◌+◌, ◌-◌, ◌*◌, ◌/◌, ◌%◌, ◌≤◌, Bool, true, false, List, [], ◌∷◌, ◌++◌, length, take, refl, ap, sym, subst, arith, Option, Some, None, Ok, get_or, codes, append_assoc, append-nil, length-append}
+use Rattle.std.proofs.Common.{◌≡◌, ◌≢◌, ◌==◌, ◌∙◌, ℕ, ◌+◌, ◌-◌, ◌*◌, ◌/◌, ◌%◌, ◌≤◌, Bool, true, false, List, [], ◌∷◌, ◌++◌, length, take, refl, ap, sym, subst, arith, Option, Some, None, Ok, get_or, codes, append_assoc, length-append}
 use Rattle.std.proofs.Math.Seq.{get_or-append_right, take-length}
 use Rattle.std.proofs.lemmas.List.{drop_at, take-append-le}
 use Rattle.std.specs.Prelude.{if◌then◌else◌, nat_lt, nat_le, is_some, slice_range, ◌&&◌, ◌||◌}
 use Rattle.std.proofs.lemmas.Bool.Decides.{nat_tests}
 use Rattle.bufr_frame.specs.Octets.{three, two, words, three_octets, two_octets, octets_of_words}
 use Rattle.bufr_frame.specs.Section1.{Slot, Field, Flags, Single, Double, slots_of, is_edition, first_least, octets_of_slots, octets_in, value_in, said, head_in}
-use Rattle.bufr_frame.specs.Sections.{sections_of, section_end, parts, edition_of, has_section2, head_of, Sections, is_long_edition_3}
-use Rattle.bufr_frame.specs.Layout.{Parts, message_octets, message_size, section0_octets, section1_octets, section2_octets, section2_size, section3_octets, section4_octets, data_flags, sections_from, head_octets, even_size, evened, is_writable}
+use Rattle.bufr_frame.specs.Sections.{sections_of, section_end, parts, edition_of, has_section2, head_of, Sections, is_long_edition_3, is_padded}
+use Rattle.bufr_frame.specs.Layout.{Parts, message_octets, message_size, section0_octets, section1_octets, section2_octets, section2_size, section3_octets, section4_octets, data_flags, sections_from, head_octets, even_size, evened, padded, is_writable}
 use Rattle.bufr_frame.specs.declared.head.Head.{Head}
 use Rattle.bufr_frame.proofs.SectionLemmas.{sections-are}
 
@@ -39,30 +39,35 @@ words-if true ws = words-left-over ws
 words-if false ws = words-octets ws
 
 pub words-evened : (edition front : ℕ) (ws : List ℕ) → words (evened edition front (octets_of_words ws)) ≡ ws
-words-evened edition front ws = words-if ((edition == 3) && ((front + length (octets_of_words ws)) % 2 == 1)) ws
+words-evened edition front ws = words-if (is_padded edition (front + length (octets_of_words ws))) ws
 
 -- how many octets it has
-length-by : (third : Bool) (odd : Bool) (front : ℕ) (octets : List ℕ) → ((front + length octets) % 2 == 1) ≡ odd
-    → front + length (if third && odd then octets ++ 0 ∷ [] else octets) ≡ (if third then front + length octets + (front + length octets) % 2 else front + length octets)
-length-by false odd front octets is = refl
-length-by true true front octets is = let h : (front + length octets) % 2 ≡ 1 = grind (arith, nat_tests, is) in omega (arith, h, length-append octets (0 ∷ []))
-length-by true false front octets is = let h : (front + length octets) % 2 ≢ 1 = grind (arith, nat_tests, is) in omega (arith, h)
+length-padded : (b : Bool) (front : ℕ) (octets : List ℕ) → front + length (padded b octets) ≡ (if b then front + length octets + 1 else front + length octets)
+length-padded true front octets = omega (arith, length-append octets (0 ∷ []))
+length-padded false front octets = refl
 
 pub length-evened : (edition front : ℕ) (octets : List ℕ) → front + length (evened edition front octets) ≡ even_size edition (front + length octets)
-length-evened edition front octets = length-by (edition == 3) ((front + length octets) % 2 == 1) front octets refl
+length-evened edition front octets = length-padded (is_padded edition (front + length octets)) front octets
 
--- what is put behind
-evened-by : (b : Bool) (octets : List ℕ) → (if b then octets ++ 0 ∷ [] else octets) ≡ octets ++ (if b then 0 ∷ [] else [])
-evened-by true octets = refl
-evened-by false octets = sym (append-nil octets)
+-- in edition 3 what is left over of a division by 2 is put behind
+pub even-3 : (n : ℕ) → even_size 3 n ≡ n + n % 2
+even-3 n = by (n % 2 == 1) refl
+  where
+    by : (odd : Bool) → (n % 2 == 1) ≡ odd → (if odd then n + 1 else n) ≡ n + n % 2
+    by true is = let h : n % 2 ≡ 1 = grind (arith, nat_tests, is) in omega (arith, h)
+    by false is = let h : n % 2 ≢ 1 = grind (arith, nat_tests, is) in omega (arith, h)
 
-pub evened-behind : (edition front : ℕ) (octets : List ℕ) → evened edition front octets ≡ octets ++ (if (edition == 3) && ((front + length octets) % 2 == 1) then 0 ∷ [] else [])
-evened-behind edition front octets = evened-by ((edition == 3) && ((front + length octets) % 2 == 1)) octets
-
--- in edition 3 it is even
-even-by : (third : Bool) (n : ℕ) → third ≡ true → (if third then n + n % 2 else n) % 2 ≡ 0
-even-by true n is = omega arith
-even-by false n is = absurd (cc)
+-- what was made even is not padded again
+pub even-stays : (edition n : ℕ) → is_padded edition (even_size edition n) ≡ false
+even-stays edition n = by (edition == 3) (n % 2 == 1) refl
+  where
+    by : (third odd : Bool) → (n % 2 == 1) ≡ odd → (third && ((if third && odd then n + 1 else n) % 2 == 1)) ≡ false
+    by false odd is = refl
+    by true false is = is
+    by true true is =
+        let h : n % 2 ≡ 1 = grind (arith, nat_tests, is) in
+        let even : (n + 1) % 2 ≡ 0 = omega (arith, h) in
+        ap (λ k. k == 1) even
 
 -- section 1: its octets are those of its slots
 length-octets_in : (slots : List Slot) (says : Field → ℕ) → length (octets_in slots says) ≡ octets_of_slots slots
@@ -121,7 +126,8 @@ equal a b is = grind (arith, nat_tests, is)
 none-fits : (n : ℕ) → nat_le n 0 ≡ true → n ≡ 0
 none-fits n is = grind (arith, nat_tests, is)
 
--- a head that can be written is of edition 4, or of edition 3 and then says nothing of what that lacks
+-- a head that can be written is of edition 4, or of edition 3 and then says nothing of what that
+-- lacks
 pub by-edition : {P : Type 0} (h : Head) → is_writable h ≡ true → (h.edition ≡ 4 → P) → (h.edition ≡ 3 → h.local_subcategory ≡ 0 → h.second ≡ 0 → P) → P
 by-edition h is four three =
     or-by (h.edition == 4) _ is (λ e. four (equal h.edition 4 e)) (λ rest.
@@ -216,13 +222,9 @@ unfolding make
 made-sections h p = refl
 
 -- sections that are even are not too long
-not-long : (third long odd3 odd4 : Bool) → (third ≡ true → odd3 ≡ false) → (third ≡ true → odd4 ≡ false) → (third && (long && (odd3 || odd4))) ≡ false
-not-long false long odd3 odd4 three four = refl
-not-long true false odd3 odd4 three four = refl
-not-long true true odd3 odd4 three four = rw (three refl, four refl) refl
-
-even-not-odd : (n : ℕ) → n % 2 ≡ 0 → (n % 2 == 1) ≡ false
-even-not-odd n is = rw is refl
+not-long : (long third fourth : Bool) → third ≡ false → fourth ≡ false → (long && (third || fourth)) ≡ false
+not-long false third fourth three four = refl
+not-long true third fourth three four = rw (three, four) refl
 
 -- a message of these parts has these sections
 pub read-back : (h : Head) (p : Parts) → is_writable h ≡ true → sections_of (message_octets h p) ≡ Ok (sections_from h p)
@@ -275,9 +277,9 @@ read-back h p writable =
     let size4 : n4 ≡ even_size edition (4 + length p.payload) = length-evened edition 4 p.payload in
     let third : p3 - p2 ≡ n3 = omega arith in
     let fourth : p4 - p3 ≡ n4 = omega arith in
-    let short : is_long_edition_3 m p2 p3 p4 ≡ false = not-long (edition == 3) (nat_lt 16777213 (length m)) ((p3 - p2) % 2 == 1) ((p4 - p3) % 2 == 1)
-    (λ is. even-not-odd (p3 - p2) (ap (λ n. n % 2) (third ∙ size3) ∙ even-by (edition == 3) (7 + 2 * length p.descriptors) is))
-    (λ is. even-not-odd (p4 - p3) (ap (λ n. n % 2) (fourth ∙ size4) ∙ even-by (edition == 3) (4 + length p.payload) is)) in
+    let short : is_long_edition_3 m p2 p3 p4 ≡ false = not-long (nat_lt 16777213 (length m)) (is_padded edition (p3 - p2)) (is_padded edition (p4 - p3))
+    (ap (is_padded edition) (third ∙ size3) ∙ even-stays edition (7 + 2 * length p.descriptors))
+    (ap (is_padded edition) (fourth ∙ size4) ∙ even-stays edition (4 + length p.payload)) in
     let front1 = s0 ++ (three_octets n1 ++ ho) in
     let same1 : m ≡ front1 ++ (p.local1 ++ (s2 ++ (s3 ++ (s4 ++ end)))) =
     ap (λ l. s0 ++ l) (append_assoc (three_octets n1 ++ ho) p.local1 (s2 ++ (s3 ++ (s4 ++ end)))) ∙ sym (append_assoc s0 (three_octets n1 ++ ho) (p.local1 ++ (s2 ++ (s3 ++ (s4 ++ end))))) in

@@ -1,8 +1,9 @@
 -- Octets appended, part by part.
-use Rattle.std.proofs.Common.{◌≡◌, ◌∙◌, ℕ, ◌+◌, ◌*◌, List, [], ◌∷◌, ◌++◌, length, ap, sym, refl, Option, Some, None, Ok, Err, append_assoc}
+use Rattle.std.proofs.Common.{◌≡◌, ◌∙◌, ℕ, ◌+◌, ◌*◌, Bool, true, false, List, [], ◌∷◌, ◌++◌, length, ap, sym, refl, Option, Some, None, Ok, Err, append_assoc}
 use Rattle.std.specs.Prelude.{Result, OnOk, is_ok, is_some, option_map, if◌then◌else◌}
 use Rattle.bufr_frame.specs.Octets.{three_octets, two_octets, octets_of_words}
-use Rattle.bufr_frame.specs.Layout.{even_size, evened, section3_octets}
+use Rattle.bufr_frame.specs.Layout.{even_size, evened, padded, section3_octets}
+use Rattle.bufr_frame.specs.Sections.{is_padded}
 use Rattle.bufr_frame.proofs.LayoutLemmas.{length-evened, length-octets_of_words}
 
 -- three parts, the last of which may be refused
@@ -23,18 +24,25 @@ pub is_some-map : {X Y : Type 0} (f : X → Y) (o : Option X) → is_some o ≡ 
 is_some-map f (Some x) = refl
 is_some-map f None = refl
 
+-- what is padded behind a front
+padded-behind : (b : Bool) (front octets : List ℕ) → padded b (front ++ octets) ≡ front ++ padded b octets
+padded-behind true front octets = append_assoc front octets (0 ∷ [])
+padded-behind false front octets = refl
+
 -- section 3
-pub third : {X E : Type 0} (r : Result X E) (edition : ℕ) (words : List ℕ) (subsets flags n : ℕ) (old one two new : List ℕ) (more : List ℕ)
-    → n ≡ even_size edition (7 + 2 * length words) → one ≡ old ++ three_octets n → two ≡ (one ++ (0 ∷ two_octets subsets ++ flags ∷ [])) ++ octets_of_words words
-    → evened edition 7 (octets_of_words words) ≡ octets_of_words words ++ more
-    → OnOk r (new ≡ two ++ more) → OnOk r (new ≡ old ++ section3_octets (evened edition 7 (octets_of_words words)) subsets flags)
-third (Err e) edition words subsets flags n old one two new more size p q is last = tt
-third (Ok x) edition words subsets flags n old one two new more size p q is last =
+pub third : {X E : Type 0} (r : Result X E) (edition : ℕ) (words : List ℕ) (subsets flags n : ℕ) (b : Bool) (old one two new : List ℕ)
+    → n ≡ even_size edition (7 + 2 * length words) → b ≡ is_padded edition (7 + 2 * length words)
+    → one ≡ old ++ three_octets n → two ≡ (one ++ (0 ∷ two_octets subsets ++ flags ∷ [])) ++ octets_of_words words
+    → OnOk r (new ≡ padded b two) → OnOk r (new ≡ old ++ section3_octets (evened edition 7 (octets_of_words words)) subsets flags)
+third (Err e) edition words subsets flags n b old one two new size is p q last = tt
+third (Ok x) edition words subsets flags n b old one two new size is p q last =
     let w = octets_of_words words in
     let f = 0 ∷ two_octets subsets ++ flags ∷ [] in
     let c = evened edition 7 w in
     let long : n ≡ 7 + length c = size ∙ ap (λ k. even_size edition (7 + k)) (sym (length-octets_of_words words)) ∙ sym (length-evened edition 7 w) in
     let front : two ≡ ((old ++ three_octets n) ++ f) ++ w = q ∙ ap (λ l. (l ++ f) ++ w) p in
-    let whole : two ++ more ≡ ((old ++ three_octets n) ++ f) ++ c = ap (λ l. l ++ more) front ∙ append_assoc ((old ++ three_octets n) ++ f) w more ∙ ap (λ l. ((old ++ three_octets n) ++ f) ++ l) (sym is) in
+    let content : padded b w ≡ c = ap (λ k. padded k w) (is ∙ ap (λ k. is_padded edition (7 + k)) (sym (length-octets_of_words words))) in
+    let whole : padded b two ≡ ((old ++ three_octets n) ++ f) ++ c =
+    ap (padded b) front ∙ padded-behind b ((old ++ three_octets n) ++ f) w ∙ ap (λ l. ((old ++ three_octets n) ++ f) ++ l) content in
     let apart : ((old ++ three_octets n) ++ f) ++ c ≡ old ++ (three_octets n ++ (f ++ c)) = append_assoc (old ++ three_octets n) f c ∙ append_assoc old (three_octets n) (f ++ c) in
     last ∙ whole ∙ apart ∙ ap (λ k. old ++ (three_octets k ++ (f ++ c))) long

@@ -85,7 +85,8 @@ IsDone s = (s.ended ≡ true) × ((at : ℕ) → scan_from 0 at s.rest ≡ [])
 abbrev pub IsOpen : State → RunFault → Type 0
 IsOpen s fault = (s.fault ≡ Some fault) × (s.ended ≡ false) × ((at : ℕ) → NoneDecided at s.rest)
 
--- how a fault leaves a finder: never is it one of a write; an input is too long only after 2^32 reads, and memory is wanted only before
+-- how a fault leaves a finder: never is it one of a write; an input is too long only after 2^32
+-- reads, and memory is wanted only before
 abbrev pub StopsSo : State → RunFault → Type 0
 StopsSo new Read = IsOpen new Read
 StopsSo new Write = ⊥
@@ -96,18 +97,24 @@ StopsSo new Memory = IsOpen new Memory × (new.reads < most_reads)
 abbrev pub WaitsSo : State → State → Type 0
 WaitsSo old new = old.reads ≢ new.reads → NoneDecided old.at old.rest
 
--- Reads one after another, where these octets were left before the first, and what each gave: none was made while an event was certain in
--- what was left then with what the reads before it gave, and none gave more than so many octets.
+-- Reads one after another, where these octets were left before the first, and what each gave: none
+-- was made while an event was certain in what was left then with what the reads before it gave, and
+-- none gave more than so many octets.
 abbrev pub AreWaited : (most at : ℕ) (left : List ℕ) (given : List (List ℕ)) → Type 0
 AreWaited most at left [] = Unit {0}
 AreWaited most at left (octets ∷ more) = NoneDecided at left × (length octets ≤ most) × AreWaited most at (left ++ octets) more
 
--- The octets that a call read are what its reads gave, each of which waited, and gave no more than may be held.
+-- The octets that a call read are what its reads gave, each of which waited, and gave no more than
+-- may be held.
 pub record EachWaits (old new : State) (bs : List ℕ) : Type 0 where
   pub given : List (List ℕ)
   pub octets : bs ≡ concat given
   pub made : new.reads ≡ old.reads + length given
   pub waited : AreWaited (max 4096 new.longest) old.at old.rest given
+
+-- A call read some octets, told events, and saw the lengths of those whose stated length counts.
+abbrev pub ReadsOn : (left left' : Option (List ℕ)) → (old new : State) → (events seen : List Happening) → Type 0
+ReadsOn left left' old new events seen = (bs : List ℕ) × StepSo left left' old new bs events × (old.fault ≡ None → SeesSo old new bs seen) × EachWaits old new bs
 
 -- memory is wanted only where the room was less than twice the octets that may be held
 abbrev pub WantsSo : State → State → RunFault → Type 0

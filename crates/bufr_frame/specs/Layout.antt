@@ -1,10 +1,11 @@
 -- How a message of edition 3 or 4 is laid out. (WMO-No. 306, Volume I.2, FM 94: sections 0 to 5)
 -- Cited by public contracts.
--- Lengths are the least that hold the parts, in edition 3 sections 3 and 4 made even; reserved octets and bits are zero, a choice of this project.
-use Rattle.std.specs.Prelude.{◌≡◌, ℕ, ◌≤◌, ◌+◌, ◌*◌, ◌%◌, ◌==◌, nat_le, ◌&&◌, ◌||◌, Bool, true, false, List, [], ◌∷◌, ◌++◌, Option, Some, None, length, codes, is_some, if◌then◌else◌}
+-- Lengths are the least that hold the parts, in edition 3 sections 3 and 4 made even; reserved
+-- octets and bits are zero, a choice of this project.
+use Rattle.std.specs.Prelude.{◌≡◌, ℕ, ◌≤◌, ◌+◌, ◌*◌, ◌==◌, nat_le, ◌&&◌, ◌||◌, Bool, true, false, List, [], ◌∷◌, ◌++◌, Option, Some, None, length, codes, is_some, if◌then◌else◌}
 use Rattle.bufr_frame.specs.Octets.{three_octets, two_octets, octets_of_words}
 use Rattle.bufr_frame.specs.Section1.{Field, is_edition, Centre, Subcentre, Year, LocalSubcategory, Second, slots_of, slots_3, first_least, most_in, octets_in, said}
-use Rattle.bufr_frame.specs.Sections.{Sections}
+use Rattle.bufr_frame.specs.Sections.{Sections, is_padded}
 use Rattle.bufr_frame.specs.declared.head.Head.{Head}
 
 -- what is written besides the head
@@ -26,15 +27,20 @@ abbrev pub section2_size : Option (List ℕ) → ℕ
 section2_size None = 0
 section2_size (Some octets) = 4 + length octets
 
--- the octets of a section; in edition 3 they are even
+-- the octets of a section 3 or 4; in edition 3 they are even
 abbrev pub even_size : (edition size : ℕ) → ℕ
-even_size edition size = if edition == 3 then size + size % 2 else size
+even_size edition size = if is_padded edition size then size + 1 else size
 
--- what stands in a section behind its first octets, `front` of them; in edition 3 a zero octet more where the section would be odd
+-- octets with a zero octet behind them, where they are padded
+abbrev pub padded : (pads : Bool) → List ℕ → List ℕ
+padded pads octets = if pads then octets ++ 0 ∷ [] else octets
+
+-- what stands in a section 3 or 4 behind its first octets, `front` of them
 abbrev pub evened : (edition front : ℕ) → List ℕ → List ℕ
-evened edition front octets = if (edition == 3) && ((front + length octets) % 2 == 1) then octets ++ 0 ∷ [] else octets
+evened edition front octets = padded (is_padded edition (front + length octets)) octets
 
--- the octets of a message: 8 of section 0, those of section 1 with local use, those of section 2, 7 or more of section 3, 4 or more of section 4, 4 of section 5
+-- the octets of a message: 8 of section 0, those of section 1 with local use, those of section 2, 7
+-- or more of section 3, 4 or more of section 4, 4 of section 5
 abbrev pub size_from : (edition local1 : ℕ) → Option (List ℕ) → (descriptors payload : ℕ) → ℕ
 size_from edition local1 section2 descriptors payload =
     8 + (first_least edition + local1) + section2_size section2 + even_size edition (7 + 2 * descriptors) + even_size edition (4 + payload) + 4
@@ -47,7 +53,8 @@ message_size edition p = size_from edition (length p.local1) p.section2 (length 
 abbrev pub most_octets : ℕ
 most_octets = 16777215
 
--- how many octets more a message may have when it is written again: those that make sections 3 and 4 even
+-- how many octets more a message may have when it is written again: in edition 3 one for section 3
+-- and one for section 4
 abbrev pub longer : (edition : ℕ) → ℕ
 longer edition = if edition == 3 then 2 else 0
 
@@ -59,11 +66,13 @@ section0_octets size edition = codes "BUFR" ++ three_octets size ++ edition ∷ 
 abbrev pub fits_3 : Head → Field → Bool
 fits_3 h field = nat_le (said h false field) (most_in slots_3 field)
 
--- a head that can be written: in edition 3 centre, sub-centre and year have one octet, and local sub-category and second none
+-- a head that can be written: in edition 3 centre, sub-centre and year have one octet, and local
+-- sub-category and second none
 abbrev pub is_writable : Head → Bool
 is_writable h = (h.edition == 4) || ((h.edition == 3) && (fits_3 h Centre && (fits_3 h Subcentre && (fits_3 h Year && (fits_3 h LocalSubcategory && fits_3 h Second)))))
 
--- The edition of a head is one that is read, and each of its values fits the octets that section 1 has for it.
+-- The edition of a head is one that is read, and each of its values fits the octets that section 1
+-- has for it.
 pub record IsFitting (h : Head) : Type 0 where
   pub edition : is_edition h.edition ≡ true
   pub fits : (field : Field) → said h false field ≤ most_in (slots_of h.edition) field
@@ -87,7 +96,8 @@ section2_octets (Some octets) = section4_octets octets
 abbrev pub data_flags : (observed compressed : Bool) → ℕ
 data_flags observed compressed = (if observed then 128 else 0) + (if compressed then 64 else 0)
 
--- section 3: the length, a reserved octet, the number of subsets, the flags, and behind them the octets of the descriptors with what makes it even
+-- section 3: the length, a reserved octet, the number of subsets, the flags, and behind them the
+-- octets of the descriptors with what makes it even
 abbrev pub section3_octets : List ℕ → (subsets flags : ℕ) → List ℕ
 section3_octets content subsets flags = three_octets (7 + length content) ++ 0 ∷ two_octets subsets ++ flags ∷ content
 
@@ -97,7 +107,8 @@ message_octets h p = section0_octets (message_size h.edition p) h.edition ++ (se
     ++ (section2_octets p.section2 ++ (section3_octets (evened h.edition 7 (octets_of_words p.descriptors)) p.subsets (data_flags p.observed p.compressed)
     ++ (section4_octets (evened h.edition 4 p.payload) ++ codes "7777"))))
 
--- the sections that a message of these parts has; in edition 3 the payload may be followed by the octet that makes section 4 even
+-- the sections that a message of these parts has; in edition 3 the payload may be followed by the
+-- octet that makes section 4 even
 abbrev pub sections_from : Head → Parts → Sections
 sections_from h p = record {
   head = h;

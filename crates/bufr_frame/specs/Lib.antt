@@ -1,18 +1,41 @@
+-- The definitions of this crate, a file for each idea.
+-- a buffer that slides over a stream
 pub mod Buffer
+-- the editions as the code tells them apart
+pub mod Editions
+-- what an event of the code says
 pub mod Events
+-- what a finder stands for, and what a call of it does
 pub mod Finding
+-- how a finder keeps the octets that it holds
+pub mod Held
+-- what reading an input to its end gives
 pub mod Input
+-- how a message is laid out, and which heads can be written
 pub mod Layout
+-- the greatest length that was stated
 pub mod Longest
+-- how a scan goes on behind its first events
 pub mod Look
+-- what a call of `Finder::next` answers
 pub mod Next
+-- the numbers of the faults
 pub mod Numbers
+-- numbers and words in octets
 pub mod Octets
+-- what the steps of a finder do, one by one
 pub mod Passing
+-- messages that are written as `write_message` writes them
 pub mod Plain
+-- what a call that reads leaves of its reader's counts
 pub mod Runs
+-- the events of a stream: its messages and its stray words
 pub mod Scan
+-- section 1 by edition: its fields, in which order, in how many octets
 pub mod Section1
+-- the sections of a message, or the first fault; which sections are padded
 pub mod Sections
+-- what octets show behind which more may come
 pub mod Sights
+-- what an iterator of words has left
 pub mod Words

@@ -3,7 +3,7 @@
 use Rattle.std.specs.Prelude.{◌≡◌, ℕ, ◌+◌, ◌<◌, ◌≤◌, ◌^◌, max, length, List, [], false, Option, None, IfSome, Result, Ok, Err}
 use Rattle.bufr_frame.specs.Scan.{Happening, scan_from}
 use Rattle.bufr_frame.specs.Events.{told}
-use Rattle.bufr_frame.specs.Finding.{State, held, StepSo, SeesSo, CountsReads, IsDone, StopsSo, WaitsSo, EachWaits, WantsSo}
+use Rattle.bufr_frame.specs.Finding.{State, held, ReadsOn, CountsReads, IsDone, StopsSo, WaitsSo, WantsSo}
 use Rattle.bufr_frame.specs.Longest.{first_event}
 use Rattle.bufr_frame.specs.declared.fault.RunFault.{RunFault}
 use Rattle.bufr_frame.specs.declared.finder.Event.{Event}
@@ -14,7 +14,8 @@ abbrev pub told_by : Result Event RunFault → List Happening
 told_by (Ok event) = told event
 told_by (Err fault) = []
 
--- the events whose stated length counts: those that are told, and at a fault the first that is left, which is not certain
+-- the events whose stated length counts: those that are told, and at a fault the first that is
+-- left, which is not certain
 abbrev pub seen_at : State → Result Event RunFault → List Happening
 seen_at new (Ok event) = told event
 seen_at new (Err fault) = first_event (scan_from 0 new.at new.rest)
@@ -26,10 +27,10 @@ EndsSo old new (Ok (Stray offset cause)) = (new.fault ≡ None) × (old.at < new
 EndsSo old new (Ok Done) = (new.fault ≡ None) × IsDone new
 EndsSo old new (Err fault) = (old.ended ≡ false) × (old.fault ≡ None → StopsSo new fault) × (old.fault ≡ None → WantsSo old new fault)
 
--- A call reads some octets, and the scan of what was left and of these begins with the event that it answers; no read of them is made while
--- anything that is left then is certain.
+-- A call reads some octets, and the scan of what was left and of these begins with the event that
+-- it answers; no read of them is made while anything that is left then is certain.
 pub record NextSo (left left' : Option (List ℕ)) (reads reads' : ℕ) (old new : State) (result : Result Event RunFault) : Type 0 where
-  pub steps : (bs : List ℕ) × StepSo left left' old new bs (told_by result) × (old.fault ≡ None → SeesSo old new bs (seen_at new result)) × EachWaits old new bs
+  pub steps : ReadsOn left left' old new (told_by result) (seen_at new result)
   pub ends : EndsSo old new result
   pub counts : CountsReads reads reads' old new
   pub waits : WaitsSo old new

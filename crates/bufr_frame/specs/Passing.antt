@@ -48,7 +48,8 @@ OutcomeSo old new (Ok (Some passed)) = PassedSo old new passed
 OutcomeSo old new (Ok None) = (new.fault ≡ None) × IsDone new
 OutcomeSo old new (Err fault) = (old.ended ≡ false) × (old.fault ≡ None → StopsSo new fault) × (old.fault ≡ None → WantsSo old new fault)
 
--- how a read ends: octets came, or the end was reached, or it failed, or memory was refused before it
+-- how a read ends: octets came, or the end was reached, or it failed, or memory was refused before
+-- it
 abbrev pub ReadEnds : (left' : Option (List ℕ)) → State → State → List ℕ → Result (Unit {0}) RunFault → Type 0
 ReadEnds left' old new bs (Ok u) = (new.reads ≡ old.reads + 1) × (new.ended ≡ true → (bs ≡ []) × IsAtEnd left')
 ReadEnds left' old new bs (Err Read) = (new.reads ≡ old.reads + 1) × (bs ≡ []) × (new.ended ≡ false)

@@ -1,4 +1,5 @@
--- Messages that are written as `write_message` writes them. (WMO-No. 306, Volume I.2, FM 94: sections 0 to 5)
+-- Messages that are written as `write_message` writes them. (WMO-No. 306, Volume I.2, FM 94:
+-- sections 0 to 5)
 -- Cited by public contracts.
 use Rattle.std.specs.Prelude.{◌≡◌, ℕ, ◌+◌, ◌-◌, ◌%◌, ◌<◌, true, List, All, length, take, drop, codes, slice_index, if◌then◌else◌}
 use Rattle.bufr_frame.specs.Octets.{three}
@@ -15,8 +16,8 @@ section3_begins m = if has_section2 m then section2_begins m + three m (section2
 abbrev pub section4_begins : List ℕ → ℕ
 section4_begins m = section3_begins m + three m (section3_begins m)
 
--- A message as a finder gives it, with all reserved octets and bits zero and no octet left over in section 3; in edition 3 sections 3 and 4 are even, and
--- the octet left over in section 3 is zero.
+-- A message as a finder gives it, with all reserved octets and bits zero and no octet left over in
+-- section 3; in edition 3 sections 3 and 4 are even, and the octet left over in section 3 is zero.
 pub record IsPlain (m : List ℕ) : Type 0 where
   pub octets : All (λ octet. octet < 256) m
   pub word : take 4 m ≡ codes "BUFR"

@@ -5,7 +5,8 @@ use Rattle.bufr_bits.specs.Counts.{counted}
 use Rattle.bufr_frame.specs.declared.fault.RunFault.{RunFault}
 use Rattle.bufr_frame.specs.declared.fault.RunFault.TheVariants.{Read, Write, InputTooLong, Memory}
 
--- the reader's count of failures after a call: a read fault is one more failure, and nothing else changes it
+-- the reader's count of failures after a call: a read fault is one more failure, and nothing else
+-- changes it
 abbrev pub read_failures_after : {X : Type 0} → ℕ → Result X RunFault → ℕ
 read_failures_after count (Ok x) = count
 read_failures_after count (Err Read) = counted count 1
@@ -17,6 +18,7 @@ read_failures_after count (Err Memory) = count
 abbrev pub most_reads : ℕ
 most_reads = 2 ^ 32
 
--- at most 2^32 reads were made; an input is too long only after all of them, and memory is wanted only before
+-- at most 2^32 reads were made; an input is too long only after all of them, and memory is wanted
+-- only before
 abbrev pub MakesReads : {X : Type 0} → (reads reads' : ℕ) → Result X RunFault → Type 0
 MakesReads reads reads' result = (n : ℕ) × (n ≤ most_reads) × (reads' ≡ counted reads n) × (result ≡ Err InputTooLong → n ≡ most_reads) × (result ≡ Err Memory → n < most_reads)

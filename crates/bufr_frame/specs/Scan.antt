@@ -1,6 +1,8 @@
--- The events of a stream of octets: its messages, and the places where `BUFR` stands and no message does.
+-- The events of a stream of octets: its messages, and the places where `BUFR` stands and no message
+-- does.
 -- Cited by public contracts.
--- (The word and the length in octets 5 to 7: WMO-No. 306, Volume I.2, FM 94, section 0. What is done with a stray word is a choice of this project.)
+-- (The word and the length in octets 5 to 7: WMO-No. 306, Volume I.2, FM 94, section 0. What is
+-- done with a stray word is a choice of this project.)
 use Rattle.std.specs.Prelude.{ℕ, zero, suc, ◌+◌, ◌-◌, Bool, true, false, not, nat_lt, List, [], ◌∷◌, ◌++◌, length, take, drop, codes, if◌then◌else◌, take_while}
 use Rattle.std.specs.Str.{bytes_eq}
 use Rattle.bufr_frame.specs.Octets.{three}
@@ -44,7 +46,8 @@ taken m Nothing = 1
 taken m (Stray cause) = 4
 taken m Frame = stated m
 
--- the events of the octets that are left, after some are skipped; the first of them is at offset `at`
+-- the events of the octets that are left, after some are skipped; the first of them is at offset
+-- `at`
 unfoldable pub scan_from : (skip at : ℕ) → List ℕ → List Happening
 scan_from skip at [] = []
 scan_from (suc skip) at (octet ∷ m) = scan_from skip (at + 1) m

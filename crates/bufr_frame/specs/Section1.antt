@@ -1,6 +1,8 @@
--- Section 1 by edition: what stands in it, in which order, and in how many octets. (WMO-No. 306, Volume I.2, FM 94: section 1)
+-- Section 1 by edition: what stands in it, in which order, and in how many octets. (WMO-No. 306,
+-- Volume I.2, FM 94: section 1)
 -- Cited by public contracts.
--- The rest stands on these two tables: where a value is read, what is written, and which values fit.
+-- The rest stands on these two tables: where a value is read, what is written, and which values
+-- fit.
 use Rattle.std.specs.Prelude.{ℕ, ◌+◌, ◌==◌, ◌||◌, Bool, List, [], ◌∷◌, ◌++◌, slice_index, if◌then◌else◌}
 use Rattle.bufr_frame.specs.Octets.{two, two_octets}
 use Rattle.bufr_frame.specs.declared.head.Head.{Head}

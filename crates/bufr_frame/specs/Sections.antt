@@ -1,7 +1,8 @@
 -- The sections of a message of edition 3 or 4. (WMO-No. 306, Volume I.2, FM 94: sections 0 to 5)
 -- Cited by public contracts.
--- Octets count from 0 here: section 1 begins at 8. That reserved octets and bits are ignored, and that bits behind
--- the data stay in the payload, are choices of this project; so is that sections of an odd number of octets are read in edition 3.
+-- Octets count from 0 here: section 1 begins at 8. That reserved octets and bits are ignored, and
+-- that bits behind the data stay in the payload, are choices of this project; so is that sections
+-- of an odd number of octets are read in edition 3.
 use Rattle.std.specs.Prelude.{◌≡◌, ℕ, ◌+◌, ◌-◌, ◌%◌, ◌==◌, ◌&&◌, ◌||◌, Bool, not, nat_lt, nat_le, List, Option, Some, None, Result, Ok, Err, length, slice_index, slice_range, if◌then◌else◌}
 use Rattle.bufr_frame.specs.Octets.{three, two, words}
 use Rattle.bufr_frame.specs.Section1.{Slot, Flags, slots_of, is_edition, first_least, value_in, head_in}
@@ -31,7 +32,8 @@ abbrev pub ◌>>=◌ : {A B : Type 0} → Result A SectionFault → (A → Resul
 (Ok x) >>= f = f x
 (Err e) >>= f = Err e
 
--- where section k ends, which begins at p and has at least `least` octets; the last four octets are section 5
+-- where section k ends, which begins at p and has at least `least` octets; the last four octets are
+-- section 5
 unfoldable pub section_end : List ℕ → (k least p : ℕ) → Result ℕ SectionFault
 section_end m k least p =
     if nat_lt (length m - 4) (p + 3) then Err (SectionPast k)
@@ -42,6 +44,11 @@ section_end m k least p =
 -- what octet 8 of section 0 says
 abbrev pub edition_of : List ℕ → ℕ
 edition_of m = slice_index m 7
+
+-- whether a section 3 or 4 of so many octets is written with a zero octet more: in edition 3, where
+-- they are odd
+abbrev pub is_padded : (edition size : ℕ) → Bool
+is_padded edition size = (edition == 3) && (size % 2 == 1)
 
 -- what section 1 of a message has, in the order of its edition
 abbrev pub slots_in : List ℕ → List Slot
@@ -69,9 +76,10 @@ parts m p1 p2 p3 p4 = record {
   size = length m;
 }
 
--- a message of edition 3 that is so long that with even sections 3 and 4, of which one is odd, its length might not be stated any more
+-- a message, of edition 3, that is so long that with its sections 3 and 4 padded, one at least, its
+-- length might not be stated any more
 abbrev pub is_long_edition_3 : List ℕ → (p2 p3 p4 : ℕ) → Bool
-is_long_edition_3 m p2 p3 p4 = (edition_of m == 3) && (nat_lt 16777213 (length m) && (((p3 - p2) % 2 == 1) || ((p4 - p3) % 2 == 1)))
+is_long_edition_3 m p2 p3 p4 = nat_lt 16777213 (length m) && (is_padded (edition_of m) (p3 - p2) || is_padded (edition_of m) (p4 - p3))
 
 -- the parts, where section 4 ends at the last four octets
 abbrev pub met : List ℕ → (p1 p2 p3 p4 : ℕ) → Result Sections SectionFault
@@ -80,7 +88,8 @@ met m p1 p2 p3 p4 =
     else if is_long_edition_3 m p2 p3 p4 then Err Edition3Long
     else Ok (parts m p1 p2 p3 p4)
 
--- the sections of a message, or the first fault: the edition goes before all, then the sections in their order, then the end
+-- the sections of a message, or the first fault: the edition goes before all, then the sections in
+-- their order, then the end
 unfoldable pub sections_of : List ℕ → Result Sections SectionFault
 sections_of m = if not (is_edition (edition_of m)) then Err (Edition (edition_of m)) else do
   p1 ← section_end m 1 (first_least (edition_of m)) 8

@@ -24,7 +24,8 @@ pub record FoundSo (ended : Bool) (rest : List ℕ) (place : ℕ) (here : Verdic
   pub advances : (at : ℕ) → Advances ended at rest (happening (at + place) (drop place rest) here)
       (at + place + taken (drop place rest) here) (drop (place + taken (drop place rest) here) rest)
 
--- No event is certain, and none is before `place`; there `BUFR` stands, or too few octets to tell are there.
+-- No event is certain, and none is before `place`; there `BUFR` stands, or too few octets to tell
+-- are there.
 pub record OpenSo (rest : List ℕ) (place stated : ℕ) : Type 0 where
   pub within : place ≤ length rest
   pub first : IsWord rest → place ≡ 0
@@ -48,6 +49,7 @@ LooksSo ended rest (Decided found) = FoundSo ended rest found.place found.here �
 LooksSo ended rest (Open wanted) = (ended ≡ false) × OpenSo rest wanted.place wanted.stated × StatedSo (drop wanted.place rest) wanted.stated
 LooksSo ended rest End = (ended ≡ true) × EndSo rest
 
--- how the greatest length has grown since it was `old`: by the length that the word at the front states, or not
+-- how the greatest length has grown since it was `old`: by the length that the word at the front
+-- states, or not
 abbrev pub Raised : (old now : ℕ) → List ℕ → Type 0
 Raised old now rest = (now ≡ old) ⊎ (IsWord rest × (8 ≤ length rest) × (now ≡ max old (stated rest)))

@@ -3,8 +3,9 @@ ghost use Rattle.std.specs.Prelude.{◌≡◌, ◌≤◌, ◌<◌, ◌+◌, ◌-
 ghost use Rattle.bufr_frame.specs.Section1.{Flags, first_least, is_edition, value_in};
 ghost use Rattle.bufr_frame.specs.Sections.{edition_of, slots_in, section_end, sections_of, parts, Gives, has_section2, is_long_edition_3};
 
+use crate::edition::Edition;
 use crate::fault::SectionFault;
-use crate::least::{SECTION_0, SECTION_2, SECTION_3, SECTION_4, SECTION_5, section_1};
+use crate::least::{SECTION_0, SECTION_2, SECTION_3, SECTION_4, SECTION_5, is_padded, section_1};
 use crate::octets::three_at;
 
 /// The places behind the last octets of sections 1 to 4, from 0. A section 2 that is not there
@@ -49,7 +50,10 @@ fn flags_at(m: &[u8]) -> u8
     requires { 18 ≤ length m.now }
     ensures { result ≡ value_in (slots_in m.now) m.now 11 Flags }
 {
-    if m[7] == 3 { m[15] } else { m[17] }
+    match Edition::of(m[7]) {
+        Edition::Third => m[15],
+        Edition::Fourth => m[17],
+    }
 }
 
 /// Whether there is a section 2.
@@ -77,18 +81,18 @@ fn second_end(m: &[u8], first: usize) -> Result<usize, SectionFault>
     }
 }
 
-/// The most octets of a message of edition 3 of which a section is odd: with both sections made
-/// even its length can still be stated.
+/// The most octets of a message of which a section is padded: with two zero octets more its length
+/// can still be stated.
 const MOST_ODD: usize = 16_777_213;
 
-/// Whether a message of edition 3, whose sections end there, is too long to have even sections.
+/// Whether a message, whose sections end there, is too long for its sections 3 and 4 to be padded.
 fn is_long(m: &[u8], second: usize, third: usize, fourth: usize) -> bool
     requires long { 8 ≤ length m.now }
     requires third { second ≤ third }
     requires fourth { third ≤ fourth }
     ensures { result ≡ is_long_edition_3 m.now second third fourth }
 {
-    m[7] == 3 && m.len() > MOST_ODD && ((third - second) % 2 == 1 || (fourth - third) % 2 == 1)
+    m.len() > MOST_ODD && (is_padded(m[7], third - second) || is_padded(m[7], fourth - third))
 }
 
 /// Whether messages of this edition are read.

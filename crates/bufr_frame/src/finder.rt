@@ -42,8 +42,8 @@ enum Phase {
     Stopped(RunFault),
 }
 
-/// Finds the messages of a stream. Each place where `BUFR` stands gives a frame or a stray; behind a
-/// frame the search goes on, and behind the four octets of a stray word.
+/// Finds the messages of a stream. Each place where `BUFR` stands gives a frame or a stray; behind
+/// a frame the search goes on, and behind the four octets of a stray word.
 ///
 /// It reads only while the next event is not certain, so the first message is told before the
 /// second is read. It holds at most 4,096 octets or, where that is more, the greatest length that
@@ -81,9 +81,8 @@ pub struct Finder {
 }
 
 impl Model for Finder {
-    ghost use Rattle.std.specs.Prelude.{◌≡◌, ◌≤◌, ◌<◌, ◌+◌, ◌-◌, ◌*◌, ◌^◌, max, codes, slice_range, vec_len, vec_capacity};
+    ghost use Rattle.std.specs.Prelude.{◌+◌, slice_range, vec_capacity};
     ghost use Rattle.bufr_frame.specs.Finding.{State, ended_in, fault_in};
-    ghost use Rattle.bufr_frame.specs.Runs.{most_reads};
 
     ghost Value = { State };
 
@@ -98,7 +97,9 @@ impl Model for Finder {
       room = vec_capacity f.buffer;
     } };
 
-    ghost invariant = { λ f. (f.start ≤ f.place) × (f.place ≤ f.filled) × (f.filled ≤ vec_len f.buffer) × (f.base + f.filled ≤ f.reads * 2 ^ 24) × (f.reads ≤ most_reads) × (f.filled - f.start ≤ max 4096 f.longest) × (f.longest < 2 ^ 24) × (f.word ≡ codes "BUFR") };
+    ghost use Rattle.bufr_frame.specs.Held.{IsHeld};
+
+    ghost invariant = { IsHeld };
 }
 
 impl Finder {
@@ -113,7 +114,7 @@ impl Finder {
     ghost use Rattle.bufr_frame.specs.Sights.{LooksSo, FoundSo};
     ghost use Rattle.bufr_frame.specs.Longest.{length_here};
     ghost use Rattle.bufr_frame.specs.Runs.{read_failures_after, most_reads};
-    ghost use Rattle.bufr_frame.specs.Finding.{State, held, StepSo, SeesSo, Follows, CountsReads, IsDone, WaitsSo, EachWaits, fresh};
+    ghost use Rattle.bufr_frame.specs.Finding.{State, held, Follows, ReadsOn, CountsReads, IsDone, WaitsSo, fresh};
     ghost use Rattle.bufr_frame.specs.Passing.{OutcomeSo, PassedSo, ReadSo, KeepsRun, events_by, seen_by, passed_events, gone_to};
     ghost use Rattle.bufr_frame.specs.Next.{NextSo, AgainSo, told_by};
 
@@ -266,7 +267,7 @@ impl Finder {
 
     /// Goes on behind the next event, where there is one.
     fn advance<R: Source>(&mut self, r: &mut R) -> Result<Option<Passed>, RunFault>
-        ensures steps { (bs : List ℕ) × StepSo (R.left r.old) (R.left r.new) self.old self.new bs (events_by self.new result) × (self.old.fault ≡ None → SeesSo self.old self.new bs (seen_by self.new result)) × EachWaits self.old self.new bs }
+        ensures steps { ReadsOn (R.left r.old) (R.left r.new) self.old self.new (events_by self.new result) (seen_by self.new result) }
         ensures counts { CountsReads (R.reads r.old) (R.reads r.new) self.old self.new }
         ensures waits { WaitsSo self.old self.new }
         ensures outcome { OutcomeSo self.old self.new result }
@@ -320,15 +321,15 @@ impl Finder {
         }
     }
 
-    /// The next event of the stream `r`, which is to be the same at each call. A frame is lent until
-    /// the next call. After [`Event::Done`] it comes again.
+    /// The next event of the stream `r`, which is to be the same at each call. A frame is lent
+    /// until the next call. After [`Event::Done`] it comes again.
     ///
     /// # Errors
     ///
-    /// [`RunFault::Read`] where a read failed in this call, [`RunFault::InputTooLong`] where the end
-    /// was not reached in 2^32 reads, and [`RunFault::Memory`] where the buffer had to grow and was
-    /// refused. All events that were certain then were given before. After a fault each call answers
-    /// the same one, and reads nothing.
+    /// [`RunFault::Read`] where a read failed in this call, [`RunFault::InputTooLong`] where the
+    /// end was not reached in 2^32 reads, and [`RunFault::Memory`] where the buffer had to grow and
+    /// was refused. All events that were certain then were given before. After a fault each call
+    /// answers the same one, and reads nothing.
     pub fn next<R: Source>(&mut self, r: &mut R) -> Result<Event<'_>, RunFault>
         ensures failed { self.old.fault ≡ None → R.failures r.new ≡ read_failures_after (R.failures r.old) result }
         ensures again { AgainSo self.old result }

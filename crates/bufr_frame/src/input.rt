@@ -22,10 +22,8 @@ fn make_room_behind(octets: &mut Vec<u8>) -> Result<usize, RunFault>
     ensures err { IfErr result (λ fault. (fault ≡ RunFault.Memory) × (octets.new.items ≡ octets.old.items)) }
 {
     let held = octets.len();
-    match octets.resize(held + CHUNK, 0) {
-        Ok(()) => Ok(held),
-        Err(_) => Err(RunFault::Memory),
-    }
+    octets.resize(held + CHUNK, 0)?;
+    Ok(held)
 }
 
 /// Reads once behind the first `held` octets, into the room that is there, and keeps no room.
@@ -47,9 +45,9 @@ fn read_once<R: Source>(r: &mut R, octets: &mut Vec<u8>, held: usize) -> Result<
     }
 }
 
-/// Reads an input to its end, behind the octets that are held: for an input that is wanted whole, as
-/// a table. `reads` counts the reads that are made of the input; after 2^32 of them no other one is
-/// made. A stream of messages is read by [`crate::Finder`].
+/// Reads an input to its end, behind the octets that are held: for an input that is wanted whole,
+/// as a table. `reads` counts the reads that are made of the input; after 2^32 of them no other one
+/// is made. A stream of messages is read by [`crate::Finder`].
 ///
 /// # Errors
 ///

@@ -38,7 +38,8 @@ pub fn events_at_a_fault_are_the_open_scan()
 
 /// The octets that were read from an event's place on are held.
 pub fn octets_from_an_event_on_are_held()
-    ensures { (left left' : Option (List ℕ)) (reads reads' : ℕ) (old new : State) (result : Result Event RunFault) → (next : NextSo left left' reads reads' old new result) → HoldsSo (old.at + length (old.rest ++ next.steps.0)) new result }
+    ensures { (left left' : Option (List ℕ)) (reads reads' : ℕ) (old new : State) (result : Result Event RunFault)
+        → (next : NextSo left left' reads reads' old new result) → HoldsSo (old.at + length (old.rest ++ next.steps.0)) new result }
 {}
 
 /// The greatest length after a call is that of all events given so far.
@@ -75,8 +76,8 @@ pub fn written_again_is_no_longer()
 {}
 
 /// Where a message of edition 3 has even sections 3 and 4, a message that is written from its parts
-/// is no longer: what is written has the least length of all messages with these parts whose sections
-/// 3 and 4 are even.
+/// is no longer: what is written has the least length of all messages with these parts whose
+/// sections 3 and 4 are even.
 pub fn even_sections_are_written_no_longer()
     ensures { (m : List ℕ) (s : Sections) → sections_of m ≡ Ok s → edition_of m ≡ 3 → three m (section3_begins m) % 2 ≡ 0 → three m (section4_begins m) % 2 ≡ 0
         → message_size s.head.edition (parts_in s) ≤ length m }
@@ -102,10 +103,12 @@ pub fn heads_of_messages_can_be_written()
 /// A payload that was followed by the octet that makes section 4 even is laid out as without it.
 pub fn even_payloads_are_laid_out_alike()
     ensures { (h : Head) (local1 : List ℕ) (section2 : Option (List ℕ)) (descriptors : List ℕ) (subsets : ℕ) (observed compressed : Bool) (payload : List ℕ)
-        → message_octets h (parts_of local1 section2 descriptors subsets observed compressed (evened h.edition 4 payload)) ≡ message_octets h (parts_of local1 section2 descriptors subsets observed compressed payload) }
+        → message_octets h (parts_of local1 section2 descriptors subsets observed compressed (evened h.edition 4 payload))
+        ≡ message_octets h (parts_of local1 section2 descriptors subsets observed compressed payload) }
 {}
 
 /// A shorter payload makes no longer message.
 pub fn shorter_payloads_make_no_longer_messages()
-    ensures { (edition local1 : ℕ) (section2 : Option (List ℕ)) (descriptors n k most : ℕ) → n ≤ k → size_from edition local1 section2 descriptors k ≤ most → size_from edition local1 section2 descriptors n ≤ most }
+    ensures { (edition local1 : ℕ) (section2 : Option (List ℕ)) (descriptors n k most : ℕ) → n ≤ k
+        → size_from edition local1 section2 descriptors k ≤ most → size_from edition local1 section2 descriptors n ≤ most }
 {}

@@ -1,7 +1,11 @@
-//! How many octets the sections have at least. (WMO-No. 306, Volume I.2, FM 94)
+//! How many octets the sections have at least, and which are padded. (WMO-No. 306, Volume I.2,
+//! FM 94)
 ghost use Rattle.std.specs.Prelude.{◌≡◌, ◌<◌, ◌-◌, ◌^◌};
 ghost use Rattle.bufr_frame.specs.Layout.{even_size};
 ghost use Rattle.bufr_frame.specs.Section1.{first_least};
+ghost use Rattle.bufr_frame.specs.Sections.{is_padded};
+
+use crate::edition::Edition;
 
 /// Section 0, which has always as many.
 pub(crate) const SECTION_0: usize = 8;
@@ -10,7 +14,10 @@ pub(crate) const SECTION_0: usize = 8;
 pub(crate) fn section_1(edition: u8) -> usize
     ensures { result ≡ first_least edition }
 {
-    if edition == 3 { 17 } else { 22 }
+    match Edition::of(edition) {
+        Edition::Third => 17,
+        Edition::Fourth => 22,
+    }
 }
 
 /// Section 2, where there is one.
@@ -25,10 +32,24 @@ pub(crate) const SECTION_4: usize = 4;
 /// Section 5, which has always as many.
 pub(crate) const SECTION_5: usize = 4;
 
-/// The octets of a section of so many, in edition 3 one more where they would be odd.
+/// Whether a section 3 or 4 of so many octets is written with a zero octet more.
+pub(crate) fn is_padded(edition: u8, len: usize) -> bool
+    ensures { result ≡ is_padded edition len }
+{
+    match Edition::of(edition) {
+        Edition::Third => len % 2 == 1,
+        Edition::Fourth => false,
+    }
+}
+
+/// The octets of a section 3 or 4 of so many, with the zero octet more where it is padded.
 pub(crate) fn even_len(edition: u8, len: usize) -> usize
     requires { len < 2 ^ 64 - 1 }
     ensures { result ≡ even_size edition len }
 {
-    if edition == 3 { len + len % 2 } else { len }
+    if is_padded(edition, len) {
+        len + 1
+    } else {
+        len
+    }
 }

@@ -4,6 +4,7 @@ ghost use Rattle.std.specs.Option.{option_map};
 ghost use Rattle.bufr_frame.specs.Section1.{first_least, head_in, slots_3, slots_4};
 ghost use Rattle.bufr_frame.specs.Sections.{edition_of, head_of, has_section2};
 
+use crate::edition::Edition;
 use crate::ends::{Ends, ends_of, has_second};
 use crate::fault::SectionFault;
 use crate::head::Head;
@@ -118,7 +119,10 @@ fn head_at(m: &[u8]) -> Head
     requires first { 8 + first_least (edition_of m.now) ≤ length m.now }
     ensures { result ≡ head_of m.now }
 {
-    if m[7] == 3 { head_3(m) } else { head_4(m) }
+    match Edition::of(m[7]) {
+        Edition::Third => head_3(m),
+        Edition::Fourth => head_4(m),
+    }
 }
 
 /// The octets of section 2 from its octet 5 on, where it is there.
@@ -151,9 +155,9 @@ impl<'a> Message<'a> {
     /// sections 1, 2 (where bit 1 of the flags of section 1 is set), 3 and 4 in turn
     /// [`SectionFault::SectionPast`] where the section's length octets or its octets reach past
     /// the last four octets, and [`SectionFault::SectionShort`] where its length is under 22 (17 in
-    /// edition 3), 4, 7 or 4; [`SectionFault::SectionsEnd`] where section 4 does not end at the last
-    /// four octets; at last, in edition 3, [`SectionFault::Edition3Long`] where section 3 or 4 has an
-    /// odd number of octets and the message more than 16,777,213.
+    /// edition 3), 4, 7 or 4; [`SectionFault::SectionsEnd`] where section 4 does not end at the
+    /// last four octets; at last, in edition 3, [`SectionFault::Edition3Long`] where section 3 or 4
+    /// has an odd number of octets and the message more than 16,777,213.
     pub fn parse(octets: &'a [u8]) -> Result<Message<'a>, SectionFault>
         requires { 12 ≤ length octets.now }
         ensures { result ≡ sections_of octets.now }

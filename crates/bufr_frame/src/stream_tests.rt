@@ -1,6 +1,6 @@
 //! The worked streams, each found with readers of 1, 3 and all octets per read.
 
-use crate::tests::ONE_BLOCK_NUMBER;
+use crate::test_messages::ONE_BLOCK_NUMBER;
 use crate::{Cause, Event, Finder, RunFault, law};
 use bufr_bits::ScriptIn;
 use std::alloc::{AllocError, Global};

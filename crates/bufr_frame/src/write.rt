@@ -1,14 +1,17 @@
 //! A message written from its parts.
-ghost use Rattle.std.specs.Prelude.{◌≡◌, ◌≢◌, ◌≤◌, ◌<◌, ◌+◌, ◌*◌, ◌/◌, ◌%◌, ◌^◌, ◌↔◌, ◌==◌, ◌&&◌, ◌++◌, ◌∷◌, [], length, IfOk, OnOk, Ok, Err, Some, SomeIff, IsTrue, codes, if◌then◌else◌};
+ghost use Rattle.std.specs.Prelude.{◌≡◌, ◌≢◌, ◌≤◌, ◌<◌, ◌+◌, ◌*◌, ◌/◌, ◌%◌, ◌^◌, ◌↔◌, ◌++◌, ◌∷◌, [], length, IfOk, OnOk, Ok, Err, Some, SomeIff, IsTrue, codes, if◌then◌else◌};
 ghost use Rattle.std.specs.Option.{option_map};
 ghost use Rattle.bufr_frame.specs.Octets.{three_octets, two_octets, octets_of_words};
 ghost use Rattle.bufr_frame.specs.Sections.{sections_of};
-ghost use Rattle.bufr_frame.specs.Layout.{data_flags, even_size, evened, is_writable, message_octets, message_size, most_octets, parts_of, sections_from, head_octets, section0_octets, section1_octets, section2_octets, section3_octets, section4_octets, section2_size, size_from};
+ghost use Rattle.bufr_frame.specs.Layout.{data_flags, even_size, evened, is_writable, message_octets, message_size, most_octets, padded, parts_of, sections_from, head_octets, section0_octets, section1_octets, section2_octets, section3_octets, section4_octets, section2_size, size_from};
 ghost use Rattle.bufr_frame.specs.Section1.{first_least, octets_in, said, slots_3, slots_4};
 
+use crate::edition::Edition;
 use crate::fault::WriteFault;
 use crate::head::Head;
-use crate::least::{SECTION_0, SECTION_2, SECTION_3, SECTION_4, SECTION_5, even_len, section_1};
+use crate::least::{
+    SECTION_0, SECTION_2, SECTION_3, SECTION_4, SECTION_5, even_len, is_padded, section_1,
+};
 use crate::octets::{high, low, three_octets_of};
 use std::alloc::{AllocError, Global};
 
@@ -105,10 +108,9 @@ fn push_head(octets: &mut Vec<u8>, head: &Head, optional: bool) -> Result<(), Al
     requires { IsTrue (is_writable head.now) }
     ensures { OnOk result (octets.new.items ≡ octets.old.items ++ head_octets head.now optional) }
 {
-    if head.edition == 3 {
-        octets.extend_from_slice(&head_octets_3(head, optional))
-    } else {
-        octets.extend_from_slice(&head_octets_4(head, optional))
+    match Edition::of(head.edition) {
+        Edition::Third => octets.extend_from_slice(&head_octets_3(head, optional)),
+        Edition::Fourth => octets.extend_from_slice(&head_octets_4(head, optional)),
     }
 }
 
@@ -128,14 +130,26 @@ fn push_section1(
     octets.extend_from_slice(local1)
 }
 
-/// Appends a section that has only its length, a reserved octet and these octets.
-fn push_plain(octets: &mut Vec<u8>, content: &[u8]) -> Result<(), AllocError>
-    requires { 4 + length content.now < 2 ^ 24 }
-    ensures { OnOk result (octets.new.items ≡ octets.old.items ++ section4_octets content.now) }
+/// Appends the zero octet with which a section is padded, where it is.
+fn push_padding(octets: &mut Vec<u8>, pads: bool) -> Result<(), AllocError>
+    ensures { OnOk result (octets.new.items ≡ padded pads octets.old.items) }
 {
-    push_three(octets, SECTION_4 + content.len())?;
+    if pads {
+        octets.push(0)?;
+    }
+    Ok(())
+}
+
+/// Appends a section 2 or 4: its length, a reserved octet, these octets, and its padding.
+fn push_plain(octets: &mut Vec<u8>, content: &[u8], pads: bool) -> Result<(), AllocError>
+    requires { 4 + length (padded pads content.now) < 2 ^ 24 }
+    ensures { OnOk result (octets.new.items ≡ octets.old.items ++ section4_octets (padded pads content.now)) }
+{
+    let len = SECTION_4 + content.len();
+    push_three(octets, if pads { len + 1 } else { len })?;
     octets.push(0)?;
-    octets.extend_from_slice(content)
+    octets.extend_from_slice(content)?;
+    push_padding(octets, pads)
 }
 
 /// Appends section 2, where there is one.
@@ -145,7 +159,7 @@ fn push_section2(octets: &mut Vec<u8>, section2: Option<&[u8]>) -> Result<(), Al
 {
     match section2 {
         None => Ok(()),
-        Some(content) => push_plain(octets, content),
+        Some(content) => push_plain(octets, content, false),
     }
 }
 
@@ -174,17 +188,7 @@ fn push_section3(
     push_three(octets, even_len(edition, len))?;
     octets.extend_from_slice(&[0, high(subsets), low(subsets), flags])?;
     push_words(octets, descriptors)?;
-    push_even(octets, edition, len)
-}
-
-/// Appends the octet that makes a section of edition 3 even, where it has so many.
-fn push_even(octets: &mut Vec<u8>, edition: u8, len: usize) -> Result<(), AllocError>
-    ensures { OnOk result (octets.new.items ≡ octets.old.items ++ (if (edition == 3) && (len % 2 == 1) then 0 ∷ [] else [])) }
-{
-    if edition == 3 && len % 2 == 1 {
-        octets.push(0)?;
-    }
-    Ok(())
+    push_padding(octets, is_padded(edition, len))
 }
 
 /// Appends section 4.
@@ -192,11 +196,11 @@ fn push_section4(octets: &mut Vec<u8>, edition: u8, payload: &[u8]) -> Result<()
     requires { even_size edition (4 + length payload.now) < 2 ^ 24 }
     ensures { OnOk result (octets.new.items ≡ octets.old.items ++ section4_octets (evened edition 4 payload.now)) }
 {
-    let len = SECTION_4 + payload.len();
-    push_three(octets, even_len(edition, len))?;
-    octets.push(0)?;
-    octets.extend_from_slice(payload)?;
-    push_even(octets, edition, len)
+    push_plain(
+        octets,
+        payload,
+        is_padded(edition, SECTION_4 + payload.len()),
+    )
 }
 
 /// Octet 7 of section 3.
@@ -221,12 +225,12 @@ fn push_section0(octets: &mut Vec<u8>, size: usize, edition: u8) -> Result<(), A
 
 /// Writes a message of edition 3 or 4 from its parts: `BUFR` first, its length in octets 5 to 7,
 /// the sections with the least lengths that hold the parts, reserved octets and bits zero, `7777`
-/// last. `local1` stands in section 1 from its octet 23 on (18 in edition 3), `section2` in section 2
-/// from its octet 5 on, `payload` in section 4 from its octet 5 on. In edition 3 sections 3 and 4
-/// have an even number of octets: a zero octet is put behind the descriptors, and behind the payload
-/// where it is odd. The condition is that `head.edition` is 3 or 4, and that in edition 3 centre,
-/// sub-centre and year fit an octet and the local sub-category and the second are 0. (WMO-No. 306,
-/// Volume I.2, FM 94, sections 0 to 5)
+/// last. `local1` stands in section 1 from its octet 23 on (18 in edition 3), `section2` in
+/// section 2 from its octet 5 on, `payload` in section 4 from its octet 5 on. In edition 3 sections
+/// 3 and 4 have an even number of octets: a zero octet is put behind the descriptors, and behind
+/// the payload where it is odd. The condition is that `head.edition` is 3 or 4, and that in edition
+/// 3 centre, sub-centre and year fit an octet and the local sub-category and the second are 0.
+/// (WMO-No. 306, Volume I.2, FM 94, sections 0 to 5)
 ///
 /// ```
 /// let message = Message::parse(octets)?;
@@ -253,9 +257,12 @@ pub fn write_message(
 ) -> Result<Vec<u8>, WriteFault>
     requires { IsTrue (is_writable head.now) }
     // The octets as they are laid out; read as a message they have the parts again.
-    ensures layout { IfOk result (λ octets. octets.items ≡ message_octets head.now (parts_of local1.now (option_map (λ s. s.now) section2.entry) descriptors.now subsets observed compressed payload.now)) }
-    ensures read_back { IfOk result (λ octets. sections_of octets.items ≡ Ok (sections_from head.now (parts_of local1.now (option_map (λ s. s.now) section2.entry) descriptors.now subsets observed compressed payload.now))) }
-    ensures too_long { (result ≡ Err WriteFault.TooLong) ↔ (most_octets < message_size head.now.edition (parts_of local1.now (option_map (λ s. s.now) section2.entry) descriptors.now subsets observed compressed payload.now)) }
+    ensures layout { IfOk result (λ octets. octets.items ≡ message_octets head.now
+        (parts_of local1.now (option_map (λ s. s.now) section2.entry) descriptors.now subsets observed compressed payload.now)) }
+    ensures read_back { IfOk result (λ octets. sections_of octets.items ≡ Ok (sections_from head.now
+        (parts_of local1.now (option_map (λ s. s.now) section2.entry) descriptors.now subsets observed compressed payload.now))) }
+    ensures too_long { (result ≡ Err WriteFault.TooLong) ↔ (most_octets < message_size head.now.edition
+        (parts_of local1.now (option_map (λ s. s.now) section2.entry) descriptors.now subsets observed compressed payload.now)) }
 {
     let Some(size) = size_of(head.edition, local1, section2, descriptors, payload) else {
         return Err(WriteFault::TooLong);

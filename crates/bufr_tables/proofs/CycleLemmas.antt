@@ -7,8 +7,8 @@ use Rattle.std.proofs.lemmas.List.Elements.{Contains-append_cases, Contains-appe
 use Rattle.std.specs.List.{find}
 use borrow.Author.Count.{below_more}
 use Rattle.bufr_tables.specs.Chain.{Chain, HasNoCycle, IsFirstCycle, Leads, ReachesItself, one, more}
-use Rattle.bufr_tables.specs.Cycle.{AreSeen, IsAbove, IsPassed, IsSearched, IsSet, IsVisited, NeverRises, NeverRisesFirst, listed, rank_of, unset}
-use Rattle.bufr_tables.specs.TableD.{Sequence, fxys_of, members_of}
+use Rattle.bufr_tables.specs.Cycle.{AreSeen, IsAbove, IsPassed, IsSearched, IsSet, IsVisited, NeverRises, NeverRisesFirst, rank_of, unset}
+use Rattle.bufr_tables.specs.TableD.{Sequence, fxys_of, listed, members_of}
 
 -- chains one after another
 pub chain-append : {table : List Sequence} {a b c : ℕ} → Chain table a b → Chain table b c → Chain table a c

@@ -100,7 +100,8 @@ mark-inside keys key mark is some = by (place_of keys key) (place_of-inside keys
     by None inside is = absurd (some is)
     by (Some place) inside is = omega (arith, inside)
 
--- a search for what f makes of the elements of a list, where the test looks for a key: the directory of the keys answers it
+-- a search for what f makes of the elements of a list, where the test looks for a key: the
+-- directory of the keys answers it
 module _ (X Y : Type 0) (f : X → Y) (p : Y → Bool) (k : X → ℕ) (key : ℕ) where
   -- the test of each element is that of its key
   abbrev pub Same : List X → Type 0

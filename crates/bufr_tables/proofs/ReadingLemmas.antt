@@ -51,7 +51,8 @@ step-between cfg st.AfterQuote c = Ends-cond (cfg.quoting && cfg.double_quote &&
 step-between cfg st.InComment c = Ends-cond (c == 10) _ _ (λ e. cc e) (λ e. cc e)
 step-between cfg st.AfterCr c = Ends-cond (c == 10) _ _ (λ e. cc e) (start_record-between cfg c)
 
--- a record leaves the reader between two records, with fewer octets where it stood between two before
+-- a record leaves the reader between two records, with fewer octets where it stood between two
+-- before
 pub record Leaves (s : State) (xs : List ℕ) (read : Read) : Type 0 where
   pub between : ends_at_end read.1 ≡ false
   pub most : length read.2 ≤ length xs

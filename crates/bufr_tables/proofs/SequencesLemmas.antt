@@ -5,11 +5,10 @@ use Rattle.std.specs.List.{AllByRecursion, IsDistinct, find}
 use Rattle.std.proofs.lemmas.Bool.{eqb-true}
 use Rattle.std.proofs.lemmas.List.{append-nil, append_assoc, map-append, map-id}
 use Rattle.bufr_tables.proofs.DirectoryLemmas.{distinct-added, distinct-none, place-absent}
-use Rattle.bufr_tables.specs.Cycle.{listed}
 use Rattle.bufr_tables.specs.Records.{Record}
 use Rattle.bufr_tables.specs.Steps.{and_then}
 use Rattle.bufr_tables.specs.Table.{has_fields, table_from, table_of}
-use Rattle.bufr_tables.specs.TableD.{AreSequences, Member, Sequence, added, begins_again, extended, fxys_of, header, is_last, member_of, members_in, members_of, table_d_of, with_member, with_record}
+use Rattle.bufr_tables.specs.TableD.{AreSequences, Member, Sequence, added, begins_again, extended, fxys_of, header, is_last, listed, member_of, members_in, members_of, table_d_of, with_member, with_record}
 use Rattle.bufr_tables.specs.declared.fault.TableFault.{TableFault}
 use Rattle.bufr_tables.specs.declared.fault.TableFault.TheVariants.{Csv, Duplicate, Header, TableSize}
 

@@ -37,7 +37,8 @@ measured tree = tree >>= λ t. Ok (places t, depth t)
 laid : Result Tree TemplateFault → Result (List Cell) TemplateFault
 laid tree = tree >>= λ t. Ok (lay t 0 (cell.Finish ∷ []))
 
--- so many replications, each of one pass over all that is left of so many descriptors, and an element
+-- so many replications, each of one pass over all that is left of so many descriptors, and an
+-- element
 nested : ℕ → List ℕ
 nested zero = fxy 0 1 1 ∷ []
 nested (suc n) = fxy 1 (n + 1) 1 ∷ nested n
@@ -134,7 +135,8 @@ group_of_a_sequence : given (fxy 1 1 2 ∷ fxy 3 60 192 ∷ fxy 0 20 3 ∷ []) �
 unfolding given
 group_of_a_sequence = refl
 
--- a chain of seventeen sequences that each hold the next one twice, and the last one an element twice
+-- a chain of seventeen sequences that each hold the next one twice, and the last one an element
+-- twice
 doubled : ℕ → Option (List ℕ)
 doubled d = cond (f_of d == 3) (cond (y_of d == 17) (Some (fxy 0 1 1 ∷ fxy 0 1 1 ∷ [])) (Some ((d + 1) ∷ (d + 1) ∷ []))) None
 

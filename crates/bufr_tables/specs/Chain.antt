@@ -1,5 +1,6 @@
--- Chains of members in Table D, and the sequence that a fault of a cycle names. (A choice of this project: a sequence that holds
--- itself, by whatever chain, cannot be expanded. WMO-No. 306, Volume I.2, FM 94: Table D)
+-- Chains of members in Table D, and the sequence that a fault of a cycle names. (A choice of this
+-- project: a sequence that holds itself, by whatever chain, cannot be expanded. WMO-No. 306,
+-- Volume I.2, FM 94: Table D)
 -- Cited by public contracts.
 use Rattle.std.specs.Prelude.{◌≡◌, ℕ, List, ◌∷◌, ◌++◌, Some, IsSome, Result, Ok, Err, Contains, All, ⊤}
 use Rattle.bufr_tables.specs.Records.{Record}
@@ -36,7 +37,8 @@ pub record IsFirstCycle (table : List Sequence) (fxy : ℕ) : Type 0 where
   pub reaches : ReachesItself table fxy
   pub first : All (λ s. ¬ ReachesItself table s.fxy) before
 
--- what a read of Table D answers: the table, where it has no cycle, or the first fault; a cycle comes after all others
+-- what a read of Table D answers: the table, where it has no cycle, or the first fault; a cycle
+-- comes after all others
 abbrev pub Reads : List Record → Result (List Sequence) TableFault → Type 0
 Reads records (Ok table) = (table_d_of records ≡ Ok table) × HasNoCycle table
 Reads records (Err (Cycle fxy)) = (table : List Sequence) × (table_d_of records ≡ Ok table) × IsFirstCycle table fxy

@@ -1,13 +1,10 @@
--- What the search for a cycle in Table D knows as it goes on. Flags are by descriptor: one for each of the 65,536 words.
+-- What the search for a cycle in Table D knows as it goes on. Flags are by descriptor: one for each
+-- of the 65,536 words.
 -- Cited by private steps only.
-use Rattle.std.specs.Prelude.{◌≡◌, ℕ, ◌+◌, ◌<◌, ◌≤◌, ◌++◌, ◌⊎◌, Bool, true, false, if◌then◌else◌, List, [], ◌∷◌, length, slice_index, slice_index_or, unwrap_or, IsSome, Contains}
+use Rattle.std.specs.Prelude.{◌≡◌, ℕ, ◌+◌, ◌<◌, ◌≤◌, ◌++◌, ◌⊎◌, Bool, true, false, if◌then◌else◌, List, [], ◌∷◌, length, slice_index, slice_index_or, IsSome, Contains}
 use Rattle.bufr_tables.specs.Chain.{Chain, Leads, ReachesItself}
 use Rattle.bufr_tables.specs.Fxy.{key_of}
-use Rattle.bufr_tables.specs.TableD.{Sequence, fxys_of, members_of}
-
--- the members of a sequence, or none where the table lacks it
-abbrev pub listed : List Sequence → ℕ → List ℕ
-listed table fxy = unwrap_or (members_of table fxy) []
+use Rattle.bufr_tables.specs.TableD.{Sequence, fxys_of, listed, members_of}
 
 -- the rank of a sequence, which stands at its X and Y
 abbrev pub rank_of : List ℕ → ℕ → ℕ
@@ -39,8 +36,8 @@ abbrev pub unset : List Bool → ℕ
 unset [] = 0
 unset (flag ∷ flags) = (if flag then 0 else 1) + unset flags
 
--- the first members of a sequence, so many, were seen, where they are sequences; those that were not seen before stand
--- behind the queue
+-- the first members of a sequence, so many, were seen, where they are sequences; those that were
+-- not seen before stand behind the queue
 pub record IsVisited (table : List Sequence) (fxy count : ℕ) (old : List Bool) (queue : List ℕ) (new : List Bool) (longer : List ℕ) : Type 0 where
   pub more : List ℕ
   pub queued : longer ≡ queue ++ more
@@ -56,8 +53,8 @@ pub record IsVisited (table : List Sequence) (fxy count : ℕ) (old : List Bool)
 abbrev pub AreSeen : List Sequence → List Bool → ℕ → Type 0
 AreSeen table seen fxy = (to : ℕ) → Leads table fxy to → IsSet seen to
 
--- a chain from the start leads to what is in the queue, which has all that was seen; the members of the start and of the
--- first of the queue, so many, were seen
+-- a chain from the start leads to what is in the queue, which has all that was seen; the members of
+-- the start and of the first of the queue, so many, were seen
 pub record IsSearched (table : List Sequence) (start : ℕ) (seen : List Bool) (queue : List ℕ) (next : ℕ) : Type 0 where
   pub flags : length seen ≡ 65536
   pub inside : next ≤ length queue

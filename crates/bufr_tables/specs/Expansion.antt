@@ -1,5 +1,6 @@
 -- The tree that a list of descriptors stands for, or the first fault on the way
--- (WMO-No. 306, Volume I.2, FM 94: section 3, replications, Tables C and D; the faults, their order and the limits are a choice of this project)
+-- (WMO-No. 306, Volume I.2, FM 94: section 3, replications, Tables C and D; the faults, their order
+-- and the limits are a choice of this project)
 -- Cited by public contracts.
 use Rattle.std.specs.Prelude.{ℕ, zero, suc, ◌+◌, ◌==◌, nat_lt, nat_le, not, ◌||◌, Bool, true, false, List, [], ◌∷◌, length, take, Option, Some, None, Result, Ok, Err, ok_or}
 use Rattle.bufr_tables.specs.declared.template.fault.TemplateFault.{TemplateFault}
@@ -74,7 +75,8 @@ operator_part places d after = do
   _ ← with_places places 1 d
   Ok (part (operator d bare) 0)
 
--- the body of a group: the next X descriptors, behind the group's own places; some node of it takes bits
+-- the body of a group: the next X descriptors, behind the group's own places; some node of it takes
+-- bits
 abbrev pub body_of : Option Expansion → (places own d : ℕ) → List ℕ → Result Tree TemplateFault
 body_of inner places own d after = do
   _ ← unless (nat_le (x_of d) (length after)) (fault.GroupShape d)

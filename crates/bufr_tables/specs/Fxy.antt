@@ -1,5 +1,5 @@
--- A descriptor as its 16 bits: F (2 bits), X (6 bits) and Y (8 bits). Its text is six digits, one for F, two for X and three
--- for Y. (WMO-No. 306, Volume I.2, FM 94: section 3, descriptors)
+-- A descriptor as its 16 bits: F (2 bits), X (6 bits) and Y (8 bits). Its text is six digits, one
+-- for F, two for X and three for Y. (WMO-No. 306, Volume I.2, FM 94: section 3, descriptors)
 -- Cited by public contracts.
 use Rattle.std.specs.Prelude.{ℕ, ◌+◌, ◌-◌, ◌*◌, ◌/◌, ◌%◌, ◌==◌, ◌&&◌, Bool, nat_le, if◌then◌else◌, List, [], ◌∷◌, length, slice_index, Option, Some, None}
 use Rattle.std.specs.Char.{is_ascii_digit}

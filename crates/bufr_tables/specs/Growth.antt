@@ -11,7 +11,8 @@ use Rattle.bufr_tables.specs.Cells.{lay}
 use Rattle.bufr_tables.specs.Passes.{own_places, first_cell, factor_cells}
 use Rattle.bufr_tables.specs.Expansion.{Part, part, with_places, ◌>>=◌}
 
--- the cells so far, how many groups are open behind them, the most that were open together, and whether a node of the innermost open list takes bits
+-- the cells so far, how many groups are open behind them, the most that were open together, and
+-- whether a node of the innermost open list takes bits
 pub record Growth : Type 0 where
   pub cells : List Cell
   pub groups : ℕ
@@ -21,7 +22,8 @@ pub record Growth : Type 0 where
 abbrev pub growth : List Cell → (groups deep : ℕ) → Bool → Growth
 growth cells groups deep full = record { cells = cells; groups = groups; deep = deep; full = full }
 
--- the places up to here, with those of the ends that are still to come: each open group's, and the template's
+-- the places up to here, with those of the ends that are still to come: each open group's, and the
+-- template's
 abbrev pub places_of : Growth → ℕ
 places_of g = length g.cells + g.groups + 1
 
@@ -71,7 +73,8 @@ abbrev pub GivesGrowth : Result Growth TemplateFault → Result (Unit {0}) Templ
 GivesGrowth defined (Ok done) new = defined ≡ Ok new
 GivesGrowth defined (Err why) new = Refuses defined why
 
--- a group has been begun behind what had grown, its places were left, and its first cell stands at a place
+-- a group has been begun behind what had grown, its places were left, and its first cell stands at
+-- a place
 pub record Begins (old : Growth) (passes : Passes) (d place : ℕ) (new : Growth) : Type 0 where
   pub is_left : with_places (places_of old) (own_places passes) d ≡ Ok tt
   pub is_begun : new ≡ begun old passes

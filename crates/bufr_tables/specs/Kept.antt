@@ -1,4 +1,5 @@
--- How Table B is kept: names and units one after another in one block of octets, and for each element the places in it.
+-- How Table B is kept: names and units one after another in one block of octets, and for each
+-- element the places in it.
 -- Cited by private steps only.
 use Rattle.std.specs.Prelude.{◌≡◌, ℕ, ◌≤◌, ◌<◌, List, ◌++◌, length, map}
 use Rattle.std.specs.List.{AllByRecursion}
@@ -30,7 +31,8 @@ pub record IsStored (octets : List ℕ) (fxy : ℕ) (entry : Entry) (s : Stored)
   pub inside : IsInside (length octets) s
   pub descriptor : s.fxy ≡ fxy
 
--- every element is kept inside the block and within the limits, and the directory has their descriptors
+-- every element is kept inside the block and within the limits, and the directory has their
+-- descriptors
 pub record IsKept (a : Inside) : Type 0 where
   pub inside : AllByRecursion (IsInside (length a.octets.items)) a.stored.items
   pub elements : AllByRecursion (λ s. s.fxy < 16384) a.stored.items

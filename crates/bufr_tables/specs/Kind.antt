@@ -1,5 +1,5 @@
--- What an element's unit says of its values. (A choice of this project: Table B of WMO-No. 306, Volume I.2, FM 94 gives the unit
--- as a text.) ASCII case makes no difference.
+-- What an element's unit says of its values. (A choice of this project: Table B of WMO-No. 306,
+-- Volume I.2, FM 94 gives the unit as a text.) ASCII case makes no difference.
 -- Cited by public contracts.
 use Rattle.std.specs.Prelude.{ℕ, Bool, if◌then◌else◌, ◌||◌, List, length, take, codes}
 use Rattle.std.specs.Str.{str_eq_ignore_ascii_case}

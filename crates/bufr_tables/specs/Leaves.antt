@@ -1,5 +1,5 @@
--- What a list of descriptors says once its sequences are replaced by their members, and what a tree says
--- (WMO-No. 306, Volume I.2, FM 94: section 3, Table D)
+-- What a list of descriptors says once its sequences are replaced by their members, and what a tree
+-- says (WMO-No. 306, Volume I.2, FM 94: section 3, Table D)
 -- Cited by public contracts.
 use Rattle.std.specs.Prelude.{ℕ, ◌≡◌, ◌≤◌, ◌⊎◌, List, [], ◌∷◌, ◌++◌, Option, Some}
 use Rattle.bufr_tables.specs.Fxy.{f_of}
@@ -13,7 +13,8 @@ leaves (operator fxy rest) = fxy ∷ leaves rest
 leaves (fixed count body rest) = leaves body ++ leaves rest
 leaves (delayed factor body rest) = factor ∷ (leaves body ++ leaves rest)
 
--- a list says its elements and operators, in order; a sequence says what its members say, and a replication nothing of its own
+-- a list says its elements and operators, in order; a sequence says what its members say, and a
+-- replication nothing of its own
 pub data Says (members : ℕ → Option (List ℕ)) : List ℕ → List ℕ → Type 0 where
   says_nothing : Says members [] []
   says_itself : (d : ℕ) (after said : List ℕ) → (f_of d ≡ 0) ⊎ (f_of d ≡ 2) → Says members after said → Says members (d ∷ after) (d ∷ said)

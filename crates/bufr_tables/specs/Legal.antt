@@ -1,4 +1,5 @@
--- That each node of a template is what its place asks for (WMO-No. 306, Volume I.2, FM 94: section 3, descriptors, and Table C).
+-- That each node of a template is what its place asks for (WMO-No. 306, Volume I.2, FM 94:
+-- section 3, descriptors, and Table C).
 -- Cited by public contracts.
 use Rattle.std.specs.Prelude.{◌≡◌, Bool, true, false}
 use Rattle.bufr_tables.specs.Fxy.{f_of}
@@ -14,7 +15,8 @@ is_element_first (operator fxy rest) = false
 is_element_first (fixed count body rest) = false
 is_element_first (delayed factor body rest) = false
 
--- elements have F = 0 and factors are replication factors; operators have F = 2 and are those that a template may hold, with their operands; one that gives a width stands before an element
+-- elements have F = 0 and factors are replication factors; operators have F = 2 and are those that
+-- a template may hold, with their operands; one that gives a width stands before an element
 abbrev pub IsLegal : Tree → Type 0
 IsLegal bare = Unit {0}
 IsLegal (element fxy rest) = (f_of fxy ≡ 0) × IsLegal rest

@@ -3,5 +3,5 @@
 use Rattle.std.specs.Prelude.{ℕ}
 use Rattle.bufr_tables.specs.TableD.{Member}
 
-abbrev pub row_with : ℕ → ℕ → Member
-row_with sequence member = record { sequence = sequence; fxy = member }
+abbrev pub member_with : ℕ → ℕ → Member
+member_with sequence member = record { sequence = sequence; fxy = member }

@@ -1,4 +1,5 @@
--- Whole numbers as the tables write them: an optional `-` and one or more digits. (A choice of this project)
+-- Whole numbers as the tables write them: an optional `-` and one or more digits. (A choice of this
+-- project)
 -- Cited by public contracts.
 use Rattle.std.specs.Prelude.{ℕ, ◌+◌, ◌-◌, ◌*◌, ◌^◌, ◌==◌, ◌&&◌, Bool, nat_lt, if◌then◌else◌, ℤ, pos, negsuc, neg_ℤ, List, [], ◌∷◌, length, drop, slice_index, Option, Some, None, option_and_then, option_map}
 use Rattle.std.specs.Char.{is_ascii_digit}

@@ -1,5 +1,5 @@
--- The records of a table's text: those that the crate `csv` gives, with commas and double quotes, any number of fields and no
--- trimming. The header is record 1. (A choice of this project)
+-- The records of a table's text: those that the crate `csv` gives, with commas and double quotes,
+-- any number of fields and no trimming. The header is record 1. (A choice of this project)
 -- Cited by public contracts.
 use Rattle.std.specs.Prelude.{ℕ, List, unwrap_or, []}
 use Rattle.csv.specs.Reading.{default_config, records, strip_bom}

@@ -1,5 +1,6 @@
--- Table B, the elements, as a text of CSV writes it: a header, and a row for each element. (WMO-No. 306, Volume I.2, FM 94:
--- Table B. The text's form, its limits and its faults are a choice of this project)
+-- Table B, the elements, as a text of CSV writes it: a header, and a row for each element.
+-- (WMO-No. 306, Volume I.2, FM 94: Table B. The text's form, its limits and its faults are a choice
+-- of this project)
 -- Cited by public contracts.
 use Rattle.std.specs.Prelude.{◌≡◌, ℕ, ◌%◌, ◌==◌, ◌&&◌, Bool, true, false, not, nat_le, if◌then◌else◌, ℤ, pos, negsuc, List, [], ◌∷◌, ◌++◌, length, map, nat_eq, codes, Option, Some, None, is_some, Result, Ok, Err}
 use Rattle.std.specs.List.{IsDistinct, find, list_all}
@@ -64,7 +65,8 @@ natural_part (negsuc n) = None
 unfoldable pub width_of : Kind → List ℕ → Option ℕ
 width_of kind text = i64_of text >>= λ z. natural_part z >>= λ width. only_if (allows_width kind width) width
 
--- the factors of delayed replications are unsigned numbers: of 1 bit where Y is 0, of 8 where it is 1, and of 16 where it is 2
+-- the factors of delayed replications are unsigned numbers: of 1 bit where Y is 0, of 8 where it is
+-- 1, and of 16 where it is 2
 abbrev pub width_at : ℕ → ℕ
 width_at y = if y == 0 then 1 else if y == 1 then 8 else 16
 
@@ -95,8 +97,8 @@ row_of r = do
   let row : Row = record { fxy = fxy; name = name; unit = unit; kind = kind_of unit; scale = scale; reference = reference; width = width }
   only_if (fits_factor (factor_width fxy) row) row
 
--- the limits of each row of a table: a plain name and unit, the kind that the unit says, a scale and a width that such an element
--- may have, and for a factor of delayed replications its own width
+-- the limits of each row of a table: a plain name and unit, the kind that the unit says, a scale
+-- and a width that such an element may have, and for a factor of delayed replications its own width
 pub record IsRow (row : Row) : Type 0 where
   pub name : is_plain row.name ≡ true
   pub unit : is_plain row.unit ≡ true
@@ -121,7 +123,8 @@ with_record n rows r = if length r == 6 then with_row n rows (row_of r) else Err
 abbrev pub table_b_of : List Record → Result (List Row) TableFault
 table_b_of records = table_of header with_record [] records
 
--- the rows of a table are those that the records under the header write, in order, and no descriptor is there twice
+-- the rows of a table are those that the records under the header write, in order, and no
+-- descriptor is there twice
 pub record AreRows (records : List Record) (table : List Row) : Type 0 where
   pub first : Record
   pub rest : List Record

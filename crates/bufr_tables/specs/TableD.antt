@@ -1,5 +1,6 @@
--- Table D, the sequences, as a text of CSV writes it: a header, and a row for each member of a sequence. (WMO-No. 306,
--- Volume I.2, FM 94: Table D. The text's form, its limits and its faults are a choice of this project)
+-- Table D, the sequences, as a text of CSV writes it: a header, and a row for each member of a
+-- sequence. (WMO-No. 306, Volume I.2, FM 94: Table D. The text's form, its limits and its faults
+-- are a choice of this project)
 -- Cited by public contracts.
 use Rattle.std.specs.Prelude.{◌≡◌, ℕ, ◌-◌, ◌==◌, ◌&&◌, Bool, true, false, not, nat_le, if◌then◌else◌, List, [], ◌∷◌, ◌++◌, length, map, codes, Option, Some, None, is_some, option_map, unwrap_or, Result, Ok, Err}
 use Rattle.std.specs.List.{find}
@@ -43,6 +44,10 @@ fxys_of table = map (λ s. s.fxy) table
 abbrev pub members_of : List Sequence → ℕ → Option (List ℕ)
 members_of table fxy = option_map (λ s. s.members) (find (λ s. s.fxy == fxy) table)
 
+-- the members of a sequence, or none where the table lacks it
+abbrev pub listed : List Sequence → ℕ → List ℕ
+listed table fxy = unwrap_or (members_of table fxy) []
+
 -- the last sequence has this descriptor
 abbrev pub is_last : List Sequence → ℕ → Bool
 is_last [] fxy = false
@@ -65,7 +70,8 @@ added table row =
 abbrev pub begins_again : List Sequence → Member → Bool
 begins_again table row = not (is_last table row.sequence) && is_some (members_of table row.sequence)
 
--- the sequences so far with the row of record n, or what is at fault with this record; n - 2 rows stand before it
+-- the sequences so far with the row of record n, or what is at fault with this record; n - 2 rows
+-- stand before it
 abbrev pub with_member : ℕ → List Sequence → Option Member → Result (List Sequence) TableFault
 with_member n table None = Err (RowFault n)
 with_member n table (Some row) =
@@ -92,4 +98,4 @@ pub record AreSequences (records : List Record) (table : List Sequence) : Type 0
   pub named : has_fields header first ≡ true
   pub rows : List Member
   pub written : map member_of rest ≡ map Some rows
-  pub members : (fxy : ℕ) → unwrap_or (members_of table fxy) [] ≡ members_in rows fxy
+  pub members : (fxy : ℕ) → listed table fxy ≡ members_in rows fxy

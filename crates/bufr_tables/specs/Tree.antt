@@ -1,5 +1,6 @@
 -- A template as a tree: elements, operators and groups, each group with a body of its own
--- (WMO-No. 306, Volume I.2, FM 94: section 3, replications; the form as a tree, and its places, are a choice of this project)
+-- (WMO-No. 306, Volume I.2, FM 94: section 3, replications; the form as a tree, and its places, are
+-- a choice of this project)
 -- Cited by public contracts.
 use Rattle.std.specs.Prelude.{ℕ, ◌+◌, ◌==◌, Bool, true, false, ◌||◌, max}
 use Rattle.bufr_tables.specs.Fxy.{x_of}
@@ -44,7 +45,8 @@ depth (delayed factor body rest) = max (1 + depth body) (depth rest)
 abbrev pub is_inserted_text : ℕ → Bool
 is_inserted_text fxy = x_of fxy == 5
 
--- whether some node takes bits of the data: an element, an inserted text, a delayed group (its factor) or a fixed group whose body does
+-- whether some node takes bits of the data: an element, an inserted text, a delayed group (its
+-- factor) or a fixed group whose body does
 abbrev pub consumes : Tree → Bool
 consumes bare = false
 consumes (element fxy rest) = true

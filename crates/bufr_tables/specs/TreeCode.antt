@@ -1,11 +1,13 @@
--- A tree written as a list of numbers, from which it is read back. Nothing but the checker asks for it, before a contract may speak of a tree as one value.
+-- A tree written as a list of numbers, from which it is read back. Nothing but the checker asks for
+-- it, before a contract may speak of a tree as one value.
 -- Cited by public contracts.
 use Rattle.std.specs.Prelude.{◌≡◌, ℕ, zero, suc, List, [], ◌∷◌, refl}
 use Rattle.std.proofs.Common.{◌∙◌, ap}
 use Rattle.std.specs.Coded.{Coded, code_by, coded×, coded_ℕ, coded_list}
 use Rattle.bufr_tables.specs.Tree.{Tree, bare, element, operator, fixed, delayed}
 
--- a tree in front of what is written already: each node as its kind and its number, a body before the rest
+-- a tree in front of what is written already: each node as its kind and its number, a body before
+-- the rest
 abbrev pub written : Tree → List (ℕ × ℕ) → List (ℕ × ℕ)
 written bare more = (0, 0) ∷ more
 written (element fxy rest) more = (1, fxy) ∷ written rest more

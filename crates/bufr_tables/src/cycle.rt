@@ -1,16 +1,17 @@
 //! Finds the first sequence of Table D that reaches itself.
 //!
-//! A sequence whose rank is above those of its members does not reach itself, where no rank is below that of a member. The
-//! others are searched from, in the order of the file: the first of them is the answer, unless the ranks are wrong. So the
-//! time grows with the rows, and there is no recursion.
-ghost use Rattle.std.specs.Prelude.{◌≡◌, ◌≤◌, ◌<◌, length, slice_index, IfOk, OnOk, IsTrue, MatchOption, ◌↔◌, is_some};
+//! A sequence whose rank is above those of its members does not reach itself, where no rank is
+//! below that of a member. The others are searched from, in the order of the file: the first of
+//! them is the answer, unless the ranks are wrong. So the time grows with the rows, and there is no
+//! recursion.
+ghost use Rattle.std.specs.Prelude.{◌≡◌, ◌≤◌, ◌<◌, length, slice_index, IfOk, OnOk, IsTrue, MatchOption, ◌↔◌};
 ghost use Rattle.bufr_tables.specs.Chain.{HasNoCycle, IsFirstCycle, ReachesItself};
-ghost use Rattle.bufr_tables.specs.Cycle.{IsAbove, IsVisited, NeverRises, listed, rank_of};
-ghost use Rattle.bufr_tables.specs.TableD.{members_of};
+ghost use Rattle.bufr_tables.specs.Cycle.{IsAbove, IsVisited, NeverRises, rank_of};
+ghost use Rattle.bufr_tables.specs.TableD.{listed};
 
 use crate::fxy::Fxy;
-use crate::ranks::ranks;
-use crate::table_d::TableD;
+use crate::ranks::ranks_of;
+use crate::sequences::TableD;
 use std::alloc::{AllocError, Global};
 
 /// How many descriptors there are.
@@ -20,11 +21,11 @@ const WORDS: usize = 65536;
 pub(crate) fn first_cycle(alloc: Global, table: &TableD) -> Result<Option<Fxy>, AllocError>
     ensures { IfOk result (λ o. MatchOption o (HasNoCycle table.now) (IsFirstCycle table.now)) }
 {
-    let ranks = ranks(alloc, table)?;
-    let never_rises = never_rises(table, &ranks);
+    let ranks = ranks_of(alloc, table)?;
+    let falls = never_rises(table, &ranks);
     for place in 0..table.count() {
         let sequence = table.sequence_at(place);
-        if never_rises && is_above(table, sequence, &ranks) {
+        if falls && is_above(table, sequence, &ranks) {
             continue;
         }
         if reaches_itself(alloc, table, sequence)? {
@@ -62,8 +63,8 @@ fn highest(table: &TableD, sequence: Fxy, ranks: &[u32]) -> u32
     ensures { IsAbove table.now ranks.now sequence result }
 {
     let mut most = 0;
-    for member in listed(table, sequence) {
-        if is_sequence(table, *member) {
+    for member in table.listed(sequence) {
+        if table.is_sequence(*member) {
             let rank = ranks[member.key()];
             most = most.max(rank);
         }
@@ -87,7 +88,8 @@ fn reaches_itself(alloc: Global, table: &TableD, sequence: Fxy) -> Result<bool, 
     Ok(seen[usize::from(sequence.word())])
 }
 
-/// Puts the members of a sequence that are sequences behind the queue, but for those that were seen.
+/// Puts the members of a sequence that are sequences behind the queue, but for those that were
+/// seen.
 fn visit(
     table: &TableD,
     sequence: Fxy,
@@ -98,26 +100,12 @@ fn visit(
     ensures { OnOk result
         (IsVisited table.now sequence (length (listed table.now sequence)) seen.old queue.old.items seen.new queue.new.items) }
 {
-    for member in listed(table, sequence) {
+    for member in table.listed(sequence) {
         let word = usize::from(member.word());
-        if is_sequence(table, *member) && !seen[word] {
+        if table.is_sequence(*member) && !seen[word] {
             queue.push(*member)?;
             seen[word] = true;
         }
     }
     Ok(())
-}
-
-/// The members of a sequence, or none where the table lacks it.
-fn listed(table: &TableD, sequence: Fxy) -> &[Fxy]
-    ensures { result.now ≡ listed table.now sequence }
-{
-    table.members(sequence).unwrap_or(&[])
-}
-
-/// Whether a descriptor is a sequence of the table.
-fn is_sequence(table: &TableD, fxy: Fxy) -> bool
-    ensures { result ≡ is_some (members_of table.now fxy) }
-{
-    table.members(fxy).is_some()
 }

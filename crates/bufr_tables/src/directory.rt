@@ -8,7 +8,8 @@ use std::marker::Model;
 /// How many values X and Y have together.
 pub(crate) const KEYS: usize = 16384;
 
-/// A list of keys, each the 14 bits of X and Y, with the place of each key in the list. A clause sees the list.
+/// A list of keys, each the 14 bits of X and Y, with the place of each key in the list. A clause
+/// sees the list.
 #[derive(Drop)]
 pub(crate) struct Directory {
     /// There is room for all keys.

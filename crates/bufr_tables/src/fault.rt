@@ -8,8 +8,9 @@ use thiserror::Error;
 
 /// Why a table cannot be read.
 ///
-/// The first record at fault decides. Of one record [`TableFault::Csv`] goes before [`TableFault::Row`], this before
-/// [`TableFault::Duplicate`], and this before [`TableFault::TableSize`]. [`TableFault::Cycle`] comes after all records.
+/// The first record at fault decides. Of one record [`TableFault::Csv`] goes before
+/// [`TableFault::Row`], this before [`TableFault::Duplicate`], and this before
+/// [`TableFault::TableSize`]. [`TableFault::Cycle`] comes after all records.
 #[derive(Clone, Copy, Debug, PartialEq, Eq, Drop, Error)]
 pub enum TableFault {
     /// There is no record, or the first is not the header of the table.
@@ -18,7 +19,8 @@ pub enum TableFault {
     /// A record does not read as a row. The header is record 1; empty lines are not counted.
     #[error("record {0} does not read as a row")]
     Row(u64),
-    /// An element of Table B that an earlier record has, or a sequence of Table D that begins a second run of rows.
+    /// An element of Table B that an earlier record has, or a sequence of Table D that begins a
+    /// second run of rows.
     #[error("{0} is in the table already")]
     Duplicate(Fxy),
     /// The first sequence of the file that reaches itself by a chain of members.

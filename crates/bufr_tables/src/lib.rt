@@ -1,7 +1,13 @@
 //! The tables of FM 94 BUFR: descriptors, and Tables B and D read from CSV.
 //!
-//! A descriptor ([`Fxy`]) is looked up in [`TableB`], the elements, or in [`TableD`], the sequences.
-//! A list of descriptors is expanded to a [`Template`], the tree that says what a message's data hold.
+//! A descriptor ([`Fxy`]) is looked up in [`TableB`], the elements, or in [`TableD`], the
+//! sequences. A list of descriptors is expanded to a [`Template`], the tree that says what a
+//! message's data hold.
+//!
+//! `bufr_cli` reads the two tables once, and builds a template for each message that it dumps, as
+//! `bufr_text` does for each document that it encodes. `bufr_walk` goes through the template's
+//! cells, and asks Table B for each element. The tests `elements`, `sequences` and
+//! `cells_of_worked_lists` show it.
 #![tactic(auto)]
 
 mod cycle;
@@ -12,6 +18,7 @@ mod kind;
 mod number;
 mod ranks;
 mod records;
+mod sequences;
 mod table_b;
 mod table_d;
 mod template;
@@ -19,8 +26,8 @@ mod template;
 pub use fault::TableFault;
 pub use fxy::Fxy;
 pub use kind::Kind;
+pub use sequences::TableD;
 pub use table_b::{Entry, TableB};
-pub use table_d::TableD;
 pub use template::{Cell, Template, TemplateFault};
 
 #[cfg(test)]

@@ -31,29 +31,29 @@ fn behind_first(text: &[u8]) -> &[u8]
     &text[1..]
 }
 
-/// The number of this magnitude, where an `i64` holds it.
+/// The number of this size, where an `i64` holds it.
 #[tactic(auto, unfolding(crate::specs::Number::fitting))]
-fn positive(magnitude: u64) -> Option<i64>
-    ensures { result ≡ fitting (pos magnitude) }
+fn positive(size: u64) -> Option<i64>
+    ensures { result ≡ fitting (pos size) }
 {
-    if magnitude >= 1 << 63 {
+    if size >= 1 << 63 {
         return None;
     }
-    Some(magnitude as i64)
+    Some(size as i64)
 }
 
-/// The number below zero of this magnitude, where an `i64` holds it.
+/// The number below zero of this size, where an `i64` holds it.
 #[tactic(auto, unfolding(crate::specs::Number::fitting))]
-fn negative(magnitude: u64) -> Option<i64>
-    ensures { result ≡ fitting (negated magnitude) }
+fn negative(size: u64) -> Option<i64>
+    ensures { result ≡ fitting (negated size) }
 {
-    if magnitude == 0 {
+    if size == 0 {
         return Some(0);
     }
-    if magnitude > 1 << 63 {
+    if size > 1 << 63 {
         return None;
     }
-    Some(-((magnitude - 1) as i64) - 1)
+    Some(-((size - 1) as i64) - 1)
 }
 
 /// The number that one or more digits write, or the greatest `u64` where it is over that.

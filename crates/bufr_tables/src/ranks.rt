@@ -1,17 +1,18 @@
 //! Ranks of the sequences of Table D, by which most are seen at once not to reach themselves.
 //!
-//! Sequences that reach one another have one rank, and no sequence has a lower rank than a member. The ranks are found depth
-//! first in one pass over the rows (R. E. Tarjan, "Depth-first search and linear graph algorithms", 1972), with a path in
-//! place of recursion. Nothing rests on their being right but speed: who uses them checks what is needed.
+//! Sequences that reach one another have one rank, and no sequence has a lower rank than a member.
+//! The ranks are found depth first in one pass over the rows (R. E. Tarjan, "Depth-first search and
+//! linear graph algorithms", 1972), with a path in place of recursion. Nothing rests on their being
+//! right but speed: who uses them checks what is needed.
 ghost use Rattle.std.specs.Prelude.{◌≡◌, ◌<◌, length, vec_len, IfOk};
 
 use crate::directory::KEYS;
 use crate::fxy::Fxy;
-use crate::table_d::TableD;
+use crate::sequences::TableD;
 use std::alloc::{AllocError, Global};
 
 /// A rank for each sequence of the table, at its X and Y.
-pub(crate) fn ranks(alloc: Global, table: &TableD) -> Result<Vec<u32>, AllocError>
+pub(crate) fn ranks_of(alloc: Global, table: &TableD) -> Result<Vec<u32>, AllocError>
     ensures { IfOk result (λ v. length v.items ≡ 16384) }
 {
     let mut ranking = Ranking::new(alloc)?;
@@ -30,7 +31,8 @@ pub(crate) fn ranks(alloc: Global, table: &TableD) -> Result<Vec<u32>, AllocErro
 /// The state of the pass. Each list but the last two has a place for each X and Y.
 #[derive(Drop)]
 struct Ranking {
-    /// The number of a sequence in the order in which they were begun, from 1; 0 where it was not begun.
+    /// The number of a sequence in the order in which they were begun, from 1; 0 where it was not
+    /// begun.
     numbers: Vec<u32>,
     /// The least number that was seen from a sequence, of those that have no rank.
     least: Vec<u32>,
@@ -84,7 +86,7 @@ impl Ranking {
         };
         let key = sequence.key();
         let looked = self.looked[key];
-        match table.members(sequence).unwrap_or(&[]).get(looked) {
+        match table.listed(sequence).get(looked) {
             Some(member) => {
                 self.looked[key] = looked.saturating_add(1);
                 self.look(table, key, *member)?;
@@ -99,7 +101,7 @@ impl Ranking {
         requires { key < 16384 }
     {
         let at = member.key();
-        if table.members(member).is_none() || self.ranks[at] != 0 {
+        if !table.is_sequence(member) || self.ranks[at] != 0 {
             return Ok(());
         }
         let number = self.numbers[at];
@@ -118,7 +120,8 @@ impl Ranking {
         self.least[key] = least.min(number);
     }
 
-    /// Ends the last sequence of the path: it sees what its members see, or it gets a rank with all that were begun after it.
+    /// Ends the last sequence of the path: it sees what its members see, or it gets a rank with all
+    /// that were begun after it.
     fn end(&mut self, sequence: Fxy) {
         let _ = self.path.pop();
         let key = sequence.key();

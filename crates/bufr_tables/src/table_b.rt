@@ -24,11 +24,12 @@ const HEADER: [&[u8]; 6] = [b"fxy", b"name", b"unit", b"scale", b"reference", b"
 
 /// What Table B says of an element.
 ///
-/// [`TableB::get`] promises the limits that stand here. The factors of delayed replications, 031000, 031001 and 031002,
-/// are no text and have 1, 8 and 16 bits, scale 0 and reference 0.
+/// [`TableB::get`] promises the limits that stand here. The factors of delayed replications,
+/// 031000, 031001 and 031002, are no text and have 1, 8 and 16 bits, scale 0 and reference 0.
 #[derive(Clone, Copy, Debug, PartialEq, Eq)]
 pub struct Entry<'a> {
-    /// The name: at most 512 octets, none of them a control character of ASCII. They are not taken for UTF-8.
+    /// The name: at most 512 octets, none of them a control character of ASCII. They are not taken
+    /// for UTF-8.
     pub name: &'a [u8],
     /// The unit, within the same limits.
     pub unit: &'a [u8],
@@ -44,7 +45,7 @@ pub struct Entry<'a> {
 
 /// The descriptor of an element.
 #[tactic(auto, unfolding(crate::specs::TableB::element_of))]
-fn element(text: &[u8]) -> Option<Fxy>
+fn read_element(text: &[u8]) -> Option<Fxy>
     ensures value { result ≡ element_of text.now }
     ensures element { IfSome result (λ fxy. fxy < 16384) }
 {
@@ -57,7 +58,7 @@ fn element(text: &[u8]) -> Option<Fxy>
 
 /// A name or a unit.
 #[tactic(auto, unfolding(crate::specs::TableB::plain_of))]
-fn plain(text: &[u8]) -> Option<&[u8]>
+fn read_plain(text: &[u8]) -> Option<&[u8]>
     ensures { option_map (λ s. s.now) result ≡ plain_of text.now }
 {
     if text.len() > 512 || !are_printed(text) {
@@ -82,7 +83,7 @@ fn is_printed(octet: u8) -> bool
 
 /// A scale.
 #[tactic(auto, unfolding(crate::specs::TableB::scale_of))]
-fn scale(text: &[u8]) -> Option<i16>
+fn read_scale(text: &[u8]) -> Option<i16>
     ensures { result ≡ scale_of text.now }
 {
     let scale = integer(text)?;
@@ -94,7 +95,7 @@ fn scale(text: &[u8]) -> Option<i16>
 
 /// The width of an element of this kind, in bits.
 #[tactic(auto, unfolding(crate::specs::TableB::width_of))]
-fn width(kind: Kind, text: &[u8]) -> Option<u32>
+fn read_width(kind: Kind, text: &[u8]) -> Option<u32>
     ensures { result ≡ width_of kind text.now }
 {
     let width = integer(text)?;
@@ -145,13 +146,13 @@ fn written(fields: &ByteRecord) -> Option<(Fxy, Entry<'_>)>
     ensures value { option_map (λ p. row_with p.0 p.1) result ≡ row_of (fields_of fields.now) }
     ensures element { IfSome result (λ p. p.0 < 16384) }
 {
-    let fxy = element(field(fields, 0))?;
-    let name = plain(field(fields, 1))?;
-    let unit = plain(field(fields, 2))?;
-    let scale = scale(field(fields, 3))?;
+    let fxy = read_element(field(fields, 0))?;
+    let name = read_plain(field(fields, 1))?;
+    let unit = read_plain(field(fields, 2))?;
+    let scale = read_scale(field(fields, 3))?;
     let reference = integer(field(fields, 4))?;
     let kind = Kind::of(unit);
-    let width = width(kind, field(fields, 5))?;
+    let width = read_width(kind, field(fields, 5))?;
     let entry = Entry {
         name,
         unit,
@@ -175,7 +176,8 @@ fn row(fields: &ByteRecord) -> Option<(Fxy, Entry<'_>)>
     written(fields)
 }
 
-/// An element as the table keeps it: its name goes from `start` to `middle`, and its unit on to `end`.
+/// An element as the table keeps it: its name goes from `start` to `middle`, and its unit on to
+/// `end`.
 #[derive(Clone, Copy)]
 struct Stored {
     fxy: Fxy,
@@ -223,15 +225,17 @@ impl Model for TableB {
 impl TableB {
     /// Reads Table B from the octets of a CSV file.
     ///
-    /// Its header is `fxy,name,unit,scale,reference,width`. Each further record is one element: `fxy` six digits of an
-    /// element, name and unit at most 512 octets without control characters, the others whole numbers, in the limits that
-    /// [`Entry`] states. The factors of delayed replications, 031000, 031001 and 031002, must be unsigned numbers of 1, 8
-    /// and 16 bits with scale and reference 0.
+    /// Its header is `fxy,name,unit,scale,reference,width`. Each further record is one element:
+    /// `fxy` six digits of an element, name and unit at most 512 octets without control characters,
+    /// the others whole numbers, in the limits that [`Entry`] states. The factors of delayed
+    /// replications, 031000, 031001 and 031002, must be unsigned numbers of 1, 8 and 16 bits with
+    /// scale and reference 0.
     ///
     /// # Errors
     ///
-    /// [`TableFault::Header`], and of the first record at fault [`TableFault::Csv`], [`TableFault::Row`] or
-    /// [`TableFault::Duplicate`], in this order; [`TableFault::Memory`] where memory ran out.
+    /// [`TableFault::Header`], and of the first record at fault [`TableFault::Csv`],
+    /// [`TableFault::Row`] or [`TableFault::Duplicate`], in this order; [`TableFault::Memory`]
+    /// where memory ran out.
     pub fn read(alloc: Global, text: &[u8]) -> Result<TableB, TableFault>
         ensures read { Gives (table_b_of (records_of text.now)) result }
         ensures rows { IfOk result (AreRows (records_of text.now)) }

@@ -1,104 +1,27 @@
-//! Table D, the sequences, read from CSV.
-ghost use Rattle.std.specs.Prelude.{◌≡◌, ◌≢◌, ◌≤◌, ◌<◌, [], ◌∷◌, ◌++◌, None, length, slice_index, OnOk, IfErr, IfOk, IfSome, option_map, Ok, Err};
-ghost use Rattle.csv.specs.Records.{fields_of};
-ghost use Rattle.bufr_tables.specs.declared.fault.TableFault.TheVariants.{Memory};
-ghost use Rattle.bufr_tables.specs.Chain.{Reads};
-ghost use Rattle.bufr_tables.specs.MemberRow.{row_with};
-ghost use Rattle.bufr_tables.specs.Records.{records_of};
-ghost use Rattle.bufr_tables.specs.Steps.{Gives};
-ghost use Rattle.bufr_tables.specs.TableD.{AreSequences, extended, fxys_of, is_last, member_of, members_of, sequence_of, table_d_of, with_record};
+//! Table D read from CSV, and refused where a sequence reaches itself.
 
 use crate::cycle::first_cycle;
-use crate::directory::Directory;
 use crate::fault::TableFault;
-use crate::fxy::Fxy;
-use crate::records::{RecordReader, field};
-use csv::ByteRecord;
-use std::alloc::{AllocError, Global};
-use std::marker::Model;
-
-/// The fields of the header.
-const HEADER: [&[u8]; 2] = [b"fxy", b"member"];
-
-/// How many rows the table may have.
-const ROWS: u64 = 65536;
-
-/// The descriptor of a sequence.
-#[tactic(auto, unfolding(crate::specs::TableD::sequence_of))]
-fn sequence(text: &[u8]) -> Option<Fxy>
-    ensures value { result ≡ sequence_of text.now }
-    ensures sequence { IfSome result (λ fxy. (49152 ≤ fxy) × (fxy < 65536)) }
-{
-    let fxy = Fxy::read(text)?;
-    if fxy.f() != 3 {
-        return None;
-    }
-    Some(fxy)
-}
-
-/// The sequence and the member that a record writes, where it writes a row.
-#[tactic(auto, unfolding(crate::specs::TableD::member_of))]
-fn row(fields: &ByteRecord) -> Option<(Fxy, Fxy)>
-    ensures value { option_map (λ p. row_with p.0 p.1) result ≡ member_of (fields_of fields.now) }
-    ensures sequence { IfSome result (λ p. (49152 ≤ p.0) × (p.0 < 65536)) }
-{
-    let sequence = sequence(field(fields, 0))?;
-    let member = Fxy::read(field(fields, 1))?;
-    Some((sequence, member))
-}
-
-/// The members of a sequence, from `start` to `end` of all members.
-#[derive(Clone, Copy)]
-struct Run {
-    fxy: Fxy,
-    start: usize,
-    end: usize,
-}
-
-/// Table D: the sequences, by their descriptors.
-///
-/// A clause sees the table as the list of its sequences, in the order of the file.
-///
-/// ```
-/// let text = b"fxy,member\n360192,001001\n360192,012101\n";
-/// let table = TableD::read(rt.alloc(), text)?;
-/// let members = table.members(Fxy::from_word(0xfcc0)).ok_or("lacks the sequence")?;
-/// assert_eq!(rt; members.len(), 2);
-/// ```
-#[derive(Drop)]
-pub struct TableD {
-    /// The members of all sequences, one after another.
-    members: Vec<Fxy>,
-    runs: Vec<Run>,
-    /// X and Y of the sequences of `runs`.
-    directory: Directory,
-}
-
-impl Model for TableD {
-    ghost use Rattle.std.specs.Prelude.{List};
-    ghost use Rattle.bufr_tables.specs.TableD.{Sequence};
-
-    ghost Value = { List Sequence };
-
-    ghost use Rattle.bufr_tables.specs.Runs.{IsKept, table_kept};
-
-    ghost view = { table_kept };
-
-    ghost invariant = { IsKept };
-}
+use crate::sequences::TableD;
+use std::alloc::Global;
 
 impl TableD {
+    ghost use Rattle.std.specs.Prelude.{IfOk};
+    ghost use Rattle.bufr_tables.specs.Chain.{Reads};
+    ghost use Rattle.bufr_tables.specs.Records.{records_of};
+    ghost use Rattle.bufr_tables.specs.TableD.{AreSequences};
+
     /// Reads Table D from the octets of a CSV file.
     ///
-    /// Its header is `fxy,member`. Each further record is one member of a sequence: `fxy` six digits of a sequence, `member`
-    /// six digits of any descriptor. The rows of one sequence stand together, in the order of its members. There are at most
-    /// 65,536 rows.
+    /// Its header is `fxy,member`. Each further record is one member of a sequence: `fxy` six
+    /// digits of a sequence, `member` six digits of any descriptor. The rows of one sequence stand
+    /// together, in the order of its members. There are at most 65,536 rows.
     ///
     /// # Errors
     ///
-    /// [`TableFault::Header`], and of the first record at fault [`TableFault::Csv`], [`TableFault::Row`],
-    /// [`TableFault::Duplicate`] or [`TableFault::TableSize`], in this order; after all records [`TableFault::Cycle`];
-    /// [`TableFault::Memory`] where memory ran out.
+    /// [`TableFault::Header`], and of the first record at fault [`TableFault::Csv`],
+    /// [`TableFault::Row`], [`TableFault::Duplicate`] or [`TableFault::TableSize`], in this order;
+    /// after all records [`TableFault::Cycle`]; [`TableFault::Memory`] where memory ran out.
     pub fn read(alloc: Global, text: &[u8]) -> Result<TableD, TableFault>
         ensures read { Reads (records_of text.now) result }
         ensures rows { IfOk result (AreSequences (records_of text.now)) }
@@ -108,125 +31,5 @@ impl TableD {
             Some(sequence) => Err(TableFault::Cycle(sequence)),
             None => Ok(table),
         }
-    }
-
-    /// Reads the rows, whatever sequences reach themselves.
-    fn read_rows(alloc: Global, text: &[u8]) -> Result<TableD, TableFault>
-        ensures { Gives (table_d_of (records_of text.now)) result }
-    {
-        let mut records = RecordReader::open(alloc, text, &HEADER)?;
-        let mut table = TableD {
-            members: Vec::new(alloc),
-            runs: Vec::new(alloc),
-            directory: Directory::new(alloc)?,
-        };
-        while records.advance()? {
-            table.add(records.number(), records.record())?;
-        }
-        Ok(table)
-    }
-
-    /// The members of a sequence in order, if the table has it.
-    pub fn members(&self, fxy: Fxy) -> Option<&[Fxy]>
-        ensures { option_map (λ s. s.now) result ≡ members_of self.now fxy }
-    {
-        let directory = &self.directory;
-        if fxy.f() != 3 {
-            return None;
-        }
-        let place = directory.place(fxy.key())?;
-        let run = &self.runs[place];
-        Some(&self.members[run.start..run.end])
-    }
-
-    /// How many sequences the table has.
-    pub(crate) fn count(&self) -> usize
-        ensures { result ≡ length self.now }
-    {
-        self.runs.len()
-    }
-
-    /// How many turns it takes at most to look at every row and every sequence.
-    pub(crate) fn turns(&self) -> usize {
-        self.members
-            .len()
-            .saturating_add(self.runs.len().saturating_mul(2))
-    }
-
-    /// The descriptor of the sequence at a place of the file, counted from 0.
-    pub(crate) fn sequence_at(&self, place: usize) -> Fxy
-        requires { place < length self.now }
-        ensures { result ≡ slice_index (fxys_of self.now) place }
-    {
-        self.runs[place].fxy
-    }
-
-    /// Adds the row of record `number`.
-    #[tactic(auto, unfolding(crate::specs::TableD::with_record, crate::specs::TableD::added))]
-    fn add(&mut self, number: u64, fields: &ByteRecord) -> Result<(), TableFault>
-        ensures ok { OnOk result (with_record number self.old (fields_of fields.now) ≡ Ok self.new) }
-        ensures err { IfErr result (λ e. (e ≢ Memory) → with_record number self.old (fields_of fields.now) ≡ Err e) }
-    {
-        if fields.len() != 2 {
-            return Err(TableFault::Csv);
-        }
-        let Some((sequence, member)) = row(fields) else {
-            return Err(TableFault::Row(number));
-        };
-        let continues = self.is_last(sequence);
-        if !continues && self.members(sequence).is_some() {
-            return Err(TableFault::Duplicate(sequence));
-        }
-        if number.saturating_sub(2) >= ROWS {
-            return Err(TableFault::TableSize);
-        }
-        if continues {
-            self.extend(member)?;
-        } else {
-            self.begin(sequence, member)?;
-        }
-        Ok(())
-    }
-
-    /// Whether the last sequence is this one.
-    fn is_last(&self, sequence: Fxy) -> bool
-        ensures { result ≡ is_last self.now sequence }
-    {
-        match self.runs.last() {
-            Some(run) => run.fxy == sequence,
-            None => false,
-        }
-    }
-
-    /// Adds a member to the last sequence.
-    fn extend(&mut self, member: Fxy) -> Result<(), AllocError>
-        requires { self.old ≢ [] }
-        ensures ok { OnOk result (self.new ≡ extended self.old member) }
-    {
-        let last = self.runs.len() - 1;
-        self.members.push(member)?;
-        self.runs[last].end += 1;
-        Ok(())
-    }
-
-    /// Adds a sequence that the table lacks, with one member.
-    fn begin(&mut self, sequence: Fxy, member: Fxy) -> Result<(), AllocError>
-        requires low { 49152 ≤ sequence }
-        requires high { sequence < 65536 }
-        requires absent { members_of self.old sequence ≡ None }
-        ensures ok { OnOk result (self.new ≡ self.old ++ record { fxy = sequence; members = member ∷ [] } ∷ []) }
-    {
-        self.runs.reserve(1)?;
-        let start = self.members.len();
-        self.members.push(member)?;
-        self.runs
-            .push(Run {
-                fxy: sequence,
-                start,
-                end: start + 1,
-            })
-            .unwrap();
-        self.directory.add(sequence.key());
-        Ok(())
     }
 }

@@ -1,5 +1,5 @@
-//! Templates: descriptor lists expanded to a tree (WMO-No. 306, Volume I.2, FM 94: section 3, Tables C and D), which is laid
-//! out in cells.
+//! Templates: descriptor lists expanded to a tree (WMO-No. 306, Volume I.2, FM 94: section 3,
+//! Tables C and D), which is laid out in cells.
 ghost use Rattle.std.specs.Prelude.{◌≡◌, ◌≢◌, ◌≤◌, length, Ok, Err, IfOk, IfErr, is_some};
 ghost use Rattle.bufr_tables.specs.TableB.{entry_of};
 ghost use Rattle.bufr_tables.specs.TableD.{members_of};
@@ -22,8 +22,8 @@ mod shapes;
 mod tests;
 
 use crate::fxy::Fxy;
+use crate::sequences::TableD;
 use crate::table_b::TableB;
-use crate::table_d::TableD;
 pub use cell::Cell;
 use expander::Expander;
 pub use fault::TemplateFault;
@@ -35,10 +35,12 @@ use std::marker::Model;
 /// The most groups and sequences that may be open together.
 const MOST_OPEN: u32 = 32;
 
-/// A template: the tree of elements, operators and groups that a list of descriptors stands for, sequences replaced by
-/// their members (WMO-No. 306, Volume I.2, FM 94: section 3, Table D), laid out in cells. A clause sees it as that tree.
+/// A template: the tree of elements, operators and groups that a list of descriptors stands for,
+/// sequences replaced by their members (WMO-No. 306, Volume I.2, FM 94: section 3, Table D), laid
+/// out in cells. A clause sees it as that tree.
 ///
-/// Some node of each group's body, and of the whole, takes bits of the data, so that a pass of a group is never free.
+/// Some node of each group's body, and of the whole, takes bits of the data, so that a pass of a
+/// group is never free.
 #[derive(Debug, Drop)]
 pub struct Template {
     cells: Vec<Cell>,
@@ -61,10 +63,12 @@ impl Model for Template {
 }
 
 impl Template {
-    /// Expands a list of descriptors, depth first, from left to right, and lays the tree out in cells.
+    /// Expands a list of descriptors, depth first, from left to right, and lays the tree out in
+    /// cells.
     ///
-    /// At most 32 groups and sequences are open together, and a template takes at most 65,535 places ([`Template::places`]
-    /// counts them), so a list that would expand to more is refused after that many.
+    /// At most 32 groups and sequences are open together, and a template takes at most 65,535
+    /// places ([`Template::places`] counts them), so a list that would expand to more is refused
+    /// after that many.
     ///
     /// ```
     /// let descriptors = [Fxy::from_word(0x0101)]; // 0 01 001
@@ -76,20 +80,22 @@ impl Template {
     ///
     /// The first fault that is met:
     ///
-    /// - at a replication 1 X Y: [`TemplateFault::GroupShape`] where X is 0; [`TemplateFault::NoFactor`] where Y is 0 and no
-    ///   factor follows (0 31 000, 0 31 001 or 0 31 002), [`TemplateFault::UnknownElement`] with the factor where Table B
-    ///   lacks it; [`TemplateFault::GroupShape`] where fewer than X descriptors are left in the same list, the factor not
-    ///   among them; then [`TemplateFault::Depth`], [`TemplateFault::TemplateSize`], the faults of its body, and
-    ///   [`TemplateFault::EmptyGroup`] where no node of the body takes bits of the data;
-    /// - at a sequence: [`TemplateFault::UnknownSequence`] where Table D lacks it, then [`TemplateFault::Depth`], then the
-    ///   faults of its members;
-    /// - at an element: [`TemplateFault::UnknownElement`] where Table B lacks it, unless 2 06 Y stands before it; then
-    ///   [`TemplateFault::TemplateSize`];
-    /// - at an operator: [`TemplateFault::Operator`] where it, or its operand, is none that a template may hold;
-    ///   [`TemplateFault::LocalShape`] where 2 06 Y is not followed by an element in the same list; then
-    ///   [`TemplateFault::TemplateSize`];
-    /// - at the end: [`TemplateFault::EmptyGroup`] with the first descriptor (000000 where there is none) where no node
-    ///   takes bits.
+    /// - at a replication 1 X Y: [`TemplateFault::GroupShape`] where X is 0;
+    ///   [`TemplateFault::NoFactor`] where Y is 0 and no factor follows (0 31 000, 0 31 001 or
+    ///   0 31 002), [`TemplateFault::UnknownElement`] with the factor where Table B lacks it;
+    ///   [`TemplateFault::GroupShape`] where fewer than X descriptors are left in the same list,
+    ///   the factor not among them; then [`TemplateFault::Depth`], [`TemplateFault::TemplateSize`],
+    ///   the faults of its body, and [`TemplateFault::EmptyGroup`] where no node of the body takes
+    ///   bits of the data;
+    /// - at a sequence: [`TemplateFault::UnknownSequence`] where Table D lacks it, then
+    ///   [`TemplateFault::Depth`], then the faults of its members;
+    /// - at an element: [`TemplateFault::UnknownElement`] where Table B lacks it, unless 2 06 Y
+    ///   stands before it; then [`TemplateFault::TemplateSize`];
+    /// - at an operator: [`TemplateFault::Operator`] where it, or its operand, is none that a
+    ///   template may hold; [`TemplateFault::LocalShape`] where 2 06 Y is not followed by an
+    ///   element in the same list; then [`TemplateFault::TemplateSize`];
+    /// - at the end: [`TemplateFault::EmptyGroup`] with the first descriptor (000000 where there is
+    ///   none) where no node takes bits.
     ///
     /// [`TemplateFault::Memory`] where memory runs out, at any growth.
     pub fn build(
@@ -129,8 +135,9 @@ impl Template {
         Ok(Template { cells, depth })
     }
 
-    /// How many places it takes, from 2 to 65,535: one for its end, one for each element and operator, two for a group
-    /// of a fixed count and three for a delayed group, its factor among them. Takes no memory.
+    /// How many places it takes, from 2 to 65,535: one for its end, one for each element and
+    /// operator, two for a group of a fixed count and three for a delayed group, its factor among
+    /// them. Takes no memory.
     pub fn places(&self) -> u32
         ensures value { result ≡ places_of self.now }
         ensures most { result ≤ 65535 }
@@ -146,9 +153,9 @@ impl Template {
         self.depth
     }
 
-    /// Its cells in the order of the data, as many as [`Template::places`] tells. The cells of a group are
-    /// [`Cell::Fixed`], or [`Cell::Delayed`] and [`Cell::Factor`], then those of its body, then [`Cell::PassEnd`]; the
-    /// last cell is [`Cell::Finish`]. Takes no memory.
+    /// Its cells in the order of the data, as many as [`Template::places`] tells. The cells of a
+    /// group are [`Cell::Fixed`], or [`Cell::Delayed`] and [`Cell::Factor`], then those of its
+    /// body, then [`Cell::PassEnd`]; the last cell is [`Cell::Finish`]. Takes no memory.
     pub fn cells(&self) -> &[Cell]
         ensures laid { IsLaid result.now self.now }
         ensures count { length result.now ≡ places_of self.now }

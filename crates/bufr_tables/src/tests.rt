@@ -1,6 +1,6 @@
 //! The tables and their faults, run.
 
-use crate::test_tables::{TABLE_B, TABLE_D, read_b, read_d};
+use crate::test_tables::{HEADER_B, HEADER_D, TABLE_B, TABLE_D, read_b, read_d};
 use crate::{Entry, Fxy, Kind, TableB, TableD, TableFault};
 use std::alloc::{AllocError, Global};
 use std::test::Fail;
@@ -93,10 +93,6 @@ fn fault_b(alloc: Global, text: &[u8]) -> Option<TableFault> {
 fn fault_d(alloc: Global, text: &[u8]) -> Option<TableFault> {
     read_d(alloc, text).err()
 }
-
-const HEADER_B: &[u8] = b"fxy,name,unit,scale,reference,width\n";
-
-const HEADER_D: &[u8] = b"fxy,member\n";
 
 #[test]
 fn elements(rt: HostRuntime) -> Result<(), Fail> {
@@ -393,8 +389,8 @@ fn as_many_rows_as_may_be(rt: HostRuntime) -> Result<(), Fail> {
     Ok(())
 }
 
-/// Every sequence that there is, each of four rows that name the one after it, or with `back` the one before it; the last
-/// ends the chain, or with `cycle` holds itself.
+/// Every sequence that there is, each of four rows that name the one after it, or with `back` the
+/// one before it; the last ends the chain, or with `cycle` holds itself.
 fn long_chain(alloc: Global, back: bool, cycle: bool) -> Result<Vec<u8>, AllocError> {
     let mut text = Vec::from_slice(alloc, HEADER_D)?;
     for key in 0..16384u16 {

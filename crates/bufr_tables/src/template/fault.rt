@@ -2,7 +2,8 @@
 use crate::fxy::Fxy;
 use thiserror::Error;
 
-/// Why a list of descriptors makes no template: the first fault met when the list is expanded depth first, from left to right.
+/// Why a list of descriptors makes no template: the first fault met when the list is expanded depth
+/// first, from left to right.
 #[derive(Clone, Copy, Debug, PartialEq, Eq, Drop, Error)]
 pub enum TemplateFault {
     /// Table B lacks the element, or the replication factor.
@@ -20,7 +21,8 @@ pub enum TemplateFault {
     /// The delayed replication is not followed by a factor: 0 31 000, 0 31 001 or 0 31 002.
     #[error("no factor {0}")]
     NoFactor(Fxy),
-    /// No node of the group's body takes bits of the data; or none of the whole list, with its first descriptor, or 000000.
+    /// No node of the group's body takes bits of the data; or none of the whole list, with its
+    /// first descriptor, or 000000.
     #[error("empty group {0}")]
     EmptyGroup(Fxy),
     /// The group or sequence would be the 33rd of those that are open together.

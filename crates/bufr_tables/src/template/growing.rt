@@ -107,7 +107,8 @@ impl Growing {
         Ok(())
     }
 
-    /// Begins a group behind the cells, and tells the place of its first cell. What is behind the group is not known yet.
+    /// Begins a group behind the cells, and tells the place of its first cell. What is behind the
+    /// group is not known yet.
     pub(crate) fn open(&mut self, fxy: Fxy, passes: &Passes) -> Result<usize, TemplateFault>
         ensures { GivesPlace (growth_of self.old) passes.now fxy result (growth_of self.new) }
     {
@@ -122,7 +123,8 @@ impl Growing {
         Ok(place)
     }
 
-    /// Ends the innermost group, whose first cell stands at a place, and writes there what is behind the group.
+    /// Ends the innermost group, whose first cell stands at a place, and writes there what is
+    /// behind the group.
     pub(crate) fn close(&mut self, place: usize, passes: &Passes) -> Result<(), TemplateFault>
         requires inside { place < length self.old.cells.items }
         requires around { 0 < self.old.open_groups }

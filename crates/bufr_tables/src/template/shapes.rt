@@ -24,18 +24,12 @@ pub(crate) fn before(list: &[Fxy], count: usize) -> &[Fxy]
 pub(crate) fn first_of(list: &[Fxy]) -> Fxy
     ensures { result ≡ first_of_list list.now }
 {
-    match list.split_first() {
-        Some((fxy, _)) => *fxy,
-        None => Fxy::from_word(0),
-    }
+    list.first().copied().unwrap_or(Fxy::from_word(0))
 }
 
 /// Whether a list begins with an element.
 pub(crate) fn begins_with_element(list: &[Fxy]) -> bool
     ensures { result ≡ element_begins list.now }
 {
-    match list.split_first() {
-        Some((fxy, _)) => fxy.f() == 0,
-        None => false,
-    }
+    list.first().is_some_and(|fxy| fxy.f() == 0)
 }

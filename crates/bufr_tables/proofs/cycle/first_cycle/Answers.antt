@@ -10,8 +10,8 @@ loop-place-preserved c =
 
 pub loop-place-preserved-then-is_above : goal.loop-place-preserved-then-is_above
 loop-place-preserved-then-is_above c =
-    let never = rw c.deref.ensures.value at (c.never_rises-never_rises.ensures c.if-never_rises.true) in
-    let none = rw c.deref-then-never_rises.ensures.value at (c.is_above.ensures c.if-is_above.true) in
+    let never = rw c.deref.ensures.value at (c.never_rises-falls.ensures c.if-falls.true) in
+    let none = rw c.deref-then-falls.ensures.value at (c.is_above.ensures c.if-is_above.true) in
     passed-more c.args.table.now c.loop-place.place c.loop-place.invariant c.sequence_at-sequence.result c.sequence_at-sequence.ensures (none never)
 
 pub returns-then-branch : goal.returns-then-branch

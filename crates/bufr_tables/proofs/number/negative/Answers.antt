@@ -4,4 +4,4 @@ use Rattle.bufr_tables.proofs.NumberLemmas.{fitting-negated}
 use Rattle.bufr_tables.proofs.number.negative.Goals as goal
 
 pub returns : goal.returns
-returns c = fitting-negated c.args.magnitude _ (omega arith) (omega arith) (omega (arith, ints))
+returns c = fitting-negated c.args.size _ (omega arith) (omega arith) (omega (arith, ints))

@@ -5,7 +5,8 @@ use Rattle.bufr_frame.specs.Look.{NoneDecided}
 use Rattle.bufr_frame.specs.Runs.{most_reads}
 use Rattle.bufr_frame.proofs.finder.Finder.advance.Given as goal
 
--- octets were read, no event was passed, and only the word at the front may have raised the greatest length
+-- octets were read, no event was passed, and only the word at the front may have raised the
+-- greatest length
 abbrev pub invariant-loop-found : goal.invariant-loop-found
 invariant-loop-found g l = record {
   steps : (bs : List ℕ) × StepSo (g.R.Source.left l.fn.r) (g.R.Source.left l.r) l.fn.self l.self bs [];

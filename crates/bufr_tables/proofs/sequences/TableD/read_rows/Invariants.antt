@@ -3,7 +3,7 @@ use Rattle.bufr_tables.specs.Reading.{IsBetween, octets_left, records_left}
 use Rattle.bufr_tables.specs.Records.{records_of}
 use Rattle.bufr_tables.specs.Table.{table_from}
 use Rattle.bufr_tables.specs.TableD.{table_d_of, with_record}
-use Rattle.bufr_tables.proofs.table_d.TableD.read_rows.Given as goal
+use Rattle.bufr_tables.proofs.sequences.TableD.read_rows.Given as goal
 
 abbrev pub invariant-loop-table : goal.invariant-loop-table
 invariant-loop-table l = record {
