@@ -7,7 +7,8 @@ use Rattle.bufr_walk.specs.Reading.{most_values, Item}
 use Rattle.bufr_fill.specs.Draft.{Draft}
 use Rattle.bufr_fill.specs.Entries.{Subset}
 use Rattle.bufr_fill.specs.Encoding.{cells_at, rows, longest}
-use Rattle.bufr_fill.specs.WrittenAgain.{IsDumped, AreDrafts, IsCellOf, AreCellsOf, IsDumpedAcross, items_of, AreDumpedFrom, HaveContents}
+use Rattle.bufr_fill.specs.WrittenAgain.{IsDumped, AreDrafts, items_of, AreDumpedFrom}
+use Rattle.bufr_fill.proofs.WrittenLists.{IsCellOf, AreCellsOf, IsDumpedAcross, HaveContents}
 use Rattle.bufr_walk.specs.Calls.{content_at}
 
 -- the draft at a place is that of the item there

@@ -14,11 +14,11 @@ use Rattle.bufr_fill.specs.Fault.{FaultAt, at_line, unequal_factors, uneven_incr
 use Rattle.bufr_fill.specs.Filling.{written}
 use Rattle.bufr_fill.specs.Drawn.{content_drawn}
 use Rattle.bufr_fill.specs.Encoding.{across, cells_at, contents_here, first_line, unlike_line, packed_to, pack_across, ◌>>=◌}
-use Rattle.bufr_fill.specs.Gathered.{FaultSo, contents_drawn}
+use Rattle.bufr_fill.specs.Gathered.{contents_drawn}
 use Rattle.bufr_fill.specs.Packing.{packing, packed_bits, packed_unlike, are_same}
 use Rattle.bufr_fill.specs.PackedOut.{PackedPen, IsPackedOut, IsPacked, IsFaultAcross}
 use Rattle.bufr_fill.specs.PlainOut.{WhereTold}
-use Rattle.bufr_fill.specs.Packs.{PutFault, IsPutAcross}
+use Rattle.bufr_fill.specs.Packs.{PutFault, IsPutWithin}
 use Rattle.bufr_fill.proofs.LeastLemmas.{content_self}
 use Rattle.bufr_fill.proofs.GrowthSteps.{grows_not, still_there, take_whole}
 
@@ -41,7 +41,7 @@ module _ (spec : Asked) (place : ℕ) (subsets : List Subset) where
         ap (λ b. if b then Err (at_line (first_line (cells_at place subsets)) (too_many_values spec.fxy)) else (contents_here spec (cells_at place subsets) >>= λ cs. packed_to cs (cells_at place subsets) (packing spec cs)))
         (few_test most_values ((place + 1) * length (cells_at place subsets)) few)
 
-    pub put_fault : (o : Option FaultAt) (old : List Bool) → FaultSo o (contents_here spec (cells_at place subsets)) → PutFault o old old spec (across place subsets)
+    pub put_fault : (o : Option FaultAt) (old : List Bool) → WhereTold o (λ f. contents_here spec (cells_at place subsets) ≡ Err f) → PutFault o old old spec (across place subsets)
     put_fault None old h = grows_not old old refl
     put_fault (Some f) old h = (across_is ∙ ap (λ r. r >>= λ cs. packed_to cs (cells_at place subsets) (packing spec cs)) h, refl)
 
@@ -94,16 +94,11 @@ refuse_step o subsets place old new cut n spec s view whole h is = subst (λ z. 
     by (Some f) h = (h.0, as_before (ap (take n) h.1 ∙ take_whole n old whole))
 
 pub take_step : (subsets : List Subset) (place : ℕ) (old new : List Bool) (most : ℕ) (spec : Asked) (t : Taken) (s : PackedPen) → pen_at subsets place old ≡ s
-    → IsPutAcross old new spec (across place subsets) most t → IsPacked s spec t (pen_at subsets (place + 1) new)
+    → IsPutWithin old new spec (across place subsets) most t → IsPacked s spec t (pen_at subsets (place + 1) new)
 take_step subsets place old new most spec t s view h = subst (λ z. IsPacked z spec t (pen_at subsets (place + 1) new)) view (record {
-  contents = h.contents;
-  item = h.item;
-  is = h.is;
-  tells = h.tells;
-  bits = h.bits;
+  put = h.put;
   place = refl;
   subsets = refl;
-  forth = h.some;
 })
 
 -- numbers of values, and room for what is written

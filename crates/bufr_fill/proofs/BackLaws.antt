@@ -20,7 +20,7 @@ use Rattle.bufr_fill.specs.Entries.{Subset}
 use Rattle.bufr_fill.specs.Fault.{Fault, FaultAt, at_line, too_many_values}
 use Rattle.bufr_fill.specs.Filling.{Written, written, Filler, fill, fill_one, fill_none, filled, and_behind}
 use Rattle.bufr_fill.specs.Fits.{Fits, AllFit}
-use Rattle.bufr_fill.specs.Limits.{IsWithin}
+use Rattle.bufr_fill.proofs.Limits.{IsWithin}
 use Rattle.bufr_fill.specs.Packing.{packing}
 use Rattle.bufr_fill.specs.ReadBack.{HasOctets, HaveOctets, AllHaveOctets, IsSaid, AreSaidFrom, IsReadBack, IsPackedReadBack}
 use Rattle.bufr_fill.specs.WrittenAgain.{AreDrafts, items_of}

@@ -10,7 +10,8 @@ use Rattle.bufr_fill.specs.Entries.{Entry, Holds, Ends}
 use Rattle.bufr_fill.specs.Fault.{FaultAt, at_line, item_too_many}
 use Rattle.bufr_fill.specs.Drawn.{content_drawn, IsDrawn}
 use Rattle.bufr_fill.specs.Encoding.{Cell, content_here, contents_here, first_unlike, unlike_line, line_of, line_in, first_line, ◌>>=◌}
-use Rattle.bufr_fill.specs.Gathered.{entry_by, cell_entry, entry_here, entry_line, FaultSo, AllDrawn, contents_drawn, in_front, IsGathering, unlike_from}
+use Rattle.bufr_fill.specs.Gathered.{entry_by, cell_entry, entry_here, entry_line, AllDrawn, contents_drawn, in_front, IsGathering, unlike_from}
+use Rattle.bufr_fill.specs.PlainOut.{WhereTold}
 use Rattle.bufr_fill.specs.Packing.{same}
 use Rattle.bufr_fill.specs.PackedOut.{and_end, all_end}
 use Rattle.bufr_fill.proofs.PackSteps.{at_index}
@@ -64,7 +65,7 @@ module _ (count : ℕ) (spec : Asked) (cells : List Cell) (j : ℕ) (ds : List D
       inv.so ∙ ap (λ cs. in_front (contents_drawn count ds) (contents_here spec cs)) k.left
       ∙ ap (λ r. in_front (contents_drawn count ds) (r >>= λ first. contents_here spec (drop (j + 1) cells) >>= λ rest. Ok (first ∷ rest))) (sym (entry_same spec k.cell.draft k.cell.end_line) ∙ ap (entry_here spec) (sym (here k.cell k.is)))
 
-  pub gather_fault : (o : Option FaultAt) → FaultSo o (entry_here spec e) → FaultSo o (contents_here spec cells)
+  pub gather_fault : (o : Option FaultAt) → WhereTold o (λ f. entry_here spec e ≡ Err f) → WhereTold o (λ f. contents_here spec cells ≡ Err f)
   gather_fault None h = tt
   gather_fault (Some f) h =
       next_is (cell_at cells j within) ∙ ap (λ r. in_front (contents_drawn count ds) (r >>= λ first. contents_here spec (drop (j + 1) cells) >>= λ rest. Ok (first ∷ rest))) h

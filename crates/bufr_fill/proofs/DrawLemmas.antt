@@ -2,7 +2,7 @@
 use Rattle.std.proofs.Common.{◌≡◌, ℕ, ◌^◌, ◌<◌, ◌&&◌, Bool, true, false, not, ℤ, Result, Err, refl, sym, ◌∙◌, ap, arith}
 use Rattle.std.specs.Prelude.{◌==◌, if◌then◌else◌}
 use Rattle.bufr_walk.specs.Asked.{Asked, is_reference}
-use Rattle.bufr_walk.specs.Content.{Content, told, told_by, count_in, reference_in}
+use Rattle.bufr_walk.specs.Content.{Content, told, told_by_role, count_in, reference_in}
 use Rattle.bufr_walk.specs.declared.spec.Role.TheVariants as role
 use Rattle.bufr_walk.specs.declared.spec.Taken.TheVariants as taken
 use Rattle.bufr_fill.specs.Packing.{top}
@@ -32,16 +32,16 @@ content_wrong spec d h = ap (λ b. if b then content_by_form d.form spec else Er
 
 -- what each role tells
 pub told_element : (spec : Asked) (c : Content) → spec.role ≡ role.Element → taken.Plain ≡ told spec c
-told_element spec c e = sym (ap (λ r. told_by r c) e)
+told_element spec c e = sym (ap (λ r. told_by_role r c) e)
 
 pub told_inserted : (spec : Asked) (c : Content) → spec.role ≡ role.Inserted → taken.Plain ≡ told spec c
-told_inserted spec c e = sym (ap (λ r. told_by r c) e)
+told_inserted spec c e = sym (ap (λ r. told_by_role r c) e)
 
 pub told_count : (spec : Asked) (c : Content) (n : ℕ) → spec.role ≡ role.Factor → n ≡ count_in c → taken.Count n ≡ told spec c
-told_count spec c n e h = ap taken.Count h ∙ sym (ap (λ r. told_by r c) e)
+told_count spec c n e h = ap taken.Count h ∙ sym (ap (λ r. told_by_role r c) e)
 
 pub told_reference : (spec : Asked) (c : Content) (v : ℤ) → spec.role ≡ role.Reference → v ≡ reference_in c → taken.Reference v ≡ told spec c
-told_reference spec c v e h = ap taken.Reference h ∙ sym (ap (λ r. told_by r c) e)
+told_reference spec c v e h = ap taken.Reference h ∙ sym (ap (λ r. told_by_role r c) e)
 
 -- a number is written in at most 63 bits
 pub drawn_narrow : (m : Bool) (w raw : ℕ) → raw < top m w → raw < 2 ^ w

@@ -1,4 +1,5 @@
--- The table of the worked examples, the drafts of some texts, and the bits that they are written as.
+-- The table of the worked examples, the drafts of some texts, and the bits that they are written
+-- as.
 use Rattle.std.proofs.Common.{ℕ, zero, suc, ◌+◌, ◌*◌, Bool, List, [], ◌∷◌, Result, Ok, ℤ, pos, negsuc}
 use Rattle.std.specs.Prelude.{take}
 use Rattle.bufr_bits.specs.Bits.{bits_of}
@@ -34,7 +35,8 @@ table =
     ∷ listed 0 31 21 kind.Coded (pos 0) (pos 0) 6
     ∷ []
 
--- templates: one element, a group of blocks, a text of four octets, and a temperature whose reference is redefined in 10 bits
+-- templates: one element, a group of blocks, a text of four octets, and a temperature whose
+-- reference is redefined in 10 bits
 unfoldable pub temperature : Tree
 unfolding fxy
 temperature = element (fxy 0 12 101) bare

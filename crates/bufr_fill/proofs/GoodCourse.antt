@@ -17,7 +17,7 @@ use Rattle.bufr_walk.specs.Settings.{Settings, Redefined, begin, is_defining, wi
 use Rattle.bufr_walk.specs.Rules.{text_of, element_spec, factor_spec, inserted_spec}
 use Rattle.bufr_walk.specs.Turns.{Turns, finish, open_end, group, pass_end, factor_turn, element_turn, operator_turn, Rest, passes, unroll, turns_of}
 use Rattle.bufr_walk.specs.Course.{take_next, Ahead, asked, operated, ahead, next_item, counts_of}
-use Rattle.bufr_fill.specs.Limits.{AreGoodRows, IsWithin, AreWithin, AreRedefined, IsSettings, AreLegal}
+use Rattle.bufr_fill.proofs.Limits.{AreGoodRows, IsWithin, AreWithin, AreRedefined, IsSettings, AreLegal}
 use Rattle.bufr_fill.proofs.GoodSpecs.{element_good, factor_good}
 
 -- operands of legal operators
@@ -82,16 +82,17 @@ references_good s y set h = by (y == 255) (y == 0) refl
     by false false q = record { widened = set.widened; rescaled = set.rescaled; defining = h q; refined = set.refined; lettered = set.lettered; given = set.given; redefined = set.redefined }
 
 operator_good : (s : Settings) (x y : ℕ) → IsSettings s → y ≤ 255 → has_legal_operand x y ≡ true → IsSettings (with_operator x y s)
-operator_good s x y set most legal = by (x == 1) (x == 2) (x == 3) (x == 6) (x == 7) refl refl
+operator_good s x y set most legal = by (x == 1) (x == 2) (x == 3) (x == 6) (x == 7) (x == 8) refl refl
   where
-    by : (a b c d e : Bool) → (x == 3) ≡ c → (x == 7) ≡ e
-        → IsSettings (if a then record s { widened = y } else if b then record s { rescaled = y } else if c then with_references y s else if d then record s { given = y } else if e then record s { refined = y } else record s { lettered = y })
-    by true b c d e p q = record { widened = most; rescaled = set.rescaled; defining = set.defining; refined = set.refined; lettered = set.lettered; given = set.given; redefined = set.redefined }
-    by false true c d e p q = record { widened = set.widened; rescaled = most; defining = set.defining; refined = set.refined; lettered = set.lettered; given = set.given; redefined = set.redefined }
-    by false false true d e p q = references_good s y set (λ r. operand_three x y p legal r)
-    by false false false true e p q = record { widened = set.widened; rescaled = set.rescaled; defining = set.defining; refined = set.refined; lettered = set.lettered; given = most; redefined = set.redefined }
-    by false false false false true p q = record { widened = set.widened; rescaled = set.rescaled; defining = set.defining; refined = operand_seven x y q legal; lettered = set.lettered; given = set.given; redefined = set.redefined }
-    by false false false false false p q = record { widened = set.widened; rescaled = set.rescaled; defining = set.defining; refined = set.refined; lettered = most; given = set.given; redefined = set.redefined }
+    by : (a b c d e f : Bool) → (x == 3) ≡ c → (x == 7) ≡ e
+        → IsSettings (if a then record s { widened = y } else if b then record s { rescaled = y } else if c then with_references y s else if d then record s { given = y } else if e then record s { refined = y } else if f then record s { lettered = y } else s)
+    by true b c d e f p q = record { widened = most; rescaled = set.rescaled; defining = set.defining; refined = set.refined; lettered = set.lettered; given = set.given; redefined = set.redefined }
+    by false true c d e f p q = record { widened = set.widened; rescaled = most; defining = set.defining; refined = set.refined; lettered = set.lettered; given = set.given; redefined = set.redefined }
+    by false false true d e f p q = references_good s y set (λ r. operand_three x y p legal r)
+    by false false false true e f p q = record { widened = set.widened; rescaled = set.rescaled; defining = set.defining; refined = set.refined; lettered = set.lettered; given = most; redefined = set.redefined }
+    by false false false false true f p q = record { widened = set.widened; rescaled = set.rescaled; defining = set.defining; refined = operand_seven x y q legal; lettered = set.lettered; given = set.given; redefined = set.redefined }
+    by false false false false false true p q = record { widened = set.widened; rescaled = set.rescaled; defining = set.defining; refined = set.refined; lettered = most; given = set.given; redefined = set.redefined }
+    by false false false false false false p q = set
 
 -- the references with one more that was told
 references_kept : (fxy : ℕ) (reference : ℤ) (known : List Redefined) → unsigned_abs reference ≤ 2 ^ 63 → AreRedefined known → AreRedefined (with_reference fxy reference known)

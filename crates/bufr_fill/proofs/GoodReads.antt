@@ -10,13 +10,13 @@ use Rattle.bufr_walk.specs.declared.spec.Role.TheVariants as role
 use Rattle.bufr_walk.specs.declared.spec.Taken.{Taken}
 use Rattle.bufr_walk.specs.Asked.{Asked, IsSpec, HasWidth, HasRole}
 use Rattle.bufr_walk.specs.Course.{Course, take_next, next_item}
-use Rattle.bufr_walk.specs.Content.{Content, number, text, missing, reference, told_by, told}
+use Rattle.bufr_walk.specs.Content.{Content, number, text, missing, reference, told_by_role, told}
 use Rattle.bufr_walk.specs.PlainField.{found, plain_field}
 use Rattle.bufr_walk.specs.PackedField.{packed_field, told_first}
 use Rattle.bufr_fill.specs.Fits.{FitsRole}
 use Rattle.bufr_walk.specs.Reading.{Item, Form, plain, packed, Reads, ReadsSubsets, tells_of, after}
-use Rattle.bufr_fill.specs.Limits.{AreGoodRows, IsWithin, AreWithin}
-use Rattle.bufr_fill.specs.WrittenAgain.{AllSpecs, EachSpecs}
+use Rattle.bufr_fill.proofs.Limits.{AreGoodRows, IsWithin, AreWithin}
+use Rattle.bufr_fill.proofs.WrittenLists.{AllSpecs, EachSpecs}
 use Rattle.bufr_fill.proofs.PlainLaws.{plain_read}
 use Rattle.bufr_fill.proofs.PackedLaws.{packed_again}
 use Rattle.bufr_fill.proofs.GoodCourse.{next_good}
@@ -33,7 +33,7 @@ narrow kind.Numeric w h e = h.1
 narrow kind.Coded w h e = h.1
 narrow kind.Character w h e = absurd cc
 
-pub told_within : (r : Role) (spec : Asked) (c : Content) → IsSpec spec → HasRole r spec.kind spec.may_be_missing → FitsRole r spec c → IsWithin (told_by r c)
+pub told_within : (r : Role) (spec : Asked) (c : Content) → IsSpec spec → HasRole r spec.kind spec.may_be_missing → FitsRole r spec c → IsWithin (told_by_role r c)
 told_within role.Element spec c good hr h = tt
 told_within role.Inserted spec c good hr h = tt
 told_within role.Factor spec c good hr h = tt

@@ -14,9 +14,9 @@ use Rattle.bufr_walk.specs.declared.spec.Role.TheVariants as role
 use Rattle.bufr_walk.specs.declared.spec.Refusal.{Refusal}
 use Rattle.bufr_walk.specs.declared.spec.Refusal.TheVariants as refusal
 use Rattle.bufr_walk.specs.Asked.{Asked, IsSpec, HasWidth, HasRole}
-use Rattle.bufr_walk.specs.Settings.{Settings, Redefined, reference_in, is_defining}
+use Rattle.bufr_walk.specs.Settings.{Settings, Redefined, current_reference, is_defining}
 use Rattle.bufr_walk.specs.Rules.{fitting, change_of, quantity, figure, text_of, text_width, by_kind, defined_field, defined_by, unsigned_field, unsigned_of, untouched, given_by, listed_by, element_spec, factor_field, factor_by, factor_spec}
-use Rattle.bufr_fill.specs.Limits.{IsRow, AreGoodRows, AreRedefined, IsSettings}
+use Rattle.bufr_fill.proofs.Limits.{IsRow, AreGoodRows, AreRedefined, IsSettings}
 
 same_ok : (a b : Asked) → ◌≡◌ {A = Result Asked Refusal} (Ok a) (Ok b) → a ≡ b
 same_ok a b e = cc
@@ -55,11 +55,11 @@ product_small r y h g =
     let b : unsigned_abs r * 10 ^ 18 ≤ 2 ^ 63 * 10 ^ 18 = mul-le-mul_right (10 ^ 18) h in
     omega (arith, e, a, b)
 
-reference_small : (rs : List Redefined) (fxy : ℕ) (listed : ℤ) → AreRedefined rs → unsigned_abs listed ≤ 2 ^ 63 → unsigned_abs (reference_in rs fxy listed) ≤ 2 ^ 63
+reference_small : (rs : List Redefined) (fxy : ℕ) (listed : ℤ) → AreRedefined rs → unsigned_abs listed ≤ 2 ^ 63 → unsigned_abs (current_reference rs fxy listed) ≤ 2 ^ 63
 reference_small [] fxy listed h g = g
 reference_small (r ∷ rs) fxy listed h g = by (r.fxy == fxy) h.0 (reference_small rs fxy listed h.1 g)
   where
-    by : (b : Bool) → unsigned_abs r.reference ≤ 2 ^ 63 → unsigned_abs (reference_in rs fxy listed) ≤ 2 ^ 63 → unsigned_abs (if b then r.reference else reference_in rs fxy listed) ≤ 2 ^ 63
+    by : (b : Bool) → unsigned_abs r.reference ≤ 2 ^ 63 → unsigned_abs (current_reference rs fxy listed) ≤ 2 ^ 63 → unsigned_abs (if b then r.reference else current_reference rs fxy listed) ≤ 2 ^ 63
     by true x y = x
     by false x y = y
 
@@ -106,7 +106,7 @@ module _ (s : Settings) (set : IsSettings s) where
     role = tt;
     missing = tt;
     scale = omega (arith, abs_sum (row.scale +ℤ change_of s.rescaled) (pos s.refined), abs_sum row.scale (change_of s.rescaled), change_small s.rescaled set.rescaled, good.scale, set.refined);
-    reference = product_small (reference_in s.redefined row.fxy row.reference) s.refined (reference_small s.redefined row.fxy row.reference set.redefined good.reference) set.refined;
+    reference = product_small (current_reference s.redefined row.fxy row.reference) s.refined (reference_small s.redefined row.fxy row.reference set.redefined good.reference) set.refined;
   }
 
   figure_good : (row : Row) → IsRow row → (1 ≤ (figure s row).width) × ((figure s row).width ≤ 63) → IsSpec (figure s row)

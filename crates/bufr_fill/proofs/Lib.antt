@@ -2,6 +2,9 @@ mod ExampleTables
 mod PlainExamples
 mod PackedExamples
 mod ReadBackExamples
+pub mod Filled
+pub mod Limits
+pub mod WrittenLists
 pub mod RoundTrip
 pub mod FieldBits
 pub mod PlainLaws

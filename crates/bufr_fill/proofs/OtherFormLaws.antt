@@ -8,7 +8,7 @@ use Rattle.bufr_walk.specs.Content.{Content}
 use Rattle.bufr_walk.specs.Course.{next_item}
 use Rattle.bufr_walk.specs.Reading.{most_values, Item, ReadsSubsets, IsPackedReading}
 use Rattle.bufr_fill.specs.Entries.{Subset}
-use Rattle.bufr_fill.specs.Limits.{AreGoodRows}
+use Rattle.bufr_fill.proofs.Limits.{AreGoodRows}
 use Rattle.bufr_fill.specs.OtherForm.{IsWrittenApart, IsTogetherOrNot}
 use Rattle.bufr_fill.specs.WrittenAgain.{AreDumped, AreDumpedFrom}
 use Rattle.bufr_fill.proofs.GoodReads.{template_good, plain_specs}

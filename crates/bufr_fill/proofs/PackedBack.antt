@@ -10,7 +10,7 @@ use Rattle.bufr_bits.proofs.PushLemmas.{length-bits_in}
 use Rattle.bufr_bits.proofs.ScaledLemmas.{and_first, and_second}
 use Rattle.bufr_walk.specs.Content.{Content, number, text, missing, reference, octets_in}
 use Rattle.bufr_walk.specs.PlainField.{FieldFault, increment}
-use Rattle.bufr_walk.specs.PackedField.{ones, and_more, increased, increments, all_increased, text_of}
+use Rattle.bufr_walk.specs.PackedField.{ones, and_more, increased, increments, all_increased, padded_text}
 use Rattle.bufr_fill.specs.Packing.{top, same_octets, has_bits, has_octets, increment_bits, octet_bits}
 use Rattle.bufr_fill.specs.Fits.{AreOctets, FitsNumber, FitsText}
 use Rattle.bufr_fill.proofs.FieldBits.{number_again, ones_test, ones_set, octets_again, full_test}
@@ -138,7 +138,7 @@ module _ (count k : ℕ) (short : k ≤ count) where
   octets_long [] h = tt
   octets_long (c ∷ cs) h = (octets_length c h.0, octets_long cs h.1)
 
-  one_text : (c : Content) → FitsText count c → has_octets k c ≡ true → text_of count k (octet_bits k c) ≡ c
+  one_text : (c : Content) → FitsText count c → has_octets k c ≡ true → padded_text count k (octet_bits k c) ≡ c
   one_text (number n) h p = absurd h
   one_text (reference v) h p = absurd h
   one_text missing h p = ap (λ b. if b then missing else text (octets_in k (replicate (8 * k) true) ++ replicate (count - k) 32)) (ones_set (8 * k))
@@ -155,8 +155,8 @@ module _ (count k : ℕ) (short : k ≤ count) where
       ∙ ap text whole
 
   -- texts are read again from their octets
-  pub texts_back : (cs : List Content) → AreTexts count cs → list_all (has_octets k) cs ≡ true → map (text_of count k) (map (octet_bits k) cs) ≡ cs
+  pub texts_back : (cs : List Content) → AreTexts count cs → list_all (has_octets k) cs ≡ true → map (padded_text count k) (map (octet_bits k) cs) ≡ cs
   texts_back [] h p = refl
   texts_back (c ∷ cs) h p =
-      ap (λ x. x ∷ map (text_of count k) (map (octet_bits k) cs)) (one_text c h.0 (and_first (has_octets k c) (list_all (has_octets k) cs) p))
+      ap (λ x. x ∷ map (padded_text count k) (map (octet_bits k) cs)) (one_text c h.0 (and_first (has_octets k c) (list_all (has_octets k) cs) p))
       ∙ ap (λ xs. c ∷ xs) (texts_back cs h.1 (and_second (has_octets k c) (list_all (has_octets k) cs) p))

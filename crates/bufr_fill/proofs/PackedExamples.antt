@@ -143,7 +143,8 @@ values_too_many_at_the_end : none_across 25 Bool.true as_quantity ≡ at_line 25
 unfolding as_quantity
 values_too_many_at_the_end = refl
 
--- two temperatures are packed with a k of 2; with a k of 3, or over a lesser base, they are read as well
+-- two temperatures are packed with a k of 2; with a k of 3, or over a lesser base, they are read as
+-- well
 least_k_packed : packing as_quantity (number 28815 ∷ number 28816 ∷ []) ≡ Ok (take 26 (bits_of (112 ∷ 143 ∷ 8 ∷ 64 ∷ [])))
 unfolding as_quantity bits_in bits_of
 least_k_packed = refl

@@ -18,7 +18,7 @@ use Rattle.bufr_fill.specs.Packing.{top, same_octets, are_same, has_bits, gives_
 use Rattle.bufr_fill.proofs.LeastLemmas.{AreNumbers, first_least, first_from_start, octets_self}
 use Rattle.bufr_fill.proofs.LeastPacked.{least_k_packed}
 use Rattle.bufr_fill.proofs.PackedBack.{AreTexts}
-use Rattle.bufr_fill.proofs.PackedLaws.{IsVaried, step_by, IsPacked, uniform, differing, step_element}
+use Rattle.bufr_fill.proofs.PackedLaws.{IsVaried, step_by, PacksWithin, uniform, differing, step_element}
 
 -- ---- the k that is found passes
 
@@ -119,7 +119,7 @@ module _ (n : ℕ) (spec : Asked) (good : IsSpec spec) where
   kinds_of r er f [] h = tt
   kinds_of r er f (c ∷ cs) h = (f c (subst (λ r. FitsRole r spec c) er h.0), kinds_of r er f cs h.1)
 
-  by_role : (r : Role) → spec.role ≡ r → (c : Content) (cs : List Content) (out : List Bool) → AllFit spec (c ∷ cs) → length (c ∷ cs) ≡ n → are_same c cs ≡ false → packed_unlike r spec (c ∷ cs) ≡ Ok out → (most : ℕ) × IsPacked n spec (c ∷ cs) most
+  by_role : (r : Role) → spec.role ≡ r → (c : Content) (cs : List Content) (out : List Bool) → AllFit spec (c ∷ cs) → length (c ∷ cs) ≡ n → are_same c cs ≡ false → packed_unlike r spec (c ∷ cs) ≡ Ok out → (most : ℕ) × PacksWithin n spec (c ∷ cs) most
   by_role role.Factor er c cs out fits count unlike e = absurd cc
   by_role role.Reference er c cs out fits count unlike e = absurd cc
   by_role role.Element er c cs out fits count unlike e =
@@ -132,7 +132,7 @@ module _ (n : ℕ) (spec : Asked) (good : IsSpec spec) where
       (most, differing n spec good role.Inserted er (λ j. step_element n spec good role.Inserted spec.kind j (λ q. cc)) (λ j b i. refl) (λ xs. refl) (λ x f. subst (λ r. FitsRole r spec x) (sym er) f) c cs v.0 most v.1 v.2 v.3 unlike count (omega arith))
 
   by_same : (b : Bool) (c : Content) (cs : List Content) (out : List Bool) → AllFit spec (c ∷ cs) → length (c ∷ cs) ≡ n → are_same c cs ≡ b → (if b then Ok (packed_bits (bits_for spec.width c) 0 []) else packed_unlike spec.role spec (c ∷ cs)) ≡ Ok out
-      → (most : ℕ) × IsPacked n spec (c ∷ cs) most
+      → (most : ℕ) × PacksWithin n spec (c ∷ cs) most
   by_same true c cs out fits count q e = (spec.width + 6, uniform n spec good c cs (spec.width + 6) fits.0 q count (omega arith))
   by_same false c cs out fits count q e = by_role spec.role refl c cs out fits count q e
 

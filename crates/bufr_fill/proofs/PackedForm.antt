@@ -1,4 +1,5 @@
--- Items that were read subset after subset are written together so that they are read again, or their factors differ, or no increments tell them apart.
+-- Items that were read subset after subset are written together so that they are read again, or
+-- their factors differ, or no increments tell them apart.
 use Rattle.std.proofs.Common.{◌≡◌, ◌⊎◌, inl, inr, ℕ, zero, suc, ◌+◌, ◌*◌, ◌<◌, ◌≤◌, max, Bool, List, [], ◌∷◌, ◌++◌, length, drop, Result, Ok, Err, refl, sym, ◌∙◌, ap, subst, arith, append_assoc}
 use Rattle.std.specs.Prelude.{slice_get, if◌then◌else◌}
 use Rattle.bufr_walk.specs.declared.spec.Taken.{Taken}
@@ -17,7 +18,8 @@ use Rattle.bufr_fill.specs.Filling.{fill, fill_one, fill_none, filled, and_behin
 use Rattle.bufr_fill.specs.Fits.{Fits, AllFit}
 use Rattle.bufr_fill.specs.OtherForm.{subsets_from, IsUnlike, IsTogetherOrNot}
 use Rattle.bufr_fill.specs.Packing.{packing}
-use Rattle.bufr_fill.specs.WrittenAgain.{IsDumped, AreDrafts, AllSpecs, EachSpecs, AreDumped, IsCellOf, AreCellsOf, items_of}
+use Rattle.bufr_fill.specs.WrittenAgain.{IsDumped, AreDrafts, AreDumped, items_of}
+use Rattle.bufr_fill.proofs.WrittenLists.{AllSpecs, EachSpecs, IsCellOf, AreCellsOf}
 use Rattle.bufr_fill.proofs.PackedFits.{fitting_again}
 use Rattle.bufr_fill.proofs.PackedTrip.{all_here, past}
 use Rattle.bufr_fill.proofs.PlainForm.{Follows, AllFollow, packed_alike}

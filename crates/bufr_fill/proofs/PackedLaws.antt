@@ -16,7 +16,7 @@ use Rattle.bufr_walk.specs.declared.spec.Role.TheVariants as role
 use Rattle.bufr_walk.specs.Asked.{Asked, IsSpec, HasWidth}
 use Rattle.bufr_walk.specs.Content.{Content, number, text, missing, reference, content_in, bits_for}
 use Rattle.bufr_walk.specs.PlainField.{FieldFault, data_end, increment, unequal_factor, Found, found}
-use Rattle.bufr_walk.specs.PackedField.{increments, all_increased, text_of, step_of, numbers_of, texts_of, varied_by, same_count, all_same, if_equal, varied, contents_of, with_behind, item_by, packed_field}
+use Rattle.bufr_walk.specs.PackedField.{increments, all_increased, padded_text, step_of, numbers_of, texts_of, varied_by, same_count, all_same, if_equal, varied, contents_of, with_behind, item_by, packed_field}
 use Rattle.bufr_fill.specs.Packing.{top, same, are_same, lowest, has_bits, has_octets, least_k, increment_bits, octet_bits, packed_bits, numbers_over, packed_by, packed_unlike, packing}
 use Rattle.bufr_fill.specs.Fits.{FitsNumber, FitsText, FitsKind, FitsRole, Fits, AllFit}
 use Rattle.bufr_fill.proofs.FieldBits.{number_again, number_back, top_below}
@@ -107,7 +107,8 @@ module _ (n : ℕ) (spec : Asked) where
 
 -- ---- contents that differ
 
--- what is known of contents that were read with k above 0: they fit, and so many bits, or octets, are enough for them
+-- what is known of contents that were read with k above 0: they fit, and so many bits, or octets,
+-- are enough for them
 abbrev pub IsVaried : Kind → Bool → (w k : ℕ) → List Content → Type 0
 IsVaried kind.Character m w k cs = AreTexts (w / 8) cs × (list_all (has_octets k) cs ≡ true) × (k ≤ w / 8)
 IsVaried kind.Coded m w k cs = AreNumbers m w cs × ((low : ℕ) → lowest cs ≡ Some low → list_all (has_bits m low k) cs ≡ true)
@@ -144,18 +145,18 @@ module _ (spec : Asked) (k : ℕ) where
       ((r.fits, λ low q. all_over spec.may_be_missing (number_of base) low k cs (under_lowest cs (number_of base) low r.over q) r.short), r.count)
 
   texts_varied : (b : Bool) (is : List (List Bool)) (cs : List Content) → AllLong (8 * k) is → nat_lt (spec.width / 8) k ≡ b
-      → (if b then Err increment else Ok (map (text_of (spec.width / 8) k) is)) ≡ Ok cs
+      → (if b then Err increment else Ok (map (padded_text (spec.width / 8) k) is)) ≡ Ok cs
       → (AreTexts (spec.width / 8) cs × (list_all (has_octets k) cs ≡ true) × (k ≤ spec.width / 8)) × (length cs ≡ length is)
   texts_varied true is cs long p e = cc
   texts_varied false is cs long p e =
-      let f : map (text_of (spec.width / 8) k) is ≡ cs = same_ok _ _ e in
+      let f : map (padded_text (spec.width / 8) k) is ≡ cs = same_ok _ _ e in
       let short : k ≤ spec.width / 8 = at_most (spec.width / 8) k p in (
         (
           subst (AreTexts (spec.width / 8)) f (texts_fit (spec.width / 8) k is short long),
           subst (λ xs. list_all (has_octets k) xs ≡ true) f (texts_again (spec.width / 8) k is short long),
           short,
         ),
-        ap length (sym f) ∙ length-map is (text_of (spec.width / 8) k),
+        ap length (sym f) ∙ length-map is (padded_text (spec.width / 8) k),
       )
 
   by_kind : (kd : Kind) (base : List Bool) (is : List (List Bool)) (cs : List Content) → AllLong (step_by kd k) is → varied_by kd spec k base is ≡ Ok cs → IsVaried kd spec.may_be_missing spec.width k cs × (length cs ≡ length is)
@@ -254,7 +255,7 @@ module _ (spec : Asked) (cs : List Content) (most : ℕ) (some : 1 ≤ most) (sm
       let short : k ≤ count = omega (arith, least, wide) in
       let passed : list_all (has_octets k) cs ≡ true = ap (λ j. list_all (has_octets j) cs) e ∙ least_passes has_octets pass in
       ap (λ is. texts_of spec k is) (pieces_found (octet_bits k) (8 * k) cs more (octets_long count k short cs are))
-      ∙ ap (λ b. if b then Err increment else Ok (map (text_of count k) (map (octet_bits k) cs))) (past count k short)
+      ∙ ap (λ b. if b then Err increment else Ok (map (padded_text count k) (map (octet_bits k) cs))) (past count k short)
       ∙ ap Ok (texts_back count k short cs are passed)
 
   text_item : IsVaried kind.Character spec.may_be_missing spec.width most cs → IsWritten kind.Character spec cs most
@@ -282,7 +283,7 @@ module _ (spec : Asked) (cs : List Content) (most : ℕ) (some : 1 ≤ most) (sm
 -- ---- the whole item
 
 -- contents are packed so that they are read again, in at most so many bits
-pub record IsPacked (n : ℕ) (spec : Asked) (cs : List Content) (most : ℕ) : Type 0 where
+pub record PacksWithin (n : ℕ) (spec : Asked) (cs : List Content) (most : ℕ) : Type 0 where
   pub out : List Bool
   pub is : packing spec cs ≡ Ok out
   pub again : (more : List Bool) → packed_field n spec (out ++ more) ≡ Ok (found cs more)
@@ -356,7 +357,7 @@ zero_or_some k b p q = grind (arith, nat_tests)
 
 module _ (n : ℕ) (spec : Asked) (good : IsSpec spec) where
   -- contents that are all the same
-  pub uniform : (c : Content) (cs : List Content) (most : ℕ) → Fits spec c → are_same c cs ≡ true → length (c ∷ cs) ≡ n → spec.width + 6 ≤ most → IsPacked n spec (c ∷ cs) most
+  pub uniform : (c : Content) (cs : List Content) (most : ℕ) → Fits spec c → are_same c cs ≡ true → length (c ∷ cs) ≡ n → spec.width + 6 ≤ most → PacksWithin n spec (c ∷ cs) most
   uniform c cs most fits same_all count room =
       let base = bits_for spec.width c in
       let lb : length base ≡ spec.width = content_length spec good c fits in
@@ -377,7 +378,7 @@ module _ (n : ℕ) (spec : Asked) (good : IsSpec spec) where
 
   -- contents that differ, of an element
   pub differing : (r : Role) → spec.role ≡ r → ((k : ℕ) → step_of r spec.kind k ≡ step_by spec.kind k) → ((k : ℕ) (base : List Bool) (is : List (List Bool)) → varied r spec k base is ≡ varied_by spec.kind spec k base is) → ((xs : List Content) → packed_unlike r spec xs ≡ packed_by spec.kind spec xs)
-      → ((x : Content) → FitsKind spec.kind spec.may_be_missing spec.width x → Fits spec x) → (c : Content) (cs : List Content) (k most : ℕ) → 1 ≤ k → k ≤ 63 → IsVaried spec.kind spec.may_be_missing spec.width k (c ∷ cs) → are_same c cs ≡ false → length (c ∷ cs) ≡ n → spec.width + 6 + n * step_by spec.kind k ≤ most → IsPacked n spec (c ∷ cs) most
+      → ((x : Content) → FitsKind spec.kind spec.may_be_missing spec.width x → Fits spec x) → (c : Content) (cs : List Content) (k most : ℕ) → 1 ≤ k → k ≤ 63 → IsVaried spec.kind spec.may_be_missing spec.width k (c ∷ cs) → are_same c cs ≡ false → length (c ∷ cs) ≡ n → spec.width + 6 + n * step_by spec.kind k ≤ most → PacksWithin n spec (c ∷ cs) most
   differing r er steps variations packings fit c cs k most some small varies unlike count room =
       let w = item_written spec (c ∷ cs) k some small spec.kind good.width varies in
       let step_is : step_of spec.role spec.kind w.k ≡ step_by spec.kind w.k = ap (λ q. step_of q spec.kind w.k) er ∙ steps w.k in
@@ -432,12 +433,12 @@ module _ (n : ℕ) (spec : Asked) (good : IsSpec spec) where
 
   -- either all the same, or not
   of_element : (r : Role) → spec.role ≡ r → ((k : ℕ) → step_of r spec.kind k ≡ step_by spec.kind k) → ((k : ℕ) (base : List Bool) (is : List (List Bool)) → varied r spec k base is ≡ varied_by spec.kind spec k base is) → ((xs : List Content) → packed_unlike r spec xs ≡ packed_by spec.kind spec xs)
-      → ((x : Content) → FitsKind spec.kind spec.may_be_missing spec.width x → Fits spec x) → (c : Content) (cs : List Content) (k most : ℕ) (b : Bool) → are_same c cs ≡ b → Fits spec c → 1 ≤ k → k ≤ 63 → IsVaried spec.kind spec.may_be_missing spec.width k (c ∷ cs) → length (c ∷ cs) ≡ n → spec.width + 6 + n * step_by spec.kind k ≤ most → IsPacked n spec (c ∷ cs) most
+      → ((x : Content) → FitsKind spec.kind spec.may_be_missing spec.width x → Fits spec x) → (c : Content) (cs : List Content) (k most : ℕ) (b : Bool) → are_same c cs ≡ b → Fits spec c → 1 ≤ k → k ≤ 63 → IsVaried spec.kind spec.may_be_missing spec.width k (c ∷ cs) → length (c ∷ cs) ≡ n → spec.width + 6 + n * step_by spec.kind k ≤ most → PacksWithin n spec (c ∷ cs) most
   of_element r er steps variations packings fit c cs k most true e fits some small varies count room = uniform c cs most fits e count (omega (arith, room))
   of_element r er steps variations packings fit c cs k most false e fits some small varies count room = differing r er steps variations packings fit c cs k most some small varies e count room
 
   -- what was read with k above 0, for each role
-  by_role : (r : Role) → spec.role ≡ r → (c : Content) (cs : List Content) (k most : ℕ) (base : List Bool) (is : List (List Bool)) → 1 ≤ k → k ≤ 63 → AllLong (step_of r spec.kind k) is → length is ≡ n → varied r spec k base is ≡ Ok (c ∷ cs) → spec.width + 6 + n * step_of r spec.kind k ≤ most → IsPacked n spec (c ∷ cs) most
+  by_role : (r : Role) → spec.role ≡ r → (c : Content) (cs : List Content) (k most : ℕ) (base : List Bool) (is : List (List Bool)) → 1 ≤ k → k ≤ 63 → AllLong (step_of r spec.kind k) is → length is ≡ n → varied r spec k base is ≡ Ok (c ∷ cs) → spec.width + 6 + n * step_of r spec.kind k ≤ most → PacksWithin n spec (c ∷ cs) most
   by_role role.Reference er c cs k most base is some small long count e room = cc
   by_role role.Element er c cs k most base is some small long count e room =
       let st : step_of role.Element spec.kind k ≡ step_by spec.kind k = step_element role.Element spec.kind k (λ q. cc) in
@@ -457,16 +458,16 @@ module _ (n : ℕ) (spec : Asked) (good : IsSpec spec) where
 
   -- what was read, with k 0 or above
   by_k : (b : Bool) (k : ℕ) → (k == 0) ≡ b → (c : Content) (cs : List Content) (most : ℕ) (base : List Bool) (is : List (List Bool)) → length base ≡ spec.width → k ≤ 63 → AllLong (step_of spec.role spec.kind k) is → length is ≡ n
-      → (if b then Ok (map (λ i. content_in spec base) is) else varied spec.role spec k base is) ≡ Ok (c ∷ cs) → spec.width + 6 + n * step_of spec.role spec.kind k ≤ most → IsPacked n spec (c ∷ cs) most
+      → (if b then Ok (map (λ i. content_in spec base) is) else varied spec.role spec k base is) ≡ Ok (c ∷ cs) → spec.width + 6 + n * step_of spec.role spec.kind k ≤ most → PacksWithin n spec (c ∷ cs) most
   by_k true k p c cs most base [] lb small long count e room = absurd cc
   by_k true k p c cs most base (i ∷ is) lb small long count e room =
       let f : content_in spec base ∷ map (λ i. content_in spec base) is ≡ c ∷ cs = same_ok _ _ e in
-      subst (λ (xs : List Content). IsPacked n spec xs most) f
+      subst (λ (xs : List Content). PacksWithin n spec xs most) f
       (uniform (content_in spec base) (map (λ i. content_in spec base) is) most (content_fits spec good base lb) (are_same_copies (content_in spec base) is) (omega (arith, count, length-map is (λ i. content_in spec base))) (omega (arith, room)))
   by_k false k p c cs most base is lb small long count e room = by_role spec.role refl c cs k most base is (zero_or_some k false p refl) small long count e room
 
   -- an item that was read is packed so that it is read again, in no more bits
-  pub packed_again : (c : Content) (cs : List Content) (bits mid : List Bool) → packed_field n spec bits ≡ Ok (found (c ∷ cs) mid) → (most : ℕ) × (most + length mid ≤ length bits) × IsPacked n spec (c ∷ cs) most
+  pub packed_again : (c : Content) (cs : List Content) (bits mid : List Bool) → packed_field n spec bits ≡ Ok (found (c ∷ cs) mid) → (most : ℕ) × (most + length mid ≤ length bits) × PacksWithin n spec (c ∷ cs) most
   packed_again c cs bits mid e =
       let k = number_of (take 6 (drop spec.width bits)) in
       let u = unpacked n spec bits (c ∷ cs) mid e in

@@ -10,7 +10,7 @@ use Rattle.bufr_bits.proofs.OnesLemmas.{list_all-append}
 use Rattle.bufr_bits.proofs.ScaledLemmas.{and_first}
 use Rattle.bufr_walk.specs.Content.{Content, number, text, missing, reference, octets_in}
 use Rattle.bufr_walk.specs.PlainField.{FieldFault, increment}
-use Rattle.bufr_walk.specs.PackedField.{ones, and_more, increased, increments, all_increased, text_of}
+use Rattle.bufr_walk.specs.PackedField.{ones, and_more, increased, increments, all_increased, padded_text}
 use Rattle.bufr_fill.specs.Packing.{top, same_octets, has_bits, has_octets}
 use Rattle.bufr_fill.specs.Fits.{AreOctets, FitsNumber, FitsText}
 use Rattle.bufr_fill.proofs.FieldBits.{full_test, length-octets_in, octets_in-are, octet_bits_again}
@@ -160,11 +160,11 @@ text_read count k i false short long e =
           ∙ ap not some;
     }
 
-pub texts_fit : (count k : ℕ) (is : List (List Bool)) → k ≤ count → AllLong (8 * k) is → AreTexts count (map (text_of count k) is)
+pub texts_fit : (count k : ℕ) (is : List (List Bool)) → k ≤ count → AllLong (8 * k) is → AreTexts count (map (padded_text count k) is)
 texts_fit count k [] short long = tt
 texts_fit count k (i ∷ is) short long = ((text_read count k i (all_set i) short long.0 refl).fits, texts_fit count k is short long.1)
 
-pub texts_again : (count k : ℕ) (is : List (List Bool)) → k ≤ count → AllLong (8 * k) is → list_all (has_octets k) (map (text_of count k) is) ≡ true
+pub texts_again : (count k : ℕ) (is : List (List Bool)) → k ≤ count → AllLong (8 * k) is → list_all (has_octets k) (map (padded_text count k) is) ≡ true
 texts_again count k [] short long = refl
 texts_again count k (i ∷ is) short long =
-    ap (λ b. b && list_all (has_octets k) (map (text_of count k) is)) (text_read count k i (all_set i) short long.0 refl).again ∙ texts_again count k is short long.1
+    ap (λ b. b && list_all (has_octets k) (map (padded_text count k) is)) (text_read count k i (all_set i) short long.0 refl).again ∙ texts_again count k is short long.1

@@ -1,4 +1,5 @@
--- Items of compressed data that were read are packed so that they are read again, from the items that a dump writes for them.
+-- Items of compressed data that were read are packed so that they are read again, from the items
+-- that a dump writes for them.
 use Rattle.std.proofs.Common.{◌≡◌, ℕ, ◌+◌, ◌*◌, ◌≤◌, Bool, false, List, [], ◌∷◌, length, Option, Some, None, Ok, Err, refl, sym, ◌∙◌, ap, subst, arith}
 use Rattle.std.specs.Prelude.{nat_lt, if◌then◌else◌}
 use Rattle.std.proofs.lemmas.Bool.Decides.{nat_tests}
@@ -9,7 +10,7 @@ use Rattle.bufr_walk.specs.PackedField.{packed_field}
 use Rattle.bufr_fill.specs.Packing.{packing}
 use Rattle.bufr_fill.specs.Fits.{Fits, AllFit}
 use Rattle.bufr_walk.specs.Reading.{most_values, Item, packed}
-use Rattle.bufr_fill.specs.WrittenAgain.{IsCellOf, AreCellsOf, IsDumpedAcross}
+use Rattle.bufr_fill.proofs.WrittenLists.{IsCellOf, AreCellsOf, IsDumpedAcross}
 use Rattle.bufr_fill.specs.Filling.{written}
 use Rattle.bufr_fill.specs.Draft.{Draft}
 use Rattle.bufr_fill.specs.Fault.{at_line, too_many_values}

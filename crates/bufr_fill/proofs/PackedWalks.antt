@@ -12,7 +12,7 @@ use Rattle.bufr_fill.specs.Draft.{Draft}
 use Rattle.bufr_fill.specs.Entries.{Subset}
 use Rattle.bufr_fill.specs.Fault.{FaultAt, at_line, too_many_values}
 use Rattle.bufr_fill.specs.Filling.{Written, written, fill, and_behind}
-use Rattle.bufr_fill.specs.Filled.{HasFilled}
+use Rattle.bufr_fill.proofs.Filled.{HasFilled}
 use Rattle.bufr_fill.specs.Encoding.{across, cells_at, rows, longest, are_many, first_line, content_here, contents_here, packed_to, pack_across, packed_filler, ◌>>=◌}
 use Rattle.bufr_fill.specs.Packing.{packing}
 use Rattle.bufr_fill.specs.PackedOut.{PackedPen, IsPacked, PackedFills, rows_left}
@@ -56,10 +56,10 @@ within s s' spec t h = by s.subsets refl
   where
     by : (ss : List Subset) → s.subsets ≡ ss → s.place < longest s.subsets
     by [] e =
-        let none : h.item ≡ [] = none_written spec s.place h.contents h.item (ap (λ ss. pack_across spec (across s.place ss)) (sym e) ∙ h.is) in
-        absurd (omega (arith, h.forth, ap length (h.bits ∙ ap (λ b. s.bits ++ b) none ∙ append-nil s.bits)))
+        let none : h.put.item ≡ [] = none_written spec s.place h.put.contents h.put.item (ap (λ ss. pack_across spec (across s.place ss)) (sym e) ∙ h.put.is) in
+        absurd (omega (arith, h.put.forth, ap length (h.put.bits ∙ ap (λ b. s.bits ++ b) none ∙ append-nil s.bits)))
     by (x ∷ ss) e =
-        let there = first_there spec s.place x ss (written h.contents h.item) (ap (λ ss. pack_across spec (across s.place ss)) (sym e) ∙ h.is) in
+        let there = first_there spec s.place x ss (written h.put.contents h.put.item) (ap (λ ss. pack_across spec (across s.place ss)) (sym e) ∙ h.put.is) in
         omega (arith, there, ap longest e)
 
 pub row_first : (n place : ℕ) (ss : List Subset) → place < n → rows (n - place) place ss ≡ across place ss ∷ rows (n - (place + 1)) (place + 1) ss
@@ -68,11 +68,11 @@ row_first n place ss h = let e : n - place ≡ suc (n - (place + 1)) = omega (ar
 pub fills : (end : ℕ) (many : Bool) (s : PackedPen) (spec : Asked) (t : Taken) (s' : PackedPen) → oks PackedFills s spec t s' → HasFilled (packed_filler end many) (rows_left s) s.bits spec t (rows_left s') s'.bits
 fills end many s spec t s' h = record {
   draft = across s.place s.subsets;
-  item = written h.contents h.item;
+  item = written h.put.contents h.put.item;
   here = row_first (longest s.subsets) s.place s.subsets (within s s' spec t h) ∙ ap (λ k. across s.place s.subsets ∷ rows (longest s.subsets - k) k s.subsets) (sym h.place) ∙ ap (λ ss. across s.place s.subsets ∷ rows (longest ss - s'.place) s'.place ss) (sym h.subsets);
-  fills = h.is;
-  tells = h.tells;
-  bits = h.bits;
+  fills = h.put.is;
+  tells = h.put.tells;
+  bits = h.put.bits;
 }
 
 pub walk_of_rows : (end : ℕ) (many : Bool) (course : Course) (s : PackedPen) (items : List Turn) (s' : PackedPen) → Takes (oks PackedFills) course s items s'

@@ -1,4 +1,5 @@
--- Items that fit their fields are written subset after subset so that they are read again; those of compressed data are such items.
+-- Items that fit their fields are written subset after subset so that they are read again; those of
+-- compressed data are such items.
 use Rattle.std.proofs.Common.{◌≡◌, ℕ, zero, suc, ◌+◌, ◌<◌, ◌≤◌, Bool, true, false, List, [], ◌∷◌, ◌++◌, length, Result, Ok, refl, sym, ◌∙◌, ap, subst, arith, append_assoc}
 use Rattle.std.specs.Prelude.{if◌then◌else◌}
 use Rattle.bufr_bits.proofs.ScaledLemmas.{and_first, and_second}
@@ -7,7 +8,7 @@ use Rattle.bufr_walk.specs.declared.spec.Role.TheVariants as role
 use Rattle.bufr_walk.specs.declared.spec.Taken.{Taken}
 use Rattle.bufr_walk.specs.Asked.{Asked, IsSpec}
 use Rattle.bufr_walk.specs.Calls.{content_at}
-use Rattle.bufr_walk.specs.Content.{Content, bits_for, told_by, told}
+use Rattle.bufr_walk.specs.Content.{Content, bits_for, told_by_role, told}
 use Rattle.bufr_walk.specs.Course.{Course, take_next, at_end}
 use Rattle.bufr_walk.specs.PackedField.{packed_field, told_first}
 use Rattle.bufr_walk.specs.PlainField.{FieldFault, found, plain_field}
@@ -20,7 +21,8 @@ use Rattle.bufr_fill.specs.Filling.{fill, fill_one, fill_none, filled, and_behin
 use Rattle.bufr_fill.specs.Fits.{Fits, AllFit}
 use Rattle.bufr_fill.specs.OtherForm.{subsets_from, IsWrittenApart}
 use Rattle.bufr_fill.specs.Packing.{same, are_same, packed_bits, packed_unlike, packing}
-use Rattle.bufr_fill.specs.WrittenAgain.{IsDumped, AreDrafts, AllSpecs, AreDumped, AreDumpedFrom, items_of}
+use Rattle.bufr_fill.specs.WrittenAgain.{IsDumped, AreDrafts, AreDumped, AreDumpedFrom, items_of}
+use Rattle.bufr_fill.proofs.WrittenLists.{AllSpecs}
 use Rattle.bufr_fill.proofs.DraftLaws.{draft_again}
 use Rattle.bufr_fill.proofs.LeastLemmas.{content_same}
 use Rattle.bufr_fill.proofs.PackedLaws.{packed_again, packed_count}
@@ -113,11 +115,11 @@ same_at c (d ∷ cs) (suc j) e h = same_at c cs j (and_second (same c d) (are_sa
 abbrev packed_or : Bool → Role → Asked → Content → List Content → Result (List Bool) FieldFault
 packed_or b r spec c cs = if b then Ok (packed_bits (bits_for spec.width c) 0 []) else packed_unlike r spec (c ∷ cs)
 
-alike : (b : Bool) (r : Role) (spec : Asked) (c : Content) (cs : List Content) (out : List Bool) (j : ℕ) → are_same c cs ≡ b → packed_or b r spec c cs ≡ Ok out → j < length cs → told_by r (content_at j cs) ≡ told_by r c
+alike : (b : Bool) (r : Role) (spec : Asked) (c : Content) (cs : List Content) (out : List Bool) (j : ℕ) → are_same c cs ≡ b → packed_or b r spec c cs ≡ Ok out → j < length cs → told_by_role r (content_at j cs) ≡ told_by_role r c
 alike b role.Element spec c cs out j q e h = refl
 alike b role.Inserted spec c cs out j q e h = refl
-alike true role.Factor spec c cs out j q e h = ap (told_by role.Factor) (same_at c cs j q h)
-alike true role.Reference spec c cs out j q e h = ap (told_by role.Reference) (same_at c cs j q h)
+alike true role.Factor spec c cs out j q e h = ap (told_by_role role.Factor) (same_at c cs j q h)
+alike true role.Reference spec c cs out j q e h = ap (told_by_role role.Reference) (same_at c cs j q h)
 alike false role.Factor spec c cs out j q e h = absurd cc
 alike false role.Reference spec c cs out j q e h = absurd cc
 

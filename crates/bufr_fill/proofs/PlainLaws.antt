@@ -1,4 +1,5 @@
--- A plain field that was read is written so that it is read again, from the item that a dump writes for it.
+-- A plain field that was read is written so that it is read again, from the item that a dump writes
+-- for it.
 use Rattle.std.proofs.Common.{◌≡◌, ℕ, ◌+◌, ◌-◌, ◌≤◌, Bool, true, false, List, ◌++◌, length, take, drop, Result, Ok, Err, refl, ◌∙◌, ap, subst, arith, nat_abs}
 use Rattle.std.specs.Prelude.{nat_lt, if◌then◌else◌}
 use Rattle.std.proofs.lemmas.List.{take_at, drop_at, length-append, length-take-le, length-drop}

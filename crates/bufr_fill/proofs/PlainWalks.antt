@@ -11,7 +11,7 @@ use Rattle.bufr_fill.specs.DraftContent.{plainly, plain_filler}
 use Rattle.bufr_fill.specs.Entries.{Entry, Holds, Ends}
 use Rattle.bufr_fill.specs.Fault.{FaultAt, at_line, item_too_many, walk_refused}
 use Rattle.bufr_fill.specs.Filling.{written, fill, fill_one, fill_none, and_behind}
-use Rattle.bufr_fill.specs.Filled.{HasFilled, IsUnfilled}
+use Rattle.bufr_fill.proofs.Filled.{HasFilled, IsUnfilled}
 use Rattle.bufr_fill.specs.PlainOut.{Pen, PlainFills, IsFaultOf, IsFaultNext, behind_end, line_at, items_left, end_left}
 use Rattle.bufr_fill.proofs.WalkFills.{walk_fills, unfilled}
 

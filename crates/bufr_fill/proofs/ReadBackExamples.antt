@@ -19,7 +19,8 @@ use Rattle.bufr_fill.specs.Fault.{out_of_range, text_long}
 use Rattle.bufr_fill.specs.Normal.{normal_form}
 use Rattle.bufr_fill.specs.ReadBack.{HasOctets, AllHaveOctets, IsSaid, AreSaid, AreSaidFrom}
 
--- fields: a number in 7 bits, one of two places in 16, a text of four octets, and a reference in 10 bits
+-- fields: a number in 7 bits, one of two places in 16, a text of four octets, and a reference in 10
+-- bits
 abbrev asked_as : Role → Kind → (width : ℕ) → (scale : ℤ) → Asked
 asked_as r k w s = record { fxy = 257; role = r; kind = k; width = w; scale = s; reference = pos 0; may_be_missing = true; listed = true }
 

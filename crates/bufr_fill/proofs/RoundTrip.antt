@@ -5,7 +5,8 @@ use Rattle.bufr_walk.specs.Asked.{Asked, IsSpec}
 use Rattle.bufr_walk.specs.Course.{Course, Next, take_next, at_end}
 use Rattle.bufr_walk.specs.PlainField.{found}
 use Rattle.bufr_walk.specs.Reading.{Item, Form, Reads, ReadsAll, after}
-use Rattle.bufr_fill.specs.WrittenAgain.{AreDrafts, AllSpecs}
+use Rattle.bufr_fill.specs.WrittenAgain.{AreDrafts}
+use Rattle.bufr_fill.proofs.WrittenLists.{AllSpecs}
 use Rattle.bufr_fill.specs.Filling.{written, Filler, fill, fill_one, fill_none, filled, and_behind}
 
 -- one item that was read is written so that it is read again, in no more bits

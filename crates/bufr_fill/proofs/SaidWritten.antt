@@ -21,7 +21,8 @@ use Rattle.bufr_fill.specs.Fault.{at_line, too_many_values}
 use Rattle.bufr_fill.specs.Filling.{written, Filler, fill, fill_none}
 use Rattle.bufr_fill.specs.Packing.{packing}
 use Rattle.bufr_fill.specs.ReadBack.{IsSaid, AreSaid, AreSaidFrom}
-use Rattle.bufr_fill.specs.WrittenAgain.{AreDrafts, AllSpecs, EachSpecs, HaveContents, items_of}
+use Rattle.bufr_fill.specs.WrittenAgain.{AreDrafts, items_of}
+use Rattle.bufr_fill.proofs.WrittenLists.{AllSpecs, EachSpecs, HaveContents}
 use Rattle.bufr_fill.proofs.Across.{drop-items_of, content_more, content_none, length-cells, drop_next, drafts_length, length-items_of}
 use Rattle.bufr_fill.proofs.GoodReads.{template_good, plain_specs}
 use Rattle.bufr_fill.proofs.PackedLaws.{packed_again, packed_count}

@@ -9,12 +9,8 @@ use Rattle.bufr_walk.specs.declared.spec.Role.{Role}
 use Rattle.bufr_walk.specs.declared.spec.Role.TheVariants as role
 use Rattle.bufr_walk.specs.Asked.{Asked, IsSpec, HasWidth}
 use Rattle.bufr_walk.specs.Content.{missing, signed_by, said_by, content_by, content_in, sign_bit, bits_for}
+use Rattle.bufr_fill.specs.MinusZero.{IsMinusZero}
 use Rattle.bufr_fill.proofs.FieldBits.{bits_again, octet_bits_again}
-
--- minus zero: the sign bit alone
-abbrev pub IsMinusZero : Role → List Bool → Type 0
-IsMinusZero role.Reference bits = bits ≡ true ∷ replicate (length bits - 1) false
-IsMinusZero _ bits = ⊥
 
 ones_are : (bits : List Bool) → all_set bits ≡ true → replicate (length bits) true ≡ bits
 ones_are [] h = refl

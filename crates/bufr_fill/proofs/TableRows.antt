@@ -1,4 +1,5 @@
--- The rows that the records of a table write are within the limits of what a field can be asked for.
+-- The rows that the records of a table write are within the limits of what a field can be asked
+-- for.
 use Rattle.std.proofs.Common.{◌≡◌, ℕ, ◌^◌, ◌≤◌, ◌<◌, Bool, true, false, ℤ, pos, negsuc, List, [], ◌∷◌, map, Option, Some, None, refl, subst, arith}
 use Rattle.std.specs.Prelude.{if◌then◌else◌, unsigned_abs, nat_le, nat_lt}
 use Rattle.std.proofs.lemmas.Bool.Decides.{nat_tests}
@@ -9,7 +10,7 @@ use Rattle.bufr_tables.specs.Records.{Record, field_of}
 use Rattle.bufr_tables.specs.Steps.{only_if}
 use Rattle.bufr_tables.specs.declared.kind.Kind.{Kind}
 use Rattle.bufr_tables.specs.TableB.{AreRows, Row, allows_width, element_of, natural_part, plain_of, row_of, scale_of, width_of}
-use Rattle.bufr_fill.specs.Limits.{IsRow, AreGoodRows}
+use Rattle.bufr_fill.proofs.Limits.{IsRow, AreGoodRows}
 
 passed : {A P : Type 0} (test : Bool) (x y : A) → only_if test x ≡ Some y → (test ≡ true → x ≡ y → P) → P
 passed true x y is go = go refl (cc is)

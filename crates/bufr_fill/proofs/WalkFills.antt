@@ -5,7 +5,7 @@ use Rattle.bufr_walk.specs.declared.spec.Taken.{Taken}
 use Rattle.bufr_walk.specs.Asked.{Asked}
 use Rattle.bufr_walk.specs.Course.{Course, take_next}
 use Rattle.bufr_fill.specs.Filling.{Filler, fill, fill_one, fill_none, filled, and_behind}
-use Rattle.bufr_fill.specs.Filled.{HasFilled, IsUnfilled}
+use Rattle.bufr_fill.proofs.Filled.{HasFilled, IsUnfilled}
 use Rattle.bufr_walk.specs.Taking.{Turn, Takes, course_after}
 use Rattle.bufr_walk.specs.Walked.{told_by}
 
@@ -31,7 +31,8 @@ module _ {D C E S : Type 0} (filler : Filler D C E) (left : S → List D) (out :
   none (Ok x) = refl
   none (Err why) = refl
 
-  -- what the definition makes of the drafts is what the walk wrote, and what the definition makes of those that are left
+  -- what the definition makes of the drafts is what the walk wrote, and what the definition makes
+  -- of those that are left
   pub walk_fills : (course : Course) (s : S) (items : List Turn) (s' : S) → Takes takes course s items s' → (bits : List Bool) × (out s' ≡ out s ++ bits) × (fill filler course (left s) ≡ and_behind filler bits (fill filler (course_after course items) (left s')))
   walk_fills course s [] s' h = ([], ap out h ∙ sym (append-nil (out s)), none (fill filler course (left s)) ∙ ap (λ x. and_behind filler [] (fill filler course (left x))) (sym h))
   walk_fills course s (i ∷ items) s' h =

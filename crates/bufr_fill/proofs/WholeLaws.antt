@@ -7,13 +7,14 @@ use Rattle.bufr_walk.specs.Reading.{Item, plain, packed, ReadsSubsets, Reads, af
 use Rattle.bufr_fill.specs.DraftContent.{plain_filler}
 use Rattle.bufr_fill.specs.Entries.{Subset}
 use Rattle.bufr_fill.specs.Encoding.{rows, longest, plain_data, packed_filler, are_many, ◌>>=◌}
-use Rattle.bufr_fill.specs.WrittenAgain.{AllSpecs, EachSpecs, AreDumped, IsDumped, IsDumpedAcross, AreDumpedFrom, HaveContents, IsWrittenAgain, IsPackedAgain}
+use Rattle.bufr_fill.specs.WrittenAgain.{AreDumped, IsDumped, AreDumpedFrom, IsWrittenAgain, IsPackedAgain}
+use Rattle.bufr_fill.proofs.WrittenLists.{AllSpecs, EachSpecs, IsDumpedAcross, HaveContents}
 use Rattle.bufr_fill.proofs.RoundTrip.{rewritten}
 use Rattle.bufr_fill.proofs.PlainLaws.{plain_rewritten}
 use Rattle.bufr_tables.specs.TableB.{Row}
 use Rattle.bufr_tables.specs.Tree.{Tree}
 use Rattle.bufr_tables.specs.Legal.{IsLegal}
-use Rattle.bufr_fill.specs.Limits.{AreGoodRows}
+use Rattle.bufr_fill.proofs.Limits.{AreGoodRows}
 use Rattle.bufr_fill.proofs.GoodReads.{template_good, plain_specs, packed_specs}
 use Rattle.bufr_fill.proofs.Across.{rows_dumped}
 use Rattle.bufr_fill.proofs.PackedLaws.{packed_count}

@@ -1,4 +1,5 @@
--- What an item of a dump text is as the content of a field, and which item a dump writes for a content. (a choice of this project)
+-- What an item of a dump text is as the content of a field, and which item a dump writes for a
+-- content. (a choice of this project)
 -- Cited by public contracts.
 use Rattle.std.specs.Prelude.{ℕ, ◌-◌, ◌/◌, ◌^◌, ◌==◌, ◌&&◌, nat_lt, not, Bool, true, false, if◌then◌else◌, List, ◌++◌, length, replicate, ℤ, pos, negsuc, nat_abs, ◌+ℤ◌, ◌-ℤ◌, Result, Ok, Err}
 use Rattle.std.specs.List.{list_all}
@@ -20,7 +21,8 @@ is_marked (text_form octets) = false
 is_marked missing_form = false
 is_marked (reference_token digits) = true
 
--- a decimal that is none, or not whole at its scale, is no number; one past the greatest is out of range
+-- a decimal that is none, or not whole at its scale, is no number; one past the greatest is out of
+-- range
 abbrev pub number_fault : NumberFault → Fault
 number_fault Syntax = wrong_number
 number_fault Inexact = wrong_number
@@ -65,7 +67,8 @@ is_of spec d = (d.fxy == spec.fxy) && (if is_reference spec.role then is_marked 
 abbrev pub wrong_for : Asked → Fault
 wrong_for spec = wrong_descriptor spec.fxy (is_reference spec.role)
 
--- what an item is as the content of a field: another field's item first, then another kind, then what does not fit
+-- what an item is as the content of a field: another field's item first, then another kind, then
+-- what does not fit
 abbrev pub content_of : Asked → Draft → Result Content Fault
 content_of spec d = if is_of spec d then content_by_form d.form spec else Err (wrong_for spec)
 

@@ -1,5 +1,5 @@
--- The data bits of a document: subset after subset, or item after item of all subsets together (WMO-No. 306, Volume I.2, FM 94:
--- section 4; the order of the faults is a choice of this project).
+-- The data bits of a document: subset after subset, or item after item of all subsets together
+-- (WMO-No. 306, Volume I.2, FM 94: section 4; the order of the faults is a choice of this project).
 -- Cited by public contracts.
 use Rattle.std.specs.Prelude.{ℕ, zero, suc, ◌+◌, ◌*◌, nat_lt, max, Bool, if◌then◌else◌, List, [], ◌∷◌, ◌++◌, length, slice_get, Option, Some, None, Result, Ok, Err}
 use Rattle.bufr_walk.specs.Asked.{Asked}
@@ -69,10 +69,6 @@ abbrev pub first_line : List Cell → ℕ
 first_line [] = 0
 first_line (c ∷ cs) = line_of c
 
-abbrev pub first_end : List Subset → ℕ
-first_end [] = 0
-first_end (s ∷ subsets) = s.end_line
-
 -- the line of the first item that is there
 abbrev pub there_or : Option Draft → ℕ → ℕ
 there_or None other = other
@@ -132,7 +128,8 @@ pack_across spec a =
 abbrev pub none_across : (end_line : ℕ) (many : Bool) → Asked → FaultAt
 none_across end_line many spec = if many then at_line end_line (too_many_values spec.fxy) else at_line end_line (wrong_for spec)
 
--- rows of items, where the first subset ends on a line; there may be too many values with an item behind the last row
+-- rows of items, where the first subset ends on a line; there may be too many values with an item
+-- behind the last row
 abbrev pub packed_filler : (end_line : ℕ) (many : Bool) → Filler Across (List Content) FaultAt
 packed_filler end_line many = record {
   fills = pack_across;

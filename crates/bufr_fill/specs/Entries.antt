@@ -1,9 +1,11 @@
--- The items of a dump text one after another, and the lines that end its subsets. (a choice of this project)
+-- The items of a dump text one after another, and the lines that end its subsets. (a choice of this
+-- project)
 -- Cited by public contracts.
 use Rattle.std.specs.Prelude.{ℕ, List, [], ◌∷◌}
 use Rattle.bufr_fill.specs.Draft.{Draft}
 
--- an item, or the end of a subset, each with its line: a subset ends on the line that begins the next one, or on `end`
+-- an item, or the end of a subset, each with its line: a subset ends on the line that begins the
+-- next one, or on `end`
 pub data Entry : Type 0 where
   Holds : (item : Draft) → Entry
   Ends : (line : ℕ) → Entry

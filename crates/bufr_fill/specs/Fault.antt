@@ -4,7 +4,8 @@ use Rattle.std.specs.Prelude.{ℕ, Bool}
 use Rattle.bufr_walk.specs.declared.spec.Refusal.{Refusal}
 
 pub data Fault : Type 0 where
-  -- another descriptor, or a reference mark where none should be or none where one should, or no item
+  -- another descriptor, or a reference mark where none should be or none where one should, or no
+  -- item
   wrong_descriptor : (expected : ℕ) (marked : Bool) → Fault
   wrong_number : Fault
   out_of_range : Fault

@@ -14,7 +14,8 @@ pub record Written (C : Type 0) : Type 0 where
 abbrev pub written : {C : Type 0} → C → List Bool → Written C
 written content bits = record { content = content; bits = bits }
 
--- how drafts D become contents C with their bits, and what is at fault with the faults E: with a draft at its field, where there is none, with one too many, and where the walk is refused
+-- how drafts D become contents C with their bits, and what is at fault with the faults E: with a
+-- draft at its field, where there is none, with one too many, and where the walk is refused
 pub record Filler (D C E : Type 0) : Type 0 where
   pub fills : Asked → D → Result (Written C) E
   pub tells : Asked → C → Taken
@@ -49,7 +50,8 @@ module _ {D C E : Type 0} (filler : Filler D C E) where
   fill_none (refused why) = Err (filler.refused_at_end why)
   fill_none astray = Err filler.lost
 
-  -- the bits of drafts, each at the field that comes next, to the end of the template; or the first fault
+  -- the bits of drafts, each at the field that comes next, to the end of the template; or the first
+  -- fault
   abbrev pub fill : Course → List D → Result (List Bool) E
   fill course [] = fill_none (course []).next
   fill course (d ∷ ds) = fill_one (course []).next d (λ t. fill (λ told. course (t ∷ told)) ds)

@@ -10,6 +10,7 @@ use Rattle.bufr_fill.specs.Entries.{Entry, Holds, Ends}
 use Rattle.bufr_fill.specs.Fault.{FaultAt}
 use Rattle.bufr_fill.specs.Drawn.{content_drawn, IsDrawn}
 use Rattle.bufr_fill.specs.Encoding.{Cell, content_here, contents_here, first_unlike}
+use Rattle.bufr_fill.specs.PlainOut.{WhereTold}
 use Rattle.bufr_fill.specs.Told.{told_fault}
 
 -- where a subset's entries begin, by where the subsets end
@@ -35,14 +36,10 @@ abbrev pub entry_line : Entry → ℕ
 entry_line (Holds d) = d.line
 entry_line (Ends line) = line
 
--- a fault of the text is that of the definition; want of memory is none
-abbrev pub FaultSo : {A : Type 0} → Option FaultAt → Result A FaultAt → Type 0
-FaultSo None expected = Unit {0}
-FaultSo (Some f) expected = expected ≡ Err f
-
+-- an entry was drawn, or the fault that was told is the definition's
 abbrev pub DrawnSo : (count : ℕ) → Asked → Result Content FaultAt → Result Drawn DraftFault → Type 0
 DrawnSo count spec expected (Ok d) = (expected ≡ Ok (content_drawn count d)) × IsDrawn spec d
-DrawnSo count spec expected (Err e) = FaultSo (told_fault e) expected
+DrawnSo count spec expected (Err e) = WhereTold (told_fault e) (λ f. expected ≡ Err f)
 
 abbrev pub AllDrawn : Asked → List Drawn → Type 0
 AllDrawn spec [] = Unit {0}
@@ -66,7 +63,7 @@ pub record IsGathering (count : ℕ) (spec : Asked) (cells : List Cell) (number 
 -- all were drawn, or the first fault was told
 abbrev pub GatheredSo : (count : ℕ) → Asked → List Cell → List Drawn → Result (Unit {0}) DraftFault → Type 0
 GatheredSo count spec cells drawn (Ok _) = (contents_here spec cells ≡ Ok (contents_drawn count drawn)) × AllDrawn spec drawn × (length drawn ≡ length cells)
-GatheredSo count spec cells drawn (Err e) = FaultSo (told_fault e) (contents_here spec cells)
+GatheredSo count spec cells drawn (Err e) = WhereTold (told_fault e) (λ f. contents_here spec cells ≡ Err f)
 
 -- the line of the first subset, from one on, whose content is not the first one's
 abbrev pub unlike_from : (all left : List Content) → List Cell → ℕ

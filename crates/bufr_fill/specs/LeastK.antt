@@ -1,5 +1,5 @@
--- The k with which an item of compressed data is packed (WMO-No. 306, Volume I.2, FM 94: section 4, compression; that it is the
--- least is a choice of this project).
+-- The k with which an item of compressed data is packed (WMO-No. 306, Volume I.2, FM 94: section 4,
+-- compression; that it is the least is a choice of this project).
 -- Cited by public contracts.
 use Rattle.std.specs.Prelude.{◌≡◌, ℕ, ◌+◌, ◌≤◌, Bool, List, ◌++◌, length, take, drop, Ok}
 use Rattle.bufr_bits.specs.Bits.{number_of}
@@ -13,8 +13,8 @@ use Rattle.bufr_fill.specs.Packing.{packing}
 abbrev pub k_of : Asked → List Bool → ℕ
 k_of spec bits = number_of (take 6 (drop spec.width bits))
 
--- the contents of an item for n subsets are packed in bits from which they are read again; and whatever bits they are read
--- from, these have no lesser k, and are no fewer
+-- the contents of an item for n subsets are packed in bits from which they are read again; and
+-- whatever bits they are read from, these have no lesser k, and are no fewer
 pub record HasLeastK (n : ℕ) (spec : Asked) (contents : List Content) : Type 0 where
   pub out : List Bool
   pub is : packing spec contents ≡ Ok out

@@ -1,4 +1,5 @@
--- What a change of form says: data that were read in one form, and the bits that are written from their dump in the other. (a choice of this project)
+-- What a change of form says: data that were read in one form, and the bits that are written from
+-- their dump in the other. (a choice of this project)
 -- Cited by public contracts.
 use Rattle.std.specs.Prelude.{◌≡◌, ◌⊎◌, ℕ, zero, suc, Bool, List, [], ◌∷◌, ◌++◌, length, Ok, Err}
 use Rattle.bufr_walk.specs.Content.{Content}
@@ -14,19 +15,22 @@ abbrev pub subsets_from : (left subset : ℕ) → List (Item (List Content)) →
 subsets_from zero j items = []
 subsets_from (suc left) j items = items_of j items ∷ subsets_from left (suc j) items
 
--- a fault of contents that compressed data cannot hold: factors that differ, or contents that no increments tell apart
+-- a fault of contents that compressed data cannot hold: factors that differ, or contents that no
+-- increments tell apart
 abbrev pub IsUnlike : Fault → Type 0
 IsUnlike unequal_factors = Unit {0}
 IsUnlike uneven_increment = Unit {0}
 IsUnlike _ = ⊥
 
--- items of n subsets that were read together are written subset after subset, to bits from which each subset's items are read
+-- items of n subsets that were read together are written subset after subset, to bits from which
+-- each subset's items are read
 pub record IsWrittenApart (n : ℕ) (course : Course) (items : List (Item (List Content))) (drafts : List Subset) : Type 0 where
   pub out : List Bool
   pub is : plain_data course drafts ≡ Ok out
   pub again : (more : List Bool) → IsPlainReading n course (subsets_from n 0 items) (out ++ more) more
 
--- items that were read subset after subset are written together, to bits from which the items of each subset are read
+-- items that were read subset after subset are written together, to bits from which the items of
+-- each subset are read
 pub record IsWrittenTogether (course : Course) (subsets : List (List (Item Content))) (drafts : List Subset) : Type 0 where
   pub items : List (Item (List Content))
   pub same : subsets_from (length subsets) 0 items ≡ subsets

@@ -1,4 +1,5 @@
--- Fields that are written from the items of a dump text for all subsets together. (a choice of this project)
+-- Fields that are written from the items of a dump text for all subsets together. (a choice of this
+-- project)
 -- Cited by public contracts.
 use Rattle.std.specs.Prelude.{ℕ, ◌≡◌, ◌≤◌, ◌<◌, ◌+◌, ◌-◌, ◌*◌, ◌^◌, Bool, List, [], ◌∷◌, ◌++◌, length, Option, Some, None, Result, Ok, Err}
 use Rattle.bufr_walk.specs.declared.spec.Taken.{Taken}
@@ -45,22 +46,27 @@ pub record IsPackedOut (entries : List Entry) (ends : List ℕ) (place bits : �
   pub room : bits ≤ 2550 * (place * length ends)
   pub values : place * length ends ≤ most_values
 
--- the next item of all subsets was written
-pub record IsPacked (s : PackedPen) (spec : Asked) (t : Taken) (s' : PackedPen) : Type 0 where
+-- the item of all subsets at one place was written behind what stood there
+pub record IsPutAcross (old new : List Bool) (spec : Asked) (a : Across) (t : Taken) : Type 0 where
   pub contents : List Content
   pub item : List Bool
-  pub is : pack_across spec (across s.place s.subsets) ≡ Ok (written contents item)
+  pub is : pack_across spec a ≡ Ok (written contents item)
   pub tells : t ≡ told_first spec contents
-  pub bits : s'.bits ≡ s.bits ++ item
+  pub bits : new ≡ old ++ item
+  pub forth : length old < length new
+
+-- the next item of all subsets was written
+pub record IsPacked (s : PackedPen) (spec : Asked) (t : Taken) (s' : PackedPen) : Type 0 where
+  pub put : IsPutAcross s.bits s'.bits spec (across s.place s.subsets) t
   pub place : s'.place ≡ s.place + 1
   pub subsets : s'.subsets ≡ s.subsets
-  pub forth : length s.bits < length s'.bits
 
 -- the fault of the next item of all subsets
 abbrev pub IsFaultAcross : Asked → PackedPen → FaultAt → Type 0
 IsFaultAcross spec s f = pack_across spec (across s.place s.subsets) ≡ Err f
 
--- one call: the next item of all subsets was packed, or it is at fault, or memory ran out; then nothing is changed
+-- one call: the next item of all subsets was packed, or it is at fault, or memory ran out; then
+-- nothing is changed
 abbrev pub PackedFills : PackedPen → Asked → Result Taken DraftFault → PackedPen → Type 0
 PackedFills s spec (Ok t) s' = IsPacked s spec t s'
 PackedFills s spec (Err e) s' = WhereTold (told_fault e) (IsFaultAcross spec s) × (s' ≡ s)
@@ -87,7 +93,8 @@ first_line_at place subsets = first_line (cells_at place subsets)
 abbrev pub rows_left : PackedPen → List Across
 rows_left s = rows (longest s.subsets - s.place) s.place s.subsets
 
--- the fault where the writer stands, by what comes next: that of the item, that of the walk on the next item's line, or an item that is left over
+-- the fault where the writer stands, by what comes next: that of the item, that of the walk on the
+-- next item's line, or an item that is left over
 abbrev pub IsFaultHere : Next → PackedPen → FaultAt → Type 0
 IsFaultHere (take_next spec) s f = IsFaultAcross spec s f
 IsFaultHere (refused why) s f = f ≡ at_line (first_line_at s.place s.subsets) (walk_refused why)

@@ -1,5 +1,6 @@
--- How the contents of one item are packed for all subsets: the least base, and the least k (WMO-No. 306, Volume I.2, FM 94: section 4,
--- compression; that both are the least is a choice of this project).
+-- How the contents of one item are packed for all subsets: the least base, and the least k (WMO-No.
+-- 306, Volume I.2, FM 94: section 4, compression; that both are the least is a choice of this
+-- project).
 -- Cited by public contracts.
 use Rattle.std.specs.Prelude.{ℕ, zero, suc, ◌+◌, ◌-◌, ◌*◌, ◌^◌, ◌==◌, ◌&&◌, nat_lt, nat_le, min, not, Bool, true, false, if◌then◌else◌, List, [], ◌∷◌, ◌++◌, take, replicate, length, Option, Some, None, unwrap_or, nat_abs, Result, Ok, Err}
 use Rattle.std.specs.List.{list_all, flat_map}
@@ -87,11 +88,11 @@ abbrev pub packed_bits : (base : List Bool) (k : ℕ) (more : List Bool) → Lis
 packed_bits base k more = base ++ (bits_in k 6 ++ more)
 
 -- numbers that differ, over the least of them
-abbrev pub packed_numbers : (m : Bool) (width base k : ℕ) → List Content → List Bool
-packed_numbers m width base k cs = packed_bits (bits_in base width) k (flat_map (increment_bits base k) cs)
+abbrev pub packed_numbers : (width base k : ℕ) → List Content → List Bool
+packed_numbers width base k cs = packed_bits (bits_in base width) k (flat_map (increment_bits base k) cs)
 
 abbrev pub numbers_over : (m : Bool) (width base : ℕ) → List Content → List Bool
-numbers_over m width base cs = packed_numbers m width base (least_k (has_bits m base) cs) cs
+numbers_over m width base cs = packed_numbers width base (least_k (has_bits m base) cs) cs
 
 -- texts that differ: the base is zero bits
 abbrev pub packed_texts : (width k : ℕ) → List Content → Result (List Bool) FieldFault

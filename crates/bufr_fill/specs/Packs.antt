@@ -10,11 +10,9 @@ use Rattle.bufr_fill.specs.Packing.{top, smaller, first_from}
 use Rattle.bufr_walk.specs.declared.spec.Taken.{Taken}
 use Rattle.bufr_fill.specs.declared.fault.DraftFault.{DraftFault}
 use Rattle.bufr_walk.specs.Asked.{Asked}
-use Rattle.bufr_walk.specs.Content.{Content}
-use Rattle.bufr_walk.specs.PackedField.{told_first}
 use Rattle.bufr_fill.specs.Encoding.{Across, pack_across}
 use Rattle.bufr_fill.specs.Fault.{FaultAt}
-use Rattle.bufr_fill.specs.Filling.{written}
+use Rattle.bufr_fill.specs.PackedOut.{IsPutAcross}
 use Rattle.bufr_fill.specs.Told.{told_fault}
 use Rattle.bufr_walk.specs.PlainField.{FieldFault, increment, unequal_factor}
 
@@ -46,7 +44,8 @@ abbrev pub trimmed : List ℕ → ℕ
 trimmed [] = 0
 trimmed (o ∷ os) = if (trimmed os == 0) && (o == 32) then 0 else suc (trimmed os)
 
--- how many octets tell a text: those before the spaces at its end, and one more where these read as missing
+-- how many octets tell a text: those before the spaces at its end, and one more where these read as
+-- missing
 abbrev pub need : List ℕ → ℕ
 need os = if list_all (λ octet. octet == 255) (take (trimmed os) os) then suc (trimmed os) else trimmed os
 
@@ -68,7 +67,8 @@ octet_in (o ∷ os) (suc i) = octet_in os i
 abbrev pub Grows : (old new : List Bool) → Type 0
 Grows old new = (more : List Bool) × (new ≡ old ++ more)
 
--- an item was packed in at most so many bits, or it cannot be; want of memory may leave some of its bits behind the earlier ones
+-- an item was packed in at most so many bits, or it cannot be; want of memory may leave some of its
+-- bits behind the earlier ones
 abbrev pub PackedSo : (old new : List Bool) → (expected : Result (List Bool) FieldFault) → (most : ℕ) → Result (Unit {0}) Unpacked → Type 0
 PackedSo old new expected most (Ok _) = (bits : List Bool) × (expected ≡ Ok bits) × (new ≡ old ++ bits) × (length bits ≤ most) × (length old < length new)
 PackedSo old new expected most (Err unpacked.Unequal) = (expected ≡ Err unequal_factor) × (new ≡ old)
@@ -84,20 +84,16 @@ abbrev pub AreShort : (base k : ℕ) → List Drawn → Type 0
 AreShort base k [] = Unit {0}
 AreShort base k (d ∷ ds) = IsShort base k d × AreShort base k ds
 
--- the item of all subsets at a place was written, in at most so many bits, or it is at fault, or memory ran out
+-- the item of all subsets at a place was written, in at most so many bits, or it is at fault, or
+-- memory ran out
 abbrev pub PutFault : Option FaultAt → (old new : List Bool) → Asked → Across → Type 0
 PutFault None old new spec a = Grows old new
 PutFault (Some f) old new spec a = (pack_across spec a ≡ Err f) × (new ≡ old)
 
-pub record IsPutAcross (old new : List Bool) (spec : Asked) (a : Across) (most : ℕ) (t : Taken) : Type 0 where
-  pub contents : List Content
-  pub item : List Bool
-  pub is : pack_across spec a ≡ Ok (written contents item)
-  pub tells : t ≡ told_first spec contents
-  pub bits : new ≡ old ++ item
-  pub few : length item ≤ most
-  pub some : length old < length new
+pub record IsPutWithin (old new : List Bool) (spec : Asked) (a : Across) (most : ℕ) (t : Taken) : Type 0 where
+  pub put : IsPutAcross old new spec a t
+  pub few : length put.item ≤ most
 
 abbrev pub PutAcross : (old new : List Bool) → Asked → Across → (most : ℕ) → Result Taken DraftFault → Type 0
-PutAcross old new spec a most (Ok t) = IsPutAcross old new spec a most t
+PutAcross old new spec a most (Ok t) = IsPutWithin old new spec a most t
 PutAcross old new spec a most (Err e) = PutFault (told_fault e) old new spec a

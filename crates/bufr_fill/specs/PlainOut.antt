@@ -1,4 +1,5 @@
--- Fields that are written from the items of a dump text, one subset after another. (a choice of this project)
+-- Fields that are written from the items of a dump text, one subset after another. (a choice of
+-- this project)
 -- Cited by public contracts.
 use Rattle.std.specs.Prelude.{ℕ, ◌≡◌, ◌≤◌, ◌<◌, ◌*◌, ◌^◌, Bool, List, [], ◌∷◌, ◌++◌, length, Option, Some, None, Result, Ok, Err}
 use Rattle.bufr_walk.specs.declared.spec.Taken.{Taken}
@@ -36,7 +37,8 @@ pub record IsFilled (s : Pen) (spec : Asked) (t : Taken) (s' : Pen) : Type 0 whe
   pub bits : s'.bits ≡ s.bits ++ bits_for spec.width content
   pub forth : length s.bits < length s'.bits
 
--- the fault of the next item, or of the line that ends the subset; behind the last subset there is no line
+-- the fault of the next item, or of the line that ends the subset; behind the last subset there is
+-- no line
 abbrev pub IsFaultOf : Asked → List Entry → FaultAt → Type 0
 IsFaultOf spec [] f = f ≡ at_line 0 (wrong_for spec)
 IsFaultOf spec (Ends line ∷ more) f = f ≡ at_line line (wrong_for spec)
@@ -47,7 +49,8 @@ abbrev pub WhereTold : Option FaultAt → (FaultAt → Type 0) → Type 0
 WhereTold None p = Unit {0}
 WhereTold (Some f) p = p f
 
--- one call: the next item was written, or it is at fault, or memory ran out; then nothing is changed
+-- one call: the next item was written, or it is at fault, or memory ran out; then nothing is
+-- changed
 abbrev pub PlainFills : Pen → Asked → Result Taken DraftFault → Pen → Type 0
 PlainFills s spec (Ok t) s' = IsFilled s spec t s'
 PlainFills s spec (Err e) s' = WhereTold (told_fault e) (IsFaultOf spec s.left) × (s' ≡ s)
@@ -69,7 +72,8 @@ abbrev pub PassesEnd : Pen → Result (Unit {0}) DraftFault → Pen → Type 0
 PassesEnd s (Ok _) s' = (behind_end s.left ≡ Ok s'.left) × (s'.bits ≡ s.bits)
 PassesEnd s (Err e) s' = ((f : FaultAt) × (told_fault e ≡ Some f) × (behind_end s.left ≡ Err f)) × (s' ≡ s)
 
--- the fault at the next entry, by what comes next: that of the item, that of the walk on the entry's line, or an item that is left over
+-- the fault at the next entry, by what comes next: that of the item, that of the walk on the
+-- entry's line, or an item that is left over
 abbrev pub IsFaultNext : Next → List Entry → FaultAt → Type 0
 IsFaultNext (take_next spec) left f = IsFaultOf spec left f
 IsFaultNext (refused why) left f = f ≡ at_line (line_at left) (walk_refused why)

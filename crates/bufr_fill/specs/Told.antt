@@ -1,4 +1,5 @@
--- The faults that the code tells, as the definitions name them (the numbers are a choice of this project).
+-- The faults that the code tells, as the definitions name them (the numbers are a choice of this
+-- project).
 -- Cited by public contracts.
 use Rattle.std.specs.Prelude.{ℕ, true, false, Option, Some, None}
 use Rattle.bufr_fill.specs.declared.fault.Expected.{Expected}

@@ -1,15 +1,15 @@
--- What the round trip of data says: a reading, its dump, and the bits that are written from it. (a choice of this project)
+-- What the round trip of data says: a reading, its dump, and the bits that are written from it. (a
+-- choice of this project)
 -- Cited by public contracts.
-use Rattle.std.specs.Prelude.{◌≡◌, ℕ, suc, ◌+◌, ◌*◌, ◌≤◌, Bool, List, [], ◌∷◌, ◌++◌, length, Option, Some, None, Ok}
-use Rattle.bufr_walk.specs.Asked.{Asked, IsSpec}
+use Rattle.std.specs.Prelude.{◌≡◌, ℕ, suc, ◌+◌, ◌≤◌, Bool, List, [], ◌∷◌, ◌++◌, length, Ok}
 use Rattle.bufr_walk.specs.Course.{Course}
 use Rattle.bufr_walk.specs.Calls.{content_at}
 use Rattle.bufr_walk.specs.Content.{Content}
-use Rattle.bufr_walk.specs.Reading.{most_values, Item, IsPackedReading, ReadsSubsets}
+use Rattle.bufr_walk.specs.Reading.{Item, IsPackedReading, ReadsSubsets}
 use Rattle.bufr_fill.specs.Draft.{Draft}
 use Rattle.bufr_fill.specs.DraftContent.{form_of}
 use Rattle.bufr_fill.specs.Entries.{Subset}
-use Rattle.bufr_fill.specs.Encoding.{Cell, Across, plain_data, packed_data}
+use Rattle.bufr_fill.specs.Encoding.{plain_data, packed_data}
 
 -- a draft is the one that a dump writes for an item, on some line
 abbrev pub IsDumped : Item Content → Draft → Type 0
@@ -22,39 +22,15 @@ AreDrafts of_item [] (d ∷ ds) = ⊥
 AreDrafts of_item (i ∷ items) [] = ⊥
 AreDrafts of_item (i ∷ items) (d ∷ ds) = of_item i d × AreDrafts of_item items ds
 
--- each item was asked for as a field may be
-abbrev pub AllSpecs : {C : Type 0} → List (Item C) → Type 0
-AllSpecs [] = Unit {0}
-AllSpecs (i ∷ items) = IsSpec i.spec × AllSpecs items
-
-abbrev pub EachSpecs : List (List (Item Content)) → Type 0
-EachSpecs [] = Unit {0}
-EachSpecs (items ∷ subsets) = AllSpecs items × EachSpecs subsets
-
+-- subset by subset
 abbrev pub AreDumped : List (List (Item Content)) → List Subset → Type 0
 AreDumped [] [] = Unit {0}
 AreDumped [] (s ∷ ss) = ⊥
 AreDumped (items ∷ subsets) [] = ⊥
 AreDumped (items ∷ subsets) (s ∷ ss) = AreDrafts IsDumped items s.items × AreDumped subsets ss
 
--- each cell has the draft that a dump writes for its content
-abbrev pub IsCellOf : Asked → Content → Option Draft → Type 0
-IsCellOf spec c None = ⊥
-IsCellOf spec c (Some d) = (d.fxy ≡ spec.fxy) × (d.form ≡ form_of spec c)
-
-abbrev pub AreCellsOf : Asked → List Content → List Cell → Type 0
-AreCellsOf spec [] [] = Unit {0}
-AreCellsOf spec [] (cell ∷ cells) = ⊥
-AreCellsOf spec (c ∷ cs) [] = ⊥
-AreCellsOf spec (c ∷ cs) (cell ∷ cells) = IsCellOf spec c cell.draft × AreCellsOf spec cs cells
-
--- so many subsets' drafts of one item, at a place that is not past the most values
-pub record IsDumpedAcross (n : ℕ) (i : Item (List Content)) (a : Across) : Type 0 where
-  pub cells : AreCellsOf i.spec i.content a.cells
-  pub total : length a.cells ≡ n
-  pub few : (a.place + 1) * n ≤ most_values
-
--- items that were read from bits are written again from the drafts of their dump: to bits with the same reading, and no more of them
+-- items that were read from bits are written again from the drafts of their dump: to bits with the
+-- same reading, and no more of them
 pub record IsWrittenAgain (course : Course) (subsets : List (List (Item Content))) (drafts : List Subset) (bits behind : List Bool) : Type 0 where
   pub out : List Bool
   pub is : plain_data course drafts ≡ Ok out
@@ -76,8 +52,3 @@ items_of j (i ∷ items) = record { spec = i.spec; content = content_at j i.cont
 abbrev pub AreDumpedFrom : (subset : ℕ) → List (Item (List Content)) → List Subset → Type 0
 AreDumpedFrom j items [] = Unit {0}
 AreDumpedFrom j items (s ∷ ss) = AreDrafts IsDumped (items_of j items) s.items × AreDumpedFrom (suc j) items ss
-
--- each item has so many contents
-abbrev pub HaveContents : ℕ → List (Item (List Content)) → Type 0
-HaveContents n [] = Unit {0}
-HaveContents n (i ∷ items) = (length i.content ≡ n) × HaveContents n items

@@ -1,4 +1,5 @@
-//! What can be wrong with the items of a dump text (the numbers and their order are a choice of this project).
+//! What can be wrong with the items of a dump text (the numbers and their order are a choice of
+//! this project).
 ghost use Rattle.std.specs.Prelude.{◌≡◌, Some};
 
 use bufr_tables::Fxy;
@@ -21,7 +22,8 @@ pub enum DraftFault {
     /// Another item, or none, stands where this is expected.
     #[error("another item is expected")]
     WrongDescriptor(u64, Expected),
-    /// No decimal, or one that is not whole at the field's scale, or a form of another kind than the field.
+    /// No decimal, or one that is not whole at the field's scale, or a form of another kind than
+    /// the field.
     #[error("not a number of the field")]
     Number(u64),
     /// It does not fit the field's bits, or would read as missing.

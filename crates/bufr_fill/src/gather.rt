@@ -23,7 +23,8 @@ fn begin_of(ends: &[usize], subset: usize) -> usize
     if subset == 0 { 0 } else { ends[subset - 1] + 1 }
 }
 
-/// A subset's entry at a place, counted from its first: its item, or its end where that comes first.
+/// A subset's entry at a place, counted from its first: its item, or its end where that comes
+/// first.
 pub(crate) fn entry_of<'a, 's>(
     entries: &'s [Entry<'a>],
     ends: &[usize],
@@ -66,7 +67,8 @@ fn draw_entry<'a>(entry: &Entry<'a>, spec: &Spec) -> Result<Drawn<'a>, DraftFaul
     }
 }
 
-/// Draws what each subset gives at a place, for a field; the ends are the places of the entries that end the subsets.
+/// Draws what each subset gives at a place, for a field; the ends are the places of the entries
+/// that end the subsets.
 pub(crate) fn gather<'a>(
     entries: &[Entry<'a>],
     ends: &[usize],

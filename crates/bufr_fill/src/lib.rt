@@ -1,4 +1,8 @@
 //! The items of a dump text, and their writing as the data of FM 94 BUFR.
+//!
+//! An encoder hands the items of a document ([`Entry`]) to a [`PlainOut`], which writes subset
+//! after subset, or to a [`PackedOut`], which writes each item once for all subsets; the walk of
+//! `bufr_walk` goes over either, and the octets are taken behind it.
 #![tactic(auto)]
 
 mod draft;

@@ -16,18 +16,17 @@ use crate::gather::{all_end, first_line, gather, unlike_line};
 use crate::packing::{Unpacked, pack};
 use crate::put::taken_of;
 use bufr_bits::BitWriter;
-use bufr_walk::{Fields, Spec, Taken};
+use bufr_walk::{Fields, MOST_VALUES, Spec, Taken};
 use std::alloc::{AllocError, Global};
 use std::marker::Model;
 
-/// The most values of a compressed message.
-const MOST_VALUES: u64 = 134_217_728;
-
-/// Items of a dump text, each written once for all subsets as a base, six bits `k`, and an increment for each subset
-/// where `k` is above 0 (WMO-No. 306, Volume I.2, FM 94: section 4, compression). One walk takes the items of all subsets.
+/// Items of a dump text, each written once for all subsets as a base, six bits `k`, and an
+/// increment for each subset where `k` is above 0 (WMO-No. 306, Volume I.2, FM 94: section 4,
+/// compression). One walk takes the items of all subsets.
 ///
-/// A contract sees it as the subsets, how many items of each were taken, and the bits of these items. A refusal, for want of
-/// memory too, changes none of them: what was written of the item is cut off again.
+/// A contract sees it as the subsets, how many items of each were taken, and the bits of these
+/// items. A refusal, for want of memory too, changes none of them: what was written of the item is
+/// cut off again.
 #[derive(Drop)]
 pub struct PackedOut<'s, 'a> {
     entries: &'s [Entry<'a>],
@@ -132,8 +131,8 @@ impl<'s, 'a> PackedOut<'s, 'a> {
     ghost use Rattle.bufr_fill.specs.Given.{entry_in};
     ghost use Rattle.bufr_fill.specs.PackedOut.{StartsSo, first_line_at, EndsSo};
 
-    /// The items of all subsets and the lines that end them, at most 2^45 together; `None` where there is no subset, since
-    /// no bit is written then.
+    /// The items of all subsets and the lines that end them, at most 2^45 together; `None` where
+    /// there is no subset, since no bit is written then.
     ///
     /// # Errors
     ///
@@ -158,7 +157,8 @@ impl<'s, 'a> PackedOut<'s, 'a> {
         }))
     }
 
-    /// The number of the next item's line in the first subset, or of the line that ends that subset.
+    /// The number of the next item's line in the first subset, or of the line that ends that
+    /// subset.
     pub fn line(&self) -> u64
         ensures { result ≡ first_line_at self.now.place self.now.subsets }
     {
@@ -203,7 +203,7 @@ impl<'s, 'a> Fields for PackedOut<'s, 'a> {
 
     ghost takes = { PackedFills };
 
-    ghost advances = { λ s spec t next h. h.forth };
+    ghost advances = { λ s spec t next h. h.put.forth };
 
     ghost refuses = { λ s spec e next h. ap (λ c. length c.bits) h.1 };
 

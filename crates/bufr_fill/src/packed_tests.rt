@@ -1,4 +1,5 @@
-// What is shown by running: worked items of compressed data, each fault, and the order of the faults.
+// What is shown by running: worked items of compressed data, each fault, and the order of the
+// faults.
 use super::*;
 use crate::tests::{Way, assert_rows, hexadecimal, stopped, told};
 use bufr_tables::{TableB, Template};
@@ -6,7 +7,8 @@ use bufr_walk::{Fields, Steps, walk};
 use std::alloc::Global;
 use std::test::Fail;
 
-// A name for what is shown, the descriptors, the items of all subsets, and what comes of them, written as those of `tests`.
+// A name for what is shown, the descriptors, the items of all subsets, and what comes of them,
+// written as those of `tests`.
 const TOGETHER: &[(&str, &str, &str, &str)] = &[
     (
         "compressed_missing",
@@ -76,8 +78,8 @@ const TOGETHER: &[(&str, &str, &str, &str)] = &[
     ("no_subset", "001001", "", ""),
 ];
 
-// The faults of compressed data with their order: an item of all subsets before the next one; at an item each subset in turn,
-// and what all of them say together behind that.
+// The faults of compressed data with their order: an item of all subsets before the next one; at an
+// item each subset in turn, and what all of them say together behind that.
 const TOGETHER_REFUSED: &[(&str, &str, &str, &str)] = &[
     (
         "factors_differ",

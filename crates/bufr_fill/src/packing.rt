@@ -141,7 +141,8 @@ fn spread_of(drawn: &[Drawn<'_>], base: u64) -> u64
     most
 }
 
-/// The least `k` from 1 to 63 whose bits write an increment, all ones aside where that is missing; 64 where none does.
+/// The least `k` from 1 to 63 whose bits write an increment, all ones aside where that is missing;
+/// 64 where none does.
 #[tactic(auto, using(crate::proofs::PackSteps::least_here, crate::proofs::PackSteps::least_later, crate::proofs::PackSteps::least_end))]
 fn least_bits(spread: u64, may_be_missing: bool) -> u32
     ensures { result ≡ least_from may_be_missing spread 1 }
@@ -242,6 +243,7 @@ fn drawn_need(drawn: Drawn<'_>, spec: &Spec) -> usize
     requires { IsDrawn spec.now drawn }
     ensures value { result ≡ need_of drawn.entry }
 {
+    // For the proof alone: a text has at most 255 octets.
     let _width = spec.width();
     match drawn {
         Drawn::Text(octets) => text_need(octets),
@@ -279,6 +281,7 @@ fn push_front(
     ensures len { OnOk result (length out.new ≡ length out.old + 8 * k) }
     ensures grown { Grows out.old out.new }
 {
+    // For the proof alone: a text has at most 255 octets.
     let _width = spec.width();
     match drawn {
         Drawn::Text(octets) => out.push_octets(&with_spaces(octets)[..k]),
@@ -331,6 +334,7 @@ fn pack_texts(out: &mut BitWriter, drawn: &[Drawn<'_>], spec: &Spec) -> Result<(
     requires room { length out.old + (2046 + 504 * length drawn.now) + 2040 ≤ 2 ^ 63 }
     ensures { PackedSo out.old out.new (packed_by spec.now.kind spec.now (contents_drawn (spec.now.width / 8) drawn.now)) (2046 + 504 * length drawn.now) result }
 {
+    // For the proof alone: a text has at most 255 octets.
     let _width = spec.width();
     let k = octets_needed(drawn, spec);
     if k > 63 {
@@ -375,7 +379,8 @@ fn pack_unlike(out: &mut BitWriter, drawn: &[Drawn<'_>], spec: &Spec) -> Result<
     }
 }
 
-/// Writes the contents of an item for all subsets: the least base and the least `k` from which they are read again.
+/// Writes the contents of an item for all subsets: the least base and the least `k` from which they
+/// are read again.
 #[tactic(auto, using(crate::proofs::PackSteps::drawn_at))]
 pub(crate) fn pack(out: &mut BitWriter, drawn: &[Drawn<'_>], spec: &Spec) -> Result<(), Unpacked>
     requires some { 1 ≤ length drawn.now }

@@ -45,7 +45,8 @@ impl<'s, 'a> PlainOut<'s, 'a> {
     ghost use Rattle.bufr_fill.specs.Given.{entry_in};
     ghost use Rattle.bufr_fill.specs.PlainOut.{pen, line_at, PassesEnd};
 
-    /// The items of all subsets and the lines that end them, at most 2^45 together. It takes no memory.
+    /// The items of all subsets and the lines that end them, at most 2^45 together. It takes no
+    /// memory.
     pub fn new(alloc: Global, entries: &'s [Entry<'a>]) -> PlainOut<'s, 'a>
         requires { length entries.now ≤ 2 ^ 45 }
         ensures { result ≡ pen (map entry_in entries.now) [] }
@@ -57,7 +58,8 @@ impl<'s, 'a> PlainOut<'s, 'a> {
         }
     }
 
-    /// The number of the next item's line, or of the line that ends the subset; 0 behind the last subset.
+    /// The number of the next item's line, or of the line that ends the subset; 0 behind the last
+    /// subset.
     pub fn line(&self) -> u64
         ensures { result ≡ line_at self.now.left }
     {
@@ -87,7 +89,8 @@ impl<'s, 'a> PlainOut<'s, 'a> {
         }
     }
 
-    /// The octets of the bits that were written, with zero bits to the next octet. It takes no memory.
+    /// The octets of the bits that were written, with zero bits to the next octet. It takes no
+    /// memory.
     pub fn into_octets(self) -> Vec<u8>
         ensures bits { bits_of result.items ≡ self.entry.bits ++ padding (length self.entry.bits) }
         ensures len { vec_len result ≡ (length self.entry.bits + 7) / 8 }

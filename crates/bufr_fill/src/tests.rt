@@ -21,9 +21,10 @@ const TABLE_B: &[u8] = b"\
 
 const TABLE_D: &[u8] = b"fxy,member\n360192,001001\n360192,012101\n";
 
-// A name for what is shown, the descriptors, the items, and what comes of them: the octets of the data, or the number of
-// a fault and its line. An item is a descriptor and a form: a number, a text behind ', a named text behind #, MISSING, or
-// a reference behind R; a / ends a subset. Each stands on a line of its own, from line 24 on.
+// A name for what is shown, the descriptors, the items, and what comes of them: the octets of the
+// data, or the number of a fault and its line. An item is a descriptor and a form: a number, a text
+// behind ', a named text behind #, MISSING, or a reference behind R; a / ends a subset. Each stands
+// on a line of its own, from line 24 on.
 const APART: &[(&str, &str, &str, &str)] = &[
     ("one_block_number", "001001", "001001 10 /", "14"),
     ("one_temperature", "012101", "012101 288.15 /", "708F"),
@@ -138,7 +139,8 @@ fn form_of(word: &str) -> Form<'_> {
     }
 }
 
-// What a word is: the form of an item whose descriptor is known, the end of a subset, or else a descriptor.
+// What a word is: the form of an item whose descriptor is known, the end of a subset, or else a
+// descriptor.
 fn entry_of(line: u64, known: Option<Fxy>, word: &str) -> Option<Entry<'_>> {
     if word == "/" {
         return Some(Entry::End(line));

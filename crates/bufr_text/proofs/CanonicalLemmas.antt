@@ -13,12 +13,14 @@ use Rattle.bufr_walk.specs.Content.{Content, content_in, bits_for}
 use Rattle.bufr_walk.specs.Course.{Course, take_next, next_item}
 use Rattle.bufr_walk.specs.PlainField.{FieldFault, data_end, Found, found, plain_field}
 use Rattle.bufr_walk.specs.Reading.{Item, Form, plain, packed, Reads, ReadsAll, ReadsSubsets, IsPackedReading, after, apart, together}
+use Rattle.bufr_fill.specs.MinusZero.{IsMinusZero}
 use Rattle.bufr_fill.specs.Filling.{Written, written, Filler, fill, fill_one, fill_none, filled, and_behind}
 use Rattle.bufr_fill.specs.Fault.{FaultAt}
 use Rattle.bufr_fill.specs.DraftContent.{plain_filler, plainly, content_of}
 use Rattle.bufr_fill.specs.Entries.{Subset}
 use Rattle.bufr_fill.specs.Encoding.{plain_data, ◌>>=◌}
-use Rattle.bufr_fill.specs.WrittenAgain.{AreDrafts, AreDumped, AllSpecs, EachSpecs, IsDumped}
+use Rattle.bufr_fill.specs.WrittenAgain.{AreDrafts, AreDumped, IsDumped}
+use Rattle.bufr_fill.proofs.WrittenLists.{AllSpecs, EachSpecs}
 use Rattle.bufr_fill.proofs.DraftLaws.{draft_again}
 use Rattle.bufr_fill.proofs.PlainLaws.{plain_read, same_draft}
 use Rattle.bufr_fill.proofs.SameBits.{same_bits}
@@ -32,10 +34,11 @@ use Rattle.bufr_frame.proofs.EvenLemmas.{even-least, laid-even}
 use Rattle.bufr_frame.proofs.LayoutLemmas.{length-evened}
 use Rattle.bufr_fill.specs.Packing.{packing}
 use Rattle.bufr_fill.specs.Draft.{Draft}
-use Rattle.bufr_fill.specs.Limits.{AreGoodRows}
+use Rattle.bufr_fill.proofs.Limits.{AreGoodRows}
 use Rattle.bufr_fill.specs.Fault.{at_line, too_many_values}
 use Rattle.bufr_fill.specs.Encoding.{Across, Cell, rows, longest, are_many, packed_filler, packed_data, pack_across, packed_to, contents_here, first_line}
-use Rattle.bufr_fill.specs.WrittenAgain.{IsDumpedAcross, AreDumpedFrom, HaveContents}
+use Rattle.bufr_fill.specs.WrittenAgain.{AreDumpedFrom}
+use Rattle.bufr_fill.proofs.WrittenLists.{IsDumpedAcross, HaveContents}
 use Rattle.bufr_fill.proofs.Across.{rows_dumped}
 use Rattle.bufr_fill.proofs.GoodReads.{template_good, plain_specs, packed_specs}
 use Rattle.bufr_fill.proofs.PackedLaws.{packed_count}
@@ -46,7 +49,7 @@ use Rattle.bufr_text.specs.Encoded.{IsAccepted, items_in}
 use Rattle.bufr_text.specs.Encoding.{drafts_of, data_bits, octets_of_bits, parts_in, encoding_of}
 use Rattle.bufr_text.specs.Header.{compressed_in}
 use Rattle.bufr_text.proofs.EncodedLemmas.{all_apart, all_together, encoded_to, parts_back, parts_with, size_least, fills_as, bit_back}
-use Rattle.bufr_text.specs.Canonical.{IsMinusZero, HaveNoMinusZero, ArePacked, AreWritten, IsCanonical}
+use Rattle.bufr_text.specs.Canonical.{HaveNoMinusZero, ArePacked, AreWritten, IsCanonical}
 
 -- ---- one field of data that are not compressed
 

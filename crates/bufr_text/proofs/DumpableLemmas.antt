@@ -29,7 +29,7 @@ use Rattle.bufr_walk.specs.PackedField.{packed_field}
 use Rattle.bufr_walk.specs.PlainField.{found}
 use Rattle.bufr_walk.specs.Reading.{Item, plain, packed, Reads, ReadsSubsets, IsPackedReading, IsReading, Values, apart, together, tells_of, after}
 use Rattle.bufr_fill.specs.Fits.{AreOctets, FitsKind, FitsRole, Fits, AllFit}
-use Rattle.bufr_fill.specs.WrittenAgain.{AllSpecs, EachSpecs}
+use Rattle.bufr_fill.proofs.WrittenLists.{AllSpecs, EachSpecs}
 use Rattle.bufr_fill.proofs.FieldBits.{top_below}
 use Rattle.bufr_fill.proofs.GoodReads.{template_good, plain_specs, packed_specs}
 use Rattle.bufr_fill.proofs.PackedLaws.{packed_again}

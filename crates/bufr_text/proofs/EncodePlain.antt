@@ -2,8 +2,8 @@
 use Rattle.std.proofs.Common.{◌≡◌, ◌≤◌, ◌+◌, ◌-◌, ◌*◌, ℕ, Bool, false, List, [], ◌∷◌, ◌++◌, length, length-append, append_assoc, Option, Some, None, Result, Ok, Err, refl, sym, ◌∙◌, ap, subst, arith}
 use Rattle.std.specs.Option.{option_map}
 use Rattle.std.proofs.lemmas.List.{append-nil}
-use Rattle.bufr_walk.specs.declared.walking.WalkStop.{WalkStop}
-use Rattle.bufr_walk.specs.declared.walking.WalkStop.TheVariants as stops
+use Rattle.bufr_walk.specs.declared.stop.WalkStop.{WalkStop}
+use Rattle.bufr_walk.specs.declared.stop.WalkStop.TheVariants as stops
 use Rattle.bufr_walk.specs.Course.{Course, Next, take_next, at_end, astray, refused}
 use Rattle.bufr_walk.specs.Taking.{Turn, Takes, course_after}
 use Rattle.bufr_walk.specs.Walked.{oks, told_by, StopsAt, Walked}

@@ -28,7 +28,7 @@ use Rattle.bufr_walk.specs.Reading as reading
 use Rattle.bufr_fill.specs.Draft.{Draft, draft}
 use Rattle.bufr_fill.specs.DraftContent as fill
 use Rattle.bufr_fill.specs.Entries.{Subset, subset, onto_first}
-use Rattle.bufr_fill.specs.Limits.{AreGoodRows}
+use Rattle.bufr_fill.proofs.Limits.{AreGoodRows}
 use Rattle.bufr_fill.specs.WrittenAgain.{IsDumped, AreDrafts, AreDumped, AreDumpedFrom}
 use Rattle.bufr_fill.specs.WrittenAgain as again
 use Rattle.bufr_fill.proofs.FieldBits.{octet_bits_again, octets_in-are, length-octets_in}

@@ -8,7 +8,7 @@ use Rattle.bufr_walk.specs.Stop.{stop_by}
 use Rattle.bufr_walk.specs.Taking.{Turn, Takes, course_after}
 use Rattle.bufr_fill.specs.Fault.{FaultAt, at_line, walk_refused}
 use Rattle.bufr_fill.specs.Filling.{Written, Filler, fill, fill_one, fill_none, filled, and_behind}
-use Rattle.bufr_fill.specs.Filled.{HasFilled}
+use Rattle.bufr_fill.proofs.Filled.{HasFilled}
 use Rattle.bufr_text.specs.Encoding.{RefusedAt, told_of_items}
 use Rattle.bufr_text.specs.EncodingFault.{told_of_draft}
 use Rattle.bufr_text.specs.Encodes.{RefusesSo, told_stop, counted_one, counted_at, count_filled}

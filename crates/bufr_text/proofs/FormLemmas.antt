@@ -26,7 +26,7 @@ use Rattle.bufr_walk.specs.Outcome.{data_of}
 use Rattle.bufr_walk.specs.Reading.{most_values, Values, apart, together, IsReading, IsPlainReading, ReadsSubsets, IsPackedReading}
 use Rattle.bufr_walk.specs.Reading as reading
 use Rattle.bufr_fill.specs.Fault.{FaultAt}
-use Rattle.bufr_fill.specs.Limits.{AreGoodRows}
+use Rattle.bufr_fill.proofs.Limits.{AreGoodRows}
 use Rattle.bufr_fill.specs.OtherForm.{subsets_from, IsUnlike, IsTogetherOrNot}
 use Rattle.bufr_fill.specs.WrittenAgain as again
 use Rattle.bufr_fill.proofs.FieldBits.{octets_in-are}

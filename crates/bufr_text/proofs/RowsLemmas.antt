@@ -11,8 +11,8 @@ use Rattle.bufr_tables.specs.Number.{i64_of, integer_of, fitting, fits_i64}
 use Rattle.bufr_tables.specs.Records.{Record, field_of}
 use Rattle.bufr_tables.specs.Steps.{only_if}
 use Rattle.bufr_tables.specs.TableB.{IsRow, Row, AreRows, allows_scale, allows_width, element_of, entry_of, is_plain, natural_part, plain_of, row_of, scale_of, width_of}
-use Rattle.bufr_fill.specs.Limits as limits
-use Rattle.bufr_fill.specs.Limits.{AreGoodRows}
+use Rattle.bufr_fill.proofs.Limits as limits
+use Rattle.bufr_fill.proofs.Limits.{AreGoodRows}
 
 -- a row within the limits of its table, and of the numbers that are computed with it
 pub record IsRead (row : Row) : Type 0 where

@@ -17,7 +17,7 @@ use Rattle.bufr_walk.specs.Turns.{Turns, finish, open_end, group, pass_end, fact
 use Rattle.bufr_walk.specs.Walked.{told_by}
 use Rattle.bufr_fill.specs.Fault.{FaultAt}
 use Rattle.bufr_fill.specs.Filling.{Written, Filler}
-use Rattle.bufr_fill.specs.Filled.{HasFilled}
+use Rattle.bufr_fill.proofs.Filled.{HasFilled}
 use Rattle.bufr_fill.proofs.WalkFills.{after_told}
 use Rattle.bufr_text.specs.Encoding.{RefusedAt}
 use Rattle.bufr_text.specs.EncodingFault.{told_of_draft}

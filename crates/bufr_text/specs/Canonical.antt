@@ -1,21 +1,15 @@
 -- A message that is as an encoder writes it. (a choice of this project)
 -- Cited by public contracts.
-use Rattle.std.specs.Prelude.{◌≡◌, ℕ, ◌-◌, true, false, Bool, List, [], ◌∷◌, ◌++◌, length, take, drop, replicate, flat_map, Ok}
+use Rattle.std.specs.Prelude.{◌≡◌, ℕ, Bool, List, [], ◌∷◌, ◌++◌, take, drop, flat_map, Ok}
 use Rattle.bufr_bits.specs.Bits.{bits_of}
 use Rattle.bufr_frame.specs.Layout.{evened}
 use Rattle.bufr_frame.specs.Plain.{IsPlain}
 use Rattle.bufr_frame.specs.Sections.{Sections}
-use Rattle.bufr_walk.specs.declared.spec.Role.{Role}
-use Rattle.bufr_walk.specs.declared.spec.Role.TheVariants as role
 use Rattle.bufr_walk.specs.Content.{Content}
 use Rattle.bufr_walk.specs.Reading.{Item, Values, apart, together}
+use Rattle.bufr_fill.specs.MinusZero.{IsMinusZero}
 use Rattle.bufr_fill.specs.Packing.{packing}
 use Rattle.bufr_text.specs.Encoding.{octets_of_bits}
-
--- minus zero: the sign bit alone
-abbrev pub IsMinusZero : Role → List Bool → Type 0
-IsMinusZero role.Reference bits = bits ≡ true ∷ replicate (length bits - 1) false
-IsMinusZero _ bits = ⊥
 
 -- no redefined reference of the items that begin the bits is written as minus zero
 abbrev pub HaveNoMinusZero : List (Item Content) → List Bool → Type 0

@@ -13,8 +13,8 @@ use Rattle.bufr_walk.specs.Rules.{element_spec, factor_spec, inserted_spec}
 use Rattle.bufr_walk.specs.Turns.{Turns, finish, operator_turn, Rest, unroll, passes, pass_end}
 use Rattle.bufr_walk.specs.Course.{Next, take_next, refused, at_end, astray, Ahead, ahead, asked, operated, stop, Course, next_item, counts_of}
 use Rattle.bufr_walk.specs.Taking.{Turn, Takes}
-use Rattle.bufr_walk.specs.declared.walking.WalkStop.{WalkStop}
-use Rattle.bufr_walk.specs.declared.walking.WalkStop.TheVariants as stops
+use Rattle.bufr_walk.specs.declared.stop.WalkStop.{WalkStop}
+use Rattle.bufr_walk.specs.declared.stop.WalkStop.TheVariants as stops
 use Rattle.bufr_walk.specs.Walked.{oks, told_by, StopsAt, Walked}
 use Rattle.bufr_walk.specs.Ticks.{ticked}
 

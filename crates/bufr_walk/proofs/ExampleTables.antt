@@ -1,4 +1,5 @@
--- The table of the worked examples, and readings by it: a pass over a template with all that it shows, and how it ended.
+-- The table of the worked examples, and readings by it: a pass over a template with all that it
+-- shows, and how it ended.
 use Rattle.std.proofs.Common.{ℕ, zero, suc, ◌+◌, ◌-◌, ◌*◌, Bool, List, [], ◌∷◌, ◌++◌, length, map, Result, Ok, Err, ℤ, pos, negsuc}
 use Rattle.std.specs.Prelude.{drop}
 use Rattle.bufr_bits.specs.Bits.{bits_of}
@@ -23,7 +24,8 @@ listed : (f x y : ℕ) → Kind → (scale reference : ℤ) → (width : ℕ) �
 unfolding fxy
 listed f x y k s r w = record { fxy = fxy f x y; name = []; unit = []; kind = k; scale = s; reference = r; width = w }
 
--- block, name, latitude, temperature, two figures (the second with a scale and a reference of its own), and class 31: factors, a figure and a letter
+-- block, name, latitude, temperature, two figures (the second with a scale and a reference of its
+-- own), and class 31: factors, a figure and a letter
 unfoldable pub table : List Row
 unfolding listed
 table =
@@ -100,7 +102,8 @@ in_turn zero course bits = []
 in_turn (suc n) course bits =
     let p = pass plain shown course 40 [] bits in p ∷ behind p.ending (λ left. in_turn n course (drop (length bits - left) bits))
 
--- two subsets of data that are not compressed, each from the beginning of the template; nothing is read behind a fault
+-- two subsets of data that are not compressed, each from the beginning of the template; nothing is
+-- read behind a fault
 unfoldable pub two : Tree → List ℕ → List (Pass Shown)
 unfolding table in_turn next_item bits_of
 two tree octets = in_turn 2 (next_item table tree) (bits_of octets)

@@ -18,8 +18,8 @@ use Rattle.bufr_walk.specs.Settings.{Settings, after_field, after_operator, is_d
 use Rattle.bufr_walk.specs.Rules.{element_spec, factor_spec, inserted_spec, fitting, by_kind, defined_by, defined_field, quantity, figure, text_of, text_width, given_by, listed_by, unsigned_of, unsigned_field, untouched, factor_by, factor_field}
 use Rattle.bufr_walk.specs.Turns.{finish, open_end, operator_turn, Rest, unroll, passes, turns_of}
 use Rattle.bufr_walk.specs.Course.{Course, Ahead, asked, operated, ahead, counts_of, counted, later, stop, at_end, refused}
-use Rattle.bufr_walk.specs.declared.walking.WalkStop.{WalkStop}
-use Rattle.bufr_walk.specs.declared.walking.WalkStop.TheVariants as stops
+use Rattle.bufr_walk.specs.declared.stop.WalkStop.{WalkStop}
+use Rattle.bufr_walk.specs.declared.stop.WalkStop.TheVariants as stops
 use Rattle.bufr_walk.specs.Walked.{told_by, StopsAt, Walked}
 use Rattle.bufr_walk.specs.Ways.{course, Goes, Stops, Took, Came, StopsIn}
 use Rattle.bufr_walk.specs.Stop.{stop_by}

@@ -14,7 +14,7 @@ use Rattle.bufr_walk.specs.Settings.{Settings, begin, after_operator, after_fiel
 use Rattle.bufr_walk.specs.Rules.{element_spec, factor_spec, inserted_spec}
 use Rattle.bufr_walk.specs.Turns.{Rest, unroll, passes, turns_of}
 use Rattle.bufr_walk.specs.Course.{next_item}
-use Rattle.bufr_walk.specs.declared.walking.WalkStop.{WalkStop}
+use Rattle.bufr_walk.specs.declared.stop.WalkStop.{WalkStop}
 use Rattle.bufr_walk.specs.declared.walking.Frame.{Frame}
 use Rattle.bufr_tables.specs.declared.template.cell.Cell.{Cell}
 use Rattle.bufr_tables.specs.declared.template.cell.Cell.TheVariants as cell
@@ -23,122 +23,122 @@ use Rattle.bufr_walk.specs.Walked.{Walked}
 use Rattle.bufr_walk.specs.Ways.{course, Came, StopsIn, Took}
 use Rattle.bufr_walk.specs.Stop.{stop_by}
 use Rattle.bufr_walk.specs.Ticks.{ticked}
-use Rattle.bufr_walk.specs.Flat.{Seen, frames_of, behind, tail_of, AllStand, StandsAt, Stands, costs, owed, weight, Turned}
+use Rattle.bufr_walk.specs.Flat.{OpenGroup, frames_of, behind, tail_of, AllStand, StandsAt, Stands, costs, owed, weight, Turned}
 use Rattle.bufr_walk.proofs.WaysLemmas.{came_none, came_then, came_stops, came_turn}
 use Rattle.bufr_walk.proofs.FieldWays.{came_field, came_factor, stops_field, stops_factor, inserted_is, came_operator, stops_operator, element_role, inserted_role, whole, whole_stops}
 use Rattle.bufr_walk.proofs.FlatWeights.{drop_head, drop_body, worst, cost_here, owed_push}
 
 -- the cell before these nodes
-spot : (more : Tree) (seen : List Seen) (place : ℕ) → (c : Cell) × (cs : List Cell) × (lay more place (tail_of seen) ≡ c ∷ cs)
+spot : (more : Tree) (groups : List OpenGroup) (place : ℕ) → (c : Cell) × (cs : List Cell) × (lay more place (tail_of groups) ≡ c ∷ cs)
 spot bare [] place = (cell.Finish, [], refl)
 spot bare (s ∷ outer) place = (cell.PassEnd, _, refl)
-spot (element fxy more) seen place = (_, _, refl)
-spot (operator fxy more) seen place = (_, _, refl)
-spot (fixed n body more) seen place = (_, _, refl)
-spot (delayed fxy body more) seen place = (_, _, refl)
+spot (element fxy more) groups place = (_, _, refl)
+spot (operator fxy more) groups place = (_, _, refl)
+spot (fixed n body more) groups place = (_, _, refl)
+spot (delayed fxy body more) groups place = (_, _, refl)
 
 module _ (cells : List Cell) where
   pub in_range : (place : ℕ) (stack : List Frame) (left : Rest → Rest) → Stands cells place stack left → place < length cells
   in_range place stack left st = let k = spot st.0 st.1 place in (drop_head cells place k.0 k.1 (st.2.here ∙ k.2)).0
 
   -- what stands before these nodes is this cell
-  pub at_cell : (place : ℕ) (more : Tree) (seen : List Seen) (d c : Cell) → drop place cells ≡ lay more place (tail_of seen) → get_or cells place d ≡ c → lay more place (tail_of seen) ≡ c ∷ drop (place + 1) cells
-  at_cell place more seen d c h e =
-      let k = spot more seen place in
+  pub at_cell : (place : ℕ) (more : Tree) (groups : List OpenGroup) (d c : Cell) → drop place cells ≡ lay more place (tail_of groups) → get_or cells place d ≡ c → lay more place (tail_of groups) ≡ c ∷ drop (place + 1) cells
+  at_cell place more groups d c h e =
+      let k = spot more groups place in
       let r = drop_head cells place k.0 k.1 (h ∙ k.2) in
       k.2 ∙ ap (λ x. x ∷ k.1) (sym (r.1 d) ∙ e) ∙ ap (λ xs. c ∷ xs) (sym r.2)
 
-  frames_length : (seen : List Seen) → length (frames_of seen) ≡ length seen
+  frames_length : (groups : List OpenGroup) → length (frames_of groups) ≡ length groups
   frames_length [] = refl
   frames_length (s ∷ outer) = simp length-append (omega (arith, frames_length outer))
 
   -- a group is gone into, or past
-  pub entered : (count : ℕ) (body more : Tree) (seen : List Seen) (start after next : ℕ) (stack stack' : List Frame)
+  pub entered : (count : ℕ) (body more : Tree) (groups : List OpenGroup) (start after next : ℕ) (stack stack' : List Frame)
       → (count ≡ 0 → (next ≡ after) × (stack' ≡ stack))
       → (0 < count → (next ≡ start) × (stack' ≡ stack ++ record { start = start; after = after; left = count - 1 } ∷ []))
-      → stack ≡ frames_of seen
-      → drop start cells ≡ lay body start (cell.PassEnd ∷ lay more after (tail_of seen))
-      → drop after cells ≡ lay more after (tail_of seen)
-      → length seen + 1 + depth body ≤ 32 → length seen + depth more ≤ 32
-      → IsLegal body → IsLegal more → AllStand cells seen
-      → (left' : Rest → Rest) × Stands cells next stack' left' × ((k : Rest) (counts : List ℕ) → passes count (unroll body) (unroll more (behind seen k)) counts ≡ left' k counts)
+      → stack ≡ frames_of groups
+      → drop start cells ≡ lay body start (cell.PassEnd ∷ lay more after (tail_of groups))
+      → drop after cells ≡ lay more after (tail_of groups)
+      → length groups + 1 + depth body ≤ 32 → length groups + depth more ≤ 32
+      → IsLegal body → IsLegal more → AllStand cells groups
+      → (left' : Rest → Rest) × Stands cells next stack' left' × ((k : Rest) (counts : List ℕ) → passes count (unroll body) (unroll more (behind groups k)) counts ≡ left' k counts)
       × (weight cells next stack' ≡ count * (1 + worst body) + worst more + owed (costs cells 0) stack)
-  entered zero body more seen start after next stack stack' none some frames h1 h2 d1 d2 k1 k2 outer =
+  entered zero body more groups start after next stack stack' none some frames h1 h2 d1 d2 k1 k2 outer =
       let e = none refl in
-      let here : drop next cells ≡ lay more next (tail_of seen) = subst (λ p. drop p cells ≡ lay more p (tail_of seen)) (sym e.0) h2 in (
-        λ k. unroll more (behind seen k),
-        (more, seen, record { frames = e.1 ∙ frames; here = here; deep = d2; legal = k2; outer = outer; left_is = λ k counts. refl }),
+      let here : drop next cells ≡ lay more next (tail_of groups) = subst (λ p. drop p cells ≡ lay more p (tail_of groups)) (sym e.0) h2 in (
+        λ k. unroll more (behind groups k),
+        (more, groups, record { frames = e.1 ∙ frames; here = here; deep = d2; legal = k2; outer = outer; left_is = λ k counts. refl }),
         λ k counts. refl,
-        omega (arith, cost_here cells next more seen here, ap (owed (costs cells 0)) e.1),
+        omega (arith, cost_here cells next more groups here, ap (owed (costs cells 0)) e.1),
       )
-  entered (suc m) body more seen start after next stack stack' none some frames h1 h2 d1 d2 k1 k2 outer =
+  entered (suc m) body more groups start after next stack stack' none some frames h1 h2 d1 d2 k1 k2 outer =
       let e = some (omega arith) in
       let f : Frame = record { start = start; after = after; left = m } in
       let same : stack' ≡ stack ++ f ∷ [] = e.1 ∙ ap (λ j. stack ++ (let g : Frame = record { start = start; after = after; left = j } in g) ∷ []) (let q : suc m - 1 ≡ m = omega arith in q) in
-      let seen' : List Seen = record { frame = f; body = body; more = more } ∷ seen in
-      let here : drop next cells ≡ lay body next (tail_of seen') = subst (λ p. drop p cells ≡ lay body p (tail_of seen')) (sym e.0) h1 in (
-        λ k. unroll body (behind seen' k),
-        (body, seen', record { frames = same ∙ ap (λ fs. fs ++ f ∷ []) frames; here = here; deep = omega arith; legal = k1; outer = (h1, h2, d1, d2, k1, k2, outer); left_is = λ k counts. refl }),
+      let groups' : List OpenGroup = record { frame = f; body = body; more = more } ∷ groups in
+      let here : drop next cells ≡ lay body next (tail_of groups') = subst (λ p. drop p cells ≡ lay body p (tail_of groups')) (sym e.0) h1 in (
+        λ k. unroll body (behind groups' k),
+        (body, groups', record { frames = same ∙ ap (λ fs. fs ++ f ∷ []) frames; here = here; deep = omega arith; legal = k1; outer = (h1, h2, d1, d2, k1, k2, outer); left_is = λ k counts. refl }),
         λ k counts. refl,
-        omega (arith, suc-mul m (1 + worst body), cost_here cells next body seen' here, ap (λ x. m * (1 + x)) (cost_here cells start body seen' h1), cost_here cells after more seen h2, ap (owed (costs cells 0)) same, owed_push (costs cells 0) stack f),
+        omega (arith, suc-mul m (1 + worst body), cost_here cells next body groups' here, ap (λ x. m * (1 + x)) (cost_here cells start body groups' h1), cost_here cells after more groups h2, ap (owed (costs cells 0)) same, owed_push (costs cells 0) stack f),
       )
 
 -- which nodes have this cell first
-is_element : (more : Tree) (seen : List Seen) (place fxy : ℕ) (cs : List Cell) → lay more place (tail_of seen) ≡ cell.Element fxy ∷ cs → (m : Tree) × (more ≡ element fxy m) × (cs ≡ lay m (place + 1) (tail_of seen))
+is_element : (more : Tree) (groups : List OpenGroup) (place fxy : ℕ) (cs : List Cell) → lay more place (tail_of groups) ≡ cell.Element fxy ∷ cs → (m : Tree) × (more ≡ element fxy m) × (cs ≡ lay m (place + 1) (tail_of groups))
 is_element bare [] place fxy cs h = absurd cc
 is_element bare (s ∷ outer) place fxy cs h = absurd cc
-is_element (element word m) seen place fxy cs h = let e : word ≡ fxy = cc in (m, ap (λ f. element f m) e, cc)
-is_element (operator word m) seen place fxy cs h = absurd cc
-is_element (fixed count body m) seen place fxy cs h = absurd cc
-is_element (delayed word body m) seen place fxy cs h = absurd cc
+is_element (element word m) groups place fxy cs h = let e : word ≡ fxy = cc in (m, ap (λ f. element f m) e, cc)
+is_element (operator word m) groups place fxy cs h = absurd cc
+is_element (fixed count body m) groups place fxy cs h = absurd cc
+is_element (delayed word body m) groups place fxy cs h = absurd cc
 
-is_operator : (more : Tree) (seen : List Seen) (place fxy : ℕ) (cs : List Cell) → lay more place (tail_of seen) ≡ cell.Operator fxy ∷ cs → (m : Tree) × (more ≡ operator fxy m) × (cs ≡ lay m (place + 1) (tail_of seen))
+is_operator : (more : Tree) (groups : List OpenGroup) (place fxy : ℕ) (cs : List Cell) → lay more place (tail_of groups) ≡ cell.Operator fxy ∷ cs → (m : Tree) × (more ≡ operator fxy m) × (cs ≡ lay m (place + 1) (tail_of groups))
 is_operator bare [] place fxy cs h = absurd cc
 is_operator bare (s ∷ outer) place fxy cs h = absurd cc
-is_operator (element word m) seen place fxy cs h = absurd cc
-is_operator (operator word m) seen place fxy cs h = let e : word ≡ fxy = cc in (m, ap (λ f. operator f m) e, cc)
-is_operator (fixed count body m) seen place fxy cs h = absurd cc
-is_operator (delayed word body m) seen place fxy cs h = absurd cc
+is_operator (element word m) groups place fxy cs h = absurd cc
+is_operator (operator word m) groups place fxy cs h = let e : word ≡ fxy = cc in (m, ap (λ f. operator f m) e, cc)
+is_operator (fixed count body m) groups place fxy cs h = absurd cc
+is_operator (delayed word body m) groups place fxy cs h = absurd cc
 
-is_fixed : (more : Tree) (seen : List Seen) (place count after : ℕ) (cs : List Cell) → lay more place (tail_of seen) ≡ cell.Fixed count after ∷ cs → (body m : Tree) × (more ≡ fixed count body m) × (after ≡ place + 2 + size body) × (cs ≡ lay body (place + 1) (cell.PassEnd ∷ lay m (place + 2 + size body) (tail_of seen)))
+is_fixed : (more : Tree) (groups : List OpenGroup) (place count after : ℕ) (cs : List Cell) → lay more place (tail_of groups) ≡ cell.Fixed count after ∷ cs → (body m : Tree) × (more ≡ fixed count body m) × (after ≡ place + 2 + size body) × (cs ≡ lay body (place + 1) (cell.PassEnd ∷ lay m (place + 2 + size body) (tail_of groups)))
 is_fixed bare [] place count after cs h = absurd cc
 is_fixed bare (s ∷ outer) place count after cs h = absurd cc
-is_fixed (element word m) seen place count after cs h = absurd cc
-is_fixed (operator word m) seen place count after cs h = absurd cc
-is_fixed (fixed k body m) seen place count after cs h = let e : k ≡ count = cc in (body, m, ap (λ j. fixed j body m) e, cc, cc)
-is_fixed (delayed word body m) seen place count after cs h = absurd cc
+is_fixed (element word m) groups place count after cs h = absurd cc
+is_fixed (operator word m) groups place count after cs h = absurd cc
+is_fixed (fixed k body m) groups place count after cs h = let e : k ≡ count = cc in (body, m, ap (λ j. fixed j body m) e, cc, cc)
+is_fixed (delayed word body m) groups place count after cs h = absurd cc
 
-is_delayed : (more : Tree) (seen : List Seen) (place after : ℕ) (cs : List Cell) → lay more place (tail_of seen) ≡ cell.Delayed after ∷ cs → (word : ℕ) × (body : Tree) × (m : Tree) × (more ≡ delayed word body m) × (after ≡ place + 3 + size body) × (cs ≡ cell.Factor word ∷ lay body (place + 2) (cell.PassEnd ∷ lay m (place + 3 + size body) (tail_of seen)))
+is_delayed : (more : Tree) (groups : List OpenGroup) (place after : ℕ) (cs : List Cell) → lay more place (tail_of groups) ≡ cell.Delayed after ∷ cs → (word : ℕ) × (body : Tree) × (m : Tree) × (more ≡ delayed word body m) × (after ≡ place + 3 + size body) × (cs ≡ cell.Factor word ∷ lay body (place + 2) (cell.PassEnd ∷ lay m (place + 3 + size body) (tail_of groups)))
 is_delayed bare [] place after cs h = absurd cc
 is_delayed bare (s ∷ outer) place after cs h = absurd cc
-is_delayed (element word m) seen place after cs h = absurd cc
-is_delayed (operator word m) seen place after cs h = absurd cc
-is_delayed (fixed k body m) seen place after cs h = absurd cc
-is_delayed (delayed word body m) seen place after cs h = (word, body, m, refl, cc, cc)
+is_delayed (element word m) groups place after cs h = absurd cc
+is_delayed (operator word m) groups place after cs h = absurd cc
+is_delayed (fixed k body m) groups place after cs h = absurd cc
+is_delayed (delayed word body m) groups place after cs h = (word, body, m, refl, cc, cc)
 
-pub no_factor : (more : Tree) (seen : List Seen) (place fxy : ℕ) (cs : List Cell) → lay more place (tail_of seen) ≡ cell.Factor fxy ∷ cs → ⊥
+pub no_factor : (more : Tree) (groups : List OpenGroup) (place fxy : ℕ) (cs : List Cell) → lay more place (tail_of groups) ≡ cell.Factor fxy ∷ cs → ⊥
 no_factor bare [] place fxy cs h = cc
 no_factor bare (s ∷ outer) place fxy cs h = cc
-no_factor (element word m) seen place fxy cs h = cc
-no_factor (operator word m) seen place fxy cs h = cc
-no_factor (fixed k body m) seen place fxy cs h = cc
-no_factor (delayed word body m) seen place fxy cs h = cc
+no_factor (element word m) groups place fxy cs h = cc
+no_factor (operator word m) groups place fxy cs h = cc
+no_factor (fixed k body m) groups place fxy cs h = cc
+no_factor (delayed word body m) groups place fxy cs h = cc
 
-is_pass_end : (more : Tree) (seen : List Seen) (place : ℕ) (cs : List Cell) → lay more place (tail_of seen) ≡ cell.PassEnd ∷ cs → (s : Seen) × (outer : List Seen) × (seen ≡ s ∷ outer) × (more ≡ bare)
+is_pass_end : (more : Tree) (groups : List OpenGroup) (place : ℕ) (cs : List Cell) → lay more place (tail_of groups) ≡ cell.PassEnd ∷ cs → (s : OpenGroup) × (outer : List OpenGroup) × (groups ≡ s ∷ outer) × (more ≡ bare)
 is_pass_end bare [] place cs h = absurd cc
 is_pass_end bare (s ∷ outer) place cs h = (s, outer, refl, refl)
-is_pass_end (element word m) seen place cs h = absurd cc
-is_pass_end (operator word m) seen place cs h = absurd cc
-is_pass_end (fixed k body m) seen place cs h = absurd cc
-is_pass_end (delayed word body m) seen place cs h = absurd cc
+is_pass_end (element word m) groups place cs h = absurd cc
+is_pass_end (operator word m) groups place cs h = absurd cc
+is_pass_end (fixed k body m) groups place cs h = absurd cc
+is_pass_end (delayed word body m) groups place cs h = absurd cc
 
-is_finish : (more : Tree) (seen : List Seen) (place : ℕ) (cs : List Cell) → lay more place (tail_of seen) ≡ cell.Finish ∷ cs → (seen ≡ []) × (more ≡ bare)
+is_finish : (more : Tree) (groups : List OpenGroup) (place : ℕ) (cs : List Cell) → lay more place (tail_of groups) ≡ cell.Finish ∷ cs → (groups ≡ []) × (more ≡ bare)
 is_finish bare [] place cs h = (refl, refl)
 is_finish bare (s ∷ outer) place cs h = absurd cc
-is_finish (element word m) seen place cs h = absurd cc
-is_finish (operator word m) seen place cs h = absurd cc
-is_finish (fixed k body m) seen place cs h = absurd cc
-is_finish (delayed word body m) seen place cs h = absurd cc
+is_finish (element word m) groups place cs h = absurd cc
+is_finish (operator word m) groups place cs h = absurd cc
+is_finish (fixed k body m) groups place cs h = absurd cc
+is_finish (delayed word body m) groups place cs h = absurd cc
 
 -- the last of two lists
 last_is : (A : Type 0) (xs ys : List A) (x y : A) → xs ++ x ∷ [] ≡ ys ++ y ∷ [] → (xs ≡ ys) × (x ≡ y)
@@ -159,13 +159,13 @@ module _ {S E : Type 0} (takes : S → Asked → Result Taken E → S → Type 0
   moved place stack left st t e = subst (λ x. StandsAt cells place stack left x st.1) e st.2
 
   -- one cell on
-  pub turn_on : (place : ℕ) (stack : List Frame) (left : Rest → Rest) (seen : List Seen) (more : Tree) (before : Tree) (s s' : Settings) (f f' : S) (c c' : ℕ) → StandsAt cells place stack left before seen → drop (place + 1) cells ≡ lay more (place + 1) (tail_of seen) → depth before ≡ depth more → worst before ≡ 1 + worst more → IsLegal more
-      → Came takes table (λ k. unroll before (behind seen k)) (λ k. unroll more (behind seen k)) s f c s' f' c' → Turned takes table cells left place stack s f c (Ok (Some (place + 1))) stack s' f' c'
-  turn_on place stack left seen more before s s' f f' c c' at next deep cost legal came = (
-    λ k. unroll more (behind seen k),
-    (more, seen, record { frames = at.frames; here = next; deep = subst (λ d. length seen + d ≤ 32) deep at.deep; legal = legal; outer = at.outer; left_is = λ k counts. refl }),
-    came_then takes table (came_none takes table left (λ k. unroll before (behind seen k)) s f c at.left_is) came,
-    omega (arith, cost_here cells place before seen at.here, cost_here cells (place + 1) more seen next),
+  pub turn_on : (place : ℕ) (stack : List Frame) (left : Rest → Rest) (groups : List OpenGroup) (more : Tree) (before : Tree) (s s' : Settings) (f f' : S) (c c' : ℕ) → StandsAt cells place stack left before groups → drop (place + 1) cells ≡ lay more (place + 1) (tail_of groups) → depth before ≡ depth more → worst before ≡ 1 + worst more → IsLegal more
+      → Came takes table (λ k. unroll before (behind groups k)) (λ k. unroll more (behind groups k)) s f c s' f' c' → Turned takes table cells left place stack s f c (Ok (Some (place + 1))) stack s' f' c'
+  turn_on place stack left groups more before s s' f f' c c' at next deep cost legal came = (
+    λ k. unroll more (behind groups k),
+    (more, groups, record { frames = at.frames; here = next; deep = subst (λ d. length groups + d ≤ 32) deep at.deep; legal = legal; outer = at.outer; left_is = λ k counts. refl }),
+    came_then takes table (came_none takes table left (λ k. unroll before (behind groups k)) s f c at.left_is) came,
+    omega (arith, cost_here cells place before groups at.here, cost_here cells (place + 1) more groups next),
   )
 
   pub turn_element : (place : ℕ) (stack : List Frame) (left : Rest → Rest) (d : Cell) (fxy : ℕ) (s s' : Settings) (f f' : S) (c c' : ℕ) (r : Result Asked Refusal) (t : Taken) → Stands cells place stack left → get_or cells place d ≡ cell.Element fxy → r ≡ element_spec table s fxy → Took takes r f (Ok t) f' → c' ≡ ticked c 1 → s' ≡ after_field s fxy t → Turned takes table cells left place stack s f c (Ok (Some (place + 1))) stack s' f' c'
@@ -312,8 +312,8 @@ module _ {S E : Type 0} (takes : S → Asked → Result Taken E → S → Type 0
       → c' ≡ ticked c 1 → Turned takes table cells left place stack s f c (Ok (Some next)) stack' s f c'
   turn_pass_end place stack left d frame stack1 stack' next s f c c' st e popped none some tick =
       let i = is_pass_end st.0 st.1 place _ (here_is place stack left d _ st e) in
-      let g : Seen = i.0 in
-      let outer : List Seen = i.1 in
+      let g : OpenGroup = i.0 in
+      let outer : List OpenGroup = i.1 in
       let half : StandsAt cells place stack left bare st.1 = moved place stack left st _ i.3 in
       let at : StandsAt cells place stack left bare (g ∷ outer) = subst (λ x. StandsAt cells place stack left bare x) i.2 half in
       let last = last_is Frame stack1 (frames_of outer) frame g.frame (sym popped ∙ at.frames) in

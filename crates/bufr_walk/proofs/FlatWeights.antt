@@ -6,7 +6,7 @@ use Rattle.bufr_tables.specs.declared.template.cell.Cell.{Cell}
 use Rattle.bufr_tables.specs.declared.template.cell.Cell.TheVariants as cell
 use Rattle.bufr_walk.specs.declared.walking.Frame.{Frame}
 use Rattle.bufr_tables.specs.Cells.{lay}
-use Rattle.bufr_walk.specs.Flat.{tail_of, costs, owed, Seen}
+use Rattle.bufr_walk.specs.Flat.{tail_of, costs, owed, OpenGroup}
 
 skip : (a b k : ℕ) (xs ys zs : List Cell) → drop a xs ≡ ys → drop b ys ≡ zs → k ≡ a + b → drop k xs ≡ zs
 skip a b k xs ys zs h g e = ap (λ j. drop j xs) e ∙ sym (drop-drop b a xs) ∙ ap (drop b) h ∙ g
@@ -77,15 +77,15 @@ cost_lay (delayed fxy body more) at tail =
     ap (λ x. 2 + 2 ^ 64 * (1 + x) + get_or (costs (cell.Factor fxy ∷ cells) (at + 1)) (after - (at + 1)) 0) b ∙ ap (λ y. 2 + 2 ^ 64 * (1 + worst body) + y) j ∙ sym (add_assoc (2 + 2 ^ 64 * (1 + worst body)) (worst more) _)
 
 -- the end of a pass, and of all
-tail_costs : (seen : List Seen) (at : ℕ) → get_or (costs (tail_of seen) at) 0 0 ≡ 0
+tail_costs : (groups : List OpenGroup) (at : ℕ) → get_or (costs (tail_of groups) at) 0 0 ≡ 0
 tail_costs [] at = refl
 tail_costs (s ∷ outer) at = refl
 
 -- from a place before these nodes
-pub cost_here : (cells : List Cell) (place : ℕ) (more : Tree) (seen : List Seen) → drop place cells ≡ lay more place (tail_of seen) → get_or (costs cells 0) place 0 ≡ worst more
-cost_here cells place more seen h =
+pub cost_here : (cells : List Cell) (place : ℕ) (more : Tree) (groups : List OpenGroup) → drop place cells ≡ lay more place (tail_of groups) → get_or (costs cells 0) place 0 ≡ worst more
+cost_here cells place more groups h =
     costs_drop cells 0 place ∙ ap (λ k. get_or (costs (drop place cells) k) 0 0) (zero-add place) ∙ ap (λ z. get_or (costs z place) 0 0) h
-    ∙ cost_lay more place (tail_of seen) ∙ ap (λ k. worst more + k) (tail_costs seen (place + size more)) ∙ add-zero (worst more)
+    ∙ cost_lay more place (tail_of groups) ∙ ap (λ k. worst more + k) (tail_costs groups (place + size more)) ∙ add-zero (worst more)
 
 pub owed_push : (cost : List ℕ) (frames : List Frame) (f : Frame) → owed cost (frames ++ f ∷ []) ≡ owed cost frames + (1 + f.left * (1 + get_or cost f.start 0) + get_or cost f.after 0)
 owed_push cost [] f = omega arith

@@ -1,4 +1,5 @@
--- Worked examples of groups, of subsets one after another, and of where the data end, computed from the definitions.
+-- Worked examples of groups, of subsets one after another, and of where the data end, computed from
+-- the definitions.
 use Rattle.std.proofs.Common.{◌≡◌, ℕ, Bool, true, false, List, [], ◌∷◌, pos, negsuc, refl, arith}
 use Rattle.std.specs.Prelude.{take, drop}
 use Rattle.bufr_bits.specs.Bits.{bits_of}
@@ -12,14 +13,16 @@ use Rattle.bufr_walk.specs.Reading.{Item, turns_in, IsPlainReading}
 use Rattle.bufr_walk.specs.Refusal.{Stop, field_stop, IsPlainRefused}
 use Rattle.bufr_walk.proofs.ExampleTables.{fxy, table, done, field_fault, one, two, gives}
 
--- A group of so many passes leaves what its passes set in force: fails where a pass or a group ends a change, where it is passed once, or where turns are counted otherwise.
+-- A group of so many passes leaves what its passes set in force: fails where a pass or a group ends
+-- a change, where it is passed once, or where turns are counted otherwise.
 fixed_group : one (fixed 2 (element (fxy 0 1 1) (operator (fxy 2 1 129) bare)) bare) (20 ∷ 22 ∷ [])
     ≡ gives ((257, shown_number (pos 10) (pos 0)) ∷ (257, shown_number (pos 11) (pos 0)) ∷ []) (done 1 8)
 unfolding one gives fxy
 fixed_group = refl
 
--- Counts are told in the order of the data, an inner one anew in each pass of the outer, and none for a group that is not entered:
--- fails where the counts of inner and outer groups are mixed up, or where one count serves all passes.
+-- Counts are told in the order of the data, an inner one anew in each pass of the outer, and none
+-- for a group that is not entered: fails where the counts of inner and outer groups are mixed up,
+-- or where one count serves all passes.
 group_in_a_group : one (delayed (fxy 0 31 1) (delayed (fxy 0 31 1) (element (fxy 0 1 1) bare) bare) bare) (2 ∷ 1 ∷ 20 ∷ 4 ∷ 44 ∷ 96 ∷ [])
     ≡ gives ((7937, shown_number (pos 2) (pos 0)) ∷ (7937, shown_number (pos 1) (pos 0)) ∷ (257, shown_number (pos 10) (pos 0)) ∷ (7937, shown_number (pos 2) (pos 0)) ∷ (257, shown_number (pos 11) (pos 0)) ∷ (257, shown_number (pos 12) (pos 0)) ∷ []) (done 3 15)
 unfolding one gives fxy
@@ -35,7 +38,8 @@ group_behind_no_pass : one (delayed (fxy 0 31 1) (delayed (fxy 0 31 1) (element 
 unfolding one gives fxy
 group_behind_no_pass = refl
 
--- The data may end at a factor, or at the first or the last item of a group: fails where an earlier item is dropped, or where the place is another.
+-- The data may end at a factor, or at the first or the last item of a group: fails where an earlier
+-- item is dropped, or where the place is another.
 data_end_at_a_factor : one (delayed (fxy 0 31 1) (element (fxy 0 1 1) bare) bare) [] ≡ gives [] (field_fault 7937 data_end 0 2)
 unfolding one gives fxy
 data_end_at_a_factor = refl
@@ -48,7 +52,8 @@ data_end_at_the_last_pass : one (delayed (fxy 0 31 1) (element (fxy 0 1 1) bare)
 unfolding one gives fxy
 data_end_at_the_last_pass = refl
 
--- What is in force ends with its subset: fails where a width, a scale, a precision or a reference reaches the next one.
+-- What is in force ends with its subset: fails where a width, a scale, a precision or a reference
+-- reaches the next one.
 changed_behind : Tree
 unfolding fxy
 changed_behind = element (fxy 0 12 101) (operator (fxy 2 1 132) (operator (fxy 2 2 129) (operator (fxy 2 7 1) (operator (fxy 2 3 10) (element (fxy 0 12 101) (operator (fxy 2 3 255) bare))))))
@@ -149,7 +154,8 @@ turns_of_both : turns_in (next_item table changed_behind) ((at_288_15 ∷ minus_
 unfolding table changed_behind at_288_15 minus_400 next_item
 turns_of_both = refl
 
--- A refusal names its subset from 1 on, and the bits and the turns before it from the first subset on: fails where they are counted in the subset, or the subsets from 0.
+-- A refusal names its subset from 1 on, and the bits and the turns before it from the first subset
+-- on: fails where they are counted in the subset, or the subsets from 0.
 refused_in_second_subset : IsPlainRefused 65535 (next_item table (element (fxy 0 1 1) bare)) (bits_of (20 ∷ [])) (field_stop 257 data_end) 2 7 3
 unfolding table block_10 next_item bits_of fxy
 refused_in_second_subset = (
@@ -170,7 +176,8 @@ refused_in_second_subset = (
   refl,
 )
 
--- With no subset nothing is read, and nothing is refused: fails where a first subset is read all the same.
+-- With no subset nothing is read, and nothing is refused: fails where a first subset is read all
+-- the same.
 no_subset : IsPlainReading 0 (next_item table (element (fxy 0 1 1) bare)) [] (bits_of (20 ∷ [])) (bits_of (20 ∷ []))
 no_subset = (refl, refl)
 

@@ -1,4 +1,5 @@
--- Worked examples of what a walk asks for: role, kind, width, scale and reference, whether all ones is missing, and whether Table B comments it.
+-- Worked examples of what a walk asks for: role, kind, width, scale and reference, whether all ones
+-- is missing, and whether Table B comments it.
 use Rattle.std.proofs.Common.{◌≡◌, true, false, List, [], ◌∷◌, pos, negsuc, refl}
 use Rattle.bufr_tables.specs.declared.kind.Kind.TheVariants as kind
 use Rattle.bufr_tables.specs.Tree.{Tree, bare, element, operator, delayed}
@@ -13,7 +14,8 @@ use Rattle.bufr_walk.proofs.ExampleTables.{fxy, table}
 abbrev asks : Tree → List Taken → Asked → Type 0
 asks tree told spec = (next_item table tree told).next ≡ take_next spec
 
--- A quantity and a figure of Table B may be commented and may be missing; the changes in force show in a quantity alone: fails where a figure loses its kind, scale or reference.
+-- A quantity and a figure of Table B may be commented and may be missing; the changes in force show
+-- in a quantity alone: fails where a figure loses its kind, scale or reference.
 quantity_asked : asks (operator (fxy 2 1 132) (operator (fxy 2 2 129) (operator (fxy 2 7 1) (element (fxy 0 5 2) bare)))) [] (record { fxy = 1282; role = role.Element; kind = kind.Numeric; width = 23; scale = pos 4; reference = negsuc 89999; may_be_missing = true; listed = true })
 unfolding table next_item fxy
 quantity_asked = refl
@@ -26,7 +28,8 @@ redefined_quantity_asked : asks (operator (fxy 2 3 10) (element (fxy 0 5 2) (ope
 unfolding table next_item fxy
 redefined_quantity_asked = refl
 
--- Figures and quantities of class 31 are never missing, its texts may be: fails where the class makes the difference for a text, or where it makes none for the others.
+-- Figures and quantities of class 31 are never missing, its texts may be: fails where the class
+-- makes the difference for a text, or where it makes none for the others.
 figure_of_class_31_asked : asks (operator (fxy 2 1 132) (operator (fxy 2 2 129) (operator (fxy 2 7 1) (element (fxy 0 31 21) bare)))) [] (record { fxy = 7957; role = role.Element; kind = kind.Coded; width = 6; scale = pos 0; reference = pos 0; may_be_missing = false; listed = true })
 unfolding table next_item fxy
 figure_of_class_31_asked = refl
@@ -39,7 +42,8 @@ text_of_class_31_asked : asks (element (fxy 0 31 250) bare) [] (record { fxy = 8
 unfolding table next_item fxy
 text_of_class_31_asked = refl
 
--- A given width that is that of Table B leaves an element to be commented, as its row has it: fails where the number is a bare one, or where what is in force shows.
+-- A given width that is that of Table B leaves an element to be commented, as its row has it: fails
+-- where the number is a bare one, or where what is in force shows.
 given_table_width_asked : asks (operator (fxy 2 1 132) (operator (fxy 2 2 129) (operator (fxy 2 7 1) (operator (fxy 2 6 16) (element (fxy 0 12 101) bare))))) [] (record { fxy = 3173; role = role.Element; kind = kind.Numeric; width = 16; scale = pos 2; reference = pos 0; may_be_missing = true; listed = true })
 unfolding table next_item fxy
 given_table_width_asked = refl
@@ -52,7 +56,8 @@ given_text_asked : asks (operator (fxy 2 8 3) (operator (fxy 2 6 160) (element (
 unfolding table next_item fxy
 given_text_asked = refl
 
--- Another width gives a bare number with no comment, never missing in class 31: fails where it takes the unit of its row.
+-- Another width gives a bare number with no comment, never missing in class 31: fails where it
+-- takes the unit of its row.
 given_other_width_asked : asks (operator (fxy 2 6 12) (element (fxy 0 5 2) bare)) [] (record { fxy = 1282; role = role.Element; kind = kind.Numeric; width = 12; scale = pos 0; reference = pos 0; may_be_missing = true; listed = false })
 unfolding table next_item fxy
 given_other_width_asked = refl
@@ -73,7 +78,8 @@ given_class_31_asked : asks (operator (fxy 2 6 12) (element (fxy 0 31 21) bare))
 unfolding table next_item fxy
 given_class_31_asked = refl
 
--- A factor is a count with its own comment, by its row alone, and is never missing; so is a factor in a group and behind one: fails where a change of width reaches it, or where it is an element.
+-- A factor is a count with its own comment, by its row alone, and is never missing; so is a factor
+-- in a group and behind one: fails where a change of width reaches it, or where it is an element.
 factor_asked : asks (operator (fxy 2 1 132) (delayed (fxy 0 31 1) (element (fxy 0 1 1) bare) bare)) [] (record { fxy = 7937; role = role.Factor; kind = kind.Numeric; width = 8; scale = pos 0; reference = pos 0; may_be_missing = false; listed = true })
 unfolding table next_item fxy
 factor_asked = refl
@@ -86,12 +92,14 @@ factor_behind_a_group_asked : asks (delayed (fxy 0 31 1) (element (fxy 0 1 1) ba
 unfolding table next_item fxy
 factor_behind_a_group_asked = refl
 
--- A reference has the width of its definition, no comment, and is never missing: fails where a change reaches it, or where it may be missing.
+-- A reference has the width of its definition, no comment, and is never missing: fails where a
+-- change reaches it, or where it may be missing.
 reference_asked : asks (operator (fxy 2 1 132) (operator (fxy 2 7 1) (operator (fxy 2 3 10) (element (fxy 0 20 3) bare)))) [] (record { fxy = 5123; role = role.Reference; kind = kind.Numeric; width = 10; scale = pos 0; reference = pos 0; may_be_missing = false; listed = false })
 unfolding table next_item fxy
 reference_asked = refl
 
--- A text of Table B has its comment and the text width in force, a text of the template has neither: fails where either is taken for the other.
+-- A text of Table B has its comment and the text width in force, a text of the template has
+-- neither: fails where either is taken for the other.
 text_asked : asks (operator (fxy 2 8 3) (element (fxy 0 1 15) bare)) [] (record { fxy = 271; role = role.Element; kind = kind.Character; width = 24; scale = pos 0; reference = pos 0; may_be_missing = true; listed = true })
 unfolding table next_item fxy
 text_asked = refl

@@ -12,12 +12,13 @@ use Rattle.bufr_tables.specs.declared.kind.Kind.{Kind}
 use Rattle.bufr_tables.specs.declared.kind.Kind.TheVariants as kind
 use Rattle.bufr_walk.specs.declared.spec.Role.{Role}
 use Rattle.bufr_walk.specs.declared.spec.Role.TheVariants as role
-use Rattle.bufr_walk.specs.declared.read_packed.KeptItem.{KeptItem}
+use Rattle.bufr_walk.specs.declared.kept.KeptItem.{KeptItem}
 use Rattle.bufr_walk.specs.Asked.{Asked}
 use Rattle.bufr_walk.specs.Calls.{content_at}
 use Rattle.bufr_walk.specs.Content.{Content, content_in}
 use Rattle.bufr_walk.specs.PlainField.{FieldFault, Found, data_end, increment, unequal_factor}
-use Rattle.bufr_walk.specs.PackedField.{increments, step_of, text_of, varied_by, if_equal, varied, contents_of, all_same, with_behind, item_by, packed_field}
+use Rattle.bufr_walk.specs.Kept.{content_kept}
+use Rattle.bufr_walk.specs.PackedField.{increments, step_of, padded_text, varied_by, if_equal, varied, contents_of, all_same, with_behind, item_by, packed_field}
 use Rattle.bufr_walk.specs.PackedBits.{holds_by, content_from, number_from, kind_step}
 use Rattle.bufr_walk.specs.PackedIn.{contents_found, was_found, stands_at}
 use Rattle.bufr_walk.proofs.PackedContents.{varied_are, element_are, inserted_are, factor_are, wrong_reference, step_element, step_inserted, step_factor}
@@ -165,11 +166,11 @@ step_small bits n e h =
     length-take-most n xs = omega (arith, length-take n xs)
 
 -- the content of one subset, by what stands there
-pub base_content : (bits : List Bool) (n : ℕ) (e : KeptItem) (j : ℕ) → stands_at bits n e ≡ true → e.step ≡ 0 → j < n → content_at j (contents_found (packed_field n e.spec (drop e.at bits))) ≡ content_in e.spec (take e.spec.width (drop e.at bits))
+pub base_content : (bits : List Bool) (n : ℕ) (e : KeptItem) (j : ℕ) → stands_at bits n e ≡ true → e.step ≡ 0 → j < n → content_kept bits n e j ≡ content_in e.spec (take e.spec.width (drop e.at bits))
 base_content bits n e j h none below = let p = kept_parts bits n e h in base_at e.spec e.step n j _ _ _ none below p.are
 
 pub varied_content : (bits : List Bool) (n : ℕ) (e : KeptItem) (j : ℕ) → stands_at bits n e ≡ true → 1 ≤ e.step → j < n
-    → content_at j (contents_found (packed_field n e.spec (drop e.at bits))) ≡ content_from e.spec.kind e.spec e.step (take e.spec.width (drop e.at bits)) (take (kind_step e.spec.kind e.step) (drop (j * kind_step e.spec.kind e.step) (drop (e.at + (e.spec.width + 6)) bits)))
+    → content_kept bits n e j ≡ content_from e.spec.kind e.spec e.step (take e.spec.width (drop e.at bits)) (take (kind_step e.spec.kind e.step) (drop (j * kind_step e.spec.kind e.step) (drop (e.at + (e.spec.width + 6)) bits)))
 varied_content bits n e j h some below = let p = kept_parts bits n e h in varied_at e.spec e.step n j _ _ _ some below p.are
 
 -- the same of numbers and of texts
@@ -178,7 +179,7 @@ number_kind kind.Character a k j base behind h = absurd cc
 number_kind kind.Coded a k j base behind h = refl
 number_kind kind.Numeric a k j base behind h = refl
 
-text_kind : (kd : Kind) (a : Asked) (k j : ℕ) (base behind : List Bool) → is_character kd ≡ true → content_from kd a k base (take (kind_step kd k) (drop (j * kind_step kd k) behind)) ≡ text_of (a.width / 8) k (take (8 * k) (drop (j * (8 * k)) behind))
+text_kind : (kd : Kind) (a : Asked) (k j : ℕ) (base behind : List Bool) → is_character kd ≡ true → content_from kd a k base (take (kind_step kd k) (drop (j * kind_step kd k) behind)) ≡ padded_text (a.width / 8) k (take (8 * k) (drop (j * (8 * k)) behind))
 text_kind kind.Character a k j base behind h = refl
 text_kind kind.Coded a k j base behind h = absurd cc
 text_kind kind.Numeric a k j base behind h = absurd cc
@@ -194,14 +195,14 @@ text_step kind.Coded k h = absurd cc
 text_step kind.Numeric k h = absurd cc
 
 pub number_content : (bits : List Bool) (n : ℕ) (e : KeptItem) (j : ℕ) → stands_at bits n e ≡ true → 1 ≤ e.step → j < n → is_character e.spec.kind ≡ false
-    → number_from e.spec e.step (take e.spec.width (drop e.at bits)) (take e.step (drop (j * e.step) (drop (e.at + (e.spec.width + 6)) bits))) ≡ content_at j (contents_found (packed_field n e.spec (drop e.at bits)))
+    → number_from e.spec e.step (take e.spec.width (drop e.at bits)) (take e.step (drop (j * e.step) (drop (e.at + (e.spec.width + 6)) bits))) ≡ content_kept bits n e j
 number_content bits n e j h some below c = sym (varied_content bits n e j h some below ∙ number_kind e.spec.kind e.spec e.step j _ _ c)
 
 pub number_within : (bits : List Bool) (n : ℕ) (e : KeptItem) (j : ℕ) → stands_at bits n e ≡ true → 1 ≤ e.step → j < n → is_character e.spec.kind ≡ false → e.at + (e.spec.width + 6) + (j + 1) * e.step ≤ length bits
 number_within bits n e j h some below c = subst (λ s. e.at + (e.spec.width + 6) + (j + 1) * s ≤ length bits) (number_step e.spec.kind e.step c) (increment_within bits n e j h some below)
 
 pub text_content : (bits : List Bool) (n : ℕ) (e : KeptItem) (j : ℕ) → stands_at bits n e ≡ true → 1 ≤ e.step → j < n → is_character e.spec.kind ≡ true
-    → text_of (e.spec.width / 8) e.step (take (8 * e.step) (drop (j * (8 * e.step)) (drop (e.at + (e.spec.width + 6)) bits))) ≡ content_at j (contents_found (packed_field n e.spec (drop e.at bits)))
+    → padded_text (e.spec.width / 8) e.step (take (8 * e.step) (drop (j * (8 * e.step)) (drop (e.at + (e.spec.width + 6)) bits))) ≡ content_kept bits n e j
 text_content bits n e j h some below c = sym (varied_content bits n e j h some below ∙ text_kind e.spec.kind e.spec e.step j _ _ c)
 
 pub text_within : (bits : List Bool) (n : ℕ) (e : KeptItem) (j : ℕ) → stands_at bits n e ≡ true → 1 ≤ e.step → j < n → is_character e.spec.kind ≡ true → e.at + (e.spec.width + 6) + (j + 1) * (8 * e.step) ≤ length bits

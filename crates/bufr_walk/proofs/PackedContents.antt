@@ -12,9 +12,9 @@ use Rattle.bufr_walk.specs.declared.spec.Taken.{Taken}
 use Rattle.bufr_walk.specs.declared.spec.Taken.TheVariants as taken
 use Rattle.bufr_walk.specs.declared.packed_in.PackedFault.TheVariants as wrong
 use Rattle.bufr_walk.specs.Asked.{Asked, IsSpec, HasRole}
-use Rattle.bufr_walk.specs.Content.{Content, number, missing, content_in, told, told_by}
+use Rattle.bufr_walk.specs.Content.{Content, number, missing, content_in, told, told_by_role}
 use Rattle.bufr_walk.specs.PlainField.{FieldFault, increment, unequal_factor}
-use Rattle.bufr_walk.specs.PackedField.{ones, and_more, increased, increments, all_increased, text_of, step_of, numbers_of, varied_by, same_count, if_equal, varied, contents_of, told_first}
+use Rattle.bufr_walk.specs.PackedField.{ones, and_more, increased, increments, all_increased, padded_text, step_of, numbers_of, varied_by, same_count, if_equal, varied, contents_of, told_first}
 use Rattle.bufr_walk.specs.PackedBits.{stays_within, all_within, all_equal, increased_to, numbers_hold, holds_by, number_from, content_from, kind_step, is_plain_role, IsTold, IsWrong}
 
 -- one increment that stays within the width
@@ -86,7 +86,7 @@ texts_by false false xs h = absurd cc
 
 -- an item with increments, by its test
 pub varied_are : (kd : Kind) (a : Asked) (k n : ℕ) (base behind : List Bool) (b : Bool) → holds_by kd a k n base behind ≡ b → varied_by kd a k base (increments n (kind_step kd k) behind) ≡ (if b then Ok (map (content_from kd a k base) (increments n (kind_step kd k) behind)) else Err increment)
-varied_are kind.Character a k n base behind b h = texts_by (nat_lt (a.width / 8) k) b (map (text_of (a.width / 8) k) (increments n (8 * k) behind)) h
+varied_are kind.Character a k n base behind b h = texts_by (nat_lt (a.width / 8) k) b (map (padded_text (a.width / 8) k) (increments n (8 * k) behind)) h
 varied_are kind.Coded a k n base behind b h = numbers_are a k n base behind b h
 varied_are kind.Numeric a k n base behind b h = numbers_are a k n base behind b h
 
@@ -127,11 +127,11 @@ factor_are a k n base behind some e =
 -- an element tells nothing
 plain_element : (a : Asked) (cs : List Content) → a.role ≡ role.Element → taken.Plain ≡ told_first a cs
 plain_element a [] e = refl
-plain_element a (c ∷ cs) e = ap (λ r. told_by r c) (sym e)
+plain_element a (c ∷ cs) e = ap (λ r. told_by_role r c) (sym e)
 
 plain_inserted : (a : Asked) (cs : List Content) → a.role ≡ role.Inserted → taken.Plain ≡ told_first a cs
 plain_inserted a [] e = refl
-plain_inserted a (c ∷ cs) e = ap (λ r. told_by r c) (sym e)
+plain_inserted a (c ∷ cs) e = ap (λ r. told_by_role r c) (sym e)
 
 pub told_element_varied : (a : Asked) (k n : ℕ) (base behind : List Bool) → 1 ≤ k → a.role ≡ role.Element → holds_by a.kind a k n base behind ≡ true → IsTold a k n base behind taken.Plain
 told_element_varied a k n base behind some e h = record {
@@ -215,7 +215,7 @@ equal_numbers base first (suc n) k behind b h e t =
 
 first_number : (base first n k : ℕ) (behind : List Bool) (a : Asked) → 1 ≤ n → first ≡ number_of (take k behind) → a.role ≡ role.Factor → taken.Count (base + first) ≡ told_first a (map (λ i. number (base + number_of i)) (increments n k behind))
 first_number base first zero k behind a h e r = absurd (omega arith)
-first_number base first (suc n) k behind a h e r = ap (λ f. taken.Count (base + f)) e ∙ ap (λ x. told_by x (number (base + number_of (take k behind)))) (sym r)
+first_number base first (suc n) k behind a h e r = ap (λ f. taken.Count (base + f)) e ∙ ap (λ x. told_by_role x (number (base + number_of (take k behind)))) (sym r)
 
 equal_are : (a : Asked) (k n : ℕ) (base behind : List Bool) (first : ℕ) (b : Bool) → 1 ≤ k → 1 ≤ n → IsSpec a → a.role ≡ role.Factor → holds_by a.kind a k n base behind ≡ true → first ≡ number_of (take k behind) → all_equal k n first behind ≡ b
     → contents_of a k base (increments n (step_of a.role a.kind k) behind) ≡ (if b then Ok (map (λ i. number (number_of base + number_of i)) (increments n k behind)) else Err unequal_factor)

@@ -6,8 +6,8 @@ use Rattle.std.proofs.lemmas.List.{length-append}
 use Rattle.std.proofs.lemmas.List.Folds.{list_all-append}
 use Rattle.std.proofs.lemmas.Bool.Decides.{nat_tests}
 use Rattle.bufr_bits.specs.Bits.{number_of}
-use Rattle.bufr_walk.specs.declared.read_packed.KeptItem.{KeptItem}
-use Rattle.bufr_walk.specs.declared.packed_in.Seen.{Seen}
+use Rattle.bufr_walk.specs.declared.kept.KeptItem.{KeptItem}
+use Rattle.bufr_walk.specs.declared.packed_in.PackedItem.{PackedItem}
 use Rattle.bufr_walk.specs.declared.packed_in.PackedFault.{PackedFault}
 use Rattle.bufr_walk.specs.declared.packed_in.PackedFault.TheVariants as wrong
 use Rattle.bufr_walk.specs.Asked.{Asked}
@@ -32,12 +32,12 @@ both : (a b : Bool) → a ≡ true → b ≡ true → (a && b) ≡ true
 both a b e f = ap (λ x. x && b) e ∙ f
 
 -- the entry of an item that was seen
-pub stands_here : (bits : List Bool) (n : ℕ) (e : KeptItem) (seen : Seen) → IsSeen bits e.at n e.spec seen → e.step ≡ seen.step → stands_at bits n e ≡ true
+pub stands_here : (bits : List Bool) (n : ℕ) (e : KeptItem) (seen : PackedItem) → IsSeen bits e.at n e.spec seen → e.step ≡ seen.step → stands_at bits n e ≡ true
 stands_here bits n e seen h k =
     both (was_found (packed_field n e.spec (drop e.at bits))) (e.step == number_of (take 6 (drop (e.at + e.spec.width) bits))) (ap was_found h.field) (equal_test e.step (number_of (take 6 (drop (e.at + e.spec.width) bits))) (k ∙ h.step))
 
 -- one entry more
-pub keeps : (bits : List Bool) (at n : ℕ) (kept kept' : List KeptItem) (room room' : ℕ) (e : KeptItem) (seen : Seen) → IsPackedIn bits at n kept room → e.at ≡ at → e.step ≡ seen.step → IsLooked (packed_view bits at n kept) e.spec seen → kept' ≡ kept ++ e ∷ [] → room_for (length kept + 1) ≤ room' → IsPackedIn bits seen.end n kept' room'
+pub keeps : (bits : List Bool) (at n : ℕ) (kept kept' : List KeptItem) (room room' : ℕ) (e : KeptItem) (seen : PackedItem) → IsPackedIn bits at n kept room → e.at ≡ at → e.step ≡ seen.step → IsLooked (packed_view bits at n kept) e.spec seen → kept' ≡ kept ++ e ∷ [] → room_for (length kept + 1) ≤ room' → IsPackedIn bits seen.end n kept' room'
 keeps bits at n kept kept' room room' e seen h here k look is enough =
     let stands = stands_here bits n e seen (subst (λ x. IsSeen bits x n e.spec seen) (sym here) look.seen) k in
     let count : length kept' ≡ length kept + 1 = ap length is ∙ length-append kept (e ∷ []) in
@@ -51,7 +51,7 @@ keeps bits at n kept kept' room room' e seen h here k look is enough =
       has_room = subst (λ l. room_for l ≤ room') (sym count) enough;
     }
 
-pub takes_one : (bits : List Bool) (at n : ℕ) (kept kept' : List KeptItem) (e : KeptItem) (seen : Seen) → e.at ≡ at → IsLooked (packed_view bits at n kept) e.spec seen → kept' ≡ kept ++ e ∷ []
+pub takes_one : (bits : List Bool) (at n : ℕ) (kept kept' : List KeptItem) (e : KeptItem) (seen : PackedItem) → e.at ≡ at → IsLooked (packed_view bits at n kept) e.spec seen → kept' ≡ kept ++ e ∷ []
     → IsPackedTaken (packed_view bits at n kept) e.spec seen.told (packed_view bits seen.end n kept')
 takes_one bits at n kept kept' e seen here look is = record {
   contents = look.seen.contents;
@@ -82,14 +82,14 @@ too_many s bits at n kept len from e f g h =
 pub unlooked_many : (s : PackedCursor) (a : Asked) (bits : List Bool) (at n : ℕ) (kept : List KeptItem) (len from fxy : ℕ) → fxy ≡ a.fxy → s ≡ packed_view bits at n kept → len ≡ length kept → from ≡ n → most_values < (len + 1) * from → IsUnlooked s a (wrong.TooManyValues fxy)
 unlooked_many s a bits at n kept len from fxy d e f g h = (d, too_many s bits at n kept len from e f g h)
 
-pub looked : (s : PackedCursor) (a : Asked) (bits : List Bool) (at n : ℕ) (kept : List KeptItem) (len from : ℕ) (r : Result Seen PackedFault) → s ≡ packed_view bits at n kept → len ≡ length kept → from ≡ n → (len + 1) * from ≤ most_values
+pub looked : (s : PackedCursor) (a : Asked) (bits : List Bool) (at n : ℕ) (kept : List KeptItem) (len from : ℕ) (r : Result PackedItem PackedFault) → s ≡ packed_view bits at n kept → len ≡ length kept → from ≡ n → (len + 1) * from ≤ most_values
     → MatchResult r (λ x. IsSeen bits at n a x) (λ e. IsUnseen bits at n a e) → MatchResult r (λ x. IsLooked s a x) (λ e. IsUnlooked s a e)
 looked s a bits at n kept len from r e f g few h = by r h
   where
     room : (length (items_at bits n kept) + 1) * n ≤ most_values
     room = subst (λ z. z ≤ most_values) (ap (λ l. (l + 1) * from) (f ∙ sym (length-items_at bits n kept)) ∙ ap (λ m. (length (items_at bits n kept) + 1) * m) g) few
 
-    by : (r : Result Seen PackedFault) → MatchResult r (λ x. IsSeen bits at n a x) (λ e. IsUnseen bits at n a e) → MatchResult r (λ x. IsLooked s a x) (λ e. IsUnlooked s a e)
+    by : (r : Result PackedItem PackedFault) → MatchResult r (λ x. IsSeen bits at n a x) (λ e. IsUnseen bits at n a e) → MatchResult r (λ x. IsLooked s a x) (λ e. IsUnlooked s a e)
     by (Ok x) h = subst (λ y. IsLooked y a x) (sym e) (record { few = room; seen = h })
     by (Err w) h = subst (λ y. IsUnlooked y a w) (sym e) (unlooked (packed_view bits at n kept) a w room h)
 

@@ -4,7 +4,7 @@ use Rattle.std.specs.Prelude.{nat_lt, if◌then◌else◌}
 use Rattle.std.proofs.lemmas.List.{length-drop, drop-drop}
 use Rattle.std.proofs.lemmas.Bool.Decides.{nat_tests}
 use Rattle.bufr_bits.specs.Bits.{number_of}
-use Rattle.bufr_walk.specs.declared.packed_in.Seen.{Seen}
+use Rattle.bufr_walk.specs.declared.packed_in.PackedItem.{PackedItem}
 use Rattle.bufr_walk.specs.declared.packed_in.PackedFault.{PackedFault}
 use Rattle.bufr_walk.specs.declared.packed_in.PackedFault.TheVariants as wrong
 use Rattle.bufr_walk.specs.Asked.{Asked}
@@ -64,7 +64,7 @@ module _ (bits : List Bool) (at n : ℕ) (a : Asked) where
         fault = ap wrong.DataEnd g;
       }
 
-  pub seen_here : (seen : Seen) (size : ℕ) → 1 ≤ a.width → seen.end ≡ at + size → at + size ≤ length bits → seen.step ≡ number_of (take 6 (drop (at + a.width) bits)) → size ≡ a.width + 6 + n * step_of a.role a.kind seen.step → IsTold a seen.step n (take a.width (drop at bits)) (drop (at + (a.width + 6)) bits) seen.told → IsSeen bits at n a seen
+  pub seen_here : (seen : PackedItem) (size : ℕ) → 1 ≤ a.width → seen.end ≡ at + size → at + size ≤ length bits → seen.step ≡ number_of (take 6 (drop (at + a.width) bits)) → size ≡ a.width + 6 + n * step_of a.role a.kind seen.step → IsTold a seen.step n (take a.width (drop at bits)) (drop (at + (a.width + 6)) bits) seen.told → IsSeen bits at n a seen
   seen_here seen size some end_is within is size_is told = record {
     contents = told.contents;
     field = field_is seen.step size within is size_is ∙ ap (λ r. with_behind r (drop (at + size) bits)) told.are ∙ ap (λ j. Ok (found told.contents (drop j bits))) (sym end_is);

@@ -7,17 +7,17 @@ use Rattle.std.proofs.lemmas.Bool.Decides.{nat_tests}
 use Rattle.std.proofs.Math.Nat.{mul-le-mul_left}
 use Rattle.bufr_walk.specs.declared.spec.Refusal.TheVariants as refusal
 use Rattle.bufr_walk.specs.declared.spec.Role.TheVariants as role
-use Rattle.bufr_walk.specs.declared.read_packed.KeptItem.{KeptItem}
+use Rattle.bufr_walk.specs.declared.kept.KeptItem.{KeptItem}
 use Rattle.bufr_walk.specs.declared.packed_in.PackedFault.{PackedFault}
 use Rattle.bufr_walk.specs.declared.packed_in.PackedFault.TheVariants as wrong
-use Rattle.bufr_walk.specs.declared.walking.WalkStop.{WalkStop}
-use Rattle.bufr_walk.specs.declared.walking.WalkStop.TheVariants as stops
+use Rattle.bufr_walk.specs.declared.stop.WalkStop.{WalkStop}
+use Rattle.bufr_walk.specs.declared.stop.WalkStop.TheVariants as stops
 use Rattle.bufr_walk.specs.declared.fault.WalkFault.TheVariants as fault
 use Rattle.bufr_walk.specs.Asked.{Asked}
 use Rattle.bufr_walk.specs.Content.{Content}
 use Rattle.bufr_walk.specs.Course.{Course, Next, take_next, at_end, astray, refused}
 use Rattle.bufr_walk.specs.Fault.{spot, fault_of, bits_before}
-use Rattle.bufr_walk.specs.Kept.{AreKept}
+use Rattle.bufr_walk.specs.Kept.{IsReadAndKept}
 use Rattle.bufr_walk.specs.Outcome.{IsRead, IsFault, IsRefused}
 use Rattle.bufr_walk.specs.PackedField.{packed_field}
 use Rattle.bufr_walk.specs.PackedIn.{items_at, stands_at, wrong_of, PackedCursor, packed_rest, item_with, IsPackedTaken, IsPackedWrong, PackedTakes, refuses_packed, packed_start, packed_fault}
@@ -117,7 +117,7 @@ module _ (n : ℕ) (course : Course) (bits : List Bool) (s : PackedCursor) (firs
 
   -- with the entries that were kept
   pub whole_read : (s' : PackedCursor) (c c' used : ℕ) (kept : List KeptItem) → c ≡ 0 → Walked PackedTakes course s c (Ok tt) s' c' → s'.at ≤ length s'.bits → length s'.items * s'.subsets ≤ most_values → used ≡ s'.at → items_at s'.bits s'.subsets kept ≡ s'.items → list_all (stands_at s'.bits s'.subsets) kept ≡ true
-      → (items : List (Item (List Content))) × IsRead course (packed_data n bits) (together items) used c' × AreKept (packed_data n bits) kept items
+      → IsReadAndKept course (packed_data n bits) kept used c'
   whole_read s' c c' used kept zero_first w within few at are stand =
       let p = passes n course s w.0 s' begins w.1 in (
         s'.items,

@@ -3,7 +3,7 @@ use Rattle.std.proofs.Common.{◌≡◌, ℕ, zero, suc, Bool, true, false, List
 use Rattle.std.specs.List.{list_all}
 use Rattle.std.specs.declared.alloc.Global.{Global}
 use Rattle.bufr_walk.specs.declared.fault.ShowFault.{ShowFault}
-use Rattle.bufr_walk.specs.declared.read_packed.KeptItem.{KeptItem}
+use Rattle.bufr_walk.specs.declared.kept.KeptItem.{KeptItem}
 use Rattle.bufr_walk.specs.declared.reading.Kept.{Kept}
 use Rattle.bufr_walk.specs.declared.reading.Kept.TheVariants as kept
 use Rattle.bufr_walk.specs.Calls.{Call, calls_of, turns_shown, subsets_together}

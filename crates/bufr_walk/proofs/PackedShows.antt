@@ -7,10 +7,10 @@ use Rattle.bufr_bits.proofs.ScaledLemmas.{and_second}
 use Rattle.bufr_tables.specs.TableB.{Row}
 use Rattle.bufr_walk.specs.declared.fault.ShowFault.{ShowFault}
 use Rattle.bufr_walk.specs.declared.fault.ShowFault.TheVariants as fault
-use Rattle.bufr_walk.specs.declared.read_packed.KeptItem.{KeptItem}
-use Rattle.bufr_walk.specs.Calls.{Call, item_call, Timed, timed, view_of, content_at, items_together}
-use Rattle.bufr_walk.specs.PackedField.{packed_field}
-use Rattle.bufr_walk.specs.PackedIn.{contents_found, items_at, stands_at}
+use Rattle.bufr_walk.specs.declared.kept.KeptItem.{KeptItem}
+use Rattle.bufr_walk.specs.Calls.{Call, Timed, timed, items_together}
+use Rattle.bufr_walk.specs.Kept.{call_kept}
+use Rattle.bufr_walk.specs.PackedIn.{items_at, stands_at}
 use Rattle.bufr_walk.specs.Shows.{Shows}
 
 -- the calls went as far as these, without a turn
@@ -55,7 +55,7 @@ next_entry : (kept : List KeptItem) (i : ℕ) (k : KeptItem) → i < length kept
 next_entry kept i k h e = drop-cons kept i k h ∙ ap (λ x. x ∷ drop (suc i) kept) e ∙ ap (λ j. k ∷ drop j kept) (sym (add-one i))
 
 pub next_call : (table : List Row) (bits : List Bool) (n j : ℕ) (kept : List KeptItem) (i : ℕ) (k : KeptItem) → i < length kept → k ≡ get_or kept i k
-    → items_together table j (items_at bits n (drop i kept)) ≡ timed 0 (item_call (view_of table k.spec (content_at j (contents_found (packed_field n k.spec (drop k.at bits)))))) ∷ items_together table j (items_at bits n (drop (i + 1) kept))
+    → items_together table j (items_at bits n (drop i kept)) ≡ timed 0 (call_kept table bits n k j) ∷ items_together table j (items_at bits n (drop (i + 1) kept))
 next_call table bits n j kept i k h e = ap (λ ks. items_together table j (items_at bits n ks)) (next_entry kept i k h (sym e))
 
 pub stand_behind : (bits : List Bool) (n : ℕ) (kept : List KeptItem) (i : ℕ) (k : KeptItem) → i < length kept → k ≡ get_or kept i k → list_all (stands_at bits n) (drop i kept) ≡ true → list_all (stands_at bits n) (drop (i + 1) kept) ≡ true

@@ -3,11 +3,11 @@ use Rattle.std.proofs.Common.{◌≡◌, ℕ, zero, suc, ◌+◌, ◌-◌, ◌<�
 use Rattle.bufr_tables.specs.TableB.{Row}
 use Rattle.bufr_walk.specs.declared.fault.ShowFault.{ShowFault}
 use Rattle.bufr_walk.specs.declared.fault.ShowFault.TheVariants as fault
-use Rattle.bufr_walk.specs.declared.read_packed.KeptItem.{KeptItem}
-use Rattle.bufr_walk.specs.Calls.{Call, item_call, subset_call, Timed, timed, view_of, content_at, items_together, subsets_together}
+use Rattle.bufr_walk.specs.declared.kept.KeptItem.{KeptItem}
+use Rattle.bufr_walk.specs.Calls.{Call, subset_call, Timed, timed, items_together, subsets_together}
 use Rattle.bufr_walk.specs.Content.{Content}
-use Rattle.bufr_walk.specs.PackedField.{packed_field}
-use Rattle.bufr_walk.specs.PackedIn.{contents_found, items_at}
+use Rattle.bufr_walk.specs.Kept.{call_kept}
+use Rattle.bufr_walk.specs.PackedIn.{items_at}
 use Rattle.bufr_walk.specs.Reading.{Item}
 use Rattle.bufr_walk.specs.Shows.{Shows}
 use Rattle.bufr_walk.proofs.PackedShows.{SoFar, sofar_none, sofar_then, sofar_call, sofar_all, stops_call, shows_before, next_call}
@@ -21,7 +21,7 @@ all_dropped (k ∷ kept) (suc i) h = all_dropped kept i (omega (arith, h))
 module _ {S E : Type 0} (sees : S → Call → Result (Unit {0}) E → S → Type 0) (table : List Row) (bits : List Bool) (n : ℕ) (kept : List KeptItem) (j : ℕ) where
   -- the call of one subset for an entry
   abbrev pub call_at : KeptItem → Call
-  call_at k = item_call (view_of table k.spec (content_at j (contents_found (packed_field n k.spec (drop k.at bits)))))
+  call_at k = call_kept table bits n k j
 
   -- the calls from an entry on
   abbrev pub calls_from : ℕ → List Timed

@@ -7,11 +7,11 @@ use Rattle.bufr_walk.specs.declared.fault.WalkFault.TheVariants as fault
 use Rattle.bufr_walk.specs.Content.{Content}
 use Rattle.bufr_walk.specs.Course.{Course, Next, take_next}
 use Rattle.bufr_walk.specs.Fault.{fault_of, bits_before}
-use Rattle.bufr_walk.specs.Kept.{items_in}
-use Rattle.bufr_walk.specs.Outcome.{data_in, IsRead, IsFault, IsRefused}
+use Rattle.bufr_walk.specs.Kept.{IsReadAndPaid, items_in}
+use Rattle.bufr_walk.specs.Outcome.{data_in, IsFault, IsRefused}
 use Rattle.bufr_walk.specs.Passes.{PassComes, PassReads, PassStops, SubsetsRead}
 use Rattle.bufr_walk.specs.PlainIn.{Cursor, rest_of}
-use Rattle.bufr_walk.specs.Reading.{Item, plain, ReadsAll, ReadsSubsets, turns_after, turns_in, apart}
+use Rattle.bufr_walk.specs.Reading.{Item, plain, ReadsAll, ReadsSubsets, turns_after, turns_in}
 use Rattle.bufr_walk.specs.PlainField.{data_end, increment, unequal_factor}
 use Rattle.bufr_walk.specs.declared.spec.Refusal.TheVariants as refusal
 use Rattle.bufr_walk.specs.Refusal.{Stop, walk_stop, too_many, field_stop, stop_at, ComesTo}
@@ -67,7 +67,7 @@ one_more n course bits i s s' c c' h p few within forth =
         split : (n a d b : ℕ) → b ≡ a + d → n * b ≡ n * a + n * d
         split n a d b e = ap (λ x. n * x) e ∙ grind arith
 
-pub all_read : (n : ℕ) (course : Course) (octets : List ℕ) (total : ℕ) (s : Cursor) (steps used : ℕ) → SubsetsRead n course (bits_of octets) total s steps → used ≡ s.at → (subsets : List (List (Item Content))) × IsRead course (data_in false total octets) (apart subsets) used steps × (items_in subsets ≤ used)
+pub all_read : (n : ℕ) (course : Course) (octets : List ℕ) (total : ℕ) (s : Cursor) (steps used : ℕ) → SubsetsRead n course (bits_of octets) total s steps → used ≡ s.at → IsReadAndPaid course (data_in false total octets) used steps
 all_read n course octets total s steps used h e =
     (h.subsets, ((refl, omega (arith, e, h.within), (subst (λ z. ReadsSubsets course h.subsets (bits_of octets) z) (ap (drop s.at) h.same ∙ ap (λ k. drop k (bits_of octets)) (sym e)) h.whole, h.count_is)), h.ticks), omega (arith, e, h.pays))
 

@@ -6,7 +6,7 @@ use Rattle.bufr_tables.specs.Tree.{Tree}
 use Rattle.bufr_walk.specs.declared.reading.Kept.TheVariants as kept
 use Rattle.bufr_walk.specs.Content.{Content}
 use Rattle.bufr_walk.specs.Course.{next_item}
-use Rattle.bufr_walk.specs.Kept.{IsHeld, KeepsValues, items_in}
+use Rattle.bufr_walk.specs.Kept.{IsHeld, KeepsValues, IsReadAndPaid}
 use Rattle.bufr_walk.specs.Outcome.{data_in, data_of, read_by, Read, course_of, IsRead, IsReadingOf}
 use Rattle.bufr_walk.specs.Reading.{Item, Values, apart, together, IsReading, ReadsSubsets, most_values}
 use Rattle.bufr_bits.specs.Bits.{bits_of}
@@ -16,7 +16,7 @@ use Rattle.bufr_walk.proofs.PlainLemmas.{bits_length}
 pub used_most : (octets : List ℕ) (used : ℕ) → length octets < 2 ^ 24 → used ≤ length (bits_of octets) → used ≤ most_values
 used_most octets used h w = omega (arith, h, w, bits_length octets)
 
-pub plain_held : (table : List Row) (template : Tree) (subsets : ℕ) (octets : List ℕ) (used steps : ℕ) → length octets < 2 ^ 24 → (read : List (List (Item Content))) × IsRead (next_item table template) (data_in false subsets octets) (apart read) used steps × (items_in read ≤ used) → IsHeld (read_by table template (data_in false subsets octets) used 0) kept.Apart
+pub plain_held : (table : List Row) (template : Tree) (subsets : ℕ) (octets : List ℕ) (used steps : ℕ) → length octets < 2 ^ 24 → IsReadAndPaid (next_item table template) (data_in false subsets octets) used steps → IsHeld (read_by table template (data_in false subsets octets) used 0) kept.Apart
 plain_held table template subsets octets used steps short h = record { values = apart h.0; reading = h.1.0; keeps = tt; few = omega arith; pays = h.2; short = used_most octets used short h.1.0.1 }
 
 -- the data of a message that are not compressed
@@ -24,7 +24,7 @@ pub same_data : (m : Sections) (subsets : ℕ) (octets : List ℕ) → m.compres
 same_data m subsets octets plain e f =
     ap (λ n. data_in false n octets) e ∙ ap (λ o. data_in false m.subsets o) f ∙ ap (λ b. data_in b m.subsets m.payload) (sym plain)
 
-pub plain_is : (table : List Row) (template : Tree) (m : Sections) (subsets : ℕ) (octets : List ℕ) (used steps : ℕ) → data_in false subsets octets ≡ data_of m → (read : List (List (Item Content))) × IsRead (next_item table template) (data_in false subsets octets) (apart read) used steps × (items_in read ≤ used) → IsReadingOf table template (data_of m) (read_by table template (data_in false subsets octets) used 0) steps
+pub plain_is : (table : List Row) (template : Tree) (m : Sections) (subsets : ℕ) (octets : List ℕ) (used steps : ℕ) → data_in false subsets octets ≡ data_of m → IsReadAndPaid (next_item table template) (data_in false subsets octets) used steps → IsReadingOf table template (data_of m) (read_by table template (data_in false subsets octets) used 0) steps
 plain_is table template m subsets octets used steps e h = (refl, refl, e, apart h.0, subst (λ d. IsRead (next_item table template) d (apart h.0) used steps) e h.1)
 
 -- data that are not compressed were read before, and can be shown

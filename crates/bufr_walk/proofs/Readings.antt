@@ -2,8 +2,8 @@
 use Rattle.std.proofs.Common.{◌≡◌, ◌≤◌, ◌+◌, ℕ, List, [], ◌∷◌, length, Result, Ok, Err, refl, sym, ◌∙◌, ap, subst, arith}
 use Rattle.bufr_walk.specs.declared.spec.Refusal.TheVariants as refusal
 use Rattle.bufr_walk.specs.declared.plain_in.DataEnd.{DataEnd}
-use Rattle.bufr_walk.specs.declared.walking.WalkStop.{WalkStop}
-use Rattle.bufr_walk.specs.declared.walking.WalkStop.TheVariants as stops
+use Rattle.bufr_walk.specs.declared.stop.WalkStop.{WalkStop}
+use Rattle.bufr_walk.specs.declared.stop.WalkStop.TheVariants as stops
 use Rattle.bufr_walk.specs.declared.fault.WalkFault.TheVariants as fault
 use Rattle.bufr_walk.specs.Content.{Content}
 use Rattle.bufr_walk.specs.Course.{Course, Next, take_next, at_end, astray, refused}

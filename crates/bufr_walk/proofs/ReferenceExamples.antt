@@ -1,4 +1,5 @@
--- Worked examples of redefined references (2 03), and of what may come while references are defined, computed from the definitions.
+-- Worked examples of redefined references (2 03), and of what may come while references are
+-- defined, computed from the definitions.
 use Rattle.std.proofs.Common.{◌≡◌, [], ◌∷◌, pos, negsuc, refl}
 use Rattle.bufr_tables.specs.Tree.{bare, element, operator, fixed, delayed}
 use Rattle.bufr_walk.specs.declared.spec.Refusal.TheVariants as refusal
@@ -11,13 +12,16 @@ precision_of_a_reference : one (operator (fxy 2 1 132) (operator (fxy 2 7 1) (op
 unfolding one gives fxy
 precision_of_a_reference = refl
 
--- A reference has the width that 2 03 gives, whatever else is in force: fails where a change of width reaches it.
+-- A reference has the width that 2 03 gives, whatever else is in force: fails where a change of
+-- width reaches it.
 reference_width_alone : one (operator (fxy 2 1 121) (operator (fxy 2 3 10) (element (fxy 0 1 1) (operator (fxy 2 3 255) (operator (fxy 2 1 0) (element (fxy 0 1 1) bare)))))) (228 ∷ 5 ∷ 0 ∷ [])
     ≡ gives ((257, shown_reference (negsuc 399)) ∷ (257, shown_number (negsuc 389) (pos 0)) ∷ []) (done 7 7)
 unfolding one gives fxy
 reference_width_alone = refl
 
--- A reference of all ones is the least number, of one bit the sign alone is left, and of 63 bits none is lost: fails where a reference may be missing, where it is a two's complement, or where it has fewer bits.
+-- A reference of all ones is the least number, of one bit the sign alone is left, and of 63 bits
+-- none is lost: fails where a reference may be missing, where it is a two's complement, or where it
+-- has fewer bits.
 reference_of_all_ones : one (operator (fxy 2 3 10) (element (fxy 0 12 101) (operator (fxy 2 3 255) (element (fxy 0 12 101) bare)))) (255 ∷ 220 ∷ 35 ∷ 192 ∷ [])
     ≡ gives ((3173, shown_reference (negsuc 510)) ∷ (3173, shown_number (pos 28304) (pos 2)) ∷ []) (done 6 5)
 unfolding one gives fxy
@@ -39,7 +43,8 @@ references_dropped : one (operator (fxy 2 3 10) (element (fxy 0 12 101) (element
 unfolding one gives fxy
 references_dropped = refl
 
--- A second definition keeps the references of the first, each for its own element: fails where 2 03 008 begins anew, or where one reference goes to every element.
+-- A second definition keeps the references of the first, each for its own element: fails where 2 03
+-- 008 begins anew, or where one reference goes to every element.
 references_kept : one (operator (fxy 2 3 10) (element (fxy 0 12 101) (operator (fxy 2 3 255) (operator (fxy 2 3 8) (element (fxy 0 1 1) (operator (fxy 2 3 255) (element (fxy 0 12 101) (element (fxy 0 1 1) bare)))))))) (228 ∷ 1 ∷ 92 ∷ 35 ∷ 197 ∷ 0 ∷ [])
     ≡ gives ((3173, shown_reference (negsuc 399)) ∷ (257, shown_reference (pos 5)) ∷ (3173, shown_number (pos 28415) (pos 2)) ∷ (257, shown_number (pos 15) (pos 0)) ∷ []) (done 7 9)
 unfolding one gives fxy
@@ -51,7 +56,8 @@ latest_reference : one (operator (fxy 2 3 10) (element (fxy 0 12 101) (element (
 unfolding one gives fxy
 latest_reference = refl
 
--- 2 03 255 with nothing to end does nothing, and the end of the template ends a definition: fails where either is a fault.
+-- 2 03 255 with nothing to end does nothing, and the end of the template ends a definition: fails
+-- where either is a fault.
 no_definitions_to_end : one (operator (fxy 2 3 255) (element (fxy 0 1 1) bare)) (20 ∷ [])
     ≡ gives ((257, shown_number (pos 10) (pos 0)) ∷ []) (done 1 3)
 unfolding one gives fxy
@@ -62,7 +68,8 @@ defining_at_the_end : one (operator (fxy 2 3 10) (element (fxy 0 12 101) bare)) 
 unfolding one gives fxy
 defining_at_the_end = refl
 
--- Groups of so many passes may stand in a definition, and its end may stand in a group: fails where a group is a fault there, or where a pass or a group puts back what was in force before it.
+-- Groups of so many passes may stand in a definition, and its end may stand in a group: fails where
+-- a group is a fault there, or where a pass or a group puts back what was in force before it.
 defining_passes_a_group : one (operator (fxy 2 3 10) (fixed 2 (element (fxy 0 12 101) (element (fxy 0 20 3) bare)) (operator (fxy 2 3 255) (element (fxy 0 12 101) bare)))) (228 ∷ 0 ∷ 25 ∷ 146 ∷ 2 ∷ 112 ∷ 143 ∷ [])
     ≡ gives ((3173, shown_reference (negsuc 399)) ∷ (5123, shown_reference (pos 1)) ∷ (3173, shown_reference (negsuc 99)) ∷ (5123, shown_reference (negsuc 1)) ∷ (3173, shown_number (pos 28715) (pos 2)) ∷ []) (done 0 11)
 unfolding one gives fxy
@@ -73,7 +80,8 @@ definitions_end_in_a_group : one (operator (fxy 2 3 10) (fixed 2 (element (fxy 0
 unfolding one gives fxy
 definitions_end_in_a_group = refl
 
--- No change of width, scale, precision or text width may come while references are defined, not even behind the last of them: fails where such an operator is taken.
+-- No change of width, scale, precision or text width may come while references are defined, not
+-- even behind the last of them: fails where such an operator is taken.
 width_while_defining : one (operator (fxy 2 3 10) (element (fxy 0 12 101) (operator (fxy 2 1 132) bare))) (228 ∷ 0 ∷ [])
     ≡ gives ((3173, shown_reference (negsuc 399)) ∷ []) (walk_fault (refusal.Defining 33156) 6 3)
 unfolding one gives fxy
@@ -94,7 +102,8 @@ text_width_while_defining : one (operator (fxy 2 3 10) (element (fxy 0 12 101) (
 unfolding one gives fxy
 text_width_while_defining = refl
 
--- Nor another definition, nor its dropping: fails where 2 03 008 or 2 03 000 is taken in a definition.
+-- Nor another definition, nor its dropping: fails where 2 03 008 or 2 03 000 is taken in a
+-- definition.
 defining_again : one (operator (fxy 2 3 10) (fixed 2 (element (fxy 0 12 101) (operator (fxy 2 3 8) bare)) bare)) (228 ∷ 0 ∷ [])
     ≡ gives ((3173, shown_reference (negsuc 399)) ∷ []) (walk_fault (refusal.Defining 33544) 6 4)
 unfolding one gives fxy
@@ -105,13 +114,15 @@ defining_dropped : one (operator (fxy 2 3 10) (fixed 2 (element (fxy 0 12 101) (
 unfolding one gives fxy
 defining_dropped = refl
 
--- Nor a given width, and it is refused before the width itself is looked at: fails where the fault is at 063255, or is its width.
+-- Nor a given width, and it is refused before the width itself is looked at: fails where the fault
+-- is at 063255, or is its width.
 defining_given : one (operator (fxy 2 3 10) (fixed 2 (operator (fxy 2 6 64) (element (fxy 0 63 255) bare)) bare)) []
     ≡ gives [] (walk_fault (refusal.Defining 34368) 0 3)
 unfolding one gives fxy
 defining_given = refl
 
--- Nor a text of the template, nor a factor, which is refused at itself and not at its group: fails where either is read, or where the group is at fault.
+-- Nor a text of the template, nor a factor, which is refused at itself and not at its group: fails
+-- where either is read, or where the group is at fault.
 defining_inserted : one (operator (fxy 2 3 10) (fixed 2 (operator (fxy 2 5 1) bare) bare)) (65 ∷ 66 ∷ [])
     ≡ gives [] (walk_fault (refusal.Defining 34049) 16 3)
 unfolding one gives fxy

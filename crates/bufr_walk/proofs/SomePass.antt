@@ -9,7 +9,7 @@ use Rattle.bufr_tables.specs.declared.kind.Kind.TheVariants as kind
 use Rattle.bufr_walk.specs.declared.spec.Role.{Role}
 use Rattle.bufr_walk.specs.declared.spec.Role.TheVariants as role
 use Rattle.bufr_walk.specs.Asked.{Asked, IsFor, IsForRole}
-use Rattle.bufr_walk.specs.Content.{Content, content_in, told_by}
+use Rattle.bufr_walk.specs.Content.{Content, content_in, told_by_role}
 use Rattle.bufr_walk.specs.Course.{Course, Next, take_next, at_end, astray, refused}
 use Rattle.bufr_walk.specs.PackedField.{increments, step_of, contents_of, varied, varied_by, numbers_of, all_increased, increased, and_more, if_equal, all_same, with_behind, item_by, packed_field, told_first}
 use Rattle.bufr_walk.specs.PlainField.{FieldFault, data_end, increment, unequal_factor, Found, found, plain_field}
@@ -86,7 +86,7 @@ module _ {C : Type 0} (form : Form C) (many : ℕ → Bool) (forth : (spec : Ask
       by (refused why) e go = at_once course from bits (stopped (walk_stop why)) (ap (λ x. outcome_of form (many (from + 0)) x bits) e)
       by (take_next spec) e go = at_field spec e (many (from + 0)) refl (form.field spec bits) refl go
 
-told_for : (r : Role) (c : Content) → IsForRole r (told_by r c)
+told_for : (r : Role) (c : Content) → IsForRole r (told_by_role r c)
 told_for role.Element c = tt
 told_for role.Inserted c = tt
 told_for role.Factor c = tt

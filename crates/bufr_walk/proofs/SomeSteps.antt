@@ -23,7 +23,8 @@ use Rattle.bufr_walk.specs.Settings.{Settings, begin, is_defining, after_operato
 use Rattle.bufr_walk.specs.Turns.{finish, open_end, group, pass_end, element_turn, operator_turn, Rest, passes, unroll}
 use Rattle.bufr_walk.proofs.SpecLemmas.{inserted_width}
 
--- for so many items: what comes next has a width, and is not astray, while each item tells what its role asks
+-- for so many items: what comes next has a width, and is not astray, while each item tells what its
+-- role asks
 abbrev pub IsSane : ℕ → Course → Type 0
 IsSane zero course = Unit {0}
 IsSane (suc n) course =

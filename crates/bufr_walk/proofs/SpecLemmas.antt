@@ -14,7 +14,7 @@ use Rattle.std.specs.BTreeMap.{insert_entry, is_at}
 use Rattle.std.specs.Map.{lookup}
 use Rattle.std.specs.Option.{unwrap_or}
 use Rattle.std.specs.Cmp.{unsigned_tied}
-use Rattle.bufr_walk.specs.Settings.{Redefined, reference_in, with_reference}
+use Rattle.bufr_walk.specs.Settings.{Redefined, current_reference, with_reference}
 use Rattle.bufr_walk.specs.InForce.{known_by}
 use Rattle.std.specs.Prelude.{◌%◌, unsigned_abs}
 use Rattle.bufr_tables.specs.declared.kind.Kind.{Kind}
@@ -24,7 +24,7 @@ use Rattle.bufr_walk.specs.declared.spec.Role.{Role}
 use Rattle.bufr_walk.specs.declared.spec.Role.TheVariants as role
 use Rattle.bufr_walk.specs.Asked.{Asked, IsSpec, HasWidth, HasRole, HasMissing, is_reference}
 use Rattle.bufr_walk.specs.Rules.{text_of}
-use Rattle.bufr_walk.specs.Numbers.{number_of}
+use Rattle.bufr_walk.specs.Numbers.{number_field}
 
 number_width : (k : Kind) (w : ℕ) → is_character k ≡ false → 1 ≤ w → w ≤ 63 → HasWidth k w
 number_width kind.Character w e some most = absurd cc
@@ -36,7 +36,7 @@ number_missing kind.Character m e = absurd cc
 number_missing kind.Coded m e = tt
 number_missing kind.Numeric m e = tt
 
-pub number_good : (fxy : ℕ) (r : Role) (k : Kind) (w : ℕ) (scale reference : ℤ) (m listed : Bool) → is_character k ≡ false → HasRole r k m → unsigned_abs scale ≤ 300 → unsigned_abs reference ≤ 2 ^ 125 → 1 ≤ w → w ≤ 63 → IsSpec (number_of fxy r k w scale reference m listed)
+pub number_good : (fxy : ℕ) (r : Role) (k : Kind) (w : ℕ) (scale reference : ℤ) (m listed : Bool) → is_character k ≡ false → HasRole r k m → unsigned_abs scale ≤ 300 → unsigned_abs reference ≤ 2 ^ 125 → 1 ≤ w → w ≤ 63 → IsSpec (number_field fxy r k w scale reference m listed)
 number_good fxy r k w scale reference m listed e role small near some most =
     record { width = number_width k w e some most; role = role; missing = number_missing k m e; scale = small; reference = near }
 
@@ -109,12 +109,12 @@ same_either_way : (a b : ℕ) → (a == b) ≡ (b == a)
 same_either_way a b = grind (arith, nat_tests)
 
 -- the reference that the map of words has, where it has one
-pub reference_found : (kept : List (ℕ × ℤ)) (fxy : ℕ) (listed : ℤ) → unwrap_or (lookup (is_at (nat_cmp fxy)) kept) listed ≡ reference_in (known_by kept) fxy listed
+pub reference_found : (kept : List (ℕ × ℤ)) (fxy : ℕ) (listed : ℤ) → unwrap_or (lookup (is_at (nat_cmp fxy)) kept) listed ≡ current_reference (known_by kept) fxy listed
 reference_found [] fxy listed = refl
 reference_found (e ∷ kept) fxy listed = by (is_eq (nat_cmp fxy e.0)) (e.0 == fxy) (unsigned_tied fxy e.0 ∙ same_either_way fxy e.0) (reference_found kept fxy listed)
   where
-    by : (a b : Bool) → a ≡ b → unwrap_or (lookup (is_at (nat_cmp fxy)) kept) listed ≡ reference_in (known_by kept) fxy listed
-        → unwrap_or (cond a (Some e.1) (lookup (is_at (nat_cmp fxy)) kept)) listed ≡ (if b then e.1 else reference_in (known_by kept) fxy listed)
+    by : (a b : Bool) → a ≡ b → unwrap_or (lookup (is_at (nat_cmp fxy)) kept) listed ≡ current_reference (known_by kept) fxy listed
+        → unwrap_or (cond a (Some e.1) (lookup (is_at (nat_cmp fxy)) kept)) listed ≡ (if b then e.1 else current_reference (known_by kept) fxy listed)
     by true true q more = refl
     by false false q more = more
     by true false q more = absurd cc
@@ -127,7 +127,7 @@ differ : (a b c : ℕ) → (a == b) ≡ false → (b == c) ≡ true → (a == c)
 differ a b c h g k = grind (arith, nat_tests)
 
 -- an element has the reference that was given to it last, and every other the one that it had
-pub given_last : (fxy : ℕ) (reference : ℤ) (known : List Redefined) (other : ℕ) (listed : ℤ) → reference_in (with_reference fxy reference known) other listed ≡ (if fxy == other then reference else reference_in known other listed)
+pub given_last : (fxy : ℕ) (reference : ℤ) (known : List Redefined) (other : ℕ) (listed : ℤ) → current_reference (with_reference fxy reference known) other listed ≡ (if fxy == other then reference else current_reference known other listed)
 given_last fxy reference [] other listed = refl
 given_last fxy reference (r ∷ known) other listed = by (nat_lt fxy r.fxy) (fxy == r.fxy) (r.fxy == other) (fxy == other) refl refl refl (given_last fxy reference known other listed)
   where
@@ -135,21 +135,21 @@ given_last fxy reference (r ∷ known) other listed = by (nat_lt fxy r.fxy) (fxy
     others a before = if a then r.reference else before
 
     by : (below same a b : Bool) → (fxy == r.fxy) ≡ same → (r.fxy == other) ≡ a → (fxy == other) ≡ b
-        → reference_in (with_reference fxy reference known) other listed ≡ (if b then reference else reference_in known other listed)
-        → reference_in (if below then record { fxy = fxy; reference = reference } ∷ r ∷ known else if same then record r { reference = reference } ∷ known else r ∷ with_reference fxy reference known) other listed
-        ≡ (if b then reference else others a (reference_in known other listed))
-    by true same a b p q t more = ap (λ x. if x then reference else if r.fxy == other then r.reference else reference_in known other listed) t ∙ ap (λ x. if b then reference else others x (reference_in known other listed)) q
+        → current_reference (with_reference fxy reference known) other listed ≡ (if b then reference else current_reference known other listed)
+        → current_reference (if below then record { fxy = fxy; reference = reference } ∷ r ∷ known else if same then record r { reference = reference } ∷ known else r ∷ with_reference fxy reference known) other listed
+        ≡ (if b then reference else others a (current_reference known other listed))
+    by true same a b p q t more = ap (λ x. if x then reference else if r.fxy == other then r.reference else current_reference known other listed) t ∙ ap (λ x. if b then reference else others x (current_reference known other listed)) q
     by false true a b p q t more =
-        ap (λ x. if x then reference else reference_in known other listed) q ∙ at a b (sym q ∙ ap (λ n. n == other) (sym (equal_from fxy r.fxy p)) ∙ t)
+        ap (λ x. if x then reference else current_reference known other listed) q ∙ at a b (sym q ∙ ap (λ n. n == other) (sym (equal_from fxy r.fxy p)) ∙ t)
       where
-        at : (a b : Bool) → a ≡ b → (if a then reference else reference_in known other listed) ≡ (if b then reference else others a (reference_in known other listed))
+        at : (a b : Bool) → a ≡ b → (if a then reference else current_reference known other listed) ≡ (if b then reference else others a (current_reference known other listed))
         at true true e = refl
         at false false e = refl
         at true false e = absurd cc
         at false true e = absurd cc
     by false false true true p q t more = absurd (differ fxy r.fxy other p q t)
-    by false false true false p q t more = ap (λ x. if x then r.reference else reference_in (with_reference fxy reference known) other listed) q
-    by false false false b p q t more = ap (λ x. if x then r.reference else reference_in (with_reference fxy reference known) other listed) q ∙ more
+    by false false true false p q t more = ap (λ x. if x then r.reference else current_reference (with_reference fxy reference known) other listed) q
+    by false false false b p q t more = ap (λ x. if x then r.reference else current_reference (with_reference fxy reference known) other listed) q ∙ more
 
 pub power_small : (y : ℕ) → y ≤ 18 → 10 ^ y ≤ 10 ^ 18
 power_small y h = pow-le-pow_right {n = 10} (omega arith) h

@@ -7,7 +7,7 @@ use Rattle.bufr_walk.specs.Settings.{Settings}
 use Rattle.bufr_walk.specs.Turns.{Rest}
 use Rattle.bufr_walk.specs.Course.{Course, Ahead, later, ahead, counts_of}
 use Rattle.bufr_walk.specs.Taking.{Turn, Takes}
-use Rattle.bufr_walk.specs.declared.walking.WalkStop.{WalkStop}
+use Rattle.bufr_walk.specs.declared.stop.WalkStop.{WalkStop}
 use Rattle.bufr_walk.specs.Walked.{oks, told_by, StopsAt}
 use Rattle.bufr_walk.specs.Ways.{Goes, Stops, Came, StopsIn}
 use Rattle.bufr_walk.specs.Ticks.{ticked}

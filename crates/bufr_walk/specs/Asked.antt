@@ -1,4 +1,5 @@
--- What is asked of the data at one field (WMO-No. 306, Volume I.2, FM 94: section 4, Tables B and C).
+-- What is asked of the data at one field (WMO-No. 306, Volume I.2, FM 94: section 4, Tables B and
+-- C).
 -- Cited by public contracts.
 use Rattle.std.specs.Prelude.{ℕ, ◌≡◌, ◌≤◌, ◌^◌, ◌%◌, Bool, ℤ, unsigned_abs}
 use Rattle.bufr_tables.specs.declared.kind.Kind.{Kind}
@@ -46,7 +47,8 @@ pub record IsSpec (a : Asked) : Type 0 where
   pub scale : unsigned_abs a.scale ≤ 300
   pub reference : unsigned_abs a.reference ≤ 2 ^ 125
 
--- which answers a field gives: a count for a factor, a reference for a reference, and nothing else for an element
+-- which answers a field gives: a count for a factor, a reference for a reference, and nothing else
+-- for an element
 abbrev pub IsForRole : Role → Taken → Type 0
 IsForRole role.Element taken.Plain = Unit {0}
 IsForRole role.Inserted taken.Plain = Unit {0}

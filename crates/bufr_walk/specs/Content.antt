@@ -10,7 +10,8 @@ use Rattle.bufr_walk.specs.declared.spec.Taken.{Taken}
 use Rattle.bufr_walk.specs.declared.spec.Taken.TheVariants as taken
 use Rattle.bufr_walk.specs.Asked.{Asked}
 
--- what stands in a field: a number before its reference is added, the octets of a text, all ones, or a redefined reference
+-- what stands in a field: a number before its reference is added, the octets of a text, all ones,
+-- or a redefined reference
 pub data Content : Type 0 where
   number : (raw : ℕ) → Content
   text : (octets : List ℕ) → Content
@@ -72,14 +73,14 @@ reference_in missing = pos 0
 reference_in (reference value) = value
 
 -- what a field tells the walk
-abbrev pub told_by : Role → Content → Taken
-told_by role.Element c = taken.Plain
-told_by role.Inserted c = taken.Plain
-told_by role.Factor c = taken.Count (count_in c)
-told_by role.Reference c = taken.Reference (reference_in c)
+abbrev pub told_by_role : Role → Content → Taken
+told_by_role role.Element c = taken.Plain
+told_by_role role.Inserted c = taken.Plain
+told_by_role role.Factor c = taken.Count (count_in c)
+told_by_role role.Reference c = taken.Reference (reference_in c)
 
 abbrev pub told : Asked → Content → Taken
-told spec c = told_by spec.role c
+told spec c = told_by_role spec.role c
 
 -- what an item shows: a number with its scale, a text, missing, or a reference
 pub data Shown : Type 0 where

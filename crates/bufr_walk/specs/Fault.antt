@@ -23,7 +23,8 @@ fault_of (field_stop fxy data_end) subset bit = fault.DataEnd (spot subset fxy b
 fault_of (field_stop fxy increment) subset bit = fault.Increment (spot subset fxy bit)
 fault_of (field_stop fxy unequal_factor) subset bit = fault.UnequalFactor (spot subset fxy bit)
 
--- the bits before the item that is at fault; want of memory has no item, and all bits may lie before it
+-- the bits before the item that is at fault; want of memory has no item, and all bits may lie
+-- before it
 abbrev pub bits_before : WalkFault → (all : ℕ) → ℕ
 bits_before (fault.DataEnd s) all = s.bit
 bits_before (fault.Width s) all = s.bit

@@ -8,7 +8,7 @@ use Rattle.bufr_walk.specs.declared.spec.Taken.{Taken}
 use Rattle.bufr_walk.specs.Asked.{Asked}
 use Rattle.bufr_walk.specs.Settings.{Settings}
 use Rattle.bufr_walk.specs.Turns.{Rest, unroll, passes, pass_end}
-use Rattle.bufr_walk.specs.declared.walking.WalkStop.{WalkStop}
+use Rattle.bufr_walk.specs.declared.stop.WalkStop.{WalkStop}
 use Rattle.bufr_tables.specs.declared.template.cell.Cell.{Cell}
 use Rattle.bufr_tables.specs.declared.template.cell.Cell.TheVariants as cell
 use Rattle.bufr_walk.specs.declared.walking.Frame.{Frame}
@@ -17,28 +17,28 @@ use Rattle.bufr_walk.specs.Ways.{Came, StopsIn}
 use Rattle.bufr_walk.specs.Ticks.{ticked}
 
 -- an open group: its frame, its body and what is behind it
-pub record Seen : Type 0 where
+pub record OpenGroup : Type 0 where
   pub frame : Frame
   pub body : Tree
   pub more : Tree
 
 -- the frames, the outermost first; the groups are given from the innermost on
-abbrev pub frames_of : List Seen → List Frame
+abbrev pub frames_of : List OpenGroup → List Frame
 frames_of [] = []
 frames_of (s ∷ outer) = frames_of outer ++ s.frame ∷ []
 
 -- the turns from the end of the innermost group's pass on
-abbrev pub behind : List Seen → Rest → Rest
+abbrev pub behind : List OpenGroup → Rest → Rest
 behind [] k counts = k counts
 behind (s ∷ outer) k counts = pass_end (passes s.frame.left (unroll s.body) (unroll s.more (behind outer k)) counts)
 
 -- the cells from there on
-abbrev pub tail_of : List Seen → List Cell
+abbrev pub tail_of : List OpenGroup → List Cell
 tail_of [] = cell.Finish ∷ []
 tail_of (s ∷ outer) = cell.PassEnd ∷ lay s.more s.frame.after (tail_of outer)
 
 -- each open group stands in the cells, no deeper than 32
-abbrev pub AllStand : List Cell → List Seen → Type 0
+abbrev pub AllStand : List Cell → List OpenGroup → Type 0
 AllStand cells [] = Unit {0}
 AllStand cells (s ∷ outer) =
     (drop s.frame.start cells ≡ lay s.body s.frame.start (tail_of (s ∷ outer)))
@@ -46,17 +46,18 @@ AllStand cells (s ∷ outer) =
     × (length outer + 1 + depth s.body ≤ 32) × (length outer + depth s.more ≤ 32)
     × IsLegal s.body × IsLegal s.more × AllStand cells outer
 
--- A walk stands at a place before these nodes, with these open groups: left is what it still has to do.
-pub record StandsAt (cells : List Cell) (place : ℕ) (stack : List Frame) (left : Rest → Rest) (more : Tree) (seen : List Seen) : Type 0 where
-  pub frames : stack ≡ frames_of seen
-  pub here : drop place cells ≡ lay more place (tail_of seen)
-  pub deep : length seen + depth more ≤ 32
+-- A walk stands at a place before these nodes, with these open groups: left is what it still has to
+-- do.
+pub record StandsAt (cells : List Cell) (place : ℕ) (stack : List Frame) (left : Rest → Rest) (more : Tree) (groups : List OpenGroup) : Type 0 where
+  pub frames : stack ≡ frames_of groups
+  pub here : drop place cells ≡ lay more place (tail_of groups)
+  pub deep : length groups + depth more ≤ 32
   pub legal : IsLegal more
-  pub outer : AllStand cells seen
-  pub left_is : (k : Rest) (counts : List ℕ) → left k counts ≡ unroll more (behind seen k) counts
+  pub outer : AllStand cells groups
+  pub left_is : (k : Rest) (counts : List ℕ) → left k counts ≡ unroll more (behind groups k) counts
 
 abbrev pub Stands : List Cell → ℕ → List Frame → (Rest → Rest) → Type 0
-Stands cells place stack left = (more : Tree) × (seen : List Seen) × StandsAt cells place stack left more seen
+Stands cells place stack left = (more : Tree) × (groups : List OpenGroup) × StandsAt cells place stack left more groups
 
 -- the most turns from a cell to the end of its pass, by those from each later cell
 abbrev pub cost_of : Cell → ℕ → List ℕ → ℕ

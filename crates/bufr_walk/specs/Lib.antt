@@ -1,29 +1,58 @@
+-- a field as it is asked for: what it is for, its kind, width, scale and reference
 pub mod Asked
+-- what the operators have set, and the references that the data gave
 pub mod Settings
+-- how a field is read under what is set
 pub mod Rules
+-- the turns of a template, its groups unrolled
 pub mod Turns
+-- what comes next in a template
 pub mod Course
+-- what stands in a field, what it tells the walk, and what it shows
 pub mod Content
+-- one field of data that are not compressed
 pub mod PlainField
+-- one item of compressed data
 pub mod PackedField
+-- the parts of such an item, as the code reads them
 pub mod PackedBits
+-- the reading of data by a template: items, subsets, turns
 pub mod Reading
+-- why data cannot be read, and where
 pub mod Refusal
+-- the faults, with their places and numbers
 pub mod Fault
+-- what the reading of a message's data answers
 pub mod Outcome
+-- what a visitor is told, call by call
 pub mod Calls
+-- an item view as a clause sees it
 pub mod Seen
+-- the calls of a showing, up to its first fault
 pub mod Shows
+-- what a reading keeps of its items
 pub mod Kept
+-- a walk over fields, each what comes next
 pub mod Taking
+-- a counter of turns
 pub mod Ticks
+-- a field that is a number
 pub mod Numbers
+-- what is set, as the walk keeps it
 pub mod InForce
+-- the stop of a walk at a turn that is refused
 pub mod Stop
+-- a whole walk over fields, and how it ends
 pub mod Walked
+-- how far a walk came
 pub mod Ways
+-- where a walk stands in the cells of a template
 pub mod Flat
+-- the reader of data that are not compressed
 pub mod PlainIn
+-- the reader of compressed data
 pub mod PackedIn
+-- one pass over data that are not compressed
 pub mod Passes
+-- fields that are read and shown at once
 pub mod Shown

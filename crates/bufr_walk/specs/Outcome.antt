@@ -8,7 +8,7 @@ use Rattle.bufr_tables.specs.Tree.{Tree}
 use Rattle.bufr_walk.specs.declared.fault.WalkFault.{WalkFault}
 use Rattle.bufr_walk.specs.declared.fault.WalkFault.TheVariants as fault
 use Rattle.bufr_walk.specs.Course.{Course, next_item}
-use Rattle.bufr_walk.specs.Reading.{Data, Values, IsReading, turns_of}
+use Rattle.bufr_walk.specs.Reading.{Data, Values, IsReading, turns_read}
 use Rattle.bufr_walk.specs.Refusal.{Stop, IsPlainRefused, IsPackedRefused, IsPlainShort, IsPackedShort}
 use Rattle.bufr_walk.specs.Fault.{fault_of}
 use Rattle.bufr_walk.specs.Ticks.{ticked}
@@ -21,7 +21,8 @@ data_in compressed subsets octets = record { compressed = compressed; subsets = 
 abbrev pub data_of : Sections → Data
 data_of m = data_in m.compressed m.subsets m.payload
 
--- a reading as its users see it: by which table and template, of which data, how many bits it took, and how many items it keeps
+-- a reading as its users see it: by which table and template, of which data, how many bits it took,
+-- and how many items it keeps
 pub record Read : Type 0 where
   pub table : List Row
   pub template : Tree
@@ -60,7 +61,7 @@ IsFault course d why steps = (turns : ℕ) × IsRefused course d why turns × (s
 
 -- the items, the bits that they take, and the steps that were made
 abbrev pub IsRead : Course → Data → Values → (used steps : ℕ) → Type 0
-IsRead course d values used steps = IsReading course d values used × (steps ≡ ticked 0 (turns_of course d values))
+IsRead course d values used steps = IsReading course d values used × (steps ≡ ticked 0 (turns_read course d values))
 
 -- a reading of these data by this template
 abbrev pub IsReadingOf : List Row → Tree → Data → Read → (steps : ℕ) → Type 0

@@ -1,6 +1,7 @@
--- An item of compressed data, part by part (WMO-No. 306, Volume I.2, FM 94: section 4, compression).
+-- An item of compressed data, part by part (WMO-No. 306, Volume I.2, FM 94: section 4,
+-- compression).
 -- Cited by private steps only.
-use Rattle.std.specs.Prelude.{ℕ, ◌≡◌, ◌≤◌, ◌<◌, ◌+◌, ◌*◌, ◌/◌, ◌==◌, ◌&&◌, ◌||◌, nat_lt, not, Bool, true, false, if◌then◌else◌, List, length, take, drop, Option, Some, None, Ok, Err}
+use Rattle.std.specs.Prelude.{ℕ, ◌≡◌, ◌≤◌, ◌<◌, ◌+◌, ◌*◌, ◌/◌, ◌==◌, ◌&&◌, ◌||◌, nat_lt, not, Bool, true, false, if◌then◌else◌, List, length, take, drop, Option, Some, None, Result, Ok, Err}
 use Rattle.std.specs.List.{list_all}
 use Rattle.bufr_bits.specs.Bits.{number_of, all_set}
 use Rattle.bufr_tables.specs.declared.kind.Kind.{Kind}
@@ -8,7 +9,7 @@ use Rattle.bufr_tables.specs.declared.kind.Kind.TheVariants as kind
 use Rattle.bufr_walk.specs.declared.spec.Role.{Role}
 use Rattle.bufr_walk.specs.declared.spec.Role.TheVariants as role
 use Rattle.bufr_walk.specs.declared.spec.Taken.{Taken}
-use Rattle.bufr_walk.specs.declared.packed_in.Seen.{Seen}
+use Rattle.bufr_walk.specs.declared.packed_in.PackedItem.{PackedItem}
 use Rattle.bufr_walk.specs.declared.packed_in.PackedFault.{PackedFault}
 use Rattle.bufr_walk.specs.declared.packed_in.PackedFault.TheVariants as wrong
 use Rattle.bufr_walk.specs.Asked.{Asked}
@@ -16,9 +17,14 @@ use Rattle.bufr_walk.specs.Content.{Content, number, missing}
 use Rattle.bufr_walk.specs.PlainField.{FieldFault, found}
 use Rattle.bufr_walk.specs.PackedIn.{PackedCursor, wrong_of, IsPackedWrong}
 use Rattle.bufr_walk.specs.Reading.{most_values}
-use Rattle.bufr_walk.specs.PackedField.{ones, increments, step_of, text_of, contents_of, packed_field, told_first}
+use Rattle.bufr_walk.specs.PackedField.{ones, increments, step_of, padded_text, contents_of, packed_field, told_first}
 
--- whether the sum of a base and an increment of k bits fits its width, where the increment is not missing
+-- whether a base is missing: all ones, where that may be
+abbrev pub is_missing : Asked → (base : List Bool) → Bool
+is_missing spec base = all_set base && spec.may_be_missing
+
+-- whether the sum of a base and an increment of k bits fits its width, where the increment is not
+-- missing
 abbrev pub stays_within : (may_be_missing : Bool) (width base k increment : ℕ) → Bool
 stays_within m width base k i = (m && (i == ones k)) || not (nat_lt (ones width) (base + i))
 
@@ -38,7 +44,7 @@ increased_to m width base k i =
 -- whether the increments of numbers can be
 abbrev pub numbers_hold : Asked → (k subsets : ℕ) → (base behind : List Bool) → Bool
 numbers_hold spec k n base behind =
-    (all_set base && spec.may_be_missing) || all_within spec.may_be_missing spec.width (number_of base) k n behind
+    is_missing spec base || all_within spec.may_be_missing spec.width (number_of base) k n behind
 
 -- whether the increments of an item can be
 abbrev pub holds_by : Kind → Asked → (k subsets : ℕ) → (base behind : List Bool) → Bool
@@ -49,13 +55,17 @@ holds_by kind.Numeric spec k n base behind = numbers_hold spec k n base behind
 -- the content that an increment gives
 abbrev pub number_from : Asked → (k : ℕ) → (base bits : List Bool) → Content
 number_from spec k base i =
-    if all_set base && spec.may_be_missing then missing
+    if is_missing spec base then missing
     else increased_to spec.may_be_missing spec.width (number_of base) k (number_of i)
 
 abbrev pub content_from : Kind → Asked → (k : ℕ) → (base bits : List Bool) → Content
-content_from kind.Character spec k base i = text_of (spec.width / 8) k i
+content_from kind.Character spec k base i = padded_text (spec.width / 8) k i
 content_from kind.Coded spec k base i = number_from spec k base i
 content_from kind.Numeric spec k base i = number_from spec k base i
+
+-- the text of so many octets at a place, with spaces up to a count of them
+abbrev pub text_at : (bits : List Bool) (count place octets : ℕ) → Content
+text_at bits count place octets = padded_text count octets (take (8 * octets) (drop place bits))
 
 -- the bits of one subset by kind
 abbrev pub kind_step : Kind → ℕ → ℕ
@@ -75,6 +85,11 @@ pub record IsWrong (spec : Asked) (k n : ℕ) (base behind : List Bool) (e : Pac
   pub is : contents_of spec k base (increments n (step_of spec.role spec.kind k) behind) ≡ Err why
   pub fault : e ≡ wrong_of spec.fxy why
 
+-- what an item tells whose base begins with a bit and whose k is known, or how it is at fault
+abbrev pub TellsAt : (bits : List Bool) (at subsets : ℕ) → Asked → (k : ℕ) → Result Taken PackedFault → Type 0
+TellsAt bits at n spec k (Ok t) = IsTold spec k n (take spec.width (drop at bits)) (drop (at + (spec.width + 6)) bits) t
+TellsAt bits at n spec k (Err e) = IsWrong spec k n (take spec.width (drop at bits)) (drop (at + (spec.width + 6)) bits) e
+
 -- whether a role tells nothing
 abbrev pub is_plain_role : Role → Bool
 is_plain_role role.Element = true
@@ -83,7 +98,7 @@ is_plain_role role.Factor = false
 is_plain_role role.Reference = false
 
 -- an item stands in bits at a place: its contents, what it tells, its k, and the bit behind it
-pub record IsSeen (bits : List Bool) (at n : ℕ) (spec : Asked) (s : Seen) : Type 0 where
+pub record IsSeen (bits : List Bool) (at n : ℕ) (spec : Asked) (s : PackedItem) : Type 0 where
   pub contents : List Content
   pub field : packed_field n spec (drop at bits) ≡ Ok (found contents (drop s.end bits))
   pub tells : s.told ≡ told_first spec contents
@@ -103,7 +118,7 @@ sum_content (Some raw) = number raw
 sum_content None = missing
 
 -- the next item stands there, and would not be one too many
-pub record IsLooked (s : PackedCursor) (spec : Asked) (found_there : Seen) : Type 0 where
+pub record IsLooked (s : PackedCursor) (spec : Asked) (found_there : PackedItem) : Type 0 where
   pub few : (length s.items + 1) * s.subsets ≤ most_values
   pub seen : IsSeen s.bits s.at s.subsets spec found_there
 

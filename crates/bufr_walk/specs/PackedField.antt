@@ -1,5 +1,6 @@
--- One item of compressed data: a base of the item's width, six bits k, and an increment for each subset where k is above 0
--- (WMO-No. 306, Volume I.2, FM 94: section 4, compression; what is left open there is a choice of this project).
+-- One item of compressed data: a base of the item's width, six bits k, and an increment for each
+-- subset where k is above 0 (WMO-No. 306, Volume I.2, FM 94: section 4, compression; what is left
+-- open there is a choice of this project).
 -- Cited by public contracts.
 use Rattle.std.specs.Prelude.{ℕ, zero, suc, ◌+◌, ◌-◌, ◌*◌, ◌/◌, ◌^◌, ◌==◌, ◌&&◌, nat_lt, Bool, true, false, if◌then◌else◌, List, [], ◌∷◌, ◌++◌, length, take, drop, map, replicate, Result, Ok, Err}
 use Rattle.std.specs.List.{list_all}
@@ -42,8 +43,8 @@ all_increased m width base k [] = Ok []
 all_increased m width base k (i ∷ is) = and_more (increased m width base k (number_of i)) (all_increased m width base k is)
 
 -- the text of one subset: k octets, followed by spaces up to its width
-abbrev pub text_of : (octets k : ℕ) → List Bool → Content
-text_of octets k bits = if all_set bits then missing else text (octets_in k bits ++ replicate (octets - k) 32)
+abbrev pub padded_text : (octets k : ℕ) → List Bool → Content
+padded_text octets k bits = if all_set bits then missing else text (octets_in k bits ++ replicate (octets - k) 32)
 
 -- what is behind the base and k, in bits of one subset
 abbrev pub step_of : Role → Kind → ℕ → ℕ
@@ -60,7 +61,7 @@ numbers_of spec k base is =
 
 -- the texts of the subsets, where k is above 0
 abbrev pub texts_of : Asked → (k : ℕ) → List (List Bool) → Result (List Content) FieldFault
-texts_of spec k is = if nat_lt (spec.width / 8) k then Err increment else Ok (map (text_of (spec.width / 8) k) is)
+texts_of spec k is = if nat_lt (spec.width / 8) k then Err increment else Ok (map (padded_text (spec.width / 8) k) is)
 
 abbrev pub varied_by : Kind → Asked → (k : ℕ) → List Bool → List (List Bool) → Result (List Content) FieldFault
 varied_by kind.Character spec k base is = texts_of spec k is

@@ -4,11 +4,11 @@ use Rattle.std.specs.Prelude.{ℕ, ◌≡◌, ◌≤◌, ◌<◌, ◌+◌, ◌-�
 use Rattle.std.specs.List.{list_all}
 use Rattle.bufr_bits.specs.Bits.{number_of}
 use Rattle.bufr_walk.specs.declared.spec.Taken.{Taken}
-use Rattle.bufr_walk.specs.declared.read_packed.KeptItem.{KeptItem}
+use Rattle.bufr_walk.specs.declared.kept.KeptItem.{KeptItem}
 use Rattle.bufr_walk.specs.declared.packed_in.PackedFault.{PackedFault}
 use Rattle.bufr_walk.specs.declared.packed_in.PackedFault.TheVariants as wrong
-use Rattle.bufr_walk.specs.declared.walking.WalkStop.{WalkStop}
-use Rattle.bufr_walk.specs.declared.walking.WalkStop.TheVariants as stops
+use Rattle.bufr_walk.specs.declared.stop.WalkStop.{WalkStop}
+use Rattle.bufr_walk.specs.declared.stop.WalkStop.TheVariants as stops
 use Rattle.bufr_walk.specs.declared.fault.WalkFault.{WalkFault}
 use Rattle.bufr_walk.specs.declared.fault.WalkFault.TheVariants as fault
 use Rattle.bufr_walk.specs.Fault.{spot}
@@ -100,7 +100,8 @@ pub record IsPackedWrong (s : PackedCursor) (spec : Asked) (e : PackedFault) : T
   pub field : packed_field s.subsets spec (packed_rest s) ≡ Err why
   pub fault : e ≡ wrong_of spec.fxy why
 
--- One call: an item was read and kept, or there would be too many values, or it is at fault, or memory for so many items more ran out; then nothing is changed.
+-- One call: an item was read and kept, or there would be too many values, or it is at fault, or
+-- memory for so many items more ran out; then nothing is changed.
 abbrev pub PackedTakes : PackedCursor → Asked → Result Taken PackedFault → PackedCursor → Type 0
 PackedTakes s spec (Ok t) s' = IsPackedTaken s spec t s'
 PackedTakes s spec (Err (wrong.TooManyValues fxy)) s' = (fxy ≡ spec.fxy) × (most_values < (length s.items + 1) * s.subsets) × (s' ≡ s)

@@ -4,7 +4,8 @@ use Rattle.std.specs.Prelude.{nat_lt, Bool, if◌then◌else◌, List, length, t
 use Rattle.bufr_walk.specs.Asked.{Asked}
 use Rattle.bufr_walk.specs.Content.{Content, content_in}
 
--- what may be wrong with a field of the data: the data end in it, an increment cannot be, or a factor is not the same in all subsets
+-- what may be wrong with a field of the data: the data end in it, an increment cannot be, or a
+-- factor is not the same in all subsets
 pub data FieldFault : Type 0 where
   data_end : FieldFault
   increment : FieldFault

@@ -3,8 +3,8 @@
 use Rattle.std.specs.Prelude.{ℕ, ◌≡◌, ◌≤◌, ◌+◌, Bool, List, drop, Result, Ok, Err}
 use Rattle.bufr_walk.specs.declared.spec.Taken.{Taken}
 use Rattle.bufr_walk.specs.declared.plain_in.DataEnd.{DataEnd}
-use Rattle.bufr_walk.specs.declared.walking.WalkStop.{WalkStop}
-use Rattle.bufr_walk.specs.declared.walking.WalkStop.TheVariants as stops
+use Rattle.bufr_walk.specs.declared.stop.WalkStop.{WalkStop}
+use Rattle.bufr_walk.specs.declared.stop.WalkStop.TheVariants as stops
 use Rattle.bufr_walk.specs.declared.fault.WalkFault.{WalkFault}
 use Rattle.bufr_walk.specs.declared.fault.WalkFault.TheVariants as fault
 use Rattle.bufr_walk.specs.Asked.{Asked}

@@ -1,4 +1,5 @@
--- The reading of data by a template: items one after another, each as what comes next asks (WMO-No. 306, Volume I.2, FM 94: sections 3 and 4).
+-- The reading of data by a template: items one after another, each as what comes next asks (WMO-No.
+-- 306, Volume I.2, FM 94: sections 3 and 4).
 -- Cited by public contracts.
 use Rattle.std.specs.Prelude.{ℕ, zero, suc, ◌≡◌, ◌+◌, ◌*◌, ◌≤◌, Bool, true, false, List, [], ◌∷◌, length, drop, Result, Ok}
 use Rattle.bufr_walk.specs.declared.spec.Taken.{Taken}
@@ -88,12 +89,14 @@ pub record Data : Type 0 where
   pub subsets : ℕ
   pub bits : List Bool
 
--- the items of the data: those of each subset, or, where they are compressed, those of all subsets together
+-- the items of the data: those of each subset, or, where they are compressed, those of all subsets
+-- together
 pub data Values : Type 0 where
   apart : (subsets : List (List (Item Content))) → Values
   together : (items : List (Item (List Content))) → Values
 
--- how many items a reading keeps: those of compressed data, each once for all subsets, and none of other data
+-- how many items a reading keeps: those of compressed data, each once for all subsets, and none of
+-- other data
 abbrev pub items_kept : Values → ℕ
 items_kept (apart subsets) = 0
 items_kept (together items) = length items
@@ -111,6 +114,6 @@ turns_together zero course items = 0
 turns_together (suc n) course items = turns_after (packed (suc n)) course items
 
 -- the turns of a reading
-abbrev pub turns_of : Course → Data → Values → ℕ
-turns_of course d (apart subsets) = turns_in course subsets
-turns_of course d (together items) = turns_together d.subsets course items
+abbrev pub turns_read : Course → Data → Values → ℕ
+turns_read course d (apart subsets) = turns_in course subsets
+turns_read course d (together items) = turns_together d.subsets course items

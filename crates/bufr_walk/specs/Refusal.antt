@@ -1,4 +1,5 @@
--- Why data cannot be read, and where (the order of the faults at one item is a choice of this project).
+-- Why data cannot be read, and where (the order of the faults at one item is a choice of this
+-- project).
 -- Cited by public contracts.
 use Rattle.std.specs.Prelude.{ℕ, ◌≡◌, ◌⊎◌, ◌+◌, ◌*◌, ◌%◌, ◌≤◌, nat_lt, Bool, true, false, List, length, Option, Some, None, Result, Ok, Err}
 use Rattle.bufr_walk.specs.declared.spec.Refusal.{Refusal}
@@ -9,7 +10,8 @@ use Rattle.bufr_walk.specs.Content.{Content}
 use Rattle.bufr_walk.specs.PlainField.{FieldFault, Found}
 use Rattle.bufr_walk.specs.Reading.{Item, Form, plain, packed, Reads, next_after, turns_after, turns_in, ReadsSubsets, most_values, items_at_once}
 
--- why a reading stops: the walk is refused, there would be too many values, or a field cannot be read
+-- why a reading stops: the walk is refused, there would be too many values, or a field cannot be
+-- read
 pub data Stop : Type 0 where
   walk_stop : (why : Refusal) → Stop
   too_many : (fxy : ℕ) → Stop
@@ -26,7 +28,8 @@ stop_at form true (take_next spec) bits = Some (too_many spec.fxy)
 stop_at form false (take_next spec) bits = field_stop_of spec.fxy (form.field spec bits)
 stop_at form many _ bits = None
 
--- data that are not compressed were read up to what comes next: in a subset, counted from 1, behind so many bits, by so many turns
+-- data that are not compressed were read up to what comes next: in a subset, counted from 1, behind
+-- so many bits, by so many turns
 pub record ComesTo (subsets : ℕ) (course : Course) (bits : List Bool) (subset before turns : ℕ) (next : Next) (left : List Bool) : Type 0 where
   pub done : List (List (Item Content))
   pub items : List (Item Content)

@@ -1,4 +1,5 @@
--- How a field is read under the settings in force (WMO-No. 306, Volume I.2, FM 94: Tables B and C; what is left open there is a choice of this project).
+-- How a field is read under the settings in force (WMO-No. 306, Volume I.2, FM 94: Tables B and C;
+-- what is left open there is a choice of this project).
 -- Cited by public contracts.
 use Rattle.std.specs.Prelude.{ℕ, ◌+◌, ◌-◌, ◌*◌, ◌/◌, ◌^◌, ◌==◌, ◌&&◌, not, nat_lt, nat_le, Bool, true, false, if◌then◌else◌, List, ℤ, pos, ◌+ℤ◌, ◌-ℤ◌, ◌*ℤ◌, Option, Some, None, Result, Ok, Err}
 use Rattle.bufr_tables.specs.declared.kind.Kind.{Kind}
@@ -10,7 +11,7 @@ use Rattle.bufr_walk.specs.declared.spec.Role.TheVariants as role
 use Rattle.bufr_walk.specs.declared.spec.Refusal.{Refusal}
 use Rattle.bufr_walk.specs.declared.spec.Refusal.TheVariants as refusal
 use Rattle.bufr_walk.specs.Asked.{Asked}
-use Rattle.bufr_walk.specs.Settings.{Settings, is_defining, reference_in}
+use Rattle.bufr_walk.specs.Settings.{Settings, is_defining, current_reference}
 
 -- a number whose width is 1 to 63 bits
 abbrev pub fitting : Asked → Result Asked Refusal
@@ -32,7 +33,8 @@ changed_width width extra y = if y == 0 then width + extra else (width + extra +
 abbrev pub is_never_missing : ℕ → Bool
 is_never_missing fxy = x_of fxy == 31
 
--- a quantity: width, scale and reference of Table B, or the latest redefined reference, with the changes in force
+-- a quantity: width, scale and reference of Table B, or the latest redefined reference, with the
+-- changes in force
 abbrev pub quantity : Settings → Row → Asked
 quantity s row = record {
   fxy = row.fxy;
@@ -40,7 +42,7 @@ quantity s row = record {
   kind = kind.Numeric;
   width = changed_width row.width (extra_bits s.refined) s.widened;
   scale = (row.scale +ℤ change_of s.rescaled) +ℤ pos s.refined;
-  reference = reference_in s.redefined row.fxy row.reference *ℤ pos (10 ^ s.refined);
+  reference = current_reference s.redefined row.fxy row.reference *ℤ pos (10 ^ s.refined);
   may_be_missing = not (is_never_missing row.fxy);
   listed = true;
 }
@@ -53,7 +55,7 @@ figure s row = record {
   kind = kind.Coded;
   width = row.width;
   scale = row.scale;
-  reference = reference_in s.redefined row.fxy row.reference;
+  reference = current_reference s.redefined row.fxy row.reference;
   may_be_missing = not (is_never_missing row.fxy);
   listed = true;
 }

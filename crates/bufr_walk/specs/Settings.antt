@@ -12,16 +12,21 @@ pub record Redefined : Type 0 where
   pub fxy : ℕ
   pub reference : ℤ
 
--- the operand of each operator in force, 0 where none is: changed width, changed scale, references that are being defined and their width,
--- increased precision, changed text width, and the width that is given to the next descriptor; and the references defined, one for an element,
--- in the order of descriptors
+-- the operand Y of each operator in force, 0 where none is, and the references that the data gave
 pub record Settings : Type 0 where
+  -- 2 01 Y: the width of a quantity is changed by Y - 128 bits
   pub widened : ℕ
+  -- 2 02 Y: the scale of a quantity is changed by Y - 128
   pub rescaled : ℕ
+  -- 2 03 Y: references of Y bits are being defined
   pub defining : ℕ
+  -- 2 07 Y: a quantity has Y decimal digits more
   pub refined : ℕ
+  -- 2 08 Y: a text has Y octets
   pub lettered : ℕ
+  -- 2 06 Y: the next element has Y bits
   pub given : ℕ
+  -- one for an element, in the order of descriptors
   pub redefined : List Redefined
 
 -- nothing is set, as at the beginning of each subset
@@ -32,14 +37,14 @@ begin = record { widened = 0; rescaled = 0; defining = 0; refined = 0; lettered 
 abbrev pub is_defining : Settings → Bool
 is_defining s = nat_lt 0 s.defining
 
--- references: 255 ends their definition, 0 drops those that were defined, else it begins
+-- 2 03 Y: 255 ends the definition of references, 0 drops those that were defined, else it begins
 abbrev pub with_references : ℕ → Settings → Settings
 with_references y s =
     if y == 255 then record s { defining = 0 }
     else if y == 0 then record s { redefined = [] }
     else record s { defining = y }
 
--- what the operator 2 X Y sets
+-- what the operator 2 X Y sets; a text that the template asks for (2 05 Y) sets nothing
 abbrev pub with_operator : (x y : ℕ) → Settings → Settings
 with_operator x y s =
     if x == 1 then record s { widened = y }
@@ -47,9 +52,11 @@ with_operator x y s =
     else if x == 3 then with_references y s
     else if x == 6 then record s { given = y }
     else if x == 7 then record s { refined = y }
-    else record s { lettered = y }
+    else if x == 8 then record s { lettered = y }
+    else s
 
--- what an operator makes of the settings; while references are being defined only their end may come
+-- what an operator makes of the settings; while references are being defined only their end may
+-- come
 abbrev pub after_operator : Settings → ℕ → Result Settings Refusal
 after_operator s fxy =
     if is_defining s && not (x_of fxy == 3 && y_of fxy == 255) then Err (refusal.Defining fxy)
@@ -70,6 +77,6 @@ after_field s fxy (taken.Count n) = record s { given = 0 }
 after_field s fxy (taken.Reference r) = record s { given = 0; redefined = with_reference fxy r s.redefined }
 
 -- the reference of an element: that which the data gave it, or that of Table B
-abbrev pub reference_in : List Redefined → ℕ → ℤ → ℤ
-reference_in [] fxy listed = listed
-reference_in (r ∷ more) fxy listed = if r.fxy == fxy then r.reference else reference_in more fxy listed
+abbrev pub current_reference : List Redefined → ℕ → ℤ → ℤ
+current_reference [] fxy listed = listed
+current_reference (r ∷ more) fxy listed = if r.fxy == fxy then r.reference else current_reference more fxy listed

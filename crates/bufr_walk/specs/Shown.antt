@@ -8,8 +8,8 @@ use Rattle.bufr_walk.specs.declared.fault.ShowFault.TheVariants as fault
 use Rattle.bufr_walk.specs.declared.show_plain.ShowStop.{ShowStop}
 use Rattle.bufr_walk.specs.declared.show_plain.ShowStop.TheVariants as stop
 use Rattle.bufr_walk.specs.declared.spec.Taken.{Taken}
-use Rattle.bufr_walk.specs.declared.walking.WalkStop.{WalkStop}
-use Rattle.bufr_walk.specs.declared.walking.WalkStop.TheVariants as stops
+use Rattle.bufr_walk.specs.declared.stop.WalkStop.{WalkStop}
+use Rattle.bufr_walk.specs.declared.stop.WalkStop.TheVariants as stops
 use Rattle.bufr_walk.specs.Asked.{Asked}
 use Rattle.bufr_walk.specs.Calls.{Call, item_call, view_of, Timed, item_calls, subset_calls}
 use Rattle.bufr_walk.specs.Content.{Content}

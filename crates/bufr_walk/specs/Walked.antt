@@ -6,8 +6,8 @@ use Rattle.bufr_walk.specs.declared.spec.Role.TheVariants as role
 use Rattle.bufr_walk.specs.Asked.{Asked}
 use Rattle.bufr_walk.specs.Course.{Course, Next, take_next, at_end, refused}
 use Rattle.bufr_walk.specs.Taking.{Turn, Takes}
-use Rattle.bufr_walk.specs.declared.walking.WalkStop.{WalkStop}
-use Rattle.bufr_walk.specs.declared.walking.WalkStop.TheVariants as stops
+use Rattle.bufr_walk.specs.declared.stop.WalkStop.{WalkStop}
+use Rattle.bufr_walk.specs.declared.stop.WalkStop.TheVariants as stops
 use Rattle.bufr_walk.specs.Stop.{stop_by}
 use Rattle.bufr_walk.specs.Ticks.{ticked}
 
@@ -27,7 +27,8 @@ StopsAt takes (take_next spec) s stops.Memory s' = (spec.role ≡ role.Reference
 StopsAt takes (refused why) s w s' = (w ≡ stop_by why) × (s' ≡ s)
 StopsAt takes _ s _ s' = ⊥
 
--- A whole walk: each item is what comes next after those before it. At Ok nothing comes after them; else what comes after them is what stopped it. The steps are the turns up to there.
+-- A whole walk: each item is what comes next after those before it. At Ok nothing comes after them;
+-- else what comes after them is what stopped it. The steps are the turns up to there.
 abbrev pub Walked : {S E : Type 0} → (S → Asked → Result Taken E → S → Type 0) → Course → S → ℕ → Result (Unit {0}) (WalkStop E) → S → ℕ → Type 0
 Walked takes n s steps (Ok _) s' steps' =
     (items : List Turn) × Takes (oks takes) n s items s' × ((n (told_by items)).next ≡ at_end) × (steps' ≡ ticked steps (n (told_by items)).turns)

@@ -10,8 +10,8 @@ use Rattle.bufr_walk.specs.Settings.{Settings}
 use Rattle.bufr_walk.specs.Turns.{Rest}
 use Rattle.bufr_walk.specs.Course.{Course, later, ahead, counts_of}
 use Rattle.bufr_walk.specs.Taking.{Turn, Takes}
-use Rattle.bufr_walk.specs.declared.walking.WalkStop.{WalkStop}
-use Rattle.bufr_walk.specs.declared.walking.WalkStop.TheVariants as stops
+use Rattle.bufr_walk.specs.declared.stop.WalkStop.{WalkStop}
+use Rattle.bufr_walk.specs.declared.stop.WalkStop.TheVariants as stops
 use Rattle.bufr_walk.specs.Stop.{stop_by}
 use Rattle.bufr_walk.specs.Ticks.{ticked}
 use Rattle.bufr_walk.specs.Walked.{oks, told_by, StopsAt}
@@ -26,7 +26,8 @@ pub record Goes {S E : Type 0} (takes : S → Asked → Result Taken E → S →
   pub taken : Takes (oks takes) n s items s'
   pub leads : (more : List Taken) → n (told_by items ++ more) ≡ later t (n' more)
 
--- one field that was asked for: it was taken and kept, or refused, or there was no memory to keep the reference that it would tell
+-- one field that was asked for: it was taken and kept, or refused, or there was no memory to keep
+-- the reference that it would tell
 abbrev pub Took : {S E : Type 0} → (S → Asked → Result Taken E → S → Type 0) → Result Asked Refusal → S → Result Taken (WalkStop E) → S → Type 0
 Took takes (Ok spec) s (Ok t) s' = takes s spec (Ok t) s' × IsFor spec t
 Took takes (Ok spec) s (Err (stops.Field e)) s' = takes s spec (Err e) s'

@@ -1,4 +1,5 @@
-//! What can be wrong with the data of a message (the numbers and their order are a choice of this project).
+//! What can be wrong with the data of a message (the numbers and their order are a choice of this
+//! project).
 ghost use Rattle.std.specs.Prelude.{◌≡◌};
 
 use bufr_tables::Fxy;

@@ -16,9 +16,9 @@ pub trait Fields {
     /// One call of `take` may go so: before, what is asked, the answer, after.
     ghost takes: { Self → Asked → Result Taken Self.Fault → Self → Type 0 };
 
-    /// Takes the next field, and answers what the walk needs of it: [`Taken::Count`] exactly for a factor,
-    /// [`Taken::Reference`] exactly for a reference that is being defined, else [`Taken::Plain`]. A field that is taken uses
-    /// at least one bit.
+    /// Takes the next field, and answers what the walk needs of it: [`Taken::Count`] exactly for a
+    /// factor, [`Taken::Reference`] exactly for a reference that is being defined, else
+    /// [`Taken::Plain`]. A field that is taken uses at least one bit.
     ///
     /// # Errors
     ///

@@ -7,27 +7,33 @@ ghost use Rattle.bufr_tables.specs.Operators.{is_legal_operator};
 ghost use Rattle.bufr_tables.specs.TableB.{IsRow, entry_of, is_character};
 ghost use Rattle.bufr_tables.specs.Tree.{is_inserted_text};
 ghost use Rattle.bufr_walk.specs.Rules.{fitting, quantity, figure, by_kind, defined_by, unsigned_of, given_by, element_spec, factor_by, factor_spec, inserted_spec, change_of, changed_width, extra_bits, text_width};
-ghost use Rattle.bufr_walk.specs.Settings.{Settings, Redefined, begin, after_operator, after_field, reference_in, with_reference};
+ghost use Rattle.bufr_walk.specs.Settings.{Settings, Redefined, begin, after_operator, after_field, current_reference, with_reference};
 ghost use Rattle.bufr_walk.specs.InForce.{AreOperands, known_by, set_by};
 ghost use Rattle.bufr_walk.specs.declared.in_force.Operands.{Operands};
 ghost use Rattle.bufr_tables.specs.declared.kind.Kind.TheVariants as kinds;
 
 use crate::fields::Fields;
 use crate::spec::{Refusal, Role, Spec, Taken};
-use crate::walking::WalkStop;
+use crate::stop::WalkStop;
 use bufr_tables::{Entry, Fxy, Kind, TableB};
 use std::alloc::{AllocError, Global};
 use std::collections::BTreeMap;
 use std::marker::Model;
 
-/// The operand of each operator in force, 0 where none is.
+/// The operand Y of each operator in force, 0 where none is.
 #[derive(Clone, Copy)]
 pub(crate) struct Operands {
+    /// 2 01 Y: the width of a quantity is changed by Y - 128 bits.
     widened: u8,
+    /// 2 02 Y: the scale of a quantity is changed by Y - 128.
     rescaled: u8,
+    /// 2 03 Y: references of Y bits are being defined.
     defining: u8,
+    /// 2 07 Y: a quantity has Y decimal digits more.
     refined: u8,
+    /// 2 08 Y: a text has Y octets.
     lettered: u8,
+    /// 2 06 Y: the next element has Y bits.
     given: u8,
 }
 
@@ -46,8 +52,8 @@ fn nothing() -> Operands
     }
 }
 
-/// What the operators have set so far, and the references that the data gave, by the word of their descriptor: data may
-/// define thousands of them, and each item looks for its own.
+/// What the operators have set so far, and the references that the data gave, by the word of their
+/// descriptor: data may define thousands of them, and each item looks for its own.
 #[derive(Drop)]
 pub(crate) struct InForce {
     operands: Operands,
@@ -76,7 +82,8 @@ fn make_room(redefined: &mut BTreeMap<u16, i64>, fxy: Fxy) -> Result<(), AllocEr
     Ok(())
 }
 
-/// Keeps a reference that the data gave, for which there is room, in place of the one that the element has.
+/// Keeps a reference that the data gave, for which there is room, in place of the one that the
+/// element has.
 #[tactic(auto, using(crate::proofs::SpecLemmas::known_more))]
 fn redefine(redefined: &mut BTreeMap<u16, i64>, fxy: Fxy, reference: i64)
     requires { IsSome (get nat_cmp redefined.old fxy) }
@@ -92,7 +99,7 @@ fn redefine(redefined: &mut BTreeMap<u16, i64>, fxy: Fxy, reference: i64)
 #[tactic(auto, using(crate::proofs::SpecLemmas::reference_found))]
 #[inline(always)]
 fn reference_of(redefined: &BTreeMap<u16, i64>, fxy: Fxy, entry: &Entry<'_>) -> i64
-    ensures { result ≡ reference_in (known_by redefined.now.entries) fxy entry.now.reference }
+    ensures { result ≡ current_reference (known_by redefined.now.entries) fxy entry.now.reference }
 {
     if redefined.is_empty() {
         return entry.reference;
@@ -101,9 +108,9 @@ fn reference_of(redefined: &BTreeMap<u16, i64>, fxy: Fxy, entry: &Entry<'_>) -> 
     given.unwrap_or(entry.reference)
 }
 
-/// A width with the changes in force.
+/// A quantity's width with the changes in force (2 01 Y, 2 07 Y).
 #[inline(always)]
-fn widened(width: u32, refined: u8, widened: u8) -> u32
+fn changed_width(width: u32, refined: u8, widened: u8) -> u32
     requires { width ≤ 2040 }
     ensures { result ≡ changed_width width (extra_bits refined) widened }
 {
@@ -115,9 +122,9 @@ fn widened(width: u32, refined: u8, widened: u8) -> u32
     }
 }
 
-/// A change by Y - 128, where one is in force.
+/// The change of a quantity's scale by Y - 128, where one is in force (2 02 Y).
 #[inline(always)]
-fn change(rescaled: u8) -> i16
+fn change_of(rescaled: u8) -> i16
     ensures value { result ≡ change_of rescaled }
     ensures few { unsigned_abs result ≤ 128 }
 {
@@ -128,7 +135,7 @@ fn change(rescaled: u8) -> i16
     }
 }
 
-/// A scale with the changes in force.
+/// A quantity's scale with the changes in force (2 02 Y, 2 07 Y).
 #[inline(always)]
 fn rescaled(scale: i16, change: i16, refined: u8) -> i16
     requires scale { unsigned_abs scale ≤ 127 }
@@ -150,7 +157,7 @@ fn power_of_ten(refined: u8) -> u64
     10u64.pow(u32::from(refined))
 }
 
-/// A reference with the changes in force.
+/// A quantity's reference with the digits in force (2 07 Y).
 #[tactic(auto, using(crate::proofs::SpecLemmas::product_small))]
 #[inline(always)]
 fn scaled(reference: i64, refined: u8) -> i128
@@ -171,14 +178,14 @@ fn quantity(
 ) -> Result<Spec, Refusal>
     requires row { IsRow (row_with fxy entry.now) }
     requires operands { AreOperands operands }
-    ensures { (known : List Redefined) → reference ≡ reference_in known fxy entry.now.reference → result ≡ fitting (quantity (set_by operands known) (row_with fxy entry.now)) }
+    ensures { (known : List Redefined) → reference ≡ current_reference known fxy entry.now.reference → result ≡ fitting (quantity (set_by operands known) (row_with fxy entry.now)) }
 {
     Spec::number(
         fxy,
         Role::Element,
         Kind::Numeric,
-        widened(entry.width, operands.refined, operands.widened),
-        rescaled(entry.scale, change(operands.rescaled), operands.refined),
+        changed_width(entry.width, operands.refined, operands.widened),
+        rescaled(entry.scale, change_of(operands.rescaled), operands.refined),
         scaled(reference, operands.refined),
         fxy.x() != 31,
         true,
@@ -189,7 +196,7 @@ fn quantity(
 #[inline(always)]
 fn figure(reference: i64, fxy: Fxy, entry: &Entry<'_>) -> Result<Spec, Refusal>
     requires row { IsRow (row_with fxy entry.now) }
-    ensures { (operands : Operands) (known : List Redefined) → reference ≡ reference_in known fxy entry.now.reference → result ≡ fitting (figure (set_by operands known) (row_with fxy entry.now)) }
+    ensures { (operands : Operands) (known : List Redefined) → reference ≡ current_reference known fxy entry.now.reference → result ≡ fitting (figure (set_by operands known) (row_with fxy entry.now)) }
 {
     Spec::number(
         fxy,
@@ -203,9 +210,9 @@ fn figure(reference: i64, fxy: Fxy, entry: &Entry<'_>) -> Result<Spec, Refusal>
     )
 }
 
-/// The width of a text element.
+/// The width of a text element, in bits (2 08 Y).
 #[inline(always)]
-fn lettered(width: u32, lettered: u8) -> u32
+fn text_width(width: u32, lettered: u8) -> u32
     ensures { result ≡ (if lettered == 0 then width else 8 * lettered) }
 {
     if lettered == 0 {
@@ -220,7 +227,7 @@ fn lettered(width: u32, lettered: u8) -> u32
 fn by_kind(operands: Operands, reference: i64, fxy: Fxy, entry: &Entry<'_>) -> Result<Spec, Refusal>
     requires row { IsRow (row_with fxy entry.now) }
     requires operands { AreOperands operands }
-    ensures { (known : List Redefined) → reference ≡ reference_in known fxy entry.now.reference → result ≡ by_kind entry.now.kind (set_by operands known) (row_with fxy entry.now) }
+    ensures { (known : List Redefined) → reference ≡ current_reference known fxy entry.now.reference → result ≡ by_kind entry.now.kind (set_by operands known) (row_with fxy entry.now) }
 {
     match entry.kind {
         Kind::Numeric => quantity(operands, reference, fxy, entry),
@@ -228,15 +235,15 @@ fn by_kind(operands: Operands, reference: i64, fxy: Fxy, entry: &Entry<'_>) -> R
         Kind::Character => Ok(Spec::text(
             Role::Element,
             fxy,
-            lettered(entry.width, operands.lettered),
+            text_width(entry.width, operands.lettered),
             true,
         )),
     }
 }
 
-/// An element whose reference is being defined.
+/// An element whose reference is being defined (2 03 Y).
 #[inline(always)]
-fn defined(defining: u8, fxy: Fxy, kind: Kind) -> Result<Spec, Refusal>
+fn defined_by(defining: u8, fxy: Fxy, kind: Kind) -> Result<Spec, Refusal>
     ensures { (s : Settings) → s.defining ≡ defining → result ≡ defined_by kind s fxy }
 {
     match kind {
@@ -256,7 +263,7 @@ fn defined(defining: u8, fxy: Fxy, kind: Kind) -> Result<Spec, Refusal>
 
 /// An unsigned number of a given width.
 #[inline(always)]
-fn unsigned(fxy: Fxy, width: u8) -> Result<Spec, Refusal>
+fn unsigned_of(fxy: Fxy, width: u8) -> Result<Spec, Refusal>
     ensures { result ≡ unsigned_of fxy width }
 {
     Spec::number(
@@ -271,16 +278,16 @@ fn unsigned(fxy: Fxy, width: u8) -> Result<Spec, Refusal>
     )
 }
 
-/// An element whose width is given.
+/// An element whose width is given (2 06 Y).
 #[inline(always)]
-fn given(given: u8, fxy: Fxy, entry: &Entry<'_>) -> Result<Spec, Refusal>
+fn given_by(given: u8, fxy: Fxy, entry: &Entry<'_>) -> Result<Spec, Refusal>
     requires row { IsRow (row_with fxy entry.now) }
     ensures { (s : Settings) → s.given ≡ given → result ≡ given_by (Some (row_with fxy entry.now)) s fxy }
 {
     if entry.width == u32::from(given) {
         by_kind(nothing(), entry.reference, fxy, entry)
     } else {
-        unsigned(fxy, given)
+        unsigned_of(fxy, given)
     }
 }
 
@@ -331,9 +338,9 @@ impl InForce {
         match table.get(fxy) {
             Some(entry) => {
                 if operands.given > 0 {
-                    given(operands.given, fxy, &entry)
+                    given_by(operands.given, fxy, &entry)
                 } else if operands.defining > 0 {
-                    defined(operands.defining, fxy, entry.kind)
+                    defined_by(operands.defining, fxy, entry.kind)
                 } else {
                     let reference = reference_of(&self.redefined, fxy, &entry);
                     by_kind(operands, reference, fxy, &entry)
@@ -341,7 +348,7 @@ impl InForce {
             }
             None => {
                 if operands.given > 0 {
-                    unsigned(fxy, operands.given)
+                    unsigned_of(fxy, operands.given)
                 } else {
                     Err(Refusal::Width(fxy))
                 }
@@ -363,7 +370,7 @@ impl InForce {
         }
     }
 
-    /// How a text that stands in the template is read.
+    /// How a text that stands in the template is read (2 05 Y).
     #[tactic(auto, using(crate::proofs::SpecLemmas::inserted_width))]
     #[inline(always)]
     pub(crate) fn inserted(&self, fxy: Fxy) -> Result<Spec, Refusal>
@@ -387,24 +394,23 @@ impl InForce {
         if self.operands.defining > 0 && !(x == 3 && y == 255) {
             return Err(Refusal::Defining(fxy));
         }
-        if x == 1 {
-            self.operands.widened = y;
-        } else if x == 2 {
-            self.operands.rescaled = y;
-        } else if x == 3 {
-            if y == 255 {
-                self.operands.defining = 0;
-            } else if y == 0 {
-                self.redefined.clear();
-            } else {
-                self.operands.defining = y;
+        match x {
+            1 => self.operands.widened = y,
+            2 => self.operands.rescaled = y,
+            3 => {
+                if y == 255 {
+                    self.operands.defining = 0;
+                } else if y == 0 {
+                    self.redefined.clear();
+                } else {
+                    self.operands.defining = y;
+                }
             }
-        } else if x == 6 {
-            self.operands.given = y;
-        } else if x == 7 {
-            self.operands.refined = y;
-        } else {
-            self.operands.lettered = y;
+            6 => self.operands.given = y,
+            7 => self.operands.refined = y,
+            8 => self.operands.lettered = y,
+            // 2 05 Y is a text of the template, and sets nothing.
+            _ => {}
         }
         Ok(())
     }
@@ -458,7 +464,8 @@ impl InForce {
         }
     }
 
-    /// Takes a field, and keeps what it makes of the settings: a given width is used up, and a reference is kept.
+    /// Takes a field, and keeps what it makes of the settings: a given width is used up, and a
+    /// reference is kept.
     #[inline(always)]
     pub(crate) fn take<S: Fields>(
         &mut self,

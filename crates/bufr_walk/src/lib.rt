@@ -1,12 +1,19 @@
 //! The data of FM 94 BUFR: one walk over a template, and the reading of a message's data.
+//!
+//! [`read_message`] reads the data of a message, and [`Reading::show`] hands each subset and item
+//! to a [`Visitor`]: so the crates above write dumps. [`walk`] goes over a template for any
+//! [`Fields`]: [`PlainIn`] and [`PackedIn`] read data, and the writers of `bufr_fill` go by the
+//! same walk.
 #![tactic(auto)]
 
+mod base;
+mod bits;
 mod cells;
 mod fault;
 mod fields;
 mod in_force;
+mod kept;
 pub mod law;
-mod message;
 mod packed_in;
 mod plain_in;
 mod read_packed;
@@ -16,19 +23,20 @@ mod show_packed;
 mod show_plain;
 mod spec;
 mod steps;
+mod stop;
 mod visitor;
 mod walking;
 
 pub use fault::{ShowFault, Spot, WalkFault};
 pub use fields::Fields;
-pub use message::read_message;
-pub use packed_in::{PackedFault, PackedIn};
+pub use packed_in::{MOST_VALUES, PackedFault, PackedIn};
 pub use plain_in::{DataEnd, PlainIn};
-pub use reading::Reading;
+pub use reading::{Reading, read_message};
 pub use spec::{Refusal, Role, Spec, Taken};
 pub use steps::Steps;
+pub use stop::WalkStop;
 pub use visitor::{ItemView, Value, Visitor};
-pub use walking::{WalkStop, walk};
+pub use walking::walk;
 
 #[cfg(test)]
 mod packed_tests;

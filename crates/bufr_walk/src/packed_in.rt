@@ -10,11 +10,12 @@ ghost use Rattle.bufr_walk.specs.Asked.{IsFor, IsForRole};
 ghost use Rattle.bufr_walk.specs.PackedField.{step_of};
 ghost use Rattle.bufr_walk.specs.declared.spec.Role.TheVariants as role;
 ghost use Rattle.bufr_walk.specs.declared.spec.Taken.TheVariants as taken;
-ghost use Rattle.bufr_walk.specs.PackedBits.{stays_within, all_within, all_equal, numbers_hold, holds_by, is_plain_role, IsTold, IsWrong, IsSeen, IsUnseen};
+ghost use Rattle.bufr_walk.specs.PackedBits.{stays_within, all_within, all_equal, numbers_hold, holds_by, is_plain_role, TellsAt, IsSeen, IsUnseen};
 
+use crate::base::{Base, base_at};
+use crate::bits::{number_at, told_at};
 use crate::fields::Fields;
-use crate::plain_in::{number_at, raw_at, told_at};
-use crate::read_packed::{KeptItem, PackedRead};
+use crate::kept::{KeptItem, PackedRead};
 use crate::spec::{Role, Spec, Taken};
 use bufr_bits::BitSlice;
 use bufr_tables::{Fxy, Kind};
@@ -28,7 +29,8 @@ pub enum PackedFault {
     /// The data end inside the item.
     #[error("the data end inside an item")]
     DataEnd(Fxy),
-    /// A sum past the width of a number, more octets than a text has, or a redefined reference with increments.
+    /// A sum past the width of a number, more octets than a text has, or a redefined reference with
+    /// increments.
     #[error("an increment that cannot be")]
     Increment(Fxy),
     /// The factor of a replication is not the same in all subsets.
@@ -46,7 +48,8 @@ impl PackedFault {
     ghost use Rattle.std.specs.Prelude.{◌≡◌};
     ghost use Rattle.bufr_walk.specs.Fault.{number_of_packed};
 
-    /// Its number, as that of the [`WalkFault`](crate::WalkFault) that it is: 30, 33 to 35, and 73 for want of memory.
+    /// Its number, as that of the [`WalkFault`](crate::WalkFault) that it is: 30, 33 to 35, and 73
+    /// for want of memory.
     pub fn number(self) -> u8
         ensures { result ≡ number_of_packed self }
     {
@@ -58,14 +61,6 @@ impl PackedFault {
             PackedFault::Memory => 73,
         }
     }
-}
-
-/// The number to which the increments of an item are added.
-#[derive(Clone, Copy)]
-pub(crate) struct Base {
-    pub(crate) value: u64,
-    pub(crate) width: u32,
-    pub(crate) may_be_missing: bool,
 }
 
 /// Whether an increment of `k` bits can be: it is missing, or the sum stays within the width.
@@ -101,7 +96,8 @@ fn are_within(bits: &BitSlice<'_>, at: u64, subsets: u16, k: u32, base: Base) ->
     true
 }
 
-/// Whether each increment of `k` bits, the first of which begins with bit `at`, is the number `first`.
+/// Whether each increment of `k` bits, the first of which begins with bit `at`, is the number
+/// `first`.
 fn are_equal(bits: &BitSlice<'_>, at: u64, subsets: u16, k: u32, first: u64) -> bool
     requires increment { k ≤ 63 }
     requires within { at + subsets * k ≤ 8 * length (octets_of bits.now) }
@@ -125,18 +121,10 @@ fn numbers_hold(bits: &BitSlice<'_>, at: u64, subsets: u16, spec: &Spec, k: u32)
     requires within { at + (spec.now.width + 6) + subsets * k ≤ 8 * length (octets_of bits.now) }
     ensures { result ≡ numbers_hold spec.now k subsets (bits_at (octets_of bits.now) at spec.now.width) (drop (at + (spec.now.width + 6)) (bits_of (octets_of bits.now))) }
 {
-    let width = spec.width();
-    let may_be_missing = spec.may_be_missing();
-    let raw = raw_at(bits, at, width);
-    if raw.all_ones && may_be_missing {
+    let Some(base) = base_at(bits, at, spec) else {
         return true;
-    }
-    let base = Base {
-        value: raw.number,
-        width,
-        may_be_missing,
     };
-    are_within(bits, at + (u64::from(width) + 6), subsets, k, base)
+    are_within(bits, at + (u64::from(base.width) + 6), subsets, k, base)
 }
 
 /// Whether the increments of an item, or the count of octets of a text, can be.
@@ -179,7 +167,7 @@ fn plain_at(
     requires increment { k ≤ 63 }
     requires role { is_plain_role spec.now.role ≡ true }
     requires within { at + (spec.now.width + 6) + subsets * step_of spec.now.role spec.now.kind k ≤ 8 * length (octets_of bits.now) }
-    ensures told { MatchResult result (λ t. IsTold spec.now k subsets (bits_at (octets_of bits.now) at spec.now.width) (drop (at + (spec.now.width + 6)) (bits_of (octets_of bits.now))) t) (λ e. IsWrong spec.now k subsets (bits_at (octets_of bits.now) at spec.now.width) (drop (at + (spec.now.width + 6)) (bits_of (octets_of bits.now))) e) }
+    ensures told { TellsAt (bits_of (octets_of bits.now)) at subsets spec.now k result }
     ensures plain { IfOk result (λ t. t ≡ taken.Plain) }
 {
     let can_be = holds(bits, at, subsets, spec, k);
@@ -203,7 +191,7 @@ fn factor_at(
     requires subsets { 1 ≤ subsets }
     requires role { spec.now.role ≡ role.Factor }
     requires within { at + (spec.now.width + 6) + subsets * k ≤ 8 * length (octets_of bits.now) }
-    ensures told { MatchResult result (λ t. IsTold spec.now k subsets (bits_at (octets_of bits.now) at spec.now.width) (drop (at + (spec.now.width + 6)) (bits_of (octets_of bits.now))) t) (λ e. IsWrong spec.now k subsets (bits_at (octets_of bits.now) at spec.now.width) (drop (at + (spec.now.width + 6)) (bits_of (octets_of bits.now))) e) }
+    ensures told { TellsAt (bits_of (octets_of bits.now)) at subsets spec.now k result }
     ensures count { IfOk result (λ t. IsForRole role.Factor t) }
 {
     let width = spec.width();
@@ -222,7 +210,7 @@ fn factor_at(
 }
 
 /// What an item tells whose `k` is known.
-fn told_by(
+fn item_told_at(
     bits: &BitSlice<'_>,
     at: u64,
     subsets: u16,
@@ -232,7 +220,7 @@ fn told_by(
     requires increment { k ≤ 63 }
     requires subsets { 1 ≤ subsets }
     requires within { at + (spec.now.width + 6) + subsets * step_of spec.now.role spec.now.kind k ≤ 8 * length (octets_of bits.now) }
-    ensures told { MatchResult result (λ t. IsTold spec.now k subsets (bits_at (octets_of bits.now) at spec.now.width) (drop (at + (spec.now.width + 6)) (bits_of (octets_of bits.now))) t) (λ e. IsWrong spec.now k subsets (bits_at (octets_of bits.now) at spec.now.width) (drop (at + (spec.now.width + 6)) (bits_of (octets_of bits.now))) e) }
+    ensures told { TellsAt (bits_of (octets_of bits.now)) at subsets spec.now k result }
     ensures shape { IfOk result (λ t. IsFor spec.now t) }
 {
     if k == 0 {
@@ -248,14 +236,19 @@ fn told_by(
 
 /// An item that stands in the bits: what it tells, its `k`, and the bit behind it.
 #[derive(Clone, Copy)]
-struct Seen {
+struct PackedItem {
     told: Taken,
     step: u8,
     end: u64,
 }
 
 /// The item that begins with bit `at`.
-fn seen_at(bits: &BitSlice<'_>, at: u64, subsets: u16, spec: &Spec) -> Result<Seen, PackedFault>
+fn seen_at(
+    bits: &BitSlice<'_>,
+    at: u64,
+    subsets: u16,
+    spec: &Spec,
+) -> Result<PackedItem, PackedFault>
     requires subsets { 1 ≤ subsets }
     requires within { at ≤ 8 * length (octets_of bits.now) }
     ensures seen { MatchResult result (λ s. IsSeen (bits_of (octets_of bits.now)) at subsets spec.now s) (λ e. IsUnseen (bits_of (octets_of bits.now)) at subsets spec.now e) }
@@ -271,8 +264,8 @@ fn seen_at(bits: &BitSlice<'_>, at: u64, subsets: u16, spec: &Spec) -> Result<Se
     if left < size {
         return Err(PackedFault::DataEnd(spec.fxy()));
     }
-    match told_by(bits, at, subsets, spec, k) {
-        Ok(told) => Ok(Seen {
+    match item_told_at(bits, at, subsets, spec, k) {
+        Ok(told) => Ok(PackedItem {
             told,
             step: k as u8,
             end: at + size,
@@ -281,13 +274,15 @@ fn seen_at(bits: &BitSlice<'_>, at: u64, subsets: u16, spec: &Spec) -> Result<Se
     }
 }
 
-/// The most values of a compressed message.
-const MOST_VALUES: u64 = 134_217_728;
+/// The most values of a message whose data are compressed, read or written: its items times its
+/// subsets (a choice of this project).
+pub const MOST_VALUES: u64 = 134_217_728;
 
 /// Room is made for so many items at once.
 const ITEMS_AT_ONCE: usize = 64;
 
-/// Makes room for one more item: for 64 at once, so memory may be wanted only where the items so far are a multiple of 64.
+/// Makes room for one more item: for 64 at once, so memory may be wanted only where the items so
+/// far are a multiple of 64.
 fn make_room(kept: &mut Vec<KeptItem>) -> Result<(), PackedFault>
     requires { room_for (vec_len kept.old) ≤ vec_capacity kept.old }
     ensures same { kept.new.items ≡ kept.old.items }
@@ -317,8 +312,9 @@ fn keep(kept: &mut Vec<KeptItem>, item: KeptItem)
     }
 }
 
-/// Fields of compressed data: each item stands once for all subsets, as a base, six bits `k`, and an increment for each
-/// subset where `k` is above 0 (WMO-No. 306, Volume I.2, FM 94: section 4, compression). It keeps an entry for each item.
+/// Fields of compressed data: each item stands once for all subsets, as a base, six bits `k`, and
+/// an increment for each subset where `k` is above 0 (WMO-No. 306, Volume I.2, FM 94: section 4,
+/// compression). It keeps an entry for each item.
 #[derive(Drop)]
 pub struct PackedIn<'a> {
     bits: BitSlice<'a>,
@@ -369,6 +365,7 @@ impl<'a> PackedIn<'a> {
         ensures within { self.now.at ≤ length self.now.bits }
         ensures few { length self.now.items * self.now.subsets ≤ most_values }
     {
+        // For the proof alone: with a field used, the reader's invariant is known.
         let _ = &self.bits;
         self.at
     }
@@ -390,7 +387,7 @@ impl<'a> PackedIn<'a> {
     }
 
     /// The next item, without going past it.
-    fn look(&self, spec: &Spec) -> Result<Seen, PackedFault>
+    fn look(&self, spec: &Spec) -> Result<PackedItem, PackedFault>
         ensures seen { MatchResult result (λ s. IsLooked self.now spec.now s) (λ e. IsUnlooked self.now spec.now e) }
         ensures shape { IfOk result (λ s. IsFor spec.now s.told) }
     {

@@ -1,21 +1,21 @@
-//! The reading of data that are not compressed: subset after subset, each from the beginning of the template.
+//! The reading of data that are not compressed: subset after subset, each from the beginning of the
+//! template.
 ghost use Rattle.std.specs.Prelude.{◌≡◌, ◌≤◌, ◌+◌, ◌-◌, ◌*◌, false, length, List, IfOk, OnOk, OnErr, IfErr};
 ghost use Rattle.bufr_bits.specs.Bits.{bits_of};
 ghost use Rattle.bufr_bits.specs.BitSlice.{octets_of};
 ghost use Rattle.bufr_tables.specs.Tree.{places};
-ghost use Rattle.bufr_walk.specs.Content.{Content};
 ghost use Rattle.bufr_walk.specs.Course.{next_item};
 ghost use Rattle.bufr_walk.specs.Fault.{bits_before};
-ghost use Rattle.bufr_walk.specs.Kept.{items_in};
-ghost use Rattle.bufr_walk.specs.Outcome.{data_in, IsFault, IsRead};
+ghost use Rattle.bufr_walk.specs.Kept.{IsReadAndPaid};
+ghost use Rattle.bufr_walk.specs.Outcome.{data_in, IsFault};
 ghost use Rattle.bufr_walk.specs.Passes.{PassReads, PassStops};
 ghost use Rattle.bufr_walk.specs.PlainIn.{fault_at};
-ghost use Rattle.bufr_walk.specs.Reading.{Item, apart};
 
 use crate::fault::{Spot, WalkFault};
 use crate::plain_in::{DataEnd, PlainIn};
 use crate::steps::Steps;
-use crate::walking::{WalkStop, walk};
+use crate::stop::WalkStop;
+use crate::walking::walk;
 use bufr_bits::BitSlice;
 use bufr_tables::{TableB, Template};
 use std::alloc::Global;
@@ -50,6 +50,7 @@ fn read_subset(
 {
     match walk(alloc, template, table, fields, steps) {
         Ok(()) => {
+            // For the proof alone: the subset was read within the bits.
             let _ = fields.place();
             Ok(())
         }
@@ -67,7 +68,7 @@ pub(crate) fn read_plain(
     steps: &mut Steps,
 ) -> Result<u64, WalkFault>
     requires { steps.old ≡ 0 }
-    ensures reading { IfOk result (λ used. (subsets_read : List (List (Item Content))) × IsRead (next_item table.now template.now) (data_in false subsets (octets_of bits.entry)) (apart subsets_read) used steps.new × (items_in subsets_read ≤ used)) }
+    ensures reading { IfOk result (λ used. IsReadAndPaid (next_item table.now template.now) (data_in false subsets (octets_of bits.entry)) used steps.new) }
     ensures fault { IfErr result (λ why. IsFault (next_item table.now template.now) (data_in false subsets (octets_of bits.entry)) why steps.new) }
     ensures accepted { IfOk result (λ used. steps.new ≤ places template.now * used) }
     ensures refused { IfErr result (λ why. steps.new ≤ places template.now * (bits_before why (length (bits_of (octets_of bits.entry))) + 1)) }

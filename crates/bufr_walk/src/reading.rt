@@ -1,6 +1,13 @@
-//! What a message's data were read as.
+//! The reading of a message's data, and what they were read as.
+ghost use Rattle.std.specs.Prelude.{◌≡◌, ◌≤◌, ◌+◌, ◌*◌, length, IfOk, IfErr};
+ghost use Rattle.bufr_tables.specs.Tree.{places};
+ghost use Rattle.bufr_walk.specs.Course.{next_item};
+ghost use Rattle.bufr_walk.specs.Fault.{bits_before};
+ghost use Rattle.bufr_walk.specs.Outcome.{data_of, IsFault, IsReadingOf};
+
 use crate::fault::{ShowFault, WalkFault};
-use crate::read_packed::{KeptItem, read_packed};
+use crate::kept::KeptItem;
+use crate::read_packed::read_packed;
 use crate::read_plain::read_plain;
 use crate::show_packed::show_packed;
 use crate::show_plain::show_plain;
@@ -12,15 +19,16 @@ use bufr_tables::{TableB, Template};
 use std::alloc::Global;
 use std::marker::Model;
 
-/// What a reading keeps: nothing where each subset has bits of its own, else one entry for each item.
+/// What a reading keeps: nothing where each subset has bits of its own, else one entry for each
+/// item.
 #[derive(Drop)]
 enum Kept {
     Apart,
     Together(Vec<KeptItem>),
 }
 
-/// The reading of a message's data (WMO-No. 306, Volume I.2, FM 94: section 4). It borrows the message's octets, the
-/// template and the table.
+/// The reading of a message's data (WMO-No. 306, Volume I.2, FM 94: section 4). It borrows the
+/// message's octets, the template and the table.
 #[derive(Drop)]
 pub struct Reading<'a> {
     bits: BitSlice<'a>,
@@ -49,55 +57,75 @@ impl<'a> Model for Reading<'a> {
     ghost invariant = { λ r. IsHeld (read_by r.table.now r.template.now (data_in r.compressed r.subsets (octets_of r.bits)) r.used (held_of r.kept)) r.kept };
 }
 
-impl<'a> Reading<'a> {
-    ghost use Rattle.std.specs.Prelude.{◌≡◌, ◌≤◌, ◌+◌, ◌*◌, false, length, IfOk, IfErr};
-    ghost use Rattle.bufr_tables.specs.Tree.{places};
-    ghost use Rattle.bufr_walk.specs.Course.{next_item};
-    ghost use Rattle.bufr_walk.specs.Fault.{bits_before};
-    ghost use Rattle.bufr_walk.specs.Calls.{calls_of, items_called, turns_shown};
-    ghost use Rattle.bufr_walk.specs.Outcome.{course_of, data_of, IsFault, IsReadingOf};
-    ghost use Rattle.bufr_walk.specs.Reading.{Values, IsReading, items_kept, most_values};
-    ghost use Rattle.bufr_walk.specs.Shows.{Shows};
-
-    /// Reads the data of a message by its template.
-    pub(crate) fn read(
-        alloc: Global,
-        message: &Message<'a>,
-        template: &'a Template,
-        table: &'a TableB,
-        steps: &mut Steps,
-    ) -> Result<Reading<'a>, WalkFault>
-        ensures reading { IfOk result (λ r. IsReadingOf table.now template.now (data_of message.now) r steps.new) }
-        ensures fault { IfErr result (λ why. IsFault (next_item table.now template.now) (data_of message.now) why steps.new) }
-        ensures accepted { IfOk result (λ r. steps.new ≤ places template.now * r.bits) }
-        ensures refused { IfErr result (λ why. steps.new ≤ places template.now * (bits_before why (length (data_of message.now).bits) + 1)) }
-    {
-        *steps = Steps::new();
-        let bits = message.payload();
-        let subsets = message.subsets();
-        if message.compressed() {
-            let read = read_packed(alloc, bits, subsets, template, table, steps)?;
-            return Ok(Reading {
-                bits,
-                template,
-                table,
-                compressed: true,
-                subsets,
-                used: read.used,
-                kept: Kept::Together(read.kept),
-            });
-        }
-        let used = read_plain(alloc, bits, subsets, template, table, steps)?;
-        Ok(Reading {
+/// Reads the data of a message by its template, in one pass for each subset, or in one pass for all
+/// where the data are compressed (WMO-No. 306, Volume I.2, FM 94: sections 3 and 4). The steps are
+/// set to those that it makes. A reading makes at most as many steps as the template has places,
+/// for each bit that its items take; a refusal at most as many for each bit before the item, and
+/// once more.
+///
+/// ```
+/// let mut steps = Steps::new();
+/// let reading = read_message(alloc, &message, &template, &table_b, &mut steps)?;
+/// assert_eq!(rt; (reading.bits(), steps.count()), (7, 2)); // of one block number
+/// ```
+///
+/// # Errors
+///
+/// The first that holds, in the order of the data, with the subset (0 where the data are
+/// compressed), the descriptor, and how many bits lie before the item. At one item:
+/// [`WalkFault::Defining`] for what may not come while references are being defined;
+/// [`WalkFault::Width`] for a width outside 1 to 63 bits; [`WalkFault::TooManyValues`] where
+/// compressed data would have more than 134,217,728 values; [`WalkFault::DataEnd`] where the data
+/// end in the item; [`WalkFault::Increment`] for increments that cannot be;
+/// [`WalkFault::UnequalFactor`] for a factor that is not the same in all subsets.
+/// [`WalkFault::Memory`] where memory runs out: before a reference that the data define, and in
+/// compressed data at every 64th item.
+pub fn read_message<'a>(
+    alloc: Global,
+    message: &Message<'a>,
+    template: &'a Template,
+    table: &'a TableB,
+    steps: &mut Steps,
+) -> Result<Reading<'a>, WalkFault>
+    ensures reading { IfOk result (λ r. IsReadingOf table.now template.now (data_of message.now) r steps.new) }
+    ensures fault { IfErr result (λ why. IsFault (next_item table.now template.now) (data_of message.now) why steps.new) }
+    ensures accepted { IfOk result (λ r. steps.new ≤ places template.now * r.bits) }
+    ensures refused { IfErr result (λ why. steps.new ≤ places template.now * (bits_before why (length (data_of message.now).bits) + 1)) }
+{
+    *steps = Steps::new();
+    let bits = message.payload();
+    let subsets = message.subsets();
+    if message.compressed() {
+        let read = read_packed(alloc, bits, subsets, template, table, steps)?;
+        return Ok(Reading {
             bits,
             template,
             table,
-            compressed: false,
+            compressed: true,
             subsets,
-            used,
-            kept: Kept::Apart,
-        })
+            used: read.used,
+            kept: Kept::Together(read.kept),
+        });
     }
+    let used = read_plain(alloc, bits, subsets, template, table, steps)?;
+    Ok(Reading {
+        bits,
+        template,
+        table,
+        compressed: false,
+        subsets,
+        used,
+        kept: Kept::Apart,
+    })
+}
+
+impl<'a> Reading<'a> {
+    ghost use Rattle.std.specs.Prelude.{◌≡◌, ◌≤◌, ◌*◌, false};
+    ghost use Rattle.bufr_tables.specs.Tree.{places};
+    ghost use Rattle.bufr_walk.specs.Calls.{calls_of, items_called};
+    ghost use Rattle.bufr_walk.specs.Outcome.{course_of};
+    ghost use Rattle.bufr_walk.specs.Reading.{Values, IsReading, items_kept, most_values};
+    ghost use Rattle.bufr_walk.specs.Shows.{ShowsReading};
 
     /// The number of subsets.
     pub fn subsets(&self) -> u16
@@ -113,8 +141,8 @@ impl<'a> Reading<'a> {
         self.used
     }
 
-    /// How many items are kept: none where the data are not compressed, else each item of all subsets, at most one for
-    /// seven bits.
+    /// How many items are kept: none where the data are not compressed, else each item of all
+    /// subsets, at most one for seven bits.
     pub fn held(&self) -> u64
         ensures value { result ≡ self.now.held }
         ensures items { (values : Values) → IsReading (course_of self.now) self.now.source values self.now.bits → result ≡ items_kept values }
@@ -135,7 +163,7 @@ impl<'a> Reading<'a> {
         visitor: &mut V,
         steps: &mut Steps,
     ) -> Result<(), ShowFault<V::Fault>>
-        ensures { (values : Values) → IsReading (course_of self.now) self.now.source values self.now.bits → Shows V.sees visitor.old (calls_of self.now values) (turns_shown self.now values) result visitor.new steps.new }
+        ensures { ShowsReading V.sees self.now visitor.old result visitor.new steps.new }
     {
         *steps = Steps::new();
         match &self.kept {
@@ -154,25 +182,26 @@ impl<'a> Reading<'a> {
         }
     }
 
-    /// Shows each subset and its items to a visitor, in the order of the data, and sets the steps to those that are
-    /// made for it, none where the data are compressed. It stops at the visitor's first fault. At most 134,217,728 items
-    /// are shown, and there are at most as many steps as the template has places for each bit of the items.
+    /// Shows each subset and its items to a visitor, in the order of the data, and sets the steps
+    /// to those that are made for it, none where the data are compressed. It stops at the visitor's
+    /// first fault. At most 134,217,728 items are shown, and there are at most as many steps as the
+    /// template has places for each bit of the items.
     ///
     /// # Errors
     ///
-    /// [`ShowFault::Visitor`] with the visitor's fault; [`ShowFault::Memory`] where memory runs out before a reference
-    /// that the data define.
+    /// [`ShowFault::Visitor`] with the visitor's fault; [`ShowFault::Memory`] where memory runs out
+    /// before a reference that the data define.
     pub fn show<V: Visitor>(
         &self,
         alloc: Global,
         visitor: &mut V,
         steps: &mut Steps,
     ) -> Result<(), ShowFault<V::Fault>>
-        ensures shown { (values : Values) → IsReading (course_of self.now) self.now.source values self.now.bits → Shows V.sees visitor.old (calls_of self.now values) (turns_shown self.now values) result visitor.new steps.new }
+        ensures shown { ShowsReading V.sees self.now visitor.old result visitor.new steps.new }
         ensures few { (values : Values) → IsReading (course_of self.now) self.now.source values self.now.bits → items_called (calls_of self.now values) ≤ most_values }
         ensures bounded { steps.new ≤ places self.now.template * self.now.bits }
     {
-        // What a template promises of its groups bounds the steps.
+        // For the proof alone: what a template promises of its groups bounds the steps.
         let _ = self.template.cells();
         self.show_kept(alloc, visitor, steps)
     }

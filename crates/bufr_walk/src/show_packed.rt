@@ -4,18 +4,19 @@ ghost use Rattle.std.specs.List.{list_all};
 ghost use Rattle.bufr_bits.specs.Bits.{bits_of, bits_at};
 ghost use Rattle.bufr_bits.specs.BitSlice.{octets_of};
 ghost use Rattle.bufr_tables.specs.TableB.{is_character};
-ghost use Rattle.bufr_walk.specs.Calls.{content_at, item_call, items_together, subset_call, subsets_together, timed, view_of};
+ghost use Rattle.bufr_walk.specs.Calls.{items_together, subset_call, subsets_together, timed};
 ghost use Rattle.bufr_walk.specs.Content.{octets_in, shown};
-ghost use Rattle.bufr_walk.specs.PackedBits.{increased_to, number_from, sum_content};
-ghost use Rattle.bufr_walk.specs.PackedField.{packed_field, text_of};
-ghost use Rattle.bufr_walk.specs.PackedIn.{contents_found, items_at, stands_at};
+ghost use Rattle.bufr_walk.specs.Kept.{HasIncrement, call_kept, content_kept};
+ghost use Rattle.bufr_walk.specs.PackedBits.{increased_to, number_from, sum_content, text_at};
+ghost use Rattle.bufr_walk.specs.PackedIn.{items_at, stands_at};
 ghost use Rattle.bufr_walk.specs.Seen.{seen_value};
 ghost use Rattle.bufr_walk.specs.Shows.{Shows};
 
+use crate::base::{Base, base_at};
+use crate::bits::{copy_octets, front, number_at, ones_at};
 use crate::fault::ShowFault;
-use crate::packed_in::Base;
-use crate::plain_in::{PlainIn, copy_octets, front, number_at, ones_at, raw_at};
-use crate::read_packed::KeptItem;
+use crate::kept::KeptItem;
+use crate::plain_in::PlainIn;
 use crate::show_plain::{show_field, show_value};
 use crate::spec::Spec;
 use crate::visitor::{Value, Visitor};
@@ -45,18 +46,12 @@ fn number_in(bits: &BitSlice<'_>, at: u64, spec: &Spec, k: u32, subset: u16) -> 
     requires increment { k ≤ 63 }
     requires number { is_character spec.now.kind ≡ false }
     requires within { at + (spec.now.width + 6) + (subset + 1) * k ≤ 8 * length (octets_of bits.now) }
-    ensures { sum_content result ≡ number_from spec.now k (bits_at (octets_of bits.now) at spec.now.width) (take k (drop (subset * k) (drop (at + (spec.now.width + 6)) (bits_of (octets_of bits.now))))) }
+    ensures { sum_content result ≡ number_from spec.now k (bits_at (octets_of bits.now) at spec.now.width)
+        (take k (drop (subset * k) (drop (at + (spec.now.width + 6)) (bits_of (octets_of bits.now))))) }
 {
     let width = spec.width();
-    let may_be_missing = spec.may_be_missing();
-    let raw = raw_at(bits, at, width);
-    if raw.all_ones && may_be_missing {
+    let Some(base) = base_at(bits, at, spec) else {
         return None;
-    }
-    let base = Base {
-        value: raw.number,
-        width,
-        may_be_missing,
     };
     let place = at + (u64::from(width) + 6) + u64::from(subset) * u64::from(k);
     increased(base, k, number_at(bits, place, k))
@@ -84,19 +79,19 @@ fn pad(text: &mut [u8; 255], from: usize, count: usize)
     }
 }
 
-/// The number that one subset, counted from 0, has of a kept item with increments; `None` where it is missing.
+/// The number that one subset, counted from 0, has of a kept item with increments; `None` where it
+/// is missing.
 #[tactic(auto, using(crate::proofs::PackedAt::number_content, crate::proofs::PackedAt::step_small))]
 fn number_of(bits: &BitSlice<'_>, subsets: u16, item: &KeptItem, subset: u16) -> Option<u64>
-    requires stands { stands_at (bits_of (octets_of bits.now)) subsets item.now ≡ true }
-    requires subset { subset < subsets }
-    requires some { 1 ≤ item.now.step }
+    requires increment { HasIncrement (bits_of (octets_of bits.now)) subsets item.now subset }
     requires number { is_character item.now.spec.kind ≡ false }
-    ensures { sum_content result ≡ content_at subset (contents_found (packed_field subsets item.now.spec (drop item.now.at (bits_of (octets_of bits.now))))) }
+    ensures { sum_content result ≡ content_kept (bits_of (octets_of bits.now)) subsets item.now subset }
 {
     number_in(bits, item.at, &item.spec, u32::from(item.step), subset)
 }
 
-/// Where the text of one subset stands: its first bit, and how many octets, behind which come spaces.
+/// Where the text of one subset stands: its first bit, and how many octets, behind which come
+/// spaces.
 #[derive(Clone, Copy)]
 struct TextSpan {
     place: u64,
@@ -114,13 +109,11 @@ fn text_place(bits: &BitSlice<'_>, item: &KeptItem, subset: u16) -> u64
 
 /// Where the text stands that one subset, counted from 0, has of a kept item with increments.
 fn text_span(bits: &BitSlice<'_>, subsets: u16, item: &KeptItem, subset: u16) -> TextSpan
-    requires stands { stands_at (bits_of (octets_of bits.now)) subsets item.now ≡ true }
-    requires subset { subset < subsets }
-    requires some { 1 ≤ item.now.step }
+    requires increment { HasIncrement (bits_of (octets_of bits.now)) subsets item.now subset }
     requires text { is_character item.now.spec.kind ≡ true }
     ensures within { result.place + 8 * result.octets ≤ 8 * length (octets_of bits.now) }
     ensures few { result.octets ≤ item.now.spec.width / 8 }
-    ensures text { text_of (item.now.spec.width / 8) result.octets (take (8 * result.octets) (drop result.place (bits_of (octets_of bits.now)))) ≡ content_at subset (contents_found (packed_field subsets item.now.spec (drop item.now.at (bits_of (octets_of bits.now))))) }
+    ensures text { text_at (bits_of (octets_of bits.now)) (item.now.spec.width / 8) result.place result.octets ≡ content_kept (bits_of (octets_of bits.now)) subsets item.now subset }
 {
     TextSpan {
         place: text_place(bits, item, subset),
@@ -152,7 +145,7 @@ fn text_value<'t>(
     requires within { span.place + 8 * span.octets ≤ 8 * length (octets_of bits.now) }
     requires small { span.octets ≤ 255 }
     requires copied { take count text.now ≡ octets_in span.octets (drop span.place (bits_of (octets_of bits.now))) ++ replicate (count - span.octets) 32 }
-    ensures { seen_value result ≡ shown spec.now (text_of count span.octets (take (8 * span.octets) (drop span.place (bits_of (octets_of bits.now))))) }
+    ensures { seen_value result ≡ shown spec.now (text_at (bits_of (octets_of bits.now)) count span.place span.octets) }
 {
     let all_missing = ones_at(bits, span.place, 8 * span.octets as u32);
     if all_missing {
@@ -171,11 +164,9 @@ fn show_text<V: Visitor>(
     subset: u16,
     visitor: &mut V,
 ) -> Result<(), V::Fault>
-    requires stands { stands_at (bits_of (octets_of bits.now)) subsets item.now ≡ true }
-    requires subset { subset < subsets }
-    requires some { 1 ≤ item.now.step }
+    requires increment { HasIncrement (bits_of (octets_of bits.now)) subsets item.now subset }
     requires text { is_character item.now.spec.kind ≡ true }
-    ensures { V.sees visitor.old (item_call (view_of table.now item.now.spec (content_at subset (contents_found (packed_field subsets item.now.spec (drop item.now.at (bits_of (octets_of bits.now)))))))) result visitor.new }
+    ensures { V.sees visitor.old (call_kept table.now (bits_of (octets_of bits.now)) subsets item.now subset) result visitor.new }
 {
     let mut text = [0u8; 255];
     let span = text_span(bits, subsets, item, subset);
@@ -194,11 +185,9 @@ fn show_number<V: Visitor>(
     subset: u16,
     visitor: &mut V,
 ) -> Result<(), V::Fault>
-    requires stands { stands_at (bits_of (octets_of bits.now)) subsets item.now ≡ true }
-    requires subset { subset < subsets }
-    requires some { 1 ≤ item.now.step }
+    requires increment { HasIncrement (bits_of (octets_of bits.now)) subsets item.now subset }
     requires number { is_character item.now.spec.kind ≡ false }
-    ensures { V.sees visitor.old (item_call (view_of table.now item.now.spec (content_at subset (contents_found (packed_field subsets item.now.spec (drop item.now.at (bits_of (octets_of bits.now)))))))) result visitor.new }
+    ensures { V.sees visitor.old (call_kept table.now (bits_of (octets_of bits.now)) subsets item.now subset) result visitor.new }
 {
     let raw = number_of(bits, subsets, item, subset);
     let value = number_value(&item.spec, raw);
@@ -217,9 +206,9 @@ fn show_base<V: Visitor>(
     requires stands { stands_at (bits_of (octets_of bits.now)) subsets item.now ≡ true }
     requires subset { subset < subsets }
     requires none { item.now.step ≡ 0 }
-    ensures { V.sees visitor.old (item_call (view_of table.now item.now.spec (content_at subset (contents_found (packed_field subsets item.now.spec (drop item.now.at (bits_of (octets_of bits.now)))))))) result visitor.new }
+    ensures { V.sees visitor.old (call_kept table.now (bits_of (octets_of bits.now)) subsets item.now subset) result visitor.new }
 {
-    let input = PlainIn::at(*bits, item.at);
+    let input = PlainIn::from_bit(*bits, item.at);
     show_field(&input, table, &item.spec, visitor)
 }
 
@@ -234,7 +223,7 @@ fn show_item<V: Visitor>(
 ) -> Result<(), V::Fault>
     requires stands { stands_at (bits_of (octets_of bits.now)) subsets item.now ≡ true }
     requires subset { subset < subsets }
-    ensures { V.sees visitor.old (item_call (view_of table.now item.now.spec (content_at subset (contents_found (packed_field subsets item.now.spec (drop item.now.at (bits_of (octets_of bits.now)))))))) result visitor.new }
+    ensures { V.sees visitor.old (call_kept table.now (bits_of (octets_of bits.now)) subsets item.now subset) result visitor.new }
 {
     if item.step == 0 {
         return show_base(bits, subsets, table, item, subset, visitor);

@@ -14,13 +14,15 @@ ghost use Rattle.bufr_walk.specs.Reading.{Item, plain, ReadsAll, ReadsSubsets, t
 ghost use Rattle.bufr_walk.specs.Shown.{IsEnd, MayEnd, ItemsGo, SubsetGoes};
 ghost use Rattle.bufr_walk.specs.Shows.{Shows};
 
+use crate::bits::front;
 use crate::fault::ShowFault;
 use crate::fields::Fields;
-use crate::plain_in::{PlainIn, front};
+use crate::plain_in::PlainIn;
 use crate::spec::{Spec, Taken};
 use crate::steps::Steps;
+use crate::stop::WalkStop;
 use crate::visitor::{ItemView, Value, Visitor};
-use crate::walking::{WalkStop, walk};
+use crate::walking::walk;
 use bufr_bits::BitSlice;
 use bufr_tables::{Entry, TableB, Template};
 use std::alloc::Global;
@@ -79,6 +81,7 @@ fn show_text<V: Visitor>(
     requires text { is_character spec.now.kind ≡ true }
     ensures { V.sees visitor.old (item_call (view_of table.now spec.now (content_in spec.now (take spec.now.width (rest_of input.now))))) result visitor.new }
 {
+    // For the proof alone: the width of a text is whole octets.
     let _ = spec.width();
     let missing = input.is_ones(spec);
     if missing {

@@ -4,7 +4,7 @@ ghost use Rattle.bufr_tables.specs.TableB.{is_character};
 ghost use Rattle.bufr_tables.specs.declared.kind.Kind.TheVariants as kinds;
 ghost use Rattle.bufr_walk.specs.Asked.{HasRole, HasWidth};
 ghost use Rattle.bufr_walk.specs.Rules.{fitting, text_of};
-ghost use Rattle.bufr_walk.specs.Numbers.{number_of};
+ghost use Rattle.bufr_walk.specs.Numbers.{number_field};
 
 use bufr_tables::{Fxy, Kind};
 use std::marker::Model;
@@ -22,7 +22,8 @@ pub enum Role {
     Reference,
 }
 
-/// Why a turn is refused: a width that no field may have, or a turn that may not come while references are defined.
+/// Why a turn is refused: a width that no field may have, or a turn that may not come while
+/// references are defined.
 #[derive(Clone, Copy, Debug, PartialEq, Eq)]
 pub enum Refusal {
     /// A field that is not text would be under 1 or over 63 bits wide.
@@ -43,7 +44,8 @@ pub enum Taken {
 }
 
 /// How one field is to be read.
-// The widest field stands first: with room between the fields each copy would cost as much as the reading of a number.
+// The widest field stands first: with room between the fields each copy would cost as much as the
+// reading of a number.
 #[derive(Clone, Copy, Debug, PartialEq, Eq)]
 pub struct Spec {
     reference: i128,
@@ -74,7 +76,7 @@ impl Spec {
     ghost use Rattle.bufr_tables.specs.declared.kind.Kind.TheVariants as kinds;
     ghost use Rattle.bufr_walk.specs.Asked.{HasRole, HasWidth, IsSpec, is_reference};
     ghost use Rattle.bufr_walk.specs.Rules.{fitting, text_of};
-    ghost use Rattle.bufr_walk.specs.Numbers.{number_of};
+    ghost use Rattle.bufr_walk.specs.Numbers.{number_field};
 
     /// A number, where its width is 1 to 63.
     #[tactic(auto, using(crate::proofs::SpecLemmas::number_good))]
@@ -93,7 +95,7 @@ impl Spec {
         requires role { HasRole role kind may_be_missing }
         requires scale { unsigned_abs scale ≤ 300 }
         requires reference { unsigned_abs reference ≤ 2 ^ 125 }
-        ensures { result ≡ fitting (number_of fxy role kind width scale reference may_be_missing listed) }
+        ensures { result ≡ fitting (number_field fxy role kind width scale reference may_be_missing listed) }
     {
         if 1 <= width && width <= 63 {
             Ok(Spec {

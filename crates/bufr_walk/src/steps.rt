@@ -4,8 +4,8 @@ ghost use Rattle.bufr_walk.specs.Ticks.{ticked};
 
 use std::marker::Model;
 
-/// How many turns walks have made, up to the greatest `u64`. A turn takes a descriptor, ends a pass of a group, or ends the
-/// template.
+/// How many turns walks have made, up to the greatest `u64`. A turn takes a descriptor, ends a pass
+/// of a group, or ends the template.
 #[derive(Drop)]
 pub struct Steps {
     count: u64,

@@ -1,7 +1,6 @@
 //! Messages of worked examples, and what is told of them.
 use crate::fault::{Spot, WalkFault};
-use crate::message::read_message;
-use crate::reading::Reading;
+use crate::reading::{Reading, read_message};
 use crate::steps::Steps;
 use crate::visitor::{ItemView, Value, Visitor};
 use bufr_frame::Message;
@@ -150,7 +149,8 @@ fn message_in(octets: &[u8]) -> Option<Message<'_>> {
     Message::parse(octets).ok()
 }
 
-/// What is told of a reading: its bits, the steps that were made, and the items that it keeps, if any.
+/// What is told of a reading: its bits, the steps that were made, and the items that it keeps, if
+/// any.
 fn read_as(alloc: Global, reading: &Reading<'_>, steps: &Steps) -> Result<String, Fail> {
     let (bits, count, held) = (reading.bits(), steps.count(), reading.held());
     let mut text = format!(in alloc; "bits {bits} steps {count}")?;
@@ -160,8 +160,8 @@ fn read_as(alloc: Global, reading: &Reading<'_>, steps: &Steps) -> Result<String
     Ok(text)
 }
 
-/// The same, and then its subsets and items. A showing takes as many steps as the reading did, and none where items
-/// are kept.
+/// The same, and then its subsets and items. A showing takes as many steps as the reading did, and
+/// none where items are kept.
 fn shown(alloc: Global, reading: &Reading<'_>, steps: &mut Steps) -> Result<String, Fail> {
     let mut lines = Lines {
         alloc,

@@ -6,9 +6,10 @@ use std::alloc::Global;
 use std::process::Abort;
 use std::test::Fail;
 
-// A name for what is shown, the number of subsets, the descriptors, the data in hexadecimal, and what comes of them: the
-// bits and the steps of a reading, the items that it keeps, if any, and its subsets and items; or the number of a fault,
-// its subset, descriptor and bit, and the steps. An item has a # where it was read by Table B.
+// A name for what is shown, the number of subsets, the descriptors, the data in hexadecimal, and
+// what comes of them: the bits and the steps of a reading, the items that it keeps, if any, and its
+// subsets and items; or the number of a fault, its subset, descriptor and bit, and the steps. An
+// item has a # where it was read by Table B.
 const ROWS: &[(&str, u16, &str, &str, &str)] = &[
     (
         "one_block_number",

@@ -16,38 +16,13 @@ use crate::fields::Fields;
 use crate::in_force::InForce;
 use crate::spec::{Refusal, Spec, Taken};
 use crate::steps::Steps;
+use crate::stop::WalkStop;
 use arrayvec::ArrayVec;
 use bufr_tables::{Cell, Fxy, TableB, Template};
 use std::alloc::Global;
 
-/// Why a walk stopped.
-#[derive(Debug, PartialEq, Eq, Drop)]
-pub enum WalkStop<E> {
-    /// A field that is not text would be under 1 or over 63 bits wide.
-    Width(Fxy),
-    /// A turn that may not come while references are being defined (2 03 Y).
-    Defining(Fxy),
-    /// The field was not taken.
-    Field(E),
-    /// Memory ran out before a reference was taken.
-    Memory,
-}
-
-impl<E> From<Refusal> for WalkStop<E> {
-    ghost use Rattle.std.specs.Prelude.{◌≡◌};
-    ghost use Rattle.bufr_walk.specs.Stop.{stop_by};
-
-    ghost from_gives = { λ w e. e ≡ stop_by w };
-
-    fn from(why: Refusal) -> WalkStop<E> {
-        match why {
-            Refusal::Width(fxy) => WalkStop::Width(fxy),
-            Refusal::Defining(fxy) => WalkStop::Defining(fxy),
-        }
-    }
-}
-
-/// An open group: where its body starts, what stands behind it, and how many passes are left after this one.
+/// An open group: where its body starts, what stands behind it, and how many passes are left after
+/// this one.
 #[derive(Clone, Copy, Default)]
 pub(crate) struct Frame {
     start: u32,
@@ -184,10 +159,11 @@ fn walk_cells<S: Fields>(
     Ok(())
 }
 
-/// Walks over a template's cells once, field by field: over one subset, or over all of them where the data are compressed.
-/// `steps` grows by one for each descriptor that is taken (an element, an operator, a replication, its factor), for each end
-/// of a pass of a group, and for the end. No turn is free: each bit that is used pays for at most as many turns as there are
-/// places (WMO-No. 306, Volume I.2, FM 94: section 3, Tables B and C).
+/// Walks over a template's cells once, field by field: over one subset, or over all of them where
+/// the data are compressed. `steps` grows by one for each descriptor that is taken (an element, an
+/// operator, a replication, its factor), for each end of a pass of a group, and for the end. No
+/// turn is free: each bit that is used pays for at most as many turns as there are places (WMO-No.
+/// 306, Volume I.2, FM 94: section 3, Tables B and C).
 ///
 /// ```
 /// let mut steps = Steps::new();
@@ -197,9 +173,10 @@ fn walk_cells<S: Fields>(
 ///
 /// # Errors
 ///
-/// The first that is met: [`WalkStop::Defining`] for a turn that may not come while references are being defined,
-/// [`WalkStop::Width`] for a field that is not text outside 1 to 63 bits, [`WalkStop::Field`] with the fault of
-/// [`Fields::take`], and [`WalkStop::Memory`] where memory runs out before a reference that is being defined is taken.
+/// The first that is met: [`WalkStop::Defining`] for a turn that may not come while references are
+/// being defined, [`WalkStop::Width`] for a field that is not text outside 1 to 63 bits,
+/// [`WalkStop::Field`] with the fault of [`Fields::take`], and [`WalkStop::Memory`] where memory
+/// runs out before a reference that is being defined is taken.
 pub fn walk<S: Fields>(
     alloc: Global,
     template: &Template,

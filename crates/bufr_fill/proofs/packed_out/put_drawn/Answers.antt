@@ -16,13 +16,15 @@ pub returns-in-Ok-clause-put : goal.returns-in-Ok-clause-put
 returns-in-Ok-clause-put c =
     let few = subst (λ n. (c.args.place + 1) * n ≤ most_values) (sym (count_cells c.args.place (map entry_in c.args.entries.now) c.args.ends.now c.requires.ends)) c.requires.values in
     record {
-      contents = contents_drawn (c.args.spec.now.width / 8) c.args.drawn.now;
-      item = c.in-Ok.ensures.0;
-      is = put_ok c.args.spec.now c.args.place (subsets_of (map entry_in c.args.entries.now)) few (contents_drawn (c.args.spec.now.width / 8) c.args.drawn.now) c.in-Ok.ensures.0 c.requires.given c.in-Ok.ensures.1;
-      tells = tells_first c.args.spec.now (c.args.spec.now.width / 8) c.args.drawn.now (drawn.Number 0) c.taken_of.result (omega (arith, c.requires.many, c.requires.some)) c.taken_of.ensures.tells;
-      bits = c.in-Ok.ensures.2;
+      put = record {
+        contents = contents_drawn (c.args.spec.now.width / 8) c.args.drawn.now;
+        item = c.in-Ok.ensures.0;
+        is = put_ok c.args.spec.now c.args.place (subsets_of (map entry_in c.args.entries.now)) few (contents_drawn (c.args.spec.now.width / 8) c.args.drawn.now) c.in-Ok.ensures.0 c.requires.given c.in-Ok.ensures.1;
+        tells = tells_first c.args.spec.now (c.args.spec.now.width / 8) c.args.drawn.now (drawn.Number 0) c.taken_of.result (omega (arith, c.requires.many, c.requires.some)) c.taken_of.ensures.tells;
+        bits = c.in-Ok.ensures.2;
+        forth = c.in-Ok.ensures.4;
+      };
       few = omega (arith, c.in-Ok.ensures.3, c.requires.many);
-      some = c.in-Ok.ensures.4;
     }
 
 pub returns-in-Err-Unequal-clause-put : goal.returns-in-Err-Unequal-clause-put

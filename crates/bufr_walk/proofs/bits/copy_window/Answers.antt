@@ -3,7 +3,7 @@ use Rattle.bufr_bits.specs.Bits.{bits_of}
 use Rattle.bufr_bits.specs.BitSlice.{octets_of}
 use Rattle.bufr_walk.proofs.PlainLemmas.{bits_length}
 use Rattle.bufr_walk.proofs.TextLemmas.{window_put}
-use Rattle.bufr_walk.proofs.plain_in.copy_window.Goals as goal
+use Rattle.bufr_walk.proofs.bits.copy_window.Goals as goal
 
 pub octets-preserved : goal.octets-preserved
 octets-preserved c =

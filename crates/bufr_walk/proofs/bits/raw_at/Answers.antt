@@ -3,7 +3,7 @@ use Rattle.std.specs.Prelude.{nat_eq}
 use Rattle.std.proofs.lemmas.Nat.{shl_whole}
 use Rattle.bufr_bits.specs.BitSlice.{octets_of}
 use Rattle.bufr_walk.proofs.PlainLemmas.{ones_by_number}
-use Rattle.bufr_walk.proofs.plain_in.raw_at.Goals as goal
+use Rattle.bufr_walk.proofs.bits.raw_at.Goals as goal
 
 pub returns-clause-ones : goal.returns-clause-ones
 returns-clause-ones c =

@@ -1,5 +1,4 @@
--- The limits of what a template and its tables can ask for. (a choice of this project)
--- Cited by private steps only.
+-- The limits of what a template and its tables can ask for.
 use Rattle.std.specs.Prelude.{◌≡◌, ◌≤◌, ◌^◌, true, List, [], ◌∷◌, unsigned_abs}
 use Rattle.bufr_tables.specs.TableB.{Row, allows_width}
 use Rattle.bufr_tables.specs.Operators.{is_legal_operator}

@@ -1,5 +1,4 @@
--- One field that an encoder is asked for. (a choice of this project)
--- Cited by public contracts.
+-- One field that an encoder is asked for.
 use Rattle.std.specs.Prelude.{◌≡◌, Bool, List, [], ◌∷◌, ◌++◌, Ok, Err}
 use Rattle.bufr_walk.specs.declared.spec.Taken.{Taken}
 use Rattle.bufr_walk.specs.Asked.{Asked}

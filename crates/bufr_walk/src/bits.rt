@@ -1,0 +1,131 @@
+//! What the bits at a place write: a number, a number with a sign, what a field tells, octets.
+ghost use Rattle.std.specs.Prelude.{◌≡◌, ◌≤◌, ◌<◌, ◌+◌, ◌-◌, ◌*◌, ◌^◌, length, take, drop, if◌then◌else◌, ◌==◌, pos, neg_ℤ};
+ghost use Rattle.bufr_bits.specs.Bits.{number_of, bits_at, bits_of, all_set};
+ghost use Rattle.bufr_bits.specs.BitSlice.{octets_of};
+ghost use Rattle.bufr_walk.specs.Asked.{IsFor};
+ghost use Rattle.bufr_walk.specs.Content.{told, content_in, signed_by, octets_in};
+
+use crate::spec::{Role, Spec, Taken};
+use bufr_bits::BitSlice;
+
+/// The number that bits write which are there.
+pub(crate) fn number_at(bits: &BitSlice<'_>, at: u64, width: u32) -> u64
+    requires few { width ≤ 63 }
+    requires within { at + width ≤ 8 * length (octets_of bits.now) }
+    ensures value { result ≡ number_of (bits_at (octets_of bits.now) at width) }
+    ensures below { result < 2 ^ width }
+{
+    match bits.get(at, width) {
+        Some(value) => value,
+        None => unreachable!(),
+    }
+}
+
+/// What bits write that are there, of which there are at most 63.
+#[derive(Clone, Copy)]
+pub(crate) struct Raw {
+    /// Their number.
+    pub(crate) number: u64,
+    /// Whether they are all ones.
+    pub(crate) all_ones: bool,
+}
+
+/// What bits write that are there.
+pub(crate) fn raw_at(bits: &BitSlice<'_>, at: u64, width: u32) -> Raw
+    requires few { width ≤ 63 }
+    requires within { at + width ≤ 8 * length (octets_of bits.now) }
+    ensures number { result.number ≡ number_of (bits_at (octets_of bits.now) at width) }
+    ensures below { result.number < 2 ^ width }
+    ensures ones { result.all_ones ≡ all_set (bits_at (octets_of bits.now) at width) }
+{
+    let number = number_at(bits, at, width);
+    Raw {
+        number,
+        all_ones: number == (1 << width) - 1,
+    }
+}
+
+/// A number with its sign.
+fn signed(sign: u64, size: u64) -> i64
+    requires { size < 2 ^ 62 }
+    ensures { result ≡ (if sign == 1 then neg_ℤ (pos size) else pos size) }
+{
+    let size = size as i64;
+    if sign == 1 { -size } else { size }
+}
+
+/// The number whose first bit is its sign.
+#[tactic(auto, using(crate::proofs::PlainLemmas::signed_parts, crate::proofs::PlainLemmas::small_power))]
+pub(crate) fn signed_at(bits: &BitSlice<'_>, at: u64, width: u32) -> i64
+    requires some { 1 ≤ width }
+    requires few { width ≤ 63 }
+    requires within { at + width ≤ 8 * length (octets_of bits.now) }
+    ensures { result ≡ signed_by (bits_at (octets_of bits.now) at width) }
+{
+    let sign = number_at(bits, at, 1);
+    let size = number_at(bits, at + 1, width - 1);
+    signed(sign, size)
+}
+
+/// What a field that is there tells.
+#[tactic(auto, using(crate::proofs::PlainLemmas::told_element, crate::proofs::PlainLemmas::told_inserted, crate::proofs::PlainLemmas::told_factor, crate::proofs::PlainLemmas::told_reference, crate::proofs::PlainLemmas::some_width, crate::proofs::PlainLemmas::factor_width, crate::proofs::PlainLemmas::reference_width))]
+pub(crate) fn told_at(bits: &BitSlice<'_>, at: u64, spec: &Spec) -> Taken
+    requires { at + spec.now.width ≤ 8 * length (octets_of bits.now) }
+    ensures value { result ≡ told spec.now (content_in spec.now (bits_at (octets_of bits.now) at spec.now.width)) }
+    ensures shape { IsFor spec.now result }
+{
+    let width = spec.width();
+    match spec.role() {
+        Role::Element => Taken::Plain,
+        Role::Inserted => Taken::Plain,
+        Role::Factor => Taken::Count(number_at(bits, at, width)),
+        Role::Reference => Taken::Reference(signed_at(bits, at, width)),
+    }
+}
+
+/// Whether bits that are there are all ones.
+pub(crate) fn ones_at(bits: &BitSlice<'_>, at: u64, width: u32) -> bool
+    requires { at + width ≤ 8 * length (octets_of bits.now) }
+    ensures { result ≡ all_set (bits_at (octets_of bits.now) at width) }
+{
+    match bits.all_ones(at, width) {
+        Some(ones) => ones,
+        None => unreachable!(),
+    }
+}
+
+/// Copies a few octets, at most seven, behind the first `done` of those that begin with bit `at`.
+fn copy_window(bits: &BitSlice<'_>, at: u64, done: usize, few: usize, text: &mut [u8; 255])
+    requires most { few ≤ 7 }
+    requires room { done + few ≤ 255 }
+    requires within { at + 8 * (done + few) ≤ 8 * length (octets_of bits.now) }
+    requires before { take done text.old ≡ octets_in done (drop at (bits_of (octets_of bits.now))) }
+    ensures { take (done + few) text.new ≡ octets_in (done + few) (drop at (bits_of (octets_of bits.now))) }
+{
+    let window = number_at(bits, at + 8 * done as u64, 8 * few as u32);
+    'octets: for place in 0..few {
+        text[done + place] = ((window >> (8 * (few - place - 1))) % 256) as u8;
+    }
+}
+
+/// Copies so many octets that begin at any bit.
+pub(crate) fn copy_octets(bits: &BitSlice<'_>, at: u64, count: usize, text: &mut [u8; 255])
+    requires few { count ≤ 255 }
+    requires within { at + 8 * count ≤ 8 * length (octets_of bits.now) }
+    ensures { take count text.new ≡ octets_in count (drop at (bits_of (octets_of bits.now))) }
+{
+    let mut done = 0;
+    'windows: while done < count {
+        let few = (count - done).min(7);
+        copy_window(bits, at, done, few, text);
+        done += few;
+    }
+}
+
+/// The first octets of a text.
+pub(crate) fn front(text: &[u8; 255], count: usize) -> &[u8]
+    requires { count ≤ 255 }
+    ensures { result.now ≡ take count text.now }
+{
+    &text[..count]
+}

@@ -1,0 +1,30 @@
+//! Why a walk over a template stops.
+use crate::spec::Refusal;
+use bufr_tables::Fxy;
+
+/// Why a walk stopped.
+#[derive(Debug, PartialEq, Eq, Drop)]
+pub enum WalkStop<E> {
+    /// A field that is not text would be under 1 or over 63 bits wide.
+    Width(Fxy),
+    /// A turn that may not come while references are being defined (2 03 Y).
+    Defining(Fxy),
+    /// The field was not taken.
+    Field(E),
+    /// Memory ran out before a reference was taken.
+    Memory,
+}
+
+impl<E> From<Refusal> for WalkStop<E> {
+    ghost use Rattle.std.specs.Prelude.{◌≡◌};
+    ghost use Rattle.bufr_walk.specs.Stop.{stop_by};
+
+    ghost from_gives = { λ w e. e ≡ stop_by w };
+
+    fn from(why: Refusal) -> WalkStop<E> {
+        match why {
+            Refusal::Width(fxy) => WalkStop::Width(fxy),
+            Refusal::Defining(fxy) => WalkStop::Defining(fxy),
+        }
+    }
+}
