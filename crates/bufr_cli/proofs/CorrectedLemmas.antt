@@ -15,7 +15,7 @@ use Rattle.bufr_frame.proofs.ScanLemmas.{scan_from-nil}
 use Rattle.bufr_text.specs.Document.{Document}
 use Rattle.bufr_text.specs.Documents.{Between, Told, Spelled, Refused, documents_of, lines_of, spelled}
 use Rattle.bufr_text.specs.Dump.{Item, dump_lines, dump_text_of}
-use Rattle.bufr_text.specs.Encoded.{items_in}
+use Rattle.bufr_text.specs.RoundTrip.{items_in}
 use Rattle.bufr_text.specs.Encoding.{RefusedAt, encoding_in}
 use Rattle.bufr_text.specs.Proper.{IsProper}
 use Rattle.bufr_text.specs.ReadBack.{IsReadAs}

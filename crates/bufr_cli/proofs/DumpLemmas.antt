@@ -23,8 +23,8 @@ use Rattle.bufr_walk.specs.declared.fault.WalkFault.TheVariants as walk
 use Rattle.bufr_walk.proofs.OneReading.{one_reading, one_refusal, not_read_and_refused}
 use Rattle.bufr_walk.proofs.SomeReading.{read_or_refused}
 use Rattle.bufr_text.specs.Dump.{dump_text_of}
-use Rattle.bufr_text.specs.Dumped.{items_of, subsets_together}
-use Rattle.bufr_text.specs.Dumping.{WritesFront}
+use Rattle.bufr_text.specs.DumpItems.{items_of, subsets_together}
+use Rattle.bufr_text.specs.DumpWritten.{WritesFront}
 use Rattle.bufr_text.specs.Writing.{GrowsByFront, Writes}
 use Rattle.bufr_cli.specs.DumpPieces.{IsDataPiece, IsTemplatePiece, IsMessagePiece, IsDumpPiece, dump_text, template_piece}
 use Rattle.bufr_cli.specs.FaultLine.{fault_line, walk_fault_text}

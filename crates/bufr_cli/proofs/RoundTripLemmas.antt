@@ -21,12 +21,12 @@ use Rattle.bufr_frame.proofs.ScanLemmas.{scan_from-nil}
 use Rattle.bufr_walk.specs.Reading.{Values, apart, together}
 use Rattle.bufr_text.specs.Documents.{Between, lines_of, spelled}
 use Rattle.bufr_text.specs.Dump.{dump_lines, dump_text_of}
-use Rattle.bufr_text.specs.Encoded.{IsAccepted, HasSameReading, items_in}
+use Rattle.bufr_text.specs.RoundTrip.{IsAccepted, HasSameReading, items_in}
 use Rattle.bufr_text.specs.Given.{IsOctet}
 use Rattle.bufr_text.specs.Encoding.{RefusedAt}
 use Rattle.bufr_text.proofs.CanonicalLemmas.{canonical_encoded}
 use Rattle.bufr_text.proofs.DumpableLemmas.{dumpable}
-use Rattle.bufr_text.proofs.EncodedLemmas.{accepted_again, encoded_again, same_text}
+use Rattle.bufr_text.proofs.RoundTripLemmas.{accepted_again, encoded_again, same_text}
 use Rattle.bufr_text.proofs.LawLemmas.{text-spells}
 use Rattle.bufr_text.proofs.RowsLemmas.{rows-read, good-rows}
 use Rattle.bufr_cli.specs.DumpPieces.{IsDataPiece, IsTemplatePiece, IsMessagePiece, IsDumpPiece, dump_text}

@@ -17,7 +17,7 @@ use Rattle.bufr_walk.specs.Outcome.{data_of, read_by, IsRefused}
 use Rattle.bufr_walk.specs.Reading.{Values, IsReading}
 use Rattle.bufr_walk.specs.declared.fault.WalkFault.{WalkFault}
 use Rattle.bufr_text.specs.Dump.{dump_text_of}
-use Rattle.bufr_text.specs.Dumped.{items_of}
+use Rattle.bufr_text.specs.DumpItems.{items_of}
 use Rattle.bufr_cli.specs.FaultLine.{fault_line, template_fault_text, walk_fault_text}
 use Rattle.bufr_cli.specs.Pieces.{Piece, OnOutput, OnErrors, stray_piece, section_piece}
 

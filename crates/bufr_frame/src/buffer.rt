@@ -58,9 +58,24 @@ fn read_at<R: Source>(r: &mut R, buf: &mut [u8], from: usize, to: usize) -> Resu
     r.read(&mut buf[from..to])
 }
 
-/// Reads once behind the first `filled` octets, up to the place `to`, and answers how many octets
-/// came.
-pub(crate) fn read_behind<R: Source>(
+/// Reads once behind the first `filled` octets of a buffer, up to the place `to` (from 0, which is
+/// not written any more), and answers how many octets came; none only at the end of the input. What
+/// stands in front stays, and so does the length of the buffer.
+///
+/// It is for buffers that slide over an input, as those of [`crate::Finder`] and of a reader of
+/// lines; an input that is wanted whole is read by [`crate::read_to_end`].
+///
+/// ```
+/// let mut buffer = Vec::from_array(rt.alloc(), [b'a', 0, 0, 0])?;
+/// let mut r = Device::new(b"bcde".as_slice());
+/// assert_eq!(rt; read_behind(&mut r, &mut buffer, 1, 3), Ok(2));
+/// assert_eq!(rt; buffer.as_slice(), b"abc\0".as_slice());
+/// ```
+///
+/// # Errors
+///
+/// [`RunFault::Read`] where the read failed; no octet was read then.
+pub fn read_behind<R: Source>(
     r: &mut R,
     buffer: &mut Vec<u8>,
     filled: usize,

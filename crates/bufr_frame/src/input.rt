@@ -9,8 +9,8 @@ use crate::buffer::read_behind;
 use crate::fault::RunFault;
 use bufr_bits::Source;
 
-/// The most reads that are made of one input; the next one is not made.
-pub(crate) const MOST_READS: u64 = 1 << 32;
+/// The most reads that are made of one input, 2^32; the next one is not made.
+pub const MOST_READS: u64 = 1 << 32;
 
 /// How many octets one read asks for.
 const CHUNK: usize = 65536;

@@ -22,10 +22,11 @@ mod search;
 mod words;
 mod write;
 
+pub use buffer::read_behind;
 pub use fault::{Cause, RunFault, SectionFault, WriteFault};
 pub use finder::{Event, Finder};
 pub use head::Head;
-pub use input::read_to_end;
+pub use input::{MOST_READS, read_to_end};
 pub use message::Message;
 pub use words::Words;
 pub use write::write_message;

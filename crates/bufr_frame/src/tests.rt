@@ -1,7 +1,7 @@
 //! The worked messages, taken apart and written.
 
 use crate::test_messages::{COMPRESSED, EDITION_3, EDITION_3_ODD, LOCAL_USE, ONE_BLOCK_NUMBER};
-use crate::{Message, SectionFault, WriteFault, read_to_end, write_message};
+use crate::{Message, RunFault, SectionFault, WriteFault, read_behind, read_to_end, write_message};
 use bufr_bits::ScriptIn;
 use std::alloc::Global;
 use std::test::Fail;
@@ -198,5 +198,20 @@ fn reads_to_the_end(rt: HostRuntime) -> Result<(), Fail> {
     let ran = read_to_end(&mut r, &mut octets, &mut reads);
     assert!(rt; ran == Ok(()) && reads == 8, "{reads}");
     assert_eq!(rt; octets.as_slice(), LOCAL_USE.as_slice());
+    Ok(())
+}
+
+/// A read behind octets that are held, up to a place; and one that fails.
+#[test]
+fn reads_behind_what_is_held(rt: HostRuntime) -> Result<(), Fail> {
+    let mut r = ScriptIn::new(b"bcde", 9, Some(2));
+    let mut buffer = Vec::new(rt.alloc());
+    buffer.extend_from_slice(b"a\0\0\0")?;
+    let read = read_behind(&mut r, &mut buffer, 1, 3);
+    assert_eq!(rt; read, Ok(2));
+    assert_eq!(rt; buffer.as_slice(), b"abc\0".as_slice());
+    let read = read_behind(&mut r, &mut buffer, 3, 4);
+    assert_eq!(rt; read, Err(RunFault::Read));
+    assert_eq!(rt; buffer.as_slice(), b"abc\0".as_slice());
     Ok(())
 }

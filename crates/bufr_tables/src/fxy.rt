@@ -10,8 +10,8 @@ use std::marker::Model;
 
 /// A descriptor F X Y of section 3: two, six and eight bits (WMO-No. 306, Volume I.2, FM 94).
 ///
-/// F is 0 for an element of Table B, 1 for a replication, 2 for an operator and 3 for a sequence of Table D.
-/// A clause sees a descriptor as the number that its 16 bits write.
+/// F is 0 for an element of Table B, 1 for a replication, 2 for an operator and 3 for a sequence of
+/// Table D. A clause sees a descriptor as the number that its 16 bits write.
 ///
 /// ```
 /// let temperature = Fxy::from_word(0x0c65);
@@ -123,8 +123,15 @@ impl Fxy {
         ]
     }
 
-    /// The descriptor that six digits write, where F, X and Y fit their bits.
-    pub(crate) fn read(text: &[u8]) -> Option<Fxy>
+    /// The descriptor that six digits `FXXYYY` write: one of F, two of X and three of Y. None where
+    /// the text is not six digits, or where F is past 3, X past 63 or Y past 255, so that they do not
+    /// fit their two, six and eight bits.
+    ///
+    /// ```
+    /// assert_eq!(rt; Fxy::read(b"012101"), Some(Fxy::from_word(0x0c65)));
+    /// assert_eq!(rt; Fxy::read(b"064000"), None);
+    /// ```
+    pub fn read(text: &[u8]) -> Option<Fxy>
         ensures { result ≡ fxy_of text.now }
     {
         if text.len() != 6 || !are_digits(text) {

@@ -38,6 +38,27 @@ fn descriptors(rt: HostRuntime) -> Result<(), Fail> {
     Ok(())
 }
 
+/// What six digits write, at the ends of F, X and Y and past them.
+#[test]
+fn descriptors_read(rt: HostRuntime) -> Result<(), Fail> {
+    let rows: [(&[u8], Option<u16>); 9] = [
+        (b"000000", Some(0)),
+        (b"012101", Some(0x0c65)),
+        (b"363255", Some(0xffff)),
+        (b"400000", None),
+        (b"064000", None),
+        (b"000256", None),
+        (b"01210", None),
+        (b"0121010", None),
+        (b"01210a", None),
+    ];
+    for (text, word) in rows {
+        let read = Fxy::read(text).map(|fxy| fxy.word());
+        assert_eq!(rt; read, word);
+    }
+    Ok(())
+}
+
 /// Each fault as text.
 #[test]
 fn fault_texts(rt: HostRuntime) -> Result<(), Fail> {

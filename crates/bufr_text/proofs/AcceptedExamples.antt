@@ -1,4 +1,5 @@
--- Messages that are accepted, canonical or not: what the laws on messages that are encoded again ask for.
+-- Messages that are accepted, canonical or not: what the laws on messages that are encoded again
+-- ask for.
 use Rattle.std.proofs.Common.{◌≡◌, ℕ, zero, suc, ◌<◌, false, true, List, [], ◌∷◌, ◌++◌, drop, None, refl, arith, codes, pos}
 use Rattle.std.specs.List.{All, AllByRecursion}
 use Rattle.bufr_bits.specs.Bits.{bits_of, bits_in}
@@ -13,7 +14,7 @@ use Rattle.bufr_walk.specs.Content.{number, missing}
 use Rattle.bufr_walk.specs.Course.{next_item}
 use Rattle.bufr_walk.specs.Reading.{Values, apart, together}
 use Rattle.bufr_text.specs.Canonical.{IsCanonical}
-use Rattle.bufr_text.specs.Encoded.{IsAccepted}
+use Rattle.bufr_text.specs.RoundTrip.{IsAccepted}
 
 -- each octet is small
 all_of : (xs : List ℕ) → AllByRecursion (λ octet. octet < 256) xs → All (λ octet. octet < 256) xs
@@ -97,7 +98,8 @@ bit_behind_is_not_canonical : IsCanonical (one_block_number 0x15) (its_sections 
 unfolding its_sections the_head bits_of
 bit_behind_is_not_canonical c = let with_bit : List ℕ = 0x15 ∷ [] in let without : List ℕ = 0x14 ∷ [] in let e : with_bit ≡ without = c.least in cc
 
--- a temperature in two subsets, of which the second has none: a base of 16 bits, k = 1, and two increments of one bit
+-- a temperature in two subsets, of which the second has none: a base of 16 bits, k = 1, and two
+-- increments of one bit
 two_temperatures : List ℕ
 unfolding message
 two_temperatures = message 50 (0 ∷ 0 ∷ 9 ∷ 0 ∷ 0 ∷ 2 ∷ 0xC0 ∷ 0x0C ∷ 0x65 ∷ 0 ∷ 0 ∷ 7 ∷ 0 ∷ 0x70 ∷ 0x8F ∷ 5 ∷ [])

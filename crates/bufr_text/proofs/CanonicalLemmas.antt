@@ -10,14 +10,14 @@ use Rattle.bufr_tables.specs.Tree.{Tree}
 use Rattle.bufr_tables.specs.Legal.{IsLegal}
 use Rattle.bufr_walk.specs.Asked.{Asked, IsSpec}
 use Rattle.bufr_walk.specs.Content.{Content, content_in, bits_for}
-use Rattle.bufr_walk.specs.Course.{Course, take_next, next_item}
+use Rattle.bufr_walk.specs.Course.{Course, next_item}
 use Rattle.bufr_walk.specs.PlainField.{FieldFault, data_end, Found, found, plain_field}
-use Rattle.bufr_walk.specs.Reading.{Item, Form, plain, packed, Reads, ReadsAll, ReadsSubsets, IsPackedReading, after, apart, together}
+use Rattle.bufr_walk.specs.Reading.{Item, plain, packed, Reads, ReadsAll, ReadsSubsets, IsPackedReading, after, apart, together}
 use Rattle.bufr_fill.specs.MinusZero.{IsMinusZero}
-use Rattle.bufr_fill.specs.Filling.{Written, written, Filler, fill, fill_one, fill_none, filled, and_behind}
+use Rattle.bufr_fill.specs.Filling.{Written, written, Filler, fill, fill_none}
 use Rattle.bufr_fill.specs.Fault.{FaultAt}
 use Rattle.bufr_fill.specs.DraftContent.{plain_filler, plainly, content_of}
-use Rattle.bufr_fill.specs.Entries.{Subset}
+use Rattle.bufr_fill.specs.Entries.{Subset, subsets_of}
 use Rattle.bufr_fill.specs.Encoding.{plain_data, ◌>>=◌}
 use Rattle.bufr_fill.specs.WrittenAgain.{AreDrafts, AreDumped, IsDumped}
 use Rattle.bufr_fill.proofs.WrittenLists.{AllSpecs, EachSpecs}
@@ -43,12 +43,13 @@ use Rattle.bufr_fill.proofs.Across.{rows_dumped}
 use Rattle.bufr_fill.proofs.GoodReads.{template_good, plain_specs, packed_specs}
 use Rattle.bufr_fill.proofs.PackedLaws.{packed_count}
 use Rattle.bufr_fill.proofs.PackedTrip.{packed_rewritten}
+use Rattle.bufr_fill.proofs.RoundTrip.{join}
 use Rattle.bufr_text.specs.Dump.{subset_entries, document_of, lines_before}
-use Rattle.bufr_text.specs.Dumped.{items_apart, subsets_together}
-use Rattle.bufr_text.specs.Encoded.{IsAccepted, items_in}
-use Rattle.bufr_text.specs.Encoding.{drafts_of, data_bits, octets_of_bits, parts_in, encoding_of}
+use Rattle.bufr_text.specs.DumpItems.{items_apart, subsets_together}
+use Rattle.bufr_text.specs.RoundTrip.{IsAccepted, items_in}
+use Rattle.bufr_text.specs.Encoding.{data_bits, octets_of_bits, parts_in, encoding_of}
 use Rattle.bufr_text.specs.Header.{compressed_in}
-use Rattle.bufr_text.proofs.EncodedLemmas.{all_apart, all_together, encoded_to, parts_back, parts_with, size_least, fills_as, bit_back}
+use Rattle.bufr_text.proofs.RoundTripLemmas.{all_apart, all_together, encoded_to, parts_back, parts_with, size_least, fills_as, bit_back}
 use Rattle.bufr_text.specs.Canonical.{HaveNoMinusZero, ArePacked, AreWritten, IsCanonical}
 
 -- ---- one field of data that are not compressed
@@ -84,14 +85,6 @@ record AreFilled {C D E : Type 0} (filler : Filler D C E) (course : Course) (ds 
   out : List Bool
   fills : fill filler course ds ≡ Ok out
   splits : bits ≡ out ++ behind
-
-join : {C D E : Type 0} (form : Form C) (filler : Filler D C E) (same_told : (spec : Asked) (c : C) → filler.tells spec c ≡ form.tells spec c) (course : Course) (i : Item C) (d : D) (ds : List D) (w out : List Bool)
-    → (course []).next ≡ take_next i.spec → filler.fills i.spec d ≡ Ok (written i.content w) → fill filler (after form course i) ds ≡ Ok out → fill filler course (d ∷ ds) ≡ Ok (w ++ out)
-join form filler same_told course i d ds w out next fills rest =
-    ap (λ n. fill_one filler n d (λ t. fill filler (λ told. course (t ∷ told)) ds)) next
-    ∙ ap (λ r. filled filler i.spec r (λ t. fill filler (λ told. course (t ∷ told)) ds)) fills
-    ∙ ap (λ t. and_behind filler w (fill filler (λ told. course (t ∷ told)) ds)) (same_told i.spec i.content)
-    ∙ ap (and_behind filler w) rest
 
 items_filled : (line : ℕ) (course : Course) (items : List (Item Content)) (ds : List Draft) (bits behind : List Bool) → AllSpecs items → AreDrafts IsDumped items ds → ReadsAll plain course items bits behind → HaveNoMinusZero items bits → AreFilled (plain_filler line) course ds bits behind
 items_filled line course [] [] bits behind specs drafts h plus = record { out = []; fills = ap (fill_none (plain_filler line)) h.1; splits = h.0 }
@@ -198,17 +191,17 @@ all_packed (suc n) course items (s ∷ ss) bits behind count specs dumped h c =
 
 data_filled : (table : List Row) (template : Tree) (s : Sections) (values : Values) (used at : ℕ) → AreGoodRows table → IsLegal template
     → IsReading (next_item table template) (data_of s) values used → AreWritten values (bits_of s.payload) (drop used (bits_of s.payload))
-    → AreAllFilled (data_bits s.compressed (next_item table template) (drafts_of (subset_entries at (items_in table template s values)))) (bits_of s.payload) (drop used (bits_of s.payload))
+    → AreAllFilled (data_bits s.compressed (next_item table template) (subsets_of (subset_entries at (items_in table template s values)))) (bits_of s.payload) (drop used (bits_of s.payload))
 data_filled table template s (apart subsets) used at rows legal read writes =
     let course = next_item table template in
     let bits = bits_of s.payload in
-    let drafts = drafts_of (subset_entries at (map (items_apart table) subsets)) in
+    let drafts = subsets_of (subset_entries at (map (items_apart table) subsets)) in
     let f = subsets_filled course subsets drafts bits (drop used bits) (plain_specs course subsets bits (drop used bits) (template_good table template rows legal) read.2.0) (all_apart table at subsets) read.2.0 writes in
     record { out = f.out; fills = fills_as s.compressed false course drafts f.out read.0 f.fills; splits = f.splits }
 data_filled table template s (together items) used at rows legal read writes =
     let course = next_item table template in
     let bits = bits_of s.payload in
-    let drafts = drafts_of (subset_entries at (subsets_together table s.subsets 0 items)) in
+    let drafts = subsets_of (subset_entries at (subsets_together table s.subsets 0 items)) in
     let dumped = all_together table at s.subsets 0 items in
     let f = all_packed s.subsets course items drafts bits (drop used bits) dumped.1 (λ n r. packed_specs n course items bits (drop used bits) (template_good table template rows legal) r) dumped.0 read.2 writes in
     record { out = f.out; fills = fills_as s.compressed true course drafts f.out read.0 f.fills; splits = f.splits }
@@ -238,7 +231,7 @@ canonical_encoded table sequences m s template values used at rows legal a c =
     let short : length made ≤ length s.payload = omega (arith, ap length payload, length-evened edition 4 made, even-least edition (4 + length made)) in
     let most : message_size edition (parts_with s made) ≤ most_octets = size_least s made most_octets short (not-too-long m s a.sections a.few) in
     let few : message_size edition (parts_in d made) ≤ most_octets = subst (λ (p : layout.Parts). message_size edition p ≤ most_octets) (sym same) most in
-    let fills : data_bits (compressed_in d) course (drafts_of d.entries) ≡ Ok f.out = fills_as (compressed_in d) s.compressed course (drafts_of d.entries) f.out (bit_back s.compressed) f.fills in
+    let fills : data_bits (compressed_in d) course (subsets_of d.entries) ≡ Ok f.out = fills_as (compressed_in d) s.compressed course (subsets_of d.entries) f.out (bit_back s.compressed) f.fills in
     encoded_to table sequences d template f.out a.expands fills few
     ∙ ap (λ (p : layout.Parts). Ok (message_octets s.head p)) same
     ∙ ap Ok (sym (laid-even s.head s.local1 s.section2 s.descriptors s.subsets s.observed s.compressed made)

@@ -19,7 +19,7 @@ use Rattle.bufr_walk.specs.Reading.{Item, Values, apart, together}
 use Rattle.bufr_text.specs.Grammar.{runs_behind, runs_of, hex_text, descriptors_text, quoted}
 use Rattle.bufr_text.specs.Line.{keys}
 use Rattle.bufr_text.specs.Dump.{header_lines, local1_line, descriptors_line, subset_lines, dump_text_of, item_text, text_of}
-use Rattle.bufr_text.specs.Dumped.{item_of, items_of}
+use Rattle.bufr_text.specs.DumpItems.{item_of, items_of}
 
 unfoldable listed : (fxy : ℕ) → (name unit : List ℕ) → Kind → (width : ℕ) → Row
 listed fxy name unit k width = record { fxy = fxy; name = name; unit = unit; kind = k; scale = pos 0; reference = pos 0; width = width }

@@ -9,7 +9,7 @@ use Rattle.bufr_frame.specs.declared.fault.RunFault.{RunFault}
 use Rattle.bufr_frame.specs.declared.fault.RunFault.TheVariants.{Read, Write, InputTooLong, Memory}
 use Rattle.bufr_text.specs.Grammar.{runs_behind, runs_of}
 use Rattle.bufr_text.specs.Dump.{text_of}
-use Rattle.bufr_text.specs.Dumping.{WritesFront, CountsFaults}
+use Rattle.bufr_text.specs.DumpWritten.{WritesFront, CountsFaults}
 use Rattle.bufr_text.specs.Writing.{Writes, GrowsByFront}
 use Rattle.bufr_text.proofs.WritingLemmas.{WrittenSoFar}
 

@@ -34,8 +34,8 @@ use Rattle.bufr_fill.proofs.FieldBits.{top_below}
 use Rattle.bufr_fill.proofs.GoodReads.{template_good, plain_specs, packed_specs}
 use Rattle.bufr_fill.proofs.PackedLaws.{packed_again}
 use Rattle.bufr_fill.proofs.PlainLaws.{plain_read}
-use Rattle.bufr_text.specs.Dumped.{value_of, comment_of, item_of, items_apart, items_together, subsets_together}
-use Rattle.bufr_text.specs.Encoded.{IsAccepted, items_in}
+use Rattle.bufr_text.specs.DumpItems.{value_of, comment_of, item_of, items_apart, items_together, subsets_together}
+use Rattle.bufr_text.specs.RoundTrip.{IsAccepted, items_in}
 use Rattle.bufr_text.specs.Given.{IsOctet, IsWord, IsScale, IsValue, IsName, IsComment, IsItem, IsDumpable}
 use Rattle.bufr_text.proofs.RowsLemmas.{IsRead, found-read, good-rows}
 use Rattle.bufr_text.proofs.SpecWords.{HasWord, IsWordCourse, next_word}

@@ -20,8 +20,9 @@ use Rattle.bufr_fill.proofs.PackedWalks.{fills}
 use Rattle.bufr_bits.specs.Bits.{bits_of}
 use Rattle.bufr_text.specs.declared.encode_fault.DocumentFault.{DocumentFault}
 use Rattle.bufr_text.specs.EncodingFault.{told_of_draft, told_refusal}
-use Rattle.bufr_text.specs.Encodes.{told_stop, count_filled, count_packed, turns_filled, turns_packed, AreOctetsOf, IsData, IsNoData}
-use Rattle.bufr_text.proofs.EncodesLemmas.{walk_counts, refuses_so, told_refused}
+use Rattle.bufr_text.specs.DataWritten.{told_stop, AreOctetsOf, IsData, IsNoData}
+use Rattle.bufr_text.specs.EncodingCost.{count_filled, count_packed, turns_filled, turns_packed}
+use Rattle.bufr_text.proofs.EncodingCostLemmas.{walk_counts, refuses_so, told_refused}
 use Rattle.bufr_text.proofs.TurnsLemmas.{AddsTurns, walk_turns, IsLast, last_turns, some_turns, ticked_at_most, all_made, makes_so}
 use Rattle.bufr_text.proofs.EncodePlain.{mul_most}
 

@@ -20,11 +20,12 @@ use Rattle.bufr_fill.proofs.PlainWalks.{fills, walk_of_items, fault_as_defined}
 use Rattle.bufr_fill.proofs.WalkFills.{after_told}
 use Rattle.bufr_text.specs.declared.encode_fault.DocumentFault.{DocumentFault}
 use Rattle.bufr_text.specs.Encoding.{RefusedAt, told_of_items}
-use Rattle.bufr_text.specs.EncodingFault.{told_of_draft, told_refusal}
-use Rattle.bufr_text.specs.Encodes.{RefusesSo, told_stop, count_filled, count_plain, turns_filled, turns_plain, and_more, left_behind, fill_next, count_next, turns_next, MakesSo, IsSubset, IsNoSubset, AreOctetsOf, IsData, IsNoData}
+use Rattle.bufr_text.specs.EncodingFault.{RefusesSo, told_of_draft, told_refusal}
+use Rattle.bufr_text.specs.DataWritten.{told_stop, left_behind, fill_next, count_next, turns_next, IsSubset, IsNoSubset, AreOctetsOf, IsData, IsNoData}
+use Rattle.bufr_text.specs.EncodingCost.{count_filled, count_plain, turns_filled, turns_plain, and_more, MakesSo}
 use Rattle.bufr_walk.specs.Ticks.{ticked}
 use Rattle.bufr_walk.proofs.PlainSubsets.{ticked_more}
-use Rattle.bufr_text.proofs.EncodesLemmas.{walk_counts, all_counted, refuses_so, told_refused}
+use Rattle.bufr_text.proofs.EncodingCostLemmas.{walk_counts, all_counted, refuses_so, told_refused}
 use Rattle.bufr_text.proofs.TurnsLemmas.{AddsTurns, walk_turns, IsLast, last_turns, some_turns, ticked_at_most, all_made, makes_so}
 
 -- ---- products

@@ -7,10 +7,13 @@ use Rattle.bufr_tables.specs.TableD.{Sequence}
 use Rattle.bufr_tables.specs.TemplateTables.{tables_of}
 use Rattle.bufr_tables.specs.Tree.{Tree, places}
 use Rattle.bufr_walk.specs.Course.{next_item}
+use Rattle.bufr_fill.specs.Entries.{subsets_of}
 use Rattle.bufr_text.specs.declared.form.Form.{Form}
 use Rattle.bufr_text.specs.Document.{Document}
-use Rattle.bufr_text.specs.Encoding.{RefusedAt, ◌>>=◌, told_of_template, told_of_items, drafts_of, data_bits, octets_of_bits, compressed_as, parts_as, message_of, encoding_in}
-use Rattle.bufr_text.specs.Encodes.{RefusesSo, AreOctetsOf, IsData, places_of, places_by, bits_for, bits_by, count_data, MakesSo, turns_for, turns_by, turns_data}
+use Rattle.bufr_text.specs.Encoding.{RefusedAt, ◌>>=◌, told_of_template, told_of_items, data_bits, octets_of_bits, compressed_as, parts_as, message_of, encoding_in}
+use Rattle.bufr_text.specs.DataWritten.{AreOctetsOf, IsData}
+use Rattle.bufr_text.specs.EncodingCost.{places_of, places_by, bits_for, bits_by, count_data, MakesSo, turns_for, turns_by, turns_data}
+use Rattle.bufr_text.specs.EncodingFault.{RefusesSo}
 use Rattle.bufr_tables.specs.declared.template.fault.TemplateFault.{TemplateFault}
 use Rattle.bufr_walk.specs.Ticks.{ticked}
 use Rattle.bufr_text.specs.Header.{head_in}
@@ -26,54 +29,54 @@ if_err_so (Err e) h f = f e h
 module _ (form : Form) (table : List Row) (sequences : List Sequence) (d : Document) where
   -- a message that is written is the definition's
   pub as_written : (template : Tree) (bits : List Bool) (payload : List ℕ) → tree_of (tables_of table sequences) d.descriptors ≡ Ok template
-      → data_bits (compressed_as form d) (next_item table template) (drafts_of d.entries) ≡ Ok bits → payload ≡ octets_of_bits bits
+      → data_bits (compressed_as form d) (next_item table template) (subsets_of d.entries) ≡ Ok bits → payload ≡ octets_of_bits bits
       → encoding_in form table sequences d ≡ message_of d.line (head_in d) (parts_as (compressed_as form d) d payload)
   unfolding encoding_in
   as_written template bits payload e f p =
-      ap (λ r. told_of_template d.line r >>= λ t. told_of_items (data_bits (compressed_as form d) (next_item table t) (drafts_of d.entries)) >>= λ b. message_of d.line (head_in d) (parts_as (compressed_as form d) d (octets_of_bits b))) e
+      ap (λ r. told_of_template d.line r >>= λ t. told_of_items (data_bits (compressed_as form d) (next_item table t) (subsets_of d.entries)) >>= λ b. message_of d.line (head_in d) (parts_as (compressed_as form d) d (octets_of_bits b))) e
       ∙ ap (λ r. told_of_items r >>= λ b. message_of d.line (head_in d) (parts_as (compressed_as form d) d (octets_of_bits b))) f
       ∙ ap (λ o. message_of d.line (head_in d) (parts_as (compressed_as form d) d o)) (sym p)
 
   pub whole : (n : ℕ) (template : Tree) (payload octets : List ℕ) (steps : ℕ) → tree_of (tables_of table sequences) d.descriptors ≡ Ok template
-      → (h : IsData n (compressed_as form d) (next_item table template) (drafts_of d.entries) payload steps) → ((bits : List Bool) → AreOctetsOf payload bits → payload ≡ octets_of_bits bits)
+      → (h : IsData n (compressed_as form d) (next_item table template) (subsets_of d.entries) payload steps) → ((bits : List Bool) → AreOctetsOf payload bits → payload ≡ octets_of_bits bits)
       → message_of d.line (head_in d) (parts_as (compressed_as form d) d payload) ≡ Ok octets → encoding_in form table sequences d ≡ Ok octets
   whole n template payload octets steps e h p m = as_written template h.out payload e h.is (p h.out h.octets_are) ∙ m
 
   pub not_whole : (n : ℕ) (template : Tree) (payload : List ℕ) (steps : ℕ) (o : Option RefusedAt) → tree_of (tables_of table sequences) d.descriptors ≡ Ok template
-      → (h : IsData n (compressed_as form d) (next_item table template) (drafts_of d.entries) payload steps) → ((bits : List Bool) → AreOctetsOf payload bits → payload ≡ octets_of_bits bits)
+      → (h : IsData n (compressed_as form d) (next_item table template) (subsets_of d.entries) payload steps) → ((bits : List Bool) → AreOctetsOf payload bits → payload ≡ octets_of_bits bits)
       → RefusesSo o (message_of d.line (head_in d) (parts_as (compressed_as form d) d payload)) → RefusesSo o (encoding_in form table sequences d)
   not_whole n template payload steps o e h p m = subst (λ r. RefusesSo o r) (sym (as_written template h.out payload e h.is (p h.out h.octets_are))) m
 
   pub no_data : (template : Tree) (o : Option RefusedAt) → tree_of (tables_of table sequences) d.descriptors ≡ Ok template
-      → RefusesSo o (told_of_items (data_bits (compressed_as form d) (next_item table template) (drafts_of d.entries))) → RefusesSo o (encoding_in form table sequences d)
+      → RefusesSo o (told_of_items (data_bits (compressed_as form d) (next_item table template) (subsets_of d.entries))) → RefusesSo o (encoding_in form table sequences d)
   unfolding encoding_in
   no_data template None e h = tt
   no_data template (Some f) e h =
-      ap (λ r. told_of_template d.line r >>= λ t. told_of_items (data_bits (compressed_as form d) (next_item table t) (drafts_of d.entries)) >>= λ b. message_of d.line (head_in d) (parts_as (compressed_as form d) d (octets_of_bits b))) e
+      ap (λ r. told_of_template d.line r >>= λ t. told_of_items (data_bits (compressed_as form d) (next_item table t) (subsets_of d.entries)) >>= λ b. message_of d.line (head_in d) (parts_as (compressed_as form d) d (octets_of_bits b))) e
       ∙ ap (λ r. r >>= λ b. message_of d.line (head_in d) (parts_as (compressed_as form d) d (octets_of_bits b))) h
 
   pub no_template : (o : Option RefusedAt) → RefusesSo o (told_of_template d.line (tree_of (tables_of table sequences) d.descriptors)) → RefusesSo o (encoding_in form table sequences d)
   unfolding encoding_in
   no_template None h = tt
-  no_template (Some f) h = ap (λ r. r >>= λ t. told_of_items (data_bits (compressed_as form d) (next_item table t) (drafts_of d.entries)) >>= λ b. message_of d.line (head_in d) (parts_as (compressed_as form d) d (octets_of_bits b))) h
+  no_template (Some f) h = ap (λ r. r >>= λ t. told_of_items (data_bits (compressed_as form d) (next_item table t) (subsets_of d.entries)) >>= λ b. message_of d.line (head_in d) (parts_as (compressed_as form d) d (octets_of_bits b))) h
 
-  pub few_made : (template : Tree) (steps : ℕ) → tree_of (tables_of table sequences) d.descriptors ≡ Ok template → steps ≤ places template * count_data (compressed_as form d) (next_item table template) (drafts_of d.entries)
+  pub few_made : (template : Tree) (steps : ℕ) → tree_of (tables_of table sequences) d.descriptors ≡ Ok template → steps ≤ places template * count_data (compressed_as form d) (next_item table template) (subsets_of d.entries)
       → steps ≤ places_by table sequences d * bits_by form table sequences d
   few_made template steps e h = subst (λ r. steps ≤ places_of r * bits_for form table d r) (sym e) h
 
-  pub few_refused : (template : Tree) (steps : ℕ) → tree_of (tables_of table sequences) d.descriptors ≡ Ok template → steps ≤ places template * (count_data (compressed_as form d) (next_item table template) (drafts_of d.entries) + 1)
+  pub few_refused : (template : Tree) (steps : ℕ) → tree_of (tables_of table sequences) d.descriptors ≡ Ok template → steps ≤ places template * (count_data (compressed_as form d) (next_item table template) (subsets_of d.entries) + 1)
       → steps ≤ places_by table sequences d * (bits_by form table sequences d + 1)
   few_refused template steps e h = subst (λ r. steps ≤ places_of r * (bits_for form table d r + 1)) (sym e) h
 
   pub few_whole : (n : ℕ) (steps b : ℕ) → steps ≤ n * b → steps ≤ n * (b + 1)
   few_whole n steps b h = let e : n * (b + 1) ≡ n * b + n = grind arith in omega (arith, h, e)
 
-  pub made_all : (template : Tree) (steps : ℕ) → tree_of (tables_of table sequences) d.descriptors ≡ Ok template → steps ≡ ticked 0 (turns_data (compressed_as form d) (next_item table template) (drafts_of d.entries))
+  pub made_all : (template : Tree) (steps : ℕ) → tree_of (tables_of table sequences) d.descriptors ≡ Ok template → steps ≡ ticked 0 (turns_data (compressed_as form d) (next_item table template) (subsets_of d.entries))
       → steps ≡ ticked 0 (turns_by form table sequences d)
   made_all template steps e h = subst (λ r. steps ≡ ticked 0 (turns_for form table d r)) (sym e) h
 
   pub made_some : (template : Tree) (o : Option RefusedAt) (steps : ℕ) → tree_of (tables_of table sequences) d.descriptors ≡ Ok template
-      → MakesSo o 0 (turns_data (compressed_as form d) (next_item table template) (drafts_of d.entries)) steps → MakesSo o 0 (turns_by form table sequences d) steps
+      → MakesSo o 0 (turns_data (compressed_as form d) (next_item table template) (subsets_of d.entries)) steps → MakesSo o 0 (turns_by form table sequences d) steps
   made_some template o steps e h = subst (λ r. MakesSo o 0 (turns_for form table d r) steps) (sym e) h
 
   pub made_none : (o : Option RefusedAt) (steps : ℕ) → RefusesSo o (told_of_template d.line (tree_of (tables_of table sequences) d.descriptors)) → steps ≡ 0 → MakesSo o 0 (turns_by form table sequences d) steps

@@ -11,7 +11,8 @@ use Rattle.bufr_walk.specs.Course.{next_item}
 use Rattle.bufr_walk.specs.declared.spec.Refusal.TheVariants as walk
 use Rattle.bufr_fill.specs.Draft.{draft, number_token, text_form, missing_form}
 use Rattle.bufr_fill.specs.Fault.{wrong_descriptor, wrong_number, out_of_range, text_long, missing_forbidden, unequal_factors, uneven_increment, item_too_many, walk_refused}
-use Rattle.bufr_text.specs.Document.{Document, Entry, Holds, Ends}
+use Rattle.bufr_fill.specs.Entries.{Entry, Holds, Ends}
+use Rattle.bufr_text.specs.Document.{Document}
 use Rattle.bufr_text.specs.Encoding.{RefusedAt, refused_at, by_template, by_item, encoding_in, encoding_of}
 
 unfoldable pub listed : (fxy : ℕ) → Kind → (scale reference : ℤ) → (width : ℕ) → Row

@@ -6,7 +6,8 @@ use Rattle.bufr_frame.specs.Section1.{Field, Master, Centre, Subcentre, Update, 
 use Rattle.bufr_frame.specs.Section1 as section1
 use Rattle.bufr_frame.specs.Sections.{Sections}
 use Rattle.bufr_fill.specs.Draft.{draft, number_token}
-use Rattle.bufr_text.specs.Document.{Document, Holds, Ends}
+use Rattle.bufr_fill.specs.Entries.{Holds, Ends}
+use Rattle.bufr_text.specs.Document.{Document}
 use Rattle.std.specs.Fmt.{digits}
 use Rattle.bufr_bits.specs.DecimalText.{decimal_text_of, unsigned_text}
 use Rattle.bufr_text.specs.Grammar.{front, behind, behind_word, runs_behind, hex_text, hex_read, fxy_read, descriptors_text, descriptors_read, quoted, quoted_read, is_hashed}

@@ -1,4 +1,5 @@
--- A message in another form is accepted, its dump text differs in the flag alone, and from it a canonical message comes back in its own.
+-- A message in another form is accepted, its dump text differs in the flag alone, and from it a
+-- canonical message comes back in its own.
 use Rattle.std.proofs.Common.{◌≡◌, ◌∙◌, ℕ, Bool, true, false, List, Ok, refl, ap}
 use Rattle.bufr_tables.specs.Expansion.{tree_of}
 use Rattle.bufr_tables.specs.Legal.{IsLegal}
@@ -12,7 +13,7 @@ use Rattle.bufr_fill.proofs.Limits.{AreGoodRows}
 use Rattle.bufr_text.specs.declared.form.Form.{Form}
 use Rattle.bufr_text.specs.Canonical.{IsCanonical}
 use Rattle.bufr_text.specs.Dump.{Item, document_of, dump_text_of}
-use Rattle.bufr_text.specs.Encoded.{IsAccepted, items_in}
+use Rattle.bufr_text.specs.RoundTrip.{IsAccepted, items_in}
 use Rattle.bufr_text.specs.Encoding.{encoding_in, encoding_of}
 use Rattle.bufr_text.specs.Form.{compressed_by, form_of_flag}
 use Rattle.bufr_text.specs.InForm.{HasReadingIn}

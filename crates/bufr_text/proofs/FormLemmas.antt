@@ -1,4 +1,5 @@
--- The document of an accepted message is encoded in a form to a message with the same reading, but for the flag.
+-- The document of an accepted message is encoded in a form to a message with the same reading, but
+-- for the flag.
 use Rattle.std.proofs.Common.{◌≡◌, ◌⊎◌, inl, inr, ℕ, zero, suc, ◌+◌, ◌*◌, ◌/◌, ◌≤◌, Bool, true, false, List, [], ◌∷◌, ◌++◌, length, drop, map, Some, Result, Ok, Err, refl, sym, ◌∙◌, ap, subst, arith, append_assoc}
 use Rattle.std.specs.Prelude.{nat_lt, if◌then◌else◌}
 use Rattle.std.specs.Global.{Global}
@@ -32,23 +33,20 @@ use Rattle.bufr_fill.specs.WrittenAgain as again
 use Rattle.bufr_fill.proofs.FieldBits.{octets_in-are}
 use Rattle.bufr_fill.proofs.OtherFormLaws.{template_apart, template_together}
 use Rattle.bufr_fill.proofs.WholeLaws.{plain_template_again, packed_template_again}
+use Rattle.bufr_fill.specs.Entries.{Entry, subsets_of}
 use Rattle.bufr_text.specs.declared.encode_fault.DocumentFault.{DocumentFault}
-use Rattle.bufr_text.specs.declared.encode_fault.DocumentFault.TheVariants as fault
-use Rattle.bufr_text.specs.declared.encode_fault.WalkRefusal.TheVariants as refusal
-use Rattle.bufr_fill.specs.declared.fault.Expected.TheVariants as expected
 use Rattle.bufr_text.specs.declared.form.Form.{Form}
 use Rattle.bufr_text.specs.declared.form.Form.TheVariants as form
-use Rattle.bufr_text.specs.Document.{Document, Entry}
+use Rattle.bufr_text.specs.Document.{Document}
 use Rattle.bufr_text.specs.Dump.{Item, subset_entries, document_of, lines_before}
-use Rattle.bufr_text.specs.Dumped.{items_apart, items_together, subsets_together}
-use Rattle.bufr_text.specs.Encoded.{IsAccepted, IsEncodedAgain, items_in}
-use Rattle.bufr_text.specs.Encodes.{RefusesSo}
-use Rattle.bufr_text.specs.Encoding.{by_item, too_long, RefusedAt, refused_at, told_of_items, drafts_of, data_bits, octets_of_bits, parts_as, compressed_as, message_of, encoding_in}
-use Rattle.bufr_text.specs.EncodingFault.{told_refusal}
+use Rattle.bufr_text.specs.DumpItems.{items_apart, items_together, subsets_together}
+use Rattle.bufr_text.specs.RoundTrip.{IsAccepted, IsEncodedAgain, items_in}
+use Rattle.bufr_text.specs.Encoding.{by_item, too_long, RefusedAt, refused_at, told_of_items, data_bits, octets_of_bits, parts_as, compressed_as, message_of, encoding_in}
+use Rattle.bufr_text.specs.EncodingFault.{RefusesSo, told_refusal}
 use Rattle.bufr_text.specs.Form.{compressed_by}
 use Rattle.bufr_text.specs.InForm.{each_subset, HasReadingIn, IsForForm, IsFormed, IsFaultIn, FormSo}
 use Rattle.bufr_text.proofs.DumpableLemmas.{octets_are, sections_given}
-use Rattle.bufr_text.proofs.EncodedLemmas.{all_apart, all_together, bit_back, section2_back, padded, payload_bits, size_is, enough, behind, encoded_again}
+use Rattle.bufr_text.proofs.RoundTripLemmas.{all_apart, all_together, bit_back, section2_back, padded, payload_bits, size_is, enough, behind, encoded_again}
 use Rattle.bufr_text.proofs.EncodeWhole.{as_written, no_data}
 use Rattle.bufr_text.proofs.FramedLemmas.{octets_small, framed}
 use Rattle.bufr_text.proofs.RowsLemmas.{rows-read, good-rows}
@@ -94,20 +92,20 @@ packed_reading course items n out w octets more e = (
 record IsFilled (b : Bool) (table : List Row) (template : Tree) (s : Sections) (values : Values) (entries : List Entry) : Type 0 where
   found : Values
   out : List Bool
-  fills : data_bits b (next_item table template) (drafts_of entries) ≡ Ok out
+  fills : data_bits b (next_item table template) (subsets_of entries) ≡ Ok out
   read : (octets : List ℕ) (more : List Bool) → bits_of octets ≡ out ++ more → IsReading (next_item table template) (record { compressed = b; subsets = s.subsets; bits = bits_of octets }) found (length out)
   each : each_subset s.subsets found ≡ each_subset s.subsets values
 
 record IsUnfilled (table : List Row) (template : Tree) (entries : List Entry) : Type 0 where
   why : FaultAt
-  is : data_bits true (next_item table template) (drafts_of entries) ≡ Err why
+  is : data_bits true (next_item table template) (subsets_of entries) ≡ Err why
   unlike : IsUnlike why.fault
 
 module _ (table : List Row) (template : Tree) (s : Sections) (used at : ℕ) (rows : AreGoodRows table) (legal : IsLegal template) where
   plainly : (values : Values) → IsReading (next_item table template) (data_of s) values used → IsFilled false table template s values (subset_entries at (items_in table template s values))
   plainly (apart subsets) read =
       let entries = subset_entries at (map (items_apart table) subsets) in
-      let w = plain_template_again table template subsets (drafts_of entries) (bits_of s.payload) (drop used (bits_of s.payload)) rows legal (all_apart table at subsets) read.2.0 in
+      let w = plain_template_again table template subsets (subsets_of entries) (bits_of s.payload) (drop used (bits_of s.payload)) rows legal (all_apart table at subsets) read.2.0 in
       record {
         found = apart subsets;
         out = w.out;
@@ -118,7 +116,7 @@ module _ (table : List Row) (template : Tree) (s : Sections) (used at : ℕ) (ro
   plainly (together items) read =
       let entries = subset_entries at (subsets_together table s.subsets 0 items) in
       let dumped = all_together table at s.subsets 0 items in
-      let w = template_apart s.subsets table template items (drafts_of entries) (bits_of s.payload) (drop used (bits_of s.payload)) rows legal dumped.1 dumped.0 read.2 in
+      let w = template_apart s.subsets table template items (subsets_of entries) (bits_of s.payload) (drop used (bits_of s.payload)) rows legal dumped.1 dumped.0 read.2 in
       record {
         found = apart (subsets_from s.subsets 0 items);
         out = w.out;
@@ -132,7 +130,7 @@ module _ (table : List Row) (template : Tree) (s : Sections) (used at : ℕ) (ro
   packedly (together items) few read =
       let entries = subset_entries at (subsets_together table s.subsets 0 items) in
       let dumped = all_together table at s.subsets 0 items in
-      let w = packed_template_again s.subsets table template items (drafts_of entries) (bits_of s.payload) (drop used (bits_of s.payload)) rows legal dumped.1 dumped.0 read.2 in
+      let w = packed_template_again s.subsets table template items (subsets_of entries) (bits_of s.payload) (drop used (bits_of s.payload)) rows legal dumped.1 dumped.0 read.2 in
       inl (record {
         found = together items;
         out = w.out;
@@ -140,12 +138,12 @@ module _ (table : List Row) (template : Tree) (s : Sections) (used at : ℕ) (ro
         read = packed_reading (next_item table template) items s.subsets w.out w.again;
         each = refl;
       })
-  packedly (apart subsets) few read = by (template_together table template subsets (drafts_of entries) (bits_of s.payload) (drop used (bits_of s.payload)) few rows legal (all_apart table at subsets) read.2.0)
+  packedly (apart subsets) few read = by (template_together table template subsets (subsets_of entries) (bits_of s.payload) (drop used (bits_of s.payload)) few rows legal (all_apart table at subsets) read.2.0)
     where
       entries : List Entry
       entries = subset_entries at (map (items_apart table) subsets)
 
-      by : IsTogetherOrNot (next_item table template) subsets (drafts_of entries) → IsFilled true table template s (apart subsets) entries ⊎ IsUnfilled table template entries
+      by : IsTogetherOrNot (next_item table template) subsets (subsets_of entries) → IsFilled true table template s (apart subsets) entries ⊎ IsUnfilled table template entries
       by (inr x) = inr (record { why = x.why; is = x.is; unlike = x.unlike })
       by (inl x) = inl (record {
         found = together x.items;
@@ -215,8 +213,8 @@ module _ (form : Form) (table : List Row) (sequences : List Sequence) (m : List 
       parts : Parts
       parts = parts_for (compressed_by form s.compressed) s (octets_of_bits f.out)
 
-      fills : data_bits (compressed_as form d) (next_item table template) (drafts_of d.entries) ≡ Ok f.out
-      fills = ap (λ b. data_bits (compressed_by form b) (next_item table template) (drafts_of d.entries)) (bit_back s.compressed) ∙ f.fills
+      fills : data_bits (compressed_as form d) (next_item table template) (subsets_of d.entries) ≡ Ok f.out
+      fills = ap (λ b. data_bits (compressed_by form b) (next_item table template) (subsets_of d.entries)) (bit_back s.compressed) ∙ f.fills
 
       is : encoded ≡ (if nat_lt most_octets (message_size s.head.edition parts) then Err (refused_at at too_long) else Ok (message_octets s.head parts))
       is = as_written form table sequences d template f.out (octets_of_bits f.out) a.expands fills refl ∙ ap (message_of at s.head) (parts_back form at s (items_in table template s values) (octets_of_bits f.out))
@@ -244,7 +242,7 @@ as_it_is table m s template values used at sequences few e =
       framed = h.framed;
       sections = h.sections;
       are = h.are;
-      same = record { head = h.same.head; local1 = h.same.local1; section2 = h.same.section2; descriptors = h.same.descriptors; subsets = h.same.subsets; observed = h.same.observed; compressed = h.same.compressed };
+      same = h.same;
       found = values;
       used = h.used;
       read = h.read;
@@ -268,47 +266,9 @@ formed form.Compressed table sequences m s template values used at rows legal a 
 
 -- ---- the faults that are answered
 
--- a fault of the code that a form may be refused for
-fault_in : (form : Form) (why : DocumentFault) → ((f : RefusedAt) → told_refusal why ≡ Some f → IsForForm form f.why) → IsFaultIn form why
-fault_in f fault.Memory h = tt
-fault_in form.AsWritten (fault.WrongDescriptor line e) h = absurd (h _ refl)
-fault_in form.AsWritten (fault.Number line) h = absurd (h _ refl)
-fault_in form.AsWritten (fault.OutOfRange line) h = absurd (h _ refl)
-fault_in form.AsWritten (fault.TextLong line) h = absurd (h _ refl)
-fault_in form.AsWritten (fault.MissingForbidden line) h = absurd (h _ refl)
-fault_in form.AsWritten (fault.Template line why) h = absurd (h _ refl)
-fault_in form.AsWritten (fault.UnequalFactor line) h = absurd (h _ refl)
-fault_in form.AsWritten (fault.Increment line) h = absurd (h _ refl)
-fault_in form.AsWritten (fault.TooLong line) h = absurd (h _ refl)
-fault_in form.AsWritten (fault.Walk line why) h = absurd (h _ refl)
-fault_in form.Plain (fault.WrongDescriptor line e) h = absurd (h _ refl)
-fault_in form.Plain (fault.Number line) h = absurd (h _ refl)
-fault_in form.Plain (fault.OutOfRange line) h = absurd (h _ refl)
-fault_in form.Plain (fault.TextLong line) h = absurd (h _ refl)
-fault_in form.Plain (fault.MissingForbidden line) h = absurd (h _ refl)
-fault_in form.Plain (fault.Template line why) h = absurd (h _ refl)
-fault_in form.Plain (fault.UnequalFactor line) h = absurd (h _ refl)
-fault_in form.Plain (fault.Increment line) h = absurd (h _ refl)
-fault_in form.Plain (fault.TooLong line) h = tt
-fault_in form.Plain (fault.Walk line why) h = absurd (h _ refl)
-fault_in form.Compressed (fault.WrongDescriptor line (expected.Item fxy)) h = absurd (h _ refl)
-fault_in form.Compressed (fault.WrongDescriptor line (expected.Reference fxy)) h = absurd (h _ refl)
-fault_in form.Compressed (fault.WrongDescriptor line expected.EndOfSubset) h = absurd (h _ refl)
-fault_in form.Compressed (fault.Number line) h = absurd (h _ refl)
-fault_in form.Compressed (fault.OutOfRange line) h = absurd (h _ refl)
-fault_in form.Compressed (fault.TextLong line) h = absurd (h _ refl)
-fault_in form.Compressed (fault.MissingForbidden line) h = absurd (h _ refl)
-fault_in form.Compressed (fault.Template line why) h = absurd (h _ refl)
-fault_in form.Compressed (fault.UnequalFactor line) h = tt
-fault_in form.Compressed (fault.Increment line) h = tt
-fault_in form.Compressed (fault.TooLong line) h = tt
-fault_in form.Compressed (fault.Walk line (refusal.Width fxy)) h = absurd (h _ refl)
-fault_in form.Compressed (fault.Walk line (refusal.Defining fxy)) h = absurd (h _ refl)
-fault_in form.Compressed (fault.Walk line (refusal.TooManyValues fxy)) h = absurd (h _ refl)
-
 -- what is answered is what the definition says
 pub answered : (form : Form) (table : List Row) (s : Sections) (template : Tree) (values : Values) (defined : Result (List ℕ) RefusedAt) (why : DocumentFault) → IsFormed form table s template values defined → RefusesSo (told_refusal why) defined → IsFaultIn form why
-answered form table s template values defined why h r = fault_in form why (λ f q. refused f (subst (λ o. RefusesSo o defined) q r))
+answered form table s template values defined why h r = λ f q. refused f (subst (λ o. RefusesSo o defined) q r)
   where
     refused : (f : RefusedAt) → defined ≡ Err f → IsForForm form f.why
     refused f e = subst (IsFormed form table s template values) e h

@@ -9,9 +9,10 @@ use Rattle.bufr_frame.specs.declared.fault.RunFault.{RunFault}
 use Rattle.std.specs.Io.KnownBytes.{Appends}
 use Rattle.std.proofs.lemmas.Grind.{flat_map-append}
 use Rattle.bufr_text.specs.Dump.{bit, header_of, header_lines, local1_line, section2_line, descriptors_line, head_lines, text_of}
-use Rattle.bufr_text.specs.Dumping.{WritesFront}
+use Rattle.bufr_text.specs.DumpWritten.{WritesFront}
 use Rattle.bufr_text.specs.Grammar.{runs_behind, runs_of}
-use Rattle.bufr_text.specs.Writing.{flag, joined}
+use Rattle.bufr_text.specs.Laid.{category_texts, counts_texts, date_texts, origin_texts}
+use Rattle.bufr_text.specs.Writing.{flag, joined_onto}
 use Rattle.bufr_text.proofs.DumpLemmas.{WritesFront-then, WritesFront-stop}
 
 line-on : (name value more : List ℕ) → ((name ++ 32 ∷ value) ++ 10 ∷ []) ++ more ≡ name ++ (32 ∷ (value ++ 10 ∷ more))
@@ -30,18 +31,20 @@ header-text key (value ∷ more) =
     ∙ ap (λ l. (key_in keys key).name ++ (32 ∷ (decimal value ++ 10 ∷ l))) (header-text (key + 1) more)
 
 -- the first lines
-abbrev pub origin_text : Head → List ℕ
-origin_text h = joined (
-    codes "message" ∷ codes "\nedition " ∷ decimal h.edition ∷ codes "\nmaster " ∷ decimal h.master ∷ codes "\ncentre " ∷ decimal h.centre
-    ∷ codes "\nsubcentre " ∷ decimal h.subcentre ∷ codes "\nupdate " ∷ decimal h.update ∷ codes "\ncategory " ∷ decimal h.category
-    ∷ codes "\nsubcategory " ∷ decimal h.subcategory ∷ codes "\nlocalsubcategory " ∷ decimal h.local_subcategory
-    ∷ codes "\nmasterversion " ∷ decimal h.master_version ∷ codes "\nlocalversion " ∷ decimal h.local_version ∷ codes "\n" ∷ [])
+abbrev origin_text : Head → List ℕ
+origin_text h = joined_onto (origin_texts h) (joined_onto (category_texts h) [])
 
-pub origin-is : (s : Sections) (h : Head) → h ≡ s.head → origin_text h ≡ text_of (codes "message" ∷ header_lines 0 (take 10 (header_of s)))
+origin-is : (s : Sections) (h : Head) → h ≡ s.head → origin_text h ≡ text_of (codes "message" ∷ header_lines 0 (take 10 (header_of s)))
 unfolding keys header_text
 origin-is s h same =
     ap origin_text same
     ∙ sym (ap (λ l. codes "message\n" ++ l) (header-text 0 (take 10 (header_of s))))
+
+-- the first lines, laid from their end
+pub origin-laid : (s : Sections) (h : Head) (line two one rest : List ℕ) → h ≡ s.head → line ≡ two → two ≡ joined_onto (origin_texts h) one → one ≡ joined_onto (category_texts h) rest → rest ≡ []
+    → line ≡ text_of (codes "message" ∷ header_lines 0 (take 10 (header_of s)))
+origin-laid s h line two one rest head whole origin category none =
+    whole ∙ origin ∙ ap (joined_onto (origin_texts h)) (category ∙ ap (joined_onto (category_texts h)) none) ∙ origin-is s h head
 
 flag-is : (on : Bool) → flag on ≡ decimal (bit on)
 unfolding digits
@@ -53,24 +56,36 @@ is_some-map f (Some x) = refl
 is_some-map f None = refl
 
 -- the last lines
-abbrev pub date_text : Head → (observed compressed optional : List ℕ) → (subsets : ℕ) → List ℕ
-date_text h observed compressed optional subsets = joined (
-    codes "year " ∷ decimal h.year ∷ codes "\nmonth " ∷ decimal h.month ∷ codes "\nday " ∷ decimal h.day ∷ codes "\nhour " ∷ decimal h.hour
-    ∷ codes "\nminute " ∷ decimal h.minute ∷ codes "\nsecond " ∷ decimal h.second ∷ codes "\nobserved " ∷ observed
-    ∷ codes "\ncompressed " ∷ compressed ∷ codes "\noptional " ∷ optional ∷ codes "\nsubsets " ∷ decimal subsets ∷ codes "\n" ∷ [])
+abbrev date_text : Head → (observed compressed optional : List ℕ) → (subsets : ℕ) → List ℕ
+date_text h observed compressed optional subsets = joined_onto (date_texts h) (joined_onto (counts_texts observed compressed optional subsets) [])
 
-pub date-is : {X : Type 0} (f : X → List ℕ) (s : Sections) (h : Head) (observed compressed optional : Bool) (section2 : Option X) (subsets : ℕ)
-    → h ≡ s.head → observed ≡ s.observed → compressed ≡ s.compressed → option_map f section2 ≡ s.section2 → optional ≡ is_some section2 → subsets ≡ s.subsets
-    → date_text h (flag observed) (flag compressed) (flag optional) subsets ≡ text_of (header_lines 10 (drop 10 (header_of s)))
+date-is : (s : Sections) → date_text s.head (flag s.observed) (flag s.compressed) (flag (is_some s.section2)) s.subsets ≡ text_of (header_lines 10 (drop 10 (header_of s)))
 unfolding keys header_text
-date-is f s h observed compressed optional section2 subsets head first second sections third count =
-    let there : optional ≡ is_some s.section2 = third ∙ sym (is_some-map f section2) ∙ ap is_some sections in
-    ap (λ x. date_text x (flag observed) (flag compressed) (flag optional) subsets) head
-    ∙ ap (λ x. date_text s.head x (flag compressed) (flag optional) subsets) (ap flag first ∙ flag-is s.observed)
-    ∙ ap (λ x. date_text s.head (decimal (bit s.observed)) x (flag optional) subsets) (ap flag second ∙ flag-is s.compressed)
-    ∙ ap (λ x. date_text s.head (decimal (bit s.observed)) (decimal (bit s.compressed)) x subsets) (ap flag there ∙ flag-is (is_some s.section2))
-    ∙ ap (λ x. date_text s.head (decimal (bit s.observed)) (decimal (bit s.compressed)) (decimal (bit (is_some s.section2))) x) count
+date-is s =
+    ap (λ x. date_text s.head x (flag s.compressed) (flag (is_some s.section2)) s.subsets) (flag-is s.observed)
+    ∙ ap (λ x. date_text s.head (decimal (bit s.observed)) x (flag (is_some s.section2)) s.subsets) (flag-is s.compressed)
+    ∙ ap (λ x. date_text s.head (decimal (bit s.observed)) (decimal (bit s.compressed)) x s.subsets) (flag-is (is_some s.section2))
     ∙ sym (header-text 10 (drop 10 (header_of s)))
+
+-- the flags and the number of subsets, from what a message answers
+pub counts-are : {X : Type 0} (f : X → List ℕ) (s : Sections) (observed compressed optional : Bool) (section2 : Option X) (subsets : ℕ) (behind : List ℕ)
+    → observed ≡ s.observed → compressed ≡ s.compressed → option_map f section2 ≡ s.section2 → optional ≡ is_some section2 → subsets ≡ s.subsets
+    → joined_onto (counts_texts (flag observed) (flag compressed) (flag optional) subsets) behind
+    ≡ joined_onto (counts_texts (flag s.observed) (flag s.compressed) (flag (is_some s.section2)) s.subsets) behind
+counts-are f s observed compressed optional section2 subsets behind first second sections third count =
+    let there : optional ≡ is_some s.section2 = third ∙ sym (is_some-map f section2) ∙ ap is_some sections in
+    ap (λ x. joined_onto (counts_texts (flag x) (flag compressed) (flag optional) subsets) behind) first
+    ∙ ap (λ x. joined_onto (counts_texts (flag s.observed) (flag x) (flag optional) subsets) behind) second
+    ∙ ap (λ x. joined_onto (counts_texts (flag s.observed) (flag s.compressed) (flag x) subsets) behind) there
+    ∙ ap (λ x. joined_onto (counts_texts (flag s.observed) (flag s.compressed) (flag (is_some s.section2)) x) behind) count
+
+-- the last lines, laid from their end
+pub date-laid : (s : Sections) (h : Head) (line two one rest : List ℕ) → h ≡ s.head → line ≡ two → two ≡ joined_onto (date_texts h) one
+    → one ≡ joined_onto (counts_texts (flag s.observed) (flag s.compressed) (flag (is_some s.section2)) s.subsets) rest → rest ≡ []
+    → line ≡ text_of (header_lines 10 (drop 10 (header_of s)))
+date-laid s h line two one rest head whole date counts none =
+    let C = counts_texts (flag s.observed) (flag s.compressed) (flag (is_some s.section2)) s.subsets in
+    whole ∙ date ∙ ap (joined_onto (date_texts h)) (counts ∙ ap (joined_onto C) none) ∙ ap (λ x. joined_onto (date_texts x) (joined_onto C [])) head ∙ date-is s
 
 text-append : (xs ys : List (List ℕ)) → text_of (xs ++ ys) ≡ text_of xs ++ text_of ys
 text-append xs ys = flat_map-append (λ line. line ++ 10 ∷ []) xs ys

@@ -8,11 +8,11 @@ use Rattle.bufr_bits.proofs.ScaledLemmas.{and_first, and_second}
 use Rattle.bufr_frame.specs.Layout.{IsFitting}
 use Rattle.bufr_frame.specs.Section1.{Field, Master, Centre, Subcentre, Update, Flags, Category, Subcategory, LocalSubcategory, MasterVersion, LocalVersion, Year, Month, Day, Hour, Minute, Second, is_edition, most_in, slots_of, slots_3, slots_4}
 use Rattle.bufr_frame.specs.Section1 as section1
-use Rattle.bufr_text.specs.Document.{Document, Entry, Holds, Ends, edition_in, optional_in, subsets_in}
+use Rattle.bufr_fill.specs.Entries.{Entry, Holds, Ends, subsets_of}
+use Rattle.bufr_text.specs.Document.{Document, edition_in, optional_in, subsets_in}
 use Rattle.bufr_text.specs.Line.{Line, Passed, Opens, Header, Local1, Section2, Descriptors, Begins, Item, Closes, Wrong, keys, leasts, mosts}
 use Rattle.bufr_text.specs.Documents.{Place, Between, Heading, Laying, Filling, Stopped, Turn, Goes, Gives, Faults, NotAllowed, SubsetCount, HeaderRange, in_range, heading, laying, filling, beginning, closing, with_value, with_local1, with_section2, with_entry, turn}
 use Rattle.bufr_text.specs.Header.{are_in_range, head_in, IsHeaded}
-use Rattle.bufr_text.specs.Encoding.{drafts_of}
 use Rattle.bufr_text.specs.Given.{IsOctet, IsWord}
 use Rattle.bufr_text.specs.Proper.{AreEnded}
 use Rattle.bufr_text.specs.Step.{IsBare, IsLaid, EntryHasOctets, HasSubsets, Stands, StandsAfter}
@@ -210,7 +210,7 @@ closing-so at read d h lines laid has closed =
 
 -- no entries, no subsets
 none-ended : (d : Document) → d.entries ≡ [] → HasSubsets 0 d
-none-ended d none = record { texts = subst (λ (l : List Entry). AllByRecursion EntryHasOctets l) (sym none) tt; counted = ap (λ (l : List Entry). length (drafts_of l)) none }
+none-ended d none = record { texts = subst (λ (l : List Entry). AllByRecursion EntryHasOctets l) (sym none) tt; counted = ap (λ (l : List Entry). length (subsets_of l)) none }
 
 none-last : (es : List Entry) → es ≡ [] → AreEnded es
 none-last es none = subst (λ (l : List Entry). AreEnded l) (sym none) tt

@@ -10,8 +10,7 @@ pub mod DumpableLemmas
 pub mod EncodePacked
 pub mod EncodePlain
 pub mod EncodeWhole
-pub mod EncodedLemmas
-pub mod EncodesLemmas
+pub mod EncodingCostLemmas
 mod EncodingExamples
 mod Examples
 pub mod FeedLemmas
@@ -25,8 +24,10 @@ pub mod GrammarLemmas
 pub mod HeadLemmas
 pub mod HeaderLemmas
 pub mod ItemLemmas
+pub mod ItemLineLemmas
 pub mod KeptLemmas
 pub mod KeyLemmas
+pub mod LaidLemmas
 pub mod LawLemmas
 mod LineExamples
 pub mod LineLemmas
@@ -45,6 +46,7 @@ pub mod ReadBackLemmas
 pub mod ReaderLemmas
 pub mod ReadingLemmas
 pub mod RowsLemmas
+pub mod RoundTripLemmas
 mod RuleExamples
 pub mod RunsLemmas
 pub mod ShowingLemmas
@@ -52,6 +54,7 @@ pub mod SpecWords
 pub mod SoundLemmas
 pub mod SpelledLemmas
 pub mod SpelledProper
+mod SpellingExamples
 pub mod SpellingLemmas
 pub mod TakingLemmas
 pub mod TokenLemmas

@@ -3,8 +3,7 @@ use Rattle.std.proofs.Common.{◌≡◌, ℕ, List, Option, Some, None, Result, 
 use Rattle.bufr_text.specs.declared.encode_fault.DocumentFault.{DocumentFault}
 use Rattle.bufr_text.specs.declared.encode_fault.DocumentFault.TheVariants as fault
 use Rattle.bufr_text.specs.Encoding.{RefusedAt}
-use Rattle.bufr_text.specs.EncodingFault.{told_refusal}
-use Rattle.bufr_text.specs.Encodes.{RefusesSo}
+use Rattle.bufr_text.specs.EncodingFault.{RefusesSo, told_refusal}
 
 -- a fault that tells no refusal is want of memory
 is_memory : (why : DocumentFault) → told_refusal why ≡ None → why ≡ fault.Memory

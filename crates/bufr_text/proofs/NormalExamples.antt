@@ -1,5 +1,5 @@
--- Documents that lines can spell, and their texts in one spelling.
-use Rattle.std.proofs.Common.{◌≡◌, ℕ, List, [], ◌∷◌, refl, codes, ℤ, pos, arith}
+-- Texts of documents in one spelling.
+use Rattle.std.proofs.Common.{◌≡◌, ℕ, List, [], ◌∷◌, refl, codes, ℤ, pos}
 use Rattle.std.specs.Fmt.{digits}
 use Rattle.bufr_bits.specs.DecimalText.{decimal_text_of, unsigned_text}
 use Rattle.bufr_bits.specs.DecimalValue.{decimal_value_of}
@@ -9,37 +9,15 @@ use Rattle.bufr_tables.specs.TableB.{Row}
 use Rattle.bufr_tables.specs.Tree.{Tree, bare, element, operator, delayed}
 use Rattle.bufr_walk.specs.Course.{next_item}
 use Rattle.bufr_fill.specs.Draft.{draft, text_form, reference_token}
+use Rattle.bufr_fill.specs.Entries.{Entry, Holds, Ends, subsets_of}
 use Rattle.bufr_text.specs.declared.form.Form.{Form}
 use Rattle.bufr_text.specs.declared.form.Form.TheVariants.{AsWritten, Plain, Compressed}
-use Rattle.bufr_text.specs.Document.{Document, Entry, Holds, Ends}
+use Rattle.bufr_text.specs.Document.{Document}
 use Rattle.bufr_text.specs.Dump.{header_lines, text_of}
-use Rattle.bufr_text.specs.Encoding.{drafts_of}
 use Rattle.bufr_text.specs.Grammar.{runs_behind, hex_text, descriptors_text, quoted}
 use Rattle.bufr_text.specs.Line.{keys}
 use Rattle.bufr_text.specs.Normal.{header_as, normal_subsets, normal}
-use Rattle.bufr_text.specs.Proper.{AreEnded, IsProper}
 use Rattle.bufr_text.proofs.EncodingExamples.{document, number, missing}
-
--- ---- documents that lines can spell
-
-one_item : IsProper (document 0 1 (257 ∷ []) (number 24 257 (codes "10") ∷ Ends 25 ∷ []))
-unfolding document number keys
-one_item = record {
-  headed = record { whole = refl; ranges = refl };
-  local1 = tt;
-  section2 = tt;
-  no_section2 = λ e. refl;
-  descriptors = (omega arith, tt);
-  texts = ((tt, tt), tt);
-  counted = refl;
-  ended = tt;
-}
-
-no_end : AreEnded (Ends 24 ∷ number 25 257 (codes "10") ∷ []) → ⊥
-unfolding number
-no_end h = h
-
--- ---- texts in one spelling
 
 unfoldable listed : (fxy : ℕ) → (name unit : List ℕ) → Kind → (scale : ℤ) → (width : ℕ) → Row
 listed fxy name unit k scale width = record { fxy = fxy; name = name; unit = unit; kind = k; scale = scale; reference = pos 0; width = width }
@@ -57,7 +35,7 @@ table =
 -- the lines of the subsets alone
 unfoldable items_in : Tree → List Entry → List ℕ
 unfolding table next_item
-items_in tree entries = text_of (normal_subsets table (next_item table tree) 1 (drafts_of entries))
+items_in tree entries = text_of (normal_subsets table (next_item table tree) 1 (subsets_of entries))
 
 unfoldable spelled : Form → Tree → Document → List ℕ
 unfolding table next_item

@@ -1,4 +1,5 @@
--- The dump of what a document is encoded to is the document's text in one spelling, and is encoded to the same octets.
+-- The dump of what a document is encoded to is the document's text in one spelling, and is encoded
+-- to the same octets.
 use Rattle.std.proofs.Common.{◌≡◌, ℕ, zero, suc, ◌+◌, ◌≤◌, Bool, true, false, List, [], ◌∷◌, ◌++◌, length, map, take, drop, Some, None, Result, Ok, Err, refl, sym, ◌∙◌, ap, subst, arith}
 use Rattle.std.specs.Prelude.{◌==◌, nat_lt, codes, is_some, unwrap_or, slice_index, if◌then◌else◌}
 use Rattle.std.proofs.lemmas.Bool.Decides.{nat_tests}
@@ -21,7 +22,7 @@ use Rattle.bufr_walk.specs.Reading.{Values, apart, together, IsReading, plain, a
 use Rattle.bufr_walk.specs.Reading as reading
 use Rattle.bufr_fill.specs.Draft.{Draft}
 use Rattle.bufr_fill.specs.DraftContent.{content_of}
-use Rattle.bufr_fill.specs.Entries.{Subset}
+use Rattle.bufr_fill.specs.Entries.{Subset, subsets_of}
 use Rattle.bufr_fill.specs.Fault.{FaultAt}
 use Rattle.bufr_fill.specs.Normal.{normal_form}
 use Rattle.bufr_fill.specs.ReadBack.{IsSaid, AreSaid}
@@ -35,9 +36,9 @@ use Rattle.bufr_text.specs.declared.form.Form.TheVariants.{AsWritten, Plain, Com
 use Rattle.bufr_text.specs.Document.{Document, optional_in}
 use Rattle.bufr_text.specs.Documents.{Spelled, documents_of}
 use Rattle.bufr_text.specs.Dump.{Item, bit, header_lines, local1_line, section2_line, descriptors_line, head_lines, form_text, comment_text, item_text, subset_line, subset_lines, text_of, dump_text_of, subset_entries, lines_before, document_of}
-use Rattle.bufr_text.specs.Dumped.{item_of, items_apart, subsets_together}
-use Rattle.bufr_text.specs.Encoded.{items_in}
-use Rattle.bufr_text.specs.Encoding.{RefusedAt, too_long, refused_at, ◌>>=◌, told_of_template, told_of_items, drafts_of, data_bits, octets_of_bits, parts_as, parts_in, compressed_as, message_of, encoding_in, encoding_of}
+use Rattle.bufr_text.specs.DumpItems.{item_of, items_apart, subsets_together}
+use Rattle.bufr_text.specs.RoundTrip.{items_in}
+use Rattle.bufr_text.specs.Encoding.{RefusedAt, too_long, refused_at, ◌>>=◌, told_of_template, told_of_items, data_bits, octets_of_bits, parts_as, parts_in, compressed_as, message_of, encoding_in, encoding_of}
 use Rattle.bufr_text.specs.Grammar.{runs_of}
 use Rattle.bufr_text.specs.Header.{IsHeaded, head_in, observed_in, compressed_in, section2_in}
 use Rattle.bufr_text.specs.InForm.{each_subset}
@@ -46,7 +47,7 @@ use Rattle.bufr_text.specs.Normal.{header_as, normal_head, comment_at, normal_li
 use Rattle.bufr_text.specs.Proper.{IsProper}
 use Rattle.bufr_text.specs.ReadBack.{AreValuesOf, IsReadAs}
 use Rattle.bufr_text.proofs.DumpableLemmas.{dumpable}
-use Rattle.bufr_text.proofs.EncodedLemmas.{same_form, all_apart, all_together, bit_back, parts_back, parts_with}
+use Rattle.bufr_text.proofs.RoundTripLemmas.{same_form, all_apart, all_together, bit_back, parts_back, parts_with}
 use Rattle.bufr_text.proofs.FormLemmas.{items_each}
 use Rattle.bufr_text.proofs.HeaderLemmas.{header-widest}
 use Rattle.bufr_text.proofs.LawLemmas.{one-document}
@@ -199,7 +200,7 @@ module _ (form : Form) (records : List Record) (table : List Row) (sequences : L
   pub dump_is_normal : IsProper d → dump_text_of h.sections shown_items ≡ normal form table h.template d
   dump_is_normal proper =
       ap (λ hs. text_of (hs ++ (subset_lines 1 shown_items ++ codes "end" ∷ []))) (head_is form d proper table sequences octets h)
-      ∙ ap (λ ls. text_of (normal_head form d ++ (ls ++ codes "end" ∷ []))) (lines_of_items (drafts_of d.entries) (proper.counted ∙ sym h.subsets) h.said)
+      ∙ ap (λ ls. text_of (normal_head form d ++ (ls ++ codes "end" ∷ []))) (lines_of_items (subsets_of d.entries) (proper.counted ∙ sym h.subsets) h.said)
 
   -- ---- the document of the dump
 
@@ -208,7 +209,7 @@ module _ (form : Form) (records : List Record) (table : List Row) (sequences : L
     again = document_of at h.sections shown_items
 
     abbrev drafts_again : List Subset
-    drafts_again = drafts_of again.entries
+    drafts_again = subsets_of again.entries
 
     -- the drafts of the dump
     record AreAgain (values : Values) (drafts : List Subset) : Type 0 where
@@ -219,9 +220,9 @@ module _ (form : Form) (records : List Record) (table : List Row) (sequences : L
     by_flag : (b c : Bool) (xs ys : List Subset) → b ≡ c → data_bits c course xs ≡ data_bits c course ys → data_bits b course xs ≡ data_bits b course ys
     by_flag b c xs ys e g = subst (λ x. data_bits x course xs ≡ data_bits x course ys) (sym e) g
 
-    are_again : (values : Values) (used place : ℕ) → IsReading course (data_of h.sections) values used → AreAgain values (drafts_of (subset_entries place (items_in table h.template h.sections values)))
+    are_again : (values : Values) (used place : ℕ) → IsReading course (data_of h.sections) values used → AreAgain values (subsets_of (subset_entries place (items_in table h.template h.sections values)))
     are_again (apart subsets) used place read =
-        let drafts = drafts_of (subset_entries place (map (items_apart table) subsets)) in
+        let drafts = subsets_of (subset_entries place (map (items_apart table) subsets)) in
         let dumped = all_apart table place subsets in
         let said = subsets_said course subsets drafts (plain_follows records table h.template rows legal subsets bits (drop used bits) read.2.0) dumped in
         record {
@@ -230,7 +231,7 @@ module _ (form : Form) (records : List Record) (table : List Row) (sequences : L
           alike = λ others count is. by_flag h.sections.compressed false others drafts read.0 (plain_said_alike records table h.template subsets others drafts bits (drop used bits) rows legal read.2.0 is said);
         }
     are_again (together items) used place read =
-        let drafts = drafts_of (subset_entries place (subsets_together table h.sections.subsets 0 items)) in
+        let drafts = subsets_of (subset_entries place (subsets_together table h.sections.subsets 0 items)) in
         let dumped = all_together table place h.sections.subsets 0 items in
         let said = together_said course h.sections.subsets 0 items drafts dumped.1 (packed_follows records table h.template rows legal h.sections.subsets items bits (drop used bits) read.2) dumped.0 in
         record {
@@ -267,16 +268,16 @@ module _ (form : Form) (records : List Record) (table : List Row) (sequences : L
     parts_are payload = parts_back at h.sections shown_items payload ∙ (λ j. parts_of (h.local1 j) (h.section2 j) (h.descriptors j) (h.subsets j) (h.observed j) (h.compressed j) payload)
 
     -- the bits of the data are the same
-    data_are : IsProper d → data_bits (compressed_as form d) course (drafts_of d.entries) ≡ data_bits (compressed_in again) course drafts_again
+    data_are : IsProper d → data_bits (compressed_as form d) course (subsets_of d.entries) ≡ data_bits (compressed_in again) course drafts_again
     data_are proper =
-        ap (λ b. data_bits b course (drafts_of d.entries)) (sym h.compressed)
-        ∙ drafts_are.alike (drafts_of d.entries) (proper.counted ∙ sym h.subsets) h.said
+        ap (λ b. data_bits b course (subsets_of d.entries)) (sym h.compressed)
+        ∙ drafts_are.alike (subsets_of d.entries) (proper.counted ∙ sym h.subsets) h.said
         ∙ ap (λ b. data_bits b course drafts_again) (sym (bit_back h.sections.compressed))
 
-    encoded_from : encoding_in form table sequences d ≡ message_with d.line (head_in d) parts_said (data_bits (compressed_as form d) course (drafts_of d.entries))
+    encoded_from : encoding_in form table sequences d ≡ message_with d.line (head_in d) parts_said (data_bits (compressed_as form d) course (subsets_of d.entries))
     unfolding encoding_in
     encoded_from =
-        ap (λ r. told_of_template d.line r >>= λ t. message_with d.line (head_in d) parts_said (data_bits (compressed_as form d) (next_item table t) (drafts_of d.entries)))
+        ap (λ r. told_of_template d.line r >>= λ t. message_with d.line (head_in d) parts_said (data_bits (compressed_as form d) (next_item table t) (subsets_of d.entries)))
         (ap (tree_of (tables_of table sequences)) (sym h.descriptors) ∙ h.accepted.expands)
 
     again_from : encoding_of table sequences again ≡ message_with at h.sections.head (parts_in again) (data_bits (compressed_in again) course drafts_again)
@@ -288,7 +289,7 @@ module _ (form : Form) (records : List Record) (table : List Row) (sequences : L
     encoded_again_same proper e =
         again_from
         ∙ (λ j. message_with at (h.head j) (λ payload. parts_are payload j) (sym (data_are proper) j))
-        ∙ other_line d.line (head_in d) parts_said (data_bits (compressed_as form d) course (drafts_of d.entries)) (sym encoded_from ∙ e)
+        ∙ other_line d.line (head_in d) parts_said (data_bits (compressed_as form d) course (subsets_of d.entries)) (sym encoded_from ∙ e)
 
   pub one_document_again : IsProper d → documents_of (normal form table h.template d) ≡ Spelled (document_of 1 h.sections shown_items) ∷ []
   one_document_again proper =

@@ -2,10 +2,9 @@
 use Rattle.std.proofs.Common.{◌≡◌, ℕ, ◌+◌, List, [], ◌∷◌, ◌++◌, length, refl, ap, ◌∙◌, subst, sym, arith}
 use Rattle.std.specs.List.{AllByRecursion}
 use Rattle.bufr_fill.specs.Draft.{Draft}
-use Rattle.bufr_fill.specs.Entries.{Subset, onto_first}
+use Rattle.bufr_fill.specs.Entries.{Entry, Holds, Ends, Subset, onto_first, subsets_of}
 use Rattle.bufr_fill.specs.ReadBack.{HasOctets, AllHaveOctets}
-use Rattle.bufr_text.specs.Document.{Document, Entry, Holds, Ends}
-use Rattle.bufr_text.specs.Encoding.{drafts_of}
+use Rattle.bufr_text.specs.Document.{Document}
 use Rattle.bufr_text.specs.Given.{IsOctet, IsWord}
 use Rattle.bufr_text.specs.Proper.{AreEnded}
 use Rattle.bufr_text.specs.Step.{IsBare, IsLaid, EntryHasOctets}
@@ -19,14 +18,14 @@ onto-length item [] = refl
 onto-length item (s ∷ ss) = refl
 
 -- an item ends no subset, and an end ends one
-pub item-ends-none : (es : List Entry) (item : Draft) → length (drafts_of (es ++ Holds item ∷ [])) ≡ length (drafts_of es)
+pub item-ends-none : (es : List Entry) (item : Draft) → length (subsets_of (es ++ Holds item ∷ [])) ≡ length (subsets_of es)
 item-ends-none [] item = refl
-item-ends-none (Holds first ∷ es) item = onto-length first (drafts_of (es ++ Holds item ∷ [])) ∙ item-ends-none es item ∙ sym (onto-length first (drafts_of es))
+item-ends-none (Holds first ∷ es) item = onto-length first (subsets_of (es ++ Holds item ∷ [])) ∙ item-ends-none es item ∙ sym (onto-length first (subsets_of es))
 item-ends-none (Ends line ∷ es) item = omega (arith, item-ends-none es item)
 
-pub end-ends-one : (es : List Entry) (at : ℕ) → length (drafts_of (es ++ Ends at ∷ [])) ≡ length (drafts_of es) + 1
+pub end-ends-one : (es : List Entry) (at : ℕ) → length (subsets_of (es ++ Ends at ∷ [])) ≡ length (subsets_of es) + 1
 end-ends-one [] at = refl
-end-ends-one (Holds first ∷ es) at = onto-length first (drafts_of (es ++ Ends at ∷ [])) ∙ end-ends-one es at ∙ ap (λ (n : ℕ). n + 1) (sym (onto-length first (drafts_of es)))
+end-ends-one (Holds first ∷ es) at = onto-length first (subsets_of (es ++ Ends at ∷ [])) ∙ end-ends-one es at ∙ ap (λ (n : ℕ). n + 1) (sym (onto-length first (subsets_of es)))
 end-ends-one (Ends line ∷ es) at = omega (arith, end-ends-one es at)
 
 pub ends-last : (es : List Entry) (at : ℕ) → AreEnded (es ++ Ends at ∷ [])
@@ -41,9 +40,9 @@ onto-octets : (item : Draft) (ss : List Subset) → HasOctets item.form → AllH
 onto-octets item [] h all = tt
 onto-octets item (s ∷ ss) h (first, all) = ((h, first), all)
 
-pub drafts-octets : (es : List Entry) → AllByRecursion EntryHasOctets es → AllHaveOctets (drafts_of es)
+pub drafts-octets : (es : List Entry) → AllByRecursion EntryHasOctets es → AllHaveOctets (subsets_of es)
 drafts-octets [] all = tt
-drafts-octets (Holds item ∷ es) (h, all) = onto-octets item (drafts_of es) h (drafts-octets es all)
+drafts-octets (Holds item ∷ es) (h, all) = onto-octets item (subsets_of es) h (drafts-octets es all)
 drafts-octets (Ends line ∷ es) (h, all) = (tt, drafts-octets es all)
 
 -- nothing was read behind the header

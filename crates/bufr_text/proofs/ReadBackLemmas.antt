@@ -20,20 +20,20 @@ use Rattle.bufr_frame.proofs.LayoutLemmas.{read-back}
 use Rattle.bufr_walk.specs.Content.{Content}
 use Rattle.bufr_walk.specs.Course.{next_item}
 use Rattle.bufr_walk.specs.Reading.{Values, apart, together, Item, IsReading}
-use Rattle.bufr_fill.specs.Entries.{Subset}
+use Rattle.bufr_fill.specs.Entries.{Subset, subsets_of}
 use Rattle.bufr_fill.specs.Fault.{FaultAt}
 use Rattle.bufr_fill.specs.ReadBack.{AllHaveOctets, AreSaid}
 use Rattle.bufr_fill.proofs.BackLaws.{plain_template_back, packed_template_back}
 use Rattle.bufr_fill.proofs.FieldBits.{octets_in-are}
 use Rattle.bufr_text.specs.declared.form.Form.{Form}
 use Rattle.bufr_text.specs.Document.{Document, optional_in}
-use Rattle.bufr_text.specs.Encoding.{too_long, refused_at, ◌>>=◌, told_of_template, told_of_items, drafts_of, data_bits, octets_of_bits, parts_as, compressed_as, message_of, encoding_in}
+use Rattle.bufr_text.specs.Encoding.{too_long, refused_at, ◌>>=◌, told_of_template, told_of_items, data_bits, octets_of_bits, parts_as, compressed_as, message_of, encoding_in}
 use Rattle.bufr_text.specs.Given.{IsOctet}
 use Rattle.bufr_text.specs.Header.{head_in}
 use Rattle.bufr_text.specs.Proper.{IsProper}
 use Rattle.bufr_text.specs.ReadBack.{AreValuesOf, IsReadAs}
 use Rattle.bufr_text.proofs.DumpableLemmas.{octets_are}
-use Rattle.bufr_text.proofs.EncodedLemmas.{padded, payload_bits, size_is}
+use Rattle.bufr_text.proofs.RoundTripLemmas.{padded, payload_bits, size_is}
 use Rattle.bufr_text.proofs.FormLemmas.{plain_reading, packed_reading}
 use Rattle.bufr_text.proofs.FramedLemmas.{octets_small, framed}
 use Rattle.bufr_text.proofs.HeaderLemmas.{headed-fits, subsets-few}
@@ -68,7 +68,7 @@ module _ (records : List Record) (table : List Row) (template : Tree) (rows : Ar
 
 module _ (form : Form) (records : List Record) (table : List Row) (sequences : List Sequence) (rows : AreRows records table) (d : Document) (proper : IsProper d) (octets : List ℕ) where
   abbrev data_in : Tree → Result (List Bool) FaultAt
-  data_in template = data_bits (compressed_as form d) (next_item table template) (drafts_of d.entries)
+  data_in template = data_bits (compressed_as form d) (next_item table template) (subsets_of d.entries)
 
   made : (template : Tree) (bits : List Bool) → tree_of (tables_of table sequences) d.descriptors ≡ Ok template → data_in template ≡ Ok bits
       → message_size (head_in d).edition (parts_as (compressed_as form d) d (octets_of_bits bits)) ≤ most_octets → IsReadAs form table sequences d (message_octets (head_in d) (parts_as (compressed_as form d) d (octets_of_bits bits)))
@@ -77,7 +77,7 @@ module _ (form : Form) (records : List Record) (table : List Row) (sequences : L
       let payload = octets_of_bits bits in
       let parts = parts_as (compressed_as form d) d payload in
       let legal = (tree_fine (tables_of table sequences) d.descriptors template expands).legal in
-      let f = filled records table template rows legal (drafts_of d.entries) bits proper.texts (compressed_as form d) fills in
+      let f = filled records table template rows legal (subsets_of d.entries) bits proper.texts (compressed_as form d) fills in
       let message = message_octets head parts in
       let fits = headed-fits d proper.headed in
       let back = read-back head parts (fitting-writable head fits) in

@@ -9,16 +9,16 @@ use Rattle.bufr_text.specs.Documents as documents
 use Rattle.bufr_text.specs.Documents.{Between, Heading, Laying, Filling, Stopped, Told, Refused, NotAllowed, spelled, lines_of, told_at_end}
 use Rattle.bufr_text.specs.Reading.{has_no_feed, GoesOn, Passes, PassesEnd, spells}
 use Rattle.bufr_text.specs.Reader.{State, stand}
-use Rattle.bufr_text.specs.Filling.{place_now, ends_by_feed, DraftSo, Tells, WantsHere, WentSo, fault_at, stopped}
+use Rattle.bufr_text.specs.Filling.{place_now, ends_by_feed, ProgressSo, Tells, WantsHere, WentSo, fault_at, stopped}
 use Rattle.bufr_text.specs.Step.{place_with, fault_of, Stands}
 use Rattle.bufr_text.specs.Taking.{told_of, place_behind, TakesSo, WantsAt}
-use Rattle.bufr_text.specs.declared.draft.Draft.{Draft}
-use Rattle.bufr_text.specs.declared.draft.Taken.{Taken}
-use Rattle.bufr_text.specs.declared.draft.Taken.TheVariants as taken
+use Rattle.bufr_text.specs.declared.progress.Progress.{Progress}
+use Rattle.bufr_text.specs.declared.progress.TakingEnd.{TakingEnd}
+use Rattle.bufr_text.specs.declared.progress.TakingEnd.TheVariants as taken
 use Rattle.bufr_text.specs.declared.step.Place.{Place}
 use Rattle.bufr_text.specs.declared.step.Place.TheVariants as place
-use Rattle.bufr_text.specs.declared.step.Refusal.{Refusal}
-use Rattle.bufr_text.specs.declared.step.Refusal.TheVariants as refusal
+use Rattle.bufr_text.specs.declared.step.LineRefusal.{LineRefusal}
+use Rattle.bufr_text.specs.declared.step.LineRefusal.TheVariants as refusal
 use Rattle.bufr_text.specs.declared.fault.ReadFault.{ReadFault}
 use Rattle.bufr_text.specs.declared.fault.ReadFault.TheVariants as fault
 use Rattle.bufr_text.proofs.ReadingLemmas.{ends-inside, refuses-long, Reads}
@@ -36,16 +36,16 @@ range-kept old new len a b order within same =
     ∙ sym (part-front old a b order)
 
 -- where a reader stands that goes on
-pub place-sound : (f : Option ReadFault) (draft : Draft) → f ≡ None → place_now f draft ≡ place_with draft.place draft.parts
-place-sound None draft e = refl
-place-sound (Some f) draft e = absurd cc
+pub place-sound : (f : Option ReadFault) (progress : Progress) → f ≡ None → place_now f progress ≡ place_with progress.place progress.parts
+place-sound None progress e = refl
+place-sound (Some f) progress e = absurd cc
 
 -- a reader that stops
 abbrev pub state : (at : ℕ) → documents.Place → List ℕ → Bool → Option ReadFault → ℕ → State
 state at place held ended fault reads = record { at = at; place = place; held = held; ended = ended; fault = fault; reads = reads }
 
 -- what lines tell that were taken
-pub takes-tells : (old new : Draft) (f f' : Option ReadFault) (items held : List ℕ) (start filled len : ℕ) (ended : Bool) (reads : ℕ) (step : Taken) (p : documents.Place)
+pub takes-tells : (old new : Progress) (f f' : Option ReadFault) (items held : List ℕ) (start filled len : ℕ) (ended : Bool) (reads : ℕ) (step : TakingEnd) (p : documents.Place)
     → TakesSo old new held len step → f ≡ None → held ≡ slice_range items start filled → filled ≤ length items → p ≡ place_behind step new
     → Tells (state old.at (place_now f old) (slice_range items start filled) ended f reads) (state new.at p (slice_range items (start + len) filled) ended f' reads) (told_of step new.parts)
 takes-tells old new f f' items held start filled len ended reads step p takes none is within place =
@@ -63,10 +63,10 @@ takes-tells old new f f' items held start filled len ended reads step p takes no
     }
 
 -- where memory was wanted
-pub wants-here : (old : Draft) (f : Option ReadFault) (items held : List ℕ) (start filled : ℕ) (ended : Bool) (reads : ℕ) → WantsAt old held → f ≡ None → held ≡ slice_range items start filled
+pub wants-here : (old : Progress) (f : Option ReadFault) (items held : List ℕ) (start filled : ℕ) (ended : Bool) (reads : ℕ) → WantsAt old held → f ≡ None → held ≡ slice_range items start filled
     → WantsHere (state old.at (place_now f old) (slice_range items start filled) ended f reads)
 wants-here old f items held start filled ended reads w none is =
-    let n = w.draft in
+    let n = w.progress in
     let place = place_with n.place n.parts in
     let A : documents.Place → Type 0 = λ q. GoesOn (record { at = old.at; place = q; held = slice_range items start filled; ended = ended }) (record { at = n.at; place = place; held = drop w.place held; ended = ended }) [] in
     let C : List ℕ → Type 0 = λ h. GoesOn (record { at = old.at; place = place_with old.place old.parts; held = h; ended = ended }) (record { at = n.at; place = place; held = drop w.place held; ended = ended }) [] in
@@ -83,7 +83,7 @@ wants-here old f items held start filled ended reads w none is =
     }
 
 -- the `end` line of a document that they tell
-pub takes-end : (old new : Draft) (items held : List ℕ) (start filled len : ℕ) → TakesSo old new held len taken.Gives → held ≡ slice_range items start filled → filled ≤ length items → PassesEnd old.at (slice_range items start filled) new.at (slice_range items (start + len) filled)
+pub takes-end : (old new : Progress) (items held : List ℕ) (start filled len : ℕ) → TakesSo old new held len taken.Gives → held ≡ slice_range items start filled → filled ≤ length items → PassesEnd old.at (slice_range items start filled) new.at (slice_range items (start + len) filled)
 takes-end old new items held start filled len takes is within =
     let long : length held ≡ filled - start = ap length is ∙ part-length items start filled within in
     let rest : drop len held ≡ slice_range items (start + len) filled = ap (drop len) is ∙ part-drop items start filled len (omega (arith, takes.within, long)) in
@@ -91,13 +91,13 @@ takes-end old new items held start filled len takes is within =
     let F : List ℕ → Type 0 = λ h. PassesEnd old.at held new.at h in
     subst E is (subst F rest (takes.closes refl))
 
-pub rest-clean : (old new : Draft) (items held : List ℕ) (start filled len : ℕ) → TakesSo old new held len taken.More → held ≡ slice_range items start filled → filled ≤ length items → has_no_feed (slice_range items (start + len) filled) ≡ true
+pub rest-clean : (old new : Progress) (items held : List ℕ) (start filled len : ℕ) → TakesSo old new held len taken.More → held ≡ slice_range items start filled → filled ≤ length items → has_no_feed (slice_range items (start + len) filled) ≡ true
 rest-clean old new items held start filled len takes is within =
     let long : length held ≡ filled - start = ap length is ∙ part-length items start filled within in
     let rest : drop len held ≡ slice_range items (start + len) filled = ap (drop len) is ∙ part-drop items start filled len (omega (arith, takes.within, long)) in
     ap has_no_feed (sym rest) ∙ takes.all refl
 
-pub taken-within : (old new : Draft) (items held : List ℕ) (start filled len : ℕ) (step : Taken) → TakesSo old new held len step → held ≡ slice_range items start filled → filled ≤ length items → start ≤ filled → start + len ≤ filled
+pub taken-within : (old new : Progress) (items held : List ℕ) (start filled len : ℕ) (step : TakingEnd) → TakesSo old new held len step → held ≡ slice_range items start filled → filled ≤ length items → start ≤ filled → start + len ≤ filled
 taken-within old new items held start filled len step takes is within order =
     let long : length held ≡ filled - start = ap length is ∙ part-length items start filled within in
     omega (arith, takes.within, long, order)
@@ -106,16 +106,16 @@ pub taken-ends : (items : List ℕ) (start filled len : ℕ) → start + len ≤
 taken-ends items start filled len within e =
     ap ends_by_feed (sym (part-drop items start filled len (omega (arith, within)))) ∙ ends-drop len (slice_range items start filled) e
 
--- the draft of a reader that goes on
-pub draft-more : (old new : Draft) (held : List ℕ) (start filled len reads : ℕ) → TakesSo old new held len taken.More → DraftSo old (filled - start) reads → start + len ≤ filled → DraftSo new (filled - (start + len)) reads
-draft-more old new held start filled len reads takes is within = record {
+-- the progress of a reader that goes on
+pub progress-more : (old new : Progress) (held : List ℕ) (start filled len reads : ℕ) → TakesSo old new held len taken.More → ProgressSo old (filled - start) reads → start + len ≤ filled → ProgressSo new (filled - (start + len)) reads
+progress-more old new held start filled len reads takes is within = record {
   stands = takes.stands;
   some = omega (arith, is.some, takes.passes.counted);
   near = omega (arith, is.near, takes.near, within);
 }
 
-pub draft-between : (old new d : Draft) (held : List ℕ) (start filled len reads : ℕ) (step : Taken) → TakesSo old new held len step → DraftSo old (filled - start) reads → start + len ≤ filled → d.at ≡ new.at → d.place ≡ place.Between → DraftSo d (filled - (start + len)) reads
-draft-between old new d held start filled len reads step takes is within same between =
+pub progress-between : (old new d : Progress) (held : List ℕ) (start filled len reads : ℕ) (step : TakingEnd) → TakesSo old new held len step → ProgressSo old (filled - start) reads → start + len ≤ filled → d.at ≡ new.at → d.place ≡ place.Between → ProgressSo d (filled - (start + len)) reads
+progress-between old new d held start filled len reads step takes is within same between =
     let S : Place → Type 0 = λ p. Stands d.at (place_with p d.parts) in
     record {
       stands = subst S (sym between) tt;
@@ -156,17 +156,17 @@ pub long-tells : (s : State) → Reads s.place → has_no_feed s.held ≡ true �
 long-tells s reads clean long = record { goes = refuses-long s.at s.place s.held s.ended reads clean long; passes = passes-none s.at s.held }
 
 -- a line that is refused
-by-fault : (now : State) (at line : ℕ) (draft : Draft) (held : List ℕ) (ended : Bool) (reads : ℕ) (refusal : Refusal) → ((f : Option ReadFault) → Tells now (state at Stopped held ended f reads) (Refused line (fault_of refusal) ∷ []))
-    → WentSo now (state at (place_now (Some (fault_at line refusal)) draft) held ended (Some (fault_at line refusal)) reads) (Err (fault_at line refusal))
-by-fault now at line draft held ended reads refusal.NotAllowed tells = (tells (Some (fault.Line line)), refl)
-by-fault now at line draft held ended reads refusal.SubsetCount tells = (tells (Some (fault.SubsetCount line)), refl)
-by-fault now at line draft held ended reads refusal.HeaderRange tells = (tells (Some (fault.HeaderRange line)), refl)
+by-fault : (now : State) (at line : ℕ) (progress : Progress) (held : List ℕ) (ended : Bool) (reads : ℕ) (refusal : LineRefusal) → ((f : Option ReadFault) → Tells now (state at Stopped held ended f reads) (Refused line (fault_of refusal) ∷ []))
+    → WentSo now (state at (place_now (Some (fault_at line refusal)) progress) held ended (Some (fault_at line refusal)) reads) (Err (fault_at line refusal))
+by-fault now at line progress held ended reads refusal.NotAllowed tells = (tells (Some (fault.Line line)), refl)
+by-fault now at line progress held ended reads refusal.SubsetCount tells = (tells (Some (fault.SubsetCount line)), refl)
+by-fault now at line progress held ended reads refusal.HeaderRange tells = (tells (Some (fault.HeaderRange line)), refl)
 
-pub refuses-went : (now : State) (at line : ℕ) (draft : Draft) (held : List ℕ) (ended : Bool) (reads : ℕ) (refusal : Refusal) (f : ReadFault) → f ≡ fault_at line refusal → ((f : Option ReadFault) → Tells now (state at Stopped held ended f reads) (Refused line (fault_of refusal) ∷ []))
-    → WentSo now (state at (place_now (Some f) draft) held ended (Some f) reads) (Err f)
-refuses-went now at line draft held ended reads refusal f is tells =
-    let W : ReadFault → Type 0 = λ f. WentSo now (state at (place_now (Some f) draft) held ended (Some f) reads) (Err f) in
-    subst W (sym is) (by-fault now at line draft held ended reads refusal tells)
+pub refuses-went : (now : State) (at line : ℕ) (progress : Progress) (held : List ℕ) (ended : Bool) (reads : ℕ) (refusal : LineRefusal) (f : ReadFault) → f ≡ fault_at line refusal → ((f : Option ReadFault) → Tells now (state at Stopped held ended f reads) (Refused line (fault_of refusal) ∷ []))
+    → WentSo now (state at (place_now (Some f) progress) held ended (Some f) reads) (Err f)
+refuses-went now at line progress held ended reads refusal f is tells =
+    let W : ReadFault → Type 0 = λ f. WentSo now (state at (place_now (Some f) progress) held ended (Some f) reads) (Err f) in
+    subst W (sym is) (by-fault now at line progress held ended reads refusal tells)
 
 -- a buffer that grew
 pub grown : (old new room : List ℕ) (len : ℕ) → new ≡ take 8192 old ++ room → len ≡ length old → len ≤ 8192 → take len new ≡ old
@@ -188,8 +188,8 @@ pub some-read : (items items1 items2 rest bs : List ℕ) (place filled slid n : 
 some-read items items1 items2 rest bs place filled slid n is less order within kept held count =
     rest-read items items1 items2 rest bs place filled slid n is less order within kept held count ∙ sym (append-nil (rest ++ bs))
 
-pub draft-read : (d : Draft) (held held' reads : ℕ) → DraftSo d held reads → held' ≤ held + 4096 → DraftSo d held' (reads + 1)
-draft-read d held held' reads is few = record { stands = is.stands; some = is.some; near = omega (arith, is.near, few) }
+pub progress-read : (d : Progress) (held held' reads : ℕ) → ProgressSo d held reads → held' ≤ held + 4096 → ProgressSo d held' (reads + 1)
+progress-read d held held' reads is few = record { stands = is.stands; some = is.some; near = omega (arith, is.near, few) }
 
 -- the room is made once, before the first read
 pub none-read : (reads room : ℕ) → (0 < reads → room ≡ 8192) → room < 8192 → reads ≡ 0

@@ -39,7 +39,8 @@ descriptors : all_said (codes "descriptors 001001" ∷ codes "descriptors 001001
 unfolding line_of worded front behind behind_word descriptors_read fxy_read value_read is_hashed place_from keys
 descriptors = refl
 
--- in a text: escapes with upper-case digits, for any octet; nothing that cannot be printed; the closing quote
+-- in a text: escapes with upper-case digits, for any octet; nothing that cannot be printed; the
+-- closing quote
 texts : all_said (
     (codes "205001 " ++ 34 ∷ 92 ∷ codes "x41" ++ 34 ∷ []) ∷ (codes "205001 " ++ 34 ∷ 92 ∷ codes "xaf" ++ 34 ∷ []) ∷ (codes "205001 " ++ 34 ∷ 92 ∷ codes "n" ++ 34 ∷ []) ∷ (codes "205001 " ++ 34 ∷ 126 ∷ 34 ∷ []) ∷ (codes "205001 " ++ 34 ∷ 127 ∷ 34 ∷ [])
     ∷ (codes "205001 " ++ 34 ∷ 254 ∷ 34 ∷ []) ∷ (codes "205001 " ++ 34 ∷ 65 ∷ []) ∷ (codes "205001 " ++ 34 ∷ 34 ∷ 34 ∷ []) ∷ [])
@@ -47,7 +48,8 @@ texts : all_said (
 unfolding line_of worded front behind behind_word fxy_read value_read quoted_read is_hashed
 texts = refl
 
--- the lines of a document, with these from the one of `centre` to that of `subsets`, and these behind them
+-- the lines of a document, with these from the one of `centre` to that of `subsets`, and these
+-- behind them
 abbrev document_with : (centre optional subsets : List ℕ) → (more : List (List ℕ)) → List ℕ
 document_with centre optional subsets more = text_of (
     codes "message" ∷ codes "edition 4" ∷ codes "master 0" ∷ centre ∷ codes "subcentre 0" ∷ codes "update 0" ∷ codes "category 0"

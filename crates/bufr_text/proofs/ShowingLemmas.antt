@@ -18,9 +18,9 @@ use Rattle.bufr_walk.specs.Shows.{Shows, EndsAt}
 use Rattle.bufr_walk.specs.Ticks.{ticked}
 use Rattle.bufr_text.specs.Dump.{item_text, subset_line, subset_lines, text_of, dump_lines, head_lines, header_lines, header_of, local1_line, section2_line, descriptors_line, dump_text_of}
 use Rattle.bufr_text.specs.Dump as dump
-use Rattle.bufr_text.specs.Dumped.{items_apart, items_of}
-use Rattle.bufr_text.specs.Dumped as dumped
-use Rattle.bufr_text.specs.Dumping.{Stretch, stretch, call_line, call_stretch, stretches_of, stretches_text, StopsAt, WritesStretches, WritesFront, CountsFaults}
+use Rattle.bufr_text.specs.DumpItems.{items_apart, items_of}
+use Rattle.bufr_text.specs.DumpItems as dumped
+use Rattle.bufr_text.specs.DumpWritten.{Stretch, stretch, call_line, call_stretch, stretches_of, stretches_text, StopsAt, WritesStretches, WritesFront, CountsFaults}
 use Rattle.bufr_text.specs.Pen.{Pen, InksCall, outcome_of}
 use Rattle.bufr_text.specs.Writing.{GrowsByFront}
 use Rattle.bufr_text.proofs.DumpLemmas.{front-none, front-longer, front-behind, CountsFaults-then, CountsFaults-of}

@@ -5,7 +5,8 @@ use Rattle.std.specs.Prelude.{slice_index}
 use Rattle.std.specs.List.{concat, AllByRecursion}
 use Rattle.std.proofs.lemmas.Bool.Decides.{nat_tests}
 use Rattle.bufr_fill.specs.Draft.{draft}
-use Rattle.bufr_text.specs.Document.{Document, Entry, Holds, Ends, blank, edition_in, optional_in, subsets_in}
+use Rattle.bufr_fill.specs.Entries.{Entry, Holds, Ends}
+use Rattle.bufr_text.specs.Document.{Document, blank, edition_in, optional_in, subsets_in}
 use Rattle.bufr_text.specs.Line.{Line, Header, Local1, Section2, Descriptors, Begins, Item, Closes}
 use Rattle.bufr_text.specs.Documents.{Place, Between, Heading, Laying, Filling, Goes, Gives, Spelled, turn, said, spelled, in_range, with_value, with_local1, with_section2, with_descriptors, with_entry}
 use Rattle.bufr_text.specs.Dump.{header_lines, local1_line, section2_line, descriptors_line, subset_line, subset_lines, item_text, form_of, item_entries, subset_entries}

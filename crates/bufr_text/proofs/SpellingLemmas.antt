@@ -5,10 +5,11 @@ use Rattle.std.proofs.lemmas.Bool.Decides.{nat_tests}
 use Rattle.std.proofs.lemmas.List.{map-append}
 use Rattle.bufr_bits.proofs.ScaledLemmas.{and_first, and_second}
 use Rattle.bufr_fill.specs.Draft.{Form, draft}
-use Rattle.bufr_text.specs.Document.{Document, Entry, Holds, Ends, edition_in, optional_in, subsets_in}
+use Rattle.bufr_fill.specs.Entries.{Entry, Holds, Ends}
+use Rattle.bufr_text.specs.Document.{Document, edition_in, optional_in, subsets_in}
 use Rattle.bufr_text.specs.Documents.{Place, Between, Heading, Laying, Filling, Stopped, Turn, Goes, Gives, Faults, NotAllowed, SubsetCount, HeaderRange, in_range, heading, beginning, closing, with_value, with_local1, with_section2, with_descriptors, with_entry, turn, said, spelled, place_after, told_at, told_at_end, lines_of, documents_of}
 use Rattle.bufr_text.specs.Line.{Line, Passed, Opens, Header, Local1, Section2, Descriptors, Begins, Item, Closes, Wrong}
-use Rattle.bufr_text.specs.Spelling.{Heard, heard, onto_heard, heard_from, header_lines, Element, Part, subset_lines, first_at, subset_entries, IsDocument, AreTold}
+use Rattle.bufr_text.specs.Spelling.{Heard, heard, onto_heard, heard_from, header_says, Element, SubsetHeard, subsets_heard, first_at, entries_heard, IsDocument, AreTold}
 use Rattle.bufr_text.specs.Step.{IsBare}
 use Rattle.bufr_text.proofs.ReadingLemmas.{stopped-tells}
 
@@ -32,11 +33,11 @@ onto-one at Closes more = refl
 onto-one at Wrong more = refl
 
 -- lists of lines
-headers-more : (key : ℕ) (values : List ℕ) (value : ℕ) → header_lines key (values ++ value ∷ []) ≡ header_lines key values ++ Header (key + length values) value ∷ []
+headers-more : (key : ℕ) (values : List ℕ) (value : ℕ) → header_says key (values ++ value ∷ []) ≡ header_says key values ++ Header (key + length values) value ∷ []
 headers-more key [] value = let e : key ≡ key + 0 = omega arith in ap (λ (k : ℕ). Header k value ∷ []) e
 headers-more key (v ∷ more) value =
     let e : key + 1 + length more ≡ key + length (v ∷ more) = omega arith in
-    ap (λ (t : List Line). Header key v ∷ t) (headers-more (key + 1) more value ∙ ap (λ (k : ℕ). header_lines (key + 1) more ++ Header k value ∷ []) e)
+    ap (λ (t : List Line). Header key v ∷ t) (headers-more (key + 1) more value ∙ ap (λ (k : ℕ). header_says (key + 1) more ++ Header k value ∷ []) e)
 
 concat-more : (xs : List (List ℕ)) (x : List ℕ) → concat (xs ++ x ∷ []) ≡ concat xs ++ x
 concat-more [] x = append-nil x
@@ -52,38 +53,38 @@ item_line i = heard i.at (Item i.fxy i.form)
 abbrev item_entry : Element → Entry
 item_entry i = Holds (draft i.at i.fxy i.form)
 
-abbrev with_item : Part → Element → Part
+abbrev with_item : SubsetHeard → Element → SubsetHeard
 with_item part i = record { at = part.at; items = part.items ++ i ∷ [] }
 
-abbrev bare_part : ℕ → Part
-bare_part at = record { at = at; items = [] }
+abbrev bare_subset : ℕ → SubsetHeard
+bare_subset at = record { at = at; items = [] }
 
-item-more : (k : ℕ) (done : List Part) (last : Part) (i : Element) → subset_lines k (done ++ with_item last i ∷ []) ≡ subset_lines k (done ++ last ∷ []) ++ item_line i ∷ []
+item-more : (k : ℕ) (done : List SubsetHeard) (last : SubsetHeard) (i : Element) → subsets_heard k (done ++ with_item last i ∷ []) ≡ subsets_heard k (done ++ last ∷ []) ++ item_line i ∷ []
 item-more k [] last i =
     ap (λ (t : List Heard). heard last.at (Begins k) ∷ t) (append-nil (map item_line (last.items ++ i ∷ [])) ∙ map-append item_line last.items (i ∷ []) ∙ ap (λ (t : List Heard). t ++ item_line i ∷ []) (sym (append-nil (map item_line last.items))))
 item-more k (part ∷ done) last i =
     ap (λ (t : List Heard). heard part.at (Begins k) ∷ t) (ap (λ (t : List Heard). map item_line part.items ++ t) (item-more (k + 1) done last i)
-    ∙ sym (append_assoc (map item_line part.items) (subset_lines (k + 1) (done ++ last ∷ [])) (item_line i ∷ [])))
+    ∙ sym (append_assoc (map item_line part.items) (subsets_heard (k + 1) (done ++ last ∷ [])) (item_line i ∷ [])))
 
-part-more : (k : ℕ) (done : List Part) (at : ℕ) → subset_lines k (done ++ bare_part at ∷ []) ≡ subset_lines k done ++ heard at (Begins (k + length done)) ∷ []
+part-more : (k : ℕ) (done : List SubsetHeard) (at : ℕ) → subsets_heard k (done ++ bare_subset at ∷ []) ≡ subsets_heard k done ++ heard at (Begins (k + length done)) ∷ []
 part-more k [] at = let e : k ≡ k + 0 = omega arith in ap (λ (n : ℕ). heard at (Begins n) ∷ []) e
 part-more k (part ∷ done) at =
     let e : k + 1 + length done ≡ k + length (part ∷ done) = omega arith in
-    ap (λ (t : List Heard). heard part.at (Begins k) ∷ t) (ap (λ (t : List Heard). map item_line part.items ++ t) (part-more (k + 1) done at ∙ ap (λ (n : ℕ). subset_lines (k + 1) done ++ heard at (Begins n) ∷ []) e)
-    ∙ sym (append_assoc (map item_line part.items) (subset_lines (k + 1) done) (heard at (Begins (k + length (part ∷ done))) ∷ [])))
+    ap (λ (t : List Heard). heard part.at (Begins k) ∷ t) (ap (λ (t : List Heard). map item_line part.items ++ t) (part-more (k + 1) done at ∙ ap (λ (n : ℕ). subsets_heard (k + 1) done ++ heard at (Begins n) ∷ []) e)
+    ∙ sym (append_assoc (map item_line part.items) (subsets_heard (k + 1) done) (heard at (Begins (k + length (part ∷ done))) ∷ [])))
 
-first-more : (done : List Part) (last : Part) (end : ℕ) → first_at (done ++ last ∷ []) end ≡ first_at done last.at
+first-more : (done : List SubsetHeard) (last : SubsetHeard) (end : ℕ) → first_at (done ++ last ∷ []) end ≡ first_at done last.at
 first-more [] last end = refl
 first-more (part ∷ done) last end = refl
 
-entries-more : (done : List Part) (last : Part) (end : ℕ) → subset_entries (done ++ last ∷ []) end ≡ (subset_entries done last.at ++ map item_entry last.items) ++ Ends end ∷ []
+entries-more : (done : List SubsetHeard) (last : SubsetHeard) (end : ℕ) → entries_heard (done ++ last ∷ []) end ≡ (entries_heard done last.at ++ map item_entry last.items) ++ Ends end ∷ []
 entries-more [] last end = refl
 entries-more (part ∷ done) last end =
     let here = map item_entry part.items in
     let f = first_at done last.at in
-    let rest = subset_entries done last.at in
+    let rest = entries_heard done last.at in
     let items = map item_entry last.items in
-    ap (λ (n : ℕ). here ++ Ends n ∷ subset_entries (done ++ last ∷ []) end) (first-more done last end)
+    ap (λ (n : ℕ). here ++ Ends n ∷ entries_heard (done ++ last ∷ []) end) (first-more done last end)
     ∙ ap (λ (t : List Entry). here ++ Ends f ∷ t) (entries-more done last end)
     ∙ sym (append_assoc here (Ends f ∷ rest ++ items) (Ends end ∷ []))
     ∙ ap (λ (t : List Entry). t ++ Ends end ∷ []) (sym (append_assoc here (Ends f ∷ rest) items))
@@ -96,7 +97,7 @@ record IsBegun (d : Document) (own : List Heard) : Type 0 where
   section2 : List (List ℕ)
   descriptors : List (List ℕ)
   are : own ≡ (heard d.line Opens ∷ header) ++ laid
-  in_order : says header ≡ header_lines 0 d.header
+  in_order : says header ≡ header_says 0 d.header
   parts : says laid ≡ map Local1 local1 ++ (map Section2 section2 ++ map Descriptors descriptors)
   local1_is : d.local1 ≡ concat local1
   section2_is : d.section2 ≡ concat section2
@@ -107,7 +108,7 @@ record IsBegun (d : Document) (own : List Heard) : Type 0 where
 record IsHeading (d : Document) (own : List Heard) : Type 0 where
   header : List Heard
   are : own ≡ heard d.line Opens ∷ header
-  in_order : says header ≡ header_lines 0 d.header
+  in_order : says header ≡ header_says 0 d.header
   bare : IsBare d
 
 -- the parts before the subsets stand in their order
@@ -121,11 +122,11 @@ record IsLaying (part : ℕ) (d : Document) (own : List Heard) : Type 0 where
 record IsFilling (subset : ℕ) (d : Document) (own : List Heard) : Type 0 where
   front : List Heard
   begun : IsBegun d front
-  done : List Part
-  last : Part
-  are : own ≡ front ++ subset_lines 1 (done ++ last ∷ [])
+  done : List SubsetHeard
+  last : SubsetHeard
+  are : own ≡ front ++ subsets_heard 1 (done ++ last ∷ [])
   counted : subset ≡ length done + 1
-  entries : d.entries ≡ subset_entries done last.at ++ map item_entry last.items
+  entries : d.entries ≡ entries_heard done last.at ++ map item_entry last.items
 
 -- which lines stand before a place in a document
 abbrev IsOpen : Place → List Heard → Type 0
@@ -156,11 +157,11 @@ passed : (place : Place) (own : List Heard) → IsOpen place own → IsOpen plac
 passed place own is = subst (λ (t : List Heard). IsOpen place t) (sym (append-nil own)) is
 
 -- a header line
-in-order : (d : Document) (at key value : ℕ) (header : List Heard) → key ≡ length d.header → says header ≡ header_lines 0 d.header → says (header ++ heard at (Header key value) ∷ []) ≡ header_lines 0 (d.header ++ value ∷ [])
+in-order : (d : Document) (at key value : ℕ) (header : List Heard) → key ≡ length d.header → says header ≡ header_says 0 d.header → says (header ++ heard at (Header key value) ∷ []) ≡ header_says 0 (d.header ++ value ∷ [])
 in-order d at key value header is order =
     let e : key ≡ 0 + length d.header = omega (arith, is) in
     map-append (λ (l : Heard). l.says) header (heard at (Header key value) ∷ []) ∙ ap (λ (t : List Line). t ++ Header key value ∷ []) order
-    ∙ ap (λ (k : ℕ). header_lines 0 d.header ++ Header k value ∷ []) e ∙ sym (headers-more 0 d.header value)
+    ∙ ap (λ (k : ℕ). header_says 0 d.header ++ Header k value ∷ []) e ∙ sym (headers-more 0 d.header value)
 
 heading-open : (at key value : ℕ) (d : Document) (own : List Heard) → IsHeading d own → IsOpenBehind (heading d (Header key value)) (own ++ heard at (Header key value) ∷ [])
 heading-open at key value d own is =
@@ -295,7 +296,7 @@ first-open at part subset d own is =
       front = own;
       begun = is.begun;
       done = [];
-      last = bare_part at;
+      last = bare_subset at;
       are = ap (λ (n : ℕ). own ++ heard at (Begins n) ∷ []) number;
       counted = number;
       entries = is.none;
@@ -340,7 +341,7 @@ begun-still d entry own b = record {
 }
 
 -- the entries of the subsets that are ended at a line
-ended-entries : (at subset : ℕ) (d : Document) (own : List Heard) (is : IsFilling subset d own) → d.entries ++ Ends at ∷ [] ≡ subset_entries (is.done ++ is.last ∷ []) at
+ended-entries : (at subset : ℕ) (d : Document) (own : List Heard) (is : IsFilling subset d own) → d.entries ++ Ends at ∷ [] ≡ entries_heard (is.done ++ is.last ∷ []) at
 ended-entries at subset d own is = ap (λ (t : List Entry). t ++ Ends at ∷ []) is.entries ∙ sym (entries-more is.done is.last at)
 
 next-open : (at subset next : ℕ) (d : Document) (own : List Heard) → IsFilling subset d own → IsOpenBehind (beginning subset (with_entry d (Ends at)) next) (own ++ heard at (Begins next) ∷ [])
@@ -351,11 +352,11 @@ next-open at subset next d own is =
       front = is.front;
       begun = begun-still d (Ends at) is.front is.begun;
       done = parts;
-      last = bare_part at;
-      are = ap (λ (t : List Heard). t ++ heard at (Begins next) ∷ []) is.are ∙ append_assoc is.front (subset_lines 1 parts) (heard at (Begins next) ∷ [])
-          ∙ ap (λ (t : List Heard). is.front ++ t) (ap (λ (n : ℕ). subset_lines 1 parts ++ heard at (Begins n) ∷ []) number ∙ sym (part-more 1 parts at));
+      last = bare_subset at;
+      are = ap (λ (t : List Heard). t ++ heard at (Begins next) ∷ []) is.are ∙ append_assoc is.front (subsets_heard 1 parts) (heard at (Begins next) ∷ [])
+          ∙ ap (λ (t : List Heard). is.front ++ t) (ap (λ (n : ℕ). subsets_heard 1 parts ++ heard at (Begins n) ∷ []) number ∙ sym (part-more 1 parts at));
       counted = omega (arith, number);
-      entries = ended-entries at subset d own is ∙ sym (append-nil (subset_entries parts at));
+      entries = ended-entries at subset d own is ∙ sym (append-nil (entries_heard parts at));
     }) (λ e. tt)
 
 item-open : (at subset : ℕ) (d : Document) (own : List Heard) (i : Element) → i.at ≡ at → IsFilling subset d own → IsFilling subset (with_entry d (item_entry i)) (own ++ item_line i ∷ [])
@@ -364,10 +365,10 @@ item-open at subset d own i here is = record {
   begun = begun-still d (item_entry i) is.front is.begun;
   done = is.done;
   last = with_item is.last i;
-  are = ap (λ (t : List Heard). t ++ item_line i ∷ []) is.are ∙ append_assoc is.front (subset_lines 1 (is.done ++ is.last ∷ [])) (item_line i ∷ []) ∙ ap (λ (t : List Heard). is.front ++ t) (sym (item-more 1 is.done is.last i));
+  are = ap (λ (t : List Heard). t ++ item_line i ∷ []) is.are ∙ append_assoc is.front (subsets_heard 1 (is.done ++ is.last ∷ [])) (item_line i ∷ []) ∙ ap (λ (t : List Heard). is.front ++ t) (sym (item-more 1 is.done is.last i));
   counted = is.counted;
-  entries = ap (λ (t : List Entry). t ++ item_entry i ∷ []) is.entries ∙ append_assoc (subset_entries is.done is.last.at) (map item_entry is.last.items) (item_entry i ∷ [])
-      ∙ ap (λ (t : List Entry). subset_entries is.done is.last.at ++ t) (sym (map-append item_entry is.last.items (i ∷ [])));
+  entries = ap (λ (t : List Entry). t ++ item_entry i ∷ []) is.entries ∙ append_assoc (entries_heard is.done is.last.at) (map item_entry is.last.items) (item_entry i ∷ [])
+      ∙ ap (λ (t : List Entry). entries_heard is.done is.last.at ++ t) (sym (map-append item_entry is.last.items (i ∷ [])));
 }
 
 end-open : (at subset : ℕ) (d : Document) (own : List Heard) → IsFilling subset d own → IsOpenBehind (closing subset (with_entry d (Ends at))) (own ++ heard at Closes ∷ [])
@@ -382,9 +383,9 @@ end-open at subset d own is =
       laid = b.laid;
       subsets = parts;
       end = at;
-      are = ap (λ (t : List Heard). t ++ heard at Closes ∷ []) (is.are ∙ ap (λ (t : List Heard). t ++ subset_lines 1 parts) b.are ∙ append_assoc (heard d.line Opens ∷ b.header) b.laid (subset_lines 1 parts))
-          ∙ append_assoc (heard d.line Opens ∷ b.header) (b.laid ++ subset_lines 1 parts) (heard at Closes ∷ [])
-          ∙ ap (λ (t : List Heard). (heard d.line Opens ∷ b.header) ++ t) (append_assoc b.laid (subset_lines 1 parts) (heard at Closes ∷ []));
+      are = ap (λ (t : List Heard). t ++ heard at Closes ∷ []) (is.are ∙ ap (λ (t : List Heard). t ++ subsets_heard 1 parts) b.are ∙ append_assoc (heard d.line Opens ∷ b.header) b.laid (subsets_heard 1 parts))
+          ∙ append_assoc (heard d.line Opens ∷ b.header) (b.laid ++ subsets_heard 1 parts) (heard at Closes ∷ [])
+          ∙ ap (λ (t : List Heard). (heard d.line Opens ∷ b.header) ++ t) (append_assoc b.laid (subsets_heard 1 parts) (heard at Closes ∷ []));
       in_order = b.in_order;
       parts = b.parts;
       local1_is = b.local1_is;

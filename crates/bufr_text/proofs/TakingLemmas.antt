@@ -9,11 +9,11 @@ use Rattle.bufr_text.specs.Dump.{text_of}
 use Rattle.bufr_text.specs.Reading.{has_no_feed, Stand, GoesOn, Passes}
 use Rattle.bufr_text.specs.Step.{place_with, fault_of, turned, Stands, StandsAfter}
 use Rattle.bufr_text.specs.Taking.{FeedAt, told_of, stand_of, stand_behind, TakesSo, IsTaking}
-use Rattle.bufr_text.specs.declared.draft.Draft.{Draft}
-use Rattle.bufr_text.specs.declared.draft.Taken.TheVariants as taken
+use Rattle.bufr_text.specs.declared.progress.Progress.{Progress}
+use Rattle.bufr_text.specs.declared.progress.TakingEnd.TheVariants as taken
 use Rattle.bufr_text.specs.declared.step.Turn.TheVariants as turn
 use Rattle.bufr_text.specs.declared.step.Place.{Place}
-use Rattle.bufr_text.specs.declared.step.Refusal.{Refusal}
+use Rattle.bufr_text.specs.declared.step.LineRefusal.{LineRefusal}
 use Rattle.bufr_text.proofs.HeaderLemmas.{turn-stands}
 use Rattle.bufr_text.proofs.SoundLemmas.{said-sound}
 use Rattle.bufr_text.proofs.ClosingLemmas.{gives-end}
@@ -23,7 +23,7 @@ drop-on : (a b : ℕ) (s : List ℕ) → drop a (drop b s) ≡ drop (b + a) s
 drop-on a b s = grind (arith, common_steps)
 
 -- a line is taken
-line-taken : (new : Draft) (held : List ℕ) (from n : ℕ) (t : documents.Turn) (ended : Bool) → FeedAt (drop from held) (Some n)
+line-taken : (new : Progress) (held : List ℕ) (from n : ℕ) (t : documents.Turn) (ended : Bool) → FeedAt (drop from held) (Some n)
     → t ≡ documents.turn new.at (place_with new.place new.parts) (said (take n (drop from held)))
     → GoesOn (stand_of new (drop from held) ended) (record { at = new.at + 1; place = place_after t; held = drop (from + (n + 1)) held; ended = ended }) (told_at new.at t)
 line-taken new held from n t ended feed e =
@@ -67,13 +67,13 @@ passes-feed at at' held from n p feed =
     subst P (drop-on (n + 1) from held) (passes-line at at' held (drop from held) (take n (drop from held)) (drop (n + 1) (drop from held)) p feed.1 feed.2)
 
 -- what holds behind a turn
-stands-behind : (new : Draft) (t : documents.Turn) (line : List ℕ) → Stands new.at (place_with new.place new.parts) → 0 < new.at → t ≡ documents.turn new.at (place_with new.place new.parts) (said line) → StandsAfter new.at t
+stands-behind : (new : Progress) (t : documents.Turn) (line : List ℕ) → Stands new.at (place_with new.place new.parts) → 0 < new.at → t ≡ documents.turn new.at (place_with new.place new.parts) (said line) → StandsAfter new.at t
 stands-behind new t line s some e = subst (StandsAfter new.at) (sym e) (turn-stands new.at (place_with new.place new.parts) (said line) some (said-sound line) s)
 
 further : (a b c : Stand) (x : List documents.Told) → b.ended ≡ c.ended → GoesOn a b [] → GoesOn b c x → GoesOn a c x
 further a b c x same f g = goes-further a b c [] x (λ e. sym same ∙ e) f g
 
-pub taking-goes : (old new : Draft) (held : List ℕ) (from n : ℕ) (place : Place) (d : spec.Document) → IsTaking old new held from → FeedAt (drop from held) (Some n)
+pub taking-goes : (old new : Progress) (held : List ℕ) (from n : ℕ) (place : Place) (d : spec.Document) → IsTaking old new held from → FeedAt (drop from held) (Some n)
     → turned (turn.Goes place) d ≡ documents.turn new.at (place_with new.place new.parts) (said (take n (drop from held)))
     → IsTaking old (record { place = place; at = new.at + 1; parts = d }) held (from + (n + 1))
 taking-goes old new held from n place d is feed e = record {
@@ -85,7 +85,7 @@ taking-goes old new held from n place d is feed e = record {
   passes = passes-feed old.at new.at held from n is.passes feed;
 }
 
-pub taking-gives : (old new : Draft) (held : List ℕ) (from n : ℕ) (last : Draft) → IsTaking old new held from → FeedAt (drop from held) (Some n) → last.at ≡ new.at + 1
+pub taking-gives : (old new : Progress) (held : List ℕ) (from n : ℕ) (last : Progress) → IsTaking old new held from → FeedAt (drop from held) (Some n) → last.at ≡ new.at + 1
     → turned turn.Gives last.parts ≡ documents.turn new.at (place_with new.place new.parts) (said (take n (drop from held)))
     → TakesSo old last held (from + (n + 1)) taken.Gives
 taking-gives old new held from n last is feed at e = record {
@@ -106,7 +106,7 @@ taking-gives old new held from n last is feed at e = record {
   };
 }
 
-pub taking-refuses : (old new : Draft) (held : List ℕ) (from n line : ℕ) (refusal : Refusal) (last : Draft) → IsTaking old new held from → FeedAt (drop from held) (Some n) → last.at ≡ new.at + 1 → line ≡ new.at
+pub taking-refuses : (old new : Progress) (held : List ℕ) (from n line : ℕ) (refusal : LineRefusal) (last : Progress) → IsTaking old new held from → FeedAt (drop from held) (Some n) → last.at ≡ new.at + 1 → line ≡ new.at
     → turned (turn.Refuses refusal) last.parts ≡ documents.turn new.at (place_with new.place new.parts) (said (take n (drop from held)))
     → TakesSo old last held (from + (n + 1)) (taken.Refuses line refusal)
 taking-refuses old new held from n line refusal last is feed at here e = record {

@@ -4,9 +4,10 @@ use Rattle.bufr_bits.specs.Bits.{bits_in}
 use Rattle.bufr_bits.specs.DecimalValue.{decimal_value_of}
 use Rattle.bufr_tables.specs.Expansion.{part_of, level, inner_of, tree_of}
 use Rattle.bufr_walk.specs.Course.{next_item}
-use Rattle.bufr_text.specs.Document.{Document, Entry, Ends}
+use Rattle.bufr_fill.specs.Entries.{Entry, Ends}
+use Rattle.bufr_text.specs.Document.{Document}
 use Rattle.bufr_text.specs.declared.form.Form.TheVariants.{AsWritten}
-use Rattle.bufr_text.specs.Encodes.{turns_by}
+use Rattle.bufr_text.specs.EncodingCost.{turns_by}
 use Rattle.bufr_text.proofs.EncodingExamples.{listed, table, document, number, missing}
 
 turns : Document → ℕ
@@ -23,7 +24,8 @@ one_element : turns (document 0 1 (0x0101 ∷ []) (block 24 (codes "10") ∷ End
 unfolding turns block listed table document number tree_of level part_of inner_of next_item decimal_value_of bits_in
 one_element = refl
 
--- a group, its factor, twice an element and the end of a pass, and the end: fails where the ends of passes are no turns
+-- a group, its factor, twice an element and the end of a pass, and the end: fails where the ends of
+-- passes are no turns
 delayed_twice : turns (document 0 1 (0x4100 ∷ 0x1F01 ∷ 0x0101 ∷ []) (factor 24 (codes "2") ∷ block 25 (codes "10") ∷ block 26 (codes "11") ∷ Ends 27 ∷ [])) ≡ 7
 unfolding turns block factor listed table document number tree_of level part_of inner_of next_item decimal_value_of bits_in
 delayed_twice = refl
@@ -43,7 +45,8 @@ width_refused_without_an_item : turns (document 0 1 (0x8179 ∷ 0x0101 ∷ []) (
 unfolding turns listed table document tree_of level part_of inner_of next_item
 width_refused_without_an_item = refl
 
--- an item that is refused ends the turns, itself one of them: fails where the rest of the template, or of the items, counts
+-- an item that is refused ends the turns, itself one of them: fails where the rest of the template,
+-- or of the items, counts
 refused_in_the_second_pass : turns (document 0 1 (0x4100 ∷ 0x1F01 ∷ 0x0101 ∷ []) (factor 24 (codes "3") ∷ block 25 (codes "10") ∷ block 26 (codes "1000") ∷ block 27 (codes "12") ∷ Ends 28 ∷ [])) ≡ 5
 unfolding turns block factor listed table document number tree_of level part_of inner_of next_item decimal_value_of bits_in
 refused_in_the_second_pass = refl
@@ -65,7 +68,8 @@ second_item : turns (document 0 1 (0x0101 ∷ []) (block 24 (codes "10") ∷ blo
 unfolding turns block listed table document number tree_of level part_of inner_of next_item decimal_value_of bits_in
 second_item = refl
 
--- a pass for each subset: fails where the second begins with the turns of the first, and where subsets behind a refused one count
+-- a pass for each subset: fails where the second begins with the turns of the first, and where
+-- subsets behind a refused one count
 two_subsets : turns (document 0 2 (0x4100 ∷ 0x1F01 ∷ 0x0101 ∷ []) (factor 24 (codes "1") ∷ block 25 (codes "10") ∷ Ends 26 ∷ factor 27 (codes "0") ∷ Ends 28 ∷ [])) ≡ 8
 unfolding turns block factor listed table document number tree_of level part_of inner_of next_item decimal_value_of bits_in
 two_subsets = refl

@@ -21,7 +21,7 @@ use Rattle.bufr_fill.proofs.Filled.{HasFilled}
 use Rattle.bufr_fill.proofs.WalkFills.{after_told}
 use Rattle.bufr_text.specs.Encoding.{RefusedAt}
 use Rattle.bufr_text.specs.EncodingFault.{told_of_draft}
-use Rattle.bufr_text.specs.Encodes.{turned_one, turned_at, turns_filled, MakesSo}
+use Rattle.bufr_text.specs.EncodingCost.{turned_one, turned_at, turns_filled, MakesSo}
 
 -- ---- the more is told, the more turns there are
 

@@ -26,8 +26,8 @@ abbrev pub AreWritten : Values → (bits behind : List Bool) → Type 0
 AreWritten (apart subsets) bits behind = HaveNoMinusZero (flat_map (λ items. items) subsets) bits
 AreWritten (together items) bits behind = ArePacked items bits behind
 
--- reserved octets and bits are zero, no octet is left over, and the data take the least octets, with zero bits behind them; in edition 3 the least that
--- make section 4 even
+-- reserved octets and bits are zero, no octet is left over, and the data take the least octets,
+-- with zero bits behind them; in edition 3 the least that make section 4 even
 pub record IsCanonical (m : List ℕ) (s : Sections) (values : Values) (used : ℕ) : Type 0 where
   pub plain : IsPlain m
   pub least : s.payload ≡ evened s.head.edition 4 (octets_of_bits (take used (bits_of s.payload)))

@@ -1,12 +1,7 @@
--- A message as its text gives it: the values are not looked at yet, each item and each end of a subset knows its line. (a choice of this project)
+-- A message as its text gives it; no value is looked at yet. (a choice of this project)
 -- Cited by public contracts.
 use Rattle.std.specs.Prelude.{ℕ, List, [], slice_index}
-use Rattle.bufr_fill.specs.Draft.{Draft}
-
--- an item, or the end of a subset, each with its line: a subset ends on the line that begins the next one, or on `end`
-pub data Entry : Type 0 where
-  Holds : (item : Draft) → Entry
-  Ends : (line : ℕ) → Entry
+use Rattle.bufr_fill.specs.Entries.{Entry}
 
 -- what a document says
 pub record Document : Type 0 where

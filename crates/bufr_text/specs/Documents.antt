@@ -3,17 +3,19 @@
 use Rattle.std.specs.Prelude.{ℕ, ◌+◌, ◌==◌, nat_le, nat_lt, Bool, true, false, not, ◌&&◌, if◌then◌else◌, List, [], ◌∷◌, ◌++◌, length, slice_index}
 use Rattle.bufr_fill.specs.Draft.{draft}
 use Rattle.bufr_frame.specs.Section1.{slots_of}
-use Rattle.bufr_text.specs.Document.{Document, Entry, Holds, Ends, blank, edition_in, optional_in, subsets_in}
+use Rattle.bufr_fill.specs.Entries.{Entry, Holds, Ends}
+use Rattle.bufr_text.specs.Document.{Document, blank, edition_in, optional_in, subsets_in}
 use Rattle.bufr_text.specs.Line.{Line, Passed, Opens, Header, Local1, Section2, Descriptors, Begins, Item, Closes, Wrong, leasts, mosts, line_of}
 
--- why a line is refused: no line that its place allows (50), too few or too many subsets (57), a header value past its range (61)
+-- why a line is refused: no line that its place allows (50), too few or too many subsets (57), a
+-- header value past its range (61)
 pub data LineFault : Type 0 where
   NotAllowed : LineFault
   SubsetCount : LineFault
   HeaderRange : LineFault
 
--- where the reading stands: between documents, in the header, in the parts before the subsets (0 local use, 1 section 2,
--- 2 descriptors), in a subset of this number, or behind a fault
+-- where the reading stands: between documents, in the header, in the parts before the subsets (0
+-- local use, 1 section 2, 2 descriptors), in a subset of this number, or behind a fault
 pub data Place : Type 0 where
   Between : Place
   Heading : Document → Place
@@ -98,7 +100,8 @@ turn at (Laying part d) line = laying part d line
 turn at (Filling subset d) line = filling at subset d line
 turn at Stopped line = Goes Stopped
 
--- whether a line adds to the document that is being read: octets, descriptors, an item, or the end of a subset
+-- whether a line adds to the document that is being read: octets, descriptors, an item, or the end
+-- of a subset
 abbrev pub adds : Place → Line → Bool
 adds (Laying part d) (Local1 octets) = true
 adds (Laying part d) (Section2 octets) = true

@@ -5,7 +5,8 @@ use Rattle.bufr_bits.specs.DecimalText.{decimal_text_of}
 use Rattle.bufr_tables.specs.Fxy.{fxy_text}
 use Rattle.bufr_frame.specs.Sections.{Sections}
 use Rattle.bufr_fill.specs.Draft.{Form, draft, number_token, text_form, missing_form, reference_token}
-use Rattle.bufr_text.specs.Document.{Document, Entry, Holds, Ends}
+use Rattle.bufr_fill.specs.Entries.{Entry, Holds, Ends}
+use Rattle.bufr_text.specs.Document.{Document}
 use Rattle.bufr_text.specs.Grammar.{runs_of, hex_text, descriptors_text, quoted}
 use Rattle.bufr_text.specs.Line.{keys, key_in}
 pub use Rattle.bufr_text.specs.Writing.{joined}

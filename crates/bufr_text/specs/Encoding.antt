@@ -1,6 +1,6 @@
--- What a document is encoded to. (WMO-No. 306, Volume I.2, FM 94: sections 0 to 5; the faults and their order are a choice of this project)
+-- What a document is encoded to. (WMO-No. 306, Volume I.2, FM 94: sections 0 to 5)
 -- Cited by public contracts.
-use Rattle.std.specs.Prelude.{ℕ, ◌+◌, ◌/◌, nat_lt, Bool, true, false, if◌then◌else◌, List, ◌++◌, length, map, Result, Ok, Err}
+use Rattle.std.specs.Prelude.{ℕ, ◌+◌, ◌/◌, nat_lt, Bool, true, false, if◌then◌else◌, List, ◌++◌, length, Result, Ok, Err}
 use Rattle.bufr_bits.specs.Bits.{padding}
 use Rattle.bufr_tables.specs.declared.template.fault.TemplateFault.{TemplateFault}
 use Rattle.bufr_tables.specs.Expansion.{tree_of}
@@ -14,16 +14,16 @@ use Rattle.bufr_walk.specs.Content.{octets_in}
 use Rattle.bufr_walk.specs.Course.{Course, next_item}
 use Rattle.bufr_fill.specs.Encoding.{plain_data, packed_data}
 use Rattle.bufr_fill.specs.Entries.{Subset, subsets_of}
-use Rattle.bufr_fill.specs.Entries as entries
 use Rattle.bufr_fill.specs.Fault.{Fault, FaultAt}
 use Rattle.bufr_text.specs.declared.form.Form.{Form}
 use Rattle.bufr_text.specs.declared.form.Form.TheVariants.{AsWritten}
-use Rattle.bufr_text.specs.Document.{Document, Entry, Holds, Ends, subsets_in}
+use Rattle.bufr_text.specs.Document.{Document, subsets_in}
 use Rattle.bufr_text.specs.Form.{compressed_by}
 use Rattle.bufr_text.specs.Header.{head_in, observed_in, compressed_in, section2_in}
 
--- why a document is refused: its descriptors make no template, an item (or where one should be, or the walk there) is at fault, or its
--- message would be too long
+-- why a document is refused: its descriptors make no template, an item (or where one should be, or
+-- the walk there) is at fault, or its message would be too long (that it is, and in which order, is
+-- a choice of this project)
 pub data Refusal : Type 0 where
   by_template : (why : TemplateFault) → Refusal
   by_item : (why : Fault) → Refusal
@@ -52,15 +52,6 @@ abbrev pub told_of_items : Result (List Bool) FaultAt → Result (List Bool) Ref
 told_of_items (Ok bits) = Ok bits
 told_of_items (Err f) = Err (refused_at f.line (by_item f.fault))
 
--- the entries as they are written
-abbrev pub entry_of : Entry → entries.Entry
-entry_of (Holds item) = entries.Holds item
-entry_of (Ends line) = entries.Ends line
-
--- the items of each subset, and the line that ends it
-abbrev pub drafts_of : List Entry → List Subset
-drafts_of entries = subsets_of (map entry_of entries)
-
 -- the bits of the data
 abbrev pub data_bits : (compressed : Bool) → Course → List Subset → Result (List Bool) FaultAt
 data_bits true course subsets = packed_data course subsets
@@ -85,11 +76,12 @@ compressed_as form d = compressed_by form (compressed_in d)
 abbrev pub message_of : (line : ℕ) → Head → Parts → Result (List ℕ) RefusedAt
 message_of line head parts = if nat_lt most_octets (message_size head.edition parts) then Err (refused_at line too_long) else Ok (message_octets head parts)
 
--- the octets of a document's message, or its first fault: the template goes before all, then the items in the order of the template, then the length
+-- the octets of a document's message, or its first fault: the template goes before all, then the
+-- items in the order of the template, then the length
 unfoldable pub encoding_in : Form → List Row → List Sequence → Document → Result (List ℕ) RefusedAt
 encoding_in form table sequences d = do
   template ← told_of_template d.line (tree_of (tables_of table sequences) d.descriptors)
-  bits ← told_of_items (data_bits (compressed_as form d) (next_item table template) (drafts_of d.entries))
+  bits ← told_of_items (data_bits (compressed_as form d) (next_item table template) (subsets_of d.entries))
   message_of d.line (head_in d) (parts_as (compressed_as form d) d (octets_of_bits bits))
 
 -- the same in the form that the document says

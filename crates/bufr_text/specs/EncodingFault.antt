@@ -1,6 +1,6 @@
--- The faults that the encoding of a document answers, as the definitions name them (the numbers are a choice of this project).
+-- The faults that an encoding answers, as the definitions name them. (a choice of this project)
 -- Cited by public contracts.
-use Rattle.std.specs.Prelude.{ℕ, Option, Some, None}
+use Rattle.std.specs.Prelude.{◌≡◌, ℕ, Option, Some, None, Result, Err}
 use Rattle.bufr_walk.specs.declared.spec.Refusal.TheVariants as refusal
 use Rattle.bufr_fill.specs.Fault.{Fault, FaultAt, wrong_number, out_of_range, text_long, missing_forbidden, unequal_factors, uneven_increment, walk_refused, too_many_values}
 use Rattle.bufr_fill.specs.Told.{other_than}
@@ -51,3 +51,8 @@ number_of_document_fault (fault.Increment line) = 59
 number_of_document_fault (fault.TooLong line) = 60
 number_of_document_fault (fault.Walk line why) = 62
 number_of_document_fault fault.Memory = 73
+
+-- a fault is the definition's refusal; want of memory is none
+abbrev pub RefusesSo : {A : Type 0} → Option RefusedAt → Result A RefusedAt → Type 0
+RefusesSo None defined = Unit {0}
+RefusesSo (Some f) defined = defined ≡ Err f

@@ -11,19 +11,19 @@ use Rattle.bufr_text.specs.Documents.{Place, Between, Stopped, Told, Spelled, Re
 use Rattle.bufr_text.specs.Reading.{has_no_feed, GoesOn, Passes, PassesEnd, spells}
 use Rattle.bufr_text.specs.Reader.{State, stand, AddsNext}
 use Rattle.bufr_text.specs.Step.{place_with, Stands}
-use Rattle.bufr_text.specs.declared.draft.Draft.{Draft}
-use Rattle.bufr_text.specs.declared.step.Refusal.{Refusal}
-use Rattle.bufr_text.specs.declared.step.Refusal.TheVariants as refusal
+use Rattle.bufr_text.specs.declared.progress.Progress.{Progress}
+use Rattle.bufr_text.specs.declared.step.LineRefusal.{LineRefusal}
+use Rattle.bufr_text.specs.declared.step.LineRefusal.TheVariants as refusal
 use Rattle.bufr_text.specs.declared.fault.ReadFault.{ReadFault}
 use Rattle.bufr_text.specs.declared.fault.ReadFault.TheVariants.{Line, SubsetCount, HeaderRange, Run}
 
 -- where a reader stands: behind a refused line nothing more is told
-abbrev pub place_now : Option ReadFault → Draft → Place
-place_now None draft = place_with draft.place draft.parts
-place_now (Some (Line line)) draft = Stopped
-place_now (Some (SubsetCount line)) draft = Stopped
-place_now (Some (HeaderRange line)) draft = Stopped
-place_now (Some (Run fault)) draft = place_with draft.place draft.parts
+abbrev pub place_now : Option ReadFault → Progress → Place
+place_now None progress = place_with progress.place progress.parts
+place_now (Some (Line line)) progress = Stopped
+place_now (Some (SubsetCount line)) progress = Stopped
+place_now (Some (HeaderRange line)) progress = Stopped
+place_now (Some (Run fault)) progress = place_with progress.place progress.parts
 
 -- nothing, or octets of which the last is a line feed
 abbrev pub ends_by_feed : List ℕ → Bool
@@ -31,11 +31,11 @@ ends_by_feed [] = true
 ends_by_feed (c ∷ []) = c == 10
 ends_by_feed (c ∷ d ∷ more) = ends_by_feed (d ∷ more)
 
--- The draft of a reader that goes on: each line had an octet at least.
-pub record DraftSo (draft : Draft) (held reads : ℕ) : Type 0 where
-  pub stands : Stands draft.at (place_with draft.place draft.parts)
-  pub some : 0 < draft.at
-  pub near : draft.at + held ≤ 4096 * reads + 1
+-- The progress of a reader that goes on: each line had an octet at least.
+pub record ProgressSo (progress : Progress) (held reads : ℕ) : Type 0 where
+  pub stands : Stands progress.at (place_with progress.place progress.parts)
+  pub some : 0 < progress.at
+  pub near : progress.at + held ≤ 4096 * reads + 1
 
 -- Lines were taken and tell something.
 pub record Tells (old new : State) (told : List Told) : Type 0 where
@@ -62,7 +62,8 @@ WentSo old new (Err (Run Read)) = ⊥
 WentSo old new (Err (Run Write)) = ⊥
 WentSo old new (Err (Run InputTooLong)) = ⊥
 
--- how a read ends: octets came, or the end was reached, or it failed, or memory was refused before the first one
+-- how a read ends: octets came, or the end was reached, or it failed, or memory was refused before
+-- the first one
 abbrev pub ReadEnds : (left' : Option (List ℕ)) → State → State → List ℕ → Result (Unit {0}) RunFault → Type 0
 ReadEnds left' old new bs (Ok u) = (new.reads ≡ old.reads + 1) × (new.ended ≡ true → (bs ≡ []) × IsAtEnd left')
 ReadEnds left' old new bs (Err Read) = (new.reads ≡ old.reads + 1) × (bs ≡ []) × (new.ended ≡ false)
@@ -70,7 +71,8 @@ ReadEnds left' old new bs (Err Write) = ⊥
 ReadEnds left' old new bs (Err InputTooLong) = ⊥
 ReadEnds left' old new bs (Err Memory) = (new.reads ≡ old.reads) × (bs ≡ []) × (new.ended ≡ false) × (new.reads ≡ 0)
 
--- One read: octets come behind those that are held, or the end was reached, which ends the last line.
+-- One read: octets come behind those that are held, or the end was reached, which ends the last
+-- line.
 pub record ReadSo (left left' : Option (List ℕ)) (old new : State) (result : Result (Unit {0}) RunFault) (bs : List ℕ) : Type 0 where
   pub read : Consumes left left' bs
   pub few : length bs ≤ 4096
@@ -84,7 +86,7 @@ pub record ReadSo (left left' : Option (List ℕ)) (old new : State) (result : R
   pub ends : ReadEnds left' old new bs result
 
 -- the fault of a refused line
-abbrev pub fault_at : (line : ℕ) → Refusal → ReadFault
+abbrev pub fault_at : (line : ℕ) → LineRefusal → ReadFault
 fault_at line refusal.NotAllowed = Line line
 fault_at line refusal.SubsetCount = SubsetCount line
 fault_at line refusal.HeaderRange = HeaderRange line

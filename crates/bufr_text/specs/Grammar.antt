@@ -1,4 +1,4 @@
--- The words and values that lines are made of, and how each is read back. (a choice of this project)
+-- The words and values that lines are made of, and how each is read. (a choice of this project)
 -- Cited by public contracts.
 use Rattle.std.specs.Prelude.{ℕ, zero, suc, ◌+◌, ◌-◌, ◌*◌, ◌/◌, ◌%◌, ◌==◌, nat_le, nat_lt, min, Bool, true, false, not, ◌&&◌, ◌||◌, if◌then◌else◌, List, [], ◌∷◌, ◌++◌, take, Option, Some, None, option_map, length, slice_index}
 use Rattle.std.specs.List.{list_all}
@@ -87,7 +87,8 @@ descriptors_read [] = Some []
 descriptors_read (s ∷ a ∷ b ∷ c ∷ d ∷ e ∷ g ∷ more) = if s == 32 then onto_read (fxy_of (a ∷ b ∷ c ∷ d ∷ e ∷ g ∷ [])) (descriptors_read more) else None
 descriptors_read text = None
 
--- an unsigned decimal of any length; numbers past 65,535 are all alike, since none of them fits anywhere
+-- an unsigned decimal of any length; numbers past 65,535 are all alike, since none of them fits
+-- anywhere
 abbrev pub number_read : List ℕ → Option ℕ
 number_read text = if nat_lt 0 (length text) && list_all is_ascii_digit text then Some (min (digits_value 10 text) 65536) else None
 
@@ -107,7 +108,8 @@ unfoldable pub quoted : List ℕ → List ℕ
 quoted [] = 34 ∷ []
 quoted (octet ∷ more) = escaped octet ++ quoted more
 
--- what stands in front of a text that goes on: its end, an octet and how many octets write it, or nothing that a text can hold
+-- what stands in front of a text that goes on: its end, an octet and how many octets write it, or
+-- nothing that a text can hold
 pub data Quoting : Type 0 where
   Closed : Quoting
   Says : (octet written : ℕ) → Quoting
@@ -142,7 +144,8 @@ quoted_on Closed closed more = Some ([], closed)
 quoted_on (Says octet written) closed more = octet_onto octet (more (written - 1))
 quoted_on Nothing closed more = None
 
--- the octets of a text and what is behind its closing quote; octets that were looked at already are skipped
+-- the octets of a text and what is behind its closing quote; octets that were looked at already are
+-- skipped
 unfoldable pub quoted_read : (skip : ℕ) → List ℕ → Option (List ℕ × List ℕ)
 quoted_read skip [] = None
 quoted_read (suc skip) (c ∷ more) = quoted_read skip more

@@ -1,6 +1,6 @@
--- What a change of form says: the message that the document of an accepted message is encoded to in a form.
+-- The message that the document of an accepted message is encoded to in a form.
 -- Cited by public contracts.
-use Rattle.std.specs.Prelude.{Vec, ◌≡◌, ℕ, ◌+◌, ◌≤◌, List, ◌∷◌, ◌++◌, length, Result, Ok, Err}
+use Rattle.std.specs.Prelude.{Vec, ◌≡◌, ℕ, ◌+◌, ◌≤◌, List, ◌∷◌, ◌++◌, length, Some, Result, Ok, Err}
 use Rattle.std.specs.Global.{Global}
 use Rattle.std.specs.List.{AllByRecursion}
 use Rattle.bufr_tables.specs.TableB.{Row}
@@ -14,12 +14,11 @@ use Rattle.bufr_walk.specs.Outcome.{data_of}
 use Rattle.bufr_walk.specs.Reading.{Item, Values, apart, together, IsReading}
 use Rattle.bufr_fill.specs.OtherForm.{subsets_from, IsUnlike}
 use Rattle.bufr_text.specs.declared.encode_fault.DocumentFault.{DocumentFault}
-use Rattle.bufr_text.specs.declared.encode_fault.DocumentFault.TheVariants as fault
 use Rattle.bufr_text.specs.declared.form.Form.{Form}
 use Rattle.bufr_text.specs.declared.form.Form.TheVariants as form
-use Rattle.bufr_text.specs.Encoded.{items_in}
+use Rattle.bufr_text.specs.RoundTrip.{SaySame, items_in}
 use Rattle.bufr_text.specs.Encoding.{Refusal, by_template, by_item, too_long, RefusedAt}
-use Rattle.bufr_text.specs.Form.{compressed_by}
+use Rattle.bufr_text.specs.EncodingFault.{told_refusal}
 use Rattle.bufr_text.specs.Given.{IsOctet}
 
 -- the items of each subset, whatever the form in which they were read
@@ -27,17 +26,8 @@ abbrev pub each_subset : (subsets : ℕ) → Values → List (List (Item Content
 each_subset n (apart subsets) = subsets
 each_subset n (together items) = subsets_from n 0 items
 
--- the sections of two messages say the same, but for their lengths, the bits of the data, and the flag of compression, which is that of a form
-pub record SaySameIn (form : Form) (a b : Sections) : Type 0 where
-  pub head : b.head ≡ a.head
-  pub local1 : b.local1 ≡ a.local1
-  pub section2 : b.section2 ≡ a.section2
-  pub descriptors : b.descriptors ≡ a.descriptors
-  pub subsets : b.subsets ≡ a.subsets
-  pub observed : b.observed ≡ a.observed
-  pub compressed : b.compressed ≡ compressed_by form a.compressed
-
--- octets are a message in a form, with the same reading as the message of sections s but for the flag of compression
+-- octets are a message in a form, with the same reading as the message of sections s but for the
+-- flag of compression
 pub record HasReadingIn (form : Form) (table : List Row) (s : Sections) (template : Tree) (values : Values) (written : List ℕ) : Type 0 where
   pub few : length written ≤ most_octets
   pub octets : AllByRecursion IsOctet written
@@ -45,7 +35,7 @@ pub record HasReadingIn (form : Form) (table : List Row) (s : Sections) (templat
   pub framed : (at : ℕ) (behind : List ℕ) → scan_from 0 at (written ++ behind) ≡ Framed at written ∷ scan_from 0 (at + length written) behind
   pub sections : Sections
   pub are : sections_of written ≡ Ok sections
-  pub same : SaySameIn form s sections
+  pub same : SaySame form s sections
   pub found : Values
   pub used : ℕ
   pub read : IsReading (next_item table template) (data_of sections) found used
@@ -54,8 +44,9 @@ pub record HasReadingIn (form : Form) (table : List Row) (s : Sections) (templat
   -- so its dump text has the same items
   pub items : items_in table template sections found ≡ items_in table template s values
 
--- what the document of an accepted message may be refused for in a form: in the one that it has, nothing; else the length, and in
--- compressed data factors that differ and contents that no increments tell apart
+-- what the document of an accepted message may be refused for in a form: in the one that it has,
+-- nothing; else the length, and in compressed data factors that differ and contents that no
+-- increments tell apart
 abbrev pub IsForForm : Form → Refusal → Type 0
 IsForForm form.AsWritten why = ⊥
 IsForForm form.Plain (by_template why) = ⊥
@@ -70,14 +61,10 @@ abbrev pub IsFormed : Form → List Row → Sections → Tree → Values → Res
 IsFormed form table s template values (Ok octets) = HasReadingIn form table s template values octets
 IsFormed form table s template values (Err refused) = IsForForm form refused.why
 
--- the same of faults: want of memory may come in each form
+-- a fault that is answered is such a refusal; want of memory, which the definition has not, may
+-- come in each form
 abbrev pub IsFaultIn : Form → DocumentFault → Type 0
-IsFaultIn form fault.Memory = Unit {0}
-IsFaultIn form.Plain (fault.TooLong line) = Unit {0}
-IsFaultIn form.Compressed (fault.TooLong line) = Unit {0}
-IsFaultIn form.Compressed (fault.UnequalFactor line) = Unit {0}
-IsFaultIn form.Compressed (fault.Increment line) = Unit {0}
-IsFaultIn _ _ = ⊥
+IsFaultIn form why = (refused : RefusedAt) → told_refusal why ≡ Some refused → IsForForm form refused.why
 
 -- what is answered for the document of a message in a form
 abbrev pub FormSo : Form → List Row → Sections → Tree → Values → Result (Vec ℕ Global) DocumentFault → Type 0

@@ -20,7 +20,8 @@ pub data Line : Type 0 where
   Closes : Line
   Wrong : Line
 
--- what bounds the value of a key: an edition that is read, what section 1 holds for a field, a bit, what two octets hold
+-- what bounds the value of a key: an edition that is read, what section 1 holds for a field, a bit,
+-- what two octets hold
 pub data Bound : Type 0 where
   Editions : Bound
   Holds : (field : Field) → Bound

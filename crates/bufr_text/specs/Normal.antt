@@ -10,24 +10,25 @@ use Rattle.bufr_walk.specs.Content.{Content, told}
 use Rattle.bufr_walk.specs.Course.{Course, Next, take_next, at_end, astray, refused, next_item}
 use Rattle.bufr_fill.specs.Draft.{Draft}
 use Rattle.bufr_fill.specs.DraftContent.{content_of}
-use Rattle.bufr_fill.specs.Entries.{Subset}
+use Rattle.bufr_fill.specs.Entries.{Subset, subsets_of}
 use Rattle.bufr_fill.specs.Fault.{Fault}
 use Rattle.bufr_fill.specs.Normal.{normal_form}
 use Rattle.bufr_text.specs.declared.form.Form.{Form}
 use Rattle.bufr_text.specs.declared.form.Form.TheVariants.{AsWritten, Plain, Compressed}
 use Rattle.bufr_text.specs.Document.{Document}
 use Rattle.bufr_text.specs.Dump.{Comment, header_lines, local1_line, section2_line, descriptors_line, form_text, comment_text, subset_line, text_of}
-use Rattle.bufr_text.specs.Dumped.{comment_of}
-use Rattle.bufr_text.specs.Encoding.{drafts_of}
+use Rattle.bufr_text.specs.DumpItems.{comment_of}
 use Rattle.bufr_text.specs.Grammar.{runs_of}
 
--- the values of the header, where the data are written in a form: the flag of compression, the eighteenth, is that of the form
+-- the values of the header, where the data are written in a form: the flag of compression, the
+-- eighteenth, is that of the form
 abbrev pub header_as : Form → List ℕ → List ℕ
 header_as AsWritten header = header
 header_as Plain header = take 17 header ++ 0 ∷ drop 18 header
 header_as Compressed header = take 17 header ++ 1 ∷ drop 18 header
 
--- the lines before the subsets: `message`, the header, 32 octets a line in upper case, eight descriptors a line
+-- the lines before the subsets: `message`, the header, 32 octets a line in upper case, eight
+-- descriptors a line
 abbrev pub normal_head : Form → Document → List (List ℕ)
 normal_head form d =
     codes "message" ∷ (header_lines 0 (header_as form d.header)
@@ -39,7 +40,8 @@ normal_head form d =
 abbrev pub comment_at : List Row → Asked → Option Comment
 comment_at table spec = option_map comment_of (if spec.listed then entry_of table spec.fxy else None)
 
--- the line of an item at its field: its descriptor, the one spelling of what stands behind it, and the comment
+-- the line of an item at its field: its descriptor, the one spelling of what stands behind it, and
+-- the comment
 abbrev pub normal_line : List Row → Asked → Draft → List ℕ
 normal_line table spec d = form_text d.fxy (normal_form spec d.form) ++ comment_text (comment_at table spec)
 
@@ -65,6 +67,7 @@ abbrev pub normal_subsets : List Row → Course → (subset : ℕ) → List Subs
 normal_subsets table course n [] = []
 normal_subsets table course n (s ∷ more) = subset_line n ∷ (normal_items table course s.items ++ normal_subsets table course (n + 1) more)
 
--- the document's text: its own comments and empty lines, zeros in front of numbers, and where its lines of octets and descriptors end are gone
+-- the document's text: its own comments and empty lines, zeros in front of numbers, and where its
+-- lines of octets and descriptors end are gone
 abbrev pub normal : Form → List Row → Tree → Document → List ℕ
-normal form table template d = text_of (normal_head form d ++ (normal_subsets table (next_item table template) 1 (drafts_of d.entries) ++ codes "end" ∷ []))
+normal form table template d = text_of (normal_head form d ++ (normal_subsets table (next_item table template) 1 (subsets_of d.entries) ++ codes "end" ∷ []))

@@ -6,7 +6,7 @@ use Rattle.bufr_frame.specs.declared.fault.RunFault.TheVariants.{Memory}
 use Rattle.bufr_walk.specs.declared.fault.ShowFault.{ShowFault}
 use Rattle.bufr_walk.specs.declared.fault.ShowFault.TheVariants as show
 use Rattle.bufr_walk.specs.Calls.{Call}
-use Rattle.bufr_text.specs.Dumping.{WritesFront, CountsFaults, call_line}
+use Rattle.bufr_text.specs.DumpWritten.{WritesFront, CountsFaults, call_line}
 
 -- what a writer took and counted, and by which names it and the line are held
 pub record Pen : Type 0 where

@@ -3,8 +3,8 @@
 use Rattle.std.specs.Prelude.{◌≡◌, ◌==◌, false, List, [], ◌∷◌, length}
 use Rattle.std.specs.List.{AllByRecursion}
 use Rattle.bufr_fill.specs.ReadBack.{AllHaveOctets}
-use Rattle.bufr_text.specs.Document.{Document, Entry, Holds, Ends, optional_in, subsets_in}
-use Rattle.bufr_text.specs.Encoding.{drafts_of}
+use Rattle.bufr_fill.specs.Entries.{Entry, Holds, Ends, subsets_of}
+use Rattle.bufr_text.specs.Document.{Document, optional_in, subsets_in}
 use Rattle.bufr_text.specs.Given.{IsOctet, IsWord}
 use Rattle.bufr_text.specs.Header.{IsHeaded}
 
@@ -15,14 +15,14 @@ AreEnded (Holds item ∷ []) = ⊥
 AreEnded (Ends line ∷ []) = Unit {0}
 AreEnded (entry ∷ next ∷ more) = AreEnded (next ∷ more)
 
--- its values are within their ranges, its octets are octets and its descriptors words, it has octets of section 2 only where it says that there is
--- one, and it has as many subsets as it says
+-- its values are within their ranges, its octets are octets and its descriptors words, it has
+-- octets of section 2 only where it says that there is one, and it has as many subsets as it says
 pub record IsProper (d : Document) : Type 0 where
   pub headed : IsHeaded d
   pub local1 : AllByRecursion IsOctet d.local1
   pub section2 : AllByRecursion IsOctet d.section2
   pub no_section2 : (optional_in d == 1) ≡ false → d.section2 ≡ []
   pub descriptors : AllByRecursion IsWord d.descriptors
-  pub texts : AllHaveOctets (drafts_of d.entries)
-  pub counted : length (drafts_of d.entries) ≡ subsets_in d
+  pub texts : AllHaveOctets (subsets_of d.entries)
+  pub counted : length (subsets_of d.entries) ≡ subsets_in d
   pub ended : AreEnded d.entries

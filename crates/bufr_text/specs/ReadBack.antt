@@ -7,12 +7,12 @@ use Rattle.bufr_tables.specs.Tree.{Tree}
 use Rattle.bufr_frame.specs.Scan.{Framed, scan_from}
 use Rattle.bufr_frame.specs.Sections.{Sections}
 use Rattle.bufr_walk.specs.Reading.{Values, apart, together}
-use Rattle.bufr_fill.specs.Entries.{Subset}
+use Rattle.bufr_fill.specs.Entries.{Subset, subsets_of}
 use Rattle.bufr_fill.specs.ReadBack.{AreSaid, AreSaidFrom}
 use Rattle.bufr_text.specs.declared.form.Form.{Form}
 use Rattle.bufr_text.specs.Document.{Document, subsets_in}
-use Rattle.bufr_text.specs.Encoded.{IsAccepted}
-use Rattle.bufr_text.specs.Encoding.{drafts_of, compressed_as}
+use Rattle.bufr_text.specs.RoundTrip.{IsAccepted}
+use Rattle.bufr_text.specs.Encoding.{compressed_as}
 use Rattle.bufr_text.specs.Header.{head_in, observed_in, section2_in}
 
 -- the values are what the drafts say
@@ -20,7 +20,8 @@ abbrev pub AreValuesOf : Values → List Subset → Type 0
 AreValuesOf (apart subsets) drafts = AreSaid subsets drafts
 AreValuesOf (together items) drafts = AreSaidFrom 0 items drafts
 
--- octets are one message, accepted, and it says what the document says, in a form; of the data it says the items, not how many octets they take
+-- octets are one message, accepted, and it says what the document says, in a form; of the data it
+-- says the items, not how many octets they take
 pub record IsReadAs (form : Form) (table : List Row) (sequences : List Sequence) (d : Document) (octets : List ℕ) : Type 0 where
   pub sections : Sections
   pub template : Tree
@@ -36,4 +37,4 @@ pub record IsReadAs (form : Form) (table : List Row) (sequences : List Sequence)
   pub subsets : sections.subsets ≡ subsets_in d
   pub observed : sections.observed ≡ observed_in d
   pub compressed : sections.compressed ≡ compressed_as form d
-  pub said : AreValuesOf values (drafts_of d.entries)
+  pub said : AreValuesOf values (subsets_of d.entries)

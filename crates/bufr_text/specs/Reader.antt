@@ -51,15 +51,18 @@ told_by (Err (Run fault)) = []
 abbrev pub IsMissingFeed : (ended ended' : Bool) → List ℕ → Type 0
 IsMissingFeed ended ended' feed = (feed ≡ []) ⊎ ((ended ≡ false) × (ended' ≡ true) × (feed ≡ 10 ∷ []))
 
--- The octets of the text itself that are held. Where the end was reached, what is held ends by the line feed that the text lacks.
+-- The octets of the text itself that are held. Where the end was reached, what is held ends by the
+-- line feed that the text lacks.
 abbrev pub unfed : State → List ℕ
 unfed s = if s.ended then take (length s.held - 1) s.held else s.held
 
--- What was held of the text and what was read is what was taken of it, and behind that what is held of it.
+-- What was held of the text and what was read is what was taken of it, and behind that what is held
+-- of it.
 abbrev pub KeepsSo : (old new : State) → List ℕ → Type 0
 KeepsSo old new bs = (taken : List ℕ) × (unfed old ++ bs ≡ taken ++ unfed new)
 
--- Octets were read, and what was held spells with them what was told and then what is held now. What was taken are whole lines.
+-- Octets were read, and what was held spells with them what was told and then what is held now.
+-- What was taken are whole lines.
 pub record CallSo (left left' : Option (List ℕ)) (old new : State) (told : List Told) (bs : List ℕ) : Type 0 where
   pub read : Consumes left left' bs
   pub order : old.reads ≤ new.reads
@@ -71,12 +74,13 @@ pub record CallSo (left left' : Option (List ℕ)) (old new : State) (told : Lis
   pub kept : old.ended ≡ true → (new.ended ≡ true) × (bs ≡ []) × (new.reads ≡ old.reads)
   pub end : (old.ended ≡ true → IsAtEnd left) → new.ended ≡ true → IsAtEnd left'
 
--- Where a document was told, the last line taken is its `end` line: what is held is exactly what was read behind it.
+-- Where a document was told, the last line taken is its `end` line: what is held is exactly what
+-- was read behind it.
 abbrev pub ClosesSo : (old new : State) → List ℕ → Type 0
 ClosesSo old new bs = (feed : List ℕ) × IsMissingFeed old.ended new.ended feed × PassesEnd old.at ((old.held ++ bs) ++ feed) new.at new.held
 
--- The last read was made where all whole lines were taken and told nothing, and what was left of a line was no longer than a line can
--- be. It gave at most 4,096 octets.
+-- The last read was made where all whole lines were taken and told nothing, and what was left of a
+-- line was no longer than a line can be. It gave at most 4,096 octets.
 pub record WaitsSo (left : Option (List ℕ)) (old : State) (reads : ℕ) (bs : List ℕ) : Type 0 where
   pub before : List ℕ
   pub last : List ℕ
@@ -100,8 +104,8 @@ IsOpen s = (s.ended ≡ false) × (spells_openly (stand s) [] ≡ []) × (has_no
 abbrev pub IsDone : State → Type 0
 IsDone s = (s.ended ≡ true) × (s.held ≡ []) × (spells (stand s) [] ≡ [])
 
--- how a call leaves the reader: at the end nothing is left; an input is too long only after 2^32 reads; memory was wanted only where a
--- whole line is held, or before the first read
+-- how a call leaves the reader: at the end nothing is left; an input is too long only after 2^32
+-- reads; memory was wanted only where a whole line is held, or before the first read
 abbrev pub EndsSo : State → Result (Option Document) ReadFault → Type 0
 EndsSo new (Ok None) = (new.fault ≡ None) × IsDone new
 EndsSo new (Ok (Some document)) = new.fault ≡ None
@@ -121,14 +125,16 @@ pub record AddsNext (s : State) : Type 0 where
   pub single : has_no_feed line ≡ true
   pub adds_to : adds s.place (said line) ≡ true
 
--- The lines that were read tell nothing, up to one that adds to the document: there memory was wanted.
+-- The lines that were read tell nothing, up to one that adds to the document: there memory was
+-- wanted.
 pub record WantsSo (left left' : Option (List ℕ)) (old : State) (bs : List ℕ) : Type 0 where
   pub mid : State
   pub taken : CallSo left left' old mid [] bs
   pub next : AddsNext mid
 
--- what a call reads and tells; where memory was wanted it tells nothing, and says no more of what it holds, but that it is wanted only
--- where a line was held or the end was not reached, and, behind the first read, only for a line that adds to the document
+-- what a call reads and tells; where memory was wanted it tells nothing, and says no more of what
+-- it holds, but that it is wanted only where a line was held or the end was not reached, and,
+-- behind the first read, only for a line that adds to the document
 abbrev pub ReadsSo : (left left' : Option (List ℕ)) → (old new : State) → Result (Option Document) ReadFault → List ℕ → Type 0
 ReadsSo left left' old new (Ok None) bs = CallSo left left' old new (told_by (Ok None)) bs
 ReadsSo left left' old new (Ok (Some document)) bs = CallSo left left' old new (told_by (Ok (Some document))) bs × ClosesSo old new bs
@@ -154,7 +160,8 @@ pub record CountsReads (reads reads' : ℕ) (old new : State) : Type 0 where
   pub order : old.reads ≤ new.reads
   pub most : new.reads ≤ most_reads
 
--- the reader's count of failures after a call: a read fault is one more failure, and nothing else changes it
+-- the reader's count of failures after a call: a read fault is one more failure, and nothing else
+-- changes it
 abbrev pub failures_by : {X : Type 0} → ℕ → Result X ReadFault → ℕ
 failures_by count (Ok x) = count
 failures_by count (Err (Line line)) = count

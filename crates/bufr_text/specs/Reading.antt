@@ -10,7 +10,8 @@ use Rattle.bufr_text.specs.Line.{Closes}
 abbrev pub has_no_feed : List ℕ → Bool
 has_no_feed octets = list_all (λ c. not (c == 10)) octets
 
--- what a reading stands for: the number of the next line, where it stands, the octets that it holds, whether the end was reached
+-- what a reading stands for: the number of the next line, where it stands, the octets that it
+-- holds, whether the end was reached
 pub record Stand : Type 0 where
   pub at : ℕ
   pub place : Place
@@ -25,12 +26,14 @@ spells s t = spelled s.at s.place (lines_of (s.held ++ t))
 abbrev pub spells_openly : Stand → List ℕ → List Told
 spells_openly s t = spelled_openly s.at s.place (split_of (s.held ++ t)).whole (split_of (s.held ++ t)).rest
 
--- The held octets spell what was told and then what is still held, whatever comes behind; behind the end nothing does.
+-- The held octets spell what was told and then what is still held, whatever comes behind; behind
+-- the end nothing does.
 pub record GoesOn (old new : Stand) (told : List Told) : Type 0 where
   pub whole : (t : List ℕ) → (new.ended ≡ true → t ≡ []) → spells old t ≡ told ++ spells new t
   pub openly : new.ended ≡ false → (t : List ℕ) → spells_openly old t ≡ told ++ spells_openly new t
 
--- Lines were taken: what was held is these lines, each with its line feed, and then what is still held.
+-- Lines were taken: what was held is these lines, each with its line feed, and then what is still
+-- held.
 pub record Passes (at : ℕ) (held : List ℕ) (at' : ℕ) (rest : List ℕ) : Type 0 where
   pub lines : List (List ℕ)
   pub single : AllByRecursion (λ line. has_no_feed line ≡ true) lines

@@ -3,7 +3,8 @@
 use Rattle.std.specs.Prelude.{◌≡◌, ◌⊎◌, ℕ, ◌+◌, List, [], ◌∷◌, ◌++◌, length, map}
 use Rattle.std.specs.List.{concat}
 use Rattle.bufr_fill.specs.Draft.{Form, draft}
-use Rattle.bufr_text.specs.Document.{Document, Entry, Holds, Ends, optional_in, subsets_in}
+use Rattle.bufr_fill.specs.Entries.{Entry, Holds, Ends}
+use Rattle.bufr_text.specs.Document.{Document, optional_in, subsets_in}
 use Rattle.bufr_text.specs.Documents.{Told, Spelled, Refused, said}
 use Rattle.bufr_text.specs.Line.{Line, Passed, Opens, Header, Local1, Section2, Descriptors, Begins, Item, Closes, Wrong}
 
@@ -33,9 +34,9 @@ heard_from at [] = []
 heard_from at (line ∷ more) = onto_heard at (said line) (heard_from (at + 1) more)
 
 -- the header lines, key by key
-abbrev pub header_lines : (key : ℕ) → List ℕ → List Line
-header_lines key [] = []
-header_lines key (value ∷ more) = Header key value ∷ header_lines (key + 1) more
+abbrev pub header_says : (key : ℕ) → List ℕ → List Line
+header_says key [] = []
+header_says key (value ∷ more) = Header key value ∷ header_says (key + 1) more
 
 -- an item of a subset, with the number of its line
 pub record Element : Type 0 where
@@ -44,45 +45,46 @@ pub record Element : Type 0 where
   pub form : Form
 
 -- a subset: the number of its `subset` line, and its items
-pub record Part : Type 0 where
+pub record SubsetHeard : Type 0 where
   pub at : ℕ
   pub items : List Element
 
 -- `subset` with its number from one on, and the items of each
-abbrev pub subset_lines : (subset : ℕ) → List Part → List Heard
-subset_lines subset [] = []
-subset_lines subset (part ∷ more) = heard part.at (Begins subset) ∷ map (λ i. heard i.at (Item i.fxy i.form)) part.items ++ subset_lines (subset + 1) more
+abbrev pub subsets_heard : (subset : ℕ) → List SubsetHeard → List Heard
+subsets_heard subset [] = []
+subsets_heard subset (part ∷ more) = heard part.at (Begins subset) ∷ map (λ i. heard i.at (Item i.fxy i.form)) part.items ++ subsets_heard (subset + 1) more
 
 -- what they are as entries: a subset ends at the line that begins the next one, or at `end`
-abbrev pub first_at : List Part → (end : ℕ) → ℕ
+abbrev pub first_at : List SubsetHeard → (end : ℕ) → ℕ
 first_at [] end = end
 first_at (part ∷ more) end = part.at
 
-abbrev pub subset_entries : List Part → (end : ℕ) → List Entry
-subset_entries [] end = []
-subset_entries (part ∷ more) end = map (λ i. Holds (draft i.at i.fxy i.form)) part.items ++ Ends (first_at more end) ∷ subset_entries more end
+abbrev pub entries_heard : List SubsetHeard → (end : ℕ) → List Entry
+entries_heard [] end = []
+entries_heard (part ∷ more) end = map (λ i. Holds (draft i.at i.fxy i.form)) part.items ++ Ends (first_at more end) ∷ entries_heard more end
 
--- The lines of a document: `message`, the header in order, lines of local use, of section 2 and of descriptors, the subsets with their
--- items, and `end`. The document is their parts.
+-- The lines of a document: `message`, the header in order, lines of local use, of section 2 and of
+-- descriptors, the subsets with their items, and `end`. The document is their parts.
 pub record IsDocument (d : Document) (lines : List Heard) : Type 0 where
   pub header : List Heard
   pub local1 : List (List ℕ)
   pub section2 : List (List ℕ)
   pub descriptors : List (List ℕ)
   pub laid : List Heard
-  pub subsets : List Part
+  pub subsets : List SubsetHeard
   pub end : ℕ
-  pub are : lines ≡ heard d.line Opens ∷ header ++ (laid ++ (subset_lines 1 subsets ++ heard end Closes ∷ []))
-  pub in_order : map (λ l. l.says) header ≡ header_lines 0 d.header
+  pub are : lines ≡ heard d.line Opens ∷ header ++ (laid ++ (subsets_heard 1 subsets ++ heard end Closes ∷ []))
+  pub in_order : map (λ l. l.says) header ≡ header_says 0 d.header
   pub parts : map (λ l. l.says) laid ≡ map Local1 local1 ++ (map Section2 section2 ++ map Descriptors descriptors)
   pub local1_is : d.local1 ≡ concat local1
   pub section2_is : d.section2 ≡ concat section2
   pub descriptors_are : d.descriptors ≡ concat descriptors
   pub flagged : (section2 ≡ []) ⊎ (optional_in d ≡ 1)
   pub counted : length subsets ≡ subsets_in d
-  pub entries : d.entries ≡ subset_entries subsets end
+  pub entries : d.entries ≡ entries_heard subsets end
 
--- What is told of lines: documents one after another, up to the end of the lines or to the first that is refused.
+-- What is told of lines: documents one after another, up to the end of the lines or to the first
+-- that is refused.
 abbrev pub AreTold : List Heard → List Told → Type 0
 AreTold lines [] = lines ≡ []
 AreTold lines (Refused line fault ∷ told) = told ≡ []

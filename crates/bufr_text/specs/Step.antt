@@ -3,22 +3,22 @@
 use Rattle.std.specs.Prelude.{◌≡◌, ◌<◌, ◌≤◌, ◌+◌, ◌==◌, ℕ, true, false, [], length}
 use Rattle.std.specs.List.{AllByRecursion}
 use Rattle.bufr_fill.specs.ReadBack.{HasOctets}
+use Rattle.bufr_fill.specs.Entries.{Entry, Holds, Ends, subsets_of}
 use Rattle.bufr_text.specs.Document as spec
 use Rattle.bufr_text.specs.Line as line
 use Rattle.bufr_text.specs.Documents as documents
 use Rattle.bufr_text.specs.Header.{are_in_range, IsHeaded}
-use Rattle.bufr_text.specs.Encoding.{drafts_of}
 use Rattle.bufr_text.specs.Given.{IsOctet, IsWord}
 use Rattle.bufr_text.specs.Kept.{form_by}
 use Rattle.bufr_text.specs.Proper.{IsProper}
 use Rattle.bufr_text.specs.declared.step.Said.{Said}
 use Rattle.bufr_text.specs.declared.step.Said.TheVariants as said
-use Rattle.bufr_text.specs.declared.step.Part.{Part}
-use Rattle.bufr_text.specs.declared.step.Part.TheVariants as part
+use Rattle.bufr_text.specs.declared.step.Laid.{Laid}
+use Rattle.bufr_text.specs.declared.step.Laid.TheVariants as laid
 use Rattle.bufr_text.specs.declared.step.Place.{Place}
 use Rattle.bufr_text.specs.declared.step.Place.TheVariants as place
-use Rattle.bufr_text.specs.declared.step.Refusal.{Refusal}
-use Rattle.bufr_text.specs.declared.step.Refusal.TheVariants as refusal
+use Rattle.bufr_text.specs.declared.step.LineRefusal.{LineRefusal}
+use Rattle.bufr_text.specs.declared.step.LineRefusal.TheVariants as refusal
 use Rattle.bufr_text.specs.declared.step.Turn.{Turn}
 use Rattle.bufr_text.specs.declared.step.Turn.TheVariants as turn
 
@@ -36,10 +36,10 @@ meaning said.Closes = line.Closes
 meaning said.Wrong = line.Wrong
 
 -- how far the parts before the subsets have come
-abbrev pub part_number : Part → ℕ
-part_number part.Local1 = 0
-part_number part.Section2 = 1
-part_number part.Descriptors = 2
+abbrev pub part_number : Laid → ℕ
+part_number laid.Local1 = 0
+part_number laid.Section2 = 1
+part_number laid.Descriptors = 2
 
 -- where the reading stands, with the document as far as it was read
 abbrev pub place_with : Place → spec.Document → documents.Place
@@ -48,7 +48,7 @@ place_with place.Heading d = documents.Heading d
 place_with (place.Laying part) d = documents.Laying (part_number part) d
 place_with (place.Filling subset) d = documents.Filling subset d
 
-abbrev pub fault_of : Refusal → documents.LineFault
+abbrev pub fault_of : LineRefusal → documents.LineFault
 fault_of refusal.NotAllowed = documents.NotAllowed
 fault_of refusal.SubsetCount = documents.SubsetCount
 fault_of refusal.HeaderRange = documents.HeaderRange
@@ -66,7 +66,8 @@ pub record IsBare (d : spec.Document) : Type 0 where
   pub descriptors : d.descriptors ≡ []
   pub entries : d.entries ≡ []
 
--- The parts before the subsets are octets and descriptors, and there are no octets of a section 2 that is absent.
+-- The parts before the subsets are octets and descriptors, and there are no octets of a section 2
+-- that is absent.
 pub record IsLaid (d : spec.Document) : Type 0 where
   pub local1 : AllByRecursion IsOctet d.local1
   pub section2 : AllByRecursion IsOctet d.section2
@@ -74,17 +75,18 @@ pub record IsLaid (d : spec.Document) : Type 0 where
   pub descriptors : AllByRecursion IsWord d.descriptors
 
 -- the text of an item is of octets
-abbrev pub EntryHasOctets : spec.Entry → Type 0
-EntryHasOctets (spec.Holds item) = HasOctets item.form
-EntryHasOctets (spec.Ends line) = Unit {0}
+abbrev pub EntryHasOctets : Entry → Type 0
+EntryHasOctets (Holds item) = HasOctets item.form
+EntryHasOctets (Ends line) = Unit {0}
 
 -- So many subsets were ended, and each text is of octets.
 pub record HasSubsets (ended : ℕ) (d : spec.Document) : Type 0 where
   pub texts : AllByRecursion EntryHasOctets d.entries
-  pub counted : length (drafts_of d.entries) ≡ ended
+  pub counted : length (subsets_of d.entries) ≡ ended
 
--- What holds of a place where the line of this number is next: the header is not whole in the header and whole behind it, the number
--- of a subset is small and one more than those that were ended, and each entry has a line.
+-- What holds of a place where the line of this number is next: the header is not whole in the
+-- header and whole behind it, the number of a subset is small and one more than those that were
+-- ended, and each entry has a line.
 abbrev pub Stands : (at : ℕ) → documents.Place → Type 0
 Stands at documents.Between = Unit {0}
 Stands at (documents.Heading d) = (length d.header < 20) × (are_in_range (spec.edition_in d) 0 d.header ≡ true) × (length d.entries < at) × IsBare d

@@ -7,9 +7,9 @@ use Rattle.bufr_text.specs.Document as spec
 use Rattle.bufr_text.specs.Proper.{IsProper}
 use Rattle.bufr_text.specs.Reading.{has_no_feed, Stand, GoesOn, Passes, PassesEnd}
 use Rattle.bufr_text.specs.Step.{place_with, fault_of, Stands}
-use Rattle.bufr_text.specs.declared.draft.Draft.{Draft}
-use Rattle.bufr_text.specs.declared.draft.Taken.{Taken}
-use Rattle.bufr_text.specs.declared.draft.Taken.TheVariants as taken
+use Rattle.bufr_text.specs.declared.progress.Progress.{Progress}
+use Rattle.bufr_text.specs.declared.progress.TakingEnd.{TakingEnd}
+use Rattle.bufr_text.specs.declared.progress.TakingEnd.TheVariants as taken
 
 -- the first line feed, or there is none
 abbrev pub FeedAt : List ℕ → Option ℕ → Type 0
@@ -17,31 +17,31 @@ FeedAt held None = has_no_feed held ≡ true
 FeedAt held (Some place) = (place < length held) × (has_no_feed (take place held) ≡ true) × (held ≡ take place held ++ 10 ∷ drop (place + 1) held)
 
 -- what was told
-abbrev pub told_of : Taken → spec.Document → List documents.Told
+abbrev pub told_of : TakingEnd → spec.Document → List documents.Told
 told_of taken.More d = []
 told_of taken.Gives d = documents.Spelled d ∷ []
 told_of (taken.Refuses line refusal) d = documents.Refused line (fault_of refusal) ∷ []
 
 -- where the reading stands behind it
-abbrev pub place_behind : Taken → Draft → documents.Place
-place_behind taken.More draft = place_with draft.place draft.parts
-place_behind taken.Gives draft = documents.Between
-place_behind (taken.Refuses line refusal) draft = documents.Stopped
+abbrev pub place_behind : TakingEnd → Progress → documents.Place
+place_behind taken.More progress = place_with progress.place progress.parts
+place_behind taken.Gives progress = documents.Between
+place_behind (taken.Refuses line refusal) progress = documents.Stopped
 
-abbrev pub stand_of : Draft → List ℕ → Bool → Stand
-stand_of draft held ended = record { at = draft.at; place = place_with draft.place draft.parts; held = held; ended = ended }
+abbrev pub stand_of : Progress → List ℕ → Bool → Stand
+stand_of progress held ended = record { at = progress.at; place = place_with progress.place progress.parts; held = held; ended = ended }
 
-abbrev pub stand_behind : Taken → Draft → List ℕ → Bool → Stand
-stand_behind step draft held ended = record { at = draft.at; place = place_behind step draft; held = held; ended = ended }
+abbrev pub stand_behind : TakingEnd → Progress → List ℕ → Bool → Stand
+stand_behind step progress held ended = record { at = progress.at; place = place_behind step progress; held = held; ended = ended }
 
 -- a document that is whole has a line for each entry
-abbrev pub StandsBehind : Taken → Draft → Type 0
-StandsBehind taken.More draft = Stands draft.at (place_with draft.place draft.parts)
-StandsBehind taken.Gives draft = IsProper draft.parts × (length draft.parts.entries < draft.at)
-StandsBehind (taken.Refuses line refusal) draft = Unit {0}
+abbrev pub StandsBehind : TakingEnd → Progress → Type 0
+StandsBehind taken.More progress = Stands progress.at (place_with progress.place progress.parts)
+StandsBehind taken.Gives progress = IsProper progress.parts × (length progress.parts.entries < progress.at)
+StandsBehind (taken.Refuses line refusal) progress = Unit {0}
 
 -- The lines up to a place were taken.
-pub record TakesSo (old new : Draft) (held : List ℕ) (place : ℕ) (step : Taken) : Type 0 where
+pub record TakesSo (old new : Progress) (held : List ℕ) (place : ℕ) (step : TakingEnd) : Type 0 where
   pub goes : (ended : Bool) → GoesOn (stand_of old held ended) (stand_behind step new (drop place held) ended) (told_of step new.parts)
   pub all : step ≡ taken.More → has_no_feed (drop place held) ≡ true
   pub within : place ≤ length held
@@ -51,7 +51,7 @@ pub record TakesSo (old new : Draft) (held : List ℕ) (place : ℕ) (step : Tak
   pub closes : step ≡ taken.Gives → PassesEnd old.at held new.at (drop place held)
 
 -- Lines up to a place were taken, and nothing was told yet.
-pub record IsTaking (old new : Draft) (held : List ℕ) (place : ℕ) : Type 0 where
+pub record IsTaking (old new : Progress) (held : List ℕ) (place : ℕ) : Type 0 where
   pub goes : (ended : Bool) → GoesOn (stand_of old held ended) (stand_of new (drop place held) ended) []
   pub within : place ≤ length held
   pub stands : Stands new.at (place_with new.place new.parts)
@@ -60,12 +60,12 @@ pub record IsTaking (old new : Draft) (held : List ℕ) (place : ℕ) : Type 0 w
   pub passes : Passes old.at held new.at (drop place held)
 
 -- Lines were taken that told nothing, and the next one is whole and adds to the document.
-pub record WantsAt (old : Draft) (held : List ℕ) : Type 0 where
-  pub draft : Draft
+pub record WantsAt (old : Progress) (held : List ℕ) : Type 0 where
+  pub progress : Progress
   pub place : ℕ
-  pub taking : IsTaking old draft held place
+  pub taking : IsTaking old progress held place
   pub line : List ℕ
   pub rest : List ℕ
   pub stands : drop place held ≡ line ++ 10 ∷ rest
   pub single : has_no_feed line ≡ true
-  pub adds_to : adds (place_with draft.place draft.parts) (said line) ≡ true
+  pub adds_to : adds (place_with progress.place progress.parts) (said line) ≡ true

@@ -19,7 +19,8 @@ abbrev pub octets_onto : List ℕ → Option (List ℕ × List ℕ) → Option (
 octets_onto octets None = None
 octets_onto octets (Some read) = Some (octets ++ read.0, read.1)
 
--- the octets of the text stand in front, and what is behind the closing quote begins at a place; or there is none
+-- the octets of the text stand in front, and what is behind the closing quote begins at a place; or
+-- there is none
 abbrev pub Unquotes : (text out : List ℕ) → Option (ℕ × ℕ) → Type 0
 Unquotes text out None = quoted_read 0 text ≡ None
 Unquotes text out (Some (count, at)) = (count ≤ length out) × (at ≤ length text) × (quoted_read 0 text ≡ Some (take count out, drop at text))

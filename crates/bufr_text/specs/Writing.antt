@@ -20,11 +20,6 @@ abbrev pub Writes : {X : Type 0} → Option (List ℕ) → Option (List ℕ) →
 Writes old new text (Ok x) = Appends old new text
 Writes old new text (Err fault) = (fault ≡ Write) × GrowsByFront old new text
 
--- a text was added to a line; what the line held before and does not hold now was written, or a front of it all where the writer failed
-abbrev pub Composes : {X : Type 0} → (old new : Option (List ℕ)) → (line line' text : List ℕ) → Result X RunFault → Type 0
-Composes old new line line' text (Ok x) = (written : List ℕ) × Appends old new written × (line ++ text ≡ written ++ line')
-Composes old new line line' text (Err fault) = (fault ≡ Write) × GrowsByFront old new (line ++ text)
-
 -- no call of the writer failed or took nothing
 abbrev pub Stays : (failures failures' empty empty' : ℕ) → Type 0
 Stays failures failures' empty empty' = (failures' ≡ failures) × (empty' ≡ empty)
@@ -64,3 +59,8 @@ IsShort (Flag on) = Unit {0}
 abbrev pub joined : List (List ℕ) → List ℕ
 joined [] = []
 joined (text ∷ more) = text ++ joined more
+
+-- texts, one after another, and what is behind them
+abbrev pub joined_onto : List (List ℕ) → (behind : List ℕ) → List ℕ
+joined_onto [] behind = behind
+joined_onto (text ∷ more) behind = text ++ joined_onto more behind

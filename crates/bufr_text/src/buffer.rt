@@ -2,21 +2,17 @@
 //!
 //! Its room is twice the octets of a line. So it slides only when half of it is used up, and moves
 //! less than a line.
-ghost use Rattle.std.specs.Prelude.{◌≡◌, ◌≤◌, ◌<◌, ◌+◌, ◌-◌, ◌*◌, ℕ, List, [], ◌∷◌, ◌++◌, drop, take, length, slice_range, IfOk, IfErr, OnErr, vec_len};
-ghost use Rattle.std.specs.Io.KnownBytes.{Consumes, Keeps, IsAtEnd};
-ghost use Rattle.bufr_bits.specs.Counts.{counted, failures_after};
-ghost use Rattle.bufr_frame.specs.Runs.{read_failures_after};
-ghost use Rattle.bufr_frame.specs.Input.{ReadsOnce};
+ghost use Rattle.std.specs.Prelude.{◌≡◌, ◌≤◌, ◌<◌, ◌+◌, ◌-◌, [], ◌∷◌, ◌++◌, take, slice_range, IfOk, IfErr, vec_len};
 ghost use Rattle.bufr_text.specs.Buffer.{MakesRoom};
 
-use bufr_bits::{Failed, Source};
+use crate::line::MOST_LINE;
 use bufr_frame::RunFault;
 
-/// How many octets one read asks for, and the most octets of a line.
-pub(crate) const CHUNK: usize = 4096;
+/// How many octets one read asks for.
+pub(crate) const CHUNK: usize = MOST_LINE;
 
 /// The room of a buffer.
-pub(crate) const ROOM: usize = 8192;
+pub(crate) const ROOM: usize = 2 * MOST_LINE;
 
 /// Gives a buffer its room, where it has none yet.
 fn grow(buffer: &mut Vec<u8>) -> Result<(), RunFault>
@@ -63,43 +59,6 @@ pub(crate) fn make_room(
     }
     slide(buffer, start, filled);
     Ok(start)
-}
-
-/// Reads once into the octets of `buf` from the place `from` to the place `to`.
-fn read_at<R: Source>(r: &mut R, buf: &mut [u8], from: usize, to: usize) -> Result<usize, Failed>
-    requires order { from < to }
-    requires within { to ≤ length buf.old }
-    ensures front { take from buf.new ≡ take from buf.old }
-    ensures fits { IfOk result (λ n. from + n ≤ to) }
-    ensures ok { IfOk result (λ n. Consumes (R.left r.old) (R.left r.new) (take n (drop from buf.new))) }
-    ensures err { OnErr result (Keeps (R.left r.old) (R.left r.new)) }
-    ensures end { IfOk result (λ n. n ≡ 0 → IsAtEnd (R.left r.new)) }
-    ensures failed { R.failures r.new ≡ failures_after (R.failures r.old) result }
-    ensures made { R.reads r.new ≡ counted (R.reads r.old) 1 }
-{
-    r.read(&mut buf[from..to])
-}
-
-/// Reads once behind the first `filled` octets, up to the place `to`, and answers how many octets
-/// came.
-pub(crate) fn read_behind<R: Source>(
-    r: &mut R,
-    buffer: &mut Vec<u8>,
-    filled: usize,
-    to: usize,
-) -> Result<usize, RunFault>
-    requires order { filled < to }
-    requires within { to ≤ vec_len buffer.old }
-    ensures read { (bs : List ℕ) × ReadsOnce (R.left r.old) (R.left r.new) (take filled buffer.old.items) (take (filled + length bs) buffer.new.items) result bs }
-    ensures len { vec_len buffer.new ≡ vec_len buffer.old }
-    ensures fits { IfOk result (λ n. filled + n ≤ to) }
-    ensures failed { R.failures r.new ≡ read_failures_after (R.failures r.old) result }
-    ensures made { R.reads r.new ≡ counted (R.reads r.old) 1 }
-{
-    match read_at(r, buffer.as_mut_slice(), filled, to) {
-        Ok(n) => Ok(n),
-        Err(_) => Err(RunFault::Read),
-    }
 }
 
 /// Puts a line feed to a place.

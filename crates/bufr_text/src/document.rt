@@ -3,14 +3,14 @@ ghost use Rattle.std.specs.Prelude.{◌≡◌, ℕ, ◌+◌, ◌<◌, ◌≤◌,
 ghost use Rattle.bufr_fill.specs.Draft.{draft};
 ghost use Rattle.bufr_frame.specs.Layout.{is_writable};
 ghost use Rattle.bufr_frame.specs.Section1.{slots_4};
-ghost use Rattle.bufr_fill.specs.Given.{form_in};
+ghost use Rattle.bufr_fill.specs.Entries.{Holds, Ends};
+ghost use Rattle.bufr_fill.specs.Given.{entry_in, form_in};
 ghost use Rattle.bufr_text.specs.Document as spec;
 ghost use Rattle.bufr_text.specs.Document.{subsets_in};
 ghost use Rattle.bufr_text.specs.Documents.{with_value, with_local1, with_section2, with_descriptors, with_entry};
 ghost use Rattle.bufr_text.specs.Header.{head_in, observed_in, compressed_in, section2_in, most_entries};
 ghost use Rattle.bufr_text.specs.Whole.{IsWhole};
-ghost use Rattle.bufr_text.specs.Kept.{form_by, entry_in, IsInside};
-ghost use Rattle.bufr_text.specs.Lent.{entry_said};
+ghost use Rattle.bufr_text.specs.Kept.{form_by, entry_kept, IsInside};
 ghost use Rattle.bufr_text.specs.Line.{mosts};
 
 use bufr_fill::{DraftItem, Entry, Form};
@@ -24,7 +24,7 @@ const KEYS: usize = 20;
 
 /// What stands for a value.
 #[derive(Clone, Copy)]
-pub(crate) enum Kind {
+pub(crate) enum FormKind {
     Number,
     Text,
     Missing,
@@ -33,11 +33,11 @@ pub(crate) enum Kind {
 
 /// An entry as a document keeps it: the octets of an item go from `start` to `end` of one block.
 #[derive(Clone, Copy)]
-enum Cell {
+enum KeptEntry {
     Holds {
         line: u64,
         fxy: u16,
-        kind: Kind,
+        kind: FormKind,
         start: usize,
         end: usize,
     },
@@ -47,24 +47,24 @@ enum Cell {
 }
 
 /// What octets stand for.
-fn form_kept(kind: Kind, octets: &[u8]) -> Form<'_>
+fn form_kept(kind: FormKind, octets: &[u8]) -> Form<'_>
     ensures { form_in result ≡ form_by kind octets.now }
 {
     match kind {
-        Kind::Number => Form::Number(octets),
-        Kind::Text => Form::Text(octets),
-        Kind::Missing => Form::Missing,
-        Kind::Reference => Form::Reference(octets),
+        FormKind::Number => Form::Number(octets),
+        FormKind::Text => Form::Text(octets),
+        FormKind::Missing => Form::Missing,
+        FormKind::Reference => Form::Reference(octets),
     }
 }
 
 /// The entry that is kept in this block of octets.
-fn entry_kept<'a>(octets: &'a [u8], cell: Cell) -> Entry<'a>
-    requires { IsInside (length octets.now) cell }
-    ensures { entry_said result ≡ entry_in octets.now cell }
+fn entry_kept<'a>(octets: &'a [u8], kept: KeptEntry) -> Entry<'a>
+    requires { IsInside (length octets.now) kept }
+    ensures { entry_in result ≡ entry_kept octets.now kept }
 {
-    match cell {
-        Cell::Holds {
+    match kept {
+        KeptEntry::Holds {
             line,
             fxy,
             kind,
@@ -75,7 +75,7 @@ fn entry_kept<'a>(octets: &'a [u8], cell: Cell) -> Entry<'a>
             fxy: Fxy::from_word(fxy),
             form: form_kept(kind, &octets[start..end]),
         }),
-        Cell::Ends { line } => Entry::End(line),
+        KeptEntry::Ends { line } => Entry::End(line),
     }
 }
 
@@ -91,7 +91,7 @@ pub(crate) struct Parts {
     descriptors: Vec<u16>,
     /// Tokens and texts, one after another.
     octets: Vec<u8>,
-    cells: Vec<Cell>,
+    kept: Vec<KeptEntry>,
 }
 
 impl Model for Parts {
@@ -119,7 +119,7 @@ impl Parts {
             section2: Vec::new(alloc),
             descriptors: Vec::new(alloc),
             octets: Vec::new(alloc),
-            cells: Vec::new(alloc),
+            kept: Vec::new(alloc),
         }
     }
 
@@ -133,7 +133,7 @@ impl Parts {
         self.section2.clear();
         self.descriptors.clear();
         self.octets.clear();
-        self.cells.clear();
+        self.kept.clear();
     }
 
     /// How many values of the header were read.
@@ -194,15 +194,15 @@ impl Parts {
         &mut self,
         line: u64,
         fxy: u16,
-        kind: Kind,
+        kind: FormKind,
         octets: &[u8],
     ) -> Result<(), AllocError>
-        ensures { OnOk result (self.new ≡ with_entry self.old (spec.Holds (draft line fxy (form_by kind octets.now)))) }
+        ensures { OnOk result (self.new ≡ with_entry self.old (Holds (draft line fxy (form_by kind octets.now)))) }
     {
         let start = self.octets.len();
         self.octets.extend_from_slice(octets)?;
         let end = self.octets.len();
-        self.cells.push(Cell::Holds {
+        self.kept.push(KeptEntry::Holds {
             line,
             fxy,
             kind,
@@ -214,9 +214,9 @@ impl Parts {
 
     /// The end of a subset.
     pub(crate) fn push_end(&mut self, line: u64) -> Result<(), AllocError>
-        ensures { OnOk result (self.new ≡ with_entry self.old (spec.Ends line)) }
+        ensures { OnOk result (self.new ≡ with_entry self.old (Ends line)) }
     {
-        self.cells.push(Cell::Ends { line })?;
+        self.kept.push(KeptEntry::Ends { line })?;
         Ok(())
     }
 
@@ -252,15 +252,15 @@ impl Parts {
     fn entries(&self) -> usize
         ensures { result ≡ length self.now.entries }
     {
-        self.cells.len()
+        self.kept.len()
     }
 
     /// The entry at a place.
     fn entry(&self, place: usize) -> Entry<'_>
         requires { place < length self.now.entries }
-        ensures { entry_said result ≡ slice_index_or self.now.entries place (entry_said result) }
+        ensures { entry_in result ≡ slice_index_or self.now.entries place (entry_in result) }
     {
-        entry_kept(self.octets.as_slice(), self.cells[place])
+        entry_kept(self.octets.as_slice(), self.kept[place])
     }
 }
 
@@ -400,7 +400,7 @@ impl Document {
     /// The entry at a place, from 0. Each subset's items stand before its end.
     pub fn entry(&self, place: usize) -> Entry<'_>
         requires { place < length self.now.entries }
-        ensures { entry_said result ≡ slice_index_or self.now.entries place (entry_said result) }
+        ensures { entry_in result ≡ slice_index_or self.now.entries place (entry_in result) }
     {
         self.parts.entry(place)
     }

@@ -6,13 +6,15 @@ ghost use Rattle.bufr_walk.specs.Outcome.{course_of};
 ghost use Rattle.bufr_walk.specs.Reading.{IsReading, Values};
 ghost use Rattle.bufr_walk.specs.Seen.{seen};
 ghost use Rattle.bufr_text.specs.Dump.{dump_text_of};
-ghost use Rattle.bufr_text.specs.Dumped.{items_of};
+ghost use Rattle.bufr_text.specs.DumpItems.{items_of};
 ghost use Rattle.bufr_text.specs.Pen.{run_fault_of};
-ghost use Rattle.bufr_text.specs.Dumping.{CountsFaults, ReadsMessage, WritesFront, WritesStretches, call_line, call_stretch, stretches_of};
+ghost use Rattle.bufr_text.specs.DumpWritten.{CountsFaults, ReadsMessage, WritesFront, WritesStretches, call_line, call_stretch, stretches_of};
 
 use crate::head_lines::write_head_lines;
-use crate::part::{Part, write_all, write_parts};
-use crate::put::make_item_line;
+use crate::item_line::make_item_line;
+use crate::laid::{lay_named, lay_text};
+use crate::part::write_all;
+use crate::slice::behind;
 use bufr_bits::Sink;
 use bufr_frame::{Message, RunFault};
 use bufr_walk::{ItemView, Reading, ShowFault, Steps, Visitor};
@@ -21,18 +23,19 @@ use std::alloc::Global;
 /// The octets of memory that a line is put together in: as many as a line has at most.
 const LINE: usize = 4096;
 
+/// The octets of the longest line that begins a subset.
+const SUBSET_LINE: usize = 13;
+
 /// Writes the line that begins a subset.
 fn write_subset<W: Sink>(number: u16, w: &mut W) -> Result<(), RunFault>
     ensures writes { WritesFront (W.taken w.old) (W.taken w.new) (call_line (subset_call number) ++ 10 ∷ []) result }
     ensures counts { CountsFaults (W.failures w.old) (W.failures w.new) (W.empty_writes w.old) (W.empty_writes w.new) result }
     ensures flushes { W.flushes w.new ≡ W.flushes w.old }
 {
-    let parts = [
-        Part::Text(b"subset "),
-        Part::Decimal(number as u64),
-        Part::Text(b"\n"),
-    ];
-    write_parts(&parts, w)
+    let mut line = [0; SUBSET_LINE];
+    let end = lay_text(b"\n", &mut line, SUBSET_LINE);
+    let start = lay_named(b"subset ", number, &mut line, end);
+    write_all(behind(&line, start), w)
 }
 
 /// Writes the line of an item, put together in `line`.
@@ -41,8 +44,8 @@ fn write_item<W: Sink>(item: &ItemView<'_>, line: &mut Vec<u8>, w: &mut W) -> Re
     ensures counts { CountsFaults (W.failures w.old) (W.failures w.new) (W.empty_writes w.old) (W.empty_writes w.new) result }
     ensures flushes { W.flushes w.new ≡ W.flushes w.old }
 {
-    make_item_line(item, line)?;
-    write_all(line.as_slice(), w)
+    let start = make_item_line(item, line)?;
+    write_all(behind(line.as_slice(), start), w)
 }
 
 /// Who is shown a reading to write its lines.

@@ -1,18 +1,15 @@
 //! The documents of an input.
 
-use crate::buffer::{CHUNK, make_room, put_feed, read_behind};
+use crate::buffer::{CHUNK, make_room, put_feed};
 use crate::document::{Document, Parts};
-use crate::draft::{Draft, Taken, take_lines, take_parts};
 use crate::fault::ReadFault;
 use crate::line::MOST_LINE;
-use crate::step::{Place, Refusal};
+use crate::progress::{Progress, TakingEnd, take_lines, take_parts};
+use crate::step::{LineRefusal, Place};
 use bufr_bits::Source;
-use bufr_frame::RunFault;
+use bufr_frame::{MOST_READS, RunFault, read_behind};
 use std::alloc::Global;
 use std::marker::Model;
-
-/// The most reads that are made of one input; the next one is not made.
-const MOST_READS: u64 = 1 << 32;
 
 /// Reads the documents of a dump text, one after another.
 ///
@@ -34,8 +31,8 @@ pub struct DumpReader {
     buffer: Vec<u8>,
     start: usize,
     filled: usize,
-    /// The document that is being read.
-    draft: Draft,
+    /// How far the lines have come that were taken.
+    progress: Progress,
     /// Whether the end was reached. The last line ends by a line feed then.
     ended: bool,
     /// The fault that stopped the reading.
@@ -48,23 +45,23 @@ impl Model for DumpReader {
     ghost use Rattle.std.specs.Prelude.{◌≡◌, ◌<◌, ◌≤◌, ◌-◌, None, true, vec_len, slice_range};
     ghost use Rattle.bufr_frame.specs.Runs.{most_reads};
     ghost use Rattle.bufr_text.specs.Reader.{State};
-    ghost use Rattle.bufr_text.specs.Filling.{place_now, ends_by_feed, DraftSo};
+    ghost use Rattle.bufr_text.specs.Filling.{place_now, ends_by_feed, ProgressSo};
 
     ghost Value = { State };
 
     ghost view = { λ f. record {
-      at = f.draft.at;
-      place = place_now f.fault f.draft;
+      at = f.progress.at;
+      place = place_now f.fault f.progress;
       held = slice_range f.buffer.items f.start f.filled;
       ended = f.ended;
       fault = f.fault;
       reads = f.reads;
     } };
 
-    ghost invariant = { λ f. (f.start ≤ f.filled) × (f.filled ≤ vec_len f.buffer) × (vec_len f.buffer ≤ 8192) × (f.reads ≤ most_reads) × (f.ended ≡ true → ends_by_feed (slice_range f.buffer.items f.start f.filled) ≡ true) × (f.fault ≡ None → DraftSo f.draft (f.filled - f.start) f.reads) × (0 < f.reads → vec_len f.buffer ≡ 8192) };
+    ghost invariant = { λ f. (f.start ≤ f.filled) × (f.filled ≤ vec_len f.buffer) × (vec_len f.buffer ≤ 8192) × (f.reads ≤ most_reads) × (f.ended ≡ true → ends_by_feed (slice_range f.buffer.items f.start f.filled) ≡ true) × (f.fault ≡ None → ProgressSo f.progress (f.filled - f.start) f.reads) × (0 < f.reads → vec_len f.buffer ≡ 8192) };
 }
 
-impl Refusal {
+impl LineRefusal {
     ghost use Rattle.std.specs.Prelude.{◌≡◌};
     ghost use Rattle.bufr_text.specs.Filling.{fault_at};
 
@@ -73,9 +70,9 @@ impl Refusal {
         ensures { result ≡ fault_at line self }
     {
         match self {
-            Refusal::NotAllowed => ReadFault::Line(line),
-            Refusal::SubsetCount => ReadFault::SubsetCount(line),
-            Refusal::HeaderRange => ReadFault::HeaderRange(line),
+            LineRefusal::NotAllowed => ReadFault::Line(line),
+            LineRefusal::SubsetCount => ReadFault::SubsetCount(line),
+            LineRefusal::HeaderRange => ReadFault::HeaderRange(line),
         }
     }
 }
@@ -98,7 +95,7 @@ impl DumpReader {
             buffer: Vec::new(alloc),
             start: 0,
             filled: 0,
-            draft: Draft {
+            progress: Progress {
                 place: Place::Between,
                 at: 1,
                 parts: Parts::blank(alloc, 0),
@@ -115,8 +112,8 @@ impl DumpReader {
     pub fn reuse(&mut self, document: Document)
         ensures { self.new ≡ self.old }
     {
-        if let Place::Between = self.draft.place {
-            self.draft.parts = document.into_parts();
+        if let Place::Between = self.progress.place {
+            self.progress.parts = document.into_parts();
         }
     }
 
@@ -155,19 +152,19 @@ impl DumpReader {
         ensures reads { self.new.reads ≡ self.old.reads }
     {
         let held = &self.buffer[self.start..self.filled];
-        let Ok((len, taken)) = take_lines(&mut self.draft, held) else {
+        let Ok((len, taken)) = take_lines(&mut self.progress, held) else {
             let fault = ReadFault::Run(RunFault::Memory);
             self.fault = Some(fault);
             return Err(fault);
         };
         self.start += len;
         match taken {
-            Taken::More => Ok(None),
-            Taken::Gives => {
-                let parts = take_parts(self.alloc, &mut self.draft);
+            TakingEnd::More => Ok(None),
+            TakingEnd::Gives => {
+                let parts = take_parts(self.alloc, &mut self.progress);
                 Ok(Some(Document::whole(parts)))
             }
-            Taken::Refuses(line, refusal) => {
+            TakingEnd::Refuses(line, refusal) => {
                 let fault = refusal.at(line);
                 self.fault = Some(fault);
                 Err(fault)
@@ -183,10 +180,10 @@ impl DumpReader {
         ensures end { EndSo self.old self.new result }
         ensures bound { length self.new.held ≤ 8192 }
     {
-        match self.draft.place {
+        match self.progress.place {
             Place::Between => Ok(None),
             _ => {
-                let fault = ReadFault::Line(self.draft.at);
+                let fault = ReadFault::Line(self.progress.at);
                 Err(self.stop(fault))
             }
         }
@@ -229,7 +226,7 @@ impl DumpReader {
         ensures bound { length self.new.held ≤ 8192 }
     {
         if self.filled - self.start > MOST_LINE {
-            let fault = ReadFault::Line(self.draft.at);
+            let fault = ReadFault::Line(self.progress.at);
             return Err(self.stop(fault));
         }
         if self.reads == MOST_READS {
@@ -241,19 +238,19 @@ impl DumpReader {
         }
     }
 
-    /// The next document of the input `r`, which is to be the same at each call, or `None` where the
-    /// end was reached and no line is left. After `None` it comes again. A document is as its header
-    /// says: it has so many subsets and nothing behind them, and octets of section 2 only where there
-    /// is one.
+    /// The next document of the input `r`, which is to be the same at each call, or `None` where
+    /// the end was reached and no line is left. After `None` it comes again. A document is as its
+    /// header says: it has so many subsets and nothing behind them, and octets of section 2 only
+    /// where there is one.
     ///
     /// # Errors
     ///
-    /// [`ReadFault::Line`], [`ReadFault::SubsetCount`] and [`ReadFault::HeaderRange`] where the next
-    /// document is refused, with the line. [`ReadFault::Run`] with [`RunFault::Read`] where a read
-    /// failed in this call, with [`RunFault::InputTooLong`] where the end was not reached in 2^32
-    /// reads, and with [`RunFault::Memory`] where a document could not grow by a line that is held, or
-    /// the buffer could not be made before the first read. All documents that were read whole were
-    /// given before. After a fault each call answers the same one, and reads nothing.
+    /// [`ReadFault::Line`], [`ReadFault::SubsetCount`] and [`ReadFault::HeaderRange`] where the
+    /// next document is refused, with the line. [`ReadFault::Run`] with [`RunFault::Read`] where a
+    /// read failed in this call, with [`RunFault::InputTooLong`] where the end was not reached in
+    /// 2^32 reads, and with [`RunFault::Memory`] where a document could not grow by a line that is
+    /// held, or the buffer could not be made before the first read. All documents that were read
+    /// whole were given before. After a fault each call answers the same one, and reads nothing.
     pub fn next_document<R: Source>(&mut self, r: &mut R) -> Result<Option<Document>, ReadFault>
         ensures next { self.old.fault ≡ None → NextSo (R.left r.old) (R.left r.new) self.old self.new result }
         ensures proper { IfOk result (λ found. IfSome found (λ document. IsProper document)) }

@@ -8,15 +8,16 @@ ghost use Rattle.bufr_tables.specs.TableB.{AreRows};
 ghost use Rattle.bufr_frame.specs.Sections.{Sections};
 ghost use Rattle.bufr_walk.specs.Reading.{Values};
 ghost use Rattle.bufr_text.specs.Dump.{document_of};
-ghost use Rattle.bufr_text.specs.Encoded.{IsAccepted, items_in};
+ghost use Rattle.bufr_text.specs.RoundTrip.{IsAccepted, items_in};
 ghost use Rattle.bufr_text.specs.InForm.{FormSo};
 ghost use Rattle.bufr_walk.specs.Course.{next_item};
 ghost use Rattle.bufr_walk.specs.Ticks.{ticked};
 ghost use Rattle.bufr_fill.specs.Entries.{subsets_of};
 ghost use Rattle.bufr_fill.specs.Given.{entry_in};
-ghost use Rattle.bufr_text.specs.Encoding.{drafts_of, encoding_in, encoding_of, told_of_template, entry_of, octets_of_bits, message_of, compressed_as, parts_as};
-ghost use Rattle.bufr_text.specs.EncodingFault.{told_of_draft, told_refusal};
-ghost use Rattle.bufr_text.specs.Encodes.{AreOctetsOf, RefusesSo, MakesSo, DataSo, SubsetSo, told_stop, places_by, bits_by, turns_by};
+ghost use Rattle.bufr_text.specs.Encoding.{encoding_in, encoding_of, told_of_template, octets_of_bits, message_of, compressed_as, parts_as};
+ghost use Rattle.bufr_text.specs.EncodingFault.{RefusesSo, told_of_draft, told_refusal};
+ghost use Rattle.bufr_text.specs.DataWritten.{AreOctetsOf, DataSo, SubsetSo, told_stop};
+ghost use Rattle.bufr_text.specs.EncodingCost.{MakesSo, places_by, bits_by, turns_by};
 ghost use Rattle.bufr_text.specs.Header.{head_in, most_entries};
 ghost use Rattle.bufr_text.specs.declared.form.Form.TheVariants.{AsWritten};
 
@@ -74,10 +75,11 @@ fn template_of(
 /// The entries of a document, one after another.
 fn lend_entries<'a>(document: &'a Document, entries: &mut Vec<Entry<'a>>) -> Result<(), AllocError>
     requires { entries.old.items ≡ [] }
-    ensures same { OnOk result (map entry_in entries.new.items ≡ map entry_of document.now.entries) }
+    ensures same { OnOk result (map entry_in entries.new.items ≡ document.now.entries) }
     ensures few { OnOk result (length entries.new.items ≤ most_entries) }
 {
     for place in 0..document.entries() {
+        // A push takes an entry by value, which the borrow checker does not cover yet.
         let entry = [document.entry(place)];
         entries.extend_from_slice(&entry)?;
     }
@@ -89,10 +91,9 @@ fn count_subsets(entries: &[Entry<'_>]) -> usize
     ensures { result ≡ length (subsets_of (map entry_in entries.now)) }
 {
     let mut count = 0;
-    for place in 0..entries.len() {
-        match entries[place] {
-            Entry::End(_) => count += 1,
-            Entry::Item(_) => {}
+    for entry in entries {
+        if let Entry::End(_) = entry {
+            count += 1;
         }
     }
     count
@@ -180,7 +181,7 @@ fn write_data(
     steps: &mut Steps,
 ) -> Result<Vec<u8>, DocumentFault>
     requires { steps.old ≡ 0 }
-    ensures { DataSo (places template.now) (compressed_as form document.now) (next_item table.now template.now) (drafts_of document.now.entries) result steps.new }
+    ensures { DataSo (places template.now) (compressed_as form document.now) (next_item table.now template.now) (subsets_of document.now.entries) result steps.new }
 {
     let mut entries = Vec::new(alloc);
     lend_entries(document, &mut entries)?;
@@ -220,11 +221,11 @@ fn write_whole(
     }
 }
 
-/// The octets of a document's message in a form, by the tables: its template first, then its items in
-/// the order of the template, then the length (WMO-No. 306, Volume I.2, FM 94: sections 0 to 5). The
-/// form says whether the data are compressed, in the flag and in the data, whatever the document
-/// says; so the document of a message that was read gives the same message in the other form, where
-/// this can hold it.
+/// The octets of a document's message in a form, by the tables: its template first, then its items
+/// in the order of the template, then the length (WMO-No. 306, Volume I.2, FM 94: sections 0 to 5).
+/// The form says whether the data are compressed, in the flag and in the data, whatever the
+/// document says; so the document of a message that was read gives the same message in the other
+/// form, where this can hold it.
 ///
 /// It sets the steps to those that are made for it, up to the greatest `u64`: one for each turn of
 /// the template, subset after subset, or once for all subsets where the data are compressed. A turn
@@ -266,7 +267,8 @@ pub fn encode_form(
     ensures made_refused { IfErr result (λ why. MakesSo (told_refusal why) 0 (turns_by form table_b.now table_d.now document.now) steps.new) }
     ensures accepted { OnOk result (steps.new ≤ places_by table_b.now table_d.now document.now * bits_by form table_b.now table_d.now document.now) }
     ensures refused { OnErr result (steps.new ≤ places_by table_b.now table_d.now document.now * (bits_by form table_b.now table_d.now document.now + 1)) }
-    // The document of an accepted message keeps its reading in each form, but for the flag; it is refused for the form alone.
+    // The document of an accepted message keeps its reading in each form, but for the flag; it is
+    // refused for the form alone.
     ensures again { (records : List Record) (m : List ℕ) (s : Sections) (template : Tree) (values : Values) (used at : ℕ)
         → AreRows records table_b.now → IsAccepted table_b.now table_d.now m s template values used → document.now ≡ document_of at s (items_in table_b.now template s values)
         → FormSo form table_b.now s template values result }

@@ -36,7 +36,8 @@ impl WalkRefusal {
 }
 
 /// Why a document cannot be encoded, with the number of a line, from 1: that of the item, or of the
-/// line that ends its subset where there is none; that of `message` for its template and its length.
+/// line that ends its subset where there is none; that of `message` for its template and its
+/// length.
 #[derive(Clone, Copy, Debug, PartialEq, Eq, Error)]
 pub enum DocumentFault {
     /// Another item, or none, stands where this is expected.

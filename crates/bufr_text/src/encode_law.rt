@@ -11,10 +11,9 @@ ghost use Rattle.bufr_text.specs.declared.encode_fault.DocumentFault.TheVariants
 ghost use Rattle.bufr_text.specs.Canonical.{IsCanonical};
 ghost use Rattle.bufr_text.specs.Documents.{Spelled, documents_of};
 ghost use Rattle.bufr_text.specs.Dump.{document_of, dump_text_of};
-ghost use Rattle.bufr_text.specs.Encoded.{HasSameReading, IsAccepted, IsEncodedAgain, items_in};
-ghost use Rattle.bufr_text.specs.Encodes.{RefusesSo};
+ghost use Rattle.bufr_text.specs.RoundTrip.{HasSameReading, IsAccepted, IsEncodedAgain, items_in};
 ghost use Rattle.bufr_text.specs.Encoding.{encoding_in, encoding_of};
-ghost use Rattle.bufr_text.specs.EncodingFault.{told_refusal};
+ghost use Rattle.bufr_text.specs.EncodingFault.{RefusesSo, told_refusal};
 ghost use Rattle.bufr_text.specs.Given.{IsDumpable};
 ghost use Rattle.bufr_text.specs.Form.{compressed_by, form_of_flag};
 ghost use Rattle.bufr_text.specs.InForm.{HasReadingIn, IsFaultIn, IsFormed};
@@ -75,19 +74,20 @@ pub fn canonical_messages_are_encoded_to_themselves()
         → encoding_of table sequences (document_of at s (items_in table template s values)) ≡ Ok m }
 {}
 
-/// The document of an accepted message's dump text is encoded in each form to a message with the same
-/// reading, but for the flag of compression: the same head, local octets, section 2, descriptors,
-/// number of subsets, and items of each subset. In the form that it says nothing refuses it; in plain
-/// form its length may, and in compressed form its length, factors that differ between subsets, and
-/// contents that no increments tell apart.
+/// The document of an accepted message's dump text is encoded in each form to a message with the
+/// same reading, but for the flag of compression: the same head, local octets, section 2,
+/// descriptors, number of subsets, and items of each subset. In the form that it says nothing
+/// refuses it; in plain form its length may, and in compressed form its length, factors that differ
+/// between subsets, and contents that no increments tell apart.
 pub fn dumped_messages_are_encoded_in_each_form()
     ensures { (records : List Record) (table : List Row) (sequences : List Sequence) (m : List ℕ) (s : Sections) (template : Tree) (values : Values) (used at : ℕ) (form : Form)
         → AreRows records table → IsAccepted table sequences m s template values used
         → IsFormed form table s template values (encoding_in form table sequences (document_of at s (items_in table template s values))) }
 {}
 
-/// A fault that may be told of such an encoding is [`DocumentFault::Memory`](crate::DocumentFault::Memory), in plain
-/// and compressed form also [`DocumentFault::TooLong`](crate::DocumentFault::TooLong), and in compressed form
+/// A fault that may be told of such an encoding is
+/// [`DocumentFault::Memory`](crate::DocumentFault::Memory), in plain and compressed form also
+/// [`DocumentFault::TooLong`](crate::DocumentFault::TooLong), and in compressed form
 /// [`DocumentFault::UnequalFactor`](crate::DocumentFault::UnequalFactor) or
 /// [`DocumentFault::Increment`](crate::DocumentFault::Increment).
 pub fn dumped_messages_are_refused_for_their_form_alone()

@@ -303,8 +303,8 @@ fn refuses_documents_at_their_lines(rt: HostRuntime) -> Result<(), Fail> {
     Ok(())
 }
 
-/// A document is read whole before its items are looked at: a line that may not stand there is told,
-/// and not the item above it that is not whole at its scale.
+/// A document is read whole before its items are looked at: a line that may not stand there is
+/// told, and not the item above it that is not whole at its scale.
 #[test]
 fn tells_a_line_before_an_item(rt: HostRuntime) -> Result<(), Fail> {
     let mut text = String::from_str(rt.alloc(), FIRST_LINES)?;
@@ -348,7 +348,8 @@ fn encodes_the_longest_message(rt: HostRuntime) -> Result<(), Fail> {
     Ok(())
 }
 
-// What is proved of dumps that are encoded. A test that calls it does not have to carry the contracts.
+// What is proved of dumps that are encoded. A test that calls it does not have to carry the
+// contracts.
 fn laws() {
     encode_law::accepted_messages_are_dumpable();
     encode_law::dumped_messages_are_encoded_again();

@@ -185,8 +185,8 @@ fn laws() {
     encode_law::canonical_messages_come_back_from_each_form();
 }
 
-/// A compressed message, in plain form and back again: the same octets, and between them a dump text
-/// that differs in the flag alone.
+/// A compressed message, in plain form and back again: the same octets, and between them a dump
+/// text that differs in the flag alone.
 #[test]
 fn comes_back_from_the_plain_form(rt: HostRuntime) -> Result<(), Fail> {
     laws();
@@ -216,7 +216,8 @@ fn many_texts(alloc: Global) -> Result<String, Fail> {
     Ok(text)
 }
 
-/// Two texts of spaces in each of 65,535 subsets: compressed they are few octets, and plain too many.
+/// Two texts of spaces in each of 65,535 subsets: compressed they are few octets, and plain too
+/// many.
 #[test]
 fn refuses_a_long_plain_form(rt: HostRuntime) -> Result<(), Fail> {
     let text = many_texts(rt.alloc())?;

@@ -1,18 +1,55 @@
 //! The lines of a dump text before its subsets.
-ghost use Rattle.std.specs.Prelude.{◌≡◌, ◌++◌, [], ◌∷◌, OnOk, codes, drop, length, map, take, unwrap_or};
+ghost use Rattle.std.specs.Prelude.{◌≡◌, ◌≤◌, ◌+◌, ◌++◌, [], ◌∷◌, OnOk, codes, drop, is_some, length, map, take, unwrap_or};
 ghost use Rattle.bufr_frame.specs.Words.{words_left};
 ghost use Rattle.bufr_text.specs.Dump.{descriptors_line, head_lines, header_lines, header_of, section2_line, text_of};
-ghost use Rattle.bufr_text.specs.Dumping.{CountsFaults, WritesFront};
+ghost use Rattle.bufr_text.specs.DumpWritten.{CountsFaults, WritesFront};
 ghost use Rattle.bufr_text.specs.Grammar.{hex_text, runs_of};
+ghost use Rattle.bufr_text.specs.Laid.{category_texts, counts_texts, date_texts, origin_texts};
+ghost use Rattle.bufr_text.specs.Writing.{flag, joined_onto};
 
 use crate::key::KEYS;
-use crate::part::{Part, write_all, write_parts};
+use crate::laid::{LINE, lay_flag, lay_named, lay_text};
+use crate::part::write_all;
 use crate::put::{make_descriptor_line, make_octet_line};
+use crate::slice::behind;
 use bufr_bits::Sink;
-use bufr_frame::{Message, RunFault, Words};
+use bufr_frame::{Head, Message, RunFault, Words};
 
 /// How many octets a line holds at most.
 const OCTETS: usize = 32;
+
+/// Lays the lines of the edition and of what section 1 says up to the update.
+#[inline(always)]
+fn lay_origin(head: &Head, line: &mut [u8], end: usize) -> usize
+    requires room { 76 ≤ end }
+    requires within { end ≤ length line.old }
+    ensures start { result ≤ end }
+    ensures laid { drop result line.new ≡ joined_onto (origin_texts head.now) (drop end line.old) }
+{
+    let end = lay_named(KEYS[4].0, u16::from(head.update), line, end);
+    let end = lay_named(KEYS[3].0, head.subcentre, line, end);
+    let end = lay_named(KEYS[2].0, head.centre, line, end);
+    let end = lay_named(KEYS[1].0, u16::from(head.master), line, end);
+    let end = lay_named(KEYS[0].0, u16::from(head.edition), line, end);
+    lay_text(b"message", line, end)
+}
+
+/// Lays the lines of the category and of the tables.
+#[inline(always)]
+fn lay_category(head: &Head, line: &mut [u8], end: usize) -> usize
+    requires room { 96 ≤ end }
+    requires within { end ≤ length line.old }
+    ensures most { end ≤ result + 96 }
+    ensures start { result ≤ end }
+    ensures laid { drop result line.new ≡ joined_onto (category_texts head.now) (drop end line.old) }
+{
+    let end = lay_text(b"\n", line, end);
+    let end = lay_named(KEYS[9].0, u16::from(head.local_version), line, end);
+    let end = lay_named(KEYS[8].0, u16::from(head.master_version), line, end);
+    let end = lay_named(KEYS[7].0, u16::from(head.local_subcategory), line, end);
+    let end = lay_named(KEYS[6].0, u16::from(head.subcategory), line, end);
+    lay_named(KEYS[5].0, u16::from(head.category), line, end)
+}
 
 /// Writes the line `message`, and those of the edition and of what section 1 says before the date.
 fn write_origin<W: Sink>(message: &Message<'_>, w: &mut W) -> Result<(), RunFault>
@@ -21,31 +58,45 @@ fn write_origin<W: Sink>(message: &Message<'_>, w: &mut W) -> Result<(), RunFaul
     ensures flushes { W.flushes w.new ≡ W.flushes w.old }
 {
     let head = message.head();
-    let parts = [
-        Part::Text(b"message"),
-        Part::Text(KEYS[0].0),
-        Part::Decimal(head.edition as u64),
-        Part::Text(KEYS[1].0),
-        Part::Decimal(head.master as u64),
-        Part::Text(KEYS[2].0),
-        Part::Decimal(head.centre as u64),
-        Part::Text(KEYS[3].0),
-        Part::Decimal(head.subcentre as u64),
-        Part::Text(KEYS[4].0),
-        Part::Decimal(head.update as u64),
-        Part::Text(KEYS[5].0),
-        Part::Decimal(head.category as u64),
-        Part::Text(KEYS[6].0),
-        Part::Decimal(head.subcategory as u64),
-        Part::Text(KEYS[7].0),
-        Part::Decimal(head.local_subcategory as u64),
-        Part::Text(KEYS[8].0),
-        Part::Decimal(head.master_version as u64),
-        Part::Text(KEYS[9].0),
-        Part::Decimal(head.local_version as u64),
-        Part::Text(b"\n"),
-    ];
-    write_parts(&parts, w)
+    let mut line = [0; LINE];
+    let end = lay_category(&head, &mut line, LINE);
+    let start = lay_origin(&head, &mut line, end);
+    write_all(behind(&line, start), w)
+}
+
+/// Lays the lines of the flags and of the number of subsets.
+#[inline(always)]
+fn lay_counts(message: &Message<'_>, line: &mut [u8], end: usize) -> usize
+    requires room { 62 ≤ end }
+    requires within { end ≤ length line.old }
+    ensures most { end ≤ result + 62 }
+    ensures start { result ≤ end }
+    ensures laid { drop result line.new ≡ joined_onto (counts_texts (flag message.now.observed) (flag message.now.compressed) (flag (is_some message.now.section2)) message.now.subsets) (drop end line.old) }
+{
+    let end = lay_text(b"\n", line, end);
+    let end = lay_named(KEYS[19].0, message.subsets(), line, end);
+    let end = lay_flag(message.section2().is_some(), line, end);
+    let end = lay_text(KEYS[18].0, line, end);
+    let end = lay_flag(message.compressed(), line, end);
+    let end = lay_text(KEYS[17].0, line, end);
+    let end = lay_flag(message.observed(), line, end);
+    lay_text(KEYS[16].0, line, end)
+}
+
+/// Lays the lines of the date.
+#[inline(always)]
+fn lay_date(head: &Head, line: &mut [u8], end: usize) -> usize
+    requires room { 69 ≤ end }
+    requires within { end ≤ length line.old }
+    ensures start { result ≤ end }
+    ensures laid { drop result line.new ≡ joined_onto (date_texts head.now) (drop end line.old) }
+{
+    let end = lay_named(KEYS[15].0, u16::from(head.second), line, end);
+    let end = lay_named(KEYS[14].0, u16::from(head.minute), line, end);
+    let end = lay_named(KEYS[13].0, u16::from(head.hour), line, end);
+    let end = lay_named(KEYS[12].0, u16::from(head.day), line, end);
+    let end = lay_named(KEYS[11].0, u16::from(head.month), line, end);
+    lay_named(&KEYS[10].0[1..], head.year, line, end)
 }
 
 /// Writes the lines of the date, the flags and the number of subsets.
@@ -55,30 +106,10 @@ fn write_date<W: Sink>(message: &Message<'_>, w: &mut W) -> Result<(), RunFault>
     ensures flushes { W.flushes w.new ≡ W.flushes w.old }
 {
     let head = message.head();
-    let parts = [
-        Part::Text(&KEYS[10].0[1..]),
-        Part::Decimal(head.year as u64),
-        Part::Text(KEYS[11].0),
-        Part::Decimal(head.month as u64),
-        Part::Text(KEYS[12].0),
-        Part::Decimal(head.day as u64),
-        Part::Text(KEYS[13].0),
-        Part::Decimal(head.hour as u64),
-        Part::Text(KEYS[14].0),
-        Part::Decimal(head.minute as u64),
-        Part::Text(KEYS[15].0),
-        Part::Decimal(head.second as u64),
-        Part::Text(KEYS[16].0),
-        Part::Flag(message.observed()),
-        Part::Text(KEYS[17].0),
-        Part::Flag(message.compressed()),
-        Part::Text(KEYS[18].0),
-        Part::Flag(message.section2().is_some()),
-        Part::Text(KEYS[19].0),
-        Part::Decimal(message.subsets() as u64),
-        Part::Text(b"\n"),
-    ];
-    write_parts(&parts, w)
+    let mut line = [0; LINE];
+    let end = lay_counts(message, &mut line, LINE);
+    let start = lay_date(&head, &mut line, end);
+    write_all(behind(&line, start), w)
 }
 
 /// Writes a line of octets behind its word.
@@ -109,9 +140,9 @@ fn write_octet_lines<W: Sink>(
 {
     let mut rest = octets;
     while !rest.is_empty() {
-        let (run, behind) = rest.split_at(rest.len().min(OCTETS));
+        let (run, left) = rest.split_at(rest.len().min(OCTETS));
         write_octet_line(word, run, line, w)?;
-        rest = behind;
+        rest = left;
     }
     Ok(())
 }

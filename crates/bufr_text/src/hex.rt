@@ -23,12 +23,8 @@ pub(crate) fn unhex(text: &[u8], out: &mut [u8]) -> Option<usize>
 {
     let mut count = 0;
     while 2 * count + 1 < text.len() {
-        let Some(high) = either_value(text[2 * count]) else {
-            return None;
-        };
-        let Some(low) = either_value(text[2 * count + 1]) else {
-            return None;
-        };
+        let high = either_value(text[2 * count])?;
+        let low = either_value(text[2 * count + 1])?;
         out[count] = 16 * high + low;
         count += 1;
     }

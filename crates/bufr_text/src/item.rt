@@ -2,12 +2,12 @@
 ghost use Rattle.std.specs.Prelude.{◌≡◌, ℕ, ◌+◌, ◌-◌, ◌<◌, ◌≤◌, List, length, drop, take, slice_index, option_map, IfSome, IsTrue};
 ghost use Rattle.bufr_fill.specs.Draft.{reference_token};
 ghost use Rattle.bufr_text.specs.Grammar.{front, behind, behind_word, fxy_read, is_number_octet, is_hashed, is_passed_behind};
-ghost use Rattle.bufr_text.specs.Line.{value_read, item_line, number_value};
+ghost use Rattle.bufr_text.specs.Line.{made, value_read, item_line, number_value};
 ghost use Rattle.bufr_text.specs.Kept.{form_by};
 ghost use Rattle.bufr_text.specs.Step.{meaning};
 
 use crate::descriptors::fxy_front;
-use crate::document::Kind;
+use crate::document::FormKind;
 use crate::quoted::unquote;
 use crate::slice::{ahead, behind, behind_word, octet_at};
 use crate::step::Said;
@@ -34,7 +34,7 @@ fn token(text: &[u8]) -> usize
 
 /// A value in front, and what is behind it; the octets of a text are put into `scratch`.
 #[tactic(auto, using(crate::proofs::ItemLemmas::value_steps))]
-fn value<'a>(text: &'a [u8], scratch: &'a mut [u8]) -> Option<(Kind, &'a [u8], &'a [u8])>
+fn value<'a>(text: &'a [u8], scratch: &'a mut [u8]) -> Option<(FormKind, &'a [u8], &'a [u8])>
     requires { length text.now ≤ length scratch.old }
     ensures { option_map (λ read. (form_by read.0 read.1.now, read.2.now)) result ≡ value_read text.now }
 {
@@ -42,13 +42,13 @@ fn value<'a>(text: &'a [u8], scratch: &'a mut [u8]) -> Option<(Kind, &'a [u8], &
     if first == b'"' {
         let text = behind(text, 1);
         let (count, at) = unquote(text, scratch)?;
-        Some((Kind::Text, ahead(scratch, count), behind(text, at)))
+        Some((FormKind::Text, ahead(scratch, count), behind(text, at)))
     } else if is_number_octet(first) {
         let count = token(text);
-        Some((Kind::Number, ahead(text, count), behind(text, count)))
+        Some((FormKind::Number, ahead(text, count), behind(text, count)))
     } else {
         let rest = behind_word(text, b"MISSING")?;
-        Some((Kind::Missing, ahead(text, 0), rest))
+        Some((FormKind::Missing, ahead(text, 0), rest))
     }
 }
 
@@ -74,46 +74,35 @@ fn is_passed_behind(text: &[u8]) -> bool
 }
 
 /// What an item line says that begins with a descriptor.
-pub(crate) fn item<'a>(text: &'a [u8], scratch: &'a mut [u8]) -> Said<'a>
+pub(crate) fn item<'a>(text: &'a [u8], scratch: &'a mut [u8]) -> Option<Said<'a>>
     requires { length text.now ≤ length scratch.old }
-    ensures { meaning result ≡ item_line value_read text.now }
+    ensures { made meaning result ≡ item_line value_read text.now }
 {
-    let Some((fxy, rest)) = fxy_front(text) else {
-        return Said::Wrong;
-    };
-    let Some(rest) = behind_word(rest, b" ") else {
-        return Said::Wrong;
-    };
-    let Some((kind, octets, rest)) = value(rest, scratch) else {
-        return Said::Wrong;
-    };
+    let (fxy, rest) = fxy_front(text)?;
+    let (kind, octets, rest) = value(behind_word(rest, b" ")?, scratch)?;
     if !is_passed_behind(rest) {
-        return Said::Wrong;
+        return None;
     }
-    Said::Item { fxy, kind, octets }
+    Some(Said::Item { fxy, kind, octets })
 }
 
 /// What a line says of a redefined reference, behind `R` and a space.
 #[tactic(auto, using(crate::proofs::ItemLemmas::reference_steps))]
-pub(crate) fn reference<'a>(text: &'a [u8]) -> Said<'a>
-    ensures { meaning result ≡ item_line (number_value reference_token) text.now }
+pub(crate) fn reference<'a>(text: &'a [u8]) -> Option<Said<'a>>
+    ensures { made meaning result ≡ item_line (number_value reference_token) text.now }
 {
-    let Some((fxy, rest)) = fxy_front(text) else {
-        return Said::Wrong;
-    };
-    let Some(rest) = behind_word(rest, b" ") else {
-        return Said::Wrong;
-    };
+    let (fxy, rest) = fxy_front(text)?;
+    let rest = behind_word(rest, b" ")?;
     if !is_number_octet(octet_at(rest, 0)) {
-        return Said::Wrong;
+        return None;
     }
     let count = token(rest);
     if !is_passed_behind(behind(rest, count)) {
-        return Said::Wrong;
+        return None;
     }
-    Said::Item {
+    Some(Said::Item {
         fxy,
-        kind: Kind::Reference,
+        kind: FormKind::Reference,
         octets: ahead(rest, count),
-    }
+    })
 }

@@ -27,8 +27,8 @@ pub fn documents_are_proper()
     ensures { (text : List ℕ) → AreProper (documents_of text) }
 {}
 
-/// The lines of a text that are no comment and not empty are the lines of its documents, one document
-/// after another, up to the end or to the first line that is refused.
+/// The lines of a text that are no comment and not empty are the lines of its documents, one
+/// document after another, up to the end or to the first line that is refused.
 pub fn lines_are_those_of_the_documents()
     ensures { (text : List ℕ) → AreTold (heard_from 1 (lines_of text)) (documents_of text) }
 {}
@@ -53,8 +53,8 @@ pub fn documents_told_are_the_first()
         → CallSo left left' fresh s told bs → (s.ended ≡ true → t ≡ []) → documents_of (bs ++ t) ≡ told ++ spells (stand s) t }
 {}
 
-/// What calls told from the beginning while the end is not known are the first open documents of the
-/// octets read, whatever comes behind.
+/// What calls told from the beginning while the end is not known are the first open documents of
+/// the octets read, whatever comes behind.
 pub fn documents_told_are_the_first_open()
     ensures { (left left' : Option (List ℕ)) (s : State) (told : List Told) (bs t : List ℕ)
         → CallSo left left' fresh s told bs → s.ended ≡ false → open_documents_of (bs ++ t) ≡ told ++ spells_openly (stand s) t }
@@ -73,9 +73,9 @@ pub fn documents_told_are_the_open_documents()
         → CallSo left left' fresh s told bs → IsOpen s → open_documents_of bs ≡ told }
 {}
 
-/// The octets that calls read are the lines that they took, and behind those exactly what is held: as
-/// many lines were taken as line numbers were passed. Where the end was reached, a last line that
-/// lacks its line feed was given one, which is none of the octets that are said to be held.
+/// The octets that calls read are the lines that they took, and behind those exactly what is held:
+/// as many lines were taken as line numbers were passed. Where the end was reached, a last line
+/// that lacks its line feed was given one, which is none of the octets that are said to be held.
 pub fn octets_behind_the_lines_are_held()
     ensures { (left left' : Option (List ℕ)) (s : State) (told : List Told) (bs : List ℕ)
         → CallSo left left' fresh s told bs → (feed : List ℕ) × IsMissingFeed false s.ended feed × Passes 1 (bs ++ feed) s.at s.held × ((taken : List ℕ) × (bs ≡ taken ++ unfed s)) }

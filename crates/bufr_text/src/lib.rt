@@ -1,10 +1,10 @@
-//! The texts of FM 94 BUFR messages: the line that lists one, the text that dumps one, and its reading.
+//! The texts of FM 94 BUFR messages: the line that lists one, the text that dumps one, and its
+//! reading.
 #![tactic(auto)]
 
 mod buffer;
 mod descriptors;
 mod document;
-mod draft;
 mod dump;
 mod dump_reader;
 mod encode;
@@ -15,12 +15,15 @@ mod form;
 mod head_lines;
 mod hex;
 mod item;
+mod item_line;
 mod key;
+mod laid;
 pub mod law;
 mod line;
 mod ls;
 mod number;
 mod part;
+mod progress;
 mod put;
 mod quoted;
 pub mod readback_law;

@@ -1,6 +1,7 @@
 //! What a line says, by its first word.
 ghost use Rattle.std.specs.Prelude.{◌≡◌, ℕ, ◌<◌, ◌≤◌, ◌==◌, List, length, take, drop, option_map, codes, if◌then◌else◌};
 ghost use Rattle.std.specs.Str.{bytes_eq};
+ghost use Rattle.bufr_text.specs.Documents.{said};
 ghost use Rattle.bufr_text.specs.Grammar.{front, behind, behind_space, hex_read, number_read, descriptors_read};
 ghost use Rattle.bufr_text.specs.Line as spec;
 ghost use Rattle.bufr_text.specs.Line.{Line, made, with_one_to, place_from, keys, is_no_space, worded, line_of};
@@ -30,17 +31,13 @@ fn word_len(line: &[u8]) -> usize
     }
 }
 
-/// The octets, 1 to 32 of them, that the digits behind one space write; they are put into `scratch`.
+/// The octets, 1 to 32 of them, that the digits behind one space write; they are put into
+/// `scratch`.
 fn octets_behind<'a>(rest: &[u8], scratch: &'a mut [u8]) -> Option<&'a [u8]>
     requires { length rest.now ≤ length scratch.old }
     ensures { (line : List ℕ → Line) → made line (option_map (λ s. s.now) result) ≡ made (λ text. made (with_one_to 32 line) (hex_read text)) (behind_space rest.now) }
 {
-    let Some(text) = behind_word(rest, b" ") else {
-        return None;
-    };
-    let Some(count) = unhex(text, scratch) else {
-        return None;
-    };
+    let count = unhex(behind_word(rest, b" ")?, scratch)?;
     if count == 0 || count > 32 {
         return None;
     }
@@ -48,50 +45,36 @@ fn octets_behind<'a>(rest: &[u8], scratch: &'a mut [u8]) -> Option<&'a [u8]>
 }
 
 /// A line of descriptors; they are put into `words`.
-fn descriptors<'a>(rest: &[u8], words: &'a mut [u16]) -> Said<'a>
+fn descriptors<'a>(rest: &[u8], words: &'a mut [u16]) -> Option<Said<'a>>
     requires { length words.old ≡ 8 }
-    ensures { meaning result ≡ made (with_one_to 8 spec.Descriptors) (descriptors_read rest.now) }
+    ensures { made meaning result ≡ made (with_one_to 8 spec.Descriptors) (descriptors_read rest.now) }
 {
-    let Some(count) = describe(rest, words) else {
-        return Said::Wrong;
-    };
-    Said::Descriptors(&words[..count])
+    let count = describe(rest, words)?;
+    Some(Said::Descriptors(&words[..count]))
 }
 
 /// A line of the header: the place of its key, and the number behind one space.
-fn header<'a>(word: &[u8], rest: &[u8]) -> Said<'a>
-    ensures { meaning result ≡ made (λ place. made (λ text. made (spec.Header place) (number_read text)) (behind_space rest.now)) (place_from 0 word.now keys) }
+fn header<'a>(word: &[u8], rest: &[u8]) -> Option<Said<'a>>
+    ensures { made meaning result ≡ made (λ place. made (λ text. made (spec.Header place) (number_read text)) (behind_space rest.now)) (place_from 0 word.now keys) }
 {
-    let Some(key) = place(word) else {
-        return Said::Wrong;
-    };
-    let Some(text) = behind_word(rest, b" ") else {
-        return Said::Wrong;
-    };
-    let Some(value) = number(text) else {
-        return Said::Wrong;
-    };
-    Said::Header { key, value }
+    let key = place(word)?;
+    let value = number(behind_word(rest, b" ")?)?;
+    Some(Said::Header { key, value })
 }
 
 /// `subset` and its number behind one space.
-fn subset<'a>(rest: &[u8]) -> Said<'a>
-    ensures { meaning result ≡ made (λ text. made spec.Begins (number_read text)) (behind_space rest.now) }
+fn subset<'a>(rest: &[u8]) -> Option<Said<'a>>
+    ensures { made meaning result ≡ made (λ text. made spec.Begins (number_read text)) (behind_space rest.now) }
 {
-    let Some(text) = behind_word(rest, b" ") else {
-        return Said::Wrong;
-    };
-    let Some(subset) = number(text) else {
-        return Said::Wrong;
-    };
-    Said::Begins(subset)
+    let subset = number(behind_word(rest, b" ")?)?;
+    Some(Said::Begins(subset))
 }
 
 /// What a word says that stands alone.
-fn alone<'a>(rest: &[u8], said: Said<'a>) -> Said<'a>
-    ensures { meaning result ≡ (if length rest.now == 0 then meaning said.entry else spec.Wrong) }
+fn alone<'a>(rest: &[u8], said: Said<'a>) -> Option<Said<'a>>
+    ensures { made meaning result ≡ (if length rest.now == 0 then meaning said.entry else spec.Wrong) }
 {
-    if rest.is_empty() { said } else { Said::Wrong }
+    if rest.is_empty() { Some(said) } else { None }
 }
 
 /// What a line says that begins with this word.
@@ -101,24 +84,20 @@ fn worded<'a>(
     rest: &'a [u8],
     octets: &'a mut [u8; MOST_LINE],
     words: &'a mut [u16; MOST_WORDS],
-) -> Said<'a>
+) -> Option<Said<'a>>
     requires { length rest.now ≤ 4096 }
-    ensures { meaning result ≡ worded word.now rest.now }
+    ensures { made meaning result ≡ worded word.now rest.now }
 {
     if is(word, b"message") {
         return alone(rest, Said::Opens);
     }
     if is(word, b"local1") {
-        return match octets_behind(rest, octets.as_mut_slice()) {
-            Some(octets) => Said::Local1(octets),
-            None => Said::Wrong,
-        };
+        let octets = octets_behind(rest, octets.as_mut_slice())?;
+        return Some(Said::Local1(octets));
     }
     if is(word, b"section2") {
-        return match octets_behind(rest, octets.as_mut_slice()) {
-            Some(octets) => Said::Section2(octets),
-            None => Said::Wrong,
-        };
+        let octets = octets_behind(rest, octets.as_mut_slice())?;
+        return Some(Said::Section2(octets));
     }
     if is(word, b"descriptors") {
         return descriptors(rest, words.as_mut_slice());
@@ -127,10 +106,7 @@ fn worded<'a>(
         return subset(rest);
     }
     if is(word, b"R") {
-        return match behind_word(rest, b" ") {
-            Some(text) => reference(text),
-            None => Said::Wrong,
-        };
+        return reference(behind_word(rest, b" ")?);
     }
     if is(word, b"end") {
         return alone(rest, Said::Closes);
@@ -138,26 +114,44 @@ fn worded<'a>(
     header(word, rest)
 }
 
-/// What a line says. Octets and descriptors that it writes are put into `octets` and `words`.
+/// What a line says that is not too long; none where it is no line of a document. Octets and
+/// descriptors that it writes are put into `octets` and `words`.
 #[tactic(auto, using(crate::proofs::WordLemmas::read_steps))]
-pub(crate) fn read_line<'a>(
+fn line_said<'a>(
     line: &'a [u8],
     octets: &'a mut [u8; MOST_LINE],
     words: &'a mut [u16; MOST_WORDS],
-) -> Said<'a>
+) -> Option<Said<'a>>
     requires { length line.now ≤ 4096 }
-    ensures { meaning result ≡ line_of line.now }
+    ensures { made meaning result ≡ line_of line.now }
 {
     let first = octet_at(line, 0);
     if line.is_empty() {
-        return Said::Passed;
+        return Some(Said::Passed);
     }
     if first == b'#' {
-        return Said::Passed;
+        return Some(Said::Passed);
     }
     if first.is_ascii_digit() {
         return item(line, octets.as_mut_slice());
     }
     let len = word_len(line);
     worded(ahead(line, len), behind(line, len), octets, words)
+}
+
+/// What a line says. Octets and descriptors that it writes are put into `octets` and `words`.
+pub(crate) fn read_line<'a>(
+    line: &'a [u8],
+    octets: &'a mut [u8; MOST_LINE],
+    words: &'a mut [u16; MOST_WORDS],
+) -> Said<'a>
+    ensures { meaning result ≡ said line.now }
+{
+    if line.len() > MOST_LINE {
+        return Said::Wrong;
+    }
+    match line_said(line, octets, words) {
+        Some(said) => said,
+        None => Said::Wrong,
+    }
 }

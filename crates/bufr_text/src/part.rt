@@ -1,12 +1,15 @@
 //! Texts put together from parts and written whole, with nothing allocated.
-ghost use Rattle.std.specs.Prelude.{◌≡◌, ◌≤◌, ◌-◌, length, drop, flat_map, decimal, replicate};
+ghost use Rattle.std.specs.Prelude.{◌≡◌, ◌≤◌, ◌++◌, IfSome, decimal, length, drop, flat_map};
 ghost use Rattle.std.specs.List.{AllByRecursion};
-ghost use Rattle.bufr_text.specs.Writing.{Writes, Composes, CountsWrites, part_text, padded, IsShort};
+ghost use Rattle.bufr_text.specs.Writing.{Writes, CountsWrites, part_text, padded, IsShort};
 
-use arrayvec::ArrayVec;
+use crate::laid::{LINE, lay_decimal, lay_flag, lay_padded, lay_text};
+use crate::slice::behind;
 use bufr_bits::Sink;
 use bufr_frame::RunFault;
-use itoa::Buffer;
+
+/// The octets of the longest number in digits.
+const NUMBER: usize = 24;
 
 /// A part of a text.
 #[derive(Clone, Copy, Debug)]
@@ -19,28 +22,6 @@ pub enum Part<'a> {
     Padded(u64, usize),
     /// `1` or `0`.
     Flag(bool),
-}
-
-/// The octets that a line is put together in; the longest listing line has 226.
-const LINE: usize = 256;
-
-/// A line, or its first part, before it is written.
-type Line = ArrayVec<u8, LINE>;
-
-/// The octets from `n` on.
-pub(crate) fn behind(s: &[u8], n: usize) -> &[u8]
-    requires { n ≤ length s.now }
-    ensures { result.now ≡ drop n s.now }
-{
-    &s[n..]
-}
-
-/// So many digits `0`.
-fn zero_digits(n: usize) -> &'static [u8]
-    requires { n ≤ 4 }
-    ensures { result.now ≡ replicate n 48 }
-{
-    &b"0000"[..n]
 }
 
 /// Writes all of `octets`.
@@ -64,56 +45,88 @@ pub fn write_all<W: Sink>(octets: &[u8], w: &mut W) -> Result<(), RunFault>
     Ok(())
 }
 
-/// Adds octets to the line; where they do not fit, the line so far and they are written.
-fn add<W: Sink>(octets: &[u8], line: &mut Line, w: &mut W) -> Result<(), RunFault>
-    ensures composes { Composes (W.taken w.old) (W.taken w.new) line.old.items line.new.items octets.now result }
-    ensures counts { CountsWrites (W.failures w.old) (W.failures w.new) (W.empty_writes w.old) (W.empty_writes w.new) result }
-    ensures flushes { W.flushes w.new ≡ W.flushes w.old }
+/// Lays a part before `end`, and answers where it begins; `None` where a number of its type, or
+/// the text, has no room there.
+#[inline(always)]
+fn lay_part(part: Part<'_>, line: &mut [u8], end: usize) -> Option<usize>
+    requires short { IsShort part }
+    requires within { end ≤ length line.old }
+    ensures start { IfSome result (λ start. start ≤ end) }
+    ensures laid { IfSome result (λ start. drop start line.new ≡ part_text part.entry ++ drop end line.old) }
 {
-    if line.try_extend_from_slice(octets).is_ok() {
-        return Ok(());
+    match part {
+        Part::Text(octets) if octets.len() <= end => Some(lay_text(octets, line, end)),
+        Part::Decimal(value) if end >= 20 => Some(lay_decimal(value, line, end)),
+        Part::Padded(value, least) if end >= 24 => Some(lay_padded(value, least, line, end)),
+        Part::Flag(on) if end >= 1 => Some(lay_flag(on, line, end)),
+        _ => None,
     }
-    write_all(line.as_slice(), w)?;
-    line.clear();
-    write_all(octets, w)
 }
 
-/// Adds a number in at least `least` digits to the line.
-fn add_padded<W: Sink>(value: u64, least: usize, line: &mut Line, w: &mut W) -> Result<(), RunFault>
+/// Lays parts, one behind another, at the end of the octets, and answers where they begin.
+fn lay_parts(parts: &[Part<'_>], line: &mut [u8]) -> Option<usize>
+    requires { AllByRecursion IsShort parts.now }
+    ensures start { IfSome result (λ start. start ≤ length line.old) }
+    ensures laid { IfSome result (λ start. drop start line.new ≡ flat_map part_text parts.now) }
+{
+    let mut start = line.len();
+    let mut left = parts.len();
+    'parts: while left > 0 {
+        left -= 1;
+        start = lay_part(parts[left], line, start)?;
+    }
+    Some(start)
+}
+
+/// Writes a number in at least `least` digits.
+fn write_padded<W: Sink>(value: u64, least: usize, w: &mut W) -> Result<(), RunFault>
     requires { least ≤ 4 }
-    ensures composes { Composes (W.taken w.old) (W.taken w.new) line.old.items line.new.items (padded least value) result }
+    ensures writes { Writes (W.taken w.old) (W.taken w.new) (padded least value) result }
     ensures counts { CountsWrites (W.failures w.old) (W.failures w.new) (W.empty_writes w.old) (W.empty_writes w.new) result }
     ensures flushes { W.flushes w.new ≡ W.flushes w.old }
 {
-    let mut buffer = Buffer::new();
-    let digits = buffer.format(value).as_bytes();
-    add(zero_digits(least.saturating_sub(digits.len())), line, w)?;
-    add(digits, line, w)
+    let mut line = [0; NUMBER];
+    let start = lay_padded(value, least, &mut line, NUMBER);
+    write_all(behind(&line, start), w)
 }
 
-/// Adds a number to the line.
-fn add_decimal<W: Sink>(value: u64, line: &mut Line, w: &mut W) -> Result<(), RunFault>
-    ensures composes { Composes (W.taken w.old) (W.taken w.new) line.old.items line.new.items (decimal value) result }
+/// Writes a number.
+fn write_decimal<W: Sink>(value: u64, w: &mut W) -> Result<(), RunFault>
+    ensures writes { Writes (W.taken w.old) (W.taken w.new) (decimal value) result }
     ensures counts { CountsWrites (W.failures w.old) (W.failures w.new) (W.empty_writes w.old) (W.empty_writes w.new) result }
     ensures flushes { W.flushes w.new ≡ W.flushes w.old }
 {
-    let mut buffer = Buffer::new();
-    add(buffer.format(value).as_bytes(), line, w)
+    let mut line = [0; NUMBER];
+    let start = lay_decimal(value, &mut line, NUMBER);
+    write_all(behind(&line, start), w)
 }
 
-/// Adds a part to the line.
-fn add_part<W: Sink>(part: Part<'_>, line: &mut Line, w: &mut W) -> Result<(), RunFault>
+/// Writes a part on its own.
+fn write_part<W: Sink>(part: Part<'_>, w: &mut W) -> Result<(), RunFault>
     requires { IsShort part }
-    ensures composes { Composes (W.taken w.old) (W.taken w.new) line.old.items line.new.items (part_text part.entry) result }
+    ensures writes { Writes (W.taken w.old) (W.taken w.new) (part_text part.entry) result }
     ensures counts { CountsWrites (W.failures w.old) (W.failures w.new) (W.empty_writes w.old) (W.empty_writes w.new) result }
     ensures flushes { W.flushes w.new ≡ W.flushes w.old }
 {
     match part {
-        Part::Text(octets) => add(octets, line, w),
-        Part::Decimal(value) => add_decimal(value, line, w),
-        Part::Padded(value, least) => add_padded(value, least, line, w),
-        Part::Flag(on) => add(if on { b"1" } else { b"0" }, line, w),
+        Part::Text(octets) => write_all(octets, w),
+        Part::Decimal(value) => write_decimal(value, w),
+        Part::Padded(value, least) => write_padded(value, least, w),
+        Part::Flag(on) => write_all(if on { b"1" } else { b"0" }, w),
     }
+}
+
+/// Writes parts, each on its own.
+fn write_each<W: Sink>(parts: &[Part<'_>], w: &mut W) -> Result<(), RunFault>
+    requires { AllByRecursion IsShort parts.now }
+    ensures writes { Writes (W.taken w.old) (W.taken w.new) (flat_map part_text parts.now) result }
+    ensures counts { CountsWrites (W.failures w.old) (W.failures w.new) (W.empty_writes w.old) (W.empty_writes w.new) result }
+    ensures flushes { W.flushes w.new ≡ W.flushes w.old }
+{
+    for part in parts {
+        write_part(*part, w)?;
+    }
+    Ok(())
 }
 
 /// Writes parts, one after another. They are put together first, so that a text of at most 256
@@ -128,9 +141,9 @@ pub fn write_parts<W: Sink>(parts: &[Part<'_>], w: &mut W) -> Result<(), RunFaul
     ensures counts { CountsWrites (W.failures w.old) (W.failures w.new) (W.empty_writes w.old) (W.empty_writes w.new) result }
     ensures flushes { W.flushes w.new ≡ W.flushes w.old }
 {
-    let mut line = Line::new();
-    for part in parts {
-        add_part(*part, &mut line, w)?;
+    let mut line = [0; LINE];
+    match lay_parts(parts, &mut line) {
+        Some(start) => write_all(behind(&line, start), w),
+        None => write_each(parts, w),
     }
-    write_all(line.as_slice(), w)
 }

@@ -1,27 +1,19 @@
-//! The lines of a dump text, put together in memory that is kept.
-ghost use Rattle.std.specs.Prelude.{◌≡◌, ◌<◌, ◌++◌, [], ◌∷◌, not, OnOk, take, drop, option_map, false};
-ghost use Rattle.std.specs.List.{position};
-ghost use Rattle.bufr_bits.specs.DecimalText.{decimal_text_of};
-ghost use Rattle.bufr_tables.specs.Entry.{row_with};
+//! The lines of octets and of descriptors of a dump text, put together in memory that is kept.
+ghost use Rattle.std.specs.Prelude.{◌≡◌, ◌<◌, ◌++◌, [], ◌∷◌, OnOk, take, drop};
 ghost use Rattle.bufr_tables.specs.Fxy.{fxy_text};
 ghost use Rattle.bufr_frame.specs.Words.{words_left};
-ghost use Rattle.bufr_walk.specs.Seen.{seen, seen_value};
-ghost use Rattle.bufr_text.specs.Dump.{comment_text, descriptors_line, form_of, form_text, item_text};
-ghost use Rattle.bufr_text.specs.Dumped.{comment_of, item_of, value_of};
-ghost use Rattle.bufr_text.specs.Grammar.{descriptors_text, escaped, hex_digit, hex_pair, hex_text, is_plain, quoted};
+ghost use Rattle.bufr_text.specs.Dump.{descriptors_line};
+ghost use Rattle.bufr_text.specs.Grammar.{descriptors_text, hex_digit, hex_pair, hex_text};
 
-use crate::part::behind;
-use bufr_bits::decimal_text;
 use bufr_frame::Words;
-use bufr_tables::{Entry, Fxy};
-use bufr_walk::{ItemView, Value};
+use bufr_tables::Fxy;
 use std::alloc::AllocError;
 
 /// How many descriptors a line holds at most.
 const DESCRIPTORS: usize = 8;
 
 /// The upper-case hexadecimal digit of a number.
-fn hex_digit(n: u8) -> u8
+pub(crate) fn hex_digit(n: u8) -> u8
     requires { n < 16 }
     ensures { result ≡ hex_digit n }
 {
@@ -92,107 +84,5 @@ pub(crate) fn make_descriptor_line(
     line.clear();
     line.extend_from_slice(b"descriptors")?;
     put_descriptors(words, line)?;
-    line.extend_from_slice(b"\n")
-}
-
-/// Whether an octet of a text stands for itself.
-fn is_plain(octet: u8) -> bool
-    ensures { result ≡ is_plain octet }
-{
-    octet >= 32 && octet <= 126 && octet != b'"' && octet != b'\\'
-}
-
-/// Puts an octet that does not stand for itself.
-fn put_escape(octet: u8, line: &mut Vec<u8>) -> Result<(), AllocError>
-    requires { is_plain octet ≡ false }
-    ensures { OnOk result (line.new.items ≡ line.old.items ++ escaped octet) }
-{
-    if octet == b'"' || octet == b'\\' {
-        return line.extend_from_slice(&[b'\\', octet]);
-    }
-    line.extend_from_slice(b"\\x")?;
-    put_hex_pair(octet, line)
-}
-
-/// The place of the first octet that does not stand for itself.
-fn escape_place(octets: &[u8]) -> Option<usize>
-    ensures { result ≡ position (λ c. not (is_plain c)) octets.now }
-{
-    octets.iter().position(|octet| !is_plain(*octet))
-}
-
-/// Puts the octets of a text, what does not stand for itself as an escape, and the quote that closes it.
-fn put_quoted(octets: &[u8], line: &mut Vec<u8>) -> Result<(), AllocError>
-    ensures { OnOk result (line.new.items ≡ line.old.items ++ quoted octets.now) }
-{
-    let mut rest = octets;
-    while let Some(place) = escape_place(rest) {
-        line.extend_from_slice(&rest[..place])?;
-        put_escape(rest[place], line)?;
-        rest = behind(rest, place + 1);
-    }
-    line.extend_from_slice(rest)?;
-    line.push(b'"')?;
-    Ok(())
-}
-
-/// Puts a descriptor, a space and a number.
-fn put_number(fxy: Fxy, value: i128, scale: i16, line: &mut Vec<u8>) -> Result<(), AllocError>
-    ensures { OnOk result (line.new.items ≡ line.old.items ++ (fxy_text fxy ++ 32 ∷ decimal_text_of value scale)) }
-{
-    put_fxy(fxy, line)?;
-    line.push(b' ')?;
-    decimal_text(value, scale, line)
-}
-
-/// Puts a descriptor and a text in quotes.
-fn put_text(fxy: Fxy, octets: &[u8], line: &mut Vec<u8>) -> Result<(), AllocError>
-    ensures { OnOk result (line.new.items ≡ line.old.items ++ (fxy_text fxy ++ 32 ∷ 34 ∷ quoted octets.now)) }
-{
-    put_fxy(fxy, line)?;
-    line.extend_from_slice(b" \"")?;
-    put_quoted(octets, line)
-}
-
-/// Puts a descriptor and what stands for a value.
-fn put_form(fxy: Fxy, value: Value<'_>, line: &mut Vec<u8>) -> Result<(), AllocError>
-    ensures { OnOk result (line.new.items ≡ line.old.items ++ form_text fxy (form_of (value_of (seen_value value.entry)))) }
-{
-    match value {
-        Value::Number(number, scale) => put_number(fxy, number, scale, line),
-        Value::Text(octets) => put_text(fxy, octets, line),
-        Value::Missing => {
-            put_fxy(fxy, line)?;
-            line.extend_from_slice(b" MISSING")
-        }
-        Value::Reference(reference) => {
-            line.extend_from_slice(b"R ")?;
-            put_number(fxy, i128::from(reference), 0, line)
-        }
-    }
-}
-
-/// Puts the name and the unit of the entry of Table B by which an item was read.
-fn put_comment(fxy: Fxy, entry: Option<Entry<'_>>, line: &mut Vec<u8>) -> Result<(), AllocError>
-    ensures { OnOk result (line.new.items ≡ line.old.items ++ comment_text (option_map comment_of (option_map (row_with fxy) entry.entry))) }
-{
-    let _ = fxy;
-    let Some(entry) = entry else {
-        return Ok(());
-    };
-    line.extend_from_slice(b"  # ")?;
-    line.extend_from_slice(entry.name)?;
-    line.extend_from_slice(b" [")?;
-    line.extend_from_slice(entry.unit)?;
-    line.extend_from_slice(b"]")
-}
-
-/// Makes the line of an item: its descriptor, what stands for its value, and its comment.
-pub(crate) fn make_item_line(item: &ItemView<'_>, line: &mut Vec<u8>) -> Result<(), AllocError>
-    ensures { OnOk result (line.new.items ≡ item_text (item_of (seen item.now)) ++ 10 ∷ []) }
-{
-    line.clear();
-    put_form(item.fxy, item.value, line)?;
-    put_comment(item.fxy, item.entry, line)?;
     line.extend_from_slice(b"\n")
 }

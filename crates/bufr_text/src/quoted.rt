@@ -28,8 +28,8 @@ fn upper_value(octet: u8) -> Option<u8>
     }
 }
 
-/// Whether an octet stands for itself.
-fn is_plain(octet: u8) -> bool
+/// Whether an octet of a text stands for itself.
+pub(crate) fn is_plain(octet: u8) -> bool
     ensures { result ≡ is_plain octet }
 {
     octet >= 32 && octet <= 126 && octet != b'"' && octet != b'\\'

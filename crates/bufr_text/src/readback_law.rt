@@ -7,7 +7,7 @@ ghost use Rattle.bufr_tables.specs.TableD.{Sequence};
 ghost use Rattle.bufr_text.specs.Document.{Document};
 ghost use Rattle.bufr_text.specs.Documents.{Spelled, documents_of};
 ghost use Rattle.bufr_text.specs.Dump.{document_of, dump_text_of};
-ghost use Rattle.bufr_text.specs.Encoded.{items_in};
+ghost use Rattle.bufr_text.specs.RoundTrip.{items_in};
 ghost use Rattle.bufr_text.specs.Encoding.{encoding_in, encoding_of};
 ghost use Rattle.bufr_text.specs.Normal.{normal};
 ghost use Rattle.bufr_text.specs.Proper.{IsProper};

@@ -29,7 +29,8 @@ fn octets_for(alloc: Global, text: &[u8]) -> Result<Vec<u8>, Fail> {
     Ok(octets?)
 }
 
-// What is proved of documents that are encoded. A test that calls it does not have to carry the contracts.
+// What is proved of documents that are encoded. A test that calls it does not have to carry the
+// contracts.
 fn laws() {
     readback_law::encoded_documents_are_read();
     readback_law::normal_is_the_dump();

@@ -142,8 +142,8 @@ fn assert_told(
     }
 }
 
-/// Rules of lines: a text in place of a line, and what the document then is. Beside each rule stands
-/// its nearest wrong neighbour.
+/// Rules of lines: a text in place of a line, and what the document then is. Beside each rule
+/// stands its nearest wrong neighbour.
 #[test]
 fn rules(rt: HostRuntime) -> Result<(), Fail> {
     let table: [(usize, &[u8], Told); 72] = [

@@ -5,7 +5,7 @@ ghost use Rattle.bufr_text.specs.Line as line;
 ghost use Rattle.bufr_text.specs.Documents.{heading, laying, filling, beginning, closing, opening, turn, adds};
 ghost use Rattle.bufr_text.specs.Step.{meaning, part_number, place_with, turned, Stands};
 
-use crate::document::{Kind, Parts};
+use crate::document::{FormKind, Parts};
 use crate::key::in_range;
 use std::alloc::AllocError;
 
@@ -24,7 +24,7 @@ pub(crate) enum Said<'a> {
     Begins(u32),
     Item {
         fxy: u16,
-        kind: Kind,
+        kind: FormKind,
         octets: &'a [u8],
     },
     Closes,
@@ -33,13 +33,13 @@ pub(crate) enum Said<'a> {
 
 /// How far the parts before the subsets have come: they stand in this order.
 #[derive(Clone, Copy)]
-pub(crate) enum Part {
+pub(crate) enum Laid {
     Local1,
     Section2,
     Descriptors,
 }
 
-impl Part {
+impl Laid {
     ghost use Rattle.std.specs.Prelude.{◌≡◌};
     ghost use Rattle.bufr_text.specs.Step.{part_number};
 
@@ -48,9 +48,9 @@ impl Part {
         ensures { result ≡ part_number self }
     {
         match self {
-            Part::Local1 => 0,
-            Part::Section2 => 1,
-            Part::Descriptors => 2,
+            Laid::Local1 => 0,
+            Laid::Section2 => 1,
+            Laid::Descriptors => 2,
         }
     }
 }
@@ -61,14 +61,14 @@ pub(crate) enum Place {
     Between,
     Heading,
     /// Behind the header, before the first subset.
-    Laying(Part),
+    Laying(Laid),
     /// In this subset.
     Filling(u32),
 }
 
 /// Why a line is refused.
 #[derive(Clone, Copy)]
-pub(crate) enum Refusal {
+pub(crate) enum LineRefusal {
     NotAllowed,
     SubsetCount,
     HeaderRange,
@@ -79,7 +79,7 @@ pub(crate) enum Refusal {
 pub(crate) enum Turn {
     Goes(Place),
     Gives,
-    Refuses(Refusal),
+    Refuses(LineRefusal),
 }
 
 /// A header line.
@@ -88,15 +88,15 @@ fn heading(parts: &mut Parts, key: usize, value: u32) -> Turn
     ensures turns { turned result parts.new ≡ heading parts.old (line.Header key value) }
 {
     if key != parts.known() {
-        return Turn::Refuses(Refusal::NotAllowed);
+        return Turn::Refuses(LineRefusal::NotAllowed);
     }
     // The edition is the first value; its own range goes by none.
     if !in_range(parts.value(0), key, value) {
-        return Turn::Refuses(Refusal::HeaderRange);
+        return Turn::Refuses(LineRefusal::HeaderRange);
     }
     parts.push_value(value as u16);
     if key == 19 {
-        Turn::Goes(Place::Laying(Part::Local1))
+        Turn::Goes(Place::Laying(Laid::Local1))
     } else {
         Turn::Goes(Place::Heading)
     }
@@ -110,7 +110,7 @@ fn beginning(parts: &Parts, read: u32, subset: u32) -> Turn
     if subset == read + 1 && subset <= u32::from(parts.value(19)) {
         Turn::Goes(Place::Filling(subset))
     } else {
-        Turn::Refuses(Refusal::SubsetCount)
+        Turn::Refuses(LineRefusal::SubsetCount)
     }
 }
 
@@ -121,31 +121,31 @@ fn closing(parts: &Parts, read: u32) -> Turn
     if read == u32::from(parts.value(19)) {
         Turn::Gives
     } else {
-        Turn::Refuses(Refusal::SubsetCount)
+        Turn::Refuses(LineRefusal::SubsetCount)
     }
 }
 
 /// A line behind the header and before the first subset.
-fn laying(parts: &mut Parts, part: Part, said: Said<'_>) -> Result<Turn, AllocError>
+fn laying(parts: &mut Parts, part: Laid, said: Said<'_>) -> Result<Turn, AllocError>
     ensures turns { IfOk result (λ t. turned t parts.new ≡ laying (part_number part) parts.old (meaning said.entry)) }
     ensures wants { OnErr result (adds (place_with (Place.Laying part) parts.old) (meaning said.entry) ≡ true) }
 {
     let turn = match said {
         Said::Local1(octets) if part.number() == 0 => {
             parts.extend_local1(octets)?;
-            Turn::Goes(Place::Laying(Part::Local1))
+            Turn::Goes(Place::Laying(Laid::Local1))
         }
         Said::Section2(octets) if part.number() <= 1 && parts.value(18) == 1 => {
             parts.extend_section2(octets)?;
-            Turn::Goes(Place::Laying(Part::Section2))
+            Turn::Goes(Place::Laying(Laid::Section2))
         }
         Said::Descriptors(words) => {
             parts.extend_descriptors(words)?;
-            Turn::Goes(Place::Laying(Part::Descriptors))
+            Turn::Goes(Place::Laying(Laid::Descriptors))
         }
         Said::Begins(subset) => beginning(parts, 0, subset),
         Said::Closes => closing(parts, 0),
-        _ => Turn::Refuses(Refusal::NotAllowed),
+        _ => Turn::Refuses(LineRefusal::NotAllowed),
     };
     Ok(turn)
 }
@@ -169,7 +169,7 @@ fn filling(parts: &mut Parts, at: u64, subset: u32, said: Said<'_>) -> Result<Tu
             parts.push_end(at)?;
             closing(parts, subset)
         }
-        _ => Turn::Refuses(Refusal::NotAllowed),
+        _ => Turn::Refuses(LineRefusal::NotAllowed),
     };
     Ok(turn)
 }
@@ -183,7 +183,7 @@ fn opening(parts: &mut Parts, at: u64, said: Said<'_>) -> Turn
             parts.begin(at);
             Turn::Goes(Place::Heading)
         }
-        _ => Turn::Refuses(Refusal::NotAllowed),
+        _ => Turn::Refuses(LineRefusal::NotAllowed),
     }
 }
 
@@ -206,7 +206,7 @@ pub(crate) fn step(
         Place::Between => Ok(opening(parts, at, said)),
         Place::Heading => match said {
             Said::Header { key, value } => Ok(heading(parts, key, value)),
-            _ => Ok(Turn::Refuses(Refusal::NotAllowed)),
+            _ => Ok(Turn::Refuses(LineRefusal::NotAllowed)),
         },
         Place::Laying(part) => laying(parts, part, said),
         Place::Filling(subset) => filling(parts, at, subset, said),

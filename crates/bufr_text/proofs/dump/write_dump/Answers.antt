@@ -2,7 +2,7 @@ use Rattle.std.proofs.Common.{codes, refl, map}
 use Rattle.std.proofs.lemmas.Result.{err_from_is_err_and}
 use Rattle.bufr_walk.specs.Calls.{calls_of, turns_shown}
 use Rattle.bufr_text.specs.Dump.{head_lines, text_of}
-use Rattle.bufr_text.specs.Dumping.{stretch, call_stretch}
+use Rattle.bufr_text.specs.DumpWritten.{stretch, call_stretch}
 use Rattle.bufr_text.proofs.DumpLemmas.{front-none, WritesFront-writes}
 use Rattle.bufr_text.proofs.ShowingLemmas.{dump-stop-head, dump-stop-middle, dump-end, dump-writes}
 use Rattle.bufr_text.proofs.dump.write_dump.Goals as goal

@@ -1,8 +1,8 @@
 use Rattle.bufr_tables.proofs.SoundLemmas.{tree_fine}
 use Rattle.bufr_tables.specs.TemplateTables.{tables_of}
-use Rattle.bufr_text.specs.Encoded.{items_in}
+use Rattle.bufr_text.specs.RoundTrip.{items_in}
 use Rattle.bufr_text.proofs.DumpableLemmas.{dumpable}
-use Rattle.bufr_text.proofs.EncodedLemmas.{encoded_again}
+use Rattle.bufr_text.proofs.RoundTripLemmas.{encoded_again}
 use Rattle.bufr_text.proofs.LawLemmas.{one-document}
 use Rattle.bufr_text.proofs.RowsLemmas.{rows-read, good-rows}
 use Rattle.bufr_text.proofs.encode_law.dump_texts_are_encoded_again.Goals as goal

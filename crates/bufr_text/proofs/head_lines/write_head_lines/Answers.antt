@@ -2,7 +2,7 @@ use Rattle.std.proofs.Common.{ℕ, List, map, subst}
 use Rattle.std.specs.Io.KnownBytes.{Appends}
 use Rattle.std.proofs.lemmas.Result.{err_from_is_err_and}
 use Rattle.bufr_text.specs.Dump.{local1_line, text_of}
-use Rattle.bufr_text.specs.Dumping.{WritesFront}
+use Rattle.bufr_text.specs.DumpWritten.{WritesFront}
 use Rattle.bufr_text.specs.Grammar.{runs_of}
 use Rattle.bufr_text.proofs.HeadLemmas.{stop-origin, stop-date, stop-local1, stop-section2, head-end}
 use Rattle.bufr_text.proofs.head_lines.write_head_lines.Goals as goal

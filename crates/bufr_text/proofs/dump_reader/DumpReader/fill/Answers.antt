@@ -17,11 +17,11 @@ returns-then-self-gt-MOST_LINE-clause-read g c =
     let s = c.args.self.now in
     let left = g.R.Source.left c.args.r.now in
     let sound = ap (λ s. s.fault) c.self.view_is ∙ c.requires.sound in
-    let place = ap (λ s. s.place) (sym c.self.view_is) ∙ place-sound v.fault v.draft sound in
+    let place = ap (λ s. s.place) (sym c.self.view_is) ∙ place-sound v.fault v.progress sound in
     let R : Place → Type 0 = λ p. Reads p in
     let long : 4096 < length s.held = omega (arith, c.if-self-gt-MOST_LINE.true, part-length v.buffer.items v.start v.filled (omega (arith, c.self.invariant, v.buffer.ok.0)), ap (λ s. length s.held) c.self.view_is) in
-    let tells = long-tells s (subst R (sym place) (reads-place v.draft.place v.draft.parts)) c.requires.none long in
+    let tells = long-tells s (subst R (sym place) (reads-place v.progress.place v.progress.parts)) c.requires.none long in
     let F : ReadFault → Type 0 = λ f. FillSo left left s c.stop.new.self (Err f) [] in
-    let N : State → Type 0 = λ n. FillSo left left s n (Err (fault.Line v.draft.at)) [] in
+    let N : State → Type 0 = λ n. FillSo left left s n (Err (fault.Line v.progress.at)) [] in
     let K : ℕ → Type 0 = λ k. FillSo left left s (stopped s (fault.Line k)) (Err (fault.Line k)) [] in
     ([], subst F (sym c.stop.ensures.value) (subst N (sym c.stop.ensures.new) (subst K (ap (λ s. s.at) (sym c.self.view_is)) (Consumes-nil left, refl, tells, refl, refl, refl))))

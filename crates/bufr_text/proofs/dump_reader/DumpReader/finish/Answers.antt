@@ -14,7 +14,7 @@ returns-in-Between-clause-end c =
     let v = c.self.inside in
     let sound = ap (λ s. s.fault) c.self.view_is ∙ c.requires.sound in
     let held = none-held c.args.self.now c.requires.ended (λ e. ap (λ s. ends_by_feed s.held) (sym c.self.view_is) ∙ c.self.invariant.4 (ap (λ s. s.ended) c.self.view_is ∙ e)) c.requires.none in
-    let place = ap (λ s. s.place) (sym c.self.view_is) ∙ place-sound v.fault v.draft sound ∙ ap (λ p. place_with p v.draft.parts) c.in-Between.is in
+    let place = ap (λ s. s.place) (sym c.self.view_is) ∙ place-sound v.fault v.progress sound ∙ ap (λ p. place_with p v.progress.parts) c.in-Between.is in
     (refl, held, done-between c.args.self.now place held)
 
 pub returns-in_default : goal.returns-in_default
@@ -23,10 +23,10 @@ returns-in_default c =
     let s = c.args.self.now in
     let sound = ap (λ s. s.fault) c.self.view_is ∙ c.requires.sound in
     let held = none-held s c.requires.ended (λ e. ap (λ s. ends_by_feed s.held) (sym c.self.view_is) ∙ c.self.invariant.4 (ap (λ s. s.ended) c.self.view_is ∙ e)) c.requires.none in
-    let place = ap (λ s. s.place) (sym c.self.view_is) ∙ place-sound v.fault v.draft sound in
-    let told = ap (told_at_end s.at) place ∙ told-inside v.draft.place v.draft.parts s.at c.in_default.not-Between in
+    let place = ap (λ s. s.place) (sym c.self.view_is) ∙ place-sound v.fault v.progress sound in
+    let told = ap (told_at_end s.at) place ∙ told-inside v.progress.place v.progress.parts s.at c.in_default.not-Between in
     let F : ReadFault → Type 0 = λ f. EndSo s c.stop.new.self (Err f) in
-    let N : State → Type 0 = λ n. EndSo s n (Err (fault.Line v.draft.at)) in
+    let N : State → Type 0 = λ n. EndSo s n (Err (fault.Line v.progress.at)) in
     let K : ℕ → Type 0 = λ k. EndSo s (stopped s (fault.Line k)) (Err (fault.Line k)) in
     record {
       end = subst F (sym c.stop.ensures.value) (subst N (sym c.stop.ensures.new) (subst K (ap (λ s. s.at) (sym c.self.view_is)) (end-tells s c.requires.ended held told, refl, refl, refl)));

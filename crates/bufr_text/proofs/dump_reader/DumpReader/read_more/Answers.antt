@@ -6,7 +6,7 @@ use Rattle.std.proofs.lemmas.Bool.{true≢false}
 use Rattle.bufr_frame.proofs.BufferLemmas.{empty-of, part-length}
 use Rattle.bufr_text.specs.Filling.{ends_by_feed}
 use Rattle.bufr_text.proofs.FeedingLemmas.{ends-append}
-use Rattle.bufr_text.proofs.ReaderLemmas.{some-read, feed-read, draft-read, none-read}
+use Rattle.bufr_text.proofs.ReaderLemmas.{some-read, feed-read, progress-read, none-read}
 use Rattle.bufr_text.proofs.dump_reader.DumpReader.read_more.Goals as goal
 
 pub returns-in_err-slid-clause-read : goal.returns-in_err-slid-clause-read
@@ -96,7 +96,7 @@ invariant_of-self-then-self g c =
       omega (arith, room.2, c.read_behind.ensures.len, c.put_feed.ensures.len),
       omega (arith, c.requires.few, ap (λ s. s.reads) c.self.view_is),
       λ e. ap ends_by_feed fed ∙ ends-append ((c.args.self.now.held ++ once.0) ++ []),
-      λ e. draft-read v.draft (v.filled - v.start) _ v.reads (c.self.invariant.5 e) (omega (arith, c.if-n-eq0.true, room.0, c.self.invariant)),
+      λ e. progress-read v.progress (v.filled - v.start) _ v.reads (c.self.invariant.5 e) (omega (arith, c.if-n-eq0.true, room.0, c.self.invariant)),
       λ _. c.put_feed.ensures.len ∙ c.read_behind.ensures.len ∙ room.2,
     )
 

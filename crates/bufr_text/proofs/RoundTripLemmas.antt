@@ -1,0 +1,263 @@
+-- The document of an accepted message is encoded to a message with the same reading.
+use Rattle.std.proofs.Common.{◌≡◌, ℕ, zero, suc, ◌+◌, ◌-◌, ◌*◌, ◌/◌, ◌%◌, ◌≤◌, Bool, true, false, List, [], ◌∷◌, ◌++◌, length, drop, map, Option, Some, None, Ok, Err, refl, sym, ◌∙◌, ap, subst, arith, append_assoc}
+use Rattle.std.specs.Prelude.{◌==◌, nat_lt, is_some, unwrap_or, if◌then◌else◌}
+use Rattle.std.proofs.lemmas.Bool.Decides.{nat_tests}
+use Rattle.std.proofs.lemmas.List.{length-append, length-replicate, drop_at}
+use Rattle.bufr_bits.specs.Bits.{bits_of, padding}
+use Rattle.bufr_bits.proofs.BitLemmas.{length-bits_of}
+use Rattle.bufr_tables.specs.Expansion.{tree_of}
+use Rattle.bufr_tables.specs.TableB.{Row}
+use Rattle.bufr_tables.specs.TableD.{Sequence}
+use Rattle.bufr_tables.specs.TemplateTables.{tables_of}
+use Rattle.bufr_tables.specs.Tree.{Tree}
+use Rattle.bufr_tables.specs.Legal.{IsLegal}
+use Rattle.bufr_frame.specs.Layout.{Parts, evened, longer, parts_of, message_octets, message_size, most_octets, sections_from}
+use Rattle.bufr_frame.specs.Layout as layout
+use Rattle.bufr_frame.specs.Sections.{Sections, sections_of}
+use Rattle.bufr_frame.proofs.LayoutLemmas.{read-back}
+use Rattle.bufr_frame.proofs.AgainLemmas.{sections-ended, no-longer, not-too-long}
+use Rattle.bufr_frame.proofs.EvenLemmas.{evened-bits, size-least}
+use Rattle.bufr_frame.proofs.FitLemmas.{fitting-writable}
+use Rattle.bufr_walk.specs.Content.{Content, number, text, missing, reference, shown}
+use Rattle.bufr_walk.specs.Asked.{Asked}
+use Rattle.bufr_walk.specs.Calls.{content_at}
+use Rattle.bufr_walk.specs.Course.{Course, next_item}
+use Rattle.bufr_walk.specs.Outcome.{data_of}
+use Rattle.bufr_walk.specs.Reading.{Values, apart, together, IsReading, ReadsSubsets, IsPackedReading}
+use Rattle.bufr_walk.specs.Reading as reading
+use Rattle.bufr_fill.specs.Draft.{Draft, draft}
+use Rattle.bufr_fill.specs.DraftContent as fill
+use Rattle.bufr_fill.specs.Entries.{Entry, Ends, Subset, subset, onto_first, subsets_of}
+use Rattle.bufr_fill.proofs.Limits.{AreGoodRows}
+use Rattle.bufr_fill.specs.WrittenAgain.{IsDumped, AreDrafts, AreDumped, AreDumpedFrom}
+use Rattle.bufr_fill.specs.WrittenAgain as again
+use Rattle.bufr_fill.proofs.FieldBits.{octet_bits_again, octets_in-are, length-octets_in}
+use Rattle.bufr_fill.proofs.WholeLaws.{plain_template_again, packed_template_again}
+use Rattle.bufr_text.specs.declared.form.Form.TheVariants.{AsWritten}
+use Rattle.bufr_text.specs.Document.{Document}
+use Rattle.bufr_text.specs.Dump.{Item, bit, form_of, item_entries, subset_entries, document_of, dump_text_of, lines_before}
+use Rattle.bufr_text.specs.DumpItems.{value_of, items_apart, items_together, subsets_together}
+use Rattle.bufr_text.specs.Encoding.{too_long, refused_at, ◌>>=◌, told_of_template, told_of_items, data_bits, octets_of_bits, parts_in, message_of, encoding_in, encoding_of}
+use Rattle.bufr_text.specs.RoundTrip.{IsAccepted, items_in, SaySame, HasSameReading, IsEncodedAgain}
+use Rattle.bufr_text.specs.Header.{head_in, compressed_in}
+use Rattle.bufr_text.proofs.DumpableLemmas.{octets_are, sections_given}
+use Rattle.bufr_text.proofs.FramedLemmas.{octets_small, framed}
+
+-- ---- the text
+
+pub items_same : (table : List Row) (template : Tree) (a b : Sections) (values : Values) → b.subsets ≡ a.subsets → items_in table template b values ≡ items_in table template a values
+items_same table template a b (apart subsets) e = refl
+items_same table template a b (together items) e = ap (λ n. subsets_together table n 0 items) e
+
+text_same : (a b : Sections) (items items' : List (List Item)) → SaySame AsWritten a b → items' ≡ items → dump_text_of b items' ≡ dump_text_of a items
+text_same a b items items' same e = λ j. dump_text_of (record {
+  head = same.head j;
+  local1 = same.local1 j;
+  section2 = same.section2 j;
+  descriptors = same.descriptors j;
+  subsets = same.subsets j;
+  observed = same.observed j;
+  compressed = same.compressed j;
+  payload = [];
+  size = 0;
+}) (e j)
+
+pub same_text : (table : List Row) (m : List ℕ) (s : Sections) (template : Tree) (values : Values) (octets : List ℕ) → (h : HasSameReading table m s template values octets)
+    → dump_text_of h.sections (items_in table template h.sections values) ≡ dump_text_of s (items_in table template s values)
+same_text table m s template values octets h = text_same s h.sections (items_in table template s values) (items_in table template h.sections values) h.same (items_same table template s h.sections values h.same.subsets)
+
+-- ---- the drafts of a dump
+
+abbrev drafts_from : (at : ℕ) → List Item → List Draft
+drafts_from at [] = []
+drafts_from at (item ∷ more) = draft at item.fxy (form_of item.value) ∷ drafts_from (at + 1) more
+
+items_drafted : (at line : ℕ) (items : List Item) (more : List Entry) → subsets_of (item_entries at items ++ (Ends line ∷ more)) ≡ subset (drafts_from at items) line ∷ subsets_of more
+unfolding item_entries
+items_drafted at line [] more = refl
+items_drafted at line (item ∷ items) more = ap (onto_first (draft at item.fxy (form_of item.value))) (items_drafted (at + 1) line items more)
+
+pub same_form : (spec : Asked) (c : Content) → form_of (value_of (shown spec c)) ≡ fill.form_of spec c
+same_form spec (number raw) = refl
+same_form spec (text octets) = refl
+same_form spec missing = refl
+same_form spec (reference v) = refl
+
+apart_drafted : (table : List Row) (at : ℕ) (items : List (reading.Item Content)) → AreDrafts IsDumped items (drafts_from at (items_apart table items))
+apart_drafted table at [] = tt
+apart_drafted table at (i ∷ items) = ((refl, same_form i.spec i.content), apart_drafted table (at + 1) items)
+
+together_drafted : (table : List Row) (at j : ℕ) (items : List (reading.Item (List Content))) → AreDrafts IsDumped (again.items_of j items) (drafts_from at (items_together table j items))
+together_drafted table at j [] = tt
+together_drafted table at j (i ∷ items) = ((refl, same_form i.spec (content_at j i.content)), together_drafted table (at + 1) j items)
+
+pub all_apart : (table : List Row) (at : ℕ) (subsets : List (List (reading.Item Content))) → AreDumped subsets (subsets_of (subset_entries at (map (items_apart table) subsets)))
+unfolding subset_entries
+all_apart table at [] = tt
+all_apart table at (items ∷ subsets) =
+    let here = items_apart table items in
+    let line = at + 1 + length here in
+    subst (AreDumped (items ∷ subsets)) (sym (items_drafted (at + 1) line here (subset_entries line (map (items_apart table) subsets)))) (apart_drafted table (at + 1) items, all_apart table line subsets)
+
+pub all_together : (table : List Row) (at n j : ℕ) (items : List (reading.Item (List Content))) → AreDumpedFrom j items (subsets_of (subset_entries at (subsets_together table n j items))) × (length (subsets_of (subset_entries at (subsets_together table n j items))) ≡ n)
+unfolding subset_entries
+all_together table at zero j items = (tt, refl)
+all_together table at (suc n) j items =
+    let here = items_together table j items in
+    let line = at + 1 + length here in
+    let rest = all_together table line n (j + 1) items in
+    let next : j + 1 ≡ suc j = omega arith in
+    let is = sym (items_drafted (at + 1) line here (subset_entries line (subsets_together table n (j + 1) items))) in (
+      subst (AreDumpedFrom j items) is (together_drafted table (at + 1) j items, subst (λ k. AreDumpedFrom k items (subsets_of (subset_entries line (subsets_together table n (j + 1) items)))) next rest.0),
+      subst (λ (ds : List Subset). length ds ≡ suc n) is (ap suc rest.1),
+    )
+
+-- ---- the octets of the data
+
+pub padded : (bits : List Bool) → length (bits ++ padding (length bits)) ≡ 8 * ((length bits + 7) / 8)
+padded bits = omega (arith, length-append bits (padding (length bits)), length-replicate ((8 - length bits % 8) % 8) false)
+
+pub payload_bits : (bits : List Bool) → bits_of (octets_of_bits bits) ≡ bits ++ padding (length bits)
+payload_bits bits = octet_bits_again ((length bits + 7) / 8) (bits ++ padding (length bits)) (padded bits)
+
+payload_short : (bits : List Bool) (octets : List ℕ) → length bits ≤ length (bits_of octets) → length (octets_of_bits bits) ≤ length octets
+payload_short bits octets h = omega (arith, h, length-bits_of octets, length-octets_in ((length bits + 7) / 8) (bits ++ padding (length bits)))
+
+-- a document that is encoded
+within : (a b : ℕ) → a ≤ b → nat_lt b a ≡ false
+within a b h = grind (arith, nat_tests)
+
+pub encoded_to : (table : List Row) (sequences : List Sequence) (d : Document) (template : Tree) (bits : List Bool)
+    → tree_of (tables_of table sequences) d.descriptors ≡ Ok template → data_bits (compressed_in d) (next_item table template) (subsets_of d.entries) ≡ Ok bits
+    → message_size (head_in d).edition (parts_in d (octets_of_bits bits)) ≤ most_octets → encoding_of table sequences d ≡ Ok (message_octets (head_in d) (parts_in d (octets_of_bits bits)))
+unfolding encoding_in
+encoded_to table sequences d template bits expands filled few =
+    ap (λ r. told_of_template d.line r >>= λ t. told_of_items (data_bits (compressed_in d) (next_item table t) (subsets_of d.entries)) >>= λ b. message_of d.line (head_in d) (parts_in d (octets_of_bits b))) expands
+    ∙ ap (λ r. told_of_items r >>= λ b. message_of d.line (head_in d) (parts_in d (octets_of_bits b))) filled
+    ∙ ap (λ b. if b then Err (refused_at d.line too_long) else Ok (message_octets (head_in d) (parts_in d (octets_of_bits bits)))) (within (message_size (head_in d).edition (parts_in d (octets_of_bits bits))) most_octets few)
+
+-- what the document of a message says
+pub bit_back : (b : Bool) → (bit b == 1) ≡ b
+bit_back true = refl
+bit_back false = refl
+
+pub section2_back : (section2 : Option (List ℕ)) → (if bit (is_some section2) == 1 then Some (unwrap_or section2 []) else None) ≡ section2
+section2_back None = refl
+section2_back (Some octets) = refl
+
+unfoldable pub parts_with : Sections → List ℕ → Parts
+parts_with s payload = parts_of s.local1 s.section2 s.descriptors s.subsets s.observed s.compressed payload
+
+pub parts_back : (at : ℕ) (s : Sections) (items : List (List Item)) (payload : List ℕ) → parts_in (document_of at s items) payload ≡ parts_with s payload
+unfolding parts_with
+parts_back at s items payload = λ j. parts_of s.local1 (section2_back s.section2 j) s.descriptors s.subsets (bit_back s.observed j) (bit_back s.compressed j) payload
+
+pub size_least : (s : Sections) (payload : List ℕ) (n : ℕ) → length payload ≤ length s.payload → message_size s.head.edition (layout.parts_in s) ≤ n → message_size s.head.edition (parts_with s payload) ≤ n
+unfolding parts_with
+size_least s payload n h g = size-least s.head.edition (length s.local1) s.section2 (length s.descriptors) (length payload) (length s.payload) n h g
+
+pub size_is : (m : List ℕ) (s : Sections) → sections_of m ≡ Ok s → s.size ≡ length m
+size_is m s e = ap (λ (x : Sections). x.size) (sections-ended m s e).is
+
+-- the bits that are written for a message's values, and their reading
+record IsFilled (table : List Row) (template : Tree) (s : Sections) (values : Values) (entries : List Entry) : Type 0 where
+  out : List Bool
+  fills : data_bits s.compressed (next_item table template) (subsets_of entries) ≡ Ok out
+  short : length out ≤ length (bits_of s.payload)
+  read : (octets : List ℕ) (tail : List Bool) → bits_of octets ≡ out ++ tail → IsReading (next_item table template) (record { compressed = s.compressed; subsets = s.subsets; bits = bits_of octets }) values (length out)
+
+pub enough : (out octets : List Bool) (bits : List Bool) → bits ≡ out ++ octets → length out ≤ length bits
+enough out octets bits e = omega (arith, ap length e, length-append out octets)
+
+pub behind : (out more bits : List Bool) → bits ≡ out ++ more → drop (length out) bits ≡ more
+behind out more bits e = ap (drop (length out)) e ∙ drop_at out more (length out) refl
+
+pub fills_as : (b c : Bool) (course : Course) (drafts : List Subset) (out : List Bool) → b ≡ c → data_bits c course drafts ≡ Ok out → data_bits b course drafts ≡ Ok out
+fills_as b c course drafts out e h = ap (λ x. data_bits x course drafts) e ∙ h
+
+filled : (table : List Row) (template : Tree) (s : Sections) (values : Values) (used at : ℕ) → AreGoodRows table → IsLegal template
+    → IsReading (next_item table template) (data_of s) values used → IsFilled table template s values (subset_entries at (items_in table template s values))
+filled table template s (apart subsets) used at rows legal read =
+    let course = next_item table template in
+    let entries = subset_entries at (map (items_apart table) subsets) in
+    let w = plain_template_again table template subsets (subsets_of entries) (bits_of s.payload) (drop used (bits_of s.payload)) rows legal (all_apart table at subsets) read.2.0 in
+    record {
+      out = w.out;
+      fills = fills_as s.compressed false course (subsets_of entries) w.out read.0 w.is;
+      short = omega (arith, w.short);
+      read = λ octets tail e. (
+        read.0,
+        enough w.out tail (bits_of octets) e,
+        (
+          subst (λ b. ReadsSubsets course subsets b (drop (length w.out) (bits_of octets))) (sym e)
+              (subst (λ b. ReadsSubsets course subsets (w.out ++ tail) b) (sym (behind w.out tail (bits_of octets) e)) (w.again tail)),
+          read.2.1,
+        ),
+      );
+    }
+filled table template s (together items) used at rows legal read =
+    let course = next_item table template in
+    let entries = subset_entries at (subsets_together table s.subsets 0 items) in
+    let dumped = all_together table at s.subsets 0 items in
+    let w = packed_template_again s.subsets table template items (subsets_of entries) (bits_of s.payload) (drop used (bits_of s.payload)) rows legal dumped.1 dumped.0 read.2 in
+    record {
+      out = w.out;
+      fills = fills_as s.compressed true course (subsets_of entries) w.out read.0 w.is;
+      short = omega (arith, w.short);
+      read = λ octets tail e. (
+        read.0,
+        enough w.out tail (bits_of octets) e,
+        subst (λ b. IsPackedReading s.subsets course items b (drop (length w.out) (bits_of octets))) (sym e)
+            (subst (λ b. IsPackedReading s.subsets course items (w.out ++ tail) b) (sym (behind w.out tail (bits_of octets) e)) (w.again tail)),
+      );
+    }
+
+-- ---- the message
+
+pub encoded_again : (table : List Row) (sequences : List Sequence) (m : List ℕ) (s : Sections) (template : Tree) (values : Values) (used at : ℕ) → AreGoodRows table → IsLegal template
+    → IsAccepted table sequences m s template values used → IsEncodedAgain table sequences m s template values (document_of at s (items_in table template s values))
+unfolding parts_with
+encoded_again table sequences m s template values used at rows legal a =
+    let items = items_in table template s values in
+    let d = document_of at s items in
+    let f = filled table template s values used (at + lines_before s) rows legal a.read in
+    let payload = octets_of_bits f.out in
+    let parts = parts_with s payload in
+    let same = parts_back at s items payload in
+    let edition = s.head.edition in
+    let short = payload_short f.out s.payload f.short in
+    let least : message_size edition parts ≤ length m + longer edition = size_least s payload (length m + longer edition) short (no-longer m s a.sections) in
+    let most : message_size edition parts ≤ most_octets = size_least s payload most_octets short (not-too-long m s a.sections a.few) in
+    let few : message_size edition (parts_in d payload) ≤ most_octets = subst (λ (p : Parts). message_size edition p ≤ most_octets) (sym same) most in
+    let fills : data_bits (compressed_in d) (next_item table template) (subsets_of d.entries) ≡ Ok f.out = fills_as (compressed_in d) s.compressed (next_item table template) (subsets_of d.entries) f.out (bit_back s.compressed) f.fills in
+    let octets = message_octets s.head parts in
+    let given = sections_given m s a.octets a.sections in
+    let back = read-back s.head parts (fitting-writable s.head given.head) in
+    let long : length octets ≡ message_size edition parts = sym (size_is octets (sections_from s.head parts) back) in
+    let padded_bits = evened-bits edition 4 payload in
+    let written : bits_of (evened edition 4 payload) ≡ f.out ++ (padding (length f.out) ++ padded_bits.0) = padded_bits.1 ∙ ap (λ (b : List Bool). b ++ padded_bits.0) (payload_bits f.out) ∙ append_assoc f.out (padding (length f.out)) padded_bits.0 in
+    record {
+      octets = octets;
+      is = encoded_to table sequences d template f.out a.expands fills few ∙ ap (λ (p : Parts). Ok (message_octets s.head p)) same;
+      same = record {
+        no_longer = omega (arith, least, long);
+        few = omega (arith, most, long);
+        octets = octets_small s.head parts given.head given.local1 given.section2 given.descriptors given.few (octets_are payload (octets_in-are ((length f.out + 7) / 8) (f.out ++ padding (length f.out)) (padded f.out))) most;
+        framed = λ at behind. framed s.head parts at behind long;
+        sections = sections_from s.head parts;
+        are = back;
+        same = record { head = refl; local1 = refl; section2 = refl; descriptors = refl; subsets = refl; observed = refl; compressed = refl };
+        used = length f.out;
+        read = f.read (evened edition 4 payload) (padding (length f.out) ++ padded_bits.0) written;
+      };
+    }
+
+pub accepted_again : (table : List Row) (sequences : List Sequence) (m : List ℕ) (s : Sections) (template : Tree) (values : Values) (used : ℕ) (octets : List ℕ)
+    → IsAccepted table sequences m s template values used → (again : HasSameReading table m s template values octets) → IsAccepted table sequences octets again.sections template values again.used
+accepted_again table sequences m s template values used octets a h = record {
+  octets = h.octets;
+  few = h.few;
+  sections = h.are;
+  expands = ap (tree_of (tables_of table sequences)) h.same.descriptors ∙ a.expands;
+  read = h.read;
+}
