@@ -1,13 +1,13 @@
 -- What comes behind doesn't change what was certain.
-use Rattle.std.proofs.Common.{◌≡◌, ◌⊎◌, inl, inr, ℕ, zero, suc, ◌+◌, ◌-◌, ◌*◌, ◌<◌, ◌≤◌, Bool, true, false, List, [], ◌∷◌, ◌++◌, length, take, drop, codes, refl, sym, ◌∙◌, ap, subst, arith, Some, None, length-drop, append_assoc, length-append, length-take, get_or, append-nil}
+use Rattle.std.proofs.Common.{◌≡◌, ◌⊎◌, inl, inr, ℕ, zero, suc, ◌+◌, ◌-◌, ◌*◌, ◌<◌, ◌≤◌, Bool, true, false, List, [], ◌∷◌, ◌++◌, length, take, drop, codes, refl, sym, ◌∙◌, ap, subst, arith, Some, None, length-drop, append_assoc, length-append, length-take, get_or, append-nil, below_more}
 use Rattle.std.specs.Prelude.{if◌then◌else◌, nat_lt, not, take_while, min, max}
 use Rattle.std.specs.List.{list_all, prefix_len}
 use Rattle.std.specs.Str.{bytes_eq}
 use Rattle.std.proofs.lemmas.Slice.Eq.{bytes_eq-Decides}
 use Rattle.std.proofs.lemmas.Bool.Decides.{nat_tests}
-use Rattle.std.proofs.lemmas.List.{get_or_append_left, take-append-le, drop-append-le}
+use Rattle.std.proofs.lemmas.List.{get_or-drop, get_or_append_left, take-append-le, drop-append-le}
 use Rattle.std.proofs.lemmas.List.Folds.{list_all-append}
-use Rattle.memchr.specs.Find.{OccursAt, FindsNeedle}
+use Rattle.memchr.specs.Find.{OccursAt, FindsNeedle, Nowhere}
 use Rattle.memchr.proofs.lemmas.MatchLemmas.{OccursAt-part, OccursAt-from_part}
 use Rattle.std.proofs.lemmas.Bool.{true≢false, cases_Bool, cases_lt, and_parts}
 use Rattle.bufr_frame.specs.declared.search.Verdict.{Verdict}
@@ -140,6 +140,49 @@ found-front m t at here long whole =
 
 pub stands-there : (s : List ℕ) (j : ℕ) → OccursAt s (codes "BUFR") j → stands (codes "BUFR") 0 (drop j s) ≡ true
 stands-there s j occurs = (bytes_eq-Decides (take 4 (drop j s)) (codes "BUFR")).1 (OccursAt-part s (codes "BUFR") j occurs)
+
+-- `BUFR` does not stand at a place, as a comparison tells it
+pub absent-there : (s m : List ℕ) (place : ℕ) (b : Bool) → m ≡ drop place s → b ≡ stands (codes "BUFR") 0 m → b ≡ false → OccursAt s (codes "BUFR") place → ⊥
+absent-there s m place b is so differs occurs = true≢false (sym (so ∙ ap (stands (codes "BUFR") 0) is ∙ stands-there s place occurs) ∙ differs)
+
+-- nor at the places before it
+pub nowhere-more : (s : List ℕ) (place : ℕ) → Nowhere (OccursAt s (codes "BUFR")) 0 place → (OccursAt s (codes "BUFR") place → ⊥) → Nowhere (OccursAt s (codes "BUFR")) 0 (place + 1)
+nowhere-more s place before here k low below = below_more (λ j. OccursAt s (codes "BUFR") j → ⊥) place (λ j less. before j (omega arith) less) here k below
+
+-- a place behind others, counted from them and from the front
+occurs-behind : (s : List ℕ) (near k : ℕ) → OccursAt s (codes "BUFR") (near + k) → OccursAt (drop near s) (codes "BUFR") k
+occurs-behind s near k occurs = record {
+  fits = omega (arith, occurs.fits, length-drop near s);
+  reads = λ j below. get_or-drop near s (k + j) 0 ∙ ap (λ n. get_or s n 0) (omega arith) ∙ occurs.reads j below;
+}
+
+occurs-before : (s : List ℕ) (near k : ℕ) → OccursAt (drop near s) (codes "BUFR") k → OccursAt s (codes "BUFR") (near + k)
+occurs-before s near k occurs = record {
+  fits = omega (arith, occurs.fits, length-drop near s);
+  reads = λ j below. ap (λ n. get_or s n 0) (omega arith) ∙ sym (get_or-drop near s (k + j) 0) ∙ occurs.reads j below;
+}
+
+-- no `BUFR` among the nearest places, and none up to a place behind them
+nowhere-behind : (s : List ℕ) (near far : ℕ) → Nowhere (OccursAt s (codes "BUFR")) 0 near → Nowhere (OccursAt (drop near s) (codes "BUFR")) 0 far → Nowhere (OccursAt s (codes "BUFR")) 0 (near + far)
+nowhere-behind s near far before behind k low below occurs = elim (cases_lt k near) [
+  | inl less ↦ before k (omega arith) less occurs
+  | inr more ↦
+      let is : k ≡ near + (k - near) = omega arith in
+      behind (k - near) (omega arith) (omega arith) (occurs-behind s near (k - near) (subst (OccursAt s (codes "BUFR")) is occurs))
+]
+
+pub found-behind : (s m : List ℕ) (near k : ℕ) → m ≡ drop near s → Nowhere (OccursAt s (codes "BUFR")) 0 near → FindsNeedle m (codes "BUFR") 0 (Some k) → FindsNeedle s (codes "BUFR") 0 (Some (near + k))
+found-behind s m near k is before found =
+    let F : List ℕ → Type 0 = λ l. FindsNeedle l (codes "BUFR") 0 (Some k) in
+    let there = subst F is found in
+    let here = occurs-before s near k there.1 in
+    (record { low = omega arith; high = omega (arith, here.fits); before = nowhere-behind s near k before there.0.before }, here)
+
+pub none-behind : (s m : List ℕ) (near : ℕ) → m ≡ drop near s → near ≤ length s → Nowhere (OccursAt s (codes "BUFR")) 0 near → FindsNeedle m (codes "BUFR") 0 None → FindsNeedle s (codes "BUFR") 0 None
+none-behind s m near is within before none =
+    let F : List ℕ → Type 0 = λ l. FindsNeedle l (codes "BUFR") 0 None in
+    let N : ℕ → Type 0 = λ n. Nowhere (OccursAt s (codes "BUFR")) 0 n in
+    subst N (omega (arith, length-drop near s)) (nowhere-behind s near (length (drop near s) + 1) before (subst F is none))
 
 -- the places before the first `BUFR`
 to-first : (s : List ℕ) (place : ℕ) → FindsNeedle s (codes "BUFR") 0 (Some place) → (t : List ℕ) (at : ℕ) → scan_from 0 at (s ++ t) ≡ scan_from 0 (at + place) (drop place s ++ t)

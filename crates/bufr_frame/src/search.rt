@@ -1,7 +1,7 @@
 //! The search for the next place where `BUFR` stands.
-ghost use Rattle.std.specs.Prelude.{◌≡◌, ◌≢◌, ◌≤◌, ◌<◌, ◌+◌, ◌-◌, ◌^◌, ℕ, List, [], ◌∷◌, ◌++◌, length, take, drop, codes, IfOk, IfSome, MatchOption, vec_len, Some, None};
-ghost use Rattle.memchr.specs.Find.{FindsNeedle};
-ghost use Rattle.bufr_frame.specs.Scan.{verdict, stated};
+ghost use Rattle.std.specs.Prelude.{◌≡◌, ◌≢◌, ◌≤◌, ◌<◌, ◌+◌, ◌-◌, ◌^◌, ℕ, List, [], ◌∷◌, ◌++◌, length, take, drop, min, codes, IfOk, IfSome, MatchOption, vec_len, Some, None};
+ghost use Rattle.memchr.specs.Find.{FindsNeedle, IsFirst, OccursAt};
+ghost use Rattle.bufr_frame.specs.Scan.{verdict, stated, stands};
 ghost use Rattle.bufr_frame.specs.Sights.{LooksSo};
 ghost use Rattle.bufr_frame.specs.Longest.{length_here};
 
@@ -12,6 +12,9 @@ use memchr::memmem;
 
 /// Where octets 5 to 7 of a message stand, which state its length.
 const LENGTH: usize = 4;
+
+/// How many places are compared one by one before a search is begun, which costs more than they.
+const NEAR: usize = 16;
 
 /// What is at the front of the octets that are left.
 #[derive(Clone, Copy, Debug, PartialEq, Eq)]
@@ -84,11 +87,18 @@ pub(crate) fn len_here(m: &[u8]) -> usize
     }
 }
 
+/// Whether `BUFR` stands at the front.
+fn begins(m: &[u8]) -> bool
+    ensures { result ≡ stands (codes "BUFR") 0 m.now }
+{
+    m.starts_with(b"BUFR")
+}
+
 /// What is at the front of `m`, behind which nothing comes: the first case that holds counts.
 pub(crate) fn judge(m: &[u8]) -> Verdict
     ensures { result ≡ verdict m.now }
 {
-    if !m.starts_with(b"BUFR") {
+    if !begins(m) {
         return Verdict::Nothing;
     }
     if m.len() < SECTION_0 {
@@ -107,17 +117,39 @@ pub(crate) fn judge(m: &[u8]) -> Verdict
     Verdict::Frame
 }
 
+/// The first place where `BUFR` stands, among the nearest.
+fn find_near(rest: &[u8]) -> Option<usize>
+    ensures { IsFirst (OccursAt rest.now (codes "BUFR")) 0 (min (length rest.now) 16) result }
+{
+    'places: for place in 0..rest.len().min(NEAR) {
+        if begins(behind(rest, place)) {
+            return Some(place);
+        }
+    }
+    None
+}
+
+/// The first place where `BUFR` stands. `word` searches for it.
+fn find_word(word: &memmem::Finder<'_>, rest: &[u8]) -> Option<usize>
+    requires { word.now ≡ codes "BUFR" }
+    ensures { FindsNeedle rest.now (codes "BUFR") 0 result }
+{
+    // messages and stray words follow one another
+    if let Some(place) = find_near(rest) {
+        return Some(place);
+    }
+    let near = rest.len().min(NEAR);
+    let place = word.find(behind(rest, near))?;
+    Some(near + place)
+}
+
 /// What `rest` shows, behind which more octets may come unless the end was reached. `word` searches
 /// for `BUFR`.
 pub(crate) fn look(word: &memmem::Finder<'_>, rest: &[u8], ended: bool) -> Sight
     requires { word.now ≡ codes "BUFR" }
     ensures { LooksSo ended rest.now result }
 {
-    // where messages follow one another there is nothing to search
-    if rest.starts_with(b"BUFR") {
-        return look_at(rest, 0, ended);
-    }
-    match word.find(rest) {
+    match find_word(word, rest) {
         None => {
             if ended {
                 Sight::End

@@ -1,5 +1,5 @@
 //! The line of an item of a dump text, laid from its end.
-ghost use Rattle.std.specs.Prelude.{◌≡◌, ◌≤◌, ◌<◌, ◌+◌, ◌*◌, ◌++◌, ◌==◌, if◌then◌else◌, [], ◌∷◌, drop, false, length, option_map, unsigned_abs, IfOk, IfSome};
+ghost use Rattle.std.specs.Prelude.{◌≡◌, ◌≤◌, ◌<◌, ◌+◌, ◌*◌, ◌-◌, ◌++◌, ◌==◌, if◌then◌else◌, [], ◌∷◌, decimal, drop, false, length, option_map, unsigned_abs, IfOk, IfSome};
 ghost use Rattle.bufr_bits.specs.DecimalText.{decimal_text_of, pointed, unsigned_text};
 ghost use Rattle.bufr_tables.specs.Entry.{row_with};
 ghost use Rattle.bufr_tables.specs.Fxy.{fxy_text};
@@ -8,8 +8,9 @@ ghost use Rattle.bufr_text.specs.Dump.{comment_text, form_of, form_text, item_te
 ghost use Rattle.bufr_text.specs.DumpItems.{comment_of, item_of, value_of};
 ghost use Rattle.bufr_text.specs.Grammar.{escaped, is_plain, quoted};
 ghost use Rattle.bufr_text.specs.Laid.{most_comment, most_item, most_value};
+ghost use Rattle.bufr_text.specs.Writing.{padded};
 
-use crate::laid::{lay_text, lay_zeros};
+use crate::laid::{lay_decimal, lay_text, lay_zeros};
 use crate::put::hex_digit;
 use crate::quoted::is_plain;
 use bufr_tables::{Entry, Fxy};
@@ -94,8 +95,54 @@ fn zeros_behind(size: u128, power: usize) -> usize
     if size == 0 { 0 } else { power }
 }
 
-/// Lays a number that is not below zero, at a scale, before `end`, and answers where it begins.
-fn lay_unsigned(size: u128, scale: i16, line: &mut [u8], end: usize) -> usize
+/// Lays the last digits of a number before `end`, so many as there are places, zeros in front of
+/// them, and answers the number that the digits before them write.
+fn lay_fraction(value: u64, places: usize, line: &mut [u8], end: usize) -> u64
+    requires room { places ≤ end }
+    requires within { end ≤ length line.old }
+    ensures laid { decimal result ++ drop (end - places) line.new ≡ padded (places + 1) value ++ drop end line.old }
+{
+    let mut left = value;
+    'places: for place in 0..places {
+        line[end - 1 - place] = b'0' + (left % 10) as u8;
+        left /= 10;
+    }
+    left
+}
+
+/// Lays a number with a point before the last `places` of its digits before `end`, and answers
+/// where it begins.
+fn lay_with_point(value: u64, places: usize, line: &mut [u8], end: usize) -> usize
+    requires room { places + 21 ≤ end }
+    requires within { end ≤ length line.old }
+    ensures most { end ≤ result + (places + 21) }
+    ensures start { result ≤ end }
+    ensures laid { drop result line.new ≡ pointed places (decimal value) ++ drop end line.old }
+{
+    let whole = lay_fraction(value, places, line, end);
+    let start = lay_text(b".", line, end - places);
+    lay_decimal(whole, line, start)
+}
+
+/// Lays a number below 2^64, at a scale, before `end`, and answers where it begins.
+fn lay_narrow(size: u64, scale: i16, line: &mut [u8], end: usize) -> usize
+    requires room { 42 + unsigned_abs scale ≤ end }
+    requires within { end ≤ length line.old }
+    ensures most { end ≤ result + (42 + unsigned_abs scale) }
+    ensures start { result ≤ end }
+    ensures laid { drop result line.new ≡ unsigned_text size scale ++ drop end line.old }
+{
+    let places = scale.unsigned_abs() as usize;
+    if scale > 0 {
+        return lay_with_point(size, places, line, end);
+    }
+    let end = lay_zeros(zeros_behind(u128::from(size), places), line, end);
+    lay_decimal(size, line, end)
+}
+
+/// Lays a number that may be greater, at a scale, before `end`, and answers where it begins.
+#[inline(never)]
+fn lay_wide(size: u128, scale: i16, line: &mut [u8], end: usize) -> usize
     requires room { 42 + unsigned_abs scale ≤ end }
     requires within { end ≤ length line.old }
     ensures most { end ≤ result + (42 + unsigned_abs scale) }
@@ -110,6 +157,21 @@ fn lay_unsigned(size: u128, scale: i16, line: &mut [u8], end: usize) -> usize
     }
     let end = lay_zeros(zeros_behind(size, places), line, end);
     lay_text(digits, line, end)
+}
+
+/// Lays a number that is not below zero, at a scale, before `end`, and answers where it begins.
+fn lay_unsigned(size: u128, scale: i16, line: &mut [u8], end: usize) -> usize
+    requires room { 42 + unsigned_abs scale ≤ end }
+    requires within { end ≤ length line.old }
+    ensures most { end ≤ result + (42 + unsigned_abs scale) }
+    ensures start { result ≤ end }
+    ensures laid { drop result line.new ≡ unsigned_text size scale ++ drop end line.old }
+{
+    // nearly all numbers are below 2^64
+    match u64::try_from(size) {
+        Ok(size) => lay_narrow(size, scale, line, end),
+        Err(_) => lay_wide(size, scale, line, end),
+    }
 }
 
 /// Lays a number at a scale before `end`, and answers where it begins.

@@ -155,7 +155,9 @@ fn text_value<'t>(
     }
 }
 
-/// Shows the text that one subset, counted from 0, has of a kept item with increments.
+/// Shows the text that one subset, counted from 0, has of a kept item with increments. It stands by
+/// itself, so that only texts pay for its array.
+#[inline(never)]
 fn show_text<V: Visitor>(
     bits: &BitSlice<'_>,
     subsets: u16,

@@ -52,7 +52,9 @@ pub(crate) fn show_value<V: Visitor>(
     visitor.item(&ItemView { fxy, entry, value })
 }
 
-/// Shows a field that is text, not missing, and does not begin an octet.
+/// Shows a field that is text, not missing, and does not begin an octet. It stands by itself, so that
+/// only such texts pay for its array.
+#[inline(never)]
 fn show_copied<V: Visitor>(
     input: &PlainIn<'_>,
     table: &TableB,

@@ -1,6 +1,6 @@
 use Rattle.std.proofs.Common.{◌∙◌, ap, to_z-of_z, unsigned_abs}
 use Rattle.bufr_text.proofs.ItemLineLemmas.{laid-pointed, laid-plain}
-use Rattle.bufr_text.proofs.item_line.lay_unsigned.Goals as goal
+use Rattle.bufr_text.proofs.item_line.lay_wide.Goals as goal
 
 pub returns-then-scale-gt0-clause-laid : goal.returns-then-scale-gt0-clause-laid
 returns-then-scale-gt0-clause-laid c =
