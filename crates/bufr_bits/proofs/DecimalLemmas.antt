@@ -53,16 +53,16 @@ up_product a c d p q u = omega arith
 pub ten_pos : (k : ℕ) → 0 < 10 ^ k
 ten_pos k = one-le-pow k 10 (omega arith)
 
-product_zero : (d p : ℕ) → 0 < p → (d * p == 0) ≡ (d == 0)
+pub product_zero : (d p : ℕ) → 0 < p → (d * p == 0) ≡ (d == 0)
 product_zero zero p h = let none : 0 * p ≡ 0 = omega arith in grind (arith, nat_tests, none)
 product_zero (suc d) p h = let some : 0 < suc d * p = omega arith in grind (arith, nat_tests, some)
 
-sum_zero : (b p d : ℕ) → 0 < p → (b * p + d == 0) ≡ ((b == 0) && (d == 0))
+pub sum_zero : (b p d : ℕ) → 0 < p → (b * p + d == 0) ≡ ((b == 0) && (d == 0))
 sum_zero zero p d h = let none : 0 * p + d ≡ d = omega arith in ap (λ (m : ℕ). m == 0) none
 sum_zero (suc b) p d h = let some : 0 < suc b * p + d = omega arith in grind (arith, nat_tests, some)
 
 -- ten to two powers that make a third
-ten_split : (m i j : ℕ) → m ≡ i + j → 10 ^ m ≡ 10 ^ i * 10 ^ j
+pub ten_split : (m i j : ℕ) → m ≡ i + j → 10 ^ m ≡ 10 ^ i * 10 ^ j
 ten_split m i j e = ap (λ (k : ℕ). 10 ^ k) e ∙ pow-add 10 i j
 
 -- what is left over is small: digits are left over only where no zeros are put behind

@@ -6,6 +6,7 @@ pub mod OnesLemmas
 pub mod PushLemmas
 pub mod RoundLemmas
 pub mod ScaledLemmas
+pub mod ShortLemmas
 pub mod TextLemmas
 pub mod WriterLemmas
 pub mod WindowLemmas

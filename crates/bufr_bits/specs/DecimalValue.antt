@@ -1,7 +1,7 @@
 -- Decimal text with a scale as a number: the text of x at scale s is read as x * 10^s. (a choice of
 -- this project)
 -- Cited by public contracts.
-use Rattle.std.specs.Prelude.{◌≡◌, ℕ, ◌+◌, ◌*◌, ◌/◌, ◌%◌, ◌^◌, ◌==◌, nat_lt, nat_le, Bool, true, false, ◌&&◌, if◌then◌else◌, List, ◌++◌, length, Result, Ok, Err, ℤ, pos, negsuc, neg_ℤ, drop, is_some}
+use Rattle.std.specs.Prelude.{◌≡◌, ℕ, ◌+◌, ◌*◌, ◌/◌, ◌%◌, ◌^◌, ◌==◌, ◌<◌, nat_lt, nat_le, Bool, true, false, ◌&&◌, if◌then◌else◌, List, ◌++◌, length, Result, Ok, Err, ℤ, pos, negsuc, neg_ℤ, drop, is_some}
 use Rattle.std.specs.List.{list_all, position, before_first, after_first}
 use Rattle.std.specs.Char.{is_ascii_digit}
 use Rattle.std.specs.Str.Parse.{digits_value, starts_with_minus}
@@ -72,3 +72,10 @@ pub record IsParts (text whole fraction : List ℕ) : Type 0 where
   pub form : is_unsigned text ≡ true
   pub before : whole ≡ whole_part text
   pub behind : fraction ≡ fraction_part text
+
+-- an unsigned decimal text, by the number that its digits write and how many stand behind the point
+pub record IsShort (text : List ℕ) (number places : ℕ) : Type 0 where
+  pub form : is_unsigned text ≡ true
+  pub value : number ≡ digits_value 10 (whole_part text ++ fraction_part text)
+  pub behind : places ≡ length (fraction_part text)
+  pub below : number < 10 ^ length text

@@ -14,6 +14,7 @@ mod bit_writer;
 mod decimal;
 mod device;
 mod script;
+mod short_decimal;
 
 pub use bit_slice::BitSlice;
 pub use bit_writer::{BitWriter, pushed_octets_read_back, pushed_reads_back};
