@@ -120,7 +120,7 @@ impl Template {
         ensures shallow { IfOk result (λ template. depth_of template ≤ 32) }
     {
         let expander = Expander { table_b, table_d };
-        let mut growing = Growing::new(alloc);
+        let mut growing = Growing::with_room(alloc, descriptors.len())?;
         expander.list(descriptors, MOST_OPEN, &mut growing)?;
         if !growing.consumes {
             return Err(TemplateFault::EmptyGroup(first_of(descriptors)));

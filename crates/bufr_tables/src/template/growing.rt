@@ -12,6 +12,10 @@ use std::alloc::Global;
 /// The most places that a template may take.
 const MOST_PLACES: u32 = 65_535;
 
+/// The least room for cells that is made at the beginning: most templates fit in it, also those
+/// whose list is one sequence.
+const LEAST_ROOM: usize = 128;
+
 /// The cells of a template, as far as its list has been expanded.
 #[derive(Drop)]
 pub(crate) struct Growing {
@@ -62,21 +66,25 @@ fn push_factor(cells: &mut Vec<Cell>, passes: &Passes) -> Result<(), TemplateFau
 }
 
 impl Growing {
-    ghost use Rattle.std.specs.Prelude.{◌≡◌, ◌+◌, ◌<◌, ◌≤◌, Ok, [], length, false};
+    ghost use Rattle.std.specs.Prelude.{◌≡◌, ◌+◌, ◌<◌, ◌≤◌, Ok, [], length, false, IfOk, IfErr};
     ghost use Rattle.bufr_tables.specs.Tree.{bare, element, operator};
     ghost use Rattle.bufr_tables.specs.Growth.{growth, places_of, with_node, ended, GivesGrowth, GivesPlace};
     ghost use Rattle.bufr_tables.specs.Growing.{growth_of};
 
-    /// No cells yet.
-    pub(crate) fn new(alloc: Global) -> Growing
-        ensures { growth_of result ≡ growth [] 0 0 false }
+    /// No cells yet, with room for those of a list of so many elements and for the end.
+    pub(crate) fn with_room(alloc: Global, elements: usize) -> Result<Growing, TemplateFault>
+        ensures ok { IfOk result (λ growing. growth_of growing ≡ growth [] 0 0 false) }
+        ensures err { IfErr result (λ why. why ≡ TemplateFault.Memory) }
     {
-        Growing {
-            cells: Vec::new(alloc),
+        let room = elements.saturating_add(1).max(LEAST_ROOM);
+        let room = room.min(MOST_PLACES as usize);
+        let cells = Vec::with_capacity(alloc, room).map_err(|_| TemplateFault::Memory)?;
+        Ok(Growing {
+            cells,
             open_groups: 0,
             depth: 0,
             consumes: false,
-        }
+        })
     }
 
     /// The places up to here, with those of the ends that are still to come.
