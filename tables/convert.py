@@ -11,10 +11,14 @@ Each SOURCE is a folder, and what it holds says what it is:
     element.table, sequence.def       definition files of ecCodes, a centre's local ones too
 
 The rows of a later SOURCE take the place of those of an earlier one, so a centre's local tables stand behind the
-master table that they belong to. OUT/B.csv and OUT/D.csv are written, in the order of the descriptors. An element that
-is outside the limits of `bufr` is left out and told on standard error.
+master table that they belong to. OUT/B.csv and OUT/D.csv are written, in the order of the descriptors.
+
+An element or a sequence that `bufr` would refuse is left out, a sequence as a whole, and told on standard error with
+the reason; what an earlier SOURCE says of it stays. The status is 0 where nothing was left out, 1 where something was,
+and 2 where nothing was written: a SOURCE that holds no tables, or a file that is not laid out as above.
 """
 import csv
+import itertools
 import pathlib
 import re
 import sys
@@ -24,6 +28,15 @@ WMO_B = "FXY ElementName_en BUFR_Unit BUFR_Scale BUFR_ReferenceValue BUFR_DataWi
 WMO_D = "FXY1 FXY2".split()
 OURS_B = "fxy name unit scale reference width".split()
 OURS_D = "fxy member".split()
+# Octets that are not UTF-8 are passed on as they are, since `bufr` does not look at them either.
+AS_IT_IS = {"encoding": "utf-8", "errors": "surrogateescape"}
+# The widths of the factors of delayed replications.
+FACTORS = {"031000": 1, "031001": 8, "031002": 16}
+
+
+def stop(why: str):
+    print(why, file=sys.stderr)
+    sys.exit(2)
 
 
 def one_line(text: str) -> str:
@@ -33,56 +46,141 @@ def one_line(text: str) -> str:
 def of_csv(folder: pathlib.Path, pattern: str, columns: list):
     """The named columns of each row of the files, which may begin with a byte order mark."""
     for path in sorted(folder.glob(pattern)):
-        with open(path, encoding="utf-8-sig", newline="") as file:
-            for row in csv.DictReader(file):
-                yield [one_line(row[column]) for column in columns]
+        with open(path, newline="", **{**AS_IT_IS, "encoding": "utf-8-sig"}) as file:
+            rows = csv.reader(file)
+            header = next(rows, [])
+            for column in columns:
+                if column not in header:
+                    stop(f"{path} has no column {column}")
+            places = [header.index(column) for column in columns]
+            for row in rows:
+                if row and len(row) != len(header):
+                    stop(f"{path}, line {rows.line_num}: another number of fields than the header")
+                if row:
+                    yield [one_line(row[place]) for place in places]
+
+
+def sequences_of(rows):
+    """Each run of rows with one sequence, as that and its members."""
+    for fxy, run in itertools.groupby(rows, key=lambda row: row[0]):
+        yield [fxy, *(member for _, member in run)]
 
 
 def of_element_table(path: pathlib.Path):
     """The rows of ecCodes' element.table: code|abbreviation|type|name|unit|scale|reference|width|.."""
-    for line in path.read_text(encoding="utf-8").splitlines():
+    for number, line in enumerate(path.read_text(**AS_IT_IS).split("\n"), 1):
         if line.strip() and not line.startswith("#"):
             fields = [one_line(field) for field in line.split("|")]
+            if len(fields) < 8:
+                stop(f"{path}, line {number}: fewer than eight fields")
             yield [fields[0], *fields[3:8]]
 
 
 def of_sequence_def(path: pathlib.Path):
-    """The rows of ecCodes' sequence.def: "fxy" = [ member, .. ]"""
-    text = re.sub("#.*", "", path.read_text(encoding="utf-8"))
-    for fxy, members in re.findall(r'"(\d{6})"\s*=\s*\[([^\]]*)\]', text):
-        for member in re.findall(r"\d{6}", members):
-            yield [fxy, member]
+    """The sequences of ecCodes' sequence.def: "fxy" = [ member, .. ]"""
+    text = re.sub("#.*", "", path.read_text(**AS_IT_IS))
+    one = r'"([^"]*)"\s*=\s*\[([^\]]*)\]'
+    rest = re.sub(one, "", text).split()
+    if rest:
+        stop(f"{path}: what is {shown(rest)}")
+    for fxy, members in re.findall(one, text):
+        yield [one_line(fxy), *(one_line(member) for member in members.split(",") if member.strip())]
 
 
 def source(folder: pathlib.Path):
-    """The rows of a source for Table B and for Table D."""
+    """The rows of a source for Table B, and its sequences for Table D."""
     if (folder / "B.csv").exists() or (folder / "D.csv").exists():
-        return of_csv(folder, "B.csv", OURS_B), of_csv(folder, "D.csv", OURS_D)
-    if (folder / "element.table").exists() or (folder / "sequence.def").exists():
-        elements, sequences = folder / "element.table", folder / "sequence.def"
+        return of_csv(folder, "B.csv", OURS_B), sequences_of(of_csv(folder, "D.csv", OURS_D))
+    elements, sequences = folder / "element.table", folder / "sequence.def"
+    if elements.exists() or sequences.exists():
         return (
             of_element_table(elements) if elements.exists() else [],
             of_sequence_def(sequences) if sequences.exists() else [],
         )
     if any(folder.glob("BUFR*_Table[BD]_en*.csv")):
-        return of_csv(folder, "BUFRCREX_TableB_en*.csv", WMO_B), of_csv(folder, "BUFR_TableD_en*.csv", WMO_D)
-    sys.exit(f"{folder} holds no tables that are known here")
+        table_d = of_csv(folder, "BUFR_TableD_en*.csv", WMO_D)
+        return of_csv(folder, "BUFRCREX_TableB_en*.csv", WMO_B), sequences_of(table_d)
+    stop(f"{folder} holds no tables that are known here")
 
 
-def fits(row: list) -> bool:
-    """Whether `bufr` takes the row of an element."""
+def octets(text: str) -> bytes:
+    return text.encode(**AS_IT_IS)
+
+
+def is_whole(text: str, least: int, most: int) -> bool:
+    """Whether a text is a whole number in these limits."""
+    return re.fullmatch(r"-?0*[0-9]{1,19}", text) is not None and least <= int(text) <= most
+
+
+def no_descriptor(fxy: str, first: str) -> str:
+    """Why a text is no descriptor with such a figure in front."""
+    if not re.fullmatch(f"[{first}][0-9]{{5}}", fxy):
+        return f"not six digits, the first {first}"
+    return "X over 63" if int(fxy[1:3]) > 63 else "Y over 255" if int(fxy[3:]) > 255 else ""
+
+
+def no_text(what: str, text: str) -> str:
+    """Why `bufr` does not take a name or a unit."""
+    if len(octets(text)) > 512:
+        return f"a {what} of over 512 octets"
+    return f"a control character in the {what}" if re.search(r"[\0-\x1f\x7f]", text) else ""
+
+
+def no_numbers(is_text: bool, scale: str, reference: str, width: str) -> str:
+    """Why `bufr` does not take the numbers of an element."""
+    if not width:
+        return "no width"
+    if not is_whole(scale, -127, 127):
+        return "no scale from -127 to 127"
+    if not is_whole(reference, -(2**63), 2**63 - 1):
+        return "no reference of 64 bits with sign"
+    if is_text and not (is_whole(width, 8, 2040) and int(width) % 8 == 0):
+        return "no width of 8 to 2040 bits in whole octets"
+    return "" if is_text or is_whole(width, 1, 63) else "no width of 1 to 63 bits"
+
+
+def no_element(row: list) -> str:
+    """Why `bufr` does not take the row of an element, or nothing where it does."""
     fxy, name, unit, *numbers = row
-    if not re.fullmatch(r"0[0-6]\d[0-2]\d\d", fxy) or not all(re.fullmatch(r"-?\d+", number) for number in numbers):
-        return False
-    scale, reference, width = map(int, numbers)
-    text = unit.upper() == "CCITT IA5"
-    wide = width % 8 == 0 and 8 <= width <= 2040 if text else 1 <= width <= 63
-    short = max(len(name.encode()), len(unit.encode())) <= 512
-    return wide and short and -127 <= scale <= 127 and -(2**63) <= reference < 2**63
+    is_text = octets(unit).upper() == b"CCITT IA5"
+    reason = no_descriptor(fxy, "0") or no_text("name", name) or no_text("unit", unit) or no_numbers(is_text, *numbers)
+    if not reason and fxy in FACTORS and (is_text or list(map(int, numbers)) != [0, 0, FACTORS[fxy]]):
+        return f"a factor, which has scale 0, reference 0, width {FACTORS[fxy]} and is no text"
+    return reason
+
+
+def no_sequence(sequence: list) -> str:
+    """Why `bufr` does not take the rows of a sequence, or nothing where it does."""
+    fxy, *members = sequence
+    if no_descriptor(fxy, "3") or not members:
+        return no_descriptor(fxy, "3") or "no members"
+    wrong = next((member for member in members if no_descriptor(member, "0-3")), None)
+    return "" if wrong is None else f"the member {shown([wrong])}: {no_descriptor(wrong, '0-3')}"
+
+
+def shown(words: list) -> str:
+    """The words, but cut where they are many, and without what a screen does not show."""
+    text = "".join(sign if sign.isprintable() else ascii(sign)[1:-1] for sign in " ".join(words))
+    return text if len(text) <= 80 else text[:78] + ".."
+
+
+def taken(folder: pathlib.Path, entries, refused) -> tuple:
+    """What `bufr` takes of a source, by the descriptors, and how many entries are left out, which are told."""
+    found, left_out = {}, 0
+    for entry in entries:
+        found.setdefault(entry[0], []).append(entry)
+    for fxy, alike in list(found.items()):
+        for entry in alike:
+            reason = refused(entry) or ("one of several, not alike" if alike.count(entry) < len(alike) else "")
+            if reason:
+                print(f"left out of {folder}: {shown(entry)}: {reason}", file=sys.stderr)
+                left_out += 1
+                found.pop(fxy, None)
+    return {fxy: alike[0] for fxy, alike in found.items()}, left_out
 
 
 def write(path: pathlib.Path, header: list, rows) -> None:
-    with open(path, "w", encoding="utf-8", newline="") as file:
+    with open(path, "w", newline="", **AS_IT_IS) as file:
         table = csv.writer(file, lineterminator="\n")
         table.writerow(header)
         table.writerows(rows)
@@ -90,24 +188,23 @@ def write(path: pathlib.Path, header: list, rows) -> None:
 
 def main() -> None:
     if len(sys.argv) < 3:
-        sys.exit(__doc__)
+        stop(__doc__)
     out, *folders = map(pathlib.Path, sys.argv[1:])
-    elements, sequences = {}, {}
+    elements, sequences, left_out = {}, {}, 0
     for folder in folders:
-        table_b, table_d = source(folder)
-        for row in table_b:
-            if fits(row):
-                elements[row[0]] = row
-            elif row[-1]:  # a row without a width stands for nothing
-                print(f"left out of {folder}: {' '.join(row)}", file=sys.stderr)
-        members = {}
-        for fxy, member in table_d:
-            members.setdefault(fxy, []).append(member)
-        sequences.update(members)
+        for table, entries, refused in zip((elements, sequences), source(folder), (no_element, no_sequence)):
+            entries, count = taken(folder, entries, refused)
+            table.update(entries)
+            left_out += count
     out.mkdir(parents=True, exist_ok=True)
     write(out / "B.csv", OURS_B, (elements[fxy] for fxy in sorted(elements)))
-    write(out / "D.csv", OURS_D, ([fxy, member] for fxy in sorted(sequences) for member in sequences[fxy]))
+    members = ([fxy, member] for fxy in sorted(sequences) for member in sequences[fxy][1:])
+    write(out / "D.csv", OURS_D, members)
+    sys.exit(left_out > 0)
 
 
 if __name__ == "__main__":
-    main()
+    try:
+        main()
+    except (OSError, csv.Error) as error:
+        stop(str(error))
