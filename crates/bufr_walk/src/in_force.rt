@@ -165,7 +165,12 @@ fn scaled(reference: i64, refined: u8) -> i128
     ensures value { result ≡ reference *ℤ pos (10 ^ refined) }
     ensures near { unsigned_abs result ≤ 2 ^ 125 }
 {
-    i128::from(reference) * i128::from(power_of_ten(refined))
+    let reference = i128::from(reference);
+    // Nearly always: nothing is in force, and then nothing is to be multiplied.
+    if refined == 0 {
+        return reference;
+    }
+    reference * i128::from(power_of_ten(refined))
 }
 
 /// A number in a quantity's unit.
