@@ -166,7 +166,7 @@ fn reads_a_message_of_edition_3(rt: HostRuntime) -> Result<(), Fail> {
 
 #[test]
 fn refuses_a_message(rt: HostRuntime) -> Result<(), Fail> {
-    let faults: [(&[(usize, u8)], SectionFault); 8] = [
+    let faults: [(&[(usize, u8)], SectionFault); 9] = [
         (&[(7, 2)], SectionFault::Edition(2)),
         (&[(10, 21)], SectionFault::SectionShort(1)),
         (&[(10, 40)], SectionFault::SectionPast(1)),
@@ -175,6 +175,7 @@ fn refuses_a_message(rt: HostRuntime) -> Result<(), Fail> {
         (&[(17, 0x80), (32, 15)], SectionFault::SectionPast(2)),
         (&[(32, 6)], SectionFault::SectionShort(3)),
         (&[(41, 6)], SectionFault::SectionPast(4)),
+        (&[(32, 12)], SectionFault::SectionPast(4)),
     ];
     for (edits, fault) in faults {
         let mut octets = ONE_BLOCK_NUMBER;

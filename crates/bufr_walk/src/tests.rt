@@ -12,6 +12,125 @@ use std::test::Fail;
 // item has a # where it was read by Table B.
 const ROWS: &[(&str, u16, &str, &str, &str)] = &[
     (
+        "inserted_missing",
+        1,
+        "205001",
+        "FF",
+        "bits 8 steps 2; 1: 205001 missing",
+    ),
+    (
+        "references_dropped",
+        1,
+        "203010 012101 001001 203255 203000 012101 001001",
+        "E4005708F140",
+        "bits 43 steps 8; 1: 012101 R-400 001001 R5 012101 28815e2 # 001001 10e0 #",
+    ),
+    (
+        "changes_cancelled",
+        1,
+        "207001 208003 207000 208000 012101 001015",
+        "708F4141414141414141414141414141414141414141",
+        "bits 176 steps 7; 1: 012101 28815e2 # 001015 \"4141414141414141414141414141414141414141\" #",
+    ),
+    (
+        "later_change_replaces",
+        1,
+        "201130 202130 207002 201132 202129 207001 012101",
+        "2BF7FA",
+        "bits 24 steps 8; 1: 012101 2881530e4 #",
+    ),
+    (
+        "changes_add",
+        1,
+        "201130 202129 207002 005002",
+        "0DB9AC",
+        "bits 24 steps 5; 1: 005002 -500e5 #",
+    ),
+    (
+        "precision_of_a_reference",
+        1,
+        "201132 207001 203010 012101 203255 012101",
+        "E4011D4E40",
+        "bits 34 steps 7; 1: 012101 R-400 012101 288153e3 #",
+    ),
+    (
+        "figures_take_a_reference",
+        1,
+        "207001 201132 203010 020003 203255 020003 203000 020003",
+        "E400A050",
+        "bits 28 steps 9; 1: 020003 R-400 020003 -395e0 # 020003 5e0 #",
+    ),
+    (
+        "references_kept",
+        1,
+        "203010 012101 203255 203008 001001 203255 012101 001001",
+        "E4015C23C500",
+        "bits 41 steps 9; 1: 012101 R-400 001001 R5 012101 28415e2 # 001001 15e0 #",
+    ),
+    (
+        "given_width_is_used_up",
+        1,
+        "206012 063255 001001",
+        "0F5140",
+        "bits 19 steps 4; 1: 063255 245e0 001001 10e0 #",
+    ),
+    (
+        "given_class_31",
+        1,
+        "206012 031021 206004 031255",
+        "FFFF",
+        "bits 16 steps 5; 1: 031021 4095e0 031255 15e0",
+    ),
+    (
+        "defining_inserted",
+        1,
+        "203010 205001",
+        "41",
+        "32 at 1 205001 0 steps 2",
+    ),
+    (
+        "operator_while_defining",
+        1,
+        "203010 012101 201132 012101",
+        "E400",
+        "32 at 1 201132 10 steps 3",
+    ),
+    (
+        "defining_again",
+        1,
+        "203010 012101 203008 012101",
+        "E400",
+        "32 at 1 203008 10 steps 3",
+    ),
+    (
+        "defining_delayed",
+        1,
+        "203010 101000 031001 001001",
+        "02142C",
+        "32 at 1 031001 0 steps 3",
+    ),
+    (
+        "defining_passes_a_group",
+        1,
+        "203010 102002 012101 020003 203255 012101",
+        "E400199202708F",
+        "bits 56 steps 11; 1: 012101 R-400 020003 R1 012101 R-100 020003 R-2 012101 28715e2 #",
+    ),
+    (
+        "no_definitions_to_end",
+        1,
+        "203255 001001 203010 012101",
+        "15C800",
+        "bits 17 steps 5; 1: 001001 10e0 # 012101 R-400",
+    ),
+    (
+        "defining_before_the_width",
+        1,
+        "203010 206064 063255",
+        "00",
+        "32 at 1 206064 0 steps 2",
+    ),
+    (
         "one_block_number",
         1,
         "001001",
@@ -203,6 +322,20 @@ const ROWS: &[(&str, u16, &str, &str, &str)] = &[
 // The same of compressed data.
 const ROWS_TOGETHER: &[(&str, u16, &str, &str, &str)] = &[
     (
+        "base_of_all_ones_data_end",
+        2,
+        "012101",
+        "FFFF80",
+        "30 at 0 012101 0 steps 1",
+    ),
+    (
+        "text_of_255",
+        2,
+        "205002",
+        "FFFF0BFFFFFFF8",
+        "bits 54 steps 2 held 1; 1: 205002 missing 2: 205002 \"FFFE\"",
+    ),
+    (
         "compressed_missing",
         2,
         "012101",
@@ -313,6 +446,15 @@ fn as_many_items_as_may_be(rt: HostRuntime) -> Result<(), Fail> {
     let payload = octets_with(rt.alloc(), 3330, 0x07, 0xFF)?;
     let worked = Worked::new(rt.alloc(), 65535, TOGETHER, descriptors, &payload)?;
     assert_read(&rt, &worked, "bits 26633 steps 4097 held 2048")?;
+    Ok(())
+}
+
+#[test]
+fn a_width_before_one_item_too_many(rt: HostRuntime) -> Result<(), Fail> {
+    let descriptors = "101000 031002 001001 201121 001001";
+    let payload = octets_with(rt.alloc(), 3330, 0x07, 0xFF)?;
+    let worked = Worked::new(rt.alloc(), 65535, TOGETHER, descriptors, &payload)?;
+    assert_read(&rt, &worked, "31 at 0 001001 26633 steps 4098")?;
     Ok(())
 }
 
