@@ -13,15 +13,15 @@ use Rattle.bufr_tables.specs.TableD.{Sequence}
 use Rattle.bufr_text.specs.declared.form.Form.{Form}
 use Rattle.bufr_text.specs.Documents.{Told, open_documents_of}
 use Rattle.bufr_text.specs.Writing.{GrowsByFront}
-use Rattle.bufr_cli.specs.EncodePieces.{encode_pieces}
-use Rattle.bufr_cli.specs.EncodeRun.{EncodeSo, EncodeStopped}
-use Rattle.bufr_cli.specs.Pieces.{Piece, is_refused}
+use Rattle.bufr_run.specs.EncodePieces.{encode_pieces}
+use Rattle.bufr_run.specs.EncodeRun.{EncodeSo, EncodeStopped}
+use Rattle.bufr_run.specs.Pieces.{Piece, is_refused}
 use Rattle.bufr_cli.specs.Program.{EncodeLeft, IsNotOpened, RunLeft, RunOutcome, WasEnded, WentThrough, input_octets, ran_outcome}
-use Rattle.bufr_cli.specs.Running.{RunCut, RunSo, RunStopped, WrittenInPart}
+use Rattle.bufr_run.specs.Running.{RunCut, RunSo, RunStopped, WrittenInPart}
 use Rattle.bufr_cli.specs.declared.finish.Outcome.{Outcome}
-use Rattle.bufr_cli.specs.declared.tally.Tally.{Tally}
-use Rattle.bufr_cli.proofs.EncodeLemmas.{written-kept}
-use Rattle.bufr_cli.proofs.RunLemmas.{Written-nil, grows-nil}
+use Rattle.bufr_run.specs.declared.tally.Tally.{Tally}
+use Rattle.bufr_run.proofs.EncodeLemmas.{written-kept}
+use Rattle.bufr_run.proofs.RunLemmas.{Written-nil, grows-nil}
 
 -- a run over the octets of its input
 pub run-outcome : (ran : Tally → List ℕ → Type 0) (ended : Option (List ℕ) → RunFault → Type 0) (nothing : Type 0) (standard : Option (List ℕ)) (named : List ℕ → Option (List ℕ)) (file : Option (Bor (List ℕ))) (octets : Option (List ℕ)) (r : Result Tally RunFault) (outcome : Outcome)

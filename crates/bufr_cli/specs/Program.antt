@@ -11,29 +11,25 @@ use Rattle.bufr_tables.specs.TableB.{Row, table_b_of}
 use Rattle.bufr_tables.specs.TableD.{Sequence}
 use Rattle.bufr_tables.specs.declared.fault.TableFault.{TableFault}
 use Rattle.bufr_text.specs.declared.form.Form.{Form}
-use Rattle.bufr_text.specs.Documents.{documents_of}
-use Rattle.bufr_cli.specs.DumpPieces.{IsDumpPiece}
-use Rattle.bufr_cli.specs.EncodePieces.{encode_pieces}
-use Rattle.bufr_cli.specs.EncodeRun.{EncodeSo}
-use Rattle.bufr_cli.specs.Pieces.{Piece, ls_piece, ls_pieces}
-use Rattle.bufr_cli.specs.Running.{Written, GivesPieces, RunSo, Tallies}
+use Rattle.bufr_run.specs.DumpPieces.{IsDumpPiece}
+use Rattle.bufr_run.specs.EncodePieces.{encode_pieces}
+use Rattle.bufr_run.specs.EncodeRun.{EncodeSo}
+use Rattle.bufr_run.specs.Pieces.{Piece, ls_piece, ls_pieces}
+use Rattle.bufr_run.specs.Running.{GivesPieces, RunSo}
 use Rattle.bufr_cli.specs.declared.finish.Outcome.{Outcome}
 use Rattle.bufr_cli.specs.declared.finish.Outcome.TheVariants.{Ran, CannotOpen, TableB, TableD, Run}
 use Rattle.bufr_cli.specs.declared.job.Job.{Job}
 use Rattle.bufr_cli.specs.declared.job.Subcommand.{Subcommand}
 use Rattle.bufr_cli.specs.declared.job.Subcommand.TheVariants.{Ls, Dump, Encode}
 use Rattle.bufr_cli.specs.declared.job.TableNames.{TableNames}
-use Rattle.bufr_cli.specs.declared.tally.Tally.{Tally}
+use Rattle.bufr_run.specs.Whole.{Dumps, Encodes, Tells}
+use Rattle.bufr_run.specs.declared.tally.Tally.{Tally}
 
 -- the octets of the input, where they are known: those of the file of this name, or of standard
 -- input
 abbrev pub input_octets : (standard : Option (List ℕ)) → (named : List ℕ → Option (List ℕ)) → (file : Option (Bor (List ℕ))) → Option (List ℕ)
 input_octets standard named None = standard
 input_octets standard named (Some name) = named name.now
-
--- the pieces were written and counted
-abbrev pub Tells : (output output' errors errors' : Option (List ℕ)) → Tally → List Piece → Type 0
-Tells output output' errors errors' tally pieces = Written output output' errors errors' pieces × Tallies tally pieces
 
 -- nothing was written
 abbrev pub WritesNothing : (output output' errors errors' : Option (List ℕ)) → Type 0
@@ -85,11 +81,6 @@ pub record AreTables (named : List ℕ → Option (List ℕ)) (tables : TableNam
   pub table_b : IfSome (named tables.table_b.now) (λ text. table_b_of (records_of text) ≡ Ok b)
   pub table_d : IfSome (named tables.table_d.now) (λ text. Reads (records_of text) (Ok d))
 
--- the pieces that `dump` has for the octets by these tables were written and counted
-abbrev pub Dumps : List Row → List Sequence → (output output' errors errors' : Option (List ℕ)) → Tally → List ℕ → Type 0
-Dumps b d output output' errors errors' tally s =
-    (piece : Happening → Piece) × GivesPieces (IsDumpPiece b d) piece × Tells output output' errors errors' tally (map piece (scan s))
-
 -- a dump by these tables was ended by this fault
 abbrev pub DumpLeft : List Row → List Sequence → (output output' errors errors' : Option (List ℕ)) → (left : Option (List ℕ)) → RunFault → Type 0
 DumpLeft b d output output' errors errors' left fault =
@@ -103,10 +94,6 @@ DumpsByAny b d output output' errors errors' tally s =
 abbrev pub DumpLeftByAny : List Row → List Sequence → (output output' errors errors' : Option (List ℕ)) → (left : Option (List ℕ)) → RunFault → Type 0
 DumpLeftByAny b d output output' errors errors' left fault =
     (piece : Happening → Piece) → GivesPieces (IsDumpPiece b d) piece → RunLeft (map piece) output output' errors errors' left fault
-
--- the pieces that `encode` has for the octets by these tables were written and counted
-abbrev pub Encodes : Form → List Row → List Sequence → (output output' errors errors' : Option (List ℕ)) → Tally → List ℕ → Type 0
-Encodes form b d output output' errors errors' tally s = Tells output output' errors errors' tally (encode_pieces form b d (documents_of s))
 
 -- an encoding by these tables was ended by this fault
 abbrev pub EncodeLeft : Form → List Row → List Sequence → (output output' errors errors' : Option (List ℕ)) → (left : Option (List ℕ)) → RunFault → Type 0

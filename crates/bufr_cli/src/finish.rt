@@ -3,11 +3,11 @@ ghost use Rattle.std.specs.Prelude.{◌≡◌, ◌<◌, ◌-◌, ◌^◌, ◌∷
 ghost use Rattle.std.specs.Io.KnownBytes.{Appends};
 ghost use Rattle.bufr_text.specs.Writing.{GrowsByFront, IsShort, Writes, part_text};
 ghost use Rattle.bufr_cli.specs.Finish.{last_line, numbered, run_fault_text, run_line, status_of, table_line};
-ghost use Rattle.bufr_cli.specs.Counting.{CountsCalls, IsSame};
+ghost use Rattle.bufr_run.specs.Counting.{CountsCalls, IsSame};
 
-use crate::tally::Tally;
 use bufr_bits::Sink;
 use bufr_frame::RunFault;
+use bufr_run::Tally;
 use bufr_tables::TableFault;
 use bufr_text::{Part, write_all, write_parts};
 

@@ -7,27 +7,16 @@
 //! file, a table, reading, writing or memory failed.
 //!
 //! What stands here only wraps the process's own inputs and writers. What the words ask for is done
-//! by [`program::run`], over any inputs and writers.
+//! by [`program::run`], over any inputs and writers, and the runs are those of `bufr_run`.
 #![tactic(auto)]
 
 ghost use Rattle.bufr_cli.specs.Calling.{IsWordless, WordsSo};
 
 mod buffered;
-pub mod corrected_law;
-mod document_line;
-mod fault_line;
 mod finish;
 mod job;
-pub mod law;
 mod program;
 mod read_all;
-pub mod round_trip;
-pub mod round_trip_law;
-mod run_dump;
-mod run_encode;
-mod run_events;
-mod run_ls;
-mod tally;
 
 use buffered::Buffered;
 use bufr_bits::{Device, Sink};
@@ -39,25 +28,9 @@ use std::io::{BufWriter, Error, ErrorKind, Stdin};
 use std::process::ExitCode;
 
 #[cfg(test)]
-mod dump_fault_tests;
-#[cfg(test)]
-mod dump_tests;
-#[cfg(test)]
-mod edition3_tests;
-#[cfg(test)]
-mod encode_fault_tests;
-#[cfg(test)]
-mod encode_tests;
-#[cfg(test)]
-mod form_tests;
-#[cfg(test)]
 mod program_tests;
 #[cfg(test)]
 mod test_messages;
-#[cfg(test)]
-mod test_runs;
-#[cfg(test)]
-mod tests;
 
 /// The inputs of the process, of whose octets nothing is known before they are read.
 impl Inputs for HostRuntime {

@@ -11,17 +11,17 @@ ghost use Rattle.bufr_cli.specs.Calling.{CallSo};
 ghost use Rattle.bufr_cli.specs.Line.{bufr_app};
 ghost use Rattle.bufr_cli.specs.Program.{AreTables, AreUnread, DumpOutcome, EncodeOutcome, FileOutcome, IsClosed, OutcomeSo, RunOutcome};
 ghost use Rattle.bufr_cli.specs.Program.{TableBOutcome, TableDOutcome, WritesNothing, ran_outcome};
-ghost use Rattle.bufr_cli.specs.declared.tally.Tally.{Tally};
+ghost use Rattle.bufr_run.specs.declared.tally.Tally.{Tally};
 
 use crate::finish::{Outcome, finish};
 use crate::job::{Job, LineFault, Subcommand, TableNames, parse_line};
 use crate::read_all::read_all;
-use crate::run_dump::run_dump;
-use crate::run_encode::run_encode_form;
-use crate::run_ls::run_ls;
-use crate::tally::Tally;
 use bufr_bits::{Device, Sink};
 use bufr_frame::RunFault;
+use bufr_run::Tally;
+use bufr_run::run_dump::run_dump;
+use bufr_run::run_encode::run_encode_form;
+use bufr_run::run_ls::run_ls;
 use bufr_tables::{TableB, TableD};
 use bufr_text::{Form, write_all};
 use std::alloc::Global;
@@ -373,8 +373,9 @@ struct Lister;
 
 impl Runner for Lister {
     ghost use Rattle.std.specs.Prelude.{map};
-    ghost use Rattle.bufr_cli.specs.Pieces.{ls_piece, ls_pieces};
-    ghost use Rattle.bufr_cli.specs.Program.{RunLeft, Tells};
+    ghost use Rattle.bufr_run.specs.Pieces.{ls_piece, ls_pieces};
+    ghost use Rattle.bufr_cli.specs.Program.{RunLeft};
+    ghost use Rattle.bufr_run.specs.Whole.{Tells};
 
     ghost went_through = { λ _ w w' e e' tally s. Tells w w' e e' tally (ls_pieces s) };
 
@@ -435,7 +436,8 @@ struct Encoder<'b, 'd> {
 }
 
 impl<'b, 'd> Runner for Encoder<'b, 'd> {
-    ghost use Rattle.bufr_cli.specs.Program.{EncodeLeft, Encodes};
+    ghost use Rattle.bufr_cli.specs.Program.{EncodeLeft};
+    ghost use Rattle.bufr_run.specs.Whole.{Encodes};
 
     ghost went_through = { λ x. Encodes x.form x.table_b.now x.table_d.now };
 

@@ -5,12 +5,11 @@ use crate::buffered::Buffered;
 use crate::finish::{Outcome, finish};
 use crate::job::{LineFault, Subcommand, TableNames, parse_line};
 use crate::program::{Inputs, Unopened, run};
-use crate::tally::Tally;
-use crate::test_messages::{
-    ONE_BLOCK_NUMBER, TABLE_B, TABLE_D, joined, line_of_one, one_block_number, text_of_one,
-};
-use bufr_bits::{Device, End, ScriptOut, Sink};
+use crate::read_all::read_all;
+use crate::test_messages::{ONE_BLOCK_NUMBER, TABLE_B, TABLE_D, TEXT_OF_ONE, joined, line_of_one};
+use bufr_bits::{Device, End, ScriptIn, ScriptOut, Sink};
 use bufr_frame::RunFault;
+use bufr_run::Tally;
 use bufr_tables::{Fxy, TableD, TableFault};
 use bufr_text::Form;
 use std::alloc::{AllocError, Global};
@@ -576,32 +575,38 @@ fn tries_no_write_again(rt: HostRuntime) -> Result<(), Fail> {
 /// The file has a stray word before the message.
 #[test]
 fn runs_dump_lines(rt: HostRuntime) -> Result<(), Fail> {
-    let message = one_block_number(rt.alloc())?;
-    let text = text_of_one(rt.alloc())?;
     let stray: &[u8] = b"BUFR";
-    let one = joined(rt.alloc(), &[stray, &message])?;
+    let one = joined(rt.alloc(), &[stray, &ONE_BLOCK_NUMBER])?;
     let library = Library {
         one: &one,
-        standard: &message,
+        standard: &ONE_BLOCK_NUMBER,
     };
     let errors = "offset 0: 1 cut\n";
-    assert_runs(&rt, "dump", &library, text.as_bytes(), errors)
+    assert_runs(&rt, "dump", &library, TEXT_OF_ONE.as_bytes(), errors)
 }
 
 /// The file has a line behind the document that may not stand there.
 #[test]
 fn runs_encode_lines(rt: HostRuntime) -> Result<(), Fail> {
-    let message = one_block_number(rt.alloc())?;
-    let text = text_of_one(rt.alloc())?;
     let mut one = String::new(rt.alloc());
-    one.push_str(text.as_str())?;
+    one.push_str(TEXT_OF_ONE)?;
     one.push_str("subset 1\n")?;
     let library = Library {
         one: one.as_bytes(),
-        standard: text.as_bytes(),
+        standard: TEXT_OF_ONE.as_bytes(),
     };
     let errors = "line 26: 50 line\n";
-    assert_runs(&rt, "encode", &library, &message, errors)
+    assert_runs(&rt, "encode", &library, &ONE_BLOCK_NUMBER, errors)
+}
+
+#[test]
+fn reads_all(rt: HostRuntime) -> Result<(), Fail> {
+    let mut r = ScriptIn::new(&ONE_BLOCK_NUMBER, 7, None);
+    let octets = read_all(rt.alloc(), &mut r).expect(&rt, "the octets");
+    assert_eq!(rt; octets.as_slice(), ONE_BLOCK_NUMBER.as_slice());
+    let mut r = ScriptIn::new(&ONE_BLOCK_NUMBER, 7, Some(20));
+    assert!(rt; matches!(read_all(rt.alloc(), &mut r), Err(RunFault::Read)));
+    Ok(())
 }
 
 /// What `finish` answers, and what it wrote to a writer with this room.

@@ -4,8 +4,8 @@
 //! sequences. A list of descriptors is expanded to a [`Template`], the tree that says what a
 //! message's data hold.
 //!
-//! `bufr_cli` reads the two tables once, and builds a template for each message that it dumps, as
-//! `bufr_text` does for each document that it encodes. `bufr_walk` goes through the template's
+//! `bufr_cli` reads the two tables once. `bufr_run` builds a template for each message that it
+//! dumps, as `bufr_text` does for each document that it encodes. `bufr_walk` goes through the template's
 //! cells, and asks Table B for each element. The tests `elements`, `sequences` and
 //! `cells_of_worked_lists` show it.
 #![tactic(auto)]

@@ -1,6 +1,7 @@
 use Rattle.std.proofs.Common.{refl}
-use Rattle.bufr_cli.specs.Program.{ByTables, DumpLeft, DumpLeftByAny, Dumps, DumpsByAny, NoTables}
-use Rattle.bufr_cli.proofs.DumpLemmas.{some-pieces}
+use Rattle.bufr_cli.specs.Program.{ByTables, DumpLeft, DumpLeftByAny, DumpsByAny, NoTables}
+use Rattle.bufr_run.specs.Whole.{Dumps}
+use Rattle.bufr_run.proofs.DumpLemmas.{some-pieces}
 use Rattle.bufr_cli.proofs.ProgramLemmas.{outcome-weaker}
 use Rattle.bufr_cli.proofs.program.dump_job.Goals as goal
 

@@ -1,8 +1,9 @@
 use Rattle.std.proofs.Common.{IfSome, map, rules}
 use Rattle.bufr_frame.specs.Scan.{scan}
-use Rattle.bufr_cli.specs.DumpPieces.{IsDumpPiece}
-use Rattle.bufr_cli.specs.Program.{RunLeft, Tells}
-use Rattle.bufr_cli.specs.Running.{GivesPieces}
+use Rattle.bufr_run.specs.DumpPieces.{IsDumpPiece}
+use Rattle.bufr_cli.specs.Program.{RunLeft}
+use Rattle.bufr_run.specs.Whole.{Tells}
+use Rattle.bufr_run.specs.Running.{GivesPieces}
 use Rattle.bufr_cli.proofs.ProgramLemmas.{err-any, left-nothing, left-then, ok-any, whole-then}
 use Rattle.bufr_cli.proofs.program.DumperRunner.run.Goals as goal
 

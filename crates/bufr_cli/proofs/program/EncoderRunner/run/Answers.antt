@@ -1,6 +1,6 @@
 use Rattle.std.proofs.Common.{IfSome, rules}
-use Rattle.bufr_cli.specs.EncodePieces.{encode_pieces}
-use Rattle.bufr_cli.specs.Program.{Encodes}
+use Rattle.bufr_run.specs.EncodePieces.{encode_pieces}
+use Rattle.bufr_run.specs.Whole.{Encodes}
 use Rattle.bufr_cli.proofs.ProgramLemmas.{encode-ended, encode-left-nothing, whole-then}
 use Rattle.bufr_cli.proofs.program.EncoderRunner.run.Goals as goal
 

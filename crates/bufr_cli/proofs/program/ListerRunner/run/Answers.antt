@@ -1,6 +1,6 @@
 use Rattle.std.proofs.Common.{IfSome, map, rules}
-use Rattle.bufr_cli.specs.Pieces.{ls_piece, ls_pieces}
-use Rattle.bufr_cli.specs.Program.{Tells}
+use Rattle.bufr_run.specs.Pieces.{ls_piece, ls_pieces}
+use Rattle.bufr_run.specs.Whole.{Tells}
 use Rattle.bufr_cli.proofs.ProgramLemmas.{left-nothing, left-then, whole-then}
 use Rattle.bufr_cli.proofs.program.ListerRunner.run.Goals as goal
 

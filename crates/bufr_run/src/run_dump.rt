@@ -1,0 +1,206 @@
+//! `bufr dump`: writes the messages of a stream as text.
+ghost use Rattle.std.specs.Prelude.{◌≡◌, ◌≢◌, ℕ, List, [], ◌∷◌, true, Ok, IfOk, OnOk, IfSome, map};
+ghost use Rattle.bufr_frame.specs.Events.{told, IsEvent};
+ghost use Rattle.bufr_frame.specs.Runs.{read_failures_after};
+ghost use Rattle.bufr_frame.specs.Scan.{Happening, Framed, Strayed, scan};
+ghost use Rattle.bufr_run.specs.DumpPieces.{IsDataPiece, IsDumpPiece, IsMessagePiece};
+ghost use Rattle.bufr_run.specs.Pieces.{Piece};
+ghost use Rattle.bufr_run.specs.Counting.{BlamesWriter};
+ghost use Rattle.bufr_run.specs.Running.{RunSo, Written, GivesPieces, ReadsAtMost, ReadsFewer, Tallies};
+ghost use Rattle.bufr_run.specs.Telling.{StopsPiece, TellsPieces};
+
+use crate::fault_line::{write_section_fault, write_stray, write_template_fault, write_walk_fault};
+use crate::run_events::{Teller, run_events};
+use crate::tally::{Tally, Verdict};
+use bufr_bits::{Sink, Source};
+use bufr_frame::{Event, Message, RunFault};
+use bufr_tables::{Fxy, TableB, TableD, Template, TemplateFault};
+use bufr_text::write_dump;
+use bufr_walk::{Steps, WalkFault, read_message};
+use std::alloc::{AllocError, Global};
+
+/// The descriptors of a message.
+fn descriptors_of(alloc: Global, message: &Message<'_>) -> Result<Vec<Fxy>, AllocError>
+    ensures { IfOk result (λ descriptors. descriptors.items ≡ message.now.descriptors) }
+{
+    let words = message.descriptors();
+    let mut descriptors = Vec::with_capacity(alloc, words.len())?;
+    for word in words {
+        descriptors.push(Fxy::from_word(word))?;
+    }
+    Ok(descriptors)
+}
+
+/// Writes the text of a message by its template, or the line of the fault that its data are refused
+/// for.
+fn dump_data<W: Sink, E: Sink>(
+    alloc: Global,
+    offset: u64,
+    message: &Message<'_>,
+    template: &Template,
+    table_b: &TableB,
+    w: &mut W,
+    e: &mut E,
+) -> Result<Verdict, RunFault>
+    ensures tells { (piece : Piece) → IsDataPiece table_b.now offset message.now template.now piece
+        → TellsPieces (W.taken w.old) (W.taken w.new) (E.taken e.old) (E.taken e.new) (piece ∷ []) result }
+    ensures stops { StopsPiece true result }
+    ensures counts { BlamesWriter W.failures W.empty_writes w.old w.new E.failures E.empty_writes e.old e.new result }
+    ensures output_flushes { W.flushes w.new ≡ W.flushes w.old }
+    ensures errors_flushes { E.flushes e.new ≡ E.flushes e.old }
+{
+    let mut steps = Steps::new();
+    match read_message(alloc, message, template, table_b, &mut steps) {
+        Ok(reading) => {
+            write_dump(alloc, message, &reading, &mut steps, w)?;
+            Ok(Verdict::Accepted)
+        }
+        Err(WalkFault::Memory) => Err(RunFault::Memory),
+        Err(fault) => {
+            write_walk_fault(offset, &fault, e)?;
+            Ok(Verdict::Refused)
+        }
+    }
+}
+
+/// Writes the text of a message, or the line of the fault that its descriptors or its data are
+/// refused for.
+fn dump_message<W: Sink, E: Sink>(
+    alloc: Global,
+    offset: u64,
+    message: &Message<'_>,
+    table_b: &TableB,
+    table_d: &TableD,
+    w: &mut W,
+    e: &mut E,
+) -> Result<Verdict, RunFault>
+    ensures tells { (piece : Piece) → IsMessagePiece table_b.now table_d.now offset (Ok message.now) piece
+        → TellsPieces (W.taken w.old) (W.taken w.new) (E.taken e.old) (E.taken e.new) (piece ∷ []) result }
+    ensures stops { StopsPiece true result }
+    ensures counts { BlamesWriter W.failures W.empty_writes w.old w.new E.failures E.empty_writes e.old e.new result }
+    ensures output_flushes { W.flushes w.new ≡ W.flushes w.old }
+    ensures errors_flushes { E.flushes e.new ≡ E.flushes e.old }
+{
+    let descriptors = descriptors_of(alloc, message)?;
+    match Template::build(alloc, &descriptors, table_b, table_d) {
+        Ok(template) => dump_data(alloc, offset, message, &template, table_b, w, e),
+        Err(TemplateFault::Memory) => Err(RunFault::Memory),
+        Err(fault) => {
+            write_template_fault(offset, &fault, e)?;
+            Ok(Verdict::Refused)
+        }
+    }
+}
+
+/// Writes the text of an event's message, or its fault line.
+fn dump_event<W: Sink, E: Sink>(
+    alloc: Global,
+    event: Event<'_>,
+    table_b: &TableB,
+    table_d: &TableD,
+    w: &mut W,
+    e: &mut E,
+) -> Result<Verdict, RunFault>
+    requires { IsEvent event }
+    ensures tells { (piece : Happening → Piece) → GivesPieces (IsDumpPiece table_b.now table_d.now) piece
+        → TellsPieces (W.taken w.old) (W.taken w.new) (E.taken e.old) (E.taken e.new) (map piece (told event.entry)) result }
+    ensures stops { StopsPiece true result }
+    ensures counts { BlamesWriter W.failures W.empty_writes w.old w.new E.failures E.empty_writes e.old e.new result }
+    ensures output_flushes { W.flushes w.new ≡ W.flushes w.old }
+    ensures errors_flushes { E.flushes e.new ≡ E.flushes e.old }
+{
+    match event {
+        Event::Frame(offset, octets) => match Message::parse(octets) {
+            Ok(message) => dump_message(alloc, offset, &message, table_b, table_d, w, e),
+            Err(fault) => {
+                write_section_fault(offset, fault, e)?;
+                Ok(Verdict::Refused)
+            }
+        },
+        Event::Stray(offset, cause) => {
+            write_stray(offset, cause, e)?;
+            Ok(Verdict::Refused)
+        }
+        Event::Done => unreachable!(),
+    }
+}
+
+/// Tells events by the texts of their messages.
+#[derive(Drop)]
+struct Dumping<'b, 'd> {
+    alloc: Global,
+    table_b: &'b TableB,
+    table_d: &'d TableD,
+}
+
+impl<'b, 'd> Teller for Dumping<'b, 'd> {
+    ghost use Rattle.std.specs.Prelude.{true};
+    ghost use Rattle.bufr_run.specs.DumpPieces.{IsDumpPiece};
+
+    ghost is_piece = { λ d. IsDumpPiece d.table_b.now d.table_d.now };
+
+    ghost takes_memory = { λ _. true };
+
+    fn tell<W: Sink, E: Sink>(
+        &self,
+        event: Event<'_>,
+        w: &mut W,
+        e: &mut E,
+    ) -> Result<Verdict, RunFault> {
+        dump_event(self.alloc, event, self.table_b, self.table_d, w, e)
+    }
+}
+
+/// Dumps the messages of `r` by these tables: for each its text on `w`, and for each stray `BUFR`
+/// and each message that is refused a fault line on `e` and nothing on `w`, in the order of the
+/// stream, each as soon as it is certain. At the end `w`, then `e` is flushed.
+///
+/// A message is refused for its sections, then for its descriptors ([`TemplateFault`]), then for
+/// its data ([`WalkFault`]).
+///
+/// ```
+/// let table_b = TableB::read(rt.alloc(), b"fxy,name,unit,scale,reference,width\n")?;
+/// let table_d = TableD::read(rt.alloc(), b"fxy,member\n")?;
+/// let mut r = Device::new(b"BUFR".as_slice());
+/// let mut w = Device::new(Vec::new(rt.alloc()));
+/// let mut e = Device::new(Vec::new(rt.alloc()));
+/// let tally = run_dump(rt.alloc(), &mut r, &mut w, &mut e, &table_b, &table_d)?;
+/// assert_eq!(rt; tally.refused, 1); // `offset 0: 1 cut` is on `e`
+/// ```
+///
+/// # Errors
+///
+/// [`RunFault::Read`] and [`RunFault::InputTooLong`] as [`bufr_frame::Finder::next`] gives them;
+/// the texts of all that was certain were written then. [`RunFault::Write`] where a writer failed
+/// or took nothing, and [`RunFault::Memory`]: a front of the texts was written.
+pub fn run_dump<R: Source, W: Sink, E: Sink>(
+    alloc: Global,
+    r: &mut R,
+    w: &mut W,
+    e: &mut E,
+    table_b: &TableB,
+    table_d: &TableD,
+) -> Result<Tally, RunFault>
+    // At `Ok` the writers hold exactly the pieces of the whole input, and the tally counts them.
+    ensures whole { (piece : Happening → Piece) → GivesPieces (IsDumpPiece table_b.now table_d.now) piece → IfOk result (λ tally. IfSome (R.left r.old) (λ s.
+        Written (W.taken w.old) (W.taken w.new) (E.taken e.old) (E.taken e.new) (map piece (scan s)) × Tallies tally (map piece (scan s)))) }
+    // The errors are flushed only where the output was before.
+    ensures order { E.flushes e.new ≢ E.flushes e.old → W.handed_on w.new ≡ true }
+    ensures flushed { OnOk result ((W.handed_on w.new ≡ true) × (E.handed_on e.new ≡ true)) }
+    // The same over the octets that were read, and what a fault leaves.
+    ensures run { (bs : List ℕ) × ((piece : Happening → Piece) → GivesPieces (IsDumpPiece table_b.now table_d.now) piece
+        → RunSo (map piece) (R.left r.old) (R.left r.new) (W.taken w.old) (W.taken w.new) (E.taken e.old) (E.taken e.new)
+        ((W.flushes w.new ≡ W.flushes w.old) × (E.flushes e.new ≡ E.flushes e.old)) (ReadsFewer (R.reads r.old) (R.reads r.new)) bs result) }
+
+    // Each fault comes only where its device failed in this call.
+    ensures reader { R.failures r.new ≡ read_failures_after (R.failures r.old) result }
+    ensures reads { ReadsAtMost (R.reads r.old) (R.reads r.new) result }
+    ensures writers { BlamesWriter W.failures W.empty_writes w.old w.new E.failures E.empty_writes e.old e.new result }
+{
+    let dumping = Dumping {
+        alloc,
+        table_b,
+        table_d,
+    };
+    run_events(alloc, &dumping, r, w, e)
+}
