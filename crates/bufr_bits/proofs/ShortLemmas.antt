@@ -1,7 +1,6 @@
 -- Short decimal texts: the digits at the front of a text, its parts, and its number at a scale.
 use Rattle.std.proofs.Common.{◌≡◌, ℕ, suc, ◌+◌, ◌-◌, ◌*◌, ◌/◌, ◌%◌, ◌^◌, ◌<◌, ◌≤◌, ◌==◌, ◌&&◌, Bool, true, false, if◌then◌else◌, List, [], ◌∷◌, ◌++◌, length, take, drop, get_or, Result, Ok, Err, ℤ, refl, sym, ap, ◌∙◌, subst, arith, length-append, length-drop, append-nil, length-take-le, take-append-drop}
 use Rattle.std.specs.Int.{IsInRange}
-use Rattle.std.specs.List.{position_or_len}
 use Rattle.std.specs.Char.{is_ascii_digit, digit_value}
 use Rattle.std.specs.Str.Parse.{digits_value, digits_value_after, starts_with_minus}
 use Rattle.std.proofs.lemmas.Str.{digit_value_digit}
@@ -207,9 +206,6 @@ short_fits text n places up h few =
     let literal : 10 ^ 19 < 2 ^ 64 = omega arith in
     let some = ten_pos up in
     omega (arith, below, split, most, literal, some)
-
-pub short_places : (text : List ℕ) (n places : ℕ) → IsShort text n places → places ≤ length text
-short_places text n places h = omega (arith, h.behind, length-drop (position_or_len (λ c. c == 46) text + 1) text)
 
 -- what reading a short text answers
 value_short : (text body : List ℕ) (scale : ℤ) (up down n places : ℕ) → body ≡ unsigned_part text → IsShort body n places → up ≡ power_up scale → down ≡ power_down scale → decimal_value_of text scale ≡ and_then (whole_quotient (n * 10 ^ up) (10 ^ (places + down))) (signed (starts_with_minus text))

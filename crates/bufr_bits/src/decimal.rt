@@ -7,7 +7,7 @@ ghost use Rattle.bufr_bits.specs.DecimalText.{decimal_text_of, pointed, sign_of}
 ghost use Rattle.bufr_bits.specs.DecimalValue.{decimal_value_of, unsigned_part, is_unsigned, all_digits, is_digits, IsParts, power_up, power_down, whole_quotient, signed};
 
 use crate::append::{put, put_zero_digits};
-use crate::short_decimal::{MOST_DIGITS, short_number, short_scaled, short_signed};
+use crate::short_decimal::{short_number, short_scaled, short_signed};
 use itoa::Buffer;
 use std::alloc::AllocError;
 use thiserror::Error;
@@ -127,10 +127,7 @@ pub fn decimal_read(text: &[u8], scale: i16) -> Result<i128, NumberFault>
 {
     let (negative, body) = without_sign(text);
     let (up, down) = powers_of(scale);
-    if body.len() + up + down > MOST_DIGITS {
-        return long_read(text, scale);
-    }
-    match short_number(body) {
+    match short_number(body, up + down) {
         Some((number, places)) => {
             let size = short_scaled(number, places, up, down)?;
             Ok(short_signed(negative, size))
