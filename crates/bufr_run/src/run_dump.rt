@@ -14,7 +14,7 @@ use crate::run_events::{Teller, run_events};
 use crate::tally::{Tally, Verdict};
 use bufr_bits::{Sink, Source};
 use bufr_frame::{Event, Message, RunFault};
-use bufr_tables::{Fxy, TableB, TableD, Template, TemplateFault};
+use bufr_tables::{Fxy, TableB, TableD, Template, Templates};
 use bufr_text::write_dump;
 use bufr_walk::{Steps, WalkFault, read_message};
 use std::alloc::{AllocError, Global};
@@ -69,24 +69,25 @@ fn dump_message<W: Sink, E: Sink>(
     alloc: Global,
     offset: u64,
     message: &Message<'_>,
-    table_b: &TableB,
-    table_d: &TableD,
+    templates: &mut Templates<'_>,
     w: &mut W,
     e: &mut E,
 ) -> Result<Verdict, RunFault>
-    ensures tells { (piece : Piece) → IsMessagePiece table_b.now table_d.now offset (Ok message.now) piece
+    ensures tells { (piece : Piece) → IsMessagePiece templates.old.table_b templates.old.table_d offset (Ok message.now) piece
         → TellsPieces (W.taken w.old) (W.taken w.new) (E.taken e.old) (E.taken e.new) (piece ∷ []) result }
     ensures stops { StopsPiece true result }
+    ensures table_b { templates.new.table_b ≡ templates.old.table_b }
+    ensures table_d { templates.new.table_d ≡ templates.old.table_d }
     ensures counts { BlamesWriter W.failures W.empty_writes w.old w.new E.failures E.empty_writes e.old e.new result }
     ensures output_flushes { W.flushes w.new ≡ W.flushes w.old }
     ensures errors_flushes { E.flushes e.new ≡ E.flushes e.old }
 {
     let descriptors = descriptors_of(alloc, message)?;
-    match Template::build(alloc, &descriptors, table_b, table_d) {
-        Ok(template) => dump_data(alloc, offset, message, &template, table_b, w, e),
-        Err(TemplateFault::Memory) => Err(RunFault::Memory),
+    templates.turn_to(&descriptors)?;
+    match templates.answer() {
+        Ok(template) => dump_data(alloc, offset, message, template, templates.table_b(), w, e),
         Err(fault) => {
-            write_template_fault(offset, &fault, e)?;
+            write_template_fault(offset, fault, e)?;
             Ok(Verdict::Refused)
         }
     }
@@ -96,22 +97,23 @@ fn dump_message<W: Sink, E: Sink>(
 fn dump_event<W: Sink, E: Sink>(
     alloc: Global,
     event: Event<'_>,
-    table_b: &TableB,
-    table_d: &TableD,
+    templates: &mut Templates<'_>,
     w: &mut W,
     e: &mut E,
 ) -> Result<Verdict, RunFault>
     requires { IsEvent event }
-    ensures tells { (piece : Happening → Piece) → GivesPieces (IsDumpPiece table_b.now table_d.now) piece
+    ensures tells { (piece : Happening → Piece) → GivesPieces (IsDumpPiece templates.old.table_b templates.old.table_d) piece
         → TellsPieces (W.taken w.old) (W.taken w.new) (E.taken e.old) (E.taken e.new) (map piece (told event.entry)) result }
     ensures stops { StopsPiece true result }
+    ensures table_b { templates.new.table_b ≡ templates.old.table_b }
+    ensures table_d { templates.new.table_d ≡ templates.old.table_d }
     ensures counts { BlamesWriter W.failures W.empty_writes w.old w.new E.failures E.empty_writes e.old e.new result }
     ensures output_flushes { W.flushes w.new ≡ W.flushes w.old }
     ensures errors_flushes { E.flushes e.new ≡ E.flushes e.old }
 {
     match event {
         Event::Frame(offset, octets) => match Message::parse(octets) {
-            Ok(message) => dump_message(alloc, offset, &message, table_b, table_d, w, e),
+            Ok(message) => dump_message(alloc, offset, &message, templates, w, e),
             Err(fault) => {
                 write_section_fault(offset, fault, e)?;
                 Ok(Verdict::Refused)
@@ -125,29 +127,29 @@ fn dump_event<W: Sink, E: Sink>(
     }
 }
 
-/// Tells events by the texts of their messages.
+/// Tells events by the texts of their messages. The last template is kept: messages repeat their
+/// descriptors, and few of these can make a template of many places.
 #[derive(Drop)]
-struct Dumping<'b, 'd> {
+struct Dumping<'a> {
     alloc: Global,
-    table_b: &'b TableB,
-    table_d: &'d TableD,
+    templates: Templates<'a>,
 }
 
-impl<'b, 'd> Teller for Dumping<'b, 'd> {
+impl<'a> Teller for Dumping<'a> {
     ghost use Rattle.std.specs.Prelude.{true};
     ghost use Rattle.bufr_run.specs.DumpPieces.{IsDumpPiece};
 
-    ghost is_piece = { λ d. IsDumpPiece d.table_b.now d.table_d.now };
+    ghost is_piece = { λ d. IsDumpPiece d.templates.table_b d.templates.table_d };
 
     ghost takes_memory = { λ _. true };
 
     fn tell<W: Sink, E: Sink>(
-        &self,
+        &mut self,
         event: Event<'_>,
         w: &mut W,
         e: &mut E,
     ) -> Result<Verdict, RunFault> {
-        dump_event(self.alloc, event, self.table_b, self.table_d, w, e)
+        dump_event(self.alloc, event, &mut self.templates, w, e)
     }
 }
 
@@ -197,10 +199,9 @@ pub fn run_dump<R: Source, W: Sink, E: Sink>(
     ensures reads { ReadsAtMost (R.reads r.old) (R.reads r.new) result }
     ensures writers { BlamesWriter W.failures W.empty_writes w.old w.new E.failures E.empty_writes e.old e.new result }
 {
-    let dumping = Dumping {
+    let mut dumping = Dumping {
         alloc,
-        table_b,
-        table_d,
+        templates: Templates::new(alloc, table_b, table_d),
     };
-    run_events(alloc, &dumping, r, w, e)
+    run_events(alloc, &mut dumping, r, w, e)
 }

@@ -23,22 +23,25 @@ pub trait Teller {
     /// Whether writing takes memory.
     ghost takes_memory: { Self → Bool };
 
-    /// Writes the piece of an event, and answers on which writer.
+    /// Writes the piece of an event, and answers on which writer. What it keeps for the next event
+    /// does not change which pieces are to be written.
     ///
     /// # Errors
     ///
     /// [`RunFault::Write`] where a writer fails or takes nothing, and [`RunFault::Memory`]; a front
     /// of the piece was written.
     fn tell<W: Sink, E: Sink>(
-        &self,
+        &mut self,
         event: Event<'_>,
         w: &mut W,
         e: &mut E,
     ) -> Result<Verdict, RunFault>
         requires { IsEvent event }
-        ensures tells { (piece : Happening → Piece) → GivesPieces (is_piece self.now) piece
+        ensures tells { (piece : Happening → Piece) → GivesPieces (is_piece self.old) piece
             → TellsPieces (W.taken w.old) (W.taken w.new) (E.taken e.old) (E.taken e.new) (map piece (told event.entry)) result }
-        ensures stops { StopsPiece (takes_memory self.now) result }
+        ensures stops { StopsPiece (takes_memory self.old) result }
+        ensures same { (piece : Happening → Piece) → GivesPieces (is_piece self.old) piece → GivesPieces (is_piece self.new) piece }
+        ensures memory { takes_memory self.new ≡ takes_memory self.old }
         ensures counts { BlamesWriter W.failures W.empty_writes w.old w.new E.failures E.empty_writes e.old e.new result }
         ensures output_flushes { W.flushes w.new ≡ W.flushes w.old }
         ensures errors_flushes { E.flushes e.new ≡ E.flushes e.old };
@@ -67,18 +70,18 @@ pub(crate) fn flush<W: Sink>(w: &mut W) -> Result<(), RunFault>
 /// failed.
 pub fn run_events<T: Teller, R: Source, W: Sink, E: Sink>(
     alloc: Global,
-    teller: &T,
+    teller: &mut T,
     r: &mut R,
     w: &mut W,
     e: &mut E,
 ) -> Result<Tally, RunFault>
     ensures order { E.flushes e.new ≢ E.flushes e.old → W.handed_on w.new ≡ true }
     ensures flushed { OnOk result ((W.handed_on w.new ≡ true) × (E.handed_on e.new ≡ true)) }
-    ensures run { (bs : List ℕ) × ((piece : Happening → Piece) → GivesPieces (T.is_piece teller.now) piece
+    ensures run { (bs : List ℕ) × ((piece : Happening → Piece) → GivesPieces (T.is_piece teller.old) piece
         → RunSo (map piece) (R.left r.old) (R.left r.new) (W.taken w.old) (W.taken w.new) (E.taken e.old) (E.taken e.new)
         ((W.flushes w.new ≡ W.flushes w.old) × (E.flushes e.new ≡ E.flushes e.old)) (ReadsFewer (R.reads r.old) (R.reads r.new)) bs result) }
     ensures reader { R.failures r.new ≡ read_failures_after (R.failures r.old) result }
-    ensures reads { RunReads (T.takes_memory teller.now) (R.reads r.old) (R.reads r.new) result }
+    ensures reads { RunReads (T.takes_memory teller.old) (R.reads r.old) (R.reads r.new) result }
     ensures writers { BlamesWriter W.failures W.empty_writes w.old w.new E.failures E.empty_writes e.old e.new result }
 {
     let mut finder = Finder::new(alloc);

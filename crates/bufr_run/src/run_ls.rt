@@ -44,6 +44,7 @@ fn list_event<W: Sink, E: Sink>(event: Event<'_>, w: &mut W, e: &mut E) -> Resul
 }
 
 /// Tells events by their listing.
+#[derive(Drop)]
 struct Listing;
 
 impl Teller for Listing {
@@ -55,7 +56,7 @@ impl Teller for Listing {
     ghost takes_memory = { λ _. false };
 
     fn tell<W: Sink, E: Sink>(
-        &self,
+        &mut self,
         event: Event<'_>,
         w: &mut W,
         e: &mut E,
@@ -102,5 +103,5 @@ pub fn run_ls<R: Source, W: Sink, E: Sink>(
     ensures reads { MakesReads (R.reads r.old) (R.reads r.new) result }
     ensures writers { BlamesWriter W.failures W.empty_writes w.old w.new E.failures E.empty_writes e.old e.new result }
 {
-    run_events(alloc, &Listing, r, w, e)
+    run_events(alloc, &mut Listing, r, w, e)
 }

@@ -18,5 +18,6 @@ pub mod SoundLemmas
 pub mod TemplateExamples
 pub mod TreeLemmas
 pub mod WholeLemmas
+pub mod AnswerLemmas
 mod Examples
 pub mod SequencesLemmas

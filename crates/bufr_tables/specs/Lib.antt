@@ -56,6 +56,8 @@ pub mod Passes
 pub mod Sound
 -- what Tables B and D tell the expansion
 pub mod TemplateTables
+-- templates that are asked for again: by which tables, and the list that is kept
+pub mod Templates
 -- a template as a tree: its places, its size, its depth
 pub mod Tree
 -- a tree as a list of numbers, for the checker alone

@@ -4,10 +4,11 @@
 //! sequences. A list of descriptors is expanded to a [`Template`], the tree that says what a
 //! message's data hold.
 //!
-//! `bufr_cli` reads the two tables once. `bufr_run` builds a template for each message that it
-//! dumps, as `bufr_text` does for each document that it encodes. `bufr_walk` goes through the template's
-//! cells, and asks Table B for each element. The tests `elements`, `sequences` and
-//! `cells_of_worked_lists` show it.
+//! `bufr_cli` reads the two tables once. `bufr_run` asks [`Templates`] for the template of each
+//! message that it dumps, which keeps the last one, for messages that repeat their descriptors;
+//! `bufr_text` builds one for each document that it encodes. `bufr_walk` goes through the template's
+//! cells, and asks Table B for each element. The tests `elements`, `sequences`,
+//! `cells_of_worked_lists` and `lists_that_are_repeated` show it.
 #![tactic(auto)]
 
 mod cycle;
@@ -22,6 +23,7 @@ mod sequences;
 mod table_b;
 mod table_d;
 mod template;
+mod templates;
 
 pub use fault::TableFault;
 pub use fxy::Fxy;
@@ -29,6 +31,7 @@ pub use kind::Kind;
 pub use sequences::TableD;
 pub use table_b::{Entry, TableB};
 pub use template::{Cell, Template, TemplateFault};
+pub use templates::Templates;
 
 #[cfg(test)]
 mod test_tables;

@@ -1,7 +1,7 @@
 //! What is shown by running: the worked lists, their cells, each fault, the limits.
 use super::*;
-use crate::TableFault;
 use crate::test_tables::{NESTED, NO_FACTORS, TABLE_B, TABLE_D, read_b, read_d};
+use crate::{TableFault, Templates};
 use std::alloc::AllocError;
 use std::test::Fail;
 
@@ -174,18 +174,34 @@ fn built(
 }
 
 // The places and the depth, or the fault's number and its text.
+fn told_of(alloc: Global, answer: &Result<Template, TemplateFault>) -> Result<String, AllocError> {
+    match answer {
+        Ok(template) => {
+            format!(in alloc; "places {} depth {}", template.places(), template.depth())
+        }
+        Err(fault) => format!(in alloc; "{} {fault}", fault.number()),
+    }
+}
+
+// That, of a template that is built.
 fn told(
     alloc: Global,
     descriptors: &[Fxy],
     table_b: &TableB,
     table_d: &TableD,
 ) -> Result<String, AllocError> {
-    match built(alloc, descriptors, table_b, table_d) {
-        Ok(template) => {
-            format!(in alloc; "places {} depth {}", template.places(), template.depth())
-        }
-        Err(fault) => format!(in alloc; "{} {fault}", fault.number()),
-    }
+    let answer = built(alloc, descriptors, table_b, table_d);
+    told_of(alloc, &answer)
+}
+
+// That, of the template that is kept or built.
+fn told_again(
+    alloc: Global,
+    templates: &mut Templates<'_>,
+    descriptors: &[Fxy],
+) -> Result<String, AllocError> {
+    templates.turn_to(descriptors)?;
+    told_of(alloc, templates.answer())
 }
 
 #[test]
@@ -195,6 +211,32 @@ fn worked_lists(rt: HostRuntime) -> Result<(), Fail> {
         let descriptors = descriptors_of(rt.alloc(), text)?;
         let told = told(rt.alloc(), &descriptors, &table_b, &table_d)?;
         assert_eq!(rt; told.as_str(), *want, "{name}");
+    }
+    Ok(())
+}
+
+// Lists that are asked for one after another, and what comes of them: each template and each fault
+// twice, and one again behind others.
+const IN_TURN: &[(&str, &str)] = &[
+    ("001001", "places 2 depth 0"),
+    ("001001", "places 2 depth 0"),
+    ("101000 031001 001001", "places 5 depth 1"),
+    ("063255", "20 unknown element 063255"),
+    ("063255", "20 unknown element 063255"),
+    ("063254", "20 unknown element 063254"),
+    ("", "25 empty group 000000"),
+    ("001001", "places 2 depth 0"),
+    ("001001 012101", "places 3 depth 0"),
+];
+
+#[test]
+fn lists_that_are_repeated(rt: HostRuntime) -> Result<(), Fail> {
+    let (table_b, table_d) = tables(rt.alloc())?;
+    let mut templates = Templates::new(rt.alloc(), &table_b, &table_d);
+    for (text, want) in IN_TURN {
+        let descriptors = descriptors_of(rt.alloc(), text)?;
+        let told = told_again(rt.alloc(), &mut templates, &descriptors)?;
+        assert_eq!(rt; told.as_str(), *want, "{text}");
     }
     Ok(())
 }

@@ -9,6 +9,8 @@ use Rattle.bufr_run.proofs.run_events.run_events.Goals as goal
 pub loop-finder-init : goal.loop-finder-init
 loop-finder-init g c = record {
   ran = ran-fresh (g.T.Teller.is_piece c.args.teller.now) _ _ _ _ c.new-finder.result _ c.new-finder.ensures refl refl;
+  same = λ piece gives. gives;
+  memory = refl;
   reader = refl;
   output_flushes = refl;
   errors_flushes = refl;
@@ -29,7 +31,9 @@ loop-finder-preserved g c =
     let some = is-event c.loop-finder.finder c.next.follows.lender-at-none c.in_ok-event.event (rw was at next.ends) c.in_default.not-Done in
     let counts = rw c.in_ok-verdict.was at c.tell.ensures.counts in record {
       ran = turn (g.T.Teller.is_piece c.args.teller.now) _ _ _ _ _ _ _ _ _ _ _ _ _ _ before.ran next _ _ c.in_ok-verdict.verdict _ c.in_ok-event.event was some
-          (rw c.in_ok-verdict.was at c.tell.ensures.tells) c.count.ensures.value c.count.ensures.one;
+          (λ piece gives. (rw c.in_ok-verdict.was at c.tell.ensures.tells) piece (before.same piece gives)) c.count.ensures.value c.count.ensures.one;
+      same = λ piece gives. c.tell.ensures.same piece (before.same piece gives);
+      memory = c.tell.ensures.memory ∙ before.memory;
       reader = (rw was at c.next.ensures.failed) before.ran.sound ∙ before.reader;
       output_flushes = c.tell.ensures.output_flushes ∙ before.output_flushes;
       errors_flushes = c.tell.ensures.errors_flushes ∙ before.errors_flushes;
@@ -44,13 +48,13 @@ returns-in_err-verdict-clause-run g c =
     let some = is-event c.loop-finder.finder c.next.follows.lender-at-none c.in_ok-event.event (rw c.in_ok-event.was at next.ends) c.in_default.not-Done in
     stop-tell (g.T.Teller.is_piece c.args.teller.now) _ _ _ _ _ _ _ _ _ _ _ _ _ _ c.loop-finder.invariant.ran next _
     (c.tell.ensures.output_flushes ∙ c.loop-finder.invariant.output_flushes, c.tell.ensures.errors_flushes ∙ c.loop-finder.invariant.errors_flushes) _ _ c.in_ok-event.event _ c.tell.result _ c.from_residual-in_err-verdict.result
-    c.in_ok-event.was some c.tell.ensures.tells c.tell.ensures.stops c.in_err-verdict.was (p.1 ∙ ap Err p.2)
+    c.in_ok-event.was some (λ piece gives. c.tell.ensures.tells piece (c.loop-finder.invariant.same piece gives)) (rw c.loop-finder.invariant.memory at c.tell.ensures.stops) c.in_err-verdict.was (p.1 ∙ ap Err p.2)
 
 pub returns-in_err-verdict-clause-reader : goal.returns-in_err-verdict-clause-reader
 returns-in_err-verdict-clause-reader g c =
     let p = err_from_is_err_and c.from_residual-in_err-verdict.result c.from_residual-in_err-verdict.ensures.1 in
     let before = c.loop-finder.invariant in
-    reader-tell _ _ c.from_residual-in_err-verdict.result _ _ (rw c.in_err-verdict.was at c.tell.ensures.stops) (p.1 ∙ ap Err p.2)
+    reader-tell _ _ c.from_residual-in_err-verdict.result _ _ (rw (c.loop-finder.invariant.memory, c.in_err-verdict.was) at c.tell.ensures.stops) (p.1 ∙ ap Err p.2)
     ((rw c.in_ok-event.was at c.next.ensures.failed) before.ran.sound ∙ before.reader)
 
 pub returns-in_err-verdict-clause-reads : goal.returns-in_err-verdict-clause-reads
@@ -58,7 +62,7 @@ returns-in_err-verdict-clause-reads g c =
     let p = err_from_is_err_and c.from_residual-in_err-verdict.result c.from_residual-in_err-verdict.ensures.1 in
     let next = c.next.follows.holds-at-none in
     run-reads-tell _ _ _ c.next.follows.lender-at-none _ c.from_residual-in_err-verdict.result (CountsReads-then _ _ _ _ _ c.loop-finder.invariant.ran.counts next.counts)
-    (rw c.in_err-verdict.was at c.tell.ensures.stops) (p.1 ∙ ap Err p.2)
+    (rw (c.loop-finder.invariant.memory, c.in_err-verdict.was) at c.tell.ensures.stops) (p.1 ∙ ap Err p.2)
 
 pub returns-in_err-verdict-clause-writers : goal.returns-in_err-verdict-clause-writers
 returns-in_err-verdict-clause-writers g c =

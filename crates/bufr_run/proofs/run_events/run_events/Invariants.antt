@@ -1,5 +1,8 @@
 use Rattle.std.proofs.Common.{◌≡◌, ◌-◌, ◌^◌}
+use Rattle.bufr_frame.specs.Scan.{Happening}
 use Rattle.bufr_text.specs.Writing.{Stays}
+use Rattle.bufr_run.specs.Pieces.{Piece}
+use Rattle.bufr_run.specs.Running.{GivesPieces}
 use Rattle.bufr_run.proofs.RunLemmas.{Ran}
 use Rattle.bufr_run.proofs.run_events.run_events.Given as goal
 
@@ -8,6 +11,8 @@ abbrev pub invariant-loop-finder : goal.invariant-loop-finder
 invariant-loop-finder g l = record {
   ran : Ran (g.T.Teller.is_piece l.fn.teller) (g.R.Source.left l.fn.r) (g.R.Source.left l.r) (g.R.Source.reads l.fn.r) (g.R.Source.reads l.r)
       (g.W.Sink.taken l.fn.w) (g.W.Sink.taken l.w) (g.E.Sink.taken l.fn.e) (g.E.Sink.taken l.e) l.finder l.tally;
+  same : (piece : Happening → Piece) → GivesPieces (g.T.Teller.is_piece l.fn.teller) piece → GivesPieces (g.T.Teller.is_piece l.teller) piece;
+  memory : g.T.Teller.takes_memory l.teller ≡ g.T.Teller.takes_memory l.fn.teller;
   reader : g.R.Source.failures l.r ≡ g.R.Source.failures l.fn.r;
   output_flushes : g.W.Sink.flushes l.w ≡ g.W.Sink.flushes l.fn.w;
   errors_flushes : g.E.Sink.flushes l.e ≡ g.E.Sink.flushes l.fn.e;
