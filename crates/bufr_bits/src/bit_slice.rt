@@ -116,7 +116,9 @@ impl<'a> BitSlice<'a> {
     /// The `count` octets that begin with bit `at`, borrowed; `None` exactly where `at` is within
     /// an octet or they go past the end.
     pub fn octets(&self, at: u64, count: usize) -> Option<&'a [u8]>
-        ensures value { SomeIff (option_map (λ s. s.now) result) ((at % 8 ≡ 0) × (at + 8 * count ≤ 8 * length (octets_of self.now))) (slice_range (octets_of self.now) (at / 8) (at / 8 + count)) }
+        ensures value { SomeIff (option_map (λ s. s.now) result)
+            ((at % 8 ≡ 0) × (at + 8 * count ≤ 8 * length (octets_of self.now)))
+            (slice_range (octets_of self.now) (at / 8) (at / 8 + count)) }
         ensures octets { IfSome result (λ s. (k : ℕ) → slice_index s.now k < 2 ^ 8) }
     {
         let len = self.len_bits();

@@ -195,6 +195,8 @@ pub fn pushed_reads_back(value: u64, width: u32)
 /// Law: where octets have the bits of other octets, with any bits before and behind, each of these
 /// is the number that [`BitSlice::octet`](crate::BitSlice::octet) answers at its place.
 pub fn pushed_octets_read_back(octets: &[u8])
-    ensures bits { (before behind : List Bool) (among : List ℕ) → bits_of among ≡ before ++ bits_of octets.now ++ behind → bits_at among (length before) (8 * length octets.now) ≡ bits_of octets.now }
-    ensures octets { (before behind : List Bool) (among : List ℕ) → bits_of among ≡ before ++ bits_of octets.now ++ behind → (k : ℕ) → k < length octets.now → number_of (bits_at among (length before + 8 * k) 8) ≡ slice_index octets.now k }
+    ensures bits { (before behind : List Bool) (among : List ℕ) → bits_of among ≡ before ++ bits_of octets.now ++ behind
+        → bits_at among (length before) (8 * length octets.now) ≡ bits_of octets.now }
+    ensures octets { (before behind : List Bool) (among : List ℕ) → bits_of among ≡ before ++ bits_of octets.now ++ behind
+        → (k : ℕ) → k < length octets.now → number_of (bits_at among (length before + 8 * k) 8) ≡ slice_index octets.now k }
 {}

@@ -46,7 +46,8 @@ pub fn packed_data_round_trip()
 /// read (WMO-No. 306, Volume I.2, FM 94: section 4, compression; that the `k` is the least is a
 /// choice of this project).
 pub fn items_are_packed_with_the_least_k()
-    ensures { (n : ℕ) (spec : Asked) (contents : List Content) (bits behind : List Bool) → 1 ≤ n → IsSpec spec → packed_field n spec bits ≡ Ok (found contents behind) → HasLeastK n spec contents }
+    ensures { (n : ℕ) (spec : Asked) (contents : List Content) (bits behind : List Bool) → 1 ≤ n → IsSpec spec
+        → packed_field n spec bits ≡ Ok (found contents behind) → HasLeastK n spec contents }
 {}
 
 /// Contents that fit their field, and that are packed, are packed with the least `k` of all from

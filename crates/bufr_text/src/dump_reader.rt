@@ -58,7 +58,9 @@ impl Model for DumpReader {
       reads = f.reads;
     } };
 
-    ghost invariant = { λ f. (f.start ≤ f.filled) × (f.filled ≤ vec_len f.buffer) × (vec_len f.buffer ≤ 8192) × (f.reads ≤ most_reads) × (f.ended ≡ true → ends_by_feed (slice_range f.buffer.items f.start f.filled) ≡ true) × (f.fault ≡ None → ProgressSo f.progress (f.filled - f.start) f.reads) × (0 < f.reads → vec_len f.buffer ≡ 8192) };
+    ghost invariant = { λ f. (f.start ≤ f.filled) × (f.filled ≤ vec_len f.buffer) × (vec_len f.buffer ≤ 8192)
+        × (f.reads ≤ most_reads) × (f.ended ≡ true → ends_by_feed (slice_range f.buffer.items f.start f.filled) ≡ true)
+        × (f.fault ≡ None → ProgressSo f.progress (f.filled - f.start) f.reads) × (0 < f.reads → vec_len f.buffer ≡ 8192) };
 }
 
 impl LineRefusal {

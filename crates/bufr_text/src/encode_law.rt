@@ -109,7 +109,8 @@ pub fn messages_in_each_form_are_accepted()
 pub fn forms_change_the_flag_of_a_dump_text_alone()
     ensures { (form : Form) (table : List Row) (s : Sections) (template : Tree) (values : Values) (octets : List ℕ)
         → (again : HasReadingIn form table s template values octets)
-        → dump_text_of again.sections (items_in table template again.sections again.found) ≡ dump_text_of (record s { compressed = compressed_by form s.compressed }) (items_in table template s values) }
+        → dump_text_of again.sections (items_in table template again.sections again.found)
+        ≡ dump_text_of (record s { compressed = compressed_by form s.compressed }) (items_in table template s values) }
 {}
 
 /// A canonical message that was encoded in another form comes back octet for octet: the document of

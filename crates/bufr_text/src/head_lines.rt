@@ -71,7 +71,9 @@ fn lay_counts(message: &Message<'_>, line: &mut [u8], end: usize) -> usize
     requires within { end ≤ length line.old }
     ensures most { end ≤ result + 62 }
     ensures start { result ≤ end }
-    ensures laid { drop result line.new ≡ joined_onto (counts_texts (flag message.now.observed) (flag message.now.compressed) (flag (is_some message.now.section2)) message.now.subsets) (drop end line.old) }
+    ensures laid { drop result line.new ≡ joined_onto
+        (counts_texts (flag message.now.observed) (flag message.now.compressed) (flag (is_some message.now.section2)) message.now.subsets)
+        (drop end line.old) }
 {
     let end = lay_text(b"\n", line, end);
     let end = lay_named(KEYS[19].0, message.subsets(), line, end);

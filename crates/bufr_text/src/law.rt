@@ -13,7 +13,9 @@ ghost use Rattle.bufr_text.specs.declared.fault.ReadFault.{ReadFault};
 
 /// The dump text of a message spells its document, and the reading goes on behind it.
 pub fn dump_text_spells_its_document()
-    ensures { (s : Sections) (subsets : List (List Item)) (at : ℕ) (t : List ℕ) → IsDumpable s subsets → spelled at Between (lines_of (dump_text_of s subsets ++ t)) ≡ Spelled (document_of at s subsets) ∷ spelled (at + length (dump_lines s subsets)) Between (lines_of t) }
+    ensures { (s : Sections) (subsets : List (List Item)) (at : ℕ) (t : List ℕ) → IsDumpable s subsets
+        → spelled at Between (lines_of (dump_text_of s subsets ++ t))
+        ≡ Spelled (document_of at s subsets) ∷ spelled (at + length (dump_lines s subsets)) Between (lines_of t) }
 {}
 
 /// The dump text of a message spells one document, and nothing else.

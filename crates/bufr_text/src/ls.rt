@@ -16,7 +16,9 @@ fn lay_counts(message: &Message<'_>, line: &mut [u8], end: usize) -> usize
     requires within { end ≤ length line.old }
     ensures most { end ≤ result + 83 }
     ensures start { result ≤ end }
-    ensures laid { drop result line.new ≡ joined_onto (counts_texts message.now.subsets message.now.observed message.now.compressed (is_some message.now.section2) (length message.now.descriptors)) (drop end line.old) }
+    ensures laid { drop result line.new ≡ joined_onto
+        (counts_texts message.now.subsets message.now.observed message.now.compressed (is_some message.now.section2) (length message.now.descriptors))
+        (drop end line.old) }
 {
     let end = lay_text(b"\n", line, end);
     let end = lay_decimal(message.descriptors().len() as u64, line, end);

@@ -201,7 +201,8 @@ fn quantity(
 #[inline(always)]
 fn figure(reference: i64, fxy: Fxy, entry: &Entry<'_>) -> Result<Spec, Refusal>
     requires row { IsRow (row_with fxy entry.now) }
-    ensures { (operands : Operands) (known : List Redefined) → reference ≡ current_reference known fxy entry.now.reference → result ≡ fitting (figure (set_by operands known) (row_with fxy entry.now)) }
+    ensures { (operands : Operands) (known : List Redefined) → reference ≡ current_reference known fxy entry.now.reference
+        → result ≡ fitting (figure (set_by operands known) (row_with fxy entry.now)) }
 {
     Spec::number(
         fxy,

@@ -135,11 +135,15 @@ impl<'i, 't, 'v, 'b, V: Visitor> Fields for Showing<'i, 't, 'v, 'b, V> {
 
     ghost used = { λ s. s.input.now.at };
 
-    ghost takes = { λ s spec r t. ShowingTakes V.sees (stage s.input.now s.visitor.now s.table.now s.input.ghost_name s.visitor.ghost_name) spec r (stage t.input.now t.visitor.now t.table.now t.input.ghost_name t.visitor.ghost_name) };
+    ghost takes = { λ s spec r t. ShowingTakes V.sees
+        (stage s.input.now s.visitor.now s.table.now s.input.ghost_name s.visitor.ghost_name) spec r
+        (stage t.input.now t.visitor.now t.table.now t.input.ghost_name t.visitor.ghost_name) };
 
     ghost advances = { λ s spec told next h. Prim.omega (arith, h.is_taken.some, ap (λ c. c.at) h.is_taken.next) };
 
-    ghost refuses = { λ s spec e next h. refusal_keeps V.sees (stage s.input.now s.visitor.now s.table.now s.input.ghost_name s.visitor.ghost_name) spec e (stage next.input.now next.visitor.now next.table.now next.input.ghost_name next.visitor.ghost_name) h };
+    ghost refuses = { λ s spec e next h. refusal_keeps V.sees
+        (stage s.input.now s.visitor.now s.table.now s.input.ghost_name s.visitor.ghost_name) spec e
+        (stage next.input.now next.visitor.now next.table.now next.input.ghost_name next.visitor.ghost_name) h };
 
     fn take(&mut self, spec: &Spec) -> Result<Taken, ShowStop<V::Fault>> {
         let told = match self.input.peek(spec) {
