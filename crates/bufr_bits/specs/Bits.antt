@@ -7,7 +7,8 @@ use Rattle.std.specs.List.{list_all}
 -- the eight bits of an octet
 abbrev pub bits_of_octet : ℕ → List Bool
 bits_of_octet n =
-    (n / 128 % 2 == 1) ∷ (n / 64 % 2 == 1) ∷ (n / 32 % 2 == 1) ∷ (n / 16 % 2 == 1) ∷ (n / 8 % 2 == 1) ∷ (n / 4 % 2 == 1) ∷ (n / 2 % 2 == 1) ∷ (n % 2 == 1) ∷ []
+    (n / 128 % 2 == 1) ∷ (n / 64 % 2 == 1) ∷ (n / 32 % 2 == 1) ∷ (n / 16 % 2 == 1)
+    ∷ (n / 8 % 2 == 1) ∷ (n / 4 % 2 == 1) ∷ (n / 2 % 2 == 1) ∷ (n % 2 == 1) ∷ []
 
 -- the bits of octets, one octet after another
 unfoldable pub bits_of : List ℕ → List Bool

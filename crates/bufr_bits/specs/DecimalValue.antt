@@ -30,7 +30,9 @@ is_digits text = nat_lt 0 (length text) && all_digits text
 
 -- digits, and where there is a point digits behind it
 abbrev pub is_unsigned : List ℕ → Bool
-is_unsigned text = is_digits (whole_part text) && (if is_some (position (λ c. c == 46) text) then is_digits (fraction_part text) else true)
+is_unsigned text =
+    is_digits (whole_part text)
+    && (if is_some (position (λ c. c == 46) text) then is_digits (fraction_part text) else true)
 
 -- how often ten multiplies a number at a scale
 abbrev pub power_up : ℤ → ℕ
@@ -48,7 +50,8 @@ whole_quotient n d = if n % d == 0 then Ok (n / d) else Err Inexact
 
 -- the number that digits with a point before the last so many write, times ten to the scale
 abbrev pub scaled : (digits : List ℕ) (places : ℕ) (scale : ℤ) → Result ℕ NumberFault
-scaled digits places scale = whole_quotient (digits_value 10 digits * 10 ^ power_up scale) (10 ^ (places + power_down scale))
+scaled digits places scale =
+    whole_quotient (digits_value 10 digits * 10 ^ power_up scale) (10 ^ (places + power_down scale))
 
 -- a number with its sign, within an i128
 abbrev pub signed : (negative : Bool) → ℕ → Result ℤ NumberFault
@@ -65,7 +68,8 @@ unfoldable pub decimal_value_of : (text : List ℕ) (scale : ℤ) → Result ℤ
 decimal_value_of text scale =
     let body = unsigned_part text in
     let digits = whole_part body ++ fraction_part body in
-    if is_unsigned body then and_then (scaled digits (length (fraction_part body)) scale) (signed (starts_with_minus text)) else Err Syntax
+    if is_unsigned body then and_then (scaled digits (length (fraction_part body)) scale)
+    (signed (starts_with_minus text)) else Err Syntax
 
 -- the parts of an unsigned decimal text
 pub record IsParts (text whole fraction : List ℕ) : Type 0 where

@@ -44,7 +44,8 @@ impl<'a> BitSlice<'a> {
     /// `None` exactly where they go past the end. No bits write 0.
     pub fn get(&self, at: u64, width: u32) -> Option<u64>
         requires { width ≤ 63 }
-        ensures value { SomeIff result (at + width ≤ 8 * length (octets_of self.now)) (number_of (bits_at (octets_of self.now) at width)) }
+        ensures value { SomeIff result (at + width ≤ 8 * length (octets_of self.now))
+            (number_of (bits_at (octets_of self.now) at width)) }
         ensures below { IfSome result (λ value. value < 2 ^ width) }
     {
         let len = self.len_bits();
@@ -63,7 +64,8 @@ impl<'a> BitSlice<'a> {
     /// The number that eight octets write, or `None` where fewer are left.
     fn window_at(&self, first: usize) -> Option<u64>
         requires { first ≤ length (octets_of self.now) }
-        ensures { MatchOption result (length (octets_of self.now) < first + 8) (λ window. IsWindow window first (octets_of self.now)) }
+        ensures { MatchOption result (length (octets_of self.now) < first + 8)
+            (λ window. IsWindow window first (octets_of self.now)) }
     {
         first_window(&self.octets[first..])
     }
@@ -107,7 +109,8 @@ impl<'a> BitSlice<'a> {
 
     /// The eight bits from bit `at` on as an octet; `None` exactly where they go past the end.
     pub fn octet(&self, at: u64) -> Option<u8>
-        ensures { SomeIff result (at + 8 ≤ 8 * length (octets_of self.now)) (number_of (bits_at (octets_of self.now) at 8)) }
+        ensures { SomeIff result (at + 8 ≤ 8 * length (octets_of self.now))
+            (number_of (bits_at (octets_of self.now) at 8)) }
     {
         let octet = self.get(at, 8)?;
         Some(octet as u8)
@@ -134,7 +137,8 @@ impl<'a> BitSlice<'a> {
     /// Whether `width` bits, of any number, are all ones from bit `at` on; `None` exactly where
     /// they go past the end. Where there are no bits they are.
     pub fn all_ones(&self, at: u64, width: u32) -> Option<bool>
-        ensures { SomeIff result (at + width ≤ 8 * length (octets_of self.now)) (all_set (bits_at (octets_of self.now) at width)) }
+        ensures { SomeIff result (at + width ≤ 8 * length (octets_of self.now))
+            (all_set (bits_at (octets_of self.now) at width)) }
     {
         let len = self.len_bits();
         if at > len || u64::from(width) > len - at {

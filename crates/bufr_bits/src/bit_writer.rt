@@ -156,7 +156,8 @@ fn tail_of(octets: &[u8], last: u8, count: u32, whole: usize, kept: u32) -> u8
     requires low { last < 2 ^ count }
     requires kept { kept < 8 }
     requires within { 8 * whole + kept < 8 * length octets.now + count }
-    ensures bits { take (8 * whole + kept) (bits_of octets.now ++ bits_in last count) ≡ bits_of (take whole octets.now) ++ bits_in result kept }
+    ensures bits { take (8 * whole + kept) (bits_of octets.now ++ bits_in last count)
+        ≡ bits_of (take whole octets.now) ++ bits_in result kept }
     ensures low { result < 2 ^ kept }
 {
     if whole < octets.len() {
@@ -171,7 +172,8 @@ fn put_behind(out: &mut Vec<u8>, last: u8, count: u32, octets: &[u8]) -> u8
     requires few { count < 8 }
     requires low { last < 2 ^ count }
     requires room { vec_len out.old + length octets.now ≤ vec_capacity out.old }
-    ensures bits { bits_of out.new.items ++ bits_in result count ≡ bits_of out.old.items ++ bits_in last count ++ bits_of octets.now }
+    ensures bits { bits_of out.new.items ++ bits_in result count
+        ≡ bits_of out.old.items ++ bits_in last count ++ bits_of octets.now }
     ensures low { result < 2 ^ count }
     ensures len { vec_len out.new ≡ vec_len out.old + length octets.now }
     ensures capacity { vec_capacity out.old ≤ vec_capacity out.new }
@@ -189,14 +191,18 @@ fn put_behind(out: &mut Vec<u8>, last: u8, count: u32, octets: &[u8]) -> u8
 /// that [`BitSlice::get`](crate::BitSlice::get) answers for them is the value.
 pub fn pushed_reads_back(value: u64, width: u32)
     requires { value < 2 ^ width }
-    ensures { (before behind : List Bool) (octets : List ℕ) → bits_of octets ≡ before ++ bits_in value width ++ behind → number_of (bits_at octets (length before) width) ≡ value }
+    ensures { (before behind : List Bool) (octets : List ℕ) → bits_of octets ≡ before ++ bits_in
+        value width ++ behind → number_of (bits_at octets (length before) width) ≡ value }
 {}
 
 /// Law: where octets have the bits of other octets, with any bits before and behind, each of these
 /// is the number that [`BitSlice::octet`](crate::BitSlice::octet) answers at its place.
 pub fn pushed_octets_read_back(octets: &[u8])
-    ensures bits { (before behind : List Bool) (among : List ℕ) → bits_of among ≡ before ++ bits_of octets.now ++ behind
+    ensures bits { (before behind : List Bool) (among : List ℕ)
+        → bits_of among ≡ before ++ bits_of octets.now ++ behind
         → bits_at among (length before) (8 * length octets.now) ≡ bits_of octets.now }
-    ensures octets { (before behind : List Bool) (among : List ℕ) → bits_of among ≡ before ++ bits_of octets.now ++ behind
-        → (k : ℕ) → k < length octets.now → number_of (bits_at among (length before + 8 * k) 8) ≡ slice_index octets.now k }
+    ensures octets { (before behind : List Bool) (among : List ℕ)
+        → bits_of among ≡ before ++ bits_of octets.now ++ behind
+        → (k : ℕ) → k < length octets.now
+        → number_of (bits_at among (length before + 8 * k) 8) ≡ slice_index octets.now k }
 {}

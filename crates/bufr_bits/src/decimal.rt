@@ -162,7 +162,8 @@ fn without_sign(text: &[u8]) -> (bool, &[u8])
 
 /// The digits before and behind the point, or `None` where the text is not of that form.
 fn parts_of(body: &[u8]) -> Option<(&[u8], &[u8])>
-    ensures { MatchOption result (is_unsigned body.now ≡ false) (λ parts. IsParts body.now parts.0.now parts.1.now) }
+    ensures { MatchOption result (is_unsigned body.now ≡ false)
+        (λ parts. IsParts body.now parts.0.now parts.1.now) }
 {
     match point_of(body) {
         Some(point) => {
@@ -200,7 +201,8 @@ fn scaled(whole: &[u8], fraction: &[u8], up: usize, down: usize) -> Result<u128,
     requires whole { all_digits whole.now ≡ true }
     requires fraction { all_digits fraction.now ≡ true }
     requires one { 0 < down → up ≡ 0 }
-    ensures { result ≡ capped_ok (whole_quotient (digits_value 10 (whole.now ++ fraction.now) * 10 ^ up) (10 ^ (length fraction.now + down))) }
+    ensures { result ≡ capped_ok (whole_quotient (digits_value 10 (whole.now ++ fraction.now)
+        * 10 ^ up) (10 ^ (length fraction.now + down))) }
 {
     let (kept, cut) = whole.split_at(whole.len().saturating_sub(down));
     let (moved, left) = fraction.split_at(up.min(fraction.len()));

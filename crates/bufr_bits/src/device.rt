@@ -70,7 +70,8 @@ pub trait Sink {
         ensures bound { IfOk result (λ n. n ≤ length buf.now) }
         ensures octets { WriteAppends (taken self.old) (taken self.new) result buf.now }
         ensures failed { failures self.new ≡ failures_after (failures self.old) result }
-        ensures empty { empty_writes self.new ≡ empty_writes_after (empty_writes self.old) buf.now result }
+        ensures empty { empty_writes self.new
+            ≡ empty_writes_after (empty_writes self.old) buf.now result }
         ensures flushed { flushes self.new ≡ flushes self.old }
         ensures handed { handed_on self.new ≡ handed_on_after_write (handed_on self.old) result };
 

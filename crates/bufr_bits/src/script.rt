@@ -54,12 +54,15 @@ impl<'a> Source for ScriptIn<'a> {
 
     fn read(&mut self, buf: &mut [u8]) -> Result<usize, Failed>
         ensures bound { IfOk result (λ n. n ≤ length buf.new) }
-        ensures octets { ReadConsumes (Some (unread_of self.old)) (Some (unread_of self.new)) result buf.new }
+        ensures octets { ReadConsumes (Some (unread_of self.old))
+            (Some (unread_of self.new)) result buf.new }
         ensures failed { failures_of self.new ≡ failures_after (failures_of self.old) result }
         ensures made { reads_of self.new ≡ counted (reads_of self.old) 1 }
         // The script is kept to: the answer, the place of failure and the step.
-        ensures answer { result ≡ read_answer (step_of self.old) (length buf.old) (length (unread_of self.old)) (fails_after self.old) }
-        ensures failing { fails_after self.new ≡ failure_after (fails_after self.old) (moved result) }
+        ensures answer { result ≡ read_answer (step_of self.old) (length buf.old)
+            (length (unread_of self.old)) (fails_after self.old) }
+        ensures failing { fails_after self.new
+            ≡ failure_after (fails_after self.old) (moved result) }
         ensures step { step_of self.new ≡ step_of self.old }
     {
         self.reads = self.reads.saturating_add(1);
@@ -167,13 +170,18 @@ impl Sink for ScriptOut {
 
     fn write(&mut self, buf: &[u8]) -> Result<usize, Failed>
         ensures bound { IfOk result (λ n. n ≤ length buf.now) }
-        ensures octets { WriteAppends (Some (taken_of self.old)) (Some (taken_of self.new)) result buf.now }
-        ensures failed { out_failures_of self.new ≡ failures_after (out_failures_of self.old) result }
-        ensures empty { out_empty_writes_of self.new ≡ empty_writes_after (out_empty_writes_of self.old) buf.now result }
+        ensures octets { WriteAppends (Some (taken_of self.old))
+            (Some (taken_of self.new)) result buf.now }
+        ensures failed { out_failures_of self.new
+            ≡ failures_after (out_failures_of self.old) result }
+        ensures empty { out_empty_writes_of self.new
+            ≡ empty_writes_after (out_empty_writes_of self.old) buf.now result }
         ensures flushed { out_flushes_of self.new ≡ out_flushes_of self.old }
-        ensures handed { has_handed_on self.new ≡ handed_on_after_write (has_handed_on self.old) result }
+        ensures handed { has_handed_on self.new
+            ≡ handed_on_after_write (has_handed_on self.old) result }
         // The script is kept to: the answer, the room left, the step and the end.
-        ensures answer { result ≡ write_answer (end_of self.old) (out_step_of self.old) (left_of self.old) (length buf.now) }
+        ensures answer { result ≡ write_answer (end_of self.old) (out_step_of self.old)
+            (left_of self.old) (length buf.now) }
         ensures left { left_of self.new ≡ left_of self.old - moved result }
         ensures step { out_step_of self.new ≡ out_step_of self.old }
         ensures end { end_of self.new ≡ end_of self.old }
@@ -196,10 +204,12 @@ impl Sink for ScriptOut {
 
     fn flush(&mut self) -> Result<(), Failed>
         ensures octets { Keeps (Some (taken_of self.old)) (Some (taken_of self.new)) }
-        ensures failed { out_failures_of self.new ≡ failures_after (out_failures_of self.old) result }
+        ensures failed { out_failures_of self.new
+            ≡ failures_after (out_failures_of self.old) result }
         ensures empty { out_empty_writes_of self.new ≡ out_empty_writes_of self.old }
         ensures flushed { out_flushes_of self.new ≡ counted (out_flushes_of self.old) 1 }
-        ensures handed { has_handed_on self.new ≡ handed_on_after_flush (has_handed_on self.old) result }
+        ensures handed { has_handed_on self.new
+            ≡ handed_on_after_flush (has_handed_on self.old) result }
         ensures answer { result ≡ flush_answer (end_of self.old) }
         ensures left { left_of self.new ≡ left_of self.old }
         ensures step { out_step_of self.new ≡ out_step_of self.old }

@@ -18,28 +18,39 @@ use Rattle.bufr_cli.specs.declared.job.Job.{Job}
 -- outcome told by a last line (or a front of it) and the status; or help was asked for, written and
 -- handed on, or a front of it was written; or the words are mistaken; or memory ran out before
 -- there was a job.
-pub data CallSo (kinds : Kinds) (subcommand : Option (Text × List Row)) (standard : Option (List ℕ)) (named : List ℕ → Option (List ℕ))
+pub data CallSo (kinds : Kinds) (subcommand : Option (Text × List Row)) (standard : Option (List ℕ))
+    (named : List ℕ → Option (List ℕ))
     (output output' errors errors' : Option (List ℕ)) (handed : Bool) (status : ℕ) : Type 0 where
-  Does : (job : Job) → IsJobOf subcommand job → (outcome : Outcome) → (between : Option (List ℕ)) → OutcomeSo standard named job output output' errors between outcome
-      → GrowsByFront between errors' (last_line outcome) → status ≡ status_of outcome → CallSo kinds subcommand standard named output output' errors errors' handed status
-  Helps : AsksHelp kinds → (text : List ℕ) → Appends output output' text → handed ≡ true → Keeps errors errors' → status ≡ 0
+  Does : (job : Job) → IsJobOf subcommand job → (outcome : Outcome) → (between : Option (List ℕ))
+      → OutcomeSo standard named job output output' errors between outcome
+      → GrowsByFront between errors' (last_line outcome) → status ≡ status_of outcome
       → CallSo kinds subcommand standard named output output' errors errors' handed status
-  HelpsInPart : AsksHelp kinds → (text : List ℕ) → GrowsByFront output output' text → (fault : RunFault) → GrowsByFront errors errors' (run_line fault) → status ≡ 2
+  Helps : AsksHelp kinds → (text : List ℕ) → Appends output output' text → handed ≡ true
+      → Keeps errors errors' → status ≡ 0
       → CallSo kinds subcommand standard named output output' errors errors' handed status
-  Refuses : IsMistaken kinds subcommand → Keeps output output' → (text : List ℕ) → GrowsByFront errors errors' text → status ≡ 2
+  HelpsInPart : AsksHelp kinds → (text : List ℕ) → GrowsByFront output output' text
+      → (fault : RunFault) → GrowsByFront errors errors' (run_line fault) → status ≡ 2
+      → CallSo kinds subcommand standard named output output' errors errors' handed status
+  Refuses : IsMistaken kinds subcommand → Keeps output output' → (text : List ℕ)
+      → GrowsByFront errors errors' text → status ≡ 2
       → CallSo kinds subcommand standard named output output' errors errors' handed status
   WantsMemory : Keeps output output' → GrowsByFront errors errors' (run_line Memory) → status ≡ 2
       → CallSo kinds subcommand standard named output output' errors errors' handed status
 
 -- the words cannot be had: memory ran out, or one of them is no text
 abbrev pub IsWordless : Outcome → Type 0
-IsWordless outcome = (outcome ≡ Run Memory) ⊎ ((text : Bor (List ℕ)) × (outcome ≡ Usage text) × (text.now ≡ codes "error: an argument is not UTF-8\n"))
+IsWordless outcome =
+    (outcome ≡ Run Memory) ⊎ ((text : Bor (List ℕ)) × (outcome ≡ Usage text)
+    × (text.now ≡ codes "error: an argument is not UTF-8\n"))
 
 -- What the process does with its words, whichever they are: what a call of the program with them
 -- comes to, of whose inputs nothing is known; or they cannot be had, and that is told by a last
 -- line (or a front of it) and the status, with no output.
-pub data WordsSo (output output' errors errors' : Option (List ℕ)) (handed : Bool) (status : ℕ) : Type 0 where
-  Calls : (words : List (List ℕ)) → CallSo (fault_of bufr_app words) (subcommand_of bufr_app words) None (λ _. None) output output' errors errors' handed status
+pub data WordsSo (output output' errors errors' : Option (List ℕ)) (handed : Bool)
+    (status : ℕ) : Type 0 where
+  Calls : (words : List (List ℕ)) → CallSo (fault_of bufr_app words) (subcommand_of bufr_app words)
+      None (λ _. None) output output' errors errors' handed status
       → WordsSo output output' errors errors' handed status
-  NoWords : (outcome : Outcome) → IsWordless outcome → output' ≡ output → GrowsByFront errors errors' (last_line outcome) → status ≡ status_of outcome
+  NoWords : (outcome : Outcome) → IsWordless outcome → output' ≡ output
+      → GrowsByFront errors errors' (last_line outcome) → status ≡ status_of outcome
       → WordsSo output output' errors errors' handed status

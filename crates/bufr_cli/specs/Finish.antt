@@ -21,7 +21,9 @@ run_fault_text Memory = codes "out of memory"
 
 -- the line of a fault that ends a run: its number and its text
 abbrev pub run_line : RunFault → List ℕ
-run_line fault = joined (codes "bufr: " ∷ decimal (number_of_run_fault fault) ∷ codes " " ∷ run_fault_text fault ∷ codes "\n" ∷ [])
+run_line fault =
+    joined (codes "bufr: " ∷ decimal (number_of_run_fault fault) ∷ codes " "
+    ∷ run_fault_text fault ∷ codes "\n" ∷ [])
 
 -- the line of a fault of a table: which table, the fault's number and its text
 abbrev pub numbered : (table : List ℕ) (number : ℕ) → List (List ℕ) → List ℕ
@@ -29,11 +31,17 @@ numbered table number text = joined (table ∷ decimal number ∷ codes " " ∷ 
 
 -- the line of a table that cannot be read; want of memory is told as in a run
 abbrev pub table_line : (table : List ℕ) → TableFault → List ℕ
-table_line name table.Header = numbered name (number_of_table_fault table.Header) (codes "header" ∷ [])
-table_line name (table.Row n) = numbered name (number_of_table_fault (table.Row n)) (codes "row " ∷ decimal n ∷ [])
-table_line name (table.Duplicate fxy) = numbered name (number_of_table_fault (table.Duplicate fxy)) (codes "duplicate " ∷ fxy_text fxy ∷ [])
-table_line name (table.Cycle fxy) = numbered name (number_of_table_fault (table.Cycle fxy)) (codes "cycle " ∷ fxy_text fxy ∷ [])
-table_line name table.TableSize = numbered name (number_of_table_fault table.TableSize) (codes "table size" ∷ [])
+table_line name table.Header =
+    numbered name (number_of_table_fault table.Header) (codes "header" ∷ [])
+table_line name (table.Row n) =
+    numbered name (number_of_table_fault (table.Row n)) (codes "row " ∷ decimal n ∷ [])
+table_line name (table.Duplicate fxy) =
+    numbered name (number_of_table_fault (table.Duplicate fxy))
+    (codes "duplicate " ∷ fxy_text fxy ∷ [])
+table_line name (table.Cycle fxy) =
+    numbered name (number_of_table_fault (table.Cycle fxy)) (codes "cycle " ∷ fxy_text fxy ∷ [])
+table_line name table.TableSize =
+    numbered name (number_of_table_fault table.TableSize) (codes "table size" ∷ [])
 table_line name table.Csv = numbered name (number_of_table_fault table.Csv) (codes "csv" ∷ [])
 table_line name table.Memory = run_line Memory
 

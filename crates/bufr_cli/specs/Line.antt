@@ -19,11 +19,14 @@ ls_app = with_rule (new_app (codes "ls")) (new_rule (codes "FILE"))
 
 -- `-B FILE` or `-D FILE`, which must be there
 abbrev pub table_rule : (id : Text) → (letter : ℕ) → Rule
-table_rule id letter = record (new_rule id) { short = Some letter; value_names = 1; required = true }
+table_rule id letter =
+    record (new_rule id) { short = Some letter; value_names = 1; required = true }
 
 -- `NAME -B FILE -D FILE [FILE]`
 abbrev pub tables_app : (name : Text) → App
-tables_app name = with_rule (with_rule (with_rule (new_app name) (table_rule (codes "B") 66)) (table_rule (codes "D") 68)) (new_rule (codes "FILE"))
+tables_app name =
+    with_rule (with_rule (with_rule (new_app name) (table_rule (codes "B") 66))
+    (table_rule (codes "D") 68)) (new_rule (codes "FILE"))
 
 -- `--form WORD`
 abbrev pub form_rule : Rule
@@ -35,11 +38,17 @@ encode_app = with_rule (tables_app (codes "encode")) form_rule
 
 -- `bufr`, which has a version and wants a subcommand
 abbrev pub top_app : App
-top_app = record (new_app (codes "bufr")) { top = record ((new_app (codes "bufr")).top) { has_version = true; subcommand_required = true } }
+top_app =
+    record (new_app (codes "bufr")) {
+      top = record ((new_app (codes "bufr")).top)
+          { has_version = true; subcommand_required = true };
+    }
 
 -- `bufr COMMAND`
 abbrev pub bufr_app : App
-bufr_app = with_subcommand (with_subcommand (with_subcommand top_app ls_app.top) (tables_app (codes "dump")).top) encode_app.top
+bufr_app =
+    with_subcommand (with_subcommand (with_subcommand top_app ls_app.top)
+    (tables_app (codes "dump")).top) encode_app.top
 
 -- the name of a subcommand
 abbrev pub name_of : Subcommand → Text
@@ -49,7 +58,9 @@ name_of (Encode tables form) = codes "encode"
 
 -- these are the values of -B and -D
 abbrev pub AreNamed : List Row → TableNames → Type 0
-AreNamed rows tables = (Some tables.table_b.now ≡ first_of (codes "B") rows) × (Some tables.table_d.now ≡ first_of (codes "D") rows)
+AreNamed rows tables =
+    (Some tables.table_b.now ≡ first_of (codes "B") rows)
+    × (Some tables.table_d.now ≡ first_of (codes "D") rows)
 
 -- the word of --form for a form; without it documents say theirs
 abbrev pub word_of : Form → Option Text
@@ -62,13 +73,15 @@ word_of Compressed = Some (codes "compressed")
 abbrev pub HasTables : List Row → Subcommand → Type 0
 HasTables rows Ls = Unit {0}
 HasTables rows (Dump tables) = AreNamed rows tables
-HasTables rows (Encode tables form) = AreNamed rows tables × (word_of form ≡ first_of (codes "form") rows)
+HasTables rows (Encode tables form) =
+    AreNamed rows tables × (word_of form ≡ first_of (codes "form") rows)
 
 -- the job has the subcommand that was met, its tables and form, and the value of FILE there
 abbrev pub IsJobOf : Option (Text × List Row) → Job → Type 0
 IsJobOf None job = ⊥
 IsJobOf (Some subcommand) job =
-    (subcommand.0 ≡ name_of job.command) × HasTables subcommand.1 job.command × (option_map (λ name. name.now) job.file ≡ first_of (codes "FILE") subcommand.1)
+    (subcommand.0 ≡ name_of job.command) × HasTables subcommand.1 job.command
+    × (option_map (λ name. name.now) job.file ≡ first_of (codes "FILE") subcommand.1)
 
 -- no tables have these values
 abbrev pub LacksTables : List Row → Type 0
@@ -94,7 +107,9 @@ AsksHelp kinds = IsAmong DisplayHelp kinds ⊎ IsAmong DisplayVersion kinds
 
 -- the line is refused, or met no job
 abbrev pub IsMistaken : Kinds → Option (Text × List Row) → Type 0
-IsMistaken kinds subcommand = ((kind : ErrorKind) × IsAmong kind kinds × (kind ≢ DisplayHelp) × (kind ≢ DisplayVersion)) ⊎ HasNoJob subcommand
+IsMistaken kinds subcommand =
+    ((kind : ErrorKind) × IsAmong kind kinds × (kind ≢ DisplayHelp) × (kind ≢ DisplayVersion))
+    ⊎ HasNoJob subcommand
 
 -- why a line whose parse may fail by these kinds, and meets this subcommand, gives no job
 abbrev pub SaysWhy : Kinds → Option (Text × List Row) → LineFault → Type 0

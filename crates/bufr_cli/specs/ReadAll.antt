@@ -7,7 +7,8 @@ use Rattle.bufr_frame.specs.declared.fault.RunFault.{RunFault}
 use Rattle.bufr_frame.specs.declared.fault.RunFault.TheVariants.{Read, Write, InputTooLong, Memory}
 
 -- the octets that were read, to the end; or a fault, never one of a write
-abbrev pub ReadsAll : (left left' : Option (List ℕ)) → Result (Vec ℕ Global) RunFault → List ℕ → Type 0
+abbrev pub ReadsAll : (left left' : Option (List ℕ))
+    → Result (Vec ℕ Global) RunFault → List ℕ → Type 0
 ReadsAll left left' (Ok octets) bs = Consumes left left' bs × IsAtEnd left' × (octets.items ≡ bs)
 ReadsAll left left' (Err Read) bs = Consumes left left' bs
 ReadsAll left left' (Err Write) bs = ⊥

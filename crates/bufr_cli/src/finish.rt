@@ -53,7 +53,8 @@ fn status(outcome: &Outcome<'_>) -> u8
 
 /// Writes that the file of this name cannot be opened.
 fn write_cannot_open<E: Sink>(name: &str, e: &mut E) -> Result<(), RunFault>
-    ensures writes { Writes (E.taken e.old) (E.taken e.new) (last_line (Outcome.CannotOpen name.entry)) result }
+    ensures writes { Writes (E.taken e.old) (E.taken e.new)
+        (last_line (Outcome.CannotOpen name.entry)) result }
     ensures counts { CountsCalls E.failures E.empty_writes e.old e.new result }
 {
     let parts = [
@@ -89,7 +90,8 @@ fn write_numbered<'a, E: Sink>(
     e: &mut E,
 ) -> Result<(), RunFault>
     requires { IsShort value }
-    ensures writes { Writes (E.taken e.old) (E.taken e.new) (numbered table.entry.now number (text.entry.now ∷ part_text value.entry ∷ [])) result }
+    ensures writes { Writes (E.taken e.old) (E.taken e.new)
+        (numbered table.entry.now number (text.entry.now ∷ part_text value.entry ∷ [])) result }
     ensures counts { CountsCalls E.failures E.empty_writes e.old e.new result }
 {
     let parts = [
@@ -105,7 +107,8 @@ fn write_numbered<'a, E: Sink>(
 
 /// Writes the line of a table that cannot be read.
 fn write_table_fault<E: Sink>(table: &[u8], fault: &TableFault, e: &mut E) -> Result<(), RunFault>
-    ensures writes { Writes (E.taken e.old) (E.taken e.new) (table_line table.now fault.now) result }
+    ensures writes { Writes (E.taken e.old) (E.taken e.new)
+        (table_line table.now fault.now) result }
     ensures counts { CountsCalls E.failures E.empty_writes e.old e.new result }
 {
     let number = fault.number();

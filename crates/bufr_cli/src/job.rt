@@ -308,7 +308,8 @@ fn form_named(word: &str) -> Option<Form>
 
 /// The form that is asked for, where it is known.
 fn form_of(found: &ArgMatches<'_>) -> Option<Form>
-    ensures named { IfSome result (λ form. word_of form ≡ first_of (codes "form") (rows_of (found_of found.now))) }
+    ensures named { IfSome result
+        (λ form. word_of form ≡ first_of (codes "form") (rows_of (found_of found.now))) }
     ensures lacks { IfNone result (LacksForm (rows_of (found_of found.now))) }
 {
     match found.get_str("form") {
@@ -362,10 +363,12 @@ fn job_of<'a>(name: &str, found: &ArgMatches<'a>) -> Option<Job<'a>>
 /// are not understood, no command is among them, a table is missing or a form unknown, and
 /// [`LineFault::Memory`].
 pub fn parse_line<'a, S: AsStr>(alloc: Global, words: &'a [S]) -> Result<Job<'a>, LineFault>
-    ensures job { IfOk result (λ job. IsJobOf (subcommand_of bufr_app (map S.text words.entry.now)) job) }
+    ensures job { IfOk result
+        (λ job. IsJobOf (subcommand_of bufr_app (map S.text words.entry.now)) job) }
     // Help only where clap's rules for the line ask for it, a usage fault only where they refuse it
     // or no job is met.
-    ensures fault { IfErr result (SaysWhy (fault_of bufr_app (map S.text words.entry.now)) (subcommand_of bufr_app (map S.text words.entry.now))) }
+    ensures fault { IfErr result (SaysWhy (fault_of bufr_app (map S.text words.entry.now))
+        (subcommand_of bufr_app (map S.text words.entry.now))) }
 {
     let command = bufr_command(alloc)?;
     let matches = match command.try_get_matches_from(words) {

@@ -91,7 +91,8 @@ fn wordless(error: &Error) -> Outcome<'static>
 
 /// Runs the words of the command line.
 fn run_words<W: Sink, E: Sink>(rt: &HostRuntime, w: &mut W, e: &mut E) -> u8
-    ensures { WordsSo (W.taken w.old) (W.taken w.new) (E.taken e.old) (E.taken e.new) (W.handed_on w.new) result }
+    ensures { WordsSo (W.taken w.old) (W.taken w.new) (E.taken e.old) (E.taken e.new)
+        (W.handed_on w.new) result }
 {
     let words: Result<Vec<String>, _> = match std::env::args(rt) {
         Ok(words) => words.collect(rt.alloc()),

@@ -62,7 +62,8 @@ pub trait Inputs {
     ///
     /// [`Unopened`] where it cannot be opened.
     fn open(&self, name: &str) -> Result<Self::File, Unopened>
-        ensures octets { IfOk result (λ file. Self.File.remaining file ≡ file_octets self.now name.now) }
+        ensures octets { IfOk result
+            (λ file. Self.File.remaining file ≡ file_octets self.now name.now) }
         ensures unknown { IfErr result (λ _. file_octets self.now name.now ≡ None) };
 }
 
@@ -78,8 +79,10 @@ pub fn run<'a, S: AsStr, I: Inputs, W: Sink, E: Sink>(
 ) -> u8
     // What the words ask for was done and told, or help (all of it handed on), or why not; the
     // status says which.
-    ensures { CallSo (fault_of bufr_app (map S.text words.entry.now)) (subcommand_of bufr_app (map S.text words.entry.now))
-        (I.standard_octets inputs.now) (I.file_octets inputs.now) (W.taken w.old) (W.taken w.new) (E.taken e.old) (E.taken e.new) (W.handed_on w.new) result }
+    ensures { CallSo (fault_of bufr_app (map S.text words.entry.now))
+        (subcommand_of bufr_app (map S.text words.entry.now))
+        (I.standard_octets inputs.now) (I.file_octets inputs.now) (W.taken w.old) (W.taken w.new)
+        (E.taken e.old) (E.taken e.new) (W.handed_on w.new) result }
 {
     match parse_line(alloc, words) {
         Ok(job) => {
@@ -115,7 +118,8 @@ fn run_job<'a, I: Inputs, W: Sink, E: Sink>(
     w: &mut W,
     e: &mut E,
 ) -> Outcome<'a>
-    ensures { OutcomeSo (I.standard_octets inputs.now) (I.file_octets inputs.now) job.entry (W.taken w.old) (W.taken w.new) (E.taken e.old) (E.taken e.new) result }
+    ensures { OutcomeSo (I.standard_octets inputs.now) (I.file_octets inputs.now) job.entry
+        (W.taken w.old) (W.taken w.new) (E.taken e.old) (E.taken e.new) result }
 {
     let Job { command, file } = job;
     match command {
@@ -134,7 +138,8 @@ fn dump_job<'a, I: Inputs, W: Sink, E: Sink>(
     w: &mut W,
     e: &mut E,
 ) -> Outcome<'a>
-    ensures { DumpOutcome (I.standard_octets inputs.now) (I.file_octets inputs.now) names.entry file.entry (W.taken w.old) (W.taken w.new) (E.taken e.old) (E.taken e.new) result }
+    ensures { DumpOutcome (I.standard_octets inputs.now) (I.file_octets inputs.now) names.entry
+        file.entry (W.taken w.old) (W.taken w.new) (E.taken e.old) (E.taken e.new) result }
 {
     match read_tables(alloc, names, inputs) {
         Ok(tables) => {
@@ -158,7 +163,8 @@ fn encode_job<'a, I: Inputs, W: Sink, E: Sink>(
     w: &mut W,
     e: &mut E,
 ) -> Outcome<'a>
-    ensures { EncodeOutcome (I.standard_octets inputs.now) (I.file_octets inputs.now) names.entry form file.entry (W.taken w.old) (W.taken w.new) (E.taken e.old) (E.taken e.new) result }
+    ensures { EncodeOutcome (I.standard_octets inputs.now) (I.file_octets inputs.now) names.entry
+        form file.entry (W.taken w.old) (W.taken w.new) (E.taken e.old) (E.taken e.new) result }
 {
     match read_tables(alloc, names, inputs) {
         Ok(tables) => {
@@ -179,7 +185,8 @@ fn encode_job<'a, I: Inputs, W: Sink, E: Sink>(
 ///
 /// [`Outcome::CannotOpen`].
 fn open_file<'a, I: Inputs>(name: &'a str, inputs: &I) -> Result<I::File, Outcome<'a>>
-    ensures file { IfOk result (λ file. I.File.remaining file ≡ I.file_octets inputs.now name.entry.now) }
+    ensures file { IfOk result
+        (λ file. I.File.remaining file ≡ I.file_octets inputs.now name.entry.now) }
     ensures closed { IfErr result (IsClosed (I.file_octets inputs.now) name.entry) }
 {
     match inputs.open(name) {
@@ -198,7 +205,8 @@ fn read_file<'a, I: Inputs>(
     name: &'a str,
     inputs: &I,
 ) -> Result<Vec<u8>, Outcome<'a>>
-    ensures octets { IfOk result (λ octets. IfSome (I.file_octets inputs.now name.entry.now) (λ text. octets.items ≡ text)) }
+    ensures octets { IfOk result
+        (λ octets. IfSome (I.file_octets inputs.now name.entry.now) (λ text. octets.items ≡ text)) }
     ensures unread { IfErr result (FileOutcome (I.file_octets inputs.now) name.entry) }
 {
     let file = match open_file(name, inputs) {
@@ -221,7 +229,8 @@ fn read_table_b<'a, I: Inputs>(
     name: &'a str,
     inputs: &I,
 ) -> Result<TableB, Outcome<'a>>
-    ensures table { IfOk result (λ table. IfSome (I.file_octets inputs.now name.entry.now) (λ text. table_b_of (records_of text) ≡ Ok table)) }
+    ensures table { IfOk result (λ table. IfSome (I.file_octets inputs.now name.entry.now)
+        (λ text. table_b_of (records_of text) ≡ Ok table)) }
     ensures rows { IfOk result (λ table. (records : List Record) × AreRows records table) }
     ensures unread { IfErr result (TableBOutcome (I.file_octets inputs.now) name.entry) }
 {
@@ -245,7 +254,8 @@ fn read_table_d<'a, I: Inputs>(
     name: &'a str,
     inputs: &I,
 ) -> Result<TableD, Outcome<'a>>
-    ensures table { IfOk result (λ table. IfSome (I.file_octets inputs.now name.entry.now) (λ text. Reads (records_of text) (Ok table))) }
+    ensures table { IfOk result (λ table. IfSome (I.file_octets inputs.now name.entry.now)
+        (λ text. Reads (records_of text) (Ok table))) }
     ensures unread { IfErr result (TableDOutcome (I.file_octets inputs.now) name.entry) }
 {
     let text = match read_file(alloc, name, inputs) {
@@ -275,8 +285,10 @@ fn read_tables<'a, I: Inputs>(
     names: TableNames<'a>,
     inputs: &I,
 ) -> Result<Tables, Outcome<'a>>
-    ensures tables { IfOk result (λ tables. AreTables (I.file_octets inputs.now) names.entry tables.table_b tables.table_d) }
-    ensures rows { IfOk result (λ tables. (records : List Record) × AreRows records tables.table_b) }
+    ensures tables { IfOk result
+        (λ tables. AreTables (I.file_octets inputs.now) names.entry tables.table_b tables.table_d) }
+    ensures rows { IfOk result
+        (λ tables. (records : List Record) × AreRows records tables.table_b) }
     ensures unread { IfErr result (AreUnread (I.file_octets inputs.now) names.entry) }
 {
     let table_b = match read_table_b(alloc, names.table_b, inputs) {
@@ -304,11 +316,13 @@ fn outcome_of<'a>(ran: Result<Tally, RunFault>) -> Outcome<'a>
 trait Runner {
     /// What holds of both writers, before and after, of the counts and of the input's octets where
     /// the run went through.
-    ghost went_through: { Self → Option (List ℕ) → Option (List ℕ) → Option (List ℕ) → Option (List ℕ) → Tally → List ℕ → Type 0 };
+    ghost went_through: { Self → Option (List ℕ) → Option (List ℕ) → Option (List ℕ)
+        → Option (List ℕ) → Tally → List ℕ → Type 0 };
 
     /// What holds of both writers, before and after, of the input's octets, where they are known,
     /// and of the fault where one ended it.
-    ghost was_ended: { Self → Option (List ℕ) → Option (List ℕ) → Option (List ℕ) → Option (List ℕ) → Option (List ℕ) → RunFault → Type 0 };
+    ghost was_ended: { Self → Option (List ℕ) → Option (List ℕ) → Option (List ℕ) → Option (List ℕ)
+        → Option (List ℕ) → RunFault → Type 0 };
 
     /// Runs over an input, and hands on what was written.
     ///
@@ -323,9 +337,11 @@ trait Runner {
         e: &mut E,
     ) -> Result<Tally, RunFault>
         ensures whole { IfOk result (λ tally. IfSome (R.remaining input)
-            (went_through self.now (W.taken w.old) (W.taken w.new) (E.taken e.old) (E.taken e.new) tally)) }
+            (went_through self.now (W.taken w.old) (W.taken w.new) (E.taken e.old)
+            (E.taken e.new) tally)) }
         ensures ended { IfErr result
-            (was_ended self.now (W.taken w.old) (W.taken w.new) (E.taken e.old) (E.taken e.new) (R.remaining input)) };
+            (was_ended self.now (W.taken w.old) (W.taken w.new) (E.taken e.old) (E.taken e.new)
+            (R.remaining input)) };
 }
 
 /// Runs over a file, or over standard input.

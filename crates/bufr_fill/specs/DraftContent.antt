@@ -30,7 +30,8 @@ number_fault Large = out_of_range
 
 -- a number that fits its bits and does not read as missing
 abbrev pub raw_within : Bool → ℕ → ℤ → Result Content Fault
-raw_within m width (pos raw) = if nat_lt raw (top m width) then Ok (number raw) else Err out_of_range
+raw_within m width (pos raw) =
+    if nat_lt raw (top m width) then Ok (number raw) else Err out_of_range
 raw_within m width (negsuc n) = Err out_of_range
 
 -- the number in the bits is the value without the reference (FM 94: Regulation 94.5, Table B)
@@ -40,7 +41,8 @@ raw_of spec (Err why) = Err (number_fault why)
 
 -- a reference whose magnitude fits the bits behind its sign
 abbrev pub reference_of : Asked → Result ℤ NumberFault → Result Content Fault
-reference_of spec (Ok value) = if nat_lt (nat_abs value) (2 ^ (spec.width - 1)) then Ok (reference value) else Err out_of_range
+reference_of spec (Ok value) =
+    if nat_lt (nat_abs value) (2 ^ (spec.width - 1)) then Ok (reference value) else Err out_of_range
 reference_of spec (Err why) = Err (number_fault why)
 
 -- a text with spaces up to its length, which does not read as missing
@@ -55,14 +57,19 @@ missing_of m = if m then Ok missing else Err missing_forbidden
 
 -- a form as content of a field; one of another kind is no number
 abbrev pub content_by_form : Form → Asked → Result Content Fault
-content_by_form (number_token digits) spec = if is_character spec.kind then Err wrong_number else raw_of spec (decimal_value_of digits spec.scale)
-content_by_form (text_form octets) spec = if is_character spec.kind then text_within (spec.width / 8) octets else Err wrong_number
+content_by_form (number_token digits) spec =
+    if is_character spec.kind then Err wrong_number
+    else raw_of spec (decimal_value_of digits spec.scale)
+content_by_form (text_form octets) spec =
+    if is_character spec.kind then text_within (spec.width / 8) octets else Err wrong_number
 content_by_form missing_form spec = missing_of spec.may_be_missing
 content_by_form (reference_token digits) spec = reference_of spec (decimal_value_of digits (pos 0))
 
 -- an item is that of a field
 abbrev pub is_of : Asked → Draft → Bool
-is_of spec d = (d.fxy == spec.fxy) && (if is_reference spec.role then is_marked d.form else not (is_marked d.form))
+is_of spec d =
+    (d.fxy == spec.fxy)
+    && (if is_reference spec.role then is_marked d.form else not (is_marked d.form))
 
 abbrev pub wrong_for : Asked → Fault
 wrong_for spec = wrong_descriptor spec.fxy (is_reference spec.role)

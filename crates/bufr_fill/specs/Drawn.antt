@@ -37,14 +37,20 @@ drawn_told count (Err why) = Err (fault_of why)
 
 -- a text that a field has room for, and that does not read as missing
 abbrev pub HasRoom : (count : ℕ) → List ℕ → Type 0
-HasRoom count octets = (length octets ≤ count) × (list_all (λ octet. octet == 255) (spaced count octets) ≡ false)
+HasRoom count octets =
+    (length octets ≤ count) × (list_all (λ octet. octet == 255) (spaced count octets) ≡ false)
 
 -- what can be drawn for a field
 abbrev pub IsDrawn : Asked → Drawn → Type 0
-IsDrawn spec (drawn.Number raw) = (is_character spec.kind ≡ false) × (is_reference spec.role ≡ false) × (raw < top spec.may_be_missing spec.width)
-IsDrawn spec (drawn.Text octets) = (is_character spec.kind ≡ true) × (is_reference spec.role ≡ false) × HasRoom (spec.width / 8) octets.now
+IsDrawn spec (drawn.Number raw) =
+    (is_character spec.kind ≡ false) × (is_reference spec.role ≡ false)
+    × (raw < top spec.may_be_missing spec.width)
+IsDrawn spec (drawn.Text octets) =
+    (is_character spec.kind ≡ true) × (is_reference spec.role ≡ false)
+    × HasRoom (spec.width / 8) octets.now
 IsDrawn spec drawn.Missing = (is_reference spec.role ≡ false) × (spec.may_be_missing ≡ true)
-IsDrawn spec (drawn.Reference value) = (is_reference spec.role ≡ true) × (unsigned_abs value < 2 ^ (spec.width - 1))
+IsDrawn spec (drawn.Reference value) =
+    (is_reference spec.role ≡ true) × (unsigned_abs value < 2 ^ (spec.width - 1))
 
 -- a text of so many octets
 abbrev pub IsTextOf : (count : ℕ) → List ℕ → Drawn → Type 0

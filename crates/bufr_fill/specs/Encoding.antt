@@ -50,7 +50,8 @@ line_of c = line_in c.draft c.end_line
 
 abbrev pub cells_at : ℕ → List Subset → List Cell
 cells_at place [] = []
-cells_at place (s ∷ subsets) = record { draft = slice_get s.items place; end_line = s.end_line } ∷ cells_at place subsets
+cells_at place (s ∷ subsets) =
+    record { draft = slice_get s.items place; end_line = s.end_line } ∷ cells_at place subsets
 
 abbrev pub across : ℕ → List Subset → Across
 across place subsets = record { place = place; cells = cells_at place subsets }
@@ -110,7 +111,8 @@ abbrev pub packing_fault : List Content → List Cell → FieldFault → FaultAt
 packing_fault cs cells unequal_factor = at_line (unlike_line cs cells) unequal_factors
 packing_fault cs cells _ = at_line (first_line cells) uneven_increment
 
-abbrev pub packed_to : List Content → List Cell → Result (List Bool) FieldFault → Result (Written (List Content)) FaultAt
+abbrev pub packed_to : List Content → List Cell → Result (List Bool) FieldFault
+    → Result (Written (List Content)) FaultAt
 packed_to cs cells (Ok bits) = Ok (written cs bits)
 packed_to cs cells (Err why) = Err (packing_fault cs cells why)
 
@@ -121,12 +123,14 @@ are_many place subsets = nat_lt most_values ((place + 1) * subsets)
 -- one item of all subsets
 abbrev pub pack_across : Asked → Across → Result (Written (List Content)) FaultAt
 pack_across spec a =
-    if are_many a.place (length a.cells) then Err (at_line (first_line a.cells) (too_many_values spec.fxy))
+    if are_many a.place (length a.cells)
+    then Err (at_line (first_line a.cells) (too_many_values spec.fxy))
     else (contents_here spec a.cells >>= λ cs. packed_to cs a.cells (packing spec cs))
 
 -- no subset has an item left: the first one's end is told, and too many values go before
 abbrev pub none_across : (end_line : ℕ) (many : Bool) → Asked → FaultAt
-none_across end_line many spec = if many then at_line end_line (too_many_values spec.fxy) else at_line end_line (wrong_for spec)
+none_across end_line many spec =
+    if many then at_line end_line (too_many_values spec.fxy) else at_line end_line (wrong_for spec)
 
 -- rows of items, where the first subset ends on a line; there may be too many values with an item
 -- behind the last row
@@ -145,4 +149,5 @@ packed_filler end_line many = record {
 abbrev pub packed_data : Course → List Subset → Result (List Bool) FaultAt
 packed_data course [] = Ok []
 packed_data course (s ∷ subsets) =
-    fill (packed_filler s.end_line (are_many (longest (s ∷ subsets)) (length (s ∷ subsets)))) course (rows (longest (s ∷ subsets)) 0 (s ∷ subsets))
+    fill (packed_filler s.end_line (are_many (longest (s ∷ subsets)) (length (s ∷ subsets)))) course
+    (rows (longest (s ∷ subsets)) 0 (s ∷ subsets))

@@ -32,7 +32,8 @@ module _ {D C E : Type 0} (filler : Filler D C E) where
   and_behind bits (Ok behind) = Ok (bits ++ behind)
 
   -- one item that was filled, and the rest
-  abbrev pub filled : Asked → Result (Written C) E → (Taken → Result (List Bool) E) → Result (List Bool) E
+  abbrev pub filled : Asked → Result (Written C) E → (Taken → Result (List Bool) E)
+      → Result (List Bool) E
   filled spec (Err why) rest = Err why
   filled spec (Ok w) rest = and_behind w.bits (rest (filler.tells spec w.content))
 

@@ -23,7 +23,8 @@ FitsNumber m width _ = ⊥
 
 -- so many octets that do not read as missing
 abbrev pub FitsText : ℕ → Content → Type 0
-FitsText count (text octets) = (length octets ≡ count) × AreOctets octets × (list_all (λ octet. octet == 255) octets ≡ false)
+FitsText count (text octets) =
+    (length octets ≡ count) × AreOctets octets × (list_all (λ octet. octet == 255) octets ≡ false)
 FitsText count missing = Unit {0}
 FitsText count _ = ⊥
 

@@ -55,15 +55,21 @@ in_front cs (Ok more) = Ok (cs ++ more)
 in_front cs (Err f) = Err f
 
 -- so many cells were drawn
-pub record IsGathering (count : ℕ) (spec : Asked) (cells : List Cell) (number : ℕ) (drawn : List Drawn) : Type 0 where
-  pub so : contents_here spec cells ≡ in_front (contents_drawn count drawn) (contents_here spec (drop number cells))
+pub record IsGathering (count : ℕ) (spec : Asked) (cells : List Cell) (number : ℕ)
+    (drawn : List Drawn) : Type 0 where
+  pub so : contents_here spec cells
+      ≡ in_front (contents_drawn count drawn) (contents_here spec (drop number cells))
   pub all : AllDrawn spec drawn
   pub many : length drawn ≡ number
 
 -- all were drawn, or the first fault was told
-abbrev pub GatheredSo : (count : ℕ) → Asked → List Cell → List Drawn → Result (Unit {0}) DraftFault → Type 0
-GatheredSo count spec cells drawn (Ok _) = (contents_here spec cells ≡ Ok (contents_drawn count drawn)) × AllDrawn spec drawn × (length drawn ≡ length cells)
-GatheredSo count spec cells drawn (Err e) = WhereTold (told_fault e) (λ f. contents_here spec cells ≡ Err f)
+abbrev pub GatheredSo : (count : ℕ) → Asked → List Cell → List Drawn
+    → Result (Unit {0}) DraftFault → Type 0
+GatheredSo count spec cells drawn (Ok _) =
+    (contents_here spec cells ≡ Ok (contents_drawn count drawn)) × AllDrawn spec drawn
+    × (length drawn ≡ length cells)
+GatheredSo count spec cells drawn (Err e) =
+    WhereTold (told_fault e) (λ f. contents_here spec cells ≡ Err f)
 
 -- the line of the first subset, from one on, whose content is not the first one's
 abbrev pub unlike_from : (all left : List Content) → List Cell → ℕ

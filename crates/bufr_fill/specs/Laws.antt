@@ -11,9 +11,14 @@ use Rattle.bufr_fill.specs.Filling.{Filler, fill, and_behind}
 
 -- a law holds of what comes next, by each Table B that can be read and each template of legal nodes
 abbrev pub OfTemplates : (Course → Type 0) → Type 0
-OfTemplates law = (records : List Record) (table : List Row) (template : Tree) → AreRows records table → IsLegal template → law (next_item table template)
+OfTemplates law =
+    (records : List Record) (table : List Row) (template : Tree) → AreRows records table
+    → IsLegal template → law (next_item table template)
 
 -- a walk wrote what the definition makes of the drafts, up to those that it left
-abbrev pub WritesSo : {D C E : Type 0} → Filler D C E → Course → List Turn → (old new : List Bool) → (drafts left : List D) → Type 0
+abbrev pub WritesSo : {D C E : Type 0} → Filler D C E → Course → List Turn → (old new : List Bool)
+    → (drafts left : List D) → Type 0
 WritesSo filler course items old new drafts left =
-    (bits : List Bool) × (new ≡ old ++ bits) × (fill filler course drafts ≡ and_behind filler bits (fill filler (course_after course items) left))
+    (bits : List Bool) × (new ≡ old ++ bits)
+    × (fill filler course drafts
+    ≡ and_behind filler bits (fill filler (course_after course items) left))

@@ -19,5 +19,7 @@ pub record HasLeastK (n : ℕ) (spec : Asked) (contents : List Content) : Type 0
   pub out : List Bool
   pub is : packing spec contents ≡ Ok out
   pub again : (more : List Bool) → packed_field n spec (out ++ more) ≡ Ok (found contents more)
-  pub least : (bits behind : List Bool) → packed_field n spec bits ≡ Ok (found contents behind) → k_of spec out ≤ k_of spec bits
-  pub short : (bits behind : List Bool) → packed_field n spec bits ≡ Ok (found contents behind) → length out + length behind ≤ length bits
+  pub least : (bits behind : List Bool) → packed_field n spec bits ≡ Ok (found contents behind)
+      → k_of spec out ≤ k_of spec bits
+  pub short : (bits behind : List Bool) → packed_field n spec bits ≡ Ok (found contents behind)
+      → length out + length behind ≤ length bits

@@ -14,7 +14,10 @@ decimal_again digits scale (Err why) = digits
 
 -- a number by its value at the field's scale, a text with spaces up to the field's octets
 abbrev pub normal_form : Asked → Form → Form
-normal_form spec (number_token digits) = number_token (decimal_again digits spec.scale (decimal_value_of digits spec.scale))
-normal_form spec (text_form octets) = text_form (octets ++ replicate (spec.width / 8 - length octets) 32)
+normal_form spec (number_token digits) =
+    number_token (decimal_again digits spec.scale (decimal_value_of digits spec.scale))
+normal_form spec (text_form octets) =
+    text_form (octets ++ replicate (spec.width / 8 - length octets) 32)
 normal_form spec missing_form = missing_form
-normal_form spec (reference_token digits) = reference_token (decimal_again digits (pos 0) (decimal_value_of digits (pos 0)))
+normal_form spec (reference_token digits) =
+    reference_token (decimal_again digits (pos 0) (decimal_value_of digits (pos 0)))

@@ -11,7 +11,8 @@ use Rattle.bufr_fill.specs.Fault.{Fault, unequal_factors, uneven_increment, Faul
 use Rattle.bufr_fill.specs.WrittenAgain.{items_of}
 
 -- so many subsets of compressed data, from one on, counted from 0, each with items of its own
-abbrev pub subsets_from : (left subset : ℕ) → List (Item (List Content)) → List (List (Item Content))
+abbrev pub subsets_from : (left subset : ℕ) → List (Item (List Content))
+    → List (List (Item Content))
 subsets_from zero j items = []
 subsets_from (suc left) j items = items_of j items ∷ subsets_from left (suc j) items
 
@@ -24,14 +25,17 @@ IsUnlike _ = ⊥
 
 -- items of n subsets that were read together are written subset after subset, to bits from which
 -- each subset's items are read
-pub record IsWrittenApart (n : ℕ) (course : Course) (items : List (Item (List Content))) (drafts : List Subset) : Type 0 where
+pub record IsWrittenApart (n : ℕ) (course : Course) (items : List (Item (List Content)))
+    (drafts : List Subset) : Type 0 where
   pub out : List Bool
   pub is : plain_data course drafts ≡ Ok out
-  pub again : (more : List Bool) → IsPlainReading n course (subsets_from n 0 items) (out ++ more) more
+  pub again : (more : List Bool)
+      → IsPlainReading n course (subsets_from n 0 items) (out ++ more) more
 
 -- items that were read subset after subset are written together, to bits from which the items of
 -- each subset are read
-pub record IsWrittenTogether (course : Course) (subsets : List (List (Item Content))) (drafts : List Subset) : Type 0 where
+pub record IsWrittenTogether (course : Course) (subsets : List (List (Item Content)))
+    (drafts : List Subset) : Type 0 where
   pub items : List (Item (List Content))
   pub same : subsets_from (length subsets) 0 items ≡ subsets
   pub out : List Bool
@@ -45,4 +49,5 @@ pub record IsUnwritten (course : Course) (drafts : List Subset) : Type 0 where
   pub unlike : IsUnlike why.fault
 
 abbrev pub IsTogetherOrNot : Course → List (List (Item Content)) → List Subset → Type 0
-IsTogetherOrNot course subsets drafts = IsWrittenTogether course subsets drafts ⊎ IsUnwritten course drafts
+IsTogetherOrNot course subsets drafts =
+    IsWrittenTogether course subsets drafts ⊎ IsUnwritten course drafts

@@ -83,7 +83,8 @@ all_end (c ∷ cells) = and_end c.draft (all_end cells)
 -- that a call told so
 abbrev pub EndsSo : (place : ℕ) → List Subset → Result (Unit {0}) DraftFault → Type 0
 EndsSo place subsets (Ok _) = all_end (cells_at place subsets) ≡ Ok tt
-EndsSo place subsets (Err e) = (f : FaultAt) × (told_fault e ≡ Some f) × (all_end (cells_at place subsets) ≡ Err f)
+EndsSo place subsets (Err e) =
+    (f : FaultAt) × (told_fault e ≡ Some f) × (all_end (cells_at place subsets) ≡ Err f)
 
 -- the line of the first subset's next item, or of its end
 abbrev pub first_line_at : (place : ℕ) → List Subset → ℕ

@@ -58,7 +58,8 @@ has_bits m base k _ = true
 -- whether k octets of a text, and spaces behind them, give it again, and not as missing
 abbrev pub gives_again : (k : ℕ) → List ℕ → Bool
 gives_again k octets =
-    same_octets (take k octets ++ replicate (length octets - k) 32) octets && not (list_all (λ octet. octet == 255) (take k octets))
+    same_octets (take k octets ++ replicate (length octets - k) 32) octets
+    && not (list_all (λ octet. octet == 255) (take k octets))
 
 abbrev pub has_octets : (k : ℕ) → Content → Bool
 has_octets k (text octets) = gives_again k octets
@@ -89,7 +90,8 @@ packed_bits base k more = base ++ (bits_in k 6 ++ more)
 
 -- numbers that differ, over the least of them
 abbrev pub packed_numbers : (width base k : ℕ) → List Content → List Bool
-packed_numbers width base k cs = packed_bits (bits_in base width) k (flat_map (increment_bits base k) cs)
+packed_numbers width base k cs =
+    packed_bits (bits_in base width) k (flat_map (increment_bits base k) cs)
 
 abbrev pub numbers_over : (m : Bool) (width base : ℕ) → List Content → List Bool
 numbers_over m width base cs = packed_numbers width base (least_k (has_bits m base) cs) cs
@@ -97,7 +99,8 @@ numbers_over m width base cs = packed_numbers width base (least_k (has_bits m ba
 -- texts that differ: the base is zero bits
 abbrev pub packed_texts : (width k : ℕ) → List Content → Result (List Bool) FieldFault
 packed_texts width k cs =
-    if nat_le k 63 then Ok (packed_bits (replicate width false) k (flat_map (octet_bits k) cs)) else Err increment
+    if nat_le k 63
+    then Ok (packed_bits (replicate width false) k (flat_map (octet_bits k) cs)) else Err increment
 
 abbrev pub packed_by : Kind → Asked → List Content → Result (List Bool) FieldFault
 packed_by kind.Character spec cs = packed_texts spec.width (least_k has_octets cs) cs
@@ -112,4 +115,6 @@ packed_unlike _ spec cs = packed_by spec.kind spec cs
 -- the contents of one item for all subsets, where they can be packed
 abbrev pub packing : Asked → List Content → Result (List Bool) FieldFault
 packing spec [] = Ok []
-packing spec (c ∷ cs) = if are_same c cs then Ok (packed_bits (bits_for spec.width c) 0 []) else packed_unlike spec.role spec (c ∷ cs)
+packing spec (c ∷ cs) =
+    if are_same c cs then Ok (packed_bits (bits_for spec.width c) 0 [])
+    else packed_unlike spec.role spec (c ∷ cs)

@@ -47,7 +47,8 @@ trimmed (o ∷ os) = if (trimmed os == 0) && (o == 32) then 0 else suc (trimmed 
 -- how many octets tell a text: those before the spaces at its end, and one more where these read as
 -- missing
 abbrev pub need : List ℕ → ℕ
-need os = if list_all (λ octet. octet == 255) (take (trimmed os) os) then suc (trimmed os) else trimmed os
+need os =
+    if list_all (λ octet. octet == 255) (take (trimmed os) os) then suc (trimmed os) else trimmed os
 
 abbrev pub need_of : Drawn → ℕ
 need_of (drawn.Text octets) = need octets.now
@@ -69,9 +70,13 @@ Grows old new = (more : List Bool) × (new ≡ old ++ more)
 
 -- an item was packed in at most so many bits, or it cannot be; want of memory may leave some of its
 -- bits behind the earlier ones
-abbrev pub PackedSo : (old new : List Bool) → (expected : Result (List Bool) FieldFault) → (most : ℕ) → Result (Unit {0}) Unpacked → Type 0
-PackedSo old new expected most (Ok _) = (bits : List Bool) × (expected ≡ Ok bits) × (new ≡ old ++ bits) × (length bits ≤ most) × (length old < length new)
-PackedSo old new expected most (Err unpacked.Unequal) = (expected ≡ Err unequal_factor) × (new ≡ old)
+abbrev pub PackedSo : (old new : List Bool) → (expected : Result (List Bool) FieldFault)
+    → (most : ℕ) → Result (Unit {0}) Unpacked → Type 0
+PackedSo old new expected most (Ok _) =
+    (bits : List Bool) × (expected ≡ Ok bits) × (new ≡ old ++ bits) × (length bits ≤ most)
+    × (length old < length new)
+PackedSo old new expected most (Err unpacked.Unequal) =
+    (expected ≡ Err unequal_factor) × (new ≡ old)
 PackedSo old new expected most (Err unpacked.Uneven) = (expected ≡ Err increment) × (new ≡ old)
 PackedSo old new expected most (Err unpacked.Memory) = Grows old new
 
@@ -90,10 +95,12 @@ abbrev pub PutFault : Option FaultAt → (old new : List Bool) → Asked → Acr
 PutFault None old new spec a = Grows old new
 PutFault (Some f) old new spec a = (pack_across spec a ≡ Err f) × (new ≡ old)
 
-pub record IsPutWithin (old new : List Bool) (spec : Asked) (a : Across) (most : ℕ) (t : Taken) : Type 0 where
+pub record IsPutWithin (old new : List Bool) (spec : Asked) (a : Across) (most : ℕ)
+    (t : Taken) : Type 0 where
   pub put : IsPutAcross old new spec a t
   pub few : length put.item ≤ most
 
-abbrev pub PutAcross : (old new : List Bool) → Asked → Across → (most : ℕ) → Result Taken DraftFault → Type 0
+abbrev pub PutAcross : (old new : List Bool) → Asked → Across → (most : ℕ)
+    → Result Taken DraftFault → Type 0
 PutAcross old new spec a most (Ok t) = IsPutWithin old new spec a most t
 PutAcross old new spec a most (Err e) = PutFault (told_fault e) old new spec a

@@ -42,7 +42,8 @@ pub record IsFilled (s : Pen) (spec : Asked) (t : Taken) (s' : Pen) : Type 0 whe
 abbrev pub IsFaultOf : Asked → List Entry → FaultAt → Type 0
 IsFaultOf spec [] f = f ≡ at_line 0 (wrong_for spec)
 IsFaultOf spec (Ends line ∷ more) f = f ≡ at_line line (wrong_for spec)
-IsFaultOf spec (Holds d ∷ more) f = (why : Fault) × (content_of spec d ≡ Err why) × (f ≡ at_line d.line why)
+IsFaultOf spec (Holds d ∷ more) f =
+    (why : Fault) × (content_of spec d ≡ Err why) × (f ≡ at_line d.line why)
 
 -- where a fault of the text is told, it is so; want of memory is none
 abbrev pub WhereTold : Option FaultAt → (FaultAt → Type 0) → Type 0
@@ -70,7 +71,8 @@ behind_end (Ends line ∷ more) = Ok more
 -- the end of a subset was passed, or an item is next
 abbrev pub PassesEnd : Pen → Result (Unit {0}) DraftFault → Pen → Type 0
 PassesEnd s (Ok _) s' = (behind_end s.left ≡ Ok s'.left) × (s'.bits ≡ s.bits)
-PassesEnd s (Err e) s' = ((f : FaultAt) × (told_fault e ≡ Some f) × (behind_end s.left ≡ Err f)) × (s' ≡ s)
+PassesEnd s (Err e) s' =
+    ((f : FaultAt) × (told_fault e ≡ Some f) × (behind_end s.left ≡ Err f)) × (s' ≡ s)
 
 -- the fault at the next entry, by what comes next: that of the item, that of the walk on the
 -- entry's line, or an item that is left over

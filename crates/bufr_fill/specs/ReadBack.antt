@@ -38,7 +38,8 @@ AreSaid (items ∷ subsets) (s ∷ ss) = AreDrafts IsSaid items s.items × AreSa
 -- the same of the subsets of compressed data, from one on
 abbrev pub AreSaidFrom : (subset : ℕ) → List (Item (List Content)) → List Subset → Type 0
 AreSaidFrom j items [] = Unit {0}
-AreSaidFrom j items (s ∷ ss) = AreDrafts IsSaid (items_of j items) s.items × AreSaidFrom (suc j) items ss
+AreSaidFrom j items (s ∷ ss) =
+    AreDrafts IsSaid (items_of j items) s.items × AreSaidFrom (suc j) items ss
 
 -- bits are read as what the drafts say, whatever is behind them
 pub record IsReadBack (course : Course) (drafts : List Subset) (bits : List Bool) : Type 0 where
@@ -46,7 +47,9 @@ pub record IsReadBack (course : Course) (drafts : List Subset) (bits : List Bool
   pub said : AreSaid subsets drafts
   pub read : (behind : List Bool) → ReadsSubsets course subsets (bits ++ behind) behind
 
-pub record IsPackedReadBack (course : Course) (drafts : List Subset) (bits : List Bool) : Type 0 where
+pub record IsPackedReadBack (course : Course) (drafts : List Subset)
+    (bits : List Bool) : Type 0 where
   pub items : List (Item (List Content))
   pub said : AreSaidFrom 0 items drafts
-  pub read : (behind : List Bool) → IsPackedReading (length drafts) course items (bits ++ behind) behind
+  pub read : (behind : List Bool)
+      → IsPackedReading (length drafts) course items (bits ++ behind) behind

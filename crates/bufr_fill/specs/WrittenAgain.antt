@@ -31,13 +31,15 @@ AreDumped (items ∷ subsets) (s ∷ ss) = AreDrafts IsDumped items s.items × A
 
 -- items that were read from bits are written again from the drafts of their dump: to bits with the
 -- same reading, and no more of them
-pub record IsWrittenAgain (course : Course) (subsets : List (List (Item Content))) (drafts : List Subset) (bits behind : List Bool) : Type 0 where
+pub record IsWrittenAgain (course : Course) (subsets : List (List (Item Content)))
+    (drafts : List Subset) (bits behind : List Bool) : Type 0 where
   pub out : List Bool
   pub is : plain_data course drafts ≡ Ok out
   pub again : (more : List Bool) → ReadsSubsets course subsets (out ++ more) more
   pub short : length out + length behind ≤ length bits
 
-pub record IsPackedAgain (n : ℕ) (course : Course) (items : List (Item (List Content))) (drafts : List Subset) (bits behind : List Bool) : Type 0 where
+pub record IsPackedAgain (n : ℕ) (course : Course) (items : List (Item (List Content)))
+    (drafts : List Subset) (bits behind : List Bool) : Type 0 where
   pub out : List Bool
   pub is : packed_data course drafts ≡ Ok out
   pub again : (more : List Bool) → IsPackedReading n course items (out ++ more) more
@@ -46,9 +48,11 @@ pub record IsPackedAgain (n : ℕ) (course : Course) (items : List (Item (List C
 -- the items of one subset of compressed data
 abbrev pub items_of : (subset : ℕ) → List (Item (List Content)) → List (Item Content)
 items_of j [] = []
-items_of j (i ∷ items) = record { spec = i.spec; content = content_at j i.content } ∷ items_of j items
+items_of j (i ∷ items) =
+    record { spec = i.spec; content = content_at j i.content } ∷ items_of j items
 
 -- the subsets, from one on, are those of the dump of compressed data
 abbrev pub AreDumpedFrom : (subset : ℕ) → List (Item (List Content)) → List Subset → Type 0
 AreDumpedFrom j items [] = Unit {0}
-AreDumpedFrom j items (s ∷ ss) = AreDrafts IsDumped (items_of j items) s.items × AreDumpedFrom (suc j) items ss
+AreDumpedFrom j items (s ∷ ss) =
+    AreDrafts IsDumped (items_of j items) s.items × AreDumpedFrom (suc j) items ss

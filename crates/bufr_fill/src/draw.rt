@@ -43,7 +43,8 @@ pub(crate) fn top_of(may_be_missing: bool, width: u32) -> u64
 /// The number in the bits of a value, where they can write it and it does not read as missing.
 fn raw_in(value: i128, spec: &Spec) -> Result<u64, Wrong>
     requires narrow { spec.now.width ≤ 63 }
-    ensures is { number_told result ≡ raw_within spec.now.may_be_missing spec.now.width (value -ℤ spec.now.reference) }
+    ensures is { number_told result
+        ≡ raw_within spec.now.may_be_missing spec.now.width (value -ℤ spec.now.reference) }
     ensures below { IfOk result (λ raw. raw < top spec.now.may_be_missing spec.now.width) }
 {
     let Some(raw) = value.checked_sub(spec.reference()) else {
@@ -77,7 +78,8 @@ fn raw_of_token(token: &[u8], spec: &Spec) -> Result<u64, Wrong>
 fn reference_of_token(token: &[u8], spec: &Spec) -> Result<i64, Wrong>
     requires some { 1 ≤ spec.now.width }
     requires narrow { spec.now.width ≤ 63 }
-    ensures is { reference_told result ≡ reference_of spec.now (decimal_value_of token.now (pos 0)) }
+    ensures is { reference_told result
+        ≡ reference_of spec.now (decimal_value_of token.now (pos 0)) }
     ensures fits { IfOk result (λ value. unsigned_abs value < 2 ^ (spec.now.width - 1)) }
 {
     let value = match decimal_read(token, 0) {
@@ -103,7 +105,8 @@ pub(crate) fn are_full(octets: &[u8]) -> bool
 #[tactic(auto, using(crate::proofs::PutLemmas::all_of_spaced))]
 fn reads_as_missing(octets: &[u8], count: usize) -> bool
     requires { length octets.now ≤ count }
-    ensures { result ≡ list_all (λ octet. octet == 255) (octets.now ++ replicate (count - length octets.now) 32) }
+    ensures { result ≡ list_all (λ octet. octet == 255)
+        (octets.now ++ replicate (count - length octets.now) 32) }
 {
     let full = are_full(octets);
     octets.len() == count && full
@@ -126,7 +129,8 @@ fn text_for<'a>(octets: &'a [u8], count: usize) -> Result<Drawn<'a>, Wrong>
 /// What a form is as the content of a field.
 fn draw_form<'a>(form: Form<'a>, spec: &Spec) -> Result<Drawn<'a>, Wrong>
     requires mark { is_reference spec.now.role ≡ is_marked (form_in form) }
-    ensures is { drawn_told (spec.now.width / 8) result ≡ content_by_form (form_in form.entry) spec.now }
+    ensures is { drawn_told (spec.now.width / 8) result
+        ≡ content_by_form (form_in form.entry) spec.now }
     ensures drawn { IfOk result (λ d. IsDrawn spec.now d) }
 {
     let count = (spec.width() / 8) as usize;

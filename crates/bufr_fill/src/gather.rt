@@ -35,7 +35,8 @@ pub(crate) fn entry_of<'a, 's>(
     requires few { length entries.now ≤ 2 ^ 45 }
     requires subset { subset < length ends.now }
     requires near { place ≤ 2 ^ 45 }
-    ensures { (c : Cell) → slice_get (cells_at place (subsets_of (map entry_in entries.now))) subset ≡ Some c → entry_in result.now ≡ cell_entry c }
+    ensures { (c : Cell) → slice_get (cells_at place (subsets_of (map entry_in entries.now))) subset
+        ≡ Some c → entry_in result.now ≡ cell_entry c }
 {
     let start = begin_of(ends, subset);
     match entries.get(ends[subset].min(start + place)) {
@@ -56,7 +57,8 @@ pub(crate) fn line_of(entry: &Entry<'_>) -> u64
 
 /// What an entry is as the content of a field.
 fn draw_entry<'a>(entry: &Entry<'a>, spec: &Spec) -> Result<Drawn<'a>, DraftFault>
-    ensures { DrawnSo (spec.now.width / 8) spec.now (entry_here spec.now (entry_in entry.now)) result }
+    ensures { DrawnSo (spec.now.width / 8) spec.now
+        (entry_here spec.now (entry_in entry.now)) result }
 {
     match entry {
         Entry::Item(item) => match draw(item, spec) {
@@ -79,7 +81,8 @@ pub(crate) fn gather<'a>(
     requires ends { ends.now ≡ ends_of 0 (map entry_in entries.now) }
     requires few { length entries.now ≤ 2 ^ 45 }
     requires near { place ≤ 2 ^ 45 }
-    ensures { GatheredSo (spec.now.width / 8) spec.now (cells_at place (subsets_of (map entry_in entries.now))) drawn.new.items result }
+    ensures { GatheredSo (spec.now.width / 8) spec.now
+        (cells_at place (subsets_of (map entry_in entries.now))) drawn.new.items result }
 {
     drawn.clear();
     for subset in 0..ends.len() {
@@ -108,7 +111,8 @@ pub(crate) fn unlike_line(
     requires near { place ≤ 2 ^ 45 }
     requires all { AllDrawn spec.now drawn.now }
     requires many { length drawn.now ≡ length ends.now }
-    ensures { result ≡ unlike_line (contents_drawn (spec.now.width / 8) drawn.now) (cells_at place (subsets_of (map entry_in entries.now))) }
+    ensures { result ≡ unlike_line (contents_drawn (spec.now.width / 8) drawn.now)
+        (cells_at place (subsets_of (map entry_in entries.now))) }
 {
     for subset in 0..ends.len() {
         if !is_same(drawn[0], drawn[subset], spec) {

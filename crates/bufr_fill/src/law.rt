@@ -30,15 +30,19 @@ ghost use Rattle.bufr_fill.specs.WrittenAgain.{AreDumped, AreDumpedFrom, IsWritt
 /// bits that have the same reading, and no more of them (WMO-No. 306, Volume I.2, FM 94: section
 /// 4).
 pub fn plain_data_round_trip()
-    ensures { OfTemplates (λ course. (subsets : List (List (Item Content))) (drafts : List Subset) (bits behind : List Bool) → AreDumped subsets drafts
-        → ReadsSubsets course subsets bits behind → IsWrittenAgain course subsets drafts bits behind) }
+    ensures { OfTemplates (λ course. (subsets : List (List (Item Content))) (drafts : List Subset)
+        (bits behind : List Bool) → AreDumped subsets drafts
+        → ReadsSubsets course subsets bits behind
+        → IsWrittenAgain course subsets drafts bits behind) }
 {}
 
 /// The same of compressed data: what was read is written again to bits that have the same reading,
 /// and no more of them.
 pub fn packed_data_round_trip()
-    ensures { OfTemplates (λ course. (n : ℕ) (items : List (Item (List Content))) (drafts : List Subset) (bits behind : List Bool) → length drafts ≡ n
-        → AreDumpedFrom 0 items drafts → IsPackedReading n course items bits behind → IsPackedAgain n course items drafts bits behind) }
+    ensures { OfTemplates (λ course. (n : ℕ) (items : List (Item (List Content)))
+        (drafts : List Subset) (bits behind : List Bool) → length drafts ≡ n
+        → AreDumpedFrom 0 items drafts → IsPackedReading n course items bits behind
+        → IsPackedAgain n course items drafts bits behind) }
 {}
 
 /// An item of compressed data is packed with the least `k` of all from which its contents can be
@@ -46,51 +50,63 @@ pub fn packed_data_round_trip()
 /// read (WMO-No. 306, Volume I.2, FM 94: section 4, compression; that the `k` is the least is a
 /// choice of this project).
 pub fn items_are_packed_with_the_least_k()
-    ensures { (n : ℕ) (spec : Asked) (contents : List Content) (bits behind : List Bool) → 1 ≤ n → IsSpec spec
+    ensures { (n : ℕ) (spec : Asked) (contents : List Content) (bits behind : List Bool)
+        → 1 ≤ n → IsSpec spec
         → packed_field n spec bits ≡ Ok (found contents behind) → HasLeastK n spec contents }
 {}
 
 /// Contents that fit their field, and that are packed, are packed with the least `k` of all from
 /// which they can be read, whatever they come from.
 pub fn fitting_items_are_packed_with_the_least_k()
-    ensures { (n : ℕ) (spec : Asked) (contents : List Content) (out : List Bool) → 1 ≤ n → IsSpec spec → AllFit spec contents → length contents ≡ n
+    ensures { (n : ℕ) (spec : Asked) (contents : List Content) (out : List Bool) → 1 ≤ n
+        → IsSpec spec → AllFit spec contents → length contents ≡ n
         → packing spec contents ≡ Ok out → HasLeastK n spec contents }
 {}
 
 /// The data that are written of any drafts, without compression, are read as what the drafts say,
 /// whatever bits are behind them (WMO-No. 306, Volume I.2, FM 94: section 4).
 pub fn written_plain_data_are_read()
-    ensures { OfTemplates (λ course. (drafts : List Subset) (bits : List Bool) → AllHaveOctets drafts → plain_data course drafts ≡ Ok bits → IsReadBack course drafts bits) }
+    ensures { OfTemplates (λ course. (drafts : List Subset) (bits : List Bool) → AllHaveOctets
+        drafts → plain_data course drafts ≡ Ok bits → IsReadBack course drafts bits) }
 {}
 
 /// The same of compressed data.
 pub fn written_packed_data_are_read()
-    ensures { OfTemplates (λ course. (drafts : List Subset) (bits : List Bool) → AllHaveOctets drafts → packed_data course drafts ≡ Ok bits → IsPackedReadBack course drafts bits) }
+    ensures { OfTemplates (λ course. (drafts : List Subset) (bits : List Bool) → AllHaveOctets
+        drafts → packed_data course drafts ≡ Ok bits → IsPackedReadBack course drafts bits) }
 {}
 
 /// Drafts that say the items of a reading are written, without compression, to bits that the items
 /// tell: other drafts that say the same are written to the same bits.
 pub fn plain_data_are_told_by_what_is_said()
-    ensures { OfTemplates (λ course. (subsets : List (List (Item Content))) (drafts others : List Subset) (bits behind : List Bool) → ReadsSubsets course subsets bits behind
-        → AreSaid subsets drafts → AreSaid subsets others → plain_data course drafts ≡ plain_data course others) }
+    ensures { OfTemplates (λ course. (subsets : List (List (Item Content)))
+        (drafts others : List Subset) (bits behind : List Bool)
+        → ReadsSubsets course subsets bits behind
+        → AreSaid subsets drafts → AreSaid subsets others
+        → plain_data course drafts ≡ plain_data course others) }
 {}
 
 /// The same of compressed data.
 pub fn packed_data_are_told_by_what_is_said()
-    ensures { OfTemplates (λ course. (n : ℕ) (items : List (Item (List Content))) (drafts others : List Subset) (bits behind : List Bool) → IsPackedReading n course items bits behind
-        → length drafts ≡ n → AreSaidFrom 0 items drafts → length others ≡ n → AreSaidFrom 0 items others → packed_data course drafts ≡ packed_data course others) }
+    ensures { OfTemplates (λ course. (n : ℕ) (items : List (Item (List Content)))
+        (drafts others : List Subset) (bits behind : List Bool)
+        → IsPackedReading n course items bits behind
+        → length drafts ≡ n → AreSaidFrom 0 items drafts → length others ≡ n
+        → AreSaidFrom 0 items others → packed_data course drafts ≡ packed_data course others) }
 {}
 
 /// Drafts that say the same at every field, where the first can be written, without compression,
 /// are written to the same bits.
 pub fn alike_drafts_have_the_same_plain_data()
-    ensures { OfTemplates (λ course. (drafts others : List Subset) (bits : List Bool) → AllHaveOctets drafts → AllAlike drafts others
+    ensures { OfTemplates (λ course. (drafts others : List Subset) (bits : List Bool)
+        → AllHaveOctets drafts → AllAlike drafts others
         → plain_data course drafts ≡ Ok bits → plain_data course others ≡ Ok bits) }
 {}
 
 /// The same of compressed data.
 pub fn alike_drafts_have_the_same_packed_data()
-    ensures { OfTemplates (λ course. (drafts others : List Subset) (bits : List Bool) → AllHaveOctets drafts → AllAlike drafts others
+    ensures { OfTemplates (λ course. (drafts others : List Subset) (bits : List Bool)
+        → AllHaveOctets drafts → AllAlike drafts others
         → packed_data course drafts ≡ Ok bits → packed_data course others ≡ Ok bits) }
 {}
 
@@ -98,8 +114,10 @@ pub fn alike_drafts_have_the_same_packed_data()
 /// bits from which each subset's items are read (WMO-No. 306, Volume I.2, FM 94: section 4): such
 /// data are never refused in the plain form.
 pub fn compressed_data_are_written_apart()
-    ensures { OfTemplates (λ course. (n : ℕ) (items : List (Item (List Content))) (drafts : List Subset) (bits behind : List Bool) → length drafts ≡ n
-        → AreDumpedFrom 0 items drafts → IsPackedReading n course items bits behind → IsWrittenApart n course items drafts) }
+    ensures { OfTemplates (λ course. (n : ℕ) (items : List (Item (List Content)))
+        (drafts : List Subset) (bits behind : List Bool) → length drafts ≡ n
+        → AreDumpedFrom 0 items drafts → IsPackedReading n course items bits behind
+        → IsWrittenApart n course items drafts) }
 {}
 
 /// What was read of data that are not compressed is written together, from the items of its dump,
@@ -107,31 +125,38 @@ pub fn compressed_data_are_written_apart()
 /// tell their contents apart, and nothing else is at fault (WMO-No. 306, Volume I.2, FM 94: section
 /// 4, compression).
 pub fn plain_data_are_written_together()
-    ensures { OfTemplates (λ course. (subsets : List (List (Item Content))) (drafts : List Subset) (bits behind : List Bool) → length bits ≤ most_values
-        → AreDumped subsets drafts → ReadsSubsets course subsets bits behind → IsTogetherOrNot course subsets drafts) }
+    ensures { OfTemplates (λ course. (subsets : List (List (Item Content))) (drafts : List Subset)
+        (bits behind : List Bool) → length bits ≤ most_values
+        → AreDumped subsets drafts → ReadsSubsets course subsets bits behind
+        → IsTogetherOrNot course subsets drafts) }
 {}
 
 /// A walk over the items of one subset writes what the definition makes of them, up to those that
 /// are left.
 #[tactic(auto, using(crate::proofs::PlainWalks::walk_of_items))]
 pub fn plain_walk_writes_as_defined()
-    ensures { (end : ℕ) (course : Course) (s : Pen) (items : List Turn) (s' : Pen) → Takes (oks PlainFills) course s items s'
-        → WritesSo (plain_filler end) course items s.bits s'.bits (items_left s.left) (items_left s'.left) }
+    ensures { (end : ℕ) (course : Course) (s : Pen) (items : List Turn) (s' : Pen)
+        → Takes (oks PlainFills) course s items s'
+        → WritesSo (plain_filler end) course items s.bits s'.bits (items_left s.left)
+        (items_left s'.left) }
 {}
 
 /// The fault where a walk over the items of one subset stops is the definition's: that of an item,
 /// that of a width or a turn on the next entry's line, or an item that is left over.
 #[tactic(auto, using(crate::proofs::PlainWalks::fault_as_defined))]
 pub fn plain_fault_is_as_defined()
-    ensures { (course : Course) (left : List Entry) (f : FaultAt) → IsFaultNext (course []).next left f → fill (plain_filler (end_left left)) course (items_left left) ≡ Err f }
+    ensures { (course : Course) (left : List Entry) (f : FaultAt) → IsFaultNext (course []).next
+        left f → fill (plain_filler (end_left left)) course (items_left left) ≡ Err f }
 {}
 
 /// A walk over the items of all subsets writes what the definition makes of them, up to those that
 /// are left.
 #[tactic(auto, using(crate::proofs::PackedWalks::walk_of_rows))]
 pub fn packed_walk_writes_as_defined()
-    ensures { (end : ℕ) (many : Bool) (course : Course) (s : PackedPen) (items : List Turn) (s' : PackedPen) → Takes (oks PackedFills) course s items s'
-        → WritesSo (packed_filler end many) course items s.bits s'.bits (rows_left s) (rows_left s') }
+    ensures { (end : ℕ) (many : Bool) (course : Course) (s : PackedPen) (items : List Turn)
+        (s' : PackedPen) → Takes (oks PackedFills) course s items s'
+        → WritesSo (packed_filler end many) course items s.bits s'.bits
+        (rows_left s) (rows_left s') }
 {}
 
 /// Where such a walk stops, the fault there is that of the data of all subsets: that of an item,
@@ -139,15 +164,19 @@ pub fn packed_walk_writes_as_defined()
 /// is left over.
 #[tactic(auto, using(crate::proofs::PackedFaults::fault_as_defined))]
 pub fn packed_fault_is_as_defined()
-    ensures { (course : Course) (subsets : List Subset) (items : List Turn) (s : PackedPen) (f : FaultAt) → 1 ≤ length subsets
-        → Takes (oks PackedFills) course (packed_start subsets) items s → IsFaultHere (course (told_by items)).next s f → packed_data course subsets ≡ Err f }
+    ensures { (course : Course) (subsets : List Subset) (items : List Turn) (s : PackedPen)
+        (f : FaultAt) → 1 ≤ length subsets
+        → Takes (oks PackedFills) course (packed_start subsets) items s
+        → IsFaultHere (course (told_by items)).next s f → packed_data course subsets ≡ Err f }
 {}
 
 /// Where such a walk ends and no item is left over, the bits that were written are the data of all
 /// subsets.
 #[tactic(auto, using(crate::proofs::PackedFaults::written_as_defined))]
 pub fn packed_data_are_written_as_defined()
-    ensures { (course : Course) (subsets : List Subset) (items : List Turn) (s : PackedPen) → 1 ≤ length subsets
-        → Takes (oks PackedFills) course (packed_start subsets) items s → (course (told_by items)).next ≡ at_end
+    ensures { (course : Course) (subsets : List Subset) (items : List Turn) (s : PackedPen)
+        → 1 ≤ length subsets
+        → Takes (oks PackedFills) course (packed_start subsets) items s
+        → (course (told_by items)).next ≡ at_end
         → all_end (cells_at s.place s.subsets) ≡ Ok tt → packed_data course subsets ≡ Ok s.bits }
 {}

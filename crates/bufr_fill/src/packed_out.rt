@@ -44,9 +44,14 @@ impl<'s, 'a> Model for PackedOut<'s, 'a> {
 
     ghost Value = { PackedPen };
 
-    ghost view = { λ s. record { subsets = subsets_of (map entry_in s.entries.now); place = s.place; bits = s.out } };
+    ghost view = { λ s. record {
+      subsets = subsets_of (map entry_in s.entries.now);
+      place = s.place;
+      bits = s.out;
+    } };
 
-    ghost invariant = { λ s. IsPackedOut (map entry_in s.entries.now) s.ends.items s.place (length s.out) };
+    ghost invariant = { λ s. IsPackedOut (map entry_in s.entries.now) s.ends.items
+        s.place (length s.out) };
 }
 
 /// The places of the entries that end subsets.
@@ -78,11 +83,14 @@ fn put_drawn(
     requires some { 0 < length ends.now }
     requires values { (place + 1) * length ends.now ≤ most_values }
     requires near { place ≤ 2 ^ 45 }
-    requires given { contents_here spec.now (cells_at place (subsets_of (map entry_in entries.now))) ≡ Ok (contents_drawn (spec.now.width / 8) drawn.now) }
+    requires given { contents_here spec.now (cells_at place (subsets_of (map entry_in entries.now)))
+        ≡ Ok (contents_drawn (spec.now.width / 8) drawn.now) }
     requires all { AllDrawn spec.now drawn.now }
     requires many { length drawn.now ≡ length ends.now }
     requires room { length out.old + (2046 + 504 * length ends.now) + 2040 ≤ 2 ^ 63 }
-    ensures put { PutAcross out.old out.new spec.now (across place (subsets_of (map entry_in entries.now))) (2046 + 504 * length ends.now) result }
+    ensures put { PutAcross out.old out.new spec.now
+        (across place (subsets_of (map entry_in entries.now)))
+        (2046 + 504 * length ends.now) result }
     ensures shape { IfOk result (λ t. IsFor spec.now t) }
 {
     match pack(out, drawn, spec) {
@@ -110,7 +118,9 @@ fn pack_next<'a>(
     requires values { place * length ends.now ≤ most_values }
     requires near { place ≤ 2 ^ 45 }
     requires room { length out.old + (2046 + 504 * length ends.now) + 2040 ≤ 2 ^ 63 }
-    ensures put { PutAcross out.old out.new spec.now (across place (subsets_of (map entry_in entries.now))) (2046 + 504 * length ends.now) result }
+    ensures put { PutAcross out.old out.new spec.now
+        (across place (subsets_of (map entry_in entries.now)))
+        (2046 + 504 * length ends.now) result }
     ensures shape { IfOk result (λ t. IsFor spec.now t) }
     ensures values { IfOk result (λ t. (place + 1) * length ends.now ≤ most_values) }
 {

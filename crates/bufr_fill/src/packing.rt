@@ -67,7 +67,8 @@ fn same_text(one: &[u8], other: &[u8], count: usize) -> bool
 pub(crate) fn is_same(one: Drawn<'_>, other: Drawn<'_>, spec: &Spec) -> bool
     requires one { IsDrawn spec.now one }
     requires other { IsDrawn spec.now other }
-    ensures { result ≡ same (content_drawn (spec.now.width / 8) one.entry) (content_drawn (spec.now.width / 8) other.entry) }
+    ensures { result ≡ same (content_drawn (spec.now.width / 8) one.entry)
+        (content_drawn (spec.now.width / 8) other.entry) }
 {
     let count = (spec.width() / 8) as usize;
     match (one, other) {
@@ -84,7 +85,8 @@ pub(crate) fn is_same(one: Drawn<'_>, other: Drawn<'_>, spec: &Spec) -> bool
 fn are_alike(first: Drawn<'_>, drawn: &[Drawn<'_>], spec: &Spec) -> bool
     requires first { IsDrawn spec.now first }
     requires drawn { AllDrawn spec.now drawn.now }
-    ensures { result ≡ are_same (content_drawn (spec.now.width / 8) first.entry) (contents_drawn (spec.now.width / 8) drawn.now) }
+    ensures { result ≡ are_same (content_drawn (spec.now.width / 8) first.entry)
+        (contents_drawn (spec.now.width / 8) drawn.now) }
 {
     for other in drawn {
         if !is_same(first, *other, spec) {
@@ -160,7 +162,8 @@ fn least_bits(spread: u64, may_be_missing: bool) -> u32
 fn increment_of(drawn: Drawn<'_>, base: u64, k: u32) -> u64
     requires narrow { k ≤ 63 }
     requires short { IsShort base k drawn }
-    ensures bits { (count : ℕ) → bits_in result k ≡ increment_bits base k (content_drawn count drawn.entry) }
+    ensures bits { (count : ℕ)
+        → bits_in result k ≡ increment_bits base k (content_drawn count drawn.entry) }
     ensures below { result < 2 ^ k }
 {
     match drawn {
@@ -182,7 +185,8 @@ fn push_increments(
     requires narrow { k ≤ 63 }
     requires short { AreShort base k drawn.now }
     requires room { length out.old + 63 * length drawn.now ≤ 2 ^ 63 }
-    ensures bits { (count : ℕ) → OnOk result (out.new ≡ out.old ++ flat_map (increment_bits base k) (contents_drawn count drawn.now)) }
+    ensures bits { (count : ℕ) → OnOk result
+        (out.new ≡ out.old ++ flat_map (increment_bits base k) (contents_drawn count drawn.now)) }
     ensures most { OnOk result (length out.new ≤ length out.old + 63 * length drawn.now) }
     ensures least { OnOk result (length out.old ≤ length out.new) }
     ensures grown { Grows out.old out.new }
@@ -199,7 +203,8 @@ fn pack_numbers(out: &mut BitWriter, drawn: &[Drawn<'_>], spec: &Spec) -> Result
     requires element { is_reference spec.now.role ≡ false }
     requires drawn { AllDrawn spec.now drawn.now }
     requires room { length out.old + (69 + 63 * length drawn.now) ≤ 2 ^ 63 }
-    ensures { PackedSo out.old out.new (packed_by spec.now.kind spec.now (contents_drawn (spec.now.width / 8) drawn.now)) (69 + 63 * length drawn.now) result }
+    ensures { PackedSo out.old out.new (packed_by spec.now.kind spec.now
+        (contents_drawn (spec.now.width / 8) drawn.now)) (69 + 63 * length drawn.now) result }
 {
     let may_be_missing = spec.may_be_missing();
     let base = lowest_of(drawn).unwrap_or(0);
@@ -277,7 +282,8 @@ fn push_front(
     requires few { k ≤ spec.now.width / 8 }
     requires drawn { IsDrawn spec.now drawn }
     requires room { length out.old + 2040 ≤ 2 ^ 63 }
-    ensures bits { OnOk result (out.new ≡ out.old ++ octet_bits k (content_drawn (spec.now.width / 8) drawn.entry)) }
+    ensures bits { OnOk result
+        (out.new ≡ out.old ++ octet_bits k (content_drawn (spec.now.width / 8) drawn.entry)) }
     ensures len { OnOk result (length out.new ≡ length out.old + 8 * k) }
     ensures grown { Grows out.old out.new }
 {
@@ -302,7 +308,8 @@ fn push_fronts(
     requires short { k ≤ 63 }
     requires drawn { AllDrawn spec.now drawn.now }
     requires room { length out.old + 504 * length drawn.now + 2040 ≤ 2 ^ 63 }
-    ensures bits { OnOk result (out.new ≡ out.old ++ flat_map (octet_bits k) (contents_drawn (spec.now.width / 8) drawn.now)) }
+    ensures bits { OnOk result (out.new
+        ≡ out.old ++ flat_map (octet_bits k) (contents_drawn (spec.now.width / 8) drawn.now)) }
     ensures most { OnOk result (length out.new ≤ length out.old + 504 * length drawn.now) }
     ensures least { OnOk result (length out.old ≤ length out.new) }
     ensures grown { Grows out.old out.new }
@@ -332,7 +339,8 @@ fn pack_texts(out: &mut BitWriter, drawn: &[Drawn<'_>], spec: &Spec) -> Result<(
     requires element { is_reference spec.now.role ≡ false }
     requires drawn { AllDrawn spec.now drawn.now }
     requires room { length out.old + (2046 + 504 * length drawn.now) + 2040 ≤ 2 ^ 63 }
-    ensures { PackedSo out.old out.new (packed_by spec.now.kind spec.now (contents_drawn (spec.now.width / 8) drawn.now)) (2046 + 504 * length drawn.now) result }
+    ensures { PackedSo out.old out.new (packed_by spec.now.kind spec.now
+        (contents_drawn (spec.now.width / 8) drawn.now)) (2046 + 504 * length drawn.now) result }
 {
     // For the proof alone: a text has at most 255 octets.
     let _width = spec.width();
@@ -350,7 +358,9 @@ fn pack_texts(out: &mut BitWriter, drawn: &[Drawn<'_>], spec: &Spec) -> Result<(
 fn pack_alike(out: &mut BitWriter, first: Drawn<'_>, spec: &Spec) -> Result<(), AllocError>
     requires first { IsDrawn spec.now first }
     requires room { length out.old + 2046 + 2040 ≤ 2 ^ 63 }
-    ensures bits { OnOk result (out.new ≡ out.old ++ (bits_for spec.now.width (content_drawn (spec.now.width / 8) first.entry) ++ (bits_in 0 6 ++ []))) }
+    ensures bits { OnOk result (out.new ≡ out.old
+        ++ (bits_for spec.now.width (content_drawn (spec.now.width / 8) first.entry)
+        ++ (bits_in 0 6 ++ []))) }
     ensures some { OnOk result (length out.old < length out.new) }
     ensures most { OnOk result (length out.new ≤ length out.old + 2046) }
     ensures grown { Grows out.old out.new }
@@ -364,7 +374,8 @@ fn pack_alike(out: &mut BitWriter, first: Drawn<'_>, spec: &Spec) -> Result<(), 
 fn pack_unlike(out: &mut BitWriter, drawn: &[Drawn<'_>], spec: &Spec) -> Result<(), Unpacked>
     requires drawn { AllDrawn spec.now drawn.now }
     requires room { length out.old + (2046 + 504 * length drawn.now) + 2040 ≤ 2 ^ 63 }
-    ensures { PackedSo out.old out.new (packed_unlike spec.now.role spec.now (contents_drawn (spec.now.width / 8) drawn.now)) (2046 + 504 * length drawn.now) result }
+    ensures { PackedSo out.old out.new (packed_unlike spec.now.role spec.now
+        (contents_drawn (spec.now.width / 8) drawn.now)) (2046 + 504 * length drawn.now) result }
 {
     match spec.role() {
         Role::Factor => Err(Unpacked::Unequal),
@@ -386,7 +397,8 @@ pub(crate) fn pack(out: &mut BitWriter, drawn: &[Drawn<'_>], spec: &Spec) -> Res
     requires some { 1 ≤ length drawn.now }
     requires drawn { AllDrawn spec.now drawn.now }
     requires room { length out.old + (2046 + 504 * length drawn.now) + 2040 ≤ 2 ^ 63 }
-    ensures { PackedSo out.old out.new (packing spec.now (contents_drawn (spec.now.width / 8) drawn.now)) (2046 + 504 * length drawn.now) result }
+    ensures { PackedSo out.old out.new (packing spec.now
+        (contents_drawn (spec.now.width / 8) drawn.now)) (2046 + 504 * length drawn.now) result }
 {
     if are_alike(drawn[0], drawn, spec) {
         pack_alike(out, drawn[0], spec)?;

@@ -28,7 +28,8 @@ fn push_text(out: &mut BitWriter, octets: &[u8], count: usize) -> Result<(), All
     requires within { length octets.now ≤ count }
     requires most { count ≤ 255 }
     requires room { length out.old + 2040 ≤ 2 ^ 63 }
-    ensures ok { OnOk result (out.new ≡ out.old ++ bits_of (octets.now ++ replicate (count - length octets.now) 32)) }
+    ensures ok { OnOk result
+        (out.new ≡ out.old ++ bits_of (octets.now ++ replicate (count - length octets.now) 32)) }
     ensures len { OnOk result (length out.new ≡ length out.old + 8 * count) }
     ensures err { OnErr result (out.new ≡ out.old) }
 {
@@ -41,7 +42,8 @@ fn signed_bits(value: i64, width: u32) -> u64
     requires some { 1 ≤ width }
     requires narrow { width ≤ 63 }
     requires fits { unsigned_abs value < 2 ^ (width - 1) }
-    ensures bits { bits_in result width ≡ sign_bit value ∷ bits_in (unsigned_abs value) (width - 1) }
+    ensures bits { bits_in result width
+        ≡ sign_bit value ∷ bits_in (unsigned_abs value) (width - 1) }
     ensures below { result < 2 ^ width }
 {
     let size = value.unsigned_abs();
@@ -90,7 +92,8 @@ pub(crate) fn push_drawn(
 ) -> Result<(), AllocError>
     requires drawn { IsDrawn spec.now drawn }
     requires room { length out.old + 2040 ≤ 2 ^ 63 }
-    ensures ok { OnOk result (out.new ≡ out.old ++ bits_for spec.now.width (content_drawn (spec.now.width / 8) drawn.entry)) }
+    ensures ok { OnOk result (out.new
+        ≡ out.old ++ bits_for spec.now.width (content_drawn (spec.now.width / 8) drawn.entry)) }
     ensures some { OnOk result (length out.old < length out.new) }
     ensures most { OnOk result (length out.new ≤ length out.old + 2040) }
     ensures err { OnErr result (out.new ≡ out.old) }

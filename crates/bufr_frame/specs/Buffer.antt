@@ -4,7 +4,10 @@ use Rattle.std.specs.Prelude.{◌≡◌, ℕ, ◌-◌, ◌<◌, ◌≤◌, List,
 use Rattle.bufr_frame.specs.declared.fault.RunFault.{RunFault}
 use Rattle.bufr_frame.specs.declared.fault.RunFault.TheVariants.{Memory}
 
--- The octets stand some places nearer to the front, and room is behind them; or memory was refused, and all is as it was.
+-- The octets stand some places nearer to the front, and room is behind them; or memory was refused,
+-- and all is as it was.
 abbrev pub MakesRoom : (old new : List ℕ) → (len len' start filled : ℕ) → Result ℕ RunFault → Type 0
-MakesRoom old new len len' start filled (Ok slid) = (slid ≤ start) × (filled - slid < len') × (slice_range new (start - slid) (filled - slid) ≡ slice_range old start filled)
+MakesRoom old new len len' start filled (Ok slid) =
+    (slid ≤ start) × (filled - slid < len')
+    × (slice_range new (start - slid) (filled - slid) ≡ slice_range old start filled)
 MakesRoom old new len len' start filled (Err fault) = (fault ≡ Memory) × (new ≡ old) × (len' ≡ len)

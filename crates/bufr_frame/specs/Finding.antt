@@ -38,7 +38,17 @@ held s = length s.before + length s.rest
 
 -- a finder that has read nothing
 abbrev pub fresh : State
-fresh = record { before = []; rest = []; at = 0; ended = false; fault = None; reads = 0; longest = 0; room = 0 }
+fresh =
+    record {
+      before = [];
+      rest = [];
+      at = 0;
+      ended = false;
+      fault = None;
+      reads = 0;
+      longest = 0;
+      room = 0;
+    }
 
 -- the end was reached
 abbrev pub ended_in : Phase → Bool
@@ -60,7 +70,8 @@ pub record Follows (at : ℕ) (s : List ℕ) (at' : ℕ) (rest : List ℕ) : Typ
   pub left : rest ≡ drop passed s
 
 -- A call read octets, passed events, and holds what is left.
-pub record StepSo (left left' : Option (List ℕ)) (old new : State) (bs : List ℕ) (events : List Happening) : Type 0 where
+pub record StepSo (left left' : Option (List ℕ)) (old new : State) (bs : List ℕ)
+    (events : List Happening) : Type 0 where
   pub read : Consumes left left' bs
   pub advances : Advances new.ended old.at (old.rest ++ bs) events new.at new.rest
   pub follows : Follows old.at (old.rest ++ bs) new.at new.rest
@@ -102,7 +113,8 @@ WaitsSo old new = old.reads ≢ new.reads → NoneDecided old.at old.rest
 -- none gave more than so many octets.
 abbrev pub AreWaited : (most at : ℕ) (left : List ℕ) (given : List (List ℕ)) → Type 0
 AreWaited most at left [] = Unit {0}
-AreWaited most at left (octets ∷ more) = NoneDecided at left × (length octets ≤ most) × AreWaited most at (left ++ octets) more
+AreWaited most at left (octets ∷ more) =
+    NoneDecided at left × (length octets ≤ most) × AreWaited most at (left ++ octets) more
 
 -- The octets that a call read are what its reads gave, each of which waited, and gave no more than
 -- may be held.
@@ -113,8 +125,11 @@ pub record EachWaits (old new : State) (bs : List ℕ) : Type 0 where
   pub waited : AreWaited (max 4096 new.longest) old.at old.rest given
 
 -- A call read some octets, told events, and saw the lengths of those whose stated length counts.
-abbrev pub ReadsOn : (left left' : Option (List ℕ)) → (old new : State) → (events seen : List Happening) → Type 0
-ReadsOn left left' old new events seen = (bs : List ℕ) × StepSo left left' old new bs events × (old.fault ≡ None → SeesSo old new bs seen) × EachWaits old new bs
+abbrev pub ReadsOn : (left left' : Option (List ℕ)) → (old new : State)
+    → (events seen : List Happening) → Type 0
+ReadsOn left left' old new events seen =
+    (bs : List ℕ) × StepSo left left' old new bs events
+    × (old.fault ≡ None → SeesSo old new bs seen) × EachWaits old new bs
 
 -- memory is wanted only where the room was less than twice the octets that may be held
 abbrev pub WantsSo : State → State → RunFault → Type 0

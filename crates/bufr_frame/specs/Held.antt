@@ -8,5 +8,8 @@ use Rattle.bufr_frame.specs.declared.finder.Finder.TheInside.{Inside}
 -- its places are in order and inside the buffer, its offsets and counts are small, it holds no more
 -- than the greatest length that was stated asks for, and it searches for `BUFR`
 abbrev pub IsHeld : Inside → Type 0
-IsHeld f = (f.start ≤ f.place) × (f.place ≤ f.filled) × (f.filled ≤ vec_len f.buffer) × (f.base + f.filled ≤ f.reads * 2 ^ 24)
-    × (f.reads ≤ most_reads) × (f.filled - f.start ≤ max 4096 f.longest) × (f.longest < 2 ^ 24) × (f.word ≡ codes "BUFR")
+IsHeld f =
+    (f.start ≤ f.place) × (f.place ≤ f.filled) × (f.filled ≤ vec_len f.buffer)
+    × (f.base + f.filled ≤ f.reads * 2 ^ 24)
+    × (f.reads ≤ most_reads) × (f.filled - f.start ≤ max 4096 f.longest) × (f.longest < 2 ^ 24)
+    × (f.word ≡ codes "BUFR")

@@ -7,14 +7,17 @@ use Rattle.bufr_frame.specs.declared.fault.RunFault.{RunFault}
 use Rattle.bufr_frame.specs.declared.fault.RunFault.TheVariants.{Read, Write, InputTooLong, Memory}
 
 -- One read: its octets stand behind those that were held, and none come only at the end.
-pub record ReadsOnce (left left' : Option (List ℕ)) (old new : List ℕ) (result : Result ℕ RunFault) (bs : List ℕ) : Type 0 where
+pub record ReadsOnce (left left' : Option (List ℕ)) (old new : List ℕ) (result : Result ℕ RunFault)
+    (bs : List ℕ) : Type 0 where
   pub read : Consumes left left' bs
   pub held : new ≡ old ++ bs
-  pub outcome : MatchResult result (λ n. (n ≡ length bs) × (n ≡ 0 → IsAtEnd left')) (λ fault. (fault ≡ Read) × (bs ≡ []))
+  pub outcome : MatchResult result (λ n. (n ≡ length bs) × (n ≡ 0 → IsAtEnd left'))
+      (λ fault. (fault ≡ Read) × (bs ≡ []))
 
 -- how a reading of an input ends: at its end, or by a fault, and never by a write; it is too long
 -- only after 2^32 reads, and memory is wanted only before them
-abbrev pub InputEnds : {X : Type 0} → (left : Option (List ℕ)) → (reads : ℕ) → Result X RunFault → Type 0
+abbrev pub InputEnds : {X : Type 0} → (left : Option (List ℕ)) → (reads : ℕ)
+    → Result X RunFault → Type 0
 InputEnds left reads (Ok x) = IsAtEnd left
 InputEnds left reads (Err Read) = Unit {0}
 InputEnds left reads (Err Write) = ⊥
@@ -23,7 +26,8 @@ InputEnds left reads (Err Memory) = reads < most_reads
 
 -- Reads to the end: their octets stand behind those that were held, and the end was reached unless
 -- there is a fault.
-pub record ReadsInput {X : Type 0} (left left' : Option (List ℕ)) (old new : List ℕ) (reads : ℕ) (result : Result X RunFault) (bs : List ℕ) : Type 0 where
+pub record ReadsInput {X : Type 0} (left left' : Option (List ℕ)) (old new : List ℕ) (reads : ℕ)
+    (result : Result X RunFault) (bs : List ℕ) : Type 0 where
   pub read : Consumes left left' bs
   pub held : new ≡ old ++ bs
   pub ends : InputEnds left' reads result

@@ -18,9 +18,18 @@ pub record Parts : Type 0 where
   pub compressed : Bool
   pub payload : List ℕ
 
-abbrev pub parts_of : List ℕ → Option (List ℕ) → List ℕ → ℕ → (observed compressed : Bool) → List ℕ → Parts
+abbrev pub parts_of : List ℕ → Option (List ℕ) → List ℕ → ℕ
+    → (observed compressed : Bool) → List ℕ → Parts
 parts_of local1 section2 descriptors subsets observed compressed payload =
-    record { local1 = local1; section2 = section2; descriptors = descriptors; subsets = subsets; observed = observed; compressed = compressed; payload = payload }
+    record {
+      local1 = local1;
+      section2 = section2;
+      descriptors = descriptors;
+      subsets = subsets;
+      observed = observed;
+      compressed = compressed;
+      payload = payload;
+    }
 
 -- the octets of section 2
 abbrev pub section2_size : Option (List ℕ) → ℕ
@@ -43,11 +52,13 @@ evened edition front octets = padded (is_padded edition (front + length octets))
 -- or more of section 3, 4 or more of section 4, 4 of section 5
 abbrev pub size_from : (edition local1 : ℕ) → Option (List ℕ) → (descriptors payload : ℕ) → ℕ
 size_from edition local1 section2 descriptors payload =
-    8 + (first_least edition + local1) + section2_size section2 + even_size edition (7 + 2 * descriptors) + even_size edition (4 + payload) + 4
+    8 + (first_least edition + local1) + section2_size section2
+    + even_size edition (7 + 2 * descriptors) + even_size edition (4 + payload) + 4
 
 -- the octets of a message of these parts
 abbrev pub message_size : (edition : ℕ) → Parts → ℕ
-message_size edition p = size_from edition (length p.local1) p.section2 (length p.descriptors) (length p.payload)
+message_size edition p =
+    size_from edition (length p.local1) p.section2 (length p.descriptors) (length p.payload)
 
 -- the most octets that a message has, since three octets state its length
 abbrev pub most_octets : ℕ
@@ -69,7 +80,9 @@ fits_3 h field = nat_le (said h false field) (most_in slots_3 field)
 -- a head that can be written: in edition 3 centre, sub-centre and year have one octet, and local
 -- sub-category and second none
 abbrev pub is_writable : Head → Bool
-is_writable h = (h.edition == 4) || ((h.edition == 3) && (fits_3 h Centre && (fits_3 h Subcentre && (fits_3 h Year && (fits_3 h LocalSubcategory && fits_3 h Second)))))
+is_writable h =
+    (h.edition == 4) || ((h.edition == 3) && (fits_3 h Centre
+    && (fits_3 h Subcentre && (fits_3 h Year && (fits_3 h LocalSubcategory && fits_3 h Second)))))
 
 -- The edition of a head is one that is read, and each of its values fits the octets that section 1
 -- has for it.
@@ -82,7 +95,8 @@ abbrev pub head_octets : Head → (optional : Bool) → List ℕ
 head_octets h optional = octets_in (slots_of h.edition) (said h optional)
 
 abbrev pub section1_octets : Head → List ℕ → (optional : Bool) → List ℕ
-section1_octets h local1 optional = three_octets (first_least h.edition + length local1) ++ head_octets h optional ++ local1
+section1_octets h local1 optional =
+    three_octets (first_least h.edition + length local1) ++ head_octets h optional ++ local1
 
 -- section 4, and section 2 where it is there: the length, a reserved octet, the octets
 abbrev pub section4_octets : List ℕ → List ℕ
@@ -99,12 +113,16 @@ data_flags observed compressed = (if observed then 128 else 0) + (if compressed 
 -- section 3: the length, a reserved octet, the number of subsets, the flags, and behind them the
 -- octets of the descriptors with what makes it even
 abbrev pub section3_octets : List ℕ → (subsets flags : ℕ) → List ℕ
-section3_octets content subsets flags = three_octets (7 + length content) ++ 0 ∷ two_octets subsets ++ flags ∷ content
+section3_octets content subsets flags =
+    three_octets (7 + length content) ++ 0 ∷ two_octets subsets ++ flags ∷ content
 
 -- the octets of a message, section by section
 abbrev pub message_octets : Head → Parts → List ℕ
-message_octets h p = section0_octets (message_size h.edition p) h.edition ++ (section1_octets h p.local1 (is_some p.section2)
-    ++ (section2_octets p.section2 ++ (section3_octets (evened h.edition 7 (octets_of_words p.descriptors)) p.subsets (data_flags p.observed p.compressed)
+message_octets h p =
+    section0_octets (message_size h.edition p) h.edition
+    ++ (section1_octets h p.local1 (is_some p.section2)
+    ++ (section2_octets p.section2 ++ (section3_octets (evened h.edition 7
+    (octets_of_words p.descriptors)) p.subsets (data_flags p.observed p.compressed)
     ++ (section4_octets (evened h.edition 4 p.payload) ++ codes "7777"))))
 
 -- the sections that a message of these parts has; in edition 3 the payload may be followed by the

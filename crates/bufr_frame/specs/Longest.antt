@@ -15,7 +15,8 @@ offset_of (Strayed offset cause) = offset
 -- the greatest length that is stated at these events of s, whose first octet is at offset `at`
 abbrev pub longest_of : (at : ℕ) → List ℕ → List Happening → ℕ
 longest_of at s [] = 0
-longest_of at s (event ∷ more) = max (length_here (drop (offset_of event - at) s)) (longest_of at s more)
+longest_of at s (event ∷ more) =
+    max (length_here (drop (offset_of event - at) s)) (longest_of at s more)
 
 -- the first event, where there is one
 abbrev pub first_event : List Happening → List Happening

@@ -6,8 +6,10 @@ use Rattle.bufr_frame.specs.Scan.{Happening, scan_from, is_decided}
 
 -- The scan of `rest` begins with `events` and goes on at `rest'`, whatever comes behind; behind the
 -- end nothing does.
-pub record Advances (ended : Bool) (at : ℕ) (rest : List ℕ) (events : List Happening) (at' : ℕ) (rest' : List ℕ) : Type 0 where
-  pub whole : (t : List ℕ) → (ended ≡ true → t ≡ []) → scan_from 0 at (rest ++ t) ≡ events ++ scan_from 0 at' (rest' ++ t)
+pub record Advances (ended : Bool) (at : ℕ) (rest : List ℕ) (events : List Happening) (at' : ℕ)
+    (rest' : List ℕ) : Type 0 where
+  pub whole : (t : List ℕ) → (ended ≡ true → t ≡ [])
+      → scan_from 0 at (rest ++ t) ≡ events ++ scan_from 0 at' (rest' ++ t)
   -- while the end is not known, only events are told in which it has no part
   pub decided : ended ≡ false → list_all is_decided events ≡ true
 

@@ -22,14 +22,20 @@ seen_at new (Err fault) = first_event (scan_from 0 new.at new.rest)
 
 -- how a call leaves the finder; a frame is held whole, before what is left
 abbrev pub EndsSo : State → State → Result Event RunFault → Type 0
-EndsSo old new (Ok (Frame offset octets)) = (new.fault ≡ None) × (old.at < new.at) × (12 ≤ length octets.now) × (new.at ≡ offset + length octets.now) × (length octets.now ≤ length new.before)
-EndsSo old new (Ok (Stray offset cause)) = (new.fault ≡ None) × (old.at < new.at) × (new.at ≡ offset + 4)
+EndsSo old new (Ok (Frame offset octets)) =
+    (new.fault ≡ None) × (old.at < new.at) × (12 ≤ length octets.now)
+    × (new.at ≡ offset + length octets.now) × (length octets.now ≤ length new.before)
+EndsSo old new (Ok (Stray offset cause)) =
+    (new.fault ≡ None) × (old.at < new.at) × (new.at ≡ offset + 4)
 EndsSo old new (Ok Done) = (new.fault ≡ None) × IsDone new
-EndsSo old new (Err fault) = (old.ended ≡ false) × (old.fault ≡ None → StopsSo new fault) × (old.fault ≡ None → WantsSo old new fault)
+EndsSo old new (Err fault) =
+    (old.ended ≡ false) × (old.fault ≡ None → StopsSo new fault)
+    × (old.fault ≡ None → WantsSo old new fault)
 
 -- A call reads some octets, and the scan of what was left and of these begins with the event that
 -- it answers; no read of them is made while anything that is left then is certain.
-pub record NextSo (left left' : Option (List ℕ)) (reads reads' : ℕ) (old new : State) (result : Result Event RunFault) : Type 0 where
+pub record NextSo (left left' : Option (List ℕ)) (reads reads' : ℕ) (old new : State)
+    (result : Result Event RunFault) : Type 0 where
   pub steps : ReadsOn left left' old new (told_by result) (seen_at new result)
   pub ends : EndsSo old new result
   pub counts : CountsReads reads reads' old new

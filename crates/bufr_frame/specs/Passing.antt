@@ -46,19 +46,26 @@ pub record PassedSo (old new : State) (passed : Passed) : Type 0 where
 abbrev pub OutcomeSo : State → State → Result (Option Passed) RunFault → Type 0
 OutcomeSo old new (Ok (Some passed)) = PassedSo old new passed
 OutcomeSo old new (Ok None) = (new.fault ≡ None) × IsDone new
-OutcomeSo old new (Err fault) = (old.ended ≡ false) × (old.fault ≡ None → StopsSo new fault) × (old.fault ≡ None → WantsSo old new fault)
+OutcomeSo old new (Err fault) =
+    (old.ended ≡ false) × (old.fault ≡ None → StopsSo new fault)
+    × (old.fault ≡ None → WantsSo old new fault)
 
 -- how a read ends: octets came, or the end was reached, or it failed, or memory was refused before
 -- it
-abbrev pub ReadEnds : (left' : Option (List ℕ)) → State → State → List ℕ → Result (Unit {0}) RunFault → Type 0
-ReadEnds left' old new bs (Ok u) = (new.reads ≡ old.reads + 1) × (new.ended ≡ true → (bs ≡ []) × IsAtEnd left')
+abbrev pub ReadEnds : (left' : Option (List ℕ)) → State → State → List ℕ
+    → Result (Unit {0}) RunFault → Type 0
+ReadEnds left' old new bs (Ok u) =
+    (new.reads ≡ old.reads + 1) × (new.ended ≡ true → (bs ≡ []) × IsAtEnd left')
 ReadEnds left' old new bs (Err Read) = (new.reads ≡ old.reads + 1) × (bs ≡ []) × (new.ended ≡ false)
 ReadEnds left' old new bs (Err Write) = ⊥
 ReadEnds left' old new bs (Err InputTooLong) = ⊥
-ReadEnds left' old new bs (Err Memory) = (new.reads ≡ old.reads) × (bs ≡ []) × (new.ended ≡ false) × (old.room < 2 * max 4096 old.longest)
+ReadEnds left' old new bs (Err Memory) =
+    (new.reads ≡ old.reads) × (bs ≡ []) × (new.ended ≡ false)
+    × (old.room < 2 * max 4096 old.longest)
 
 -- One read: octets come behind those that are left, or the end was reached.
-pub record ReadSo (left left' : Option (List ℕ)) (old new : State) (result : Result (Unit {0}) RunFault) (bs : List ℕ) : Type 0 where
+pub record ReadSo (left left' : Option (List ℕ)) (old new : State)
+    (result : Result (Unit {0}) RunFault) (bs : List ℕ) : Type 0 where
   pub read : Consumes left left' bs
   pub rest : new.rest ≡ old.rest ++ bs
   pub at : new.at ≡ old.at
@@ -75,4 +82,10 @@ pub record KeepsRun (old new : State) : Type 0 where
 
 -- behind the first n octets that are left, where a length is stated
 abbrev pub gone_to : State → (n stated : ℕ) → State
-gone_to s n stated = record s { before = s.before ++ take n s.rest; rest = drop n s.rest; at = s.at + n; longest = max s.longest stated }
+gone_to s n stated =
+    record s {
+      before = s.before ++ take n s.rest;
+      rest = drop n s.rest;
+      at = s.at + n;
+      longest = max s.longest stated;
+    }

@@ -11,7 +11,8 @@ abbrev pub section2_begins : List ℕ → ℕ
 section2_begins m = 8 + three m 8
 
 abbrev pub section3_begins : List ℕ → ℕ
-section3_begins m = if has_section2 m then section2_begins m + three m (section2_begins m) else section2_begins m
+section3_begins m =
+    if has_section2 m then section2_begins m + three m (section2_begins m) else section2_begins m
 
 abbrev pub section4_begins : List ℕ → ℕ
 section4_begins m = section3_begins m + three m (section3_begins m)

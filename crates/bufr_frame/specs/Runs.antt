@@ -21,4 +21,6 @@ most_reads = 2 ^ 32
 -- at most 2^32 reads were made; an input is too long only after all of them, and memory is wanted
 -- only before
 abbrev pub MakesReads : {X : Type 0} → (reads reads' : ℕ) → Result X RunFault → Type 0
-MakesReads reads reads' result = (n : ℕ) × (n ≤ most_reads) × (reads' ≡ counted reads n) × (result ≡ Err InputTooLong → n ≡ most_reads) × (result ≡ Err Memory → n < most_reads)
+MakesReads reads reads' result =
+    (n : ℕ) × (n ≤ most_reads) × (reads' ≡ counted reads n)
+    × (result ≡ Err InputTooLong → n ≡ most_reads) × (result ≡ Err Memory → n < most_reads)

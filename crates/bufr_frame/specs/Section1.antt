@@ -34,14 +34,18 @@ pub data Slot : Type 0 where
 -- edition 3; the sub-category is the data sub-category, the year that of the century as it stands
 abbrev pub slots_3 : List Slot
 slots_3 =
-    Single Master ∷ Single Subcentre ∷ Single Centre ∷ Single Update ∷ Single Flags ∷ Single Category ∷ Single Subcategory
-    ∷ Single MasterVersion ∷ Single LocalVersion ∷ Single Year ∷ Single Month ∷ Single Day ∷ Single Hour ∷ Single Minute ∷ []
+    Single Master ∷ Single Subcentre ∷ Single Centre ∷ Single Update ∷ Single Flags
+    ∷ Single Category ∷ Single Subcategory
+    ∷ Single MasterVersion ∷ Single LocalVersion ∷ Single Year ∷ Single Month ∷ Single Day
+    ∷ Single Hour ∷ Single Minute ∷ []
 
 -- edition 4
 abbrev pub slots_4 : List Slot
 slots_4 =
-    Single Master ∷ Double Centre ∷ Double Subcentre ∷ Single Update ∷ Single Flags ∷ Single Category ∷ Single Subcategory ∷ Single LocalSubcategory
-    ∷ Single MasterVersion ∷ Single LocalVersion ∷ Double Year ∷ Single Month ∷ Single Day ∷ Single Hour ∷ Single Minute ∷ Single Second ∷ []
+    Single Master ∷ Double Centre ∷ Double Subcentre ∷ Single Update ∷ Single Flags
+    ∷ Single Category ∷ Single Subcategory ∷ Single LocalSubcategory
+    ∷ Single MasterVersion ∷ Single LocalVersion ∷ Double Year ∷ Single Month ∷ Single Day
+    ∷ Single Hour ∷ Single Minute ∷ Single Second ∷ []
 
 -- the editions that are read and written
 abbrev pub is_edition : ℕ → Bool
@@ -110,7 +114,8 @@ first_least edition = 3 + octets_of_slots (slots_of edition)
 -- the value of a field, where the first slot begins at place p; 0 where the edition lacks it
 abbrev pub value_in : List Slot → List ℕ → (p : ℕ) → Field → ℕ
 value_in [] m p field = 0
-value_in (slot ∷ more) m p field = if is_for field slot then read_slot m p slot else value_in more m (p + width slot) field
+value_in (slot ∷ more) m p field =
+    if is_for field slot then read_slot m p slot else value_in more m (p + width slot) field
 
 -- the greatest value of a field; 0 where the edition lacks it
 abbrev pub most_in : List Slot → Field → ℕ

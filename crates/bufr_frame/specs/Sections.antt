@@ -28,7 +28,8 @@ pub record Sections : Type 0 where
   pub size : ℕ
 
 infixl 10 ◌>>=◌
-abbrev pub ◌>>=◌ : {A B : Type 0} → Result A SectionFault → (A → Result B SectionFault) → Result B SectionFault
+abbrev pub ◌>>=◌ : {A B : Type 0} → Result A SectionFault → (A → Result B SectionFault)
+    → Result B SectionFault
 (Ok x) >>= f = f x
 (Err e) >>= f = Err e
 
@@ -79,7 +80,9 @@ parts m p1 p2 p3 p4 = record {
 -- a message, of edition 3, that is so long that with its sections 3 and 4 padded, one at least, its
 -- length might not be stated any more
 abbrev pub is_long_edition_3 : List ℕ → (p2 p3 p4 : ℕ) → Bool
-is_long_edition_3 m p2 p3 p4 = nat_lt 16777213 (length m) && (is_padded (edition_of m) (p3 - p2) || is_padded (edition_of m) (p4 - p3))
+is_long_edition_3 m p2 p3 p4 =
+    nat_lt 16777213 (length m)
+    && (is_padded (edition_of m) (p3 - p2) || is_padded (edition_of m) (p4 - p3))
 
 -- the parts, where section 4 ends at the last four octets
 abbrev pub met : List ℕ → (p1 p2 p3 p4 : ℕ) → Result Sections SectionFault

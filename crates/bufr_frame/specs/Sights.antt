@@ -45,11 +45,15 @@ StatedSo m stated = (stated ≡ length_here m) × (stated < 2 ^ 24)
 
 -- what octets show behind which more may come unless the end was reached
 abbrev pub LooksSo : Bool → List ℕ → Sight → Type 0
-LooksSo ended rest (Decided found) = FoundSo ended rest found.place found.here × StatedSo (drop found.place rest) found.stated
-LooksSo ended rest (Open wanted) = (ended ≡ false) × OpenSo rest wanted.place wanted.stated × StatedSo (drop wanted.place rest) wanted.stated
+LooksSo ended rest (Decided found) =
+    FoundSo ended rest found.place found.here × StatedSo (drop found.place rest) found.stated
+LooksSo ended rest (Open wanted) =
+    (ended ≡ false) × OpenSo rest wanted.place wanted.stated
+    × StatedSo (drop wanted.place rest) wanted.stated
 LooksSo ended rest End = (ended ≡ true) × EndSo rest
 
 -- how the greatest length has grown since it was `old`: by the length that the word at the front
 -- states, or not
 abbrev pub Raised : (old now : ℕ) → List ℕ → Type 0
-Raised old now rest = (now ≡ old) ⊎ (IsWord rest × (8 ≤ length rest) × (now ≡ max old (stated rest)))
+Raised old now rest =
+    (now ≡ old) ⊎ (IsWord rest × (8 ≤ length rest) × (now ≡ max old (stated rest)))

@@ -25,7 +25,8 @@ pub(crate) fn make_room(
     requires within { filled ≤ vec_len buffer.old }
     requires less { filled - start < limit }
     requires small { limit ≤ 2 ^ 24 }
-    ensures made { MakesRoom buffer.old.items buffer.new.items (vec_len buffer.old) (vec_len buffer.new) start filled result }
+    ensures made { MakesRoom buffer.old.items buffer.new.items (vec_len buffer.old)
+        (vec_len buffer.new) start filled result }
     ensures grown { OnErr result (vec_capacity buffer.old < 2 * limit) }
     ensures room { vec_capacity buffer.old ≤ vec_capacity buffer.new }
 {
@@ -49,7 +50,8 @@ fn read_at<R: Source>(r: &mut R, buf: &mut [u8], from: usize, to: usize) -> Resu
     requires within { to ≤ length buf.old }
     ensures front { take from buf.new ≡ take from buf.old }
     ensures fits { IfOk result (λ n. from + n ≤ to) }
-    ensures ok { IfOk result (λ n. Consumes (R.left r.old) (R.left r.new) (take n (drop from buf.new))) }
+    ensures ok { IfOk result
+        (λ n. Consumes (R.left r.old) (R.left r.new) (take n (drop from buf.new))) }
     ensures err { OnErr result (Keeps (R.left r.old) (R.left r.new)) }
     ensures end { IfOk result (λ n. n ≡ 0 → IsAtEnd (R.left r.new)) }
     ensures failed { R.failures r.new ≡ failures_after (R.failures r.old) result }
@@ -83,7 +85,8 @@ pub fn read_behind<R: Source>(
 ) -> Result<usize, RunFault>
     requires order { filled < to }
     requires within { to ≤ vec_len buffer.old }
-    ensures read { (bs : List ℕ) × ReadsOnce (R.left r.old) (R.left r.new) (take filled buffer.old.items) (take (filled + length bs) buffer.new.items) result bs }
+    ensures read { (bs : List ℕ) × ReadsOnce (R.left r.old) (R.left r.new)
+        (take filled buffer.old.items) (take (filled + length bs) buffer.new.items) result bs }
     ensures len { vec_len buffer.new ≡ vec_len buffer.old }
     ensures room { vec_capacity buffer.new ≡ vec_capacity buffer.old }
     ensures fits { IfOk result (λ n. filled + n ≤ to) }

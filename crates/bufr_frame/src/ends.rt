@@ -16,7 +16,8 @@ pub(crate) struct Ends {
     pub(crate) second: usize,
     pub(crate) third: usize,
     pub(crate) fourth: usize,
-    ghost ordered: { (25 ≤ first) × (first ≤ second) × (second + 7 ≤ third) × (third + 4 ≤ fourth) },
+    ghost ordered: { (25 ≤ first) × (first ≤ second) × (second + 7 ≤ third)
+        × (third + 4 ≤ fourth) },
     ghost near: { fourth < 2 ^ 34 },
     ghost short: { fourth < third + 2 ^ 24 },
 }
@@ -68,7 +69,8 @@ pub(crate) fn has_second(m: &[u8]) -> bool
 fn second_end(m: &[u8], first: usize) -> Result<usize, SectionFault>
     requires long { 18 ≤ length m.now }
     requires near { first < 2 ^ 31 }
-    ensures value { result ≡ (if has_section2 m.now then section_end m.now 2 4 first else Ok first) }
+    ensures value { result ≡ (if has_section2 m.now
+        then section_end m.now 2 4 first else Ok first) }
     ensures end { first ≤ length m.now - 4 → IfOk result (λ q. q ≤ length m.now - 4) }
     ensures least { IfOk result (λ q. first ≤ q) }
     ensures section2 { IsTrue (has_section2 m.now) → IfOk result (λ q. first + 4 ≤ q) }
@@ -106,7 +108,8 @@ fn is_known(edition: u8) -> bool
 #[tactic(auto, unfolding(crate::specs::Sections::sections_of))]
 pub(crate) fn ends_of(m: &[u8]) -> Result<Ends, SectionFault>
     requires long { 12 ≤ length m.now }
-    ensures value { Gives (λ e. parts m.now e.first e.second e.third e.fourth) result (sections_of m.now) }
+    ensures value { Gives (λ e. parts m.now e.first e.second e.third e.fourth) result
+        (sections_of m.now) }
     ensures within { IfOk result (λ e. e.fourth ≤ length m.now - 4) }
     ensures first { IfOk result (λ e. 8 + first_least (edition_of m.now) ≤ e.first) }
     ensures section2 { IfOk result (λ e. IsTrue (has_section2 m.now) → e.first + 4 ≤ e.second) }

@@ -202,7 +202,8 @@ impl Finder {
         requires sound { self.old.fault ≡ None }
         requires found { FoundSo self.old.ended self.old.rest found.place found.here }
         requires stated { found.stated < 2 ^ 24 }
-        ensures advances { Advances self.new.ended self.old.at self.old.rest (passed_events self.new result) self.new.at self.new.rest }
+        ensures advances { Advances self.new.ended self.old.at self.old.rest
+            (passed_events self.new result) self.new.at self.new.rest }
         ensures follows { Follows self.old.at self.old.rest self.new.at self.new.rest }
         ensures same { KeepsRun self.old self.new }
         ensures passed { PassedSo self.old self.new result }
@@ -231,7 +232,8 @@ impl Finder {
         requires few { self.old.reads < most_reads }
         requires going { self.old.ended ≡ false }
         requires sound { self.old.fault ≡ None }
-        ensures read { (bs : List ℕ) × ReadSo (R.left r.old) (R.left r.new) self.old self.new result bs }
+        ensures read { (bs : List ℕ)
+            × ReadSo (R.left r.old) (R.left r.new) self.old self.new result bs }
         ensures bound { held self.new ≤ max 4096 self.new.longest }
         ensures failed { R.failures r.new ≡ read_failures_after (R.failures r.old) result }
         ensures made { R.reads r.new ≡ counted (R.reads r.old) (self.new.reads - self.old.reads) }
@@ -267,11 +269,13 @@ impl Finder {
 
     /// Goes on behind the next event, where there is one.
     fn advance<R: Source>(&mut self, r: &mut R) -> Result<Option<Passed>, RunFault>
-        ensures steps { ReadsOn (R.left r.old) (R.left r.new) self.old self.new (events_by self.new result) (seen_by self.new result) }
+        ensures steps { ReadsOn (R.left r.old) (R.left r.new) self.old self.new
+            (events_by self.new result) (seen_by self.new result) }
         ensures counts { CountsReads (R.reads r.old) (R.reads r.new) self.old self.new }
         ensures waits { WaitsSo self.old self.new }
         ensures outcome { OutcomeSo self.old self.new result }
-        ensures failed { self.old.fault ≡ None → R.failures r.new ≡ read_failures_after (R.failures r.old) result }
+        ensures failed { self.old.fault ≡ None
+            → R.failures r.new ≡ read_failures_after (R.failures r.old) result }
         ensures again { IfSome self.old.fault (λ fault. result ≡ Err fault) }
         ensures same { IfSome self.old.fault (λ _. r.new ≡ r.old) }
         ensures same_self { IfSome self.old.fault (λ _. self.new ≡ self.old) }
@@ -331,10 +335,12 @@ impl Finder {
     /// was refused. All events that were certain then were given before. After a fault each call
     /// answers the same one, and reads nothing.
     pub fn next<R: Source>(&mut self, r: &mut R) -> Result<Event<'_>, RunFault>
-        ensures failed { self.old.fault ≡ None → R.failures r.new ≡ read_failures_after (R.failures r.old) result }
+        ensures failed { self.old.fault ≡ None
+            → R.failures r.new ≡ read_failures_after (R.failures r.old) result }
         ensures again { AgainSo self.old result }
         ensures same { IfSome self.old.fault (λ _. r.new ≡ r.old) }
-        ensures* next { sem 𝓛 (Rests the_row self.entry (λ new. NextSo (R.left r.old) (R.left r.new) (R.reads r.old) (R.reads r.new) self.old new result)) }
+        ensures* next { sem 𝓛 (Rests the_row self.entry (λ new. NextSo (R.left r.old) (R.left r.new)
+            (R.reads r.old) (R.reads r.new) self.old new result)) }
     {
         match self.advance(r)? {
             None => Ok(Event::Done),

@@ -19,7 +19,8 @@ const CHUNK: usize = 65536;
 fn make_room_behind(octets: &mut Vec<u8>) -> Result<usize, RunFault>
     ensures held { IfOk result (λ held. take held octets.new.items ≡ octets.old.items) }
     ensures room { IfOk result (λ held. vec_len octets.new ≡ held + CHUNK) }
-    ensures err { IfErr result (λ fault. (fault ≡ RunFault.Memory) × (octets.new.items ≡ octets.old.items)) }
+    ensures err { IfErr result
+        (λ fault. (fault ≡ RunFault.Memory) × (octets.new.items ≡ octets.old.items)) }
 {
     let held = octets.len();
     octets.resize(held + CHUNK, 0)?;
@@ -29,7 +30,8 @@ fn make_room_behind(octets: &mut Vec<u8>) -> Result<usize, RunFault>
 /// Reads once behind the first `held` octets, into the room that is there, and keeps no room.
 fn read_once<R: Source>(r: &mut R, octets: &mut Vec<u8>, held: usize) -> Result<usize, RunFault>
     requires room { vec_len octets.old ≡ held + CHUNK }
-    ensures read { (bs : List ℕ) × ReadsOnce (R.left r.old) (R.left r.new) (take held octets.old.items) octets.new.items result bs }
+    ensures read { (bs : List ℕ) × ReadsOnce (R.left r.old) (R.left r.new)
+        (take held octets.old.items) octets.new.items result bs }
     ensures failed { R.failures r.new ≡ read_failures_after (R.failures r.old) result }
     ensures made { R.reads r.new ≡ counted (R.reads r.old) 1 }
 {
@@ -59,7 +61,8 @@ pub fn read_to_end<R: Source>(
     reads: &mut u64,
 ) -> Result<(), RunFault>
     requires { reads.old ≤ most_reads }
-    ensures read { (bs : List ℕ) × ReadsInput (R.left r.old) (R.left r.new) octets.old.items octets.new.items reads.new result bs }
+    ensures read { (bs : List ℕ) × ReadsInput (R.left r.old) (R.left r.new) octets.old.items
+        octets.new.items reads.new result bs }
     ensures failed { R.failures r.new ≡ read_failures_after (R.failures r.old) result }
     ensures made { R.reads r.new ≡ counted (R.reads r.old) (reads.new - reads.old) }
     ensures within { (reads.old ≤ reads.new) × (reads.new ≤ most_reads) }

@@ -22,93 +22,116 @@ pub fn open_scan_is_front()
 /// The events that calls of a finder gave are those of the whole stream, where the end was reached
 /// and what is left holds none.
 pub fn events_to_the_end_are_the_scan()
-    ensures { (s rest : List ℕ) (events : List Happening) (at : ℕ) → Advances true 0 s events at rest → scan_from 0 at rest ≡ [] → scan s ≡ events }
+    ensures { (s rest : List ℕ) (events : List Happening) (at : ℕ)
+        → Advances true 0 s events at rest → scan_from 0 at rest ≡ [] → scan s ≡ events }
 {}
 
 /// The events that calls of a finder gave while the end was not known are the first that are
 /// certain.
 pub fn events_before_the_end_are_certain()
-    ensures { (s rest : List ℕ) (events : List Happening) (at : ℕ) → Advances false 0 s events at rest → (more : List Happening) × (open_scan s ≡ events ++ more) }
+    ensures { (s rest : List ℕ) (events : List Happening) (at : ℕ) → Advances false 0 s events at
+        rest → (more : List Happening) × (open_scan s ≡ events ++ more) }
 {}
 
 /// The events that calls of a finder gave are all that are certain, where nothing that is left is.
 pub fn events_at_a_fault_are_the_open_scan()
-    ensures { (s rest : List ℕ) (events : List Happening) (at : ℕ) → Advances false 0 s events at rest → NoneDecided at rest → open_scan s ≡ events }
+    ensures { (s rest : List ℕ) (events : List Happening) (at : ℕ)
+        → Advances false 0 s events at rest → NoneDecided at rest → open_scan s ≡ events }
 {}
 
 /// The octets that were read from an event's place on are held.
 pub fn octets_from_an_event_on_are_held()
-    ensures { (left left' : Option (List ℕ)) (reads reads' : ℕ) (old new : State) (result : Result Event RunFault)
-        → (next : NextSo left left' reads reads' old new result) → HoldsSo (old.at + length (old.rest ++ next.steps.0)) new result }
+    ensures { (left left' : Option (List ℕ)) (reads reads' : ℕ) (old new : State)
+        (result : Result Event RunFault)
+        → (next : NextSo left left' reads reads' old new result)
+        → HoldsSo (old.at + length (old.rest ++ next.steps.0)) new result }
 {}
 
 /// The greatest length after a call is that of all events given so far.
 pub fn longest_is_that_of_the_events()
-    ensures { (left mid left' : Option (List ℕ)) (s s' : State) (bs bs' : List ℕ) (events es : List Happening)
-        → StepSo left mid fresh s bs events → s.longest ≡ longest_of 0 bs events → StepSo mid left' s s' bs' es → SeesSo s s' bs' es
+    ensures { (left mid left' : Option (List ℕ)) (s s' : State) (bs bs' : List ℕ)
+        (events es : List Happening)
+        → StepSo left mid fresh s bs events → s.longest ≡ longest_of 0 bs events
+        → StepSo mid left' s s' bs' es → SeesSo s s' bs' es
         → s'.longest ≡ longest_of 0 (bs ++ bs') (events ++ es) }
 {}
 
 /// After a fault the first event that is left counts too.
 pub fn longest_at_a_fault_counts_the_open_word()
-    ensures { (left mid left' : Option (List ℕ)) (s s' : State) (bs bs' : List ℕ) (events : List Happening)
-        → StepSo left mid fresh s bs events → s.longest ≡ longest_of 0 bs events → StepSo mid left' s s' bs' [] → SeesSo s s' bs' (first_event (scan_from 0 s'.at s'.rest))
-        → s'.longest ≡ longest_of 0 (bs ++ bs') (events ++ first_event (scan_from 0 s'.at s'.rest)) }
+    ensures { (left mid left' : Option (List ℕ)) (s s' : State) (bs bs' : List ℕ)
+        (events : List Happening)
+        → StepSo left mid fresh s bs events → s.longest ≡ longest_of 0 bs events
+        → StepSo mid left' s s' bs' [] → SeesSo s s' bs' (first_event (scan_from 0 s'.at s'.rest))
+        → s'.longest
+        ≡ longest_of 0 (bs ++ bs') (events ++ first_event (scan_from 0 s'.at s'.rest)) }
 {}
 
 /// Steps of a finder, one after another, are a step: what several calls read and told follows from
 /// what each did.
 pub fn steps_compose()
-    ensures { (left mid left' : Option (List ℕ)) (old s s' : State) (bs bs' : List ℕ) (events es : List Happening)
-        → StepSo left mid old s bs events → StepSo mid left' s s' bs' es → StepSo left left' old s' (bs ++ bs') (events ++ es) }
+    ensures { (left mid left' : Option (List ℕ)) (old s s' : State) (bs bs' : List ℕ)
+        (events es : List Happening)
+        → StepSo left mid old s bs events → StepSo mid left' s s' bs' es
+        → StepSo left left' old s' (bs ++ bs') (events ++ es) }
 {}
 
 /// After the end was told it is told again, and nothing is read.
 pub fn done_comes_again()
-    ensures { (left left' : Option (List ℕ)) (reads reads' : ℕ) (old new : State) (result : Result Event RunFault)
-        → NextSo left left' reads reads' old new result → IsDone old → (result ≡ Ok Event.Done) × (new.reads ≡ old.reads) }
+    ensures { (left left' : Option (List ℕ)) (reads reads' : ℕ) (old new : State)
+        (result : Result Event RunFault)
+        → NextSo left left' reads reads' old new result → IsDone old
+        → (result ≡ Ok Event.Done) × (new.reads ≡ old.reads) }
 {}
 
 /// A message that is written from the parts of another one is no longer than it, but that in
 /// edition 3 up to two octets make sections 3 and 4 even.
 pub fn written_again_is_no_longer()
-    ensures { (m : List ℕ) (s : Sections) → sections_of m ≡ Ok s → message_size s.head.edition (parts_in s) ≤ length m + longer s.head.edition }
+    ensures { (m : List ℕ) (s : Sections) → sections_of m ≡ Ok s
+        → message_size s.head.edition (parts_in s) ≤ length m + longer s.head.edition }
 {}
 
 /// Where a message of edition 3 has even sections 3 and 4, a message that is written from its parts
 /// is no longer: what is written has the least length of all messages with these parts whose
 /// sections 3 and 4 are even.
 pub fn even_sections_are_written_no_longer()
-    ensures { (m : List ℕ) (s : Sections) → sections_of m ≡ Ok s → edition_of m ≡ 3 → three m (section3_begins m) % 2 ≡ 0 → three m (section4_begins m) % 2 ≡ 0
+    ensures { (m : List ℕ) (s : Sections) → sections_of m ≡ Ok s → edition_of m ≡ 3
+        → three m (section3_begins m) % 2 ≡ 0 → three m (section4_begins m) % 2 ≡ 0
         → message_size s.head.edition (parts_in s) ≤ length m }
 {}
 
 /// A message that is written from the parts of another one is not too long.
 pub fn written_again_is_not_too_long()
-    ensures { (m : List ℕ) (s : Sections) → sections_of m ≡ Ok s → length m ≤ most_octets → message_size s.head.edition (parts_in s) ≤ most_octets }
+    ensures { (m : List ℕ) (s : Sections) → sections_of m ≡ Ok s → length m ≤ most_octets
+        → message_size s.head.edition (parts_in s) ≤ most_octets }
 {}
 
 /// A message whose reserved octets and bits are zero, and in whose section 3 no octet is left over,
 /// has the same octets when it is written from its own parts; in edition 3 sections 3 and 4 have an
 /// even number of octets, and the one that is left over in section 3 is zero.
 pub fn plain_messages_are_written_again()
-    ensures { (m : List ℕ) (s : Sections) → IsPlain m → sections_of m ≡ Ok s → message_octets s.head (parts_in s) ≡ m }
+    ensures { (m : List ℕ) (s : Sections) → IsPlain m → sections_of m ≡ Ok s
+        → message_octets s.head (parts_in s) ≡ m }
 {}
 
 /// The head of a message fits its edition, and so can be written.
 pub fn heads_of_messages_can_be_written()
-    ensures { (m : List ℕ) (s : Sections) → ((place : ℕ) → slice_index m place < 256) → sections_of m ≡ Ok s → IsFitting s.head × (is_writable s.head ≡ true) }
+    ensures { (m : List ℕ) (s : Sections) → ((place : ℕ) → slice_index m place < 256)
+        → sections_of m ≡ Ok s → IsFitting s.head × (is_writable s.head ≡ true) }
 {}
 
 /// A payload that was followed by the octet that makes section 4 even is laid out as without it.
 pub fn even_payloads_are_laid_out_alike()
-    ensures { (h : Head) (local1 : List ℕ) (section2 : Option (List ℕ)) (descriptors : List ℕ) (subsets : ℕ) (observed compressed : Bool) (payload : List ℕ)
-        → message_octets h (parts_of local1 section2 descriptors subsets observed compressed (evened h.edition 4 payload))
-        ≡ message_octets h (parts_of local1 section2 descriptors subsets observed compressed payload) }
+    ensures { (h : Head) (local1 : List ℕ) (section2 : Option (List ℕ)) (descriptors : List ℕ)
+        (subsets : ℕ) (observed compressed : Bool) (payload : List ℕ)
+        → message_octets h (parts_of local1 section2 descriptors subsets observed compressed
+        (evened h.edition 4 payload))
+        ≡ message_octets h
+        (parts_of local1 section2 descriptors subsets observed compressed payload) }
 {}
 
 /// A shorter payload makes no longer message.
 pub fn shorter_payloads_make_no_longer_messages()
     ensures { (edition local1 : ℕ) (section2 : Option (List ℕ)) (descriptors n k most : ℕ) → n ≤ k
-        → size_from edition local1 section2 descriptors k ≤ most → size_from edition local1 section2 descriptors n ≤ most }
+        → size_from edition local1 section2 descriptors k ≤ most
+        → size_from edition local1 section2 descriptors n ≤ most }
 {}

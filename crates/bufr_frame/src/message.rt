@@ -130,7 +130,8 @@ fn section2_of(m: &[u8], first: usize, second: usize) -> Option<&[u8]>
     requires long { 18 ≤ length m.now }
     requires within { second ≤ length m.now }
     requires section2 { IsTrue (has_section2 m.now) → first + 4 ≤ second }
-    ensures { option_map (λ s. s.now) result ≡ (if has_section2 m.now then Some (slice_range m.now (first + 4) second) else None) }
+    ensures { option_map (λ s. s.now) result
+        ≡ (if has_section2 m.now then Some (slice_range m.now (first + 4) second) else None) }
 {
     if has_second(m) {
         Some(&m[first + SECTION_2..second])

@@ -26,8 +26,10 @@ fn size_of(
     descriptors: &[u16],
     payload: &[u8],
 ) -> Option<usize>
-    ensures { SomeIff result (size_from edition (length local1.now) (option_map (λ s. s.now) section2.entry) (length descriptors.now) (length payload.now) ≤ most_octets)
-        (size_from edition (length local1.now) (option_map (λ s. s.now) section2.entry) (length descriptors.now) (length payload.now)) }
+    ensures { SomeIff result (size_from edition (length local1.now) (option_map (λ s. s.now)
+        section2.entry) (length descriptors.now) (length payload.now) ≤ most_octets)
+        (size_from edition (length local1.now) (option_map (λ s. s.now) section2.entry)
+        (length descriptors.now) (length payload.now)) }
 {
     let second = match section2 {
         None => 0,
@@ -123,7 +125,8 @@ fn push_section1(
 ) -> Result<(), AllocError>
     requires writable { IsTrue (is_writable head.now) }
     requires short { first_least head.now.edition + length local1.now < 2 ^ 24 }
-    ensures { OnOk result (octets.new.items ≡ octets.old.items ++ section1_octets head.now local1.now optional) }
+    ensures { OnOk result
+        (octets.new.items ≡ octets.old.items ++ section1_octets head.now local1.now optional) }
 {
     push_three(octets, section_1(head.edition) + local1.len())?;
     push_head(octets, head, optional)?;
@@ -143,7 +146,8 @@ fn push_padding(octets: &mut Vec<u8>, pads: bool) -> Result<(), AllocError>
 /// Appends a section 2 or 4: its length, a reserved octet, these octets, and its padding.
 fn push_plain(octets: &mut Vec<u8>, content: &[u8], pads: bool) -> Result<(), AllocError>
     requires { 4 + length (padded pads content.now) < 2 ^ 24 }
-    ensures { OnOk result (octets.new.items ≡ octets.old.items ++ section4_octets (padded pads content.now)) }
+    ensures { OnOk result
+        (octets.new.items ≡ octets.old.items ++ section4_octets (padded pads content.now)) }
 {
     let len = SECTION_4 + content.len();
     push_three(octets, if pads { len + 1 } else { len })?;
@@ -155,7 +159,8 @@ fn push_plain(octets: &mut Vec<u8>, content: &[u8], pads: bool) -> Result<(), Al
 /// Appends section 2, where there is one.
 fn push_section2(octets: &mut Vec<u8>, section2: Option<&[u8]>) -> Result<(), AllocError>
     requires { section2_size (option_map (λ s. s.now) section2) < 2 ^ 24 }
-    ensures { OnOk result (octets.new.items ≡ octets.old.items ++ section2_octets (option_map (λ s. s.now) section2.entry)) }
+    ensures { OnOk result (octets.new.items
+        ≡ octets.old.items ++ section2_octets (option_map (λ s. s.now) section2.entry)) }
 {
     match section2 {
         None => Ok(()),
@@ -182,7 +187,8 @@ fn push_section3(
     flags: u8,
 ) -> Result<(), AllocError>
     requires { even_size edition (7 + 2 * length descriptors.now) < 2 ^ 24 }
-    ensures { OnOk result (octets.new.items ≡ octets.old.items ++ section3_octets (evened edition 7 (octets_of_words descriptors.now)) subsets flags) }
+    ensures { OnOk result (octets.new.items ≡ octets.old.items
+        ++ section3_octets (evened edition 7 (octets_of_words descriptors.now)) subsets flags) }
 {
     let len = SECTION_3 + 2 * descriptors.len();
     push_three(octets, even_len(edition, len))?;
@@ -194,7 +200,8 @@ fn push_section3(
 /// Appends section 4.
 fn push_section4(octets: &mut Vec<u8>, edition: u8, payload: &[u8]) -> Result<(), AllocError>
     requires { even_size edition (4 + length payload.now) < 2 ^ 24 }
-    ensures { OnOk result (octets.new.items ≡ octets.old.items ++ section4_octets (evened edition 4 payload.now)) }
+    ensures { OnOk result
+        (octets.new.items ≡ octets.old.items ++ section4_octets (evened edition 4 payload.now)) }
 {
     push_plain(
         octets,
@@ -258,11 +265,15 @@ pub fn write_message(
     requires { IsTrue (is_writable head.now) }
     // The octets as they are laid out; read as a message they have the parts again.
     ensures layout { IfOk result (λ octets. octets.items ≡ message_octets head.now
-        (parts_of local1.now (option_map (λ s. s.now) section2.entry) descriptors.now subsets observed compressed payload.now)) }
+        (parts_of local1.now (option_map (λ s. s.now) section2.entry) descriptors.now subsets
+        observed compressed payload.now)) }
     ensures read_back { IfOk result (λ octets. sections_of octets.items ≡ Ok (sections_from head.now
-        (parts_of local1.now (option_map (λ s. s.now) section2.entry) descriptors.now subsets observed compressed payload.now))) }
-    ensures too_long { (result ≡ Err WriteFault.TooLong) ↔ (most_octets < message_size head.now.edition
-        (parts_of local1.now (option_map (λ s. s.now) section2.entry) descriptors.now subsets observed compressed payload.now)) }
+        (parts_of local1.now (option_map (λ s. s.now) section2.entry) descriptors.now subsets
+        observed compressed payload.now))) }
+    ensures too_long { (result ≡ Err WriteFault.TooLong) ↔
+        (most_octets < message_size head.now.edition
+        (parts_of local1.now (option_map (λ s. s.now) section2.entry) descriptors.now subsets
+        observed compressed payload.now)) }
 {
     let Some(size) = size_of(head.edition, local1, section2, descriptors, payload) else {
         return Err(WriteFault::TooLong);

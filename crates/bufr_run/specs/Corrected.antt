@@ -25,11 +25,13 @@ normal_by form b document (Ok template) = normal form b template document
 normal_by form b document (Err fault) = []
 
 abbrev pub normal_text : Form → List Row → List Sequence → Document → List ℕ
-normal_text form b d document = normal_by form b document (tree_of (tables_of b d) document.descriptors)
+normal_text form b d document =
+    normal_by form b document (tree_of (tables_of b d) document.descriptors)
 
 -- the text of a document that is encoded, and those behind it; of one that is refused, and behind
 -- it, there is none
-abbrev pub before_refused : Result (List ℕ) RefusedAt → (text : List ℕ) → (more : List (List ℕ)) → List (List ℕ)
+abbrev pub before_refused : Result (List ℕ) RefusedAt → (text : List ℕ)
+    → (more : List (List ℕ)) → List (List ℕ)
 before_refused (Ok octets) text more = text ∷ more
 before_refused (Err refused) text more = []
 
@@ -37,7 +39,9 @@ before_refused (Err refused) text more = []
 -- line that is
 unfoldable pub normal_texts : Form → List Row → List Sequence → List Told → List (List ℕ)
 normal_texts form b d [] = []
-normal_texts form b d (Spelled document ∷ more) = before_refused (encoding_in form b d document) (normal_text form b d document) (normal_texts form b d more)
+normal_texts form b d (Spelled document ∷ more) =
+    before_refused (encoding_in form b d document) (normal_text form b d document)
+    (normal_texts form b d more)
 normal_texts form b d (Refused line fault ∷ more) = []
 
 -- what `encode` writes for a text in a form, and what of that is on its output
@@ -49,12 +53,16 @@ built form b d text = flat_map output_of (form_pieces form b d text)
 
 -- What `encode` builds of a text, dumped, is the text's documents before the first that is refused,
 -- each in the one spelling that a dump has.
-pub record IsDumpedInOneSpelling (form : Form) (b : List Row) (d : List Sequence) (piece : Happening → Piece) (text : List ℕ) : Type 0 where
+pub record IsDumpedInOneSpelling (form : Form) (b : List Row) (d : List Sequence)
+    (piece : Happening → Piece) (text : List ℕ) : Type 0 where
   -- each event is a message that is accepted, and its text is the document's: nothing else, and no
   -- fault
-  pub pieces : dump_pieces piece (built form b d text) ≡ map OnOutput (normal_texts form b d (documents_of text))
-  pub same_text : dumped piece (built form b d text) ≡ concat (normal_texts form b d (documents_of text))
-  pub as_many : count_by is_accepted (dump_pieces piece (built form b d text)) ≡ count_by is_accepted (form_pieces form b d text)
+  pub pieces : dump_pieces piece (built form b d text)
+      ≡ map OnOutput (normal_texts form b d (documents_of text))
+  pub same_text : dumped piece (built form b d text)
+      ≡ concat (normal_texts form b d (documents_of text))
+  pub as_many : count_by is_accepted (dump_pieces piece (built form b d text))
+      ≡ count_by is_accepted (form_pieces form b d text)
   pub none_refused : count_by is_refused (dump_pieces piece (built form b d text)) ≡ 0
   pub no_fault : flat_map errors_of (dump_pieces piece (built form b d text)) ≡ []
   -- and encoded again, each in the form that it says, these texts are the same octets

@@ -12,7 +12,9 @@ use Rattle.bufr_run.specs.FaultLine.{template_fault_text}
 
 -- the line of a fault at a line of the text, from 1: its number and its text
 abbrev pub document_line : (line number : ℕ) → List (List ℕ) → List ℕ
-document_line line number text = joined (codes "line " ∷ decimal line ∷ codes ": " ∷ decimal number ∷ codes " " ∷ (text ++ codes "\n" ∷ []))
+document_line line number text =
+    joined (codes "line " ∷ decimal line ∷ codes ": " ∷ decimal number ∷ codes " "
+    ∷ (text ++ codes "\n" ∷ []))
 
 -- a line that is refused
 abbrev pub refused_line : (line : ℕ) → LineFault → List ℕ
@@ -27,8 +29,10 @@ walk_text number fxy = codes "walk " ∷ decimal number ∷ codes " descriptor "
 
 -- an item that is refused; a factor always tells its count
 abbrev pub item_line : (line : ℕ) → Fault → List ℕ
-item_line line (wrong_descriptor fxy false) = document_line line 51 (codes "expected " ∷ fxy_text fxy ∷ [])
-item_line line (wrong_descriptor fxy true) = document_line line 51 (codes "expected R " ∷ fxy_text fxy ∷ [])
+item_line line (wrong_descriptor fxy false) =
+    document_line line 51 (codes "expected " ∷ fxy_text fxy ∷ [])
+item_line line (wrong_descriptor fxy true) =
+    document_line line 51 (codes "expected R " ∷ fxy_text fxy ∷ [])
 item_line line item_too_many = document_line line 51 (codes "expected end of subset" ∷ [])
 item_line line wrong_number = document_line line 52 (codes "number" ∷ [])
 item_line line out_of_range = document_line line 53 (codes "out of range" ∷ [])
@@ -43,6 +47,8 @@ item_line line no_count = []
 
 -- a document that is refused: its template's fault is told as that of a message
 abbrev pub refusal_line : (line : ℕ) → Refusal → List ℕ
-refusal_line line (by_template why) = document_line line 56 (codes "template " ∷ decimal (number_of_template_fault why) ∷ codes " " ∷ template_fault_text why)
+refusal_line line (by_template why) =
+    document_line line 56 (codes "template " ∷ decimal (number_of_template_fault why) ∷ codes " "
+    ∷ template_fault_text why)
 refusal_line line (by_item why) = item_line line why
 refusal_line line too_long = document_line line 60 (codes "too long" ∷ [])

@@ -23,19 +23,23 @@ use Rattle.bufr_run.specs.Pieces.{Piece, OnOutput, OnErrors, stray_piece, sectio
 
 -- the fault line of a message whose descriptors make no template
 abbrev pub template_piece : ℕ → TemplateFault → Piece
-template_piece offset fault = OnErrors (fault_line offset (number_of_template_fault fault) (template_fault_text fault))
+template_piece offset fault =
+    OnErrors (fault_line offset (number_of_template_fault fault) (template_fault_text fault))
 
 -- the text of a message whose data are read
 abbrev pub dump_text : List Row → Tree → Sections → Values → (used : ℕ) → List ℕ
-dump_text table template s values used = dump_text_of s (items_of (read_by table template (data_of s) used 0) values)
+dump_text table template s values used =
+    dump_text_of s (items_of (read_by table template (data_of s) used 0) values)
 
 -- the text of a message whose data are read by a template, or the fault line of one whose data are
 -- refused
 abbrev pub IsDataPiece : List Row → ℕ → Sections → Tree → Piece → Type 0
 IsDataPiece table offset s template (OnOutput text) =
-    (values : Values) × (used : ℕ) × IsReading (next_item table template) (data_of s) values used × (text ≡ dump_text table template s values used)
+    (values : Values) × (used : ℕ) × IsReading (next_item table template) (data_of s) values used
+    × (text ≡ dump_text table template s values used)
 IsDataPiece table offset s template (OnErrors text) =
-    (why : WalkFault) × (turns : ℕ) × IsRefused (next_item table template) (data_of s) why turns × (text ≡ fault_line offset (number_of_fault why) (walk_fault_text why))
+    (why : WalkFault) × (turns : ℕ) × IsRefused (next_item table template) (data_of s) why turns
+    × (text ≡ fault_line offset (number_of_fault why) (walk_fault_text why))
 
 -- what is written for a message, by the template that its descriptors make, or by the fault of
 -- these
@@ -44,8 +48,10 @@ IsTemplatePiece table offset s (Ok template) piece = IsDataPiece table offset s 
 IsTemplatePiece table offset s (Err fault) piece = piece ≡ template_piece offset fault
 
 -- what is written for a message, by its sections, or by the fault of these
-abbrev pub IsMessagePiece : List Row → List Sequence → ℕ → Result Sections SectionFault → Piece → Type 0
-IsMessagePiece b d offset (Ok s) piece = IsTemplatePiece b offset s (tree_of (tables_of b d) s.descriptors) piece
+abbrev pub IsMessagePiece : List Row → List Sequence → ℕ
+    → Result Sections SectionFault → Piece → Type 0
+IsMessagePiece b d offset (Ok s) piece =
+    IsTemplatePiece b offset s (tree_of (tables_of b d) s.descriptors) piece
 IsMessagePiece b d offset (Err fault) piece = piece ≡ section_piece offset fault
 
 -- what `dump` writes for an event

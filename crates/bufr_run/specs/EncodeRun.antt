@@ -17,37 +17,51 @@ read_documents false bs = open_documents_of bs
 -- The pieces of the whole input were written and counted, whatever is behind the octets that were
 -- read: nothing, where the end was reached, and all that comes behind a refused document counts for
 -- nothing.
-pub record EncodeDone (pieces_of : List Told → List Piece) (left left' output output' errors errors' : Option (List ℕ)) (bs : List ℕ) (tally : Tally) : Type 0 where
+pub record EncodeDone (pieces_of : List Told → List Piece)
+    (left left' output output' errors errors' : Option (List ℕ)) (bs : List ℕ)
+    (tally : Tally) : Type 0 where
   pub read : Consumes left left' bs
   pub ended : Bool
   pub end : ended ≡ true → IfSome left (λ s. bs ≡ s)
-  pub written : (t : List ℕ) → (ended ≡ true → t ≡ []) → Written output output' errors errors' (pieces_of (documents_of (bs ++ t)))
+  pub written : (t : List ℕ) → (ended ≡ true → t ≡ [])
+      → Written output output' errors errors' (pieces_of (documents_of (bs ++ t)))
   -- so much is certain from what was read
   pub certain : Written output output' errors errors' (pieces_of (read_documents ended bs))
-  pub tallies : (t : List ℕ) → (ended ≡ true → t ≡ []) → Tallies tally (pieces_of (documents_of (bs ++ t)))
+  pub tallies : (t : List ℕ) → (ended ≡ true → t ≡ [])
+      → Tallies tally (pieces_of (documents_of (bs ++ t)))
 
 -- The run stopped before the end, and the pieces of the documents whose `end` was read with its
 -- line feed were written: none of these was refused, since that would have ended the run.
-pub record EncodeStopped (pieces_of : List Told → List Piece) (left left' output output' errors errors' : Option (List ℕ)) (bs : List ℕ) : Type 0 where
+pub record EncodeStopped (pieces_of : List Told → List Piece)
+    (left left' output output' errors errors' : Option (List ℕ)) (bs : List ℕ) : Type 0 where
   pub read : Consumes left left' bs
   pub written : Written output output' errors errors' (pieces_of (open_documents_of bs))
   pub accepted : count_by is_refused (pieces_of (open_documents_of bs)) ≡ 0
 
 -- A writer failed, or memory was refused: of what was read a front was written; where a flush was
 -- tried, all stands.
-pub record EncodeCut (pieces_of : List Told → List Piece) (left left' output output' errors errors' : Option (List ℕ)) (unflushed : Type 0) (bs : List ℕ) : Type 0 where
+pub record EncodeCut (pieces_of : List Told → List Piece)
+    (left left' output output' errors errors' : Option (List ℕ)) (unflushed : Type 0)
+    (bs : List ℕ) : Type 0 where
   pub read : Consumes left left' bs
   pub ended : Bool
   pub end : ended ≡ true → IfSome left (λ s. bs ≡ s)
   pub written : WrittenInPart output output' errors errors' (pieces_of (read_documents ended bs))
-  pub flushed : ¬ unflushed → (t : List ℕ) → (ended ≡ true → t ≡ []) → Written output output' errors errors' (pieces_of (documents_of (bs ++ t)))
+  pub flushed : ¬ unflushed → (t : List ℕ) → (ended ≡ true → t ≡ [])
+      → Written output output' errors errors' (pieces_of (documents_of (bs ++ t)))
 
 -- what a run leaves that reads these octets; where memory is wanted no document before was refused
-abbrev pub EncodeSo : (pieces_of : List Told → List Piece) → (left left' output output' errors errors' : Option (List ℕ))
+abbrev pub EncodeSo : (pieces_of : List Told → List Piece)
+    → (left left' output output' errors errors' : Option (List ℕ))
     → (unflushed : Type 0) → List ℕ → Result Tally RunFault → Type 0
-EncodeSo pieces_of left left' output output' errors errors' unflushed bs (Ok tally) = EncodeDone pieces_of left left' output output' errors errors' bs tally
-EncodeSo pieces_of left left' output output' errors errors' unflushed bs (Err Read) = EncodeStopped pieces_of left left' output output' errors errors' bs
-EncodeSo pieces_of left left' output output' errors errors' unflushed bs (Err InputTooLong) = EncodeStopped pieces_of left left' output output' errors errors' bs
+EncodeSo pieces_of left left' output output' errors errors' unflushed bs (Ok tally) =
+    EncodeDone pieces_of left left' output output' errors errors' bs tally
+EncodeSo pieces_of left left' output output' errors errors' unflushed bs (Err Read) =
+    EncodeStopped pieces_of left left' output output' errors errors' bs
+EncodeSo pieces_of left left' output output' errors errors' unflushed bs (Err InputTooLong) =
+    EncodeStopped pieces_of left left' output output' errors errors' bs
 EncodeSo pieces_of left left' output output' errors errors' unflushed bs (Err Memory) =
-    (cut : EncodeCut pieces_of left left' output output' errors errors' unflushed bs) × (count_by is_refused cut.written.given ≡ 0)
-EncodeSo pieces_of left left' output output' errors errors' unflushed bs (Err Write) = EncodeCut pieces_of left left' output output' errors errors' unflushed bs
+    (cut : EncodeCut pieces_of left left' output output' errors errors' unflushed bs)
+    × (count_by is_refused cut.written.given ≡ 0)
+EncodeSo pieces_of left left' output output' errors errors' unflushed bs (Err Write) =
+    EncodeCut pieces_of left left' output output' errors errors' unflushed bs

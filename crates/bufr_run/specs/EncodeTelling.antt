@@ -14,11 +14,21 @@ use Rattle.bufr_run.specs.declared.tally.Verdict.{Verdict}
 
 -- the piece of what the reader told was written and counted, or a front of it; at the end of the
 -- text there is none
-abbrev pub TellsNext : (output output' errors errors' : Option (List ℕ)) → (Told → Piece) → Result (Option Document) ReadFault → Result (Option Verdict) RunFault → Type 0
-TellsNext output output' errors errors' piece next (Ok None) = (next ≡ Ok None) × (output' ≡ output) × (errors' ≡ errors)
-TellsNext output output' errors errors' piece next (Ok (Some verdict)) = (x : Told) × (told_by next ≡ x ∷ []) × TellsPieces output output' errors errors' (piece x ∷ []) (Ok verdict)
-TellsNext output output' errors errors' piece next (Err Read) = (next ≡ Err (Run Read)) × (output' ≡ output) × (errors' ≡ errors)
-TellsNext output output' errors errors' piece next (Err InputTooLong) = (next ≡ Err (Run InputTooLong)) × (output' ≡ output) × (errors' ≡ errors)
-TellsNext output output' errors errors' piece next (Err Write) = (x : Told) × (told_by next ≡ x ∷ []) × TellsPieces output output' errors errors' (piece x ∷ []) (Err Write)
+abbrev pub TellsNext : (output output' errors errors' : Option (List ℕ)) → (Told → Piece)
+    → Result (Option Document) ReadFault → Result (Option Verdict) RunFault → Type 0
+TellsNext output output' errors errors' piece next (Ok None) =
+    (next ≡ Ok None) × (output' ≡ output) × (errors' ≡ errors)
+TellsNext output output' errors errors' piece next (Ok (Some verdict)) =
+    (x : Told) × (told_by next ≡ x ∷ [])
+    × TellsPieces output output' errors errors' (piece x ∷ []) (Ok verdict)
+TellsNext output output' errors errors' piece next (Err Read) =
+    (next ≡ Err (Run Read)) × (output' ≡ output) × (errors' ≡ errors)
+TellsNext output output' errors errors' piece next (Err InputTooLong) =
+    (next ≡ Err (Run InputTooLong)) × (output' ≡ output) × (errors' ≡ errors)
+TellsNext output output' errors errors' piece next (Err Write) =
+    (x : Told) × (told_by next ≡ x ∷ [])
+    × TellsPieces output output' errors errors' (piece x ∷ []) (Err Write)
 TellsNext output output' errors errors' piece next (Err Memory) =
-    ((next ≡ Err (Run Memory)) × (output' ≡ output) × (errors' ≡ errors)) ⊎ ((x : Told) × (told_by next ≡ x ∷ []) × TellsPieces output output' errors errors' (piece x ∷ []) (Err Memory))
+    ((next ≡ Err (Run Memory)) × (output' ≡ output) × (errors' ≡ errors))
+    ⊎ ((x : Told) × (told_by next ≡ x ∷ [])
+    × TellsPieces output output' errors errors' (piece x ∷ []) (Err Memory))

@@ -23,7 +23,8 @@ cause_text NoEnd = codes "no end"
 abbrev pub section_fault_text : SectionFault → List (List ℕ)
 section_fault_text (Edition edition) = codes "edition " ∷ decimal edition ∷ []
 section_fault_text (SectionShort section) = codes "section " ∷ decimal section ∷ codes " short" ∷ []
-section_fault_text (SectionPast section) = codes "section " ∷ decimal section ∷ codes " past the end" ∷ []
+section_fault_text (SectionPast section) =
+    codes "section " ∷ decimal section ∷ codes " past the end" ∷ []
 section_fault_text SectionsEnd = codes "sections do not meet the end" ∷ []
 section_fault_text Edition3Long = codes "edition 3 length" ∷ []
 
@@ -43,7 +44,8 @@ template_fault_text template.Memory = []
 -- what stands at fault, and where: the subset, the descriptor, and the bits before the item
 abbrev pub spot_text : List ℕ → Spot → List (List ℕ)
 spot_text name spot =
-    name ∷ codes " at subset " ∷ decimal spot.subset ∷ codes " descriptor " ∷ fxy_text spot.fxy ∷ codes " bit " ∷ decimal spot.bit ∷ []
+    name ∷ codes " at subset " ∷ decimal spot.subset ∷ codes " descriptor " ∷ fxy_text spot.fxy
+    ∷ codes " bit " ∷ decimal spot.bit ∷ []
 
 -- the text of a fault of the data, in parts; want of memory ends a run, and no line tells it
 abbrev pub walk_fault_text : WalkFault → List (List ℕ)
@@ -57,4 +59,6 @@ walk_fault_text walk.Memory = []
 
 -- the line of a fault at the offset of `BUFR`: its number and its text
 abbrev pub fault_line : (offset number : ℕ) → List (List ℕ) → List ℕ
-fault_line offset number text = joined (codes "offset " ∷ decimal offset ∷ codes ": " ∷ decimal number ∷ codes " " ∷ (text ++ codes "\n" ∷ []))
+fault_line offset number text =
+    joined (codes "offset " ∷ decimal offset ∷ codes ": " ∷ decimal number ∷ codes " "
+    ∷ (text ++ codes "\n" ∷ []))

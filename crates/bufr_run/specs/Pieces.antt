@@ -36,11 +36,13 @@ is_refused (OnErrors text) = true
 
 -- the fault line of a stray word
 abbrev pub stray_piece : ℕ → Cause → Piece
-stray_piece offset cause = OnErrors (fault_line offset (number_of_cause cause) (cause_text cause ∷ []))
+stray_piece offset cause =
+    OnErrors (fault_line offset (number_of_cause cause) (cause_text cause ∷ []))
 
 -- the fault line of a message that cannot be taken apart
 abbrev pub section_piece : ℕ → SectionFault → Piece
-section_piece offset fault = OnErrors (fault_line offset (number_of_section_fault fault) (section_fault_text fault))
+section_piece offset fault =
+    OnErrors (fault_line offset (number_of_section_fault fault) (section_fault_text fault))
 
 -- the line of a message that was taken apart, or the fault line
 abbrev pub listed : ℕ → Result Sections SectionFault → Piece

@@ -72,22 +72,28 @@ pub record IsBuiltAgain (b : List Row) (d : List Sequence) (m written : List ℕ
 
 -- a message is as an encoder writes it, by the one reading that it is accepted with
 abbrev pub IsWrittenSo : List Row → List Sequence → List ℕ → Type 0
-IsWrittenSo b d m = (sections : Sections) (template : Tree) (values : Values) (used : ℕ) → IsAccepted b d m sections template values used → IsCanonical m sections values used
+IsWrittenSo b d m =
+    (sections : Sections) (template : Tree) (values : Values) (used : ℕ)
+    → IsAccepted b d m sections template values used → IsCanonical m sections values used
 
 -- What `dump` writes for a stream, `encode` builds again, and dumped again that is the same text.
-pub record RoundTrips (b : List Row) (d : List Sequence) (piece : Happening → Piece) (s : List ℕ) : Type 0 where
+pub record RoundTrips (b : List Row) (d : List Sequence) (piece : Happening → Piece)
+    (s : List ℕ) : Type 0 where
   -- `encode` refuses nothing, and builds as many messages as were dumped
   pub none_refused : count_by is_refused (rebuilding b d piece s) ≡ 0
   pub no_line : flat_map errors_of (rebuilding b d piece s) ≡ []
-  pub as_many : count_by is_accepted (rebuilding b d piece s) ≡ count_by is_accepted (dump_pieces piece s)
+  pub as_many : count_by is_accepted (rebuilding b d piece s)
+      ≡ count_by is_accepted (dump_pieces piece s)
   -- what it writes is these messages and nothing else, is longer than the stream by no more than
   -- its messages of edition 3 may grow, and each has the reading of the one that was dumped
   pub messages : rebuilt b d piece s ≡ concat (accepted_messages piece (rebuilt b d piece s))
   pub no_longer : length (rebuilt b d piece s) ≤ length s + longer_by (accepted_messages piece s)
-  pub readings : AllZip (IsBuiltAgain b d) (accepted_messages piece s) (accepted_messages piece (rebuilt b d piece s))
+  pub readings : AllZip (IsBuiltAgain b d) (accepted_messages piece s)
+      (accepted_messages piece (rebuilt b d piece s))
   -- dumped again it has the pieces of the stream that went to the output, and no other: the same
   -- text, octet for octet, and no fault
-  pub same_pieces : dump_pieces piece (rebuilt b d piece s) ≡ filter is_accepted (dump_pieces piece s)
+  pub same_pieces : dump_pieces piece (rebuilt b d piece s)
+      ≡ filter is_accepted (dump_pieces piece s)
   pub same_text : dumped piece (rebuilt b d piece s) ≡ dumped piece s
   pub no_fault : flat_map errors_of (dump_pieces piece (rebuilt b d piece s)) ≡ []
   -- and encoded again it stays as it is
@@ -103,7 +109,8 @@ pub record IsRun (ran : RunInMemory) (pieces : List Piece) : Type 0 where
 -- messages dumped again to a text with these faults: the two texts are the same, nothing was
 -- refused but by the first run, and the messages have, one by one, the readings of those that were
 -- dumped.
-pub record IsWholeRound (b : List Row) (d : List Sequence) (stream text messages lines again faults : List ℕ) (first second third : Tally) : Type 0 where
+pub record IsWholeRound (b : List Row) (d : List Sequence)
+    (stream text messages lines again faults : List ℕ) (first second third : Tally) : Type 0 where
   pub same_text : again ≡ text
   pub as_many : second.accepted ≡ first.accepted
   pub none_refused : second.refused ≡ 0
@@ -116,12 +123,17 @@ pub record IsWholeRound (b : List Row) (d : List Sequence) (stream text messages
   -- the messages that were written, and nothing else, each with the reading of the one that was
   -- dumped
   pub are_messages : messages ≡ concat (accepted_messages piece messages)
-  pub readings : AllZip (IsBuiltAgain b d) (accepted_messages piece stream) (accepted_messages piece messages)
+  pub readings : AllZip (IsBuiltAgain b d) (accepted_messages piece stream)
+      (accepted_messages piece messages)
   pub no_longer : length messages ≤ length stream + longer_by (accepted_messages piece stream)
   -- where those that were dumped are as an encoder writes them, these are the same, octet for octet
-  pub canonical : AllByRecursion (IsWrittenSo b d) (accepted_messages piece stream) → messages ≡ concat (accepted_messages piece stream)
+  pub canonical : AllByRecursion (IsWrittenSo b d) (accepted_messages piece stream)
+      → messages ≡ concat (accepted_messages piece stream)
 
 -- the same of three runs into memory
 abbrev pub IsWholeRoundOf : List Row → List Sequence → (stream : List ℕ) → Round → Type 0
-IsWholeRoundOf b d stream round = IsWholeRound b d stream (taken_of round.text.output) (taken_of round.messages.output) (taken_of round.messages.errors)
-    (taken_of round.again.output) (taken_of round.again.errors) round.text.tally round.messages.tally round.again.tally
+IsWholeRoundOf b d stream round =
+    IsWholeRound b d stream (taken_of round.text.output) (taken_of round.messages.output)
+    (taken_of round.messages.errors)
+    (taken_of round.again.output) (taken_of round.again.errors) round.text.tally
+    round.messages.tally round.again.tally

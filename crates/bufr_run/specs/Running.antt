@@ -12,12 +12,14 @@ use Rattle.bufr_run.specs.Pieces.{Piece, output_of, errors_of, is_accepted, is_r
 use Rattle.bufr_run.specs.declared.tally.Tally.{Tally}
 
 -- All of the pieces were written, each on its writer, in order.
-pub record Written (old_output new_output old_errors new_errors : Option (List ℕ)) (pieces : List Piece) : Type 0 where
+pub record Written (old_output new_output old_errors new_errors : Option (List ℕ))
+    (pieces : List Piece) : Type 0 where
   pub output : Appends old_output new_output (flat_map output_of pieces)
   pub errors : Appends old_errors new_errors (flat_map errors_of pieces)
 
 -- The first pieces were written whole, and of the next one a front.
-pub record WrittenInPart (old_output new_output old_errors new_errors : Option (List ℕ)) (pieces : List Piece) : Type 0 where
+pub record WrittenInPart (old_output new_output old_errors new_errors : Option (List ℕ))
+    (pieces : List Piece) : Type 0 where
   pub given : List Piece
   pub next : Option Piece
   pub rest : List Piece
@@ -34,14 +36,17 @@ pub record Tallies (tally : Tally) (pieces : List Piece) : Type 0 where
   pub refused : tally.refused ≡ count_by is_refused pieces
 
 -- The input was read to its end, its pieces were written and counted.
-pub record RunDone (pieces_of : List Happening → List Piece) (left left' output output' errors errors' : Option (List ℕ)) (bs : List ℕ) (tally : Tally) : Type 0 where
+pub record RunDone (pieces_of : List Happening → List Piece)
+    (left left' output output' errors errors' : Option (List ℕ)) (bs : List ℕ)
+    (tally : Tally) : Type 0 where
   pub read : Consumes left left' bs
   pub end : IsAtEnd left'
   pub written : Written output output' errors errors' (pieces_of (scan bs))
   pub tallies : Tallies tally (pieces_of (scan bs))
 
 -- The run stopped before the end, and the pieces of all that was certain were written.
-pub record RunStopped (pieces_of : List Happening → List Piece) (left left' output output' errors errors' : Option (List ℕ)) (bs : List ℕ) : Type 0 where
+pub record RunStopped (pieces_of : List Happening → List Piece)
+    (left left' output output' errors errors' : Option (List ℕ)) (bs : List ℕ) : Type 0 where
   pub read : Consumes left left' bs
   pub written : Written output output' errors errors' (pieces_of (open_scan bs))
 
@@ -53,12 +58,15 @@ read_events false bs = open_scan bs
 
 -- A writer failed, or memory was refused: of what was read a front was written; where a flush was
 -- tried, all stands.
-pub record RunCut (pieces_of : List Happening → List Piece) (left left' output output' errors errors' : Option (List ℕ)) (unflushed : Type 0) (bs : List ℕ) : Type 0 where
+pub record RunCut (pieces_of : List Happening → List Piece)
+    (left left' output output' errors errors' : Option (List ℕ)) (unflushed : Type 0)
+    (bs : List ℕ) : Type 0 where
   pub read : Consumes left left' bs
   pub ended : Bool
   pub end : ended ≡ true → IsAtEnd left'
   pub written : WrittenInPart output output' errors errors' (pieces_of (read_events ended bs))
-  pub flushed : ¬ unflushed → (ended ≡ true) × Written output output' errors errors' (pieces_of (scan bs))
+  pub flushed : ¬ unflushed
+      → (ended ≡ true) × Written output output' errors errors' (pieces_of (scan bs))
 
 -- fewer than 2^32 reads were made
 abbrev pub ReadsFewer : (reads reads' : ℕ) → Type 0
@@ -66,14 +74,20 @@ ReadsFewer reads reads' = (n : ℕ) × (n < most_reads) × (reads' ≡ counted r
 
 -- what a run leaves that reads these octets; memory is wanted where a piece was to be written, or
 -- early, before all of the reads were made
-abbrev pub RunSo : (pieces_of : List Happening → List Piece) → (left left' output output' errors errors' : Option (List ℕ))
+abbrev pub RunSo : (pieces_of : List Happening → List Piece)
+    → (left left' output output' errors errors' : Option (List ℕ))
     → (unflushed early : Type 0) → List ℕ → Result Tally RunFault → Type 0
-RunSo pieces_of left left' output output' errors errors' unflushed early bs (Ok tally) = RunDone pieces_of left left' output output' errors errors' bs tally
-RunSo pieces_of left left' output output' errors errors' unflushed early bs (Err Read) = RunStopped pieces_of left left' output output' errors errors' bs
-RunSo pieces_of left left' output output' errors errors' unflushed early bs (Err InputTooLong) = RunStopped pieces_of left left' output output' errors errors' bs
+RunSo pieces_of left left' output output' errors errors' unflushed early bs (Ok tally) =
+    RunDone pieces_of left left' output output' errors errors' bs tally
+RunSo pieces_of left left' output output' errors errors' unflushed early bs (Err Read) =
+    RunStopped pieces_of left left' output output' errors errors' bs
+RunSo pieces_of left left' output output' errors errors' unflushed early bs (Err InputTooLong) =
+    RunStopped pieces_of left left' output output' errors errors' bs
 RunSo pieces_of left left' output output' errors errors' unflushed early bs (Err Memory) =
-    (cut : RunCut pieces_of left left' output output' errors errors' unflushed bs) × (cut.written.next ≡ None → early)
-RunSo pieces_of left left' output output' errors errors' unflushed early bs (Err Write) = RunCut pieces_of left left' output output' errors errors' unflushed bs
+    (cut : RunCut pieces_of left left' output output' errors errors' unflushed bs)
+    × (cut.written.next ≡ None → early)
+RunSo pieces_of left left' output output' errors errors' unflushed early bs (Err Write) =
+    RunCut pieces_of left left' output output' errors errors' unflushed bs
 
 -- a run's pieces, each what its event is to put on the writers
 abbrev pub GivesPieces : (Happening → Piece → Type 0) → (Happening → Piece) → Type 0
@@ -81,4 +95,6 @@ GivesPieces is_piece piece = (here : Happening) → is_piece here (piece here)
 
 -- at most 2^32 reads were made; an input is too long only after all of them
 abbrev pub ReadsAtMost : {X : Type 0} → (reads reads' : ℕ) → Result X RunFault → Type 0
-ReadsAtMost reads reads' result = (n : ℕ) × (n ≤ most_reads) × (reads' ≡ counted reads n) × (result ≡ Err InputTooLong → n ≡ most_reads)
+ReadsAtMost reads reads' result =
+    (n : ℕ) × (n ≤ most_reads) × (reads' ≡ counted reads n)
+    × (result ≡ Err InputTooLong → n ≡ most_reads)

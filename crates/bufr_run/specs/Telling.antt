@@ -22,13 +22,22 @@ counted_refused Refused = 1
 
 -- one more piece in a tally
 abbrev pub tally_after : Tally → Verdict → Tally
-tally_after tally verdict = record { accepted = tally.accepted + counted_accepted verdict; refused = tally.refused + counted_refused verdict }
+tally_after tally verdict =
+    record {
+      accepted = tally.accepted + counted_accepted verdict;
+      refused = tally.refused + counted_refused verdict;
+    }
 
 -- pieces were written and counted, or a front of them, where a writer failed or memory was refused
-abbrev pub TellsPieces : (output output' errors errors' : Option (List ℕ)) → List Piece → Result Verdict RunFault → Type 0
+abbrev pub TellsPieces : (output output' errors errors' : Option (List ℕ)) → List Piece
+    → Result Verdict RunFault → Type 0
 TellsPieces output output' errors errors' pieces (Ok verdict) =
-    Written output output' errors errors' pieces × (counted_accepted verdict ≡ count_by is_accepted pieces) × (counted_refused verdict ≡ count_by is_refused pieces)
-TellsPieces output output' errors errors' pieces (Err fault) = GrowsByFront output output' (flat_map output_of pieces) × GrowsByFront errors errors' (flat_map errors_of pieces)
+    Written output output' errors errors' pieces
+    × (counted_accepted verdict ≡ count_by is_accepted pieces)
+    × (counted_refused verdict ≡ count_by is_refused pieces)
+TellsPieces output output' errors errors' pieces (Err fault) =
+    GrowsByFront output output' (flat_map output_of pieces)
+    × GrowsByFront errors errors' (flat_map errors_of pieces)
 
 -- a piece is stopped by a writer, or by want of memory where its text takes memory
 abbrev pub StopsPiece : (takes_memory : Bool) → Result Verdict RunFault → Type 0
@@ -40,6 +49,7 @@ StopsPiece takes_memory (Err Memory) = takes_memory ≡ true
 
 -- the reads of a run; where its texts take no memory, it is wanted only before all of the reads
 -- were made
-abbrev pub RunReads : {X : Type 0} → (takes_memory : Bool) → (reads reads' : ℕ) → Result X RunFault → Type 0
+abbrev pub RunReads : {X : Type 0} → (takes_memory : Bool) → (reads reads' : ℕ)
+    → Result X RunFault → Type 0
 RunReads false reads reads' result = MakesReads reads reads' result
 RunReads true reads reads' result = ReadsAtMost reads reads' result

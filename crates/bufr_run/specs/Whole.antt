@@ -14,13 +14,18 @@ use Rattle.bufr_run.specs.declared.tally.Tally.{Tally}
 
 -- the pieces were written and counted
 abbrev pub Tells : (output output' errors errors' : Option (List ℕ)) → Tally → List Piece → Type 0
-Tells output output' errors errors' tally pieces = Written output output' errors errors' pieces × Tallies tally pieces
+Tells output output' errors errors' tally pieces =
+    Written output output' errors errors' pieces × Tallies tally pieces
 
 -- the pieces that `dump` has for the octets by these tables were written and counted
-abbrev pub Dumps : List Row → List Sequence → (output output' errors errors' : Option (List ℕ)) → Tally → List ℕ → Type 0
+abbrev pub Dumps : List Row → List Sequence → (output output' errors errors' : Option (List ℕ))
+    → Tally → List ℕ → Type 0
 Dumps b d output output' errors errors' tally s =
-    (piece : Happening → Piece) × GivesPieces (IsDumpPiece b d) piece × Tells output output' errors errors' tally (map piece (scan s))
+    (piece : Happening → Piece) × GivesPieces (IsDumpPiece b d) piece
+    × Tells output output' errors errors' tally (map piece (scan s))
 
 -- the pieces that `encode` has for the octets by these tables were written and counted
-abbrev pub Encodes : Form → List Row → List Sequence → (output output' errors errors' : Option (List ℕ)) → Tally → List ℕ → Type 0
-Encodes form b d output output' errors errors' tally s = Tells output output' errors errors' tally (encode_pieces form b d (documents_of s))
+abbrev pub Encodes : Form → List Row → List Sequence
+    → (output output' errors errors' : Option (List ℕ)) → Tally → List ℕ → Type 0
+Encodes form b d output output' errors errors' tally s =
+    Tells output output' errors errors' tally (encode_pieces form b d (documents_of s))

@@ -16,6 +16,8 @@ ghost use Rattle.bufr_run.specs.Running.{GivesPieces};
 /// is refused (or before the line that is), each in the one spelling that a dump has; and these
 /// texts are encoded to the same octets again.
 pub fn encoded_texts_are_dumped_in_one_spelling()
-    ensures { (form : Form) (records : List Record) (table_b : List Row) (table_d : List Sequence) (piece : Happening → Piece) (text : List ℕ)
-        → AreRows records table_b → GivesPieces (IsDumpPiece table_b table_d) piece → IsDumpedInOneSpelling form table_b table_d piece text }
+    ensures { (form : Form) (records : List Record) (table_b : List Row) (table_d : List Sequence)
+        (piece : Happening → Piece) (text : List ℕ)
+        → AreRows records table_b → GivesPieces (IsDumpPiece table_b table_d) piece
+        → IsDumpedInOneSpelling form table_b table_d piece text }
 {}

@@ -27,7 +27,8 @@ fn write_line<'a, E: Sink>(
     digits: &'a [u8],
     e: &mut E,
 ) -> Result<(), RunFault>
-    ensures writes { Writes (E.taken e.old) (E.taken e.new) (document_line line number (text.entry.now ∷ digits.entry.now ∷ [])) result }
+    ensures writes { Writes (E.taken e.old) (E.taken e.new)
+        (document_line line number (text.entry.now ∷ digits.entry.now ∷ [])) result }
     ensures counts { OnlyWrites E.failures E.empty_writes E.flushes e.old e.new result }
 {
     let parts = [
@@ -51,7 +52,8 @@ fn write_descriptor_line<E: Sink>(
     fxy: Fxy,
     e: &mut E,
 ) -> Result<(), RunFault>
-    ensures writes { Writes (E.taken e.old) (E.taken e.new) (document_line line number (text.now ∷ fxy_text fxy ∷ [])) result }
+    ensures writes { Writes (E.taken e.old) (E.taken e.new)
+        (document_line line number (text.now ∷ fxy_text fxy ∷ [])) result }
     ensures counts { OnlyWrites E.failures E.empty_writes E.flushes e.old e.new result }
 {
     let digits = fxy.text();
@@ -67,7 +69,8 @@ fn write_expected<E: Sink>(
     e: &mut E,
 ) -> Result<(), RunFault>
     requires { number ≡ number_of_document_fault (DocumentFault.WrongDescriptor line expected) }
-    ensures writes { Writes (E.taken e.old) (E.taken e.new) (item_line line (other_than expected)) result }
+    ensures writes { Writes (E.taken e.old) (E.taken e.new)
+        (item_line line (other_than expected)) result }
     ensures counts { OnlyWrites E.failures E.empty_writes E.flushes e.old e.new result }
 {
     match expected {
@@ -86,7 +89,8 @@ fn write_template<E: Sink>(
 ) -> Result<(), RunFault>
     requires some { fault.now ≢ TemplateFault.Memory }
     requires numbered { number ≡ number_of_document_fault (DocumentFault.Template line fault.now) }
-    ensures writes { Writes (E.taken e.old) (E.taken e.new) (refusal_line line (by_template fault.now)) result }
+    ensures writes { Writes (E.taken e.old) (E.taken e.new)
+        (refusal_line line (by_template fault.now)) result }
     ensures counts { OnlyWrites E.failures E.empty_writes E.flushes e.old e.new result }
 {
     let (name, fxy) = name_of_template_fault(fault);
@@ -105,7 +109,9 @@ fn write_template_parts<'a, E: Sink>(
     digits: &'a [u8],
     e: &mut E,
 ) -> Result<(), RunFault>
-    ensures writes { Writes (E.taken e.old) (E.taken e.new) (document_line line number (codes "template " ∷ decimal why ∷ codes " " ∷ name.entry.now ∷ digits.entry.now ∷ [])) result }
+    ensures writes { Writes (E.taken e.old) (E.taken e.new)
+        (document_line line number (codes "template " ∷ decimal why ∷ codes " " ∷ name.entry.now
+        ∷ digits.entry.now ∷ [])) result }
     ensures counts { OnlyWrites E.failures E.empty_writes E.flushes e.old e.new result }
 {
     let parts = [
@@ -133,7 +139,8 @@ fn write_walk_parts<E: Sink>(
     fxy: Fxy,
     e: &mut E,
 ) -> Result<(), RunFault>
-    ensures writes { Writes (E.taken e.old) (E.taken e.new) (document_line line number (walk_text why fxy)) result }
+    ensures writes { Writes (E.taken e.old) (E.taken e.new)
+        (document_line line number (walk_text why fxy)) result }
     ensures counts { OnlyWrites E.failures E.empty_writes E.flushes e.old e.new result }
 {
     let digits = fxy.text();
@@ -160,7 +167,8 @@ fn write_walk<E: Sink>(
     e: &mut E,
 ) -> Result<(), RunFault>
     requires { number ≡ number_of_document_fault (DocumentFault.Walk line refusal) }
-    ensures writes { Writes (E.taken e.old) (E.taken e.new) (item_line line (walk_told refusal)) result }
+    ensures writes { Writes (E.taken e.old) (E.taken e.new)
+        (item_line line (walk_told refusal)) result }
     ensures counts { OnlyWrites E.failures E.empty_writes E.flushes e.old e.new result }
 {
     let why = refusal.number();
@@ -180,7 +188,8 @@ fn write_walk<E: Sink>(
 pub fn write_document_fault<E: Sink>(fault: DocumentFault, e: &mut E) -> Result<(), RunFault>
     requires some { fault ≢ DocumentFault.Memory }
     requires template { (line : ℕ) → fault ≢ DocumentFault.Template line TemplateFault.Memory }
-    ensures writes { IfSome (told_refusal fault) (λ refused. Writes (E.taken e.old) (E.taken e.new) (refusal_line refused.line refused.why) result) }
+    ensures writes { IfSome (told_refusal fault) (λ refused.
+        Writes (E.taken e.old) (E.taken e.new) (refusal_line refused.line refused.why) result) }
     ensures counts { OnlyWrites E.failures E.empty_writes E.flushes e.old e.new result }
 {
     let number = fault.number();
@@ -211,7 +220,8 @@ pub fn write_document_fault<E: Sink>(fault: DocumentFault, e: &mut E) -> Result<
 /// [`RunFault::Write`] where the writer fails or takes nothing; a front of the line was taken.
 pub fn write_read_fault<E: Sink>(fault: ReadFault, e: &mut E) -> Result<(), RunFault>
     requires { (run : RunFault) → fault ≢ ReadFault.Run run }
-    ensures writes { (line : ℕ) (why : LineFault) → told_by (Err fault) ≡ Refused line why ∷ [] → Writes (E.taken e.old) (E.taken e.new) (refused_line line why) result }
+    ensures writes { (line : ℕ) (why : LineFault) → told_by (Err fault) ≡ Refused line why ∷ []
+        → Writes (E.taken e.old) (E.taken e.new) (refused_line line why) result }
     ensures err { IfErr result (λ why. why ≡ RunFault.Write) }
     ensures counts { OnlyWrites E.failures E.empty_writes E.flushes e.old e.new result }
 {

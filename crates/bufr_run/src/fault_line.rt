@@ -31,7 +31,8 @@ fn stray_text(cause: Cause) -> &'static [u8]
 ///
 /// [`RunFault::Write`] where the writer fails or takes nothing; a front of the line was taken.
 pub fn write_stray<E: Sink>(offset: u64, cause: Cause, e: &mut E) -> Result<(), RunFault>
-    ensures writes { Writes (E.taken e.old) (E.taken e.new) (fault_line offset (number_of_cause cause) (cause_text cause ∷ [])) result }
+    ensures writes { Writes (E.taken e.old) (E.taken e.new)
+        (fault_line offset (number_of_cause cause) (cause_text cause ∷ [])) result }
     ensures counts { OnlyWrites E.failures E.empty_writes E.flushes e.old e.new result }
 {
     let number = cause.number();
@@ -49,7 +50,8 @@ pub fn write_section_fault<E: Sink>(
     fault: SectionFault,
     e: &mut E,
 ) -> Result<(), RunFault>
-    ensures writes { Writes (E.taken e.old) (E.taken e.new) (fault_line offset (number_of_section_fault fault) (section_fault_text fault)) result }
+    ensures writes { Writes (E.taken e.old) (E.taken e.new)
+        (fault_line offset (number_of_section_fault fault) (section_fault_text fault)) result }
     ensures counts { OnlyWrites E.failures E.empty_writes E.flushes e.old e.new result }
 {
     let number = fault.number();
@@ -108,7 +110,9 @@ pub fn write_template_fault<E: Sink>(
     e: &mut E,
 ) -> Result<(), RunFault>
     requires { fault.now ≢ TemplateFault.Memory }
-    ensures writes { Writes (E.taken e.old) (E.taken e.new) (fault_line offset (number_of_template_fault fault.now) (template_fault_text fault.now)) result }
+    ensures writes { Writes (E.taken e.old) (E.taken e.new)
+        (fault_line offset (number_of_template_fault fault.now) (template_fault_text fault.now))
+        result }
     ensures counts { OnlyWrites E.failures E.empty_writes E.flushes e.old e.new result }
 {
     let (name, fxy) = name_of_template_fault(fault);
@@ -124,7 +128,8 @@ fn write_descriptor_fault<E: Sink>(
     fxy: Fxy,
     e: &mut E,
 ) -> Result<(), RunFault>
-    ensures writes { Writes (E.taken e.old) (E.taken e.new) (fault_line offset number (name.now ∷ fxy_text fxy ∷ [])) result }
+    ensures writes { Writes (E.taken e.old) (E.taken e.new)
+        (fault_line offset number (name.now ∷ fxy_text fxy ∷ [])) result }
     ensures counts { OnlyWrites E.failures E.empty_writes E.flushes e.old e.new result }
 {
     let digits = fxy.text();
@@ -155,7 +160,8 @@ fn name_of_walk_fault(fault: &WalkFault) -> (&'static [u8], Spot)
 /// [`RunFault::Write`] where the writer fails or takes nothing; a front of the line was taken.
 pub fn write_walk_fault<E: Sink>(offset: u64, fault: &WalkFault, e: &mut E) -> Result<(), RunFault>
     requires { fault.now ≢ WalkFault.Memory }
-    ensures writes { Writes (E.taken e.old) (E.taken e.new) (fault_line offset (number_of_fault fault.now) (walk_fault_text fault.now)) result }
+    ensures writes { Writes (E.taken e.old) (E.taken e.new)
+        (fault_line offset (number_of_fault fault.now) (walk_fault_text fault.now)) result }
     ensures counts { OnlyWrites E.failures E.empty_writes E.flushes e.old e.new result }
 {
     let (name, spot) = name_of_walk_fault(fault);
@@ -175,7 +181,8 @@ fn write_spot_fault<'a, E: Sink>(
     e: &mut E,
 ) -> Result<(), RunFault>
     requires { digits.now ≡ fxy_text spot.fxy }
-    ensures writes { Writes (E.taken e.old) (E.taken e.new) (fault_line offset number (spot_text name.now spot)) result }
+    ensures writes { Writes (E.taken e.old) (E.taken e.new)
+        (fault_line offset number (spot_text name.now spot)) result }
     ensures counts { OnlyWrites E.failures E.empty_writes E.flushes e.old e.new result }
 {
     let parts = [
@@ -207,7 +214,9 @@ fn write_fault<'a, E: Sink>(
     e: &mut E,
 ) -> Result<(), RunFault>
     requires { IsShort value }
-    ensures writes { Writes (E.taken e.old) (E.taken e.new) (fault_line offset number (before.entry.now ∷ part_text value.entry ∷ after.entry.now ∷ [])) result }
+    ensures writes { Writes (E.taken e.old) (E.taken e.new)
+        (fault_line offset number (before.entry.now ∷ part_text value.entry ∷ after.entry.now ∷ []))
+        result }
     ensures counts { OnlyWrites E.failures E.empty_writes E.flushes e.old e.new result }
 {
     let parts = [

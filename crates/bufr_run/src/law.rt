@@ -10,7 +10,8 @@ ghost use Rattle.bufr_run.specs.Running.{GivesPieces};
 
 /// By each Table B that records write and any Table D, each event has a piece.
 pub fn each_event_has_a_piece()
-    ensures { (records : List Record) (table_b : List Row) (table_d : List Sequence) → AreRows records table_b
+    ensures { (records : List Record) (table_b : List Row) (table_d : List Sequence)
+        → AreRows records table_b
         → (piece : Happening → Piece) × GivesPieces (IsDumpPiece table_b table_d) piece }
 {}
 

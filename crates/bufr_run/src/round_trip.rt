@@ -118,14 +118,19 @@ pub fn dump_encode_dump(
     table_b: &TableB,
     table_d: &TableD,
 ) -> Result<Round, RunFault>
-    ensures dump { (piece : Happening → Piece) → GivesPieces (IsDumpPiece table_b.now table_d.now) piece
+    ensures dump { (piece : Happening → Piece)
+        → GivesPieces (IsDumpPiece table_b.now table_d.now) piece
         → IfOk result (λ round. IsRun round.text (dump_pieces piece stream.now)) }
-    ensures encode { IfOk result (λ round. IsRun round.messages (text_pieces table_b.now table_d.now (taken_of round.text.output))) }
-    ensures dump_again { (piece : Happening → Piece) → GivesPieces (IsDumpPiece table_b.now table_d.now) piece
-        → IfOk result (λ round. IsRun round.again (dump_pieces piece (taken_of round.messages.output))) }
+    ensures encode { IfOk result (λ round.
+        IsRun round.messages (text_pieces table_b.now table_d.now (taken_of round.text.output))) }
+    ensures dump_again { (piece : Happening → Piece)
+        → GivesPieces (IsDumpPiece table_b.now table_d.now) piece
+        → IfOk result
+        (λ round. IsRun round.again (dump_pieces piece (taken_of round.messages.output))) }
     // By a Table B that was read, nothing is refused, the two texts are the same, and so are the
     // messages' readings.
-    ensures round { (records : List Record) → AreRows records table_b.now → IfOk result (IsWholeRoundOf table_b.now table_d.now stream.now) }
+    ensures round { (records : List Record) → AreRows records table_b.now
+        → IfOk result (IsWholeRoundOf table_b.now table_d.now stream.now) }
 {
     let text = dump_octets(alloc, stream, room, table_b, table_d)?;
     let messages = encode_octets(alloc, text.output.taken(), room, table_b, table_d)?;

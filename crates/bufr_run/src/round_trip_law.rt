@@ -20,8 +20,10 @@ ghost use Rattle.bufr_run.specs.declared.tally.Tally.{Tally};
 /// 3, whose sections 3 and 4 are made even; and dumped again they are the same text, octet for
 /// octet.
 pub fn dumped_streams_are_built_again()
-    ensures { (records : List Record) (table_b : List Row) (table_d : List Sequence) (piece : Happening → Piece) (s : List ℕ)
-        → AreRows records table_b → GivesPieces (IsDumpPiece table_b table_d) piece → AllByRecursion IsOctet s
+    ensures { (records : List Record) (table_b : List Row) (table_d : List Sequence)
+        (piece : Happening → Piece) (s : List ℕ)
+        → AreRows records table_b → GivesPieces (IsDumpPiece table_b table_d) piece
+        → AllByRecursion IsOctet s
         → RoundTrips table_b table_d piece s }
 {}
 
@@ -30,9 +32,12 @@ pub fn dumped_streams_are_built_again()
 /// are packed, the least octets of data with zero bits at their end), they are built of the dump
 /// text octet for octet.
 pub fn canonical_streams_are_built_as_they_are()
-    ensures { (records : List Record) (table_b : List Row) (table_d : List Sequence) (piece : Happening → Piece) (s : List ℕ)
-        → AreRows records table_b → GivesPieces (IsDumpPiece table_b table_d) piece → AllByRecursion IsOctet s
-        → AllByRecursion (IsWrittenSo table_b table_d) (accepted_messages piece s) → rebuilt table_b table_d piece s ≡ concat (accepted_messages piece s) }
+    ensures { (records : List Record) (table_b : List Row) (table_d : List Sequence)
+        (piece : Happening → Piece) (s : List ℕ)
+        → AreRows records table_b → GivesPieces (IsDumpPiece table_b table_d) piece
+        → AllByRecursion IsOctet s
+        → AllByRecursion (IsWrittenSo table_b table_d) (accepted_messages piece s)
+        → rebuilt table_b table_d piece s ≡ concat (accepted_messages piece s) }
 {}
 
 /// Runs of the program that went through, each over what the one before wrote, by the same tables:
@@ -40,10 +45,13 @@ pub fn canonical_streams_are_built_as_they_are()
 /// the first, the messages have one by one the readings of those that were dumped, and canonical
 /// messages are the same octet for octet.
 pub fn runs_close_the_round()
-    ensures { (records : List Record) (table_b : List Row) (table_d : List Sequence) (stream text messages lines again faults : List ℕ) (e e' : Option (List ℕ)) (first second third : Tally)
+    ensures { (records : List Record) (table_b : List Row) (table_d : List Sequence)
+        (stream text messages lines again faults : List ℕ) (e e' : Option (List ℕ))
+        (first second third : Tally)
         → AreRows records table_b → AllByRecursion IsOctet stream
         → Dumps table_b table_d (Some []) (Some text) e e' first stream
-        → Encodes AsWritten table_b table_d (Some []) (Some messages) (Some []) (Some lines) second text
+        → Encodes AsWritten table_b table_d (Some []) (Some messages) (Some [])
+        (Some lines) second text
         → Dumps table_b table_d (Some []) (Some again) (Some []) (Some faults) third messages
         → IsWholeRound table_b table_d stream text messages lines again faults first second third }
 {}

@@ -43,9 +43,11 @@ fn dump_data<W: Sink, E: Sink>(
     e: &mut E,
 ) -> Result<Verdict, RunFault>
     ensures tells { (piece : Piece) → IsDataPiece table_b.now offset message.now template.now piece
-        → TellsPieces (W.taken w.old) (W.taken w.new) (E.taken e.old) (E.taken e.new) (piece ∷ []) result }
+        → TellsPieces (W.taken w.old) (W.taken w.new) (E.taken e.old) (E.taken e.new)
+        (piece ∷ []) result }
     ensures stops { StopsPiece true result }
-    ensures counts { BlamesWriter W.failures W.empty_writes w.old w.new E.failures E.empty_writes e.old e.new result }
+    ensures counts { BlamesWriter W.failures W.empty_writes w.old w.new E.failures E.empty_writes
+        e.old e.new result }
     ensures output_flushes { W.flushes w.new ≡ W.flushes w.old }
     ensures errors_flushes { E.flushes e.new ≡ E.flushes e.old }
 {
@@ -73,12 +75,15 @@ fn dump_message<W: Sink, E: Sink>(
     w: &mut W,
     e: &mut E,
 ) -> Result<Verdict, RunFault>
-    ensures tells { (piece : Piece) → IsMessagePiece templates.old.table_b templates.old.table_d offset (Ok message.now) piece
-        → TellsPieces (W.taken w.old) (W.taken w.new) (E.taken e.old) (E.taken e.new) (piece ∷ []) result }
+    ensures tells { (piece : Piece)
+        → IsMessagePiece templates.old.table_b templates.old.table_d offset (Ok message.now) piece
+        → TellsPieces (W.taken w.old) (W.taken w.new) (E.taken e.old) (E.taken e.new)
+        (piece ∷ []) result }
     ensures stops { StopsPiece true result }
     ensures table_b { templates.new.table_b ≡ templates.old.table_b }
     ensures table_d { templates.new.table_d ≡ templates.old.table_d }
-    ensures counts { BlamesWriter W.failures W.empty_writes w.old w.new E.failures E.empty_writes e.old e.new result }
+    ensures counts { BlamesWriter W.failures W.empty_writes w.old w.new E.failures E.empty_writes
+        e.old e.new result }
     ensures output_flushes { W.flushes w.new ≡ W.flushes w.old }
     ensures errors_flushes { E.flushes e.new ≡ E.flushes e.old }
 {
@@ -102,12 +107,15 @@ fn dump_event<W: Sink, E: Sink>(
     e: &mut E,
 ) -> Result<Verdict, RunFault>
     requires { IsEvent event }
-    ensures tells { (piece : Happening → Piece) → GivesPieces (IsDumpPiece templates.old.table_b templates.old.table_d) piece
-        → TellsPieces (W.taken w.old) (W.taken w.new) (E.taken e.old) (E.taken e.new) (map piece (told event.entry)) result }
+    ensures tells { (piece : Happening → Piece)
+        → GivesPieces (IsDumpPiece templates.old.table_b templates.old.table_d) piece
+        → TellsPieces (W.taken w.old) (W.taken w.new) (E.taken e.old) (E.taken e.new)
+        (map piece (told event.entry)) result }
     ensures stops { StopsPiece true result }
     ensures table_b { templates.new.table_b ≡ templates.old.table_b }
     ensures table_d { templates.new.table_d ≡ templates.old.table_d }
-    ensures counts { BlamesWriter W.failures W.empty_writes w.old w.new E.failures E.empty_writes e.old e.new result }
+    ensures counts { BlamesWriter W.failures W.empty_writes w.old w.new E.failures E.empty_writes
+        e.old e.new result }
     ensures output_flushes { W.flushes w.new ≡ W.flushes w.old }
     ensures errors_flushes { E.flushes e.new ≡ E.flushes e.old }
 {
@@ -184,20 +192,26 @@ pub fn run_dump<R: Source, W: Sink, E: Sink>(
     table_d: &TableD,
 ) -> Result<Tally, RunFault>
     // At `Ok` the writers hold exactly the pieces of the whole input, and the tally counts them.
-    ensures whole { (piece : Happening → Piece) → GivesPieces (IsDumpPiece table_b.now table_d.now) piece → IfOk result (λ tally. IfSome (R.left r.old) (λ s.
-        Written (W.taken w.old) (W.taken w.new) (E.taken e.old) (E.taken e.new) (map piece (scan s)) × Tallies tally (map piece (scan s)))) }
+    ensures whole { (piece : Happening → Piece) → GivesPieces (IsDumpPiece table_b.now table_d.now)
+        piece → IfOk result (λ tally. IfSome (R.left r.old) (λ s.
+        Written (W.taken w.old) (W.taken w.new) (E.taken e.old) (E.taken e.new) (map piece (scan s))
+        × Tallies tally (map piece (scan s)))) }
     // The errors are flushed only where the output was before.
     ensures order { E.flushes e.new ≢ E.flushes e.old → W.handed_on w.new ≡ true }
     ensures flushed { OnOk result ((W.handed_on w.new ≡ true) × (E.handed_on e.new ≡ true)) }
     // The same over the octets that were read, and what a fault leaves.
-    ensures run { (bs : List ℕ) × ((piece : Happening → Piece) → GivesPieces (IsDumpPiece table_b.now table_d.now) piece
-        → RunSo (map piece) (R.left r.old) (R.left r.new) (W.taken w.old) (W.taken w.new) (E.taken e.old) (E.taken e.new)
-        ((W.flushes w.new ≡ W.flushes w.old) × (E.flushes e.new ≡ E.flushes e.old)) (ReadsFewer (R.reads r.old) (R.reads r.new)) bs result) }
+    ensures run { (bs : List ℕ)
+        × ((piece : Happening → Piece) → GivesPieces (IsDumpPiece table_b.now table_d.now) piece
+        → RunSo (map piece) (R.left r.old) (R.left r.new) (W.taken w.old) (W.taken w.new)
+        (E.taken e.old) (E.taken e.new)
+        ((W.flushes w.new ≡ W.flushes w.old) × (E.flushes e.new ≡ E.flushes e.old))
+        (ReadsFewer (R.reads r.old) (R.reads r.new)) bs result) }
 
     // Each fault comes only where its device failed in this call.
     ensures reader { R.failures r.new ≡ read_failures_after (R.failures r.old) result }
     ensures reads { ReadsAtMost (R.reads r.old) (R.reads r.new) result }
-    ensures writers { BlamesWriter W.failures W.empty_writes w.old w.new E.failures E.empty_writes e.old e.new result }
+    ensures writers { BlamesWriter W.failures W.empty_writes w.old w.new E.failures E.empty_writes
+        e.old e.new result }
 {
     let mut dumping = Dumping {
         alloc,

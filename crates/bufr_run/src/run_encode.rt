@@ -31,9 +31,11 @@ fn encode_one<W: Sink, E: Sink>(
     w: &mut W,
     e: &mut E,
 ) -> Result<Verdict, RunFault>
-    ensures tells { TellsPieces (W.taken w.old) (W.taken w.new) (E.taken e.old) (E.taken e.new) (told_piece form table_b.now table_d.now (Spelled document.now) ∷ []) result }
+    ensures tells { TellsPieces (W.taken w.old) (W.taken w.new) (E.taken e.old) (E.taken e.new)
+        (told_piece form table_b.now table_d.now (Spelled document.now) ∷ []) result }
     ensures stops { StopsPiece true result }
-    ensures counts { BlamesWriter W.failures W.empty_writes w.old w.new E.failures E.empty_writes e.old e.new result }
+    ensures counts { BlamesWriter W.failures W.empty_writes w.old w.new E.failures E.empty_writes
+        e.old e.new result }
     ensures output_flushes { W.flushes w.new ≡ W.flushes w.old }
     ensures errors_flushes { E.flushes e.new ≡ E.flushes e.old }
 {
@@ -65,8 +67,10 @@ fn encode_next<W: Sink, E: Sink>(
 ) -> Result<Option<Verdict>, RunFault>
     requires { next ≢ Err (ReadFault.Run RunFault.Write) }
     ensures reader { reader.new ≡ reader.old }
-    ensures tells { TellsNext (W.taken w.old) (W.taken w.new) (E.taken e.old) (E.taken e.new) (told_piece form table_b.now table_d.now) next result }
-    ensures counts { BlamesWriter W.failures W.empty_writes w.old w.new E.failures E.empty_writes e.old e.new result }
+    ensures tells { TellsNext (W.taken w.old) (W.taken w.new) (E.taken e.old) (E.taken e.new)
+        (told_piece form table_b.now table_d.now) next result }
+    ensures counts { BlamesWriter W.failures W.empty_writes w.old w.new E.failures E.empty_writes
+        e.old e.new result }
     ensures output_flushes { W.flushes w.new ≡ W.flushes w.old }
     ensures errors_flushes { E.flushes e.new ≡ E.flushes e.old }
 {
@@ -96,11 +100,14 @@ fn encode_documents<R: Source, W: Sink, E: Sink>(
     table_d: &TableD,
     form: Form,
 ) -> Result<Tally, RunFault>
-    ensures run { (bs : List ℕ) × EncodeSo (encode_pieces form table_b.now table_d.now) (R.left r.old) (R.left r.new) (W.taken w.old) (W.taken w.new) (E.taken e.old) (E.taken e.new)
+    ensures run { (bs : List ℕ) × EncodeSo (encode_pieces form table_b.now table_d.now)
+        (R.left r.old) (R.left r.new) (W.taken w.old) (W.taken w.new)
+        (E.taken e.old) (E.taken e.new)
         (Unit {0}) bs result }
     ensures reader { R.failures r.new ≡ read_failures_after (R.failures r.old) result }
     ensures reads { ReadsAtMost (R.reads r.old) (R.reads r.new) result }
-    ensures writers { BlamesWriter W.failures W.empty_writes w.old w.new E.failures E.empty_writes e.old e.new result }
+    ensures writers { BlamesWriter W.failures W.empty_writes w.old w.new E.failures E.empty_writes
+        e.old e.new result }
     ensures output_flushes { W.flushes w.new ≡ W.flushes w.old }
     ensures errors_flushes { E.flushes e.new ≡ E.flushes e.old }
 {
@@ -154,19 +161,23 @@ pub fn run_encode_form<R: Source, W: Sink, E: Sink>(
 ) -> Result<Tally, RunFault>
     // At `Ok` the writers hold exactly the pieces of the whole input, and the tally counts them.
     ensures whole { IfOk result (λ tally. IfSome (R.left r.old) (λ s.
-        Written (W.taken w.old) (W.taken w.new) (E.taken e.old) (E.taken e.new) (encode_pieces form table_b.now table_d.now (documents_of s))
+        Written (W.taken w.old) (W.taken w.new) (E.taken e.old) (E.taken e.new)
+        (encode_pieces form table_b.now table_d.now (documents_of s))
         × Tallies tally (encode_pieces form table_b.now table_d.now (documents_of s)))) }
     // The errors are flushed only where the output was before.
     ensures order { E.flushes e.new ≢ E.flushes e.old → W.handed_on w.new ≡ true }
     ensures flushed { OnOk result ((W.handed_on w.new ≡ true) × (E.handed_on e.new ≡ true)) }
     // The same over the octets that were read, and what a fault leaves.
-    ensures run { (bs : List ℕ) × EncodeSo (encode_pieces form table_b.now table_d.now) (R.left r.old) (R.left r.new) (W.taken w.old) (W.taken w.new) (E.taken e.old) (E.taken e.new)
+    ensures run { (bs : List ℕ) × EncodeSo (encode_pieces form table_b.now table_d.now)
+        (R.left r.old) (R.left r.new) (W.taken w.old) (W.taken w.new)
+        (E.taken e.old) (E.taken e.new)
         ((W.flushes w.new ≡ W.flushes w.old) × (E.flushes e.new ≡ E.flushes e.old)) bs result }
 
     // Each fault comes only where its device failed in this call.
     ensures reader { R.failures r.new ≡ read_failures_after (R.failures r.old) result }
     ensures reads { ReadsAtMost (R.reads r.old) (R.reads r.new) result }
-    ensures writers { BlamesWriter W.failures W.empty_writes w.old w.new E.failures E.empty_writes e.old e.new result }
+    ensures writers { BlamesWriter W.failures W.empty_writes w.old w.new E.failures E.empty_writes
+        e.old e.new result }
 {
     let tally = encode_documents(alloc, r, w, e, table_b, table_d, form)?;
     flush(w)?;
@@ -200,19 +211,23 @@ pub fn run_encode<R: Source, W: Sink, E: Sink>(
 ) -> Result<Tally, RunFault>
     // At `Ok` the writers hold exactly the pieces of the whole input, and the tally counts them.
     ensures whole { IfOk result (λ tally. IfSome (R.left r.old) (λ s.
-        Written (W.taken w.old) (W.taken w.new) (E.taken e.old) (E.taken e.new) (encode_pieces AsWritten table_b.now table_d.now (documents_of s))
+        Written (W.taken w.old) (W.taken w.new) (E.taken e.old) (E.taken e.new)
+        (encode_pieces AsWritten table_b.now table_d.now (documents_of s))
         × Tallies tally (encode_pieces AsWritten table_b.now table_d.now (documents_of s)))) }
     // The errors are flushed only where the output was before.
     ensures order { E.flushes e.new ≢ E.flushes e.old → W.handed_on w.new ≡ true }
     ensures flushed { OnOk result ((W.handed_on w.new ≡ true) × (E.handed_on e.new ≡ true)) }
     // The same over the octets that were read, and what a fault leaves.
-    ensures run { (bs : List ℕ) × EncodeSo (encode_pieces AsWritten table_b.now table_d.now) (R.left r.old) (R.left r.new) (W.taken w.old) (W.taken w.new) (E.taken e.old) (E.taken e.new)
+    ensures run { (bs : List ℕ) × EncodeSo (encode_pieces AsWritten table_b.now table_d.now)
+        (R.left r.old) (R.left r.new) (W.taken w.old) (W.taken w.new)
+        (E.taken e.old) (E.taken e.new)
         ((W.flushes w.new ≡ W.flushes w.old) × (E.flushes e.new ≡ E.flushes e.old)) bs result }
 
     // Each fault comes only where its device failed in this call.
     ensures reader { R.failures r.new ≡ read_failures_after (R.failures r.old) result }
     ensures reads { ReadsAtMost (R.reads r.old) (R.reads r.new) result }
-    ensures writers { BlamesWriter W.failures W.empty_writes w.old w.new E.failures E.empty_writes e.old e.new result }
+    ensures writers { BlamesWriter W.failures W.empty_writes w.old w.new E.failures E.empty_writes
+        e.old e.new result }
 {
     run_encode_form(alloc, r, w, e, table_b, table_d, Form::AsWritten)
 }

@@ -38,11 +38,14 @@ pub trait Teller {
     ) -> Result<Verdict, RunFault>
         requires { IsEvent event }
         ensures tells { (piece : Happening → Piece) → GivesPieces (is_piece self.old) piece
-            → TellsPieces (W.taken w.old) (W.taken w.new) (E.taken e.old) (E.taken e.new) (map piece (told event.entry)) result }
+            → TellsPieces (W.taken w.old) (W.taken w.new) (E.taken e.old) (E.taken e.new)
+            (map piece (told event.entry)) result }
         ensures stops { StopsPiece (takes_memory self.old) result }
-        ensures same { (piece : Happening → Piece) → GivesPieces (is_piece self.old) piece → GivesPieces (is_piece self.new) piece }
+        ensures same { (piece : Happening → Piece) → GivesPieces (is_piece self.old) piece
+            → GivesPieces (is_piece self.new) piece }
         ensures memory { takes_memory self.new ≡ takes_memory self.old }
-        ensures counts { BlamesWriter W.failures W.empty_writes w.old w.new E.failures E.empty_writes e.old e.new result }
+        ensures counts { BlamesWriter W.failures W.empty_writes w.old w.new E.failures
+            E.empty_writes e.old e.new result }
         ensures output_flushes { W.flushes w.new ≡ W.flushes w.old }
         ensures errors_flushes { E.flushes e.new ≡ E.flushes e.old };
 }
@@ -77,12 +80,16 @@ pub fn run_events<T: Teller, R: Source, W: Sink, E: Sink>(
 ) -> Result<Tally, RunFault>
     ensures order { E.flushes e.new ≢ E.flushes e.old → W.handed_on w.new ≡ true }
     ensures flushed { OnOk result ((W.handed_on w.new ≡ true) × (E.handed_on e.new ≡ true)) }
-    ensures run { (bs : List ℕ) × ((piece : Happening → Piece) → GivesPieces (T.is_piece teller.old) piece
-        → RunSo (map piece) (R.left r.old) (R.left r.new) (W.taken w.old) (W.taken w.new) (E.taken e.old) (E.taken e.new)
-        ((W.flushes w.new ≡ W.flushes w.old) × (E.flushes e.new ≡ E.flushes e.old)) (ReadsFewer (R.reads r.old) (R.reads r.new)) bs result) }
+    ensures run { (bs : List ℕ)
+        × ((piece : Happening → Piece) → GivesPieces (T.is_piece teller.old) piece
+        → RunSo (map piece) (R.left r.old) (R.left r.new) (W.taken w.old) (W.taken w.new)
+        (E.taken e.old) (E.taken e.new)
+        ((W.flushes w.new ≡ W.flushes w.old) × (E.flushes e.new ≡ E.flushes e.old))
+        (ReadsFewer (R.reads r.old) (R.reads r.new)) bs result) }
     ensures reader { R.failures r.new ≡ read_failures_after (R.failures r.old) result }
     ensures reads { RunReads (T.takes_memory teller.old) (R.reads r.old) (R.reads r.new) result }
-    ensures writers { BlamesWriter W.failures W.empty_writes w.old w.new E.failures E.empty_writes e.old e.new result }
+    ensures writers { BlamesWriter W.failures W.empty_writes w.old w.new E.failures E.empty_writes
+        e.old e.new result }
 {
     let mut finder = Finder::new(alloc);
     let mut tally = Tally {

@@ -18,9 +18,11 @@ use std::alloc::Global;
 /// Writes the line of an event.
 fn list_event<W: Sink, E: Sink>(event: Event<'_>, w: &mut W, e: &mut E) -> Result<Verdict, RunFault>
     requires { IsEvent event }
-    ensures tells { TellsPieces (W.taken w.old) (W.taken w.new) (E.taken e.old) (E.taken e.new) (map ls_piece (told event.entry)) result }
+    ensures tells { TellsPieces (W.taken w.old) (W.taken w.new) (E.taken e.old) (E.taken e.new)
+        (map ls_piece (told event.entry)) result }
     ensures stops { StopsPiece false result }
-    ensures counts { BlamesWriter W.failures W.empty_writes w.old w.new E.failures E.empty_writes e.old e.new result }
+    ensures counts { BlamesWriter W.failures W.empty_writes w.old w.new E.failures E.empty_writes
+        e.old e.new result }
     ensures output_flushes { W.flushes w.new ≡ W.flushes w.old }
     ensures errors_flushes { E.flushes e.new ≡ E.flushes e.old }
 {
@@ -90,18 +92,22 @@ pub fn run_ls<R: Source, W: Sink, E: Sink>(
 ) -> Result<Tally, RunFault>
     // At `Ok` the writers hold exactly the lines of the whole input, and the tally counts them.
     ensures whole { IfOk result (λ tally. IfSome (R.left r.old) (λ s.
-        Written (W.taken w.old) (W.taken w.new) (E.taken e.old) (E.taken e.new) (ls_pieces s) × Tallies tally (ls_pieces s))) }
+        Written (W.taken w.old) (W.taken w.new) (E.taken e.old) (E.taken e.new) (ls_pieces s)
+        × Tallies tally (ls_pieces s))) }
     // The errors are flushed only where the output was before.
     ensures order { E.flushes e.new ≢ E.flushes e.old → W.handed_on w.new ≡ true }
     ensures flushed { OnOk result ((W.handed_on w.new ≡ true) × (E.handed_on e.new ≡ true)) }
     // The same over the octets that were read, and what a fault leaves.
-    ensures run { (bs : List ℕ) × RunSo (map ls_piece) (R.left r.old) (R.left r.new) (W.taken w.old) (W.taken w.new) (E.taken e.old) (E.taken e.new)
-        ((W.flushes w.new ≡ W.flushes w.old) × (E.flushes e.new ≡ E.flushes e.old)) (ReadsFewer (R.reads r.old) (R.reads r.new)) bs result }
+    ensures run { (bs : List ℕ) × RunSo (map ls_piece) (R.left r.old) (R.left r.new) (W.taken w.old)
+        (W.taken w.new) (E.taken e.old) (E.taken e.new)
+        ((W.flushes w.new ≡ W.flushes w.old) × (E.flushes e.new ≡ E.flushes e.old))
+        (ReadsFewer (R.reads r.old) (R.reads r.new)) bs result }
 
     // Each fault comes only where its device failed in this call.
     ensures reader { R.failures r.new ≡ read_failures_after (R.failures r.old) result }
     ensures reads { MakesReads (R.reads r.old) (R.reads r.new) result }
-    ensures writers { BlamesWriter W.failures W.empty_writes w.old w.new E.failures E.empty_writes e.old e.new result }
+    ensures writers { BlamesWriter W.failures W.empty_writes w.old w.new E.failures E.empty_writes
+        e.old e.new result }
 {
     run_events(alloc, &mut Listing, r, w, e)
 }

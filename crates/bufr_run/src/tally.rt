@@ -27,7 +27,8 @@ impl Tally {
     pub(crate) fn count(&mut self, verdict: Verdict)
         requires few { self.old.accepted + self.old.refused < 2 ^ 63 }
         ensures value { self.new ≡ tally_after self.old verdict }
-        ensures one { self.new.accepted + self.new.refused ≡ self.old.accepted + self.old.refused + 1 }
+        ensures one { self.new.accepted + self.new.refused
+            ≡ self.old.accepted + self.old.refused + 1 }
     {
         match verdict {
             Verdict::Accepted => self.accepted += 1,

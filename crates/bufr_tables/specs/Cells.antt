@@ -13,9 +13,12 @@ abbrev pub lay : Tree → ℕ → List Cell → List Cell
 lay bare at tail = tail
 lay (element fxy more) at tail = cell.Element fxy ∷ lay more (at + 1) tail
 lay (operator fxy more) at tail = cell.Operator fxy ∷ lay more (at + 1) tail
-lay (fixed n body more) at tail = cell.Fixed n (at + 2 + size body) ∷ lay body (at + 1) (cell.PassEnd ∷ lay more (at + 2 + size body) tail)
+lay (fixed n body more) at tail =
+    cell.Fixed n (at + 2 + size body)
+    ∷ lay body (at + 1) (cell.PassEnd ∷ lay more (at + 2 + size body) tail)
 lay (delayed fxy body more) at tail =
-    cell.Delayed (at + 3 + size body) ∷ cell.Factor fxy ∷ lay body (at + 2) (cell.PassEnd ∷ lay more (at + 3 + size body) tail)
+    cell.Delayed (at + 3 + size body) ∷ cell.Factor fxy
+    ∷ lay body (at + 2) (cell.PassEnd ∷ lay more (at + 3 + size body) tail)
 
 -- the factor that stands first
 abbrev pub factor_first : List Cell → ℕ

@@ -41,7 +41,8 @@ pub record IsFirstCycle (table : List Sequence) (fxy : ℕ) : Type 0 where
 -- comes after all others
 abbrev pub Reads : List Record → Result (List Sequence) TableFault → Type 0
 Reads records (Ok table) = (table_d_of records ≡ Ok table) × HasNoCycle table
-Reads records (Err (Cycle fxy)) = (table : List Sequence) × (table_d_of records ≡ Ok table) × IsFirstCycle table fxy
+Reads records (Err (Cycle fxy)) =
+    (table : List Sequence) × (table_d_of records ≡ Ok table) × IsFirstCycle table fxy
 Reads records (Err Header) = table_d_of records ≡ Err Header
 Reads records (Err (Row n)) = table_d_of records ≡ Err (Row n)
 Reads records (Err (Duplicate fxy)) = table_d_of records ≡ Err (Duplicate fxy)

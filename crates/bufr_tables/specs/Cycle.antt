@@ -21,11 +21,13 @@ NeverRises table ranks = (fxy : ℕ) → IsAbove table ranks fxy (rank_of ranks 
 -- the same of the first members of a sequence, so many, and of the first sequences of the file
 abbrev pub IsAboveFirst : List Sequence → List ℕ → ℕ → ℕ → ℕ → Type 0
 IsAboveFirst table ranks fxy rank count = (k : ℕ) → k < count → k < length (listed table fxy)
-    → IsSome (members_of table (slice_index (listed table fxy) k)) → rank_of ranks (slice_index (listed table fxy) k) ≤ rank
+    → IsSome (members_of table (slice_index (listed table fxy) k))
+    → rank_of ranks (slice_index (listed table fxy) k) ≤ rank
 
 abbrev pub NeverRisesFirst : List Sequence → List ℕ → ℕ → Type 0
 NeverRisesFirst table ranks count = (k : ℕ) → k < count → k < length table
-    → IsAbove table ranks (slice_index (fxys_of table) k) (rank_of ranks (slice_index (fxys_of table) k))
+    → IsAbove table ranks (slice_index (fxys_of table) k)
+    (rank_of ranks (slice_index (fxys_of table) k))
 
 -- the flag of a descriptor is set
 abbrev pub IsSet : List Bool → ℕ → Type 0
@@ -38,7 +40,8 @@ unset (flag ∷ flags) = (if flag then 0 else 1) + unset flags
 
 -- the first members of a sequence, so many, were seen, where they are sequences; those that were
 -- not seen before stand behind the queue
-pub record IsVisited (table : List Sequence) (fxy count : ℕ) (old : List Bool) (queue : List ℕ) (new : List Bool) (longer : List ℕ) : Type 0 where
+pub record IsVisited (table : List Sequence) (fxy count : ℕ) (old : List Bool) (queue : List ℕ)
+    (new : List Bool) (longer : List ℕ) : Type 0 where
   pub more : List ℕ
   pub queued : longer ≡ queue ++ more
   pub flags : length new ≡ length old
@@ -46,7 +49,8 @@ pub record IsVisited (table : List Sequence) (fxy count : ℕ) (old : List Bool)
   pub kept : (to : ℕ) → IsSet old to → IsSet new to
   pub news : (to : ℕ) → IsSet new to → IsSet old to ⊎ Contains more to
   pub balance : unset new + length more ≡ unset old
-  pub seen : (k : ℕ) → k < count → k < length (listed table fxy) → IsSome (members_of table (slice_index (listed table fxy) k))
+  pub seen : (k : ℕ) → k < count → k < length (listed table fxy)
+      → IsSome (members_of table (slice_index (listed table fxy) k))
       → IsSet new (slice_index (listed table fxy) k)
 
 -- each member of a sequence that is a sequence was seen
@@ -55,7 +59,8 @@ AreSeen table seen fxy = (to : ℕ) → Leads table fxy to → IsSet seen to
 
 -- a chain from the start leads to what is in the queue, which has all that was seen; the members of
 -- the start and of the first of the queue, so many, were seen
-pub record IsSearched (table : List Sequence) (start : ℕ) (seen : List Bool) (queue : List ℕ) (next : ℕ) : Type 0 where
+pub record IsSearched (table : List Sequence) (start : ℕ) (seen : List Bool) (queue : List ℕ)
+    (next : ℕ) : Type 0 where
   pub flags : length seen ≡ 65536
   pub inside : next ≤ length queue
   pub chains : (to : ℕ) → Contains queue to → Chain table start to
@@ -65,4 +70,5 @@ pub record IsSearched (table : List Sequence) (start : ℕ) (seen : List Bool) (
 
 -- none of the first sequences of the file, so many, reaches itself
 abbrev pub IsPassed : List Sequence → ℕ → Type 0
-IsPassed table count = (k : ℕ) → k < count → k < length table → ¬ ReachesItself table (slice_index (fxys_of table) k)
+IsPassed table count =
+    (k : ℕ) → k < count → k < length table → ¬ ReachesItself table (slice_index (fxys_of table) k)

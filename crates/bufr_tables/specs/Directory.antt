@@ -18,6 +18,7 @@ mark_of (Some place) = place + 1
 pub record IsDirectory (a : Inside) : Type 0 where
   pub room : 16384 ≤ vec_capacity a.keys
   pub size : length a.marks.items ≡ 16384
-  pub marks : (key : ℕ) → key < 16384 → slice_index a.marks.items key ≡ mark_of (place_of a.keys.items key)
+  pub marks : (key : ℕ) → key < 16384
+      → slice_index a.marks.items key ≡ mark_of (place_of a.keys.items key)
   pub below : AllByRecursion (λ key. key < 16384) a.keys.items
   pub distinct : IsDistinct nat_eq a.keys.items

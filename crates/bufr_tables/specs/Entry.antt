@@ -5,4 +5,13 @@ use Rattle.bufr_tables.specs.TableB.{Row}
 use Rattle.bufr_tables.specs.declared.table_b.Entry.{Entry}
 
 abbrev pub row_with : ℕ → Entry → Row
-row_with fxy e = record { fxy = fxy; name = e.name.now; unit = e.unit.now; kind = e.kind; scale = e.scale; reference = e.reference; width = e.width }
+row_with fxy e =
+    record {
+      fxy = fxy;
+      name = e.name.now;
+      unit = e.unit.now;
+      kind = e.kind;
+      scale = e.scale;
+      reference = e.reference;
+      width = e.width;
+    }

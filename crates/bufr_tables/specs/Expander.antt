@@ -23,4 +23,5 @@ list_in expander room = level (tables_in expander) (inner_in expander room) fals
 -- a group of these passes, where so many groups and sequences more may be open
 abbrev pub group_in : Expander → ℕ → Passes → (places d : ℕ) → List ℕ → Result Tree TemplateFault
 group_in expander room passes places d after =
-    body_of (inner_in expander room) places (own_places passes) d after >>= λ body. Ok (group_of passes body)
+    body_of (inner_in expander room) places (own_places passes) d after >>= λ body.
+    Ok (group_of passes body)

@@ -25,7 +25,8 @@ most_open = 32
 
 -- one step after another, up to the first fault
 infixl 10 ◌>>=◌
-abbrev pub ◌>>=◌ : {A B : Type 0} → Result A TemplateFault → (A → Result B TemplateFault) → Result B TemplateFault
+abbrev pub ◌>>=◌ : {A B : Type 0} → Result A TemplateFault → (A → Result B TemplateFault)
+    → Result B TemplateFault
 (Ok a) >>= next = next a
 (Err why) >>= next = Err why
 
@@ -121,19 +122,23 @@ sequence_part tables inner places d = do
   Ok (part tree 0)
 
 -- one descriptor, by its F
-abbrev pub part_by : ℕ → Tables → Option Expansion → Bool → ℕ → ℕ → List ℕ → Result Part TemplateFault
+abbrev pub part_by : ℕ → Tables → Option Expansion → Bool → ℕ → ℕ → List ℕ
+    → Result Part TemplateFault
 part_by zero tables inner width_given places d after = element_part tables width_given places d
 part_by (suc zero) tables inner width_given places d after = group_part tables inner places d after
 part_by (suc (suc zero)) tables inner width_given places d after = operator_part places d after
 part_by _ tables inner width_given places d after = sequence_part tables inner places d
 
-unfoldable pub part_of : Tables → Option Expansion → Bool → ℕ → ℕ → List ℕ → Result Part TemplateFault
-part_of tables inner width_given places d after = part_by (f_of d) tables inner width_given places d after
+unfoldable pub part_of : Tables → Option Expansion → Bool → ℕ → ℕ → List ℕ
+    → Result Part TemplateFault
+part_of tables inner width_given places d after =
+    part_by (f_of d) tables inner width_given places d after
 
 -- one list, from left to right, but for so many descriptors that a group has taken
 unfoldable pub level : Tables → Option Expansion → Bool → ℕ → Expansion
 level tables inner width_given skip places [] = Ok bare
-level tables inner width_given (suc skip) places (d ∷ after) = level tables inner width_given skip places after
+level tables inner width_given (suc skip) places (d ∷ after) =
+    level tables inner width_given skip places after
 level tables inner width_given zero places (d ∷ after) = do
   first ← part_of tables inner width_given places d after
   rest ← level tables inner (gives_width d) first.taken (places + size first.tree) after

@@ -56,7 +56,9 @@ y_in text = 100 * number_at text 3 + 10 * number_at text 4 + number_at text 5
 
 -- a text is six digits whose F, X and Y fit their bits
 abbrev pub is_fxy : List ℕ → Bool
-is_fxy text = (length text == 6) && list_all is_ascii_digit text && nat_le (f_in text) 3 && nat_le (x_in text) 63 && nat_le (y_in text) 255
+is_fxy text =
+    (length text == 6) && list_all is_ascii_digit text && nat_le (f_in text) 3
+    && nat_le (x_in text) 63 && nat_le (y_in text) 255
 
 -- the descriptor that a text writes, where it writes one
 abbrev pub fxy_of : List ℕ → Option ℕ

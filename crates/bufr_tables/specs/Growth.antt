@@ -29,7 +29,9 @@ places_of g = length g.cells + g.groups + 1
 
 -- with a tree laid out behind the cells
 abbrev pub grow : Growth → Tree → Growth
-grow g tree = growth (g.cells ++ lay tree (length g.cells) []) g.groups (max g.deep (g.groups + depth tree)) (g.full || consumes tree)
+grow g tree =
+    growth (g.cells ++ lay tree (length g.cells) []) g.groups (max g.deep (g.groups + depth tree))
+    (g.full || consumes tree)
 
 -- with an element or operator behind the cells, where a place is left
 abbrev pub with_node : Growth → ℕ → Tree → Result Growth TemplateFault
@@ -37,29 +39,35 @@ with_node g d node = with_places (places_of g) 1 d >>= λ _. Ok (grow g node)
 
 -- with a group begun behind the cells, the place behind it not known yet
 abbrev pub begun : Growth → Passes → Growth
-begun g passes = growth (g.cells ++ first_cell passes 0 ∷ factor_cells passes) (g.groups + 1) (max g.deep (g.groups + 1)) false
+begun g passes =
+    growth (g.cells ++ first_cell passes 0 ∷ factor_cells passes) (g.groups + 1)
+    (max g.deep (g.groups + 1)) false
 
 -- with the innermost group ended, whose first cell stands at a place
 abbrev pub ended : Growth → ℕ → Passes → Growth
 ended g place passes =
-    growth (slice_set (g.cells ++ cell.PassEnd ∷ []) place (first_cell passes (length g.cells + 1))) (g.groups - 1) g.deep g.full
+    growth (slice_set (g.cells ++ cell.PassEnd ∷ []) place (first_cell passes (length g.cells + 1)))
+    (g.groups - 1) g.deep g.full
 
 -- a fault is the one that is defined, or want of memory
 abbrev pub Refuses : {A : Type 0} → Result A TemplateFault → TemplateFault → Type 0
 Refuses defined why = why ≢ fault.Memory → defined ≡ Err why
 
 -- the tree that is defined has been put behind what had grown
-pub record PutsTree (old : Growth) (defined : Result Tree TemplateFault) (new : Growth) : Type 0 where
+pub record PutsTree (old : Growth) (defined : Result Tree TemplateFault)
+    (new : Growth) : Type 0 where
   pub tree : Tree
   pub is_defined : defined ≡ Ok tree
   pub is_put : new ≡ grow old tree
 
-abbrev pub GivesTree : Growth → Result Tree TemplateFault → Result (Unit {0}) TemplateFault → Growth → Type 0
+abbrev pub GivesTree : Growth → Result Tree TemplateFault
+    → Result (Unit {0}) TemplateFault → Growth → Type 0
 GivesTree old defined (Ok done) new = PutsTree old defined new
 GivesTree old defined (Err why) new = Refuses defined why
 
 -- the part that is defined has been put behind what had grown, and has taken so many descriptors
-pub record PutsPart (old : Growth) (defined : Result Part TemplateFault) (taken : ℕ) (new : Growth) : Type 0 where
+pub record PutsPart (old : Growth) (defined : Result Part TemplateFault) (taken : ℕ)
+    (new : Growth) : Type 0 where
   pub tree : Tree
   pub is_defined : defined ≡ Ok (part tree taken)
   pub is_put : new ≡ grow old tree
@@ -69,7 +77,8 @@ GivesPart old defined (Ok taken) new = PutsPart old defined taken new
 GivesPart old defined (Err why) new = Refuses defined why
 
 -- what has grown is what is defined
-abbrev pub GivesGrowth : Result Growth TemplateFault → Result (Unit {0}) TemplateFault → Growth → Type 0
+abbrev pub GivesGrowth : Result Growth TemplateFault
+    → Result (Unit {0}) TemplateFault → Growth → Type 0
 GivesGrowth defined (Ok done) new = defined ≡ Ok new
 GivesGrowth defined (Err why) new = Refuses defined why
 
@@ -82,4 +91,5 @@ pub record Begins (old : Growth) (passes : Passes) (d place : ℕ) (new : Growth
 
 abbrev pub GivesPlace : Growth → Passes → ℕ → Result ℕ TemplateFault → Growth → Type 0
 GivesPlace old passes d (Ok place) new = Begins old passes d place new
-GivesPlace old passes d (Err why) new = Refuses (with_places (places_of old) (own_places passes) d) why
+GivesPlace old passes d (Err why) new =
+    Refuses (with_places (places_of old) (own_places passes) d) why

@@ -12,7 +12,17 @@ use Rattle.bufr_tables.specs.declared.table_b.TableB.TheInside.{Inside}
 
 -- the row of an element that is kept
 abbrev pub row_kept : List ℕ → Stored → Row
-row_kept octets s = record { fxy = s.fxy; name = slice_range octets s.start s.middle; unit = slice_range octets s.middle s.end; kind = s.kind; scale = s.scale; reference = s.reference; width = s.width }
+row_kept octets s =
+    record {
+      fxy = s.fxy;
+      name = slice_range octets s.start s.middle;
+      unit = slice_range octets
+          s.middle s.end;
+      kind = s.kind;
+      scale = s.scale;
+      reference = s.reference;
+      width = s.width;
+    }
 
 abbrev pub rows_kept : List ℕ → List Stored → List Row
 rows_kept octets stored = map (row_kept octets) stored

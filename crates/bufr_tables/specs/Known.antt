@@ -8,10 +8,13 @@ use Rattle.bufr_tables.specs.Tree.{Tree, bare, element, operator, fixed, delayed
 -- whether one stands before the first node is told
 abbrev pub IsKnownAfter : (known : ℕ → Bool) → (width_given : Bool) → Tree → Type 0
 IsKnownAfter known width_given bare = Unit {0}
-IsKnownAfter known width_given (element fxy rest) = ((width_given || known fxy) ≡ true) × IsKnownAfter known false rest
+IsKnownAfter known width_given (element fxy rest) =
+    ((width_given || known fxy) ≡ true) × IsKnownAfter known false rest
 IsKnownAfter known width_given (operator fxy rest) = IsKnownAfter known (gives_width fxy) rest
-IsKnownAfter known width_given (fixed count body rest) = IsKnownAfter known false body × IsKnownAfter known false rest
-IsKnownAfter known width_given (delayed factor body rest) = (known factor ≡ true) × (IsKnownAfter known false body × IsKnownAfter known false rest)
+IsKnownAfter known width_given (fixed count body rest) =
+    IsKnownAfter known false body × IsKnownAfter known false rest
+IsKnownAfter known width_given (delayed factor body rest) =
+    (known factor ≡ true) × (IsKnownAfter known false body × IsKnownAfter known false rest)
 
 abbrev pub IsKnown : (known : ℕ → Bool) → Tree → Type 0
 IsKnown known tree = IsKnownAfter known false tree

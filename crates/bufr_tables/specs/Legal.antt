@@ -20,6 +20,8 @@ is_element_first (delayed factor body rest) = false
 abbrev pub IsLegal : Tree → Type 0
 IsLegal bare = Unit {0}
 IsLegal (element fxy rest) = (f_of fxy ≡ 0) × IsLegal rest
-IsLegal (operator fxy rest) = (f_of fxy ≡ 2) × ((is_legal_operator fxy ≡ true) × ((gives_width fxy ≡ true → is_element_first rest ≡ true) × IsLegal rest))
+IsLegal (operator fxy rest) =
+    (f_of fxy ≡ 2) × ((is_legal_operator fxy ≡ true)
+    × ((gives_width fxy ≡ true → is_element_first rest ≡ true) × IsLegal rest))
 IsLegal (fixed count body rest) = IsLegal body × IsLegal rest
 IsLegal (delayed factor body rest) = (is_factor factor ≡ true) × (IsLegal body × IsLegal rest)

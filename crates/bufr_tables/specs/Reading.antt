@@ -54,7 +54,8 @@ pub record GivesNext (old new : RecordReader) (found : Bool) : Type 0 where
   pub fewer : found ≡ true → octets_left new < octets_left old
 
 -- a reader stands behind the header, which is record 1
-pub record IsOpened (names : List (List ℕ)) (records : List Record) (r : RecordReader) : Type 0 where
+pub record IsOpened (names : List (List ℕ)) (records : List Record)
+    (r : RecordReader) : Type 0 where
   pub between : IsBetween r
   pub number : r.number ≡ 1
   pub header : has_header names records ≡ true

@@ -9,7 +9,8 @@ use Rattle.bufr_tables.specs.declared.sequences.TableD.TheInside.{Inside}
 
 -- the sequence of a run of members
 abbrev pub sequence_kept : List ℕ → Run → Sequence
-sequence_kept members run = record { fxy = run.fxy; members = slice_range members run.start run.end }
+sequence_kept members run =
+    record { fxy = run.fxy; members = slice_range members run.start run.end }
 
 abbrev pub sequences_kept : List ℕ → List Run → List Sequence
 sequences_kept members runs = map (sequence_kept members) runs

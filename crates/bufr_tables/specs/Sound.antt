@@ -8,8 +8,10 @@ abbrev pub GroupsConsume : Tree → Type 0
 GroupsConsume bare = Unit {0}
 GroupsConsume (element fxy rest) = GroupsConsume rest
 GroupsConsume (operator fxy rest) = GroupsConsume rest
-GroupsConsume (fixed count body rest) = (0 < count) × ((consumes body ≡ true) × (GroupsConsume body × GroupsConsume rest))
-GroupsConsume (delayed factor body rest) = (consumes body ≡ true) × (GroupsConsume body × GroupsConsume rest)
+GroupsConsume (fixed count body rest) =
+    (0 < count) × ((consumes body ≡ true) × (GroupsConsume body × GroupsConsume rest))
+GroupsConsume (delayed factor body rest) =
+    (consumes body ≡ true) × (GroupsConsume body × GroupsConsume rest)
 
 -- that, and some node of the whole takes bits
 abbrev pub IsSound : Tree → Type 0

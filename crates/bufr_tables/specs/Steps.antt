@@ -13,7 +13,8 @@ abbrev pub only_if : {A : Type 0} → Bool → A → Option A
 only_if test x = if test then Some x else None
 
 -- the step after one that may be at fault
-abbrev pub and_then : {A B : Type 0} → Result A TableFault → (A → Result B TableFault) → Result B TableFault
+abbrev pub and_then : {A B : Type 0} → Result A TableFault → (A → Result B TableFault)
+    → Result B TableFault
 and_then (Ok x) f = f x
 and_then (Err fault) f = Err fault
 

@@ -20,10 +20,14 @@ has_header header [] = false
 has_header header (first ∷ rest) = has_fields header first
 
 -- what was read so far with the rows of the records from record n on, or the first fault of these
-unfoldable pub table_from : {A : Type 0} → (with_record : ℕ → A → Record → Result A TableFault) → ℕ → A → List Record → Result A TableFault
+unfoldable pub table_from : {A : Type 0} → (with_record : ℕ → A → Record → Result A TableFault) → ℕ
+    → A → List Record → Result A TableFault
 table_from with_record n table [] = Ok table
-table_from with_record n table (r ∷ rs) = and_then (with_record n table r) (λ more. table_from with_record (n + 1) more rs)
+table_from with_record n table (r ∷ rs) =
+    and_then (with_record n table r) (λ more. table_from with_record (n + 1) more rs)
 
 -- the table of these records: the header is record 1
-unfoldable pub table_of : {A : Type 0} → (header : List (List ℕ)) → (with_record : ℕ → A → Record → Result A TableFault) → (none : A) → List Record → Result A TableFault
-table_of header with_record none records = if has_header header records then table_from with_record 2 none (drop 1 records) else Err Header
+unfoldable pub table_of : {A : Type 0} → (header : List (List ℕ)) → (with_record : ℕ → A → Record
+    → Result A TableFault) → (none : A) → List Record → Result A TableFault
+table_of header with_record none records =
+    if has_header header records then table_from with_record 2 none (drop 1 records) else Err Header

@@ -28,7 +28,9 @@ pub record Row : Type 0 where
 
 -- the fields of the header
 abbrev pub header : List (List ℕ)
-header = codes "fxy" ∷ codes "name" ∷ codes "unit" ∷ codes "scale" ∷ codes "reference" ∷ codes "width" ∷ []
+header =
+    codes "fxy" ∷ codes "name" ∷ codes "unit" ∷ codes "scale" ∷ codes "reference"
+    ∷ codes "width" ∷ []
 
 -- the descriptor of an element
 unfoldable pub element_of : List ℕ → Option ℕ
@@ -63,7 +65,8 @@ natural_part (pos n) = Some n
 natural_part (negsuc n) = None
 
 unfoldable pub width_of : Kind → List ℕ → Option ℕ
-width_of kind text = i64_of text >>= λ z. natural_part z >>= λ width. only_if (allows_width kind width) width
+width_of kind text =
+    i64_of text >>= λ z. natural_part z >>= λ width. only_if (allows_width kind width) width
 
 -- the factors of delayed replications are unsigned numbers: of 1 bit where Y is 0, of 8 where it is
 -- 1, and of 16 where it is 2
@@ -83,7 +86,9 @@ is_zero z = unsigned_abs z == 0
 
 abbrev pub fits_factor : Option ℕ → Row → Bool
 fits_factor None row = true
-fits_factor (Some width) row = (row.width == width) && is_zero row.scale && is_zero row.reference && not (is_character row.kind)
+fits_factor (Some width) row =
+    (row.width == width) && is_zero row.scale && is_zero row.reference
+    && not (is_character row.kind)
 
 -- the row that a record writes, where it writes one
 unfoldable pub row_of : Record → Option Row
@@ -94,7 +99,16 @@ row_of r = do
   scale ← scale_of (field_of r 3)
   reference ← i64_of (field_of r 4)
   width ← width_of (kind_of unit) (field_of r 5)
-  let row : Row = record { fxy = fxy; name = name; unit = unit; kind = kind_of unit; scale = scale; reference = reference; width = width }
+  let row : Row =
+      record {
+        fxy = fxy;
+        name = name;
+        unit = unit;
+        kind = kind_of unit;
+        scale = scale;
+        reference = reference;
+        width = width;
+      }
   only_if (fits_factor (factor_width fxy) row) row
 
 -- the limits of each row of a table: a plain name and unit, the kind that the unit says, a scale
@@ -114,7 +128,8 @@ entry_of rows fxy = find (λ row. row.fxy == fxy) rows
 -- the rows so far and that of record n, or what is at fault with this record
 abbrev pub with_row : ℕ → List Row → Option Row → Result (List Row) TableFault
 with_row n rows None = Err (RowFault n)
-with_row n rows (Some row) = if is_some (entry_of rows row.fxy) then Err (Duplicate row.fxy) else Ok (rows ++ row ∷ [])
+with_row n rows (Some row) =
+    if is_some (entry_of rows row.fxy) then Err (Duplicate row.fxy) else Ok (rows ++ row ∷ [])
 
 unfoldable pub with_record : ℕ → List Row → Record → Result (List Row) TableFault
 with_record n rows r = if length r == 6 then with_row n rows (row_of r) else Err Csv

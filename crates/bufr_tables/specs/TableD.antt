@@ -88,7 +88,8 @@ table_d_of records = table_of header with_record [] records
 -- the members that rows give a sequence, in order
 abbrev pub members_in : List Member → ℕ → List ℕ
 members_in [] fxy = []
-members_in (row ∷ rows) fxy = if row.sequence == fxy then row.fxy ∷ members_in rows fxy else members_in rows fxy
+members_in (row ∷ rows) fxy =
+    if row.sequence == fxy then row.fxy ∷ members_in rows fxy else members_in rows fxy
 
 -- a sequence of a table has the members that the records under the header give it, in order
 pub record AreSequences (records : List Record) (table : List Sequence) : Type 0 where

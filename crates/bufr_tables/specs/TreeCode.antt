@@ -33,8 +33,12 @@ pub read-written : (tree : Tree) (more : List (ℕ × ℕ)) → read (written tr
 read-written bare more = refl
 read-written (element fxy rest) more = ap (put 1 fxy) (read-written rest more)
 read-written (operator fxy rest) more = ap (put 2 fxy) (read-written rest more)
-read-written (fixed count body rest) more = ap (put 3 count) (read-written body (written rest more) ∙ ap (λ trees. body ∷ trees) (read-written rest more))
-read-written (delayed factor body rest) more = ap (put 4 factor) (read-written body (written rest more) ∙ ap (λ trees. body ∷ trees) (read-written rest more))
+read-written (fixed count body rest) more =
+    ap (put 3 count)
+    (read-written body (written rest more) ∙ ap (λ trees. body ∷ trees) (read-written rest more))
+read-written (delayed factor body rest) more =
+    ap (put 4 factor)
+    (read-written body (written rest more) ∙ ap (λ trees. body ∷ trees) (read-written rest more))
 
 abbrev pub first_tree : List Tree → Tree
 first_tree [] = bare
@@ -42,4 +46,5 @@ first_tree (tree ∷ trees) = tree
 
 abbrev pub tree_code : Coded Tree
 tree_code =
-    code_by (List (ℕ × ℕ)) (coded_list (coded× coded_ℕ coded_ℕ)) (λ tree. written tree []) (λ nodes. first_tree (read nodes)) (λ tree. ap first_tree (read-written tree []))
+    code_by (List (ℕ × ℕ)) (coded_list (coded× coded_ℕ coded_ℕ)) (λ tree. written tree [])
+    (λ nodes. first_tree (read nodes)) (λ tree. ap first_tree (read-written tree []))

@@ -98,7 +98,8 @@ fn visit(
 ) -> Result<(), AllocError>
     requires { length seen.old ≡ 65536 }
     ensures { OnOk result
-        (IsVisited table.now sequence (length (listed table.now sequence)) seen.old queue.old.items seen.new queue.new.items) }
+        (IsVisited table.now sequence (length (listed table.now sequence)) seen.old queue.old.items
+        seen.new queue.new.items) }
 {
     for member in table.listed(sequence) {
         let word = usize::from(member.word());

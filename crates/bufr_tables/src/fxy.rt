@@ -124,7 +124,8 @@ impl Fxy {
     }
 
     /// The descriptor that six digits `FXXYYY` write: one of F, two of X and three of Y. None where
-    /// the text is not six digits, or where F is past 3, X past 63 or Y past 255, so that they do not
+    /// the text is not six digits, or where F is past 3, X past 63 or Y past 255, so that they do
+    /// not
     /// fit their two, six and eight bits.
     ///
     /// ```

@@ -44,7 +44,8 @@ impl<'a> RecordReader<'a> {
     ) -> Result<RecordReader<'a>, TableFault>
         ensures ok { IfOk result (IsOpened (texts_of header.now) (records_of text.now)) }
         ensures err { IfErr result
-            (λ e. e ≢ Memory → (e ≡ Header) × (has_header (texts_of header.now) (records_of text.now) ≡ false)) }
+            (λ e. e ≢ Memory
+            → (e ≡ Header) × (has_header (texts_of header.now) (records_of text.now) ≡ false)) }
     {
         let mut records = RecordReader::new(alloc, text);
         if !records.advance()? || !has_fields(records.record(), header) {

@@ -37,7 +37,8 @@ fn read_sequence(text: &[u8]) -> Option<Fxy>
 /// The sequence and the member that a record writes, where it writes a row.
 #[tactic(auto, unfolding(crate::specs::TableD::member_of))]
 fn row(fields: &ByteRecord) -> Option<(Fxy, Fxy)>
-    ensures value { option_map (λ p. member_with p.0 p.1) result ≡ member_of (fields_of fields.now) }
+    ensures value { option_map (λ p. member_with p.0 p.1) result
+        ≡ member_of (fields_of fields.now) }
     ensures sequence { IfSome result (λ p. (49152 ≤ p.0) × (p.0 < 65536)) }
 {
     let sequence = read_sequence(field(fields, 0))?;
@@ -154,8 +155,10 @@ impl TableD {
     /// Adds the row of record `number`.
     #[tactic(auto, unfolding(crate::specs::TableD::with_record, crate::specs::TableD::added))]
     fn add(&mut self, number: u64, fields: &ByteRecord) -> Result<(), TableFault>
-        ensures ok { OnOk result (with_record number self.old (fields_of fields.now) ≡ Ok self.new) }
-        ensures err { IfErr result (λ e. (e ≢ Memory) → with_record number self.old (fields_of fields.now) ≡ Err e) }
+        ensures ok { OnOk result
+            (with_record number self.old (fields_of fields.now) ≡ Ok self.new) }
+        ensures err { IfErr result
+            (λ e. (e ≢ Memory) → with_record number self.old (fields_of fields.now) ≡ Err e) }
     {
         if fields.len() != 2 {
             return Err(TableFault::Csv);
@@ -204,7 +207,8 @@ impl TableD {
         requires low { 49152 ≤ sequence }
         requires high { sequence < 65536 }
         requires absent { members_of self.old sequence ≡ None }
-        ensures ok { OnOk result (self.new ≡ self.old ++ record { fxy = sequence; members = member ∷ [] } ∷ []) }
+        ensures ok { OnOk result
+            (self.new ≡ self.old ++ record { fxy = sequence; members = member ∷ [] } ∷ []) }
     {
         self.runs.reserve(1)?;
         let start = self.members.len();

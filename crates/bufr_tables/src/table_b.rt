@@ -270,8 +270,10 @@ impl TableB {
     /// Adds the element of record `number`.
     #[tactic(auto, unfolding(crate::specs::TableB::with_record))]
     fn add(&mut self, number: u64, fields: &ByteRecord) -> Result<(), TableFault>
-        ensures ok { OnOk result (with_record number self.old (fields_of fields.now) ≡ Ok self.new) }
-        ensures err { IfErr result (λ e. (e ≢ Memory) → with_record number self.old (fields_of fields.now) ≡ Err e) }
+        ensures ok { OnOk result
+            (with_record number self.old (fields_of fields.now) ≡ Ok self.new) }
+        ensures err { IfErr result
+            (λ e. (e ≢ Memory) → with_record number self.old (fields_of fields.now) ≡ Err e) }
     {
         if fields.len() != 6 {
             return Err(TableFault::Csv);

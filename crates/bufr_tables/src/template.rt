@@ -105,15 +105,19 @@ impl Template {
         table_d: &TableD,
     ) -> Result<Template, TemplateFault>
         ensures tree { IfOk result
-            (λ template. tree_of (tables_of table_b.now table_d.now) descriptors.now ≡ Ok template) }
+            (λ template.
+            tree_of (tables_of table_b.now table_d.now) descriptors.now ≡ Ok template) }
         ensures fault { IfErr result
-            (λ why. why ≢ TemplateFault.Memory → tree_of (tables_of table_b.now table_d.now) descriptors.now ≡ Err why) }
+            (λ why. why ≢ TemplateFault.Memory
+            → tree_of (tables_of table_b.now table_d.now) descriptors.now ≡ Err why) }
 
         // No element, operator or factor of the list is lost, added or moved.
-        ensures leaves { IfOk result (λ template. Says (members_of table_d.now) descriptors.now (leaves template)) }
+        ensures leaves { IfOk result
+            (λ template. Says (members_of table_d.now) descriptors.now (leaves template)) }
 
         // What the walk over a template relies on.
-        ensures known { IfOk result (λ template. IsKnown (λ fxy. is_some (entry_of table_b.now fxy)) template) }
+        ensures known { IfOk result
+            (λ template. IsKnown (λ fxy. is_some (entry_of table_b.now fxy)) template) }
         ensures sound { IfOk result IsSound }
         ensures legal { IfOk result IsLegal }
         ensures within { IfOk result (λ template. places_of template ≤ 65535) }

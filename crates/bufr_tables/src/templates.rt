@@ -30,7 +30,8 @@ impl Kept {
     /// The list of no descriptors, whose fault is the same by all tables.
     fn nothing(alloc: Global) -> Kept
         ensures list { result.descriptors.items ≡ [] }
-        ensures answer { (tables : Tables) → IsAnswer tables result.descriptors.items result.answer }
+        ensures answer { (tables : Tables)
+            → IsAnswer tables result.descriptors.items result.answer }
     {
         Kept {
             descriptors: Vec::new(alloc),
@@ -48,7 +49,8 @@ impl Kept {
         table_d: &TableD,
     ) -> Result<(), AllocError>
         ensures list { OnOk result (self.new.descriptors.items ≡ descriptors.now) }
-        ensures answer { IsAnswer (tables_of table_b.now table_d.now) self.new.descriptors.items self.new.answer }
+        ensures answer { IsAnswer (tables_of table_b.now table_d.now)
+            self.new.descriptors.items self.new.answer }
     {
         // The old template is let go before the new one takes its room.
         *self = Kept::nothing(alloc);
@@ -72,9 +74,11 @@ impl Kept {
         table_b: &TableB,
         table_d: &TableD,
     ) -> Result<(), AllocError>
-        requires { IsAnswer (tables_of table_b.now table_d.now) self.old.descriptors.items self.old.answer }
+        requires { IsAnswer (tables_of table_b.now table_d.now)
+            self.old.descriptors.items self.old.answer }
         ensures list { OnOk result (self.new.descriptors.items ≡ descriptors.now) }
-        ensures answer { IsAnswer (tables_of table_b.now table_d.now) self.new.descriptors.items self.new.answer }
+        ensures answer { IsAnswer (tables_of table_b.now table_d.now)
+            self.new.descriptors.items self.new.answer }
     {
         if self.descriptors.as_slice() == descriptors {
             return Ok(());
@@ -113,9 +117,14 @@ impl<'a> Model for Templates<'a> {
     ghost use Rattle.bufr_tables.specs.Templates.{IsAnswer};
     ghost use Rattle.bufr_tables.specs.TemplateTables.{tables_of};
 
-    ghost view = { λ a. record { table_b = a.table_b.now; table_d = a.table_d.now; list = a.kept.descriptors.items } };
+    ghost view = { λ a. record {
+      table_b = a.table_b.now;
+      table_d = a.table_d.now;
+      list = a.kept.descriptors.items;
+    } };
 
-    ghost invariant = { λ a. IsAnswer (tables_of a.table_b.now a.table_d.now) a.kept.descriptors.items a.kept.answer };
+    ghost invariant = { λ a. IsAnswer (tables_of a.table_b.now a.table_d.now)
+        a.kept.descriptors.items a.kept.answer };
 }
 
 impl<'a> Templates<'a> {
@@ -160,11 +169,14 @@ impl<'a> Templates<'a> {
     /// [`Template::build`] makes, or its fault, which is never want of memory. Takes no memory.
     pub fn answer(&self) -> &Result<Template, TemplateFault>
         // The answer is what is defined.
-        ensures answer { tree_of (tables_of self.now.table_b self.now.table_d) self.now.list ≡ result.now }
+        ensures answer { tree_of (tables_of self.now.table_b self.now.table_d)
+            self.now.list ≡ result.now }
         ensures told { IfErr result.now (λ why. why ≢ TemplateFault.Memory) }
         // What the walk over a template relies on, as of one that is built.
-        ensures leaves { IfOk result.now (λ template. Says (members_of self.now.table_d) self.now.list (leaves template)) }
-        ensures known { IfOk result.now (λ template. IsKnown (λ fxy. is_some (entry_of self.now.table_b fxy)) template) }
+        ensures leaves { IfOk result.now
+            (λ template. Says (members_of self.now.table_d) self.now.list (leaves template)) }
+        ensures known { IfOk result.now
+            (λ template. IsKnown (λ fxy. is_some (entry_of self.now.table_b fxy)) template) }
         ensures sound { IfOk result.now IsSound }
         ensures legal { IfOk result.now IsLegal }
         ensures within { IfOk result.now (λ template. places_of template ≤ 65535) }

@@ -14,7 +14,7 @@ use Rattle.bufr_walk.specs.Content.{Content}
 use Rattle.bufr_walk.specs.Course.{Course}
 use Rattle.bufr_walk.specs.Outcome as outcome
 use Rattle.bufr_walk.specs.Reading.{Item, Values, apart, together, plain, after, turns_after}
-use Rattle.bufr_walk.specs.Shows.{Shows, EndsAt}
+use Rattle.bufr_walk.specs.CallsInTurn.{Shows, EndsAt}
 use Rattle.bufr_walk.specs.Ticks.{ticked}
 use Rattle.bufr_text.specs.Dump.{item_text, subset_line, subset_lines, text_of, dump_lines, head_lines, header_lines, header_of, local1_line, section2_line, descriptors_line, dump_text_of}
 use Rattle.bufr_text.specs.Dump as dump

@@ -14,12 +14,16 @@ use Rattle.bufr_text.specs.Encoding.{octets_of_bits}
 -- no redefined reference of the items that begin the bits is written as minus zero
 abbrev pub HaveNoMinusZero : List (Item Content) → List Bool → Type 0
 HaveNoMinusZero [] bits = Unit {0}
-HaveNoMinusZero (i ∷ items) bits = (IsMinusZero i.spec.role (take i.spec.width bits) → ⊥) × HaveNoMinusZero items (drop i.spec.width bits)
+HaveNoMinusZero (i ∷ items) bits =
+    (IsMinusZero i.spec.role (take i.spec.width bits) → ⊥)
+    × HaveNoMinusZero items (drop i.spec.width bits)
 
 -- each item of compressed data is packed as its contents are packed
 abbrev pub ArePacked : List (Item (List Content)) → (bits behind : List Bool) → Type 0
 ArePacked [] bits behind = bits ≡ behind
-ArePacked (i ∷ items) bits behind = (out : List Bool) × (mid : List Bool) × (packing i.spec i.content ≡ Ok out) × (bits ≡ out ++ mid) × ArePacked items mid behind
+ArePacked (i ∷ items) bits behind =
+    (out : List Bool) × (mid : List Bool) × (packing i.spec i.content ≡ Ok out)
+    × (bits ≡ out ++ mid) × ArePacked items mid behind
 
 -- the data bits are as an encoder writes them
 abbrev pub AreWritten : Values → (bits behind : List Bool) → Type 0

@@ -35,22 +35,27 @@ pub record AreOctetsOf (octets : List ℕ) (bits : List Bool) : Type 0 where
   pub count : length octets ≡ (length bits + 7) / 8
 
 -- octets, or the definition's first refusal, and the steps that were made for them
-pub record IsData (places : ℕ) (compressed : Bool) (course : Course) (subsets : List Subset) (octets : List ℕ) (steps : ℕ) : Type 0 where
+pub record IsData (places : ℕ) (compressed : Bool) (course : Course) (subsets : List Subset)
+    (octets : List ℕ) (steps : ℕ) : Type 0 where
   pub out : List Bool
   pub is : data_bits compressed course subsets ≡ Ok out
   pub octets_are : AreOctetsOf octets out
   pub made : steps ≡ ticked 0 (turns_data compressed course subsets)
   pub few : steps ≤ places * count_data compressed course subsets
 
-pub record IsNoData (places : ℕ) (compressed : Bool) (course : Course) (subsets : List Subset) (why : DocumentFault) (steps : ℕ) : Type 0 where
+pub record IsNoData (places : ℕ) (compressed : Bool) (course : Course) (subsets : List Subset)
+    (why : DocumentFault) (steps : ℕ) : Type 0 where
   pub refuses : RefusesSo (told_refusal why) (told_of_items (data_bits compressed course subsets))
   pub made : MakesSo (told_refusal why) 0 (turns_data compressed course subsets) steps
   pub few : steps ≤ places * (count_data compressed course subsets + 1)
 
 -- what the writing of data answers, for a document
-abbrev pub DataSo : (places : ℕ) (compressed : Bool) → Course → List Subset → Result (Vec ℕ Global) DocumentFault → (steps : ℕ) → Type 0
-DataSo places compressed course subsets (Ok octets) steps = IsData places compressed course subsets octets.items steps
-DataSo places compressed course subsets (Err why) steps = IsNoData places compressed course subsets why steps
+abbrev pub DataSo : (places : ℕ) (compressed : Bool) → Course → List Subset
+    → Result (Vec ℕ Global) DocumentFault → (steps : ℕ) → Type 0
+DataSo places compressed course subsets (Ok octets) steps =
+    IsData places compressed course subsets octets.items steps
+DataSo places compressed course subsets (Err why) steps =
+    IsNoData places compressed course subsets why steps
 
 -- ---- one subset
 
@@ -70,7 +75,8 @@ count_next course left = count_filled (plain_filler (end_left left)) course (ite
 abbrev pub turns_next : Course → List Entry → ℕ
 turns_next course left = turns_filled (plain_filler (end_left left)) course (items_left left)
 
-pub record IsSubset (places : ℕ) (course : Course) (s : Pen) (steps : ℕ) (s' : Pen) (steps' : ℕ) : Type 0 where
+pub record IsSubset (places : ℕ) (course : Course) (s : Pen) (steps : ℕ) (s' : Pen)
+    (steps' : ℕ) : Type 0 where
   pub bits : List Bool
   pub is : fill_next course s.left ≡ Ok bits
   pub written : s'.bits ≡ s.bits ++ bits
@@ -78,12 +84,14 @@ pub record IsSubset (places : ℕ) (course : Course) (s : Pen) (steps : ℕ) (s'
   pub made : steps' ≡ ticked steps (turns_next course s.left)
   pub few : steps' ≤ steps + places * length bits
 
-pub record IsNoSubset (places : ℕ) (course : Course) (s : Pen) (steps : ℕ) (why : DocumentFault) (steps' : ℕ) : Type 0 where
+pub record IsNoSubset (places : ℕ) (course : Course) (s : Pen) (steps : ℕ) (why : DocumentFault)
+    (steps' : ℕ) : Type 0 where
   pub refuses : RefusesSo (told_refusal why) (told_of_items (fill_next course s.left))
   pub made : MakesSo (told_refusal why) steps (turns_next course s.left) steps'
   pub few : steps' ≤ steps + places * (count_next course s.left + 1)
 
 -- the next subset was written and its end passed, or it is refused
-abbrev pub SubsetSo : (places : ℕ) → Course → Pen → (steps : ℕ) → Result (Unit {0}) DocumentFault → Pen → (steps' : ℕ) → Type 0
+abbrev pub SubsetSo : (places : ℕ) → Course → Pen → (steps : ℕ) → Result (Unit {0}) DocumentFault
+    → Pen → (steps' : ℕ) → Type 0
 SubsetSo places course s steps (Ok _) s' steps' = IsSubset places course s steps s' steps'
 SubsetSo places course s steps (Err why) s' steps' = IsNoSubset places course s steps why steps'

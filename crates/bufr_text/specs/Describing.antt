@@ -7,7 +7,9 @@ use Rattle.bufr_text.specs.Line.{Descriptors, Wrong, made, with_one_to}
 -- the descriptors stand in front of `out`, or the text is none of a line
 abbrev pub Describes : (text out : List ℕ) → Option ℕ → Type 0
 Describes text out None = made (with_one_to 8 Descriptors) (descriptors_read text) ≡ Wrong
-Describes text out (Some count) = (count ≤ length out) × (made (with_one_to 8 Descriptors) (descriptors_read text) ≡ Descriptors (take count out))
+Describes text out (Some count) =
+    (count ≤ length out)
+    × (made (with_one_to 8 Descriptors) (descriptors_read text) ≡ Descriptors (take count out))
 
 -- the descriptors that were read stand in front of `out`
 pub record IsDescribing (text out : List ℕ) (count : ℕ) : Type 0 where
@@ -15,4 +17,5 @@ pub record IsDescribing (text out : List ℕ) (count : ℕ) : Type 0 where
   pub some : 0 < length text
   pub short : length text ≤ 56
   pub room : length out ≡ 8
-  pub read : descriptors_read text ≡ option_map (λ more. take count out ++ more) (descriptors_read (drop (7 * count) text))
+  pub read : descriptors_read text
+      ≡ option_map (λ more. take count out ++ more) (descriptors_read (drop (7 * count) text))

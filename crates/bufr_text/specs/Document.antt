@@ -17,7 +17,8 @@ pub record Document : Type 0 where
 
 -- a document of which its first line was read
 abbrev pub blank : (line : ℕ) → Document
-blank line = record { line = line; header = []; local1 = []; section2 = []; descriptors = []; entries = [] }
+blank line =
+    record { line = line; header = []; local1 = []; section2 = []; descriptors = []; entries = [] }
 
 -- the edition, the first value
 abbrev pub edition_in : Document → ℕ

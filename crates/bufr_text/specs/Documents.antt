@@ -52,7 +52,9 @@ with_entry d entry = record d { entries = d.entries ++ entry ∷ [] }
 
 -- in the range of its key, which goes by the edition
 abbrev pub in_range : (edition key value : ℕ) → Bool
-in_range edition key value = nat_le (slice_index leasts key) value && nat_le value (slice_index (mosts (slots_of edition)) key)
+in_range edition key value =
+    nat_le (slice_index leasts key) value
+    && nat_le value (slice_index (mosts (slots_of edition)) key)
 
 -- a header line
 abbrev pub heading : Document → Line → Turn
@@ -64,7 +66,9 @@ heading d line = Faults NotAllowed
 
 -- `subset` and its number, where so many subsets were read
 abbrev pub beginning : (read : ℕ) → Document → (subset : ℕ) → Turn
-beginning read d subset = if (subset == read + 1) && nat_le subset (subsets_in d) then Goes (Filling subset d) else Faults SubsetCount
+beginning read d subset =
+    if (subset == read + 1) && nat_le subset (subsets_in d) then Goes (Filling subset d)
+    else Faults SubsetCount
 
 -- `end`
 abbrev pub closing : (read : ℕ) → Document → Turn
@@ -72,8 +76,11 @@ closing read d = if read == subsets_in d then Gives d else Faults SubsetCount
 
 -- a line behind the header and before the first subset
 abbrev pub laying : (part : ℕ) → Document → Line → Turn
-laying part d (Local1 octets) = if part == 0 then Goes (Laying 0 (with_local1 d octets)) else Faults NotAllowed
-laying part d (Section2 octets) = if nat_le part 1 && (optional_in d == 1) then Goes (Laying 1 (with_section2 d octets)) else Faults NotAllowed
+laying part d (Local1 octets) =
+    if part == 0 then Goes (Laying 0 (with_local1 d octets)) else Faults NotAllowed
+laying part d (Section2 octets) =
+    if nat_le part 1 && (optional_in d == 1) then Goes (Laying 1 (with_section2 d octets))
+    else Faults NotAllowed
 laying part d (Descriptors words) = Goes (Laying 2 (with_descriptors d words))
 laying part d (Begins subset) = beginning 0 d subset
 laying part d Closes = closing 0 d
@@ -81,7 +88,8 @@ laying part d line = Faults NotAllowed
 
 -- a line in a subset
 abbrev pub filling : (at subset : ℕ) → Document → Line → Turn
-filling at subset d (Item fxy form) = Goes (Filling subset (with_entry d (Holds (draft at fxy form))))
+filling at subset d (Item fxy form) =
+    Goes (Filling subset (with_entry d (Holds (draft at fxy form))))
 filling at subset d (Begins next) = beginning subset (with_entry d (Ends at)) next
 filling at subset d Closes = closing subset (with_entry d (Ends at))
 filling at subset d line = Faults NotAllowed
@@ -137,7 +145,8 @@ told_at_end at Stopped = []
 unfoldable pub spelled : (at : ℕ) → Place → List (List ℕ) → List Told
 spelled at place [] = told_at_end at place
 spelled at place (line ∷ more) =
-    let here = turn at place (said line) in told_at at here ++ spelled (at + 1) (place_after here) more
+    let here =
+    turn at place (said line) in told_at at here ++ spelled (at + 1) (place_after here) more
 
 -- one more octet in front of the first line
 abbrev pub onto_first : ℕ → List (List ℕ) → List (List ℕ)
@@ -155,9 +164,12 @@ documents_of text = spelled 1 Between (lines_of text)
 
 -- the documents that lines spell, where more lines may come
 unfoldable pub spelled_openly : (at : ℕ) → Place → List (List ℕ) → (rest : List ℕ) → List Told
-spelled_openly at place [] rest = if nat_lt 4096 (length rest) then told_at at (turn at place Wrong) else []
+spelled_openly at place [] rest =
+    if nat_lt 4096 (length rest) then told_at at (turn at place Wrong) else []
 spelled_openly at place (line ∷ more) rest =
-    let here = turn at place (said line) in told_at at here ++ spelled_openly (at + 1) (place_after here) more rest
+    let here =
+    turn at place (said line) in told_at at here
+    ++ spelled_openly (at + 1) (place_after here) more rest
 
 -- the lines of a text that end by a line feed, and what is behind the last of them
 pub record Split : Type 0 where
@@ -170,7 +182,8 @@ onto_split c [] rest = record { whole = []; rest = c ∷ rest }
 onto_split c (line ∷ more) rest = record { whole = (c ∷ line) ∷ more; rest = rest }
 
 abbrev pub octet_onto_split : ℕ → Split → Split
-octet_onto_split c s = if c == 10 then record { whole = [] ∷ s.whole; rest = s.rest } else onto_split c s.whole s.rest
+octet_onto_split c s =
+    if c == 10 then record { whole = [] ∷ s.whole; rest = s.rest } else onto_split c s.whole s.rest
 
 unfoldable pub split_of : List ℕ → Split
 split_of [] = record { whole = []; rest = [] }

@@ -35,8 +35,10 @@ bit on = if on then 1 else 0
 
 abbrev pub header_of : Sections → List ℕ
 header_of s = let h = s.head in
-    h.edition ∷ h.master ∷ h.centre ∷ h.subcentre ∷ h.update ∷ h.category ∷ h.subcategory ∷ h.local_subcategory ∷ h.master_version
-    ∷ h.local_version ∷ h.year ∷ h.month ∷ h.day ∷ h.hour ∷ h.minute ∷ h.second ∷ bit s.observed ∷ bit s.compressed
+    h.edition ∷ h.master ∷ h.centre ∷ h.subcentre ∷ h.update ∷ h.category ∷ h.subcategory
+    ∷ h.local_subcategory ∷ h.master_version
+    ∷ h.local_version ∷ h.year ∷ h.month ∷ h.day ∷ h.hour ∷ h.minute ∷ h.second
+    ∷ bit s.observed ∷ bit s.compressed
     ∷ bit (is_some s.section2) ∷ s.subsets ∷ []
 
 -- a key and its value
@@ -67,7 +69,8 @@ form_of (IsReference v) = reference_token (decimal_text_of v (pos 0))
 -- two spaces, `# `, the name, the unit in brackets
 abbrev pub comment_text : Option Comment → List ℕ
 comment_text None = []
-comment_text (Some comment) = joined (codes "  # " ∷ comment.name ∷ codes " [" ∷ comment.unit ∷ codes "]" ∷ [])
+comment_text (Some comment) =
+    joined (codes "  # " ∷ comment.name ∷ codes " [" ∷ comment.unit ∷ codes "]" ∷ [])
 
 -- a descriptor and what stands for its value
 abbrev pub form_text : (fxy : ℕ) → Form → List ℕ
@@ -85,7 +88,8 @@ subset_line subset = codes "subset " ++ decimal subset
 -- the lines of the subsets from a number on
 unfoldable pub subset_lines : (subset : ℕ) → List (List Item) → List (List ℕ)
 subset_lines subset [] = []
-subset_lines subset (items ∷ more) = subset_line subset ∷ (map item_text items ++ subset_lines (subset + 1) more)
+subset_lines subset (items ∷ more) =
+    subset_line subset ∷ (map item_text items ++ subset_lines (subset + 1) more)
 
 -- the lines before the subsets
 abbrev pub head_lines : Sections → List (List ℕ)
@@ -110,17 +114,21 @@ dump_text_of s subsets = text_of (dump_lines s subsets)
 -- the entries of items whose first stands at a line
 unfoldable pub item_entries : (at : ℕ) → List Item → List Entry
 item_entries at [] = []
-item_entries at (item ∷ more) = Holds (draft at item.fxy (form_of item.value)) ∷ item_entries (at + 1) more
+item_entries at (item ∷ more) =
+    Holds (draft at item.fxy (form_of item.value)) ∷ item_entries (at + 1) more
 
 -- the entries of subsets whose first begins at a line
 unfoldable pub subset_entries : (at : ℕ) → List (List Item) → List Entry
 subset_entries at [] = []
 subset_entries at (items ∷ more) =
-    item_entries (at + 1) items ++ (Ends (at + 1 + length items) ∷ subset_entries (at + 1 + length items) more)
+    item_entries (at + 1) items
+    ++ (Ends (at + 1 + length items) ∷ subset_entries (at + 1 + length items) more)
 
 -- how many lines a message has before its subsets
 abbrev pub lines_before : Sections → ℕ
-lines_before s = 21 + length (runs_of 32 s.local1) + length (runs_of 32 (unwrap_or s.section2 [])) + length (runs_of 8 s.descriptors)
+lines_before s =
+    21 + length (runs_of 32 s.local1) + length (runs_of 32 (unwrap_or s.section2 []))
+    + length (runs_of 8 s.descriptors)
 
 -- the document of a message whose dump text begins at a line
 abbrev pub document_of : (at : ℕ) → Sections → List (List Item) → Document

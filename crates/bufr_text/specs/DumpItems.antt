@@ -3,14 +3,14 @@
 use Rattle.std.specs.Prelude.{ℕ, zero, suc, ◌+◌, List, [], ◌∷◌, map, option_map}
 use Rattle.bufr_tables.specs.TableB.{Row}
 use Rattle.bufr_walk.specs.Calls.{View, view_of, content_at}
-use Rattle.bufr_walk.specs.Content.{Content, Shown, shown_number, shown_text, shown_missing, shown_reference}
+use Rattle.bufr_walk.specs.Content.{Content, ShownValue, shown_number, shown_text, shown_missing, shown_reference}
 use Rattle.bufr_walk.specs.Outcome.{Read}
 use Rattle.bufr_walk.specs.Reading.{Values, apart, together}
 use Rattle.bufr_walk.specs.Reading as reading
 use Rattle.bufr_text.specs.Dump.{Value, IsNumber, IsText, IsMissing, IsReference, Comment, Item}
 
 -- the value of an item that is shown
-abbrev pub value_of : Shown → Value
+abbrev pub value_of : ShownValue → Value
 value_of (shown_number value scale) = IsNumber value scale
 value_of (shown_text octets) = IsText octets
 value_of shown_missing = IsMissing
@@ -22,7 +22,8 @@ comment_of row = record { name = row.name; unit = row.unit }
 
 -- an item as it is shown: with a comment exactly where it was read by a row of Table B
 abbrev pub item_of : View → Item
-item_of v = record { fxy = v.fxy; comment = option_map comment_of v.entry; value = value_of v.value }
+item_of v =
+    record { fxy = v.fxy; comment = option_map comment_of v.entry; value = value_of v.value }
 
 -- the items of a subset that has bits of its own
 abbrev pub items_apart : List Row → List (reading.Item Content) → List Item
@@ -30,12 +31,15 @@ items_apart table items = map (λ i. item_of (view_of table i.spec i.content)) i
 
 -- the items of one subset of compressed data, counted from 0
 abbrev pub items_together : List Row → (subset : ℕ) → List (reading.Item (List Content)) → List Item
-items_together table subset items = map (λ i. item_of (view_of table i.spec (content_at subset i.content))) items
+items_together table subset items =
+    map (λ i. item_of (view_of table i.spec (content_at subset i.content))) items
 
 -- the items of so many subsets of compressed data, from one on, counted from 0
-abbrev pub subsets_together : List Row → (left subset : ℕ) → List (reading.Item (List Content)) → List (List Item)
+abbrev pub subsets_together : List Row → (left subset : ℕ)
+    → List (reading.Item (List Content)) → List (List Item)
 subsets_together table zero subset items = []
-subsets_together table (suc left) subset items = items_together table subset items ∷ subsets_together table left (subset + 1) items
+subsets_together table (suc left) subset items =
+    items_together table subset items ∷ subsets_together table left (subset + 1) items
 
 -- the items of each subset of a reading
 abbrev pub items_of : Read → Values → List (List Item)

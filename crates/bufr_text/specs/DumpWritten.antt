@@ -1,4 +1,5 @@
--- What a dump leaves on its writer, stretch by stretch, and the steps that are made for it. (a choice of this project)
+-- What a dump leaves on its writer, stretch by stretch, and the steps that are made for it. (a
+-- choice of this project)
 -- Cited by public contracts.
 use Rattle.std.specs.Prelude.{◌≡◌, ℕ, List, [], ◌∷◌, ◌++◌, Option, Result, Ok, Err, codes, map, flat_map}
 use Rattle.std.specs.Io.KnownBytes.{Appends}
@@ -21,12 +22,15 @@ pub record ReadsMessage (s : Sections) (r : outcome.Read) : Type 0 where
   pub read : IsReading (course_of r) r.source values r.bits
 
 -- the text was written, or the front of it where the writer failed or memory ran out
-abbrev pub WritesFront : {X : Type 0} → (old new : Option (List ℕ)) → List ℕ → Result X RunFault → Type 0
+abbrev pub WritesFront : {X : Type 0} → (old new : Option (List ℕ)) → List ℕ
+    → Result X RunFault → Type 0
 WritesFront old new text (Ok x) = Appends old new text
 WritesFront old new text (Err fault) = GrowsByFront old new text
 
--- a write fault comes only from a call that the writer counts; nothing else changes its counts, and there is no fault but that and want of memory
-abbrev pub CountsFaults : {X : Type 0} → (failures failures' empty empty' : ℕ) → Result X RunFault → Type 0
+-- a write fault comes only from a call that the writer counts; nothing else changes its counts, and
+-- there is no fault but that and want of memory
+abbrev pub CountsFaults : {X : Type 0} → (failures failures' empty empty' : ℕ)
+    → Result X RunFault → Type 0
 CountsFaults failures failures' empty empty' (Ok x) = Stays failures failures' empty empty'
 CountsFaults failures failures' empty empty' (Err Write) = Fails failures failures' empty empty'
 CountsFaults failures failures' empty empty' (Err Memory) = Stays failures failures' empty empty'
@@ -50,15 +54,19 @@ call_line (item_call v) = item_text (item_of v)
 abbrev pub call_stretch : Timed → Stretch
 call_stretch t = stretch t.turns (call_line t.call ++ 10 ∷ [])
 
--- the stretches of a dump text: the lines before the subsets, a line for each call that shows the reading, and the last line
+-- the stretches of a dump text: the lines before the subsets, a line for each call that shows the
+-- reading, and the last line
 abbrev pub stretches_of : Sections → outcome.Read → Values → List Stretch
-stretches_of s r values = stretch 0 (text_of (head_lines s)) ∷ (map call_stretch (calls_of r values) ++ stretch (turns_shown r values) (codes "end\n") ∷ [])
+stretches_of s r values =
+    stretch 0 (text_of (head_lines s))
+    ∷ (map call_stretch (calls_of r values) ++ stretch (turns_shown r values) (codes "end\n") ∷ [])
 
 -- texts of stretches, one after another
 abbrev pub stretches_text : List Stretch → List ℕ
 stretches_text stretches = flat_map (λ p. p.text) stretches
 
--- the writing stopped: the stretches before one were written whole, of that one a front, and the steps are the turns before it
+-- the writing stopped: the stretches before one were written whole, of that one a front, and the
+-- steps are the turns before it
 pub record StopsAt (old new : Option (List ℕ)) (stretches : List Stretch) (steps : ℕ) : Type 0 where
   pub given : List Stretch
   pub next : Stretch
@@ -70,6 +78,8 @@ pub record StopsAt (old new : Option (List ℕ)) (stretches : List Stretch) (ste
   pub made : steps ≡ ticked 0 next.turns
 
 -- all stretches were written in so many turns, or some first ones
-abbrev pub WritesStretches : {X : Type 0} → (old new : Option (List ℕ)) → List Stretch → (turns : ℕ) → Result X RunFault → (steps : ℕ) → Type 0
-WritesStretches old new stretches turns (Ok x) steps = Appends old new (stretches_text stretches) × (steps ≡ ticked 0 turns)
+abbrev pub WritesStretches : {X : Type 0} → (old new : Option (List ℕ)) → List Stretch → (turns : ℕ)
+    → Result X RunFault → (steps : ℕ) → Type 0
+WritesStretches old new stretches turns (Ok x) steps =
+    Appends old new (stretches_text stretches) × (steps ≡ ticked 0 turns)
 WritesStretches old new stretches turns (Err fault) steps = StopsAt old new stretches steps

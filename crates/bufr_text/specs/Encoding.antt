@@ -39,7 +39,8 @@ refused_at line why = record { line = line; why = why }
 
 -- one step after another, up to the first refusal
 infixl 10 ◌>>=◌
-abbrev pub ◌>>=◌ : {A B : Type 0} → Result A RefusedAt → (A → Result B RefusedAt) → Result B RefusedAt
+abbrev pub ◌>>=◌ : {A B : Type 0} → Result A RefusedAt → (A → Result B RefusedAt)
+    → Result B RefusedAt
 (Ok a) >>= next = next a
 (Err why) >>= next = Err why
 
@@ -63,7 +64,9 @@ octets_of_bits bits = octets_in ((length bits + 7) / 8) (bits ++ padding (length
 
 -- what is written besides the head
 abbrev pub parts_as : (compressed : Bool) → Document → (payload : List ℕ) → Parts
-parts_as compressed d payload = parts_of d.local1 (section2_in d) d.descriptors (subsets_in d) (observed_in d) compressed payload
+parts_as compressed d payload =
+    parts_of d.local1 (section2_in d) d.descriptors (subsets_in d)
+    (observed_in d) compressed payload
 
 abbrev pub parts_in : Document → (payload : List ℕ) → Parts
 parts_in d payload = parts_as (compressed_in d) d payload
@@ -74,14 +77,17 @@ compressed_as form d = compressed_by form (compressed_in d)
 
 -- a message of these parts, where it is not too long
 abbrev pub message_of : (line : ℕ) → Head → Parts → Result (List ℕ) RefusedAt
-message_of line head parts = if nat_lt most_octets (message_size head.edition parts) then Err (refused_at line too_long) else Ok (message_octets head parts)
+message_of line head parts =
+    if nat_lt most_octets (message_size head.edition parts) then Err (refused_at line too_long)
+    else Ok (message_octets head parts)
 
 -- the octets of a document's message, or its first fault: the template goes before all, then the
 -- items in the order of the template, then the length
 unfoldable pub encoding_in : Form → List Row → List Sequence → Document → Result (List ℕ) RefusedAt
 encoding_in form table sequences d = do
   template ← told_of_template d.line (tree_of (tables_of table sequences) d.descriptors)
-  bits ← told_of_items (data_bits (compressed_as form d) (next_item table template) (subsets_of d.entries))
+  bits ← told_of_items
+  (data_bits (compressed_as form d) (next_item table template) (subsets_of d.entries))
   message_of d.line (head_in d) (parts_as (compressed_as form d) d (octets_of_bits bits))
 
 -- the same in the form that the document says

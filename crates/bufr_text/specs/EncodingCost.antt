@@ -35,7 +35,8 @@ module _ {D C E : Type 0} (filler : Filler D C E) where
   -- how many bits the drafts are, up to the first that is refused
   abbrev pub count_filled : Course → List D → ℕ
   count_filled course [] = 0
-  count_filled course (d ∷ ds) = counted_at (course []).next d (λ t. count_filled (λ told. course (t ∷ told)) ds)
+  count_filled course (d ∷ ds) =
+      counted_at (course []).next d (λ t. count_filled (λ told. course (t ∷ told)) ds)
 
 -- those behind one subset count where it is not refused
 abbrev pub and_more : Result (List Bool) FaultAt → (more : ℕ) → ℕ
@@ -44,12 +45,16 @@ and_more (Err why) more = 0
 
 abbrev pub count_plain : Course → List Subset → ℕ
 count_plain course [] = 0
-count_plain course (s ∷ subsets) = count_filled (plain_filler s.end_line) course s.items + and_more (fill (plain_filler s.end_line) course s.items) (count_plain course subsets)
+count_plain course (s ∷ subsets) =
+    count_filled (plain_filler s.end_line) course s.items
+    + and_more (fill (plain_filler s.end_line) course s.items) (count_plain course subsets)
 
 abbrev pub count_packed : Course → List Subset → ℕ
 count_packed course [] = 0
 count_packed course (s ∷ subsets) =
-    count_filled (packed_filler s.end_line (are_many (longest (s ∷ subsets)) (length (s ∷ subsets)))) course (rows (longest (s ∷ subsets)) 0 (s ∷ subsets))
+    count_filled (packed_filler s.end_line
+    (are_many (longest (s ∷ subsets)) (length (s ∷ subsets)))) course
+    (rows (longest (s ∷ subsets)) 0 (s ∷ subsets))
 
 -- how many bits of the data go before the first refusal, all where there is none
 abbrev pub count_data : (compressed : Bool) → Course → List Subset → ℕ
@@ -65,12 +70,14 @@ abbrev pub places_by : List Row → List Sequence → Document → ℕ
 places_by table sequences d = places_of (tree_of (tables_of table sequences) d.descriptors)
 
 abbrev pub bits_for : Form → List Row → Document → Result Tree TemplateFault → ℕ
-bits_for form table d (Ok template) = count_data (compressed_as form d) (next_item table template) (subsets_of d.entries)
+bits_for form table d (Ok template) =
+    count_data (compressed_as form d) (next_item table template) (subsets_of d.entries)
 bits_for form table d (Err why) = 0
 
 -- how many bits of its data go before its first refusal, all where there is none
 abbrev pub bits_by : Form → List Row → List Sequence → Document → ℕ
-bits_by form table sequences d = bits_for form table d (tree_of (tables_of table sequences) d.descriptors)
+bits_by form table sequences d =
+    bits_for form table d (tree_of (tables_of table sequences) d.descriptors)
 
 -- ---- the turns up to the first refusal, this one's included: those of the template, as the items
 -- unroll it (WMO-No. 306, Volume I.2, FM 94: section 3, replications; that they are counted is a
@@ -93,31 +100,39 @@ module _ {D C E : Type 0} (filler : Filler D C E) where
   -- how many turns drafts take, from the beginning of the template on
   abbrev pub turns_filled : Course → List D → ℕ
   turns_filled course [] = (course []).turns
-  turns_filled course (d ∷ ds) = turned_at (course []).next (course []).turns d (λ t. turns_filled (λ told. course (t ∷ told)) ds)
+  turns_filled course (d ∷ ds) =
+      turned_at (course []).next (course []).turns d
+      (λ t. turns_filled (λ told. course (t ∷ told)) ds)
 
 -- one pass for each subset, up to one that is refused
 abbrev pub turns_plain : Course → List Subset → ℕ
 turns_plain course [] = 0
-turns_plain course (s ∷ subsets) = turns_filled (plain_filler s.end_line) course s.items + and_more (fill (plain_filler s.end_line) course s.items) (turns_plain course subsets)
+turns_plain course (s ∷ subsets) =
+    turns_filled (plain_filler s.end_line) course s.items
+    + and_more (fill (plain_filler s.end_line) course s.items) (turns_plain course subsets)
 
 -- one pass for all subsets; without a subset there is none
 abbrev pub turns_packed : Course → List Subset → ℕ
 turns_packed course [] = 0
 turns_packed course (s ∷ subsets) =
-    turns_filled (packed_filler s.end_line (are_many (longest (s ∷ subsets)) (length (s ∷ subsets)))) course (rows (longest (s ∷ subsets)) 0 (s ∷ subsets))
+    turns_filled (packed_filler s.end_line
+    (are_many (longest (s ∷ subsets)) (length (s ∷ subsets)))) course
+    (rows (longest (s ∷ subsets)) 0 (s ∷ subsets))
 
 abbrev pub turns_data : (compressed : Bool) → Course → List Subset → ℕ
 turns_data true course subsets = turns_packed course subsets
 turns_data false course subsets = turns_plain course subsets
 
 abbrev pub turns_for : Form → List Row → Document → Result Tree TemplateFault → ℕ
-turns_for form table d (Ok template) = turns_data (compressed_as form d) (next_item table template) (subsets_of d.entries)
+turns_for form table d (Ok template) =
+    turns_data (compressed_as form d) (next_item table template) (subsets_of d.entries)
 turns_for form table d (Err why) = 0
 
 -- the turns that the encoding of a document makes, up to its first refusal; with no template there
 -- is none
 abbrev pub turns_by : Form → List Row → List Sequence → Document → ℕ
-turns_by form table sequences d = turns_for form table d (tree_of (tables_of table sequences) d.descriptors)
+turns_by form table sequences d =
+    turns_for form table d (tree_of (tables_of table sequences) d.descriptors)
 
 -- the steps behind so many turns, where the writing was refused; at want of memory they are perhaps
 -- not all made

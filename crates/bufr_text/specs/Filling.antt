@@ -53,27 +53,38 @@ pub record WantsHere (old : State) : Type 0 where
 -- what the lines come to that were held
 abbrev pub WentSo : State → State → Result (Option Document) ReadFault → Type 0
 WentSo old new (Ok None) = Tells old new [] × (new.fault ≡ None) × (has_no_feed new.held ≡ true)
-WentSo old new (Ok (Some document)) = Tells old new (Spelled document ∷ []) × (new.fault ≡ None) × PassesEnd old.at old.held new.at new.held
-WentSo old new (Err (Line line)) = Tells old new (Refused line documents.NotAllowed ∷ []) × (new.fault ≡ Some (Line line))
-WentSo old new (Err (SubsetCount line)) = Tells old new (Refused line documents.SubsetCount ∷ []) × (new.fault ≡ Some (SubsetCount line))
-WentSo old new (Err (HeaderRange line)) = Tells old new (Refused line documents.HeaderRange ∷ []) × (new.fault ≡ Some (HeaderRange line))
-WentSo old new (Err (Run Memory)) = (new.fault ≡ Some (Run Memory)) × (has_no_feed old.held ≡ false) × (new.held ≡ old.held) × WantsHere old
+WentSo old new (Ok (Some document)) =
+    Tells old new (Spelled document ∷ []) × (new.fault ≡ None)
+    × PassesEnd old.at old.held new.at new.held
+WentSo old new (Err (Line line)) =
+    Tells old new (Refused line documents.NotAllowed ∷ []) × (new.fault ≡ Some (Line line))
+WentSo old new (Err (SubsetCount line)) =
+    Tells old new (Refused line documents.SubsetCount ∷ []) × (new.fault ≡ Some (SubsetCount line))
+WentSo old new (Err (HeaderRange line)) =
+    Tells old new (Refused line documents.HeaderRange ∷ []) × (new.fault ≡ Some (HeaderRange line))
+WentSo old new (Err (Run Memory)) =
+    (new.fault ≡ Some (Run Memory)) × (has_no_feed old.held ≡ false)
+    × (new.held ≡ old.held) × WantsHere old
 WentSo old new (Err (Run Read)) = ⊥
 WentSo old new (Err (Run Write)) = ⊥
 WentSo old new (Err (Run InputTooLong)) = ⊥
 
 -- how a read ends: octets came, or the end was reached, or it failed, or memory was refused before
 -- the first one
-abbrev pub ReadEnds : (left' : Option (List ℕ)) → State → State → List ℕ → Result (Unit {0}) RunFault → Type 0
-ReadEnds left' old new bs (Ok u) = (new.reads ≡ old.reads + 1) × (new.ended ≡ true → (bs ≡ []) × IsAtEnd left')
+abbrev pub ReadEnds : (left' : Option (List ℕ)) → State → State → List ℕ
+    → Result (Unit {0}) RunFault → Type 0
+ReadEnds left' old new bs (Ok u) =
+    (new.reads ≡ old.reads + 1) × (new.ended ≡ true → (bs ≡ []) × IsAtEnd left')
 ReadEnds left' old new bs (Err Read) = (new.reads ≡ old.reads + 1) × (bs ≡ []) × (new.ended ≡ false)
 ReadEnds left' old new bs (Err Write) = ⊥
 ReadEnds left' old new bs (Err InputTooLong) = ⊥
-ReadEnds left' old new bs (Err Memory) = (new.reads ≡ old.reads) × (bs ≡ []) × (new.ended ≡ false) × (new.reads ≡ 0)
+ReadEnds left' old new bs (Err Memory) =
+    (new.reads ≡ old.reads) × (bs ≡ []) × (new.ended ≡ false) × (new.reads ≡ 0)
 
 -- One read: octets come behind those that are held, or the end was reached, which ends the last
 -- line.
-pub record ReadSo (left left' : Option (List ℕ)) (old new : State) (result : Result (Unit {0}) RunFault) (bs : List ℕ) : Type 0 where
+pub record ReadSo (left left' : Option (List ℕ)) (old new : State)
+    (result : Result (Unit {0}) RunFault) (bs : List ℕ) : Type 0 where
   pub read : Consumes left left' bs
   pub few : length bs ≤ 4096
   pub feed : List ℕ
@@ -102,18 +113,29 @@ stopped s (Run fault) = record s { fault = Some (Run fault) }
 abbrev pub EndSo : State → State → Result (Option Document) ReadFault → Type 0
 EndSo old new (Ok None) = (new ≡ old) × (new.held ≡ []) × (spells (stand new) [] ≡ [])
 EndSo old new (Ok (Some document)) = ⊥
-EndSo old new (Err (Line line)) = Tells old new (Refused line documents.NotAllowed ∷ []) × (new.fault ≡ Some (Line line)) × (new.ended ≡ old.ended) × (new.reads ≡ old.reads)
+EndSo old new (Err (Line line)) =
+    Tells old new (Refused line documents.NotAllowed ∷ []) × (new.fault ≡ Some (Line line))
+    × (new.ended ≡ old.ended) × (new.reads ≡ old.reads)
 EndSo old new (Err (SubsetCount line)) = ⊥
 EndSo old new (Err (HeaderRange line)) = ⊥
 EndSo old new (Err (Run fault)) = ⊥
 
 -- a read, or why none is made
-abbrev pub FillSo : (left left' : Option (List ℕ)) → State → State → Result (Unit {0}) ReadFault → List ℕ → Type 0
+abbrev pub FillSo : (left left' : Option (List ℕ)) → State → State
+    → Result (Unit {0}) ReadFault → List ℕ → Type 0
 FillSo left left' old new (Ok u) bs = ReadSo left left' old new (Ok u) bs × (length old.held ≤ 4096)
-FillSo left left' old new (Err (Line line)) bs = Consumes left left' bs × (bs ≡ []) × Tells old new (Refused line documents.NotAllowed ∷ []) × (new.fault ≡ Some (Line line)) × (new.ended ≡ old.ended) × (new.reads ≡ old.reads)
+FillSo left left' old new (Err (Line line)) bs =
+    Consumes left left' bs × (bs ≡ []) × Tells old new (Refused line documents.NotAllowed ∷ [])
+    × (new.fault ≡ Some (Line line)) × (new.ended ≡ old.ended) × (new.reads ≡ old.reads)
 FillSo left left' old new (Err (SubsetCount line)) bs = ⊥
 FillSo left left' old new (Err (HeaderRange line)) bs = ⊥
-FillSo left left' old new (Err (Run Read)) bs = (s : State) × ReadSo left left' old s (Err Read) bs × (new ≡ stopped s (Run Read)) × (length old.held ≤ 4096)
+FillSo left left' old new (Err (Run Read)) bs =
+    (s : State) × ReadSo left left' old s (Err Read) bs × (new ≡ stopped s (Run Read))
+    × (length old.held ≤ 4096)
 FillSo left left' old new (Err (Run Write)) bs = ⊥
-FillSo left left' old new (Err (Run InputTooLong)) bs = Consumes left left' bs × (bs ≡ []) × (new ≡ stopped old (Run InputTooLong)) × (length old.held ≤ 4096) × (old.reads ≡ most_reads)
-FillSo left left' old new (Err (Run Memory)) bs = (s : State) × ReadSo left left' old s (Err Memory) bs × (new ≡ stopped s (Run Memory)) × (length old.held ≤ 4096)
+FillSo left left' old new (Err (Run InputTooLong)) bs =
+    Consumes left left' bs × (bs ≡ []) × (new ≡ stopped old (Run InputTooLong))
+    × (length old.held ≤ 4096) × (old.reads ≡ most_reads)
+FillSo left left' old new (Err (Run Memory)) bs =
+    (s : State) × ReadSo left left' old s (Err Memory) bs × (new ≡ stopped s (Run Memory))
+    × (length old.held ≤ 4096)

@@ -40,7 +40,9 @@ hex_digit n = if nat_lt n 10 then 48 + n else 55 + n
 
 -- the number of a digit of upper case, or of either case
 abbrev pub upper_value : ℕ → Option ℕ
-upper_value c = if is_ascii_digit c then Some (c - 48) else if nat_le 65 c && nat_le c 70 then Some (c - 55) else None
+upper_value c =
+    if is_ascii_digit c then Some (c - 48) else if nat_le 65 c && nat_le c 70
+    then Some (c - 55) else None
 
 abbrev pub either_value : ℕ → Option ℕ
 either_value c = if nat_le 97 c && nat_le c 102 then Some (c - 87) else upper_value c
@@ -70,11 +72,13 @@ onto_read None xs = None
 unfoldable pub hex_read : List ℕ → Option (List ℕ)
 hex_read [] = Some []
 hex_read (high ∷ []) = None
-hex_read (high ∷ low ∷ more) = onto_read (pair_value (either_value high) (either_value low)) (hex_read more)
+hex_read (high ∷ low ∷ more) =
+    onto_read (pair_value (either_value high) (either_value low)) (hex_read more)
 
 -- the descriptor that six digits in front write, and what is behind it
 unfoldable pub fxy_read : List ℕ → Option (ℕ × List ℕ)
-fxy_read (a ∷ b ∷ c ∷ d ∷ e ∷ g ∷ more) = option_map (λ fxy. (fxy, more)) (fxy_of (a ∷ b ∷ c ∷ d ∷ e ∷ g ∷ []))
+fxy_read (a ∷ b ∷ c ∷ d ∷ e ∷ g ∷ more) =
+    option_map (λ fxy. (fxy, more)) (fxy_of (a ∷ b ∷ c ∷ d ∷ e ∷ g ∷ []))
 fxy_read text = None
 
 -- descriptors, each after one space
@@ -84,13 +88,17 @@ descriptors_text (fxy ∷ more) = 32 ∷ fxy_text fxy ++ descriptors_text more
 
 unfoldable pub descriptors_read : List ℕ → Option (List ℕ)
 descriptors_read [] = Some []
-descriptors_read (s ∷ a ∷ b ∷ c ∷ d ∷ e ∷ g ∷ more) = if s == 32 then onto_read (fxy_of (a ∷ b ∷ c ∷ d ∷ e ∷ g ∷ [])) (descriptors_read more) else None
+descriptors_read (s ∷ a ∷ b ∷ c ∷ d ∷ e ∷ g ∷ more) =
+    if s == 32
+    then onto_read (fxy_of (a ∷ b ∷ c ∷ d ∷ e ∷ g ∷ [])) (descriptors_read more) else None
 descriptors_read text = None
 
 -- an unsigned decimal of any length; numbers past 65,535 are all alike, since none of them fits
 -- anywhere
 abbrev pub number_read : List ℕ → Option ℕ
-number_read text = if nat_lt 0 (length text) && list_all is_ascii_digit text then Some (min (digits_value 10 text) 65536) else None
+number_read text =
+    if nat_lt 0 (length text) && list_all is_ascii_digit text
+    then Some (min (digits_value 10 text) 65536) else None
 
 -- an octet that stands for itself in a text
 abbrev pub is_plain : ℕ → Bool
@@ -123,7 +131,8 @@ says_pair None = Nothing
 abbrev pub escape_of : List ℕ → Quoting
 escape_of text =
     if (slice_index text 1 == 34) || (slice_index text 1 == 92) then Says (slice_index text 1) 2
-    else if slice_index text 1 == 120 then says_pair (pair_value (upper_value (slice_index text 2)) (upper_value (slice_index text 3)))
+    else if slice_index text 1 == 120 then says_pair
+    (pair_value (upper_value (slice_index text 2)) (upper_value (slice_index text 3)))
     else Nothing
 
 -- what stands in front of a text
@@ -139,7 +148,8 @@ abbrev pub octet_onto : ℕ → Option (List ℕ × List ℕ) → Option (List �
 octet_onto octet None = None
 octet_onto octet (Some read) = Some (octet ∷ read.0, read.1)
 
-abbrev pub quoted_on : Quoting → (closed : List ℕ) → (more : ℕ → Option (List ℕ × List ℕ)) → Option (List ℕ × List ℕ)
+abbrev pub quoted_on : Quoting → (closed : List ℕ) → (more : ℕ → Option (List ℕ × List ℕ))
+    → Option (List ℕ × List ℕ)
 quoted_on Closed closed more = Some ([], closed)
 quoted_on (Says octet written) closed more = octet_onto octet (more (written - 1))
 quoted_on Nothing closed more = None

@@ -44,7 +44,8 @@ section2_in d = if optional_in d == 1 then Some d.section2 else None
 -- each value is within the range of its key, from a key on
 abbrev pub are_in_range : (edition key : ℕ) → List ℕ → Bool
 are_in_range edition key [] = true
-are_in_range edition key (value ∷ more) = in_range edition key value && are_in_range edition (key + 1) more
+are_in_range edition key (value ∷ more) =
+    in_range edition key value && are_in_range edition (key + 1) more
 
 -- The header is whole, each value within its range.
 pub record IsHeaded (d : Document) : Type 0 where

@@ -28,11 +28,13 @@ each_subset n (together items) = subsets_from n 0 items
 
 -- octets are a message in a form, with the same reading as the message of sections s but for the
 -- flag of compression
-pub record HasReadingIn (form : Form) (table : List Row) (s : Sections) (template : Tree) (values : Values) (written : List ℕ) : Type 0 where
+pub record HasReadingIn (form : Form) (table : List Row) (s : Sections) (template : Tree)
+    (values : Values) (written : List ℕ) : Type 0 where
   pub few : length written ≤ most_octets
   pub octets : AllByRecursion IsOctet written
   -- in a stream it is one message, whatever is behind it
-  pub framed : (at : ℕ) (behind : List ℕ) → scan_from 0 at (written ++ behind) ≡ Framed at written ∷ scan_from 0 (at + length written) behind
+  pub framed : (at : ℕ) (behind : List ℕ) → scan_from 0 at (written ++ behind)
+      ≡ Framed at written ∷ scan_from 0 (at + length written) behind
   pub sections : Sections
   pub are : sections_of written ≡ Ok sections
   pub same : SaySame form s sections
@@ -57,16 +59,20 @@ IsForForm form.Compressed (by_item fault) = IsUnlike fault
 IsForForm form.Compressed too_long = Unit {0}
 
 -- what the document of a message is encoded to in a form
-abbrev pub IsFormed : Form → List Row → Sections → Tree → Values → Result (List ℕ) RefusedAt → Type 0
+abbrev pub IsFormed : Form → List Row → Sections → Tree → Values
+    → Result (List ℕ) RefusedAt → Type 0
 IsFormed form table s template values (Ok octets) = HasReadingIn form table s template values octets
 IsFormed form table s template values (Err refused) = IsForForm form refused.why
 
 -- a fault that is answered is such a refusal; want of memory, which the definition has not, may
 -- come in each form
 abbrev pub IsFaultIn : Form → DocumentFault → Type 0
-IsFaultIn form why = (refused : RefusedAt) → told_refusal why ≡ Some refused → IsForForm form refused.why
+IsFaultIn form why =
+    (refused : RefusedAt) → told_refusal why ≡ Some refused → IsForForm form refused.why
 
 -- what is answered for the document of a message in a form
-abbrev pub FormSo : Form → List Row → Sections → Tree → Values → Result (Vec ℕ Global) DocumentFault → Type 0
-FormSo form table s template values (Ok octets) = HasReadingIn form table s template values octets.items
+abbrev pub FormSo : Form → List Row → Sections → Tree → Values
+    → Result (Vec ℕ Global) DocumentFault → Type 0
+FormSo form table s template values (Ok octets) =
+    HasReadingIn form table s template values octets.items
 FormSo form table s template values (Err why) = IsFaultIn form why

@@ -20,7 +20,8 @@ form_by kind.Reference octets = reference_token octets
 
 -- the entry that is kept
 abbrev pub entry_kept : List ℕ → KeptEntry → Entry
-entry_kept octets (kept.Holds line fxy kind start end) = Holds (draft line fxy (form_by kind (slice_range octets start end)))
+entry_kept octets (kept.Holds line fxy kind start end) =
+    Holds (draft line fxy (form_by kind (slice_range octets start end)))
 entry_kept octets (kept.Ends line) = Ends line
 
 -- the places of an entry are in order and inside the block

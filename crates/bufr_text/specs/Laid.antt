@@ -1,4 +1,5 @@
--- The texts of which the header lines are laid (the name of a key behind its line feed, and its value), and the room for the line of an item.
+-- The texts of which the header lines are laid (the name of a key behind its line feed, and its
+-- value), and the room for the line of an item.
 -- Cited by private steps only.
 use Rattle.std.specs.Prelude.{ℕ, ◌+◌, ◌*◌, List, [], ◌∷◌, Option, Some, None, codes, decimal, length, unsigned_abs}
 use Rattle.bufr_tables.specs.declared.table_b.Entry.{Entry}
@@ -10,26 +11,30 @@ use Rattle.bufr_walk.specs.declared.visitor.ItemView.{ItemView}
 -- the first line, the edition, and what section 1 says up to the update
 abbrev pub origin_texts : Head → List (List ℕ)
 origin_texts h =
-    codes "message" ∷ codes "\nedition " ∷ decimal h.edition ∷ codes "\nmaster " ∷ decimal h.master ∷ codes "\ncentre " ∷ decimal h.centre
+    codes "message" ∷ codes "\nedition " ∷ decimal h.edition ∷ codes "\nmaster " ∷ decimal h.master
+    ∷ codes "\ncentre " ∷ decimal h.centre
     ∷ codes "\nsubcentre " ∷ decimal h.subcentre ∷ codes "\nupdate " ∷ decimal h.update ∷ []
 
 -- the category and the tables
 abbrev pub category_texts : Head → List (List ℕ)
 category_texts h =
     codes "\ncategory " ∷ decimal h.category ∷ codes "\nsubcategory " ∷ decimal h.subcategory
-    ∷ codes "\nlocalsubcategory " ∷ decimal h.local_subcategory ∷ codes "\nmasterversion " ∷ decimal h.master_version
+    ∷ codes "\nlocalsubcategory " ∷ decimal h.local_subcategory ∷ codes "\nmasterversion "
+    ∷ decimal h.master_version
     ∷ codes "\nlocalversion " ∷ decimal h.local_version ∷ codes "\n" ∷ []
 
 -- the date
 abbrev pub date_texts : Head → List (List ℕ)
 date_texts h =
-    codes "year " ∷ decimal h.year ∷ codes "\nmonth " ∷ decimal h.month ∷ codes "\nday " ∷ decimal h.day ∷ codes "\nhour " ∷ decimal h.hour
+    codes "year " ∷ decimal h.year ∷ codes "\nmonth " ∷ decimal h.month ∷ codes "\nday "
+    ∷ decimal h.day ∷ codes "\nhour " ∷ decimal h.hour
     ∷ codes "\nminute " ∷ decimal h.minute ∷ codes "\nsecond " ∷ decimal h.second ∷ []
 
 -- the flags, as their digits, and the number of subsets
 abbrev pub counts_texts : (observed compressed optional : List ℕ) (subsets : ℕ) → List (List ℕ)
 counts_texts observed compressed optional subsets =
-    codes "\nobserved " ∷ observed ∷ codes "\ncompressed " ∷ compressed ∷ codes "\noptional " ∷ optional
+    codes "\nobserved " ∷ observed ∷ codes "\ncompressed " ∷ compressed
+    ∷ codes "\noptional " ∷ optional
     ∷ codes "\nsubsets " ∷ decimal subsets ∷ codes "\n" ∷ []
 
 -- how many octets a descriptor and what stands for a value take at most

@@ -51,12 +51,17 @@ key name bound = record { name = name; bound = bound }
 -- the keys of the header, in their order
 unfoldable pub keys : List Key
 keys =
-    key (codes "edition") Editions ∷ key (codes "master") (Holds Master) ∷ key (codes "centre") (Holds Centre) ∷ key (codes "subcentre") (Holds Subcentre)
-    ∷ key (codes "update") (Holds Update) ∷ key (codes "category") (Holds Category) ∷ key (codes "subcategory") (Holds Subcategory)
-    ∷ key (codes "localsubcategory") (Holds LocalSubcategory) ∷ key (codes "masterversion") (Holds MasterVersion) ∷ key (codes "localversion") (Holds LocalVersion)
-    ∷ key (codes "year") (Holds Year) ∷ key (codes "month") (Holds Month) ∷ key (codes "day") (Holds Day) ∷ key (codes "hour") (Holds Hour)
+    key (codes "edition") Editions ∷ key (codes "master") (Holds Master)
+    ∷ key (codes "centre") (Holds Centre) ∷ key (codes "subcentre") (Holds Subcentre)
+    ∷ key (codes "update") (Holds Update) ∷ key (codes "category") (Holds Category)
+    ∷ key (codes "subcategory") (Holds Subcategory)
+    ∷ key (codes "localsubcategory") (Holds LocalSubcategory) ∷ key (codes "masterversion")
+    (Holds MasterVersion) ∷ key (codes "localversion") (Holds LocalVersion)
+    ∷ key (codes "year") (Holds Year) ∷ key (codes "month") (Holds Month)
+    ∷ key (codes "day") (Holds Day) ∷ key (codes "hour") (Holds Hour)
     ∷ key (codes "minute") (Holds Minute) ∷ key (codes "second") (Holds Second)
-    ∷ key (codes "observed") Bit ∷ key (codes "compressed") Bit ∷ key (codes "optional") Bit ∷ key (codes "subsets") Count ∷ []
+    ∷ key (codes "observed") Bit ∷ key (codes "compressed") Bit ∷ key (codes "optional") Bit
+    ∷ key (codes "subsets") Count ∷ []
 
 -- the key at a place
 abbrev pub key_in : List Key → (place : ℕ) → Key
@@ -74,7 +79,8 @@ mosts slots = map (λ k. most_of slots k.bound) keys
 -- the place of a key of this name, where the first of these keys has place `at`
 unfoldable pub place_from : (at : ℕ) → (name : List ℕ) → List Key → Option ℕ
 place_from at name [] = None
-place_from at name (k ∷ more) = if bytes_eq name k.name then Some at else place_from (at + 1) name more
+place_from at name (k ∷ more) =
+    if bytes_eq name k.name then Some at else place_from (at + 1) name more
 
 -- a line that what was read makes, or none
 abbrev pub made : {X : Type 0} → (X → Line) → Option X → Line
@@ -83,7 +89,8 @@ made line None = Wrong
 
 -- lines of hexadecimal digits have 1 to 32 octets, lines of descriptors 1 to 8
 abbrev pub with_one_to : (most : ℕ) → (List ℕ → Line) → List ℕ → Line
-with_one_to most line xs = if nat_lt 0 (length xs) && nat_le (length xs) most then line xs else Wrong
+with_one_to most line xs =
+    if nat_lt 0 (length xs) && nat_le (length xs) most then line xs else Wrong
 
 -- nothing but a comment is behind a value
 abbrev pub item_with : (fxy : ℕ) → Form × List ℕ → Line
@@ -96,7 +103,8 @@ text_value text = option_map (λ read. (text_form (read.0), read.1)) (quoted_rea
 abbrev pub number_value : (List ℕ → Form) → List ℕ → Option (Form × List ℕ)
 number_value form [] = None
 number_value form (c ∷ more) =
-    if is_number_octet c then Some (form (front is_number_octet (c ∷ more)), behind is_number_octet (c ∷ more)) else None
+    if is_number_octet c
+    then Some (form (front is_number_octet (c ∷ more)), behind is_number_octet (c ∷ more)) else None
 
 abbrev pub missing_value : List ℕ → Option (Form × List ℕ)
 missing_value text = option_map (λ rest. (missing_form, rest)) (behind_word (codes "MISSING") text)
@@ -119,13 +127,19 @@ item_line read text = made (valued read) (fxy_read text)
 unfoldable pub worded : (word rest : List ℕ) → Line
 worded word rest =
     if bytes_eq word (codes "message") then (if length rest == 0 then Opens else Wrong)
-    else if bytes_eq word (codes "local1") then made (λ text. made (with_one_to 32 Local1) (hex_read text)) (behind_space rest)
-    else if bytes_eq word (codes "section2") then made (λ text. made (with_one_to 32 Section2) (hex_read text)) (behind_space rest)
-    else if bytes_eq word (codes "descriptors") then made (with_one_to 8 Descriptors) (descriptors_read rest)
-    else if bytes_eq word (codes "subset") then made (λ text. made Begins (number_read text)) (behind_space rest)
-    else if bytes_eq word (codes "R") then made (item_line (number_value reference_token)) (behind_space rest)
+    else if bytes_eq word (codes "local1")
+    then made (λ text. made (with_one_to 32 Local1) (hex_read text)) (behind_space rest)
+    else if bytes_eq word (codes "section2")
+    then made (λ text. made (with_one_to 32 Section2) (hex_read text)) (behind_space rest)
+    else if bytes_eq word (codes "descriptors")
+    then made (with_one_to 8 Descriptors) (descriptors_read rest)
+    else if bytes_eq word (codes "subset")
+    then made (λ text. made Begins (number_read text)) (behind_space rest)
+    else if bytes_eq word (codes "R")
+    then made (item_line (number_value reference_token)) (behind_space rest)
     else if bytes_eq word (codes "end") then (if length rest == 0 then Closes else Wrong)
-    else made (λ place. made (λ text. made (Header place) (number_read text)) (behind_space rest)) (place_from 0 word keys)
+    else made (λ place. made (λ text. made (Header place) (number_read text)) (behind_space rest))
+    (place_from 0 word keys)
 
 abbrev pub is_no_space : ℕ → Bool
 is_no_space c = not (c == 32)

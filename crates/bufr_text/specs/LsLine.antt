@@ -30,18 +30,23 @@ time_texts h =
     codes "T" ∷ padded 2 h.hour ∷ codes ":" ∷ padded 2 h.minute ∷ codes ":" ∷ padded 2 h.second ∷ []
 
 -- how many subsets and descriptors it has, and its flags
-abbrev pub counts_texts : (subsets : ℕ) (observed compressed optional : Bool) (descriptors : ℕ) → List (List ℕ)
+abbrev pub counts_texts : (subsets : ℕ) (observed compressed optional : Bool)
+    (descriptors : ℕ) → List (List ℕ)
 counts_texts subsets observed compressed optional descriptors =
-    codes " subsets=" ∷ decimal subsets ∷ codes " observed=" ∷ flag observed ∷ codes " compressed=" ∷
+    codes " subsets=" ∷ decimal subsets ∷ codes " observed=" ∷ flag observed
+    ∷ codes " compressed=" ∷
     flag compressed ∷ codes " optional=" ∷ flag optional ∷ codes " descriptors=" ∷
     decimal descriptors ∷ codes "\n" ∷ []
 
 -- the line, with its line feed
-abbrev pub ls_text : (offset size : ℕ) → Head → (subsets : ℕ) (observed compressed optional : Bool) (descriptors : ℕ) → List ℕ
+abbrev pub ls_text : (offset size : ℕ) → Head
+    → (subsets : ℕ) (observed compressed optional : Bool) (descriptors : ℕ) → List ℕ
 ls_text offset size h subsets observed compressed optional descriptors = joined (
     origin_texts offset size h ++ (category_texts h ++ (tables_texts h ++ (time_texts h
     ++ counts_texts subsets observed compressed optional descriptors))))
 
 -- the line of a message at an offset
 abbrev pub ls_line : ℕ → Sections → List ℕ
-ls_line offset s = ls_text offset s.size s.head s.subsets s.observed s.compressed (is_some s.section2) (length s.descriptors)
+ls_line offset s =
+    ls_text offset s.size s.head s.subsets s.observed s.compressed (is_some s.section2)
+    (length s.descriptors)

@@ -38,12 +38,14 @@ normal_head form d =
 
 -- the comment of a field: name and unit of the row of Table B by which it is read
 abbrev pub comment_at : List Row → Asked → Option Comment
-comment_at table spec = option_map comment_of (if spec.listed then entry_of table spec.fxy else None)
+comment_at table spec =
+    option_map comment_of (if spec.listed then entry_of table spec.fxy else None)
 
 -- the line of an item at its field: its descriptor, the one spelling of what stands behind it, and
 -- the comment
 abbrev pub normal_line : List Row → Asked → Draft → List ℕ
-normal_line table spec d = form_text d.fxy (normal_form spec d.form) ++ comment_text (comment_at table spec)
+normal_line table spec d =
+    form_text d.fxy (normal_form spec d.form) ++ comment_text (comment_at table spec)
 
 -- what an item tells those behind it; one that is no content of its field tells nothing
 abbrev pub told_of : Asked → Result Content Fault → Taken
@@ -52,7 +54,8 @@ told_of spec (Err why) = taken.Plain
 
 -- the line of an item, and the rest
 abbrev pub line_and : List Row → Next → Draft → (Taken → List (List ℕ)) → List (List ℕ)
-line_and table (take_next spec) d rest = normal_line table spec d ∷ rest (told_of spec (content_of spec d))
+line_and table (take_next spec) d rest =
+    normal_line table spec d ∷ rest (told_of spec (content_of spec d))
 line_and table at_end d rest = []
 line_and table astray d rest = []
 line_and table (refused why) d rest = []
@@ -60,14 +63,18 @@ line_and table (refused why) d rest = []
 -- the lines of a subset's items, each at the field that comes next in the template
 abbrev pub normal_items : List Row → Course → List Draft → List (List ℕ)
 normal_items table course [] = []
-normal_items table course (d ∷ ds) = line_and table (course []).next d (λ t. normal_items table (λ told. course (t ∷ told)) ds)
+normal_items table course (d ∷ ds) =
+    line_and table (course []).next d (λ t. normal_items table (λ told. course (t ∷ told)) ds)
 
 -- the lines of the subsets from a number on
 abbrev pub normal_subsets : List Row → Course → (subset : ℕ) → List Subset → List (List ℕ)
 normal_subsets table course n [] = []
-normal_subsets table course n (s ∷ more) = subset_line n ∷ (normal_items table course s.items ++ normal_subsets table course (n + 1) more)
+normal_subsets table course n (s ∷ more) =
+    subset_line n ∷ (normal_items table course s.items ++ normal_subsets table course (n + 1) more)
 
 -- the document's text: its own comments and empty lines, zeros in front of numbers, and where its
 -- lines of octets and descriptors end are gone
 abbrev pub normal : Form → List Row → Tree → Document → List ℕ
-normal form table template d = text_of (normal_head form d ++ (normal_subsets table (next_item table template) 1 (subsets_of d.entries) ++ codes "end" ∷ []))
+normal form table template d =
+    text_of (normal_head form d ++ (normal_subsets table (next_item table template) 1
+    (subsets_of d.entries) ++ codes "end" ∷ []))

@@ -18,10 +18,19 @@ pub record Pen : Type 0 where
   pub writer : ℕ
 
 abbrev pub pen : Option (List ℕ) → (failures empty flushes line writer : ℕ) → Pen
-pen taken failures empty flushes line writer = record { taken = taken; failures = failures; empty = empty; flushes = flushes; line = line; writer = writer }
+pen taken failures empty flushes line writer =
+    record {
+      taken = taken;
+      failures = failures;
+      empty = empty;
+      flushes = flushes;
+      line = line;
+      writer = writer;
+    }
 
 -- a text was written, or a front of it
-pub record Inks {X : Type 0} (p : Pen) (text : List ℕ) (r : Result X RunFault) (p' : Pen) : Type 0 where
+pub record Inks {X : Type 0} (p : Pen) (text : List ℕ) (r : Result X RunFault)
+    (p' : Pen) : Type 0 where
   pub writes : WritesFront p.taken p'.taken text r
   pub counts : CountsFaults p.failures p'.failures p.empty p'.empty r
   pub flushes : p'.flushes ≡ p.flushes

@@ -22,14 +22,16 @@ AreValuesOf (together items) drafts = AreSaidFrom 0 items drafts
 
 -- octets are one message, accepted, and it says what the document says, in a form; of the data it
 -- says the items, not how many octets they take
-pub record IsReadAs (form : Form) (table : List Row) (sequences : List Sequence) (d : Document) (octets : List ℕ) : Type 0 where
+pub record IsReadAs (form : Form) (table : List Row) (sequences : List Sequence) (d : Document)
+    (octets : List ℕ) : Type 0 where
   pub sections : Sections
   pub template : Tree
   pub values : Values
   pub used : ℕ
   pub accepted : IsAccepted table sequences octets sections template values used
   -- in a stream it is one message, whatever is behind it
-  pub framed : (at : ℕ) (behind : List ℕ) → scan_from 0 at (octets ++ behind) ≡ Framed at octets ∷ scan_from 0 (at + length octets) behind
+  pub framed : (at : ℕ) (behind : List ℕ) → scan_from 0 at (octets ++ behind)
+      ≡ Framed at octets ∷ scan_from 0 (at + length octets) behind
   pub head : sections.head ≡ head_in d
   pub local1 : sections.local1 ≡ d.local1
   pub section2 : sections.section2 ≡ section2_in d

@@ -49,7 +49,8 @@ told_by (Err (Run fault)) = []
 
 -- the line feed that the last line may lack, where the end was reached
 abbrev pub IsMissingFeed : (ended ended' : Bool) → List ℕ → Type 0
-IsMissingFeed ended ended' feed = (feed ≡ []) ⊎ ((ended ≡ false) × (ended' ≡ true) × (feed ≡ 10 ∷ []))
+IsMissingFeed ended ended' feed =
+    (feed ≡ []) ⊎ ((ended ≡ false) × (ended' ≡ true) × (feed ≡ 10 ∷ []))
 
 -- The octets of the text itself that are held. Where the end was reached, what is held ends by the
 -- line feed that the text lacks.
@@ -63,12 +64,14 @@ KeepsSo old new bs = (taken : List ℕ) × (unfed old ++ bs ≡ taken ++ unfed n
 
 -- Octets were read, and what was held spells with them what was told and then what is held now.
 -- What was taken are whole lines.
-pub record CallSo (left left' : Option (List ℕ)) (old new : State) (told : List Told) (bs : List ℕ) : Type 0 where
+pub record CallSo (left left' : Option (List ℕ)) (old new : State) (told : List Told)
+    (bs : List ℕ) : Type 0 where
   pub read : Consumes left left' bs
   pub order : old.reads ≤ new.reads
   pub few : length bs ≤ 4096 * (new.reads - old.reads)
   pub goes : GoesOn (behind old bs) (stand new) told
-  pub lines : (feed : List ℕ) × IsMissingFeed old.ended new.ended feed × Passes old.at ((old.held ++ bs) ++ feed) new.at new.held
+  pub lines : (feed : List ℕ) × IsMissingFeed old.ended new.ended feed
+      × Passes old.at ((old.held ++ bs) ++ feed) new.at new.held
   -- where the end was reached now and no line feed was lacking, nothing is held
   pub fed : old.ended ≡ false → new.ended ≡ true → lines.0 ≡ [] → new.held ≡ []
   pub kept : old.ended ≡ true → (new.ended ≡ true) × (bs ≡ []) × (new.reads ≡ old.reads)
@@ -77,7 +80,9 @@ pub record CallSo (left left' : Option (List ℕ)) (old new : State) (told : Lis
 -- Where a document was told, the last line taken is its `end` line: what is held is exactly what
 -- was read behind it.
 abbrev pub ClosesSo : (old new : State) → List ℕ → Type 0
-ClosesSo old new bs = (feed : List ℕ) × IsMissingFeed old.ended new.ended feed × PassesEnd old.at ((old.held ++ bs) ++ feed) new.at new.held
+ClosesSo old new bs =
+    (feed : List ℕ) × IsMissingFeed old.ended new.ended feed
+    × PassesEnd old.at ((old.held ++ bs) ++ feed) new.at new.held
 
 -- The last read was made where all whole lines were taken and told nothing, and what was left of a
 -- line was no longer than a line can be. It gave at most 4,096 octets.
@@ -114,8 +119,10 @@ EndsSo new (Err (SubsetCount line)) = new.fault ≡ Some (SubsetCount line)
 EndsSo new (Err (HeaderRange line)) = new.fault ≡ Some (HeaderRange line)
 EndsSo new (Err (Run Read)) = (new.fault ≡ Some (Run Read)) × IsOpen new
 EndsSo new (Err (Run Write)) = ⊥
-EndsSo new (Err (Run InputTooLong)) = (new.fault ≡ Some (Run InputTooLong)) × IsOpen new × (new.reads ≡ most_reads)
-EndsSo new (Err (Run Memory)) = (new.fault ≡ Some (Run Memory)) × ((has_no_feed new.held ≡ false) ⊎ (new.reads ≡ 0))
+EndsSo new (Err (Run InputTooLong)) =
+    (new.fault ≡ Some (Run InputTooLong)) × IsOpen new × (new.reads ≡ most_reads)
+EndsSo new (Err (Run Memory)) =
+    (new.fault ≡ Some (Run Memory)) × ((has_no_feed new.held ≡ false) ⊎ (new.reads ≡ 0))
 
 -- Behind what was taken stands a whole line that adds to the document.
 pub record AddsNext (s : State) : Type 0 where
@@ -135,19 +142,27 @@ pub record WantsSo (left left' : Option (List ℕ)) (old : State) (bs : List ℕ
 -- what a call reads and tells; where memory was wanted it tells nothing, and says no more of what
 -- it holds, but that it is wanted only where a line was held or the end was not reached, and,
 -- behind the first read, only for a line that adds to the document
-abbrev pub ReadsSo : (left left' : Option (List ℕ)) → (old new : State) → Result (Option Document) ReadFault → List ℕ → Type 0
+abbrev pub ReadsSo : (left left' : Option (List ℕ)) → (old new : State)
+    → Result (Option Document) ReadFault → List ℕ → Type 0
 ReadsSo left left' old new (Ok None) bs = CallSo left left' old new (told_by (Ok None)) bs
-ReadsSo left left' old new (Ok (Some document)) bs = CallSo left left' old new (told_by (Ok (Some document))) bs × ClosesSo old new bs
-ReadsSo left left' old new (Err (Line line)) bs = CallSo left left' old new (told_by (Err (Line line))) bs
-ReadsSo left left' old new (Err (SubsetCount line)) bs = CallSo left left' old new (told_by (Err (SubsetCount line))) bs
-ReadsSo left left' old new (Err (HeaderRange line)) bs = CallSo left left' old new (told_by (Err (HeaderRange line))) bs
+ReadsSo left left' old new (Ok (Some document)) bs =
+    CallSo left left' old new (told_by (Ok (Some document))) bs × ClosesSo old new bs
+ReadsSo left left' old new (Err (Line line)) bs =
+    CallSo left left' old new (told_by (Err (Line line))) bs
+ReadsSo left left' old new (Err (SubsetCount line)) bs =
+    CallSo left left' old new (told_by (Err (SubsetCount line))) bs
+ReadsSo left left' old new (Err (HeaderRange line)) bs =
+    CallSo left left' old new (told_by (Err (HeaderRange line))) bs
 ReadsSo left left' old new (Err (Run Read)) bs = CallSo left left' old new [] bs
 ReadsSo left left' old new (Err (Run Write)) bs = ⊥
 ReadsSo left left' old new (Err (Run InputTooLong)) bs = CallSo left left' old new [] bs
-ReadsSo left left' old new (Err (Run Memory)) bs = Consumes left left' bs × (length bs ≤ 4096 * (new.reads - old.reads)) × (old.ended ≡ true → 0 < length old.held) × ((new.reads ≡ 0) ⊎ WantsSo left left' old bs)
+ReadsSo left left' old new (Err (Run Memory)) bs =
+    Consumes left left' bs × (length bs ≤ 4096 * (new.reads - old.reads))
+    × (old.ended ≡ true → 0 < length old.held) × ((new.reads ≡ 0) ⊎ WantsSo left left' old bs)
 
 -- A call tells the next document, or why there is none.
-pub record NextSo (left left' : Option (List ℕ)) (old new : State) (result : Result (Option Document) ReadFault) : Type 0 where
+pub record NextSo (left left' : Option (List ℕ)) (old new : State)
+    (result : Result (Option Document) ReadFault) : Type 0 where
   pub octets : List ℕ
   pub reads : ReadsSo left left' old new result octets
   pub keeps : KeepsSo old new octets

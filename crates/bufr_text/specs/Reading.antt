@@ -24,7 +24,8 @@ spells s t = spelled s.at s.place (lines_of (s.held ++ t))
 
 -- the same, where more may come behind these
 abbrev pub spells_openly : Stand → List ℕ → List Told
-spells_openly s t = spelled_openly s.at s.place (split_of (s.held ++ t)).whole (split_of (s.held ++ t)).rest
+spells_openly s t =
+    spelled_openly s.at s.place (split_of (s.held ++ t)).whole (split_of (s.held ++ t)).rest
 
 -- The held octets spell what was told and then what is still held, whatever comes behind; behind
 -- the end nothing does.

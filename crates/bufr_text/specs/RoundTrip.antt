@@ -24,7 +24,8 @@ use Rattle.bufr_text.specs.Encoding.{encoding_of}
 
 -- a message that is accepted by these tables: it has sections, its descriptors a template, and its
 -- data a reading
-pub record IsAccepted (table : List Row) (sequences : List Sequence) (m : List ℕ) (s : Sections) (template : Tree) (values : Values) (used : ℕ) : Type 0 where
+pub record IsAccepted (table : List Row) (sequences : List Sequence) (m : List ℕ) (s : Sections)
+    (template : Tree) (values : Values) (used : ℕ) : Type 0 where
   pub octets : AllByRecursion IsOctet m
   pub few : length m ≤ most_octets
   pub sections : sections_of m ≡ Ok s
@@ -48,12 +49,14 @@ pub record SaySame (form : Form) (a b : Sections) : Type 0 where
 
 -- octets are a message with the same reading as the message m of sections s, and are no longer, but
 -- that in edition 3 up to two octets make sections 3 and 4 even
-pub record HasSameReading (table : List Row) (m : List ℕ) (s : Sections) (template : Tree) (values : Values) (written : List ℕ) : Type 0 where
+pub record HasSameReading (table : List Row) (m : List ℕ) (s : Sections) (template : Tree)
+    (values : Values) (written : List ℕ) : Type 0 where
   pub no_longer : length written ≤ length m + longer s.head.edition
   pub few : length written ≤ most_octets
   pub octets : AllByRecursion IsOctet written
   -- in a stream it is one message, whatever is behind it
-  pub framed : (at : ℕ) (behind : List ℕ) → scan_from 0 at (written ++ behind) ≡ Framed at written ∷ scan_from 0 (at + length written) behind
+  pub framed : (at : ℕ) (behind : List ℕ) → scan_from 0 at (written ++ behind)
+      ≡ Framed at written ∷ scan_from 0 (at + length written) behind
   pub sections : Sections
   pub are : sections_of written ≡ Ok sections
   pub same : SaySame AsWritten s sections
@@ -61,7 +64,8 @@ pub record HasSameReading (table : List Row) (m : List ℕ) (s : Sections) (temp
   pub read : IsReading (next_item table template) (data_of sections) values used
 
 -- a document is encoded to a message with the same reading
-pub record IsEncodedAgain (table : List Row) (sequences : List Sequence) (m : List ℕ) (s : Sections) (template : Tree) (values : Values) (d : Document) : Type 0 where
+pub record IsEncodedAgain (table : List Row) (sequences : List Sequence) (m : List ℕ) (s : Sections)
+    (template : Tree) (values : Values) (d : Document) : Type 0 where
   pub octets : List ℕ
   pub is : encoding_of table sequences d ≡ Ok octets
   pub same : HasSameReading table m s template values octets

@@ -52,7 +52,9 @@ pub record SubsetHeard : Type 0 where
 -- `subset` with its number from one on, and the items of each
 abbrev pub subsets_heard : (subset : ℕ) → List SubsetHeard → List Heard
 subsets_heard subset [] = []
-subsets_heard subset (part ∷ more) = heard part.at (Begins subset) ∷ map (λ i. heard i.at (Item i.fxy i.form)) part.items ++ subsets_heard (subset + 1) more
+subsets_heard subset (part ∷ more) =
+    heard part.at (Begins subset) ∷ map (λ i. heard i.at (Item i.fxy i.form)) part.items
+    ++ subsets_heard (subset + 1) more
 
 -- what they are as entries: a subset ends at the line that begins the next one, or at `end`
 abbrev pub first_at : List SubsetHeard → (end : ℕ) → ℕ
@@ -61,7 +63,9 @@ first_at (part ∷ more) end = part.at
 
 abbrev pub entries_heard : List SubsetHeard → (end : ℕ) → List Entry
 entries_heard [] end = []
-entries_heard (part ∷ more) end = map (λ i. Holds (draft i.at i.fxy i.form)) part.items ++ Ends (first_at more end) ∷ entries_heard more end
+entries_heard (part ∷ more) end =
+    map (λ i. Holds (draft i.at i.fxy i.form)) part.items ++ Ends (first_at more end)
+    ∷ entries_heard more end
 
 -- The lines of a document: `message`, the header in order, lines of local use, of section 2 and of
 -- descriptors, the subsets with their items, and `end`. The document is their parts.
@@ -73,9 +77,11 @@ pub record IsDocument (d : Document) (lines : List Heard) : Type 0 where
   pub laid : List Heard
   pub subsets : List SubsetHeard
   pub end : ℕ
-  pub are : lines ≡ heard d.line Opens ∷ header ++ (laid ++ (subsets_heard 1 subsets ++ heard end Closes ∷ []))
+  pub are : lines ≡ heard d.line Opens ∷ header
+      ++ (laid ++ (subsets_heard 1 subsets ++ heard end Closes ∷ []))
   pub in_order : map (λ l. l.says) header ≡ header_says 0 d.header
-  pub parts : map (λ l. l.says) laid ≡ map Local1 local1 ++ (map Section2 section2 ++ map Descriptors descriptors)
+  pub parts : map (λ l. l.says) laid
+      ≡ map Local1 local1 ++ (map Section2 section2 ++ map Descriptors descriptors)
   pub local1_is : d.local1 ≡ concat local1
   pub section2_is : d.section2 ≡ concat section2
   pub descriptors_are : d.descriptors ≡ concat descriptors
@@ -88,4 +94,6 @@ pub record IsDocument (d : Document) (lines : List Heard) : Type 0 where
 abbrev pub AreTold : List Heard → List Told → Type 0
 AreTold lines [] = lines ≡ []
 AreTold lines (Refused line fault ∷ told) = told ≡ []
-AreTold lines (Spelled d ∷ told) = (own : List Heard) × (more : List Heard) × (lines ≡ own ++ more) × IsDocument d own × AreTold more told
+AreTold lines (Spelled d ∷ told) =
+    (own : List Heard) × (more : List Heard) × (lines ≡ own ++ more) × IsDocument d own
+    × AreTold more told

@@ -89,9 +89,14 @@ pub record HasSubsets (ended : ℕ) (d : spec.Document) : Type 0 where
 -- ended, and each entry has a line.
 abbrev pub Stands : (at : ℕ) → documents.Place → Type 0
 Stands at documents.Between = Unit {0}
-Stands at (documents.Heading d) = (length d.header < 20) × (are_in_range (spec.edition_in d) 0 d.header ≡ true) × (length d.entries < at) × IsBare d
-Stands at (documents.Laying part d) = IsHeaded d × (length d.entries < at) × IsLaid d × (d.entries ≡ [])
-Stands at (documents.Filling subset d) = IsHeaded d × (length d.entries < at) × (subset < 65536) × IsLaid d × ((ended : ℕ) × (subset ≡ ended + 1) × HasSubsets ended d)
+Stands at (documents.Heading d) =
+    (length d.header < 20) × (are_in_range (spec.edition_in d) 0 d.header ≡ true)
+    × (length d.entries < at) × IsBare d
+Stands at (documents.Laying part d) =
+    IsHeaded d × (length d.entries < at) × IsLaid d × (d.entries ≡ [])
+Stands at (documents.Filling subset d) =
+    IsHeaded d × (length d.entries < at) × (subset < 65536) × IsLaid d
+    × ((ended : ℕ) × (subset ≡ ended + 1) × HasSubsets ended d)
 Stands at documents.Stopped = Unit {0}
 
 -- the same behind a turn at a line

@@ -14,7 +14,9 @@ use Rattle.bufr_text.specs.declared.progress.TakingEnd.TheVariants as taken
 -- the first line feed, or there is none
 abbrev pub FeedAt : List ℕ → Option ℕ → Type 0
 FeedAt held None = has_no_feed held ≡ true
-FeedAt held (Some place) = (place < length held) × (has_no_feed (take place held) ≡ true) × (held ≡ take place held ++ 10 ∷ drop (place + 1) held)
+FeedAt held (Some place) =
+    (place < length held) × (has_no_feed (take place held) ≡ true)
+    × (held ≡ take place held ++ 10 ∷ drop (place + 1) held)
 
 -- what was told
 abbrev pub told_of : TakingEnd → spec.Document → List documents.Told
@@ -29,20 +31,30 @@ place_behind taken.Gives progress = documents.Between
 place_behind (taken.Refuses line refusal) progress = documents.Stopped
 
 abbrev pub stand_of : Progress → List ℕ → Bool → Stand
-stand_of progress held ended = record { at = progress.at; place = place_with progress.place progress.parts; held = held; ended = ended }
+stand_of progress held ended =
+    record {
+      at = progress.at;
+      place = place_with progress.place progress.parts;
+      held = held;
+      ended = ended;
+    }
 
 abbrev pub stand_behind : TakingEnd → Progress → List ℕ → Bool → Stand
-stand_behind step progress held ended = record { at = progress.at; place = place_behind step progress; held = held; ended = ended }
+stand_behind step progress held ended =
+    record { at = progress.at; place = place_behind step progress; held = held; ended = ended }
 
 -- a document that is whole has a line for each entry
 abbrev pub StandsBehind : TakingEnd → Progress → Type 0
 StandsBehind taken.More progress = Stands progress.at (place_with progress.place progress.parts)
-StandsBehind taken.Gives progress = IsProper progress.parts × (length progress.parts.entries < progress.at)
+StandsBehind taken.Gives progress =
+    IsProper progress.parts × (length progress.parts.entries < progress.at)
 StandsBehind (taken.Refuses line refusal) progress = Unit {0}
 
 -- The lines up to a place were taken.
-pub record TakesSo (old new : Progress) (held : List ℕ) (place : ℕ) (step : TakingEnd) : Type 0 where
-  pub goes : (ended : Bool) → GoesOn (stand_of old held ended) (stand_behind step new (drop place held) ended) (told_of step new.parts)
+pub record TakesSo (old new : Progress) (held : List ℕ) (place : ℕ)
+    (step : TakingEnd) : Type 0 where
+  pub goes : (ended : Bool) → GoesOn (stand_of old held ended)
+      (stand_behind step new (drop place held) ended) (told_of step new.parts)
   pub all : step ≡ taken.More → has_no_feed (drop place held) ≡ true
   pub within : place ≤ length held
   pub stands : StandsBehind step new
@@ -52,7 +64,8 @@ pub record TakesSo (old new : Progress) (held : List ℕ) (place : ℕ) (step : 
 
 -- Lines up to a place were taken, and nothing was told yet.
 pub record IsTaking (old new : Progress) (held : List ℕ) (place : ℕ) : Type 0 where
-  pub goes : (ended : Bool) → GoesOn (stand_of old held ended) (stand_of new (drop place held) ended) []
+  pub goes : (ended : Bool)
+      → GoesOn (stand_of old held ended) (stand_of new (drop place held) ended) []
   pub within : place ≤ length held
   pub stands : Stands new.at (place_with new.place new.parts)
   pub some : 0 < new.at

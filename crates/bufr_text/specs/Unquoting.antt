@@ -23,7 +23,9 @@ octets_onto octets (Some read) = Some (octets ++ read.0, read.1)
 -- there is none
 abbrev pub Unquotes : (text out : List ℕ) → Option (ℕ × ℕ) → Type 0
 Unquotes text out None = quoted_read 0 text ≡ None
-Unquotes text out (Some (count, at)) = (count ≤ length out) × (at ≤ length text) × (quoted_read 0 text ≡ Some (take count out, drop at text))
+Unquotes text out (Some (count, at)) =
+    (count ≤ length out) × (at ≤ length text)
+    × (quoted_read 0 text ≡ Some (take count out, drop at text))
 
 -- what was read stands in front of `out`
 pub record IsUnquoting (text out : List ℕ) (count at : ℕ) : Type 0 where

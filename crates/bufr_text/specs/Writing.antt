@@ -16,7 +16,8 @@ pub record GrowsByFront (old new : Option (List ℕ)) (text : List ℕ) : Type 0
   pub gains : Appends old new front
 
 -- the text was written, or the front of it where the writer failed
-abbrev pub Writes : {X : Type 0} → Option (List ℕ) → Option (List ℕ) → List ℕ → Result X RunFault → Type 0
+abbrev pub Writes : {X : Type 0} → Option (List ℕ) → Option (List ℕ) → List ℕ
+    → Result X RunFault → Type 0
 Writes old new text (Ok x) = Appends old new text
 Writes old new text (Err fault) = (fault ≡ Write) × GrowsByFront old new text
 
@@ -26,10 +27,13 @@ Stays failures failures' empty empty' = (failures' ≡ failures) × (empty' ≡ 
 
 -- one call of the writer failed, or one write took nothing
 abbrev pub Fails : (failures failures' empty empty' : ℕ) → Type 0
-Fails failures failures' empty empty' = ((failures' ≡ counted failures 1) × (empty' ≡ empty)) ⊎ ((failures' ≡ failures) × (empty' ≡ counted empty 1))
+Fails failures failures' empty empty' =
+    ((failures' ≡ counted failures 1) × (empty' ≡ empty))
+    ⊎ ((failures' ≡ failures) × (empty' ≡ counted empty 1))
 
 -- a write fault comes only from a call that the writer counts; nothing else changes its counts
-abbrev pub CountsWrites : {X : Type 0} → (failures failures' empty empty' : ℕ) → Result X RunFault → Type 0
+abbrev pub CountsWrites : {X : Type 0} → (failures failures' empty empty' : ℕ)
+    → Result X RunFault → Type 0
 CountsWrites failures failures' empty empty' (Ok x) = Stays failures failures' empty empty'
 CountsWrites failures failures' empty empty' (Err fault) = Fails failures failures' empty empty'
 

@@ -18,8 +18,11 @@ pub(crate) const ROOM: usize = 2 * MOST_LINE;
 fn grow(buffer: &mut Vec<u8>) -> Result<(), RunFault>
     requires { vec_len buffer.old ≤ 8192 }
     ensures len { IfOk result (λ _. vec_len buffer.new ≡ 8192) }
-    ensures kept { IfOk result (λ _. take (vec_len buffer.old) buffer.new.items ≡ buffer.old.items) }
-    ensures refused { IfErr result (λ fault. (fault ≡ RunFault.Memory) × (buffer.new.items ≡ buffer.old.items) × (vec_len buffer.new ≡ vec_len buffer.old) × (vec_len buffer.old < 8192)) }
+    ensures kept { IfOk result
+        (λ _. take (vec_len buffer.old) buffer.new.items ≡ buffer.old.items) }
+    ensures refused { IfErr result (λ fault. (fault ≡ RunFault.Memory)
+        × (buffer.new.items ≡ buffer.old.items) × (vec_len buffer.new ≡ vec_len buffer.old)
+        × (vec_len buffer.old < 8192)) }
 {
     if buffer.len() == ROOM {
         return Ok(());
@@ -34,7 +37,8 @@ fn grow(buffer: &mut Vec<u8>) -> Result<(), RunFault>
 fn slide(buffer: &mut Vec<u8>, start: usize, filled: usize)
     requires order { start ≤ filled }
     requires within { filled ≤ vec_len buffer.old }
-    ensures kept { slice_range buffer.new.items (start - start) (filled - start) ≡ slice_range buffer.old.items start filled }
+    ensures kept { slice_range buffer.new.items (start - start) (filled - start)
+        ≡ slice_range buffer.old.items start filled }
     ensures len { vec_len buffer.new ≡ vec_len buffer.old }
 {
     buffer.copy_within(start..filled, 0);
@@ -51,7 +55,8 @@ pub(crate) fn make_room(
     requires within { filled ≤ vec_len buffer.old }
     requires few { filled - start ≤ 4096 }
     requires most { vec_len buffer.old ≤ 8192 }
-    ensures { MakesRoom buffer.old.items buffer.new.items (vec_len buffer.old) (vec_len buffer.new) start filled result }
+    ensures { MakesRoom buffer.old.items buffer.new.items (vec_len buffer.old) (vec_len buffer.new)
+        start filled result }
 {
     grow(buffer)?;
     if filled <= CHUNK {

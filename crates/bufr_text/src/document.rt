@@ -197,7 +197,8 @@ impl Parts {
         kind: FormKind,
         octets: &[u8],
     ) -> Result<(), AllocError>
-        ensures { OnOk result (self.new ≡ with_entry self.old (Holds (draft line fxy (form_by kind octets.now)))) }
+        ensures { OnOk result
+            (self.new ≡ with_entry self.old (Holds (draft line fxy (form_by kind octets.now)))) }
     {
         let start = self.octets.len();
         self.octets.extend_from_slice(octets)?;

@@ -4,7 +4,7 @@ ghost use Rattle.bufr_tables.specs.Tree.{places};
 ghost use Rattle.bufr_walk.specs.Calls.{Call, calls_of, item_call, subset_call, turns_shown};
 ghost use Rattle.bufr_walk.specs.Outcome.{course_of};
 ghost use Rattle.bufr_walk.specs.Reading.{IsReading, Values};
-ghost use Rattle.bufr_walk.specs.Seen.{seen};
+ghost use Rattle.bufr_walk.specs.ViewModel.{seen};
 ghost use Rattle.bufr_text.specs.Dump.{dump_text_of};
 ghost use Rattle.bufr_text.specs.DumpItems.{items_of};
 ghost use Rattle.bufr_text.specs.Pen.{run_fault_of};
@@ -28,8 +28,10 @@ const SUBSET_LINE: usize = 13;
 
 /// Writes the line that begins a subset.
 fn write_subset<W: Sink>(number: u16, w: &mut W) -> Result<(), RunFault>
-    ensures writes { WritesFront (W.taken w.old) (W.taken w.new) (call_line (subset_call number) ++ 10 ∷ []) result }
-    ensures counts { CountsFaults (W.failures w.old) (W.failures w.new) (W.empty_writes w.old) (W.empty_writes w.new) result }
+    ensures writes { WritesFront (W.taken w.old) (W.taken w.new)
+        (call_line (subset_call number) ++ 10 ∷ []) result }
+    ensures counts { CountsFaults (W.failures w.old) (W.failures w.new) (W.empty_writes w.old)
+        (W.empty_writes w.new) result }
     ensures flushes { W.flushes w.new ≡ W.flushes w.old }
 {
     let mut line = [0; SUBSET_LINE];
@@ -40,8 +42,10 @@ fn write_subset<W: Sink>(number: u16, w: &mut W) -> Result<(), RunFault>
 
 /// Writes the line of an item, put together in `line`.
 fn write_item<W: Sink>(item: &ItemView<'_>, line: &mut Vec<u8>, w: &mut W) -> Result<(), RunFault>
-    ensures writes { WritesFront (W.taken w.old) (W.taken w.new) (call_line (item_call (seen item.now)) ++ 10 ∷ []) result }
-    ensures counts { CountsFaults (W.failures w.old) (W.failures w.new) (W.empty_writes w.old) (W.empty_writes w.new) result }
+    ensures writes { WritesFront (W.taken w.old) (W.taken w.new)
+        (call_line (item_call (seen item.now)) ++ 10 ∷ []) result }
+    ensures counts { CountsFaults (W.failures w.old) (W.failures w.new) (W.empty_writes w.old)
+        (W.empty_writes w.new) result }
     ensures flushes { W.flushes w.new ≡ W.flushes w.old }
 {
     let start = make_item_line(item, line)?;
@@ -60,9 +64,11 @@ impl<'l, 'w, W: Sink> Visitor for Dumping<'l, 'w, W> {
     type Fault = RunFault;
 
     ghost sees = { λ s call r t. InksCall
-        (pen (W.taken s.w.now) (W.failures s.w.now) (W.empty_writes s.w.now) (W.flushes s.w.now) s.line.ghost_name s.w.ghost_name)
+        (pen (W.taken s.w.now) (W.failures s.w.now) (W.empty_writes s.w.now) (W.flushes s.w.now)
+        s.line.ghost_name s.w.ghost_name)
         call r
-        (pen (W.taken t.w.now) (W.failures t.w.now) (W.empty_writes t.w.now) (W.flushes t.w.now) t.line.ghost_name t.w.ghost_name) };
+        (pen (W.taken t.w.now) (W.failures t.w.now) (W.empty_writes t.w.now) (W.flushes t.w.now)
+        t.line.ghost_name t.w.ghost_name) };
 
     fn subset(&mut self, number: u16) -> Result<(), RunFault> {
         write_subset(number, self.w)
@@ -90,12 +96,17 @@ fn show_lines<W: Sink>(
     dumping: &mut Dumping<'_, '_, W>,
     steps: &mut Steps,
 ) -> Result<(), RunFault>
-    requires read { (values : Values) × IsReading (course_of reading.now) reading.now.source values reading.now.bits }
+    requires read { (values : Values)
+        × IsReading (course_of reading.now) reading.now.source values reading.now.bits }
     ensures line { dumping.new.line.ghost_name ≡ dumping.old.line.ghost_name }
     ensures writer { dumping.new.w.ghost_name ≡ dumping.old.w.ghost_name }
-    ensures writes { (values : Values) → IsReading (course_of reading.now) reading.now.source values reading.now.bits →
-        WritesStretches (W.taken dumping.old.w.now) (W.taken dumping.new.w.now) (map call_stretch (calls_of reading.now values)) (turns_shown reading.now values) result steps.new }
-    ensures counts { CountsFaults (W.failures dumping.old.w.now) (W.failures dumping.new.w.now) (W.empty_writes dumping.old.w.now) (W.empty_writes dumping.new.w.now) result }
+    ensures writes { (values : Values)
+        → IsReading (course_of reading.now) reading.now.source values reading.now.bits →
+        WritesStretches (W.taken dumping.old.w.now) (W.taken dumping.new.w.now)
+        (map call_stretch (calls_of reading.now values))
+        (turns_shown reading.now values) result steps.new }
+    ensures counts { CountsFaults (W.failures dumping.old.w.now) (W.failures dumping.new.w.now)
+        (W.empty_writes dumping.old.w.now) (W.empty_writes dumping.new.w.now) result }
     ensures flushes { W.flushes dumping.new.w.now ≡ W.flushes dumping.old.w.now }
     ensures bounded { steps.new ≤ places reading.now.template * reading.now.bits }
 {
@@ -113,10 +124,15 @@ fn write_subsets<W: Sink>(
     w: &mut W,
     steps: &mut Steps,
 ) -> Result<(), RunFault>
-    requires read { (values : Values) × IsReading (course_of reading.now) reading.now.source values reading.now.bits }
-    ensures writes { (values : Values) → IsReading (course_of reading.now) reading.now.source values reading.now.bits →
-        WritesStretches (W.taken w.old) (W.taken w.new) (map call_stretch (calls_of reading.now values)) (turns_shown reading.now values) result steps.new }
-    ensures counts { CountsFaults (W.failures w.old) (W.failures w.new) (W.empty_writes w.old) (W.empty_writes w.new) result }
+    requires read { (values : Values)
+        × IsReading (course_of reading.now) reading.now.source values reading.now.bits }
+    ensures writes { (values : Values)
+        → IsReading (course_of reading.now) reading.now.source values reading.now.bits →
+        WritesStretches (W.taken w.old) (W.taken w.new)
+        (map call_stretch (calls_of reading.now values))
+        (turns_shown reading.now values) result steps.new }
+    ensures counts { CountsFaults (W.failures w.old) (W.failures w.new) (W.empty_writes w.old)
+        (W.empty_writes w.new) result }
     ensures flushes { W.flushes w.new ≡ W.flushes w.old }
     ensures bounded { steps.new ≤ places reading.now.template * reading.now.bits }
 {
@@ -126,10 +142,14 @@ fn write_subsets<W: Sink>(
     outcome
 }
 
-/// Writes the dump text of a message: the line `message`; twenty lines of a key and a number; its octets for local use and
-/// those of section 2 in hexadecimal, 32 on a line; its descriptors, eight on a line; for each subset its number and a line
-/// for each item; and the line `end`. An item that was read by an entry of Table B has the entry's name and unit as a
-/// comment. Where the writer takes all that it is given, no line goes to it in two writes. The steps are set to the
+/// Writes the dump text of a message: the line `message`; twenty lines of a key and a number; its
+/// octets for local use and
+/// those of section 2 in hexadecimal, 32 on a line; its descriptors, eight on a line; for each
+/// subset its number and a line
+/// for each item; and the line `end`. An item that was read by an entry of Table B has the entry's
+/// name and unit as a
+/// comment. Where the writer takes all that it is given, no line goes to it in two writes. The
+/// steps are set to the
 /// turns that the reading is walked for, as [`Reading::show`] counts them.
 ///
 /// ```
@@ -139,7 +159,8 @@ fn write_subsets<W: Sink>(
 ///
 /// # Errors
 ///
-/// [`RunFault::Write`] where the writer fails or takes nothing, and [`RunFault::Memory`]; a front of the text was taken.
+/// [`RunFault::Write`] where the writer fails or takes nothing, and [`RunFault::Memory`]; a front
+/// of the text was taken.
 pub fn write_dump<W: Sink>(
     alloc: Global,
     message: &Message<'_>,
@@ -149,12 +170,18 @@ pub fn write_dump<W: Sink>(
 ) -> Result<(), RunFault>
     requires { ReadsMessage message.now reading.now }
     // At `Ok` the writer took the dump text of the reading's items, at a fault a front of it.
-    ensures writes { (values : Values) → IsReading (course_of reading.now) reading.now.source values reading.now.bits →
-        WritesFront (W.taken w.old) (W.taken w.new) (dump_text_of message.now (items_of reading.now values)) result }
+    ensures writes { (values : Values)
+        → IsReading (course_of reading.now) reading.now.source values reading.now.bits →
+        WritesFront (W.taken w.old) (W.taken w.new)
+        (dump_text_of message.now (items_of reading.now values)) result }
     // The same line by line, with the steps up to the line where it stopped.
-    ensures lines { (values : Values) → IsReading (course_of reading.now) reading.now.source values reading.now.bits →
-        WritesStretches (W.taken w.old) (W.taken w.new) (stretches_of message.now reading.now values) (turns_shown reading.now values) result steps.new }
-    ensures counts { CountsFaults (W.failures w.old) (W.failures w.new) (W.empty_writes w.old) (W.empty_writes w.new) result }
+    ensures lines { (values : Values)
+        → IsReading (course_of reading.now) reading.now.source values reading.now.bits →
+        WritesStretches (W.taken w.old) (W.taken w.new)
+        (stretches_of message.now reading.now values)
+        (turns_shown reading.now values) result steps.new }
+    ensures counts { CountsFaults (W.failures w.old) (W.failures w.new) (W.empty_writes w.old)
+        (W.empty_writes w.new) result }
     ensures flushes { W.flushes w.new ≡ W.flushes w.old }
     ensures bounded { steps.new ≤ places reading.now.template * reading.now.bits }
 {

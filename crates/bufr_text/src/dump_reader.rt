@@ -58,9 +58,12 @@ impl Model for DumpReader {
       reads = f.reads;
     } };
 
-    ghost invariant = { λ f. (f.start ≤ f.filled) × (f.filled ≤ vec_len f.buffer) × (vec_len f.buffer ≤ 8192)
-        × (f.reads ≤ most_reads) × (f.ended ≡ true → ends_by_feed (slice_range f.buffer.items f.start f.filled) ≡ true)
-        × (f.fault ≡ None → ProgressSo f.progress (f.filled - f.start) f.reads) × (0 < f.reads → vec_len f.buffer ≡ 8192) };
+    ghost invariant = { λ f. (f.start ≤ f.filled) × (f.filled ≤ vec_len f.buffer)
+        × (vec_len f.buffer ≤ 8192)
+        × (f.reads ≤ most_reads)
+        × (f.ended ≡ true → ends_by_feed (slice_range f.buffer.items f.start f.filled) ≡ true)
+        × (f.fault ≡ None → ProgressSo f.progress (f.filled - f.start) f.reads)
+        × (0 < f.reads → vec_len f.buffer ≡ 8192) };
 }
 
 impl LineRefusal {
@@ -197,7 +200,8 @@ impl DumpReader {
         requires going { self.old.ended ≡ false }
         requires short { length self.old.held ≤ 4096 }
         requires few { self.old.reads < most_reads }
-        ensures read { (bs : List ℕ) × ReadSo (R.left r.old) (R.left r.new) self.old self.new result bs }
+        ensures read { (bs : List ℕ)
+            × ReadSo (R.left r.old) (R.left r.new) self.old self.new result bs }
         ensures failed { R.failures r.new ≡ read_failures_after (R.failures r.old) result }
         ensures made { R.reads r.new ≡ counted (R.reads r.old) (self.new.reads - self.old.reads) }
     {
@@ -222,7 +226,8 @@ impl DumpReader {
         requires sound { self.old.fault ≡ None }
         requires going { self.old.ended ≡ false }
         requires none { has_no_feed self.old.held ≡ true }
-        ensures read { (bs : List ℕ) × FillSo (R.left r.old) (R.left r.new) self.old self.new result bs }
+        ensures read { (bs : List ℕ)
+            × FillSo (R.left r.old) (R.left r.new) self.old self.new result bs }
         ensures failed { R.failures r.new ≡ failures_by (R.failures r.old) result }
         ensures counts { CountsReads (R.reads r.old) (R.reads r.new) self.old self.new }
         ensures bound { length self.new.held ≤ 8192 }
@@ -254,9 +259,11 @@ impl DumpReader {
     /// held, or the buffer could not be made before the first read. All documents that were read
     /// whole were given before. After a fault each call answers the same one, and reads nothing.
     pub fn next_document<R: Source>(&mut self, r: &mut R) -> Result<Option<Document>, ReadFault>
-        ensures next { self.old.fault ≡ None → NextSo (R.left r.old) (R.left r.new) self.old self.new result }
+        ensures next { self.old.fault ≡ None
+            → NextSo (R.left r.old) (R.left r.new) self.old self.new result }
         ensures proper { IfOk result (λ found. IfSome found (λ document. IsProper document)) }
-        ensures failed { self.old.fault ≡ None → R.failures r.new ≡ failures_by (R.failures r.old) result }
+        ensures failed { self.old.fault ≡ None
+            → R.failures r.new ≡ failures_by (R.failures r.old) result }
         ensures counts { CountsReads (R.reads r.old) (R.reads r.new) self.old self.new }
         ensures held { length self.new.held ≤ 8192 }
         ensures again { IfSome self.old.fault (λ fault. result ≡ Err fault) }

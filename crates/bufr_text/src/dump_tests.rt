@@ -531,7 +531,8 @@ fn dump_to<W: Sink>(
     Ok(write_dump(alloc, &message, &reading, steps, w))
 }
 
-// Dumps a message to a device that takes at most `room` octets in all, at most `step` of them at once.
+// Dumps a message to a device that takes at most `room` octets in all, at most `step` of them at
+// once.
 pub(crate) fn dump(alloc: Global, octets: &[u8], room: usize, step: usize) -> Result<Outcome, Fail>
     requires { 1 ≤ step }
 {
@@ -676,7 +677,8 @@ fn stops_where_the_writer_ends(rt: HostRuntime) -> Result<(), Fail> {
     Ok(())
 }
 
-/// The turns up to the line where it stops: none before the subset, and a factor, an item and an end of a pass before the
+/// The turns up to the line where it stops: none before the subset, and a factor, an item and an
+/// end of a pass before the
 /// third item. Compressed data are shown without a turn.
 #[test]
 fn counts_turns(rt: HostRuntime) -> Result<(), Fail> {

@@ -60,9 +60,13 @@ fn template_of(
     table_b: &TableB,
     table_d: &TableD,
 ) -> Result<Template, DocumentFault>
-    ensures tree { IfOk result (λ template. tree_of (tables_of table_b.now table_d.now) document.now.descriptors ≡ Ok template) }
-    ensures fault { IfErr result (λ why. RefusesSo (told_refusal why) (told_of_template document.now.line (tree_of (tables_of table_b.now table_d.now) document.now.descriptors))) }
-    ensures memory { IfErr result (λ why. (line : ℕ) → why ≢ DocumentFault.Template line TemplateFault.Memory) }
+    ensures tree { IfOk result (λ template.
+        tree_of (tables_of table_b.now table_d.now) document.now.descriptors ≡ Ok template) }
+    ensures fault { IfErr result (λ why. RefusesSo (told_refusal why)
+        (told_of_template document.now.line
+        (tree_of (tables_of table_b.now table_d.now) document.now.descriptors))) }
+    ensures memory { IfErr result
+        (λ why. (line : ℕ) → why ≢ DocumentFault.Template line TemplateFault.Memory) }
 {
     let descriptors = descriptors_of(alloc, document.descriptors())?;
     match Template::build(alloc, &descriptors, table_b, table_d) {
@@ -108,7 +112,8 @@ fn write_subset(
     steps: &mut Steps,
 ) -> Result<(), DocumentFault>
     requires { 1 ≤ length (subsets_of out.old.left) }
-    ensures { SubsetSo (places template.now) (next_item table.now template.now) out.old steps.old result out.new steps.new }
+    ensures { SubsetSo (places template.now) (next_item table.now template.now) out.old steps.old
+        result out.new steps.new }
 {
     match walk(alloc, template, table, out, steps) {
         Ok(()) => match out.end_subset() {
@@ -129,7 +134,8 @@ fn write_plain<'a>(
 ) -> Result<Vec<u8>, DocumentFault>
     requires none { steps.old ≡ 0 }
     requires few { length entries.now ≤ 2 ^ 45 }
-    ensures { DataSo (places template.now) false (next_item table.now template.now) (subsets_of (map entry_in entries.now)) result steps.new }
+    ensures { DataSo (places template.now) false (next_item table.now template.now)
+        (subsets_of (map entry_in entries.now)) result steps.new }
 {
     let subsets = count_subsets(entries);
     let mut out = PlainOut::new(alloc, entries);
@@ -149,7 +155,8 @@ fn write_packed<'a>(
 ) -> Result<Vec<u8>, DocumentFault>
     requires none { steps.old ≡ 0 }
     requires few { length entries.now ≤ 2 ^ 45 }
-    ensures { DataSo (places template.now) true (next_item table.now template.now) (subsets_of (map entry_in entries.now)) result steps.new }
+    ensures { DataSo (places template.now) true (next_item table.now template.now)
+        (subsets_of (map entry_in entries.now)) result steps.new }
 {
     let mut out = match PackedOut::new(alloc, entries)? {
         Some(out) => out,
@@ -181,7 +188,8 @@ fn write_data(
     steps: &mut Steps,
 ) -> Result<Vec<u8>, DocumentFault>
     requires { steps.old ≡ 0 }
-    ensures { DataSo (places template.now) (compressed_as form document.now) (next_item table.now template.now) (subsets_of document.now.entries) result steps.new }
+    ensures { DataSo (places template.now) (compressed_as form document.now)
+        (next_item table.now template.now) (subsets_of document.now.entries) result steps.new }
 {
     let mut entries = Vec::new(alloc);
     lend_entries(document, &mut entries)?;
@@ -199,9 +207,13 @@ fn write_whole(
     form: Form,
     payload: &[u8],
 ) -> Result<Vec<u8>, DocumentFault>
-    ensures octets { IfOk result (λ octets. message_of document.now.line (head_in document.now) (parts_as (compressed_as form document.now) document.now payload.now) ≡ Ok octets.items) }
-    ensures fault { IfErr result (λ why. RefusesSo (told_refusal why) (message_of document.now.line (head_in document.now) (parts_as (compressed_as form document.now) document.now payload.now))) }
-    ensures payload { (bits : List Bool) → AreOctetsOf payload.now bits → payload.now ≡ octets_of_bits bits }
+    ensures octets { IfOk result (λ octets. message_of document.now.line (head_in document.now)
+        (parts_as (compressed_as form document.now) document.now payload.now) ≡ Ok octets.items) }
+    ensures fault { IfErr result (λ why. RefusesSo (told_refusal why)
+        (message_of document.now.line (head_in document.now)
+        (parts_as (compressed_as form document.now) document.now payload.now))) }
+    ensures payload { (bits : List Bool) → AreOctetsOf payload.now bits
+        → payload.now ≡ octets_of_bits bits }
 {
     let written = write_message(
         alloc,
@@ -258,19 +270,28 @@ pub fn encode_form(
     table_d: &TableD,
     steps: &mut Steps,
 ) -> Result<Vec<u8>, DocumentFault>
-    ensures octets { IfOk result (λ octets. encoding_in form table_b.now table_d.now document.now ≡ Ok octets.items) }
+    ensures octets { IfOk result
+        (λ octets. encoding_in form table_b.now table_d.now document.now ≡ Ok octets.items) }
     // Want of memory is the only freedom.
-    ensures fault { IfErr result (λ why. RefusesSo (told_refusal why) (encoding_in form table_b.now table_d.now document.now)) }
+    ensures fault { IfErr result (λ why.
+        RefusesSo (told_refusal why) (encoding_in form table_b.now table_d.now document.now)) }
     // It has one name, `Memory`.
-    ensures memory { IfErr result (λ why. (line : ℕ) → why ≢ DocumentFault.Template line TemplateFault.Memory) }
-    ensures made { OnOk result (steps.new ≡ ticked 0 (turns_by form table_b.now table_d.now document.now)) }
-    ensures made_refused { IfErr result (λ why. MakesSo (told_refusal why) 0 (turns_by form table_b.now table_d.now document.now) steps.new) }
-    ensures accepted { OnOk result (steps.new ≤ places_by table_b.now table_d.now document.now * bits_by form table_b.now table_d.now document.now) }
-    ensures refused { OnErr result (steps.new ≤ places_by table_b.now table_d.now document.now * (bits_by form table_b.now table_d.now document.now + 1)) }
+    ensures memory { IfErr result
+        (λ why. (line : ℕ) → why ≢ DocumentFault.Template line TemplateFault.Memory) }
+    ensures made { OnOk result
+        (steps.new ≡ ticked 0 (turns_by form table_b.now table_d.now document.now)) }
+    ensures made_refused { IfErr result (λ why. MakesSo (told_refusal why) 0
+        (turns_by form table_b.now table_d.now document.now) steps.new) }
+    ensures accepted { OnOk result (steps.new ≤ places_by table_b.now table_d.now document.now
+        * bits_by form table_b.now table_d.now document.now) }
+    ensures refused { OnErr result (steps.new ≤ places_by table_b.now table_d.now document.now
+        * (bits_by form table_b.now table_d.now document.now + 1)) }
     // The document of an accepted message keeps its reading in each form, but for the flag; it is
     // refused for the form alone.
-    ensures again { (records : List Record) (m : List ℕ) (s : Sections) (template : Tree) (values : Values) (used at : ℕ)
-        → AreRows records table_b.now → IsAccepted table_b.now table_d.now m s template values used → document.now ≡ document_of at s (items_in table_b.now template s values)
+    ensures again { (records : List Record) (m : List ℕ) (s : Sections) (template : Tree)
+        (values : Values) (used at : ℕ)
+        → AreRows records table_b.now → IsAccepted table_b.now table_d.now m s template values used
+        → document.now ≡ document_of at s (items_in table_b.now template s values)
         → FormSo form table_b.now s template values result }
 {
     *steps = Steps::new();
@@ -298,15 +319,22 @@ pub fn encode_document(
     table_d: &TableD,
     steps: &mut Steps,
 ) -> Result<Vec<u8>, DocumentFault>
-    ensures octets { IfOk result (λ octets. encoding_of table_b.now table_d.now document.now ≡ Ok octets.items) }
+    ensures octets { IfOk result
+        (λ octets. encoding_of table_b.now table_d.now document.now ≡ Ok octets.items) }
     // Want of memory is the only freedom.
-    ensures fault { IfErr result (λ why. RefusesSo (told_refusal why) (encoding_of table_b.now table_d.now document.now)) }
+    ensures fault { IfErr result
+        (λ why. RefusesSo (told_refusal why) (encoding_of table_b.now table_d.now document.now)) }
     // It has one name, `Memory`.
-    ensures memory { IfErr result (λ why. (line : ℕ) → why ≢ DocumentFault.Template line TemplateFault.Memory) }
-    ensures made { OnOk result (steps.new ≡ ticked 0 (turns_by AsWritten table_b.now table_d.now document.now)) }
-    ensures made_refused { IfErr result (λ why. MakesSo (told_refusal why) 0 (turns_by AsWritten table_b.now table_d.now document.now) steps.new) }
-    ensures accepted { OnOk result (steps.new ≤ places_by table_b.now table_d.now document.now * bits_by AsWritten table_b.now table_d.now document.now) }
-    ensures refused { OnErr result (steps.new ≤ places_by table_b.now table_d.now document.now * (bits_by AsWritten table_b.now table_d.now document.now + 1)) }
+    ensures memory { IfErr result
+        (λ why. (line : ℕ) → why ≢ DocumentFault.Template line TemplateFault.Memory) }
+    ensures made { OnOk result
+        (steps.new ≡ ticked 0 (turns_by AsWritten table_b.now table_d.now document.now)) }
+    ensures made_refused { IfErr result (λ why. MakesSo (told_refusal why) 0
+        (turns_by AsWritten table_b.now table_d.now document.now) steps.new) }
+    ensures accepted { OnOk result (steps.new ≤ places_by table_b.now table_d.now document.now
+        * bits_by AsWritten table_b.now table_d.now document.now) }
+    ensures refused { OnErr result (steps.new ≤ places_by table_b.now table_d.now document.now
+        * (bits_by AsWritten table_b.now table_d.now document.now + 1)) }
 {
     encode_form(alloc, document, Form::AsWritten, table_b, table_d, steps)
 }

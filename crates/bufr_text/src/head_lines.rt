@@ -41,7 +41,8 @@ fn lay_category(head: &Head, line: &mut [u8], end: usize) -> usize
     requires within { end ≤ length line.old }
     ensures most { end ≤ result + 96 }
     ensures start { result ≤ end }
-    ensures laid { drop result line.new ≡ joined_onto (category_texts head.now) (drop end line.old) }
+    ensures laid { drop result line.new
+        ≡ joined_onto (category_texts head.now) (drop end line.old) }
 {
     let end = lay_text(b"\n", line, end);
     let end = lay_named(KEYS[9].0, u16::from(head.local_version), line, end);
@@ -53,8 +54,10 @@ fn lay_category(head: &Head, line: &mut [u8], end: usize) -> usize
 
 /// Writes the line `message`, and those of the edition and of what section 1 says before the date.
 fn write_origin<W: Sink>(message: &Message<'_>, w: &mut W) -> Result<(), RunFault>
-    ensures writes { WritesFront (W.taken w.old) (W.taken w.new) (text_of (codes "message" ∷ header_lines 0 (take 10 (header_of message.now)))) result }
-    ensures counts { CountsFaults (W.failures w.old) (W.failures w.new) (W.empty_writes w.old) (W.empty_writes w.new) result }
+    ensures writes { WritesFront (W.taken w.old) (W.taken w.new)
+        (text_of (codes "message" ∷ header_lines 0 (take 10 (header_of message.now)))) result }
+    ensures counts { CountsFaults (W.failures w.old) (W.failures w.new) (W.empty_writes w.old)
+        (W.empty_writes w.new) result }
     ensures flushes { W.flushes w.new ≡ W.flushes w.old }
 {
     let head = message.head();
@@ -72,7 +75,8 @@ fn lay_counts(message: &Message<'_>, line: &mut [u8], end: usize) -> usize
     ensures most { end ≤ result + 62 }
     ensures start { result ≤ end }
     ensures laid { drop result line.new ≡ joined_onto
-        (counts_texts (flag message.now.observed) (flag message.now.compressed) (flag (is_some message.now.section2)) message.now.subsets)
+        (counts_texts (flag message.now.observed) (flag message.now.compressed)
+        (flag (is_some message.now.section2)) message.now.subsets)
         (drop end line.old) }
 {
     let end = lay_text(b"\n", line, end);
@@ -103,8 +107,10 @@ fn lay_date(head: &Head, line: &mut [u8], end: usize) -> usize
 
 /// Writes the lines of the date, the flags and the number of subsets.
 fn write_date<W: Sink>(message: &Message<'_>, w: &mut W) -> Result<(), RunFault>
-    ensures writes { WritesFront (W.taken w.old) (W.taken w.new) (text_of (header_lines 10 (drop 10 (header_of message.now)))) result }
-    ensures counts { CountsFaults (W.failures w.old) (W.failures w.new) (W.empty_writes w.old) (W.empty_writes w.new) result }
+    ensures writes { WritesFront (W.taken w.old) (W.taken w.new)
+        (text_of (header_lines 10 (drop 10 (header_of message.now)))) result }
+    ensures counts { CountsFaults (W.failures w.old) (W.failures w.new) (W.empty_writes w.old)
+        (W.empty_writes w.new) result }
     ensures flushes { W.flushes w.new ≡ W.flushes w.old }
 {
     let head = message.head();
@@ -121,8 +127,10 @@ fn write_octet_line<W: Sink>(
     line: &mut Vec<u8>,
     w: &mut W,
 ) -> Result<(), RunFault>
-    ensures writes { WritesFront (W.taken w.old) (W.taken w.new) ((word.now ++ hex_text octets.now) ++ 10 ∷ []) result }
-    ensures counts { CountsFaults (W.failures w.old) (W.failures w.new) (W.empty_writes w.old) (W.empty_writes w.new) result }
+    ensures writes { WritesFront (W.taken w.old) (W.taken w.new)
+        ((word.now ++ hex_text octets.now) ++ 10 ∷ []) result }
+    ensures counts { CountsFaults (W.failures w.old) (W.failures w.new) (W.empty_writes w.old)
+        (W.empty_writes w.new) result }
     ensures flushes { W.flushes w.new ≡ W.flushes w.old }
 {
     make_octet_line(word, octets, line)?;
@@ -136,8 +144,10 @@ fn write_octet_lines<W: Sink>(
     line: &mut Vec<u8>,
     w: &mut W,
 ) -> Result<(), RunFault>
-    ensures writes { WritesFront (W.taken w.old) (W.taken w.new) (text_of (map (λ run. word.now ++ hex_text run) (runs_of 32 octets.now))) result }
-    ensures counts { CountsFaults (W.failures w.old) (W.failures w.new) (W.empty_writes w.old) (W.empty_writes w.new) result }
+    ensures writes { WritesFront (W.taken w.old) (W.taken w.new)
+        (text_of (map (λ run. word.now ++ hex_text run) (runs_of 32 octets.now))) result }
+    ensures counts { CountsFaults (W.failures w.old) (W.failures w.new) (W.empty_writes w.old)
+        (W.empty_writes w.new) result }
     ensures flushes { W.flushes w.new ≡ W.flushes w.old }
 {
     let mut rest = octets;
@@ -155,8 +165,10 @@ fn write_section2<W: Sink>(
     line: &mut Vec<u8>,
     w: &mut W,
 ) -> Result<(), RunFault>
-    ensures writes { WritesFront (W.taken w.old) (W.taken w.new) (text_of (map section2_line (runs_of 32 (unwrap_or message.now.section2 [])))) result }
-    ensures counts { CountsFaults (W.failures w.old) (W.failures w.new) (W.empty_writes w.old) (W.empty_writes w.new) result }
+    ensures writes { WritesFront (W.taken w.old) (W.taken w.new)
+        (text_of (map section2_line (runs_of 32 (unwrap_or message.now.section2 [])))) result }
+    ensures counts { CountsFaults (W.failures w.old) (W.failures w.new) (W.empty_writes w.old)
+        (W.empty_writes w.new) result }
     ensures flushes { W.flushes w.new ≡ W.flushes w.old }
 {
     match message.section2() {
@@ -171,9 +183,11 @@ fn write_descriptor_line<W: Sink>(
     line: &mut Vec<u8>,
     w: &mut W,
 ) -> Result<(), RunFault>
-    ensures writes { WritesFront (W.taken w.old) (W.taken w.new) (descriptors_line (take 8 (words_left words.old)) ++ 10 ∷ []) result }
+    ensures writes { WritesFront (W.taken w.old) (W.taken w.new)
+        (descriptors_line (take 8 (words_left words.old)) ++ 10 ∷ []) result }
     ensures words { OnOk result (words_left words.new ≡ drop 8 (words_left words.old)) }
-    ensures counts { CountsFaults (W.failures w.old) (W.failures w.new) (W.empty_writes w.old) (W.empty_writes w.new) result }
+    ensures counts { CountsFaults (W.failures w.old) (W.failures w.new) (W.empty_writes w.old)
+        (W.empty_writes w.new) result }
     ensures flushes { W.flushes w.new ≡ W.flushes w.old }
 {
     make_descriptor_line(words, line)?;
@@ -186,8 +200,10 @@ fn write_descriptor_lines<W: Sink>(
     line: &mut Vec<u8>,
     w: &mut W,
 ) -> Result<(), RunFault>
-    ensures writes { WritesFront (W.taken w.old) (W.taken w.new) (text_of (map descriptors_line (runs_of 8 message.now.descriptors))) result }
-    ensures counts { CountsFaults (W.failures w.old) (W.failures w.new) (W.empty_writes w.old) (W.empty_writes w.new) result }
+    ensures writes { WritesFront (W.taken w.old) (W.taken w.new)
+        (text_of (map descriptors_line (runs_of 8 message.now.descriptors))) result }
+    ensures counts { CountsFaults (W.failures w.old) (W.failures w.new) (W.empty_writes w.old)
+        (W.empty_writes w.new) result }
     ensures flushes { W.flushes w.new ≡ W.flushes w.old }
 {
     let mut words = message.descriptors();
@@ -203,8 +219,10 @@ pub(crate) fn write_head_lines<W: Sink>(
     line: &mut Vec<u8>,
     w: &mut W,
 ) -> Result<(), RunFault>
-    ensures writes { WritesFront (W.taken w.old) (W.taken w.new) (text_of (head_lines message.now)) result }
-    ensures counts { CountsFaults (W.failures w.old) (W.failures w.new) (W.empty_writes w.old) (W.empty_writes w.new) result }
+    ensures writes { WritesFront (W.taken w.old) (W.taken w.new)
+        (text_of (head_lines message.now)) result }
+    ensures counts { CountsFaults (W.failures w.old) (W.failures w.new) (W.empty_writes w.old)
+        (W.empty_writes w.new) result }
     ensures flushes { W.flushes w.new ≡ W.flushes w.old }
 {
     write_origin(message, w)?;

@@ -36,7 +36,8 @@ fn token(text: &[u8]) -> usize
 #[tactic(auto, using(crate::proofs::ItemLemmas::value_steps))]
 fn value<'a>(text: &'a [u8], scratch: &'a mut [u8]) -> Option<(FormKind, &'a [u8], &'a [u8])>
     requires { length text.now ≤ length scratch.old }
-    ensures { option_map (λ read. (form_by read.0 read.1.now, read.2.now)) result ≡ value_read text.now }
+    ensures { option_map (λ read. (form_by read.0 read.1.now, read.2.now)) result
+        ≡ value_read text.now }
 {
     let first = octet_at(text, 0);
     if first == b'"' {

@@ -3,7 +3,7 @@ ghost use Rattle.std.specs.Prelude.{◌≡◌, ◌≤◌, ◌<◌, ◌+◌, ◌*
 ghost use Rattle.bufr_bits.specs.DecimalText.{decimal_text_of, pointed, unsigned_text};
 ghost use Rattle.bufr_tables.specs.Entry.{row_with};
 ghost use Rattle.bufr_tables.specs.Fxy.{fxy_text};
-ghost use Rattle.bufr_walk.specs.Seen.{seen, seen_value};
+ghost use Rattle.bufr_walk.specs.ViewModel.{seen, seen_value};
 ghost use Rattle.bufr_text.specs.Dump.{comment_text, form_of, form_text, item_text};
 ghost use Rattle.bufr_text.specs.DumpItems.{comment_of, item_of, value_of};
 ghost use Rattle.bufr_text.specs.Grammar.{escaped, is_plain, quoted};
@@ -100,7 +100,8 @@ fn zeros_behind(size: u128, power: usize) -> usize
 fn lay_fraction(value: u64, places: usize, line: &mut [u8], end: usize) -> u64
     requires room { places ≤ end }
     requires within { end ≤ length line.old }
-    ensures laid { decimal result ++ drop (end - places) line.new ≡ padded (places + 1) value ++ drop end line.old }
+    ensures laid { decimal result ++ drop (end - places) line.new
+        ≡ padded (places + 1) value ++ drop end line.old }
 {
     let mut left = value;
     'places: for place in 0..places {
@@ -206,7 +207,8 @@ fn lay_numeric(fxy: Fxy, v: i128, scale: i16, line: &mut [u8], end: usize) -> us
     requires within { end ≤ length line.old }
     ensures most { end ≤ result + (50 + unsigned_abs scale) }
     ensures start { result ≤ end }
-    ensures laid { drop result line.new ≡ fxy_text fxy ++ 32 ∷ (decimal_text_of v scale ++ drop end line.old) }
+    ensures laid { drop result line.new
+        ≡ fxy_text fxy ++ 32 ∷ (decimal_text_of v scale ++ drop end line.old) }
 {
     let end = lay_number(v, scale, line, end);
     let end = lay_text(b" ", line, end);
@@ -218,7 +220,8 @@ fn lay_form(fxy: Fxy, value: Value<'_>, line: &mut [u8], end: usize) -> usize
     requires room { most_value value ≤ end }
     requires within { end ≤ length line.old }
     ensures start { result ≤ end }
-    ensures laid { drop result line.new ≡ form_text fxy (form_of (value_of (seen_value value.entry))) ++ drop end line.old }
+    ensures laid { drop result line.new
+        ≡ form_text fxy (form_of (value_of (seen_value value.entry))) ++ drop end line.old }
 {
     match value {
         Value::Number(number, scale) => lay_numeric(fxy, number, scale, line, end),
@@ -245,7 +248,8 @@ fn lay_comment(fxy: Fxy, entry: Option<Entry<'_>>, line: &mut [u8], end: usize) 
     requires within { end ≤ length line.old }
     ensures most { end ≤ result + most_comment entry.entry }
     ensures start { result ≤ end }
-    ensures laid { drop result line.new ≡ comment_text (option_map comment_of (option_map (row_with fxy) entry.entry)) ++ drop end line.old }
+    ensures laid { drop result line.new ≡ comment_text
+        (option_map comment_of (option_map (row_with fxy) entry.entry)) ++ drop end line.old }
 {
     let _ = fxy;
     let Some(entry) = entry else {
@@ -313,7 +317,8 @@ fn most_item(item: &ItemView<'_>) -> Option<usize>
 /// [`AllocError`] where there is no memory for as many octets.
 pub(crate) fn make_item_line(item: &ItemView<'_>, line: &mut Vec<u8>) -> Result<usize, AllocError>
     ensures start { IfOk result (λ start. start ≤ length line.new.items) }
-    ensures laid { IfOk result (λ start. drop start line.new.items ≡ item_text (item_of (seen item.now)) ++ 10 ∷ []) }
+    ensures laid { IfOk result
+        (λ start. drop start line.new.items ≡ item_text (item_of (seen item.now)) ++ 10 ∷ []) }
 {
     let most = most_item(item).ok_or(AllocError)?;
     if line.len() < most {

@@ -13,14 +13,17 @@ ghost use Rattle.bufr_text.specs.declared.fault.ReadFault.{ReadFault};
 
 /// The dump text of a message spells its document, and the reading goes on behind it.
 pub fn dump_text_spells_its_document()
-    ensures { (s : Sections) (subsets : List (List Item)) (at : ℕ) (t : List ℕ) → IsDumpable s subsets
+    ensures { (s : Sections) (subsets : List (List Item)) (at : ℕ) (t : List ℕ)
+        → IsDumpable s subsets
         → spelled at Between (lines_of (dump_text_of s subsets ++ t))
-        ≡ Spelled (document_of at s subsets) ∷ spelled (at + length (dump_lines s subsets)) Between (lines_of t) }
+        ≡ Spelled (document_of at s subsets)
+        ∷ spelled (at + length (dump_lines s subsets)) Between (lines_of t) }
 {}
 
 /// The dump text of a message spells one document, and nothing else.
 pub fn dump_text_is_one_document()
-    ensures { (s : Sections) (subsets : List (List Item)) → IsDumpable s subsets → documents_of (dump_text_of s subsets) ≡ Spelled (document_of 1 s subsets) ∷ [] }
+    ensures { (s : Sections) (subsets : List (List Item)) → IsDumpable s subsets
+        → documents_of (dump_text_of s subsets) ≡ Spelled (document_of 1 s subsets) ∷ [] }
 {}
 
 /// Each document of a text is proper: its header is whole, it has as many subsets as that says and
@@ -38,28 +41,33 @@ pub fn lines_are_those_of_the_documents()
 /// The documents that are told while the end is not known stay the first ones, whatever comes
 /// behind.
 pub fn open_documents_are_front()
-    ensures { (s t : List ℕ) → (more : List Told) × (documents_of (s ++ t) ≡ open_documents_of s ++ more) }
+    ensures { (s t : List ℕ)
+        → (more : List Told) × (documents_of (s ++ t) ≡ open_documents_of s ++ more) }
 {}
 
 /// What calls of a reader told, one after another, is what they would tell as one call: it follows
 /// from what each did.
 pub fn calls_compose()
-    ensures { (left mid left' : Option (List ℕ)) (old s s' : State) (told told' : List Told) (bs bs' : List ℕ)
-        → CallSo left mid old s told bs → CallSo mid left' s s' told' bs' → CallSo left left' old s' (told ++ told') (bs ++ bs') }
+    ensures { (left mid left' : Option (List ℕ)) (old s s' : State)
+        (told told' : List Told) (bs bs' : List ℕ)
+        → CallSo left mid old s told bs → CallSo mid left' s s' told' bs'
+        → CallSo left left' old s' (told ++ told') (bs ++ bs') }
 {}
 
 /// What calls told from the beginning are the first documents of the octets read, whatever comes
 /// behind; behind the end nothing does.
 pub fn documents_told_are_the_first()
     ensures { (left left' : Option (List ℕ)) (s : State) (told : List Told) (bs t : List ℕ)
-        → CallSo left left' fresh s told bs → (s.ended ≡ true → t ≡ []) → documents_of (bs ++ t) ≡ told ++ spells (stand s) t }
+        → CallSo left left' fresh s told bs → (s.ended ≡ true → t ≡ [])
+        → documents_of (bs ++ t) ≡ told ++ spells (stand s) t }
 {}
 
 /// What calls told from the beginning while the end is not known are the first open documents of
 /// the octets read, whatever comes behind.
 pub fn documents_told_are_the_first_open()
     ensures { (left left' : Option (List ℕ)) (s : State) (told : List Told) (bs t : List ℕ)
-        → CallSo left left' fresh s told bs → s.ended ≡ false → open_documents_of (bs ++ t) ≡ told ++ spells_openly (stand s) t }
+        → CallSo left left' fresh s told bs → s.ended ≡ false
+        → open_documents_of (bs ++ t) ≡ told ++ spells_openly (stand s) t }
 {}
 
 /// What calls told up to the end are the documents of the octets read.
@@ -80,11 +88,14 @@ pub fn documents_told_are_the_open_documents()
 /// that lacks its line feed was given one, which is none of the octets that are said to be held.
 pub fn octets_behind_the_lines_are_held()
     ensures { (left left' : Option (List ℕ)) (s : State) (told : List Told) (bs : List ℕ)
-        → CallSo left left' fresh s told bs → (feed : List ℕ) × IsMissingFeed false s.ended feed × Passes 1 (bs ++ feed) s.at s.held × ((taken : List ℕ) × (bs ≡ taken ++ unfed s)) }
+        → CallSo left left' fresh s told bs → (feed : List ℕ) × IsMissingFeed false s.ended feed
+        × Passes 1 (bs ++ feed) s.at s.held × ((taken : List ℕ) × (bs ≡ taken ++ unfed s)) }
 {}
 
 /// After the end was told it is told again, and nothing is read.
 pub fn none_comes_again()
-    ensures { (left left' : Option (List ℕ)) (old new : State) (result : Result (Option Document) ReadFault)
-        → NextSo left left' old new result → IsDone old → (result ≡ Ok None) × (new.reads ≡ old.reads) }
+    ensures { (left left' : Option (List ℕ)) (old new : State)
+        (result : Result (Option Document) ReadFault)
+        → NextSo left left' old new result → IsDone old
+        → (result ≡ Ok None) × (new.reads ≡ old.reads) }
 {}

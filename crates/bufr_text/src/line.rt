@@ -35,7 +35,8 @@ fn word_len(line: &[u8]) -> usize
 /// `scratch`.
 fn octets_behind<'a>(rest: &[u8], scratch: &'a mut [u8]) -> Option<&'a [u8]>
     requires { length rest.now ≤ length scratch.old }
-    ensures { (line : List ℕ → Line) → made line (option_map (λ s. s.now) result) ≡ made (λ text. made (with_one_to 32 line) (hex_read text)) (behind_space rest.now) }
+    ensures { (line : List ℕ → Line) → made line (option_map (λ s. s.now) result)
+        ≡ made (λ text. made (with_one_to 32 line) (hex_read text)) (behind_space rest.now) }
 {
     let count = unhex(behind_word(rest, b" ")?, scratch)?;
     if count == 0 || count > 32 {
@@ -47,7 +48,8 @@ fn octets_behind<'a>(rest: &[u8], scratch: &'a mut [u8]) -> Option<&'a [u8]>
 /// A line of descriptors; they are put into `words`.
 fn descriptors<'a>(rest: &[u8], words: &'a mut [u16]) -> Option<Said<'a>>
     requires { length words.old ≡ 8 }
-    ensures { made meaning result ≡ made (with_one_to 8 spec.Descriptors) (descriptors_read rest.now) }
+    ensures { made meaning result
+        ≡ made (with_one_to 8 spec.Descriptors) (descriptors_read rest.now) }
 {
     let count = describe(rest, words)?;
     Some(Said::Descriptors(&words[..count]))
@@ -55,7 +57,9 @@ fn descriptors<'a>(rest: &[u8], words: &'a mut [u16]) -> Option<Said<'a>>
 
 /// A line of the header: the place of its key, and the number behind one space.
 fn header<'a>(word: &[u8], rest: &[u8]) -> Option<Said<'a>>
-    ensures { made meaning result ≡ made (λ place. made (λ text. made (spec.Header place) (number_read text)) (behind_space rest.now)) (place_from 0 word.now keys) }
+    ensures { made meaning result ≡ made (λ place.
+        made (λ text. made (spec.Header place) (number_read text)) (behind_space rest.now))
+        (place_from 0 word.now keys) }
 {
     let key = place(word)?;
     let value = number(behind_word(rest, b" ")?)?;
@@ -64,7 +68,8 @@ fn header<'a>(word: &[u8], rest: &[u8]) -> Option<Said<'a>>
 
 /// `subset` and its number behind one space.
 fn subset<'a>(rest: &[u8]) -> Option<Said<'a>>
-    ensures { made meaning result ≡ made (λ text. made spec.Begins (number_read text)) (behind_space rest.now) }
+    ensures { made meaning result
+        ≡ made (λ text. made spec.Begins (number_read text)) (behind_space rest.now) }
 {
     let subset = number(behind_word(rest, b" ")?)?;
     Some(Said::Begins(subset))
@@ -72,7 +77,8 @@ fn subset<'a>(rest: &[u8]) -> Option<Said<'a>>
 
 /// What a word says that stands alone.
 fn alone<'a>(rest: &[u8], said: Said<'a>) -> Option<Said<'a>>
-    ensures { made meaning result ≡ (if length rest.now == 0 then meaning said.entry else spec.Wrong) }
+    ensures { made meaning result
+        ≡ (if length rest.now == 0 then meaning said.entry else spec.Wrong) }
 {
     if rest.is_empty() { Some(said) } else { None }
 }

@@ -17,7 +17,8 @@ fn lay_counts(message: &Message<'_>, line: &mut [u8], end: usize) -> usize
     ensures most { end ≤ result + 83 }
     ensures start { result ≤ end }
     ensures laid { drop result line.new ≡ joined_onto
-        (counts_texts message.now.subsets message.now.observed message.now.compressed (is_some message.now.section2) (length message.now.descriptors))
+        (counts_texts message.now.subsets message.now.observed message.now.compressed
+        (is_some message.now.section2) (length message.now.descriptors))
         (drop end line.old) }
 {
     let end = lay_text(b"\n", line, end);
@@ -76,7 +77,8 @@ fn lay_category(head: &Head, line: &mut [u8], end: usize) -> usize
     requires within { end ≤ length line.old }
     ensures most { end ≤ result + 40 }
     ensures start { result ≤ end }
-    ensures laid { drop result line.new ≡ joined_onto (category_texts head.now) (drop end line.old) }
+    ensures laid { drop result line.new
+        ≡ joined_onto (category_texts head.now) (drop end line.old) }
 {
     let end = lay_named(b"/", u16::from(head.local_subcategory), line, end);
     let end = lay_named(b"/", u16::from(head.subcategory), line, end);
@@ -90,7 +92,8 @@ fn lay_origin(offset: u64, size: u64, head: &Head, line: &mut [u8], end: usize) 
     requires room { 88 ≤ end }
     requires within { end ≤ length line.old }
     ensures start { result ≤ end }
-    ensures laid { drop result line.new ≡ joined_onto (origin_texts offset size head.now) (drop end line.old) }
+    ensures laid { drop result line.new
+        ≡ joined_onto (origin_texts offset size head.now) (drop end line.old) }
 {
     let end = lay_named(b"/", head.subcentre, line, end);
     let end = lay_named(b" centre=", head.centre, line, end);
@@ -112,7 +115,8 @@ fn lay_origin(offset: u64, size: u64, head: &Head, line: &mut [u8], end: usize) 
 /// [`RunFault::Write`] where the writer fails or takes nothing; a front of the line was taken.
 pub fn write_ls<W: Sink>(offset: u64, message: &Message<'_>, w: &mut W) -> Result<(), RunFault>
     ensures writes { Writes (W.taken w.old) (W.taken w.new) (ls_line offset message.now) result }
-    ensures counts { CountsWrites (W.failures w.old) (W.failures w.new) (W.empty_writes w.old) (W.empty_writes w.new) result }
+    ensures counts { CountsWrites (W.failures w.old) (W.failures w.new) (W.empty_writes w.old)
+        (W.empty_writes w.new) result }
     ensures flushes { W.flushes w.new ≡ W.flushes w.old }
 {
     let head = message.head();

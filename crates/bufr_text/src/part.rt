@@ -31,7 +31,8 @@ pub enum Part<'a> {
 /// [`RunFault::Write`] where the writer fails or takes nothing; a front of the octets was taken.
 pub fn write_all<W: Sink>(octets: &[u8], w: &mut W) -> Result<(), RunFault>
     ensures writes { Writes (W.taken w.old) (W.taken w.new) octets.now result }
-    ensures counts { CountsWrites (W.failures w.old) (W.failures w.new) (W.empty_writes w.old) (W.empty_writes w.new) result }
+    ensures counts { CountsWrites (W.failures w.old) (W.failures w.new) (W.empty_writes w.old)
+        (W.empty_writes w.new) result }
     ensures flushes { W.flushes w.new ≡ W.flushes w.old }
 {
     let mut rest = octets;
@@ -52,7 +53,8 @@ fn lay_part(part: Part<'_>, line: &mut [u8], end: usize) -> Option<usize>
     requires short { IsShort part }
     requires within { end ≤ length line.old }
     ensures start { IfSome result (λ start. start ≤ end) }
-    ensures laid { IfSome result (λ start. drop start line.new ≡ part_text part.entry ++ drop end line.old) }
+    ensures laid { IfSome result
+        (λ start. drop start line.new ≡ part_text part.entry ++ drop end line.old) }
 {
     match part {
         Part::Text(octets) if octets.len() <= end => Some(lay_text(octets, line, end)),
@@ -82,7 +84,8 @@ fn lay_parts(parts: &[Part<'_>], line: &mut [u8]) -> Option<usize>
 fn write_padded<W: Sink>(value: u64, least: usize, w: &mut W) -> Result<(), RunFault>
     requires { least ≤ 4 }
     ensures writes { Writes (W.taken w.old) (W.taken w.new) (padded least value) result }
-    ensures counts { CountsWrites (W.failures w.old) (W.failures w.new) (W.empty_writes w.old) (W.empty_writes w.new) result }
+    ensures counts { CountsWrites (W.failures w.old) (W.failures w.new) (W.empty_writes w.old)
+        (W.empty_writes w.new) result }
     ensures flushes { W.flushes w.new ≡ W.flushes w.old }
 {
     let mut line = [0; NUMBER];
@@ -93,7 +96,8 @@ fn write_padded<W: Sink>(value: u64, least: usize, w: &mut W) -> Result<(), RunF
 /// Writes a number.
 fn write_decimal<W: Sink>(value: u64, w: &mut W) -> Result<(), RunFault>
     ensures writes { Writes (W.taken w.old) (W.taken w.new) (decimal value) result }
-    ensures counts { CountsWrites (W.failures w.old) (W.failures w.new) (W.empty_writes w.old) (W.empty_writes w.new) result }
+    ensures counts { CountsWrites (W.failures w.old) (W.failures w.new) (W.empty_writes w.old)
+        (W.empty_writes w.new) result }
     ensures flushes { W.flushes w.new ≡ W.flushes w.old }
 {
     let mut line = [0; NUMBER];
@@ -105,7 +109,8 @@ fn write_decimal<W: Sink>(value: u64, w: &mut W) -> Result<(), RunFault>
 fn write_part<W: Sink>(part: Part<'_>, w: &mut W) -> Result<(), RunFault>
     requires { IsShort part }
     ensures writes { Writes (W.taken w.old) (W.taken w.new) (part_text part.entry) result }
-    ensures counts { CountsWrites (W.failures w.old) (W.failures w.new) (W.empty_writes w.old) (W.empty_writes w.new) result }
+    ensures counts { CountsWrites (W.failures w.old) (W.failures w.new) (W.empty_writes w.old)
+        (W.empty_writes w.new) result }
     ensures flushes { W.flushes w.new ≡ W.flushes w.old }
 {
     match part {
@@ -120,7 +125,8 @@ fn write_part<W: Sink>(part: Part<'_>, w: &mut W) -> Result<(), RunFault>
 fn write_each<W: Sink>(parts: &[Part<'_>], w: &mut W) -> Result<(), RunFault>
     requires { AllByRecursion IsShort parts.now }
     ensures writes { Writes (W.taken w.old) (W.taken w.new) (flat_map part_text parts.now) result }
-    ensures counts { CountsWrites (W.failures w.old) (W.failures w.new) (W.empty_writes w.old) (W.empty_writes w.new) result }
+    ensures counts { CountsWrites (W.failures w.old) (W.failures w.new) (W.empty_writes w.old)
+        (W.empty_writes w.new) result }
     ensures flushes { W.flushes w.new ≡ W.flushes w.old }
 {
     for part in parts {
@@ -138,7 +144,8 @@ fn write_each<W: Sink>(parts: &[Part<'_>], w: &mut W) -> Result<(), RunFault>
 pub fn write_parts<W: Sink>(parts: &[Part<'_>], w: &mut W) -> Result<(), RunFault>
     requires { AllByRecursion IsShort parts.now }
     ensures writes { Writes (W.taken w.old) (W.taken w.new) (flat_map part_text parts.now) result }
-    ensures counts { CountsWrites (W.failures w.old) (W.failures w.new) (W.empty_writes w.old) (W.empty_writes w.new) result }
+    ensures counts { CountsWrites (W.failures w.old) (W.failures w.new) (W.empty_writes w.old)
+        (W.empty_writes w.new) result }
     ensures flushes { W.flushes w.new ≡ W.flushes w.old }
 {
     let mut line = [0; LINE];

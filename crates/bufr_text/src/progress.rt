@@ -50,9 +50,11 @@ pub(crate) fn take_line(
     words: &mut [u16; MOST_WORDS],
 ) -> Result<Turn, AllocError>
     requires stands { Stands progress.old.at (place_with progress.old.place progress.old.parts) }
-    ensures turns { IfOk result (λ t. turned t progress.new.parts ≡ documents.turn progress.old.at (place_with progress.old.place progress.old.parts) (said line.now)) }
+    ensures turns { IfOk result (λ t. turned t progress.new.parts ≡ documents.turn progress.old.at
+        (place_with progress.old.place progress.old.parts) (said line.now)) }
     ensures at { progress.new.at ≡ progress.old.at }
-    ensures wants { OnErr result (adds (place_with progress.old.place progress.old.parts) (said line.now) ≡ true) }
+    ensures wants { OnErr result
+        (adds (place_with progress.old.place progress.old.parts) (said line.now) ≡ true) }
 {
     let said = read_line(line, octets, words);
     step(progress.place, &mut progress.parts, progress.at, said)

@@ -60,7 +60,8 @@ fn put_fxy(fxy: Fxy, line: &mut Vec<u8>) -> Result<(), AllocError>
 
 /// Puts the descriptors of a line, at most eight, each behind a space.
 fn put_descriptors(words: &mut Words<'_>, line: &mut Vec<u8>) -> Result<(), AllocError>
-    ensures line { OnOk result (line.new.items ≡ line.old.items ++ descriptors_text (take 8 (words_left words.old))) }
+    ensures line { OnOk result
+        (line.new.items ≡ line.old.items ++ descriptors_text (take 8 (words_left words.old))) }
     ensures words { OnOk result (words_left words.new ≡ drop 8 (words_left words.old)) }
 {
     'words: for _done in 0..DESCRIPTORS {
@@ -78,7 +79,8 @@ pub(crate) fn make_descriptor_line(
     words: &mut Words<'_>,
     line: &mut Vec<u8>,
 ) -> Result<(), AllocError>
-    ensures line { OnOk result (line.new.items ≡ descriptors_line (take 8 (words_left words.old)) ++ 10 ∷ []) }
+    ensures line { OnOk result
+        (line.new.items ≡ descriptors_line (take 8 (words_left words.old)) ++ 10 ∷ []) }
     ensures words { OnOk result (words_left words.new ≡ drop 8 (words_left words.old)) }
 {
     line.clear();

@@ -20,29 +20,40 @@ ghost use Rattle.bufr_text.specs.declared.form.Form.TheVariants.{AsWritten};
 /// of compression, which is the form's; and each item's value is what the document's line says at
 /// its field. In a stream it is one message.
 pub fn encoded_documents_are_read()
-    ensures { (form : Form) (records : List Record) (table : List Row) (sequences : List Sequence) (d : Document) (octets : List ℕ)
-        → AreRows records table → IsProper d → encoding_in form table sequences d ≡ Ok octets → IsReadAs form table sequences d octets }
+    ensures { (form : Form) (records : List Record) (table : List Row) (sequences : List Sequence)
+        (d : Document) (octets : List ℕ)
+        → AreRows records table → IsProper d → encoding_in form table sequences d ≡ Ok octets
+        → IsReadAs form table sequences d octets }
 {}
 
 /// The dump text of that message is the document's own text in the one spelling that a dump has.
 pub fn normal_is_the_dump()
-    ensures { (form : Form) (records : List Record) (table : List Row) (sequences : List Sequence) (d : Document) (octets : List ℕ)
+    ensures { (form : Form) (records : List Record) (table : List Row) (sequences : List Sequence)
+        (d : Document) (octets : List ℕ)
         → AreRows records table → IsProper d → (read : IsReadAs form table sequences d octets)
-        → dump_text_of read.sections (items_in table read.template read.sections read.values) ≡ normal form table read.template d }
+        → dump_text_of read.sections (items_in table read.template read.sections read.values)
+        ≡ normal form table read.template d }
 {}
 
 /// The text in that spelling is one document, and as it is written that document is encoded to the
 /// same octets.
 pub fn normal_is_encoded_the_same()
-    ensures { (form : Form) (records : List Record) (table : List Row) (sequences : List Sequence) (d : Document) (octets : List ℕ)
-        → AreRows records table → IsProper d → encoding_in form table sequences d ≡ Ok octets → (read : IsReadAs form table sequences d octets)
-        → (documents_of (normal form table read.template d) ≡ Spelled (document_of 1 read.sections (items_in table read.template read.sections read.values)) ∷ [])
-        × (encoding_of table sequences (document_of 1 read.sections (items_in table read.template read.sections read.values)) ≡ Ok octets) }
+    ensures { (form : Form) (records : List Record) (table : List Row) (sequences : List Sequence)
+        (d : Document) (octets : List ℕ)
+        → AreRows records table → IsProper d → encoding_in form table sequences d ≡ Ok octets
+        → (read : IsReadAs form table sequences d octets)
+        → (documents_of (normal form table read.template d) ≡ Spelled
+        (document_of 1 read.sections (items_in table read.template read.sections read.values)) ∷ [])
+        × (encoding_of table sequences (document_of 1 read.sections
+        (items_in table read.template read.sections read.values)) ≡ Ok octets) }
 {}
 
 /// The text in that spelling is its own text in that spelling.
 pub fn normal_of_normal()
-    ensures { (form : Form) (records : List Record) (table : List Row) (sequences : List Sequence) (d : Document) (octets : List ℕ)
+    ensures { (form : Form) (records : List Record) (table : List Row) (sequences : List Sequence)
+        (d : Document) (octets : List ℕ)
         → AreRows records table → IsProper d → (read : IsReadAs form table sequences d octets)
-        → normal AsWritten table read.template (document_of 1 read.sections (items_in table read.template read.sections read.values)) ≡ normal form table read.template d }
+        → normal AsWritten table read.template
+        (document_of 1 read.sections (items_in table read.template read.sections read.values))
+        ≡ normal form table read.template d }
 {}

@@ -127,8 +127,10 @@ fn closing(parts: &Parts, read: u32) -> Turn
 
 /// A line behind the header and before the first subset.
 fn laying(parts: &mut Parts, part: Laid, said: Said<'_>) -> Result<Turn, AllocError>
-    ensures turns { IfOk result (λ t. turned t parts.new ≡ laying (part_number part) parts.old (meaning said.entry)) }
-    ensures wants { OnErr result (adds (place_with (Place.Laying part) parts.old) (meaning said.entry) ≡ true) }
+    ensures turns { IfOk result
+        (λ t. turned t parts.new ≡ laying (part_number part) parts.old (meaning said.entry)) }
+    ensures wants { OnErr result
+        (adds (place_with (Place.Laying part) parts.old) (meaning said.entry) ≡ true) }
 {
     let turn = match said {
         Said::Local1(octets) if part.number() == 0 => {
@@ -153,8 +155,10 @@ fn laying(parts: &mut Parts, part: Laid, said: Said<'_>) -> Result<Turn, AllocEr
 /// A line in a subset.
 fn filling(parts: &mut Parts, at: u64, subset: u32, said: Said<'_>) -> Result<Turn, AllocError>
     requires { subset < 65536 }
-    ensures turns { IfOk result (λ t. turned t parts.new ≡ filling at subset parts.old (meaning said.entry)) }
-    ensures wants { OnErr result (adds (place_with (Place.Filling subset) parts.old) (meaning said.entry) ≡ true) }
+    ensures turns { IfOk result
+        (λ t. turned t parts.new ≡ filling at subset parts.old (meaning said.entry)) }
+    ensures wants { OnErr result
+        (adds (place_with (Place.Filling subset) parts.old) (meaning said.entry) ≡ true) }
 {
     let turn = match said {
         Said::Item { fxy, kind, octets } => {
@@ -196,7 +200,8 @@ pub(crate) fn step(
     said: Said<'_>,
 ) -> Result<Turn, AllocError>
     requires { Stands at (place_with place parts.old) }
-    ensures turns { IfOk result (λ t. turned t parts.new ≡ turn at (place_with place parts.old) (meaning said.entry)) }
+    ensures turns { IfOk result
+        (λ t. turned t parts.new ≡ turn at (place_with place parts.old) (meaning said.entry)) }
     ensures wants { OnErr result (adds (place_with place parts.old) (meaning said.entry) ≡ true) }
 {
     if matches!(said, Said::Passed) {

@@ -11,7 +11,7 @@ use Rattle.bufr_walk.specs.declared.spec.Refusal.{Refusal}
 use Rattle.bufr_walk.specs.declared.spec.Taken.{Taken}
 use Rattle.bufr_walk.specs.Asked.{Asked}
 use Rattle.bufr_walk.specs.Course.{Course, Next, take_next, at_end, astray, refused, next_item}
-use Rattle.bufr_walk.specs.Content.{Shown, shown}
+use Rattle.bufr_walk.specs.Content.{ShownValue, shown}
 use Rattle.bufr_walk.specs.PlainField.{FieldFault, Found}
 use Rattle.bufr_walk.specs.Reading.{Form, plain, packed}
 
@@ -81,12 +81,12 @@ module _ {C V : Type 0} (form : Form C) (shows : Asked → C → V) (course : Co
       next_pass a.next (length bits) a.turns (λ spec. field_pass spec (length bits) a.turns (form.field spec bits) (λ c behind. pass more (told ++ form.tells spec c ∷ []) behind))
 
 -- one subset of data that are not compressed
-unfoldable pub one : Tree → List ℕ → Pass Shown
+unfoldable pub one : Tree → List ℕ → Pass ShownValue
 unfolding table pass next_item bits_of
 one tree octets = pass plain shown (next_item table tree) 40 [] (bits_of octets)
 
 -- all of so many subsets that are
-unfoldable pub together : ℕ → Tree → List ℕ → Pass (List Shown)
+unfoldable pub together : ℕ → Tree → List ℕ → Pass (List ShownValue)
 unfolding table pass next_item bits_of
 together n tree octets = pass (packed n) (λ spec cs. map (shown spec) cs) (next_item table tree) 40 [] (bits_of octets)
 
@@ -96,7 +96,7 @@ behind (walk_fault why left turns) go = []
 behind (field_fault fxy why left turns) go = []
 behind unknown go = []
 
-in_turn : ℕ → Course → List Bool → List (Pass Shown)
+in_turn : ℕ → Course → List Bool → List (Pass ShownValue)
 unfolding pass behind
 in_turn zero course bits = []
 in_turn (suc n) course bits =
@@ -104,7 +104,7 @@ in_turn (suc n) course bits =
 
 -- two subsets of data that are not compressed, each from the beginning of the template; nothing is
 -- read behind a fault
-unfoldable pub two : Tree → List ℕ → List (Pass Shown)
+unfoldable pub two : Tree → List ℕ → List (Pass ShownValue)
 unfolding table in_turn next_item bits_of
 two tree octets = in_turn 2 (next_item table tree) (bits_of octets)
 

@@ -26,14 +26,14 @@ pub mod PackedPlaces
 pub mod PackedKept
 pub mod PackedReadings
 pub mod PackedAt
-pub mod PackedShows
+pub mod PackedCalls
 pub mod PackedTexts
 pub mod PackedSubsets
 pub mod Readings
 pub mod PlainSubsets
 pub mod ReadingLemmas
 pub mod PackedHeld
-pub mod PackedShown
+pub mod PackedShowing
 pub mod ShownBounds
 pub mod ShownLemmas
 pub mod SubsetLemmas

@@ -9,8 +9,8 @@ use Rattle.bufr_walk.specs.Content.{Content}
 use Rattle.bufr_walk.specs.Kept.{call_kept}
 use Rattle.bufr_walk.specs.PackedIn.{items_at}
 use Rattle.bufr_walk.specs.Reading.{Item}
-use Rattle.bufr_walk.specs.Shows.{Shows}
-use Rattle.bufr_walk.proofs.PackedShows.{SoFar, sofar_none, sofar_then, sofar_call, sofar_all, stops_call, shows_before, next_call}
+use Rattle.bufr_walk.specs.CallsInTurn.{Shows}
+use Rattle.bufr_walk.proofs.PackedCalls.{SoFar, sofar_none, sofar_then, sofar_call, sofar_all, stops_call, shows_before, next_call}
 
 all_dropped : (kept : List KeptItem) (i : ℕ) → length kept ≤ i → drop i kept ≡ []
 all_dropped [] zero h = refl

@@ -13,7 +13,7 @@ use Rattle.bufr_walk.specs.Course.{Course, next_item}
 use Rattle.bufr_walk.specs.Kept.{IsHeld, PaysBits, items_in}
 use Rattle.bufr_walk.specs.Outcome.{Read, course_of}
 use Rattle.bufr_walk.specs.Reading.{Item, plain, tells_of, after, next_after, turns_after, turns_in, ReadsSubsets, Values, apart, together, IsReading, IsPackedReading, most_values}
-use Rattle.bufr_walk.specs.Shows.{Shows}
+use Rattle.bufr_walk.specs.CallsInTurn.{Shows}
 use Rattle.bufr_walk.specs.Ticks.{ticked}
 use Rattle.bufr_walk.proofs.Bound.{turns_before, turns_in_all}
 use Rattle.bufr_walk.proofs.OneReading.{one_reading}

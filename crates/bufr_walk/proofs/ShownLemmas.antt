@@ -20,15 +20,15 @@ use Rattle.bufr_walk.specs.declared.stop.WalkStop.{WalkStop}
 use Rattle.bufr_walk.specs.declared.stop.WalkStop.TheVariants as stops
 use Rattle.bufr_walk.specs.Asked.{Asked, IsSpec, HasRole, HasMissing, is_reference}
 use Rattle.bufr_walk.specs.declared.visitor.Value.{Value}
-use Rattle.bufr_walk.specs.Seen.{seen_value}
+use Rattle.bufr_walk.specs.ViewModel.{seen_value}
 use Rattle.bufr_walk.specs.Calls.{Call, item_call, view, view_of, Timed, timed, item_calls}
 use Rattle.bufr_walk.specs.Content.{Content, told, number, text, missing, content_in, content_by, value_in, said_by, octets_in, signed_by, shown_number, shown_text, shown_missing, shown_reference, shown}
 use Rattle.bufr_walk.specs.Course.{Course, Next, take_next, at_end, astray, refused}
 use Rattle.bufr_walk.specs.PlainField.{FieldFault, Found, found, plain_field, data_end}
 use Rattle.bufr_walk.specs.PlainIn.{Cursor, rest_of, past, IsTaken}
 use Rattle.bufr_walk.specs.Reading.{Item, plain, ReadsAll, after, turns_after}
-use Rattle.bufr_walk.specs.Shown.{Stage, stage, IsShown, IsUnshown, ShowingTakes, IsEnd, MayEnd, Sofar, ItemsShown, ItemsEnded}
-use Rattle.bufr_walk.specs.Shows.{Shows, EndsAt, IsKept}
+use Rattle.bufr_walk.specs.ShowSteps.{Stage, stage, IsShown, IsUnshown, ShowingTakes, IsEnd, MayEnd, Sofar, ItemsShown, ItemsEnded}
+use Rattle.bufr_walk.specs.CallsInTurn.{Shows, EndsAt, IsKept}
 use Rattle.bufr_walk.specs.Taking.{Turn, Takes}
 use Rattle.bufr_walk.specs.Ticks.{ticked}
 use Rattle.bufr_walk.specs.Walked.{oks, told_by, StopsAt, Walked}

@@ -8,8 +8,8 @@ use Rattle.bufr_walk.specs.Content.{Content}
 use Rattle.bufr_walk.specs.Course.{Course}
 use Rattle.bufr_walk.specs.PlainIn.{Cursor, rest_of}
 use Rattle.bufr_walk.specs.Reading.{Item, plain, ReadsAll, ReadsSubsets, turns_after, turns_in}
-use Rattle.bufr_walk.specs.Shown.{Sofar, ItemsGo, SubsetShown, SubsetEnded, SubsetGoes, SubsetsShown}
-use Rattle.bufr_walk.specs.Shows.{Shows}
+use Rattle.bufr_walk.specs.ShowSteps.{Sofar, ItemsGo, SubsetShown, SubsetEnded, SubsetGoes, SubsetsShown}
+use Rattle.bufr_walk.specs.CallsInTurn.{Shows}
 use Rattle.bufr_walk.specs.Ticks.{ticked}
 use Rattle.bufr_walk.proofs.PlainSubsets.{ticked_more}
 use Rattle.bufr_walk.proofs.ShownLemmas.{sofar_self, sofar_then, sofar_call}

@@ -3,7 +3,7 @@
 use Rattle.std.specs.Prelude.{ℕ, zero, suc, ◌+◌, if◌then◌else◌, List, [], ◌∷◌, ◌++◌, Option, None}
 use Rattle.bufr_tables.specs.TableB.{Row, entry_of}
 use Rattle.bufr_walk.specs.Asked.{Asked}
-use Rattle.bufr_walk.specs.Content.{Content, Shown, shown, missing}
+use Rattle.bufr_walk.specs.Content.{Content, ShownValue, shown, missing}
 use Rattle.bufr_walk.specs.Course.{Course}
 use Rattle.bufr_walk.specs.Reading.{Item, plain, after, turns_after, turns_in, Values, apart, together}
 use Rattle.bufr_walk.specs.Outcome.{Read, course_of}
@@ -12,18 +12,19 @@ use Rattle.bufr_walk.specs.Outcome.{Read, course_of}
 pub record View : Type 0 where
   pub fxy : ℕ
   pub entry : Option Row
-  pub value : Shown
+  pub value : ShownValue
 
 pub data Call : Type 0 where
   subset_call : (number : ℕ) → Call
   item_call : (item : View) → Call
 
-abbrev pub view : (fxy : ℕ) → Option Row → Shown → View
+abbrev pub view : (fxy : ℕ) → Option Row → ShownValue → View
 view fxy entry value = record { fxy = fxy; entry = entry; value = value }
 
 -- the view of one field: the row of Table B only where the field was read by it
 abbrev pub view_of : List Row → Asked → Content → View
-view_of table spec c = view spec.fxy (if spec.listed then entry_of table spec.fxy else None) (shown spec c)
+view_of table spec c =
+    view spec.fxy (if spec.listed then entry_of table spec.fxy else None) (shown spec c)
 
 -- a call, and how many turns are made before it
 pub record Timed : Type 0 where
@@ -36,13 +37,17 @@ timed turns call = record { turns = turns; call = call }
 -- the calls for the items of one subset, where so many turns were made before the subset
 abbrev pub item_calls : List Row → (before : ℕ) → Course → List (Item Content) → List Timed
 item_calls table before course [] = []
-item_calls table before course (i ∷ items) = timed (before + (course []).turns) (item_call (view_of table i.spec i.content)) ∷ item_calls table before (after plain course i) items
+item_calls table before course (i ∷ items) =
+    timed (before + (course []).turns) (item_call (view_of table i.spec i.content))
+    ∷ item_calls table before (after plain course i) items
 
 -- the calls for subsets, from a number on
-abbrev pub subset_calls : List Row → Course → (before number : ℕ) → List (List (Item Content)) → List Timed
+abbrev pub subset_calls : List Row → Course → (before number : ℕ)
+    → List (List (Item Content)) → List Timed
 subset_calls table course before number [] = []
 subset_calls table course before number (items ∷ subsets) =
-    timed before (subset_call number) ∷ item_calls table before course items ++ subset_calls table course (before + turns_after plain course items) (number + 1) subsets
+    timed before (subset_call number) ∷ item_calls table before course items
+    ++ subset_calls table course (before + turns_after plain course items) (number + 1) subsets
 
 -- the content of one subset, counted from 0
 abbrev pub content_at : (subset : ℕ) → List Content → Content
@@ -53,12 +58,16 @@ content_at (suc j) (c ∷ cs) = content_at j cs
 -- the calls for the items of one subset of compressed data, which take no turns
 abbrev pub items_together : List Row → (subset : ℕ) → List (Item (List Content)) → List Timed
 items_together table j [] = []
-items_together table j (i ∷ items) = timed 0 (item_call (view_of table i.spec (content_at j i.content))) ∷ items_together table j items
+items_together table j (i ∷ items) =
+    timed 0 (item_call (view_of table i.spec (content_at j i.content)))
+    ∷ items_together table j items
 
 -- the calls for so many subsets of compressed data, from one on, counted from 0
 abbrev pub subsets_together : List Row → (left subset : ℕ) → List (Item (List Content)) → List Timed
 subsets_together table zero j items = []
-subsets_together table (suc n) j items = timed 0 (subset_call (j + 1)) ∷ items_together table j items ++ subsets_together table n (j + 1) items
+subsets_together table (suc n) j items =
+    timed 0 (subset_call (j + 1)) ∷ items_together table j items
+    ++ subsets_together table n (j + 1) items
 
 -- the calls that show a reading
 abbrev pub calls_of : Read → Values → List Timed

@@ -36,7 +36,8 @@ said_by kind.Numeric width bits = number (number_of bits)
 
 -- what the bits of a field say; all ones is missing where it may be
 abbrev pub value_in : Asked → List Bool → Content
-value_in spec bits = if all_set bits && spec.may_be_missing then missing else said_by spec.kind spec.width bits
+value_in spec bits =
+    if all_set bits && spec.may_be_missing then missing else said_by spec.kind spec.width bits
 
 abbrev pub content_by : Role → Asked → List Bool → Content
 content_by role.Element spec bits = value_in spec bits
@@ -83,13 +84,13 @@ abbrev pub told : Asked → Content → Taken
 told spec c = told_by_role spec.role c
 
 -- what an item shows: a number with its scale, a text, missing, or a reference
-pub data Shown : Type 0 where
-  shown_number : (value scale : ℤ) → Shown
-  shown_text : (octets : List ℕ) → Shown
-  shown_missing : Shown
-  shown_reference : (value : ℤ) → Shown
+pub data ShownValue : Type 0 where
+  shown_number : (value scale : ℤ) → ShownValue
+  shown_text : (octets : List ℕ) → ShownValue
+  shown_missing : ShownValue
+  shown_reference : (value : ℤ) → ShownValue
 
-abbrev pub shown : Asked → Content → Shown
+abbrev pub shown : Asked → Content → ShownValue
 shown spec (number raw) = shown_number (pos raw +ℤ spec.reference) spec.scale
 shown spec (text octets) = shown_text octets
 shown spec missing = shown_missing

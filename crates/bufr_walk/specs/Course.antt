@@ -56,10 +56,13 @@ ahead table finish s told = stop at_end
 ahead table open_end s told = stop astray
 ahead table (group next) s told = later 1 (ahead table next s told)
 ahead table (pass_end next) s told = later 1 (ahead table next s told)
-ahead table (factor_turn fxy next) s told = asked (factor_spec table s fxy) (λ t more. ahead table next (after_field s fxy t) more) told
-ahead table (element_turn fxy next) s told = asked (element_spec table s fxy) (λ t more. ahead table next (after_field s fxy t) more) told
+ahead table (factor_turn fxy next) s told =
+    asked (factor_spec table s fxy) (λ t more. ahead table next (after_field s fxy t) more) told
+ahead table (element_turn fxy next) s told =
+    asked (element_spec table s fxy) (λ t more. ahead table next (after_field s fxy t) more) told
 ahead table (operator_turn fxy next) s told =
-    if is_inserted_text fxy then asked (inserted_spec s fxy) (λ t more. ahead table next (after_field s fxy t) more) told
+    if is_inserted_text fxy
+    then asked (inserted_spec s fxy) (λ t more. ahead table next (after_field s fxy t) more) told
     else operated (after_operator s fxy) (λ s'. ahead table next s' told)
 
 -- what comes next after any items, by what they told

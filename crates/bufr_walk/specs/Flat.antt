@@ -30,7 +30,8 @@ frames_of (s ∷ outer) = frames_of outer ++ s.frame ∷ []
 -- the turns from the end of the innermost group's pass on
 abbrev pub behind : List OpenGroup → Rest → Rest
 behind [] k counts = k counts
-behind (s ∷ outer) k counts = pass_end (passes s.frame.left (unroll s.body) (unroll s.more (behind outer k)) counts)
+behind (s ∷ outer) k counts =
+    pass_end (passes s.frame.left (unroll s.body) (unroll s.more (behind outer k)) counts)
 
 -- the cells from there on
 abbrev pub tail_of : List OpenGroup → List Cell
@@ -48,7 +49,8 @@ AllStand cells (s ∷ outer) =
 
 -- A walk stands at a place before these nodes, with these open groups: left is what it still has to
 -- do.
-pub record StandsAt (cells : List Cell) (place : ℕ) (stack : List Frame) (left : Rest → Rest) (more : Tree) (groups : List OpenGroup) : Type 0 where
+pub record StandsAt (cells : List Cell) (place : ℕ) (stack : List Frame) (left : Rest → Rest)
+    (more : Tree) (groups : List OpenGroup) : Type 0 where
   pub frames : stack ≡ frames_of groups
   pub here : drop place cells ≡ lay more place (tail_of groups)
   pub deep : length groups + depth more ≤ 32
@@ -57,14 +59,17 @@ pub record StandsAt (cells : List Cell) (place : ℕ) (stack : List Frame) (left
   pub left_is : (k : Rest) (counts : List ℕ) → left k counts ≡ unroll more (behind groups k) counts
 
 abbrev pub Stands : List Cell → ℕ → List Frame → (Rest → Rest) → Type 0
-Stands cells place stack left = (more : Tree) × (groups : List OpenGroup) × StandsAt cells place stack left more groups
+Stands cells place stack left =
+    (more : Tree) × (groups : List OpenGroup) × StandsAt cells place stack left more groups
 
 -- the most turns from a cell to the end of its pass, by those from each later cell
 abbrev pub cost_of : Cell → ℕ → List ℕ → ℕ
 cost_of (cell.Element f) at later = 1 + slice_index later 0
 cost_of (cell.Operator f) at later = 1 + slice_index later 0
-cost_of (cell.Fixed n after) at later = 1 + n * (1 + slice_index later 0) + slice_index later (after - (at + 1))
-cost_of (cell.Delayed after) at later = 2 + 2 ^ 64 * (1 + slice_index later 1) + slice_index later (after - (at + 1))
+cost_of (cell.Fixed n after) at later =
+    1 + n * (1 + slice_index later 0) + slice_index later (after - (at + 1))
+cost_of (cell.Delayed after) at later =
+    2 + 2 ^ 64 * (1 + slice_index later 1) + slice_index later (after - (at + 1))
 cost_of (cell.Factor f) at later = 0
 cost_of cell.PassEnd at later = 0
 cost_of cell.Finish at later = 0
@@ -76,17 +81,23 @@ costs (c ∷ cells) at = cost_of c at (costs cells (at + 1)) ∷ costs cells (at
 -- the most turns that open groups still have after their passes
 abbrev pub owed : List ℕ → List Frame → ℕ
 owed cost [] = 0
-owed cost (f ∷ frames) = 1 + f.left * (1 + slice_index cost f.start) + slice_index cost f.after + owed cost frames
+owed cost (f ∷ frames) =
+    1 + f.left * (1 + slice_index cost f.start) + slice_index cost f.after + owed cost frames
 
 -- the most turns that are left
 abbrev pub weight : List Cell → ℕ → List Frame → ℕ
 weight cells place stack = slice_index (costs cells 0) place + owed (costs cells 0) stack
 
 -- what a turn did
-abbrev pub Turned : {S E : Type 0} → (S → Asked → Result Taken E → S → Type 0) → List Row → List Cell → (Rest → Rest) → ℕ → List Frame → Settings → S → ℕ → Result (Option ℕ) (WalkStop E) → List Frame → Settings → S → ℕ → Type 0
+abbrev pub Turned : {S E : Type 0} → (S → Asked → Result Taken E → S → Type 0) → List Row
+    → List Cell → (Rest → Rest) → ℕ → List Frame → Settings → S → ℕ → Result (Option ℕ) (WalkStop E)
+    → List Frame → Settings → S → ℕ → Type 0
 Turned takes table cells left place stack s f c (Ok None) stack' s' f' c' =
-    ((k : Rest) (counts : List ℕ) → left k counts ≡ k counts) × (s' ≡ s) × (f' ≡ f) × (c' ≡ ticked c 1)
+    ((k : Rest) (counts : List ℕ) → left k counts ≡ k counts) × (s' ≡ s) × (f' ≡ f)
+    × (c' ≡ ticked c 1)
 Turned takes table cells left place stack s f c (Ok (Some next)) stack' s' f' c' =
-    (left' : Rest → Rest) × Stands cells next stack' left' × Came takes table left left' s f c s' f' c'
+    (left' : Rest → Rest) × Stands cells next stack' left'
+    × Came takes table left left' s f c s' f' c'
     × (weight cells next stack' < weight cells place stack)
-Turned takes table cells left place stack s f c (Err why) stack' s' f' c' = StopsIn takes table left s f c why f' c'
+Turned takes table cells left place stack s f c (Err why) stack' s' f' c' =
+    StopsIn takes table left s f c why f' c'

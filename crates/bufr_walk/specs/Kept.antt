@@ -16,12 +16,15 @@ use Rattle.bufr_walk.specs.Outcome.{Read, course_of, IsRead}
 
 -- one entry for each item of compressed data, which stands at the entry's place
 abbrev pub AreKept : Data → List KeptItem → List (Item (List Content)) → Type 0
-AreKept d entries items = (items_at d.bits d.subsets entries ≡ items) × (list_all (stands_at d.bits d.subsets) entries ≡ true)
+AreKept d entries items =
+    (items_at d.bits d.subsets entries ≡ items)
+    × (list_all (stands_at d.bits d.subsets) entries ≡ true)
 
 -- compressed data were read, and each item is kept
 abbrev pub IsReadAndKept : Course → Data → List KeptItem → (used steps : ℕ) → Type 0
 IsReadAndKept course d entries used steps =
-    (items : List (Item (List Content))) × IsRead course d (together items) used steps × AreKept d entries items
+    (items : List (Item (List Content))) × IsRead course d (together items) used steps
+    × AreKept d entries items
 
 -- what one subset, counted from 0, has of a kept item
 abbrev pub content_kept : (bits : List Bool) (subsets : ℕ) → KeptItem → (subset : ℕ) → Content
@@ -57,7 +60,8 @@ items_in (items ∷ subsets) = length items + items_in subsets
 -- data that are not compressed were read, and each item took at least a bit
 abbrev pub IsReadAndPaid : Course → Data → (used steps : ℕ) → Type 0
 IsReadAndPaid course d used steps =
-    (subsets : List (List (Item Content))) × IsRead course d (apart subsets) used steps × (items_in subsets ≤ used)
+    (subsets : List (List (Item Content))) × IsRead course d (apart subsets) used steps
+    × (items_in subsets ≤ used)
 
 -- an item of one subset takes at least a bit
 abbrev pub PaysBits : Values → (used : ℕ) → Type 0

@@ -27,9 +27,9 @@ pub mod Outcome
 -- what a visitor is told, call by call
 pub mod Calls
 -- an item view as a clause sees it
-pub mod Seen
+pub mod ViewModel
 -- the calls of a showing, up to its first fault
-pub mod Shows
+pub mod CallsInTurn
 -- what a reading keeps of its items
 pub mod Kept
 -- a walk over fields, each what comes next
@@ -55,4 +55,4 @@ pub mod PackedIn
 -- one pass over data that are not compressed
 pub mod Passes
 -- fields that are read and shown at once
-pub mod Shown
+pub mod ShowSteps

@@ -15,7 +15,8 @@ use Rattle.bufr_walk.specs.Ticks.{ticked}
 
 -- the data that octets hold
 abbrev pub data_in : (compressed : Bool) → (subsets : ℕ) → (octets : List ℕ) → Data
-data_in compressed subsets octets = record { compressed = compressed; subsets = subsets; bits = bits_of octets }
+data_in compressed subsets octets =
+    record { compressed = compressed; subsets = subsets; bits = bits_of octets }
 
 -- the data of a message
 abbrev pub data_of : Sections → Data
@@ -31,16 +32,20 @@ pub record Read : Type 0 where
   pub held : ℕ
 
 abbrev pub read_by : List Row → Tree → Data → (bits held : ℕ) → Read
-read_by table template source bits held = record { table = table; template = template; source = source; bits = bits; held = held }
+read_by table template source bits held =
+    record { table = table; template = template; source = source; bits = bits; held = held }
 
 -- what comes next in its template
 abbrev pub course_of : Read → Course
 course_of r = next_item r.table r.template
 
 -- a refusal, with the subset from 1 on, and 0 where the data are compressed
-abbrev pub IsStopped : Bool → (subsets : ℕ) → Course → List Bool → Stop → (subset before turns : ℕ) → Type 0
-IsStopped false subsets course bits stop subset before turns = IsPlainRefused subsets course bits stop subset before turns
-IsStopped true subsets course bits stop subset before turns = (subset ≡ 0) × IsPackedRefused subsets course bits stop before turns
+abbrev pub IsStopped : Bool → (subsets : ℕ) → Course → List Bool → Stop
+    → (subset before turns : ℕ) → Type 0
+IsStopped false subsets course bits stop subset before turns =
+    IsPlainRefused subsets course bits stop subset before turns
+IsStopped true subsets course bits stop subset before turns =
+    (subset ≡ 0) × IsPackedRefused subsets course bits stop before turns
 
 abbrev pub IsShort : Bool → (subsets : ℕ) → Course → List Bool → (turns : ℕ) → Type 0
 IsShort false subsets course bits turns = IsPlainShort subsets course bits turns
@@ -56,14 +61,17 @@ pub record IsRefused (course : Course) (d : Data) (why : WalkFault) (turns : ℕ
 
 -- a fault, and the steps that were made; want of memory is the only freedom
 abbrev pub IsFault : Course → Data → WalkFault → (steps : ℕ) → Type 0
-IsFault course d fault.Memory steps = (turns : ℕ) × IsShort d.compressed d.subsets course d.bits turns × (steps ≡ ticked 0 turns)
+IsFault course d fault.Memory steps =
+    (turns : ℕ) × IsShort d.compressed d.subsets course d.bits turns × (steps ≡ ticked 0 turns)
 IsFault course d why steps = (turns : ℕ) × IsRefused course d why turns × (steps ≡ ticked 0 turns)
 
 -- the items, the bits that they take, and the steps that were made
 abbrev pub IsRead : Course → Data → Values → (used steps : ℕ) → Type 0
-IsRead course d values used steps = IsReading course d values used × (steps ≡ ticked 0 (turns_read course d values))
+IsRead course d values used steps =
+    IsReading course d values used × (steps ≡ ticked 0 (turns_read course d values))
 
 -- a reading of these data by this template
 abbrev pub IsReadingOf : List Row → Tree → Data → Read → (steps : ℕ) → Type 0
 IsReadingOf table template d r steps =
-    (r.table ≡ table) × (r.template ≡ template) × (r.source ≡ d) × (values : Values) × IsRead (next_item table template) d values r.bits steps
+    (r.table ≡ table) × (r.template ≡ template) × (r.source ≡ d) × (values : Values)
+    × IsRead (next_item table template) d values r.bits steps

@@ -30,7 +30,8 @@ stays_within m width base k i = (m && (i == ones k)) || not (nat_lt (ones width)
 
 -- the same of all increments
 abbrev pub all_within : (may_be_missing : Bool) (width base k subsets : ℕ) → List Bool → Bool
-all_within m width base k n bits = list_all (λ i. stays_within m width base k (number_of i)) (increments n k bits)
+all_within m width base k n bits =
+    list_all (λ i. stays_within m width base k (number_of i)) (increments n k bits)
 
 -- whether all increments of k bits are the same number
 abbrev pub all_equal : (k subsets first : ℕ) → List Bool → Bool
@@ -39,7 +40,8 @@ all_equal k n first bits = list_all (λ i. number_of i == first) (increments n k
 -- the number that a base and an increment give, where their sum stays within the width
 abbrev pub increased_to : (may_be_missing : Bool) (width base k increment : ℕ) → Content
 increased_to m width base k i =
-    if m && (i == ones k) then missing else if m && (base + i == ones width) then missing else number (base + i)
+    if m && (i == ones k) then missing else if m && (base + i == ones width) then missing
+    else number (base + i)
 
 -- whether the increments of numbers can be
 abbrev pub numbers_hold : Asked → (k subsets : ℕ) → (base behind : List Bool) → Bool
@@ -76,19 +78,24 @@ kind_step kind.Numeric k = k
 -- an item with this base, k and bits behind them has contents, and tells this
 pub record IsTold (spec : Asked) (k n : ℕ) (base behind : List Bool) (t : Taken) : Type 0 where
   pub contents : List Content
-  pub are : contents_of spec k base (increments n (step_of spec.role spec.kind k) behind) ≡ Ok contents
+  pub are : contents_of spec k base
+      (increments n (step_of spec.role spec.kind k) behind) ≡ Ok contents
   pub tells : t ≡ told_first spec contents
 
 -- or it is at fault
-pub record IsWrong (spec : Asked) (k n : ℕ) (base behind : List Bool) (e : PackedFault) : Type 0 where
+pub record IsWrong (spec : Asked) (k n : ℕ) (base behind : List Bool)
+    (e : PackedFault) : Type 0 where
   pub why : FieldFault
   pub is : contents_of spec k base (increments n (step_of spec.role spec.kind k) behind) ≡ Err why
   pub fault : e ≡ wrong_of spec.fxy why
 
 -- what an item tells whose base begins with a bit and whose k is known, or how it is at fault
-abbrev pub TellsAt : (bits : List Bool) (at subsets : ℕ) → Asked → (k : ℕ) → Result Taken PackedFault → Type 0
-TellsAt bits at n spec k (Ok t) = IsTold spec k n (take spec.width (drop at bits)) (drop (at + (spec.width + 6)) bits) t
-TellsAt bits at n spec k (Err e) = IsWrong spec k n (take spec.width (drop at bits)) (drop (at + (spec.width + 6)) bits) e
+abbrev pub TellsAt : (bits : List Bool) (at subsets : ℕ) → Asked → (k : ℕ)
+    → Result Taken PackedFault → Type 0
+TellsAt bits at n spec k (Ok t) =
+    IsTold spec k n (take spec.width (drop at bits)) (drop (at + (spec.width + 6)) bits) t
+TellsAt bits at n spec k (Err e) =
+    IsWrong spec k n (take spec.width (drop at bits)) (drop (at + (spec.width + 6)) bits) e
 
 -- whether a role tells nothing
 abbrev pub is_plain_role : Role → Bool
@@ -124,6 +131,7 @@ pub record IsLooked (s : PackedCursor) (spec : Asked) (found_there : PackedItem)
 
 -- or it is at fault, or there would be too many values
 abbrev pub IsUnlooked : PackedCursor → Asked → PackedFault → Type 0
-IsUnlooked s spec (wrong.TooManyValues fxy) = (fxy ≡ spec.fxy) × (most_values < (length s.items + 1) * s.subsets)
+IsUnlooked s spec (wrong.TooManyValues fxy) =
+    (fxy ≡ spec.fxy) × (most_values < (length s.items + 1) * s.subsets)
 IsUnlooked s spec wrong.Memory = ⊥
 IsUnlooked s spec e = IsPackedWrong s spec e

@@ -57,18 +57,21 @@ items_at bits n (e ∷ kept) = item_at bits n e ∷ items_at bits n kept
 -- whether an item stands at an entry's place, with the entry's k
 abbrev pub stands_at : (bits : List Bool) (subsets : ℕ) → KeptItem → Bool
 stands_at bits n e =
-    was_found (packed_field n e.spec (drop e.at bits)) && (e.step == number_of (take 6 (drop (e.at + e.spec.width) bits)))
+    was_found (packed_field n e.spec (drop e.at bits))
+    && (e.step == number_of (take 6 (drop (e.at + e.spec.width) bits)))
 
 -- what a reader with these entries is
 abbrev pub packed_view : (bits : List Bool) (at subsets : ℕ) → List KeptItem → PackedCursor
-packed_view bits at n kept = record { bits = bits; at = at; subsets = n; items = items_at bits n kept }
+packed_view bits at n kept =
+    record { bits = bits; at = at; subsets = n; items = items_at bits n kept }
 
 -- the room for entries, once room was made for the last of them
 abbrev pub room_for : (entries : ℕ) → ℕ
 room_for entries = (entries + (items_at_once - 1)) / items_at_once * items_at_once
 
 -- what the reader keeps: each item has at least a bit and the six of its k
-pub record IsPackedIn (bits : List Bool) (at subsets : ℕ) (kept : List KeptItem) (room : ℕ) : Type 0 where
+pub record IsPackedIn (bits : List Bool) (at subsets : ℕ) (kept : List KeptItem)
+    (room : ℕ) : Type 0 where
   pub within : at ≤ length bits
   pub some : 1 ≤ subsets
   pub few : length kept * subsets ≤ most_values
@@ -83,7 +86,8 @@ wrong_of fxy increment = wrong.Increment fxy
 wrong_of fxy unequal_factor = wrong.UnequalFactor fxy
 
 -- an item was found at the front of the rest, and told what it holds
-pub record IsPackedTaken (s : PackedCursor) (spec : Asked) (t : Taken) (s' : PackedCursor) : Type 0 where
+pub record IsPackedTaken (s : PackedCursor) (spec : Asked) (t : Taken)
+    (s' : PackedCursor) : Type 0 where
   pub contents : List Content
   pub few : (length s.items + 1) * s.subsets ≤ most_values
   pub field : packed_field s.subsets spec (packed_rest s) ≡ Ok (found contents (packed_rest s'))
@@ -104,12 +108,14 @@ pub record IsPackedWrong (s : PackedCursor) (spec : Asked) (e : PackedFault) : T
 -- memory for so many items more ran out; then nothing is changed.
 abbrev pub PackedTakes : PackedCursor → Asked → Result Taken PackedFault → PackedCursor → Type 0
 PackedTakes s spec (Ok t) s' = IsPackedTaken s spec t s'
-PackedTakes s spec (Err (wrong.TooManyValues fxy)) s' = (fxy ≡ spec.fxy) × (most_values < (length s.items + 1) * s.subsets) × (s' ≡ s)
+PackedTakes s spec (Err (wrong.TooManyValues fxy)) s' =
+    (fxy ≡ spec.fxy) × (most_values < (length s.items + 1) * s.subsets) × (s' ≡ s)
 PackedTakes s spec (Err wrong.Memory) s' = (s' ≡ s) × (length s.items % items_at_once ≡ 0)
 PackedTakes s spec (Err e) s' = IsPackedWrong s spec e × (s' ≡ s)
 
 -- a refusal changes nothing
-pub refuses_packed : (s : PackedCursor) (spec : Asked) (e : PackedFault) (s' : PackedCursor) → PackedTakes s spec (Err e) s' → s' ≡ s
+pub refuses_packed : (s : PackedCursor) (spec : Asked) (e : PackedFault) (s' : PackedCursor)
+    → PackedTakes s spec (Err e) s' → s' ≡ s
 refuses_packed s spec (wrong.TooManyValues fxy) s' h = h.2
 refuses_packed s spec wrong.Memory s' h = h.0
 refuses_packed s spec (wrong.DataEnd fxy) s' h = h.1

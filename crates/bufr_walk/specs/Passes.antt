@@ -15,7 +15,8 @@ use Rattle.bufr_walk.specs.Refusal.{Stop, stop_at}
 use Rattle.bufr_walk.specs.Ticks.{ticked}
 
 -- items were read up to what comes next, in so many turns
-pub record PassComes (course : Course) (s : Cursor) (steps : ℕ) (next : Next) (s' : Cursor) (steps' : ℕ) : Type 0 where
+pub record PassComes (course : Course) (s : Cursor) (steps : ℕ) (next : Next) (s' : Cursor)
+    (steps' : ℕ) : Type 0 where
   pub items : List (Item Content)
   pub reads : Reads plain course items (rest_of s) (rest_of s')
   pub next_is : next ≡ next_after plain course items
@@ -28,14 +29,18 @@ abbrev pub PassReads : Course → Cursor → (steps : ℕ) → Cursor → (steps
 PassReads course s steps s' steps' = PassComes course s steps at_end s' steps'
 
 -- what comes next cannot be read, or, where it is a reference, cannot be kept
-abbrev pub PassStops : Course → Cursor → (steps subset : ℕ) → WalkFault → Cursor → (steps' : ℕ) → Type 0
+abbrev pub PassStops : Course → Cursor → (steps subset : ℕ) → WalkFault → Cursor
+    → (steps' : ℕ) → Type 0
 PassStops course s steps subset fault.Memory s' steps' =
-    (spec : Asked) × PassComes course s steps (take_next spec) s' steps' × (spec.role ≡ role.Reference)
+    (spec : Asked) × PassComes course s steps (take_next spec) s' steps'
+    × (spec.role ≡ role.Reference)
 PassStops course s steps subset why s' steps' =
-    (next : Next) × (stop : Stop) × PassComes course s steps next s' steps' × (stop_at plain false next (rest_of s') ≡ Some stop) × (why ≡ fault_of stop subset s'.at)
+    (next : Next) × (stop : Stop) × PassComes course s steps next s' steps'
+    × (stop_at plain false next (rest_of s') ≡ Some stop) × (why ≡ fault_of stop subset s'.at)
 
 -- so many subsets were read, within a bound of n turns a bit
-pub record SubsetsRead (n : ℕ) (course : Course) (bits : List Bool) (count : ℕ) (s : Cursor) (steps : ℕ) : Type 0 where
+pub record SubsetsRead (n : ℕ) (course : Course) (bits : List Bool) (count : ℕ) (s : Cursor)
+    (steps : ℕ) : Type 0 where
   pub subsets : List (List (Item Content))
   pub whole : ReadsSubsets course subsets bits (rest_of s)
   pub count_is : length subsets ≡ count

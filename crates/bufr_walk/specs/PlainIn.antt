@@ -36,7 +36,8 @@ pub record IsTaken (s : Cursor) (spec : Asked) (t : Taken) (s' : Cursor) : Type 
 -- one call: a field was read, or the bits end in it
 abbrev pub PlainTakes : Cursor → Asked → Result Taken DataEnd → Cursor → Type 0
 PlainTakes s spec (Ok t) s' = IsTaken s spec t s'
-PlainTakes s spec (Err e) s' = (plain_field spec (rest_of s) ≡ Err data_end) × (e.fxy ≡ spec.fxy) × (s' ≡ s)
+PlainTakes s spec (Err e) s' =
+    (plain_field spec (rest_of s) ≡ Err data_end) × (e.fxy ≡ spec.fxy) × (s' ≡ s)
 
 -- the fault that a walk's stop is, in a subset, behind so many bits
 abbrev pub fault_at : WalkStop DataEnd → (subset bit : ℕ) → WalkFault

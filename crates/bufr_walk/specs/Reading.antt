@@ -36,10 +36,13 @@ abbrev pub after : {C : Type 0} → Form C → Course → Item C → Course
 after form course i told = course (tells_of form i ∷ told)
 
 -- each item is what the field that comes next holds, at the bits behind the one before
-abbrev pub Reads : {C : Type 0} → Form C → Course → List (Item C) → (bits behind : List Bool) → Type 0
+abbrev pub Reads : {C : Type 0} → Form C → Course → List (Item C)
+    → (bits behind : List Bool) → Type 0
 Reads form course [] bits behind = bits ≡ behind
 Reads form course (i ∷ items) bits behind =
-    (mid : List Bool) × ((course []).next ≡ take_next i.spec) × (form.field i.spec bits ≡ Ok (found i.content mid)) × Reads form (after form course i) items mid behind
+    (mid : List Bool) × ((course []).next ≡ take_next i.spec)
+    × (form.field i.spec bits ≡ Ok (found i.content mid))
+    × Reads form (after form course i) items mid behind
 
 -- what comes after items
 abbrev pub next_after : {C : Type 0} → Form C → Course → List (Item C) → Next
@@ -47,8 +50,10 @@ next_after form course [] = (course []).next
 next_after form course (i ∷ items) = next_after form (after form course i) items
 
 -- one pass over a template, to its end
-abbrev pub ReadsAll : {C : Type 0} → Form C → Course → List (Item C) → (bits behind : List Bool) → Type 0
-ReadsAll form course items bits behind = Reads form course items bits behind × (next_after form course items ≡ at_end)
+abbrev pub ReadsAll : {C : Type 0} → Form C → Course → List (Item C)
+    → (bits behind : List Bool) → Type 0
+ReadsAll form course items bits behind =
+    Reads form course items bits behind × (next_after form course items ≡ at_end)
 
 -- the turns of a pass with these items, up to what comes after them
 abbrev pub turns_after : {C : Type 0} → Form C → Course → List (Item C) → ℕ
@@ -64,7 +69,8 @@ turns_in course (items ∷ subsets) = turns_after plain course items + turns_in 
 abbrev pub ReadsSubsets : Course → List (List (Item Content)) → (bits behind : List Bool) → Type 0
 ReadsSubsets course [] bits behind = bits ≡ behind
 ReadsSubsets course (items ∷ subsets) bits behind =
-    (mid : List Bool) × ReadsAll plain course items bits mid × ReadsSubsets course subsets mid behind
+    (mid : List Bool) × ReadsAll plain course items bits mid
+    × ReadsSubsets course subsets mid behind
 
 -- the most values of a compressed message
 abbrev pub most_values : ℕ
@@ -75,13 +81,17 @@ abbrev pub items_at_once : ℕ
 items_at_once = 64
 
 -- compressed data: one pass for all subsets; with no subset nothing is read
-abbrev pub IsPackedReading : (subsets : ℕ) → Course → List (Item (List Content)) → (bits behind : List Bool) → Type 0
+abbrev pub IsPackedReading : (subsets : ℕ) → Course → List (Item (List Content))
+    → (bits behind : List Bool) → Type 0
 IsPackedReading zero course items bits behind = (items ≡ []) × (bits ≡ behind)
-IsPackedReading (suc n) course items bits behind = ReadsAll (packed (suc n)) course items bits behind × (length items * suc n ≤ most_values)
+IsPackedReading (suc n) course items bits behind =
+    ReadsAll (packed (suc n)) course items bits behind × (length items * suc n ≤ most_values)
 
 -- data that are not compressed: as many subsets as there are
-abbrev pub IsPlainReading : (subsets : ℕ) → Course → List (List (Item Content)) → (bits behind : List Bool) → Type 0
-IsPlainReading n course subsets bits behind = ReadsSubsets course subsets bits behind × (length subsets ≡ n)
+abbrev pub IsPlainReading : (subsets : ℕ) → Course → List (List (Item Content))
+    → (bits behind : List Bool) → Type 0
+IsPlainReading n course subsets bits behind =
+    ReadsSubsets course subsets bits behind × (length subsets ≡ n)
 
 -- what is read: so many subsets, compressed or not, and the bits that hold them
 pub record Data : Type 0 where
@@ -104,9 +114,11 @@ items_kept (together items) = length items
 -- the items of the data, and how many bits they take
 abbrev pub IsReading : Course → Data → Values → (used : ℕ) → Type 0
 IsReading course d (apart subsets) used =
-    (d.compressed ≡ false) × (used ≤ length d.bits) × IsPlainReading d.subsets course subsets d.bits (drop used d.bits)
+    (d.compressed ≡ false) × (used ≤ length d.bits)
+    × IsPlainReading d.subsets course subsets d.bits (drop used d.bits)
 IsReading course d (together items) used =
-    (d.compressed ≡ true) × (used ≤ length d.bits) × IsPackedReading d.subsets course items d.bits (drop used d.bits)
+    (d.compressed ≡ true) × (used ≤ length d.bits)
+    × IsPackedReading d.subsets course items d.bits (drop used d.bits)
 
 -- the turns of one pass for so many subsets; with none there is no pass
 abbrev pub turns_together : (subsets : ℕ) → Course → List (Item (List Content)) → ℕ

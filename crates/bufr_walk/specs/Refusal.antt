@@ -30,7 +30,8 @@ stop_at form many _ bits = None
 
 -- data that are not compressed were read up to what comes next: in a subset, counted from 1, behind
 -- so many bits, by so many turns
-pub record ComesTo (subsets : ℕ) (course : Course) (bits : List Bool) (subset before turns : ℕ) (next : Next) (left : List Bool) : Type 0 where
+pub record ComesTo (subsets : ℕ) (course : Course) (bits : List Bool) (subset before turns : ℕ)
+    (next : Next) (left : List Bool) : Type 0 where
   pub done : List (List (Item Content))
   pub items : List (Item Content)
   pub mid : List Bool
@@ -43,7 +44,8 @@ pub record ComesTo (subsets : ℕ) (course : Course) (bits : List Bool) (subset 
   pub turns_are : turns ≡ turns_in course done + turns_after plain course items
 
 -- compressed data were read up to what comes behind so many items
-pub record ComesToTogether (subsets : ℕ) (course : Course) (bits : List Bool) (items_before before turns : ℕ) (next : Next) (left : List Bool) : Type 0 where
+pub record ComesToTogether (subsets : ℕ) (course : Course) (bits : List Bool)
+    (items_before before turns : ℕ) (next : Next) (left : List Bool) : Type 0 where
   pub items : List (Item (List Content))
   pub some : 1 ≤ subsets
   pub reads : Reads (packed subsets) course items bits left
@@ -54,9 +56,11 @@ pub record ComesToTogether (subsets : ℕ) (course : Course) (bits : List Bool) 
   pub turns_are : turns ≡ turns_after (packed subsets) course items
 
 -- data that are not compressed are refused in a subset, behind so many bits, in so many turns
-abbrev pub IsPlainRefused : (subsets : ℕ) → Course → List Bool → Stop → (subset before turns : ℕ) → Type 0
+abbrev pub IsPlainRefused : (subsets : ℕ) → Course → List Bool → Stop
+    → (subset before turns : ℕ) → Type 0
 IsPlainRefused subsets course bits stop subset before turns =
-    (next : Next) × (left : List Bool) × ComesTo subsets course bits subset before turns next left × (stop_at plain false next left ≡ Some stop)
+    (next : Next) × (left : List Bool) × ComesTo subsets course bits subset before turns next left
+    × (stop_at plain false next left ≡ Some stop)
 
 -- whether the values would be too many with one item more
 abbrev pub would_be_many : (subsets items_before : ℕ) → Bool
@@ -65,16 +69,19 @@ would_be_many subsets items_before = nat_lt most_values ((items_before + 1) * su
 -- compressed data are refused behind so many bits, in so many turns
 abbrev pub IsPackedRefused : (subsets : ℕ) → Course → List Bool → Stop → (before turns : ℕ) → Type 0
 IsPackedRefused subsets course bits stop before turns =
-    (items_before : ℕ) × (next : Next) × (left : List Bool) × ComesToTogether subsets course bits items_before before turns next left
+    (items_before : ℕ) × (next : Next) × (left : List Bool)
+    × ComesToTogether subsets course bits items_before before turns next left
     × (stop_at (packed subsets) (would_be_many subsets items_before) next left ≡ Some stop)
 
 -- memory may run out at a reference that has to be kept, within so many turns
 abbrev pub IsPlainShort : (subsets : ℕ) → Course → List Bool → (turns : ℕ) → Type 0
 IsPlainShort subsets course bits turns =
-    (spec : Asked) × (left : List Bool) × (subset : ℕ) × (before : ℕ) × ComesTo subsets course bits subset before turns (take_next spec) left × (spec.role ≡ role.Reference)
+    (spec : Asked) × (left : List Bool) × (subset : ℕ) × (before : ℕ) × ComesTo subsets course bits
+    subset before turns (take_next spec) left × (spec.role ≡ role.Reference)
 
 -- of compressed data also at an item for which room has to be made, one of 64
 abbrev pub IsPackedShort : (subsets : ℕ) → Course → List Bool → (turns : ℕ) → Type 0
 IsPackedShort subsets course bits turns =
-    (spec : Asked) × (left : List Bool) × (items_before : ℕ) × (before : ℕ) × ComesToTogether subsets course bits items_before before turns (take_next spec) left
+    (spec : Asked) × (left : List Bool) × (items_before : ℕ) × (before : ℕ)
+    × ComesToTogether subsets course bits items_before before turns (take_next spec) left
     × ((items_before % items_at_once ≡ 0) ⊎ (spec.role ≡ role.Reference))

@@ -63,7 +63,16 @@ figure s row = record {
 -- text of so many octets
 abbrev pub text_of : Role → (fxy width : ℕ) → Bool → Asked
 text_of r fxy width listed =
-    record { fxy = fxy; role = r; kind = kind.Character; width = width; scale = pos 0; reference = pos 0; may_be_missing = true; listed = listed }
+    record {
+      fxy = fxy;
+      role = r;
+      kind = kind.Character;
+      width = width;
+      scale = pos 0;
+      reference = pos 0;
+      may_be_missing = true;
+      listed = listed;
+    }
 
 -- the width of a text element
 abbrev pub text_width : Settings → ℕ → ℕ
@@ -77,7 +86,17 @@ by_kind kind.Character s row = Ok (text_of role.Element row.fxy (text_width s ro
 
 -- a reference that is being defined
 abbrev pub defined_field : Settings → ℕ → Asked
-defined_field s fxy = record { fxy = fxy; role = role.Reference; kind = kind.Numeric; width = s.defining; scale = pos 0; reference = pos 0; may_be_missing = false; listed = false }
+defined_field s fxy =
+    record {
+      fxy = fxy;
+      role = role.Reference;
+      kind = kind.Numeric;
+      width = s.defining;
+      scale = pos 0;
+      reference = pos 0;
+      may_be_missing = false;
+      listed = false;
+    }
 
 -- an element whose reference is being defined: no text
 abbrev pub defined_by : Kind → Settings → ℕ → Result Asked Refusal
@@ -86,41 +105,76 @@ defined_by _ s fxy = fitting (defined_field s fxy)
 
 -- an unsigned number of a given width
 abbrev pub unsigned_field : (fxy width : ℕ) → Asked
-unsigned_field fxy width = record { fxy = fxy; role = role.Element; kind = kind.Numeric; width = width; scale = pos 0; reference = pos 0; may_be_missing = not (is_never_missing fxy); listed = false }
+unsigned_field fxy width =
+    record {
+      fxy = fxy;
+      role = role.Element;
+      kind = kind.Numeric;
+      width = width;
+      scale = pos 0;
+      reference = pos 0;
+      may_be_missing = not (is_never_missing fxy);
+      listed = false;
+    }
 
 abbrev pub unsigned_of : (fxy width : ℕ) → Result Asked Refusal
 unsigned_of fxy width = fitting (unsigned_field fxy width)
 
 -- no operator
 abbrev pub untouched : Settings → Settings
-untouched s = record { widened = 0; rescaled = 0; defining = 0; refined = 0; lettered = 0; given = 0; redefined = List.[] }
+untouched s =
+    record {
+      widened = 0;
+      rescaled = 0;
+      defining = 0;
+      refined = 0;
+      lettered = 0;
+      given = 0;
+      redefined = List.[];
+    }
 
 -- an element whose width is given: by its row alone where Table B has it with that width
 abbrev pub given_by : Option Row → Settings → ℕ → Result Asked Refusal
 given_by None s fxy = unsigned_of fxy s.given
-given_by (Some row) s fxy = if row.width == s.given then by_kind row.kind (untouched s) row else unsigned_of fxy s.given
+given_by (Some row) s fxy =
+    if row.width == s.given then by_kind row.kind (untouched s) row else unsigned_of fxy s.given
 
 -- an element by its row; a template's elements have one
 abbrev pub listed_by : Option Row → Settings → ℕ → Result Asked Refusal
 listed_by None s fxy = Err (refusal.Width fxy)
-listed_by (Some row) s fxy = if is_defining s then defined_by row.kind s fxy else by_kind row.kind s row
+listed_by (Some row) s fxy =
+    if is_defining s then defined_by row.kind s fxy else by_kind row.kind s row
 
 -- an element
 abbrev pub element_spec : List Row → Settings → ℕ → Result Asked Refusal
 element_spec table s fxy =
-    if nat_lt 0 s.given then given_by (entry_of table fxy) s fxy else listed_by (entry_of table fxy) s fxy
+    if nat_lt 0 s.given then given_by (entry_of table fxy) s fxy
+    else listed_by (entry_of table fxy) s fxy
 
 -- the factor of a delayed replication, by its row alone
 abbrev pub factor_field : Row → ℕ → Asked
-factor_field row fxy = record { fxy = fxy; role = role.Factor; kind = kind.Numeric; width = row.width; scale = row.scale; reference = row.reference; may_be_missing = false; listed = true }
+factor_field row fxy =
+    record {
+      fxy = fxy;
+      role = role.Factor;
+      kind = kind.Numeric;
+      width = row.width;
+      scale = row.scale;
+      reference = row.reference;
+      may_be_missing = false;
+      listed = true;
+    }
 
 abbrev pub factor_by : Option Row → ℕ → Result Asked Refusal
 factor_by None fxy = Err (refusal.Width fxy)
 factor_by (Some row) fxy = fitting (factor_field row fxy)
 
 abbrev pub factor_spec : List Row → Settings → ℕ → Result Asked Refusal
-factor_spec table s fxy = if is_defining s then Err (refusal.Defining fxy) else factor_by (entry_of table fxy) fxy
+factor_spec table s fxy =
+    if is_defining s then Err (refusal.Defining fxy) else factor_by (entry_of table fxy) fxy
 
 -- a text that stands in the template, 2 05 Y
 abbrev pub inserted_spec : Settings → ℕ → Result Asked Refusal
-inserted_spec s fxy = if is_defining s then Err (refusal.Defining fxy) else Ok (text_of role.Inserted fxy (8 * y_of fxy) false)
+inserted_spec s fxy =
+    if is_defining s then Err (refusal.Defining fxy)
+    else Ok (text_of role.Inserted fxy (8 * y_of fxy) false)

@@ -31,7 +31,16 @@ pub record Settings : Type 0 where
 
 -- nothing is set, as at the beginning of each subset
 abbrev pub begin : Settings
-begin = record { widened = 0; rescaled = 0; defining = 0; refined = 0; lettered = 0; given = 0; redefined = [] }
+begin =
+    record {
+      widened = 0;
+      rescaled = 0;
+      defining = 0;
+      refined = 0;
+      lettered = 0;
+      given = 0;
+      redefined = [];
+    }
 
 -- whether references are being defined
 abbrev pub is_defining : Settings → Bool
@@ -74,9 +83,11 @@ with_reference fxy reference (r ∷ more) =
 abbrev pub after_field : Settings → ℕ → Taken → Settings
 after_field s fxy taken.Plain = record s { given = 0 }
 after_field s fxy (taken.Count n) = record s { given = 0 }
-after_field s fxy (taken.Reference r) = record s { given = 0; redefined = with_reference fxy r s.redefined }
+after_field s fxy (taken.Reference r) =
+    record s { given = 0; redefined = with_reference fxy r s.redefined }
 
 -- the reference of an element: that which the data gave it, or that of Table B
 abbrev pub current_reference : List Redefined → ℕ → ℤ → ℤ
 current_reference [] fxy listed = listed
-current_reference (r ∷ more) fxy listed = if r.fxy == fxy then r.reference else current_reference more fxy listed
+current_reference (r ∷ more) fxy listed =
+    if r.fxy == fxy then r.reference else current_reference more fxy listed

@@ -11,10 +11,12 @@ pub record Turn : Type 0 where
   pub taken : Taken
 
 -- a walk's fields, each what comes next after those before it
-abbrev pub Takes : {S : Type 0} → (S → Asked → Taken → S → Type 0) → Course → S → List Turn → S → Type 0
+abbrev pub Takes : {S : Type 0} → (S → Asked → Taken → S → Type 0) → Course → S
+    → List Turn → S → Type 0
 Takes takes course s [] s' = s' ≡ s
 Takes {S} takes course s (i ∷ items) s' =
-    (mid : S) × ((course []).next ≡ take_next i.spec) × takes s i.spec i.taken mid × Takes takes (λ told. course (i.taken ∷ told)) mid items s'
+    (mid : S) × ((course []).next ≡ take_next i.spec) × takes s i.spec i.taken mid
+    × Takes takes (λ told. course (i.taken ∷ told)) mid items s'
 
 -- a course after some fields
 abbrev pub course_after : Course → List Turn → Course

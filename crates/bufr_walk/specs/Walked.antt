@@ -12,7 +12,8 @@ use Rattle.bufr_walk.specs.Stop.{stop_by}
 use Rattle.bufr_walk.specs.Ticks.{ticked}
 
 -- a field that was taken
-abbrev pub oks : {S E : Type 0} → (S → Asked → Result Taken E → S → Type 0) → S → Asked → Taken → S → Type 0
+abbrev pub oks : {S E : Type 0} → (S → Asked → Result Taken E → S → Type 0) → S → Asked
+    → Taken → S → Type 0
 oks takes s spec t s' = takes s spec (Ok t) s'
 
 -- what items told
@@ -21,7 +22,8 @@ told_by [] = []
 told_by (i ∷ items) = i.taken ∷ told_by items
 
 -- what stopped a walk where this comes next; memory may run out before a reference is taken
-abbrev pub StopsAt : {S E : Type 0} → (S → Asked → Result Taken E → S → Type 0) → Next → S → WalkStop E → S → Type 0
+abbrev pub StopsAt : {S E : Type 0} → (S → Asked → Result Taken E → S → Type 0) → Next → S
+    → WalkStop E → S → Type 0
 StopsAt takes (take_next spec) s (stops.Field e) s' = takes s spec (Err e) s'
 StopsAt takes (take_next spec) s stops.Memory s' = (spec.role ≡ role.Reference) × (s' ≡ s)
 StopsAt takes (refused why) s w s' = (w ≡ stop_by why) × (s' ≡ s)
@@ -29,8 +31,11 @@ StopsAt takes _ s _ s' = ⊥
 
 -- A whole walk: each item is what comes next after those before it. At Ok nothing comes after them;
 -- else what comes after them is what stopped it. The steps are the turns up to there.
-abbrev pub Walked : {S E : Type 0} → (S → Asked → Result Taken E → S → Type 0) → Course → S → ℕ → Result (Unit {0}) (WalkStop E) → S → ℕ → Type 0
+abbrev pub Walked : {S E : Type 0} → (S → Asked → Result Taken E → S → Type 0) → Course → S → ℕ
+    → Result (Unit {0}) (WalkStop E) → S → ℕ → Type 0
 Walked takes n s steps (Ok _) s' steps' =
-    (items : List Turn) × Takes (oks takes) n s items s' × ((n (told_by items)).next ≡ at_end) × (steps' ≡ ticked steps (n (told_by items)).turns)
+    (items : List Turn) × Takes (oks takes) n s items s' × ((n (told_by items)).next ≡ at_end)
+    × (steps' ≡ ticked steps (n (told_by items)).turns)
 Walked {S} takes n s steps (Err why) s' steps' =
-    (items : List Turn) × (mid : S) × Takes (oks takes) n s items mid × StopsAt takes (n (told_by items)).next mid why s' × (steps' ≡ ticked steps (n (told_by items)).turns)
+    (items : List Turn) × (mid : S) × Takes (oks takes) n s items mid × StopsAt takes
+    (n (told_by items)).next mid why s' × (steps' ≡ ticked steps (n (told_by items)).turns)

@@ -21,14 +21,16 @@ abbrev pub course : List Row → Rest → Settings → Course
 course table rest s told = ahead table (rest (counts_of told)) s told
 
 -- from one course and state to another, by so many turns
-pub record Goes {S E : Type 0} (takes : S → Asked → Result Taken E → S → Type 0) (n : Course) (s : S) (t : ℕ) (n' : Course) (s' : S) : Type 0 where
+pub record Goes {S E : Type 0} (takes : S → Asked → Result Taken E → S → Type 0) (n : Course)
+    (s : S) (t : ℕ) (n' : Course) (s' : S) : Type 0 where
   pub items : List Turn
   pub taken : Takes (oks takes) n s items s'
   pub leads : (more : List Taken) → n (told_by items ++ more) ≡ later t (n' more)
 
 -- one field that was asked for: it was taken and kept, or refused, or there was no memory to keep
 -- the reference that it would tell
-abbrev pub Took : {S E : Type 0} → (S → Asked → Result Taken E → S → Type 0) → Result Asked Refusal → S → Result Taken (WalkStop E) → S → Type 0
+abbrev pub Took : {S E : Type 0} → (S → Asked → Result Taken E → S → Type 0) → Result Asked Refusal
+    → S → Result Taken (WalkStop E) → S → Type 0
 Took takes (Ok spec) s (Ok t) s' = takes s spec (Ok t) s' × IsFor spec t
 Took takes (Ok spec) s (Err (stops.Field e)) s' = takes s spec (Err e) s'
 Took takes (Ok spec) s (Err stops.Memory) s' = (spec.role ≡ role.Reference) × (s' ≡ s)
@@ -36,7 +38,8 @@ Took takes (Err why) s (Err w) s' = (w ≡ stop_by why) × (s' ≡ s)
 Took takes _ s _ s' = ⊥
 
 -- from a course and state to a stop, by so many turns
-pub record Stops {S E : Type 0} (takes : S → Asked → Result Taken E → S → Type 0) (n : Course) (s : S) (t : ℕ) (stop : WalkStop E) (s' : S) : Type 0 where
+pub record Stops {S E : Type 0} (takes : S → Asked → Result Taken E → S → Type 0) (n : Course)
+    (s : S) (t : ℕ) (stop : WalkStop E) (s' : S) : Type 0 where
   pub items : List Turn
   pub mid : S
   pub taken : Takes (oks takes) n s items mid
@@ -44,13 +47,18 @@ pub record Stops {S E : Type 0} (takes : S → Asked → Result Taken E → S �
   pub turns : (n (told_by items)).turns ≡ t
 
 -- it came from all the turns to those that are left
-pub record Came {S E : Type 0} (takes : S → Asked → Result Taken E → S → Type 0) (table : List Row) (over left : Rest → Rest) (s : Settings) (f : S) (c : ℕ) (s' : Settings) (f' : S) (c' : ℕ) : Type 0 where
+pub record Came {S E : Type 0} (takes : S → Asked → Result Taken E → S → Type 0) (table : List Row)
+    (over left : Rest → Rest) (s : Settings) (f : S) (c : ℕ) (s' : Settings) (f' : S)
+    (c' : ℕ) : Type 0 where
   pub turns : ℕ
   pub ticks : c' ≡ ticked c turns
-  pub way : (rest : Rest) → Goes takes (course table (over rest) s) f turns (course table (left rest) s') f'
+  pub way : (rest : Rest)
+      → Goes takes (course table (over rest) s) f turns (course table (left rest) s') f'
 
 -- it stopped within the turns that were left
-pub record StopsIn {S E : Type 0} (takes : S → Asked → Result Taken E → S → Type 0) (table : List Row) (over : Rest → Rest) (s : Settings) (f : S) (c : ℕ) (why : WalkStop E) (f' : S) (c' : ℕ) : Type 0 where
+pub record StopsIn {S E : Type 0} (takes : S → Asked → Result Taken E → S → Type 0)
+    (table : List Row) (over : Rest → Rest) (s : Settings) (f : S) (c : ℕ) (why : WalkStop E)
+    (f' : S) (c' : ℕ) : Type 0 where
   pub turns : ℕ
   pub ticks : c' ≡ ticked c turns
   pub way : (rest : Rest) → Stops takes (course table (over rest) s) f turns why f'

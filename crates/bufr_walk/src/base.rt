@@ -23,9 +23,12 @@ pub(crate) struct Base {
 pub(crate) fn base_at(bits: &BitSlice<'_>, at: u64, spec: &Spec) -> Option<Base>
     requires number { is_character spec.now.kind ≡ false }
     requires within { at + spec.now.width ≤ 8 * length (octets_of bits.now) }
-    ensures missing { IfNone result (is_missing spec.now (bits_at (octets_of bits.now) at spec.now.width) ≡ true) }
-    ensures there { OnSome result (is_missing spec.now (bits_at (octets_of bits.now) at spec.now.width) ≡ false) }
-    ensures value { IfSome result (λ b. b.value ≡ number_of (bits_at (octets_of bits.now) at spec.now.width)) }
+    ensures missing { IfNone result
+        (is_missing spec.now (bits_at (octets_of bits.now) at spec.now.width) ≡ true) }
+    ensures there { OnSome result
+        (is_missing spec.now (bits_at (octets_of bits.now) at spec.now.width) ≡ false) }
+    ensures value { IfSome result
+        (λ b. b.value ≡ number_of (bits_at (octets_of bits.now) at spec.now.width)) }
     ensures width { IfSome result (λ b. b.width ≡ spec.now.width) }
     ensures may_be_missing { IfSome result (λ b. b.may_be_missing ≡ spec.now.may_be_missing) }
     ensures narrow { IfSome result (λ b. b.width ≤ 63) }

@@ -71,7 +71,8 @@ pub(crate) fn signed_at(bits: &BitSlice<'_>, at: u64, width: u32) -> i64
 #[tactic(auto, using(crate::proofs::PlainLemmas::told_element, crate::proofs::PlainLemmas::told_inserted, crate::proofs::PlainLemmas::told_factor, crate::proofs::PlainLemmas::told_reference, crate::proofs::PlainLemmas::some_width, crate::proofs::PlainLemmas::factor_width, crate::proofs::PlainLemmas::reference_width))]
 pub(crate) fn told_at(bits: &BitSlice<'_>, at: u64, spec: &Spec) -> Taken
     requires { at + spec.now.width ≤ 8 * length (octets_of bits.now) }
-    ensures value { result ≡ told spec.now (content_in spec.now (bits_at (octets_of bits.now) at spec.now.width)) }
+    ensures value { result ≡ told spec.now
+        (content_in spec.now (bits_at (octets_of bits.now) at spec.now.width)) }
     ensures shape { IsFor spec.now result }
 {
     let width = spec.width();
@@ -100,7 +101,8 @@ fn copy_window(bits: &BitSlice<'_>, at: u64, done: usize, few: usize, text: &mut
     requires room { done + few ≤ 255 }
     requires within { at + 8 * (done + few) ≤ 8 * length (octets_of bits.now) }
     requires before { take done text.old ≡ octets_in done (drop at (bits_of (octets_of bits.now))) }
-    ensures { take (done + few) text.new ≡ octets_in (done + few) (drop at (bits_of (octets_of bits.now))) }
+    ensures { take (done + few) text.new
+        ≡ octets_in (done + few) (drop at (bits_of (octets_of bits.now))) }
 {
     let window = number_at(bits, at + 8 * done as u64, 8 * few as u32);
     'octets: for place in 0..few {

@@ -32,8 +32,10 @@ pub trait Fields {
         ensures { result ≡ used self.now };
 
     /// A field that is taken uses at least one bit.
-    ghost advances: { (s : Self) (spec : Asked) (t : Taken) (next : Self) → takes s spec (Ok t) next → used s < used next };
+    ghost advances: { (s : Self) (spec : Asked) (t : Taken) (next : Self) → takes s spec (Ok t) next
+        → used s < used next };
 
     /// A refusal uses none.
-    ghost refuses: { (s : Self) (spec : Asked) (e : Self.Fault) (next : Self) → takes s spec (Err e) next → used next ≡ used s };
+    ghost refuses: { (s : Self) (spec : Asked) (e : Self.Fault) (next : Self)
+        → takes s spec (Err e) next → used next ≡ used s };
 }

@@ -39,7 +39,14 @@ pub(crate) struct Operands {
 
 /// No operator is in force.
 fn nothing() -> Operands
-    ensures value { result ≡ record { widened = 0; rescaled = 0; defining = 0; refined = 0; lettered = 0; given = 0 } }
+    ensures value { result ≡ record {
+      widened = 0;
+      rescaled = 0;
+      defining = 0;
+      refined = 0;
+      lettered = 0;
+      given = 0;
+    } }
     ensures operands { AreOperands result }
 {
     Operands {
@@ -75,7 +82,8 @@ impl Model for InForce {
 /// Makes room for the reference of an element, which is 0 then.
 #[tactic(auto, using(crate::proofs::SpecLemmas::known_more))]
 fn make_room(redefined: &mut BTreeMap<u16, i64>, fxy: Fxy) -> Result<(), AllocError>
-    ensures known { OnOk result (known_by redefined.new.entries ≡ with_reference fxy (pos 0) (known_by redefined.old.entries)) }
+    ensures known { OnOk result (known_by redefined.new.entries
+        ≡ with_reference fxy (pos 0) (known_by redefined.old.entries)) }
     ensures room { OnOk result (IsSome (get nat_cmp redefined.new fxy)) }
 {
     redefined.insert(fxy.word(), 0)?;
@@ -87,7 +95,8 @@ fn make_room(redefined: &mut BTreeMap<u16, i64>, fxy: Fxy) -> Result<(), AllocEr
 #[tactic(auto, using(crate::proofs::SpecLemmas::known_more))]
 fn redefine(redefined: &mut BTreeMap<u16, i64>, fxy: Fxy, reference: i64)
     requires { IsSome (get nat_cmp redefined.old fxy) }
-    ensures { known_by redefined.new.entries ≡ with_reference fxy reference (known_by redefined.old.entries) }
+    ensures { known_by redefined.new.entries
+        ≡ with_reference fxy reference (known_by redefined.old.entries) }
 {
     match redefined.insert(fxy.word(), reference) {
         Ok(_) => {}
@@ -183,7 +192,8 @@ fn quantity(
 ) -> Result<Spec, Refusal>
     requires row { IsRow (row_with fxy entry.now) }
     requires operands { AreOperands operands }
-    ensures { (known : List Redefined) → reference ≡ current_reference known fxy entry.now.reference → result ≡ fitting (quantity (set_by operands known) (row_with fxy entry.now)) }
+    ensures { (known : List Redefined) → reference ≡ current_reference known fxy entry.now.reference
+        → result ≡ fitting (quantity (set_by operands known) (row_with fxy entry.now)) }
 {
     Spec::number(
         fxy,
@@ -201,7 +211,8 @@ fn quantity(
 #[inline(always)]
 fn figure(reference: i64, fxy: Fxy, entry: &Entry<'_>) -> Result<Spec, Refusal>
     requires row { IsRow (row_with fxy entry.now) }
-    ensures { (operands : Operands) (known : List Redefined) → reference ≡ current_reference known fxy entry.now.reference
+    ensures { (operands : Operands) (known : List Redefined)
+        → reference ≡ current_reference known fxy entry.now.reference
         → result ≡ fitting (figure (set_by operands known) (row_with fxy entry.now)) }
 {
     Spec::number(
@@ -233,7 +244,8 @@ fn text_width(width: u32, lettered: u8) -> u32
 fn by_kind(operands: Operands, reference: i64, fxy: Fxy, entry: &Entry<'_>) -> Result<Spec, Refusal>
     requires row { IsRow (row_with fxy entry.now) }
     requires operands { AreOperands operands }
-    ensures { (known : List Redefined) → reference ≡ current_reference known fxy entry.now.reference → result ≡ by_kind entry.now.kind (set_by operands known) (row_with fxy entry.now) }
+    ensures { (known : List Redefined) → reference ≡ current_reference known fxy entry.now.reference
+        → result ≡ by_kind entry.now.kind (set_by operands known) (row_with fxy entry.now) }
 {
     match entry.kind {
         Kind::Numeric => quantity(operands, reference, fxy, entry),
@@ -288,7 +300,8 @@ fn unsigned_of(fxy: Fxy, width: u8) -> Result<Spec, Refusal>
 #[inline(always)]
 fn given_by(given: u8, fxy: Fxy, entry: &Entry<'_>) -> Result<Spec, Refusal>
     requires row { IsRow (row_with fxy entry.now) }
-    ensures { (s : Settings) → s.given ≡ given → result ≡ given_by (Some (row_with fxy entry.now)) s fxy }
+    ensures { (s : Settings) → s.given ≡ given
+        → result ≡ given_by (Some (row_with fxy entry.now)) s fxy }
 {
     if entry.width == u32::from(given) {
         by_kind(nothing(), entry.reference, fxy, entry)

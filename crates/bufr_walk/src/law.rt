@@ -12,23 +12,28 @@ ghost use Rattle.bufr_walk.specs.declared.fault.WalkFault.{WalkFault};
 /// Two readings of the same data by the same course have the same items, with the same values, and
 /// take the same bits (WMO-No. 306, Volume I.2, FM 94: sections 3 and 4).
 pub fn readings_are_one()
-    ensures { (course : Course) (d : Data) (v w : Values) (used used' : ℕ) → IsReading course d v used → IsReading course d w used' → (v ≡ w) × (used ≡ used') }
+    ensures { (course : Course) (d : Data) (v w : Values) (used used' : ℕ)
+        → IsReading course d v used → IsReading course d w used' → (v ≡ w) × (used ≡ used') }
 {}
 
 /// Two refusals of the same data by the same course are the same fault at the same place, in as
 /// many turns.
 pub fn refusals_are_one()
-    ensures { (course : Course) (d : Data) (why why' : WalkFault) (turns turns' : ℕ) → IsRefused course d why turns → IsRefused course d why' turns' → (why ≡ why') × (turns ≡ turns') }
+    ensures { (course : Course) (d : Data) (why why' : WalkFault) (turns turns' : ℕ) → IsRefused
+        course d why turns → IsRefused course d why' turns' → (why ≡ why') × (turns ≡ turns') }
 {}
 
 /// Data that are read are not refused.
 pub fn readings_are_not_refused()
-    ensures { (course : Course) (d : Data) (v : Values) (used : ℕ) (why : WalkFault) (turns : ℕ) → IsReading course d v used → IsRefused course d why turns → ⊥ }
+    ensures { (course : Course) (d : Data) (v : Values) (used : ℕ) (why : WalkFault) (turns : ℕ)
+        → IsReading course d v used → IsRefused course d why turns → ⊥ }
 {}
 
 /// Data are read or refused, by each template of legal nodes and each Table B: whatever their bits
 /// are, compressed or not, and for any number of subsets.
 pub fn data_are_read_or_refused()
-    ensures { (records : List Record) (table : List Row) (template : Tree) (d : Data) → AreRows records table → IsLegal template
-        → ((v : Values) × (used : ℕ) × IsReading (next_item table template) d v used) ⊎ ((why : WalkFault) × (turns : ℕ) × IsRefused (next_item table template) d why turns) }
+    ensures { (records : List Record) (table : List Row) (template : Tree) (d : Data)
+        → AreRows records table → IsLegal template
+        → ((v : Values) × (used : ℕ) × IsReading (next_item table template) d v used)
+        ⊎ ((why : WalkFault) × (turns : ℕ) × IsRefused (next_item table template) d why turns) }
 {}

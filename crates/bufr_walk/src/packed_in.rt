@@ -83,7 +83,8 @@ fn are_within(bits: &BitSlice<'_>, at: u64, subsets: u16, k: u32, base: Base) ->
     requires width { base.width ≤ 63 }
     requires value { base.value < 2 ^ base.width }
     requires within { at + subsets * k ≤ 8 * length (octets_of bits.now) }
-    ensures { result ≡ all_within base.may_be_missing base.width base.value k subsets (drop at (bits_of (octets_of bits.now))) }
+    ensures { result ≡ all_within base.may_be_missing base.width base.value k subsets
+        (drop at (bits_of (octets_of bits.now))) }
 {
     let mut place = at;
     for subset in 0..subsets {
@@ -119,7 +120,9 @@ fn numbers_hold(bits: &BitSlice<'_>, at: u64, subsets: u16, spec: &Spec, k: u32)
     requires increment { k ≤ 63 }
     requires number { is_character spec.now.kind ≡ false }
     requires within { at + (spec.now.width + 6) + subsets * k ≤ 8 * length (octets_of bits.now) }
-    ensures { result ≡ numbers_hold spec.now k subsets (bits_at (octets_of bits.now) at spec.now.width) (drop (at + (spec.now.width + 6)) (bits_of (octets_of bits.now))) }
+    ensures { result ≡ numbers_hold spec.now k subsets
+        (bits_at (octets_of bits.now) at spec.now.width)
+        (drop (at + (spec.now.width + 6)) (bits_of (octets_of bits.now))) }
 {
     let Some(base) = base_at(bits, at, spec) else {
         return true;
@@ -130,8 +133,11 @@ fn numbers_hold(bits: &BitSlice<'_>, at: u64, subsets: u16, spec: &Spec, k: u32)
 /// Whether the increments of an item, or the count of octets of a text, can be.
 fn holds(bits: &BitSlice<'_>, at: u64, subsets: u16, spec: &Spec, k: u32) -> bool
     requires increment { k ≤ 63 }
-    requires within { is_character spec.now.kind ≡ false → at + (spec.now.width + 6) + subsets * k ≤ 8 * length (octets_of bits.now) }
-    ensures { result ≡ holds_by spec.now.kind spec.now k subsets (bits_at (octets_of bits.now) at spec.now.width) (drop (at + (spec.now.width + 6)) (bits_of (octets_of bits.now))) }
+    requires within { is_character spec.now.kind ≡ false
+        → at + (spec.now.width + 6) + subsets * k ≤ 8 * length (octets_of bits.now) }
+    ensures { result ≡ holds_by spec.now.kind spec.now k subsets
+        (bits_at (octets_of bits.now) at spec.now.width)
+        (drop (at + (spec.now.width + 6)) (bits_of (octets_of bits.now))) }
 {
     match spec.kind() {
         Kind::Character => k <= spec.width() / 8,
@@ -166,7 +172,8 @@ fn plain_at(
     requires some { 1 ≤ k }
     requires increment { k ≤ 63 }
     requires role { is_plain_role spec.now.role ≡ true }
-    requires within { at + (spec.now.width + 6) + subsets * step_of spec.now.role spec.now.kind k ≤ 8 * length (octets_of bits.now) }
+    requires within { at + (spec.now.width + 6) + subsets * step_of spec.now.role spec.now.kind k
+        ≤ 8 * length (octets_of bits.now) }
     ensures told { TellsAt (bits_of (octets_of bits.now)) at subsets spec.now k result }
     ensures plain { IfOk result (λ t. t ≡ taken.Plain) }
 {
@@ -219,7 +226,8 @@ fn item_told_at(
 ) -> Result<Taken, PackedFault>
     requires increment { k ≤ 63 }
     requires subsets { 1 ≤ subsets }
-    requires within { at + (spec.now.width + 6) + subsets * step_of spec.now.role spec.now.kind k ≤ 8 * length (octets_of bits.now) }
+    requires within { at + (spec.now.width + 6) + subsets * step_of spec.now.role spec.now.kind k
+        ≤ 8 * length (octets_of bits.now) }
     ensures told { TellsAt (bits_of (octets_of bits.now)) at subsets spec.now k result }
     ensures shape { IfOk result (λ t. IsFor spec.now t) }
 {
@@ -251,7 +259,8 @@ fn seen_at(
 ) -> Result<PackedItem, PackedFault>
     requires subsets { 1 ≤ subsets }
     requires within { at ≤ 8 * length (octets_of bits.now) }
-    ensures seen { MatchResult result (λ s. IsSeen (bits_of (octets_of bits.now)) at subsets spec.now s) (λ e. IsUnseen (bits_of (octets_of bits.now)) at subsets spec.now e) }
+    ensures seen { MatchResult result (λ s. IsSeen (bits_of (octets_of bits.now)) at subsets
+        spec.now s) (λ e. IsUnseen (bits_of (octets_of bits.now)) at subsets spec.now e) }
     ensures shape { IfOk result (λ s. IsFor spec.now s.told) }
 {
     let width = u64::from(spec.width());
@@ -333,7 +342,8 @@ impl<'a> Model for PackedIn<'a> {
 
     ghost view = { λ s. packed_view (bits_of (octets_of s.bits)) s.at s.subsets s.kept.items };
 
-    ghost invariant = { λ s. IsPackedIn (bits_of (octets_of s.bits)) s.at s.subsets s.kept.items (vec_capacity s.kept) };
+    ghost invariant = { λ s. IsPackedIn (bits_of (octets_of s.bits)) s.at s.subsets s.kept.items
+        (vec_capacity s.kept) };
 }
 
 impl<'a> PackedIn<'a> {
@@ -373,8 +383,10 @@ impl<'a> PackedIn<'a> {
     /// The items that were read, and the bits that they take.
     pub(crate) fn into_read(self) -> PackedRead
         ensures used { result.used ≡ self.entry.at }
-        ensures kept { items_at self.entry.bits self.entry.subsets result.kept.items ≡ self.entry.items }
-        ensures stand { list_all (stands_at self.entry.bits self.entry.subsets) result.kept.items ≡ true }
+        ensures kept { items_at self.entry.bits self.entry.subsets result.kept.items
+            ≡ self.entry.items }
+        ensures stand { list_all (stands_at self.entry.bits self.entry.subsets)
+            result.kept.items ≡ true }
         ensures held { 7 * length result.kept.items ≤ result.used }
     {
         let PackedIn {
@@ -388,7 +400,8 @@ impl<'a> PackedIn<'a> {
 
     /// The next item, without going past it.
     fn look(&self, spec: &Spec) -> Result<PackedItem, PackedFault>
-        ensures seen { MatchResult result (λ s. IsLooked self.now spec.now s) (λ e. IsUnlooked self.now spec.now e) }
+        ensures seen { MatchResult result (λ s. IsLooked self.now spec.now s)
+            (λ e. IsUnlooked self.now spec.now e) }
         ensures shape { IfOk result (λ s. IsFor spec.now s.told) }
     {
         let items = self.kept.len() as u64 + 1;

@@ -43,7 +43,7 @@ impl<'a> PlainIn<'a> {
     ghost use Rattle.bufr_walk.specs.Asked.{IsFor};
     ghost use Rattle.bufr_walk.specs.Content.{content_in, octets_in, shown};
     ghost use Rattle.bufr_walk.specs.PlainIn.{PlainTakes, past, rest_of};
-    ghost use Rattle.bufr_walk.specs.Seen.{seen_value};
+    ghost use Rattle.bufr_walk.specs.ViewModel.{seen_value};
 
     /// The bits of data that are not compressed, from bit 0 on.
     pub fn new(bits: BitSlice<'a>) -> PlainIn<'a>
@@ -78,7 +78,8 @@ impl<'a> PlainIn<'a> {
     /// [`DataEnd`] where the data end inside the field.
     #[tactic(auto, using(crate::proofs::PlainLemmas::taken_here, crate::proofs::PlainLemmas::ends_here, crate::proofs::PlainLemmas::bits_length))]
     pub(crate) fn peek(&self, spec: &Spec) -> Result<Taken, DataEnd>
-        ensures found { MatchResult result (λ t. PlainTakes self.now spec.now (Ok t) (past self.now spec.now)) (λ e. PlainTakes self.now spec.now (Err e) self.now) }
+        ensures found { MatchResult result (λ t. PlainTakes self.now spec.now (Ok t)
+            (past self.now spec.now)) (λ e. PlainTakes self.now spec.now (Err e) self.now) }
         ensures shape { IfOk result (λ t. IsFor spec.now t) }
         ensures within { IfOk result (λ t. self.now.at + spec.now.width ≤ length self.now.bits) }
         ensures small { IfOk result (λ t. self.now.at + spec.now.width < 2 ^ 64) }
@@ -111,7 +112,8 @@ impl<'a> PlainIn<'a> {
     /// The octets of the next field, which is text, where they can be borrowed.
     pub(crate) fn octets(&self, spec: &Spec) -> Option<&'a [u8]>
         requires { is_character spec.now.kind ≡ true }
-        ensures { IfSome result (λ s. s.now ≡ octets_in (spec.now.width / 8) (take spec.now.width (rest_of self.now))) }
+        ensures { IfSome result
+            (λ s. s.now ≡ octets_in (spec.now.width / 8) (take spec.now.width (rest_of self.now))) }
     {
         self.bits.octets(self.at, (spec.width() / 8) as usize)
     }
@@ -121,7 +123,8 @@ impl<'a> PlainIn<'a> {
     pub(crate) fn copy_text(&self, spec: &Spec, text: &mut [u8; 255])
         requires within { self.now.at + spec.now.width ≤ length self.now.bits }
         requires text { is_character spec.now.kind ≡ true }
-        ensures { take (spec.now.width / 8) text.new ≡ octets_in (spec.now.width / 8) (take spec.now.width (rest_of self.now)) }
+        ensures { take (spec.now.width / 8) text.new
+            ≡ octets_in (spec.now.width / 8) (take spec.now.width (rest_of self.now)) }
     {
         copy_octets(&self.bits, self.at, (spec.width() / 8) as usize, text)
     }
@@ -131,7 +134,8 @@ impl<'a> PlainIn<'a> {
     pub(crate) fn number_value<'t>(&self, spec: &Spec) -> Value<'t>
         requires within { self.now.at + spec.now.width ≤ length self.now.bits }
         requires number { is_character spec.now.kind ≡ false }
-        ensures { seen_value result ≡ shown spec.now (content_in spec.now (take spec.now.width (rest_of self.now))) }
+        ensures { seen_value result
+            ≡ shown spec.now (content_in spec.now (take spec.now.width (rest_of self.now))) }
     {
         let width = spec.width();
         if spec.is_reference() {

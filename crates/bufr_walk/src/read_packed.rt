@@ -55,11 +55,14 @@ pub(crate) fn read_packed(
     steps: &mut Steps,
 ) -> Result<PackedRead, WalkFault>
     requires { steps.old ≡ 0 }
-    ensures reading { IfOk result (λ r. IsReadAndKept (next_item table.now template.now) (data_in true subsets (octets_of bits.entry)) r.kept.items r.used steps.new) }
+    ensures reading { IfOk result (λ r. IsReadAndKept (next_item table.now template.now)
+        (data_in true subsets (octets_of bits.entry)) r.kept.items r.used steps.new) }
     ensures held { IfOk result (λ r. 7 * length r.kept.items ≤ r.used) }
-    ensures fault { IfErr result (λ why. IsFault (next_item table.now template.now) (data_in true subsets (octets_of bits.entry)) why steps.new) }
+    ensures fault { IfErr result (λ why. IsFault (next_item table.now template.now)
+        (data_in true subsets (octets_of bits.entry)) why steps.new) }
     ensures accepted { IfOk result (λ r. steps.new ≤ places template.now * r.used) }
-    ensures refused { IfErr result (λ why. steps.new ≤ places template.now * (bits_before why (length (bits_of (octets_of bits.entry))) + 1)) }
+    ensures refused { IfErr result (λ why. steps.new
+        ≤ places template.now * (bits_before why (length (bits_of (octets_of bits.entry))) + 1)) }
 {
     if subsets == 0 {
         return Ok(PackedRead::new(0, Vec::new(alloc)));

@@ -41,10 +41,14 @@ fn read_subset(
     fields: &mut PlainIn<'_>,
     steps: &mut Steps,
 ) -> Result<(), WalkFault>
-    ensures read { OnOk result (PassReads (next_item table.now template.now) fields.old steps.old fields.new steps.new) }
-    ensures fault { IfErr result (λ why. PassStops (next_item table.now template.now) fields.old steps.old subset why fields.new steps.new) }
-    ensures accepted { OnOk result (steps.new ≤ steps.old + places template.now * (fields.new.at - fields.old.at)) }
-    ensures refused { OnErr result (steps.new ≤ steps.old + places template.now * (fields.new.at - fields.old.at + 1)) }
+    ensures read { OnOk result
+        (PassReads (next_item table.now template.now) fields.old steps.old fields.new steps.new) }
+    ensures fault { IfErr result (λ why. PassStops (next_item table.now template.now) fields.old
+        steps.old subset why fields.new steps.new) }
+    ensures accepted { OnOk result
+        (steps.new ≤ steps.old + places template.now * (fields.new.at - fields.old.at)) }
+    ensures refused { OnErr result
+        (steps.new ≤ steps.old + places template.now * (fields.new.at - fields.old.at + 1)) }
     ensures within { fields.new.at ≤ length fields.new.bits }
     ensures forth { fields.old.at ≤ fields.new.at }
 {
@@ -68,10 +72,13 @@ pub(crate) fn read_plain(
     steps: &mut Steps,
 ) -> Result<u64, WalkFault>
     requires { steps.old ≡ 0 }
-    ensures reading { IfOk result (λ used. IsReadAndPaid (next_item table.now template.now) (data_in false subsets (octets_of bits.entry)) used steps.new) }
-    ensures fault { IfErr result (λ why. IsFault (next_item table.now template.now) (data_in false subsets (octets_of bits.entry)) why steps.new) }
+    ensures reading { IfOk result (λ used. IsReadAndPaid (next_item table.now template.now)
+        (data_in false subsets (octets_of bits.entry)) used steps.new) }
+    ensures fault { IfErr result (λ why. IsFault (next_item table.now template.now)
+        (data_in false subsets (octets_of bits.entry)) why steps.new) }
     ensures accepted { IfOk result (λ used. steps.new ≤ places template.now * used) }
-    ensures refused { IfErr result (λ why. steps.new ≤ places template.now * (bits_before why (length (bits_of (octets_of bits.entry))) + 1)) }
+    ensures refused { IfErr result (λ why. steps.new
+        ≤ places template.now * (bits_before why (length (bits_of (octets_of bits.entry))) + 1)) }
 {
     let mut fields = PlainIn::new(bits);
     'subsets: for done in 0..subsets {

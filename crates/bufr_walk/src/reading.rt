@@ -52,9 +52,11 @@ impl<'a> Model for Reading<'a> {
 
     ghost use Rattle.bufr_walk.specs.Kept.{held_of, IsHeld};
 
-    ghost view = { λ r. read_by r.table.now r.template.now (data_in r.compressed r.subsets (octets_of r.bits)) r.used (held_of r.kept) };
+    ghost view = { λ r. read_by r.table.now r.template.now
+        (data_in r.compressed r.subsets (octets_of r.bits)) r.used (held_of r.kept) };
 
-    ghost invariant = { λ r. IsHeld (read_by r.table.now r.template.now (data_in r.compressed r.subsets (octets_of r.bits)) r.used (held_of r.kept)) r.kept };
+    ghost invariant = { λ r. IsHeld (read_by r.table.now r.template.now
+        (data_in r.compressed r.subsets (octets_of r.bits)) r.used (held_of r.kept)) r.kept };
 }
 
 /// Reads the data of a message by its template, in one pass for each subset, or in one pass for all
@@ -87,10 +89,13 @@ pub fn read_message<'a>(
     table: &'a TableB,
     steps: &mut Steps,
 ) -> Result<Reading<'a>, WalkFault>
-    ensures reading { IfOk result (λ r. IsReadingOf table.now template.now (data_of message.now) r steps.new) }
-    ensures fault { IfErr result (λ why. IsFault (next_item table.now template.now) (data_of message.now) why steps.new) }
+    ensures reading { IfOk result
+        (λ r. IsReadingOf table.now template.now (data_of message.now) r steps.new) }
+    ensures fault { IfErr result
+        (λ why. IsFault (next_item table.now template.now) (data_of message.now) why steps.new) }
     ensures accepted { IfOk result (λ r. steps.new ≤ places template.now * r.bits) }
-    ensures refused { IfErr result (λ why. steps.new ≤ places template.now * (bits_before why (length (data_of message.now).bits) + 1)) }
+    ensures refused { IfErr result (λ why. steps.new
+        ≤ places template.now * (bits_before why (length (data_of message.now).bits) + 1)) }
 {
     *steps = Steps::new();
     let bits = message.payload();
@@ -125,7 +130,7 @@ impl<'a> Reading<'a> {
     ghost use Rattle.bufr_walk.specs.Calls.{calls_of, items_called};
     ghost use Rattle.bufr_walk.specs.Outcome.{course_of};
     ghost use Rattle.bufr_walk.specs.Reading.{Values, IsReading, items_kept, most_values};
-    ghost use Rattle.bufr_walk.specs.Shows.{ShowsReading};
+    ghost use Rattle.bufr_walk.specs.CallsInTurn.{ShowsReading};
 
     /// The number of subsets.
     pub fn subsets(&self) -> u16
@@ -145,7 +150,8 @@ impl<'a> Reading<'a> {
     /// subsets, at most one for seven bits.
     pub fn held(&self) -> u64
         ensures value { result ≡ self.now.held }
-        ensures items { (values : Values) → IsReading (course_of self.now) self.now.source values self.now.bits → result ≡ items_kept values }
+        ensures items { (values : Values) → IsReading (course_of self.now) self.now.source values
+            self.now.bits → result ≡ items_kept values }
         ensures few { 7 * result ≤ self.now.bits }
         ensures none { self.now.source.compressed ≡ false → result ≡ 0 }
     {
@@ -156,7 +162,7 @@ impl<'a> Reading<'a> {
     }
 
     /// Shows each subset and its items to a visitor, by what is kept.
-    #[tactic(auto, using(crate::proofs::ReadingLemmas::readable_of, crate::proofs::PackedShown::entries_stand, crate::proofs::PackedShown::packed_shown))]
+    #[tactic(auto, using(crate::proofs::ReadingLemmas::readable_of, crate::proofs::PackedShowing::entries_stand, crate::proofs::PackedShowing::packed_shown))]
     fn show_kept<V: Visitor>(
         &self,
         alloc: Global,
@@ -198,7 +204,8 @@ impl<'a> Reading<'a> {
         steps: &mut Steps,
     ) -> Result<(), ShowFault<V::Fault>>
         ensures shown { ShowsReading V.sees self.now visitor.old result visitor.new steps.new }
-        ensures few { (values : Values) → IsReading (course_of self.now) self.now.source values self.now.bits → items_called (calls_of self.now values) ≤ most_values }
+        ensures few { (values : Values) → IsReading (course_of self.now) self.now.source values
+            self.now.bits → items_called (calls_of self.now values) ≤ most_values }
         ensures bounded { steps.new ≤ places self.now.template * self.now.bits }
     {
         // For the proof alone: what a template promises of its groups bounds the steps.

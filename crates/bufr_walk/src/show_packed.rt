@@ -9,8 +9,8 @@ ghost use Rattle.bufr_walk.specs.Content.{octets_in, shown};
 ghost use Rattle.bufr_walk.specs.Kept.{HasIncrement, call_kept, content_kept};
 ghost use Rattle.bufr_walk.specs.PackedBits.{increased_to, number_from, sum_content, text_at};
 ghost use Rattle.bufr_walk.specs.PackedIn.{items_at, stands_at};
-ghost use Rattle.bufr_walk.specs.Seen.{seen_value};
-ghost use Rattle.bufr_walk.specs.Shows.{Shows};
+ghost use Rattle.bufr_walk.specs.ViewModel.{seen_value};
+ghost use Rattle.bufr_walk.specs.CallsInTurn.{Shows};
 
 use crate::base::{Base, base_at};
 use crate::bits::{copy_octets, front, number_at, ones_at};
@@ -29,7 +29,8 @@ fn increased(base: Base, k: u32, increment: u64) -> Option<u64>
     requires width { base.width ≤ 63 }
     requires value { base.value < 2 ^ base.width }
     requires increment { increment < 2 ^ k }
-    ensures { sum_content result ≡ increased_to base.may_be_missing base.width base.value k increment }
+    ensures { sum_content result
+        ≡ increased_to base.may_be_missing base.width base.value k increment }
 {
     let sum = base.value + increment;
     if base.may_be_missing && increment == (1 << k) - 1 {
@@ -45,9 +46,12 @@ fn increased(base: Base, k: u32, increment: u64) -> Option<u64>
 fn number_in(bits: &BitSlice<'_>, at: u64, spec: &Spec, k: u32, subset: u16) -> Option<u64>
     requires increment { k ≤ 63 }
     requires number { is_character spec.now.kind ≡ false }
-    requires within { at + (spec.now.width + 6) + (subset + 1) * k ≤ 8 * length (octets_of bits.now) }
-    ensures { sum_content result ≡ number_from spec.now k (bits_at (octets_of bits.now) at spec.now.width)
-        (take k (drop (subset * k) (drop (at + (spec.now.width + 6)) (bits_of (octets_of bits.now))))) }
+    requires within { at + (spec.now.width + 6) + (subset + 1) * k
+        ≤ 8 * length (octets_of bits.now) }
+    ensures { sum_content result
+        ≡ number_from spec.now k (bits_at (octets_of bits.now) at spec.now.width)
+        (take k (drop (subset * k)
+        (drop (at + (spec.now.width + 6)) (bits_of (octets_of bits.now))))) }
 {
     let width = spec.width();
     let Some(base) = base_at(bits, at, spec) else {
@@ -68,7 +72,7 @@ fn number_value<'t>(spec: &Spec, raw: Option<u64>) -> Value<'t>
 }
 
 /// Writes spaces behind the first `from` of `count` octets.
-#[tactic(auto, using(crate::proofs::PackedShows::pad_none, crate::proofs::PackedShows::pad_more))]
+#[tactic(auto, using(crate::proofs::PackedCalls::pad_none, crate::proofs::PackedCalls::pad_more))]
 fn pad(text: &mut [u8; 255], from: usize, count: usize)
     requires few { count ≤ 255 }
     requires order { from ≤ count }
@@ -85,7 +89,8 @@ fn pad(text: &mut [u8; 255], from: usize, count: usize)
 fn number_of(bits: &BitSlice<'_>, subsets: u16, item: &KeptItem, subset: u16) -> Option<u64>
     requires increment { HasIncrement (bits_of (octets_of bits.now)) subsets item.now subset }
     requires number { is_character item.now.spec.kind ≡ false }
-    ensures { sum_content result ≡ content_kept (bits_of (octets_of bits.now)) subsets item.now subset }
+    ensures { sum_content result
+        ≡ content_kept (bits_of (octets_of bits.now)) subsets item.now subset }
 {
     number_in(bits, item.at, &item.spec, u32::from(item.step), subset)
 }
@@ -100,7 +105,8 @@ struct TextSpan {
 
 /// The bit where the text of one subset, counted from 0, begins.
 fn text_place(bits: &BitSlice<'_>, item: &KeptItem, subset: u16) -> u64
-    requires { item.now.at + (item.now.spec.width + 6) + (subset + 1) * (8 * item.now.step) ≤ 8 * length (octets_of bits.now) }
+    requires { item.now.at + (item.now.spec.width + 6) + (subset + 1) * (8 * item.now.step)
+        ≤ 8 * length (octets_of bits.now) }
     ensures { result ≡ item.now.at + (item.now.spec.width + 6) + subset * (8 * item.now.step) }
 {
     let behind = item.at + (u64::from(item.spec.width()) + 6);
@@ -113,7 +119,8 @@ fn text_span(bits: &BitSlice<'_>, subsets: u16, item: &KeptItem, subset: u16) ->
     requires text { is_character item.now.spec.kind ≡ true }
     ensures within { result.place + 8 * result.octets ≤ 8 * length (octets_of bits.now) }
     ensures few { result.octets ≤ item.now.spec.width / 8 }
-    ensures text { text_at (bits_of (octets_of bits.now)) (item.now.spec.width / 8) result.place result.octets ≡ content_kept (bits_of (octets_of bits.now)) subsets item.now subset }
+    ensures text { text_at (bits_of (octets_of bits.now)) (item.now.spec.width / 8) result.place
+        result.octets ≡ content_kept (bits_of (octets_of bits.now)) subsets item.now subset }
 {
     TextSpan {
         place: text_place(bits, item, subset),
@@ -126,7 +133,8 @@ fn copy_text(bits: &BitSlice<'_>, span: TextSpan, count: usize, text: &mut [u8; 
     requires count { count ≤ 255 }
     requires few { span.octets ≤ count }
     requires within { span.place + 8 * span.octets ≤ 8 * length (octets_of bits.now) }
-    ensures { take count text.new ≡ octets_in span.octets (drop span.place (bits_of (octets_of bits.now))) ++ replicate (count - span.octets) 32 }
+    ensures { take count text.new ≡ octets_in span.octets
+        (drop span.place (bits_of (octets_of bits.now))) ++ replicate (count - span.octets) 32 }
 {
     copy_octets(bits, span.place, span.octets, text);
     pad(text, span.octets, count);
@@ -144,8 +152,10 @@ fn text_value<'t>(
     requires count { count ≤ 255 }
     requires within { span.place + 8 * span.octets ≤ 8 * length (octets_of bits.now) }
     requires small { span.octets ≤ 255 }
-    requires copied { take count text.now ≡ octets_in span.octets (drop span.place (bits_of (octets_of bits.now))) ++ replicate (count - span.octets) 32 }
-    ensures { seen_value result ≡ shown spec.now (text_at (bits_of (octets_of bits.now)) count span.place span.octets) }
+    requires copied { take count text.now ≡ octets_in span.octets
+        (drop span.place (bits_of (octets_of bits.now))) ++ replicate (count - span.octets) 32 }
+    ensures { seen_value result
+        ≡ shown spec.now (text_at (bits_of (octets_of bits.now)) count span.place span.octets) }
 {
     let all_missing = ones_at(bits, span.place, 8 * span.octets as u32);
     if all_missing {
@@ -168,7 +178,8 @@ fn show_text<V: Visitor>(
 ) -> Result<(), V::Fault>
     requires increment { HasIncrement (bits_of (octets_of bits.now)) subsets item.now subset }
     requires text { is_character item.now.spec.kind ≡ true }
-    ensures { V.sees visitor.old (call_kept table.now (bits_of (octets_of bits.now)) subsets item.now subset) result visitor.new }
+    ensures { V.sees visitor.old (call_kept table.now (bits_of (octets_of bits.now)) subsets
+        item.now subset) result visitor.new }
 {
     let mut text = [0u8; 255];
     let span = text_span(bits, subsets, item, subset);
@@ -189,7 +200,8 @@ fn show_number<V: Visitor>(
 ) -> Result<(), V::Fault>
     requires increment { HasIncrement (bits_of (octets_of bits.now)) subsets item.now subset }
     requires number { is_character item.now.spec.kind ≡ false }
-    ensures { V.sees visitor.old (call_kept table.now (bits_of (octets_of bits.now)) subsets item.now subset) result visitor.new }
+    ensures { V.sees visitor.old (call_kept table.now (bits_of (octets_of bits.now)) subsets
+        item.now subset) result visitor.new }
 {
     let raw = number_of(bits, subsets, item, subset);
     let value = number_value(&item.spec, raw);
@@ -208,7 +220,8 @@ fn show_base<V: Visitor>(
     requires stands { stands_at (bits_of (octets_of bits.now)) subsets item.now ≡ true }
     requires subset { subset < subsets }
     requires none { item.now.step ≡ 0 }
-    ensures { V.sees visitor.old (call_kept table.now (bits_of (octets_of bits.now)) subsets item.now subset) result visitor.new }
+    ensures { V.sees visitor.old (call_kept table.now (bits_of (octets_of bits.now)) subsets
+        item.now subset) result visitor.new }
 {
     let input = PlainIn::from_bit(*bits, item.at);
     show_field(&input, table, &item.spec, visitor)
@@ -225,7 +238,8 @@ fn show_item<V: Visitor>(
 ) -> Result<(), V::Fault>
     requires stands { stands_at (bits_of (octets_of bits.now)) subsets item.now ≡ true }
     requires subset { subset < subsets }
-    ensures { V.sees visitor.old (call_kept table.now (bits_of (octets_of bits.now)) subsets item.now subset) result visitor.new }
+    ensures { V.sees visitor.old (call_kept table.now (bits_of (octets_of bits.now)) subsets
+        item.now subset) result visitor.new }
 {
     if item.step == 0 {
         return show_base(bits, subsets, table, item, subset, visitor);
@@ -247,7 +261,8 @@ fn show_items<V: Visitor>(
 ) -> Result<(), ShowFault<V::Fault>>
     requires stand { list_all (stands_at (bits_of (octets_of bits.now)) subsets) kept.now ≡ true }
     requires subset { subset < subsets }
-    ensures { Shows V.sees visitor.old (items_together table.now subset (items_at (bits_of (octets_of bits.now)) subsets kept.now)) 0 result visitor.new 0 }
+    ensures { Shows V.sees visitor.old (items_together table.now subset
+        (items_at (bits_of (octets_of bits.now)) subsets kept.now)) 0 result visitor.new 0 }
 {
     'items: for place in 0..kept.len() {
         let item = kept[place];
@@ -270,7 +285,9 @@ fn show_subset<V: Visitor>(
 ) -> Result<(), ShowFault<V::Fault>>
     requires stand { list_all (stands_at (bits_of (octets_of bits.now)) subsets) kept.now ≡ true }
     requires subset { subset < subsets }
-    ensures { Shows V.sees visitor.old (timed 0 (subset_call (subset + 1)) ∷ items_together table.now subset (items_at (bits_of (octets_of bits.now)) subsets kept.now)) 0 result visitor.new 0 }
+    ensures { Shows V.sees visitor.old (timed 0 (subset_call (subset + 1))
+        ∷ items_together table.now subset
+        (items_at (bits_of (octets_of bits.now)) subsets kept.now)) 0 result visitor.new 0 }
 {
     match visitor.subset(subset + 1) {
         Ok(()) => show_items(bits, subsets, table, kept, subset, visitor),
@@ -288,7 +305,8 @@ pub(crate) fn show_packed<V: Visitor>(
     visitor: &mut V,
 ) -> Result<(), ShowFault<V::Fault>>
     requires { list_all (stands_at (bits_of (octets_of bits.now)) subsets) kept.now ≡ true }
-    ensures { Shows V.sees visitor.old (subsets_together table.now subsets 0 (items_at (bits_of (octets_of bits.now)) subsets kept.now)) 0 result visitor.new 0 }
+    ensures { Shows V.sees visitor.old (subsets_together table.now subsets 0
+        (items_at (bits_of (octets_of bits.now)) subsets kept.now)) 0 result visitor.new 0 }
 {
     'subsets: for subset in 0..subsets {
         match show_subset(bits, subsets, table, kept, subset, visitor) {

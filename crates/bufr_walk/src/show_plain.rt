@@ -7,12 +7,12 @@ ghost use Rattle.bufr_tables.specs.TableB.{entry_of, is_character};
 ghost use Rattle.bufr_tables.specs.Tree.{Tree};
 ghost use Rattle.bufr_walk.specs.Calls.{item_call, view_of, subset_calls};
 ghost use Rattle.bufr_walk.specs.Content.{Content, content_in, octets_in, shown};
-ghost use Rattle.bufr_walk.specs.Seen.{seen_value};
+ghost use Rattle.bufr_walk.specs.ViewModel.{seen_value};
 ghost use Rattle.bufr_walk.specs.Course.{next_item};
 ghost use Rattle.bufr_walk.specs.PlainIn.{rest_of};
 ghost use Rattle.bufr_walk.specs.Reading.{Item, plain, ReadsAll, ReadsSubsets, turns_in};
-ghost use Rattle.bufr_walk.specs.Shown.{IsEnd, MayEnd, ItemsGo, SubsetGoes};
-ghost use Rattle.bufr_walk.specs.Shows.{Shows};
+ghost use Rattle.bufr_walk.specs.ShowSteps.{IsEnd, MayEnd, ItemsGo, SubsetGoes};
+ghost use Rattle.bufr_walk.specs.CallsInTurn.{Shows};
 
 use crate::bits::front;
 use crate::fault::ShowFault;
@@ -29,7 +29,8 @@ use std::alloc::Global;
 
 /// What Table B says of the field's element, where the field is read by it.
 pub(crate) fn entry_for<'t>(table: &'t TableB, spec: &Spec) -> Option<Entry<'t>>
-    ensures { option_map (row_with spec.now.fxy) result ≡ (if spec.now.listed then entry_of table.now spec.now.fxy else None) }
+    ensures { option_map (row_with spec.now.fxy) result
+        ≡ (if spec.now.listed then entry_of table.now spec.now.fxy else None) }
 {
     if spec.listed() {
         table.get(spec.fxy())
@@ -45,14 +46,16 @@ pub(crate) fn show_value<V: Visitor>(
     value: Value<'_>,
     visitor: &mut V,
 ) -> Result<(), V::Fault>
-    ensures { (content : Content) → seen_value value.entry ≡ shown spec.now content → V.sees visitor.old (item_call (view_of table.now spec.now content)) result visitor.new }
+    ensures { (content : Content) → seen_value value.entry ≡ shown spec.now content
+        → V.sees visitor.old (item_call (view_of table.now spec.now content)) result visitor.new }
 {
     let fxy = spec.fxy();
     let entry = entry_for(table, spec);
     visitor.item(&ItemView { fxy, entry, value })
 }
 
-/// Shows a field that is text, not missing, and does not begin an octet. It stands by itself, so that
+/// Shows a field that is text, not missing, and does not begin an octet. It stands by itself, so
+/// that
 /// only such texts pay for its array.
 #[inline(never)]
 fn show_copied<V: Visitor>(
@@ -64,7 +67,8 @@ fn show_copied<V: Visitor>(
     requires within { input.now.at + spec.now.width ≤ length input.now.bits }
     requires text { is_character spec.now.kind ≡ true }
     requires some { all_set (take spec.now.width (rest_of input.now)) ≡ false }
-    ensures { V.sees visitor.old (item_call (view_of table.now spec.now (content_in spec.now (take spec.now.width (rest_of input.now))))) result visitor.new }
+    ensures { V.sees visitor.old (item_call (view_of table.now spec.now
+        (content_in spec.now (take spec.now.width (rest_of input.now))))) result visitor.new }
 {
     let mut text = [0u8; 255];
     input.copy_text(spec, &mut text);
@@ -81,7 +85,8 @@ fn show_text<V: Visitor>(
 ) -> Result<(), V::Fault>
     requires within { input.now.at + spec.now.width ≤ length input.now.bits }
     requires text { is_character spec.now.kind ≡ true }
-    ensures { V.sees visitor.old (item_call (view_of table.now spec.now (content_in spec.now (take spec.now.width (rest_of input.now))))) result visitor.new }
+    ensures { V.sees visitor.old (item_call (view_of table.now spec.now
+        (content_in spec.now (take spec.now.width (rest_of input.now))))) result visitor.new }
 {
     // For the proof alone: the width of a text is whole octets.
     let _ = spec.width();
@@ -103,7 +108,8 @@ pub(crate) fn show_field<V: Visitor>(
     visitor: &mut V,
 ) -> Result<(), V::Fault>
     requires within { input.now.at + spec.now.width ≤ length input.now.bits }
-    ensures { V.sees visitor.old (item_call (view_of table.now spec.now (content_in spec.now (take spec.now.width (rest_of input.now))))) result visitor.new }
+    ensures { V.sees visitor.old (item_call (view_of table.now spec.now
+        (content_in spec.now (take spec.now.width (rest_of input.now))))) result visitor.new }
 {
     if spec.is_text() {
         return show_text(input, table, spec, visitor);
@@ -131,7 +137,7 @@ impl<'i, 't, 'v, 'b, V: Visitor> Fields for Showing<'i, 't, 'v, 'b, V> {
 
     ghost use Rattle.std.specs.Prelude.{ℕ};
     ghost use Rattle.std.proofs.Common.{arith, ap};
-    ghost use Rattle.bufr_walk.specs.Shown.{ShowingTakes, refusal_keeps, stage};
+    ghost use Rattle.bufr_walk.specs.ShowSteps.{ShowingTakes, refusal_keeps, stage};
 
     ghost used = { λ s. s.input.now.at };
 
@@ -139,11 +145,13 @@ impl<'i, 't, 'v, 'b, V: Visitor> Fields for Showing<'i, 't, 'v, 'b, V> {
         (stage s.input.now s.visitor.now s.table.now s.input.ghost_name s.visitor.ghost_name) spec r
         (stage t.input.now t.visitor.now t.table.now t.input.ghost_name t.visitor.ghost_name) };
 
-    ghost advances = { λ s spec told next h. Prim.omega (arith, h.is_taken.some, ap (λ c. c.at) h.is_taken.next) };
+    ghost advances = { λ s spec told next h.
+        Prim.omega (arith, h.is_taken.some, ap (λ c. c.at) h.is_taken.next) };
 
     ghost refuses = { λ s spec e next h. refusal_keeps V.sees
         (stage s.input.now s.visitor.now s.table.now s.input.ghost_name s.visitor.ghost_name) spec e
-        (stage next.input.now next.visitor.now next.table.now next.input.ghost_name next.visitor.ghost_name) h };
+        (stage next.input.now next.visitor.now next.table.now next.input.ghost_name
+        next.visitor.ghost_name) h };
 
     fn take(&mut self, spec: &Spec) -> Result<Taken, ShowStop<V::Fault>> {
         let told = match self.input.peek(spec) {
@@ -185,10 +193,13 @@ fn walk_showing<V: Visitor>(
     steps: &mut Steps,
 ) -> Result<(), ShowFault<V::Fault>>
     requires same { fields.old.table.now ≡ table.now }
-    requires readable { (items : List (Item Content)) × (left : List Bool) × ReadsAll plain (next_item table.now template.now) items (rest_of fields.old.input.now) left }
+    requires readable { (items : List (Item Content)) × (left : List Bool) × ReadsAll plain
+        (next_item table.now template.now) items (rest_of fields.old.input.now) left }
     ensures input { fields.new.input.ghost_name ≡ fields.old.input.ghost_name }
     ensures visitor { fields.new.visitor.ghost_name ≡ fields.old.visitor.ghost_name }
-    ensures shown { ItemsGo V.sees table.now (next_item table.now template.now) fields.old.input.now fields.old.visitor.now steps.old result fields.new.input.now fields.new.visitor.now steps.new }
+    ensures shown { ItemsGo V.sees table.now (next_item table.now template.now) fields.old.input.now
+        fields.old.visitor.now steps.old result fields.new.input.now
+        fields.new.visitor.now steps.new }
 {
     match walk(alloc, template, table, fields, steps) {
         Ok(()) => Ok(()),
@@ -205,8 +216,10 @@ fn show_items<V: Visitor>(
     visitor: &mut V,
     steps: &mut Steps,
 ) -> Result<(), ShowFault<V::Fault>>
-    requires readable { (items : List (Item Content)) × (left : List Bool) × ReadsAll plain (next_item table.now template.now) items (rest_of input.old) left }
-    ensures { ItemsGo V.sees table.now (next_item table.now template.now) input.old visitor.old steps.old result input.new visitor.new steps.new }
+    requires readable { (items : List (Item Content)) × (left : List Bool)
+        × ReadsAll plain (next_item table.now template.now) items (rest_of input.old) left }
+    ensures { ItemsGo V.sees table.now (next_item table.now template.now) input.old visitor.old
+        steps.old result input.new visitor.new steps.new }
 {
     let mut fields = Showing {
         input,
@@ -233,8 +246,10 @@ fn show_subset<V: Visitor>(
     visitor: &mut V,
     steps: &mut Steps,
 ) -> Result<(), ShowFault<V::Fault>>
-    requires readable { (items : List (Item Content)) × (left : List Bool) × ReadsAll plain (next_item table.now template.now) items (rest_of input.old) left }
-    ensures { SubsetGoes V.sees table.now (next_item table.now template.now) number input.old visitor.old steps.old result input.new visitor.new steps.new }
+    requires readable { (items : List (Item Content)) × (left : List Bool)
+        × ReadsAll plain (next_item table.now template.now) items (rest_of input.old) left }
+    ensures { SubsetGoes V.sees table.now (next_item table.now template.now) number input.old
+        visitor.old steps.old result input.new visitor.new steps.new }
 {
     match visitor.subset(number) {
         Ok(()) => show_items(alloc, template, table, input, visitor, steps),
@@ -253,9 +268,14 @@ pub(crate) fn show_plain<V: Visitor>(
     steps: &mut Steps,
 ) -> Result<(), ShowFault<V::Fault>>
     requires steps { steps.old ≡ 0 }
-    requires readable { (all : List (List (Item Content))) × (left : List Bool) × ReadsSubsets (next_item table.now template.now) all (bits_of (octets_of bits)) left × (length all ≡ subsets) }
-    ensures { (all : List (List (Item Content))) (left : List Bool) → ReadsSubsets (next_item table.now template.now) all (bits_of (octets_of bits.entry)) left → length all ≡ subsets →
-        Shows V.sees visitor.old (subset_calls table.now (next_item table.now template.now) 0 1 all) (turns_in (next_item table.now template.now) all) result visitor.new steps.new }
+    requires readable { (all : List (List (Item Content))) × (left : List Bool)
+        × ReadsSubsets (next_item table.now template.now) all (bits_of (octets_of bits)) left
+        × (length all ≡ subsets) }
+    ensures { (all : List (List (Item Content))) (left : List Bool)
+        → ReadsSubsets (next_item table.now template.now) all (bits_of (octets_of bits.entry)) left
+        → length all ≡ subsets →
+        Shows V.sees visitor.old (subset_calls table.now (next_item table.now template.now) 0 1 all)
+        (turns_in (next_item table.now template.now) all) result visitor.new steps.new }
 {
     let mut input = PlainIn::new(bits);
     'subsets: for done in 0..subsets {

@@ -63,11 +63,39 @@ impl Model for Spec {
 
     ghost Value = { Asked };
 
-    ghost view = { λ s. record { fxy = s.fxy; role = s.role; kind = s.kind; width = s.width; scale = s.scale; reference = s.reference; may_be_missing = s.may_be_missing; listed = s.listed } };
+    ghost view = { λ s. record {
+      fxy = s.fxy;
+      role = s.role;
+      kind = s.kind;
+      width = s.width;
+      scale =
+          s.scale;
+      reference = s.reference;
+      may_be_missing = s.may_be_missing;
+      listed = s.listed;
+    } };
 
-    ghost invariant = { λ s. IsSpec (record { fxy = s.fxy; role = s.role; kind = s.kind; width = s.width; scale = s.scale; reference = s.reference; may_be_missing = s.may_be_missing; listed = s.listed }) };
+    ghost invariant = { λ s. IsSpec (record {
+      fxy = s.fxy;
+      role = s.role;
+      kind = s.kind;
+      width = s.width;
+      scale = s.scale;
+      reference = s.reference;
+      may_be_missing = s.may_be_missing;
+      listed = s.listed;
+    }) };
 
-    ghost inverse = { λ a. record { fxy = a.fxy; role = a.role; kind = a.kind; width = a.width; scale = a.scale; reference = a.reference; may_be_missing = a.may_be_missing; listed = a.listed } };
+    ghost inverse = { λ a. record {
+      fxy = a.fxy;
+      role = a.role;
+      kind = a.kind;
+      width = a.width;
+      scale = a.scale;
+      reference = a.reference;
+      may_be_missing = a.may_be_missing;
+      listed = a.listed;
+    } };
 }
 
 impl Spec {
@@ -95,7 +123,8 @@ impl Spec {
         requires role { HasRole role kind may_be_missing }
         requires scale { unsigned_abs scale ≤ 300 }
         requires reference { unsigned_abs reference ≤ 2 ^ 125 }
-        ensures { result ≡ fitting (number_field fxy role kind width scale reference may_be_missing listed) }
+        ensures { result ≡ fitting
+            (number_field fxy role kind width scale reference may_be_missing listed) }
     {
         if 1 <= width && width <= 63 {
             Ok(Spec {

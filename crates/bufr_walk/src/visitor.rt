@@ -1,7 +1,7 @@
 //! Who is shown a reading.
 ghost use Rattle.std.specs.Prelude.{ℕ, Result};
 ghost use Rattle.bufr_walk.specs.Calls.{Call, subset_call, item_call};
-ghost use Rattle.bufr_walk.specs.Seen.{seen};
+ghost use Rattle.bufr_walk.specs.ViewModel.{seen};
 
 use bufr_tables::{Entry, Fxy};
 

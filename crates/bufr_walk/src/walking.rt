@@ -36,7 +36,8 @@ fn enter(count: u64, start: u32, after: u32, stack: &mut ArrayVec<Frame, 32>) ->
     requires { array_vec_len stack.old < 32 }
     ensures fits { count < 2 ^ 64 }
     ensures none { count ≡ 0 → (result ≡ after) × (stack.new.items ≡ stack.old.items) }
-    ensures some { 0 < count → (result ≡ start) × (stack.new.items ≡ stack.old.items ++ record { start = start; after = after; left = count - 1 } ∷ []) }
+    ensures some { 0 < count → (result ≡ start) × (stack.new.items
+        ≡ stack.old.items ++ record { start = start; after = after; left = count - 1 } ∷ []) }
 {
     if count == 0 {
         return after;
@@ -81,7 +82,8 @@ fn turn<S: Fields>(
     requires within { length cells.now ≤ 65535 }
     requires stands { (left : Rest → Rest) × Stands cells.now place stack.old.items left }
     ensures { (left : Rest → Rest) → Stands cells.now place stack.old.items left →
-        Turned S.takes table.now cells.now left place stack.old.items in_force.old fields.old steps.old result stack.new.items in_force.new fields.new steps.new }
+        Turned S.takes table.now cells.now left place stack.old.items in_force.old fields.old
+        steps.old result stack.new.items in_force.new fields.new steps.new }
 {
     match cell_at(cells, place) {
         Cell::Element(fxy) => {
@@ -140,7 +142,8 @@ fn walk_cells<S: Fields>(
 ) -> Result<(), WalkStop<S::Fault>>
     requires { (template : Tree) × IsLaid cells.now template }
     ensures { (template : Tree) → IsLaid cells.now template →
-        Walked S.takes (next_item table.now template) fields.old steps.old result fields.new steps.new }
+        Walked S.takes (next_item table.now template) fields.old steps.old result
+        fields.new steps.new }
 {
     let mut in_force = InForce::new(alloc);
     let mut stack: ArrayVec<Frame, 32> = ArrayVec::new();
@@ -184,9 +187,12 @@ pub fn walk<S: Fields>(
     fields: &mut S,
     steps: &mut Steps,
 ) -> Result<(), WalkStop<S::Fault>>
-    ensures walked { Walked S.takes (next_item table.now template.now) fields.old steps.old result fields.new steps.new }
-    ensures accepted { OnOk result (steps.new ≤ steps.old + places template.now * (S.used fields.new - S.used fields.old)) }
-    ensures refused { OnErr result (steps.new ≤ steps.old + places template.now * (S.used fields.new - S.used fields.old + 1)) }
+    ensures walked { Walked S.takes (next_item table.now template.now) fields.old steps.old result
+        fields.new steps.new }
+    ensures accepted { OnOk result
+        (steps.new ≤ steps.old + places template.now * (S.used fields.new - S.used fields.old)) }
+    ensures refused { OnErr result (steps.new
+        ≤ steps.old + places template.now * (S.used fields.new - S.used fields.old + 1)) }
 {
     match walk_cells(alloc, template.cells(), table, fields, steps) {
         Ok(()) => Ok(()),

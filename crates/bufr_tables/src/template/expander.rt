@@ -67,7 +67,8 @@ impl Expander<'_> {
         growing: &mut Growing,
     ) -> Result<usize, TemplateFault>
         ensures gives { GivesPart (growth_of growing.old)
-            (part_of (tables_in self.now) (inner_in self.now room) width_given (places_of (growth_of growing.old)) fxy after.now)
+            (part_of (tables_in self.now) (inner_in self.now room) width_given
+            (places_of (growth_of growing.old)) fxy after.now)
             result (growth_of growing.new) }
         ensures within { IfOk result (λ taken. taken ≤ length after.now) }
     {
@@ -108,7 +109,8 @@ impl Expander<'_> {
         growing: &mut Growing,
     ) -> Result<usize, TemplateFault>
         ensures gives { GivesPart (growth_of growing.old)
-            (group_part (tables_in self.now) (inner_in self.now room) (places_of (growth_of growing.old)) fxy after.now)
+            (group_part (tables_in self.now) (inner_in self.now room)
+            (places_of (growth_of growing.old)) fxy after.now)
             result (growth_of growing.new) }
         ensures within { IfOk result (λ taken. taken ≤ length after.now) }
     {
@@ -151,7 +153,8 @@ impl Expander<'_> {
         growing: &mut Growing,
     ) -> Result<usize, TemplateFault>
         ensures gives { GivesPart (growth_of growing.old)
-            (delayed_part (tables_in self.now) (inner_in self.now room) (places_of (growth_of growing.old)) fxy after.now)
+            (delayed_part (tables_in self.now) (inner_in self.now room)
+            (places_of (growth_of growing.old)) fxy after.now)
             result (growth_of growing.new) }
         ensures within { IfOk result (λ taken. taken ≤ length after.now) }
     {
@@ -203,7 +206,8 @@ impl Expander<'_> {
     #[cycle(expansion)]
     fn sequence(&self, fxy: Fxy, room: u32, growing: &mut Growing) -> Result<usize, TemplateFault>
         ensures gives { GivesPart (growth_of growing.old)
-            (sequence_part (tables_in self.now) (inner_in self.now room) (places_of (growth_of growing.old)) fxy)
+            (sequence_part (tables_in self.now) (inner_in self.now room)
+            (places_of (growth_of growing.old)) fxy)
             result (growth_of growing.new) }
         ensures none { IfOk result (λ taken. taken ≡ 0) }
     {

@@ -36,7 +36,8 @@ fn check_places(places: u32, more: u32, fxy: Fxy) -> Result<(), TemplateFault>
     requires within { places ≤ 65535 }
     requires few { more ≤ 3 }
     ensures room { IfOk result (λ _. places + more ≤ 65535) }
-    ensures gives { MatchResult result (λ _. with_places places more fxy ≡ Ok tt) (λ why. with_places places more fxy ≡ Err why) }
+    ensures gives { MatchResult result (λ _. with_places places more fxy ≡ Ok tt)
+        (λ why. with_places places more fxy ≡ Err why) }
 {
     if places + more > MOST_PLACES {
         return Err(TemplateFault::TemplateSize(fxy));
@@ -97,7 +98,8 @@ impl Growing {
 
     /// Puts an element behind the cells.
     pub(crate) fn push_element(&mut self, fxy: Fxy) -> Result<(), TemplateFault>
-        ensures { GivesGrowth (with_node (growth_of self.old) fxy (element fxy bare)) result (growth_of self.new) }
+        ensures { GivesGrowth (with_node (growth_of self.old) fxy (element fxy bare)) result
+            (growth_of self.new) }
     {
         check_places(self.places(), 1, fxy)?;
         push_cell(&mut self.cells, Cell::Element(fxy))?;
@@ -107,7 +109,8 @@ impl Growing {
 
     /// Puts an operator behind the cells.
     pub(crate) fn push_operator(&mut self, fxy: Fxy) -> Result<(), TemplateFault>
-        ensures { GivesGrowth (with_node (growth_of self.old) fxy (operator fxy bare)) result (growth_of self.new) }
+        ensures { GivesGrowth (with_node (growth_of self.old) fxy (operator fxy bare)) result
+            (growth_of self.new) }
     {
         check_places(self.places(), 1, fxy)?;
         push_cell(&mut self.cells, Cell::Operator(fxy))?;
@@ -136,7 +139,8 @@ impl Growing {
     pub(crate) fn close(&mut self, place: usize, passes: &Passes) -> Result<(), TemplateFault>
         requires inside { place < length self.old.cells.items }
         requires around { 0 < self.old.open_groups }
-        ensures { GivesGrowth (Ok (ended (growth_of self.old) place passes.now)) result (growth_of self.new) }
+        ensures { GivesGrowth (Ok (ended (growth_of self.old) place passes.now)) result
+            (growth_of self.new) }
     {
         push_cell(&mut self.cells, Cell::PassEnd)?;
         let after = self.cells.len() as u32;

@@ -1,7 +1,7 @@
 use Rattle.std.proofs.Common.{◌++◌, [], ◌∷◌}
 use Rattle.std.proofs.lemmas.Result.{err_from_is_err_and}
 use Rattle.bufr_walk.specs.Calls.{item_call}
-use Rattle.bufr_walk.specs.Seen.{seen}
+use Rattle.bufr_walk.specs.ViewModel.{seen}
 use Rattle.bufr_text.specs.DumpWritten.{call_line}
 use Rattle.bufr_text.proofs.DumpLemmas.{WritesFront-none}
 use Rattle.bufr_text.proofs.dump.write_item.Goals as goal

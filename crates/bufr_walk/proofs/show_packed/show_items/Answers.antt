@@ -1,6 +1,6 @@
 use Rattle.bufr_bits.specs.Bits.{bits_of}
 use Rattle.bufr_bits.specs.BitSlice.{octets_of}
-use Rattle.bufr_walk.proofs.PackedShows.{stand_behind}
+use Rattle.bufr_walk.proofs.PackedCalls.{stand_behind}
 use Rattle.bufr_walk.proofs.PackedSubsets.{items_go}
 use Rattle.bufr_walk.proofs.show_packed.show_items.Goals as goal
 

@@ -1,7 +1,7 @@
 use Rattle.bufr_bits.specs.Bits.{bits_of}
 use Rattle.bufr_bits.specs.BitSlice.{octets_of}
 use Rattle.bufr_walk.specs.PackedIn.{items_at}
-use Rattle.bufr_walk.proofs.PackedShows.{SoFar}
+use Rattle.bufr_walk.proofs.PackedCalls.{SoFar}
 use Rattle.bufr_walk.proofs.PackedSubsets.{all_calls, subsets_from}
 use Rattle.bufr_walk.proofs.show_packed.show_packed.Given as goal
 

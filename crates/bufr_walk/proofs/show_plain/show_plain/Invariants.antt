@@ -4,7 +4,7 @@ use Rattle.bufr_bits.specs.BitSlice.{octets_of}
 use Rattle.bufr_walk.specs.Content.{Content}
 use Rattle.bufr_walk.specs.Course.{next_item}
 use Rattle.bufr_walk.specs.Reading.{Item, ReadsSubsets}
-use Rattle.bufr_walk.specs.Shown.{SubsetsShown}
+use Rattle.bufr_walk.specs.ShowSteps.{SubsetsShown}
 use Rattle.bufr_walk.proofs.show_plain.show_plain.Given as goal
 
 abbrev pub invariant-subsets : goal.invariant-subsets

@@ -2,7 +2,7 @@ use Rattle.std.proofs.Common.{◌≡◌, length, subst, sym, ap, ◌∙◌, arit
 use Rattle.bufr_walk.specs.Kept.{held_of}
 use Rattle.bufr_walk.specs.Outcome.{course_of}
 use Rattle.bufr_walk.specs.Reading.{Values, IsReading, items_kept}
-use Rattle.bufr_walk.proofs.PackedShown.{all_kept}
+use Rattle.bufr_walk.proofs.PackedShowing.{all_kept}
 use Rattle.bufr_walk.proofs.reading.Reading.held.Goals as goal
 
 pub returns-in-Together-clause-items : goal.returns-in-Together-clause-items

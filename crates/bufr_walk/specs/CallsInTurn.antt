@@ -4,14 +4,14 @@
 use Rattle.std.specs.Prelude.{ℕ, ◌≡◌, Result, Ok, Err, List, [], ◌∷◌, ◌⊎◌}
 use Rattle.bufr_walk.specs.declared.fault.ShowFault.{ShowFault}
 use Rattle.bufr_walk.specs.declared.fault.ShowFault.TheVariants as fault
-use Rattle.bufr_walk.specs.Content.{Shown, shown_number, shown_text, shown_missing, shown_reference}
+use Rattle.bufr_walk.specs.Content.{ShownValue, shown_number, shown_text, shown_missing, shown_reference}
 use Rattle.bufr_walk.specs.Calls.{Call, subset_call, item_call, Timed, calls_of, turns_shown}
 use Rattle.bufr_walk.specs.Outcome.{Read, course_of}
 use Rattle.bufr_walk.specs.Reading.{Values, IsReading}
 use Rattle.bufr_walk.specs.Ticks.{ticked}
 
 -- only a redefined reference has to be kept
-abbrev pub IsKept : Shown → Type 0
+abbrev pub IsKept : ShownValue → Type 0
 IsKept (shown_number value scale) = ⊥
 IsKept (shown_text octets) = ⊥
 IsKept shown_missing = ⊥
@@ -23,20 +23,26 @@ NeedsMemory (subset_call number) = ⊥
 NeedsMemory (item_call item) = IsKept item.value
 
 -- one call, and how it ends a showing: the visitor refuses it, or memory runs out before it is made
-abbrev pub EndsAt : {S E : Type 0} → (S → Call → Result (Unit {0}) E → S → Type 0) → S → Call → ShowFault E → S → Type 0
+abbrev pub EndsAt : {S E : Type 0} → (S → Call → Result (Unit {0}) E → S → Type 0) → S → Call
+    → ShowFault E → S → Type 0
 EndsAt sees s call (fault.Visitor e) s' = sees s call (Err e) s'
 EndsAt sees s call fault.Memory s' = (s' ≡ s) × NeedsMemory call
 
 -- the calls that were made: all of them at Ok, else some first ones; the steps are the turns up to
 -- the one that ends it
-abbrev pub Shows : {S E : Type 0} → (S → Call → Result (Unit {0}) E → S → Type 0) → S → List Timed → (turns : ℕ) → Result (Unit {0}) (ShowFault E) → S → (steps : ℕ) → Type 0
+abbrev pub Shows : {S E : Type 0} → (S → Call → Result (Unit {0}) E → S → Type 0) → S → List Timed
+    → (turns : ℕ) → Result (Unit {0}) (ShowFault E) → S → (steps : ℕ) → Type 0
 Shows sees s [] turns (Ok _) s' steps = (s' ≡ s) × (steps ≡ ticked 0 turns)
 Shows sees s [] turns (Err why) s' steps = ⊥
-Shows {S} sees s (t ∷ calls) turns (Ok _) s' steps = (mid : S) × sees s t.call (Ok tt) mid × Shows sees mid calls turns (Ok tt) s' steps
+Shows {S} sees s (t ∷ calls) turns (Ok _) s' steps =
+    (mid : S) × sees s t.call (Ok tt) mid × Shows sees mid calls turns (Ok tt) s' steps
 Shows {S} sees s (t ∷ calls) turns (Err why) s' steps =
-    (EndsAt sees s t.call why s' × (steps ≡ ticked 0 t.turns)) ⊎ ((mid : S) × sees s t.call (Ok tt) mid × Shows sees mid calls turns (Err why) s' steps)
+    (EndsAt sees s t.call why s' × (steps ≡ ticked 0 t.turns))
+    ⊎ ((mid : S) × sees s t.call (Ok tt) mid × Shows sees mid calls turns (Err why) s' steps)
 
 -- a showing of a reading: its calls are those of the items that were read, and so are its turns
-abbrev pub ShowsReading : {S E : Type 0} → (S → Call → Result (Unit {0}) E → S → Type 0) → Read → S → Result (Unit {0}) (ShowFault E) → S → (steps : ℕ) → Type 0
+abbrev pub ShowsReading : {S E : Type 0} → (S → Call → Result (Unit {0}) E → S → Type 0) → Read → S
+    → Result (Unit {0}) (ShowFault E) → S → (steps : ℕ) → Type 0
 ShowsReading sees r s result s' steps =
-    (values : Values) → IsReading (course_of r) r.source values r.bits → Shows sees s (calls_of r values) (turns_shown r values) result s' steps
+    (values : Values) → IsReading (course_of r) r.source values r.bits
+    → Shows sees s (calls_of r values) (turns_shown r values) result s' steps

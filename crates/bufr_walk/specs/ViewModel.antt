@@ -5,11 +5,11 @@ use Rattle.bufr_tables.specs.Entry.{row_with}
 use Rattle.bufr_walk.specs.declared.visitor.Value.{Value}
 use Rattle.bufr_walk.specs.declared.visitor.Value.TheVariants as value
 use Rattle.bufr_walk.specs.declared.visitor.ItemView.{ItemView}
-use Rattle.bufr_walk.specs.Content.{Shown, shown_number, shown_text, shown_missing, shown_reference}
+use Rattle.bufr_walk.specs.Content.{ShownValue, shown_number, shown_text, shown_missing, shown_reference}
 use Rattle.bufr_walk.specs.Calls.{View, view}
 
 -- a value
-abbrev pub seen_value : Value → Shown
+abbrev pub seen_value : Value → ShownValue
 seen_value (value.Number n scale) = shown_number n scale
 seen_value (value.Text t) = shown_text t.now
 seen_value value.Missing = shown_missing

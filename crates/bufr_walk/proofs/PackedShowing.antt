@@ -13,7 +13,7 @@ use Rattle.bufr_walk.specs.Kept.{IsHeld, KeepsValues, held_of}
 use Rattle.bufr_walk.specs.Outcome.{Read, course_of}
 use Rattle.bufr_walk.specs.PackedIn.{items_at, stands_at}
 use Rattle.bufr_walk.specs.Reading.{Item, packed, ReadsAll, Values, apart, together, IsReading, IsPackedReading, items_kept}
-use Rattle.bufr_walk.specs.Shows.{Shows}
+use Rattle.bufr_walk.specs.CallsInTurn.{Shows}
 use Rattle.bufr_walk.proofs.OneReading.{one_reading}
 use Rattle.bufr_walk.proofs.OneOutcome.{HasOutcome, ended, outcome_of, one_outcome}
 

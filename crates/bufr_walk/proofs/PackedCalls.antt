@@ -11,7 +11,7 @@ use Rattle.bufr_walk.specs.declared.kept.KeptItem.{KeptItem}
 use Rattle.bufr_walk.specs.Calls.{Call, Timed, timed, items_together}
 use Rattle.bufr_walk.specs.Kept.{call_kept}
 use Rattle.bufr_walk.specs.PackedIn.{items_at, stands_at}
-use Rattle.bufr_walk.specs.Shows.{Shows}
+use Rattle.bufr_walk.specs.CallsInTurn.{Shows}
 
 -- the calls went as far as these, without a turn
 pub record SoFar {S E : Type 0} (sees : S → Call → Result (Unit {0}) E → S → Type 0) (s : S) (calls : List Timed) (s1 : S) (rest : List Timed) : Type 0 where
