@@ -87,7 +87,7 @@ unfoldable pub encoding_in : Form → List Row → List Sequence → Document �
 encoding_in form table sequences d = do
   template ← told_of_template d.line (tree_of (tables_of table sequences) d.descriptors)
   bits ← told_of_items
-  (data_bits (compressed_as form d) (next_item table template) (subsets_of d.entries))
+      (data_bits (compressed_as form d) (next_item table template) (subsets_of d.entries))
   message_of d.line (head_in d) (parts_as (compressed_as form d) d (octets_of_bits bits))
 
 -- the same in the form that the document says
