@@ -31,6 +31,7 @@ pub mod PackedTexts
 pub mod PackedSubsets
 pub mod Readings
 pub mod PlainSubsets
+pub mod AlikeLemmas
 pub mod ReadingLemmas
 pub mod PackedHeld
 pub mod PackedShowing

@@ -54,5 +54,7 @@ pub mod PlainIn
 pub mod PackedIn
 -- one pass over data that are not compressed
 pub mod Passes
+-- subsets that are alike, whatever their bits say
+pub mod Alike
 -- fields that are read and shown at once
 pub mod ShowSteps

@@ -6,6 +6,7 @@
 //! same walk.
 #![tactic(auto)]
 
+mod alike;
 mod base;
 mod bits;
 mod cells;

@@ -100,6 +100,24 @@ impl<'a> PlainIn<'a> {
         self.at += u64::from(spec.width());
     }
 
+    /// Whether so many more bits are there.
+    #[tactic(auto, using(crate::proofs::PlainLemmas::bits_length))]
+    pub(crate) fn holds(&self, width: u64) -> bool
+        ensures within { result ≡ true → self.now.at + width ≤ length self.now.bits }
+        ensures small { result ≡ true → self.now.at + width < 2 ^ 64 }
+    {
+        self.bits.len_bits() - self.at >= width
+    }
+
+    /// Goes past so many bits.
+    pub(crate) fn pass(&mut self, width: u64)
+        requires within { self.old.at + width ≤ length self.old.bits }
+        requires small { self.old.at + width < 2 ^ 64 }
+        ensures { self.new ≡ record { bits = self.old.bits; at = self.old.at + width } }
+    {
+        self.at += width;
+    }
+
     /// Whether the bits of the next field are all ones.
     #[tactic(auto, using(crate::proofs::PlainLemmas::bits_length))]
     pub(crate) fn is_ones(&self, spec: &Spec) -> bool

@@ -1,9 +1,10 @@
 //! The reading of data that are not compressed: subset after subset, each from the beginning of the
 //! template.
-ghost use Rattle.std.specs.Prelude.{◌≡◌, ◌≤◌, ◌+◌, ◌-◌, ◌*◌, false, length, List, IfOk, OnOk, OnErr, IfErr};
+ghost use Rattle.std.specs.Prelude.{◌≡◌, ◌≤◌, ◌+◌, ◌-◌, ◌*◌, false, length, List, IfOk, OnOk, OnErr, IfErr, IfSome};
 ghost use Rattle.bufr_bits.specs.Bits.{bits_of};
 ghost use Rattle.bufr_bits.specs.BitSlice.{octets_of};
 ghost use Rattle.bufr_tables.specs.Tree.{places};
+ghost use Rattle.bufr_walk.specs.Alike.{AreAlike, PassStopped};
 ghost use Rattle.bufr_walk.specs.Course.{next_item};
 ghost use Rattle.bufr_walk.specs.Fault.{bits_before};
 ghost use Rattle.bufr_walk.specs.Kept.{IsReadAndPaid};
@@ -11,6 +12,7 @@ ghost use Rattle.bufr_walk.specs.Outcome.{data_in, IsFault};
 ghost use Rattle.bufr_walk.specs.Passes.{PassReads, PassStops};
 ghost use Rattle.bufr_walk.specs.PlainIn.{fault_at};
 
+use crate::alike::{Alike, First, Listening};
 use crate::fault::{Spot, WalkFault};
 use crate::plain_in::{DataEnd, PlainIn};
 use crate::steps::Steps;
@@ -62,6 +64,68 @@ fn read_subset(
     }
 }
 
+/// Reads the first subset, and notes what each takes, where all are alike.
+fn read_first<'b>(
+    alloc: Global,
+    bits: BitSlice<'b>,
+    template: &Template,
+    table: &TableB,
+    steps: &mut Steps,
+) -> Result<First<'b>, WalkFault>
+    requires { steps.old ≡ 0 }
+    ensures read { IfOk result (λ first. PassReads (next_item table.now template.now)
+        (record { bits = bits_of (octets_of bits.entry); at = 0 }) steps.old
+        first.fields steps.new) }
+    ensures alike { IfOk result (λ first. IfSome first.alike
+        (AreAlike (places template.now) (next_item table.now template.now))) }
+    ensures accepted { IfOk result (λ first. steps.new ≤ places template.now * first.fields.at) }
+    ensures within { IfOk result (λ first. first.fields.at ≤ length first.fields.bits) }
+    ensures fault { IfErr result (λ why. PassStopped (places template.now)
+        (next_item table.now template.now)
+        (record { bits = bits_of (octets_of bits.entry); at = 0 }) steps.old 1 why steps.new) }
+{
+    let mut fields = Listening::new(bits);
+    match walk(alloc, template, table, &mut fields, steps) {
+        Ok(()) => Ok(fields.into_first(steps)),
+        Err(why) => Err(fault_at(why, 1, fields.place())),
+    }
+}
+
+/// Reads a subset behind the first one, of this number. Where all are alike, and the bits hold it,
+/// it is gone past.
+fn read_next(
+    alloc: Global,
+    template: &Template,
+    table: &TableB,
+    subset: u16,
+    alike: Option<Alike>,
+    fields: &mut PlainIn<'_>,
+    steps: &mut Steps,
+) -> Result<(), WalkFault>
+    requires { IfSome alike (AreAlike (places template.now) (next_item table.now template.now)) }
+    ensures read { OnOk result
+        (PassReads (next_item table.now template.now) fields.old steps.old fields.new steps.new) }
+    ensures fault { IfErr result (λ why. PassStops (next_item table.now template.now) fields.old
+        steps.old subset why fields.new steps.new) }
+    ensures accepted { OnOk result
+        (steps.new ≤ steps.old + places template.now * (fields.new.at - fields.old.at)) }
+    ensures refused { OnErr result
+        (steps.new ≤ steps.old + places template.now * (fields.new.at - fields.old.at + 1)) }
+    ensures within { fields.new.at ≤ length fields.new.bits }
+    ensures forth { fields.old.at ≤ fields.new.at }
+{
+    let Some(each) = alike else {
+        return read_subset(alloc, template, table, subset, fields, steps);
+    };
+    let there = fields.holds(each.bits);
+    if !there {
+        return read_subset(alloc, template, table, subset, fields, steps);
+    }
+    fields.pass(each.bits);
+    steps.add(each.turns);
+    Ok(())
+}
+
 /// Reads all subsets, and answers how many bits they take.
 pub(crate) fn read_plain(
     alloc: Global,
@@ -80,9 +144,12 @@ pub(crate) fn read_plain(
     ensures refused { IfErr result (λ why. steps.new
         ≤ places template.now * (bits_before why (length (bits_of (octets_of bits.entry))) + 1)) }
 {
-    let mut fields = PlainIn::new(bits);
-    'subsets: for done in 0..subsets {
-        read_subset(alloc, template, table, done + 1, &mut fields, steps)?;
+    if subsets == 0 {
+        return Ok(0);
+    }
+    let First { mut fields, alike } = read_first(alloc, bits, template, table, steps)?;
+    'subsets: for done in 1..subsets {
+        read_next(alloc, template, table, done + 1, alike, &mut fields, steps)?;
     }
     Ok(fields.place())
 }

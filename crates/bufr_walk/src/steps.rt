@@ -38,4 +38,11 @@ impl Steps {
     {
         self.count = self.count.saturating_add(1);
     }
+
+    /// So many more turns, up to the greatest `u64`.
+    pub(crate) fn add(&mut self, turns: u64)
+        ensures { self.new ≡ ticked self.old turns }
+    {
+        self.count = self.count.saturating_add(turns);
+    }
 }

@@ -279,6 +279,20 @@ const ROWS: &[(&str, u16, &str, &str, &str)] = &[
         "30 at 2 001001 7 steps 3",
     ),
     (
+        "third_subset_past_the_end",
+        3,
+        "001001 012101",
+        "14E11E29C23C5387",
+        "30 at 3 012101 53 steps 8",
+    ),
+    (
+        "subsets_of_other_counts",
+        2,
+        "101000 031001 001001",
+        "01140428A0",
+        "bits 37 steps 12; 1: 031001 1e0 # 001001 10e0 # 2: 031001 2e0 # 001001 10e0 # 001001 20e0 #",
+    ),
+    (
         "many_passes_past_the_end",
         1,
         "103255 102255 101255 001001",
