@@ -123,7 +123,7 @@ all_alike n course s s' c c' a first none w few silent bits turns = record {
   few = subst (λ k. a.turns ≤ n * k) (sym bits) (omega (arith, few, turns));
 }
 
-ticked_so : (c a k : ℕ) → a ≡ ticked 0 k → ticked c a ≡ ticked c k
+pub ticked_so : (c a k : ℕ) → a ≡ ticked 0 k → ticked c a ≡ ticked c k
 ticked_so c a k e = by c a k (2 ^ 64 - 1) e
   where
     by : (c a k most : ℕ) → a ≡ max 0 (min (0 + k) most) → max c (min (c + a) most) ≡ max c (min (c + k) most)

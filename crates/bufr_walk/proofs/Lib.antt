@@ -32,9 +32,11 @@ pub mod PackedSubsets
 pub mod Readings
 pub mod PlainSubsets
 pub mod AlikeLemmas
+pub mod PlanLemmas
 pub mod ReadingLemmas
 pub mod PackedHeld
 pub mod PackedShowing
 pub mod ShownBounds
 pub mod ShownLemmas
 pub mod SubsetLemmas
+pub mod PlanShown

@@ -56,5 +56,7 @@ pub mod PackedIn
 pub mod Passes
 -- subsets that are alike, whatever their bits say
 pub mod Alike
+-- the plan of a subset, where the data have no say in it
+pub mod Plan
 -- fields that are read and shown at once
 pub mod ShowSteps

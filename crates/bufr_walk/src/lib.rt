@@ -17,6 +17,7 @@ mod kept;
 pub mod law;
 mod packed_in;
 mod plain_in;
+mod plan;
 mod read_packed;
 mod read_plain;
 mod reading;

@@ -100,6 +100,14 @@ impl<'a> PlainIn<'a> {
         self.at += u64::from(spec.width());
     }
 
+    /// How many bits there are.
+    #[tactic(auto, using(crate::proofs::PlainLemmas::bits_length))]
+    pub(crate) fn end(&self) -> u64
+        ensures { result ≡ length self.now.bits }
+    {
+        self.bits.len_bits()
+    }
+
     /// Whether so many more bits are there.
     #[tactic(auto, using(crate::proofs::PlainLemmas::bits_length))]
     pub(crate) fn holds(&self, width: u64) -> bool

@@ -1,15 +1,15 @@
 //! How data that are not compressed are shown: they are read once more, and each item is handed on.
-ghost use Rattle.std.specs.Prelude.{◌≡◌, ◌≤◌, ◌<◌, ◌+◌, ◌-◌, ◌*◌, ◌/◌, ◌^◌, ◌==◌, if◌then◌else◌, true, false, length, take, drop, List, Bool, Result, Ok, Err, None, option_map, OnOk, IfOk, IfErr};
+ghost use Rattle.std.specs.Prelude.{◌≡◌, ◌≤◌, ◌<◌, ◌+◌, ◌-◌, ◌*◌, ◌/◌, ◌^◌, ◌==◌, true, false, length, take, drop, List, Bool, Result, Ok, Err, OnOk, IfOk, IfErr, IfSome};
 ghost use Rattle.bufr_bits.specs.Bits.{bits_of, all_set};
 ghost use Rattle.bufr_bits.specs.BitSlice.{octets_of};
-ghost use Rattle.bufr_tables.specs.Entry.{row_with};
-ghost use Rattle.bufr_tables.specs.TableB.{entry_of, is_character};
+ghost use Rattle.bufr_tables.specs.TableB.{Row, is_character};
 ghost use Rattle.bufr_tables.specs.Tree.{Tree};
 ghost use Rattle.bufr_walk.specs.Calls.{item_call, view_of, subset_calls};
 ghost use Rattle.bufr_walk.specs.Content.{Content, content_in, octets_in, shown};
 ghost use Rattle.bufr_walk.specs.ViewModel.{seen_value};
 ghost use Rattle.bufr_walk.specs.Course.{next_item};
-ghost use Rattle.bufr_walk.specs.PlainIn.{rest_of};
+ghost use Rattle.bufr_walk.specs.PlainIn.{rest_of, past};
+ghost use Rattle.bufr_walk.specs.Plan.{HasRow, IsPlanOf};
 ghost use Rattle.bufr_walk.specs.Reading.{Item, plain, ReadsAll, ReadsSubsets, turns_in};
 ghost use Rattle.bufr_walk.specs.ShowSteps.{IsEnd, MayEnd, ItemsGo, SubsetGoes};
 ghost use Rattle.bufr_walk.specs.CallsInTurn.{Shows};
@@ -18,6 +18,7 @@ use crate::bits::front;
 use crate::fault::ShowFault;
 use crate::fields::Fields;
 use crate::plain_in::PlainIn;
+use crate::plan::{Plan, Planned, count_to, plan_of};
 use crate::spec::{Spec, Taken};
 use crate::steps::Steps;
 use crate::stop::WalkStop;
@@ -29,14 +30,32 @@ use std::alloc::Global;
 
 /// What Table B says of the field's element, where the field is read by it.
 pub(crate) fn entry_for<'t>(table: &'t TableB, spec: &Spec) -> Option<Entry<'t>>
-    ensures { option_map (row_with spec.now.fxy) result
-        ≡ (if spec.now.listed then entry_of table.now spec.now.fxy else None) }
+    ensures { HasRow table.now spec.now result }
 {
     if spec.listed() {
         table.get(spec.fxy())
     } else {
         None
     }
+}
+
+/// Shows a field that has this value, and what Table B says of it.
+fn show_with<V: Visitor>(
+    spec: &Spec,
+    found: &Option<Entry<'_>>,
+    value: Value<'_>,
+    visitor: &mut V,
+) -> Result<(), V::Fault>
+    ensures { (table : List Row) (content : Content) → HasRow table spec.now found.now
+        → seen_value value.entry ≡ shown spec.now content
+        → V.sees visitor.old (item_call (view_of table spec.now content)) result visitor.new }
+{
+    let fxy = spec.fxy();
+    visitor.item(&ItemView {
+        fxy,
+        entry: *found,
+        value,
+    })
 }
 
 /// Shows a field that has this value.
@@ -49,55 +68,74 @@ pub(crate) fn show_value<V: Visitor>(
     ensures { (content : Content) → seen_value value.entry ≡ shown spec.now content
         → V.sees visitor.old (item_call (view_of table.now spec.now content)) result visitor.new }
 {
-    let fxy = spec.fxy();
-    let entry = entry_for(table, spec);
-    visitor.item(&ItemView { fxy, entry, value })
+    let found = entry_for(table, spec);
+    show_with(spec, &found, value, visitor)
 }
 
 /// Shows a field that is text, not missing, and does not begin an octet. It stands by itself, so
-/// that
-/// only such texts pay for its array.
+/// that only such texts pay for its array.
 #[inline(never)]
 fn show_copied<V: Visitor>(
     input: &PlainIn<'_>,
-    table: &TableB,
     spec: &Spec,
+    found: &Option<Entry<'_>>,
     visitor: &mut V,
 ) -> Result<(), V::Fault>
     requires within { input.now.at + spec.now.width ≤ length input.now.bits }
     requires text { is_character spec.now.kind ≡ true }
     requires some { all_set (take spec.now.width (rest_of input.now)) ≡ false }
-    ensures { V.sees visitor.old (item_call (view_of table.now spec.now
+    ensures { (table : List Row) → HasRow table spec.now found.now
+        → V.sees visitor.old (item_call (view_of table spec.now
         (content_in spec.now (take spec.now.width (rest_of input.now))))) result visitor.new }
 {
     let mut text = [0u8; 255];
     input.copy_text(spec, &mut text);
     let octets = front(&text, (spec.width() / 8) as usize);
-    show_value(table, spec, Value::Text(octets), visitor)
+    show_with(spec, found, Value::Text(octets), visitor)
 }
 
 /// Shows a field that is text.
 fn show_text<V: Visitor>(
     input: &PlainIn<'_>,
-    table: &TableB,
     spec: &Spec,
+    found: &Option<Entry<'_>>,
     visitor: &mut V,
 ) -> Result<(), V::Fault>
     requires within { input.now.at + spec.now.width ≤ length input.now.bits }
     requires text { is_character spec.now.kind ≡ true }
-    ensures { V.sees visitor.old (item_call (view_of table.now spec.now
+    ensures { (table : List Row) → HasRow table spec.now found.now
+        → V.sees visitor.old (item_call (view_of table spec.now
         (content_in spec.now (take spec.now.width (rest_of input.now))))) result visitor.new }
 {
     // For the proof alone: the width of a text is whole octets.
     let _ = spec.width();
     let missing = input.is_ones(spec);
     if missing {
-        return show_value(table, spec, Value::Missing, visitor);
+        return show_with(spec, found, Value::Missing, visitor);
     }
     match input.octets(spec) {
-        Some(octets) => show_value(table, spec, Value::Text(octets), visitor),
-        None => show_copied(input, table, spec, visitor),
+        Some(octets) => show_with(spec, found, Value::Text(octets), visitor),
+        None => show_copied(input, spec, found, visitor),
     }
+}
+
+/// Shows a field, of which this is found in Table B.
+fn show_found<V: Visitor>(
+    input: &PlainIn<'_>,
+    spec: &Spec,
+    found: &Option<Entry<'_>>,
+    visitor: &mut V,
+) -> Result<(), V::Fault>
+    requires within { input.now.at + spec.now.width ≤ length input.now.bits }
+    ensures { (table : List Row) → HasRow table spec.now found.now
+        → V.sees visitor.old (item_call (view_of table spec.now
+        (content_in spec.now (take spec.now.width (rest_of input.now))))) result visitor.new }
+{
+    if spec.is_text() {
+        return show_text(input, spec, found, visitor);
+    }
+    let value = input.number_value(spec);
+    show_with(spec, found, value, visitor)
 }
 
 /// Shows a field.
@@ -111,11 +149,8 @@ pub(crate) fn show_field<V: Visitor>(
     ensures { V.sees visitor.old (item_call (view_of table.now spec.now
         (content_in spec.now (take spec.now.width (rest_of input.now))))) result visitor.new }
 {
-    if spec.is_text() {
-        return show_text(input, table, spec, visitor);
-    }
-    let value = input.number_value(spec);
-    show_value(table, spec, value, visitor)
+    let found = entry_for(table, spec);
+    show_found(input, spec, &found, visitor)
 }
 
 /// Why a field is not taken.
@@ -235,6 +270,109 @@ fn show_items<V: Visitor>(
     outcome
 }
 
+/// Shows the next field of a plan, and goes past it.
+fn show_next<V: Visitor>(
+    field: &Planned<'_>,
+    input: &mut PlainIn<'_>,
+    visitor: &mut V,
+) -> Result<(), V::Fault>
+    requires within { input.old.at + field.now.spec.width ≤ length input.old.bits }
+    ensures shown { (table : List Row) → HasRow table field.now.spec field.now.entry
+        → V.sees visitor.old (item_call (view_of table field.now.spec (content_in field.now.spec
+        (take field.now.spec.width (rest_of input.old))))) result visitor.new }
+    ensures past { OnOk result (input.new ≡ past input.old field.now.spec) }
+{
+    // For the proof alone: no place is past the greatest `u64`.
+    let _ = input.end();
+    match show_found(input, &field.spec, &field.entry, visitor) {
+        Ok(()) => {
+            input.skip(&field.spec);
+            Ok(())
+        }
+        Err(fault) => Err(fault),
+    }
+}
+
+/// Shows the items of one subset by its plan, a walk over which takes so many turns.
+fn show_planned<V: Visitor>(
+    alloc: Global,
+    template: &Template,
+    table: &TableB,
+    plan: &[Planned<'_>],
+    turns: u64,
+    input: &mut PlainIn<'_>,
+    visitor: &mut V,
+    steps: &mut Steps,
+) -> Result<(), ShowFault<V::Fault>>
+    requires readable { (items : List (Item Content)) × (left : List Bool)
+        × ReadsAll plain (next_item table.now template.now) items (rest_of input.old) left }
+    requires plan { IsPlanOf table.now (next_item table.now template.now) plan.now turns }
+    ensures { ItemsGo V.sees table.now (next_item table.now template.now) input.old visitor.old
+        steps.old result input.new visitor.new steps.new }
+{
+    'fields: for place in 0..plan.len() {
+        // For the proof alone: the fields before lie within the bits.
+        let _ = input.place();
+        match show_next(&plan[place], input, visitor) {
+            Ok(()) => {}
+            Err(fault) => {
+                count_to(alloc, template, table, place, steps);
+                return Err(ShowFault::Visitor(fault));
+            }
+        }
+    }
+    steps.add(turns);
+    Ok(())
+}
+
+/// Shows the items of one subset, by its plan, if it has one.
+fn show_by<V: Visitor>(
+    alloc: Global,
+    template: &Template,
+    table: &TableB,
+    plan: &Option<Plan<'_>>,
+    input: &mut PlainIn<'_>,
+    visitor: &mut V,
+    steps: &mut Steps,
+) -> Result<(), ShowFault<V::Fault>>
+    requires plan { IfSome plan.now (λ p.
+        IsPlanOf table.now (next_item table.now template.now) p.fields.items p.turns) }
+    requires readable { (items : List (Item Content)) × (left : List Bool)
+        × ReadsAll plain (next_item table.now template.now) items (rest_of input.old) left }
+    ensures { ItemsGo V.sees table.now (next_item table.now template.now) input.old visitor.old
+        steps.old result input.new visitor.new steps.new }
+{
+    match plan {
+        None => show_items(alloc, template, table, input, visitor, steps),
+        Some(plan) => show_planned(
+            alloc,
+            template,
+            table,
+            plan.fields.as_slice(),
+            plan.turns,
+            input,
+            visitor,
+            steps,
+        ),
+    }
+}
+
+/// The plan by which subsets are shown: a single one is shown as fast by a walk.
+fn plan_for<'t>(
+    alloc: Global,
+    subsets: u16,
+    template: &Template,
+    table: &'t TableB,
+) -> Option<Plan<'t>>
+    ensures { IfSome result (λ p.
+        IsPlanOf table.now (next_item table.now template.now) p.fields.items p.turns) }
+{
+    if subsets < 2 {
+        return None;
+    }
+    plan_of(alloc, template, table)
+}
+
 /// Shows one subset, of this number.
 #[tactic(auto, using(crate::proofs::SubsetLemmas::subset_goes, crate::proofs::SubsetLemmas::subset_refused))]
 fn show_subset<V: Visitor>(
@@ -242,17 +380,20 @@ fn show_subset<V: Visitor>(
     template: &Template,
     table: &TableB,
     number: u16,
+    plan: &Option<Plan<'_>>,
     input: &mut PlainIn<'_>,
     visitor: &mut V,
     steps: &mut Steps,
 ) -> Result<(), ShowFault<V::Fault>>
+    requires plan { IfSome plan.now (λ p.
+        IsPlanOf table.now (next_item table.now template.now) p.fields.items p.turns) }
     requires readable { (items : List (Item Content)) × (left : List Bool)
         × ReadsAll plain (next_item table.now template.now) items (rest_of input.old) left }
     ensures { SubsetGoes V.sees table.now (next_item table.now template.now) number input.old
         visitor.old steps.old result input.new visitor.new steps.new }
 {
     match visitor.subset(number) {
-        Ok(()) => show_items(alloc, template, table, input, visitor, steps),
+        Ok(()) => show_by(alloc, template, table, plan, input, visitor, steps),
         Err(fault) => Err(ShowFault::Visitor(fault)),
     }
 }
@@ -277,9 +418,19 @@ pub(crate) fn show_plain<V: Visitor>(
         Shows V.sees visitor.old (subset_calls table.now (next_item table.now template.now) 0 1 all)
         (turns_in (next_item table.now template.now) all) result visitor.new steps.new }
 {
+    let plan = plan_for(alloc, subsets, template, table);
     let mut input = PlainIn::new(bits);
     'subsets: for done in 0..subsets {
-        show_subset(alloc, template, table, done + 1, &mut input, visitor, steps)?;
+        show_subset(
+            alloc,
+            template,
+            table,
+            done + 1,
+            &plan,
+            &mut input,
+            visitor,
+            steps,
+        )?;
     }
     Ok(())
 }

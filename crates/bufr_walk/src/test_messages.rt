@@ -241,41 +241,51 @@ impl Worked {
         }
     }
 
-    /// How many subsets and items it shows.
-    pub(crate) fn counted(&self, alloc: Global) -> Result<(u64, u64), Fail> {
+    /// How many subsets and items it shows, and in how many steps, where the item behind so many is
+    /// refused.
+    pub(crate) fn counted_to(&self, alloc: Global, most: u64) -> Result<(u64, u64, u64), Fail> {
         let message = message_in(&self.octets).ok_or("a message")?;
         let mut steps = Steps::new();
         let mut counts = Counts {
             subsets: 0,
             items: 0,
+            most,
         };
         let reading = read_message(alloc, &message, &self.template, &self.table, &mut steps)?;
-        reading
-            .show(alloc, &mut counts, &mut steps)
-            .ok()
-            .ok_or("a showing")?;
-        Ok((counts.subsets, counts.items))
+        // Where it is refused, what was counted tells where.
+        let _ = reading.show(alloc, &mut counts, &mut steps);
+        Ok((counts.subsets, counts.items, steps.count()))
+    }
+
+    /// How many subsets and items it shows.
+    pub(crate) fn counted(&self, alloc: Global) -> Result<(u64, u64), Fail> {
+        let (subsets, items, _) = self.counted_to(alloc, u64::MAX)?;
+        Ok((subsets, items))
     }
 }
 
-/// A visitor that counts what it is told.
+/// A visitor that counts what it is told, and refuses the item behind so many.
 #[derive(Drop)]
 struct Counts {
     subsets: u64,
     items: u64,
+    most: u64,
 }
 
 impl Visitor for Counts {
-    type Fault = AllocError;
+    type Fault = u64;
 
     ghost sees = { λ s call r t. Unit {0} };
 
-    fn subset(&mut self, _number: u16) -> Result<(), AllocError> {
+    fn subset(&mut self, _number: u16) -> Result<(), u64> {
         self.subsets = u64::wrapping_add(self.subsets, 1);
         Ok(())
     }
 
-    fn item(&mut self, _item: &ItemView<'_>) -> Result<(), AllocError> {
+    fn item(&mut self, _item: &ItemView<'_>) -> Result<(), u64> {
+        if self.items == self.most {
+            return Err(self.items);
+        }
         self.items = u64::wrapping_add(self.items, 1);
         Ok(())
     }

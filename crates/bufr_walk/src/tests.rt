@@ -499,6 +499,39 @@ fn as_many_compressed_subsets_as_may_be(rt: HostRuntime) -> Result<(), Fail> {
     Ok(())
 }
 
+// Subsets with more fields than a plan has room for.
+#[test]
+fn more_fields_than_a_plan_has(rt: HostRuntime) -> Result<(), Fail> {
+    let payload = octets_with(rt.alloc(), 1794, 0x14, 0x00)?;
+    let worked = Worked::new(rt.alloc(), 2, APART, "102205 101005 001001", &payload)?;
+    assert_read(&rt, &worked, "bits 14350 steps 4924")?;
+    assert_counted(&rt, &worked, (2, 2050))?;
+    Ok(())
+}
+
+// Asserts how many steps a showing makes up to the item behind so many.
+fn assert_steps_to(
+    rt: &(impl Abort + AllocGlobal),
+    worked: &Worked,
+    most: u64,
+    want: (u64, u64, u64),
+) -> Result<(), Fail> {
+    assert_eq!(rt; worked.counted_to(rt.alloc(), most)?, want);
+    Ok(())
+}
+
+#[test]
+fn refused_items_of_two_subsets(rt: HostRuntime) -> Result<(), Fail> {
+    let payload = octets_with(rt.alloc(), 8, 0x14, 0x00)?;
+    let worked = Worked::new(rt.alloc(), 2, APART, "012101 101002 001001", &payload)?;
+    assert_steps_to(&rt, &worked, 0, (1, 0, 1))?;
+    assert_steps_to(&rt, &worked, 2, (1, 2, 5))?;
+    assert_steps_to(&rt, &worked, 3, (2, 3, 8))?;
+    assert_steps_to(&rt, &worked, 4, (2, 4, 10))?;
+    assert_steps_to(&rt, &worked, 6, (2, 6, 14))?;
+    Ok(())
+}
+
 #[test]
 fn as_many_characters_as_may_be(rt: HostRuntime) -> Result<(), Fail> {
     let payload = octets_with(rt.alloc(), 258, 0x00, 0x00)?;

@@ -1,7 +1,4 @@
-use Rattle.std.proofs.Common.{take}
-use Rattle.bufr_walk.specs.Content.{content_in}
-use Rattle.bufr_walk.specs.PlainIn.{rest_of}
 use Rattle.bufr_walk.proofs.show_plain.show_field.Goals as goal
 
 pub returns : goal.returns
-returns g c = c.show_value.ensures (content_in c.args.spec.now (take c.args.spec.now.width (rest_of c.args.input.now))) c.number_value-value.ensures
+returns g c = c.show_found.ensures c.args.table.now c.entry_for-found.ensures
