@@ -1,5 +1,5 @@
 //! The lines that tell the faults of a document.
-ghost use Rattle.std.specs.Prelude.{◌≡◌, ◌≢◌, ℕ, [], ◌∷◌, Err, IfErr, IfSome, codes, decimal};
+ghost use Rattle.std.specs.Prelude.{◌≡◌, ◌≢◌, ◌≤◌, ◌+◌, ℕ, [], ◌∷◌, Err, IfErr, IfSome, length};
 ghost use Rattle.bufr_fill.specs.Told.{other_than};
 ghost use Rattle.bufr_tables.specs.Fxy.{fxy_text};
 ghost use Rattle.bufr_tables.specs.FaultNumber.{number_of_template_fault};
@@ -11,37 +11,36 @@ ghost use Rattle.bufr_text.specs.Writing.{Writes};
 ghost use Rattle.bufr_run.specs.DocumentLine.{document_line, item_line, refusal_line, refused_line, walk_text};
 ghost use Rattle.bufr_run.specs.Counting.{OnlyWrites};
 
-use crate::fault_line::name_of_template_fault;
+use crate::fault_line::{name_of_template_fault, write_fault};
 use bufr_bits::Sink;
 use bufr_fill::Expected;
 use bufr_frame::RunFault;
 use bufr_tables::{Fxy, TemplateFault};
-use bufr_text::{DocumentFault, Part, ReadFault, WalkRefusal, write_parts};
+use bufr_text::{DocumentFault, ReadFault, WalkRefusal, lay_named, lay_text};
+
+/// The octets in which a line is laid from its end: 33 for what stands before its text, where each
+/// number of its type has room, and 39 for the longest text, of a template fault.
+const LINE: usize = 72;
 
 /// Writes a fault line: the line of the text, from 1, the fault's number, and its text in two
 /// parts.
-fn write_line<'a, E: Sink>(
+fn write_line<E: Sink>(
     line: u64,
     number: u8,
-    text: &'a [u8],
-    digits: &'a [u8],
+    text: &[u8],
+    digits: &[u8],
     e: &mut E,
 ) -> Result<(), RunFault>
+    requires short { length text.now + length digits.now ≤ 22 }
     ensures writes { Writes (E.taken e.old) (E.taken e.new)
-        (document_line line number (text.entry.now ∷ digits.entry.now ∷ [])) result }
+        (document_line line number (text.now ∷ digits.now ∷ [])) result }
     ensures counts { OnlyWrites E.failures E.empty_writes E.flushes e.old e.new result }
 {
-    let parts = [
-        Part::Text(b"line "),
-        Part::Decimal(line),
-        Part::Text(b": "),
-        Part::Decimal(u64::from(number)),
-        Part::Text(b" "),
-        Part::Text(text),
-        Part::Text(digits),
-        Part::Text(b"\n"),
-    ];
-    write_parts(&parts, e)
+    let mut laid = [0; LINE];
+    let end = lay_text(b"\n", &mut laid, LINE);
+    let end = lay_text(digits, &mut laid, end);
+    let end = lay_text(text, &mut laid, end);
+    write_fault(b"line ", line, number, &mut laid, end, e)
 }
 
 /// Writes a fault line that names a descriptor.
@@ -52,6 +51,7 @@ fn write_descriptor_line<E: Sink>(
     fxy: Fxy,
     e: &mut E,
 ) -> Result<(), RunFault>
+    requires short { length text.now ≤ 16 }
     ensures writes { Writes (E.taken e.old) (E.taken e.new)
         (document_line line number (text.now ∷ fxy_text fxy ∷ [])) result }
     ensures counts { OnlyWrites E.failures E.empty_writes E.flushes e.old e.new result }
@@ -94,40 +94,13 @@ fn write_template<E: Sink>(
     ensures counts { OnlyWrites E.failures E.empty_writes E.flushes e.old e.new result }
 {
     let (name, fxy) = name_of_template_fault(fault);
-    let why = fault.number();
-    let digits = fxy.text();
-    write_template_parts(line, number, why, name, &digits, e)
-}
-
-/// Writes the line of a template fault, by the fault's own number, `why`, its name and its
-/// descriptor.
-fn write_template_parts<'a, E: Sink>(
-    line: u64,
-    number: u8,
-    why: u8,
-    name: &'a [u8],
-    digits: &'a [u8],
-    e: &mut E,
-) -> Result<(), RunFault>
-    ensures writes { Writes (E.taken e.old) (E.taken e.new)
-        (document_line line number (codes "template " ∷ decimal why ∷ codes " " ∷ name.entry.now
-        ∷ digits.entry.now ∷ [])) result }
-    ensures counts { OnlyWrites E.failures E.empty_writes E.flushes e.old e.new result }
-{
-    let parts = [
-        Part::Text(b"line "),
-        Part::Decimal(line),
-        Part::Text(b": "),
-        Part::Decimal(u64::from(number)),
-        Part::Text(b" "),
-        Part::Text(b"template "),
-        Part::Decimal(u64::from(why)),
-        Part::Text(b" "),
-        Part::Text(name),
-        Part::Text(digits),
-        Part::Text(b"\n"),
-    ];
-    write_parts(&parts, e)
+    let mut laid = [0; LINE];
+    let end = lay_text(b"\n", &mut laid, LINE);
+    let end = lay_text(&fxy.text(), &mut laid, end);
+    let end = lay_text(name, &mut laid, end);
+    let end = lay_text(b" ", &mut laid, end);
+    let end = lay_named(b"template ", u16::from(fault.number()), &mut laid, end);
+    write_fault(b"line ", line, number, &mut laid, end, e)
 }
 
 /// Writes the line of a document whose walk is refused, by the walk's own number, `why`, and a
@@ -143,20 +116,12 @@ fn write_walk_parts<E: Sink>(
         (document_line line number (walk_text why fxy)) result }
     ensures counts { OnlyWrites E.failures E.empty_writes E.flushes e.old e.new result }
 {
-    let digits = fxy.text();
-    let parts = [
-        Part::Text(b"line "),
-        Part::Decimal(line),
-        Part::Text(b": "),
-        Part::Decimal(u64::from(number)),
-        Part::Text(b" "),
-        Part::Text(b"walk "),
-        Part::Decimal(u64::from(why)),
-        Part::Text(b" descriptor "),
-        Part::Text(&digits),
-        Part::Text(b"\n"),
-    ];
-    write_parts(&parts, e)
+    let mut laid = [0; LINE];
+    let end = lay_text(b"\n", &mut laid, LINE);
+    let end = lay_text(&fxy.text(), &mut laid, end);
+    let end = lay_text(b" descriptor ", &mut laid, end);
+    let end = lay_named(b"walk ", u16::from(why), &mut laid, end);
+    write_fault(b"line ", line, number, &mut laid, end, e)
 }
 
 /// Writes the line of a document whose walk over the template is refused.

@@ -38,8 +38,10 @@ pub use encode::{encode_document, encode_form};
 pub use encode_fault::{DocumentFault, WalkRefusal};
 pub use fault::ReadFault;
 pub use form::Form;
+pub use laid::{lay_decimal, lay_named, lay_text};
 pub use ls::write_ls;
 pub use part::{Part, write_all, write_parts};
+pub use slice::behind;
 
 #[cfg(test)]
 mod dump_tests;

@@ -136,7 +136,7 @@ fn write_each<W: Sink>(parts: &[Part<'_>], w: &mut W) -> Result<(), RunFault>
 }
 
 /// Writes parts, one after another. They are put together first, so that a text of at most 256
-/// octets, as each listing and fault line is, goes to the writer in one write.
+/// octets goes to the writer in one write.
 ///
 /// # Errors
 ///
