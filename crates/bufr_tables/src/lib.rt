@@ -6,8 +6,8 @@
 //!
 //! `bufr_cli` reads the two tables once. `bufr_run` asks [`Templates`] for the template of each
 //! message that it dumps, which keeps the last one, for messages that repeat their descriptors;
-//! `bufr_text` builds one for each document that it encodes. `bufr_walk` goes through the template's
-//! cells, and asks Table B for each element. The tests `elements`, `sequences`,
+//! `bufr_text` builds one for each document that it encodes. `bufr_walk` goes through the cells of
+//! the template, and asks Table B for each element. The tests `elements`, `sequences`,
 //! `cells_of_worked_lists` and `lists_that_are_repeated` show it.
 #![tactic(auto)]
 

@@ -95,7 +95,8 @@ impl<'b> Fields for Listening<'b> {
 
     ghost takes = { Listens };
 
-    ghost advances = { λ s spec t next h. Prim.omega (arith, h.is_taken.some, ap (λ c. c.at) h.is_taken.next) };
+    ghost advances = { λ s spec t next h. Prim.omega
+        (arith, h.is_taken.some, ap (λ c. c.at) h.is_taken.next) };
 
     ghost refuses = { λ s spec e next h. ap (λ c. c.at) h.2 };
 

@@ -40,6 +40,7 @@ pub(crate) fn entry_for<'t>(table: &'t TableB, spec: &Spec) -> Option<Entry<'t>>
 }
 
 /// Shows a field that has this value, and what Table B says of it.
+#[inline(always)]
 fn show_with<V: Visitor>(
     spec: &Spec,
     found: &Option<Entry<'_>>,
@@ -120,6 +121,7 @@ fn show_text<V: Visitor>(
 }
 
 /// Shows a field, of which this is found in Table B.
+#[inline(always)]
 fn show_found<V: Visitor>(
     input: &PlainIn<'_>,
     spec: &Spec,
