@@ -31,6 +31,7 @@ pub mod SameBits
 pub mod DrawnLemmas
 pub mod DrawLemmas
 pub mod PutLemmas
+pub mod KeptLemmas
 pub mod PlainSteps
 pub mod Places
 pub mod PackSteps

@@ -1,11 +1,15 @@
 -- Where the subsets stand among entries.
-use Rattle.std.proofs.Common.{◌≡◌, ℕ, zero, suc, ◌+◌, ◌-◌, ◌≤◌, ◌<◌, List, [], ◌∷◌, true, length, drop, get_or, map, min, Option, Some, refl, sym, ◌∙◌, ap, arith}
-use Rattle.std.specs.Prelude.{slice_get, ◌==◌}
+use Rattle.std.proofs.Common.{◌≡◌, ℕ, zero, suc, ◌+◌, ◌-◌, ◌≤◌, ◌<◌, Bool, List, [], ◌∷◌, ◌++◌, true, false, length, drop, get_or, map, min, Option, Some, None, refl, sym, ◌∙◌, ap, arith, add-one}
+use Rattle.std.specs.Prelude.{slice_get, option_map, ◌==◌}
+use Rattle.std.proofs.Math.Seq.{drop-cons}
+use Rattle.std.proofs.lemmas.List.{append_assoc}
+use Rattle.std.proofs.lemmas.Option.{none-some, slice_get-get_or}
 use Rattle.std.proofs.lemmas.Bool.Decides.{nat_tests}
 use Rattle.bufr_fill.specs.Draft.{Draft}
 use Rattle.bufr_fill.specs.Entries.{Entry, Holds, Ends, Subset, subset, onto_first, subsets_of}
 use Rattle.bufr_fill.specs.Encoding.{Cell, cells_at}
 use Rattle.bufr_fill.specs.Gathered.{begin_of, entry_by, cell_entry}
+use Rattle.bufr_fill.specs.Kept.{is_end}
 use Rattle.bufr_fill.specs.PackedOut.{ends_of}
 
 -- the first subset among entries
@@ -152,6 +156,12 @@ mapped_there f [] s x h e = absurd (omega (arith, h))
 mapped_there f (y ∷ xs) zero x h e = ap (λ z. Some (f z)) (sym e)
 mapped_there f (y ∷ xs) (suc s) x h e = mapped_there f xs s x (omega (arith, h)) e
 
+-- where the code finds none, there is none
+pub none_there : {X : Type 0} (xs : List X) (s : ℕ) → None ≡ slice_get xs s → length xs ≤ s
+none_there [] s h = omega arith
+none_there (y ∷ xs) zero h = absurd (none-some y h)
+none_there (y ∷ xs) (suc s) h = omega (arith, none_there xs s h)
+
 -- with no end there is no subset
 pub none_end : (xs : List Entry) → ends_of 0 xs ≡ [] → subsets_of xs ≡ []
 none_end xs e = by (subsets_of xs) (length-subsets 0 xs ∙ ap length e)
@@ -193,3 +203,36 @@ empty_is (x ∷ xs) n e h = absurd (omega (arith, e, zero_from n h))
   where
     zero_from : (n : ℕ) → (n == 0) ≡ true → n ≡ 0
     zero_from n h = grind (arith, nat_tests)
+
+some-same : {a b : Bool} → Some a ≡ Some b → a ≡ b
+some-same e = cc
+
+true-false : true ≡ false → ⊥
+true-false e = cc
+
+false-true : false ≡ true → ⊥
+false-true e = cc
+
+-- one entry more was looked at
+next_of : (xs : List Entry) (place : ℕ) → place < length xs → drop place xs ≡ get_or xs place (Ends 0) ∷ drop (place + 1) xs
+next_of xs place h = drop-cons xs place (Ends 0) h ∙ ap (λ j. get_or xs place (Ends 0) ∷ drop j xs) (sym (add-one place))
+
+pub ends_here : (xs : List Entry) (ends new : List ℕ) (place : ℕ) (b : Bool) → place < length xs → Some b ≡ option_map is_end (slice_get xs place) → b ≡ true → new ≡ ends ++ place ∷ []
+    → ends ++ ends_of place (drop place xs) ≡ ends_of 0 xs → new ++ ends_of (place + 1) (drop (place + 1) xs) ≡ ends_of 0 xs
+ends_here xs ends new place b within is so grown before =
+    by (get_or xs place (Ends 0)) (is ∙ ap (option_map is_end) (slice_get-get_or xs place (Ends 0) within)) (next_of xs place within)
+  where
+    by : (e : Entry) → Some b ≡ Some (is_end e) → drop place xs ≡ e ∷ drop (place + 1) xs → new ++ ends_of (place + 1) (drop (place + 1) xs) ≡ ends_of 0 xs
+    by (Holds d) odd at = absurd (true-false (sym so ∙ some-same odd))
+    by (Ends line) so at =
+        ap (λ l. l ++ ends_of (place + 1) (drop (place + 1) xs)) grown ∙ append_assoc ends (place ∷ []) (ends_of (place + 1) (drop (place + 1) xs))
+        ∙ ap (λ l. ends ++ ends_of place l) (sym at) ∙ before
+
+pub ends_behind : (xs : List Entry) (ends new : List ℕ) (place : ℕ) (b : Bool) → place < length xs → Some b ≡ option_map is_end (slice_get xs place) → b ≡ false → new ≡ ends
+    → ends ++ ends_of place (drop place xs) ≡ ends_of 0 xs → new ++ ends_of (place + 1) (drop (place + 1) xs) ≡ ends_of 0 xs
+ends_behind xs ends new place b within is so same before =
+    by (get_or xs place (Ends 0)) (is ∙ ap (option_map is_end) (slice_get-get_or xs place (Ends 0) within)) (next_of xs place within)
+  where
+    by : (e : Entry) → Some b ≡ Some (is_end e) → drop place xs ≡ e ∷ drop (place + 1) xs → new ++ ends_of (place + 1) (drop (place + 1) xs) ≡ ends_of 0 xs
+    by (Holds d) was at = ap (λ l. l ++ ends_of (place + 1) (drop (place + 1) xs)) same ∙ ap (λ l. ends ++ ends_of place l) (sym at) ∙ before
+    by (Ends line) odd at = absurd (false-true (sym so ∙ some-same odd))

@@ -1,15 +1,15 @@
 -- What all subsets give at one place, as the code looks at it.
 -- Cited by private steps only.
-use Rattle.std.specs.Prelude.{ℕ, zero, suc, ◌≡◌, ◌++◌, List, [], ◌∷◌, length, drop, Option, Some, None, Result, Ok, Err}
+use Rattle.std.specs.Prelude.{ℕ, zero, suc, ◌≡◌, ◌++◌, List, [], ◌∷◌, length, drop, slice_get, Option, Some, None, Result, Ok, Err}
 use Rattle.bufr_fill.specs.declared.fault.DraftFault.{DraftFault}
 use Rattle.bufr_fill.specs.declared.draw.Drawn.{Drawn}
 use Rattle.bufr_walk.specs.Asked.{Asked}
 use Rattle.bufr_walk.specs.Content.{Content}
 use Rattle.bufr_fill.specs.Draft.{Draft}
-use Rattle.bufr_fill.specs.Entries.{Entry, Holds, Ends}
+use Rattle.bufr_fill.specs.Entries.{Entry, Holds, Ends, subsets_of}
 use Rattle.bufr_fill.specs.Fault.{FaultAt}
 use Rattle.bufr_fill.specs.Drawn.{content_drawn, IsDrawn}
-use Rattle.bufr_fill.specs.Encoding.{Cell, content_here, contents_here, first_unlike}
+use Rattle.bufr_fill.specs.Encoding.{Cell, cells_at, content_here, contents_here, first_unlike}
 use Rattle.bufr_fill.specs.PlainOut.{WhereTold}
 use Rattle.bufr_fill.specs.Told.{told_fault}
 
@@ -40,6 +40,24 @@ entry_line (Ends line) = line
 abbrev pub DrawnSo : (count : ℕ) → Asked → Result Content FaultAt → Result Drawn DraftFault → Type 0
 DrawnSo count spec expected (Ok d) = (expected ≡ Ok (content_drawn count d)) × IsDrawn spec d
 DrawnSo count spec expected (Err e) = WhereTold (told_fault e) (λ f. expected ≡ Err f)
+
+-- an entry is that of a subset at a place
+abbrev pub IsAt : (place subset : ℕ) → List Entry → Entry → Type 0
+IsAt place subset entries e =
+    (c : Cell) → slice_get (cells_at place (subsets_of entries)) subset ≡ Some c → e ≡ cell_entry c
+
+-- the line that it stands on
+pub record LineAt (place subset : ℕ) (entries : List Entry) (line : ℕ) : Type 0 where
+  pub e : Entry
+  pub there : IsAt place subset entries e
+  pub so : line ≡ entry_line e
+
+-- it was drawn, or its fault was told
+pub record DrawsAt (count : ℕ) (spec : Asked) (place subset : ℕ) (entries : List Entry)
+    (result : Result Drawn DraftFault) : Type 0 where
+  pub e : Entry
+  pub there : IsAt place subset entries e
+  pub so : DrawnSo count spec (entry_here spec e) result
 
 abbrev pub AllDrawn : Asked → List Drawn → Type 0
 AllDrawn spec [] = Unit {0}

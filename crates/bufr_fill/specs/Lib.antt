@@ -4,6 +4,8 @@ pub mod Draft
 pub mod Entries
 -- the items that the code hands over, as drafts and entries
 pub mod Given
+-- how entries are kept, in one block of octets and places in it
+pub mod Kept
 -- what is at fault with an item, and its line
 pub mod Fault
 -- the faults that the code tells, as definitions, and their numbers

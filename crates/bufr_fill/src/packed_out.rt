@@ -1,16 +1,15 @@
 //! Items of a dump text written as compressed data.
-ghost use Rattle.std.specs.Prelude.{◌≡◌, ◌≤◌, ◌<◌, ◌+◌, ◌*◌, ◌/◌, ◌^◌, IfOk, Ok, length, map};
+ghost use Rattle.std.specs.Prelude.{◌≡◌, ◌≤◌, ◌<◌, ◌+◌, ◌*◌, ◌/◌, ◌^◌, IfOk, Ok, length};
 ghost use Rattle.bufr_walk.specs.Asked.{IsFor};
 ghost use Rattle.bufr_walk.specs.Reading.{most_values};
 ghost use Rattle.bufr_fill.specs.Encoding.{across, cells_at, contents_here};
 ghost use Rattle.bufr_fill.specs.Entries.{subsets_of};
 ghost use Rattle.bufr_fill.specs.Gathered.{AllDrawn, contents_drawn};
 ghost use Rattle.bufr_fill.specs.Packs.{PutAcross};
-ghost use Rattle.bufr_fill.specs.Given.{entry_in};
 ghost use Rattle.bufr_fill.specs.PackedOut.{ends_of};
 
-use crate::draft::Entry;
 use crate::draw::Drawn;
+use crate::entries::Entries;
 use crate::fault::DraftFault;
 use crate::gather::{all_end, first_line, gather, unlike_line};
 use crate::packing::{Unpacked, pack};
@@ -28,41 +27,38 @@ use std::marker::Model;
 /// items. A refusal, for want of memory too, changes none of them: what was written of the item is
 /// cut off again.
 #[derive(Drop)]
-pub struct PackedOut<'s, 'a> {
-    entries: &'s [Entry<'a>],
+pub struct PackedOut<'s> {
+    entries: &'s Entries,
     ends: Vec<usize>,
     place: usize,
-    drawn: Vec<Drawn<'a>>,
+    drawn: Vec<Drawn<'s>>,
     out: BitWriter,
 }
 
-impl<'s, 'a> Model for PackedOut<'s, 'a> {
-    ghost use Rattle.std.specs.Prelude.{length, map};
+impl<'s> Model for PackedOut<'s> {
+    ghost use Rattle.std.specs.Prelude.{length};
     ghost use Rattle.bufr_fill.specs.Entries.{subsets_of};
-    ghost use Rattle.bufr_fill.specs.Given.{entry_in};
     ghost use Rattle.bufr_fill.specs.PackedOut.{PackedPen, IsPackedOut};
 
     ghost Value = { PackedPen };
 
     ghost view = { λ s. record {
-      subsets = subsets_of (map entry_in s.entries.now);
+      subsets = subsets_of s.entries.now;
       place = s.place;
       bits = s.out;
     } };
 
-    ghost invariant = { λ s. IsPackedOut (map entry_in s.entries.now) s.ends.items
-        s.place (length s.out) };
+    ghost invariant = { λ s. IsPackedOut s.entries.now s.ends.items s.place (length s.out) };
 }
 
 /// The places of the entries that end subsets.
-fn ends_in(alloc: Global, entries: &[Entry<'_>]) -> Result<Vec<usize>, AllocError>
-    ensures { IfOk result (λ ends. ends.items ≡ ends_of 0 (map entry_in entries.now)) }
+fn ends_in(alloc: Global, entries: &Entries) -> Result<Vec<usize>, AllocError>
+    ensures { IfOk result (λ ends. ends.items ≡ ends_of 0 entries.now) }
 {
     let mut ends = Vec::new(alloc);
     for place in 0..entries.len() {
-        match entries[place] {
-            Entry::End(_) => ends.push(place)?,
-            Entry::Item(_) => {}
+        if entries.is_end(place) {
+            ends.push(place)?;
         }
     }
     Ok(ends)
@@ -71,25 +67,25 @@ fn ends_in(alloc: Global, entries: &[Entry<'_>]) -> Result<Vec<usize>, AllocErro
 /// Writes what was drawn for all subsets.
 #[tactic(auto, using(crate::proofs::PackSteps::drawn_at))]
 fn put_drawn(
-    entries: &[Entry<'_>],
+    entries: &Entries,
     ends: &[usize],
     place: usize,
     spec: &Spec,
     drawn: &[Drawn<'_>],
     out: &mut BitWriter,
 ) -> Result<Taken, DraftFault>
-    requires ends { ends.now ≡ ends_of 0 (map entry_in entries.now) }
+    requires ends { ends.now ≡ ends_of 0 entries.now }
     requires few { length entries.now ≤ 2 ^ 45 }
     requires some { 0 < length ends.now }
     requires values { (place + 1) * length ends.now ≤ most_values }
     requires near { place ≤ 2 ^ 45 }
-    requires given { contents_here spec.now (cells_at place (subsets_of (map entry_in entries.now)))
+    requires given { contents_here spec.now (cells_at place (subsets_of entries.now))
         ≡ Ok (contents_drawn (spec.now.width / 8) drawn.now) }
     requires all { AllDrawn spec.now drawn.now }
     requires many { length drawn.now ≡ length ends.now }
     requires room { length out.old + (2046 + 504 * length ends.now) + 2040 ≤ 2 ^ 63 }
     ensures put { PutAcross out.old out.new spec.now
-        (across place (subsets_of (map entry_in entries.now)))
+        (across place (subsets_of entries.now))
         (2046 + 504 * length ends.now) result }
     ensures shape { IfOk result (λ t. IsFor spec.now t) }
 {
@@ -105,21 +101,21 @@ fn put_drawn(
 
 /// Writes the next item of all subsets.
 fn pack_next<'a>(
-    entries: &[Entry<'a>],
+    entries: &'a Entries,
     ends: &[usize],
     place: usize,
     spec: &Spec,
     drawn: &mut Vec<Drawn<'a>>,
     out: &mut BitWriter,
 ) -> Result<Taken, DraftFault>
-    requires ends { ends.now ≡ ends_of 0 (map entry_in entries.now) }
+    requires ends { ends.now ≡ ends_of 0 entries.now }
     requires few { length entries.now ≤ 2 ^ 45 }
     requires some { 0 < length ends.now }
     requires values { place * length ends.now ≤ most_values }
     requires near { place ≤ 2 ^ 45 }
     requires room { length out.old + (2046 + 504 * length ends.now) + 2040 ≤ 2 ^ 63 }
     ensures put { PutAcross out.old out.new spec.now
-        (across place (subsets_of (map entry_in entries.now)))
+        (across place (subsets_of entries.now))
         (2046 + 504 * length ends.now) result }
     ensures shape { IfOk result (λ t. IsFor spec.now t) }
     ensures values { IfOk result (λ t. (place + 1) * length ends.now ≤ most_values) }
@@ -134,11 +130,10 @@ fn pack_next<'a>(
     }
 }
 
-impl<'s, 'a> PackedOut<'s, 'a> {
-    ghost use Rattle.std.specs.Prelude.{◌≡◌, ◌≤◌, ◌<◌, ◌+◌, ◌/◌, ◌^◌, ◌++◌, length, map, vec_len, IfOk};
+impl<'s> PackedOut<'s> {
+    ghost use Rattle.std.specs.Prelude.{◌≡◌, ◌≤◌, ◌<◌, ◌+◌, ◌/◌, ◌^◌, ◌++◌, length, vec_len, IfOk};
     ghost use Rattle.bufr_bits.specs.Bits.{bits_of, padding};
     ghost use Rattle.bufr_fill.specs.Entries.{subsets_of};
-    ghost use Rattle.bufr_fill.specs.Given.{entry_in};
     ghost use Rattle.bufr_fill.specs.PackedOut.{StartsSo, first_line_at, EndsSo};
 
     /// The items of all subsets and the lines that end them, at most 2^45 together; `None` where
@@ -147,12 +142,9 @@ impl<'s, 'a> PackedOut<'s, 'a> {
     /// # Errors
     ///
     /// [`AllocError`] where the places of the subsets could not be kept.
-    pub fn new(
-        alloc: Global,
-        entries: &'s [Entry<'a>],
-    ) -> Result<Option<PackedOut<'s, 'a>>, AllocError>
+    pub fn new(alloc: Global, entries: &'s Entries) -> Result<Option<PackedOut<'s>>, AllocError>
         requires few { length entries.now ≤ 2 ^ 45 }
-        ensures { IfOk result (λ out. StartsSo (subsets_of (map entry_in entries.now)) out) }
+        ensures { IfOk result (λ out. StartsSo (subsets_of entries.now) out) }
     {
         let ends = ends_in(alloc, entries)?;
         if ends.is_empty() {
@@ -202,7 +194,7 @@ impl<'s, 'a> PackedOut<'s, 'a> {
     }
 }
 
-impl<'s, 'a> Fields for PackedOut<'s, 'a> {
+impl<'s> Fields for PackedOut<'s> {
     type Fault = DraftFault;
 
     ghost use Rattle.std.specs.Prelude.{length};

@@ -189,7 +189,7 @@ const TOGETHER_REFUSED: &[(&str, &str, &str, &str)] = &[
 // What comes of items that are written for all subsets together.
 pub(crate) fn together(
     alloc: Global,
-    entries: &[Entry<'_>],
+    entries: &Entries,
     template: &Template,
     table: &TableB,
 ) -> Result<String, Fail> {
@@ -214,7 +214,7 @@ pub(crate) fn together(
 // How many bits the items of all subsets are, written together.
 pub(crate) fn bits_together(
     alloc: Global,
-    entries: &[Entry<'_>],
+    entries: &Entries,
     template: &Template,
     table: &TableB,
 ) -> Option<u64> {

@@ -3,6 +3,7 @@ ghost use Rattle.std.specs.Prelude.{◌≡◌, ◌≤◌, ◌+◌, ◌^◌, leng
 
 use crate::draft::Entry;
 use crate::draw::{Drawn, draw, wrong_item};
+use crate::entries::Entries;
 use crate::fault::{DraftFault, Expected, Wrong};
 use crate::put::{push_drawn, taken_of};
 use bufr_bits::BitWriter;
@@ -21,35 +22,33 @@ use std::marker::Model;
 /// let payload = out.into_octets();
 /// ```
 #[derive(Drop)]
-pub struct PlainOut<'s, 'a> {
-    entries: &'s [Entry<'a>],
+pub struct PlainOut<'s> {
+    entries: &'s Entries,
     place: usize,
     out: BitWriter,
 }
 
-impl<'s, 'a> Model for PlainOut<'s, 'a> {
-    ghost use Rattle.std.specs.Prelude.{length, map, drop};
-    ghost use Rattle.bufr_fill.specs.Given.{entry_in};
+impl<'s> Model for PlainOut<'s> {
+    ghost use Rattle.std.specs.Prelude.{length, drop};
     ghost use Rattle.bufr_fill.specs.PlainOut.{Pen, pen, IsPlainOut};
 
     ghost Value = { Pen };
 
-    ghost view = { λ s. pen (map entry_in (drop s.place s.entries.now)) s.out };
+    ghost view = { λ s. pen (drop s.place s.entries.now) s.out };
 
     ghost invariant = { λ s. IsPlainOut s.place (length s.entries.now) (length s.out) };
 }
 
-impl<'s, 'a> PlainOut<'s, 'a> {
-    ghost use Rattle.std.specs.Prelude.{◌≡◌, ◌≤◌, ◌+◌, ◌/◌, ◌^◌, ◌++◌, [], length, map, vec_len, MatchResult};
+impl<'s> PlainOut<'s> {
+    ghost use Rattle.std.specs.Prelude.{◌≡◌, ◌≤◌, ◌+◌, ◌/◌, ◌^◌, ◌++◌, [], length, vec_len, MatchResult};
     ghost use Rattle.bufr_bits.specs.Bits.{bits_of, padding};
-    ghost use Rattle.bufr_fill.specs.Given.{entry_in};
     ghost use Rattle.bufr_fill.specs.PlainOut.{pen, line_at, PassesEnd};
 
     /// The items of all subsets and the lines that end them, at most 2^45 together. It takes no
     /// memory.
-    pub fn new(alloc: Global, entries: &'s [Entry<'a>]) -> PlainOut<'s, 'a>
+    pub fn new(alloc: Global, entries: &'s Entries) -> PlainOut<'s>
         requires { length entries.now ≤ 2 ^ 45 }
-        ensures { result ≡ pen (map entry_in entries.now) [] }
+        ensures { result ≡ pen entries.now [] }
     {
         PlainOut {
             entries,
@@ -65,7 +64,7 @@ impl<'s, 'a> PlainOut<'s, 'a> {
     {
         match self.entries.get(self.place) {
             Some(Entry::Item(item)) => item.line,
-            Some(Entry::End(line)) => *line,
+            Some(Entry::End(line)) => line,
             None => 0,
         }
     }
@@ -104,7 +103,7 @@ impl<'s, 'a> PlainOut<'s, 'a> {
     }
 }
 
-impl<'s, 'a> Fields for PlainOut<'s, 'a> {
+impl<'s> Fields for PlainOut<'s> {
     type Fault = DraftFault;
 
     ghost use Rattle.std.specs.Prelude.{length};
@@ -122,10 +121,10 @@ impl<'s, 'a> Fields for PlainOut<'s, 'a> {
     fn take(&mut self, spec: &Spec) -> Result<Taken, DraftFault> {
         let item = match self.entries.get(self.place) {
             Some(Entry::Item(item)) => item,
-            Some(Entry::End(line)) => return Err(wrong_item(spec).at(*line)),
+            Some(Entry::End(line)) => return Err(wrong_item(spec).at(line)),
             None => return Err(wrong_item(spec).at(0)),
         };
-        let drawn = match draw(item, spec) {
+        let drawn = match draw(&item, spec) {
             Ok(drawn) => drawn,
             Err(why) => return Err(why.at(item.line)),
         };

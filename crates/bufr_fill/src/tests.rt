@@ -152,32 +152,25 @@ fn form_of(word: &str) -> Form<'_> {
     }
 }
 
-// What a word is: the form of an item whose descriptor is known, the end of a subset, or else a
-// descriptor.
-fn entry_of(line: u64, known: Option<Fxy>, word: &str) -> Option<Entry<'_>> {
+// Puts the entry of a word behind those that are there: an item whose descriptor is known, or the
+// end of a subset. A word that is neither is a descriptor, which is then known.
+fn put_entry(
+    word: &str,
+    known: Option<Fxy>,
+    entries: &mut Entries,
+) -> Result<Option<Fxy>, AllocError> {
+    let line = (entries.len() as u64).saturating_add(24);
     if word == "/" {
-        return Some(Entry::End(line));
+        entries.push_end(line)?;
+        return Ok(None);
     }
-    let fxy = known?;
-    let form = form_of(word);
-    Some(Entry::Item(DraftItem { line, fxy, form }))
-}
-
-// Puts the entries that words spell behind those that are there.
-fn put_entries<'a>(words: &[&'a str], entries: &mut Vec<Entry<'a>>) -> Result<(), AllocError> {
-    let mut known = None;
-    for place in 0..words.len() {
-        let line = (entries.len() as u64).saturating_add(24);
-        match entry_of(line, known, words[place]) {
-            Some(entry) => {
-                let one = [entry];
-                entries.extend_from_slice(&one)?;
-                known = None;
-            }
-            None => known = Some(descriptor_of(words[place])),
+    match known {
+        Some(fxy) => {
+            entries.push_item(line, fxy, form_of(word))?;
+            Ok(None)
         }
+        None => Ok(Some(descriptor_of(word))),
     }
-    Ok(())
 }
 
 fn tables(alloc: Global) -> Result<(TableB, TableD), Fail> {
@@ -201,10 +194,12 @@ fn template_of(
 }
 
 // The entries that words spell.
-fn entries_of(alloc: Global, text: &str) -> Result<Vec<Entry<'_>>, AllocError> {
-    let words: Vec<&str> = text.split_whitespace().collect(alloc)?;
-    let mut entries = Vec::new(alloc);
-    put_entries(words.as_slice(), &mut entries)?;
+fn entries_of(alloc: Global, text: &str) -> Result<Entries, AllocError> {
+    let mut entries = Entries::new(alloc);
+    let mut known = None;
+    for word in text.split_whitespace() {
+        known = put_entry(word, known, &mut entries)?;
+    }
     Ok(entries)
 }
 
@@ -248,10 +243,10 @@ pub(crate) fn stopped(alloc: Global, why: WalkStop<DraftFault>, line: u64) -> Re
 }
 
 // How many subsets entries end.
-fn subsets_in(entries: &[Entry<'_>]) -> usize {
+fn subsets_in(entries: &Entries) -> usize {
     let mut count: usize = 0;
-    for entry in entries {
-        if matches!(entry, Entry::End(_)) {
+    for place in 0..entries.len() {
+        if matches!(entries.get(place), Some(Entry::End(_))) {
             count = count.saturating_add(1);
         }
     }
@@ -261,7 +256,7 @@ fn subsets_in(entries: &[Entry<'_>]) -> usize {
 // What comes of items that are written one subset after another.
 fn apart(
     alloc: Global,
-    entries: &[Entry<'_>],
+    entries: &Entries,
     template: &Template,
     table: &TableB,
 ) -> Result<String, Fail> {
@@ -286,7 +281,7 @@ fn apart(
 // How many bits the items of the first subset are, written apart.
 fn bits_apart(
     alloc: Global,
-    entries: &[Entry<'_>],
+    entries: &Entries,
     template: &Template,
     table: &TableB,
 ) -> Option<u64> {

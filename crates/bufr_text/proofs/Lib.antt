@@ -25,7 +25,6 @@ pub mod HeadLemmas
 pub mod HeaderLemmas
 pub mod ItemLemmas
 pub mod ItemLineLemmas
-pub mod KeptLemmas
 pub mod KeyLemmas
 pub mod LaidLemmas
 pub mod LawLemmas

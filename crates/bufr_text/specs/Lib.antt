@@ -46,7 +46,7 @@ pub mod Describing
 pub mod Unhexing
 -- private: what unquoting a text answers
 pub mod Unquoting
--- private: how a document is kept, in one block of octets and places in it
+-- private: how a document is kept while it is read
 pub mod Kept
 -- private: what a line does at a place, as the code has it, and what holds of each place
 pub mod Step

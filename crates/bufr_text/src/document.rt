@@ -3,17 +3,17 @@ ghost use Rattle.std.specs.Prelude.{◌≡◌, ℕ, ◌+◌, ◌<◌, ◌≤◌,
 ghost use Rattle.bufr_fill.specs.Draft.{draft};
 ghost use Rattle.bufr_frame.specs.Layout.{is_writable};
 ghost use Rattle.bufr_frame.specs.Section1.{slots_4};
-ghost use Rattle.bufr_fill.specs.Entries.{Holds, Ends};
+ghost use Rattle.bufr_fill.specs.Entries.{Holds, Ends, subsets_of};
 ghost use Rattle.bufr_fill.specs.Given.{entry_in, form_in};
 ghost use Rattle.bufr_text.specs.Document as spec;
 ghost use Rattle.bufr_text.specs.Document.{subsets_in};
 ghost use Rattle.bufr_text.specs.Documents.{with_value, with_local1, with_section2, with_descriptors, with_entry};
 ghost use Rattle.bufr_text.specs.Header.{head_in, observed_in, compressed_in, section2_in, most_entries};
 ghost use Rattle.bufr_text.specs.Whole.{IsWhole};
-ghost use Rattle.bufr_text.specs.Kept.{form_by, entry_kept, IsInside};
+ghost use Rattle.bufr_text.specs.Kept.{form_by};
 ghost use Rattle.bufr_text.specs.Line.{mosts};
 
-use bufr_fill::{DraftItem, Entry, Form};
+use bufr_fill::{Entries, Entry, Form};
 use bufr_frame::Head;
 use bufr_tables::Fxy;
 use std::alloc::{AllocError, Global};
@@ -31,21 +31,6 @@ pub(crate) enum FormKind {
     Reference,
 }
 
-/// An entry as a document keeps it: the octets of an item go from `start` to `end` of one block.
-#[derive(Clone, Copy)]
-enum KeptEntry {
-    Holds {
-        line: u64,
-        fxy: u16,
-        kind: FormKind,
-        start: usize,
-        end: usize,
-    },
-    Ends {
-        line: u64,
-    },
-}
-
 /// What octets stand for.
 fn form_kept(kind: FormKind, octets: &[u8]) -> Form<'_>
     ensures { form_in result ≡ form_by kind octets.now }
@@ -55,27 +40,6 @@ fn form_kept(kind: FormKind, octets: &[u8]) -> Form<'_>
         FormKind::Text => Form::Text(octets),
         FormKind::Missing => Form::Missing,
         FormKind::Reference => Form::Reference(octets),
-    }
-}
-
-/// The entry that is kept in this block of octets.
-fn entry_kept<'a>(octets: &'a [u8], kept: KeptEntry) -> Entry<'a>
-    requires { IsInside (length octets.now) kept }
-    ensures { entry_in result ≡ entry_kept octets.now kept }
-{
-    match kept {
-        KeptEntry::Holds {
-            line,
-            fxy,
-            kind,
-            start,
-            end,
-        } => Entry::Item(DraftItem {
-            line,
-            fxy: Fxy::from_word(fxy),
-            form: form_kept(kind, &octets[start..end]),
-        }),
-        KeptEntry::Ends { line } => Entry::End(line),
     }
 }
 
@@ -89,9 +53,7 @@ pub(crate) struct Parts {
     local1: Vec<u8>,
     section2: Vec<u8>,
     descriptors: Vec<u16>,
-    /// Tokens and texts, one after another.
-    octets: Vec<u8>,
-    kept: Vec<KeptEntry>,
+    entries: Entries,
 }
 
 impl Model for Parts {
@@ -118,8 +80,7 @@ impl Parts {
             local1: Vec::new(alloc),
             section2: Vec::new(alloc),
             descriptors: Vec::new(alloc),
-            octets: Vec::new(alloc),
-            kept: Vec::new(alloc),
+            entries: Entries::new(alloc),
         }
     }
 
@@ -132,8 +93,7 @@ impl Parts {
         self.local1.clear();
         self.section2.clear();
         self.descriptors.clear();
-        self.octets.clear();
-        self.kept.clear();
+        self.entries.clear();
     }
 
     /// How many values of the header were read.
@@ -200,25 +160,15 @@ impl Parts {
         ensures { OnOk result
             (self.new ≡ with_entry self.old (Holds (draft line fxy (form_by kind octets.now)))) }
     {
-        let start = self.octets.len();
-        self.octets.extend_from_slice(octets)?;
-        let end = self.octets.len();
-        self.kept.push(KeptEntry::Holds {
-            line,
-            fxy,
-            kind,
-            start,
-            end,
-        })?;
-        Ok(())
+        let form = form_kept(kind, octets);
+        self.entries.push_item(line, Fxy::from_word(fxy), form)
     }
 
     /// The end of a subset.
     pub(crate) fn push_end(&mut self, line: u64) -> Result<(), AllocError>
         ensures { OnOk result (self.new ≡ with_entry self.old (Ends line)) }
     {
-        self.kept.push(KeptEntry::Ends { line })?;
-        Ok(())
+        self.entries.push_end(line)
     }
 
     /// The line of `message`.
@@ -249,19 +199,11 @@ impl Parts {
         &self.descriptors
     }
 
-    /// How many entries there are.
-    fn entries(&self) -> usize
-        ensures { result ≡ length self.now.entries }
+    /// The items and the ends of subsets.
+    fn entries(&self) -> &Entries
+        ensures { result.now ≡ self.now.entries }
     {
-        self.kept.len()
-    }
-
-    /// The entry at a place.
-    fn entry(&self, place: usize) -> Entry<'_>
-        requires { place < length self.now.entries }
-        ensures { entry_in result ≡ slice_index_or self.now.entries place (entry_in result) }
-    {
-        entry_kept(self.octets.as_slice(), self.kept[place])
+        &self.entries
     }
 }
 
@@ -395,7 +337,7 @@ impl Document {
         ensures value { result ≡ length self.now.entries }
         ensures few { result ≤ most_entries }
     {
-        self.parts.entries()
+        self.parts.entries().len()
     }
 
     /// The entry at a place, from 0. Each subset's items stand before its end.
@@ -403,6 +345,18 @@ impl Document {
         requires { place < length self.now.entries }
         ensures { entry_in result ≡ slice_index_or self.now.entries place (entry_in result) }
     {
-        self.parts.entry(place)
+        match self.parts.entries().get(place) {
+            Some(entry) => entry,
+            None => unreachable!(),
+        }
+    }
+
+    /// The items of all subsets and the lines that end them.
+    pub(crate) fn items(&self) -> &Entries
+        ensures same { result.now ≡ self.now.entries }
+        ensures few { length result.now ≤ most_entries }
+        ensures many { length (subsets_of result.now) ≡ subsets_in self.now }
+    {
+        self.parts.entries()
     }
 }

@@ -1,5 +1,5 @@
 //! The message of a document.
-ghost use Rattle.std.specs.Prelude.{ℕ, ◌≡◌, ◌≢◌, ◌≤◌, ◌*◌, ◌+◌, ◌^◌, List, [], Bool, length, map, IfOk, IfErr, OnOk, OnErr, Ok, option_map, false, true};
+ghost use Rattle.std.specs.Prelude.{ℕ, ◌≡◌, ◌≢◌, ◌≤◌, ◌*◌, ◌+◌, ◌^◌, List, [], Bool, length, IfOk, IfErr, OnOk, OnErr, Ok, option_map, false, true};
 ghost use Rattle.bufr_tables.specs.Expansion.{tree_of};
 ghost use Rattle.bufr_tables.specs.TemplateTables.{tables_of};
 ghost use Rattle.bufr_tables.specs.Tree.{Tree, places};
@@ -13,7 +13,6 @@ ghost use Rattle.bufr_text.specs.InForm.{FormSo};
 ghost use Rattle.bufr_walk.specs.Course.{next_item};
 ghost use Rattle.bufr_walk.specs.Ticks.{ticked};
 ghost use Rattle.bufr_fill.specs.Entries.{subsets_of};
-ghost use Rattle.bufr_fill.specs.Given.{entry_in};
 ghost use Rattle.bufr_text.specs.Encoding.{encoding_in, encoding_of, told_of_template, octets_of_bits, message_of, compressed_as, parts_as};
 ghost use Rattle.bufr_text.specs.EncodingFault.{RefusesSo, told_of_draft, told_refusal};
 ghost use Rattle.bufr_text.specs.DataWritten.{AreOctetsOf, DataSo, SubsetSo, told_stop};
@@ -24,7 +23,7 @@ ghost use Rattle.bufr_text.specs.declared.form.Form.TheVariants.{AsWritten};
 use crate::document::Document;
 use crate::encode_fault::{DocumentFault, WalkRefusal, of_draft};
 use crate::form::Form;
-use bufr_fill::{DraftFault, Entry, PackedOut, PlainOut};
+use bufr_fill::{DraftFault, Entries, PackedOut, PlainOut};
 use bufr_frame::{WriteFault, write_message};
 use bufr_tables::{Fxy, TableB, TableD, Template, TemplateFault};
 use bufr_walk::{Steps, WalkStop, walk};
@@ -76,39 +75,12 @@ fn template_of(
     }
 }
 
-/// The entries of a document, one after another.
-fn lend_entries<'a>(document: &'a Document, entries: &mut Vec<Entry<'a>>) -> Result<(), AllocError>
-    requires { entries.old.items ≡ [] }
-    ensures same { OnOk result (map entry_in entries.new.items ≡ document.now.entries) }
-    ensures few { OnOk result (length entries.new.items ≤ most_entries) }
-{
-    for place in 0..document.entries() {
-        // A push takes an entry by value, which the borrow checker does not cover yet.
-        let entry = [document.entry(place)];
-        entries.extend_from_slice(&entry)?;
-    }
-    Ok(())
-}
-
-/// How many subsets end among entries.
-fn count_subsets(entries: &[Entry<'_>]) -> usize
-    ensures { result ≡ length (subsets_of (map entry_in entries.now)) }
-{
-    let mut count = 0;
-    for entry in entries {
-        if let Entry::End(_) = entry {
-            count += 1;
-        }
-    }
-    count
-}
-
 /// Writes one subset, and goes past its end.
 fn write_subset(
     alloc: Global,
     template: &Template,
     table: &TableB,
-    out: &mut PlainOut<'_, '_>,
+    out: &mut PlainOut<'_>,
     steps: &mut Steps,
 ) -> Result<(), DocumentFault>
     requires { 1 ≤ length (subsets_of out.old.left) }
@@ -124,20 +96,21 @@ fn write_subset(
     }
 }
 
-/// The octets of data that are not compressed.
-fn write_plain<'a>(
+/// The octets of data that are not compressed, of so many subsets.
+fn write_plain(
     alloc: Global,
-    entries: &'a [Entry<'a>],
+    entries: &Entries,
+    subsets: u16,
     template: &Template,
     table: &TableB,
     steps: &mut Steps,
 ) -> Result<Vec<u8>, DocumentFault>
     requires none { steps.old ≡ 0 }
     requires few { length entries.now ≤ 2 ^ 45 }
+    requires many { length (subsets_of entries.now) ≡ subsets }
     ensures { DataSo (places template.now) false (next_item table.now template.now)
-        (subsets_of (map entry_in entries.now)) result steps.new }
+        (subsets_of entries.now) result steps.new }
 {
-    let subsets = count_subsets(entries);
     let mut out = PlainOut::new(alloc, entries);
     'subsets: for done in 0..subsets {
         write_subset(alloc, template, table, &mut out, steps)?;
@@ -146,9 +119,9 @@ fn write_plain<'a>(
 }
 
 /// The octets of compressed data.
-fn write_packed<'a>(
+fn write_packed(
     alloc: Global,
-    entries: &'a [Entry<'a>],
+    entries: &Entries,
     template: &Template,
     table: &TableB,
     steps: &mut Steps,
@@ -156,7 +129,7 @@ fn write_packed<'a>(
     requires none { steps.old ≡ 0 }
     requires few { length entries.now ≤ 2 ^ 45 }
     ensures { DataSo (places template.now) true (next_item table.now template.now)
-        (subsets_of (map entry_in entries.now)) result steps.new }
+        (subsets_of entries.now) result steps.new }
 {
     let mut out = match PackedOut::new(alloc, entries)? {
         Some(out) => out,
@@ -191,12 +164,11 @@ fn write_data(
     ensures { DataSo (places template.now) (compressed_as form document.now)
         (next_item table.now template.now) (subsets_of document.now.entries) result steps.new }
 {
-    let mut entries = Vec::new(alloc);
-    lend_entries(document, &mut entries)?;
+    let entries = document.items();
     if is_compressed(document, form) {
-        write_packed(alloc, &entries, template, table, steps)
+        write_packed(alloc, entries, template, table, steps)
     } else {
-        write_plain(alloc, &entries, template, table, steps)
+        write_plain(alloc, entries, document.subsets(), template, table, steps)
     }
 }
 

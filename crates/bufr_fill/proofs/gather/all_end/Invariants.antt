@@ -1,9 +1,8 @@
-use Rattle.std.proofs.Common.{◌≡◌, map, drop}
+use Rattle.std.proofs.Common.{◌≡◌, drop}
 use Rattle.bufr_fill.specs.Encoding.{cells_at}
 use Rattle.bufr_fill.specs.Entries.{subsets_of}
-use Rattle.bufr_fill.specs.Given.{entry_in}
 use Rattle.bufr_fill.specs.PackedOut.{all_end}
 use Rattle.bufr_fill.proofs.gather.all_end.Given as goal
 
 abbrev pub invariant-loop-subset : goal.invariant-loop-subset
-invariant-loop-subset l = all_end (cells_at l.place (subsets_of (map entry_in l.entries))) ≡ all_end (drop l.subset (cells_at l.place (subsets_of (map entry_in l.entries))))
+invariant-loop-subset l = all_end (cells_at l.place (subsets_of l.entries)) ≡ all_end (drop l.subset (cells_at l.place (subsets_of l.entries)))

@@ -1,8 +1,7 @@
-use Rattle.std.proofs.Common.{◌/◌, map, sym, arith, ◌∙◌}
+use Rattle.std.proofs.Common.{◌/◌, sym, arith, ◌∙◌}
 use Rattle.bufr_fill.specs.declared.draw.Drawn.TheVariants as drawn
 use Rattle.bufr_fill.specs.Encoding.{cells_at}
 use Rattle.bufr_fill.specs.Entries.{subsets_of}
-use Rattle.bufr_fill.specs.Given.{entry_in}
 use Rattle.bufr_fill.proofs.Places.{count_cells}
 use Rattle.bufr_fill.proofs.PackSteps.{drawn_at}
 use Rattle.bufr_fill.proofs.CellSteps.{unlike_here, unlike_more}
@@ -13,11 +12,11 @@ is_same-requires-clause-other c = drawn_at c.args.spec.now c.args.drawn.now c.lo
 
 pub returns-then-not-is_same : goal.returns-then-not-is_same
 returns-then-not-is_same c =
-    unlike_here (c.args.spec.now.width / 8) c.args.drawn.now (cells_at c.args.place (subsets_of (map entry_in c.args.entries.now))) c.loop-subset.subset (drawn.Number 0) (omega (arith, c.loop-subset-test.true, c.requires.many))
-    (count_cells c.args.place (map entry_in c.args.entries.now) c.args.ends.now c.requires.ends ∙ sym c.requires.many) c.loop-subset.invariant (sym c.is_same.ensures ∙ c.if-not-is_same.true)
-    (entry_in c.entry_of.result.now) c.line_of.result c.entry_of.ensures c.line_of.ensures
+    unlike_here (c.args.spec.now.width / 8) c.args.drawn.now (cells_at c.args.place (subsets_of c.args.entries.now)) c.loop-subset.subset (drawn.Number 0) (omega (arith, c.loop-subset-test.true, c.requires.many))
+    (count_cells c.args.place c.args.entries.now c.args.ends.now c.requires.ends ∙ sym c.requires.many) c.loop-subset.invariant (sym c.is_same.ensures ∙ c.if-not-is_same.true)
+    c.line_at.ensures.e c.line_at.result c.line_at.ensures.there c.line_at.ensures.so
 
 pub loop-subset-preserved : goal.loop-subset-preserved
 loop-subset-preserved c =
-    unlike_more (c.args.spec.now.width / 8) c.args.drawn.now (cells_at c.args.place (subsets_of (map entry_in c.args.entries.now))) c.loop-subset.subset (drawn.Number 0) (omega (arith, c.loop-subset-test.true, c.requires.many))
-    (count_cells c.args.place (map entry_in c.args.entries.now) c.args.ends.now c.requires.ends ∙ sym c.requires.many) c.loop-subset.invariant (sym c.is_same.ensures ∙ c.if-not-is_same.false)
+    unlike_more (c.args.spec.now.width / 8) c.args.drawn.now (cells_at c.args.place (subsets_of c.args.entries.now)) c.loop-subset.subset (drawn.Number 0) (omega (arith, c.loop-subset-test.true, c.requires.many))
+    (count_cells c.args.place c.args.entries.now c.args.ends.now c.requires.ends ∙ sym c.requires.many) c.loop-subset.invariant (sym c.is_same.ensures ∙ c.if-not-is_same.false)

@@ -1,30 +1,29 @@
-use Rattle.std.proofs.Common.{◌≤◌, length, map, arith, ap}
+use Rattle.std.proofs.Common.{◌≤◌, length, arith, ap}
 use Rattle.std.proofs.lemmas.Result.{err_from_is_err_and}
 use Rattle.bufr_tables.specs.Tree.{places}
 use Rattle.bufr_walk.specs.Course.{next_item}
 use Rattle.bufr_fill.specs.Entries.{subsets_of}
-use Rattle.bufr_fill.specs.Given.{entry_in}
 use Rattle.bufr_text.proofs.EncodePlain.{none_written, one_more, all_written, stopped}
 use Rattle.bufr_text.proofs.encode.write_plain.Goals as goal
 
 pub subsets-init : goal.subsets-init
-subsets-init c = none_written (places c.args.template.now) (next_item c.args.table.now c.args.template.now) (map entry_in c.args.entries.now) c.new-out.result c.args.steps.now (ap (λ p. p.left) c.new-out.ensures) (ap (λ p. p.bits) c.new-out.ensures) c.requires.none
+subsets-init c = none_written (places c.args.template.now) (next_item c.args.table.now c.args.template.now) c.args.entries.now c.new-out.result c.args.steps.now (ap (λ p. p.left) c.new-out.ensures) (ap (λ p. p.bits) c.new-out.ensures) c.requires.none
 
 pub write_subset-requires : goal.write_subset-requires
-write_subset-requires c = omega (arith, c.subsets.invariant.rest, c.subsets-test.true, c.count_subsets-subsets.ensures)
+write_subset-requires c = omega (arith, c.subsets.invariant.rest, c.subsets-test.true, c.requires.many)
 
 pub returns-in_err-write_subset : goal.returns-in_err-write_subset
 returns-in_err-write_subset c =
     let p = err_from_is_err_and c.from_residual.result c.from_residual.ensures.1 in
-    let some : 1 ≤ length (subsets_of c.subsets.out.left) = omega (arith, c.subsets.invariant.rest, c.subsets-test.true, c.count_subsets-subsets.ensures) in
-    rw (p.1, p.2) (stopped (places c.args.template.now) (next_item c.args.table.now c.args.template.now) (subsets_of (map entry_in c.args.entries.now)) c.subsets.done c.subsets.out c.subsets.steps _ c.write_subset.new.steps c.subsets.invariant some c.in_err-write_subset.ensures)
+    let some : 1 ≤ length (subsets_of c.subsets.out.left) = omega (arith, c.subsets.invariant.rest, c.subsets-test.true, c.requires.many) in
+    rw (p.1, p.2) (stopped (places c.args.template.now) (next_item c.args.table.now c.args.template.now) (subsets_of c.args.entries.now) c.subsets.done c.subsets.out c.subsets.steps _ c.write_subset.new.steps c.subsets.invariant some c.in_err-write_subset.ensures)
 
 pub subsets-preserved : goal.subsets-preserved
 subsets-preserved c =
-    let some : 1 ≤ length (subsets_of c.subsets.out.left) = omega (arith, c.subsets.invariant.rest, c.subsets-test.true, c.count_subsets-subsets.ensures) in
-    one_more (places c.args.template.now) (next_item c.args.table.now c.args.template.now) (subsets_of (map entry_in c.args.entries.now)) c.subsets.done c.subsets.out c.subsets.steps c.write_subset.new.out c.write_subset.new.steps c.subsets.invariant some c.in_ok-write_subset.ensures
+    let some : 1 ≤ length (subsets_of c.subsets.out.left) = omega (arith, c.subsets.invariant.rest, c.subsets-test.true, c.requires.many) in
+    one_more (places c.args.template.now) (next_item c.args.table.now c.args.template.now) (subsets_of c.args.entries.now) c.subsets.done c.subsets.out c.subsets.steps c.write_subset.new.out c.write_subset.new.steps c.subsets.invariant some c.in_ok-write_subset.ensures
 
 pub returns : goal.returns
 returns c =
-    all_written (places c.args.template.now) (next_item c.args.table.now c.args.template.now) (subsets_of (map entry_in c.args.entries.now)) c.subsets.done c.subsets.out c.subsets.steps c.into_octets.result.items c.subsets.invariant
-    (omega (arith, c.subsets-test.false, c.subsets.auto.done-end, c.count_subsets-subsets.ensures)) (record { same = c.into_octets.ensures.bits; count = omega (arith, c.into_octets.ensures.len, c.into_octets.result.ok.0) })
+    all_written (places c.args.template.now) (next_item c.args.table.now c.args.template.now) (subsets_of c.args.entries.now) c.subsets.done c.subsets.out c.subsets.steps c.into_octets.result.items c.subsets.invariant
+    (omega (arith, c.subsets-test.false, c.subsets.auto.done-end, c.requires.many)) (record { same = c.into_octets.ensures.bits; count = omega (arith, c.into_octets.ensures.len, c.into_octets.result.ok.0) })

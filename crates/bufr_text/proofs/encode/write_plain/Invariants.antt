@@ -1,10 +1,8 @@
-use Rattle.std.proofs.Common.{map}
 use Rattle.bufr_tables.specs.Tree.{places}
 use Rattle.bufr_walk.specs.Course.{next_item}
 use Rattle.bufr_fill.specs.Entries.{subsets_of}
-use Rattle.bufr_fill.specs.Given.{entry_in}
 use Rattle.bufr_text.proofs.EncodePlain.{PlainSoFar}
 use Rattle.bufr_text.proofs.encode.write_plain.Given as goal
 
 abbrev pub invariant-subsets : goal.invariant-subsets
-invariant-subsets l = PlainSoFar (places l.template) (next_item l.table l.template) (subsets_of (map entry_in l.entries)) l.done l.out.left l.out.bits l.steps
+invariant-subsets l = PlainSoFar (places l.template) (next_item l.table l.template) (subsets_of l.entries) l.done l.out.left l.out.bits l.steps

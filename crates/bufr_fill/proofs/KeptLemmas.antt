@@ -1,0 +1,35 @@
+-- What a list of entries keeps of them.
+use Rattle.std.proofs.Common.{◌≡◌, ℕ, ◌+◌, ◌-◌, ◌≤◌, List, [], ◌∷◌, ◌++◌, length, drop, map, refl, ap, ◌∙◌, arith, length-append}
+use Rattle.std.specs.Prelude.{slice_range}
+use Rattle.std.proofs.lemmas.List.{take-append-le, drop-append-le, length-drop, map-append, take_all}
+use Rattle.std.proofs.Math.Seq.{drop-append_seam}
+use Rattle.bufr_fill.specs.Entries.{Entry}
+use Rattle.bufr_fill.specs.Kept.{entry_by, entry_kept, entries_kept, IsInside, AreInside}
+use Rattle.bufr_fill.specs.declared.entries.Kept.{Kept}
+
+-- octets behind the block leave the entries as they are
+range-append : (xs ys : List ℕ) (i j : ℕ) → i ≤ j → j ≤ length xs → slice_range (xs ++ ys) i j ≡ slice_range xs i j
+range-append xs ys i j before inside =
+    rw (drop-append-le i xs ys (omega arith), take-append-le (j - i) (drop i xs) ys (omega (arith, length-drop i xs))) refl
+
+range-behind : (xs ys : List ℕ) (j : ℕ) → j ≡ length xs + length ys → slice_range (xs ++ ys) (length xs) j ≡ ys
+range-behind xs ys j e = rw (drop-append_seam xs ys) (take_all (j - length xs) ys (omega arith))
+
+entry-append : (octets more : List ℕ) (one : Kept) → IsInside (length octets) one → entry_kept (octets ++ more) one ≡ entry_kept octets one
+entry-append octets more one (order, inside) = ap (entry_by one.kind one.line one.fxy) (range-append octets more one.start one.end order inside)
+
+entries-append : (octets more : List ℕ) (cells : List Kept) → AreInside (length octets) cells → entries_kept (octets ++ more) cells ≡ entries_kept octets cells
+entries-append octets more [] all = refl
+entries-append octets more (one ∷ cells) (here, all) = rw (entry-append octets more one here, entries-append octets more cells all) refl
+
+-- one entry more, with its octets behind the block
+pub entries-push : (octets more new : List ℕ) (cells : List Kept) (one : Kept) (e : Entry) → AreInside (length octets) cells → new ≡ octets ++ more → one.start ≡ length octets → one.end ≡ length new → entry_by one.kind one.line one.fxy more ≡ e
+    → entries_kept new (cells ++ one ∷ []) ≡ entries_kept octets cells ++ e ∷ []
+entries-push octets more new cells one e all is from at said =
+    let stop : one.end ≡ length octets + length more = at ∙ ap length is ∙ length-append octets more in
+    let range : slice_range new one.start one.end ≡ more = ap (λ (t : List ℕ). slice_range t one.start one.end) is ∙ ap (λ n. slice_range (octets ++ more) n one.end) from ∙ range-behind octets more one.end stop in
+    map-append (entry_kept new) cells (one ∷ [])
+    ∙ ap (λ (t : List ℕ). map (entry_kept new) cells ++ entry_by one.kind one.line one.fxy t ∷ []) range
+    ∙ ap (λ (x : Entry). map (entry_kept new) cells ++ x ∷ []) said
+    ∙ ap (λ (t : List ℕ). map (entry_kept t) cells ++ e ∷ []) is
+    ∙ ap (λ (t : List Entry). t ++ e ∷ []) (entries-append octets more cells all)

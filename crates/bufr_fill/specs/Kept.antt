@@ -1,0 +1,36 @@
+-- How entries are kept: a block of octets for tokens and texts, and each entry's places in it.
+-- Cited by private steps only.
+use Rattle.std.specs.Prelude.{ℕ, ◌≤◌, Bool, true, false, List, map, slice_range}
+use Rattle.std.specs.List.{AllByRecursion}
+use Rattle.bufr_fill.specs.Draft.{draft, number_token, text_form, missing_form, reference_token}
+use Rattle.bufr_fill.specs.Entries.{Entry, Holds, Ends}
+use Rattle.bufr_fill.specs.declared.entries.Kind.{Kind}
+use Rattle.bufr_fill.specs.declared.entries.Kind.TheVariants as kind
+use Rattle.bufr_fill.specs.declared.entries.Kept.{Kept}
+
+-- the entry of a line with a descriptor and octets
+abbrev pub entry_by : Kind → (line fxy : ℕ) → List ℕ → Entry
+entry_by kind.Number line fxy octets = Holds (draft line fxy (number_token octets))
+entry_by kind.Text line fxy octets = Holds (draft line fxy (text_form octets))
+entry_by kind.Missing line fxy octets = Holds (draft line fxy missing_form)
+entry_by kind.Reference line fxy octets = Holds (draft line fxy (reference_token octets))
+entry_by kind.End line fxy octets = Ends line
+
+-- the entry that is kept
+abbrev pub entry_kept : List ℕ → Kept → Entry
+entry_kept octets k = entry_by k.kind k.line k.fxy (slice_range octets k.start k.end)
+
+abbrev pub entries_kept : List ℕ → List Kept → List Entry
+entries_kept octets kept = map (entry_kept octets) kept
+
+-- whether an entry is the end of a subset
+abbrev pub is_end : Entry → Bool
+is_end (Holds d) = false
+is_end (Ends line) = true
+
+-- the places of an entry are in order and inside the block
+abbrev pub IsInside : ℕ → Kept → Type 0
+IsInside size k = (k.start ≤ k.end) × (k.end ≤ size)
+
+abbrev pub AreInside : ℕ → List Kept → Type 0
+AreInside size kept = AllByRecursion (IsInside size) kept

@@ -1,0 +1,195 @@
+//! The entries of a document, kept in one block.
+ghost use Rattle.std.specs.Prelude.{◌≡◌, ℕ, List, length, option_map, slice_get};
+ghost use Rattle.bufr_fill.specs.Draft.{draft};
+ghost use Rattle.bufr_fill.specs.Entries.{Entry, Holds};
+ghost use Rattle.bufr_fill.specs.Given.{entry_in, form_in};
+ghost use Rattle.bufr_fill.specs.Kept.{entry_by, entry_kept, IsInside};
+
+use crate::draft::{DraftItem, Entry, Form};
+use bufr_tables::Fxy;
+use std::alloc::{AllocError, Global};
+use std::marker::Model;
+
+/// What a line has: an item of this form, or the end of a subset.
+#[derive(Clone, Copy)]
+enum Kind {
+    Number,
+    Text,
+    Missing,
+    Reference,
+    End,
+}
+
+/// An entry as it is kept: its octets go from `start` to `end` of one block.
+#[derive(Clone, Copy)]
+struct Kept {
+    line: u64,
+    start: usize,
+    end: usize,
+    fxy: Fxy,
+    kind: Kind,
+}
+
+/// The kind of a form, and the octets in it.
+#[inline(always)]
+fn parts_of<'a>(form: Form<'a>) -> (Kind, &'a [u8])
+    ensures { (line fxy : ℕ) → entry_by result.0 line fxy result.1.now
+        ≡ Holds (draft line fxy (form_in form.entry)) }
+{
+    match form {
+        Form::Number(octets) => (Kind::Number, octets),
+        Form::Text(octets) => (Kind::Text, octets),
+        Form::Missing => (Kind::Missing, &[]),
+        Form::Reference(octets) => (Kind::Reference, octets),
+    }
+}
+
+/// An item of this form.
+#[inline(always)]
+fn item<'a>(line: u64, fxy: Fxy, form: Form<'a>) -> Entry<'a>
+    ensures { entry_in result ≡ Holds (draft line fxy (form_in form.entry)) }
+{
+    Entry::Item(DraftItem { line, fxy, form })
+}
+
+/// The entry that is kept in this block of octets.
+#[inline(always)]
+fn entry_kept<'a>(octets: &'a [u8], kept: Kept) -> Entry<'a>
+    requires { IsInside (length octets.now) kept }
+    ensures { entry_in result ≡ entry_kept octets.now kept }
+{
+    let octets = &octets[kept.start..kept.end];
+    match kept.kind {
+        Kind::Number => item(kept.line, kept.fxy, Form::Number(octets)),
+        Kind::Text => item(kept.line, kept.fxy, Form::Text(octets)),
+        Kind::Missing => item(kept.line, kept.fxy, Form::Missing),
+        Kind::Reference => item(kept.line, kept.fxy, Form::Reference(octets)),
+        Kind::End => Entry::End(kept.line),
+    }
+}
+
+/// The items of all subsets and the lines that end them, one after another. Their tokens and texts
+/// stand in one block, so an entry takes 32 octets and those of its value.
+///
+/// A contract sees the list of the entries.
+///
+/// ```
+/// let mut entries = Entries::new(alloc);
+/// entries.push_item(9, Fxy::from_word(257), Form::Number(b"10"))?;
+/// entries.push_end(10)?;
+/// assert_eq!(rt; entries.get(1), Some(Entry::End(10)));
+/// ```
+#[derive(Drop)]
+pub struct Entries {
+    /// Tokens and texts, one after another.
+    octets: Vec<u8>,
+    kept: Vec<Kept>,
+}
+
+impl Model for Entries {
+    ghost use Rattle.std.specs.Prelude.{List, length};
+    ghost use Rattle.bufr_fill.specs.Entries.{Entry};
+    ghost use Rattle.bufr_fill.specs.Kept.{entries_kept, AreInside};
+
+    ghost Value = { List Entry };
+
+    ghost view = { λ e. entries_kept e.octets.items e.kept.items };
+
+    ghost invariant = { λ e. AreInside (length e.octets.items) e.kept.items };
+}
+
+impl Entries {
+    ghost use Rattle.std.specs.Prelude.{◌≡◌, ◌<◌, [], ◌∷◌, ◌++◌, length, option_map, slice_get, Some, OnOk};
+    ghost use Rattle.bufr_fill.specs.Draft.{draft};
+    ghost use Rattle.bufr_fill.specs.Entries.{Holds, Ends};
+    ghost use Rattle.bufr_fill.specs.Kept.{is_end};
+    ghost use Rattle.bufr_fill.specs.Given.{entry_in, form_in};
+
+    /// No entries. It takes no memory.
+    pub fn new(alloc: Global) -> Entries
+        ensures { result ≡ [] }
+    {
+        Entries {
+            octets: Vec::new(alloc),
+            kept: Vec::new(alloc),
+        }
+    }
+
+    /// Drops all entries, and keeps their memory for others.
+    pub fn clear(&mut self)
+        ensures { self.new ≡ [] }
+    {
+        self.octets.clear();
+        self.kept.clear();
+    }
+
+    /// One more item, behind the others.
+    ///
+    /// # Errors
+    ///
+    /// [`AllocError`] where the list could not grow.
+    #[inline(always)]
+    pub fn push_item(&mut self, line: u64, fxy: Fxy, form: Form<'_>) -> Result<(), AllocError>
+        ensures { OnOk result
+            (self.new ≡ self.old ++ Holds (draft line fxy (form_in form.entry)) ∷ []) }
+    {
+        let (kind, octets) = parts_of(form);
+        let start = self.octets.len();
+        self.octets.extend_from_slice(octets)?;
+        let end = self.octets.len();
+        self.kept.push(Kept {
+            line,
+            start,
+            end,
+            fxy,
+            kind,
+        })?;
+        Ok(())
+    }
+
+    /// The end of a subset, behind the other entries.
+    ///
+    /// # Errors
+    ///
+    /// [`AllocError`] where the list could not grow.
+    pub fn push_end(&mut self, line: u64) -> Result<(), AllocError>
+        ensures { OnOk result (self.new ≡ self.old ++ Ends line ∷ []) }
+    {
+        let end = self.octets.len();
+        self.kept.push(Kept {
+            line,
+            start: end,
+            end,
+            fxy: Fxy::from_word(0),
+            kind: Kind::End,
+        })?;
+        Ok(())
+    }
+
+    /// How many entries there are.
+    pub fn len(&self) -> usize
+        ensures { result ≡ length self.now }
+    {
+        self.kept.len()
+    }
+
+    /// The entry at a place, from 0, or `None` behind the last.
+    #[inline(always)]
+    pub fn get(&self, place: usize) -> Option<Entry<'_>>
+        ensures { option_map entry_in result ≡ slice_get self.now place }
+    {
+        if place < self.kept.len() {
+            Some(entry_kept(self.octets.as_slice(), self.kept[place]))
+        } else {
+            None
+        }
+    }
+
+    /// Whether the entry at a place is the end of a subset.
+    pub(crate) fn is_end(&self, place: usize) -> bool
+        requires { place < length self.now }
+        ensures { Some result ≡ option_map is_end (slice_get self.now place) }
+    {
+        matches!(self.kept[place].kind, Kind::End)
+    }
+}
