@@ -8,7 +8,7 @@ use Rattle.std.proofs.lemmas.Grind.{common_steps}
 use Rattle.std.proofs.lemmas.List.{drop_all}
 use Rattle.bufr_bits.proofs.ScaledLemmas.{and_first, and_second}
 use Rattle.bufr_tables.specs.Fxy.{fxy_of}
-use Rattle.bufr_text.specs.Grammar.{front, behind, behind_word, fxy_read, is_number_octet, is_hashed, is_passed_behind}
+use Rattle.bufr_text.specs.Grammar.{front, behind, behind_space, behind_word, fxy_read, is_number_octet, is_hashed, is_passed_behind}
 use Rattle.bufr_text.specs.Unquoting.{IsTokenTo}
 use Rattle.bufr_fill.specs.Draft.{number_token, reference_token}
 use Rattle.bufr_text.specs.Line.{value_read, text_value, number_value, missing_value}
@@ -116,6 +116,24 @@ value-word (c ∷ more) q e =
 pub word-is : (word text : List ℕ) (r : Option (Bor (List ℕ))) → MatchOption r (bytes_eq (take (length word) text) word ≡ false) (λ x. (bytes_eq (take (length word) text) word ≡ true) × (x.now ≡ drop (length word) text) × (length x.now + length word ≡ length text)) → option_map (λ s. s.now) r ≡ behind_word word text
 word-is word text None h = sym (word-absent word text h)
 word-is word text (Some x) h = ap Some h.1 ∙ sym (word-there word text h.0)
+
+-- one space
+pub space-none : (text : List ℕ) → length text ≡ 0 → behind_space text ≡ None
+unfolding behind_word
+space-none [] h = refl
+space-none (c ∷ more) h = absurd (omega (arith, h))
+
+pub space-there : (text : List ℕ) → slice_index text 0 ≡ 32 → behind_space text ≡ Some (drop 1 text)
+unfolding behind_word
+space-there [] e = absurd (omega arith)
+space-there (c ∷ more) e = let q : (c == 32) ≡ true = grind (arith, nat_tests, e) in rw q refl
+
+pub space-absent : (text : List ℕ) → (slice_index text 0 ≡ 32 → ⊥) → behind_space text ≡ None
+unfolding behind_word
+space-absent [] e = refl
+space-absent (c ∷ more) e = let q : (c == 32) ≡ false = grind (arith, nat_tests, e) in rw q refl
+
+pub ruleset space_steps = (space-none, space-there, space-absent)
 
 pub ruleset value_steps = (value-quote, value-token, value-word)
 

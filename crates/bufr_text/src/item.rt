@@ -9,7 +9,7 @@ ghost use Rattle.bufr_text.specs.Step.{meaning};
 use crate::descriptors::fxy_front;
 use crate::document::FormKind;
 use crate::quoted::unquote;
-use crate::slice::{ahead, behind, behind_word, octet_at};
+use crate::slice::{ahead, behind, behind_space, behind_word, octet_at};
 use crate::step::Said;
 
 /// Whether an octet can stand in a number token.
@@ -80,7 +80,7 @@ pub(crate) fn item<'a>(text: &'a [u8], scratch: &'a mut [u8]) -> Option<Said<'a>
     ensures { made meaning result ≡ item_line value_read text.now }
 {
     let (fxy, rest) = fxy_front(text)?;
-    let (kind, octets, rest) = value(behind_word(rest, b" ")?, scratch)?;
+    let (kind, octets, rest) = value(behind_space(rest)?, scratch)?;
     if !is_passed_behind(rest) {
         return None;
     }
@@ -93,7 +93,7 @@ pub(crate) fn reference<'a>(text: &'a [u8]) -> Option<Said<'a>>
     ensures { made meaning result ≡ item_line (number_value reference_token) text.now }
 {
     let (fxy, rest) = fxy_front(text)?;
-    let rest = behind_word(rest, b" ")?;
+    let rest = behind_space(rest)?;
     if !is_number_octet(octet_at(rest, 0)) {
         return None;
     }

@@ -12,7 +12,7 @@ use crate::hex::unhex;
 use crate::item::{item, reference};
 use crate::key::place;
 use crate::number::{is, number};
-use crate::slice::{ahead, behind, behind_word, octet_at};
+use crate::slice::{ahead, behind, behind_space, octet_at};
 use crate::step::Said;
 use memchr::memchr;
 
@@ -38,7 +38,7 @@ fn octets_behind<'a>(rest: &[u8], scratch: &'a mut [u8]) -> Option<&'a [u8]>
     ensures { (line : List ℕ → Line) → made line (option_map (λ s. s.now) result)
         ≡ made (λ text. made (with_one_to 32 line) (hex_read text)) (behind_space rest.now) }
 {
-    let count = unhex(behind_word(rest, b" ")?, scratch)?;
+    let count = unhex(behind_space(rest)?, scratch)?;
     if count == 0 || count > 32 {
         return None;
     }
@@ -62,7 +62,7 @@ fn header<'a>(word: &[u8], rest: &[u8]) -> Option<Said<'a>>
         (place_from 0 word.now keys) }
 {
     let key = place(word)?;
-    let value = number(behind_word(rest, b" ")?)?;
+    let value = number(behind_space(rest)?)?;
     Some(Said::Header { key, value })
 }
 
@@ -71,7 +71,7 @@ fn subset<'a>(rest: &[u8]) -> Option<Said<'a>>
     ensures { made meaning result
         ≡ made (λ text. made spec.Begins (number_read text)) (behind_space rest.now) }
 {
-    let subset = number(behind_word(rest, b" ")?)?;
+    let subset = number(behind_space(rest)?)?;
     Some(Said::Begins(subset))
 }
 
@@ -112,7 +112,7 @@ fn worded<'a>(
         return subset(rest);
     }
     if is(word, b"R") {
-        return reference(behind_word(rest, b" ")?);
+        return reference(behind_space(rest)?);
     }
     if is(word, b"end") {
         return alone(rest, Said::Closes);

@@ -1,6 +1,6 @@
 //! Fronts and ends of a line.
 ghost use Rattle.std.specs.Prelude.{◌≡◌, ◌≤◌, length, drop, take, slice_index, option_map, IfSome};
-ghost use Rattle.bufr_text.specs.Grammar.{behind_word};
+ghost use Rattle.bufr_text.specs.Grammar.{behind_space, behind_word};
 
 /// The octet at a place, or 0 behind the end.
 pub(crate) fn octet_at(text: &[u8], place: usize) -> u8
@@ -31,4 +31,20 @@ pub(crate) fn behind_word<'a>(text: &'a [u8], word: &[u8]) -> Option<&'a [u8]>
     ensures within { IfSome result (λ s. length s.now ≤ length text.now) }
 {
     text.strip_prefix(word)
+}
+
+/// What is behind one space.
+#[tactic(auto, using(crate::proofs::ItemLemmas::space_steps))]
+#[inline(always)]
+pub(crate) fn behind_space<'a>(text: &'a [u8]) -> Option<&'a [u8]>
+    ensures value { option_map (λ s. s.now) result ≡ behind_space text.now }
+    ensures within { IfSome result (λ s. length s.now ≤ length text.now) }
+{
+    if text.is_empty() {
+        return None;
+    }
+    if text[0] != b' ' {
+        return None;
+    }
+    Some(behind(text, 1))
 }
