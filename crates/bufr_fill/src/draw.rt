@@ -41,6 +41,7 @@ pub(crate) fn top_of(may_be_missing: bool, width: u32) -> u64
 }
 
 /// The number in the bits of a value, where they can write it and it does not read as missing.
+#[inline(always)]
 fn raw_in(value: i128, spec: &Spec) -> Result<u64, Wrong>
     requires narrow { spec.now.width ≤ 63 }
     ensures is { number_told result
@@ -61,6 +62,7 @@ fn raw_in(value: i128, spec: &Spec) -> Result<u64, Wrong>
 }
 
 /// The number in the bits of a token.
+#[inline(always)]
 fn raw_of_token(token: &[u8], spec: &Spec) -> Result<u64, Wrong>
     requires narrow { spec.now.width ≤ 63 }
     ensures is { number_told result ≡ raw_of spec.now (decimal_value_of token.now spec.now.scale) }
@@ -127,6 +129,7 @@ fn text_for<'a>(octets: &'a [u8], count: usize) -> Result<Drawn<'a>, Wrong>
 }
 
 /// What a form is as the content of a field.
+#[inline(always)]
 fn draw_form<'a>(form: Form<'a>, spec: &Spec) -> Result<Drawn<'a>, Wrong>
     requires mark { is_reference spec.now.role ≡ is_marked (form_in form) }
     ensures is { drawn_told (spec.now.width / 8) result
@@ -160,6 +163,7 @@ fn draw_form<'a>(form: Form<'a>, spec: &Spec) -> Result<Drawn<'a>, Wrong>
 }
 
 /// Whether an item is that of a field.
+#[inline(always)]
 fn is_item_of(item: &DraftItem<'_>, spec: &Spec) -> bool
     ensures { result ≡ is_of spec.now (draft_in item.now) }
 {
@@ -179,6 +183,7 @@ pub(crate) fn wrong_item(spec: &Spec) -> Wrong
 }
 
 /// What an item is as the content of a field.
+#[inline(always)]
 #[tactic(auto, using(crate::proofs::DrawLemmas::marks, crate::proofs::DrawLemmas::content_wrong, crate::proofs::DrawLemmas::content_there))]
 pub(crate) fn draw<'a>(item: &DraftItem<'a>, spec: &Spec) -> Result<Drawn<'a>, Wrong>
     ensures is { drawn_told (spec.now.width / 8) result ≡ content_of spec.now (draft_in item.now) }

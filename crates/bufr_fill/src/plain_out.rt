@@ -118,6 +118,7 @@ impl<'s> Fields for PlainOut<'s> {
 
     ghost refuses = { λ s spec e next h. ap (λ c. length c.bits) h.1 };
 
+    #[inline(always)]
     fn take(&mut self, spec: &Spec) -> Result<Taken, DraftFault> {
         let item = match self.entries.get(self.place) {
             Some(Entry::Item(item)) => item,

@@ -84,6 +84,7 @@ fn push_missing(out: &mut BitWriter, spec: &Spec) -> Result<(), AllocError>
 }
 
 /// Writes what was drawn for a field, in the field's bits.
+#[inline(always)]
 #[tactic(auto, using(crate::proofs::DrawLemmas::drawn_narrow))]
 pub(crate) fn push_drawn(
     out: &mut BitWriter,
@@ -128,6 +129,7 @@ fn reference_in(drawn: Drawn<'_>) -> i64
 }
 
 /// What a field tells the walk.
+#[inline(always)]
 #[tactic(auto, using(crate::proofs::DrawLemmas::told_count, crate::proofs::DrawLemmas::told_reference, crate::proofs::DrawLemmas::told_element, crate::proofs::DrawLemmas::told_inserted))]
 pub(crate) fn taken_of(drawn: Drawn<'_>, spec: &Spec) -> Taken
     ensures tells { result ≡ told spec.now (content_drawn (spec.now.width / 8) drawn.entry) }
