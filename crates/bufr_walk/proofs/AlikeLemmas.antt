@@ -2,9 +2,10 @@
 use Rattle.std.proofs.Common.{◌≡◌, ℕ, ◌+◌, ◌-◌, ◌*◌, ◌^◌, ◌<◌, ◌≤◌, Bool, true, false, List, [], ◌∷◌, length, take, drop, Result, Ok, Err, refl, sym, ◌∙◌, ap, subst, arith}
 use Rattle.std.proofs.lemmas.List.{length-drop, drop-drop}
 use Rattle.std.proofs.lemmas.Bool.Decides.{nat_tests}
-use Rattle.std.specs.Prelude.{min, max, nat_lt, if◌then◌else◌, Option, Some, None, IfSome}
+use Rattle.std.specs.Prelude.{min, max, nat_lt, if◌then◌else◌, Option, Some, None, IfSome, IfOk}
 use Rattle.bufr_bits.specs.Bits.{bits_of}
 use Rattle.bufr_walk.specs.declared.alike.Alike.{Alike}
+use Rattle.bufr_walk.specs.declared.alike.First.{First}
 use Rattle.bufr_walk.specs.declared.fault.WalkFault.{WalkFault}
 use Rattle.bufr_walk.specs.declared.plain_in.DataEnd.{DataEnd}
 use Rattle.bufr_walk.specs.declared.spec.Role.{Role}
@@ -189,9 +190,13 @@ first_reads course bits s s' end c c' first here w =
     (subst (λ x. PassReads course x c s'.cursor c') (ap (λ x. x.cursor) first) (pass_reads course s.cursor s'.cursor c c' (walked_in course s s' c c' (Ok tt) w)))
 
 -- the first subset is behind
-pub first_read : (n : ℕ) (course : Course) (bits : List Bool) (s : Cursor) (c c' : ℕ) → c ≡ 0 → PassReads course (record { bits = bits; at = 0 }) c s c' → c' ≤ n * s.at → s.at ≤ length s.bits → SubsetsRead n course bits 1 s c'
+first_read : (n : ℕ) (course : Course) (bits : List Bool) (s : Cursor) (c c' : ℕ) → c ≡ 0 → PassReads course (record { bits = bits; at = 0 }) c s c' → c' ≤ n * s.at → s.at ≤ length s.bits → SubsetsRead n course bits 1 s c'
 first_read n course bits s c c' none p few within =
     one_more n course bits 0 (record { bits = bits; at = 0 }) s c c' (none_read n course bits (record { bits = bits; at = 0 }) c refl none) p (subst (λ k. c' ≤ c + n * k) (whole s.at) (omega (arith, few))) within (omega arith)
   where
     whole : (a : ℕ) → a ≡ a - 0
     whole a = omega arith
+
+pub begun : (n : ℕ) (course : Course) (bits : List Bool) (r : Result First WalkFault) (c c' : ℕ) → c ≡ 0 → IfOk r (λ f. PassReads course (record { bits = bits; at = 0 }) c f.fields c') → IfOk r (λ f. c' ≤ n * f.fields.at) → IfOk r (λ f. f.fields.at ≤ length f.fields.bits) → IfOk r (λ f. f.done ≡ 1) → IfOk r (λ f. SubsetsRead n course bits f.done f.fields c')
+begun n course bits (Ok f) c c' none p few within one = subst (λ k. SubsetsRead n course bits k f.fields c') (sym one) (first_read n course bits f.fields c c' none p few within)
+begun n course bits (Err e) c c' none p few within one = tt

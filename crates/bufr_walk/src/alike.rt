@@ -14,11 +14,13 @@ pub(crate) struct Alike {
     pub(crate) turns: u64,
 }
 
-/// The fields behind the first subset, and what each subset takes, where all are alike.
+/// The fields behind the subsets that were read first, how many these are, and what each subset
+/// takes, where all are alike.
 #[derive(Drop)]
 pub(crate) struct First<'b> {
     pub(crate) fields: PlainIn<'b>,
     pub(crate) alike: Option<Alike>,
+    pub(crate) done: u16,
 }
 
 /// Fields of data that are not compressed, and whether each so far told nothing that a walk needs.
@@ -66,6 +68,7 @@ impl<'b> Listening<'b> {
     pub(crate) fn into_first(self, steps: &Steps) -> First<'b>
         ensures fields { result.fields ≡ self.entry.cursor }
         ensures within { result.fields.at ≤ length result.fields.bits }
+        ensures one { result.done ≡ 1 }
         ensures alike { IfSome result.alike (λ a. (self.entry.silent ≡ true)
             × (a.bits ≡ self.entry.cursor.at) × (a.turns ≡ steps.now)) }
     {
@@ -75,12 +78,14 @@ impl<'b> Listening<'b> {
             return First {
                 fields: input,
                 alike: None,
+                done: 1,
             };
         }
         let turns = steps.count();
         First {
             fields: input,
             alike: Some(Alike { bits, turns }),
+            done: 1,
         }
     }
 }

@@ -1,6 +1,6 @@
 //! The reading of data that are not compressed: subset after subset, each from the beginning of the
 //! template.
-ghost use Rattle.std.specs.Prelude.{◌≡◌, ◌≤◌, ◌+◌, ◌-◌, ◌*◌, false, length, List, IfOk, OnOk, OnErr, IfErr, IfSome};
+ghost use Rattle.std.specs.Prelude.{◌≡◌, ◌≤◌, ◌<◌, ◌+◌, ◌-◌, ◌*◌, false, length, List, IfOk, OnOk, OnErr, IfErr, IfSome};
 ghost use Rattle.bufr_bits.specs.Bits.{bits_of};
 ghost use Rattle.bufr_bits.specs.BitSlice.{octets_of};
 ghost use Rattle.bufr_tables.specs.Tree.{places};
@@ -9,7 +9,7 @@ ghost use Rattle.bufr_walk.specs.Course.{next_item};
 ghost use Rattle.bufr_walk.specs.Fault.{bits_before};
 ghost use Rattle.bufr_walk.specs.Kept.{IsReadAndPaid};
 ghost use Rattle.bufr_walk.specs.Outcome.{data_in, IsFault};
-ghost use Rattle.bufr_walk.specs.Passes.{PassReads, PassStops};
+ghost use Rattle.bufr_walk.specs.Passes.{PassReads, PassStops, SubsetsRead};
 ghost use Rattle.bufr_walk.specs.PlainIn.{fault_at};
 
 use crate::alike::{Alike, First, Listening};
@@ -80,6 +80,7 @@ fn read_first<'b>(
         (AreAlike (places template.now) (next_item table.now template.now))) }
     ensures accepted { IfOk result (λ first. steps.new ≤ places template.now * first.fields.at) }
     ensures within { IfOk result (λ first. first.fields.at ≤ length first.fields.bits) }
+    ensures one { IfOk result (λ first. first.done ≡ 1) }
     ensures fault { IfErr result (λ why. PassStopped (places template.now)
         (next_item table.now template.now)
         (record { bits = bits_of (octets_of bits.entry); at = 0 }) steps.old 1 why steps.new) }
@@ -89,6 +90,37 @@ fn read_first<'b>(
         Ok(()) => Ok(fields.into_first(steps)),
         Err(why) => Err(fault_at(why, 1, fields.place())),
     }
+}
+
+/// Reads the first subset where others come behind it, so that what it takes is worth a note.
+fn begin<'b>(
+    alloc: Global,
+    bits: BitSlice<'b>,
+    subsets: u16,
+    template: &Template,
+    table: &TableB,
+    steps: &mut Steps,
+) -> Result<First<'b>, WalkFault>
+    requires { steps.old ≡ 0 }
+    ensures read { IfOk result (λ first. SubsetsRead (places template.now)
+        (next_item table.now template.now) (bits_of (octets_of bits.entry)) first.done first.fields
+        steps.new) }
+    ensures few { IfOk result (λ first. first.done ≤ subsets) }
+    ensures alike { IfOk result (λ first. IfSome first.alike
+        (AreAlike (places template.now) (next_item table.now template.now))) }
+    ensures some { OnErr result (0 < subsets) }
+    ensures fault { IfErr result (λ why. PassStopped (places template.now)
+        (next_item table.now template.now)
+        (record { bits = bits_of (octets_of bits.entry); at = 0 }) steps.old 1 why steps.new) }
+{
+    if subsets < 2 {
+        return Ok(First {
+            fields: PlainIn::new(bits),
+            alike: None,
+            done: 0,
+        });
+    }
+    read_first(alloc, bits, template, table, steps)
 }
 
 /// Reads a subset behind the first one, of this number. Where all are alike, and the bits hold it,
@@ -144,11 +176,12 @@ pub(crate) fn read_plain(
     ensures refused { IfErr result (λ why. steps.new
         ≤ places template.now * (bits_before why (length (bits_of (octets_of bits.entry))) + 1)) }
 {
-    if subsets == 0 {
-        return Ok(0);
-    }
-    let First { mut fields, alike } = read_first(alloc, bits, template, table, steps)?;
-    'subsets: for done in 1..subsets {
+    let First {
+        mut fields,
+        alike,
+        done: before,
+    } = begin(alloc, bits, subsets, template, table, steps)?;
+    'subsets: for done in before..subsets {
         read_next(alloc, template, table, done + 1, alike, &mut fields, steps)?;
     }
     Ok(fields.place())

@@ -5,17 +5,12 @@ use Rattle.bufr_bits.specs.BitSlice.{octets_of}
 use Rattle.bufr_tables.specs.Tree.{places}
 use Rattle.bufr_walk.specs.Course.{next_item}
 use Rattle.bufr_walk.specs.Passes.{SubsetsRead}
-use Rattle.bufr_walk.proofs.AlikeLemmas.{first_read, first_stopped, first_few}
+use Rattle.bufr_walk.proofs.AlikeLemmas.{first_stopped, first_few}
 use Rattle.bufr_walk.proofs.PlainSubsets.{one_more, all_read, few_read, stopped, few_stopped}
 use Rattle.bufr_walk.proofs.read_plain.read_plain.Goals as goal
 
-above : (n : ℕ) → (n ≡ 0 → ⊥) → 0 < n
-above n h = omega (arith, h)
-
 pub subsets-init : goal.subsets-init
-subsets-init c =
-    let h = c.in_ok-fields.ensures in
-    first_read (places c.args.template.now) (next_item c.args.table.now c.args.template.now) (bits_of (octets_of c.args.bits)) _ c.args.steps.now c.read_first.new.steps c.requires h.read h.accepted h.within
+subsets-init c = c.in_ok-fields.ensures.read
 
 pub subsets-preserved : goal.subsets-preserved
 subsets-preserved c =
@@ -24,7 +19,7 @@ subsets-preserved c =
 
 pub returns-clause-reading : goal.returns-clause-reading
 returns-clause-reading c =
-    let e : c.subsets.done ≡ c.args.subsets = omega (arith, c.subsets-test.false, c.subsets.auto.done-end) in
+    let e : c.subsets.done ≡ c.args.subsets = omega (arith, c.subsets-test.false, c.subsets.auto.done-end, c.in_ok-fields.ensures.few) in
     all_read (places c.args.template.now) (next_item c.args.table.now c.args.template.now) (octets_of c.args.bits) c.args.subsets c.subsets.fields c.subsets.steps c.place.result
     (subst (λ t. SubsetsRead (places c.args.template.now) (next_item c.args.table.now c.args.template.now) (bits_of (octets_of c.args.bits)) t c.subsets.fields c.subsets.steps) e c.subsets.invariant) c.place.ensures.value
 
@@ -47,9 +42,10 @@ returns-in_err-read_next-clause-refused c =
 pub returns-in_err-fields-clause-fault : goal.returns-in_err-fields-clause-fault
 returns-in_err-fields-clause-fault c =
     let p = err_from_is_err_and c.from_residual.result c.from_residual.ensures.1 in
-    rw (p.1, p.2) (first_stopped (places c.args.template.now) (next_item c.args.table.now c.args.template.now) (octets_of c.args.bits) c.args.subsets c.args.steps.now c.read_first.new.steps _ c.requires (above c.args.subsets c.if-subsets-eq0.false) c.in_err-fields.ensures.fault)
+    let h = c.in_err-fields.ensures in
+    rw (p.1, p.2) (first_stopped (places c.args.template.now) (next_item c.args.table.now c.args.template.now) (octets_of c.args.bits) c.args.subsets c.args.steps.now c.begin.new.steps _ c.requires h.some h.fault)
 
 pub returns-in_err-fields-clause-refused : goal.returns-in_err-fields-clause-refused
 returns-in_err-fields-clause-refused c =
     let p = err_from_is_err_and c.from_residual.result c.from_residual.ensures.1 in
-    rw (p.1, p.2) (first_few (places c.args.template.now) (next_item c.args.table.now c.args.template.now) (bits_of (octets_of c.args.bits)) c.args.steps.now c.read_first.new.steps _ c.requires c.in_err-fields.ensures.fault)
+    rw (p.1, p.2) (first_few (places c.args.template.now) (next_item c.args.table.now c.args.template.now) (bits_of (octets_of c.args.bits)) c.args.steps.now c.begin.new.steps _ c.requires c.in_err-fields.ensures.fault)
