@@ -1,7 +1,7 @@
 //! The end of a run: its last line and its exit status.
 ghost use Rattle.std.specs.Prelude.{◌≡◌, ◌<◌, ◌-◌, ◌^◌, ◌∷◌, []};
 ghost use Rattle.std.specs.Io.KnownBytes.{Appends};
-ghost use Rattle.bufr_text.specs.Writing.{GrowsByFront, IsShort, Writes, part_text};
+ghost use Rattle.bufr_text.specs.Writing.{GrowsByFront, Writes, part_text};
 ghost use Rattle.bufr_cli.specs.Finish.{last_line, numbered, run_fault_text, run_line, status_of, table_line};
 ghost use Rattle.bufr_run.specs.Counting.{CountsCalls, IsSame};
 
@@ -89,7 +89,6 @@ fn write_numbered<'a, E: Sink>(
     value: Part<'a>,
     e: &mut E,
 ) -> Result<(), RunFault>
-    requires { IsShort value }
     ensures writes { Writes (E.taken e.old) (E.taken e.new)
         (numbered table.entry.now number (text.entry.now ∷ part_text value.entry ∷ [])) result }
     ensures counts { CountsCalls E.failures E.empty_writes e.old e.new result }

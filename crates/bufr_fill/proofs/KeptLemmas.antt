@@ -33,3 +33,10 @@ entries-push octets more new cells one e all is from at said =
     ∙ ap (λ (x : Entry). map (entry_kept new) cells ++ x ∷ []) said
     ∙ ap (λ (t : List ℕ). map (entry_kept t) cells ++ e ∷ []) is
     ∙ ap (λ (t : List Entry). t ++ e ∷ []) (entries-append octets more cells all)
+
+-- no entry more, though octets were put behind the block
+pub entries-same : (octets more new : List ℕ) (cells same : List Kept) → AreInside (length octets) cells → new ≡ octets ++ more → same ≡ cells → entries_kept new same ≡ entries_kept octets cells
+entries-same octets more new cells same all is kept =
+    ap (entries_kept new) kept
+    ∙ ap (λ (t : List ℕ). entries_kept t cells) is
+    ∙ entries-append octets more cells all

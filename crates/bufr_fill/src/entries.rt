@@ -99,7 +99,7 @@ impl Model for Entries {
 }
 
 impl Entries {
-    ghost use Rattle.std.specs.Prelude.{◌≡◌, ◌<◌, [], ◌∷◌, ◌++◌, length, option_map, slice_get, Some, OnOk};
+    ghost use Rattle.std.specs.Prelude.{◌≡◌, ◌<◌, [], ◌∷◌, ◌++◌, length, option_map, slice_get, Some, OnOk, OnErr};
     ghost use Rattle.bufr_fill.specs.Draft.{draft};
     ghost use Rattle.bufr_fill.specs.Entries.{Holds, Ends};
     ghost use Rattle.bufr_fill.specs.Kept.{is_end};
@@ -127,11 +127,12 @@ impl Entries {
     ///
     /// # Errors
     ///
-    /// [`AllocError`] where the list could not grow.
+    /// [`AllocError`] where the list could not grow; the entries are the same then.
     #[inline(always)]
     pub fn push_item(&mut self, line: u64, fxy: Fxy, form: Form<'_>) -> Result<(), AllocError>
-        ensures { OnOk result
+        ensures item { OnOk result
             (self.new ≡ self.old ++ Holds (draft line fxy (form_in form.entry)) ∷ []) }
+        ensures same { OnErr result (self.new ≡ self.old) }
     {
         let (kind, octets) = parts_of(form);
         let start = self.octets.len();
@@ -151,9 +152,10 @@ impl Entries {
     ///
     /// # Errors
     ///
-    /// [`AllocError`] where the list could not grow.
+    /// [`AllocError`] where the list could not grow; the entries are the same then.
     pub fn push_end(&mut self, line: u64) -> Result<(), AllocError>
-        ensures { OnOk result (self.new ≡ self.old ++ Ends line ∷ []) }
+        ensures end { OnOk result (self.new ≡ self.old ++ Ends line ∷ []) }
+        ensures same { OnErr result (self.new ≡ self.old) }
     {
         let end = self.octets.len();
         self.kept.push(Kept {

@@ -6,7 +6,7 @@ use Rattle.bufr_bits.specs.Counts.{counted}
 use Rattle.bufr_frame.specs.declared.fault.RunFault.{RunFault}
 use Rattle.bufr_frame.specs.declared.fault.RunFault.TheVariants.{Write}
 use Rattle.bufr_text.specs.declared.part.Part.{Part}
-use Rattle.bufr_text.specs.declared.part.Part.TheVariants.{Text, Decimal, Padded, Flag}
+use Rattle.bufr_text.specs.declared.part.Part.TheVariants.{Text, Decimal}
 
 -- known octets grow by the front of a text
 pub record GrowsByFront (old new : Option (List ℕ)) (text : List ℕ) : Type 0 where
@@ -49,15 +49,6 @@ flag on = if on then codes "1" else codes "0"
 abbrev pub part_text : Part → List ℕ
 part_text (Text octets) = octets.now
 part_text (Decimal value) = decimal value
-part_text (Padded value least) = padded least value
-part_text (Flag on) = flag on
-
--- a number asks for four digits at most
-abbrev pub IsShort : Part → Type 0
-IsShort (Text octets) = Unit {0}
-IsShort (Decimal value) = Unit {0}
-IsShort (Padded value least) = least ≤ 4
-IsShort (Flag on) = Unit {0}
 
 -- texts, one after another
 abbrev pub joined : List (List ℕ) → List ℕ

@@ -1,15 +1,14 @@
 //! Texts put together from parts and written whole, with nothing allocated.
 ghost use Rattle.std.specs.Prelude.{◌≡◌, ◌≤◌, ◌++◌, IfSome, decimal, length, drop, flat_map};
-ghost use Rattle.std.specs.List.{AllByRecursion};
-ghost use Rattle.bufr_text.specs.Writing.{Writes, CountsWrites, part_text, padded, IsShort};
+ghost use Rattle.bufr_text.specs.Writing.{Writes, CountsWrites, part_text};
 
-use crate::laid::{LINE, lay_decimal, lay_flag, lay_padded, lay_text};
+use crate::laid::{LINE, lay_decimal, lay_text};
 use crate::slice::behind;
 use bufr_bits::Sink;
 use bufr_frame::RunFault;
 
-/// The octets of the longest number in digits.
-const NUMBER: usize = 24;
+/// The digits of the longest number.
+const NUMBER: usize = 20;
 
 /// A part of a text.
 #[derive(Clone, Copy, Debug)]
@@ -18,10 +17,6 @@ pub enum Part<'a> {
     Text(&'a [u8]),
     /// A number, as plain decimal digits.
     Decimal(u64),
-    /// A number in at least so many digits, zeros in front; at most four are asked for.
-    Padded(u64, usize),
-    /// `1` or `0`.
-    Flag(bool),
 }
 
 /// Writes all of `octets`.
@@ -50,8 +45,7 @@ pub fn write_all<W: Sink>(octets: &[u8], w: &mut W) -> Result<(), RunFault>
 /// the text, has no room there.
 #[inline(always)]
 fn lay_part(part: Part<'_>, line: &mut [u8], end: usize) -> Option<usize>
-    requires short { IsShort part }
-    requires within { end ≤ length line.old }
+    requires { end ≤ length line.old }
     ensures start { IfSome result (λ start. start ≤ end) }
     ensures laid { IfSome result
         (λ start. drop start line.new ≡ part_text part.entry ++ drop end line.old) }
@@ -59,15 +53,12 @@ fn lay_part(part: Part<'_>, line: &mut [u8], end: usize) -> Option<usize>
     match part {
         Part::Text(octets) if octets.len() <= end => Some(lay_text(octets, line, end)),
         Part::Decimal(value) if end >= 20 => Some(lay_decimal(value, line, end)),
-        Part::Padded(value, least) if end >= 24 => Some(lay_padded(value, least, line, end)),
-        Part::Flag(on) if end >= 1 => Some(lay_flag(on, line, end)),
         _ => None,
     }
 }
 
 /// Lays parts, one behind another, at the end of the octets, and answers where they begin.
 fn lay_parts(parts: &[Part<'_>], line: &mut [u8]) -> Option<usize>
-    requires { AllByRecursion IsShort parts.now }
     ensures start { IfSome result (λ start. start ≤ length line.old) }
     ensures laid { IfSome result (λ start. drop start line.new ≡ flat_map part_text parts.now) }
 {
@@ -78,19 +69,6 @@ fn lay_parts(parts: &[Part<'_>], line: &mut [u8]) -> Option<usize>
         start = lay_part(parts[left], line, start)?;
     }
     Some(start)
-}
-
-/// Writes a number in at least `least` digits.
-fn write_padded<W: Sink>(value: u64, least: usize, w: &mut W) -> Result<(), RunFault>
-    requires { least ≤ 4 }
-    ensures writes { Writes (W.taken w.old) (W.taken w.new) (padded least value) result }
-    ensures counts { CountsWrites (W.failures w.old) (W.failures w.new) (W.empty_writes w.old)
-        (W.empty_writes w.new) result }
-    ensures flushes { W.flushes w.new ≡ W.flushes w.old }
-{
-    let mut line = [0; NUMBER];
-    let start = lay_padded(value, least, &mut line, NUMBER);
-    write_all(behind(&line, start), w)
 }
 
 /// Writes a number.
@@ -107,7 +85,6 @@ fn write_decimal<W: Sink>(value: u64, w: &mut W) -> Result<(), RunFault>
 
 /// Writes a part on its own.
 fn write_part<W: Sink>(part: Part<'_>, w: &mut W) -> Result<(), RunFault>
-    requires { IsShort part }
     ensures writes { Writes (W.taken w.old) (W.taken w.new) (part_text part.entry) result }
     ensures counts { CountsWrites (W.failures w.old) (W.failures w.new) (W.empty_writes w.old)
         (W.empty_writes w.new) result }
@@ -116,14 +93,11 @@ fn write_part<W: Sink>(part: Part<'_>, w: &mut W) -> Result<(), RunFault>
     match part {
         Part::Text(octets) => write_all(octets, w),
         Part::Decimal(value) => write_decimal(value, w),
-        Part::Padded(value, least) => write_padded(value, least, w),
-        Part::Flag(on) => write_all(if on { b"1" } else { b"0" }, w),
     }
 }
 
 /// Writes parts, each on its own.
 fn write_each<W: Sink>(parts: &[Part<'_>], w: &mut W) -> Result<(), RunFault>
-    requires { AllByRecursion IsShort parts.now }
     ensures writes { Writes (W.taken w.old) (W.taken w.new) (flat_map part_text parts.now) result }
     ensures counts { CountsWrites (W.failures w.old) (W.failures w.new) (W.empty_writes w.old)
         (W.empty_writes w.new) result }
@@ -142,7 +116,6 @@ fn write_each<W: Sink>(parts: &[Part<'_>], w: &mut W) -> Result<(), RunFault>
 ///
 /// [`RunFault::Write`] where the writer fails or takes nothing; a front of the text was taken.
 pub fn write_parts<W: Sink>(parts: &[Part<'_>], w: &mut W) -> Result<(), RunFault>
-    requires { AllByRecursion IsShort parts.now }
     ensures writes { Writes (W.taken w.old) (W.taken w.new) (flat_map part_text parts.now) result }
     ensures counts { CountsWrites (W.failures w.old) (W.failures w.new) (W.empty_writes w.old)
         (W.empty_writes w.new) result }

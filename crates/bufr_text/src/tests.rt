@@ -50,16 +50,13 @@ fn writes_parts(rt: HostRuntime) -> Result<(), Fail> {
         Part::Text(b"a "),
         Part::Decimal(1_024),
         Part::Text(b" "),
-        Part::Padded(7, 4),
-        Part::Text(b" "),
-        Part::Padded(65_536, 2),
-        Part::Flag(true),
-        Part::Flag(false),
+        Part::Decimal(u64::MAX),
+        Part::Decimal(0),
     ];
     let mut w = ScriptOut::new(rt.alloc(), 4096, 4096, End::Fail)?;
     let written = write_parts(&parts, &mut w);
     assert_eq!(rt; written, Ok(()));
-    assert_eq!(rt; w.taken(), b"a 1024 0007 6553610".as_slice());
+    assert_eq!(rt; w.taken(), b"a 1024 184467440737095516150".as_slice());
     Ok(())
 }
 
