@@ -136,18 +136,33 @@ fn elements(rt: HostRuntime) -> Result<(), Fail> {
         width: 15,
     };
     assert!(rt; entry_of(&table, 0x0502) == Some(latitude));
-    for (word, kind, width) in [
-        (0x0101u16, Kind::Numeric, 7u32),
-        (0x010f, Kind::Character, 160),
-        (0x1403, Kind::Coded, 9),
-        (0x1f00, Kind::Numeric, 1),
-        (0x1f01, Kind::Numeric, 8),
-        (0x1f02, Kind::Numeric, 16),
-    ] {
-        let entry = entry_of(&table, word).ok_or("lacks an element")?;
-        assert_eq!(rt; (entry.kind, entry.width), (kind, width), "at {word}");
+    Ok(())
+}
+
+/// Elements of the table, with their kinds and widths.
+const KINDS_AND_WIDTHS: &[(u16, Kind, u32)] = &[
+    (0x0101, Kind::Numeric, 7),
+    (0x010f, Kind::Character, 160),
+    (0x1403, Kind::Coded, 9),
+    (0x1f00, Kind::Numeric, 1),
+    (0x1f01, Kind::Numeric, 8),
+    (0x1f02, Kind::Numeric, 16),
+];
+
+#[test]
+fn kinds_and_widths(rt: HostRuntime) -> Result<(), Fail> {
+    let table = read_b(rt.alloc(), TABLE_B)?;
+    for (word, kind, width) in KINDS_AND_WIDTHS {
+        let entry = entry_of(&table, *word).ok_or("lacks an element")?;
+        assert_eq!(rt; (entry.kind, entry.width), (*kind, *width), "at {word}");
     }
-    // An element that is not there, and descriptors that are no elements.
+    Ok(())
+}
+
+/// An element that is not there, and descriptors that are no elements.
+#[test]
+fn words_that_are_no_elements(rt: HostRuntime) -> Result<(), Fail> {
+    let table = read_b(rt.alloc(), TABLE_B)?;
     for word in [0x3fffu16, 0x4c65, 0x8c65, 0xcc65] {
         assert!(rt; entry_of(&table, word).is_none(), "at {word}");
     }
@@ -439,33 +454,56 @@ fn long_chains(rt: HostRuntime) -> Result<(), Fail> {
     Ok(())
 }
 
-/// A table of as many elements and rows as the WMO's tables have, and more.
+/// A table of as many elements as the WMO's has, and more.
+fn usual_elements(alloc: Global) -> Result<Vec<u8>, AllocError> {
+    let mut text = Vec::from_slice(alloc, HEADER_B)?;
+    for word in 0..2000u16 {
+        text.extend_from_slice(&digits_of(word * 3))?;
+        text.extend_from_slice(b",A NAME OF SOME THIRTY OCTETS,degree true,2,-9000,16\n")?;
+    }
+    Ok(text)
+}
+
+/// How many of these words are elements.
+fn count_elements(table: &TableB, behind: u16) -> usize {
+    let words = 0..2000u16;
+    words
+        .filter(|word| entry_of(table, word * 3 + behind).is_some())
+        .count()
+}
+
 #[test]
-fn tables_of_usual_size(rt: HostRuntime) -> Result<(), Fail> {
-    let mut elements = Vec::from_slice(rt.alloc(), HEADER_B)?;
-    for word in 0..2000u16 {
-        elements.extend_from_slice(&digits_of(word * 3))?;
-        elements.extend_from_slice(b",A NAME OF SOME THIRTY OCTETS,degree true,2,-9000,16\n")?;
-    }
-    let table = read_b(rt.alloc(), &elements)?;
-    for word in 0..2000u16 {
-        assert!(rt; entry_of(&table, word * 3).is_some());
-        assert!(rt; entry_of(&table, word * 3 + 1).is_none());
-    }
-    let mut rows = Vec::from_slice(rt.alloc(), HEADER_D)?;
+fn elements_of_a_table_of_usual_size(rt: HostRuntime) -> Result<(), Fail> {
+    let text = usual_elements(rt.alloc())?;
+    let table = read_b(rt.alloc(), &text)?;
+    assert_eq!(rt; count_elements(&table, 0), 2000);
+    assert_eq!(rt; count_elements(&table, 1), 0);
+    Ok(())
+}
+
+/// A table of as many rows as the WMO's has, and more: each sequence begins with the next one.
+fn usual_sequences(alloc: Global) -> Result<Vec<u8>, AllocError> {
+    let mut text = Vec::from_slice(alloc, HEADER_D)?;
     for key in 0..1500u16 {
-        for place in 0..10u16 {
-            push_row(
-                &mut rows,
-                0xc000 + key,
-                if place == 0 { 0xc001 + key } else { place },
-            )?;
+        push_row(&mut text, 0xc000 + key, 0xc001 + key)?;
+        for place in 1..10u16 {
+            push_row(&mut text, 0xc000 + key, place)?;
         }
     }
-    let table = read_d(rt.alloc(), &rows)?;
-    for key in 0..1500u16 {
-        let members = members_of(&table, 0xc000 + key).ok_or("lacks a sequence")?;
-        assert_eq!(rt; members.len(), 10);
-    }
+    Ok(text)
+}
+
+/// How many sequences have so many members.
+fn count_sequences(table: &TableD, members: usize) -> usize {
+    let keys = 0..1500u16;
+    keys.filter(|key| members_of(table, 0xc000 + key).is_some_and(|all| all.len() == members))
+        .count()
+}
+
+#[test]
+fn sequences_of_a_table_of_usual_size(rt: HostRuntime) -> Result<(), Fail> {
+    let text = usual_sequences(rt.alloc())?;
+    let table = read_d(rt.alloc(), &text)?;
+    assert_eq!(rt; count_sequences(&table, 10), 1500);
     Ok(())
 }

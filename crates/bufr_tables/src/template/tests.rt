@@ -294,19 +294,35 @@ fn written(alloc: Global, cell: Cell) -> Result<String, AllocError> {
     }
 }
 
+// The texts of cells, a space before each but the first.
+fn cells_told(alloc: Global, cells: &[Cell]) -> Result<String, AllocError> {
+    let mut told = String::new(alloc);
+    for cell in cells {
+        if !told.is_empty() {
+            told.push(' ')?;
+        }
+        told.push_str(&written(alloc, *cell)?)?;
+    }
+    Ok(told)
+}
+
+// The cells of a template that is built.
+fn cells_built(
+    alloc: Global,
+    text: &str,
+    table_b: &TableB,
+    table_d: &TableD,
+) -> Result<String, Fail> {
+    let descriptors = descriptors_of(alloc, text)?;
+    let template = built(alloc, &descriptors, table_b, table_d)?;
+    Ok(cells_told(alloc, template.cells())?)
+}
+
 #[test]
 fn cells_of_worked_lists(rt: HostRuntime) -> Result<(), Fail> {
     let (table_b, table_d) = tables(rt.alloc())?;
     for (name, text, want) in CELLS {
-        let descriptors = descriptors_of(rt.alloc(), text)?;
-        let template = built(rt.alloc(), &descriptors, &table_b, &table_d)?;
-        let mut told = String::new(rt.alloc());
-        for cell in template.cells() {
-            if !told.is_empty() {
-                told.push(' ')?;
-            }
-            told.push_str(&written(rt.alloc(), *cell)?)?;
-        }
+        let told = cells_built(rt.alloc(), text, &table_b, &table_d)?;
         assert_eq!(rt; told.as_str(), *want, "{name}");
     }
     Ok(())
