@@ -8,6 +8,7 @@ use crate::test_messages::{
 use crate::test_runs::{Command, assert_run, run_whole};
 use bufr_text::Form;
 use std::alloc::Global;
+use std::process::Abort;
 use std::test::Fail;
 
 /// The message of one block number in edition 3: section 1 has one octet for local use behind the
@@ -300,14 +301,25 @@ fn errors_at(alloc: Global, line: u8) -> Result<String, Fail> {
     Ok(format!(in alloc; "line {line}: 61 header range\n")?)
 }
 
+/// The text with a line changed is refused at the line of this number, or accepted where it is 0.
+fn assert_changed(
+    rt: &(impl Abort + AllocGlobal),
+    old: &str,
+    new: &str,
+    line: u8,
+) -> Result<(), Fail> {
+    let text = changed(rt.alloc(), old, new)?;
+    let errors = errors_at(rt.alloc(), line)?;
+    let ran = run_whole(rt, Command::Encode, text.as_bytes())?;
+    ran.assert_errors(rt, new, counts(line), errors.as_bytes());
+    Ok(())
+}
+
 /// A value past the octets of edition 3 is refused at its line.
 #[test]
 fn refuses_values_past_their_octets(rt: HostRuntime) -> Result<(), Fail> {
     for (old, new, line) in &VALUES {
-        let text = changed(rt.alloc(), old, new)?;
-        let ran = run_whole(&rt, Command::Encode, text.as_bytes())?;
-        let errors = errors_at(rt.alloc(), *line)?;
-        ran.assert_errors(&rt, new, counts(*line), errors.as_bytes());
+        assert_changed(&rt, old, new, *line)?;
     }
     Ok(())
 }

@@ -169,125 +169,154 @@ fn words_that_are_no_elements(rt: HostRuntime) -> Result<(), Fail> {
     Ok(())
 }
 
+/// The fault that rows are to have, none or one; a descriptor by its word.
+#[derive(Clone, Copy)]
+enum Want {
+    Nothing,
+    Csv,
+    Row(u64),
+    Duplicate(u16),
+    Cycle(u16),
+}
+
+impl Want {
+    fn fault(self) -> Option<TableFault> {
+        match self {
+            Want::Nothing => None,
+            Want::Csv => Some(TableFault::Csv),
+            Want::Row(record) => Some(TableFault::Row(record)),
+            Want::Duplicate(word) => Some(TableFault::Duplicate(Fxy::from_word(word))),
+            Want::Cycle(word) => Some(TableFault::Cycle(Fxy::from_word(word))),
+        }
+    }
+}
+
+/// Rows below the header of Table B, and the fault that they have.
+#[rattlefmt::skip]
+const FAULTS_OF_TABLE_B: &[(&[u8], Want)] = &[
+    (b"", Want::Nothing),
+    (b"\n\n\r\n", Want::Nothing),
+    (b"001001,A,K,0,0", Want::Csv),
+    (b"001001,A,K,0,0,7,", Want::Csv),
+    (b"001001,A,K,0,0,7\n001001,A", Want::Csv),
+    (b"001001,A,K,0,0,64", Want::Row(2)),
+    (b"001001,A,K,0,0,63", Want::Nothing),
+    (b"001001,A,K,0,0,1", Want::Nothing),
+    (b"001001,A,K,0,0,0", Want::Row(2)),
+    (b"001001,A,K,0,0,-7", Want::Row(2)),
+    (b"001001,A,K,0,0,+7", Want::Row(2)),
+    (b"001001,A,K,0,0, 7", Want::Row(2)),
+    (b"001001,A,K,0,0,", Want::Row(2)),
+    (b"001001,A,K,0,0,00000000000000000000000000000000000000007", Want::Nothing),
+    (b"001001,A,K,0,0,18446744073709551623", Want::Row(2)),
+    (b"001001,A,K,-127,-9223372036854775808,7", Want::Nothing),
+    (b"001001,A,K,127,9223372036854775807,7", Want::Nothing),
+    (b"001001,A,K,128,0,7", Want::Row(2)),
+    (b"001001,A,K,-128,0,7", Want::Row(2)),
+    (b"001001,A,K,-,0,7", Want::Row(2)),
+    (b"001001,A,K,-0,-0,7", Want::Nothing),
+    (b"001001,A,K,0,9223372036854775808,7", Want::Row(2)),
+    (b"001001,A,K,0,-9223372036854775809,7", Want::Row(2)),
+    (b"001001,A,K,0,-18446744073709551616,7", Want::Row(2)),
+    (b"001001,A,K,0,1.5,7", Want::Row(2)),
+    (b"001001,A,ccitt ia5,0,0,12", Want::Row(2)),
+    (b"001001,A,ccitt ia5,0,0,16", Want::Nothing),
+    (b"001001,A,CCITT IA5,0,0,0", Want::Row(2)),
+    (b"001001,A,CCITT IA5,0,0,8", Want::Nothing),
+    (b"001001,A,CCITT IA5,0,0,2040", Want::Nothing),
+    (b"001001,A,CCITT IA5,0,0,2048", Want::Row(2)),
+    (b"001001,A,CCITT IA5,200,0,8", Want::Row(2)),
+    (b"001001,\"A\nB\",K,0,0,7", Want::Row(2)),
+    (b"001001,\"A,B\",K,0,0,7", Want::Nothing),
+    (b"001001,A\tB,K,0,0,7", Want::Row(2)),
+    (b"001001,A\x7fB,K,0,0,7", Want::Row(2)),
+    (b"001001,A,K\x1f,0,0,7", Want::Row(2)),
+    (b"001001,\xff\x80,\xb0C,0,0,7", Want::Nothing),
+    (b"001001,,,0,0,7", Want::Nothing),
+    (b"00100,A,K,0,0,7", Want::Row(2)),
+    (b"0010010,A,K,0,0,7", Want::Row(2)),
+    (b" 01001,A,K,0,0,7", Want::Row(2)),
+    (b"063255,A,K,0,0,7", Want::Nothing),
+    (b"064001,A,K,0,0,7", Want::Row(2)),
+    (b"001256,A,K,0,0,7", Want::Row(2)),
+    (b"101001,A,K,0,0,7", Want::Row(2)),
+    (b"301001,A,K,0,0,7", Want::Row(2)),
+    (b"401001,A,K,0,0,7", Want::Row(2)),
+    (b"031000,A,Numeric,0,0,8", Want::Row(2)),
+    (b"031001,A,Numeric,0,0,16", Want::Row(2)),
+    (b"031002,A,Numeric,0,0,8", Want::Row(2)),
+    (b"031001,A,Numeric,1,0,8", Want::Row(2)),
+    (b"031001,A,Numeric,0,-1,8", Want::Row(2)),
+    (b"031001,A,CCITT IA5,0,0,8", Want::Row(2)),
+    (b"031001,A,Code table,0,0,8", Want::Nothing),
+    (b"031003,A,Numeric,1,1,9", Want::Nothing),
+    (b"001001,A,K,0,0,7\n001001,A,K,0,0,7", Want::Duplicate(0x0101)),
+    (b"001001,A,K,0,0,7\n001001,A,K,0,0,x", Want::Row(3)),
+    (b"001001,A,K,0,0,7\n\n\n001002,A,K,0,0,x", Want::Row(3)),
+    (b"001001,A,K,0,0,x\n001001,A", Want::Row(2)),
+];
+
 #[test]
 fn faults_of_table_b(rt: HostRuntime) -> Result<(), Fail> {
-    let wind = Fxy::from_word(0x0101);
-    let row = |n: u64| Some(TableFault::Row(n));
-    for (rows, want) in [
-        (b"".as_slice(), None),
-        (b"\n\n\r\n", None),
-        (b"001001,A,K,0,0", Some(TableFault::Csv)),
-        (b"001001,A,K,0,0,7,", Some(TableFault::Csv)),
-        (b"001001,A,K,0,0,7\n001001,A", Some(TableFault::Csv)),
-        (b"001001,A,K,0,0,64", row(2)),
-        (b"001001,A,K,0,0,63", None),
-        (b"001001,A,K,0,0,1", None),
-        (b"001001,A,K,0,0,0", row(2)),
-        (b"001001,A,K,0,0,-7", row(2)),
-        (b"001001,A,K,0,0,+7", row(2)),
-        (b"001001,A,K,0,0, 7", row(2)),
-        (b"001001,A,K,0,0,", row(2)),
-        (
-            b"001001,A,K,0,0,00000000000000000000000000000000000000007",
-            None,
-        ),
-        (b"001001,A,K,0,0,18446744073709551623", row(2)),
-        (b"001001,A,K,-127,-9223372036854775808,7", None),
-        (b"001001,A,K,127,9223372036854775807,7", None),
-        (b"001001,A,K,128,0,7", row(2)),
-        (b"001001,A,K,-128,0,7", row(2)),
-        (b"001001,A,K,-,0,7", row(2)),
-        (b"001001,A,K,-0,-0,7", None),
-        (b"001001,A,K,0,9223372036854775808,7", row(2)),
-        (b"001001,A,K,0,-9223372036854775809,7", row(2)),
-        (b"001001,A,K,0,-18446744073709551616,7", row(2)),
-        (b"001001,A,K,0,1.5,7", row(2)),
-        (b"001001,A,ccitt ia5,0,0,12", row(2)),
-        (b"001001,A,ccitt ia5,0,0,16", None),
-        (b"001001,A,CCITT IA5,0,0,0", row(2)),
-        (b"001001,A,CCITT IA5,0,0,8", None),
-        (b"001001,A,CCITT IA5,0,0,2040", None),
-        (b"001001,A,CCITT IA5,0,0,2048", row(2)),
-        (b"001001,A,CCITT IA5,200,0,8", row(2)),
-        (b"001001,\"A\nB\",K,0,0,7", row(2)),
-        (b"001001,\"A,B\",K,0,0,7", None),
-        (b"001001,A\tB,K,0,0,7", row(2)),
-        (b"001001,A\x7fB,K,0,0,7", row(2)),
-        (b"001001,A,K\x1f,0,0,7", row(2)),
-        (b"001001,\xff\x80,\xb0C,0,0,7", None),
-        (b"001001,,,0,0,7", None),
-        (b"00100,A,K,0,0,7", row(2)),
-        (b"0010010,A,K,0,0,7", row(2)),
-        (b" 01001,A,K,0,0,7", row(2)),
-        (b"063255,A,K,0,0,7", None),
-        (b"064001,A,K,0,0,7", row(2)),
-        (b"001256,A,K,0,0,7", row(2)),
-        (b"101001,A,K,0,0,7", row(2)),
-        (b"301001,A,K,0,0,7", row(2)),
-        (b"401001,A,K,0,0,7", row(2)),
-        (b"031000,A,Numeric,0,0,8", row(2)),
-        (b"031001,A,Numeric,0,0,16", row(2)),
-        (b"031002,A,Numeric,0,0,8", row(2)),
-        (b"031001,A,Numeric,1,0,8", row(2)),
-        (b"031001,A,Numeric,0,-1,8", row(2)),
-        (b"031001,A,CCITT IA5,0,0,8", row(2)),
-        (b"031001,A,Code table,0,0,8", None),
-        (b"031003,A,Numeric,1,1,9", None),
-        (
-            b"001001,A,K,0,0,7\n001001,A,K,0,0,7",
-            Some(TableFault::Duplicate(wind)),
-        ),
-        (b"001001,A,K,0,0,7\n001001,A,K,0,0,x", row(3)),
-        (b"001001,A,K,0,0,7\n\n\n001002,A,K,0,0,x", row(3)),
-        (b"001001,A,K,0,0,x\n001001,A", row(2)),
-    ] {
+    for (rows, want) in FAULTS_OF_TABLE_B {
         let text = under(rt.alloc(), HEADER_B, rows)?;
-        assert!(rt;
-            fault_b(rt.alloc(), &text) == want,
-            "{:?} for {rows:?}",
-            fault_b(rt.alloc(), &text)
-        );
-    }
-    for text in [
-        b"".as_slice(),
-        b"\n",
-        b"fxy,name,unit,scale,reference\n",
-        b"fxy,name,unit,scale,reference,Width\n",
-        b"fxy,name,unit,scale,reference, width\n",
-        b"fxy,member\n",
-    ] {
-        assert!(rt;
-            fault_b(rt.alloc(), text) == Some(TableFault::Header),
-            "{text:?}"
-        );
+        let told = fault_b(rt.alloc(), &text);
+        assert!(rt; told == want.fault(), "{told:?} for {rows:?}");
     }
     Ok(())
 }
 
+/// Texts whose first row is not that of Table B.
+#[rattlefmt::skip]
+const NO_HEADERS_OF_TABLE_B: &[&[u8]] = &[
+    b"",
+    b"\n",
+    b"fxy,name,unit,scale,reference\n",
+    b"fxy,name,unit,scale,reference,Width\n",
+    b"fxy,name,unit,scale,reference, width\n",
+    b"fxy,member\n",
+];
+
+#[test]
+fn headers_of_table_b(rt: HostRuntime) {
+    for text in NO_HEADERS_OF_TABLE_B {
+        let told = fault_b(rt.alloc(), text);
+        assert!(rt; told == Some(TableFault::Header), "{told:?} for {text:?}");
+    }
+}
+
+/// Units, and the kinds of their elements.
+#[rattlefmt::skip]
+const KINDS: &[(&[u8], Kind)] = &[
+    (b"CCITT IA5", Kind::Character),
+    (b"Ccitt iA5", Kind::Character),
+    (b"CCITT IA5 ", Kind::Numeric),
+    (b"CCITT IA", Kind::Numeric),
+    (b"Code table", Kind::Coded),
+    (b"CODE TABLE 0 20 003", Kind::Coded),
+    (b"code tabl", Kind::Numeric),
+    (b"Common code table C-1", Kind::Coded),
+    (b"cOMMON CODE TABLE", Kind::Coded),
+    (b"flag table", Kind::Coded),
+    (b" Flag table", Kind::Numeric),
+    (b"Numeric", Kind::Numeric),
+    (b"", Kind::Numeric),
+];
+
+/// The kind of an element of this unit.
+fn kind_of(alloc: Global, unit: &[u8]) -> Result<Kind, Fail> {
+    let mut text = Vec::from_slice(alloc, HEADER_B)?;
+    text.extend_from_slice(b"001001,A,")?;
+    text.extend_from_slice(unit)?;
+    text.extend_from_slice(b",0,0,8\n")?;
+    let table = read_b(alloc, &text)?;
+    Ok(entry_of(&table, 0x0101).ok_or("lacks the element")?.kind)
+}
+
 #[test]
 fn kinds(rt: HostRuntime) -> Result<(), Fail> {
-    for (unit, kind) in [
-        (b"CCITT IA5".as_slice(), Kind::Character),
-        (b"Ccitt iA5", Kind::Character),
-        (b"CCITT IA5 ", Kind::Numeric),
-        (b"CCITT IA", Kind::Numeric),
-        (b"Code table", Kind::Coded),
-        (b"CODE TABLE 0 20 003", Kind::Coded),
-        (b"code tabl", Kind::Numeric),
-        (b"Common code table C-1", Kind::Coded),
-        (b"cOMMON CODE TABLE", Kind::Coded),
-        (b"flag table", Kind::Coded),
-        (b" Flag table", Kind::Numeric),
-        (b"Numeric", Kind::Numeric),
-        (b"", Kind::Numeric),
-    ] {
-        let mut text = Vec::from_slice(rt.alloc(), HEADER_B)?;
-        text.extend_from_slice(b"001001,A,")?;
-        text.extend_from_slice(unit)?;
-        text.extend_from_slice(b",0,0,8\n")?;
-        let table = read_b(rt.alloc(), &text)?;
-        let entry = entry_of(&table, 0x0101).ok_or("lacks the element")?;
-        assert_eq!(rt; entry.kind, kind, "for {unit:?}");
+    for (unit, kind) in KINDS {
+        assert_eq!(rt; kind_of(rt.alloc(), unit)?, *kind, "for {unit:?}");
     }
     Ok(())
 }
@@ -303,68 +332,53 @@ fn sequences(rt: HostRuntime) -> Result<(), Fail> {
     Ok(())
 }
 
+/// Rows below the header of Table D, and the fault that they have.
+#[rattlefmt::skip]
+const FAULTS_OF_TABLE_D: &[(&[u8], Want)] = &[
+    (b"", Want::Nothing),
+    (b"300001", Want::Csv),
+    (b"300001,001001,", Want::Csv),
+    (b"300001,x", Want::Row(2)),
+    (b"200001,001001", Want::Row(2)),
+    (b"300001,401001", Want::Row(2)),
+    (b"300001,101000\n300001,031001\n300001,201132", Want::Nothing),
+    (b"363255,363254\n363255,001001", Want::Nothing),
+    // A cycle is named by the first sequence of the file that reaches itself.
+    (b"300001,300001", Want::Cycle(0xc001)),
+    (b"300001,001001\n300001,300001", Want::Cycle(0xc001)),
+    (b"300001,300002\n300002,300001", Want::Cycle(0xc001)),
+    (b"300002,300001\n300001,300002", Want::Cycle(0xc002)),
+    (b"300001,300002\n300002,300003\n300003,300002", Want::Cycle(0xc002)),
+    (b"300001,300002\n300002,300003\n300003,300003", Want::Cycle(0xc003)),
+    (b"300001,300002\n300002,300003\n300003,300004\n300004,300002\n300004,300001", Want::Cycle(0xc001)),
+    (b"300002,300003\n300003,300004\n300004,300003\n300001,300001", Want::Cycle(0xc003)),
+    // The same members twice, and a member that the table lacks, are no cycle.
+    (b"300001,300002\n300001,300002\n300002,300003\n300002,300003\n300003,001001", Want::Nothing),
+    (b"300001,300002\n300002,300003", Want::Nothing),
+    // A second run of rows goes before a cycle.
+    (b"300001,300002\n300002,300001\n300001,001001", Want::Duplicate(0xc001)),
+    (b"300001,300001\n300002,x", Want::Row(3)),
+];
+
 #[test]
 fn faults_of_table_d(rt: HostRuntime) -> Result<(), Fail> {
-    let first = Fxy::from_word(0xc001);
-    let row = |n: u64| Some(TableFault::Row(n));
-    let cycle = |word: u16| Some(TableFault::Cycle(Fxy::from_word(word)));
-    for (rows, want) in [
-        (b"".as_slice(), None),
-        (b"300001", Some(TableFault::Csv)),
-        (b"300001,001001,", Some(TableFault::Csv)),
-        (b"300001,x", row(2)),
-        (b"200001,001001", row(2)),
-        (b"300001,401001", row(2)),
-        (b"300001,101000\n300001,031001\n300001,201132", None),
-        (b"363255,363254\n363255,001001", None),
-        // A cycle is named by the first sequence of the file that reaches itself.
-        (b"300001,300001", cycle(0xc001)),
-        (b"300001,001001\n300001,300001", cycle(0xc001)),
-        (b"300001,300002\n300002,300001", cycle(0xc001)),
-        (b"300002,300001\n300001,300002", cycle(0xc002)),
-        (
-            b"300001,300002\n300002,300003\n300003,300002",
-            cycle(0xc002),
-        ),
-        (
-            b"300001,300002\n300002,300003\n300003,300003",
-            cycle(0xc003),
-        ),
-        (
-            b"300001,300002\n300002,300003\n300003,300004\n300004,300002\n300004,300001",
-            cycle(0xc001),
-        ),
-        (
-            b"300002,300003\n300003,300004\n300004,300003\n300001,300001",
-            cycle(0xc003),
-        ),
-        // The same members twice, and a member that the table lacks, are no cycle.
-        (
-            b"300001,300002\n300001,300002\n300002,300003\n300002,300003\n300003,001001",
-            None,
-        ),
-        (b"300001,300002\n300002,300003", None),
-        // A second run of rows goes before a cycle.
-        (
-            b"300001,300002\n300002,300001\n300001,001001",
-            Some(TableFault::Duplicate(first)),
-        ),
-        (b"300001,300001\n300002,x", row(3)),
-    ] {
+    for (rows, want) in FAULTS_OF_TABLE_D {
         let text = under(rt.alloc(), HEADER_D, rows)?;
-        assert!(rt;
-            fault_d(rt.alloc(), &text) == want,
-            "{:?} for {rows:?}",
-            fault_d(rt.alloc(), &text)
-        );
-    }
-    for text in [b"".as_slice(), b"fxy\n", b"fxy,members\n", HEADER_B] {
-        assert!(rt;
-            fault_d(rt.alloc(), text) == Some(TableFault::Header),
-            "{text:?}"
-        );
+        let told = fault_d(rt.alloc(), &text);
+        assert!(rt; told == want.fault(), "{told:?} for {rows:?}");
     }
     Ok(())
+}
+
+/// Texts whose first row is not that of Table D.
+const NO_HEADERS_OF_TABLE_D: &[&[u8]] = &[b"", b"fxy\n", b"fxy,members\n", HEADER_B];
+
+#[test]
+fn headers_of_table_d(rt: HostRuntime) {
+    for text in NO_HEADERS_OF_TABLE_D {
+        let told = fault_d(rt.alloc(), text);
+        assert!(rt; told == Some(TableFault::Header), "{told:?} for {text:?}");
+    }
 }
 
 /// A name or a unit of this many octets.
