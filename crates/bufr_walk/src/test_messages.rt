@@ -192,6 +192,17 @@ fn refused(alloc: Global, fault: WalkFault, steps: &Steps) -> Result<String, Fai
     }
 }
 
+/// Table B. It promises nothing, so that the proof of a test does not carry the table's contract.
+fn table_b(alloc: Global) -> Result<TableB, Fail> {
+    Ok(TableB::read(alloc, TABLE_B)?)
+}
+
+/// The template of these descriptors, with no promise either.
+fn template_of(alloc: Global, descriptors: &[Fxy], table: &TableB) -> Result<Template, Fail> {
+    let sequences = TableD::read(alloc, TABLE_D)?;
+    Ok(Template::build(alloc, descriptors, table, &sequences)?)
+}
+
 /// A message, its template, and the table by which it is read.
 #[derive(Drop)]
 pub(crate) struct Worked {
@@ -209,11 +220,10 @@ impl Worked {
         descriptors: &str,
         payload: &[u8],
     ) -> Result<Worked, Fail> {
-        let table = TableB::read(alloc, TABLE_B)?;
-        let sequences = TableD::read(alloc, TABLE_D)?;
+        let table = table_b(alloc)?;
         let descriptors = descriptors_of(alloc, descriptors)?;
         let octets = message_of(alloc, subsets, flags, &descriptors, payload)?;
-        let template = Template::build(alloc, &descriptors, &table, &sequences)?;
+        let template = template_of(alloc, &descriptors, &table)?;
         Ok(Worked {
             octets,
             template,

@@ -520,15 +520,23 @@ fn assert_steps_to(
     Ok(())
 }
 
+// How many items a visitor of two subsets takes, and the subsets and items that it was told, with
+// the steps.
+const REFUSED_ITEMS: &[(u64, (u64, u64, u64))] = &[
+    (0, (1, 0, 1)),
+    (2, (1, 2, 5)),
+    (3, (2, 3, 8)),
+    (4, (2, 4, 10)),
+    (6, (2, 6, 14)),
+];
+
 #[test]
 fn refused_items_of_two_subsets(rt: HostRuntime) -> Result<(), Fail> {
     let payload = octets_with(rt.alloc(), 8, 0x14, 0x00)?;
     let worked = Worked::new(rt.alloc(), 2, APART, "012101 101002 001001", &payload)?;
-    assert_steps_to(&rt, &worked, 0, (1, 0, 1))?;
-    assert_steps_to(&rt, &worked, 2, (1, 2, 5))?;
-    assert_steps_to(&rt, &worked, 3, (2, 3, 8))?;
-    assert_steps_to(&rt, &worked, 4, (2, 4, 10))?;
-    assert_steps_to(&rt, &worked, 6, (2, 6, 14))?;
+    for (most, want) in REFUSED_ITEMS {
+        assert_steps_to(&rt, &worked, *most, *want)?;
+    }
     Ok(())
 }
 
