@@ -1,7 +1,9 @@
 //! The worked messages, taken apart and written.
 
 use crate::test_messages::{COMPRESSED, EDITION_3, EDITION_3_ODD, LOCAL_USE, ONE_BLOCK_NUMBER};
-use crate::{Message, RunFault, SectionFault, WriteFault, read_behind, read_to_end, write_message};
+use crate::{
+    Head, Message, RunFault, SectionFault, WriteFault, read_behind, read_to_end, write_message,
+};
 use bufr_bits::ScriptIn;
 use std::alloc::Global;
 use std::test::Fail;
@@ -145,17 +147,30 @@ fn reads_a_message(rt: HostRuntime) -> Result<(), Fail> {
     Ok(())
 }
 
+/// What section 1 of the message of edition 3 says.
+const HEAD_OF_EDITION_3: Head = Head {
+    edition: 3,
+    master: 0,
+    centre: 98,
+    subcentre: 0,
+    update: 0,
+    category: 0,
+    subcategory: 0,
+    local_subcategory: 0,
+    master_version: 14,
+    local_version: 0,
+    year: 24,
+    month: 1,
+    day: 2,
+    hour: 3,
+    minute: 4,
+    second: 0,
+};
+
 #[test]
 fn reads_a_message_of_edition_3(rt: HostRuntime) -> Result<(), Fail> {
     let message = Message::parse(&EDITION_3_ODD).expect(&rt, "a message");
-    let head = message.head();
-    assert!(rt; head.edition == 3 && head.master == 0 && head.centre == 98 && head.subcentre == 0);
-    assert!(rt; head.update == 0 && head.category == 0 && head.subcategory == 0);
-    assert!(rt;
-        head.local_subcategory == 0 && head.master_version == 14 && head.local_version == 0
-    );
-    assert!(rt; head.year == 24 && head.month == 1 && head.day == 2);
-    assert!(rt; head.hour == 3 && head.minute == 4 && head.second == 0);
+    assert_eq!(rt; message.head(), HEAD_OF_EDITION_3);
     assert_eq!(rt; message.local1(), b"\0".as_slice());
     assert!(rt; message.section2() == None && message.length() == 44);
     assert!(rt; message.descriptor(0) == Some(0x0101) && message.descriptor(1) == None);
