@@ -39,13 +39,10 @@ fn octets_in(alloc: Global, digits: &str) -> Result<Vec<u8>, Fail> {
 
 /// The dump text of such a message with these lines of sections 1 and 2.
 fn text_with(alloc: Global, optional: u8, local: &str) -> Result<String, Fail> {
-    let mut text = String::from_str(alloc, HEAD_OF_EDITION_3)?;
-    text.push_str("second 0\nobserved 1\ncompressed 0\noptional ")?;
-    text.push_str(if optional == 0 { "0" } else { "1" })?;
-    text.push_str("\nsubsets 1\n")?;
-    text.push_str(local)?;
-    text.push_str(BODY)?;
-    Ok(text)
+    Ok(format!(in alloc;
+        "{HEAD_OF_EDITION_3}second 0\nobserved 1\ncompressed 0\noptional {optional}\n\
+         subsets 1\n{local}{BODY}"
+    )?)
 }
 
 /// A message of edition 3 with this block number: how its sections are laid out, and what that
