@@ -33,6 +33,7 @@ pub mod Readings
 pub mod PlainSubsets
 pub mod AlikeLemmas
 pub mod PlanLemmas
+pub mod PlanAlike
 pub mod ReadingLemmas
 pub mod PackedHeld
 pub mod PackedShowing
