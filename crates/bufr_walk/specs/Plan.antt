@@ -1,10 +1,13 @@
 -- The plan of a subset: the fields that it has whatever the data say.
 -- Cited by private steps only.
-use Rattle.std.specs.Prelude.{ℕ, ◌≡◌, ◌≤◌, ◌<◌, ◌+◌, ◌⊎◌, if◌then◌else◌, true, false, List, [], ◌∷◌, ◌++◌, length, Option, None, Result, Ok, Err, option_map}
+use Rattle.std.specs.Prelude.{ℕ, ◌≡◌, ◌≤◌, ◌<◌, ◌+◌, ◌⊎◌, if◌then◌else◌, true, false, List, [], ◌∷◌, ◌++◌, length, Option, None, Result, Ok, Err, IfSome, option_map}
 use Rattle.std.proofs.Common.{arith}
 use Rattle.bufr_tables.specs.declared.table_b.Entry.{Entry}
 use Rattle.bufr_tables.specs.Entry.{row_with}
 use Rattle.bufr_tables.specs.TableB.{Row, entry_of}
+use Rattle.bufr_tables.specs.Expansion.{tree_of}
+use Rattle.bufr_tables.specs.TemplateTables.{tables_of}
+use Rattle.bufr_tables.specs.Templates.{ListByTables}
 use Rattle.bufr_tables.specs.Tree.{Tree, places}
 use Rattle.bufr_walk.specs.declared.alike.Alike.{Alike}
 use Rattle.bufr_walk.specs.declared.plan.Plan.{Plan}
@@ -56,6 +59,12 @@ each_of plan = record { bits = plan.bits; turns = plan.turns }
 pub record IsPlanBy (table : List Row) (template : Tree) (plan : Plan) : Type 0 where
   pub is_plan : IsPlanOf table (next_item table template) plan.fields.items plan.turns
   pub alike : AreAlike (places template) (next_item table template) (each_of plan)
+
+-- a plan, if there is one, is of the template that the list which is kept makes by its tables
+abbrev pub MayPlan : ListByTables → Option Plan → Type 0
+MayPlan kept plan =
+    (template : Tree) → tree_of (tables_of kept.table_b kept.table_d) kept.list ≡ Ok template
+    → IfSome plan (IsPlanBy kept.table_b template)
 
 -- one field more in a plan, which takes some bits
 pub record IsPlanned (table : List Row) (plan : List Planned) (bits : ℕ) (spec : Asked) (t : Taken)

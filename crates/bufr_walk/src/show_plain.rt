@@ -444,9 +444,7 @@ pub(crate) fn show_plain<V: Visitor>(
         (turns_in (next_item table.now template.now) all) result visitor.new steps.new }
 {
     if known.is_some() || subsets < 2 {
-        return show_subsets(
-            alloc, bits, subsets, template, table, known, visitor, steps,
-        );
+        return show_subsets(alloc, bits, subsets, template, table, known, visitor, steps);
     }
     let plan = plan_of(alloc, template, table);
     show_subsets(
