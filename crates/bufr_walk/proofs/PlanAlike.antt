@@ -1,5 +1,5 @@
 -- The subsets of a plan are alike: each takes the bits of its fields.
-use Rattle.std.proofs.Common.{◌≡◌, ℕ, ◌+◌, ◌-◌, ◌*◌, ◌≤◌, true, List, [], ◌∷◌, length, drop, Result, Ok, refl, sym, ◌∙◌, ap, subst, arith}
+use Rattle.std.proofs.Common.{◌≡◌, ℕ, ◌+◌, ◌-◌, ◌*◌, ◌≤◌, true, List, [], ◌∷◌, drop, Ok, refl, ◌∙◌, ap, subst, arith}
 use Rattle.bufr_tables.specs.TableB.{Row}
 use Rattle.bufr_walk.specs.declared.plan.Planned.{Planned}
 use Rattle.bufr_walk.specs.declared.spec.Role.{Role}

@@ -1,5 +1,5 @@
 -- The plan of the template that is kept.
-use Rattle.std.proofs.Common.{◌≡◌, List, Ok, Err, Result, sym, ◌∙◌, subst}
+use Rattle.std.proofs.Common.{◌≡◌, List, Ok, Result, sym, ◌∙◌, subst}
 use Rattle.std.specs.Borrow.{Bor}
 use Rattle.std.specs.Option.{option_copied}
 use Rattle.std.specs.Prelude.{Option, Some, None, IfSome}

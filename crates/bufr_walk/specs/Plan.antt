@@ -1,6 +1,6 @@
 -- The plan of a subset: the fields that it has whatever the data say.
 -- Cited by private steps only.
-use Rattle.std.specs.Prelude.{ℕ, ◌≡◌, ◌≤◌, ◌<◌, ◌+◌, ◌⊎◌, if◌then◌else◌, true, false, List, [], ◌∷◌, ◌++◌, length, Option, None, Result, Ok, Err, IfSome, option_map}
+use Rattle.std.specs.Prelude.{ℕ, ◌≡◌, ◌≤◌, ◌<◌, ◌+◌, ◌⊎◌, if◌then◌else◌, true, false, List, [], ◌∷◌, ◌++◌, Option, None, Result, Ok, Err, IfSome, option_map}
 use Rattle.std.proofs.Common.{arith}
 use Rattle.bufr_tables.specs.declared.table_b.Entry.{Entry}
 use Rattle.bufr_tables.specs.Entry.{row_with}

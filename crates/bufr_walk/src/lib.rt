@@ -47,6 +47,8 @@ pub use walking::walk;
 #[cfg(test)]
 mod packed_tests;
 #[cfg(test)]
+mod plan_tests;
+#[cfg(test)]
 mod test_messages;
 #[cfg(test)]
 mod tests;

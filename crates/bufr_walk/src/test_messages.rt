@@ -1,6 +1,8 @@
 //! Messages of worked examples, and what is told of them.
 use crate::fault::{Spot, WalkFault};
-use crate::reading::{Reading, read_message};
+use crate::plans::Plans;
+use crate::prepared::Prepared;
+use crate::reading::{Reading, read_message, read_prepared};
 use crate::steps::Steps;
 use crate::visitor::{ItemView, Value, Visitor};
 use bufr_frame::Message;
@@ -189,6 +191,41 @@ fn refused(alloc: Global, fault: WalkFault, steps: &Steps) -> Result<String, Fai
             spot.subset, spot.fxy, spot.bit
         )?),
         None => Ok(format!(in alloc; "{number}")?),
+    }
+}
+
+/// The tables by which messages are read.
+pub(crate) fn tables(alloc: Global) -> Result<(TableB, TableD), Fail> {
+    let table_b = TableB::read(alloc, TABLE_B)?;
+    let table_d = TableD::read(alloc, TABLE_D)?;
+    Ok((table_b, table_d))
+}
+
+/// What comes of reading and showing a message by what is prepared for its template.
+fn told_prepared(alloc: Global, octets: &[u8], prepared: Prepared<'_>) -> Result<String, Fail> {
+    let message = message_in(octets).ok_or("a message")?;
+    let mut steps = Steps::new();
+    match read_prepared(alloc, &message, prepared, &mut steps) {
+        Ok(reading) => shown(alloc, &reading, &mut steps),
+        Err(fault) => refused(alloc, fault, &steps),
+    }
+}
+
+/// What comes of reading and showing the message with these subsets, descriptors and data by what
+/// is kept of the messages before.
+pub(crate) fn told_by(
+    alloc: Global,
+    plans: &mut Plans<'_>,
+    subsets: u16,
+    descriptors: &str,
+    payload: &[u8],
+) -> Result<String, Fail> {
+    let descriptors = descriptors_of(alloc, descriptors)?;
+    let octets = message_of(alloc, subsets, APART, &descriptors, payload)?;
+    plans.turn_to(&descriptors)?;
+    match plans.answer() {
+        Ok(prepared) => told_prepared(alloc, &octets, prepared),
+        Err(fault) => Ok(format!(in alloc; "{fault}")?),
     }
 }
 

@@ -1,4 +1,3 @@
-use Rattle.std.proofs.Common.{sym, ap}
 use Rattle.bufr_walk.proofs.PreparedLemmas.{plan_is}
 use Rattle.bufr_walk.proofs.plans.Plans.answer.Goals as goal
 
