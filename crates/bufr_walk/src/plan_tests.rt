@@ -6,8 +6,8 @@ use std::process::Abort;
 use std::test::Fail;
 
 // The number of subsets, the descriptors, the data in hexadecimal, and what comes of them, which is
-// what comes of the message alone. From the second on there is a plan; the data of the fourth and of
-// the last end in their second items.
+// what comes of the message alone. From the second on there is a plan; the data of the fourth and
+// of the last end in an item.
 const ROWS_OF_ONE_TEMPLATE: &[(u16, &str, &str, &str)] = &[
     (
         1,

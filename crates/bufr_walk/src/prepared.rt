@@ -1,4 +1,4 @@
-//! What a reading goes by: a template and its table, and the plan of its subsets, where one was made.
+//! What a reading goes by: a template and its table, and the plan of its subsets, if one was made.
 ghost use Rattle.std.specs.Prelude.{◌≡◌, IfSome};
 ghost use Rattle.bufr_tables.specs.Tree.{places};
 ghost use Rattle.bufr_walk.specs.Alike.{AreAlike};

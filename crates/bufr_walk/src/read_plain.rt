@@ -104,7 +104,8 @@ fn begin<'b>(
     steps: &mut Steps,
 ) -> Result<First<'b>, WalkFault>
     requires steps { steps.old ≡ 0 }
-    requires known { IfSome known (AreAlike (places template.now) (next_item table.now template.now)) }
+    requires known { IfSome known
+        (AreAlike (places template.now) (next_item table.now template.now)) }
     ensures read { IfOk result (λ first. SubsetsRead (places template.now)
         (next_item table.now template.now) (bits_of (octets_of bits.entry)) first.done first.fields
         steps.new) }
@@ -173,7 +174,8 @@ pub(crate) fn read_plain(
     steps: &mut Steps,
 ) -> Result<u64, WalkFault>
     requires steps { steps.old ≡ 0 }
-    requires known { IfSome known (AreAlike (places template.now) (next_item table.now template.now)) }
+    requires known { IfSome known
+        (AreAlike (places template.now) (next_item table.now template.now)) }
     ensures reading { IfOk result (λ used. IsReadAndPaid (next_item table.now template.now)
         (data_in false subsets (octets_of bits.entry)) used steps.new) }
     ensures fault { IfErr result (λ why. IsFault (next_item table.now template.now)
