@@ -1,7 +1,8 @@
 //! The data of FM 94 BUFR: one walk over a template, and the reading of a message's data.
 //!
 //! [`read_message`] reads the data of a message, and [`Reading::show`] hands each subset and item
-//! to a [`Visitor`]: so the crates above write dumps. [`walk`] goes over a template for any
+//! to a [`Visitor`]: so the crates above write dumps. [`Plans`] keeps the last template of a run
+//! with its plan, and [`read_prepared`] reads by them. [`walk`] goes over a template for any
 //! [`Fields`]: [`PlainIn`] and [`PackedIn`] read data, and the writers of `bufr_fill` go by the
 //! same walk.
 #![tactic(auto)]

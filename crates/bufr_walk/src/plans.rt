@@ -1,8 +1,5 @@
 //! The last template of a run with the plan of its subsets: the messages of an archive repeat their
 //! descriptors, and a plan saves each of them its walks over the template.
-ghost use Rattle.std.specs.Prelude.{◌≡◌, ◌≢◌, [], Ok, Err, IfErr, IfOk, OnOk};
-ghost use Rattle.bufr_tables.specs.Expansion.{tree_of};
-ghost use Rattle.bufr_tables.specs.TemplateTables.{tables_of};
 ghost use Rattle.bufr_walk.specs.Plan.{MayPlan};
 
 use crate::plan::{Plan, plan_of};

@@ -1,5 +1,5 @@
 //! What a reading goes by: a template and its table, and the plan of its subsets, if one was made.
-ghost use Rattle.std.specs.Prelude.{◌≡◌, IfSome};
+ghost use Rattle.std.specs.Prelude.{IfSome};
 ghost use Rattle.bufr_tables.specs.Tree.{places};
 ghost use Rattle.bufr_walk.specs.Alike.{AreAlike};
 ghost use Rattle.bufr_walk.specs.Course.{next_item};
@@ -38,9 +38,6 @@ impl<'a> Model for Prepared<'a> {
 
 impl<'a> Prepared<'a> {
     ghost use Rattle.std.specs.Prelude.{◌≡◌, IfSome};
-    ghost use Rattle.bufr_tables.specs.Tree.{places};
-    ghost use Rattle.bufr_walk.specs.Alike.{AreAlike};
-    ghost use Rattle.bufr_walk.specs.Course.{next_item};
     ghost use Rattle.bufr_walk.specs.Plan.{IsPlanBy};
 
     /// This template and this table, without a plan. Takes no memory.

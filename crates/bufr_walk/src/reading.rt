@@ -31,7 +31,7 @@ enum Kept {
 }
 
 /// The reading of a message's data (WMO-No. 306, Volume I.2, FM 94: section 4). It borrows the
-/// message's octets, the template and the table.
+/// message's octets, the template and the table, and the plan, if there is one.
 #[derive(Drop)]
 pub struct Reading<'a> {
     bits: BitSlice<'a>,
