@@ -3,7 +3,7 @@
 use crate::tally::Tally;
 use crate::test_messages::{
     COMPRESSED, LOCAL_USE, ONE_ACCEPTED, ONE_REFUSED, STRAY, delayed_twice, joined, message_in,
-    message_of, of_edition_2, one_block_number, text_of_one, words_of,
+    message_of, of_edition_2, one_block_number, text_of, text_of_one, words_of,
 };
 use crate::test_runs::{
     Command, assert_run, assert_stops_around_a_stray, assert_stops_at_failed_errors,
@@ -252,6 +252,32 @@ fn goes_on_behind_refused(rt: HostRuntime) -> Result<(), Fail> {
         Tally {
             accepted: 1,
             refused: 3,
+        },
+    )
+}
+
+/// Messages that repeat their descriptors, of which the data of the third end early: the others are
+/// dumped as one alone is.
+#[test]
+fn goes_on_behind_refused_data_of_the_same_template(rt: HostRuntime) -> Result<(), Fail> {
+    let descriptors = "001001 012101";
+    let whole = message_in(rt.alloc(), 1, 0x80, descriptors, "14E11E")?;
+    let cut = message_in(rt.alloc(), 1, 0x80, descriptors, "14E1")?;
+    let body = "subset 1\n\
+        001001 10  # WMO BLOCK NUMBER [Numeric]\n\
+        012101 288.15  # AIR TEMPERATURE [K]\n";
+    let text = text_of(rt.alloc(), 1, 0x80, descriptors, body)?;
+    let text = text.as_bytes();
+    assert_run(
+        &rt,
+        Command::Dump,
+        "the same template",
+        &joined(rt.alloc(), &[&whole, &whole, &cut, &whole])?,
+        &joined(rt.alloc(), &[text, text, text])?,
+        b"offset 104: 30 data end at subset 1 descriptor 012101 bit 7\n",
+        Tally {
+            accepted: 3,
+            refused: 1,
         },
     )
 }

@@ -14,9 +14,9 @@ use crate::run_events::{Teller, run_events};
 use crate::tally::{Tally, Verdict};
 use bufr_bits::{Sink, Source};
 use bufr_frame::{Event, Message, RunFault};
-use bufr_tables::{Fxy, TableB, TableD, Template, Templates};
+use bufr_tables::{Fxy, TableB, TableD};
 use bufr_text::write_dump;
-use bufr_walk::{Steps, WalkFault, read_message};
+use bufr_walk::{Plans, Prepared, Steps, WalkFault, read_prepared};
 use std::alloc::{AllocError, Global};
 
 /// The descriptors of a message.
@@ -31,18 +31,18 @@ fn descriptors_of(alloc: Global, message: &Message<'_>) -> Result<Vec<Fxy>, Allo
     Ok(descriptors)
 }
 
-/// Writes the text of a message by its template, or the line of the fault that its data are refused
-/// for.
+/// Writes the text of a message by what is prepared for its template, or the line of the fault that
+/// its data are refused for.
 fn dump_data<W: Sink, E: Sink>(
     alloc: Global,
     offset: u64,
     message: &Message<'_>,
-    template: &Template,
-    table_b: &TableB,
+    prepared: Prepared<'_>,
     w: &mut W,
     e: &mut E,
 ) -> Result<Verdict, RunFault>
-    ensures tells { (piece : Piece) → IsDataPiece table_b.now offset message.now template.now piece
+    ensures tells { (piece : Piece)
+        → IsDataPiece prepared.entry.table offset message.now prepared.entry.template piece
         → TellsPieces (W.taken w.old) (W.taken w.new) (E.taken e.old) (E.taken e.new)
         (piece ∷ []) result }
     ensures stops { StopsPiece true result }
@@ -52,7 +52,7 @@ fn dump_data<W: Sink, E: Sink>(
     ensures errors_flushes { E.flushes e.new ≡ E.flushes e.old }
 {
     let mut steps = Steps::new();
-    match read_message(alloc, message, template, table_b, &mut steps) {
+    match read_prepared(alloc, message, prepared, &mut steps) {
         Ok(reading) => {
             write_dump(alloc, message, &reading, &mut steps, w)?;
             Ok(Verdict::Accepted)
@@ -71,26 +71,26 @@ fn dump_message<W: Sink, E: Sink>(
     alloc: Global,
     offset: u64,
     message: &Message<'_>,
-    templates: &mut Templates<'_>,
+    plans: &mut Plans<'_>,
     w: &mut W,
     e: &mut E,
 ) -> Result<Verdict, RunFault>
     ensures tells { (piece : Piece)
-        → IsMessagePiece templates.old.table_b templates.old.table_d offset (Ok message.now) piece
+        → IsMessagePiece plans.old.table_b plans.old.table_d offset (Ok message.now) piece
         → TellsPieces (W.taken w.old) (W.taken w.new) (E.taken e.old) (E.taken e.new)
         (piece ∷ []) result }
     ensures stops { StopsPiece true result }
-    ensures table_b { templates.new.table_b ≡ templates.old.table_b }
-    ensures table_d { templates.new.table_d ≡ templates.old.table_d }
+    ensures table_b { plans.new.table_b ≡ plans.old.table_b }
+    ensures table_d { plans.new.table_d ≡ plans.old.table_d }
     ensures counts { BlamesWriter W.failures W.empty_writes w.old w.new E.failures E.empty_writes
         e.old e.new result }
     ensures output_flushes { W.flushes w.new ≡ W.flushes w.old }
     ensures errors_flushes { E.flushes e.new ≡ E.flushes e.old }
 {
     let descriptors = descriptors_of(alloc, message)?;
-    templates.turn_to(&descriptors)?;
-    match templates.answer() {
-        Ok(template) => dump_data(alloc, offset, message, template, templates.table_b(), w, e),
+    plans.turn_to(&descriptors)?;
+    match plans.answer() {
+        Ok(prepared) => dump_data(alloc, offset, message, prepared, w, e),
         Err(fault) => {
             write_template_fault(offset, fault, e)?;
             Ok(Verdict::Refused)
@@ -102,18 +102,18 @@ fn dump_message<W: Sink, E: Sink>(
 fn dump_event<W: Sink, E: Sink>(
     alloc: Global,
     event: Event<'_>,
-    templates: &mut Templates<'_>,
+    plans: &mut Plans<'_>,
     w: &mut W,
     e: &mut E,
 ) -> Result<Verdict, RunFault>
     requires { IsEvent event }
     ensures tells { (piece : Happening → Piece)
-        → GivesPieces (IsDumpPiece templates.old.table_b templates.old.table_d) piece
+        → GivesPieces (IsDumpPiece plans.old.table_b plans.old.table_d) piece
         → TellsPieces (W.taken w.old) (W.taken w.new) (E.taken e.old) (E.taken e.new)
         (map piece (told event.entry)) result }
     ensures stops { StopsPiece true result }
-    ensures table_b { templates.new.table_b ≡ templates.old.table_b }
-    ensures table_d { templates.new.table_d ≡ templates.old.table_d }
+    ensures table_b { plans.new.table_b ≡ plans.old.table_b }
+    ensures table_d { plans.new.table_d ≡ plans.old.table_d }
     ensures counts { BlamesWriter W.failures W.empty_writes w.old w.new E.failures E.empty_writes
         e.old e.new result }
     ensures output_flushes { W.flushes w.new ≡ W.flushes w.old }
@@ -121,7 +121,7 @@ fn dump_event<W: Sink, E: Sink>(
 {
     match event {
         Event::Frame(offset, octets) => match Message::parse(octets) {
-            Ok(message) => dump_message(alloc, offset, &message, templates, w, e),
+            Ok(message) => dump_message(alloc, offset, &message, plans, w, e),
             Err(fault) => {
                 write_section_fault(offset, fault, e)?;
                 Ok(Verdict::Refused)
@@ -135,19 +135,19 @@ fn dump_event<W: Sink, E: Sink>(
     }
 }
 
-/// Tells events by the texts of their messages. The last template is kept: messages repeat their
-/// descriptors, and few of these can make a template of many places.
+/// Tells events by the texts of their messages. The last template is kept, and its plan: messages
+/// repeat their descriptors, and few of these can make a template of many places.
 #[derive(Drop)]
 struct Dumping<'a> {
     alloc: Global,
-    templates: Templates<'a>,
+    plans: Plans<'a>,
 }
 
 impl<'a> Teller for Dumping<'a> {
     ghost use Rattle.std.specs.Prelude.{true};
     ghost use Rattle.bufr_run.specs.DumpPieces.{IsDumpPiece};
 
-    ghost is_piece = { λ d. IsDumpPiece d.templates.table_b d.templates.table_d };
+    ghost is_piece = { λ d. IsDumpPiece d.plans.table_b d.plans.table_d };
 
     ghost takes_memory = { λ _. true };
 
@@ -157,7 +157,7 @@ impl<'a> Teller for Dumping<'a> {
         w: &mut W,
         e: &mut E,
     ) -> Result<Verdict, RunFault> {
-        dump_event(self.alloc, event, &mut self.templates, w, e)
+        dump_event(self.alloc, event, &mut self.plans, w, e)
     }
 }
 
@@ -215,7 +215,7 @@ pub fn run_dump<R: Source, W: Sink, E: Sink>(
 {
     let mut dumping = Dumping {
         alloc,
-        templates: Templates::new(alloc, table_b, table_d),
+        plans: Plans::new(alloc, table_b, table_d),
     };
     run_events(alloc, &mut dumping, r, w, e)
 }

@@ -1,6 +1,6 @@
 //! Templates by two tables, of which the last one is kept: the messages of an archive repeat their
 //! descriptors, and few of them can make a template of many places.
-ghost use Rattle.std.specs.Prelude.{◌≡◌, ◌≢◌, ◌≤◌, [], IfErr, IfOk, OnOk, is_some};
+ghost use Rattle.std.specs.Prelude.{◌≡◌, ◌≢◌, ◌≤◌, [], true, false, IfErr, IfOk, OnOk, is_some};
 ghost use Rattle.bufr_tables.specs.TableB.{entry_of};
 ghost use Rattle.bufr_tables.specs.TableD.{members_of};
 ghost use Rattle.bufr_tables.specs.Tree.{places as places_of, depth as depth_of};
@@ -66,6 +66,14 @@ impl Kept {
         Ok(())
     }
 
+    /// Whether this is the list that is kept.
+    fn holds(&self, descriptors: &[Fxy]) -> bool
+        ensures same { result ≡ true → self.now.descriptors.items ≡ descriptors.now }
+        ensures other { result ≡ false → self.now.descriptors.items ≢ descriptors.now }
+    {
+        self.descriptors.as_slice() == descriptors
+    }
+
     /// Keeps this list, if it is not the one that is kept.
     fn turn_to(
         &mut self,
@@ -80,7 +88,7 @@ impl Kept {
         ensures answer { IsAnswer (tables_of table_b.now table_d.now)
             self.new.descriptors.items self.new.answer }
     {
-        if self.descriptors.as_slice() == descriptors {
+        if self.holds(descriptors) {
             return Ok(());
         }
         self.renew(alloc, descriptors, table_b, table_d)
@@ -128,7 +136,7 @@ impl<'a> Model for Templates<'a> {
 }
 
 impl<'a> Templates<'a> {
-    ghost use Rattle.std.specs.Prelude.{◌≡◌, ◌≢◌, ◌≤◌, [], IfErr, IfOk, OnOk, is_some};
+    ghost use Rattle.std.specs.Prelude.{◌≡◌, ◌≢◌, ◌≤◌, [], true, false, IfErr, IfOk, OnOk, is_some};
     ghost use Rattle.bufr_tables.specs.TemplateTables.{tables_of};
 
     /// Templates by these tables; the list of no descriptors is kept. Takes no memory.
@@ -148,6 +156,20 @@ impl<'a> Templates<'a> {
         ensures { result.now ≡ self.now.table_b }
     {
         self.table_b
+    }
+
+    /// Whether this list of descriptors is the one that is kept. Takes no memory.
+    ///
+    /// ```
+    /// let mut templates = Templates::new(alloc, &table_b, &table_d);
+    /// templates.turn_to(&descriptors)?;
+    /// assert!(rt; templates.keeps(&descriptors));
+    /// ```
+    pub fn keeps(&self, descriptors: &[Fxy]) -> bool
+        ensures same { result ≡ true → self.now.list ≡ descriptors.now }
+        ensures other { result ≡ false → self.now.list ≢ descriptors.now }
+    {
+        self.kept.holds(descriptors)
     }
 
     /// Keeps this list of descriptors, and what it is expanded to, if it is not the one that is

@@ -61,7 +61,7 @@ field_there spec bits h = ap (λ b. if b then Err data_end else Ok (found (conte
     long : (n w : ℕ) → w ≤ n → nat_lt n w ≡ false
     long n w h = grind (arith, nat_tests)
 
-drop_none : (bits : List Bool) → bits ≡ drop 0 bits
+pub drop_none : (bits : List Bool) → bits ≡ drop 0 bits
 drop_none [] = refl
 drop_none (b ∷ bits) = refl
 
@@ -78,7 +78,7 @@ abbrev item_in : Asked → List Bool → Item Content
 item_in spec bits = record { spec = spec; content = content_in spec (take spec.width bits) }
 
 -- one field more in front
-one_alike : (course : Course) (i : Turn) (told : Content) (w v turns : ℕ) → (course []).next ≡ take_next i.spec → i.taken ≡ told_by_role i.spec.role told → i.taken ≡ taken.Plain → 1 ≤ i.spec.width → w ≡ v + i.spec.width → IsAlike (λ more. course (i.taken ∷ more)) v turns → IsAlike course w turns
+pub one_alike : (course : Course) (i : Turn) (told : Content) (w v turns : ℕ) → (course []).next ≡ take_next i.spec → i.taken ≡ told_by_role i.spec.role told → i.taken ≡ taken.Plain → 1 ≤ i.spec.width → w ≡ v + i.spec.width → IsAlike (λ more. course (i.taken ∷ more)) v turns → IsAlike course w turns
 one_alike course i told w v turns next tells nothing some e h = record { holds = held }
   where
     same : (bits : List Bool) → (λ more. course (i.taken ∷ more)) ≡ after plain course (item_in i.spec bits)

@@ -33,6 +33,8 @@ pub mod Readings
 pub mod PlainSubsets
 pub mod AlikeLemmas
 pub mod PlanLemmas
+pub mod PlanAlike
+pub mod PreparedLemmas
 pub mod ReadingLemmas
 pub mod PackedHeld
 pub mod PackedShowing

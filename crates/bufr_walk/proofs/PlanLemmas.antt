@@ -16,9 +16,9 @@ use Rattle.bufr_walk.specs.Taking.{Turn, Takes}
 use Rattle.bufr_walk.specs.Ticks.{ticked}
 use Rattle.bufr_walk.specs.Walked.{oks, told_by, StopsAt, Walked}
 
-module _ {S : Type 0} (rows : S → List Row) (fields : S → List Planned) where
+module _ {S : Type 0} (rows : S → List Row) (fields : S → List Planned) (bits : S → ℕ) where
   abbrev pub planning : S → Asked → Result Taken Unplanned → S → Type 0
-  planning s spec r t = Plans (rows s) (fields s) spec r (rows t) (fields t)
+  planning s spec r t = Plans (rows s) (fields s) (bits s) spec r (rows t) (fields t) (bits t)
 
   -- the fields that a walk planned are a plan
   planned : (course : Course) (s : S) (items : List Turn) (s' : S) → Takes (oks planning) course s items s' → (course (told_by items)).next ≡ at_end → (more : List Planned) × (fields s' ≡ fields s ++ more) × IsPlan (rows s) course more × ((course (told_by items)).turns ≡ turns_planned course more)

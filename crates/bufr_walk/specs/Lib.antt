@@ -58,5 +58,7 @@ pub mod Passes
 pub mod Alike
 -- the plan of a subset, where the data have no say in it
 pub mod Plan
+-- what a reading goes by: a table and a template
+pub mod Prepared
 -- fields that are read and shown at once
 pub mod ShowSteps

@@ -1,7 +1,8 @@
 //! The data of FM 94 BUFR: one walk over a template, and the reading of a message's data.
 //!
 //! [`read_message`] reads the data of a message, and [`Reading::show`] hands each subset and item
-//! to a [`Visitor`]: so the crates above write dumps. [`walk`] goes over a template for any
+//! to a [`Visitor`]: so the crates above write dumps. [`Plans`] keeps the last template of a run
+//! with its plan, and [`read_prepared`] reads by them. [`walk`] goes over a template for any
 //! [`Fields`]: [`PlainIn`] and [`PackedIn`] read data, and the writers of `bufr_fill` go by the
 //! same walk.
 #![tactic(auto)]
@@ -18,6 +19,8 @@ pub mod law;
 mod packed_in;
 mod plain_in;
 mod plan;
+mod plans;
+mod prepared;
 mod read_packed;
 mod read_plain;
 mod reading;
@@ -33,7 +36,9 @@ pub use fault::{ShowFault, Spot, WalkFault};
 pub use fields::Fields;
 pub use packed_in::{MOST_VALUES, PackedFault, PackedIn};
 pub use plain_in::{DataEnd, PlainIn};
-pub use reading::{Reading, read_message};
+pub use plans::Plans;
+pub use prepared::Prepared;
+pub use reading::{Reading, read_message, read_prepared};
 pub use spec::{Refusal, Role, Spec, Taken};
 pub use steps::Steps;
 pub use stop::WalkStop;
@@ -42,6 +47,8 @@ pub use walking::walk;
 
 #[cfg(test)]
 mod packed_tests;
+#[cfg(test)]
+mod plan_tests;
 #[cfg(test)]
 mod test_messages;
 #[cfg(test)]

@@ -3,10 +3,11 @@
 ghost use Rattle.std.specs.Prelude.{◌≡◌, ◌++◌, ◌∷◌, length, List, IfSome};
 ghost use Rattle.bufr_walk.specs.Course.{next_item};
 ghost use Rattle.bufr_walk.specs.PackedBits.{is_plain_role};
-ghost use Rattle.bufr_walk.specs.Plan.{IsPlan, IsPlanOf, turns_planned};
+ghost use Rattle.bufr_walk.specs.Plan.{IsPlan, IsPlanBy, turns_planned};
 ghost use Rattle.bufr_walk.specs.Ticks.{ticked};
 ghost use Rattle.bufr_walk.specs.declared.plan.Planned.{Planned};
 
+use crate::alike::Alike;
 use crate::fields::Fields;
 use crate::show_plain::entry_for;
 use crate::spec::{Role, Spec, Taken};
@@ -25,11 +26,27 @@ pub(crate) struct Planned<'t> {
     pub(crate) entry: Option<Entry<'t>>,
 }
 
-/// The fields of each subset, and the turns of a walk over it.
+/// The fields of each subset, its bits, and the turns of a walk over it.
 #[derive(Drop)]
 pub(crate) struct Plan<'t> {
     pub(crate) fields: Vec<Planned<'t>>,
+    pub(crate) bits: u64,
     pub(crate) turns: u64,
+}
+
+impl<'t> Plan<'t> {
+    ghost use Rattle.std.specs.Prelude.{◌≡◌};
+    ghost use Rattle.bufr_walk.specs.Plan.{each_of};
+
+    /// What each subset takes.
+    pub(crate) fn each(&self) -> Alike
+        ensures { result ≡ each_of self.now }
+    {
+        Alike {
+            bits: self.bits,
+            turns: self.turns,
+        }
+    }
 }
 
 /// Whether a field tells a walk nothing.
@@ -48,63 +65,76 @@ pub(crate) enum Unplanned {
     Field,
 }
 
-/// Fields of no data, each kept in a plan.
+/// Fields of no data, each kept in a plan, and how many bits they take.
 #[derive(Drop)]
 pub(crate) struct Planning<'t> {
     table: &'t TableB,
     fields: Vec<Planned<'t>>,
+    bits: u64,
 }
 
 impl<'t> Fields for Planning<'t> {
     type Fault = Unplanned;
 
-    ghost use Rattle.std.specs.Prelude.{length};
-    ghost use Rattle.std.proofs.Common.{arith, ap};
     ghost use Rattle.bufr_walk.specs.Plan.{Plans, plans_forth};
 
-    ghost used = { λ s. length s.fields.items };
+    ghost used = { λ s. s.bits };
 
-    ghost takes = { λ s spec r t. Plans s.table.now s.fields.items spec r t.table.now
-        t.fields.items };
+    ghost takes = { λ s spec r t. Plans s.table.now s.fields.items s.bits spec r t.table.now
+        t.fields.items t.bits };
 
-    ghost advances = { λ s spec told next h. plans_forth s.table.now s.fields.items spec told
-        next.table.now next.fields.items h };
+    ghost advances = { λ s spec told next h. plans_forth s.table.now s.fields.items s.bits spec told
+        next.table.now next.fields.items next.bits h };
 
-    ghost refuses = { λ s spec e next h. ap length h };
+    ghost refuses = { λ s spec e next h. h };
 
     fn take(&mut self, spec: &Spec) -> Result<Taken, Unplanned> {
         let silent = is_silent(spec);
         if !silent || self.fields.len() == MOST_FIELDS {
             return Err(Unplanned::Field);
         }
+        let Some(bits) = self.bits.checked_add(u64::from(spec.width())) else {
+            return Err(Unplanned::Field);
+        };
         let entry = entry_for(self.table, spec);
         match self.fields.push(Planned { spec: *spec, entry }) {
-            Ok(()) => Ok(Taken::Plain),
+            Ok(()) => {
+                self.bits = bits;
+                Ok(Taken::Plain)
+            }
             Err(_) => Err(Unplanned::Field),
         }
     }
 
     fn bits(&self) -> u64 {
-        self.fields.len() as u64
+        self.bits
     }
 }
 
 /// The plan of each subset, if there is one: no field tells a walk anything, there are at most
 /// 1,024 of them, and memory for them is there.
 pub(crate) fn plan_of<'t>(alloc: Global, template: &Template, table: &'t TableB) -> Option<Plan<'t>>
-    ensures { IfSome result (λ plan. IsPlanOf table.now (next_item table.now template.now)
-        plan.fields.items plan.turns) }
+    ensures { IfSome result (IsPlanBy table.now template.now) }
 {
     let mut steps = Steps::new();
     let mut planning = Planning {
         table,
         fields: Vec::new(alloc),
+        bits: 0,
     };
     match walk(alloc, template, table, &mut planning, &mut steps) {
         Ok(()) => {
-            let Planning { table: _, fields } = planning;
+            let Planning {
+                table: _,
+                fields,
+                bits,
+            } = planning;
             let turns = steps.count();
-            Some(Plan { fields, turns })
+            Some(Plan {
+                fields,
+                bits,
+                turns,
+            })
         }
         Err(_) => None,
     }

@@ -92,16 +92,20 @@ fn read_first<'b>(
     }
 }
 
-/// Reads the first subset where others come behind it, so that what it takes is worth a note.
+/// Reads the first subset where others come behind it, so that what it takes is worth a note, and
+/// nothing where it is known what each takes.
 fn begin<'b>(
     alloc: Global,
     bits: BitSlice<'b>,
     subsets: u16,
     template: &Template,
     table: &TableB,
+    known: Option<Alike>,
     steps: &mut Steps,
 ) -> Result<First<'b>, WalkFault>
-    requires { steps.old ≡ 0 }
+    requires steps { steps.old ≡ 0 }
+    requires known { IfSome known
+        (AreAlike (places template.now) (next_item table.now template.now)) }
     ensures read { IfOk result (λ first. SubsetsRead (places template.now)
         (next_item table.now template.now) (bits_of (octets_of bits.entry)) first.done first.fields
         steps.new) }
@@ -113,10 +117,10 @@ fn begin<'b>(
         (next_item table.now template.now)
         (record { bits = bits_of (octets_of bits.entry); at = 0 }) steps.old 1 why steps.new) }
 {
-    if subsets < 2 {
+    if known.is_some() || subsets < 2 {
         return Ok(First {
             fields: PlainIn::new(bits),
-            alike: None,
+            alike: known,
             done: 0,
         });
     }
@@ -158,16 +162,20 @@ fn read_next(
     Ok(())
 }
 
-/// Reads all subsets, and answers how many bits they take.
+/// Reads all subsets, and answers how many bits they take. Where it is known what each takes, they
+/// are gone past.
 pub(crate) fn read_plain(
     alloc: Global,
     bits: BitSlice<'_>,
     subsets: u16,
     template: &Template,
     table: &TableB,
+    known: Option<Alike>,
     steps: &mut Steps,
 ) -> Result<u64, WalkFault>
-    requires { steps.old ≡ 0 }
+    requires steps { steps.old ≡ 0 }
+    requires known { IfSome known
+        (AreAlike (places template.now) (next_item table.now template.now)) }
     ensures reading { IfOk result (λ used. IsReadAndPaid (next_item table.now template.now)
         (data_in false subsets (octets_of bits.entry)) used steps.new) }
     ensures fault { IfErr result (λ why. IsFault (next_item table.now template.now)
@@ -180,7 +188,7 @@ pub(crate) fn read_plain(
         mut fields,
         alike,
         done: before,
-    } = begin(alloc, bits, subsets, template, table, steps)?;
+    } = begin(alloc, bits, subsets, template, table, known, steps)?;
     'subsets: for done in before..subsets {
         read_next(alloc, template, table, done + 1, alike, &mut fields, steps)?;
     }

@@ -1,12 +1,15 @@
 //! The reading of a message's data, and what they were read as.
-ghost use Rattle.std.specs.Prelude.{◌≡◌, ◌≤◌, ◌+◌, ◌*◌, length, IfOk, IfErr};
+ghost use Rattle.std.specs.Prelude.{◌≡◌, ◌≤◌, ◌+◌, ◌*◌, length, IfOk, IfErr, IfSome};
 ghost use Rattle.bufr_tables.specs.Tree.{places};
 ghost use Rattle.bufr_walk.specs.Course.{next_item};
 ghost use Rattle.bufr_walk.specs.Fault.{bits_before};
 ghost use Rattle.bufr_walk.specs.Outcome.{data_of, IsFault, IsReadingOf};
+ghost use Rattle.bufr_walk.specs.Plan.{IsPlanBy};
 
 use crate::fault::{ShowFault, WalkFault};
 use crate::kept::KeptItem;
+use crate::plan::Plan;
+use crate::prepared::{Prepared, each_of};
 use crate::read_packed::read_packed;
 use crate::read_plain::read_plain;
 use crate::show_packed::show_packed;
@@ -28,12 +31,13 @@ enum Kept {
 }
 
 /// The reading of a message's data (WMO-No. 306, Volume I.2, FM 94: section 4). It borrows the
-/// message's octets, the template and the table.
+/// message's octets, the template and the table, and the plan, if there is one.
 #[derive(Drop)]
 pub struct Reading<'a> {
     bits: BitSlice<'a>,
     template: &'a Template,
     table: &'a TableB,
+    plan: Option<&'a Plan<'a>>,
     compressed: bool,
     subsets: u16,
     used: u64,
@@ -50,13 +54,16 @@ impl<'a> Model for Reading<'a> {
 
     ghost coded = { Prim.hlevel (codes, tree_code) };
 
+    ghost use Rattle.std.specs.Prelude.{IfSome};
     ghost use Rattle.bufr_walk.specs.Kept.{held_of, IsHeld};
+    ghost use Rattle.bufr_walk.specs.Plan.{IsPlanBy};
 
     ghost view = { λ r. read_by r.table.now r.template.now
         (data_in r.compressed r.subsets (octets_of r.bits)) r.used (held_of r.kept) };
 
     ghost invariant = { λ r. IsHeld (read_by r.table.now r.template.now
-        (data_in r.compressed r.subsets (octets_of r.bits)) r.used (held_of r.kept)) r.kept };
+        (data_in r.compressed r.subsets (octets_of r.bits)) r.used (held_of r.kept)) r.kept
+        × IfSome r.plan (λ plan. IsPlanBy r.table.now r.template.now plan.now) };
 }
 
 /// Reads the data of a message by its template, in one pass for each subset, or in one pass for all
@@ -97,6 +104,63 @@ pub fn read_message<'a>(
     ensures refused { IfErr result (λ why. steps.new
         ≤ places template.now * (bits_before why (length (data_of message.now).bits) + 1)) }
 {
+    read_prepared(alloc, message, Prepared::new(template, table), steps)
+}
+
+/// Reads the data of a message as [`read_message`] does, by what was prepared for its template. A
+/// plan saves the walks over the template: the subsets are gone past by their bits, in as many
+/// steps as the walks would take.
+///
+/// ```
+/// let mut steps = Steps::new();
+/// let by = Prepared::new(&template, &table_b);
+/// let reading = read_prepared(alloc, &message, by, &mut steps)?;
+/// assert_eq!(rt; (reading.bits(), steps.count()), (7, 2)); // of one block number
+/// ```
+///
+/// # Errors
+///
+/// Those of [`read_message`].
+pub fn read_prepared<'a>(
+    alloc: Global,
+    message: &Message<'a>,
+    prepared: Prepared<'a>,
+    steps: &mut Steps,
+) -> Result<Reading<'a>, WalkFault>
+    ensures reading { IfOk result (λ r. IsReadingOf prepared.entry.table prepared.entry.template
+        (data_of message.now) r steps.new) }
+    ensures fault { IfErr result
+        (λ why. IsFault (next_item prepared.entry.table prepared.entry.template)
+        (data_of message.now) why steps.new) }
+    ensures accepted { IfOk result
+        (λ r. steps.new ≤ places prepared.entry.template * r.bits) }
+    ensures refused { IfErr result (λ why. steps.new ≤ places prepared.entry.template
+        * (bits_before why (length (data_of message.now).bits) + 1)) }
+{
+    let template = prepared.template();
+    let table = prepared.table();
+    let plan = prepared.plan();
+    read_by(alloc, message, template, table, plan, steps)
+}
+
+/// Reads the data of a message by its template, and its plan, if there is one.
+fn read_by<'a>(
+    alloc: Global,
+    message: &Message<'a>,
+    template: &'a Template,
+    table: &'a TableB,
+    plan: Option<&'a Plan<'a>>,
+    steps: &mut Steps,
+) -> Result<Reading<'a>, WalkFault>
+    requires { IfSome plan (λ p. IsPlanBy table.now template.now p.now) }
+    ensures reading { IfOk result
+        (λ r. IsReadingOf table.now template.now (data_of message.now) r steps.new) }
+    ensures fault { IfErr result
+        (λ why. IsFault (next_item table.now template.now) (data_of message.now) why steps.new) }
+    ensures accepted { IfOk result (λ r. steps.new ≤ places template.now * r.bits) }
+    ensures refused { IfErr result (λ why. steps.new
+        ≤ places template.now * (bits_before why (length (data_of message.now).bits) + 1)) }
+{
     *steps = Steps::new();
     let bits = message.payload();
     let subsets = message.subsets();
@@ -106,17 +170,20 @@ pub fn read_message<'a>(
             bits,
             template,
             table,
+            plan,
             compressed: true,
             subsets,
             used: read.used,
             kept: Kept::Together(read.kept),
         });
     }
-    let used = read_plain(alloc, bits, subsets, template, table, steps)?;
+    let known = each_of(plan, template, table);
+    let used = read_plain(alloc, bits, subsets, template, table, known, steps)?;
     Ok(Reading {
         bits,
         template,
         table,
+        plan,
         compressed: false,
         subsets,
         used,
@@ -179,6 +246,7 @@ impl<'a> Reading<'a> {
                 self.subsets,
                 self.template,
                 self.table,
+                self.plan,
                 visitor,
                 steps,
             ),

@@ -9,7 +9,7 @@ ghost use Rattle.bufr_walk.specs.Content.{Content, content_in, octets_in, shown}
 ghost use Rattle.bufr_walk.specs.ViewModel.{seen_value};
 ghost use Rattle.bufr_walk.specs.Course.{next_item};
 ghost use Rattle.bufr_walk.specs.PlainIn.{rest_of, past};
-ghost use Rattle.bufr_walk.specs.Plan.{HasRow, IsPlanOf};
+ghost use Rattle.bufr_walk.specs.Plan.{HasRow, IsPlanBy, IsPlanOf};
 ghost use Rattle.bufr_walk.specs.Reading.{Item, plain, ReadsAll, ReadsSubsets, turns_in};
 ghost use Rattle.bufr_walk.specs.ShowSteps.{IsEnd, MayEnd, ItemsGo, SubsetGoes};
 ghost use Rattle.bufr_walk.specs.CallsInTurn.{Shows};
@@ -332,13 +332,12 @@ fn show_by<V: Visitor>(
     alloc: Global,
     template: &Template,
     table: &TableB,
-    plan: &Option<Plan<'_>>,
+    plan: Option<&Plan<'_>>,
     input: &mut PlainIn<'_>,
     visitor: &mut V,
     steps: &mut Steps,
 ) -> Result<(), ShowFault<V::Fault>>
-    requires plan { IfSome plan.now (λ p.
-        IsPlanOf table.now (next_item table.now template.now) p.fields.items p.turns) }
+    requires plan { IfSome plan (λ p. IsPlanBy table.now template.now p.now) }
     requires readable { (items : List (Item Content)) × (left : List Bool)
         × ReadsAll plain (next_item table.now template.now) items (rest_of input.old) left }
     ensures { ItemsGo V.sees table.now (next_item table.now template.now) input.old visitor.old
@@ -359,22 +358,6 @@ fn show_by<V: Visitor>(
     }
 }
 
-/// The plan by which subsets are shown: a single one is shown as fast by a walk.
-fn plan_for<'t>(
-    alloc: Global,
-    subsets: u16,
-    template: &Template,
-    table: &'t TableB,
-) -> Option<Plan<'t>>
-    ensures { IfSome result (λ p.
-        IsPlanOf table.now (next_item table.now template.now) p.fields.items p.turns) }
-{
-    if subsets < 2 {
-        return None;
-    }
-    plan_of(alloc, template, table)
-}
-
 /// Shows one subset, of this number.
 #[tactic(auto, using(crate::proofs::SubsetLemmas::subset_goes, crate::proofs::SubsetLemmas::subset_refused))]
 fn show_subset<V: Visitor>(
@@ -382,13 +365,12 @@ fn show_subset<V: Visitor>(
     template: &Template,
     table: &TableB,
     number: u16,
-    plan: &Option<Plan<'_>>,
+    plan: Option<&Plan<'_>>,
     input: &mut PlainIn<'_>,
     visitor: &mut V,
     steps: &mut Steps,
 ) -> Result<(), ShowFault<V::Fault>>
-    requires plan { IfSome plan.now (λ p.
-        IsPlanOf table.now (next_item table.now template.now) p.fields.items p.turns) }
+    requires plan { IfSome plan (λ p. IsPlanBy table.now template.now p.now) }
     requires readable { (items : List (Item Content)) × (left : List Bool)
         × ReadsAll plain (next_item table.now template.now) items (rest_of input.old) left }
     ensures { SubsetGoes V.sees table.now (next_item table.now template.now) number input.old
@@ -400,17 +382,19 @@ fn show_subset<V: Visitor>(
     }
 }
 
-/// Shows all subsets.
-pub(crate) fn show_plain<V: Visitor>(
+/// Shows all subsets, by their plan, if there is one.
+fn show_subsets<V: Visitor>(
     alloc: Global,
     bits: BitSlice<'_>,
     subsets: u16,
     template: &Template,
     table: &TableB,
+    plan: Option<&Plan<'_>>,
     visitor: &mut V,
     steps: &mut Steps,
 ) -> Result<(), ShowFault<V::Fault>>
     requires steps { steps.old ≡ 0 }
+    requires plan { IfSome plan (λ p. IsPlanBy table.now template.now p.now) }
     requires readable { (all : List (List (Item Content))) × (left : List Bool)
         × ReadsSubsets (next_item table.now template.now) all (bits_of (octets_of bits)) left
         × (length all ≡ subsets) }
@@ -420,7 +404,6 @@ pub(crate) fn show_plain<V: Visitor>(
         Shows V.sees visitor.old (subset_calls table.now (next_item table.now template.now) 0 1 all)
         (turns_in (next_item table.now template.now) all) result visitor.new steps.new }
 {
-    let plan = plan_for(alloc, subsets, template, table);
     let mut input = PlainIn::new(bits);
     'subsets: for done in 0..subsets {
         show_subset(
@@ -428,11 +411,50 @@ pub(crate) fn show_plain<V: Visitor>(
             template,
             table,
             done + 1,
-            &plan,
+            plan,
             &mut input,
             visitor,
             steps,
         )?;
     }
     Ok(())
+}
+
+/// Shows all subsets: by the plan that is known, or by one that is made for them. A single one of
+/// which none is known is shown as fast by a walk.
+pub(crate) fn show_plain<V: Visitor>(
+    alloc: Global,
+    bits: BitSlice<'_>,
+    subsets: u16,
+    template: &Template,
+    table: &TableB,
+    known: Option<&Plan<'_>>,
+    visitor: &mut V,
+    steps: &mut Steps,
+) -> Result<(), ShowFault<V::Fault>>
+    requires steps { steps.old ≡ 0 }
+    requires known { IfSome known (λ p. IsPlanBy table.now template.now p.now) }
+    requires readable { (all : List (List (Item Content))) × (left : List Bool)
+        × ReadsSubsets (next_item table.now template.now) all (bits_of (octets_of bits)) left
+        × (length all ≡ subsets) }
+    ensures { (all : List (List (Item Content))) (left : List Bool)
+        → ReadsSubsets (next_item table.now template.now) all (bits_of (octets_of bits.entry)) left
+        → length all ≡ subsets →
+        Shows V.sees visitor.old (subset_calls table.now (next_item table.now template.now) 0 1 all)
+        (turns_in (next_item table.now template.now) all) result visitor.new steps.new }
+{
+    if known.is_some() || subsets < 2 {
+        return show_subsets(alloc, bits, subsets, template, table, known, visitor, steps);
+    }
+    let plan = plan_of(alloc, template, table);
+    show_subsets(
+        alloc,
+        bits,
+        subsets,
+        template,
+        table,
+        plan.as_ref(),
+        visitor,
+        steps,
+    )
 }

@@ -1,6 +1,8 @@
 //! Messages of worked examples, and what is told of them.
 use crate::fault::{Spot, WalkFault};
-use crate::reading::{Reading, read_message};
+use crate::plans::Plans;
+use crate::prepared::Prepared;
+use crate::reading::{Reading, read_message, read_prepared};
 use crate::steps::Steps;
 use crate::visitor::{ItemView, Value, Visitor};
 use bufr_frame::Message;
@@ -197,10 +199,48 @@ fn table_b(alloc: Global) -> Result<TableB, Fail> {
     Ok(TableB::read(alloc, TABLE_B)?)
 }
 
+/// Table D, with no promise either.
+fn table_d(alloc: Global) -> Result<TableD, Fail> {
+    Ok(TableD::read(alloc, TABLE_D)?)
+}
+
 /// The template of these descriptors, with no promise either.
 fn template_of(alloc: Global, descriptors: &[Fxy], table: &TableB) -> Result<Template, Fail> {
-    let sequences = TableD::read(alloc, TABLE_D)?;
+    let sequences = table_d(alloc)?;
     Ok(Template::build(alloc, descriptors, table, &sequences)?)
+}
+
+/// The tables by which messages are read.
+pub(crate) fn tables(alloc: Global) -> Result<(TableB, TableD), Fail> {
+    Ok((table_b(alloc)?, table_d(alloc)?))
+}
+
+/// What comes of reading and showing a message by what is prepared for its template.
+fn told_prepared(alloc: Global, octets: &[u8], prepared: Prepared<'_>) -> Result<String, Fail> {
+    let message = message_in(octets).ok_or("a message")?;
+    let mut steps = Steps::new();
+    match read_prepared(alloc, &message, prepared, &mut steps) {
+        Ok(reading) => shown(alloc, &reading, &mut steps),
+        Err(fault) => refused(alloc, fault, &steps),
+    }
+}
+
+/// What comes of reading and showing the message with these subsets, descriptors and data by what
+/// is kept of the messages before.
+pub(crate) fn told_by(
+    alloc: Global,
+    plans: &mut Plans<'_>,
+    subsets: u16,
+    descriptors: &str,
+    payload: &[u8],
+) -> Result<String, Fail> {
+    let descriptors = descriptors_of(alloc, descriptors)?;
+    let octets = message_of(alloc, subsets, APART, &descriptors, payload)?;
+    plans.turn_to(&descriptors)?;
+    match plans.answer() {
+        Ok(prepared) => told_prepared(alloc, &octets, prepared),
+        Err(fault) => Ok(format!(in alloc; "{fault}")?),
+    }
 }
 
 /// A message, its template, and the table by which it is read.

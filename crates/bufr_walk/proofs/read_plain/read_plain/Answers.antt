@@ -1,4 +1,4 @@
-use Rattle.std.proofs.Common.{◌≡◌, ℕ, ◌+◌, ◌<◌, arith, subst}
+use Rattle.std.proofs.Common.{◌≡◌, ◌+◌, arith, subst}
 use Rattle.std.proofs.lemmas.Result.{err_from_is_err_and}
 use Rattle.bufr_bits.specs.Bits.{bits_of}
 use Rattle.bufr_bits.specs.BitSlice.{octets_of}
@@ -43,9 +43,9 @@ pub returns-in_err-fields-clause-fault : goal.returns-in_err-fields-clause-fault
 returns-in_err-fields-clause-fault c =
     let p = err_from_is_err_and c.from_residual.result c.from_residual.ensures.1 in
     let h = c.in_err-fields.ensures in
-    rw (p.1, p.2) (first_stopped (places c.args.template.now) (next_item c.args.table.now c.args.template.now) (octets_of c.args.bits) c.args.subsets c.args.steps.now c.begin.new.steps _ c.requires h.some h.fault)
+    rw (p.1, p.2) (first_stopped (places c.args.template.now) (next_item c.args.table.now c.args.template.now) (octets_of c.args.bits) c.args.subsets c.args.steps.now c.begin.new.steps _ c.requires.steps h.some h.fault)
 
 pub returns-in_err-fields-clause-refused : goal.returns-in_err-fields-clause-refused
 returns-in_err-fields-clause-refused c =
     let p = err_from_is_err_and c.from_residual.result c.from_residual.ensures.1 in
-    rw (p.1, p.2) (first_few (places c.args.template.now) (next_item c.args.table.now c.args.template.now) (bits_of (octets_of c.args.bits)) c.args.steps.now c.begin.new.steps _ c.requires c.in_err-fields.ensures.fault)
+    rw (p.1, p.2) (first_few (places c.args.template.now) (next_item c.args.table.now c.args.template.now) (bits_of (octets_of c.args.bits)) c.args.steps.now c.begin.new.steps _ c.requires.steps c.in_err-fields.ensures.fault)

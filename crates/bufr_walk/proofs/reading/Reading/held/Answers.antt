@@ -8,4 +8,4 @@ use Rattle.bufr_walk.proofs.reading.Reading.held.Goals as goal
 pub returns-in-Together-clause-items : goal.returns-in-Together-clause-items
 returns-in-Together-clause-items c =
     let count : c.len.result ≡ length c.in-Together.items.items = omega (arith, c.len.ensures, c.in-Together.items.ok.0) in
-    subst (λ r. (values : Values) → IsReading (course_of r) r.source values r.bits → c.len.result ≡ items_kept values) c.self.view_is (λ values reading. count ∙ ap held_of (sym c.in-Together.is) ∙ all_kept _ c.self.inside.kept c.self.invariant values reading)
+    subst (λ r. (values : Values) → IsReading (course_of r) r.source values r.bits → c.len.result ≡ items_kept values) c.self.view_is (λ values reading. count ∙ ap held_of (sym c.in-Together.is) ∙ all_kept _ c.self.inside.kept c.self.invariant.0 values reading)
