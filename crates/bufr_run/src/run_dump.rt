@@ -1,8 +1,10 @@
 //! `bufr dump`: writes the messages of a stream as text.
-ghost use Rattle.std.specs.Prelude.{◌≡◌, ◌≢◌, ℕ, List, [], ◌∷◌, true, Ok, IfOk, OnOk, IfSome, map};
+ghost use Rattle.std.specs.Prelude.{◌≡◌, ◌≢◌, ℕ, List, [], ◌∷◌, true, Ok, IfErr, IfOk, OnOk, IfSome, map};
 ghost use Rattle.bufr_frame.specs.Events.{told, IsEvent};
 ghost use Rattle.bufr_frame.specs.Runs.{read_failures_after};
 ghost use Rattle.bufr_frame.specs.Scan.{Happening, Framed, Strayed, scan};
+ghost use Rattle.bufr_walk.specs.Course.{next_item};
+ghost use Rattle.bufr_walk.specs.Outcome.{data_of, IsFault, IsReadingOf};
 ghost use Rattle.bufr_run.specs.DumpPieces.{IsDataPiece, IsDumpPiece, IsMessagePiece};
 ghost use Rattle.bufr_run.specs.Pieces.{Piece};
 ghost use Rattle.bufr_run.specs.Counting.{BlamesWriter};
@@ -16,7 +18,7 @@ use bufr_bits::{Sink, Source};
 use bufr_frame::{Event, Message, RunFault};
 use bufr_tables::{Fxy, TableB, TableD};
 use bufr_text::write_dump;
-use bufr_walk::{Plans, Prepared, Steps, WalkFault, read_prepared};
+use bufr_walk::{Plans, Prepared, Reading, Steps, WalkFault, read_prepared};
 use std::alloc::{AllocError, Global};
 
 /// The descriptors of a message.
@@ -29,6 +31,23 @@ fn descriptors_of(alloc: Global, message: &Message<'_>) -> Result<Vec<Fxy>, Allo
         descriptors.push(Fxy::from_word(word))?;
     }
     Ok(descriptors)
+}
+
+/// Reads the data of a message. It says less than the call that it makes, so that what is proved of
+/// a run does not carry the bounds on steps.
+fn read_data<'a>(
+    alloc: Global,
+    message: &Message<'a>,
+    prepared: Prepared<'a>,
+    steps: &mut Steps,
+) -> Result<Reading<'a>, WalkFault>
+    ensures reading { IfOk result (λ r. IsReadingOf prepared.entry.table prepared.entry.template
+        (data_of message.now) r steps.new) }
+    ensures fault { IfErr result
+        (λ why. IsFault (next_item prepared.entry.table prepared.entry.template)
+        (data_of message.now) why steps.new) }
+{
+    read_prepared(alloc, message, prepared, steps)
 }
 
 /// Writes the text of a message by what is prepared for its template, or the line of the fault that
@@ -52,7 +71,7 @@ fn dump_data<W: Sink, E: Sink>(
     ensures errors_flushes { E.flushes e.new ≡ E.flushes e.old }
 {
     let mut steps = Steps::new();
-    match read_prepared(alloc, message, prepared, &mut steps) {
+    match read_data(alloc, message, prepared, &mut steps) {
         Ok(reading) => {
             write_dump(alloc, message, &reading, &mut steps, w)?;
             Ok(Verdict::Accepted)

@@ -1,7 +1,9 @@
 //! `bufr encode`: writes the messages that a text spells.
-ghost use Rattle.std.specs.Prelude.{◌≡◌, ◌≢◌, ℕ, List, [], ◌∷◌, Err, true, IfOk, OnOk, IfSome};
+ghost use Rattle.std.specs.Prelude.{◌≡◌, ◌≢◌, ℕ, List, [], ◌∷◌, Ok, Err, true, IfErr, IfOk, OnOk, IfSome};
 ghost use Rattle.bufr_frame.specs.Runs.{read_failures_after};
 ghost use Rattle.bufr_text.specs.Documents.{Spelled, documents_of};
+ghost use Rattle.bufr_text.specs.Encoding.{encoding_in};
+ghost use Rattle.bufr_text.specs.EncodingFault.{RefusesSo, told_refusal};
 ghost use Rattle.bufr_text.specs.declared.form.Form.TheVariants.{AsWritten};
 ghost use Rattle.bufr_run.specs.EncodePieces.{encode_pieces, told_piece};
 ghost use Rattle.bufr_run.specs.EncodeRun.{EncodeSo};
@@ -19,6 +21,25 @@ use bufr_tables::{TableB, TableD, TemplateFault};
 use bufr_text::{Document, DocumentFault, DumpReader, Form, ReadFault, encode_form, write_all};
 use bufr_walk::Steps;
 use std::alloc::Global;
+
+/// The octets of a document in a form, or its first fault. It says less than the call that it
+/// makes, so that what is proved of a run does not carry the steps and what is said of dumps.
+fn octets_of(
+    alloc: Global,
+    document: &Document,
+    form: Form,
+    table_b: &TableB,
+    table_d: &TableD,
+) -> Result<Vec<u8>, DocumentFault>
+    ensures octets { IfOk result
+        (λ octets. encoding_in form table_b.now table_d.now document.now ≡ Ok octets.items) }
+    ensures fault { IfErr result (λ why.
+        RefusesSo (told_refusal why) (encoding_in form table_b.now table_d.now document.now)) }
+    ensures memory { IfErr result
+        (λ why. (line : ℕ) → why ≢ DocumentFault.Template line TemplateFault.Memory) }
+{
+    encode_form(alloc, document, form, table_b, table_d, &mut Steps::new())
+}
 
 /// Writes the message of a document in a form, whole, or the line of the fault that it is refused
 /// for.
@@ -39,7 +60,7 @@ fn encode_one<W: Sink, E: Sink>(
     ensures output_flushes { W.flushes w.new ≡ W.flushes w.old }
     ensures errors_flushes { E.flushes e.new ≡ E.flushes e.old }
 {
-    match encode_form(alloc, document, form, table_b, table_d, &mut Steps::new()) {
+    match octets_of(alloc, document, form, table_b, table_d) {
         Ok(octets) => {
             write_all(octets.as_slice(), w)?;
             Ok(Verdict::Accepted)
