@@ -1,4 +1,6 @@
 //! Items of compressed data, one by one.
+ghost use Rattle.std.specs.Prelude.{◌≤◌, length};
+
 use crate::fields::Fields;
 use crate::packed_in::{PackedFault, PackedIn};
 use crate::spec::{Role, Spec, Taken};
@@ -32,34 +34,43 @@ enum Asked {
     Text,
 }
 
-/// A field of so many bits, neither scaled nor moved.
-fn number(
-    word: u16,
-    role: Role,
-    kind: Kind,
-    width: u32,
-    may_be_missing: bool,
-    listed: bool,
-) -> Result<Spec, Fail> {
-    let fxy = Fxy::from_word(word);
-    let spec = Spec::number(fxy, role, kind, width, 0, 0, may_be_missing, listed);
+fn block() -> Result<Spec, Fail> {
+    let fxy = Fxy::from_word(257);
+    let spec = Spec::number(fxy, Role::Element, Kind::Numeric, 7, 0, 0, true, true);
     Ok(spec.ok().ok_or("a width")?)
+}
+
+fn figure() -> Result<Spec, Fail> {
+    let fxy = Fxy::from_word(7957);
+    let spec = Spec::number(fxy, Role::Element, Kind::Coded, 7, 0, 0, false, true);
+    Ok(spec.ok().ok_or("a width")?)
+}
+
+fn factor() -> Result<Spec, Fail> {
+    let fxy = Fxy::from_word(7937);
+    let spec = Spec::number(fxy, Role::Factor, Kind::Numeric, 8, 0, 0, false, true);
+    Ok(spec.ok().ok_or("a width")?)
+}
+
+fn reference() -> Result<Spec, Fail> {
+    let fxy = Fxy::from_word(3173);
+    let spec = Spec::number(fxy, Role::Reference, Kind::Numeric, 10, 0, 0, false, false);
+    Ok(spec.ok().ok_or("a width")?)
+}
+
+fn text() -> Spec {
+    Spec::text(Role::Inserted, Fxy::from_word(34050), 16, false)
 }
 
 /// How the field is read.
 fn spec_of(asked: Asked) -> Result<Spec, Fail> {
     match asked {
-        Asked::Block => number(257, Role::Element, Kind::Numeric, 7, true, true),
-        Asked::Figure => number(7957, Role::Element, Kind::Coded, 7, false, true),
-        Asked::Factor => number(7937, Role::Factor, Kind::Numeric, 8, false, true),
-        Asked::Reference => number(3173, Role::Reference, Kind::Numeric, 10, false, false),
+        Asked::Block => block(),
+        Asked::Figure => figure(),
+        Asked::Factor => factor(),
+        Asked::Reference => reference(),
         Asked::Text => Ok(text()),
     }
-}
-
-/// A text of two octets.
-fn text() -> Spec {
-    Spec::text(Role::Inserted, Fxy::from_word(34050), 16, false)
 }
 
 /// Items of two subsets: a name, the field, the data, what the call answers, and the bits of the
@@ -85,7 +96,9 @@ const ITEMS: &[(&str, Asked, &[u8], (u8, u64), u64)] = &[
 ];
 
 /// What the call for the item answers, and the bits that were used then.
-fn taken(alloc: Global, spec: &Spec, octets: &[u8]) -> ((u8, u64), u64) {
+fn taken(alloc: Global, spec: &Spec, octets: &[u8]) -> ((u8, u64), u64)
+    requires { length octets.now ≤ 100 }
+{
     let mut fields = PackedIn::new(alloc, BitSlice::new(octets), 2);
     let answer = told(fields.take(spec));
     (answer, fields.bits())
@@ -95,6 +108,7 @@ fn taken(alloc: Global, spec: &Spec, octets: &[u8]) -> ((u8, u64), u64) {
 fn items_of_two_subsets(rt: HostRuntime) -> Result<(), Fail> {
     for (name, asked, octets, answer, bits) in ITEMS {
         let spec = spec_of(*asked)?;
+        assert!(rt; octets.len() <= 100);
         let told = taken(rt.alloc(), &spec, octets);
         assert_eq!(rt; told, (*answer, *bits), "{name}");
     }
@@ -115,7 +129,7 @@ fn octets_past_the_data(rt: HostRuntime) {
 #[test]
 fn one_value_for_all_subsets(rt: HostRuntime) -> Result<(), Fail> {
     let octets = [0x14, 0x00];
-    let spec = spec_of(Asked::Block)?;
+    let spec = block()?;
     let mut fields = PackedIn::new(rt.alloc(), BitSlice::new(&octets), 65535);
     assert_eq!(rt; told(fields.take(&spec)).0, 0);
     assert_eq!(rt; fields.bits(), 13);
