@@ -241,6 +241,18 @@ fn lists_that_are_repeated(rt: HostRuntime) -> Result<(), Fail> {
     Ok(())
 }
 
+#[test]
+fn keeps_the_last_list(rt: HostRuntime) -> Result<(), Fail> {
+    let (table_b, table_d) = tables(rt.alloc())?;
+    let mut templates = Templates::new(rt.alloc(), &table_b, &table_d);
+    let (one, other) = ([Fxy::from_word(0x0101)], [Fxy::from_word(0x0c65)]);
+    assert!(rt; templates.keeps(&[]));
+    templates.turn_to(&one)?;
+    assert!(rt; templates.keeps(&one));
+    assert!(rt; !templates.keeps(&other));
+    Ok(())
+}
+
 // A name for what is shown, the descriptors, and the cells: a letter for each kind, its descriptor
 // or its count, and behind a colon the place behind the group.
 const CELLS: &[(&str, &str, &str)] = &[
