@@ -104,11 +104,6 @@ quotient_stops v i times lt some =
     let left : (v % 10 == 0) ≡ false = grind (arith, nat_tests, some) in
     quotient_next v i times lt ∙ ap (λ (b : Bool). if b then whole_quotient (v / 10) (10 ^ (times - (i + 1))) else Err Inexact) left
 
-pub quotient_ends : (v i times : ℕ) → times ≤ i → whole_quotient v (10 ^ (times - i)) ≡ Ok v
-quotient_ends v i times le =
-    let none : times - i ≡ 0 = omega arith in
-    ap (λ (k : ℕ). whole_quotient v (10 ^ k)) none ∙ quotient_is v 1 v 0 (omega arith) (omega arith)
-
 -- ten multiplies more often than it divides, or less often
 pub scaled_by_times : (n up less : ℕ) → less ≤ up → Ok (n * 10 ^ (up - less)) ≡ whole_quotient (n * 10 ^ up) (10 ^ less)
 scaled_by_times n up less le =

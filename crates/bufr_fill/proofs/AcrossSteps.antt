@@ -1,5 +1,5 @@
 -- One item of all subsets, as the code writes it.
-use Rattle.std.proofs.Common.{◌≡◌, ℕ, zero, suc, ◌+◌, ◌*◌, ◌<◌, ◌≤◌, ◌&&◌, Bool, true, false, List, [], ◌∷◌, length, take, get_or, Option, Some, None, Ok, Err, refl, sym, ◌∙◌, ap, subst, arith}
+use Rattle.std.proofs.Common.{◌≡◌, ℕ, ◌+◌, ◌*◌, ◌<◌, ◌≤◌, ◌&&◌, Bool, true, false, List, [], ◌∷◌, length, get_or, Option, Some, None, Ok, Err, refl, sym, ◌∙◌, ap, arith}
 use Rattle.std.specs.Prelude.{nat_lt, if◌then◌else◌}
 use Rattle.std.proofs.lemmas.Bool.Decides.{nat_tests}
 use Rattle.bufr_walk.specs.declared.spec.Taken.{Taken}
@@ -9,18 +9,17 @@ use Rattle.bufr_walk.specs.Content.{Content, told, bits_for}
 use Rattle.bufr_walk.specs.PackedField.{told_first}
 use Rattle.bufr_walk.specs.PlainField.{increment, unequal_factor}
 use Rattle.bufr_walk.specs.Reading.{most_values}
-use Rattle.bufr_fill.specs.Entries.{Entry, Subset}
+use Rattle.bufr_fill.specs.Entries.{Subset}
 use Rattle.bufr_fill.specs.Fault.{FaultAt, at_line, unequal_factors, uneven_increment, too_many_values}
 use Rattle.bufr_fill.specs.Filling.{written}
 use Rattle.bufr_fill.specs.Drawn.{content_drawn}
 use Rattle.bufr_fill.specs.Encoding.{across, cells_at, contents_here, first_line, unlike_line, packed_to, pack_across, ◌>>=◌}
 use Rattle.bufr_fill.specs.Gathered.{contents_drawn}
 use Rattle.bufr_fill.specs.Packing.{packing, packed_bits, packed_unlike, are_same}
-use Rattle.bufr_fill.specs.PackedOut.{PackedPen, IsPackedOut, IsPacked, IsFaultAcross}
 use Rattle.bufr_fill.specs.PlainOut.{WhereTold}
-use Rattle.bufr_fill.specs.Packs.{PutFault, IsPutWithin}
+use Rattle.bufr_fill.specs.Packs.{PutFault}
 use Rattle.bufr_fill.proofs.LeastLemmas.{content_self}
-use Rattle.bufr_fill.proofs.GrowthSteps.{grows_not, still_there, take_whole}
+use Rattle.bufr_fill.proofs.GrowthSteps.{grows_not}
 
 few_test : (a b : ℕ) → b ≤ a → nat_lt a b ≡ false
 few_test a b h = grind (arith, nat_tests)
@@ -76,47 +75,3 @@ packed_apart spec count [] z h e = absurd (omega (arith, h))
 packed_apart spec count (d ∷ ds) z h e =
     ap (λ b. if b then Ok (packed_bits (bits_for spec.width (content_drawn count d)) 0 []) else packed_unlike spec.role spec (contents_drawn count (d ∷ ds)))
     (ap (λ t. t && are_same (content_drawn count d) (contents_drawn count ds)) (sym (content_self (content_drawn count d))) ∙ e)
-
--- a call of the writer
-abbrev pub pen_at : List Subset → ℕ → List Bool → PackedPen
-pen_at subsets place bits = record { subsets = subsets; place = place; bits = bits }
-
--- a refusal: what was written of the item is cut off
-pub refuse_step : (o : Option FaultAt) (subsets : List Subset) (place : ℕ) (old new cut : List Bool) (n : ℕ) (spec : Asked) (s : PackedPen) → pen_at subsets place old ≡ s → n ≡ length old → PutFault o old new spec (across place subsets) → cut ≡ take n new
-    → WhereTold o (IsFaultAcross spec s) × (pen_at subsets place cut ≡ s)
-refuse_step o subsets place old new cut n spec s view whole h is = subst (λ z. WhereTold o (IsFaultAcross spec z) × (pen_at subsets place cut ≡ z)) view (by o h)
-  where
-    as_before : take n new ≡ old → pen_at subsets place cut ≡ pen_at subsets place old
-    as_before e = ap (pen_at subsets place) (is ∙ e)
-
-    by : (o : Option FaultAt) → PutFault o old new spec (across place subsets) → WhereTold o (IsFaultAcross spec (pen_at subsets place old)) × (pen_at subsets place cut ≡ pen_at subsets place old)
-    by None h = (tt, as_before (still_there n old new (omega (arith, whole)) h ∙ take_whole n old whole))
-    by (Some f) h = (h.0, as_before (ap (take n) h.1 ∙ take_whole n old whole))
-
-pub take_step : (subsets : List Subset) (place : ℕ) (old new : List Bool) (most : ℕ) (spec : Asked) (t : Taken) (s : PackedPen) → pen_at subsets place old ≡ s
-    → IsPutWithin old new spec (across place subsets) most t → IsPacked s spec t (pen_at subsets (place + 1) new)
-take_step subsets place old new most spec t s view h = subst (λ z. IsPacked z spec t (pen_at subsets (place + 1) new)) view (record {
-  put = h.put;
-  place = refl;
-  subsets = refl;
-})
-
--- numbers of values, and room for what is written
-next_values : (place n : ℕ) → (place + 1) * n ≡ place * n + n
-next_values place n = grind arith
-
-pub some_place : (place n : ℕ) → 1 ≤ n → place ≤ place * n
-some_place place zero h = absurd (omega (arith, h))
-some_place place (suc n) h = let e : place * suc n ≡ place * n + place = grind arith in omega (arith, e)
-
-pub some_values : (place n : ℕ) → n ≤ (place + 1) * n
-some_values place n = omega (arith, next_values place n)
-
-pub next_out : (entries : List Entry) (ends : List ℕ) (place bits bits' item : ℕ) → IsPackedOut entries ends place bits → (place + 1) * length ends ≤ most_values → bits' ≡ bits + item → item ≤ 2046 + 504 * length ends → IsPackedOut entries ends (place + 1) bits'
-next_out entries ends place bits bits' item h few is most = record {
-  few = h.few;
-  ends_are = h.ends_are;
-  some = h.some;
-  room = omega (arith, is, most, h.room, h.some, next_values place (length ends));
-  values = few;
-}

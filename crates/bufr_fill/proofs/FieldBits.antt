@@ -116,10 +116,6 @@ octet_bits_again (suc n) bits h =
     ∙ take-append-drop 8 bits
 
 module _ (w : ℕ) where
-  -- a number
-  pub number_length : (raw : ℕ) → length (bits_in raw w) ≡ w
-  number_length raw = length-bits_in raw w
-
   pub number_back : (m : Bool) (raw : ℕ) → raw < top m w → (all_set (bits_in raw w) && m) ≡ false
   number_back m raw h = not_missing m w raw (all_set (bits_in raw w)) h (λ e. sym (ones_test (bits_in raw w) w (length-bits_in raw w)) ∙ ap (λ n. eqb n (2 ^ w - 1)) (number_again raw w (top_below m w raw h)))
 

@@ -145,10 +145,6 @@ module _ (table : List Row) (rows : AreGoodRows table) where
       by true p q f g = asked_good (inserted_spec s fxy) (λ t more. ahead table next (after_field s fxy t) more) told spec w (λ x r. inserted_good s fxy x p legal.0 r) f q
       by false p q f g = operated_good (after_operator s fxy) (λ s'. ahead table next s' told) spec g q
 
-  -- the turns of a legal template are legal
-  AllLegal : Rest → Type 0
-  AllLegal rest = (counts : List ℕ) → AreLegal (rest counts)
-
   passes_legal : (n : ℕ) (body : Rest → Rest) (rest : Rest) → ((r : Rest) → ((counts : List ℕ) → AreLegal (r counts)) → (counts : List ℕ) → AreLegal (body r counts)) → ((counts : List ℕ) → AreLegal (rest counts)) → (counts : List ℕ) → AreLegal (passes n body rest counts)
   passes_legal zero body rest h g counts = g counts
   passes_legal (suc n) body rest h g counts = h (λ later. pass_end (passes n body rest later)) (λ later. passes_legal n body rest h g later) counts

@@ -425,12 +425,6 @@ module _ (n : ℕ) (spec : Asked) (good : IsSpec spec) where
   step_element role.Factor kind.Numeric k h = refl
   step_element role.Reference kd k h = absurd (h refl)
 
-  fits_element : (r : Role) (c : Content) → r ≢ role.Reference → FitsKind spec.kind spec.may_be_missing spec.width c → FitsRole r spec c
-  fits_element role.Element c h f = f
-  fits_element role.Inserted c h f = f
-  fits_element role.Factor c h f = f
-  fits_element role.Reference c h f = absurd (h refl)
-
   -- either all the same, or not
   of_element : (r : Role) → spec.role ≡ r → ((k : ℕ) → step_of r spec.kind k ≡ step_by spec.kind k) → ((k : ℕ) (base : List Bool) (is : List (List Bool)) → varied r spec k base is ≡ varied_by spec.kind spec k base is) → ((xs : List Content) → packed_unlike r spec xs ≡ packed_by spec.kind spec xs)
       → ((x : Content) → FitsKind spec.kind spec.may_be_missing spec.width x → Fits spec x) → (c : Content) (cs : List Content) (k most : ℕ) (b : Bool) → are_same c cs ≡ b → Fits spec c → 1 ≤ k → k ≤ 63 → IsVaried spec.kind spec.may_be_missing spec.width k (c ∷ cs) → length (c ∷ cs) ≡ n → spec.width + 6 + n * step_by spec.kind k ≤ most → PacksWithin n spec (c ∷ cs) most

@@ -1,5 +1,5 @@
 -- Where the subsets stand among entries.
-use Rattle.std.proofs.Common.{◌≡◌, ℕ, zero, suc, ◌+◌, ◌-◌, ◌≤◌, ◌<◌, Bool, List, [], ◌∷◌, ◌++◌, true, false, length, drop, get_or, map, min, Option, Some, None, refl, sym, ◌∙◌, ap, arith, add-one}
+use Rattle.std.proofs.Common.{◌≡◌, ℕ, zero, suc, ◌+◌, ◌-◌, ◌≤◌, ◌<◌, Bool, List, [], ◌∷◌, ◌++◌, true, false, length, drop, get_or, min, Option, Some, None, refl, sym, ◌∙◌, ap, arith, add-one}
 use Rattle.std.specs.Prelude.{slice_get, option_map, ◌==◌}
 use Rattle.std.proofs.Math.Seq.{drop-cons}
 use Rattle.std.proofs.lemmas.List.{append_assoc}
@@ -150,11 +150,6 @@ pub get_there : {X : Type 0} (xs : List X) (s : ℕ) (z : X) → s < length xs �
 get_there [] s z h = absurd (omega (arith, h))
 get_there (x ∷ xs) zero z h = refl
 get_there (x ∷ xs) (suc s) z h = get_there xs s z (omega (arith, h))
-
-pub mapped_there : {X Y : Type 0} (f : X → Y) (xs : List X) (s : ℕ) (x : X) → s < length xs → x ≡ get_or xs s x → slice_get (map f xs) s ≡ Some (f x)
-mapped_there f [] s x h e = absurd (omega (arith, h))
-mapped_there f (y ∷ xs) zero x h e = ap (λ z. Some (f z)) (sym e)
-mapped_there f (y ∷ xs) (suc s) x h e = mapped_there f xs s x (omega (arith, h)) e
 
 -- where the code finds none, there is none
 pub none_there : {X : Type 0} (xs : List X) (s : ℕ) → None ≡ slice_get xs s → length xs ≤ s

@@ -1,6 +1,6 @@
 -- How a finder goes on, turn by turn.
-use Rattle.std.proofs.Common.{inl, inr, ◌⊎◌, ◌≡◌, ℕ, ◌+◌, ◌-◌, ◌<◌, ◌≤◌, false, List, [], ◌++◌, length, drop, refl, sym, ◌∙◌, ap, subst, arith, Option, append-nil}
-use Rattle.std.specs.Prelude.{Result, Ok, Err, Some, None, max, take_while}
+use Rattle.std.proofs.Common.{inl, inr, ◌⊎◌, ◌≡◌, ℕ, ◌+◌, ◌-◌, ◌<◌, ◌≤◌, false, List, [], ◌++◌, drop, refl, sym, ◌∙◌, ap, subst, arith, Option, append-nil}
+use Rattle.std.specs.Prelude.{Result, Ok, Err, Some, None, take_while}
 use Rattle.bufr_bits.specs.Counts.{counted}
 use Rattle.bufr_bits.proofs.CountLemmas.{counted-counted, counted-none}
 use Rattle.bufr_frame.specs.declared.fault.RunFault.{RunFault}
@@ -80,9 +80,6 @@ module _ (left mid : Option (List ℕ)) (old s s1 : State) (place size : ℕ) (s
 
   there : StepSo left mid old s1 steps.0 []
   there = turn-pass left mid old s s1 steps.0 steps.1 place size looks.0 looks.1 is
-
-  pub open-room : length s1.rest < max 4096 s1.longest
-  open-room = omega (arith, ap (λ x. length x.rest) is, ap (λ x. x.longest) is, looks.1.few)
 
   -- where no more reads are made
   pub stop-open : (s2 : State) (fault : RunFault) → s2 ≡ record s1 { fault = Some fault } → StepSo left mid old s2 steps.0 [] × SeesSo old s2 steps.0 (first_event (scan_from 0 s2.at s2.rest))

@@ -59,10 +59,6 @@ met-ok m p1 p2 p3 p4 y is = by (p4 == (length m - 4)) (is_long_edition_3 m p2 p3
     by true true f g h = absurd (cc)
     by true false f g h = (grind (arith, nat_tests, f), g, (cc))
 
-when-ok : {B : Type 0} (b : Bool) (e : SectionFault) (x y : B) → (if b then Ok x else Err e) ≡ Ok y → (b ≡ true) × (x ≡ y)
-when-ok true e x y is = (refl, (cc))
-when-ok false e x y is = cc
-
 -- where the sections of a message end
 pub record Ended (m : List ℕ) (s : Sections) : Type 0 where
   pub p1 : ℕ
@@ -357,10 +353,6 @@ module _ (m : List ℕ) (small : All (λ octet. octet < 256) m) where
   head-back-3 : (edition : ℕ) (b : Bool) → 25 ≤ length m → nat_le 128 (get_or m 15 0) ≡ b → get_or m 15 0 % 128 ≡ 0 → octets_in slots_3 (said (head_in edition slots_3 m 11) b) ≡ octets_from 14 11 m
   head-back-3 edition b long is reserved =
       head-laid-3 edition b ∙ ap laid-3 (flag-back b (get_or m 15 0) is (small 15 0 (omega arith)) reserved) ∙ sym octets-laid-3
-
-  -- by the edition; n octets are laid down behind the length
-  HeadBack : Bool → ℕ → Type 0
-  HeadBack b n = head_octets (head_of m) b ≡ octets_from n 11 m
 
   head-back : (b : Bool) → is_edition (edition_of m) ≡ true → 8 + first_least (edition_of m) ≤ length m → has_section2 m ≡ b → value_in (slots_in m) m 11 Flags % 128 ≡ 0
       → head_octets (head_of m) b ≡ octets_from (octets_of_slots (slots_in m)) 11 m

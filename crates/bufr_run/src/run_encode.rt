@@ -17,8 +17,8 @@ use crate::run_events::flush;
 use crate::tally::{Tally, Verdict};
 use bufr_bits::{Sink, Source};
 use bufr_frame::RunFault;
-use bufr_tables::{TableB, TableD, TemplateFault};
-use bufr_text::{Document, DocumentFault, DumpReader, Form, ReadFault, encode_form, write_all};
+use bufr_tables::{TableB, TableD, TemplateFault, Templates};
+use bufr_text::{Document, DocumentFault, DumpReader, Form, ReadFault, encode_by, write_all};
 use bufr_walk::Steps;
 use std::alloc::Global;
 
@@ -28,17 +28,19 @@ fn octets_of(
     alloc: Global,
     document: &Document,
     form: Form,
-    table_b: &TableB,
-    table_d: &TableD,
+    templates: &mut Templates<'_>,
 ) -> Result<Vec<u8>, DocumentFault>
-    ensures octets { IfOk result
-        (λ octets. encoding_in form table_b.now table_d.now document.now ≡ Ok octets.items) }
-    ensures fault { IfErr result (λ why.
-        RefusesSo (told_refusal why) (encoding_in form table_b.now table_d.now document.now)) }
+    ensures table_b { templates.new.table_b ≡ templates.old.table_b }
+    ensures table_d { templates.new.table_d ≡ templates.old.table_d }
+    ensures octets { IfOk result (λ octets.
+        encoding_in form templates.old.table_b templates.old.table_d document.now
+        ≡ Ok octets.items) }
+    ensures fault { IfErr result (λ why. RefusesSo (told_refusal why)
+        (encoding_in form templates.old.table_b templates.old.table_d document.now)) }
     ensures memory { IfErr result
         (λ why. (line : ℕ) → why ≢ DocumentFault.Template line TemplateFault.Memory) }
 {
-    encode_form(alloc, document, form, table_b, table_d, &mut Steps::new())
+    encode_by(alloc, document, form, templates, &mut Steps::new())
 }
 
 /// Writes the message of a document in a form, whole, or the line of the fault that it is refused
@@ -47,20 +49,22 @@ fn encode_one<W: Sink, E: Sink>(
     alloc: Global,
     document: &Document,
     form: Form,
-    table_b: &TableB,
-    table_d: &TableD,
+    templates: &mut Templates<'_>,
     w: &mut W,
     e: &mut E,
 ) -> Result<Verdict, RunFault>
     ensures tells { TellsPieces (W.taken w.old) (W.taken w.new) (E.taken e.old) (E.taken e.new)
-        (told_piece form table_b.now table_d.now (Spelled document.now) ∷ []) result }
+        (told_piece form templates.old.table_b templates.old.table_d (Spelled document.now) ∷ [])
+        result }
     ensures stops { StopsPiece true result }
+    ensures table_b { templates.new.table_b ≡ templates.old.table_b }
+    ensures table_d { templates.new.table_d ≡ templates.old.table_d }
     ensures counts { BlamesWriter W.failures W.empty_writes w.old w.new E.failures E.empty_writes
         e.old e.new result }
     ensures output_flushes { W.flushes w.new ≡ W.flushes w.old }
     ensures errors_flushes { E.flushes e.new ≡ E.flushes e.old }
 {
-    match octets_of(alloc, document, form, table_b, table_d) {
+    match octets_of(alloc, document, form, templates) {
         Ok(octets) => {
             write_all(octets.as_slice(), w)?;
             Ok(Verdict::Accepted)
@@ -81,15 +85,16 @@ fn encode_next<W: Sink, E: Sink>(
     reader: &mut DumpReader,
     next: Result<Option<Document>, ReadFault>,
     form: Form,
-    table_b: &TableB,
-    table_d: &TableD,
+    templates: &mut Templates<'_>,
     w: &mut W,
     e: &mut E,
 ) -> Result<Option<Verdict>, RunFault>
     requires { next ≢ Err (ReadFault.Run RunFault.Write) }
     ensures reader { reader.new ≡ reader.old }
+    ensures table_b { templates.new.table_b ≡ templates.old.table_b }
+    ensures table_d { templates.new.table_d ≡ templates.old.table_d }
     ensures tells { TellsNext (W.taken w.old) (W.taken w.new) (E.taken e.old) (E.taken e.new)
-        (told_piece form table_b.now table_d.now) next result }
+        (told_piece form templates.old.table_b templates.old.table_d) next result }
     ensures counts { BlamesWriter W.failures W.empty_writes w.old w.new E.failures E.empty_writes
         e.old e.new result }
     ensures output_flushes { W.flushes w.new ≡ W.flushes w.old }
@@ -98,7 +103,7 @@ fn encode_next<W: Sink, E: Sink>(
     match next {
         Ok(None) => Ok(None),
         Ok(Some(document)) => {
-            let verdict = encode_one(alloc, &document, form, table_b, table_d, w, e)?;
+            let verdict = encode_one(alloc, &document, form, templates, w, e)?;
             reader.reuse(document);
             Ok(Some(verdict))
         }
@@ -132,6 +137,7 @@ fn encode_documents<R: Source, W: Sink, E: Sink>(
     ensures output_flushes { W.flushes w.new ≡ W.flushes w.old }
     ensures errors_flushes { E.flushes e.new ≡ E.flushes e.old }
 {
+    let mut templates = Templates::new(alloc, table_b, table_d);
     let mut reader = DumpReader::new(alloc);
     let mut tally = Tally {
         accepted: 0,
@@ -139,7 +145,7 @@ fn encode_documents<R: Source, W: Sink, E: Sink>(
     };
     loop {
         let next = reader.next_document(r);
-        let Some(verdict) = encode_next(alloc, &mut reader, next, form, table_b, table_d, w, e)?
+        let Some(verdict) = encode_next(alloc, &mut reader, next, form, &mut templates, w, e)?
         else {
             return Ok(tally);
         };

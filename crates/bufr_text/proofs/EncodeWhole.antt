@@ -1,21 +1,18 @@
 -- The encoding of a document from its parts.
-use Rattle.std.proofs.Common.{◌≡◌, ◌≤◌, ◌+◌, ◌*◌, ℕ, Bool, List, Option, Some, None, Result, Ok, Err, sym, ◌∙◌, ap, subst, arith}
+use Rattle.std.proofs.Common.{◌≡◌, ℕ, Bool, List, Option, Some, None, Result, Ok, Err, sym, ◌∙◌, ap, subst}
 use Rattle.std.specs.Prelude.{IfOk, IfErr}
 use Rattle.bufr_tables.specs.Expansion.{tree_of}
 use Rattle.bufr_tables.specs.TableB.{Row}
 use Rattle.bufr_tables.specs.TableD.{Sequence}
 use Rattle.bufr_tables.specs.TemplateTables.{tables_of}
-use Rattle.bufr_tables.specs.Tree.{Tree, places}
+use Rattle.bufr_tables.specs.Tree.{Tree}
 use Rattle.bufr_walk.specs.Course.{next_item}
 use Rattle.bufr_fill.specs.Entries.{subsets_of}
 use Rattle.bufr_text.specs.declared.form.Form.{Form}
 use Rattle.bufr_text.specs.Document.{Document}
 use Rattle.bufr_text.specs.Encoding.{RefusedAt, ◌>>=◌, told_of_template, told_of_items, data_bits, octets_of_bits, compressed_as, parts_as, message_of, encoding_in}
 use Rattle.bufr_text.specs.DataWritten.{AreOctetsOf, IsData}
-use Rattle.bufr_text.specs.EncodingCost.{places_of, places_by, bits_for, bits_by, count_data, MakesSo, turns_for, turns_by, turns_data}
 use Rattle.bufr_text.specs.EncodingFault.{RefusesSo}
-use Rattle.bufr_tables.specs.declared.template.fault.TemplateFault.{TemplateFault}
-use Rattle.bufr_walk.specs.Ticks.{ticked}
 use Rattle.bufr_text.specs.Header.{head_in}
 
 pub if_ok_so : {A B : Type 0} {P Q : A → Type 0} (r : Result A B) → IfOk r P → ((x : A) → P x → Q x) → IfOk r Q
@@ -59,30 +56,3 @@ module _ (form : Form) (table : List Row) (sequences : List Sequence) (d : Docum
   unfolding encoding_in
   no_template None h = tt
   no_template (Some f) h = ap (λ r. r >>= λ t. told_of_items (data_bits (compressed_as form d) (next_item table t) (subsets_of d.entries)) >>= λ b. message_of d.line (head_in d) (parts_as (compressed_as form d) d (octets_of_bits b))) h
-
-  pub few_made : (template : Tree) (steps : ℕ) → tree_of (tables_of table sequences) d.descriptors ≡ Ok template → steps ≤ places template * count_data (compressed_as form d) (next_item table template) (subsets_of d.entries)
-      → steps ≤ places_by table sequences d * bits_by form table sequences d
-  few_made template steps e h = subst (λ r. steps ≤ places_of r * bits_for form table d r) (sym e) h
-
-  pub few_refused : (template : Tree) (steps : ℕ) → tree_of (tables_of table sequences) d.descriptors ≡ Ok template → steps ≤ places template * (count_data (compressed_as form d) (next_item table template) (subsets_of d.entries) + 1)
-      → steps ≤ places_by table sequences d * (bits_by form table sequences d + 1)
-  few_refused template steps e h = subst (λ r. steps ≤ places_of r * (bits_for form table d r + 1)) (sym e) h
-
-  pub few_whole : (n : ℕ) (steps b : ℕ) → steps ≤ n * b → steps ≤ n * (b + 1)
-  few_whole n steps b h = let e : n * (b + 1) ≡ n * b + n = grind arith in omega (arith, h, e)
-
-  pub made_all : (template : Tree) (steps : ℕ) → tree_of (tables_of table sequences) d.descriptors ≡ Ok template → steps ≡ ticked 0 (turns_data (compressed_as form d) (next_item table template) (subsets_of d.entries))
-      → steps ≡ ticked 0 (turns_by form table sequences d)
-  made_all template steps e h = subst (λ r. steps ≡ ticked 0 (turns_for form table d r)) (sym e) h
-
-  pub made_some : (template : Tree) (o : Option RefusedAt) (steps : ℕ) → tree_of (tables_of table sequences) d.descriptors ≡ Ok template
-      → MakesSo o 0 (turns_data (compressed_as form d) (next_item table template) (subsets_of d.entries)) steps → MakesSo o 0 (turns_by form table sequences d) steps
-  made_some template o steps e h = subst (λ r. MakesSo o 0 (turns_for form table d r) steps) (sym e) h
-
-  pub made_none : (o : Option RefusedAt) (steps : ℕ) → RefusesSo o (told_of_template d.line (tree_of (tables_of table sequences) d.descriptors)) → steps ≡ 0 → MakesSo o 0 (turns_by form table sequences d) steps
-  made_none None steps h z = omega (arith, z)
-  made_none (Some f) steps h z = by (tree_of (tables_of table sequences) d.descriptors) h
-    where
-      by : (r : Result Tree TemplateFault) → told_of_template d.line r ≡ Err f → steps ≡ ticked 0 (turns_for form table d r)
-      by (Ok template) h = absurd cc h
-      by (Err why) h = z

@@ -1,5 +1,5 @@
 -- The table of the keys of the header, beside its definition.
-use Rattle.std.proofs.Common.{◌≡◌, ◌∙◌, ℕ, zero, suc, ◌+◌, ◌-◌, ◌<◌, ◌&&◌, nat_le, Bool, true, false, cond, if◌then◌else◌, List, [], ◌∷◌, ◌++◌, length, map, take, get_or, refl, sym, ap, subst, arith, length-append}
+use Rattle.std.proofs.Common.{◌≡◌, ◌∙◌, ℕ, zero, suc, ◌+◌, ◌-◌, ◌<◌, ◌&&◌, nat_le, Bool, true, false, cond, if◌then◌else◌, List, [], ◌∷◌, ◌++◌, length, map, take, drop, get_or, refl, sym, ap, subst, arith, length-append}
 use Rattle.std.specs.Prelude.{Option, Some, None, IfSome, position, nat_lt, slice_index}
 use Rattle.std.specs.List.{position_from, position_or_len}
 use Rattle.std.specs.Str.{bytes_eq}
@@ -7,7 +7,7 @@ use Rattle.std.proofs.lemmas.Bool.Decides.{nat_tests}
 use Rattle.std.proofs.lemmas.Iterator.Adapters.{position_from-zero}
 use Rattle.bufr_frame.specs.Section1.{slots_of, slots_3, slots_4}
 use Rattle.bufr_text.specs.Key.{is_named, lead_of}
-use Rattle.bufr_text.specs.Line.{keys, leasts, mosts, place_from}
+use Rattle.bufr_text.specs.Line.{key_in, keys, leasts, mosts, place_from}
 use Rattle.bufr_text.specs.Line as line
 use Rattle.bufr_text.proofs.HeaderLemmas.{not-3}
 
@@ -40,6 +40,28 @@ module _ {Row : Type 0} (lead : Row → List ℕ) (name : List ℕ) where
 
   pub place-is : (rows : List Row) → map lead rows ≡ map lead_of keys → position (λ row. is_named (lead row) name) rows ≡ place_from 0 name keys
   place-is rows same = position_from-zero (λ row. is_named (lead row) name) rows ∙ places 0 rows keys same
+
+-- what stands before a value has the key's name and a space behind its first octet
+module _ {Row : Type 0} (lead : Row → List ℕ) where
+  lead_at : (rows : List Row) (ks : List line.Key) (i : ℕ) (d : Row) → map lead rows ≡ map lead_of ks → i < length rows → lead (get_or rows i d) ≡ lead_of (key_in ks i)
+  lead_at [] ks i d same below = absurd (omega (arith, below))
+  lead_at (row ∷ rows) [] i d same below = absurd cc same
+  lead_at (row ∷ rows) (k ∷ ks) zero d same below = cc
+  lead_at (row ∷ rows) (k ∷ ks) (suc i) d same below =
+      let rest : map lead rows ≡ map lead_of ks = cc in
+      lead_at rows ks i d rest (omega (arith, below))
+
+  take_all : (xs : List ℕ) → take (length xs) xs ≡ xs
+  take_all [] = refl
+  take_all (x ∷ xs) = ap (λ l. x ∷ l) (take_all xs)
+
+  pub word_there : (rows : List Row) (i : ℕ) (row : Row) → map lead rows ≡ map lead_of keys → i < length rows → row ≡ get_or rows i row
+      → take (length (lead row) - 1) (drop 1 (lead row)) ≡ (key_in keys i).name ++ 32 ∷ []
+  word_there rows i row same below is =
+      let is_lead : lead row ≡ lead_of (key_in keys i) = ap lead is ∙ lead_at rows keys i row same below in
+      let word : List ℕ = (key_in keys i).name ++ 32 ∷ [] in
+      let count : length (10 ∷ word) - 1 ≡ length word = omega arith in
+      ap (λ l. take (length l - 1) (drop 1 l)) is_lead ∙ ap (λ n. take n word) count ∙ take_all word
 
 -- a place is below the number of places
 pub place-few : {Row : Type 0} (p : Row → Bool) (rows : List Row) (o : Option ℕ) → o ≡ position p rows → IfSome o (λ i. i < length rows)

@@ -1,13 +1,14 @@
 -- Each line of a dump text says what it was written for.
-use Rattle.std.proofs.Common.{◌≡◌, ℕ, zero, suc, ◌+◌, ◌<◌, ◌≤◌, ◌==◌, ◌&&◌, nat_lt, nat_le, true, false, List, [], ◌∷◌, ◌++◌, length, refl, arith, Option, Some, None, codes}
+use Rattle.std.proofs.Common.{◌≡◌, ℕ, zero, suc, ◌+◌, ◌<◌, ◌≤◌, ◌==◌, ◌&&◌, nat_lt, nat_le, true, false, List, [], ◌∷◌, ◌++◌, length, refl, sym, arith, ap, ◌∙◌, Bool, if◌then◌else◌, Option, Some, None, codes, decimal, append_assoc}
+use Rattle.std.specs.Prelude.{IfSome}
 use Rattle.std.specs.Char.{is_ascii_digit}
 use Rattle.std.specs.List.{list_all, AllByRecursion}
 use Rattle.std.proofs.lemmas.Bool.Decides.{nat_tests}
 use Rattle.bufr_tables.specs.Fxy.{fxy_text, f_of}
 use Rattle.bufr_bits.proofs.ScaledLemmas.{and_first}
 use Rattle.bufr_fill.specs.Draft.{Form, number_token, text_form, missing_form, reference_token}
-use Rattle.bufr_text.specs.Grammar.{front, behind, behind_word, descriptors_text, quoted, is_number_octet, is_hashed, is_passed_behind}
-use Rattle.bufr_text.specs.Line.{Opens, Header, Local1, Section2, Descriptors, Begins, Item, Closes, keys, place_from, number_value, value_read, worded, line_of}
+use Rattle.bufr_text.specs.Grammar.{front, behind, behind_word, number_read, descriptors_text, quoted, is_number_octet, is_hashed, is_passed_behind}
+use Rattle.bufr_text.specs.Line.{Opens, Header, Local1, Section2, Descriptors, Begins, Item, Closes, key_in, keys, made, place_from, number_value, value_read, worded, line_of}
 use Rattle.bufr_text.specs.Dump.{header_line, local1_line, section2_line, descriptors_line, subset_line, comment_text, Comment}
 use Rattle.bufr_text.specs.Given.{IsOctet, IsWord}
 use Rattle.bufr_text.proofs.GrammarLemmas.{stops, front-of, behind-of, hex_back, fxy_read_back, descriptors_back, number_back, quoted_back}
@@ -43,29 +44,51 @@ unfolding line_of worded front behind
 end-says = refl
 
 -- header lines
-pub header-says : (k v : ℕ) → k < 20 → v < 65536 → line_of (header_line k v) ≡ Header k v
+pub key-says : (k : ℕ) (rest : List ℕ) → k < 20 → line_of ((key_in keys k).name ++ 32 ∷ rest) ≡ made (Header k) (number_read rest)
 unfolding line_of worded front behind behind_word place_from keys
-header-says zero v h n = rw (number_back v n) refl
-header-says (suc zero) v h n = rw (number_back v n) refl
-header-says (suc (suc zero)) v h n = rw (number_back v n) refl
-header-says (suc (suc (suc zero))) v h n = rw (number_back v n) refl
-header-says (suc (suc (suc (suc zero)))) v h n = rw (number_back v n) refl
-header-says (suc (suc (suc (suc (suc zero))))) v h n = rw (number_back v n) refl
-header-says (suc (suc (suc (suc (suc (suc zero)))))) v h n = rw (number_back v n) refl
-header-says (suc (suc (suc (suc (suc (suc (suc zero))))))) v h n = rw (number_back v n) refl
-header-says (suc (suc (suc (suc (suc (suc (suc (suc zero)))))))) v h n = rw (number_back v n) refl
-header-says (suc (suc (suc (suc (suc (suc (suc (suc (suc zero))))))))) v h n = rw (number_back v n) refl
-header-says (suc (suc (suc (suc (suc (suc (suc (suc (suc (suc zero)))))))))) v h n = rw (number_back v n) refl
-header-says (suc (suc (suc (suc (suc (suc (suc (suc (suc (suc (suc zero))))))))))) v h n = rw (number_back v n) refl
-header-says (suc (suc (suc (suc (suc (suc (suc (suc (suc (suc (suc (suc zero)))))))))))) v h n = rw (number_back v n) refl
-header-says (suc (suc (suc (suc (suc (suc (suc (suc (suc (suc (suc (suc (suc zero))))))))))))) v h n = rw (number_back v n) refl
-header-says (suc (suc (suc (suc (suc (suc (suc (suc (suc (suc (suc (suc (suc (suc zero)))))))))))))) v h n = rw (number_back v n) refl
-header-says (suc (suc (suc (suc (suc (suc (suc (suc (suc (suc (suc (suc (suc (suc (suc zero))))))))))))))) v h n = rw (number_back v n) refl
-header-says (suc (suc (suc (suc (suc (suc (suc (suc (suc (suc (suc (suc (suc (suc (suc (suc zero)))))))))))))))) v h n = rw (number_back v n) refl
-header-says (suc (suc (suc (suc (suc (suc (suc (suc (suc (suc (suc (suc (suc (suc (suc (suc (suc zero))))))))))))))))) v h n = rw (number_back v n) refl
-header-says (suc (suc (suc (suc (suc (suc (suc (suc (suc (suc (suc (suc (suc (suc (suc (suc (suc (suc zero)))))))))))))))))) v h n = rw (number_back v n) refl
-header-says (suc (suc (suc (suc (suc (suc (suc (suc (suc (suc (suc (suc (suc (suc (suc (suc (suc (suc (suc zero))))))))))))))))))) v h n = rw (number_back v n) refl
-header-says (suc (suc (suc (suc (suc (suc (suc (suc (suc (suc (suc (suc (suc (suc (suc (suc (suc (suc (suc (suc k)))))))))))))))))))) v h n = absurd (omega arith)
+key-says zero rest h = refl
+key-says (suc zero) rest h = refl
+key-says (suc (suc zero)) rest h = refl
+key-says (suc (suc (suc zero))) rest h = refl
+key-says (suc (suc (suc (suc zero)))) rest h = refl
+key-says (suc (suc (suc (suc (suc zero))))) rest h = refl
+key-says (suc (suc (suc (suc (suc (suc zero)))))) rest h = refl
+key-says (suc (suc (suc (suc (suc (suc (suc zero))))))) rest h = refl
+key-says (suc (suc (suc (suc (suc (suc (suc (suc zero)))))))) rest h = refl
+key-says (suc (suc (suc (suc (suc (suc (suc (suc (suc zero))))))))) rest h = refl
+key-says (suc (suc (suc (suc (suc (suc (suc (suc (suc (suc zero)))))))))) rest h = refl
+key-says (suc (suc (suc (suc (suc (suc (suc (suc (suc (suc (suc zero))))))))))) rest h = refl
+key-says (suc (suc (suc (suc (suc (suc (suc (suc (suc (suc (suc (suc zero)))))))))))) rest h = refl
+key-says (suc (suc (suc (suc (suc (suc (suc (suc (suc (suc (suc (suc (suc zero))))))))))))) rest h = refl
+key-says (suc (suc (suc (suc (suc (suc (suc (suc (suc (suc (suc (suc (suc (suc zero)))))))))))))) rest h = refl
+key-says (suc (suc (suc (suc (suc (suc (suc (suc (suc (suc (suc (suc (suc (suc (suc zero))))))))))))))) rest h = refl
+key-says (suc (suc (suc (suc (suc (suc (suc (suc (suc (suc (suc (suc (suc (suc (suc (suc zero)))))))))))))))) rest h = refl
+key-says (suc (suc (suc (suc (suc (suc (suc (suc (suc (suc (suc (suc (suc (suc (suc (suc (suc zero))))))))))))))))) rest h = refl
+key-says (suc (suc (suc (suc (suc (suc (suc (suc (suc (suc (suc (suc (suc (suc (suc (suc (suc (suc zero)))))))))))))))))) rest h = refl
+key-says (suc (suc (suc (suc (suc (suc (suc (suc (suc (suc (suc (suc (suc (suc (suc (suc (suc (suc (suc zero))))))))))))))))))) rest h = refl
+key-says (suc (suc (suc (suc (suc (suc (suc (suc (suc (suc (suc (suc (suc (suc (suc (suc (suc (suc (suc (suc k)))))))))))))))))))) rest h = absurd (omega arith)
+
+pub header-says : (k v : ℕ) → k < 20 → v < 65536 → line_of (header_line k v) ≡ Header k v
+header-says k v h n = key-says k (decimal v) h ∙ ap (made (Header k)) (number_back v n)
+
+behind_is : (word text rest : List ℕ) → behind_word word text ≡ Some rest → text ≡ word ++ rest
+unfolding behind_word
+behind_is [] text rest h = cc
+behind_is (w ∷ word) [] rest h = absurd cc h
+behind_is (w ∷ word) (c ∷ text) rest h = by (c == w) refl h (behind_is word text rest)
+  where
+    by : (b : Bool) → (c == w) ≡ b → (if b then behind_word word text else None) ≡ Some rest → (behind_word word text ≡ Some rest → text ≡ word ++ rest) → c ∷ text ≡ w ∷ (word ++ rest)
+    by true is h more = let same : c ≡ w = grind (arith, nat_tests, is) in let there : text ≡ word ++ rest = more h in cc
+    by false is h more = absurd cc h
+
+-- what stands behind a key and a space is its value
+pub value_there : (k : ℕ) (word line rest : List ℕ) (r : Option ℕ) → k < 20 → word ≡ (key_in keys k).name ++ 32 ∷ [] → Some rest ≡ behind_word word line → r ≡ number_read rest
+    → IfSome r (λ v. line_of line ≡ Header k v)
+value_there k word line rest None few is there read = tt
+value_there k word line rest (Some v) few is there read =
+    let name : List ℕ = (key_in keys k).name in
+    let whole : line ≡ name ++ 32 ∷ rest = behind_is word line rest (sym there) ∙ ap (λ w. w ++ rest) is ∙ append_assoc name (32 ∷ []) rest in
+    ap line_of whole ∙ key-says k rest few ∙ ap (made (Header k)) (sym read)
 
 -- items
 pub value-number : (token rest : List ℕ) (most : ℕ) → IsToken token most → stops is_number_octet rest ≡ true → value_read (token ++ rest) ≡ Some (number_token token, rest)

@@ -186,10 +186,6 @@ if-line : (b : Bool) (x y : Line) → IsSound x → IsSound y → IsSound (if b 
 if-line true x y p q = p
 if-line false x y p q = q
 
-made-sound : {X : Type 0} (line : X → Line) (read : Option X) → IfSome read (λ x. IsSound (line x)) → IsSound (made line read)
-made-sound line (Some x) h = h
-made-sound line None h = tt
-
 made-always : {X : Type 0} (line : X → Line) (read : Option X) → ((x : X) → IsSound (line x)) → IsSound (made line read)
 made-always line (Some x) h = h x
 made-always line None h = tt

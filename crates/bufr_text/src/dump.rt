@@ -20,8 +20,9 @@ use bufr_frame::{Message, RunFault};
 use bufr_walk::{ItemView, Reading, ShowFault, Steps, Visitor};
 use std::alloc::Global;
 
-/// The octets of memory that a line is put together in: as many as a line has at most.
-const LINE: usize = 4096;
+/// The octets of memory that a line is put together in at first. A longer line takes more; most are
+/// far shorter, and an allocator hands out so few quickly.
+const LINE: usize = 1024;
 
 /// The octets of the longest line that begins a subset.
 const SUBSET_LINE: usize = 13;

@@ -31,6 +31,8 @@ pub struct DumpReader {
     buffer: Vec<u8>,
     start: usize,
     filled: usize,
+    /// Where the octets of a line are put that it writes by digits or in quotes.
+    scratch: [u8; MOST_LINE],
     /// How far the lines have come that were taken.
     progress: Progress,
     /// Whether the end was reached. The last line ends by a line feed then.
@@ -100,6 +102,7 @@ impl DumpReader {
             buffer: Vec::new(alloc),
             start: 0,
             filled: 0,
+            scratch: [0; MOST_LINE],
             progress: Progress {
                 place: Place::Between,
                 at: 1,
@@ -157,7 +160,7 @@ impl DumpReader {
         ensures reads { self.new.reads ≡ self.old.reads }
     {
         let held = &self.buffer[self.start..self.filled];
-        let Ok((len, taken)) = take_lines(&mut self.progress, held) else {
+        let Ok((len, taken)) = take_lines(&mut self.progress, held, &mut self.scratch) else {
             let fault = ReadFault::Run(RunFault::Memory);
             self.fault = Some(fault);
             return Err(fault);

@@ -25,7 +25,7 @@ use crate::encode_fault::{DocumentFault, WalkRefusal, of_draft};
 use crate::form::Form;
 use bufr_fill::{DraftFault, Entries, PackedOut, PlainOut};
 use bufr_frame::{WriteFault, write_message};
-use bufr_tables::{Fxy, TableB, TableD, Template, TemplateFault};
+use bufr_tables::{Fxy, TableB, TableD, Template, TemplateFault, Templates};
 use bufr_walk::{Steps, WalkStop, walk};
 use std::alloc::{AllocError, Global};
 
@@ -52,26 +52,33 @@ fn descriptors_of(alloc: Global, words: &[u16]) -> Result<Vec<Fxy>, AllocError>
     Ok(descriptors)
 }
 
-/// The template of a document.
-fn template_of(
+/// Has the template of a document kept, for the next one may have the same descriptors.
+fn turn_to(
     alloc: Global,
     document: &Document,
-    table_b: &TableB,
-    table_d: &TableD,
-) -> Result<Template, DocumentFault>
+    templates: &mut Templates<'_>,
+) -> Result<(), AllocError>
+    ensures table_b { templates.new.table_b ≡ templates.old.table_b }
+    ensures table_d { templates.new.table_d ≡ templates.old.table_d }
+    ensures list { OnOk result (templates.new.list ≡ document.now.descriptors) }
+{
+    let descriptors = descriptors_of(alloc, document.descriptors())?;
+    templates.turn_to(&descriptors)
+}
+
+/// The template that is kept, for the document of this line.
+fn template_of<'t>(line: u64, templates: &'t Templates<'_>) -> Result<&'t Template, DocumentFault>
     ensures tree { IfOk result (λ template.
-        tree_of (tables_of table_b.now table_d.now) document.now.descriptors ≡ Ok template) }
-    ensures fault { IfErr result (λ why. RefusesSo (told_refusal why)
-        (told_of_template document.now.line
-        (tree_of (tables_of table_b.now table_d.now) document.now.descriptors))) }
+        tree_of (tables_of templates.now.table_b templates.now.table_d) templates.now.list
+        ≡ Ok template.now) }
+    ensures fault { IfErr result (λ why. RefusesSo (told_refusal why) (told_of_template line
+        (tree_of (tables_of templates.now.table_b templates.now.table_d) templates.now.list))) }
     ensures memory { IfErr result
         (λ why. (line : ℕ) → why ≢ DocumentFault.Template line TemplateFault.Memory) }
 {
-    let descriptors = descriptors_of(alloc, document.descriptors())?;
-    match Template::build(alloc, &descriptors, table_b, table_d) {
+    match templates.answer() {
         Ok(template) => Ok(template),
-        Err(TemplateFault::Memory) => Err(DocumentFault::Memory),
-        Err(why) => Err(DocumentFault::Template(document.line(), why)),
+        Err(why) => Err(DocumentFault::Template(line, *why)),
     }
 }
 
@@ -205,6 +212,55 @@ fn write_whole(
     }
 }
 
+/// The octets of a document's message in a form, by the tables of `templates`, which keeps the
+/// template of the last document: [`encode_form`], for documents that repeat their descriptors.
+///
+/// ```
+/// let mut templates = Templates::new(alloc, &table_b, &table_d);
+/// while let Some(document) = reader.next_document(&mut r)? {
+///     let octets = encode_by(alloc, &document, Form::Plain, &mut templates, &mut steps)?;
+/// }
+/// ```
+///
+/// # Errors
+///
+/// Those of [`encode_form`].
+pub fn encode_by(
+    alloc: Global,
+    document: &Document,
+    form: Form,
+    templates: &mut Templates<'_>,
+    steps: &mut Steps,
+) -> Result<Vec<u8>, DocumentFault>
+    ensures table_b { templates.new.table_b ≡ templates.old.table_b }
+    ensures table_d { templates.new.table_d ≡ templates.old.table_d }
+    ensures octets { IfOk result (λ octets.
+        encoding_in form templates.old.table_b templates.old.table_d document.now
+        ≡ Ok octets.items) }
+    // Want of memory is the only freedom.
+    ensures fault { IfErr result (λ why. RefusesSo (told_refusal why)
+        (encoding_in form templates.old.table_b templates.old.table_d document.now)) }
+    // It has one name, `Memory`.
+    ensures memory { IfErr result
+        (λ why. (line : ℕ) → why ≢ DocumentFault.Template line TemplateFault.Memory) }
+    ensures made { OnOk result (steps.new
+        ≡ ticked 0 (turns_by form templates.old.table_b templates.old.table_d document.now)) }
+    ensures made_refused { IfErr result (λ why. MakesSo (told_refusal why) 0
+        (turns_by form templates.old.table_b templates.old.table_d document.now) steps.new) }
+    ensures accepted { OnOk result (steps.new
+        ≤ places_by templates.old.table_b templates.old.table_d document.now
+        * bits_by form templates.old.table_b templates.old.table_d document.now) }
+    ensures refused { OnErr result (steps.new
+        ≤ places_by templates.old.table_b templates.old.table_d document.now
+        * (bits_by form templates.old.table_b templates.old.table_d document.now + 1)) }
+{
+    *steps = Steps::new();
+    turn_to(alloc, document, templates)?;
+    let template = template_of(document.line(), templates)?;
+    let payload = write_data(alloc, document, form, template, templates.table_b(), steps)?;
+    write_whole(alloc, document, form, &payload)
+}
+
 /// The octets of a document's message in a form, by the tables: its template first, then its items
 /// in the order of the template, then the length (WMO-No. 306, Volume I.2, FM 94: sections 0 to 5).
 /// The form says whether the data are compressed, in the flag and in the data, whatever the
@@ -266,10 +322,8 @@ pub fn encode_form(
         → document.now ≡ document_of at s (items_in table_b.now template s values)
         → FormSo form table_b.now s template values result }
 {
-    *steps = Steps::new();
-    let template = template_of(alloc, document, table_b, table_d)?;
-    let payload = write_data(alloc, document, form, &template, table_b, steps)?;
-    write_whole(alloc, document, form, &payload)
+    let mut templates = Templates::new(alloc, table_b, table_d);
+    encode_by(alloc, document, form, &mut templates, steps)
 }
 
 /// The octets of a document's message, in the form that the document says: [`encode_form`] with

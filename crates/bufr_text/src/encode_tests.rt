@@ -4,8 +4,11 @@ use crate::dump_tests::{
     EDITION_3, EDITION_3_TEXT, FIRST_LINES, ODD_EDITION_3, ROWS as DUMPED, Tables, dump,
     message_of, octets_of, read_tables,
 };
-use crate::{Document, DocumentFault, DumpReader, ReadFault, encode_document, encode_law};
+use crate::{
+    Document, DocumentFault, DumpReader, Form, ReadFault, encode_by, encode_document, encode_law,
+};
 use bufr_bits::ScriptIn;
+use bufr_tables::Templates;
 use bufr_walk::Steps;
 use std::alloc::Global;
 use std::test::Fail;
@@ -303,6 +306,38 @@ fn refuses_documents_at_their_lines(rt: HostRuntime) -> Result<(), Fail> {
     Ok(())
 }
 
+// Whether two encodings have the same octets, or the same fault.
+fn are_alike(one: &Result<Vec<u8>, DocumentFault>, other: &Result<Vec<u8>, DocumentFault>) -> bool {
+    match (one, other) {
+        (Ok(one), Ok(other)) => one == other,
+        (Err(one), Err(other)) => (one.number(), one.line()) == (other.number(), other.line()),
+        _ => false,
+    }
+}
+
+/// Documents of many descriptors one after another, and each of them twice, by the same templates:
+/// that of the one before changes nothing.
+#[test]
+fn encodes_documents_behind_others(rt: HostRuntime) -> Result<(), Fail> {
+    let tables = read_tables(rt.alloc())?;
+    let mut templates = Templates::new(rt.alloc(), &tables.b, &tables.d);
+    let mut steps = Steps::new();
+    for row in &ROWS {
+        let document = document_in(rt.alloc(), row)?;
+        let (alone, turns) = encoded(rt.alloc(), &document)?;
+        let form = Form::AsWritten;
+        let first = encode_by(rt.alloc(), &document, form, &mut templates, &mut steps);
+        let again = encode_by(rt.alloc(), &document, form, &mut templates, &mut steps);
+        assert!(rt;
+            are_alike(&first, &alone) && are_alike(&again, &alone),
+            "{}",
+            row.name
+        );
+        assert_eq!(rt; steps.count(), turns, "{}", row.name);
+    }
+    Ok(())
+}
+
 /// A document is read whole before its items are looked at: a line that may not stand there is
 /// told, and not the item above it that is not whole at its scale.
 #[test]
@@ -379,14 +414,25 @@ fn encodes_what_was_dumped(rt: HostRuntime) -> Result<(), Fail> {
     Ok(())
 }
 
+// The octets that a text's first document is encoded to.
+fn octets_for(alloc: Global, text: &[u8]) -> Result<Vec<u8>, Fail> {
+    let document = document_of(alloc, text)?;
+    Ok(encoded(alloc, &document)?.0?)
+}
+
 /// Sections 3 and 4 of edition 3 are made even, with zero octets.
 #[test]
 fn encodes_edition_3(rt: HostRuntime) -> Result<(), Fail> {
-    let document = document_of(rt.alloc(), EDITION_3_TEXT.as_bytes())?;
-    let (octets, _) = encoded(rt.alloc(), &document)?;
-    assert_eq!(rt; octets?.as_slice(), EDITION_3.as_slice());
+    let octets = octets_for(rt.alloc(), EDITION_3_TEXT.as_bytes())?;
+    assert_eq!(rt; octets.as_slice(), EDITION_3.as_slice());
+    Ok(())
+}
+
+/// Those of a message that had them odd too.
+#[test]
+fn makes_odd_sections_even(rt: HostRuntime) -> Result<(), Fail> {
     let text = dump(rt.alloc(), &ODD_EDITION_3, 65536, 4096)?;
-    let (again, _) = encoded(rt.alloc(), &document_of(rt.alloc(), &text.taken)?)?;
-    assert_eq!(rt; again?.as_slice(), EDITION_3.as_slice());
+    let octets = octets_for(rt.alloc(), &text.taken)?;
+    assert_eq!(rt; octets.as_slice(), EDITION_3.as_slice());
     Ok(())
 }

@@ -1,9 +1,9 @@
 //! The keys of the header of a dump text.
-ghost use Rattle.std.specs.Prelude.{◌≡◌, ◌<◌, length, map, position, slice_index, true, IfSome};
+ghost use Rattle.std.specs.Prelude.{◌≡◌, ◌<◌, ◌++◌, [], ◌∷◌, length, map, position, slice_index, true, IfSome};
 ghost use Rattle.bufr_frame.specs.Section1.{slots_3, slots_4, slots_of};
 ghost use Rattle.bufr_text.specs.Documents.{in_range};
 ghost use Rattle.bufr_text.specs.Key.{is_named, lead_of};
-ghost use Rattle.bufr_text.specs.Line.{keys, leasts, mosts, place_from};
+ghost use Rattle.bufr_text.specs.Line.{key_in, keys, leasts, mosts, place_from};
 
 use crate::number::is;
 
@@ -61,6 +61,17 @@ fn position(keys: &[Key], name: &[u8]) -> Option<usize>
     ensures { result ≡ position (λ key. is_named key.0.now name.now) keys.now }
 {
     keys.iter().position(|key| is_named(key.0, name))
+}
+
+/// The name of the key at a place, and the space behind it.
+pub(crate) fn word_at(place: usize) -> Option<&'static [u8]>
+    ensures few { IfSome result (λ _. place < 20) }
+    ensures word { IfSome result (λ word. word.now ≡ (key_in keys place).name ++ 32 ∷ []) }
+{
+    match keys().get(place)?.0 {
+        [_, word @ ..] => Some(word),
+        [] => None,
+    }
 }
 
 /// The place of a key of this name.

@@ -34,7 +34,7 @@ pub use bufr_fill::Entry;
 pub use document::Document;
 pub use dump::write_dump;
 pub use dump_reader::DumpReader;
-pub use encode::{encode_document, encode_form};
+pub use encode::{encode_by, encode_document, encode_form};
 pub use encode_fault::{DocumentFault, WalkRefusal};
 pub use fault::ReadFault;
 pub use form::Form;

@@ -1,5 +1,5 @@
 //! What a line says, by its first word.
-ghost use Rattle.std.specs.Prelude.{◌≡◌, ℕ, ◌<◌, ◌≤◌, ◌==◌, List, length, take, drop, option_map, codes, if◌then◌else◌};
+ghost use Rattle.std.specs.Prelude.{◌≡◌, ℕ, ◌<◌, ◌≤◌, ◌==◌, IfSome, List, length, take, drop, option_map, codes, if◌then◌else◌};
 ghost use Rattle.std.specs.Str.{bytes_eq};
 ghost use Rattle.bufr_text.specs.Documents.{said};
 ghost use Rattle.bufr_text.specs.Grammar.{front, behind, behind_space, hex_read, number_read, descriptors_read};
@@ -10,9 +10,9 @@ ghost use Rattle.bufr_text.specs.Step.{meaning};
 use crate::descriptors::{MOST_WORDS, describe};
 use crate::hex::unhex;
 use crate::item::{item, reference};
-use crate::key::place;
+use crate::key::{place, word_at};
 use crate::number::{is, number};
-use crate::slice::{ahead, behind, behind_space, octet_at};
+use crate::slice::{ahead, behind, behind_space, behind_word, octet_at};
 use crate::step::Said;
 use memchr::memchr;
 
@@ -120,11 +120,20 @@ fn worded<'a>(
     header(word, rest)
 }
 
-/// What a line says that is not too long; none where it is no line of a document. Octets and
-/// descriptors that it writes are put into `octets` and `words`.
+/// The number of a header line, where this key stands in front.
+#[inline(always)]
+fn value_behind(line: &[u8], key: usize) -> Option<u32>
+    ensures { IfSome result (λ value. line_of line.now ≡ spec.Header key value) }
+{
+    number(behind_word(line, word_at(key)?)?)
+}
+
+/// What a line says that is not too long, most likely the value of the key `next`; none where it is
+/// no line of a document. Octets and descriptors that it writes are put into `octets` and `words`.
 #[tactic(auto, using(crate::proofs::WordLemmas::read_steps))]
 fn line_said<'a>(
     line: &'a [u8],
+    next: usize,
     octets: &'a mut [u8; MOST_LINE],
     words: &'a mut [u16; MOST_WORDS],
 ) -> Option<Said<'a>>
@@ -141,13 +150,18 @@ fn line_said<'a>(
     if first.is_ascii_digit() {
         return item(line, octets.as_mut_slice());
     }
+    if let Some(value) = value_behind(line, next) {
+        return Some(Said::Header { key: next, value });
+    }
     let len = word_len(line);
     worded(ahead(line, len), behind(line, len), octets, words)
 }
 
-/// What a line says. Octets and descriptors that it writes are put into `octets` and `words`.
+/// What a line says, most likely the value of the key `next`, if there is one. Octets and
+/// descriptors that it writes are put into `octets` and `words`.
 pub(crate) fn read_line<'a>(
     line: &'a [u8],
+    next: usize,
     octets: &'a mut [u8; MOST_LINE],
     words: &'a mut [u16; MOST_WORDS],
 ) -> Said<'a>
@@ -156,7 +170,7 @@ pub(crate) fn read_line<'a>(
     if line.len() > MOST_LINE {
         return Said::Wrong;
     }
-    match line_said(line, octets, words) {
+    match line_said(line, next, octets, words) {
         Some(said) => said,
         None => Said::Wrong,
     }

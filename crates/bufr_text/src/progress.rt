@@ -56,15 +56,16 @@ pub(crate) fn take_line(
     ensures wants { OnErr result
         (adds (place_with progress.old.place progress.old.parts) (said line.now) ≡ true) }
 {
-    let said = read_line(line, octets, words);
+    let said = read_line(line, progress.parts.known(), octets, words);
     step(progress.place, &mut progress.parts, progress.at, said)
 }
 
 /// Takes lines that are held, up to the first that makes a document whole or is refused. Answers
-/// how many octets they took.
+/// how many octets they took. What a line writes by digits or in quotes is put into `octets`.
 pub(crate) fn take_lines(
     progress: &mut Progress,
     held: &[u8],
+    octets: &mut [u8; MOST_LINE],
 ) -> Result<(usize, TakingEnd), AllocError>
     requires stands { Stands progress.old.at (place_with progress.old.place progress.old.parts) }
     requires some { 0 < progress.old.at }
@@ -73,13 +74,12 @@ pub(crate) fn take_lines(
     ensures wants { OnErr result (has_no_feed held.now ≡ false) }
     ensures adds { OnErr result (WantsAt progress.old held.now) }
 {
-    let mut octets = [0; MOST_LINE];
     let mut words = [0; MOST_WORDS];
     let mut from = 0;
     while let Some(length) = feed(behind(held, from)) {
         let line = ahead(behind(held, from), length);
         let at = progress.at;
-        let turn = take_line(progress, line, &mut octets, &mut words)?;
+        let turn = take_line(progress, line, octets, &mut words)?;
         progress.at += 1;
         from += length + 1;
         match turn {

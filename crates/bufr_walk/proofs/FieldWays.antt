@@ -15,7 +15,7 @@ use Rattle.bufr_walk.specs.declared.spec.Refusal.{Refusal}
 use Rattle.bufr_walk.specs.declared.spec.Refusal.TheVariants as refusal
 use Rattle.bufr_walk.specs.Asked.{Asked, IsFor, IsForRole, is_reference}
 use Rattle.bufr_walk.specs.Settings.{Settings, after_field, after_operator, is_defining}
-use Rattle.bufr_walk.specs.Rules.{element_spec, factor_spec, inserted_spec, fitting, by_kind, defined_by, defined_field, quantity, figure, text_of, text_width, given_by, listed_by, unsigned_of, unsigned_field, untouched, factor_by, factor_field}
+use Rattle.bufr_walk.specs.Rules.{element_spec, factor_spec, inserted_spec, fitting, by_kind, defined_by, defined_field, quantity, figure, text_of, text_width, given_by, listed_by, unsigned_of, unsigned_field, untouched}
 use Rattle.bufr_walk.specs.Turns.{finish, open_end, operator_turn, Rest, unroll, passes, turns_of}
 use Rattle.bufr_walk.specs.Course.{Course, Ahead, asked, operated, ahead, counts_of, counted, later, stop, at_end, refused}
 use Rattle.bufr_walk.specs.declared.stop.WalkStop.{WalkStop}
@@ -83,19 +83,6 @@ inserted_role s fxy spec e h = by (is_defining s) e
     by : (b : Bool) → ◌≡◌ {A = Result Asked Refusal} (if b then Err (refusal.Defining fxy) else Ok (text_of role.Inserted fxy (8 * y_of fxy) false)) (Ok spec) → ⊥
     by true q = cc
     by false q = let is : text_of role.Inserted fxy (8 * y_of fxy) false ≡ spec = cc in let r : role.Inserted ≡ role.Factor = ap (λ x. x.role) is ∙ h in cc
-
-factor_role : (table : List Row) (s : Settings) (fxy : ℕ) (spec : Asked) → factor_spec table s fxy ≡ Ok spec → role.Factor ≡ spec.role
-factor_role table s fxy spec e = by (is_defining s) (entry_of table fxy) e
-  where
-    by : (b : Bool) (o : Option Row) → ◌≡◌ {A = Result Asked Refusal} (if b then Err (refusal.Defining fxy) else factor_by o fxy) (Ok spec) → role.Factor ≡ spec.role
-    by true o q = absurd cc
-    by false None q = absurd cc
-    by false (Some row) q = fitted_role (factor_field row fxy) spec q
-
-is_count : (t : Taken) → IsForRole role.Factor t → ((n : ℕ) → t ≡ taken.Count n → ⊥) → ⊥
-is_count taken.Plain h never = h
-is_count (taken.Count n) h never = never n refl
-is_count (taken.Reference x) h never = h
 
 -- a field that is no reference leaves the references
 pub no_reference : (r : Role) (s : Settings) (fxy : ℕ) (t : Taken) → is_reference r ≡ false → IsForRole r t → record s { given = 0 } ≡ after_field s fxy t
@@ -203,12 +190,6 @@ module _ {S E : Type 0} (takes : S → Asked → Result Taken E → S → Type 0
         let h : course table (over rest) s [] ≡ stop (refused why) = operator_is over left fxy s x is rest [] [] ∙ ap (λ r. operated r (λ s2. ahead table (left rest []) s2 [])) e in
         record { items = []; mid = f; taken = refl; stops = subst (λ x. StopsAt takes x f (stop_by why) f) (sym (ap (λ x. x.next) h)) (refl, refl); turns = ap (λ x. x.turns) h };
   }
-
-  -- a factor tells a count
-  pub factor_counts : (fxy : ℕ) (r : Result Asked Refusal) (s : Settings) (f : S) (t : Taken) (f' : S) → r ≡ factor_spec table s fxy → Took takes r f (Ok t) f' → ((n : ℕ) → t ≡ taken.Count n → ⊥) → ⊥
-  factor_counts fxy r s f t f' e took never =
-      let k = took_ok r f t f' took in
-      is_count t (subst (λ o. IsForRole o t) (sym (factor_role table s fxy k.0 (sym e ∙ k.1))) k.3) never
 
   -- a whole walk, and its finish
   pub whole : (template : Tree) (s s' : Settings) (f f' : S) (c c' c'' : ℕ) → Came takes table (unroll template) (λ rest. rest) s f c s' f' c' → c'' ≡ ticked c' 1 → Walked takes (course table (turns_of template) s) f c (Ok tt) f' c''

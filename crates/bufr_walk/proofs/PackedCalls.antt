@@ -1,12 +1,11 @@
 -- How the calls that show compressed data are joined.
-use Rattle.std.proofs.Common.{◌≡◌, ℕ, suc, ◌+◌, ◌-◌, ◌<◌, ◌≤◌, Bool, true, length, take, drop, get_or, set, replicate, Result, Ok, Err, List, [], ◌∷◌, ◌++◌, inl, inr, refl, sym, ◌∙◌, ap, subst, add-one, append_assoc, arith}
+use Rattle.std.proofs.Common.{◌≡◌, ℕ, suc, ◌+◌, ◌-◌, ◌<◌, ◌≤◌, Bool, true, length, take, drop, get_or, set, replicate, Result, Ok, Err, List, [], ◌∷◌, ◌++◌, inl, inr, sym, ◌∙◌, ap, subst, add-one, append_assoc, arith}
 use Rattle.std.specs.List.{list_all}
 use Rattle.std.proofs.Math.Seq.{drop-cons}
 use Rattle.std.proofs.lemmas.List.{append-nil, take_more_set, replicate-append-replicate}
 use Rattle.bufr_bits.proofs.ScaledLemmas.{and_second}
 use Rattle.bufr_tables.specs.TableB.{Row}
 use Rattle.bufr_walk.specs.declared.fault.ShowFault.{ShowFault}
-use Rattle.bufr_walk.specs.declared.fault.ShowFault.TheVariants as fault
 use Rattle.bufr_walk.specs.declared.kept.KeptItem.{KeptItem}
 use Rattle.bufr_walk.specs.Calls.{Call, Timed, timed, items_together}
 use Rattle.bufr_walk.specs.Kept.{call_kept}
@@ -31,10 +30,6 @@ module _ {S E : Type 0} (sees : S → Call → Result (Unit {0}) E → S → Typ
   -- one call
   pub sofar_call : (s s1 : S) (call : Call) (rest : List Timed) → sees s call (Ok tt) s1 → SoFar sees s (timed 0 call ∷ rest) s1 rest
   sofar_call s s1 call rest h = record { on = λ r s' w. call_on s s1 call rest r s' h w }
-
-  -- a call that the visitor refuses
-  pub stops_call : (s s1 : S) (call : Call) (rest : List Timed) (e : E) → sees s call (Err e) s1 → Shows sees s (timed 0 call ∷ rest) 0 (Err (fault.Visitor e)) s1 0
-  stops_call s s1 call rest e h = inl (h, refl)
 
   all_on : (s : S) (a b : List Timed) (s1 : S) (r : Result (Unit {0}) (ShowFault E)) (s' : S) → Shows sees s a 0 (Ok tt) s1 0 → Shows sees s1 b 0 r s' 0 → Shows sees s (a ++ b) 0 r s' 0
   all_on s [] b s1 r s' h w = subst (λ x. Shows sees x b 0 r s' 0) h.0 w

@@ -1,8 +1,7 @@
 -- Subsets of compressed data that are shown one after another.
-use Rattle.std.proofs.Common.{◌≡◌, ℕ, zero, suc, ◌+◌, ◌-◌, ◌<◌, ◌≤◌, Bool, length, drop, get_or, Result, Ok, Err, List, [], ◌∷◌, ◌++◌, refl, ap, subst, arith}
+use Rattle.std.proofs.Common.{◌≡◌, ℕ, suc, ◌+◌, ◌-◌, ◌<◌, ◌≤◌, Bool, length, drop, get_or, Result, Ok, Err, List, [], ◌∷◌, ◌++◌, refl, ap, subst, arith}
 use Rattle.bufr_tables.specs.TableB.{Row}
 use Rattle.bufr_walk.specs.declared.fault.ShowFault.{ShowFault}
-use Rattle.bufr_walk.specs.declared.fault.ShowFault.TheVariants as fault
 use Rattle.bufr_walk.specs.declared.kept.KeptItem.{KeptItem}
 use Rattle.bufr_walk.specs.Calls.{Call, subset_call, Timed, timed, items_together, subsets_together}
 use Rattle.bufr_walk.specs.Content.{Content}
@@ -10,13 +9,7 @@ use Rattle.bufr_walk.specs.Kept.{call_kept}
 use Rattle.bufr_walk.specs.PackedIn.{items_at}
 use Rattle.bufr_walk.specs.Reading.{Item}
 use Rattle.bufr_walk.specs.CallsInTurn.{Shows}
-use Rattle.bufr_walk.proofs.PackedCalls.{SoFar, sofar_none, sofar_then, sofar_call, sofar_all, stops_call, shows_before, next_call}
-
-all_dropped : (kept : List KeptItem) (i : ℕ) → length kept ≤ i → drop i kept ≡ []
-all_dropped [] zero h = refl
-all_dropped [] (suc i) h = refl
-all_dropped (k ∷ kept) zero h = absurd (omega (arith, h))
-all_dropped (k ∷ kept) (suc i) h = all_dropped kept i (omega (arith, h))
+use Rattle.bufr_walk.proofs.PackedCalls.{SoFar, sofar_none, sofar_then, sofar_call, sofar_all, shows_before, next_call}
 
 module _ {S E : Type 0} (sees : S → Call → Result (Unit {0}) E → S → Type 0) (table : List Row) (bits : List Bool) (n : ℕ) (kept : List KeptItem) (j : ℕ) where
   -- the call of one subset for an entry
@@ -32,16 +25,6 @@ module _ {S E : Type 0} (sees : S → Call → Result (Unit {0}) E → S → Typ
   items_go s s1 s2 i k h e so call =
       let so_far : SoFar sees s (calls_from 0) s1 (timed 0 (call_at k) ∷ calls_from (i + 1)) = subst (SoFar sees s (calls_from 0) s1) (next_call table bits n j kept i k h e) so in
       sofar_then sees so_far (sofar_call sees s1 s2 (call_at k) (calls_from (i + 1)) call)
-
-  pub items_end : (s s1 s2 : S) (i : ℕ) (k : KeptItem) (e : E) → i < length kept → k ≡ get_or kept i k → SoFar sees s (calls_from 0) s1 (calls_from i) → sees s1 (call_at k) (Err e) s2 → Shows sees s (calls_from 0) 0 (Err (fault.Visitor e)) s2 0
-  items_end s s1 s2 i k e h is so call =
-      let so_far : SoFar sees s (calls_from 0) s1 (timed 0 (call_at k) ∷ calls_from (i + 1)) = subst (SoFar sees s (calls_from 0) s1) (next_call table bits n j kept i k h is) so in
-      so_far.on (Err (fault.Visitor e)) s2 (stops_call sees s1 s2 (call_at k) (calls_from (i + 1)) e call)
-
-  pub items_done : (s s1 : S) (i : ℕ) → length kept ≤ i → SoFar sees s (calls_from 0) s1 (calls_from i) → Shows sees s (calls_from 0) 0 (Ok tt) s1 0
-  items_done s s1 i h so =
-      let so_far : SoFar sees s (calls_from 0) s1 [] = subst (SoFar sees s (calls_from 0) s1) (ap (λ ks. items_together table j (items_at bits n ks)) (all_dropped kept i h)) so in
-      so_far.on (Ok tt) s1 (refl, refl)
 
 module _ {S E : Type 0} (sees : S → Call → Result (Unit {0}) E → S → Type 0) (table : List Row) (n : ℕ) (items : List (Item (List Content))) where
   -- the calls of a subset

@@ -1,5 +1,5 @@
 -- What is built is a specification as every one is.
-use Rattle.std.proofs.Common.{◌≡◌, ℕ, ◌*◌, ◌≤◌, ◌^◌, Bool, true, false, List, [], ◌∷◌, subst, refl, arith, ◌∙◌, ap, sym, ℤ, pos, ◌*ℤ◌}
+use Rattle.std.proofs.Common.{◌≡◌, ℕ, ◌*◌, ◌≤◌, ◌^◌, Bool, true, false, List, [], ◌∷◌, subst, refl, arith, ◌∙◌, ap, ℤ, pos, ◌*ℤ◌}
 use Rattle.std.proofs.lemmas.Int.{unsigned_abs-mul}
 use Rattle.std.proofs.Math.Nat.{mul-le-mul_left, mul-le-mul_right, pow-le-pow_right}
 use Rattle.std.specs.Prelude.{◌==◌, nat_le}
@@ -122,34 +122,6 @@ reference_found (e ∷ kept) fxy listed = by (is_eq (nat_cmp fxy e.0)) (e.0 == f
 
 equal_from : (a b : ℕ) → (a == b) ≡ true → a ≡ b
 equal_from a b h = grind (arith, nat_tests)
-
-differ : (a b c : ℕ) → (a == b) ≡ false → (b == c) ≡ true → (a == c) ≡ true → ⊥
-differ a b c h g k = grind (arith, nat_tests)
-
--- an element has the reference that was given to it last, and every other the one that it had
-pub given_last : (fxy : ℕ) (reference : ℤ) (known : List Redefined) (other : ℕ) (listed : ℤ) → current_reference (with_reference fxy reference known) other listed ≡ (if fxy == other then reference else current_reference known other listed)
-given_last fxy reference [] other listed = refl
-given_last fxy reference (r ∷ known) other listed = by (nat_lt fxy r.fxy) (fxy == r.fxy) (r.fxy == other) (fxy == other) refl refl refl (given_last fxy reference known other listed)
-  where
-    others : Bool → ℤ → ℤ
-    others a before = if a then r.reference else before
-
-    by : (below same a b : Bool) → (fxy == r.fxy) ≡ same → (r.fxy == other) ≡ a → (fxy == other) ≡ b
-        → current_reference (with_reference fxy reference known) other listed ≡ (if b then reference else current_reference known other listed)
-        → current_reference (if below then record { fxy = fxy; reference = reference } ∷ r ∷ known else if same then record r { reference = reference } ∷ known else r ∷ with_reference fxy reference known) other listed
-        ≡ (if b then reference else others a (current_reference known other listed))
-    by true same a b p q t more = ap (λ x. if x then reference else if r.fxy == other then r.reference else current_reference known other listed) t ∙ ap (λ x. if b then reference else others x (current_reference known other listed)) q
-    by false true a b p q t more =
-        ap (λ x. if x then reference else current_reference known other listed) q ∙ at a b (sym q ∙ ap (λ n. n == other) (sym (equal_from fxy r.fxy p)) ∙ t)
-      where
-        at : (a b : Bool) → a ≡ b → (if a then reference else current_reference known other listed) ≡ (if b then reference else others a (current_reference known other listed))
-        at true true e = refl
-        at false false e = refl
-        at true false e = absurd cc
-        at false true e = absurd cc
-    by false false true true p q t more = absurd (differ fxy r.fxy other p q t)
-    by false false true false p q t more = ap (λ x. if x then r.reference else current_reference (with_reference fxy reference known) other listed) q
-    by false false false b p q t more = ap (λ x. if x then r.reference else current_reference (with_reference fxy reference known) other listed) q ∙ more
 
 pub power_small : (y : ℕ) → y ≤ 18 → 10 ^ y ≤ 10 ^ 18
 power_small y h = pow-le-pow_right {n = 10} (omega arith) h

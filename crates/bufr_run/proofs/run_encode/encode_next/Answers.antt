@@ -20,7 +20,7 @@ returns-in_ok-verdict-in-Ok-Some-clause-tells g c = (Spelled c.in-Ok-Some.docume
 pub returns-in-Err-Run-clause-tells : goal.returns-in-Err-Run-clause-tells
 returns-in-Err-Run-clause-tells g c =
     let is : c.args.next ≡ Err (Run c.in-Err-Run.fault) = search rules in
-    run-ended _ _ (told_piece c.args.form c.args.table_b.now c.args.table_d.now) c.args.next c.in-Err-Run.fault is c.requires
+    run-ended _ _ (told_piece c.args.form c.args.templates.now.table_b c.args.templates.now.table_d) c.args.next c.in-Err-Run.fault is c.requires
 
 pub returns-in-Err-Run-clause-counts : goal.returns-in-Err-Run-clause-counts
 returns-in-Err-Run-clause-counts g c =
@@ -33,6 +33,8 @@ returns-in_err-write_read_fault-in-Err g c =
     let some : (run : RunFault) → c.in-Err.fault ≡ Run run → ⊥ = λ run is. search rules in
     record {
       reader = search rules;
+      table_b = search rules;
+      table_d = search rules;
       tells = line-cut _ _ _ _ _ _ c.args.next c.in-Err.fault c.write_read_fault.result _ c.from_residual-in_err-write_read_fault-in-Err.result c.in-Err.is some c.write_read_fault.ensures.writes
           c.in_err-write_read_fault-in-Err.was (p.1 ∙ ap Err p.2);
       counts = search rules;
@@ -45,6 +47,8 @@ returns-in_ok-write_read_fault-in-Err g c =
     let some : (run : RunFault) → c.in-Err.fault ≡ Run run → ⊥ = λ run is. search rules in
     record {
       reader = search rules;
+      table_b = search rules;
+      table_d = search rules;
       tells = line-written _ _ _ _ _ _ c.args.next c.in-Err.fault c.in-Err.is some c.in_ok-write_read_fault-in-Err.ensures.writes;
       counts = search rules;
       output_flushes = search rules;
