@@ -1,5 +1,6 @@
 #!/usr/bin/env python3
-"""Times `bufr dump` on streams that ask for much: each shape once, twice and four times as large.
+"""Times `bufr dump`, and `encode` for one of them, on streams that ask for much: each shape once, twice and four times as
+large.
 
     bench/hostile_shapes.py [PROGRAM]        the program that `rt run` left in crates/bufr_cli/out by default
 
@@ -122,7 +123,36 @@ def together(times: int) -> bytes:
     return listed([*delayed(20), *ELEMENTS[:20]], bits.octets(), 1, 0xC0)
 
 
-SHAPES = (references, redefinitions, subsets, dropped, items, template, expanded, together)
+# the header of a text, a key a line
+HEADER = """edition 4
+master 0
+centre 98
+subcentre 0
+update 0
+category 0
+subcategory 0
+localsubcategory 0
+masterversion 14
+localversion 0
+year 2024
+month 1
+day 2
+hour 3
+minute 4
+second 5
+observed 1
+compressed 0
+optional 0
+subsets 0
+"""
+
+
+def encoded(times: int) -> bytes:
+    """100 texts of such messages, encoded"""
+    return f"message\n{HEADER}descriptors 360001\nend\n".encode() * (100 * times)
+
+
+SHAPES = (references, redefinitions, subsets, dropped, items, template, expanded, encoded, together)
 
 
 def told(words: list) -> tuple:
@@ -145,7 +175,8 @@ def row(program: str, words: tuple, shape) -> str:
         path = FOLDER / f"{shape.__name__}_{times}.bufr"
         if not path.exists():
             path.write_bytes(shape(times))
-        least, kib = told([program, "dump", *words, str(path)])
+        command = "encode" if shape is encoded else "dump"
+        least, kib = told([program, command, *words, str(path)])
         octets.append(path.stat().st_size)
         seconds.append(least)
         resident.append(kib)
