@@ -428,7 +428,7 @@ fn encodes_edition_3(rt: HostRuntime) -> Result<(), Fail> {
     Ok(())
 }
 
-/// Those of a message that had them odd too.
+/// Sections 3 and 4 that a message of edition 3 had odd are made even too.
 #[test]
 fn makes_odd_sections_even(rt: HostRuntime) -> Result<(), Fail> {
     let text = dump(rt.alloc(), &ODD_EDITION_3, 65536, 4096)?;
