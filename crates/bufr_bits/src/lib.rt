@@ -21,6 +21,3 @@ pub use bit_writer::{BitWriter, pushed_octets_read_back, pushed_reads_back};
 pub use decimal::{NumberFault, decimal_read, decimal_reads_back, decimal_text};
 pub use device::{Device, Failed, Sink, Source};
 pub use script::{End, ScriptIn, ScriptOut};
-
-#[cfg(test)]
-mod tests;

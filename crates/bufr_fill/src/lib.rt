@@ -21,8 +21,3 @@ pub use entries::Entries;
 pub use fault::{DraftFault, Expected};
 pub use packed_out::PackedOut;
 pub use plain_out::PlainOut;
-
-#[cfg(test)]
-mod packed_tests;
-#[cfg(test)]
-mod tests;

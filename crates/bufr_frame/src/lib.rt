@@ -30,10 +30,3 @@ pub use input::{MOST_READS, read_to_end};
 pub use message::Message;
 pub use words::Words;
 pub use write::write_message;
-
-#[cfg(test)]
-mod stream_tests;
-#[cfg(test)]
-mod test_messages;
-#[cfg(test)]
-mod tests;

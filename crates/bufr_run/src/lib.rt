@@ -30,22 +30,3 @@ pub mod run_ls;
 mod tally;
 
 pub use tally::Tally;
-
-#[cfg(test)]
-mod dump_fault_tests;
-#[cfg(test)]
-mod dump_tests;
-#[cfg(test)]
-mod edition3_tests;
-#[cfg(test)]
-mod encode_fault_tests;
-#[cfg(test)]
-mod encode_tests;
-#[cfg(test)]
-mod form_tests;
-#[cfg(test)]
-mod test_messages;
-#[cfg(test)]
-mod test_runs;
-#[cfg(test)]
-mod tests;

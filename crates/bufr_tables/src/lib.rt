@@ -32,8 +32,3 @@ pub use sequences::TableD;
 pub use table_b::{Entry, TableB};
 pub use template::{Cell, Template, TemplateFault};
 pub use templates::Templates;
-
-#[cfg(test)]
-mod test_tables;
-#[cfg(test)]
-mod tests;

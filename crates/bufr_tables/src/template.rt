@@ -18,8 +18,6 @@ mod fault;
 mod growing;
 mod passes;
 mod shapes;
-#[cfg(test)]
-mod tests;
 
 use crate::fxy::Fxy;
 use crate::sequences::TableD;

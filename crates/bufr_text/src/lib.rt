@@ -42,18 +42,3 @@ pub use laid::{lay_decimal, lay_named, lay_text};
 pub use ls::write_ls;
 pub use part::{Part, write_all, write_parts};
 pub use slice::behind;
-
-#[cfg(test)]
-mod dump_tests;
-#[cfg(test)]
-mod encode_fault_tests;
-#[cfg(test)]
-mod encode_tests;
-#[cfg(test)]
-mod form_tests;
-#[cfg(test)]
-mod readback_tests;
-#[cfg(test)]
-mod reader_tests;
-#[cfg(test)]
-mod tests;

@@ -44,12 +44,3 @@ pub use steps::Steps;
 pub use stop::WalkStop;
 pub use visitor::{ItemView, Value, Visitor};
 pub use walking::walk;
-
-#[cfg(test)]
-mod packed_tests;
-#[cfg(test)]
-mod plan_tests;
-#[cfg(test)]
-mod test_messages;
-#[cfg(test)]
-mod tests;

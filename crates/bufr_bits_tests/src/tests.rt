@@ -1,0 +1,413 @@
+//! The worked examples, each public call once on its happy path, and `get` against single bits.
+ghost use Rattle.std.specs.Prelude.{◌≤◌, length};
+
+use bufr_bits::{
+    BitSlice, BitWriter, Device, End, Failed, NumberFault, ScriptIn, ScriptOut, Sink, Source,
+    decimal_read, decimal_text,
+};
+use std::alloc::AllocError;
+use std::io::{self, Read, Write};
+use std::test::Fail;
+
+/// A reader and writer whose every call is interrupted.
+#[derive(Drop)]
+struct Broken;
+
+impl Read for Broken {
+    fn read(&mut self, _buf: &mut [u8]) -> io::Result<usize> {
+        Err(io::ErrorKind::Interrupted.into())
+    }
+}
+
+impl Write for Broken {
+    fn write(&mut self, _buf: &[u8]) -> io::Result<usize> {
+        Err(io::ErrorKind::Interrupted.into())
+    }
+
+    fn flush(&mut self) -> io::Result<()> {
+        Err(io::ErrorKind::Interrupted.into())
+    }
+}
+
+const NINE: [u8; 9] = [0x01, 0x23, 0x45, 0x67, 0x89, 0xAB, 0xCD, 0xEF, 0x01];
+
+/// What `get` is to answer, one bit after another.
+fn bit_by_bit(octets: &[u8], at: u64, width: u32) -> Option<u64> {
+    let mut value = 0u64;
+    for place in at..at.saturating_add(u64::from(width)) {
+        let octet = octets.get((place / 8) as usize)?;
+        value = value.wrapping_mul(2) + u64::from((*octet >> (7 - place % 8)) & 1);
+    }
+    Some(value)
+}
+
+/// The number at a place, with no promise that the proof of a test would carry. So are the next
+/// ones.
+fn number_at(octets: &[u8], at: u64, width: u32) -> Option<u64>
+    requires few { length octets.now ≤ 100000 }
+    requires narrow { width ≤ 63 }
+{
+    BitSlice::new(octets).get(at, width)
+}
+
+fn octet_at(octets: &[u8], at: u64) -> Option<u8>
+    requires { length octets.now ≤ 100000 }
+{
+    BitSlice::new(octets).octet(at)
+}
+
+fn all_ones(octets: &[u8], at: u64, width: u32) -> Option<bool>
+    requires { length octets.now ≤ 100000 }
+{
+    BitSlice::new(octets).all_ones(at, width)
+}
+
+fn put_decimal(v: i128, scale: i16, out: &mut Vec<u8>) -> Result<(), AllocError> {
+    decimal_text(v, scale, out)
+}
+
+fn read_decimal(text: &[u8], scale: i16) -> Result<i128, NumberFault> {
+    decimal_read(text, scale)
+}
+
+#[test]
+fn get_is_bit_by_bit(rt: HostRuntime) {
+    let bits = BitSlice::new(&NINE);
+    assert_eq!(rt; bits.len_bits(), 72);
+    for at in 0..74 {
+        for width in 0..64 {
+            if at <= 72 || width > 0 {
+                assert_eq!(rt;
+                    number_at(&NINE, at, width),
+                    bit_by_bit(&NINE, at, width),
+                    "at {at}, {width} bits"
+                );
+            }
+        }
+    }
+}
+
+#[test]
+fn get_at_the_ends(rt: HostRuntime) {
+    let rows = [
+        (4, 60, Some(0x0123_4567_89AB_CDEF)),
+        (7, 63, Some(0x48D1_59E2_6AF3_7BC0)),
+        (9, 63, Some(0x2345_6789_ABCD_EF01)),
+        (10, 63, None),
+        (72, 0, Some(0)),
+        (73, 0, None),
+        (u64::MAX, 1, None),
+    ];
+    for (at, width, want) in rows {
+        assert_eq!(rt; number_at(&NINE, at, width), want, "at {at}, {width} bits");
+    }
+    for (at, want) in [(3, Some(0x09)), (64, Some(0x01)), (65, None)] {
+        assert_eq!(rt; octet_at(&NINE, at), want, "at {at}");
+    }
+}
+
+#[test]
+fn octets_are_borrowed_where_they_begin(rt: HostRuntime) {
+    let bits = BitSlice::new(&NINE);
+    assert_eq!(rt; bits.octets(56, 2), Some([0xEF, 0x01].as_slice()));
+    assert_eq!(rt; bits.octets(72, 0), Some([].as_slice()));
+    assert_eq!(rt; bits.octets(57, 1), None);
+    assert_eq!(rt; bits.octets(64, 2), None);
+    assert_eq!(rt; bits.octets(80, 0), None);
+}
+
+#[test]
+fn script_in_keeps_to_its_script(rt: HostRuntime) {
+    let mut source = ScriptIn::new(b"abcdefg", 3, Some(5));
+    let mut buf = [0u8; 4];
+    let want = [Ok(3), Ok(2), Err(Failed), Err(Failed)];
+    for answer in want {
+        assert_eq!(rt; source.read(&mut buf), answer);
+    }
+    assert_eq!(rt; buf.as_slice(), b"dec\0".as_slice());
+}
+
+#[test]
+fn script_out_keeps_to_its_script(rt: HostRuntime) -> Result<(), Fail> {
+    let rows = [
+        (End::Zero, Ok(0), Ok(())),
+        (End::Fail, Err(Failed), Ok(())),
+        (End::Flush, Err(Failed), Err(Failed)),
+    ];
+    for (end, at_the_end, flushed) in rows {
+        let mut sink = ScriptOut::new(rt.alloc(), 5, 3, end)?;
+        assert_eq!(rt; sink.write(b""), Ok(0));
+        assert_eq!(rt; sink.write(b"abcd"), Ok(3));
+        assert_eq!(rt; sink.write(b"def"), Ok(2));
+        assert_eq!(rt; sink.write(b"fg"), at_the_end);
+        assert_eq!(rt; sink.flush(), flushed);
+        assert_eq!(rt; sink.taken(), b"abcde".as_slice());
+    }
+    Ok(())
+}
+
+#[test]
+fn device_reads_and_writes(rt: HostRuntime) -> Result<(), Fail> {
+    let mut source = Device::new(b"abc".as_slice());
+    let mut buf = [0u8; 2];
+    assert_eq!(rt; source.read(&mut buf), Ok(2));
+    assert_eq!(rt; source.read(&mut buf), Ok(1));
+    assert_eq!(rt; source.read(&mut buf), Ok(0));
+    let mut sink = Device::new(Vec::new(rt.alloc()));
+    assert_eq!(rt; Sink::write(&mut sink, b"abc"), Ok(3));
+    assert_eq!(rt; Sink::flush(&mut sink), Ok(()));
+    Ok(())
+}
+
+#[test]
+fn device_fails_where_its_reader_or_writer_does(rt: HostRuntime) {
+    let mut device = Device::new(Broken);
+    assert_eq!(rt; Source::read(&mut device, &mut [0u8; 2]), Err(Failed));
+    assert_eq!(rt; Sink::write(&mut device, b"abc"), Err(Failed));
+    assert_eq!(rt; Sink::flush(&mut device), Err(Failed));
+}
+
+#[test]
+fn all_ones_at_any_width(rt: HostRuntime) {
+    for (at, width, want) in [
+        (0, 15, Some(true)),
+        (0, 16, Some(false)),
+        (1, 16, None),
+        (16, 0, Some(true)),
+        (u64::MAX, u32::MAX, None),
+    ] {
+        assert_eq!(rt;
+            all_ones(&[0xFF, 0xFE], at, width),
+            want,
+            "at {at}, {width} bits"
+        );
+    }
+    // One zero bit among ones: it is found wherever it stands.
+    let mut octets = [0xFFu8; 40];
+    assert_eq!(rt; all_ones(&octets, 3, 317), Some(true));
+    octets[20] = 0xF7;
+    for at in 0..172 {
+        for width in 0..148 {
+            let ones = at + u64::from(width) <= 164 || at > 164;
+            assert_eq!(rt;
+                all_ones(&octets, at, width),
+                Some(ones),
+                "at {at}, {width} bits"
+            );
+        }
+    }
+}
+
+#[test]
+fn bits_are_pushed(rt: HostRuntime) -> Result<(), Fail> {
+    let mut writer = BitWriter::new(rt.alloc());
+    writer.push(5, 3)?;
+    writer.push_octets(&[0xAB])?;
+    assert_eq!(rt; writer.len_bits(), 11);
+    let octets = writer.into_octets();
+    assert_eq!(rt; octets.as_slice(), [0xB5, 0x60].as_slice());
+    assert_eq!(rt; octets.len(), 2);
+    assert_eq!(rt; number_at(&octets, 3, 8), Some(171));
+    assert_eq!(rt; number_at(&octets, 16, 0), Some(0));
+    assert_eq!(rt; number_at(&octets, 16, 1), None);
+    Ok(())
+}
+
+#[test]
+fn bits_are_cut_off(rt: HostRuntime) -> Result<(), Fail> {
+    for bits in 0..22u32 {
+        let kept = bits.min(19);
+        let mut writer = BitWriter::new(rt.alloc());
+        writer.push_octets(&[0xA5, 0xFF])?;
+        writer.push(5, 3)?;
+        writer.truncate(u64::from(bits));
+        assert_eq!(rt; writer.len_bits(), u64::from(kept));
+        writer.push(1, 1)?;
+        let octets = writer.into_octets();
+        assert!(rt; octets.len() < 4);
+        let number = (0x5_2FFD >> (19 - kept)) * 2 + 1;
+        assert_eq!(rt; number_at(&octets, 0, kept + 1), Some(number));
+    }
+    Ok(())
+}
+
+#[test]
+fn pushes_of_every_width(rt: HostRuntime) -> Result<(), Fail> {
+    let mut writer = BitWriter::new(rt.alloc());
+    for width in 0..64u32 {
+        for value in [0, 1, (1 << width) - 1, 0x5A5A_5A5A_5A5A_5A5A] {
+            assert!(rt; writer.len_bits() < 100_000);
+            writer.push(value % (1 << width), width)?;
+        }
+        assert!(rt; writer.len_bits() < 100_000);
+        writer.push_octets(&NINE)?;
+    }
+    let length = writer.len_bits();
+    let octets = writer.into_octets();
+    assert_eq!(rt; octets.len() as u64, length.div_ceil(8));
+    assert!(rt; octets.len() < 100_000);
+    let mut at = 0u64;
+    for width in 0..64u32 {
+        for value in [0, 1, (1 << width) - 1, 0x5A5A_5A5A_5A5A_5A5A] {
+            assert_eq!(rt;
+                number_at(&octets, at, width),
+                Some(value % (1 << width)),
+                "{width} bits"
+            );
+            at = at.saturating_add(u64::from(width));
+        }
+        for octet in NINE {
+            assert_eq!(rt; octet_at(&octets, at), Some(octet));
+            at = at.saturating_add(8);
+        }
+    }
+    assert_eq!(rt; at, length);
+    Ok(())
+}
+
+#[test]
+fn decimal_texts(rt: HostRuntime) -> Result<(), Fail> {
+    let rows: [(i128, i16, &[u8]); 12] = [
+        (-5, 2, b"-0.05"),
+        (288, -2, b"28800"),
+        (0, 2, b"0.00"),
+        (0, -2, b"0"),
+        (0, 0, b"0"),
+        (28815, 2, b"288.15"),
+        (28800, 2, b"288.00"),
+        (100, 2, b"1.00"),
+        (99, 2, b"0.99"),
+        (-1, -3, b"-1000"),
+        (i128::MIN, 0, b"-170141183460469231731687303715884105728"),
+        (i128::MAX, 38, b"1.70141183460469231731687303715884105727"),
+    ];
+    for (v, scale, want) in rows {
+        let mut out = Vec::new(rt.alloc());
+        put_decimal(v, scale, &mut out)?;
+        assert_eq!(rt; out.as_slice(), want, "{v} at {scale}");
+        put_decimal(v, scale, &mut out)?;
+        assert_eq!(rt; out.len() / 2, want.len(), "{v} at {scale}");
+        assert_eq!(rt; read_decimal(want, scale), Ok(v), "{v} at {scale}");
+    }
+    Ok(())
+}
+
+#[test]
+fn decimal_texts_at_the_ends(rt: HostRuntime) -> Result<(), Fail> {
+    let rows: [(i128, &[u8], &[u8]); 2] = [
+        (i128::MIN, b"-", b"170141183460469231731687303715884105728"),
+        (i128::MAX, b"", b"170141183460469231731687303715884105727"),
+    ];
+    for (v, sign, digits) in rows {
+        let mut whole = Vec::from_slice(rt.alloc(), sign)?;
+        whole.extend_from_slice(digits)?;
+        whole.resize(sign.len() + 339, b'0')?;
+        let mut fraction = Vec::from_slice(rt.alloc(), sign)?;
+        fraction.extend_from_slice(b"0.")?;
+        fraction.resize(sign.len() + 263, b'0')?;
+        fraction.extend_from_slice(digits)?;
+        for (scale, want) in [(-300, &whole), (300, &fraction)] {
+            let mut out = Vec::new(rt.alloc());
+            put_decimal(v, scale, &mut out)?;
+            assert_eq!(rt; out.as_slice(), want.as_slice(), "{v} at {scale}");
+            assert_eq!(rt; read_decimal(&out, scale), Ok(v), "{v} at {scale}");
+        }
+    }
+    Ok(())
+}
+
+#[test]
+fn decimal_readings(rt: HostRuntime) {
+    let rows: [(&[u8], i16, Result<i128, NumberFault>); 30] = [
+        (b"28850", -2, Err(NumberFault::Inexact)),
+        (b"28800", -2, Ok(288)),
+        (b"1e3", 0, Err(NumberFault::Syntax)),
+        (&[b'9'; 40], 0, Err(NumberFault::Large)),
+        (&[b'9'; 40], -1, Err(NumberFault::Inexact)),
+        (b"-0", 0, Ok(0)),
+        (b"-0.00", 2, Ok(0)),
+        (b"007.50", 1, Ok(75)),
+        (
+            b"0000000000000000000000000000000000000000000000000000001",
+            0,
+            Ok(1),
+        ),
+        (b"-", 0, Err(NumberFault::Syntax)),
+        (b"", 0, Err(NumberFault::Syntax)),
+        (b"--1", 0, Err(NumberFault::Syntax)),
+        (b"+1", 0, Err(NumberFault::Syntax)),
+        (b" 1", 0, Err(NumberFault::Syntax)),
+        (b"1.", 0, Err(NumberFault::Syntax)),
+        (b".5", 1, Err(NumberFault::Syntax)),
+        (b".", 0, Err(NumberFault::Syntax)),
+        (b"1.2.3", 2, Err(NumberFault::Syntax)),
+        (b"1.x", 1, Err(NumberFault::Syntax)),
+        (b"288.15", 2, Ok(28815)),
+        (b"288.155", 2, Err(NumberFault::Inexact)),
+        (b"288.1500", 2, Ok(28815)),
+        (b"5", 300, Err(NumberFault::Large)),
+        (b"0", 300, Ok(0)),
+        (b"1", -300, Err(NumberFault::Inexact)),
+        (b"0.0", -300, Ok(0)),
+        (b"170141183460469231731687303715884105727", 0, Ok(i128::MAX)),
+        (
+            b"170141183460469231731687303715884105728",
+            0,
+            Err(NumberFault::Large),
+        ),
+        (
+            b"-170141183460469231731687303715884105728",
+            0,
+            Ok(i128::MIN),
+        ),
+        (
+            b"-170141183460469231731687303715884105729",
+            0,
+            Err(NumberFault::Large),
+        ),
+    ];
+    for (text, scale, want) in rows {
+        assert_eq!(rt; read_decimal(text, scale), want, "{text:?} at {scale}");
+    }
+}
+
+#[test]
+fn decimal_readings_of_64_bits(rt: HostRuntime) {
+    let rows: [(&[u8], i16, Result<i128, NumberFault>); 28] = [
+        (&[b'9'; 18], 0, Ok(999_999_999_999_999_999)),
+        (&[b'9'; 19], 0, Ok(9_999_999_999_999_999_999)),
+        (&[b'9'; 20], 0, Ok(99_999_999_999_999_999_999)),
+        (
+            &[b'9'; 38],
+            0,
+            Ok(99_999_999_999_999_999_999_999_999_999_999_999_999),
+        ),
+        (&[b'9'; 39], 0, Err(NumberFault::Large)),
+        (b"-9999999999999999999", 0, Ok(-9_999_999_999_999_999_999)),
+        (b"-18446744073709551616", 0, Ok(-18_446_744_073_709_551_616)),
+        (b"999999999999999.999", 3, Ok(999_999_999_999_999_999)),
+        (b"9999999999999999.9", 1, Ok(99_999_999_999_999_999)),
+        (b"99999999999999999.9", 0, Err(NumberFault::Inexact)),
+        (b"-9.9999999999999999", 16, Ok(-99_999_999_999_999_999)),
+        (b"99999999999999999", 2, Ok(9_999_999_999_999_999_900)),
+        (b"99999999999999999", 3, Ok(99_999_999_999_999_999_000)),
+        (b"5", 18, Ok(5_000_000_000_000_000_000)),
+        (b"5", 19, Ok(50_000_000_000_000_000_000)),
+        (b"120000000000000000", -1, Ok(12_000_000_000_000_000)),
+        (b"120000000000000000", -2, Ok(1_200_000_000_000_000)),
+        (b"12000", -4, Err(NumberFault::Inexact)),
+        (b"12000.0", -3, Ok(12)),
+        (b"0000000000000000001", 0, Ok(1)),
+        (b"00000000000000000001", 0, Ok(1)),
+        (b"-000.10", 1, Ok(-1)),
+        (b".999999999999999999", 0, Err(NumberFault::Syntax)),
+        (b"999999999999999999.", 0, Err(NumberFault::Syntax)),
+        (b".9999999999999999999", 0, Err(NumberFault::Syntax)),
+        (b"9999999999999999999.", 0, Err(NumberFault::Syntax)),
+        (b"12.5x", 1, Err(NumberFault::Syntax)),
+        (b"-.5", 1, Err(NumberFault::Syntax)),
+    ];
+    for (text, scale, want) in rows {
+        assert_eq!(rt; read_decimal(text, scale), want, "{text:?} at {scale}");
+    }
+}

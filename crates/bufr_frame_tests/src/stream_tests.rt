@@ -1,0 +1,302 @@
+//! The worked streams, each found with readers of 1, 3 and all octets per read.
+
+use crate::test_messages::ONE_BLOCK_NUMBER;
+use bufr_frame::{Cause, Event, Finder, RunFault, law};
+use bufr_bits::ScriptIn;
+use std::alloc::{AllocError, Global};
+use std::process::Abort;
+use std::test::Fail;
+
+/// An event that is to come: a frame's offset and length, or a stray's offset and cause.
+#[derive(Clone, Copy, Debug, PartialEq, Eq)]
+enum Told {
+    Frame(u64, usize),
+    Stray(u64, Cause),
+}
+
+use Told::{Frame, Stray};
+
+/// How many octets the readers give per read.
+const STEPS: [usize; 3] = [1, 3, 65536];
+
+/// The octets of the parts, one after another.
+fn joined(alloc: Global, parts: &[&[u8]]) -> Result<Vec<u8>, AllocError> {
+    let mut octets = Vec::new(alloc);
+    for part in parts {
+        octets.extend_from_slice(part)?;
+    }
+    Ok(octets)
+}
+
+/// The octets of a part, so many times.
+fn repeated(alloc: Global, part: &[u8], times: usize) -> Result<Vec<u8>, AllocError> {
+    let mut octets = Vec::new(alloc);
+    for _ in 0..times {
+        octets.extend_from_slice(part)?;
+    }
+    Ok(octets)
+}
+
+/// A message with 5,000 octets for local use, 5,048 octets.
+fn long_message(alloc: Global) -> Result<Vec<u8>, AllocError> {
+    let local1 = repeated(alloc, b"\x00", 5000)?;
+    joined(
+        alloc,
+        &[
+            b"BUFR\x00\x13\xB8\x04\x00\x13\x9E",
+            &ONE_BLOCK_NUMBER[11..30],
+            &local1,
+            &ONE_BLOCK_NUMBER[30..],
+        ],
+    )
+}
+
+/// Asserts the next event of a finder, and the bound on what it holds.
+fn assert_event(
+    rt: &(impl Abort + AllocGlobal),
+    stream: &[u8],
+    finder: &mut Finder,
+    r: &mut ScriptIn<'_>,
+    wanted: Told,
+) {
+    match finder.next(r) {
+        Ok(Event::Frame(offset, octets)) => {
+            assert!(rt;
+                wanted == Frame(offset, octets.len()),
+                "{offset}, not {wanted:?}"
+            );
+            let begin = offset as usize;
+            assert!(rt;
+                begin <= stream.len() && stream[begin..].starts_with(octets),
+                "{offset}"
+            );
+        }
+        Ok(Event::Stray(offset, cause)) => {
+            assert!(rt;
+                wanted == Stray(offset, cause),
+                "{offset} {cause:?}, not {wanted:?}"
+            );
+        }
+        Ok(Event::Done) => assert!(rt; false, "done, not {wanted:?}"),
+        Err(fault) => assert!(rt; false, "{fault:?}, not {wanted:?}"),
+    }
+    assert!(rt;
+        finder.held() <= finder.longest().max(4096),
+        "{}",
+        finder.held()
+    );
+}
+
+/// Asserts the events of a stream, however it is read, that the end is told again, and the greatest
+/// length that is stated.
+fn assert_events(rt: &(impl Abort + AllocGlobal), stream: &[u8], wanted: &[Told], longest: usize) {
+    for step in STEPS {
+        assert!(rt; step > 0);
+        let mut r = ScriptIn::new(stream, step, None);
+        let mut finder = Finder::new(rt.alloc());
+        assert!(rt; finder.held() == 0 && finder.longest() == 0);
+        for event in wanted {
+            assert_event(rt, stream, &mut finder, &mut r, *event);
+        }
+        for _ in 0..3 {
+            assert!(rt; matches!(finder.next(&mut r), Ok(Event::Done)), "{step}");
+            assert!(rt; finder.longest() == longest, "{}", finder.longest());
+            assert!(rt; finder.held() <= longest.max(4096), "{}", finder.held());
+        }
+    }
+}
+
+#[test]
+fn streams(rt: HostRuntime) -> Result<(), Fail> {
+    let one = ONE_BLOCK_NUMBER.as_slice();
+    let table: [(&[&[u8]], &[Told], usize); 6] = [
+        (&[], &[], 0),
+        (&[&one[..47], b"6"], &[Stray(0, Cause::NoEnd)], 48),
+        (
+            &[
+                b"BUFR\x00\x00\x40\x04",
+                one,
+                b"\x00\x00\x00\x00\x00\x00\x00\x00",
+            ],
+            &[Stray(0, Cause::NoEnd), Frame(8, 48)],
+            64,
+        ),
+        (
+            &[b"BUFR\x00\x00\x0B\x04abcd"],
+            &[Stray(0, Cause::ShortLength)],
+            11,
+        ),
+        (&[b"BUFR\x00\x00\x0B\x04ab"], &[Stray(0, Cause::Cut)], 11),
+        (
+            &[
+                b"BUFR\x00\x00\x40\x04",
+                one,
+                b"xyBUF",
+                one,
+                b"BUFR\x00\x00\x0B\x04abcBUFR",
+            ],
+            &[
+                Stray(0, Cause::NoEnd),
+                Frame(8, 48),
+                Frame(61, 48),
+                Stray(109, Cause::ShortLength),
+                Stray(120, Cause::Cut),
+            ],
+            64,
+        ),
+    ];
+    for (parts, wanted, longest) in table {
+        let stream = joined(rt.alloc(), parts)?;
+        assert_events(&rt, &stream, wanted, longest);
+    }
+    Ok(())
+}
+
+#[test]
+fn a_frame_larger_than_all_before(rt: HostRuntime) -> Result<(), Fail> {
+    let long = long_message(rt.alloc())?;
+    let zeros = repeated(rt.alloc(), b"\x00", 10_000)?;
+    let behind_zeros = joined(rt.alloc(), &[&zeros, &ONE_BLOCK_NUMBER])?;
+    assert_events(&rt, &behind_zeros, &[Frame(10_000, 48)], 48);
+    let growing = joined(
+        rt.alloc(),
+        &[&ONE_BLOCK_NUMBER, &long, &zeros, &ONE_BLOCK_NUMBER],
+    )?;
+    let wanted = [Frame(0, 48), Frame(48, 5048), Frame(15_096, 48)];
+    assert_events(&rt, &growing, &wanted, 5048);
+    Ok(())
+}
+
+#[test]
+fn a_message_cut_anywhere(rt: HostRuntime) {
+    for len in 0..48usize {
+        let wanted: &[Told] = if len < 4 {
+            &[]
+        } else {
+            &[Stray(0, Cause::Cut)]
+        };
+        let longest = if len < 8 { 0 } else { 48 };
+        assert_events(&rt, &ONE_BLOCK_NUMBER[..len], wanted, longest);
+    }
+}
+
+/// Words alone: each states a length to come, which is told cut only at the end.
+#[test]
+fn words_alone(rt: HostRuntime) -> Result<(), Fail> {
+    let alloc = rt.alloc();
+    let stream = repeated(alloc, b"BUFR", 1024)?;
+    let mut wanted = Vec::new(alloc);
+    for i in 0..1024u64 {
+        wanted.push(Stray(i.saturating_mul(4), Cause::Cut))?;
+    }
+    assert_events(&rt, &stream, &wanted, 0x42_55_46);
+    Ok(())
+}
+
+/// Words eight octets apart that each state 4,096 octets.
+#[test]
+fn words_that_state_much(rt: HostRuntime) -> Result<(), Fail> {
+    let alloc = rt.alloc();
+    let stream = repeated(alloc, b"BUFR\x00\x10\x00\x04", 1024)?;
+    let mut wanted = Vec::new(alloc);
+    for i in 0..1024u64 {
+        let cause = if i < 513 { Cause::NoEnd } else { Cause::Cut };
+        wanted.push(Stray(i.saturating_mul(8), cause))?;
+    }
+    assert_events(&rt, &stream, &wanted, 4096);
+    Ok(())
+}
+
+/// A frame that is larger than all before is held whole until the next call, and nothing else.
+#[test]
+fn a_long_frame_is_held(rt: HostRuntime) -> Result<(), Fail> {
+    let long = long_message(rt.alloc())?;
+    let stream = joined(rt.alloc(), &[&long, &ONE_BLOCK_NUMBER])?;
+    for step in STEPS {
+        assert!(rt; step > 0);
+        let mut r = ScriptIn::new(&stream, step, None);
+        let mut finder = Finder::new(rt.alloc());
+        assert_event(&rt, &stream, &mut finder, &mut r, Frame(0, 5048));
+        assert!(rt;
+            finder.held() == 5048 && finder.longest() == 5048,
+            "{}",
+            finder.held()
+        );
+        assert_event(&rt, &stream, &mut finder, &mut r, Frame(5048, 48));
+        assert!(rt;
+            finder.held() <= 5048 && finder.longest() == 5048,
+            "{}",
+            finder.held()
+        );
+    }
+    Ok(())
+}
+
+/// Asserts the events of a reader that fails at a place, and that the fault comes again.
+fn assert_fault(
+    rt: &(impl Abort + AllocGlobal),
+    stream: &[u8],
+    fails_at: usize,
+    wanted: &[Told],
+    longest: usize,
+) {
+    for step in STEPS {
+        assert!(rt; step > 0);
+        let mut r = ScriptIn::new(stream, step, Some(fails_at));
+        let mut finder = Finder::new(rt.alloc());
+        for event in wanted {
+            assert_event(rt, stream, &mut finder, &mut r, *event);
+        }
+        for _ in 0..3 {
+            assert!(rt;
+                matches!(finder.next(&mut r), Err(RunFault::Read)),
+                "{fails_at}"
+            );
+            assert!(rt; finder.longest() == longest, "{}", finder.longest());
+            assert!(rt; finder.held() <= 4096, "{}", finder.held());
+        }
+    }
+}
+
+/// The events that were certain come first, then the fault, again and again.
+#[test]
+fn a_read_that_fails(rt: HostRuntime) -> Result<(), Fail> {
+    let one = ONE_BLOCK_NUMBER.as_slice();
+    let table: [(&[&[u8]], usize, &[Told], usize); 5] = [
+        (&[one], 20, &[], 48),
+        (&[one, one], 48, &[Frame(0, 48)], 48),
+        (&[one, one], 58, &[Frame(0, 48)], 48),
+        (
+            &[one, b"xxBUFR\x00\x01\x00\x04abc"],
+            60,
+            &[Frame(0, 48)],
+            256,
+        ),
+        (&[b"BUFR\x00\x00\x40\x04", one], 56, &[], 64),
+    ];
+    for (parts, fails_at, wanted, longest) in table {
+        let stream = joined(rt.alloc(), parts)?;
+        assert_fault(&rt, &stream, fails_at, wanted, longest);
+    }
+    Ok(())
+}
+
+#[test]
+fn laws() {
+    law::open_scan_is_front();
+    law::events_to_the_end_are_the_scan();
+    law::events_before_the_end_are_certain();
+    law::events_at_a_fault_are_the_open_scan();
+    law::octets_from_an_event_on_are_held();
+    law::longest_is_that_of_the_events();
+    law::longest_at_a_fault_counts_the_open_word();
+    law::steps_compose();
+    law::done_comes_again();
+    law::written_again_is_no_longer();
+    law::even_sections_are_written_no_longer();
+    law::written_again_is_not_too_long();
+    law::heads_of_messages_can_be_written();
+    law::even_payloads_are_laid_out_alike();
+    law::shorter_payloads_make_no_longer_messages();
+    law::plain_messages_are_written_again();
+}

@@ -1,0 +1,408 @@
+//! What `dump` refuses, and where its reader and its writers fail.
+
+use bufr_run::Tally;
+use crate::test_messages::{
+    COMPRESSED, LOCAL_USE, ONE_ACCEPTED, ONE_REFUSED, STRAY, delayed_twice, joined, message_in,
+    message_of, of_edition_2, one_block_number, text_of, text_of_one, words_of,
+};
+use crate::test_runs::{
+    Command, assert_run, assert_stops_around_a_stray, assert_stops_at_failed_errors,
+    assert_stops_at_failed_reads, assert_stops_at_failed_writes, assert_stops_at_interrupted_reads,
+    stray_before,
+};
+use std::process::Abort;
+use std::test::Fail;
+
+/// A message that is refused, and its fault line behind `offset 0: `.
+struct Refused {
+    name: &'static str,
+    subsets: u16,
+    flags: u8,
+    descriptors: &'static str,
+    data: &'static str,
+    fault: &'static str,
+}
+
+static REFUSED: [Refused; 20] = [
+    Refused {
+        name: "unknown_element",
+        subsets: 1,
+        flags: 0x80,
+        descriptors: "063255",
+        data: "0F50",
+        fault: "20 unknown element 063255\n",
+    },
+    Refused {
+        name: "unknown_sequence",
+        subsets: 1,
+        flags: 0x80,
+        descriptors: "360193",
+        data: "00",
+        fault: "21 unknown sequence 360193\n",
+    },
+    Refused {
+        name: "operator",
+        subsets: 1,
+        flags: 0x80,
+        descriptors: "204008 001001",
+        data: "14",
+        fault: "22 operator 204008\n",
+    },
+    Refused {
+        name: "group_of_nothing",
+        subsets: 1,
+        flags: 0x80,
+        descriptors: "100002 001001",
+        data: "14",
+        fault: "23 group shape 100002\n",
+    },
+    Refused {
+        name: "group_past_its_list",
+        subsets: 1,
+        flags: 0x80,
+        descriptors: "102002 001001",
+        data: "14",
+        fault: "23 group shape 102002\n",
+    },
+    Refused {
+        name: "no_factor",
+        subsets: 1,
+        flags: 0x80,
+        descriptors: "101000 001001 001001",
+        data: "14",
+        fault: "24 no factor 101000\n",
+    },
+    Refused {
+        name: "empty_group",
+        subsets: 1,
+        flags: 0x80,
+        descriptors: "101255 201000",
+        data: "",
+        fault: "25 empty group 101255\n",
+    },
+    Refused {
+        name: "empty_list",
+        subsets: 65535,
+        flags: 0x80,
+        descriptors: "201000",
+        data: "",
+        fault: "25 empty group 201000\n",
+    },
+    Refused {
+        name: "no_descriptors",
+        subsets: 1,
+        flags: 0x80,
+        descriptors: "",
+        data: "",
+        fault: "25 empty group 000000\n",
+    },
+    Refused {
+        name: "thirty_three_groups",
+        subsets: 1,
+        flags: 0x80,
+        descriptors: "133001 132001 131001 130001 129001 128001 127001 126001 125001 \
+            124001 123001 122001 121001 120001 119001 118001 117001 \
+            116001 115001 114001 113001 112001 111001 110001 109001 \
+            108001 107001 106001 105001 104001 103001 102001 101001 001001",
+        data: "14",
+        fault: "26 depth 101001\n",
+    },
+    Refused {
+        name: "template_size",
+        subsets: 1,
+        flags: 0x80,
+        descriptors: "300001",
+        data: "14",
+        fault: "27 template size 001001\n",
+    },
+    Refused {
+        name: "local_shape",
+        subsets: 1,
+        flags: 0x80,
+        descriptors: "206008 101001 001001",
+        data: "14",
+        fault: "28 local shape 206008\n",
+    },
+    Refused {
+        name: "delayed_past_the_end",
+        subsets: 1,
+        flags: 0x80,
+        descriptors: "101000 031001 001001",
+        data: "FF142C",
+        fault: "30 data end at subset 1 descriptor 001001 bit 22\n",
+    },
+    Refused {
+        name: "width_of_none",
+        subsets: 1,
+        flags: 0x80,
+        descriptors: "201121 001001",
+        data: "00",
+        fault: "31 width at subset 1 descriptor 001001 bit 0\n",
+    },
+    Refused {
+        name: "defining_text",
+        subsets: 1,
+        flags: 0x80,
+        descriptors: "203010 001015",
+        data: "0000",
+        fault: "32 defining at subset 1 descriptor 001015 bit 0\n",
+    },
+    Refused {
+        name: "unequal_factor",
+        subsets: 2,
+        flags: 0xC0,
+        descriptors: "101000 031001 001001",
+        data: "0105",
+        fault: "33 unequal factor at subset 0 descriptor 031001 bit 0\n",
+    },
+    Refused {
+        name: "increment",
+        subsets: 2,
+        flags: 0xC0,
+        descriptors: "001001",
+        data: "FC1100",
+        fault: "34 increment at subset 0 descriptor 001001 bit 0\n",
+    },
+    Refused {
+        name: "second_subset_past_the_end",
+        subsets: 65535,
+        flags: 0x80,
+        descriptors: "001001",
+        data: "14",
+        fault: "30 data end at subset 2 descriptor 001001 bit 7\n",
+    },
+    Refused {
+        name: "many_passes_past_the_end",
+        subsets: 1,
+        flags: 0x80,
+        descriptors: "103255 102255 101255 001001",
+        data: "14",
+        fault: "30 data end at subset 1 descriptor 001001 bit 7\n",
+    },
+    Refused {
+        name: "a_template_goes_before_its_data",
+        subsets: 1,
+        flags: 0x80,
+        descriptors: "203010 001015 063255",
+        data: "0000",
+        fault: "20 unknown element 063255\n",
+    },
+];
+
+#[test]
+fn refuses_worked_examples(rt: HostRuntime) -> Result<(), Fail> {
+    for row in &REFUSED {
+        let message = message_in(
+            rt.alloc(),
+            row.subsets,
+            row.flags,
+            row.descriptors,
+            row.data,
+        )?;
+        let line = format!(in rt.alloc(); "offset 0: {}", row.fault)?;
+        assert_run(
+            &rt,
+            Command::Dump,
+            row.name,
+            &message,
+            b"",
+            line.as_bytes(),
+            ONE_REFUSED,
+        )?;
+    }
+    Ok(())
+}
+
+/// The 2,049th item of 65,535 subsets would be one value too many; each takes seven bits.
+#[test]
+fn refuses_too_many_values(rt: HostRuntime) -> Result<(), Fail> {
+    let words = words_of(rt.alloc(), "201122 102009 101228 001001")?;
+    let mut data = Vec::new(rt.alloc());
+    data.resize(2000, 0)?;
+    let message = message_of(rt.alloc(), 65535, 0xC0, &words, &data)?;
+    assert_run(
+        &rt,
+        Command::Dump,
+        "too many values",
+        &message,
+        b"",
+        b"offset 0: 35 too many values at subset 0 descriptor 001001 bit 14336\n",
+        ONE_REFUSED,
+    )
+}
+
+/// A stray word, a message of edition 2, one whose second subset is refused, and one that is
+/// accepted: of the refused ones nothing is on the output.
+#[test]
+fn goes_on_behind_refused(rt: HostRuntime) -> Result<(), Fail> {
+    let good = one_block_number(rt.alloc())?;
+    let other = of_edition_2();
+    let halved = message_of(rt.alloc(), 2, 0x80, &[0x0101], &[0x14])?;
+    let input = joined(rt.alloc(), &[STRAY, &other, &halved, &good])?;
+    let text = text_of_one(rt.alloc())?;
+    assert_run(
+        &rt,
+        Command::Dump,
+        "refused ones",
+        &input,
+        text.as_bytes(),
+        b"offset 0: 3 no end\n\
+        offset 8: 10 edition 2\n\
+        offset 56: 30 data end at subset 2 descriptor 001001 bit 7\n",
+        Tally {
+            accepted: 1,
+            refused: 3,
+        },
+    )
+}
+
+/// Messages that repeat their descriptors, of which the data of the third end early: the others are
+/// dumped as one alone is.
+#[test]
+fn goes_on_behind_refused_data_of_the_same_template(rt: HostRuntime) -> Result<(), Fail> {
+    let descriptors = "001001 012101";
+    let whole = message_in(rt.alloc(), 1, 0x80, descriptors, "14E11E")?;
+    let cut = message_in(rt.alloc(), 1, 0x80, descriptors, "14E1")?;
+    let body = "subset 1\n\
+        001001 10  # WMO BLOCK NUMBER [Numeric]\n\
+        012101 288.15  # AIR TEMPERATURE [K]\n";
+    let text = text_of(rt.alloc(), 1, 0x80, descriptors, body)?;
+    let text = text.as_bytes();
+    assert_run(
+        &rt,
+        Command::Dump,
+        "the same template",
+        &joined(rt.alloc(), &[&whole, &whole, &cut, &whole])?,
+        &joined(rt.alloc(), &[text, text, text])?,
+        b"offset 104: 30 data end at subset 1 descriptor 012101 bit 7\n",
+        Tally {
+            accepted: 3,
+            refused: 1,
+        },
+    )
+}
+
+/// The four streams of one good message and a stray one before or in place of it.
+#[test]
+fn tells_strays(rt: HostRuntime) -> Result<(), Fail> {
+    static STREAMS: [(&str, &[u8], &[(usize, u8)], &[u8], &str, u64); 4] = [
+        ("no end", b"", &[(47, b'6')], b"", "offset 0: 3 no end\n", 0),
+        (
+            "a word that states 64 octets",
+            STRAY,
+            &[],
+            b"\0\0\0\0\0\0\0\0",
+            "offset 0: 3 no end\n",
+            1,
+        ),
+        (
+            "edition 2",
+            b"",
+            &[(7, 2)],
+            b"",
+            "offset 0: 10 edition 2\n",
+            0,
+        ),
+        (
+            "a short length",
+            b"",
+            &[(6, 11)],
+            b"",
+            "offset 0: 2 short length\n",
+            0,
+        ),
+    ];
+    let text = text_of_one(rt.alloc())?;
+    for (name, before, edits, behind, errors, accepted) in &STREAMS {
+        let mut message = one_block_number(rt.alloc())?;
+        for (place, octet) in *edits {
+            assert!(rt; *place < message.len());
+            message[*place] = *octet;
+        }
+        let mut input = Vec::new(rt.alloc());
+        input.extend_from_slice(before)?;
+        input.extend_from_slice(&message)?;
+        input.extend_from_slice(behind)?;
+        let output = if *accepted > 0 { text.as_bytes() } else { b"" };
+        let tally = Tally {
+            accepted: *accepted,
+            refused: 1,
+        };
+        let errors = errors.as_bytes();
+        assert_run(&rt, Command::Dump, name, &input, output, errors, tally)?;
+    }
+    Ok(())
+}
+
+/// Wherever a read fails, what was certain before stands: a message that was read whole is dumped.
+#[test]
+fn stops_at_a_failed_read(rt: HostRuntime) -> Result<(), Fail> {
+    let text = text_of_one(rt.alloc())?;
+    let message = one_block_number(rt.alloc())?;
+    let input = joined(rt.alloc(), &[&message, &message])?;
+    assert_stops_at_failed_reads(&rt, Command::Dump, &input, 0..48, b"", b"")?;
+    assert_stops_at_failed_reads(&rt, Command::Dump, &input, 48..96, text.as_bytes(), b"")
+}
+
+/// An interrupted read is a failed one, and the texts of the messages that were read whole stand.
+#[test]
+fn stops_at_an_interrupted_read(rt: HostRuntime) -> Result<(), Fail> {
+    let text = text_of_one(rt.alloc())?;
+    let message = one_block_number(rt.alloc())?;
+    let input = joined(rt.alloc(), &[&message, &message])?;
+    let both = joined(rt.alloc(), &[text.as_bytes(), text.as_bytes()])?;
+    assert_stops_at_interrupted_reads(&rt, Command::Dump, &input, text.as_bytes(), &both)
+}
+
+/// Cut behind each octet but the last a message is told as cut, and nothing is told of fewer than
+/// the four octets of its word.
+fn assert_told_as_cut(
+    rt: &(impl Abort + AllocGlobal),
+    name: &str,
+    whole: &[u8],
+) -> Result<(), Fail> {
+    for length in 0..whole.len() {
+        let front = whole.get(..length).unwrap_or(b"");
+        let (line, refused): (&[u8], u64) = if length < 4 {
+            (b"", 0)
+        } else {
+            (b"offset 0: 1 cut\n", 1)
+        };
+        let tally = Tally {
+            accepted: 0,
+            refused,
+        };
+        assert_run(rt, Command::Dump, name, front, b"", line, tally)?;
+    }
+    Ok(())
+}
+
+/// A delayed group, compressed data, and a message with octets for local use and a section 2.
+#[test]
+fn tells_a_cut_anywhere(rt: HostRuntime) -> Result<(), Fail> {
+    let delayed = delayed_twice(rt.alloc())?;
+    assert_told_as_cut(&rt, "delayed", &delayed)?;
+    assert_told_as_cut(&rt, "compressed", &COMPRESSED)?;
+    assert_told_as_cut(&rt, "local use", &LOCAL_USE)
+}
+
+/// A stray word that states 64 octets, the message behind it, and eight octets behind that.
+#[test]
+fn stops_behind_a_stray(rt: HostRuntime) -> Result<(), Fail> {
+    let text = text_of_one(rt.alloc())?;
+    let message = one_block_number(rt.alloc())?;
+    let input = stray_before(rt.alloc(), &message)?;
+    assert_stops_around_a_stray(&rt, Command::Dump, &input, text.as_bytes())
+}
+
+/// Writers that fail, take nothing, or cannot be flushed have taken a front.
+#[test]
+fn stops_at_a_failed_write(rt: HostRuntime) -> Result<(), Fail> {
+    let text = text_of_one(rt.alloc())?;
+    let message = one_block_number(rt.alloc())?;
+    let whole = text.as_bytes();
+    assert_stops_at_failed_writes(&rt, Command::Dump, &message, whole, b"", ONE_ACCEPTED)?;
+    let line = b"offset 0: 30 data end at subset 1 descriptor 001001 bit 0\n";
+    let message = message_of(rt.alloc(), 1, 0x80, &[0x0101], b"")?;
+    assert_stops_at_failed_errors(&rt, Command::Dump, &message, b"", b"", line, ONE_REFUSED)
+}

@@ -1,0 +1,24 @@
+//! The tests of `bufr_run`: the runs, by its public calls.
+//!
+//! They stand in a crate of their own, since the tests of a crate are proved together with it: so
+//! `bufr_run` is not proved once more for them.
+#![tactic(auto)]
+
+#[cfg(test)]
+mod dump_fault_tests;
+#[cfg(test)]
+mod dump_tests;
+#[cfg(test)]
+mod edition3_tests;
+#[cfg(test)]
+mod encode_fault_tests;
+#[cfg(test)]
+mod encode_tests;
+#[cfg(test)]
+mod form_tests;
+#[cfg(test)]
+mod test_messages;
+#[cfg(test)]
+mod test_runs;
+#[cfg(test)]
+mod tests;

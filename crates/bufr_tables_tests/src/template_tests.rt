@@ -1,0 +1,391 @@
+//! What is shown by running: the worked lists, their cells, each fault, the limits.
+use crate::test_tables::{NESTED, NO_FACTORS, TABLE_B, TABLE_D, read_b, read_d};
+use bufr_tables::{Cell, Fxy, TableB, TableD, TableFault, Template, TemplateFault, Templates};
+use std::alloc::Global;
+use std::alloc::AllocError;
+use std::test::Fail;
+
+// A name for what is shown, the descriptors, and what comes of them.
+const ROWS: &[(&str, &str, &str)] = &[
+    ("one_block_number", "001001", "places 2 depth 0"),
+    ("delayed_twice", "101000 031001 001001", "places 5 depth 1"),
+    ("short_factor", "101000 031000 001001", "places 5 depth 1"),
+    ("long_factor", "101000 031002 001001", "places 5 depth 1"),
+    (
+        "width_and_scale_changed",
+        "201132 202129 012101 201000 202000 012101",
+        "places 7 depth 0",
+    ),
+    (
+        "redefined_reference",
+        "203010 012101 203255 012101",
+        "places 5 depth 0",
+    ),
+    (
+        "increased_precision",
+        "207001 012101 020003",
+        "places 4 depth 0",
+    ),
+    ("empty_group", "101255 201000", "25 empty group 101255"),
+    ("empty_whole", "201000", "25 empty group 201000"),
+    ("empty_list", "", "25 empty group 000000"),
+    ("sequence_of_two", "360192", "places 3 depth 0"),
+    ("local_descriptor", "206012 063255", "places 3 depth 0"),
+    (
+        "local_descriptor_alone",
+        "063255",
+        "20 unknown element 063255",
+    ),
+    ("inserted_text", "205004", "places 2 depth 0"),
+    (
+        "inserted_text_in_a_group",
+        "101002 205004",
+        "places 4 depth 1",
+    ),
+    ("text_width", "208003 001015", "places 3 depth 0"),
+    (
+        "thirty_two_groups",
+        "\
+            132001 131001 130001 129001 128001 127001 126001 125001 124001 \
+            123001 122001 121001 120001 119001 118001 117001 116001 115001 \
+            114001 113001 112001 111001 110001 109001 108001 107001 106001 \
+            105001 104001 103001 102001 101001 001001",
+        "places 66 depth 32",
+    ),
+    (
+        "thirty_three_groups",
+        "\
+            133001 132001 131001 130001 129001 128001 127001 126001 125001 \
+            124001 123001 122001 121001 120001 119001 118001 117001 116001 \
+            115001 114001 113001 112001 111001 110001 109001 108001 107001 \
+            106001 105001 104001 103001 102001 101001 001001",
+        "26 depth 101001",
+    ),
+    ("thirty_two_sequences", "320002", "places 2 depth 0"),
+    ("thirty_three_sequences", "320001", "26 depth 320033"),
+    (
+        "delayed_in_delayed",
+        "103000 031001 101000 031001 001001",
+        "places 8 depth 2",
+    ),
+    (
+        "too_few_descriptors",
+        "102002 001001",
+        "23 group shape 102002",
+    ),
+    ("no_descriptors", "100002 001001", "23 group shape 100002"),
+    (
+        "too_few_behind_the_factor",
+        "101000 031001",
+        "23 group shape 101000",
+    ),
+    (
+        "too_few_in_a_sequence",
+        "330002 001001",
+        "23 group shape 101002",
+    ),
+    (
+        "too_few_in_a_group",
+        "101002 101002 001001",
+        "23 group shape 101002",
+    ),
+    (
+        "element_for_a_factor",
+        "101000 001001",
+        "24 no factor 101000",
+    ),
+    ("no_factor_left", "101000", "24 no factor 101000"),
+    (
+        "local_width_before_an_operator",
+        "206012 201000",
+        "28 local shape 206012",
+    ),
+    ("local_width_at_the_end", "206012", "28 local shape 206012"),
+    (
+        "local_width_at_the_end_of_a_group",
+        "101002 206012 063255",
+        "28 local shape 206012",
+    ),
+    (
+        "local_width_at_the_end_of_a_sequence",
+        "330001 063255",
+        "28 local shape 206012",
+    ),
+    (
+        "local_width_before_a_group",
+        "206012 101001 001001",
+        "28 local shape 206012",
+    ),
+    ("associated_field", "204001", "22 operator 204001"),
+    (
+        "wrong_width_of_references",
+        "203064 012101",
+        "22 operator 203064",
+    ),
+    ("wrong_precision", "207019 012101", "22 operator 207019"),
+    ("no_text", "205000", "22 operator 205000"),
+    ("no_width", "206000 001001", "22 operator 206000"),
+    ("unknown_sequence", "300099", "21 unknown sequence 300099"),
+    (
+        "group_of_a_sequence_of_operators",
+        "102002 330003 201000 001001",
+        "25 empty group 102002",
+    ),
+    ("doubling_sequences", "300001", "27 template size 001001"),
+    (
+        "doubling_sequences_that_fit",
+        "300003",
+        "places 32769 depth 0",
+    ),
+    ("doubling_groups", "310001", "27 template size 102002"),
+    (
+        "doubling_groups_that_fit",
+        "310003",
+        "places 49151 depth 14",
+    ),
+];
+
+// The descriptors of a text: six digits each, with spaces between them.
+fn descriptors_of(alloc: Global, text: &str) -> Result<Vec<Fxy>, Fail> {
+    let mut descriptors = Vec::new(alloc);
+    for digits in text.split_whitespace() {
+        let number = digits.parse::<u32>()?;
+        let word = number / 100_000 << 14 | number / 1000 % 100 << 8 | number % 1000;
+        descriptors.push(Fxy::from_word(u16::try_from(word)?))?;
+    }
+    Ok(descriptors)
+}
+
+// The tables of most tests.
+fn tables(alloc: Global) -> Result<(TableB, TableD), Fail> {
+    let table_b = read_b(alloc, TABLE_B)?;
+    let table_d = read_d(alloc, NESTED)?;
+    Ok((table_b, table_d))
+}
+
+// A template, with no promise that the proof of a test would carry.
+fn built(
+    alloc: Global,
+    descriptors: &[Fxy],
+    table_b: &TableB,
+    table_d: &TableD,
+) -> Result<Template, TemplateFault> {
+    Template::build(alloc, descriptors, table_b, table_d)
+}
+
+// The places and the depth, or the fault's number and its text.
+fn told_of(alloc: Global, answer: &Result<Template, TemplateFault>) -> Result<String, AllocError> {
+    match answer {
+        Ok(template) => {
+            format!(in alloc; "places {} depth {}", template.places(), template.depth())
+        }
+        Err(fault) => format!(in alloc; "{} {fault}", fault.number()),
+    }
+}
+
+// That, of a template that is built.
+fn told(
+    alloc: Global,
+    descriptors: &[Fxy],
+    table_b: &TableB,
+    table_d: &TableD,
+) -> Result<String, AllocError> {
+    let answer = built(alloc, descriptors, table_b, table_d);
+    told_of(alloc, &answer)
+}
+
+// That, of the template that is kept or built.
+fn told_again(
+    alloc: Global,
+    templates: &mut Templates<'_>,
+    descriptors: &[Fxy],
+) -> Result<String, AllocError> {
+    templates.turn_to(descriptors)?;
+    told_of(alloc, templates.answer())
+}
+
+#[test]
+fn worked_lists(rt: HostRuntime) -> Result<(), Fail> {
+    let (table_b, table_d) = tables(rt.alloc())?;
+    for (name, text, want) in ROWS {
+        let descriptors = descriptors_of(rt.alloc(), text)?;
+        let told = told(rt.alloc(), &descriptors, &table_b, &table_d)?;
+        assert_eq!(rt; told.as_str(), *want, "{name}");
+    }
+    Ok(())
+}
+
+// Lists that are asked for one after another, and what comes of them: each template and each fault
+// twice, and one again behind others.
+const IN_TURN: &[(&str, &str)] = &[
+    ("001001", "places 2 depth 0"),
+    ("001001", "places 2 depth 0"),
+    ("101000 031001 001001", "places 5 depth 1"),
+    ("063255", "20 unknown element 063255"),
+    ("063255", "20 unknown element 063255"),
+    ("063254", "20 unknown element 063254"),
+    ("", "25 empty group 000000"),
+    ("001001", "places 2 depth 0"),
+    ("001001 012101", "places 3 depth 0"),
+];
+
+#[test]
+fn lists_that_are_repeated(rt: HostRuntime) -> Result<(), Fail> {
+    let (table_b, table_d) = tables(rt.alloc())?;
+    let mut templates = Templates::new(rt.alloc(), &table_b, &table_d);
+    for (text, want) in IN_TURN {
+        let descriptors = descriptors_of(rt.alloc(), text)?;
+        let told = told_again(rt.alloc(), &mut templates, &descriptors)?;
+        assert_eq!(rt; told.as_str(), *want, "{text}");
+    }
+    Ok(())
+}
+
+#[test]
+fn keeps_the_last_list(rt: HostRuntime) -> Result<(), Fail> {
+    let (table_b, table_d) = tables(rt.alloc())?;
+    let mut templates = Templates::new(rt.alloc(), &table_b, &table_d);
+    let (one, other) = ([Fxy::from_word(0x0101)], [Fxy::from_word(0x0c65)]);
+    assert!(rt; templates.keeps(&[]));
+    templates.turn_to(&one)?;
+    assert!(rt; templates.keeps(&one));
+    assert!(rt; !templates.keeps(&other));
+    Ok(())
+}
+
+// A name for what is shown, the descriptors, and the cells: a letter for each kind, its descriptor
+// or its count, and behind a colon the place behind the group.
+const CELLS: &[(&str, &str, &str)] = &[
+    ("one_block_number", "001001", "E001001 F"),
+    (
+        "delayed_twice",
+        "101000 031001 001001",
+        "D:4 R031001 E001001 P F",
+    ),
+    (
+        "delayed_in_delayed",
+        "103000 031001 101000 031001 001001",
+        "D:7 R031001 D:6 R031001 E001001 P P F",
+    ),
+    (
+        "width_and_scale_changed",
+        "201132 202129 012101 201000 202000 012101",
+        "O201132 O202129 E012101 O201000 O202000 E012101 F",
+    ),
+    (
+        "groups_and_a_sequence",
+        "103000 031001 206012 063255 360192 101255 001001",
+        "D:7 R031001 O206012 E063255 E001001 E012101 P X255:10 E001001 P F",
+    ),
+    (
+        "thirty_two_groups",
+        "\
+            132001 131001 130001 129001 128001 127001 126001 125001 124001 \
+            123001 122001 121001 120001 119001 118001 117001 116001 115001 \
+            114001 113001 112001 111001 110001 109001 108001 107001 106001 \
+            105001 104001 103001 102001 101001 001001",
+        "\
+            X1:65 X1:64 X1:63 X1:62 X1:61 X1:60 X1:59 X1:58 X1:57 X1:56 X1:55 \
+            X1:54 X1:53 X1:52 X1:51 X1:50 X1:49 X1:48 X1:47 X1:46 X1:45 X1:44 \
+            X1:43 X1:42 X1:41 X1:40 X1:39 X1:38 X1:37 X1:36 X1:35 X1:34 \
+            E001001 P P P P P P P P P P P P P P P P P P P P P P P P P P P P P P \
+            P P F",
+    ),
+];
+
+// The text of a cell.
+fn written(alloc: Global, cell: Cell) -> Result<String, AllocError> {
+    match cell {
+        Cell::Element(fxy) => format!(in alloc; "E{fxy}"),
+        Cell::Operator(fxy) => format!(in alloc; "O{fxy}"),
+        Cell::Fixed(count, after) => format!(in alloc; "X{count}:{after}"),
+        Cell::Delayed(after) => format!(in alloc; "D:{after}"),
+        Cell::Factor(fxy) => format!(in alloc; "R{fxy}"),
+        Cell::PassEnd => format!(in alloc; "P"),
+        Cell::Finish => format!(in alloc; "F"),
+    }
+}
+
+// The texts of cells, a space before each but the first.
+fn cells_told(alloc: Global, cells: &[Cell]) -> Result<String, AllocError> {
+    let mut told = String::new(alloc);
+    for cell in cells {
+        if !told.is_empty() {
+            told.push(' ')?;
+        }
+        told.push_str(&written(alloc, *cell)?)?;
+    }
+    Ok(told)
+}
+
+// The cells of a template that is built.
+fn cells_built(
+    alloc: Global,
+    text: &str,
+    table_b: &TableB,
+    table_d: &TableD,
+) -> Result<String, Fail> {
+    let descriptors = descriptors_of(alloc, text)?;
+    let template = built(alloc, &descriptors, table_b, table_d)?;
+    Ok(cells_told(alloc, template.cells())?)
+}
+
+#[test]
+fn cells_of_worked_lists(rt: HostRuntime) -> Result<(), Fail> {
+    let (table_b, table_d) = tables(rt.alloc())?;
+    for (name, text, want) in CELLS {
+        let told = cells_built(rt.alloc(), text, &table_b, &table_d)?;
+        assert_eq!(rt; told.as_str(), *want, "{name}");
+    }
+    Ok(())
+}
+
+#[test]
+fn factor_that_table_b_lacks(rt: HostRuntime) -> Result<(), Fail> {
+    let table_b = read_b(rt.alloc(), NO_FACTORS)?;
+    let table_d = read_d(rt.alloc(), TABLE_D)?;
+    let descriptors = descriptors_of(rt.alloc(), "105000 031001 001001")?;
+    let told = told(rt.alloc(), &descriptors, &table_b, &table_d)?;
+    assert_eq!(rt; told.as_str(), "20 unknown element 031001");
+    Ok(())
+}
+
+#[test]
+fn lacks_a_sequence(rt: HostRuntime) -> Result<(), Fail> {
+    let table_b = read_b(rt.alloc(), TABLE_B)?;
+    let table_d = read_d(rt.alloc(), TABLE_D)?;
+    let sequence = Fxy::from_word(0xC001);
+    let told = told(rt.alloc(), &[sequence], &table_b, &table_d)?;
+    assert_eq!(rt; told.as_str(), "21 unknown sequence 300001");
+    Ok(())
+}
+
+#[test]
+fn faults_have_numbers(rt: HostRuntime) {
+    let sequence = Fxy::from_word(0xC001);
+    for (fault, number) in [
+        (TemplateFault::UnknownElement(sequence), 20),
+        (TemplateFault::UnknownSequence(sequence), 21),
+        (TemplateFault::Operator(sequence), 22),
+        (TemplateFault::GroupShape(sequence), 23),
+        (TemplateFault::NoFactor(sequence), 24),
+        (TemplateFault::EmptyGroup(sequence), 25),
+        (TemplateFault::Depth(sequence), 26),
+        (TemplateFault::TemplateSize(sequence), 27),
+        (TemplateFault::LocalShape(sequence), 28),
+        (TemplateFault::Memory, 73),
+    ] {
+        assert_eq!(rt; fault.number(), number);
+    }
+    for (fault, number) in [
+        (TableFault::Header, 40),
+        (TableFault::Row(2), 41),
+        (TableFault::Duplicate(sequence), 42),
+        (TableFault::Cycle(sequence), 43),
+        (TableFault::TableSize, 44),
+        (TableFault::Csv, 45),
+        (TableFault::Memory, 73),
+    ] {
+        assert_eq!(rt; fault.number(), number);
+    }
+}

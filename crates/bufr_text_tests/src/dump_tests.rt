@@ -1,0 +1,733 @@
+//! The dump texts of worked messages.
+ghost use Rattle.std.specs.Prelude.{◌≤◌, length};
+
+use bufr_text::write_dump;
+use bufr_bits::{Device, End, ScriptOut, Sink};
+use bufr_frame::{Head, Message, RunFault, write_message};
+use bufr_tables::{Fxy, TableB, TableD, Template};
+use bufr_walk::{Steps, read_message};
+use std::alloc::Global;
+use std::cell::Cell;
+use std::io::{self, Write};
+use std::test::Fail;
+
+// Test data, not WMO's.
+const TABLE_B: &[u8] = b"\
+    fxy,name,unit,scale,reference,width\n\
+    001001,WMO BLOCK NUMBER,Numeric,0,0,7\n\
+    001015,STATION OR SITE NAME,CCITT IA5,0,0,160\n\
+    005002,LATITUDE (COARSE ACCURACY),degree,2,-9000,15\n\
+    012101,AIR TEMPERATURE,K,2,0,16\n\
+    020003,PRESENT WEATHER,Code table,0,0,9\n\
+    031000,SHORT DELAYED DESCRIPTOR REPLICATION FACTOR,Numeric,0,0,1\n\
+    031001,DELAYED DESCRIPTOR REPLICATION FACTOR,Numeric,0,0,8\n\
+    031002,EXTENDED DELAYED DESCRIPTOR REPLICATION FACTOR,Numeric,0,0,16\n";
+
+const TABLE_D: &[u8] = b"fxy,member\n360192,001001\n360192,012101\n";
+
+// What section 1 of each message says.
+const HEAD: Head = Head {
+    edition: 4,
+    master: 0,
+    centre: 98,
+    subcentre: 0,
+    update: 0,
+    category: 0,
+    subcategory: 0,
+    local_subcategory: 0,
+    master_version: 14,
+    local_version: 0,
+    year: 2024,
+    month: 1,
+    day: 2,
+    hour: 3,
+    minute: 4,
+    second: 5,
+};
+
+// The lines of each text before `observed`.
+pub(crate) const FIRST_LINES: &str = "\
+    message\n\
+    edition 4\n\
+    master 0\n\
+    centre 98\n\
+    subcentre 0\n\
+    update 0\n\
+    category 0\n\
+    subcategory 0\n\
+    localsubcategory 0\n\
+    masterversion 14\n\
+    localversion 0\n\
+    year 2024\n\
+    month 1\n\
+    day 2\n\
+    hour 3\n\
+    minute 4\n\
+    second 5\n";
+
+// A message without octets for local use, and its text from `observed` on.
+pub(crate) struct Row {
+    pub(crate) name: &'static str,
+    subsets: u16,
+    // octet 7 of section 3
+    flags: u8,
+    descriptors: &'static str,
+    // the data in hexadecimal
+    payload: &'static str,
+    text: &'static str,
+}
+
+pub(crate) static ROWS: [Row; 21] = [
+    Row {
+        name: "one_block_number",
+        subsets: 1,
+        flags: 0x80,
+        descriptors: "001001",
+        payload: "14",
+        text: "\
+            observed 1\n\
+            compressed 0\n\
+            optional 0\n\
+            subsets 1\n\
+            descriptors 001001\n\
+            subset 1\n\
+            001001 10  # WMO BLOCK NUMBER [Numeric]\n\
+            end\n",
+    },
+    Row {
+        name: "one_temperature",
+        subsets: 1,
+        flags: 0x80,
+        descriptors: "012101",
+        payload: "708F",
+        text: "\
+            observed 1\n\
+            compressed 0\n\
+            optional 0\n\
+            subsets 1\n\
+            descriptors 012101\n\
+            subset 1\n\
+            012101 288.15  # AIR TEMPERATURE [K]\n\
+            end\n",
+    },
+    Row {
+        name: "one_temperature_missing",
+        subsets: 1,
+        flags: 0x80,
+        descriptors: "012101",
+        payload: "FFFF",
+        text: "\
+            observed 1\n\
+            compressed 0\n\
+            optional 0\n\
+            subsets 1\n\
+            descriptors 012101\n\
+            subset 1\n\
+            012101 MISSING  # AIR TEMPERATURE [K]\n\
+            end\n",
+    },
+    Row {
+        name: "delayed_twice",
+        subsets: 1,
+        flags: 0x80,
+        descriptors: "101000 031001 001001",
+        payload: "02142C",
+        text: "\
+            observed 1\n\
+            compressed 0\n\
+            optional 0\n\
+            subsets 1\n\
+            descriptors 101000 031001 001001\n\
+            subset 1\n\
+            031001 2  # DELAYED DESCRIPTOR REPLICATION FACTOR [Numeric]\n\
+            001001 10  # WMO BLOCK NUMBER [Numeric]\n\
+            001001 11  # WMO BLOCK NUMBER [Numeric]\n\
+            end\n",
+    },
+    Row {
+        name: "delayed_none",
+        subsets: 1,
+        flags: 0x80,
+        descriptors: "101000 031001 001001",
+        payload: "00",
+        text: "\
+            observed 1\n\
+            compressed 0\n\
+            optional 0\n\
+            subsets 1\n\
+            descriptors 101000 031001 001001\n\
+            subset 1\n\
+            031001 0  # DELAYED DESCRIPTOR REPLICATION FACTOR [Numeric]\n\
+            end\n",
+    },
+    Row {
+        name: "short_factor",
+        subsets: 1,
+        flags: 0x80,
+        descriptors: "101000 031000 001001",
+        payload: "8A",
+        text: "\
+            observed 1\n\
+            compressed 0\n\
+            optional 0\n\
+            subsets 1\n\
+            descriptors 101000 031000 001001\n\
+            subset 1\n\
+            031000 1  # SHORT DELAYED DESCRIPTOR REPLICATION FACTOR [Numeric]\n\
+            001001 10  # WMO BLOCK NUMBER [Numeric]\n\
+            end\n",
+    },
+    Row {
+        name: "width_and_scale_changed",
+        subsets: 1,
+        flags: 0x80,
+        descriptors: "201132 202129 012101 201000 202000 012101",
+        payload: "46599708F0",
+        text: "\
+            observed 1\n\
+            compressed 0\n\
+            optional 0\n\
+            subsets 1\n\
+            descriptors 201132 202129 012101 201000 202000 012101\n\
+            subset 1\n\
+            012101 288.153  # AIR TEMPERATURE [K]\n\
+            012101 288.15  # AIR TEMPERATURE [K]\n\
+            end\n",
+    },
+    Row {
+        name: "redefined_reference",
+        subsets: 1,
+        flags: 0x80,
+        descriptors: "203010 012101 203255 012101",
+        payload: "E41C23C0",
+        text: "\
+            observed 1\n\
+            compressed 0\n\
+            optional 0\n\
+            subsets 1\n\
+            descriptors 203010 012101 203255 012101\n\
+            subset 1\n\
+            R 012101 -400\n\
+            012101 284.15  # AIR TEMPERATURE [K]\n\
+            end\n",
+    },
+    Row {
+        name: "increased_precision",
+        subsets: 1,
+        flags: 0x80,
+        descriptors: "207001 012101 020003",
+        payload: "46599028",
+        text: "\
+            observed 1\n\
+            compressed 0\n\
+            optional 0\n\
+            subsets 1\n\
+            descriptors 207001 012101 020003\n\
+            subset 1\n\
+            012101 288.153  # AIR TEMPERATURE [K]\n\
+            020003 5  # PRESENT WEATHER [Code table]\n\
+            end\n",
+    },
+    Row {
+        name: "compressed_missing",
+        subsets: 2,
+        flags: 0xC0,
+        descriptors: "012101",
+        payload: "708F05",
+        text: "\
+            observed 1\n\
+            compressed 1\n\
+            optional 0\n\
+            subsets 2\n\
+            descriptors 012101\n\
+            subset 1\n\
+            012101 288.15  # AIR TEMPERATURE [K]\n\
+            subset 2\n\
+            012101 MISSING  # AIR TEMPERATURE [K]\n\
+            end\n",
+    },
+    Row {
+        name: "compressed_name",
+        subsets: 2,
+        flags: 0xC0,
+        descriptors: "001015",
+        payload: "00000000000000000000000000000000000000001105090C83FFFFFFFC",
+        text: "\
+            observed 1\n\
+            compressed 1\n\
+            optional 0\n\
+            subsets 2\n\
+            descriptors 001015\n\
+            subset 1\n\
+            001015 \"ABC                 \"  # STATION OR SITE NAME [CCITT IA5]\n\
+            subset 2\n\
+            001015 MISSING  # STATION OR SITE NAME [CCITT IA5]\n\
+            end\n",
+    },
+    Row {
+        name: "width_of_one",
+        subsets: 1,
+        flags: 0x80,
+        descriptors: "201122 001001",
+        payload: "00",
+        text: "\
+            observed 1\n\
+            compressed 0\n\
+            optional 0\n\
+            subsets 1\n\
+            descriptors 201122 001001\n\
+            subset 1\n\
+            001001 0  # WMO BLOCK NUMBER [Numeric]\n\
+            end\n",
+    },
+    Row {
+        name: "width_of_one_missing",
+        subsets: 1,
+        flags: 0x80,
+        descriptors: "201122 001001",
+        payload: "80",
+        text: "\
+            observed 1\n\
+            compressed 0\n\
+            optional 0\n\
+            subsets 1\n\
+            descriptors 201122 001001\n\
+            subset 1\n\
+            001001 MISSING  # WMO BLOCK NUMBER [Numeric]\n\
+            end\n",
+    },
+    Row {
+        name: "sequence",
+        subsets: 1,
+        flags: 0x80,
+        descriptors: "360192",
+        payload: "14E11E",
+        text: "\
+            observed 1\n\
+            compressed 0\n\
+            optional 0\n\
+            subsets 1\n\
+            descriptors 360192\n\
+            subset 1\n\
+            001001 10  # WMO BLOCK NUMBER [Numeric]\n\
+            012101 288.15  # AIR TEMPERATURE [K]\n\
+            end\n",
+    },
+    Row {
+        name: "local_descriptor",
+        subsets: 1,
+        flags: 0x80,
+        descriptors: "206012 063255",
+        payload: "0F50",
+        text: "\
+            observed 1\n\
+            compressed 0\n\
+            optional 0\n\
+            subsets 1\n\
+            descriptors 206012 063255\n\
+            subset 1\n\
+            063255 245\n\
+            end\n",
+    },
+    Row {
+        name: "inserted_text",
+        subsets: 1,
+        flags: 0x80,
+        descriptors: "205004",
+        payload: "225C0AFE",
+        text: "\
+            observed 1\n\
+            compressed 0\n\
+            optional 0\n\
+            subsets 1\n\
+            descriptors 205004\n\
+            subset 1\n\
+            205004 \"\\\"\\\\\\x0A\\xFE\"\n\
+            end\n",
+    },
+    Row {
+        name: "thirty_two_groups",
+        subsets: 1,
+        flags: 0x80,
+        descriptors: "\
+            132001 131001 130001 129001 128001 127001 126001 125001 124001 \
+            123001 122001 121001 120001 119001 118001 117001 116001 115001 \
+            114001 113001 112001 111001 110001 109001 108001 107001 106001 \
+            105001 104001 103001 102001 101001 001001",
+        payload: "14",
+        text: "\
+            observed 1\n\
+            compressed 0\n\
+            optional 0\n\
+            subsets 1\n\
+            descriptors 132001 131001 130001 129001 128001 127001 126001 125001\n\
+            descriptors 124001 123001 122001 121001 120001 119001 118001 117001\n\
+            descriptors 116001 115001 114001 113001 112001 111001 110001 109001\n\
+            descriptors 108001 107001 106001 105001 104001 103001 102001 101001\n\
+            descriptors 001001\n\
+            subset 1\n\
+            001001 10  # WMO BLOCK NUMBER [Numeric]\n\
+            end\n",
+    },
+    Row {
+        name: "negative_latitude",
+        subsets: 1,
+        flags: 0x80,
+        descriptors: "005002",
+        payload: "4646",
+        text: "\
+            observed 1\n\
+            compressed 0\n\
+            optional 0\n\
+            subsets 1\n\
+            descriptors 005002\n\
+            subset 1\n\
+            005002 -0.05  # LATITUDE (COARSE ACCURACY) [degree]\n\
+            end\n",
+    },
+    Row {
+        name: "increment_to_all_ones",
+        subsets: 2,
+        flags: 0xC0,
+        descriptors: "001001",
+        payload: "FC1080",
+        text: "\
+            observed 1\n\
+            compressed 1\n\
+            optional 0\n\
+            subsets 2\n\
+            descriptors 001001\n\
+            subset 1\n\
+            001001 126  # WMO BLOCK NUMBER [Numeric]\n\
+            subset 2\n\
+            001001 MISSING  # WMO BLOCK NUMBER [Numeric]\n\
+            end\n",
+    },
+    Row {
+        name: "no_subsets",
+        subsets: 0,
+        flags: 0x80,
+        descriptors: "001001",
+        payload: "",
+        text: "\
+            observed 1\n\
+            compressed 0\n\
+            optional 0\n\
+            subsets 0\n\
+            descriptors 001001\n\
+            end\n",
+    },
+    Row {
+        name: "text_width",
+        subsets: 1,
+        flags: 0x80,
+        descriptors: "208003 001015",
+        payload: "414243",
+        text: "\
+            observed 1\n\
+            compressed 0\n\
+            optional 0\n\
+            subsets 1\n\
+            descriptors 208003 001015\n\
+            subset 1\n\
+            001015 \"ABC\"  # STATION OR SITE NAME [CCITT IA5]\n\
+            end\n",
+    },
+];
+
+// The word of a descriptor whose six digits are this number.
+fn word_of(number: u32) -> Result<u16, Fail> {
+    let f = (number / 100_000).saturating_mul(16_384);
+    let x = (number / 1000 % 100).saturating_mul(256);
+    let word = f.saturating_add(x).saturating_add(number % 1000);
+    Ok(u16::try_from(word)?)
+}
+
+// The words of descriptors: six digits each, with spaces between them.
+fn words_of(alloc: Global, text: &str) -> Result<Vec<u16>, Fail> {
+    let mut words = Vec::new(alloc);
+    for digits in text.split_whitespace() {
+        words.push(word_of(digits.parse::<u32>()?)?)?;
+    }
+    Ok(words)
+}
+
+// The octets of a text of hexadecimal digits.
+pub(crate) fn octets_of(alloc: Global, text: &str) -> Result<Vec<u8>, Fail> {
+    let mut octets = Vec::new(alloc);
+    let mut high = None;
+    for digit in text.chars() {
+        let value = u8::try_from(digit.to_digit(16).unwrap_or(0))?;
+        high = match high {
+            None => Some(value << 4),
+            Some(first) => {
+                octets.push(first | value)?;
+                None
+            }
+        };
+    }
+    Ok(octets)
+}
+
+// The message of a row.
+pub(crate) fn message_of(alloc: Global, row: &Row) -> Result<Vec<u8>, Fail> {
+    let words = words_of(alloc, row.descriptors)?;
+    let payload = octets_of(alloc, row.payload)?;
+    let (observed, compressed) = (row.flags >= 128, row.flags % 128 >= 64);
+    let (local1, subsets) = (b"".as_slice(), row.subsets);
+    Ok(write_message(
+        alloc, &HEAD, local1, None, &words, subsets, observed, compressed, &payload,
+    )?)
+}
+
+// What comes of a dump.
+#[derive(Drop)]
+pub(crate) struct Outcome {
+    written: Result<(), RunFault>,
+    steps: u64,
+    pub(crate) taken: Vec<u8>,
+}
+
+// The test tables.
+#[derive(Drop)]
+pub(crate) struct Tables {
+    pub(crate) b: TableB,
+    pub(crate) d: TableD,
+}
+
+pub(crate) fn read_tables(alloc: Global) -> Result<Tables, Fail> {
+    Ok(Tables {
+        b: TableB::read(alloc, TABLE_B)?,
+        d: TableD::read(alloc, TABLE_D)?,
+    })
+}
+
+// The descriptors of a message.
+fn descriptors_in(alloc: Global, message: &Message<'_>) -> Result<Vec<Fxy>, Fail> {
+    let mut descriptors = Vec::new(alloc);
+    for word in message.descriptors() {
+        descriptors.push(Fxy::from_word(word))?;
+    }
+    Ok(descriptors)
+}
+
+// The template of a message.
+fn template_of(alloc: Global, message: &Message<'_>, tables: &Tables) -> Result<Template, Fail> {
+    let descriptors = descriptors_in(alloc, message)?;
+    Ok(Template::build(alloc, &descriptors, &tables.b, &tables.d)?)
+}
+
+// Dumps a message.
+fn dump_to<W: Sink>(
+    alloc: Global,
+    octets: &[u8],
+    steps: &mut Steps,
+    w: &mut W,
+) -> Result<Result<(), RunFault>, Fail> {
+    let message = message_in(octets).ok_or("a message")?;
+    let tables = read_tables(alloc)?;
+    let template = template_of(alloc, &message, &tables)?;
+    let reading = read_message(alloc, &message, &template, &tables.b, steps)?;
+    Ok(write_dump(alloc, &message, &reading, steps, w))
+}
+
+// Dumps a message to a device that takes at most `room` octets in all, at most `step` of them at
+// once.
+pub(crate) fn dump(alloc: Global, octets: &[u8], room: usize, step: usize) -> Result<Outcome, Fail>
+    requires { 1 ≤ step }
+{
+    let mut steps = Steps::new();
+    let mut w = ScriptOut::new(alloc, room, step, End::Fail)?;
+    let written = dump_to(alloc, octets, &mut steps, &mut w)?;
+    let mut taken = Vec::new(alloc);
+    taken.extend_from_slice(w.taken())?;
+    Ok(Outcome {
+        written,
+        steps: steps.count(),
+        taken,
+    })
+}
+
+// The message that octets are.
+fn message_in(octets: &[u8]) -> Option<Message<'_>> {
+    if octets.len() < 12 {
+        return None;
+    }
+    Message::parse(octets).ok()
+}
+
+// The row of this name, and its text.
+fn row_of(alloc: Global, name: &str) -> Result<(Vec<u8>, String), Fail> {
+    let row = ROWS.iter().find(|row| row.name == name).ok_or("a row")?;
+    let mut text = String::from_str(alloc, FIRST_LINES)?;
+    text.push_str(row.text)?;
+    Ok((message_of(alloc, row)?, text))
+}
+
+#[test]
+fn dumps_worked_messages(rt: HostRuntime) -> Result<(), Fail> {
+    for row in &ROWS {
+        let octets = message_of(rt.alloc(), row)?;
+        let mut want = String::from_str(rt.alloc(), FIRST_LINES)?;
+        want.push_str(row.text)?;
+        for step in [1, 7, 4096] {
+            let dumped = dump(rt.alloc(), &octets, 65536, step)?;
+            assert_eq!(rt; dumped.written, Ok(()), "{}", row.name);
+            assert_eq!(rt; dumped.taken.as_slice(), want.as_bytes(), "{}", row.name);
+        }
+    }
+    Ok(())
+}
+
+/// A message with octets for local use in section 1 and a section 2, 56 octets.
+const LOCAL_USE: [u8; 56] = [
+    0x42, 0x55, 0x46, 0x52, 0x00, 0x00, 0x38, 0x04, 0x00, 0x00, 0x18, 0x00, 0x00, 0x62, 0x00, 0x00,
+    0x00, 0x80, 0x00, 0x00, 0x00, 0x0E, 0x00, 0x07, 0xE8, 0x01, 0x02, 0x03, 0x04, 0x05, 0xAB, 0xCD,
+    0x00, 0x00, 0x06, 0x00, 0x01, 0x02, 0x00, 0x00, 0x09, 0x00, 0x00, 0x01, 0x80, 0x01, 0x01, 0x00,
+    0x00, 0x05, 0x00, 0x14, 0x37, 0x37, 0x37, 0x37,
+];
+
+#[test]
+fn dumps_local_use_sections(rt: HostRuntime) -> Result<(), Fail> {
+    let mut want = String::from_str(rt.alloc(), FIRST_LINES)?;
+    want.push_str(
+        "observed 1\ncompressed 0\noptional 1\nsubsets 1\n\
+        local1 ABCD\nsection2 0102\ndescriptors 001001\n\
+        subset 1\n001001 10  # WMO BLOCK NUMBER [Numeric]\nend\n",
+    )?;
+    let dumped = dump(rt.alloc(), &LOCAL_USE, 65536, 4096)?;
+    assert_eq!(rt; dumped.written, Ok(()));
+    assert_eq!(rt; dumped.taken.as_slice(), want.as_bytes());
+    Ok(())
+}
+
+/// A message of edition 3 with one block number, 46 octets.
+pub(crate) const EDITION_3: [u8; 46] = [
+    0x42, 0x55, 0x46, 0x52, 0x00, 0x00, 0x2E, 0x03, 0x00, 0x00, 0x12, 0x00, 0x00, 0x62, 0x00, 0x00,
+    0x00, 0x00, 0x0E, 0x00, 0x18, 0x01, 0x02, 0x03, 0x04, 0x00, 0x00, 0x00, 0x0A, 0x00, 0x00, 0x01,
+    0x80, 0x01, 0x01, 0x00, 0x00, 0x00, 0x06, 0x00, 0x14, 0x00, 0x37, 0x37, 0x37, 0x37,
+];
+
+/// The same with sections 3 and 4 odd, 44 octets.
+pub(crate) const ODD_EDITION_3: [u8; 44] = [
+    0x42, 0x55, 0x46, 0x52, 0x00, 0x00, 0x2C, 0x03, 0x00, 0x00, 0x12, 0x00, 0x00, 0x62, 0x00, 0x00,
+    0x00, 0x00, 0x0E, 0x00, 0x18, 0x01, 0x02, 0x03, 0x04, 0x00, 0x00, 0x00, 0x09, 0x00, 0x00, 0x01,
+    0x80, 0x01, 0x01, 0x00, 0x00, 0x05, 0x00, 0x14, 0x37, 0x37, 0x37, 0x37,
+];
+
+/// The text of both.
+pub(crate) const EDITION_3_TEXT: &str = "\
+    message\nedition 3\nmaster 0\ncentre 98\nsubcentre 0\nupdate 0\ncategory 0\nsubcategory 0\n\
+    localsubcategory 0\nmasterversion 14\nlocalversion 0\nyear 24\nmonth 1\nday 2\nhour 3\n\
+    minute 4\nsecond 0\nobserved 1\ncompressed 0\noptional 0\nsubsets 1\nlocal1 00\n\
+    descriptors 001001\nsubset 1\n001001 10  # WMO BLOCK NUMBER [Numeric]\nend\n";
+
+#[test]
+fn dumps_edition_3(rt: HostRuntime) -> Result<(), Fail> {
+    for octets in [EDITION_3.as_slice(), ODD_EDITION_3.as_slice()] {
+        let dumped = dump(rt.alloc(), octets, 65536, 4096)?;
+        assert_eq!(rt; dumped.written, Ok(()));
+        assert_eq!(rt; dumped.taken.as_slice(), EDITION_3_TEXT.as_bytes());
+    }
+    Ok(())
+}
+
+/// A line has 32 octets for local use at most; an empty section 2 has no line.
+#[test]
+fn dumps_many_local_octets(rt: HostRuntime) -> Result<(), Fail> {
+    let mut local1 = [0x20; 33];
+    local1[0] = 0x00;
+    local1[31] = 0xF9;
+    local1[32] = 0x1A;
+    let empty = b"".as_slice();
+    let (words, none) = ([257].as_slice(), Some(empty));
+    let octets = write_message(
+        rt.alloc(),
+        &HEAD,
+        &local1,
+        none,
+        words,
+        0,
+        false,
+        false,
+        empty,
+    )?;
+    let mut want = String::from_str(rt.alloc(), FIRST_LINES)?;
+    want.push_str(
+        "observed 0\ncompressed 0\noptional 1\nsubsets 0\n\
+        local1 00202020202020202020202020202020202020202020202020202020202020F9\n\
+        local1 1A\ndescriptors 001001\nend\n",
+    )?;
+    let dumped = dump(rt.alloc(), &octets, 65536, 4096)?;
+    assert_eq!(rt; dumped.written, Ok(()));
+    assert_eq!(rt; dumped.taken.as_slice(), want.as_bytes());
+    Ok(())
+}
+
+/// Wherever the writer ends, the front of the text is on it.
+#[test]
+fn stops_where_the_writer_ends(rt: HostRuntime) -> Result<(), Fail> {
+    let (octets, text) = row_of(rt.alloc(), "one_block_number")?;
+    for room in 0..text.len() {
+        let dumped = dump(rt.alloc(), &octets, room, 9)?;
+        assert_eq!(rt; dumped.written, Err(RunFault::Write), "{room}");
+        assert!(rt; text.as_bytes().starts_with(&dumped.taken), "{room}");
+        assert_eq!(rt; dumped.taken.len(), room);
+    }
+    Ok(())
+}
+
+/// The turns up to the line where it stops: none before the subset, and a factor, an item and an
+/// end of a pass before the
+/// third item. Compressed data are shown without a turn.
+#[test]
+fn counts_turns(rt: HostRuntime) -> Result<(), Fail> {
+    static STOPS: [(&str, usize, u64); 5] = [
+        ("delayed_twice", 65536, 7),
+        ("delayed_twice", 200, 0),
+        ("delayed_twice", 280, 2),
+        ("delayed_twice", 370, 5),
+        ("compressed_missing", 65536, 0),
+    ];
+    for (name, room, steps) in &STOPS {
+        let (octets, _text) = row_of(rt.alloc(), name)?;
+        let dumped = dump(rt.alloc(), &octets, *room, 4096)?;
+        assert_eq!(rt; dumped.steps, *steps, "{name} {room}");
+    }
+    Ok(())
+}
+
+/// A writer that counts the writes it is given, and notes one that does not end a line.
+#[derive(Drop)]
+struct Watched<'a> {
+    writes: &'a Cell<usize>,
+    torn: &'a Cell<bool>,
+}
+
+impl<'a> Write for Watched<'a> {
+    fn write(&mut self, buf: &[u8]) -> io::Result<usize> {
+        self.writes.set(self.writes.get().saturating_add(1));
+        self.torn.set(self.torn.get() || !buf.ends_with(b"\n"));
+        Ok(buf.len())
+    }
+
+    fn flush(&mut self) -> io::Result<()> {
+        Ok(())
+    }
+}
+
+/// No line is torn: two writes for the header, and one for each line behind it.
+#[test]
+fn writes_whole_lines(rt: HostRuntime) -> Result<(), Fail> {
+    let (octets, _text) = row_of(rt.alloc(), "delayed_twice")?;
+    let (writes, torn) = (Cell::new(0), Cell::new(false));
+    let mut w = Device::new(Watched {
+        writes: &writes,
+        torn: &torn,
+    });
+    let written = dump_to(rt.alloc(), &octets, &mut Steps::new(), &mut w)?;
+    assert_eq!(rt; written, Ok(()));
+    assert_eq!(rt; writes.get(), 8);
+    assert!(rt; !torn.get());
+    Ok(())
+}

@@ -1,0 +1,438 @@
+//! Documents and their messages.
+
+use crate::dump_tests::{
+    EDITION_3, EDITION_3_TEXT, FIRST_LINES, ODD_EDITION_3, ROWS as DUMPED, Tables, dump,
+    message_of, octets_of, read_tables,
+};
+use bufr_text::{
+    Document, DocumentFault, DumpReader, Form, ReadFault, encode_by, encode_document, encode_law,
+};
+use bufr_bits::ScriptIn;
+use bufr_tables::Templates;
+use bufr_walk::Steps;
+use std::alloc::Global;
+use std::test::Fail;
+
+// What is wanted: the octets behind octet 22 of section 1 up to section 5, in hexadecimal, and the
+// steps; or the number of a fault, its line, and the steps.
+#[derive(Clone, Copy)]
+enum Wanted {
+    Octets(&'static str, u64),
+    Refused(u8, u64, u64),
+}
+
+use Wanted::{Octets, Refused};
+
+// A document from `observed` on.
+struct Row {
+    name: &'static str,
+    text: &'static str,
+    wanted: Wanted,
+}
+
+static ROWS: [Row; 30] = [
+    Row {
+        name: "delayed_twice",
+        text: "observed 1\ncompressed 0\noptional 0\nsubsets 1\ndescriptors 101000 031001 001001\n\
+            subset 1\n031001 2\n001001 10\n001001 11\nend\n",
+        wanted: Octets("00000D0000018041001F0101010000070002142C", 7),
+    },
+    Row {
+        name: "compressed_missing",
+        text: "observed 1\ncompressed 1\noptional 0\nsubsets 2\ndescriptors 012101\n\
+            subset 1\n012101 288.15\nsubset 2\n012101 MISSING\nend\n",
+        wanted: Octets("000009000002C00C6500000700708F05", 2),
+    },
+    Row {
+        name: "local_use_sections",
+        text: "observed 1\ncompressed 0\noptional 1\nsubsets 1\nlocal1 ABCD\nsection2 0102\n\
+            descriptors 001001\nsubset 1\n001001 10\nend\n",
+        wanted: Octets("ABCD0000060001020000090000018001010000050014", 2),
+    },
+    Row {
+        name: "no_subsets",
+        text: "observed 1\ncompressed 0\noptional 0\nsubsets 0\ndescriptors 001001\nend\n",
+        wanted: Octets("00000900000080010100000400", 0),
+    },
+    Row {
+        name: "no_subsets_compressed",
+        text: "observed 1\ncompressed 1\noptional 0\nsubsets 0\ndescriptors 001001\nend\n",
+        wanted: Octets("000009000000C0010100000400", 0),
+    },
+    Row {
+        name: "greatest_temperature",
+        text: "observed 1\ncompressed 0\noptional 0\nsubsets 1\ndescriptors 012101\n\
+            subset 1\n012101 655.34\nend\n",
+        wanted: Octets("000009000001800C6500000600FFFE", 2),
+    },
+    Row {
+        name: "compressed_name",
+        text: "observed 1\ncompressed 1\noptional 0\nsubsets 2\ndescriptors 001015\n\
+            subset 1\n001015 \"ABC                 \"\nsubset 2\n001015 MISSING\nend\n",
+        wanted: Octets(
+            "000009000002C0010F00001F0000000000000000000000000000000000000000000D05090FFFFFFC",
+            2,
+        ),
+    },
+    Row {
+        name: "compressed_equal",
+        text: "observed 1\ncompressed 1\noptional 0\nsubsets 2\ndescriptors 012101\n\
+            subset 1\n012101 288.15\nsubset 2\n012101 288.15\nend\n",
+        wanted: Octets("000009000002C00C6500000700708F00", 2),
+    },
+    // an increment of one bit that is 1 would read as missing
+    Row {
+        name: "compressed_apart_by_one",
+        text: "observed 1\ncompressed 1\noptional 0\nsubsets 2\ndescriptors 012101\n\
+            subset 1\n012101 288.15\nsubset 2\n012101 288.16\nend\n",
+        wanted: Octets("000009000002C00C6500000800708F0840", 2),
+    },
+    Row {
+        name: "redefined_reference",
+        text: "observed 1\ncompressed 0\noptional 0\nsubsets 1\n\
+            descriptors 203010 012101 203255 012101\n\
+            subset 1\nR 012101 -400\n012101 284.15\nend\n",
+        wanted: Octets("00000F00000180830A0C6583FF0C6500000800E41C23C0", 5),
+    },
+    Row {
+        name: "equal_factors",
+        text: "observed 1\ncompressed 1\noptional 0\nsubsets 2\ndescriptors 101000 031001 001001\n\
+            subset 1\n031001 1\n001001 10\nsubset 2\n031001 1\n001001 10\nend\n",
+        wanted: Octets("00000D000002C041001F0101010000080001005000", 5),
+    },
+    Row {
+        name: "compressed_texts",
+        text: "observed 1\ncompressed 1\noptional 0\nsubsets 2\ndescriptors 205002\n\
+            subset 1\n205002 \"AB\"\nsubset 2\n205002 \"AC\"\nend\n",
+        wanted: Octets("000009000002C0850200000B000000090509050C", 2),
+    },
+    Row {
+        name: "another_descriptor",
+        text: "observed 1\ncompressed 0\noptional 0\nsubsets 1\ndescriptors 001001\n\
+            subset 1\n012101 5\nend\n",
+        wanted: Refused(51, 24, 1),
+    },
+    Row {
+        name: "no_item_left",
+        text: "observed 1\ncompressed 0\noptional 0\nsubsets 1\ndescriptors 001001\nsubset 1\nend\n",
+        wanted: Refused(51, 24, 1),
+    },
+    Row {
+        name: "item_too_many",
+        text: "observed 1\ncompressed 0\noptional 0\nsubsets 1\ndescriptors 001001\n\
+            subset 1\n001001 10\n001001 11\nend\n",
+        wanted: Refused(51, 25, 2),
+    },
+    Row {
+        name: "not_whole_at_its_scale",
+        text: "observed 1\ncompressed 0\noptional 0\nsubsets 1\ndescriptors 012101\n\
+            subset 1\n012101 288.155\nend\n",
+        wanted: Refused(52, 24, 1),
+    },
+    Row {
+        name: "reads_as_missing",
+        text: "observed 1\ncompressed 0\noptional 0\nsubsets 1\ndescriptors 012101\n\
+            subset 1\n012101 655.35\nend\n",
+        wanted: Refused(53, 24, 1),
+    },
+    Row {
+        name: "long_name",
+        text: "observed 1\ncompressed 0\noptional 0\nsubsets 1\ndescriptors 001015\n\
+            subset 1\n001015 \"ABCDEFGHIJKLMNOPQRSTU\"\nend\n",
+        wanted: Refused(54, 24, 1),
+    },
+    Row {
+        name: "missing_factor",
+        text: "observed 1\ncompressed 0\noptional 0\nsubsets 1\ndescriptors 101000 031001 001001\n\
+            subset 1\n031001 MISSING\nend\n",
+        wanted: Refused(55, 24, 2),
+    },
+    Row {
+        name: "no_template",
+        text: "observed 1\ncompressed 0\noptional 0\nsubsets 1\ndescriptors 201000\nsubset 1\nend\n",
+        wanted: Refused(56, 1, 0),
+    },
+    Row {
+        name: "unequal_factors",
+        text: "observed 1\ncompressed 1\noptional 0\nsubsets 2\ndescriptors 101000 031001 001001\n\
+            subset 1\n031001 1\n001001 10\nsubset 2\n031001 2\n001001 10\n001001 11\nend\n",
+        wanted: Refused(58, 27, 2),
+    },
+    Row {
+        name: "uneven_texts",
+        text: "observed 1\ncompressed 1\noptional 0\nsubsets 2\ndescriptors 205064\n\
+            subset 1\n205064 \"AAAAAAAAAAAAAAAAAAAAAAAAAAAAAAAAAAAAAAAAAAAAAAAAAAAAAAAAAAAAAAAA\"\n\
+            subset 2\n205064 \"AAAAAAAAAAAAAAAAAAAAAAAAAAAAAAAAAAAAAAAAAAAAAAAAAAAAAAAAAAAAAAAB\"\nend\n",
+        wanted: Refused(59, 24, 1),
+    },
+    Row {
+        name: "second_of_three_subsets",
+        text: "observed 1\ncompressed 0\noptional 0\nsubsets 3\ndescriptors 001001\n\
+            subset 1\n001001 10\nsubset 2\n001001 127\nsubset 3\n001001 10\nend\n",
+        wanted: Refused(53, 26, 3),
+    },
+    Row {
+        name: "no_width_left",
+        text: "observed 1\ncompressed 0\noptional 0\nsubsets 1\ndescriptors 201121 001001\n\
+            subset 1\n001001 0\nend\n",
+        wanted: Refused(62, 24, 2),
+    },
+    Row {
+        name: "no_reference",
+        text: "observed 1\ncompressed 0\noptional 0\nsubsets 1\n\
+            descriptors 203010 012101 203255 012101\n\
+            subset 1\n012101 -400\n012101 284.15\nend\n",
+        wanted: Refused(51, 24, 2),
+    },
+    Row {
+        name: "uneven_references",
+        text: "observed 1\ncompressed 1\noptional 0\nsubsets 2\n\
+            descriptors 203010 012101 203255 012101\n\
+            subset 1\nR 012101 -400\n012101 284.15\n\
+            subset 2\nR 012101 -401\n012101 284.15\nend\n",
+        wanted: Refused(59, 24, 2),
+    },
+    Row {
+        name: "text_while_references_are_defined",
+        text: "observed 1\ncompressed 0\noptional 0\nsubsets 1\ndescriptors 203010 001015\n\
+            subset 1\n001015 \"A\"\nend\n",
+        wanted: Refused(62, 24, 2),
+    },
+    Row {
+        name: "no_width_left_compressed",
+        text: "observed 1\ncompressed 1\noptional 0\nsubsets 2\ndescriptors 012101 201121 001001\n\
+            subset 1\n012101 288.15\n001001 0\nsubset 2\n012101 288.15\n001001 0\nend\n",
+        wanted: Refused(62, 25, 3),
+    },
+    // the walk is looked at before the item: it is the end of the subset that is next
+    Row {
+        name: "no_width_left_for_no_item",
+        text: "observed 1\ncompressed 0\noptional 0\nsubsets 1\ndescriptors 012101 201121 001001\n\
+            subset 1\n012101 288.15\nend\n",
+        wanted: Refused(62, 25, 3),
+    },
+    // the first subset's fault is told before the second one's, which stands in front by its number
+    Row {
+        name: "two_faults_at_one_item",
+        text: "observed 1\ncompressed 1\noptional 0\nsubsets 2\ndescriptors 012101\n\
+            subset 1\n012101 655.35\nsubset 2\n001001 5\nend\n",
+        wanted: Refused(53, 24, 1),
+    },
+];
+
+// What stands behind octet 22 of section 1, up to section 5.
+fn behind_the_head(octets: &[u8]) -> &[u8] {
+    match octets.get(30..octets.len().saturating_sub(4)) {
+        Some(part) => part,
+        None => octets,
+    }
+}
+
+// The first document of a text.
+pub(crate) fn document_of(alloc: Global, text: &[u8]) -> Result<Document, Fail> {
+    let mut reader = DumpReader::new(alloc);
+    let mut input = ScriptIn::new(text, 4096, None);
+    Ok(reader.next_document(&mut input)?.ok_or("a document")?)
+}
+
+// The document of a row.
+fn document_in(alloc: Global, row: &Row) -> Result<Document, Fail> {
+    let mut text = String::from_str(alloc, FIRST_LINES)?;
+    text.push_str(row.text)?;
+    document_of(alloc, text.as_bytes())
+}
+
+// What a document is encoded to by the test tables.
+fn encoded_by(
+    alloc: Global,
+    document: &Document,
+    tables: &Tables,
+    steps: &mut Steps,
+) -> Result<Vec<u8>, DocumentFault> {
+    encode_document(alloc, document, &tables.b, &tables.d, steps)
+}
+
+// The same, and the steps; those of an earlier call do not count.
+pub(crate) fn encoded(
+    alloc: Global,
+    document: &Document,
+) -> Result<(Result<Vec<u8>, DocumentFault>, u64), Fail> {
+    let tables = read_tables(alloc)?;
+    let mut steps = Steps::new();
+    let _ = encoded_by(alloc, document, &tables, &mut steps);
+    let result = encoded_by(alloc, document, &tables, &mut steps);
+    Ok((result, steps.count()))
+}
+
+// Whether a message has these octets behind its head.
+pub(crate) fn has_behind_its_head(
+    alloc: Global,
+    octets: &[u8],
+    wanted: &str,
+) -> Result<bool, Fail> {
+    Ok(behind_the_head(octets) == octets_of(alloc, wanted)?.as_slice())
+}
+
+#[test]
+fn encodes_worked_documents(rt: HostRuntime) -> Result<(), Fail> {
+    for row in &ROWS {
+        let document = document_in(rt.alloc(), row)?;
+        let (result, steps) = encoded(rt.alloc(), &document)?;
+        match (result, row.wanted) {
+            (Ok(octets), Octets(wanted, turns)) => {
+                let same = has_behind_its_head(rt.alloc(), octets.as_slice(), wanted)?;
+                assert!(rt; same, "{}", row.name);
+                assert_eq!(rt; steps, turns, "{}", row.name);
+            }
+            (Err(fault), Refused(number, _, turns)) => {
+                assert_eq!(rt; fault.number(), number, "{}", row.name);
+                assert_eq!(rt; steps, turns, "{}", row.name);
+            }
+            _ => assert!(rt; false, "{}", row.name),
+        }
+    }
+    Ok(())
+}
+
+#[test]
+fn refuses_documents_at_their_lines(rt: HostRuntime) -> Result<(), Fail> {
+    for row in &ROWS {
+        let document = document_in(rt.alloc(), row)?;
+        let (result, _) = encoded(rt.alloc(), &document)?;
+        if let (Err(fault), Refused(_, line, _)) = (result, row.wanted) {
+            assert_eq!(rt; fault.line(), Some(line), "{}", row.name);
+        }
+    }
+    Ok(())
+}
+
+// Whether two encodings have the same octets, or the same fault.
+fn are_alike(one: &Result<Vec<u8>, DocumentFault>, other: &Result<Vec<u8>, DocumentFault>) -> bool {
+    match (one, other) {
+        (Ok(one), Ok(other)) => one == other,
+        (Err(one), Err(other)) => (one.number(), one.line()) == (other.number(), other.line()),
+        _ => false,
+    }
+}
+
+/// Documents of many descriptors one after another, and each of them twice, by the same templates:
+/// that of the one before changes nothing.
+#[test]
+fn encodes_documents_behind_others(rt: HostRuntime) -> Result<(), Fail> {
+    let tables = read_tables(rt.alloc())?;
+    let mut templates = Templates::new(rt.alloc(), &tables.b, &tables.d);
+    let mut steps = Steps::new();
+    for row in &ROWS {
+        let document = document_in(rt.alloc(), row)?;
+        let (alone, turns) = encoded(rt.alloc(), &document)?;
+        let form = Form::AsWritten;
+        let first = encode_by(rt.alloc(), &document, form, &mut templates, &mut steps);
+        let again = encode_by(rt.alloc(), &document, form, &mut templates, &mut steps);
+        assert!(rt;
+            are_alike(&first, &alone) && are_alike(&again, &alone),
+            "{}",
+            row.name
+        );
+        assert_eq!(rt; steps.count(), turns, "{}", row.name);
+    }
+    Ok(())
+}
+
+/// A document is read whole before its items are looked at: a line that may not stand there is
+/// told, and not the item above it that is not whole at its scale.
+#[test]
+fn tells_a_line_before_an_item(rt: HostRuntime) -> Result<(), Fail> {
+    let mut text = String::from_str(rt.alloc(), FIRST_LINES)?;
+    text.push_str("observed 1\ncompressed 0\noptional 0\nsubsets 1\ndescriptors 012101\n")?;
+    text.push_str("subset 1\n012101 288.155\nx\nend\n")?;
+    let mut reader = DumpReader::new(rt.alloc());
+    let mut input = ScriptIn::new(text.as_bytes(), 4096, None);
+    let next = reader.next_document(&mut input);
+    assert!(rt; matches!(next, Err(ReadFault::Line(25))));
+    Ok(())
+}
+
+/// 65,792 empty texts of 255 octets, and one of its own width behind them.
+const MANY_TEXTS: &str = "observed 1\ncompressed 0\noptional 0\nsubsets 1\n\
+    descriptors 102255 101255 205255 102003 101255 205255 205255 205255\ndescriptors ";
+
+/// A document of such texts, of whose data only the last item's width is not 16,776,960 octets.
+fn many_texts(alloc: Global, last: &str) -> Result<Document, Fail> {
+    let mut text = String::from_str(alloc, "# a note\n")?;
+    for part in [FIRST_LINES, MANY_TEXTS, last, "\nsubset 1\n"] {
+        text.push_str(part)?;
+    }
+    for _ in 0..65_792 {
+        text.push_str("205255 \"\"\n")?;
+    }
+    text.push_str(last)?;
+    text.push_str(" \"end\"\nend\n")?;
+    document_of(alloc, text.as_bytes())
+}
+
+/// The longest message has 16,777,215 octets; of one octet more nothing is written.
+#[test]
+fn encodes_the_longest_message(rt: HostRuntime) -> Result<(), Fail> {
+    let (octets, _) = encoded(rt.alloc(), &many_texts(rt.alloc(), "205192")?)?;
+    let octets = octets?;
+    assert_eq!(rt; octets.len(), 16_777_215);
+    assert!(rt; octets.starts_with(b"BUFR\xFF\xFF\xFF\x04"));
+    assert!(rt; octets.ends_with(b" 7777"));
+    let (refused, _) = encoded(rt.alloc(), &many_texts(rt.alloc(), "205193")?)?;
+    assert!(rt; matches!(refused, Err(DocumentFault::TooLong(2))));
+    Ok(())
+}
+
+// What is proved of dumps that are encoded. A test that calls it does not have to carry the
+// contracts.
+fn laws() {
+    encode_law::accepted_messages_are_dumpable();
+    encode_law::dumped_messages_are_encoded_again();
+    encode_law::same_readings_have_the_same_dump_text();
+    encode_law::encoded_messages_are_accepted();
+    encode_law::dump_texts_are_encoded_again();
+    encode_law::dumped_messages_are_refused_for_want_of_memory_alone();
+    encode_law::canonical_messages_are_encoded_to_themselves();
+}
+
+/// The messages whose dump texts are worked out: each is encoded to a message that is no longer and
+/// has the same text, and to itself where it is canonical.
+#[test]
+fn encodes_what_was_dumped(rt: HostRuntime) -> Result<(), Fail> {
+    laws();
+    for row in &DUMPED {
+        let message = message_of(rt.alloc(), row)?;
+        let text = dump(rt.alloc(), &message, 65536, 4096)?;
+        let (octets, _) = encoded(rt.alloc(), &document_of(rt.alloc(), &text.taken)?)?;
+        let octets = octets?;
+        let again = dump(rt.alloc(), &octets, 65536, 4096)?;
+        assert!(rt; again.taken == text.taken, "{}", row.name);
+        let packed_otherwise = row.name == "compressed_name" || row.name == "increment_to_all_ones";
+        assert_eq!(rt; octets == message, !packed_otherwise, "{}", row.name);
+        assert!(rt; octets.len() <= message.len(), "{}", row.name);
+    }
+    Ok(())
+}
+
+// The octets that a text's first document is encoded to.
+fn octets_for(alloc: Global, text: &[u8]) -> Result<Vec<u8>, Fail> {
+    let document = document_of(alloc, text)?;
+    Ok(encoded(alloc, &document)?.0?)
+}
+
+/// Sections 3 and 4 of edition 3 are made even, with zero octets.
+#[test]
+fn encodes_edition_3(rt: HostRuntime) -> Result<(), Fail> {
+    let octets = octets_for(rt.alloc(), EDITION_3_TEXT.as_bytes())?;
+    assert_eq!(rt; octets.as_slice(), EDITION_3.as_slice());
+    Ok(())
+}
+
+/// Sections 3 and 4 that a message of edition 3 had odd are made even too.
+#[test]
+fn makes_odd_sections_even(rt: HostRuntime) -> Result<(), Fail> {
+    let text = dump(rt.alloc(), &ODD_EDITION_3, 65536, 4096)?;
+    let octets = octets_for(rt.alloc(), &text.taken)?;
+    assert_eq!(rt; octets.as_slice(), EDITION_3.as_slice());
+    Ok(())
+}

@@ -1,0 +1,230 @@
+//! Documents and their messages in another form than they say.
+
+use crate::dump_tests::{FIRST_LINES, Tables, dump, read_tables};
+use crate::encode_tests::{document_of, has_behind_its_head};
+use bufr_text::{Document, DocumentFault, Form, encode_form, encode_law};
+use bufr_walk::Steps;
+use std::alloc::Global;
+use std::test::Fail;
+
+// What is wanted: the octets behind octet 22 of section 1 up to section 5, in hexadecimal, and the
+// steps; or the number of a fault, its line, and the steps.
+#[derive(Clone, Copy)]
+enum Wanted {
+    Octets(&'static str, u64),
+    Refused(u8, u64, u64),
+}
+
+use Wanted::{Octets, Refused};
+
+// A document from `observed` on, and a form.
+struct Row {
+    name: &'static str,
+    text: &'static str,
+    form: Form,
+    wanted: Wanted,
+}
+
+/// One subset with two values.
+const DELAYED_TWICE: &str = "observed 1\ncompressed 0\noptional 0\nsubsets 1\n\
+    descriptors 101000 031001 001001\nsubset 1\n031001 2\n001001 10\n001001 11\nend\n";
+
+/// Two subsets, compressed.
+const COMPRESSED_MISSING: &str = "observed 1\ncompressed 1\noptional 0\nsubsets 2\n\
+    descriptors 012101\nsubset 1\n012101 288.15\nsubset 2\n012101 MISSING\nend\n";
+
+/// Two subsets, one with a value and one with two.
+const UNEQUAL_FACTORS: &str = "observed 1\ncompressed 0\noptional 0\nsubsets 2\n\
+    descriptors 101000 031001 001001\nsubset 1\n031001 1\n001001 10\n\
+    subset 2\n031001 2\n001001 10\n001001 11\nend\n";
+
+/// Two subsets with references of their own.
+const UNEQUAL_REFERENCES: &str = "observed 1\ncompressed 0\noptional 0\nsubsets 2\n\
+    descriptors 203010 012101 203255\nsubset 1\nR 012101 -400\nsubset 2\nR 012101 -401\nend\n";
+
+/// As many subsets as there may be, of two texts each.
+const MANY_SUBSETS: &str =
+    "observed 1\ncompressed 1\noptional 0\nsubsets 65535\ndescriptors 205255 205002\n";
+
+/// No subset.
+const NO_SUBSETS: &str =
+    "observed 1\ncompressed 0\noptional 0\nsubsets 0\ndescriptors 001001\nend\n";
+
+static ROWS: [Row; 8] = [
+    Row {
+        name: "delayed_twice",
+        text: DELAYED_TWICE,
+        form: Form::Compressed,
+        wanted: Octets("00000D000001C041001F0101010000090002005002C0", 7),
+    },
+    Row {
+        name: "delayed_twice_as_written",
+        text: DELAYED_TWICE,
+        form: Form::AsWritten,
+        wanted: Octets("00000D0000018041001F0101010000070002142C", 7),
+    },
+    Row {
+        name: "compressed_missing",
+        text: COMPRESSED_MISSING,
+        form: Form::Plain,
+        wanted: Octets("000009000002800C6500000800708FFFFF", 4),
+    },
+    Row {
+        name: "unequal_factors",
+        text: UNEQUAL_FACTORS,
+        form: Form::Compressed,
+        wanted: Refused(58, 27, 2),
+    },
+    Row {
+        name: "unequal_factors_plain",
+        text: UNEQUAL_FACTORS,
+        form: Form::Plain,
+        wanted: Octets("00000D0000028041001F010101000009000114042858", 12),
+    },
+    Row {
+        name: "unequal_references",
+        text: UNEQUAL_REFERENCES,
+        form: Form::Compressed,
+        wanted: Refused(59, 24, 2),
+    },
+    Row {
+        name: "no_subsets",
+        text: NO_SUBSETS,
+        form: Form::Compressed,
+        wanted: Octets("000009000000C0010100000400", 0),
+    },
+    Row {
+        name: "no_subsets_plain",
+        text: NO_SUBSETS,
+        form: Form::Plain,
+        wanted: Octets("00000900000080010100000400", 0),
+    },
+];
+
+// The document of a text behind the first lines.
+fn document_behind(alloc: Global, rest: &str) -> Result<Document, Fail> {
+    let mut text = String::from_str(alloc, FIRST_LINES)?;
+    text.push_str(rest)?;
+    document_of(alloc, text.as_bytes())
+}
+
+// What a document is encoded to in a form by the test tables.
+fn encoded_by(
+    alloc: Global,
+    document: &Document,
+    form: Form,
+    tables: &Tables,
+    steps: &mut Steps,
+) -> Result<Vec<u8>, DocumentFault> {
+    encode_form(alloc, document, form, &tables.b, &tables.d, steps)
+}
+
+// The same, and the steps; those of an earlier call do not count.
+fn formed(
+    alloc: Global,
+    document: &Document,
+    form: Form,
+) -> Result<(Result<Vec<u8>, DocumentFault>, u64), Fail> {
+    let tables = read_tables(alloc)?;
+    let mut steps = Steps::new();
+    let _ = encoded_by(alloc, document, form, &tables, &mut steps);
+    let result = encoded_by(alloc, document, form, &tables, &mut steps);
+    Ok((result, steps.count()))
+}
+
+// The octets that a document is encoded to in a form.
+fn octets_in(alloc: Global, document: &Document, form: Form) -> Result<Vec<u8>, Fail> {
+    let (octets, _) = formed(alloc, document, form)?;
+    Ok(octets?)
+}
+
+#[test]
+fn encodes_in_a_form(rt: HostRuntime) -> Result<(), Fail> {
+    for row in &ROWS {
+        let document = document_behind(rt.alloc(), row.text)?;
+        let (result, steps) = formed(rt.alloc(), &document, row.form)?;
+        match (result, row.wanted) {
+            (Ok(octets), Octets(wanted, turns)) => {
+                let same = has_behind_its_head(rt.alloc(), octets.as_slice(), wanted)?;
+                assert!(rt; same, "{}", row.name);
+                assert_eq!(rt; steps, turns, "{}", row.name);
+            }
+            (Err(fault), Refused(number, _, turns)) => {
+                assert_eq!(rt; fault.number(), number, "{}", row.name);
+                assert_eq!(rt; steps, turns, "{}", row.name);
+            }
+            _ => assert!(rt; false, "{}", row.name),
+        }
+    }
+    Ok(())
+}
+
+#[test]
+fn refuses_a_form_at_its_line(rt: HostRuntime) -> Result<(), Fail> {
+    for row in &ROWS {
+        let document = document_behind(rt.alloc(), row.text)?;
+        let (result, _) = formed(rt.alloc(), &document, row.form)?;
+        if let (Err(fault), Refused(_, line, _)) = (result, row.wanted) {
+            assert_eq!(rt; fault.line(), Some(line), "{}", row.name);
+        }
+    }
+    Ok(())
+}
+
+/// A text with another line in the place of one.
+fn with_other(alloc: Global, text: &[u8], line: &str, other: &str) -> Result<String, Fail> {
+    Ok(str::from_utf8(text)?.replacen(alloc, line, other, 1)?)
+}
+
+// What is proved of forms. A test that calls it does not have to carry the contracts.
+fn laws() {
+    encode_law::dumped_messages_are_encoded_in_each_form();
+    encode_law::dumped_messages_are_refused_for_their_form_alone();
+    encode_law::messages_in_each_form_are_accepted();
+    encode_law::forms_change_the_flag_of_a_dump_text_alone();
+    encode_law::canonical_messages_come_back_from_each_form();
+}
+
+/// A compressed message, in plain form and back again: the same octets, and between them a dump
+/// text that differs in the flag alone.
+#[test]
+fn comes_back_from_the_plain_form(rt: HostRuntime) -> Result<(), Fail> {
+    laws();
+    let document = document_behind(rt.alloc(), COMPRESSED_MISSING)?;
+    let first = octets_in(rt.alloc(), &document, Form::AsWritten)?;
+    let plain = octets_in(rt.alloc(), &document, Form::Plain)?;
+    assert_eq!(rt; (first.len(), plain.len()), (50, 51));
+    let packed = dump(rt.alloc(), &first, 65536, 4096)?;
+    let dumped = dump(rt.alloc(), &plain, 65536, 4096)?;
+    let (said, says) = ("compressed 1\n", "compressed 0\n");
+    let wanted = with_other(rt.alloc(), &packed.taken, said, says)?;
+    assert_eq!(rt; dumped.taken.as_slice(), wanted.as_bytes());
+    let again = document_of(rt.alloc(), &dumped.taken)?;
+    let back = octets_in(rt.alloc(), &again, Form::Compressed)?;
+    assert!(rt; back == first);
+    Ok(())
+}
+
+// Two texts of spaces in each of 65,535 subsets.
+fn many_texts(alloc: Global) -> Result<String, Fail> {
+    let mut text = String::from_str(alloc, MANY_SUBSETS)?;
+    for subset in 1..=65_535 {
+        let lines = format!(in alloc; "subset {subset}\n205255 \"\"\n205002 \"\"\n")?;
+        text.push_str(&lines)?;
+    }
+    text.push_str("end\n")?;
+    Ok(text)
+}
+
+/// Two texts of spaces in each of 65,535 subsets: compressed they are few octets, and plain too
+/// many.
+#[test]
+fn refuses_a_long_plain_form(rt: HostRuntime) -> Result<(), Fail> {
+    let text = many_texts(rt.alloc())?;
+    let document = document_behind(rt.alloc(), text.as_str())?;
+    let packed = octets_in(rt.alloc(), &document, Form::AsWritten)?;
+    assert_eq!(rt; packed.len(), 308);
+    let refused = formed(rt.alloc(), &document, Form::Plain)?.0;
+    assert!(rt; matches!(refused, Err(DocumentFault::TooLong(1))));
+    Ok(())
+}

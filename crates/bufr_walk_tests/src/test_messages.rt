@@ -1,0 +1,367 @@
+//! Messages of worked examples, and what is told of them.
+use bufr_frame::Message;
+use bufr_tables::{Fxy, TableB, TableD, Template};
+use bufr_walk::{
+    ItemView, Plans, Prepared, Reading, Spot, Steps, Value, Visitor, WalkFault, read_message,
+    read_prepared,
+};
+use std::alloc::{AllocError, Global};
+use std::test::Fail;
+
+// Test data, not WMO's.
+const TABLE_B: &[u8] = b"\
+    fxy,name,unit,scale,reference,width\n\
+    001001,WMO BLOCK NUMBER,Numeric,0,0,7\n\
+    001015,STATION OR SITE NAME,CCITT IA5,0,0,160\n\
+    005002,LATITUDE (COARSE ACCURACY),degree,2,-9000,15\n\
+    012101,AIR TEMPERATURE,K,2,0,16\n\
+    020003,PRESENT WEATHER,Code table,0,0,9\n\
+    031000,SHORT DELAYED DESCRIPTOR REPLICATION FACTOR,Numeric,0,0,1\n\
+    031001,DELAYED DESCRIPTOR REPLICATION FACTOR,Numeric,0,0,8\n\
+    031002,EXTENDED DELAYED DESCRIPTOR REPLICATION FACTOR,Numeric,0,0,16\n";
+
+const TABLE_D: &[u8] = b"fxy,member\n360192,001001\n360192,012101\n";
+
+/// The flags of section 3 that say that the data are observed, and not compressed.
+pub(crate) const APART: u8 = 0x80;
+
+/// The same, and compressed.
+pub(crate) const TOGETHER: u8 = 0xC0;
+
+/// The descriptors of a text: six digits each, with spaces between them.
+fn descriptors_of(alloc: Global, text: &str) -> Result<Vec<Fxy>, Fail> {
+    let mut descriptors = Vec::new(alloc);
+    for digits in text.split_whitespace() {
+        let number = digits.parse::<u32>()?;
+        let word = number / 100_000 << 14 | number / 1000 % 100 << 8 | number % 1000;
+        descriptors.push(Fxy::from_word(u16::try_from(word)?))?;
+    }
+    Ok(descriptors)
+}
+
+/// The octets of a text of hexadecimal digits.
+pub(crate) fn octets_of(alloc: Global, text: &str) -> Result<Vec<u8>, Fail> {
+    let mut octets = Vec::new(alloc);
+    let mut high = None;
+    for digit in text.chars() {
+        let value = u8::try_from(digit.to_digit(16).unwrap_or(0))?;
+        high = match high {
+            None => Some(value << 4),
+            Some(first) => {
+                octets.push(first | value)?;
+                None
+            }
+        };
+    }
+    Ok(octets)
+}
+
+/// A message of edition 4 with these subsets, flags, descriptors and data.
+fn message_of(
+    alloc: Global,
+    subsets: u16,
+    flags: u8,
+    descriptors: &[Fxy],
+    payload: &[u8],
+) -> Result<Vec<u8>, Fail> {
+    let mut octets = Vec::new(alloc);
+    let third = u16::try_from(descriptors.len().saturating_mul(2).saturating_add(7))?;
+    let fourth = u16::try_from(payload.len().saturating_add(4))?;
+    let length = third.saturating_add(fourth).saturating_add(34);
+    octets.extend_from_slice(b"BUFR\0")?;
+    octets.extend_from_slice(&length.to_be_bytes())?;
+    octets.extend_from_slice(&[4, 0, 0, 22, 0, 0, 98, 0, 0, 0, 0, 0, 0, 0, 14, 0])?;
+    octets.extend_from_slice(&[7, 232, 1, 2, 3, 4, 5, 0])?;
+    octets.extend_from_slice(&third.to_be_bytes())?;
+    octets.push(0)?;
+    octets.extend_from_slice(&subsets.to_be_bytes())?;
+    octets.push(flags)?;
+    for fxy in descriptors {
+        octets.extend_from_slice(&fxy.word().to_be_bytes())?;
+    }
+    octets.push(0)?;
+    octets.extend_from_slice(&fourth.to_be_bytes())?;
+    octets.push(0)?;
+    octets.extend_from_slice(payload)?;
+    octets.extend_from_slice(b"7777")?;
+    Ok(octets)
+}
+
+/// A visitor that writes down what it is told.
+#[derive(Drop)]
+struct Lines {
+    alloc: Global,
+    text: String,
+}
+
+impl Visitor for Lines {
+    type Fault = AllocError;
+
+    ghost sees = { λ s call r t. Unit {0} };
+
+    fn subset(&mut self, number: u16) -> Result<(), AllocError> {
+        let line = format!(in self.alloc; " {number}:")?;
+        self.text.push_str(line.as_str())
+    }
+
+    fn item(&mut self, item: &ItemView<'_>) -> Result<(), AllocError> {
+        let line = match item.value {
+            Value::Number(number, scale) => {
+                format!(in self.alloc; " {} {number}e{scale}", item.fxy)?
+            }
+            Value::Text(octets) => {
+                let mut line = format!(in self.alloc; " {} \"", item.fxy)?;
+                for octet in octets {
+                    line.push_str(format!(in self.alloc; "{octet:02X}")?.as_str())?;
+                }
+                line.push('"')?;
+                line
+            }
+            Value::Missing => format!(in self.alloc; " {} missing", item.fxy)?,
+            Value::Reference(number) => format!(in self.alloc; " {} R{number}", item.fxy)?,
+        };
+        self.text.push_str(line.as_str())?;
+        if item.entry.is_some() {
+            self.text.push_str(" #")?;
+        }
+        Ok(())
+    }
+}
+
+/// Where a fault stands.
+fn spot_of(fault: WalkFault) -> Option<Spot> {
+    match fault {
+        WalkFault::DataEnd(spot) => Some(spot),
+        WalkFault::Width(spot) => Some(spot),
+        WalkFault::Defining(spot) => Some(spot),
+        WalkFault::UnequalFactor(spot) => Some(spot),
+        WalkFault::Increment(spot) => Some(spot),
+        WalkFault::TooManyValues(spot) => Some(spot),
+        WalkFault::Memory => None,
+    }
+}
+
+/// The message that octets are.
+fn message_in(octets: &[u8]) -> Option<Message<'_>> {
+    if octets.len() < 12 {
+        return None;
+    }
+    Message::parse(octets).ok()
+}
+
+/// What is told of a reading: its bits, the steps that were made, and the items that it keeps, if
+/// any.
+fn read_as(alloc: Global, reading: &Reading<'_>, steps: &Steps) -> Result<String, Fail> {
+    let (bits, count, held) = (reading.bits(), steps.count(), reading.held());
+    let mut text = format!(in alloc; "bits {bits} steps {count}")?;
+    if held > 0 {
+        text.push_str(format!(in alloc; " held {held}")?.as_str())?;
+    }
+    Ok(text)
+}
+
+/// The same, and then its subsets and items. A showing takes as many steps as the reading did, and
+/// none where items are kept.
+fn shown(alloc: Global, reading: &Reading<'_>, steps: &mut Steps) -> Result<String, Fail> {
+    let mut lines = Lines {
+        alloc,
+        text: read_as(alloc, reading, steps)?,
+    };
+    if reading.subsets() > 0 {
+        lines.text.push(';')?;
+    }
+    let want = if reading.held() > 0 { 0 } else { steps.count() };
+    if reading.show(alloc, &mut lines, steps).is_err() {
+        lines.text.push_str(" out of memory")?;
+    }
+    if steps.count() != want {
+        lines.text.push_str(" other steps")?;
+    }
+    Ok(lines.text)
+}
+
+/// What is told of a fault: its number, where it stands, and the steps that were made.
+fn refused(alloc: Global, fault: WalkFault, steps: &Steps) -> Result<String, Fail> {
+    let (number, count) = (fault.number(), steps.count());
+    match spot_of(fault) {
+        Some(spot) => Ok(format!(in alloc;
+            "{number} at {} {} {} steps {count}",
+            spot.subset, spot.fxy, spot.bit
+        )?),
+        None => Ok(format!(in alloc; "{number}")?),
+    }
+}
+
+/// Table B. It promises nothing, so that the proof of a test does not carry the table's contract.
+fn table_b(alloc: Global) -> Result<TableB, Fail> {
+    Ok(TableB::read(alloc, TABLE_B)?)
+}
+
+/// Table D, with no promise either.
+fn table_d(alloc: Global) -> Result<TableD, Fail> {
+    Ok(TableD::read(alloc, TABLE_D)?)
+}
+
+/// The template of these descriptors, with no promise either.
+fn template_of(alloc: Global, descriptors: &[Fxy], table: &TableB) -> Result<Template, Fail> {
+    let sequences = table_d(alloc)?;
+    Ok(Template::build(alloc, descriptors, table, &sequences)?)
+}
+
+/// The tables by which messages are read.
+pub(crate) fn tables(alloc: Global) -> Result<(TableB, TableD), Fail> {
+    Ok((table_b(alloc)?, table_d(alloc)?))
+}
+
+/// What comes of reading and showing a message by what is prepared for its template.
+fn told_prepared(alloc: Global, octets: &[u8], prepared: Prepared<'_>) -> Result<String, Fail> {
+    let message = message_in(octets).ok_or("a message")?;
+    let mut steps = Steps::new();
+    match read_prepared(alloc, &message, prepared, &mut steps) {
+        Ok(reading) => shown(alloc, &reading, &mut steps),
+        Err(fault) => refused(alloc, fault, &steps),
+    }
+}
+
+/// What comes of reading and showing the message with these subsets, descriptors and data by what
+/// is kept of the messages before.
+pub(crate) fn told_by(
+    alloc: Global,
+    plans: &mut Plans<'_>,
+    subsets: u16,
+    descriptors: &str,
+    payload: &[u8],
+) -> Result<String, Fail> {
+    let descriptors = descriptors_of(alloc, descriptors)?;
+    let octets = message_of(alloc, subsets, APART, &descriptors, payload)?;
+    plans.turn_to(&descriptors)?;
+    match plans.answer() {
+        Ok(prepared) => told_prepared(alloc, &octets, prepared),
+        Err(fault) => Ok(format!(in alloc; "{fault}")?),
+    }
+}
+
+/// A template, and the table by which its data are read.
+#[derive(Drop)]
+pub(crate) struct Asked {
+    template: Template,
+    table: TableB,
+}
+
+impl Asked {
+    /// The template of these descriptors.
+    pub(crate) fn new(alloc: Global, descriptors: &str) -> Result<Asked, Fail> {
+        let table = table_b(alloc)?;
+        let descriptors = descriptors_of(alloc, descriptors)?;
+        let template = template_of(alloc, &descriptors, &table)?;
+        Ok(Asked { template, table })
+    }
+
+    /// The template.
+    pub(crate) fn template(&self) -> &Template {
+        &self.template
+    }
+
+    /// The table.
+    pub(crate) fn table(&self) -> &TableB {
+        &self.table
+    }
+}
+
+/// A message, its template, and the table by which it is read.
+#[derive(Drop)]
+pub(crate) struct Worked {
+    octets: Vec<u8>,
+    template: Template,
+    table: TableB,
+}
+
+impl Worked {
+    /// The message with these subsets, flags, descriptors and data.
+    pub(crate) fn new(
+        alloc: Global,
+        subsets: u16,
+        flags: u8,
+        descriptors: &str,
+        payload: &[u8],
+    ) -> Result<Worked, Fail> {
+        let table = table_b(alloc)?;
+        let descriptors = descriptors_of(alloc, descriptors)?;
+        let octets = message_of(alloc, subsets, flags, &descriptors, payload)?;
+        let template = template_of(alloc, &descriptors, &table)?;
+        Ok(Worked {
+            octets,
+            template,
+            table,
+        })
+    }
+
+    /// What comes of reading it.
+    pub(crate) fn read(&self, alloc: Global) -> Result<String, Fail> {
+        let message = message_in(&self.octets).ok_or("a message")?;
+        let mut steps = Steps::new();
+        match read_message(alloc, &message, &self.template, &self.table, &mut steps) {
+            Ok(reading) => read_as(alloc, &reading, &steps),
+            Err(fault) => refused(alloc, fault, &steps),
+        }
+    }
+
+    /// What comes of reading and showing it.
+    pub(crate) fn told(&self, alloc: Global) -> Result<String, Fail> {
+        let message = message_in(&self.octets).ok_or("a message")?;
+        let mut steps = Steps::new();
+        match read_message(alloc, &message, &self.template, &self.table, &mut steps) {
+            Ok(reading) => shown(alloc, &reading, &mut steps),
+            Err(fault) => refused(alloc, fault, &steps),
+        }
+    }
+
+    /// How many subsets and items it shows, and in how many steps, where the item behind so many is
+    /// refused.
+    pub(crate) fn counted_to(&self, alloc: Global, most: u64) -> Result<(u64, u64, u64), Fail> {
+        let message = message_in(&self.octets).ok_or("a message")?;
+        let mut steps = Steps::new();
+        let mut counts = Counts {
+            subsets: 0,
+            items: 0,
+            most,
+        };
+        let reading = read_message(alloc, &message, &self.template, &self.table, &mut steps)?;
+        // Where it is refused, what was counted tells where.
+        let _ = reading.show(alloc, &mut counts, &mut steps);
+        Ok((counts.subsets, counts.items, steps.count()))
+    }
+
+    /// How many subsets and items it shows.
+    pub(crate) fn counted(&self, alloc: Global) -> Result<(u64, u64), Fail> {
+        let (subsets, items, _) = self.counted_to(alloc, u64::MAX)?;
+        Ok((subsets, items))
+    }
+}
+
+/// A visitor that counts what it is told, and refuses the item behind so many.
+#[derive(Drop)]
+struct Counts {
+    subsets: u64,
+    items: u64,
+    most: u64,
+}
+
+impl Visitor for Counts {
+    type Fault = u64;
+
+    ghost sees = { λ s call r t. Unit {0} };
+
+    fn subset(&mut self, _number: u16) -> Result<(), u64> {
+        self.subsets = u64::wrapping_add(self.subsets, 1);
+        Ok(())
+    }
+
+    fn item(&mut self, _item: &ItemView<'_>) -> Result<(), u64> {
+        if self.items == self.most {
+            return Err(self.items);
+        }
+        self.items = u64::wrapping_add(self.items, 1);
+        Ok(())
+    }
+}
