@@ -1,7 +1,7 @@
 // What is shown by running: worked items of compressed data, each fault, and the order of the
 // faults.
-use bufr_fill::*;
 use crate::tests::{Way, assert_rows, hexadecimal, stopped, told};
+use bufr_fill::*;
 use bufr_tables::{TableB, Template};
 use bufr_walk::{Fields, Steps, walk};
 use std::alloc::Global;

@@ -1,6 +1,6 @@
 // What is shown by running: worked items of data that are not compressed, and each fault.
-use bufr_fill::*;
 use crate::packed_tests::{bits_together, together};
+use bufr_fill::*;
 use bufr_tables::{Fxy, TableB, TableD, Template};
 use bufr_walk::{Fields, Steps, WalkStop, walk};
 use std::alloc::{AllocError, Global};

@@ -1,6 +1,5 @@
 //! What `dump` refuses, and where its reader and its writers fail.
 
-use bufr_run::Tally;
 use crate::test_messages::{
     COMPRESSED, LOCAL_USE, ONE_ACCEPTED, ONE_REFUSED, STRAY, delayed_twice, joined, message_in,
     message_of, of_edition_2, one_block_number, text_of, text_of_one, words_of,
@@ -10,6 +9,7 @@ use crate::test_runs::{
     assert_stops_at_failed_reads, assert_stops_at_failed_writes, assert_stops_at_interrupted_reads,
     stray_before,
 };
+use bufr_run::Tally;
 use std::process::Abort;
 use std::test::Fail;
 

@@ -1,11 +1,11 @@
 //! Runs of the three commands over messages of edition 3.
 
-use bufr_run::Tally;
 use crate::test_messages::{
     ONE_ACCEPTED, ONE_BLOCK_NUMBER, ONE_REFUSED, joined, line_of_one, octets_of, one_block_number,
     text_of_one,
 };
 use crate::test_runs::{Command, assert_run, run_whole};
+use bufr_run::Tally;
 use bufr_text::Form;
 use std::alloc::Global;
 use std::process::Abort;

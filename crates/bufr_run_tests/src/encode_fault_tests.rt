@@ -1,6 +1,5 @@
 //! Each fault of a document beside the nearest document that is accepted, and faults of devices.
 
-use bufr_run::document_line::write_document_fault;
 use crate::test_messages::{
     ONE_ACCEPTED, ONE_REFUSED, joined, message_in, message_of, octets_of, one_block_number,
     text_of, text_of_one, words_of,
@@ -10,8 +9,6 @@ use crate::test_runs::{
 };
 use bufr_bits::{End, ScriptIn, ScriptOut};
 use bufr_frame::RunFault;
-use bufr_tables::Fxy;
-use bufr_text::{DocumentFault, WalkRefusal};
 use std::alloc::Global;
 use std::test::Fail;
 
@@ -457,18 +454,6 @@ fn refuses_header_lines(rt: HostRuntime) -> Result<(), Fail> {
         let input = text.as_bytes();
         assert_run(&rt, Command::Encode, line, input, &message, errors, tally)?;
     }
-    Ok(())
-}
-
-/// The least document with too many values has over 134 million lines, so only its line is written.
-#[test]
-fn writes_too_many_values(rt: HostRuntime) -> Result<(), Fail> {
-    let refusal = WalkRefusal::TooManyValues(Fxy::from_word(0x0101));
-    let mut e = ScriptOut::new(rt.alloc(), 64, 7, End::Fail)?;
-    let written = write_document_fault(DocumentFault::Walk(24, refusal), &mut e);
-    assert!(rt; written.is_ok());
-    let line = b"line 24: 62 walk 35 descriptor 001001\n";
-    assert!(rt; e.taken() == line.as_slice());
     Ok(())
 }
 

@@ -1,7 +1,5 @@
 //! The worked examples of `encode`, run.
 
-use bufr_run::round_trip::{Round, dump_encode_dump};
-use bufr_run::Tally;
 use crate::test_messages::{
     NOTHING, ONE_ACCEPTED, ONE_REFUSED, bulletins, delayed_twice, joined, message_in,
     messages_of_bulletins, one_block_number, text_of, text_of_one,
@@ -10,8 +8,9 @@ use crate::test_runs::{
     Command, Tables, assert_run, assert_stops_at_failed_errors, assert_stops_at_failed_reads,
     assert_stops_at_failed_writes, read_tables, run_over,
 };
-use bufr_run::{corrected_law, law, round_trip_law};
 use bufr_bits::{End, ScriptIn, ScriptOut};
+use bufr_run::round_trip::{Round, dump_encode_dump};
+use bufr_run::{Tally, corrected_law, law, round_trip_law};
 use std::process::Abort;
 use std::test::Fail;
 

@@ -1,8 +1,8 @@
 //! Runs of `encode` in another form than the documents say.
 
-use bufr_run::Tally;
 use crate::test_messages::{ONE_ACCEPTED, message_in, text_of};
 use crate::test_runs::{Command, assert_run};
+use bufr_run::Tally;
 use bufr_text::Form;
 use std::test::Fail;
 

@@ -2,13 +2,13 @@
 //! own proof does not have to carry the run's contract.
 ghost use Rattle.std.specs.Prelude.{◌≤◌};
 
-use bufr_run::run_dump::run_dump;
-use bufr_run::run_encode::{run_encode, run_encode_form};
-use bufr_run::run_ls::run_ls;
-use bufr_run::Tally;
 use crate::test_messages::{STRAY, TABLE_B, TABLE_D, joined};
 use bufr_bits::{Device, End, ScriptIn, ScriptOut, Sink, Source};
 use bufr_frame::RunFault;
+use bufr_run::Tally;
+use bufr_run::run_dump::run_dump;
+use bufr_run::run_encode::{run_encode, run_encode_form};
+use bufr_run::run_ls::run_ls;
 use bufr_tables::{TableB, TableD};
 use bufr_text::Form;
 use std::alloc::Global;

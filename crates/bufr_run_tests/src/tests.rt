@@ -1,6 +1,5 @@
 //! The worked examples of `ls`, run.
 
-use bufr_run::Tally;
 use crate::test_messages::{
     COMPRESSED, LOCAL_USE, NOTHING, ONE_ACCEPTED, ONE_BLOCK_NUMBER, ONE_REFUSED, STRAY, joined,
     line_of_one,
@@ -12,6 +11,7 @@ use crate::test_runs::{
 };
 use bufr_bits::{Device, End, ScriptIn, ScriptOut};
 use bufr_frame::RunFault;
+use bufr_run::Tally;
 use std::cell::Cell;
 use std::io::{self, Read, Write};
 use std::test::Fail;

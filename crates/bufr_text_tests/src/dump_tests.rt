@@ -1,10 +1,10 @@
 //! The dump texts of worked messages.
 ghost use Rattle.std.specs.Prelude.{◌≤◌, length};
 
-use bufr_text::write_dump;
 use bufr_bits::{Device, End, ScriptOut, Sink};
 use bufr_frame::{Head, Message, RunFault, write_message};
 use bufr_tables::{Fxy, TableB, TableD, Template};
+use bufr_text::write_dump;
 use bufr_walk::{Steps, read_message};
 use std::alloc::Global;
 use std::cell::Cell;

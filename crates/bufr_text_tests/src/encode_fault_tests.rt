@@ -1,8 +1,8 @@
 //! The faults of encoding, told.
 
-use bufr_text::{DocumentFault, WalkRefusal};
 use bufr_fill::Expected;
 use bufr_tables::{Fxy, TemplateFault};
+use bufr_text::{DocumentFault, WalkRefusal};
 use std::test::Fail;
 
 #[test]

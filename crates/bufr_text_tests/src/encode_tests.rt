@@ -4,11 +4,11 @@ use crate::dump_tests::{
     EDITION_3, EDITION_3_TEXT, FIRST_LINES, ODD_EDITION_3, ROWS as DUMPED, Tables, dump,
     message_of, octets_of, read_tables,
 };
+use bufr_bits::ScriptIn;
+use bufr_tables::Templates;
 use bufr_text::{
     Document, DocumentFault, DumpReader, Form, ReadFault, encode_by, encode_document, encode_law,
 };
-use bufr_bits::ScriptIn;
-use bufr_tables::Templates;
 use bufr_walk::Steps;
 use std::alloc::Global;
 use std::test::Fail;

@@ -1,10 +1,10 @@
 //! Dump texts, read by readers of 1, 3 and 4,096 octets per read.
 
 use crate::dump_tests::FIRST_LINES;
-use bufr_text::{Document, DumpReader, Entry, ReadFault, law};
 use bufr_bits::{Device, ScriptIn, Source};
 use bufr_fill::Form;
 use bufr_frame::RunFault;
+use bufr_text::{Document, DumpReader, Entry, ReadFault, law};
 use std::alloc::{AllocError, Global};
 use std::process::Abort;
 use std::test::Fail;

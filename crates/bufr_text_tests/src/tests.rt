@@ -1,9 +1,8 @@
 //! The worked examples, run.
 
-use bufr_text::write_ls;
-use bufr_text::{Part, write_all, write_parts};
 use bufr_bits::{End, ScriptOut};
 use bufr_frame::{Message, RunFault};
+use bufr_text::{Part, write_all, write_ls, write_parts};
 use std::test::Fail;
 
 /// A message of edition 4 with one block number, 48 octets.
