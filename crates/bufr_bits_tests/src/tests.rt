@@ -5,8 +5,9 @@ use bufr_bits::{
     BitSlice, BitWriter, Device, End, Failed, NumberFault, ScriptIn, ScriptOut, Sink, Source,
     decimal_read, decimal_text,
 };
-use std::alloc::AllocError;
+use std::alloc::{AllocError, Global};
 use std::io::{self, Read, Write};
+use std::process::Abort;
 use std::test::Fail;
 
 /// A reader and writer whose every call is interrupted.
@@ -87,22 +88,29 @@ fn get_is_bit_by_bit(rt: HostRuntime) {
     }
 }
 
+const OCTETS_AT_THE_ENDS: &[(u64, Option<u8>)] = &[(3, Some(0x09)), (64, Some(0x01)), (65, None)];
+
+const NUMBERS_AT_THE_ENDS: &[(u64, u32, Option<u64>)] = &[
+    (4, 60, Some(0x0123_4567_89AB_CDEF)),
+    (7, 63, Some(0x48D1_59E2_6AF3_7BC0)),
+    (9, 63, Some(0x2345_6789_ABCD_EF01)),
+    (10, 63, None),
+    (72, 0, Some(0)),
+    (73, 0, None),
+    (u64::MAX, 1, None),
+];
+
 #[test]
 fn get_at_the_ends(rt: HostRuntime) {
-    let rows = [
-        (4, 60, Some(0x0123_4567_89AB_CDEF)),
-        (7, 63, Some(0x48D1_59E2_6AF3_7BC0)),
-        (9, 63, Some(0x2345_6789_ABCD_EF01)),
-        (10, 63, None),
-        (72, 0, Some(0)),
-        (73, 0, None),
-        (u64::MAX, 1, None),
-    ];
-    for (at, width, want) in rows {
-        assert_eq!(rt; number_at(&NINE, at, width), want, "at {at}, {width} bits");
+    for (at, width, want) in NUMBERS_AT_THE_ENDS {
+        assert_eq!(rt;
+            number_at(&NINE, *at, *width),
+            *want,
+            "at {at}, {width} bits"
+        );
     }
-    for (at, want) in [(3, Some(0x09)), (64, Some(0x01)), (65, None)] {
-        assert_eq!(rt; octet_at(&NINE, at), want, "at {at}");
+    for (at, want) in OCTETS_AT_THE_ENDS {
+        assert_eq!(rt; octet_at(&NINE, *at), *want, "at {at}");
     }
 }
 
@@ -146,17 +154,20 @@ fn script_out_keeps_to_its_script(rt: HostRuntime) -> Result<(), Fail> {
     Ok(())
 }
 
+/// What a read of two octets answers.
+fn read_two<R: Source>(source: &mut R) -> Result<usize, Failed> {
+    source.read(&mut [0u8; 2])
+}
+
 #[test]
-fn device_reads_and_writes(rt: HostRuntime) -> Result<(), Fail> {
+fn device_reads_and_writes(rt: HostRuntime) {
     let mut source = Device::new(b"abc".as_slice());
-    let mut buf = [0u8; 2];
-    assert_eq!(rt; source.read(&mut buf), Ok(2));
-    assert_eq!(rt; source.read(&mut buf), Ok(1));
-    assert_eq!(rt; source.read(&mut buf), Ok(0));
+    assert_eq!(rt; read_two(&mut source), Ok(2));
+    assert_eq!(rt; read_two(&mut source), Ok(1));
+    assert_eq!(rt; read_two(&mut source), Ok(0));
     let mut sink = Device::new(Vec::new(rt.alloc()));
     assert_eq!(rt; Sink::write(&mut sink, b"abc"), Ok(3));
     assert_eq!(rt; Sink::flush(&mut sink), Ok(()));
-    Ok(())
 }
 
 #[test]
@@ -265,149 +276,179 @@ fn pushes_of_every_width(rt: HostRuntime) -> Result<(), Fail> {
     Ok(())
 }
 
+const DECIMAL_TEXTS: &[(i128, i16, &[u8])] = &[
+    (-5, 2, b"-0.05"),
+    (288, -2, b"28800"),
+    (0, 2, b"0.00"),
+    (0, -2, b"0"),
+    (0, 0, b"0"),
+    (28815, 2, b"288.15"),
+    (28800, 2, b"288.00"),
+    (100, 2, b"1.00"),
+    (99, 2, b"0.99"),
+    (-1, -3, b"-1000"),
+    (i128::MIN, 0, b"-170141183460469231731687303715884105728"),
+    (i128::MAX, 38, b"1.70141183460469231731687303715884105727"),
+];
+
 #[test]
 fn decimal_texts(rt: HostRuntime) -> Result<(), Fail> {
-    let rows: [(i128, i16, &[u8]); 12] = [
-        (-5, 2, b"-0.05"),
-        (288, -2, b"28800"),
-        (0, 2, b"0.00"),
-        (0, -2, b"0"),
-        (0, 0, b"0"),
-        (28815, 2, b"288.15"),
-        (28800, 2, b"288.00"),
-        (100, 2, b"1.00"),
-        (99, 2, b"0.99"),
-        (-1, -3, b"-1000"),
-        (i128::MIN, 0, b"-170141183460469231731687303715884105728"),
-        (i128::MAX, 38, b"1.70141183460469231731687303715884105727"),
-    ];
-    for (v, scale, want) in rows {
+    for (v, scale, want) in DECIMAL_TEXTS {
         let mut out = Vec::new(rt.alloc());
-        put_decimal(v, scale, &mut out)?;
-        assert_eq!(rt; out.as_slice(), want, "{v} at {scale}");
-        put_decimal(v, scale, &mut out)?;
+        put_decimal(*v, *scale, &mut out)?;
+        assert_eq!(rt; out.as_slice(), *want, "{v} at {scale}");
+        put_decimal(*v, *scale, &mut out)?;
         assert_eq!(rt; out.len() / 2, want.len(), "{v} at {scale}");
-        assert_eq!(rt; read_decimal(want, scale), Ok(v), "{v} at {scale}");
+        assert_eq!(rt; read_decimal(want, *scale), Ok(*v), "{v} at {scale}");
     }
     Ok(())
 }
+
+/// A number as text at scale -300: its sign, its digits, and 300 zeros.
+fn whole_of(alloc: Global, sign: &[u8], digits: &[u8]) -> Result<Vec<u8>, AllocError> {
+    let mut text = Vec::from_slice(alloc, sign)?;
+    text.extend_from_slice(digits)?;
+    for _ in 0..300 {
+        text.push(b'0')?;
+    }
+    Ok(text)
+}
+
+/// A number of 39 digits as text at scale 300: its sign, `0.`, 261 zeros, and its digits.
+fn fraction_of(alloc: Global, sign: &[u8], digits: &[u8]) -> Result<Vec<u8>, AllocError> {
+    let mut text = Vec::from_slice(alloc, sign)?;
+    text.extend_from_slice(b"0.")?;
+    for _ in 0..261 {
+        text.push(b'0')?;
+    }
+    text.extend_from_slice(digits)?;
+    Ok(text)
+}
+
+/// Asserts that a number has this text at a scale, and that the text is read as the number.
+fn assert_text(
+    rt: &(impl Abort + AllocGlobal),
+    v: i128,
+    scale: i16,
+    want: &[u8],
+) -> Result<(), AllocError> {
+    let mut out = Vec::new(rt.alloc());
+    put_decimal(v, scale, &mut out)?;
+    assert_eq!(rt; out.as_slice(), want, "{v} at {scale}");
+    assert_eq!(rt; read_decimal(&out, scale), Ok(v), "{v} at {scale}");
+    Ok(())
+}
+
+const NUMBERS_AT_THE_END: &[(i128, &[u8], &[u8])] = &[
+    (i128::MIN, b"-", b"170141183460469231731687303715884105728"),
+    (i128::MAX, b"", b"170141183460469231731687303715884105727"),
+];
 
 #[test]
 fn decimal_texts_at_the_ends(rt: HostRuntime) -> Result<(), Fail> {
-    let rows: [(i128, &[u8], &[u8]); 2] = [
-        (i128::MIN, b"-", b"170141183460469231731687303715884105728"),
-        (i128::MAX, b"", b"170141183460469231731687303715884105727"),
-    ];
-    for (v, sign, digits) in rows {
-        let mut whole = Vec::from_slice(rt.alloc(), sign)?;
-        whole.extend_from_slice(digits)?;
-        whole.resize(sign.len() + 339, b'0')?;
-        let mut fraction = Vec::from_slice(rt.alloc(), sign)?;
-        fraction.extend_from_slice(b"0.")?;
-        fraction.resize(sign.len() + 263, b'0')?;
-        fraction.extend_from_slice(digits)?;
-        for (scale, want) in [(-300, &whole), (300, &fraction)] {
-            let mut out = Vec::new(rt.alloc());
-            put_decimal(v, scale, &mut out)?;
-            assert_eq!(rt; out.as_slice(), want.as_slice(), "{v} at {scale}");
-            assert_eq!(rt; read_decimal(&out, scale), Ok(v), "{v} at {scale}");
-        }
+    for (v, sign, digits) in NUMBERS_AT_THE_END {
+        let whole = whole_of(rt.alloc(), sign, digits)?;
+        assert_text(&rt, *v, -300, &whole)?;
+        let fraction = fraction_of(rt.alloc(), sign, digits)?;
+        assert_text(&rt, *v, 300, &fraction)?;
     }
     Ok(())
 }
 
+const DECIMAL_READINGS: &[(&[u8], i16, Result<i128, NumberFault>)] = &[
+    (b"28850", -2, Err(NumberFault::Inexact)),
+    (b"28800", -2, Ok(288)),
+    (b"1e3", 0, Err(NumberFault::Syntax)),
+    (&[b'9'; 40], 0, Err(NumberFault::Large)),
+    (&[b'9'; 40], -1, Err(NumberFault::Inexact)),
+    (b"-0", 0, Ok(0)),
+    (b"-0.00", 2, Ok(0)),
+    (b"007.50", 1, Ok(75)),
+    (
+        b"0000000000000000000000000000000000000000000000000000001",
+        0,
+        Ok(1),
+    ),
+    (b"-", 0, Err(NumberFault::Syntax)),
+    (b"", 0, Err(NumberFault::Syntax)),
+    (b"--1", 0, Err(NumberFault::Syntax)),
+    (b"+1", 0, Err(NumberFault::Syntax)),
+    (b" 1", 0, Err(NumberFault::Syntax)),
+    (b"1.", 0, Err(NumberFault::Syntax)),
+    (b".5", 1, Err(NumberFault::Syntax)),
+    (b".", 0, Err(NumberFault::Syntax)),
+    (b"1.2.3", 2, Err(NumberFault::Syntax)),
+    (b"1.x", 1, Err(NumberFault::Syntax)),
+    (b"288.15", 2, Ok(28815)),
+    (b"288.155", 2, Err(NumberFault::Inexact)),
+    (b"288.1500", 2, Ok(28815)),
+    (b"5", 300, Err(NumberFault::Large)),
+    (b"0", 300, Ok(0)),
+    (b"1", -300, Err(NumberFault::Inexact)),
+    (b"0.0", -300, Ok(0)),
+    (b"170141183460469231731687303715884105727", 0, Ok(i128::MAX)),
+    (
+        b"170141183460469231731687303715884105728",
+        0,
+        Err(NumberFault::Large),
+    ),
+    (
+        b"-170141183460469231731687303715884105728",
+        0,
+        Ok(i128::MIN),
+    ),
+    (
+        b"-170141183460469231731687303715884105729",
+        0,
+        Err(NumberFault::Large),
+    ),
+];
+
 #[test]
 fn decimal_readings(rt: HostRuntime) {
-    let rows: [(&[u8], i16, Result<i128, NumberFault>); 30] = [
-        (b"28850", -2, Err(NumberFault::Inexact)),
-        (b"28800", -2, Ok(288)),
-        (b"1e3", 0, Err(NumberFault::Syntax)),
-        (&[b'9'; 40], 0, Err(NumberFault::Large)),
-        (&[b'9'; 40], -1, Err(NumberFault::Inexact)),
-        (b"-0", 0, Ok(0)),
-        (b"-0.00", 2, Ok(0)),
-        (b"007.50", 1, Ok(75)),
-        (
-            b"0000000000000000000000000000000000000000000000000000001",
-            0,
-            Ok(1),
-        ),
-        (b"-", 0, Err(NumberFault::Syntax)),
-        (b"", 0, Err(NumberFault::Syntax)),
-        (b"--1", 0, Err(NumberFault::Syntax)),
-        (b"+1", 0, Err(NumberFault::Syntax)),
-        (b" 1", 0, Err(NumberFault::Syntax)),
-        (b"1.", 0, Err(NumberFault::Syntax)),
-        (b".5", 1, Err(NumberFault::Syntax)),
-        (b".", 0, Err(NumberFault::Syntax)),
-        (b"1.2.3", 2, Err(NumberFault::Syntax)),
-        (b"1.x", 1, Err(NumberFault::Syntax)),
-        (b"288.15", 2, Ok(28815)),
-        (b"288.155", 2, Err(NumberFault::Inexact)),
-        (b"288.1500", 2, Ok(28815)),
-        (b"5", 300, Err(NumberFault::Large)),
-        (b"0", 300, Ok(0)),
-        (b"1", -300, Err(NumberFault::Inexact)),
-        (b"0.0", -300, Ok(0)),
-        (b"170141183460469231731687303715884105727", 0, Ok(i128::MAX)),
-        (
-            b"170141183460469231731687303715884105728",
-            0,
-            Err(NumberFault::Large),
-        ),
-        (
-            b"-170141183460469231731687303715884105728",
-            0,
-            Ok(i128::MIN),
-        ),
-        (
-            b"-170141183460469231731687303715884105729",
-            0,
-            Err(NumberFault::Large),
-        ),
-    ];
-    for (text, scale, want) in rows {
-        assert_eq!(rt; read_decimal(text, scale), want, "{text:?} at {scale}");
+    for (text, scale, want) in DECIMAL_READINGS {
+        assert_eq!(rt; read_decimal(text, *scale), *want, "{text:?} at {scale}");
     }
 }
 
+const DECIMAL_READINGS_OF_64_BITS: &[(&[u8], i16, Result<i128, NumberFault>)] = &[
+    (&[b'9'; 18], 0, Ok(999_999_999_999_999_999)),
+    (&[b'9'; 19], 0, Ok(9_999_999_999_999_999_999)),
+    (&[b'9'; 20], 0, Ok(99_999_999_999_999_999_999)),
+    (
+        &[b'9'; 38],
+        0,
+        Ok(99_999_999_999_999_999_999_999_999_999_999_999_999),
+    ),
+    (&[b'9'; 39], 0, Err(NumberFault::Large)),
+    (b"-9999999999999999999", 0, Ok(-9_999_999_999_999_999_999)),
+    (b"-18446744073709551616", 0, Ok(-18_446_744_073_709_551_616)),
+    (b"999999999999999.999", 3, Ok(999_999_999_999_999_999)),
+    (b"9999999999999999.9", 1, Ok(99_999_999_999_999_999)),
+    (b"99999999999999999.9", 0, Err(NumberFault::Inexact)),
+    (b"-9.9999999999999999", 16, Ok(-99_999_999_999_999_999)),
+    (b"99999999999999999", 2, Ok(9_999_999_999_999_999_900)),
+    (b"99999999999999999", 3, Ok(99_999_999_999_999_999_000)),
+    (b"5", 18, Ok(5_000_000_000_000_000_000)),
+    (b"5", 19, Ok(50_000_000_000_000_000_000)),
+    (b"120000000000000000", -1, Ok(12_000_000_000_000_000)),
+    (b"120000000000000000", -2, Ok(1_200_000_000_000_000)),
+    (b"12000", -4, Err(NumberFault::Inexact)),
+    (b"12000.0", -3, Ok(12)),
+    (b"0000000000000000001", 0, Ok(1)),
+    (b"00000000000000000001", 0, Ok(1)),
+    (b"-000.10", 1, Ok(-1)),
+    (b".999999999999999999", 0, Err(NumberFault::Syntax)),
+    (b"999999999999999999.", 0, Err(NumberFault::Syntax)),
+    (b".9999999999999999999", 0, Err(NumberFault::Syntax)),
+    (b"9999999999999999999.", 0, Err(NumberFault::Syntax)),
+    (b"12.5x", 1, Err(NumberFault::Syntax)),
+    (b"-.5", 1, Err(NumberFault::Syntax)),
+];
+
 #[test]
 fn decimal_readings_of_64_bits(rt: HostRuntime) {
-    let rows: [(&[u8], i16, Result<i128, NumberFault>); 28] = [
-        (&[b'9'; 18], 0, Ok(999_999_999_999_999_999)),
-        (&[b'9'; 19], 0, Ok(9_999_999_999_999_999_999)),
-        (&[b'9'; 20], 0, Ok(99_999_999_999_999_999_999)),
-        (
-            &[b'9'; 38],
-            0,
-            Ok(99_999_999_999_999_999_999_999_999_999_999_999_999),
-        ),
-        (&[b'9'; 39], 0, Err(NumberFault::Large)),
-        (b"-9999999999999999999", 0, Ok(-9_999_999_999_999_999_999)),
-        (b"-18446744073709551616", 0, Ok(-18_446_744_073_709_551_616)),
-        (b"999999999999999.999", 3, Ok(999_999_999_999_999_999)),
-        (b"9999999999999999.9", 1, Ok(99_999_999_999_999_999)),
-        (b"99999999999999999.9", 0, Err(NumberFault::Inexact)),
-        (b"-9.9999999999999999", 16, Ok(-99_999_999_999_999_999)),
-        (b"99999999999999999", 2, Ok(9_999_999_999_999_999_900)),
-        (b"99999999999999999", 3, Ok(99_999_999_999_999_999_000)),
-        (b"5", 18, Ok(5_000_000_000_000_000_000)),
-        (b"5", 19, Ok(50_000_000_000_000_000_000)),
-        (b"120000000000000000", -1, Ok(12_000_000_000_000_000)),
-        (b"120000000000000000", -2, Ok(1_200_000_000_000_000)),
-        (b"12000", -4, Err(NumberFault::Inexact)),
-        (b"12000.0", -3, Ok(12)),
-        (b"0000000000000000001", 0, Ok(1)),
-        (b"00000000000000000001", 0, Ok(1)),
-        (b"-000.10", 1, Ok(-1)),
-        (b".999999999999999999", 0, Err(NumberFault::Syntax)),
-        (b"999999999999999999.", 0, Err(NumberFault::Syntax)),
-        (b".9999999999999999999", 0, Err(NumberFault::Syntax)),
-        (b"9999999999999999999.", 0, Err(NumberFault::Syntax)),
-        (b"12.5x", 1, Err(NumberFault::Syntax)),
-        (b"-.5", 1, Err(NumberFault::Syntax)),
-    ];
-    for (text, scale, want) in rows {
-        assert_eq!(rt; read_decimal(text, scale), want, "{text:?} at {scale}");
+    for (text, scale, want) in DECIMAL_READINGS_OF_64_BITS {
+        assert_eq!(rt; read_decimal(text, *scale), *want, "{text:?} at {scale}");
     }
 }
