@@ -1,8 +1,8 @@
 //! The worked streams, each found with readers of 1, 3 and all octets per read.
 
 use crate::test_messages::ONE_BLOCK_NUMBER;
-use bufr_frame::{Cause, Event, Finder, RunFault, law};
 use bufr_bits::ScriptIn;
+use bufr_frame::{Cause, Event, Finder, RunFault, law};
 use std::alloc::{AllocError, Global};
 use std::process::Abort;
 use std::test::Fail;

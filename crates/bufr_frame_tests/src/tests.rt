@@ -1,10 +1,10 @@
 //! The worked messages, taken apart and written.
 
 use crate::test_messages::{COMPRESSED, EDITION_3, EDITION_3_ODD, LOCAL_USE, ONE_BLOCK_NUMBER};
+use bufr_bits::ScriptIn;
 use bufr_frame::{
     Head, Message, RunFault, SectionFault, WriteFault, read_behind, read_to_end, write_message,
 };
-use bufr_bits::ScriptIn;
 use std::alloc::Global;
 use std::test::Fail;
 

@@ -1,8 +1,7 @@
 //! What is shown by running: the worked lists, their cells, each fault, the limits.
 use crate::test_tables::{NESTED, NO_FACTORS, TABLE_B, TABLE_D, read_b, read_d};
 use bufr_tables::{Cell, Fxy, TableB, TableD, TableFault, Template, TemplateFault, Templates};
-use std::alloc::Global;
-use std::alloc::AllocError;
+use std::alloc::{AllocError, Global};
 use std::test::Fail;
 
 // A name for what is shown, the descriptors, and what comes of them.
