@@ -7,7 +7,6 @@ ghost use Rattle.bufr_walk.specs.declared.packed_in.PackedFault.TheVariants as w
 use crate::kept::KeptItem;
 use crate::packed_in::PackedFault;
 use crate::spec::{Role, Spec};
-use bufr_tables::Kind;
 use std::alloc::Global;
 use std::collections::BTreeMap;
 use std::marker::Model;
@@ -25,36 +24,16 @@ pub(crate) struct KeptPlace {
     step: u8,
 }
 
-/// What tells fields apart, in an order of its own.
+/// What tells fields apart, in an order of its own. The descriptor, the role and whether a field is
+/// read by an entry of Table B decide of what kind it is, and whether it may be missing.
 #[derive(Clone, Copy, PartialEq, Eq, PartialOrd, Ord)]
 struct SpecKey {
     reference: i128,
     width: u32,
     word: u16,
     scale: i16,
-    role: u8,
-    kind: u8,
-    may_be_missing: bool,
+    role: Role,
     listed: bool,
-}
-
-/// A number for each role.
-fn role_number(role: Role) -> u8 {
-    match role {
-        Role::Element => 0,
-        Role::Inserted => 1,
-        Role::Factor => 2,
-        Role::Reference => 3,
-    }
-}
-
-/// A number for each kind.
-fn kind_number(kind: Kind) -> u8 {
-    match kind {
-        Kind::Numeric => 0,
-        Kind::Coded => 1,
-        Kind::Character => 2,
-    }
 }
 
 /// The key of a field.
@@ -64,11 +43,25 @@ fn key_of(spec: &Spec) -> SpecKey {
         width: spec.width(),
         word: spec.fxy().word(),
         scale: spec.scale(),
-        role: role_number(spec.role()),
-        kind: kind_number(spec.kind()),
-        may_be_missing: spec.may_be_missing(),
+        role: spec.role(),
         listed: spec.listed(),
     }
+}
+
+/// How many slots there are for fields.
+const SLOTS: u64 = 256;
+
+/// No field came to a slot yet.
+const EMPTY: u32 = u32::MAX;
+
+/// The slot of a field, by what sets fields of one template apart most often.
+#[inline(always)]
+fn slot_of(spec: &Spec) -> usize
+    ensures { result < 256 }
+{
+    let fxy = spec.fxy();
+    let element = u64::from(fxy.y()) + 37 * u64::from(fxy.x());
+    ((element + 89 * u64::from(spec.width())) % SLOTS) as usize
 }
 
 /// Whether a field stands at a place among others.
@@ -85,10 +78,12 @@ fn stands(specs: &[Spec], place: u32, spec: &Spec) -> bool
 }
 
 /// Where a field may stand among those that differ. Each answer is a guess that is looked at, so
-/// nothing rests on what is found here.
+/// nothing rests on what is found here. The first field that comes to a slot has it, and the others
+/// that come there are found by their key.
 #[derive(Drop)]
 pub(crate) struct SpecFinder {
     last: u32,
+    slots: [u32; 256],
     by_key: BTreeMap<SpecKey, u32>,
 }
 
@@ -100,24 +95,34 @@ impl SpecFinder {
     pub(crate) fn new(alloc: Global) -> SpecFinder {
         SpecFinder {
             last: 0,
+            slots: [EMPTY; 256],
             by_key: BTreeMap::new(alloc),
         }
     }
 
-    /// The place of a field that does not stand where fields stand that are met again and again.
+    /// The place of a field whose slot another one has.
     fn find_by_key(&self, specs: &[Spec], spec: &Spec) -> Option<u32>
         ensures { IfSome result (λ place. StandsAt specs.now place spec.now) }
     {
-        match self.by_key.get(&key_of(spec)).copied() {
-            Some(place) => {
-                if stands(specs, place, spec) {
-                    Some(place)
-                } else {
-                    None
-                }
-            }
-            None => None,
+        let place = self.by_key.get(&key_of(spec)).copied().unwrap_or(EMPTY);
+        if stands(specs, place, spec) {
+            return Some(place);
         }
+        None
+    }
+
+    /// The place of a field that is not met where the last one leads.
+    fn find_again(&self, specs: &[Spec], spec: &Spec) -> Option<u32>
+        ensures { IfSome result (λ place. StandsAt specs.now place spec.now) }
+    {
+        let place = self.slots[slot_of(spec)];
+        if place == EMPTY {
+            return None;
+        }
+        if stands(specs, place, spec) {
+            return Some(place);
+        }
+        self.find_by_key(specs, spec)
     }
 
     /// The place of a field: it is nearly always the one behind the last that was met, or the last
@@ -133,12 +138,17 @@ impl SpecFinder {
         if stands(specs, self.last, spec) {
             return Some(self.last);
         }
-        self.find_by_key(specs, spec)
+        self.find_again(specs, spec)
     }
 
     /// Takes note of the place of a field that was not met before. Where there is no memory for it
     /// the field is kept a second time if it is met again.
     fn enter(&mut self, spec: &Spec, place: u32) {
+        let slot = slot_of(spec);
+        if self.slots[slot] == EMPTY {
+            self.slots[slot] = place;
+            return;
+        }
         match self.by_key.insert(key_of(spec), place) {
             Ok(_) => {}
             Err(_) => {}
