@@ -1,6 +1,5 @@
 -- What a reading of compressed data is made of.
-use Rattle.std.proofs.Common.{◌≡◌, ◌<◌, ◌≤◌, ◌*◌, ◌^◌, ℕ, true, List, length, Vec, refl, sym, ◌∙◌, ap, subst}
-use Rattle.std.specs.declared.alloc.Global.{Global}
+use Rattle.std.proofs.Common.{◌≡◌, ◌<◌, ◌≤◌, ◌*◌, ◌^◌, ℕ, true, List, length, refl, sym, ◌∙◌, ap, subst}
 use Rattle.bufr_frame.specs.Sections.{Sections}
 use Rattle.bufr_tables.specs.TableB.{Row}
 use Rattle.bufr_tables.specs.Tree.{Tree}
