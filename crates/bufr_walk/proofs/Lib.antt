@@ -23,6 +23,7 @@ pub mod TextLemmas
 pub mod PackedLoops
 pub mod PackedContents
 pub mod PackedPlaces
+pub mod KeptItemsLemmas
 pub mod PackedKept
 pub mod PackedReadings
 pub mod PackedAt

@@ -1,6 +1,5 @@
 -- What a reading of compressed data is made of.
-use Rattle.std.proofs.Common.{◌≡◌, ◌<◌, ◌≤◌, ◌*◌, ◌^◌, ℕ, true, List, length, Vec, refl, sym, ◌∙◌, ap, subst}
-use Rattle.std.specs.declared.alloc.Global.{Global}
+use Rattle.std.proofs.Common.{◌≡◌, ◌<◌, ◌≤◌, ◌*◌, ◌^◌, ℕ, true, List, length, refl, sym, ◌∙◌, ap, subst}
 use Rattle.bufr_frame.specs.Sections.{Sections}
 use Rattle.bufr_tables.specs.TableB.{Row}
 use Rattle.bufr_tables.specs.Tree.{Tree}
@@ -12,8 +11,8 @@ use Rattle.bufr_walk.specs.Outcome.{data_in, data_of, read_by, IsRead, IsReading
 use Rattle.bufr_walk.specs.Reading.{together}
 use Rattle.bufr_walk.proofs.ReadingLemmas.{used_most}
 
-pub packed_held : (table : List Row) (template : Tree) (subsets : ℕ) (octets : List ℕ) (used steps : ℕ) (entries : Vec KeptItem Global) → IsReadAndKept (next_item table template) (data_in true subsets octets) entries.items used steps → 7 * length entries.items ≤ used → length octets < 2 ^ 24
-    → IsHeld (read_by table template (data_in true subsets octets) used (length entries.items)) (kept.Together entries)
+pub packed_held : (table : List Row) (template : Tree) (subsets : ℕ) (octets : List ℕ) (used steps : ℕ) (entries : List KeptItem) → IsReadAndKept (next_item table template) (data_in true subsets octets) entries used steps → 7 * length entries ≤ used → length octets < 2 ^ 24
+    → IsHeld (read_by table template (data_in true subsets octets) used (length entries)) (kept.Together entries)
 packed_held table template subsets octets used steps entries h few short = record { values = together h.0; reading = h.1.0; keeps = h.2; few = few; pays = tt; short = used_most octets used short h.1.0.1 }
 
 -- the compressed data of a message

@@ -1,5 +1,5 @@
 -- What a reader of compressed data keeps.
-use Rattle.std.proofs.Common.{◌≡◌, ℕ, suc, ◌+◌, ◌*◌, ◌<◌, ◌≤◌, ◌&&◌, Bool, true, List, [], ◌∷◌, ◌++◌, length, take, drop, Result, Ok, Err, refl, sym, ◌∙◌, ap, subst, arith}
+use Rattle.std.proofs.Common.{◌≡◌, ℕ, zero, suc, ◌+◌, ◌*◌, ◌^◌, ◌<◌, ◌≤◌, ◌&&◌, Bool, true, List, [], ◌∷◌, ◌++◌, length, take, drop, Result, Ok, Err, refl, sym, ◌∙◌, ap, subst, arith}
 use Rattle.std.specs.Prelude.{◌==◌, ◌%◌, MatchResult}
 use Rattle.std.specs.List.{list_all}
 use Rattle.std.proofs.lemmas.List.{length-append}
@@ -14,7 +14,7 @@ use Rattle.bufr_walk.specs.Asked.{Asked}
 use Rattle.bufr_walk.specs.PlainField.{FieldFault, data_end, increment, unequal_factor}
 use Rattle.bufr_walk.specs.PackedField.{packed_field}
 use Rattle.bufr_walk.specs.PackedBits.{IsSeen, IsUnseen, IsLooked, IsUnlooked}
-use Rattle.bufr_walk.specs.PackedIn.{PackedCursor, item_with, item_at, items_at, contents_found, was_found, stands_at, packed_view, IsPackedIn, room_for, IsPackedTaken, wrong_of, PackedTakes}
+use Rattle.bufr_walk.specs.PackedIn.{PackedCursor, item_with, item_at, items_at, contents_found, was_found, stands_at, packed_view, IsPackedIn, IsPackedTaken, wrong_of, PackedTakes}
 use Rattle.bufr_walk.specs.Reading.{most_values, items_at_once}
 
 pub length-items_at : (bits : List Bool) (n : ℕ) (kept : List KeptItem) → length (items_at bits n kept) ≡ length kept
@@ -37,8 +37,8 @@ stands_here bits n e seen h k =
     both (was_found (packed_field n e.spec (drop e.at bits))) (e.step == number_of (take 6 (drop (e.at + e.spec.width) bits))) (ap was_found h.field) (equal_test e.step (number_of (take 6 (drop (e.at + e.spec.width) bits))) (k ∙ h.step))
 
 -- one entry more
-pub keeps : (bits : List Bool) (at n : ℕ) (kept kept' : List KeptItem) (room room' : ℕ) (e : KeptItem) (seen : PackedItem) → IsPackedIn bits at n kept room → e.at ≡ at → e.step ≡ seen.step → IsLooked (packed_view bits at n kept) e.spec seen → kept' ≡ kept ++ e ∷ [] → room_for (length kept + 1) ≤ room' → IsPackedIn bits seen.end n kept' room'
-keeps bits at n kept kept' room room' e seen h here k look is enough =
+pub keeps : (bits : List Bool) (at n : ℕ) (kept kept' : List KeptItem) (e : KeptItem) (seen : PackedItem) → IsPackedIn bits at n kept → e.at ≡ at → e.step ≡ seen.step → IsLooked (packed_view bits at n kept) e.spec seen → kept' ≡ kept ++ e ∷ [] → IsPackedIn bits seen.end n kept'
+keeps bits at n kept kept' e seen h here k look is =
     let stands = stands_here bits n e seen (subst (λ x. IsSeen bits x n e.spec seen) (sym here) look.seen) k in
     let count : length kept' ≡ length kept + 1 = ap length is ∙ length-append kept (e ∷ []) in
     let many = look.few in
@@ -48,7 +48,6 @@ keeps bits at n kept kept' room room' e seen h here k look is enough =
       few = subst (λ j. j * n ≤ most_values) (ap (λ j. j + 1) (length-items_at bits n kept) ∙ sym count) look.few;
       held = omega (arith, count, h.held, look.seen.least);
       stand = ap (list_all (stands_at bits n)) is ∙ list_all-append (stands_at bits n) kept (e ∷ []) ∙ both (list_all (stands_at bits n) kept) (stands_at bits n e && true) h.stand (both (stands_at bits n e) true stands refl);
-      has_room = subst (λ l. room_for l ≤ room') (sym count) enough;
     }
 
 pub takes_one : (bits : List Bool) (at n : ℕ) (kept kept' : List KeptItem) (e : KeptItem) (seen : PackedItem) → e.at ≡ at → IsLooked (packed_view bits at n kept) e.spec seen → kept' ≡ kept ++ e ∷ []
@@ -102,3 +101,15 @@ pub no_room : (s : PackedCursor) (a : Asked) (bits : List Bool) (at n : ℕ) (ke
 no_room s a bits at n kept kept' e view same is full =
     subst (λ w. PackedTakes s a (Err w) (packed_view bits at n kept')) (sym is)
     (ap (packed_view bits at n) same ∙ view, subst (λ x. length x.items % items_at_once ≡ 0) view (subst (λ l. l % items_at_once ≡ 0) (sym (length-items_at bits n kept)) full))
+
+-- at least as many values as items
+times_some : (m n : ℕ) → 1 ≤ n → m ≤ m * n
+times_some zero n h = omega arith
+times_some (suc m) n h = let rest : m ≤ m * n = times_some m n h in omega (arith, rest, h)
+
+-- the items are few
+pub few_kept : (s : PackedCursor) (bits : List Bool) (at n : ℕ) (kept : List KeptItem) → packed_view bits at n kept ≡ s → 1 ≤ n → (length s.items + 1) * s.subsets ≤ most_values → length kept < 2 ^ 32
+few_kept s bits at n kept view some few =
+    let values : (length (items_at bits n kept) + 1) * n ≤ most_values = subst (λ x. (length x.items + 1) * x.subsets ≤ most_values) (sym view) few in
+    let items : length (items_at bits n kept) + 1 ≤ (length (items_at bits n kept) + 1) * n = times_some (length (items_at bits n kept) + 1) n some in
+    omega (arith, values, items, length-items_at bits n kept)

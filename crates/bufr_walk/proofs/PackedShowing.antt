@@ -1,7 +1,6 @@
 -- A reading of compressed data is shown by what it keeps.
-use Rattle.std.proofs.Common.{◌≡◌, ℕ, zero, suc, Bool, true, false, List, [], ◌∷◌, drop, Vec, Result, length, refl, sym, ◌∙◌, ap, subst}
+use Rattle.std.proofs.Common.{◌≡◌, ℕ, zero, suc, Bool, true, false, List, [], ◌∷◌, drop, Result, length, refl, sym, ◌∙◌, ap, subst}
 use Rattle.std.specs.List.{list_all}
-use Rattle.std.specs.declared.alloc.Global.{Global}
 use Rattle.bufr_walk.specs.declared.fault.ShowFault.{ShowFault}
 use Rattle.bufr_walk.specs.declared.kept.KeptItem.{KeptItem}
 use Rattle.bufr_walk.specs.declared.reading.Kept.{Kept}
@@ -26,14 +25,14 @@ one_packed (suc n) course xs ys bits l m h g = let one = one_outcome (packed (su
     has zs left w = record { reads = w.0; few = λ j lt. refl; ends = ap (λ x. outcome_of (packed (suc n)) false x left) w.1 }
 
 -- the entries of what is kept stand where they say
-pub entries_stand : (r : Read) (entries : Vec KeptItem Global) → IsHeld r (kept.Together entries) → list_all (stands_at r.source.bits r.source.subsets) entries.items ≡ true
+pub entries_stand : (r : Read) (entries : List KeptItem) → IsHeld r (kept.Together entries) → list_all (stands_at r.source.bits r.source.subsets) entries ≡ true
 entries_stand r entries h = by h.values h.keeps
   where
-    by : (values : Values) → KeepsValues (kept.Together entries) r.source values → list_all (stands_at r.source.bits r.source.subsets) entries.items ≡ true
+    by : (values : Values) → KeepsValues (kept.Together entries) r.source values → list_all (stands_at r.source.bits r.source.subsets) entries ≡ true
     by (apart all) w = absurd w
     by (together items) w = w.1
 
-pub packed_shown : {V E : Type 0} (sees : V → Call → Result (Unit {0}) E → V → Type 0) (r : Read) (entries : Vec KeptItem Global) (items : List KeptItem) (v v' : V) (result : Result (Unit {0}) (ShowFault E)) (steps : ℕ) → IsHeld r (kept.Together entries) → items ≡ entries.items → steps ≡ 0
+pub packed_shown : {V E : Type 0} (sees : V → Call → Result (Unit {0}) E → V → Type 0) (r : Read) (entries : List KeptItem) (items : List KeptItem) (v v' : V) (result : Result (Unit {0}) (ShowFault E)) (steps : ℕ) → IsHeld r (kept.Together entries) → items ≡ entries → steps ≡ 0
     → Shows sees v (subsets_together r.table r.source.subsets 0 (items_at r.source.bits r.source.subsets items)) 0 result v' 0
     → (values : Values) → IsReading (course_of r) r.source values r.bits → Shows sees v (calls_of r values) (turns_shown r values) result v' steps
 packed_shown sees r entries items v v' result steps h are none shows values reading = subst (λ n. Shows sees v (calls_of r values) (turns_shown r values) result v' n) (sym none) (by h.values h.reading h.keeps values reading)
@@ -42,7 +41,7 @@ packed_shown sees r entries items v v' result steps h are none shows values read
     by (apart all) k w values g = absurd w
     by (together items) k w (apart all) g = let e : true ≡ false = sym k.0 ∙ g.0 in absurd cc
     by (together held) k w (together others) g =
-        let same : items_at r.source.bits r.source.subsets entries.items ≡ others = w.0 ∙ one_packed r.source.subsets (course_of r) held others r.source.bits (drop r.bits r.source.bits) (drop r.bits r.source.bits) k.2 g.2 in
+        let same : items_at r.source.bits r.source.subsets entries ≡ others = w.0 ∙ one_packed r.source.subsets (course_of r) held others r.source.bits (drop r.bits r.source.bits) (drop r.bits r.source.bits) k.2 g.2 in
         subst (λ is. Shows sees v (subsets_together r.table r.source.subsets 0 is) 0 result v' 0) (ap (items_at r.source.bits r.source.subsets) are ∙ same) shows
 
 -- each item of compressed data is kept, and nothing of other data
@@ -57,4 +56,4 @@ all_kept r k h values reading = by k h.values h.keeps ∙ ap items_kept (one_rea
     by kept.Apart (apart all) w = refl
     by kept.Apart (together items) w = absurd w
     by (kept.Together entries) (apart all) w = absurd w
-    by (kept.Together entries) (together items) w = length-items_at r.source.bits r.source.subsets entries.items ∙ ap length w.0
+    by (kept.Together entries) (together items) w = length-items_at r.source.bits r.source.subsets entries ∙ ap length w.0

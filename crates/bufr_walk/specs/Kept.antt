@@ -43,14 +43,14 @@ call_kept table bits n e j = item_call (view_of table e.spec (content_kept bits 
 -- how many items are kept
 abbrev pub held_of : Kept → ℕ
 held_of kept.Apart = 0
-held_of (kept.Together entries) = length entries.items
+held_of (kept.Together entries) = length entries
 
 -- nothing is kept where each subset has bits of its own
 abbrev pub KeepsValues : Kept → Data → Values → Type 0
 KeepsValues kept.Apart d (apart subsets) = Unit {0}
 KeepsValues kept.Apart d (together items) = ⊥
 KeepsValues (kept.Together entries) d (apart subsets) = ⊥
-KeepsValues (kept.Together entries) d (together items) = AreKept d entries.items items
+KeepsValues (kept.Together entries) d (together items) = AreKept d entries items
 
 -- the items of all subsets
 abbrev pub items_in : List (List (Item Content)) → ℕ

@@ -52,6 +52,8 @@ pub mod Flat
 pub mod PlainIn
 -- the reader of compressed data
 pub mod PackedIn
+-- items that are kept, with each field among them once
+pub mod KeptItems
 -- one pass over data that are not compressed
 pub mod Passes
 -- subsets that are alike, whatever their bits say

@@ -1,6 +1,6 @@
 -- Fields that are read from bits, for compressed data: each item once for all subsets.
 -- Cited by public contracts.
-use Rattle.std.specs.Prelude.{ℕ, ◌≡◌, ◌≤◌, ◌<◌, ◌+◌, ◌-◌, ◌*◌, ◌/◌, ◌%◌, ◌==◌, ◌&&◌, Bool, true, false, List, [], ◌∷◌, ◌++◌, length, take, drop, Result, Ok, Err}
+use Rattle.std.specs.Prelude.{ℕ, ◌≡◌, ◌≤◌, ◌<◌, ◌+◌, ◌*◌, ◌%◌, ◌==◌, ◌&&◌, Bool, true, false, List, [], ◌∷◌, ◌++◌, length, take, drop, Result, Ok, Err}
 use Rattle.std.specs.List.{list_all}
 use Rattle.bufr_bits.specs.Bits.{number_of}
 use Rattle.bufr_walk.specs.declared.spec.Taken.{Taken}
@@ -65,19 +65,13 @@ abbrev pub packed_view : (bits : List Bool) (at subsets : ℕ) → List KeptItem
 packed_view bits at n kept =
     record { bits = bits; at = at; subsets = n; items = items_at bits n kept }
 
--- the room for entries, once room was made for the last of them
-abbrev pub room_for : (entries : ℕ) → ℕ
-room_for entries = (entries + (items_at_once - 1)) / items_at_once * items_at_once
-
 -- what the reader keeps: each item has at least a bit and the six of its k
-pub record IsPackedIn (bits : List Bool) (at subsets : ℕ) (kept : List KeptItem)
-    (room : ℕ) : Type 0 where
+pub record IsPackedIn (bits : List Bool) (at subsets : ℕ) (kept : List KeptItem) : Type 0 where
   pub within : at ≤ length bits
   pub some : 1 ≤ subsets
   pub few : length kept * subsets ≤ most_values
   pub held : 7 * length kept ≤ at
   pub stand : list_all (stands_at bits subsets) kept ≡ true
-  pub has_room : room_for (length kept) ≤ room
 
 -- the fault of a field with this descriptor
 abbrev pub wrong_of : (fxy : ℕ) → FieldFault → PackedFault

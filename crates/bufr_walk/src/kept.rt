@@ -1,4 +1,5 @@
 //! What is kept of compressed data that were read.
+use crate::kept_items::KeptItems;
 use crate::spec::Spec;
 
 /// An item of compressed data that is kept: how it was read, the bit where it begins, and its k.
@@ -20,18 +21,18 @@ impl KeptItem {
     }
 }
 
-/// What was read: how many bits the items take, and an entry for each item.
+/// What was read: how many bits the items take, and the items.
 #[derive(Drop)]
 pub(crate) struct PackedRead {
     pub(crate) used: u64,
-    pub(crate) kept: Vec<KeptItem>,
+    pub(crate) kept: KeptItems,
 }
 
 impl PackedRead {
     ghost use Rattle.std.specs.Prelude.{◌≡◌};
 
     /// These items, which take so many bits.
-    pub(crate) fn new(used: u64, kept: Vec<KeptItem>) -> PackedRead
+    pub(crate) fn new(used: u64, kept: KeptItems) -> PackedRead
         ensures { result ≡ record { used = used; kept = kept } }
     {
         PackedRead { used, kept }

@@ -15,6 +15,7 @@ mod fault;
 mod fields;
 mod in_force;
 mod kept;
+mod kept_items;
 pub mod law;
 mod packed_in;
 mod plain_in;

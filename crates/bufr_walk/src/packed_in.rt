@@ -1,8 +1,5 @@
 //! Fields that are read from bits, for compressed data: each item stands once for all subsets.
-ghost use Rattle.std.specs.Prelude.{◌≡◌, ◌≤◌, ◌<◌, ◌+◌, ◌-◌, ◌*◌, ◌/◌, ◌%◌, ◌^◌, ◌++◌, ◌∷◌, [], length, drop, vec_len, vec_capacity, MatchResult, IfOk, IfErr, OnOk, OnErr, false, true};
-ghost use Rattle.bufr_walk.specs.PackedIn.{room_for};
-ghost use Rattle.bufr_walk.specs.Reading.{items_at_once};
-ghost use Rattle.bufr_walk.specs.declared.packed_in.PackedFault.TheVariants as wrong;
+ghost use Rattle.std.specs.Prelude.{◌≡◌, ◌≤◌, ◌<◌, ◌+◌, ◌-◌, ◌*◌, ◌/◌, ◌%◌, ◌^◌, ◌++◌, ◌∷◌, [], length, drop, MatchResult, IfOk, false, true};
 ghost use Rattle.bufr_bits.specs.Bits.{bits_of, bits_at, number_of};
 ghost use Rattle.bufr_bits.specs.BitSlice.{octets_of};
 ghost use Rattle.bufr_tables.specs.TableB.{is_character};
@@ -16,6 +13,7 @@ use crate::base::{Base, base_at};
 use crate::bits::{number_at, told_at};
 use crate::fields::Fields;
 use crate::kept::{KeptItem, PackedRead};
+use crate::kept_items::{KeptItems, SpecFinder};
 use crate::spec::{Role, Spec, Taken};
 use bufr_bits::BitSlice;
 use bufr_tables::{Fxy, Kind};
@@ -287,63 +285,29 @@ fn seen_at(
 /// subsets (a choice of this project).
 pub const MOST_VALUES: u64 = 134_217_728;
 
-/// Room is made for so many items at once.
-const ITEMS_AT_ONCE: usize = 64;
-
-/// Makes room for one more item: for 64 at once, so memory may be wanted only where the items so
-/// far are a multiple of 64.
-fn make_room(kept: &mut Vec<KeptItem>) -> Result<(), PackedFault>
-    requires { room_for (vec_len kept.old) ≤ vec_capacity kept.old }
-    ensures same { kept.new.items ≡ kept.old.items }
-    ensures room { OnOk result (room_for (vec_len kept.old + 1) ≤ vec_capacity kept.new) }
-    ensures least { room_for (vec_len kept.old) ≤ vec_capacity kept.new }
-    ensures fault { IfErr result (λ e. e ≡ wrong.Memory) }
-    ensures full { OnErr result (vec_len kept.old % items_at_once ≡ 0) }
-{
-    if kept.len() % ITEMS_AT_ONCE != 0 {
-        return Ok(());
-    }
-    match kept.reserve(ITEMS_AT_ONCE) {
-        Ok(()) => Ok(()),
-        Err(_) => Err(PackedFault::Memory),
-    }
-}
-
-/// Keeps an item for which there is room.
-fn keep(kept: &mut Vec<KeptItem>, item: KeptItem)
-    requires { room_for (vec_len kept.old + 1) ≤ vec_capacity kept.old }
-    ensures items { kept.new.items ≡ kept.old.items ++ item ∷ [] }
-    ensures room { room_for (vec_len kept.old + 1) ≤ vec_capacity kept.new }
-{
-    match kept.push(item) {
-        Ok(()) => {}
-        Err(_) => unreachable!(),
-    }
-}
-
 /// Fields of compressed data: each item stands once for all subsets, as a base, six bits `k`, and
 /// an increment for each subset where `k` is above 0 (WMO-No. 306, Volume I.2, FM 94: section 4,
-/// compression). It keeps an entry for each item.
+/// compression). It keeps where each item lies, and
+/// each field among them once.
 #[derive(Drop)]
 pub struct PackedIn<'a> {
     bits: BitSlice<'a>,
     at: u64,
     subsets: u16,
-    kept: Vec<KeptItem>,
+    kept: KeptItems,
+    finder: SpecFinder,
 }
 
 impl<'a> Model for PackedIn<'a> {
-    ghost use Rattle.std.specs.Prelude.{vec_capacity};
     ghost use Rattle.bufr_bits.specs.Bits.{bits_of};
     ghost use Rattle.bufr_bits.specs.BitSlice.{octets_of};
     ghost use Rattle.bufr_walk.specs.PackedIn.{PackedCursor, IsPackedIn, packed_view};
 
     ghost Value = { PackedCursor };
 
-    ghost view = { λ s. packed_view (bits_of (octets_of s.bits)) s.at s.subsets s.kept.items };
+    ghost view = { λ s. packed_view (bits_of (octets_of s.bits)) s.at s.subsets s.kept };
 
-    ghost invariant = { λ s. IsPackedIn (bits_of (octets_of s.bits)) s.at s.subsets s.kept.items
-        (vec_capacity s.kept) };
+    ghost invariant = { λ s. IsPackedIn (bits_of (octets_of s.bits)) s.at s.subsets s.kept };
 }
 
 impl<'a> PackedIn<'a> {
@@ -365,7 +329,8 @@ impl<'a> PackedIn<'a> {
             bits,
             at: 0,
             subsets,
-            kept: Vec::new(alloc),
+            kept: KeptItems::new(alloc),
+            finder: SpecFinder::new(alloc),
         }
     }
 
@@ -383,17 +348,16 @@ impl<'a> PackedIn<'a> {
     /// The items that were read, and the bits that they take.
     pub(crate) fn into_read(self) -> PackedRead
         ensures used { result.used ≡ self.entry.at }
-        ensures kept { items_at self.entry.bits self.entry.subsets result.kept.items
-            ≡ self.entry.items }
-        ensures stand { list_all (stands_at self.entry.bits self.entry.subsets)
-            result.kept.items ≡ true }
-        ensures held { 7 * length result.kept.items ≤ result.used }
+        ensures kept { items_at self.entry.bits self.entry.subsets result.kept ≡ self.entry.items }
+        ensures stand { list_all (stands_at self.entry.bits self.entry.subsets) result.kept ≡ true }
+        ensures held { 7 * length result.kept ≤ result.used }
     {
         let PackedIn {
             bits: _,
             at,
             subsets: _,
             kept,
+            finder: _,
         } = self;
         PackedRead::new(at, kept)
     }
@@ -428,9 +392,8 @@ impl<'a> Fields for PackedIn<'a> {
 
     fn take(&mut self, spec: &Spec) -> Result<Taken, PackedFault> {
         let seen = self.look(spec)?;
-        make_room(&mut self.kept)?;
         let item = KeptItem::new(*spec, self.at, seen.step);
-        keep(&mut self.kept, item);
+        self.kept.keep(&mut self.finder, item)?;
         self.at = seen.end;
         Ok(seen.told)
     }

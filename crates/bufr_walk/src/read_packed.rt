@@ -12,6 +12,7 @@ ghost use Rattle.bufr_walk.specs.declared.stop.WalkStop.TheVariants as stops;
 
 use crate::fault::{Spot, WalkFault};
 use crate::kept::PackedRead;
+use crate::kept_items::KeptItems;
 use crate::packed_in::{PackedFault, PackedIn};
 use crate::steps::Steps;
 use crate::stop::WalkStop;
@@ -56,8 +57,8 @@ pub(crate) fn read_packed(
 ) -> Result<PackedRead, WalkFault>
     requires { steps.old ≡ 0 }
     ensures reading { IfOk result (λ r. IsReadAndKept (next_item table.now template.now)
-        (data_in true subsets (octets_of bits.entry)) r.kept.items r.used steps.new) }
-    ensures held { IfOk result (λ r. 7 * length r.kept.items ≤ r.used) }
+        (data_in true subsets (octets_of bits.entry)) r.kept r.used steps.new) }
+    ensures held { IfOk result (λ r. 7 * length r.kept ≤ r.used) }
     ensures fault { IfErr result (λ why. IsFault (next_item table.now template.now)
         (data_in true subsets (octets_of bits.entry)) why steps.new) }
     ensures accepted { IfOk result (λ r. steps.new ≤ places template.now * r.used) }
@@ -65,7 +66,7 @@ pub(crate) fn read_packed(
         ≤ places template.now * (bits_before why (length (bits_of (octets_of bits.entry))) + 1)) }
 {
     if subsets == 0 {
-        return Ok(PackedRead::new(0, Vec::new(alloc)));
+        return Ok(PackedRead::new(0, KeptItems::new(alloc)));
     }
     let mut fields = PackedIn::new(alloc, bits, subsets);
     match walk(alloc, template, table, &mut fields, steps) {

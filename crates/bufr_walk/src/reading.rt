@@ -7,7 +7,7 @@ ghost use Rattle.bufr_walk.specs.Outcome.{data_of, IsFault, IsReadingOf};
 ghost use Rattle.bufr_walk.specs.Plan.{IsPlanBy};
 
 use crate::fault::{ShowFault, WalkFault};
-use crate::kept::KeptItem;
+use crate::kept_items::KeptItems;
 use crate::plan::Plan;
 use crate::prepared::{Prepared, each_of};
 use crate::read_packed::read_packed;
@@ -22,12 +22,12 @@ use bufr_tables::{TableB, Template};
 use std::alloc::Global;
 use std::marker::Model;
 
-/// What a reading keeps: nothing where each subset has bits of its own, else one entry for each
-/// item.
+/// What a reading keeps: nothing where each subset has bits of its own, else where each item lies,
+/// and each field among them once.
 #[derive(Drop)]
 enum Kept {
     Apart,
-    Together(Vec<KeptItem>),
+    Together(KeptItems),
 }
 
 /// The reading of a message's data (WMO-No. 306, Volume I.2, FM 94: section 4). It borrows the

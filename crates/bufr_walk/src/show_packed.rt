@@ -16,6 +16,7 @@ use crate::base::{Base, base_at};
 use crate::bits::{copy_octets, front, number_at, ones_at};
 use crate::fault::ShowFault;
 use crate::kept::KeptItem;
+use crate::kept_items::KeptItems;
 use crate::plain_in::PlainIn;
 use crate::show_plain::{show_field, show_value};
 use crate::spec::Spec;
@@ -255,7 +256,7 @@ fn show_items<V: Visitor>(
     bits: &BitSlice<'_>,
     subsets: u16,
     table: &TableB,
-    kept: &[KeptItem],
+    kept: &KeptItems,
     subset: u16,
     visitor: &mut V,
 ) -> Result<(), ShowFault<V::Fault>>
@@ -265,7 +266,7 @@ fn show_items<V: Visitor>(
         (items_at (bits_of (octets_of bits.now)) subsets kept.now)) 0 result visitor.new 0 }
 {
     'items: for place in 0..kept.len() {
-        let item = kept[place];
+        let item = kept.item(place);
         match show_item(bits, subsets, table, &item, subset, visitor) {
             Ok(()) => {}
             Err(fault) => return Err(ShowFault::Visitor(fault)),
@@ -279,7 +280,7 @@ fn show_subset<V: Visitor>(
     bits: &BitSlice<'_>,
     subsets: u16,
     table: &TableB,
-    kept: &[KeptItem],
+    kept: &KeptItems,
     subset: u16,
     visitor: &mut V,
 ) -> Result<(), ShowFault<V::Fault>>
@@ -301,7 +302,7 @@ pub(crate) fn show_packed<V: Visitor>(
     bits: &BitSlice<'_>,
     subsets: u16,
     table: &TableB,
-    kept: &[KeptItem],
+    kept: &KeptItems,
     visitor: &mut V,
 ) -> Result<(), ShowFault<V::Fault>>
     requires { list_all (stands_at (bits_of (octets_of bits.now)) subsets) kept.now ≡ true }

@@ -10,7 +10,7 @@ use bufr_tables::{Fxy, Kind};
 use std::marker::Model;
 
 /// What a field is for.
-#[derive(Clone, Copy, Debug, PartialEq, Eq)]
+#[derive(Clone, Copy, Debug, PartialEq, Eq, PartialOrd, Ord)]
 pub enum Role {
     /// The value of an element.
     Element,

@@ -13,7 +13,7 @@ invariant_of-result c = (
 
 pub returns-then-compressed-clause-reading : goal.returns-then-compressed-clause-reading
 returns-then-compressed-clause-reading c =
-    packed_is c.args.table.now c.args.template.now c.args.message.now c.subsets-subsets.result (octets_of c.payload-bits.result) c.in_ok-read.read.used (length c.in_ok-read.read.kept.items) c.read_packed.new.steps c.in_ok-read.read.kept.items
+    packed_is c.args.table.now c.args.template.now c.args.message.now c.subsets-subsets.result (octets_of c.payload-bits.result) c.in_ok-read.read.used (length c.in_ok-read.read.kept) c.read_packed.new.steps c.in_ok-read.read.kept
     (packed_data_same c.args.message.now c.subsets-subsets.result (octets_of c.payload-bits.result) (sym c.compressed.ensures ∙ c.if-compressed.true) c.subsets-subsets.ensures c.payload-bits.ensures.value) c.in_ok-read.ensures.reading
 
 pub invariant_of-result-2 : goal.invariant_of-result-2

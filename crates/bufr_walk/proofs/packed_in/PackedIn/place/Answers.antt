@@ -4,4 +4,4 @@ use Rattle.bufr_walk.proofs.PackedKept.{few_values}
 use Rattle.bufr_walk.proofs.packed_in.PackedIn.place.Goals as goal
 
 pub returns-clause-few : goal.returns-clause-few
-returns-clause-few c = few_values c.args.self.now (bits_of (octets_of c.self.inside.bits)) c.self.inside.at c.self.inside.subsets c.self.inside.kept.items c.self.view_is c.self.invariant.few
+returns-clause-few c = few_values c.args.self.now (bits_of (octets_of c.self.inside.bits)) c.self.inside.at c.self.inside.subsets c.self.inside.kept c.self.view_is c.self.invariant.few

@@ -7,5 +7,5 @@ use Rattle.bufr_walk.proofs.reading.Reading.held.Goals as goal
 
 pub returns-in-Together-clause-items : goal.returns-in-Together-clause-items
 returns-in-Together-clause-items c =
-    let count : c.len.result ≡ length c.in-Together.items.items = omega (arith, c.len.ensures, c.in-Together.items.ok.0) in
+    let count : c.len.result ≡ length c.in-Together.items = omega (arith, c.len.ensures) in
     subst (λ r. (values : Values) → IsReading (course_of r) r.source values r.bits → c.len.result ≡ items_kept values) c.self.view_is (λ values reading. count ∙ ap held_of (sym c.in-Together.is) ∙ all_kept _ c.self.inside.kept c.self.invariant.0 values reading)
