@@ -185,23 +185,39 @@ fn laws() {
     encode_law::canonical_messages_come_back_from_each_form();
 }
 
-/// A compressed message, in plain form and back again: the same octets, and between them a dump
-/// text that differs in the flag alone.
+/// A document's dump text, in a form.
+fn dump_in(alloc: Global, document: &Document, form: Form) -> Result<Vec<u8>, Fail> {
+    let octets = octets_in(alloc, document, form)?;
+    Ok(dump(alloc, &octets, 65536, 4096)?.taken)
+}
+
+/// A compressed message in plain form: its dump text differs in the flag alone.
+#[test]
+fn dumps_the_plain_form(rt: HostRuntime) -> Result<(), Fail> {
+    let document = document_behind(rt.alloc(), COMPRESSED_MISSING)?;
+    let packed = dump_in(rt.alloc(), &document, Form::AsWritten)?;
+    let dumped = dump_in(rt.alloc(), &document, Form::Plain)?;
+    let wanted = with_other(rt.alloc(), &packed, "compressed 1\n", "compressed 0\n")?;
+    assert_eq!(rt; dumped.as_slice(), wanted.as_bytes());
+    Ok(())
+}
+
+/// What comes of a document's plain form that is dumped and compressed again.
+fn back_again(alloc: Global, document: &Document) -> Result<Vec<u8>, Fail> {
+    let dumped = dump_in(alloc, document, Form::Plain)?;
+    let again = document_of(alloc, &dumped)?;
+    octets_in(alloc, &again, Form::Compressed)
+}
+
+/// A compressed message, in plain form and back again: the same octets.
 #[test]
 fn comes_back_from_the_plain_form(rt: HostRuntime) -> Result<(), Fail> {
     laws();
     let document = document_behind(rt.alloc(), COMPRESSED_MISSING)?;
     let first = octets_in(rt.alloc(), &document, Form::AsWritten)?;
-    let plain = octets_in(rt.alloc(), &document, Form::Plain)?;
-    assert_eq!(rt; (first.len(), plain.len()), (50, 51));
-    let packed = dump(rt.alloc(), &first, 65536, 4096)?;
-    let dumped = dump(rt.alloc(), &plain, 65536, 4096)?;
-    let (said, says) = ("compressed 1\n", "compressed 0\n");
-    let wanted = with_other(rt.alloc(), &packed.taken, said, says)?;
-    assert_eq!(rt; dumped.taken.as_slice(), wanted.as_bytes());
-    let again = document_of(rt.alloc(), &dumped.taken)?;
-    let back = octets_in(rt.alloc(), &again, Form::Compressed)?;
-    assert!(rt; back == first);
+    assert_eq!(rt; first.len(), 50);
+    assert_eq!(rt; octets_in(rt.alloc(), &document, Form::Plain)?.len(), 51);
+    assert!(rt; back_again(rt.alloc(), &document)? == first);
     Ok(())
 }
 
