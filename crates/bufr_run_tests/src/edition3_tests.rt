@@ -215,43 +215,58 @@ fn tells_a_cut_anywhere(rt: HostRuntime) -> Result<(), Fail> {
 const PACKED: &str = "425546520000 2E03 000012000062000000000E001801020304 00 00000A000001C0010100 \
     000006001400 37373737";
 
-/// A message in compressed form, and back in plain form: even sections both ways.
+/// A message in compressed form: even sections.
 #[test]
-fn encodes_in_each_form(rt: HostRuntime) -> Result<(), Fail> {
+fn encodes_in_the_compressed_form(rt: HostRuntime) -> Result<(), Fail> {
     let packed = octets_in(rt.alloc(), PACKED)?;
     let plain = text_with(rt.alloc(), 0, "local1 00\n")?;
-    let said = changed(rt.alloc(), "compressed 0", "compressed 1")?;
     let compressed = Command::EncodeIn(Form::Compressed);
     let (text, tally) = (plain.as_bytes(), ONE_ACCEPTED);
-    assert_run(&rt, compressed, "compressed", text, &packed, b"", tally)?;
-    let said = said.as_bytes();
-    assert_run(&rt, Command::Dump, "compressed", &packed, said, b"", tally)?;
+    assert_run(&rt, compressed, "compressed", text, &packed, b"", tally)
+}
+
+/// The message in compressed form, dumped, and back in plain form: even sections.
+#[test]
+fn encodes_in_the_plain_form(rt: HostRuntime) -> Result<(), Fail> {
+    let packed = octets_in(rt.alloc(), PACKED)?;
     let even = octets_in(rt.alloc(), EVEN)?;
+    let said = changed(rt.alloc(), "compressed 0", "compressed 1")?;
+    let (said, tally) = (said.as_bytes(), ONE_ACCEPTED);
+    assert_run(&rt, Command::Dump, "compressed", &packed, said, b"", tally)?;
     let plain = Command::EncodeIn(Form::Plain);
     assert_run(&rt, plain, "plain", said, &even, b"", tally)
+}
+
+/// A stream with messages of both editions: of edition 3, of edition 4, this one, of edition 4.
+fn of_both(alloc: Global, third: &str) -> Result<Vec<u8>, Fail> {
+    let even = octets_in(alloc, EVEN)?;
+    let third = octets_in(alloc, third)?;
+    let one = one_block_number(alloc)?;
+    Ok(joined(alloc, &[&even, &one, &third, &one])?)
+}
+
+/// The text of such a stream.
+fn text_of_both(alloc: Global) -> Result<Vec<u8>, Fail> {
+    let of_3 = text_with(alloc, 0, "local1 00\n")?;
+    let of_4 = text_of_one(alloc)?;
+    let (of_3, of_4) = (of_3.as_bytes(), of_4.as_bytes());
+    Ok(joined(alloc, &[of_3, of_4, of_3, of_4])?)
 }
 
 /// A stream with messages of both editions, one of edition 3 with odd sections: its text is encoded
 /// to the messages with even sections, which have the same text.
 #[test]
 fn closes_the_round_of_both_editions(rt: HostRuntime) -> Result<(), Fail> {
-    let even = octets_in(rt.alloc(), EVEN)?;
-    let odd = octets_in(rt.alloc(), ODD)?;
-    let of_3 = text_with(rt.alloc(), 0, "local1 00\n")?;
-    let of_4 = text_of_one(rt.alloc())?;
-    let one = one_block_number(rt.alloc())?;
-    let stream = joined(rt.alloc(), &[&even, &one, &odd, &one])?;
-    let built = joined(rt.alloc(), &[&even, &one, &even, &one])?;
-    let both = joined(rt.alloc(), &[of_3.as_bytes(), of_4.as_bytes()])?;
-    let text = joined(rt.alloc(), &[&both, &both])?;
-    let text = text.as_slice();
+    let stream = of_both(rt.alloc(), ODD)?;
+    let built = of_both(rt.alloc(), EVEN)?;
+    let text = text_of_both(rt.alloc())?;
     let all = Tally {
         accepted: 4,
         refused: 0,
     };
-    assert_run(&rt, Command::Dump, "dumped", &stream, text, b"", all)?;
-    assert_run(&rt, Command::Encode, "encoded", text, &built, b"", all)?;
-    assert_run(&rt, Command::Dump, "again", &built, text, b"", all)
+    assert_run(&rt, Command::Dump, "dumped", &stream, &text, b"", all)?;
+    assert_run(&rt, Command::Encode, "encoded", &text, &built, b"", all)?;
+    assert_run(&rt, Command::Dump, "again", &built, &text, b"", all)
 }
 
 /// A line of the document (its key from the front, its value) and whether that value fits edition

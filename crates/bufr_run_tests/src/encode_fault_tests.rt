@@ -10,6 +10,7 @@ use crate::test_runs::{
 use bufr_bits::{End, ScriptIn, ScriptOut};
 use bufr_frame::RunFault;
 use std::alloc::Global;
+use std::process::Abort;
 use std::test::Fail;
 
 /// A document of these descriptors, and the data of its message or the line of its fault.
@@ -580,34 +581,42 @@ fn keeps_all_behind_a_failed_flush(rt: HostRuntime) -> Result<(), Fail> {
     Ok(())
 }
 
+/// A message of two names, compressed: base, k and increments behind zeros.
+fn names(alloc: Global, increments: &[u8]) -> Result<Vec<u8>, Fail> {
+    let words = words_of(alloc, "001015")?;
+    let mut data = Vec::new(alloc);
+    for _ in 0..20 {
+        data.push(0)?;
+    }
+    data.extend_from_slice(increments)?;
+    message_of(alloc, 2, 0xC0, &words, &data)
+}
+
+/// Asserts that the dump text of a message is encoded to these octets.
+fn assert_encoded_again(
+    rt: &(impl Abort + AllocGlobal),
+    octets: &[u8],
+    packed: &[u8],
+) -> Result<(), Fail> {
+    let text = run_whole(rt, Command::Dump, octets)?;
+    let input = text.output();
+    assert_run(
+        rt,
+        Command::Encode,
+        "names",
+        input,
+        packed,
+        b"",
+        ONE_ACCEPTED,
+    )
+}
+
 /// Names whose increments were read with four octets are written with three, and those with three.
 #[test]
 fn packs_names_anew(rt: HostRuntime) -> Result<(), Fail> {
-    let words = words_of(rt.alloc(), "001015")?;
-    let zeros = "0000000000000000000000000000000000000000";
-    let mut read = octets_of(rt.alloc(), zeros)?;
-    read.extend_from_slice(b"\x11\x05\x09\x0C\x83\xFF\xFF\xFF\xFC")?;
-    let mut written = octets_of(rt.alloc(), zeros)?;
-    written.extend_from_slice(b"\x0D\x05\x09\x0F\xFF\xFF\xFC")?;
-    let message = message_of(rt.alloc(), 2, 0xC0, &words, &read)?;
-    let packed = message_of(rt.alloc(), 2, 0xC0, &words, &written)?;
+    let message = names(rt.alloc(), b"\x11\x05\x09\x0C\x83\xFF\xFF\xFF\xFC")?;
+    let packed = names(rt.alloc(), b"\x0D\x05\x09\x0F\xFF\xFF\xFC")?;
     assert_eq!(rt; (message.len(), packed.len()), (76, 74));
-    for octets in [&message, &packed] {
-        let mut r = ScriptIn::new(octets, 4096, None);
-        let w = ScriptOut::new(rt.alloc(), 4096, 4096, End::Fail)?;
-        let e = ScriptOut::new(rt.alloc(), 4096, 4096, End::Fail)?;
-        let text = run_over(&rt, Command::Dump, &mut r, w, e);
-        let name = "names";
-        let input = text.output();
-        assert_run(
-            &rt,
-            Command::Encode,
-            name,
-            input,
-            &packed,
-            b"",
-            ONE_ACCEPTED,
-        )?;
-    }
-    Ok(())
+    assert_encoded_again(&rt, &message, &packed)?;
+    assert_encoded_again(&rt, &packed, &packed)
 }
