@@ -1,11 +1,11 @@
 //! The worked examples, each public call once on its happy path, and `get` against single bits.
 ghost use Rattle.std.specs.Prelude.{◌≤◌, length};
 
+use crate::ok;
 use bufr_bits::{
     BitSlice, BitWriter, Device, End, Failed, NumberFault, ScriptIn, ScriptOut, Sink, Source,
     decimal_read, decimal_text,
 };
-use std::alloc::{AllocError, Global};
 use std::io::{self, Read, Write};
 use std::process::Abort;
 use std::test::Fail;
@@ -63,8 +63,8 @@ fn all_ones(octets: &[u8], at: u64, width: u32) -> Option<bool>
     BitSlice::new(octets).all_ones(at, width)
 }
 
-fn put_decimal(v: i128, scale: i16, out: &mut Vec<u8>) -> Result<(), AllocError> {
-    decimal_text(v, scale, out)
+fn put_decimal(rt: &(impl Abort + AllocGlobal), v: i128, scale: i16, out: &mut Vec<u8>) {
+    ok(rt, decimal_text(v, scale, out));
 }
 
 fn read_decimal(text: &[u8], scale: i16) -> Result<i128, NumberFault> {
@@ -135,23 +135,37 @@ fn script_in_keeps_to_its_script(rt: HostRuntime) {
     assert_eq!(rt; buf.as_slice(), b"dec\0".as_slice());
 }
 
+/// What a write answers.
+fn write<W: Sink>(sink: &mut W, octets: &[u8]) -> Result<usize, Failed> {
+    sink.write(octets)
+}
+
+/// What a flush answers.
+fn flush<W: Sink>(sink: &mut W) -> Result<(), Failed> {
+    sink.flush()
+}
+
+/// A script of five octets, three at most a write, and what it answers at its end.
+fn assert_script(
+    rt: &(impl Abort + AllocGlobal),
+    end: End,
+    at_the_end: Result<usize, Failed>,
+    flushed: Result<(), Failed>,
+) {
+    let mut sink = ok(rt, ScriptOut::new(rt.alloc(), 5, 3, end));
+    assert_eq!(rt; write(&mut sink, b""), Ok(0));
+    assert_eq!(rt; write(&mut sink, b"abcd"), Ok(3));
+    assert_eq!(rt; write(&mut sink, b"def"), Ok(2));
+    assert_eq!(rt; write(&mut sink, b"fg"), at_the_end);
+    assert_eq!(rt; flush(&mut sink), flushed);
+    assert_eq!(rt; sink.taken(), b"abcde".as_slice());
+}
+
 #[test]
-fn script_out_keeps_to_its_script(rt: HostRuntime) -> Result<(), Fail> {
-    let rows = [
-        (End::Zero, Ok(0), Ok(())),
-        (End::Fail, Err(Failed), Ok(())),
-        (End::Flush, Err(Failed), Err(Failed)),
-    ];
-    for (end, at_the_end, flushed) in rows {
-        let mut sink = ScriptOut::new(rt.alloc(), 5, 3, end)?;
-        assert_eq!(rt; sink.write(b""), Ok(0));
-        assert_eq!(rt; sink.write(b"abcd"), Ok(3));
-        assert_eq!(rt; sink.write(b"def"), Ok(2));
-        assert_eq!(rt; sink.write(b"fg"), at_the_end);
-        assert_eq!(rt; sink.flush(), flushed);
-        assert_eq!(rt; sink.taken(), b"abcde".as_slice());
-    }
-    Ok(())
+fn script_out_keeps_to_its_script(rt: HostRuntime) {
+    assert_script(&rt, End::Zero, Ok(0), Ok(()));
+    assert_script(&rt, End::Fail, Err(Failed), Ok(()));
+    assert_script(&rt, End::Flush, Err(Failed), Err(Failed));
 }
 
 /// What a read of two octets answers.
@@ -166,30 +180,33 @@ fn device_reads_and_writes(rt: HostRuntime) {
     assert_eq!(rt; read_two(&mut source), Ok(1));
     assert_eq!(rt; read_two(&mut source), Ok(0));
     let mut sink = Device::new(Vec::new(rt.alloc()));
-    assert_eq!(rt; Sink::write(&mut sink, b"abc"), Ok(3));
-    assert_eq!(rt; Sink::flush(&mut sink), Ok(()));
+    assert_eq!(rt; write(&mut sink, b"abc"), Ok(3));
+    assert_eq!(rt; flush(&mut sink), Ok(()));
 }
 
 #[test]
 fn device_fails_where_its_reader_or_writer_does(rt: HostRuntime) {
     let mut device = Device::new(Broken);
-    assert_eq!(rt; Source::read(&mut device, &mut [0u8; 2]), Err(Failed));
-    assert_eq!(rt; Sink::write(&mut device, b"abc"), Err(Failed));
-    assert_eq!(rt; Sink::flush(&mut device), Err(Failed));
+    assert_eq!(rt; read_two(&mut device), Err(Failed));
+    assert_eq!(rt; write(&mut device, b"abc"), Err(Failed));
+    assert_eq!(rt; flush(&mut device), Err(Failed));
 }
+
+/// Of fifteen ones and a zero: a place, a width, and whether these are ones.
+const ONES_AND_A_ZERO: &[(u64, u32, Option<bool>)] = &[
+    (0, 15, Some(true)),
+    (0, 16, Some(false)),
+    (1, 16, None),
+    (16, 0, Some(true)),
+    (u64::MAX, u32::MAX, None),
+];
 
 #[test]
 fn all_ones_at_any_width(rt: HostRuntime) {
-    for (at, width, want) in [
-        (0, 15, Some(true)),
-        (0, 16, Some(false)),
-        (1, 16, None),
-        (16, 0, Some(true)),
-        (u64::MAX, u32::MAX, None),
-    ] {
+    for (at, width, want) in ONES_AND_A_ZERO {
         assert_eq!(rt;
-            all_ones(&[0xFF, 0xFE], at, width),
-            want,
+            all_ones(&[0xFF, 0xFE], *at, *width),
+            *want,
             "at {at}, {width} bits"
         );
     }
@@ -210,10 +227,10 @@ fn all_ones_at_any_width(rt: HostRuntime) {
 }
 
 #[test]
-fn bits_are_pushed(rt: HostRuntime) -> Result<(), Fail> {
+fn bits_are_pushed(rt: HostRuntime) {
     let mut writer = BitWriter::new(rt.alloc());
-    writer.push(5, 3)?;
-    writer.push_octets(&[0xAB])?;
+    ok(&rt, writer.push(5, 3));
+    ok(&rt, writer.push_octets(&[0xAB]));
     assert_eq!(rt; writer.len_bits(), 11);
     let octets = writer.into_octets();
     assert_eq!(rt; octets.as_slice(), [0xB5, 0x60].as_slice());
@@ -221,37 +238,35 @@ fn bits_are_pushed(rt: HostRuntime) -> Result<(), Fail> {
     assert_eq!(rt; number_at(&octets, 3, 8), Some(171));
     assert_eq!(rt; number_at(&octets, 16, 0), Some(0));
     assert_eq!(rt; number_at(&octets, 16, 1), None);
-    Ok(())
 }
 
 #[test]
-fn bits_are_cut_off(rt: HostRuntime) -> Result<(), Fail> {
+fn bits_are_cut_off(rt: HostRuntime) {
     for bits in 0..22u32 {
         let kept = bits.min(19);
         let mut writer = BitWriter::new(rt.alloc());
-        writer.push_octets(&[0xA5, 0xFF])?;
-        writer.push(5, 3)?;
+        ok(&rt, writer.push_octets(&[0xA5, 0xFF]));
+        ok(&rt, writer.push(5, 3));
         writer.truncate(u64::from(bits));
         assert_eq!(rt; writer.len_bits(), u64::from(kept));
-        writer.push(1, 1)?;
+        ok(&rt, writer.push(1, 1));
         let octets = writer.into_octets();
         assert!(rt; octets.len() < 4);
         let number = (0x5_2FFD >> (19 - kept)) * 2 + 1;
         assert_eq!(rt; number_at(&octets, 0, kept + 1), Some(number));
     }
-    Ok(())
 }
 
 #[test]
-fn pushes_of_every_width(rt: HostRuntime) -> Result<(), Fail> {
+fn pushes_of_every_width(rt: HostRuntime) {
     let mut writer = BitWriter::new(rt.alloc());
     for width in 0..64u32 {
         for value in [0, 1, (1 << width) - 1, 0x5A5A_5A5A_5A5A_5A5A] {
             assert!(rt; writer.len_bits() < 100_000);
-            writer.push(value % (1 << width), width)?;
+            ok(&rt, writer.push(value % (1 << width), width));
         }
         assert!(rt; writer.len_bits() < 100_000);
-        writer.push_octets(&NINE)?;
+        ok(&rt, writer.push_octets(&NINE));
     }
     let length = writer.len_bits();
     let octets = writer.into_octets();
@@ -273,7 +288,6 @@ fn pushes_of_every_width(rt: HostRuntime) -> Result<(), Fail> {
         }
     }
     assert_eq!(rt; at, length);
-    Ok(())
 }
 
 const DECIMAL_TEXTS: &[(i128, i16, &[u8])] = &[
@@ -292,51 +306,43 @@ const DECIMAL_TEXTS: &[(i128, i16, &[u8])] = &[
 ];
 
 #[test]
-fn decimal_texts(rt: HostRuntime) -> Result<(), Fail> {
+fn decimal_texts(rt: HostRuntime) {
     for (v, scale, want) in DECIMAL_TEXTS {
         let mut out = Vec::new(rt.alloc());
-        put_decimal(*v, *scale, &mut out)?;
-        assert_eq!(rt; out.as_slice(), *want, "{v} at {scale}");
-        put_decimal(*v, *scale, &mut out)?;
+        put_decimal(&rt, *v, *scale, &mut out);
+        put_decimal(&rt, *v, *scale, &mut out);
         assert_eq!(rt; out.len() / 2, want.len(), "{v} at {scale}");
-        assert_eq!(rt; read_decimal(want, *scale), Ok(*v), "{v} at {scale}");
+        assert_text(&rt, *v, *scale, want);
     }
-    Ok(())
 }
 
 /// A number as text at scale -300: its sign, its digits, and 300 zeros.
-fn whole_of(alloc: Global, sign: &[u8], digits: &[u8]) -> Result<Vec<u8>, AllocError> {
-    let mut text = Vec::from_slice(alloc, sign)?;
-    text.extend_from_slice(digits)?;
+fn whole_of(rt: &(impl Abort + AllocGlobal), sign: &[u8], digits: &[u8]) -> Vec<u8> {
+    let mut text = ok(rt, Vec::from_slice(rt.alloc(), sign));
+    ok(rt, text.extend_from_slice(digits));
     for _ in 0..300 {
-        text.push(b'0')?;
+        ok(rt, text.push(b'0'));
     }
-    Ok(text)
+    text
 }
 
 /// A number of 39 digits as text at scale 300: its sign, `0.`, 261 zeros, and its digits.
-fn fraction_of(alloc: Global, sign: &[u8], digits: &[u8]) -> Result<Vec<u8>, AllocError> {
-    let mut text = Vec::from_slice(alloc, sign)?;
-    text.extend_from_slice(b"0.")?;
+fn fraction_of(rt: &(impl Abort + AllocGlobal), sign: &[u8], digits: &[u8]) -> Vec<u8> {
+    let mut text = ok(rt, Vec::from_slice(rt.alloc(), sign));
+    ok(rt, text.extend_from_slice(b"0."));
     for _ in 0..261 {
-        text.push(b'0')?;
+        ok(rt, text.push(b'0'));
     }
-    text.extend_from_slice(digits)?;
-    Ok(text)
+    ok(rt, text.extend_from_slice(digits));
+    text
 }
 
 /// Asserts that a number has this text at a scale, and that the text is read as the number.
-fn assert_text(
-    rt: &(impl Abort + AllocGlobal),
-    v: i128,
-    scale: i16,
-    want: &[u8],
-) -> Result<(), AllocError> {
+fn assert_text(rt: &(impl Abort + AllocGlobal), v: i128, scale: i16, want: &[u8]) {
     let mut out = Vec::new(rt.alloc());
-    put_decimal(v, scale, &mut out)?;
+    put_decimal(rt, v, scale, &mut out);
     assert_eq!(rt; out.as_slice(), want, "{v} at {scale}");
     assert_eq!(rt; read_decimal(&out, scale), Ok(v), "{v} at {scale}");
-    Ok(())
 }
 
 const NUMBERS_AT_THE_END: &[(i128, &[u8], &[u8])] = &[
@@ -345,14 +351,13 @@ const NUMBERS_AT_THE_END: &[(i128, &[u8], &[u8])] = &[
 ];
 
 #[test]
-fn decimal_texts_at_the_ends(rt: HostRuntime) -> Result<(), Fail> {
+fn decimal_texts_at_the_ends(rt: HostRuntime) {
     for (v, sign, digits) in NUMBERS_AT_THE_END {
-        let whole = whole_of(rt.alloc(), sign, digits)?;
-        assert_text(&rt, *v, -300, &whole)?;
-        let fraction = fraction_of(rt.alloc(), sign, digits)?;
-        assert_text(&rt, *v, 300, &fraction)?;
+        let whole = whole_of(&rt, sign, digits);
+        assert_text(&rt, *v, -300, &whole);
+        let fraction = fraction_of(&rt, sign, digits);
+        assert_text(&rt, *v, 300, &fraction);
     }
-    Ok(())
 }
 
 const DECIMAL_READINGS: &[(&[u8], i16, Result<i128, NumberFault>)] = &[

@@ -1,10 +1,12 @@
 // What is shown by running: worked items of compressed data, each fault, and the order of the
 // faults.
+use crate::ok;
 use crate::tests::{Way, assert_rows, hexadecimal, stopped, told};
 use bufr_fill::*;
 use bufr_tables::{TableB, Template};
 use bufr_walk::{Fields, Steps, walk};
 use std::alloc::Global;
+use std::process::Abort;
 use std::test::Fail;
 
 // A name for what is shown, the descriptors, the items of all subsets, and what comes of them,
@@ -188,27 +190,27 @@ const TOGETHER_REFUSED: &[(&str, &str, &str, &str)] = &[
 
 // What comes of items that are written for all subsets together.
 pub(crate) fn together(
-    alloc: Global,
+    rt: &(impl Abort + AllocGlobal),
     entries: &Entries,
     template: &Template,
     table: &TableB,
-) -> Result<String, Fail> {
+) -> String {
     if entries.len() > 100 {
-        return Err(Fail::from("too many"));
+        return String::new(rt.alloc());
     }
-    let Some(mut out) = PackedOut::new(alloc, entries)? else {
-        return Ok(String::new(alloc));
+    let Some(mut out) = ok(rt, PackedOut::new(rt.alloc(), entries)) else {
+        return String::new(rt.alloc());
     };
     let mut steps = Steps::new();
-    match walk(alloc, template, table, &mut out, &mut steps) {
+    match walk(rt.alloc(), template, table, &mut out, &mut steps) {
         Ok(()) => {}
-        Err(why) => return stopped(alloc, why, out.line()),
+        Err(why) => return stopped(rt, why, out.line()),
     }
     match out.end() {
         Ok(()) => {}
-        Err(fault) => return told(alloc, fault),
+        Err(fault) => return told(rt, &fault),
     }
-    hexadecimal(alloc, &out.into_octets())
+    hexadecimal(rt, &out.into_octets())
 }
 
 // How many bits the items of all subsets are, written together.
@@ -232,7 +234,7 @@ pub(crate) fn bits_together(
 }
 
 #[test]
-fn items_together(rt: HostRuntime) -> Result<(), Fail> {
+fn items_together(rt: HostRuntime) {
     law::packed_data_round_trip();
     law::written_packed_data_are_read();
     law::packed_data_are_told_by_what_is_said();
@@ -245,7 +247,7 @@ fn items_together(rt: HostRuntime) -> Result<(), Fail> {
 }
 
 #[test]
-fn items_refused_together(rt: HostRuntime) -> Result<(), Fail> {
+fn items_refused_together(rt: HostRuntime) {
     law::packed_fault_is_as_defined();
     assert_rows(&rt, Way::Together, TOGETHER_REFUSED)
 }

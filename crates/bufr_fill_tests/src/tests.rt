@@ -1,9 +1,10 @@
 // What is shown by running: worked items of data that are not compressed, and each fault.
+use crate::ok;
 use crate::packed_tests::{bits_together, together};
 use bufr_fill::*;
 use bufr_tables::{Fxy, TableB, TableD, Template};
 use bufr_walk::{Fields, Steps, WalkStop, walk};
-use std::alloc::{AllocError, Global};
+use std::alloc::Global;
 use std::process::Abort;
 use std::test::Fail;
 
@@ -155,61 +156,68 @@ fn form_of(word: &str) -> Form<'_> {
 // Puts the entry of a word behind those that are there: an item whose descriptor is known, or the
 // end of a subset. A word that is neither is a descriptor, which is then known.
 fn put_entry(
+    rt: &(impl Abort + AllocGlobal),
     word: &str,
     known: Option<Fxy>,
     entries: &mut Entries,
-) -> Result<Option<Fxy>, AllocError> {
+) -> Option<Fxy> {
     let line = (entries.len() as u64).saturating_add(24);
     if word == "/" {
-        entries.push_end(line)?;
-        return Ok(None);
+        ok(rt, entries.push_end(line));
+        return None;
     }
     match known {
         Some(fxy) => {
-            entries.push_item(line, fxy, form_of(word))?;
-            Ok(None)
+            ok(rt, entries.push_item(line, fxy, form_of(word)));
+            None
         }
-        None => Ok(Some(descriptor_of(word))),
+        None => Some(descriptor_of(word)),
     }
 }
 
-fn tables(alloc: Global) -> Result<(TableB, TableD), Fail> {
-    let table_b = TableB::read(alloc, TABLE_B)?;
-    let table_d = TableD::read(alloc, TABLE_D)?;
-    Ok((table_b, table_d))
+fn tables(rt: &(impl Abort + AllocGlobal)) -> (TableB, TableD) {
+    let table_b = ok(rt, TableB::read(rt.alloc(), TABLE_B));
+    let table_d = ok(rt, TableD::read(rt.alloc(), TABLE_D));
+    (table_b, table_d)
 }
 
 // The template of descriptors that words spell.
 fn template_of(
-    alloc: Global,
+    rt: &(impl Abort + AllocGlobal),
     text: &str,
     table_b: &TableB,
     table_d: &TableD,
-) -> Result<Template, Fail> {
-    let mut descriptors = Vec::new(alloc);
+) -> Template {
+    let mut descriptors = Vec::new(rt.alloc());
     for digits in text.split_whitespace() {
-        descriptors.push(descriptor_of(digits))?;
+        ok(rt, descriptors.push(descriptor_of(digits)));
     }
-    Ok(Template::build(alloc, &descriptors, table_b, table_d)?)
+    ok(
+        rt,
+        Template::build(rt.alloc(), &descriptors, table_b, table_d),
+    )
 }
 
 // The entries that words spell.
-fn entries_of(alloc: Global, text: &str) -> Result<Entries, AllocError> {
-    let mut entries = Entries::new(alloc);
+fn entries_of(rt: &(impl Abort + AllocGlobal), text: &str) -> Entries {
+    let mut entries = Entries::new(rt.alloc());
     let mut known = None;
     for word in text.split_whitespace() {
-        known = put_entry(word, known, &mut entries)?;
+        known = put_entry(rt, word, known, &mut entries);
     }
-    Ok(entries)
+    entries
 }
 
 // Octets in hexadecimal digits.
-pub(crate) fn hexadecimal(alloc: Global, octets: &[u8]) -> Result<String, Fail> {
-    let mut text = String::new(alloc);
+pub(crate) fn hexadecimal(rt: &(impl Abort + AllocGlobal), octets: &[u8]) -> String {
+    let mut text = String::new(rt.alloc());
     for octet in octets {
-        text.push_str(format!(in alloc; "{octet:02X}")?.as_str())?;
+        ok(
+            rt,
+            text.push_str(ok(rt, format!(in rt.alloc(); "{octet:02X}")).as_str()),
+        );
     }
-    Ok(text)
+    text
 }
 
 // The line of a fault.
@@ -228,17 +236,22 @@ fn line_of(fault: DraftFault) -> u64 {
 }
 
 // A fault's number and its line.
-pub(crate) fn told(alloc: Global, fault: DraftFault) -> Result<String, Fail> {
-    Ok(format!(in alloc; "{} at {}", fault.number(), line_of(fault))?)
+pub(crate) fn told(rt: &(impl Abort + AllocGlobal), fault: &DraftFault) -> String {
+    let (number, line) = (fault.number(), line_of(*fault));
+    ok(rt, format!(in rt.alloc(); "{number} at {line}"))
 }
 
 // Why a walk stopped, where the next line is this one.
-pub(crate) fn stopped(alloc: Global, why: WalkStop<DraftFault>, line: u64) -> Result<String, Fail> {
+pub(crate) fn stopped(
+    rt: &(impl Abort + AllocGlobal),
+    why: WalkStop<DraftFault>,
+    line: u64,
+) -> String {
     match why {
-        WalkStop::Width(_) => Ok(format!(in alloc; "31 at {line}")?),
-        WalkStop::Defining(_) => Ok(format!(in alloc; "32 at {line}")?),
-        WalkStop::Field(fault) => told(alloc, fault),
-        WalkStop::Memory => Ok(format!(in alloc; "73")?),
+        WalkStop::Width(_) => ok(rt, format!(in rt.alloc(); "31 at {line}")),
+        WalkStop::Defining(_) => ok(rt, format!(in rt.alloc(); "32 at {line}")),
+        WalkStop::Field(fault) => told(rt, &fault),
+        WalkStop::Memory => ok(rt, format!(in rt.alloc(); "73")),
     }
 }
 
@@ -255,27 +268,27 @@ fn subsets_in(entries: &Entries) -> usize {
 
 // What comes of items that are written one subset after another.
 fn apart(
-    alloc: Global,
+    rt: &(impl Abort + AllocGlobal),
     entries: &Entries,
     template: &Template,
     table: &TableB,
-) -> Result<String, Fail> {
+) -> String {
     if entries.len() > 100 {
-        return Err(Fail::from("too many"));
+        return String::new(rt.alloc());
     }
-    let mut out = PlainOut::new(alloc, entries);
+    let mut out = PlainOut::new(rt.alloc(), entries);
     let mut steps = Steps::new();
     for _ in 0..subsets_in(entries) {
-        match walk(alloc, template, table, &mut out, &mut steps) {
+        match walk(rt.alloc(), template, table, &mut out, &mut steps) {
             Ok(()) => {}
-            Err(why) => return stopped(alloc, why, out.line()),
+            Err(why) => return stopped(rt, why, out.line()),
         }
         match out.end_subset() {
             Ok(()) => {}
-            Err(fault) => return told(alloc, fault),
+            Err(fault) => return told(rt, &fault),
         }
     }
-    hexadecimal(alloc, &out.into_octets())
+    hexadecimal(rt, &out.into_octets())
 }
 
 // How many bits the items of the first subset are, written apart.
@@ -297,8 +310,8 @@ fn bits_apart(
 }
 
 // A number of bits.
-fn counted(alloc: Global, bits: Option<u64>) -> Result<String, Fail> {
-    Ok(format!(in alloc; "{bits:?}")?)
+fn counted(rt: &(impl Abort + AllocGlobal), bits: Option<u64>) -> String {
+    ok(rt, format!(in rt.alloc(); "{bits:?}"))
 }
 
 // How items are written, and what is told of them.
@@ -312,18 +325,18 @@ pub(crate) enum Way {
 
 // What comes of the items that words spell.
 fn shown(
-    alloc: Global,
+    rt: &(impl Abort + AllocGlobal),
     way: Way,
     items: &str,
     template: &Template,
     table: &TableB,
-) -> Result<String, Fail> {
-    let entries = entries_of(alloc, items)?;
+) -> String {
+    let entries = entries_of(rt, items);
     match way {
-        Way::Apart => apart(alloc, &entries, template, table),
-        Way::Together => together(alloc, &entries, template, table),
-        Way::BitsApart => counted(alloc, bits_apart(alloc, &entries, template, table)),
-        Way::BitsTogether => counted(alloc, bits_together(alloc, &entries, template, table)),
+        Way::Apart => apart(rt, &entries, template, table),
+        Way::Together => together(rt, &entries, template, table),
+        Way::BitsApart => counted(rt, bits_apart(rt.alloc(), &entries, template, table)),
+        Way::BitsTogether => counted(rt, bits_together(rt.alloc(), &entries, template, table)),
     }
 }
 
@@ -332,18 +345,17 @@ pub(crate) fn assert_rows(
     rt: &(impl Abort + AllocGlobal),
     way: Way,
     rows: &[(&str, &str, &str, &str)],
-) -> Result<(), Fail> {
-    let (table_b, table_d) = tables(rt.alloc())?;
+) {
+    let (table_b, table_d) = tables(rt);
     for (name, digits, items, want) in rows {
-        let template = template_of(rt.alloc(), digits, &table_b, &table_d)?;
-        let got = shown(rt.alloc(), way, items, &template, &table_b)?;
+        let template = template_of(rt, digits, &table_b, &table_d);
+        let got = shown(rt, way, items, &template, &table_b);
         assert_eq!(rt; got.as_str(), *want, "{name}");
     }
-    Ok(())
 }
 
 #[test]
-fn items_apart(rt: HostRuntime) -> Result<(), Fail> {
+fn items_apart(rt: HostRuntime) {
     law::plain_data_round_trip();
     law::written_plain_data_are_read();
     law::plain_data_are_told_by_what_is_said();
@@ -355,13 +367,13 @@ fn items_apart(rt: HostRuntime) -> Result<(), Fail> {
 
 // Whole items alone are counted.
 #[test]
-fn bits_of_whole_items(rt: HostRuntime) -> Result<(), Fail> {
+fn bits_of_whole_items(rt: HostRuntime) {
     let items = "001001 10 / 001001 11 /";
     assert_rows(
         &rt,
         Way::BitsApart,
         &[("apart", "001001", items, "Some(7)")],
-    )?;
+    );
     assert_rows(
         &rt,
         Way::BitsTogether,

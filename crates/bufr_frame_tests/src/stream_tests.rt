@@ -1,11 +1,10 @@
 //! The worked streams, each found with readers of 1, 3 and all octets per read.
 
+use crate::ok;
 use crate::test_messages::ONE_BLOCK_NUMBER;
 use bufr_bits::ScriptIn;
 use bufr_frame::{Cause, Event, Finder, RunFault, law};
-use std::alloc::{AllocError, Global};
 use std::process::Abort;
-use std::test::Fail;
 
 /// An event that is to come: a frame's offset and length, or a stray's offset and cause.
 #[derive(Clone, Copy, Debug, PartialEq, Eq)]
@@ -20,28 +19,28 @@ use Told::{Frame, Stray};
 const STEPS: [usize; 3] = [1, 3, 65536];
 
 /// The octets of the parts, one after another.
-fn joined(alloc: Global, parts: &[&[u8]]) -> Result<Vec<u8>, AllocError> {
-    let mut octets = Vec::new(alloc);
+fn joined(rt: &(impl Abort + AllocGlobal), parts: &[&[u8]]) -> Vec<u8> {
+    let mut octets = Vec::new(rt.alloc());
     for part in parts {
-        octets.extend_from_slice(part)?;
+        ok(rt, octets.extend_from_slice(part));
     }
-    Ok(octets)
+    octets
 }
 
 /// The octets of a part, so many times.
-fn repeated(alloc: Global, part: &[u8], times: usize) -> Result<Vec<u8>, AllocError> {
-    let mut octets = Vec::new(alloc);
+fn repeated(rt: &(impl Abort + AllocGlobal), part: &[u8], times: usize) -> Vec<u8> {
+    let mut octets = Vec::new(rt.alloc());
     for _ in 0..times {
-        octets.extend_from_slice(part)?;
+        ok(rt, octets.extend_from_slice(part));
     }
-    Ok(octets)
+    octets
 }
 
 /// A message with 5,000 octets for local use, 5,048 octets.
-fn long_message(alloc: Global) -> Result<Vec<u8>, AllocError> {
-    let local1 = repeated(alloc, b"\x00", 5000)?;
+fn long_message(rt: &(impl Abort + AllocGlobal)) -> Vec<u8> {
+    let local1 = repeated(rt, b"\x00", 5000);
     joined(
-        alloc,
+        rt,
         &[
             b"BUFR\x00\x13\xB8\x04\x00\x13\x9E",
             &ONE_BLOCK_NUMBER[11..30],
@@ -49,6 +48,20 @@ fn long_message(alloc: Global) -> Result<Vec<u8>, AllocError> {
             &ONE_BLOCK_NUMBER[30..],
         ],
     )
+}
+
+/// The next event of a finder, where it is one and a frame has the octets that stand at its offset.
+fn next_told(stream: &[u8], finder: &mut Finder, r: &mut ScriptIn<'_>) -> Option<Told> {
+    match finder.next(r) {
+        Ok(Event::Frame(offset, octets)) => {
+            let stands = stream
+                .get(offset as usize..)
+                .is_some_and(|rest| rest.starts_with(octets));
+            stands.then_some(Frame(offset, octets.len()))
+        }
+        Ok(Event::Stray(offset, cause)) => Some(Stray(offset, cause)),
+        _ => None,
+    }
 }
 
 /// Asserts the next event of a finder, and the bound on what it holds.
@@ -59,32 +72,8 @@ fn assert_event(
     r: &mut ScriptIn<'_>,
     wanted: Told,
 ) {
-    match finder.next(r) {
-        Ok(Event::Frame(offset, octets)) => {
-            assert!(rt;
-                wanted == Frame(offset, octets.len()),
-                "{offset}, not {wanted:?}"
-            );
-            let begin = offset as usize;
-            assert!(rt;
-                begin <= stream.len() && stream[begin..].starts_with(octets),
-                "{offset}"
-            );
-        }
-        Ok(Event::Stray(offset, cause)) => {
-            assert!(rt;
-                wanted == Stray(offset, cause),
-                "{offset} {cause:?}, not {wanted:?}"
-            );
-        }
-        Ok(Event::Done) => assert!(rt; false, "done, not {wanted:?}"),
-        Err(fault) => assert!(rt; false, "{fault:?}, not {wanted:?}"),
-    }
-    assert!(rt;
-        finder.held() <= finder.longest().max(4096),
-        "{}",
-        finder.held()
-    );
+    assert_eq!(rt; next_told(stream, finder, r), Some(wanted));
+    assert!(rt; finder.held() <= finder.longest().max(4096));
 }
 
 /// Asserts the events of a stream, however it is read, that the end is told again, and the greatest
@@ -107,7 +96,7 @@ fn assert_events(rt: &(impl Abort + AllocGlobal), stream: &[u8], wanted: &[Told]
 }
 
 #[test]
-fn streams(rt: HostRuntime) -> Result<(), Fail> {
+fn streams(rt: HostRuntime) {
     let one = ONE_BLOCK_NUMBER.as_slice();
     let table: [(&[&[u8]], &[Told], usize); 6] = [
         (&[], &[], 0),
@@ -146,25 +135,20 @@ fn streams(rt: HostRuntime) -> Result<(), Fail> {
         ),
     ];
     for (parts, wanted, longest) in table {
-        let stream = joined(rt.alloc(), parts)?;
+        let stream = joined(&rt, parts);
         assert_events(&rt, &stream, wanted, longest);
     }
-    Ok(())
 }
 
 #[test]
-fn a_frame_larger_than_all_before(rt: HostRuntime) -> Result<(), Fail> {
-    let long = long_message(rt.alloc())?;
-    let zeros = repeated(rt.alloc(), b"\x00", 10_000)?;
-    let behind_zeros = joined(rt.alloc(), &[&zeros, &ONE_BLOCK_NUMBER])?;
+fn a_frame_larger_than_all_before(rt: HostRuntime) {
+    let long = long_message(&rt);
+    let zeros = repeated(&rt, b"\x00", 10_000);
+    let behind_zeros = joined(&rt, &[&zeros, &ONE_BLOCK_NUMBER]);
     assert_events(&rt, &behind_zeros, &[Frame(10_000, 48)], 48);
-    let growing = joined(
-        rt.alloc(),
-        &[&ONE_BLOCK_NUMBER, &long, &zeros, &ONE_BLOCK_NUMBER],
-    )?;
+    let growing = joined(&rt, &[&ONE_BLOCK_NUMBER, &long, &zeros, &ONE_BLOCK_NUMBER]);
     let wanted = [Frame(0, 48), Frame(48, 5048), Frame(15_096, 48)];
     assert_events(&rt, &growing, &wanted, 5048);
-    Ok(())
 }
 
 #[test]
@@ -182,36 +166,34 @@ fn a_message_cut_anywhere(rt: HostRuntime) {
 
 /// Words alone: each states a length to come, which is told cut only at the end.
 #[test]
-fn words_alone(rt: HostRuntime) -> Result<(), Fail> {
+fn words_alone(rt: HostRuntime) {
     let alloc = rt.alloc();
-    let stream = repeated(alloc, b"BUFR", 1024)?;
+    let stream = repeated(&rt, b"BUFR", 1024);
     let mut wanted = Vec::new(alloc);
     for i in 0..1024u64 {
-        wanted.push(Stray(i.saturating_mul(4), Cause::Cut))?;
+        ok(&rt, wanted.push(Stray(i.saturating_mul(4), Cause::Cut)));
     }
     assert_events(&rt, &stream, &wanted, 0x42_55_46);
-    Ok(())
 }
 
 /// Words eight octets apart that each state 4,096 octets.
 #[test]
-fn words_that_state_much(rt: HostRuntime) -> Result<(), Fail> {
+fn words_that_state_much(rt: HostRuntime) {
     let alloc = rt.alloc();
-    let stream = repeated(alloc, b"BUFR\x00\x10\x00\x04", 1024)?;
+    let stream = repeated(&rt, b"BUFR\x00\x10\x00\x04", 1024);
     let mut wanted = Vec::new(alloc);
     for i in 0..1024u64 {
         let cause = if i < 513 { Cause::NoEnd } else { Cause::Cut };
-        wanted.push(Stray(i.saturating_mul(8), cause))?;
+        ok(&rt, wanted.push(Stray(i.saturating_mul(8), cause)));
     }
     assert_events(&rt, &stream, &wanted, 4096);
-    Ok(())
 }
 
 /// A frame that is larger than all before is held whole until the next call, and nothing else.
 #[test]
-fn a_long_frame_is_held(rt: HostRuntime) -> Result<(), Fail> {
-    let long = long_message(rt.alloc())?;
-    let stream = joined(rt.alloc(), &[&long, &ONE_BLOCK_NUMBER])?;
+fn a_long_frame_is_held(rt: HostRuntime) {
+    let long = long_message(&rt);
+    let stream = joined(&rt, &[&long, &ONE_BLOCK_NUMBER]);
     for step in STEPS {
         assert!(rt; step > 0);
         let mut r = ScriptIn::new(&stream, step, None);
@@ -229,7 +211,6 @@ fn a_long_frame_is_held(rt: HostRuntime) -> Result<(), Fail> {
             finder.held()
         );
     }
-    Ok(())
 }
 
 /// Asserts the events of a reader that fails at a place, and that the fault comes again.
@@ -260,7 +241,7 @@ fn assert_fault(
 
 /// The events that were certain come first, then the fault, again and again.
 #[test]
-fn a_read_that_fails(rt: HostRuntime) -> Result<(), Fail> {
+fn a_read_that_fails(rt: HostRuntime) {
     let one = ONE_BLOCK_NUMBER.as_slice();
     let table: [(&[&[u8]], usize, &[Told], usize); 5] = [
         (&[one], 20, &[], 48),
@@ -275,10 +256,9 @@ fn a_read_that_fails(rt: HostRuntime) -> Result<(), Fail> {
         (&[b"BUFR\x00\x00\x40\x04", one], 56, &[], 64),
     ];
     for (parts, fails_at, wanted, longest) in table {
-        let stream = joined(rt.alloc(), parts)?;
+        let stream = joined(&rt, parts);
         assert_fault(&rt, &stream, fails_at, wanted, longest);
     }
-    Ok(())
 }
 
 #[test]

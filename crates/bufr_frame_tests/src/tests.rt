@@ -1,78 +1,79 @@
 //! The worked messages, taken apart and written.
 
+use crate::ok;
 use crate::test_messages::{COMPRESSED, EDITION_3, EDITION_3_ODD, LOCAL_USE, ONE_BLOCK_NUMBER};
 use bufr_bits::ScriptIn;
 use bufr_frame::{
     Head, Message, RunFault, SectionFault, WriteFault, read_behind, read_to_end, write_message,
 };
-use std::alloc::Global;
-use std::test::Fail;
+use std::process::Abort;
 
 /// The octets that the parts of a message give when they are written.
-fn written_again(alloc: Global, octets: &[u8]) -> Result<Option<Vec<u8>>, Fail> {
+fn written_again(rt: &(impl Abort + AllocGlobal), octets: &[u8]) -> Option<Vec<u8>> {
     if octets.len() < 12 {
-        return Ok(None);
+        return None;
     }
     let Ok(message) = Message::parse(octets) else {
-        return Ok(None);
+        return None;
     };
     let head = message.head();
     let fits = head.centre <= 255 && head.subcentre <= 255 && head.year <= 255;
     let lacks = head.local_subcategory == 0 && head.second == 0;
     if !(head.edition == 4 || head.edition == 3 && fits && lacks) {
-        return Ok(None);
+        return None;
     }
-    let mut descriptors = Vec::new(alloc);
+    let mut descriptors = Vec::new(rt.alloc());
     for word in message.descriptors() {
-        descriptors.push(word)?;
+        ok(rt, descriptors.push(word));
     }
     // the payload's octets, by its bits
     let bits = message.payload();
-    let mut payload = Vec::new(alloc);
+    let mut payload = Vec::new(rt.alloc());
     for i in 0..octets.len() as u64 {
         let Some(octet) = bits.octet(i.saturating_mul(8)) else {
             break;
         };
-        payload.push(octet)?;
+        ok(rt, payload.push(octet));
     }
-    let octets = write_message(
-        alloc,
-        &head,
-        message.local1(),
-        message.section2(),
-        &descriptors,
-        message.subsets(),
-        message.observed(),
-        message.compressed(),
-        &payload,
-    )?;
-    Ok(Some(octets))
+    let octets = ok(
+        rt,
+        write_message(
+            rt.alloc(),
+            &head,
+            message.local1(),
+            message.section2(),
+            &descriptors,
+            message.subsets(),
+            message.observed(),
+            message.compressed(),
+            &payload,
+        ),
+    );
+    Some(octets)
 }
 
 #[test]
-fn parts_written_again(rt: HostRuntime) -> Result<(), Fail> {
+fn parts_written_again(rt: HostRuntime) {
     for octets in [
         ONE_BLOCK_NUMBER.as_slice(),
         LOCAL_USE.as_slice(),
         COMPRESSED.as_slice(),
         EDITION_3.as_slice(),
     ] {
-        let again = written_again(rt.alloc(), octets)?.expect(&rt, "a message");
+        let again = written_again(&rt, octets).expect(&rt, "a message");
         assert_eq!(rt; again.as_slice(), octets);
     }
-    Ok(())
 }
 
 #[test]
-fn odd_sections_are_made_even(rt: HostRuntime) -> Result<(), Fail> {
-    let again = written_again(rt.alloc(), &EDITION_3_ODD)?.expect(&rt, "a message");
+fn odd_sections_are_made_even(rt: HostRuntime) {
+    let again = written_again(&rt, &EDITION_3_ODD).expect(&rt, "a message");
     assert_eq!(rt; again.as_slice(), EDITION_3.as_slice());
-    Ok(())
 }
 
 #[test]
-fn odd_sections_of_long_messages_are_refused(rt: HostRuntime) -> Result<(), Fail> {
-    let mut octets = vec![in rt.alloc(); 0u8; 16_777_214]?;
+fn odd_sections_of_long_messages_are_refused(rt: HostRuntime) {
+    let mut octets = ok(&rt, vec![in rt.alloc(); 0u8; 16_777_214]);
     for (third, fits) in [(9u8, false), (10, true)] {
         assert!(rt; octets.len() == 16_777_214);
         octets[7] = 3;
@@ -91,15 +92,14 @@ fn odd_sections_of_long_messages_are_refused(rt: HostRuntime) -> Result<(), Fail
             }
         }
     }
-    Ok(())
 }
 
 #[test]
-fn too_long(rt: HostRuntime) -> Result<(), Fail> {
+fn too_long(rt: HostRuntime) {
     let message = Message::parse(&ONE_BLOCK_NUMBER).expect(&rt, "a message");
     let head = message.head();
     assert!(rt; head.edition == 4);
-    let local1 = vec![in rt.alloc(); 0u8; 16_777_215]?;
+    let local1 = ok(&rt, vec![in rt.alloc(); 0u8; 16_777_215]);
     let most: usize = 16_777_215 - 45;
     for (len, fits) in [(16_777_215usize, false), (most + 1, false), (most, true)] {
         assert!(rt; len <= local1.len());
@@ -119,11 +119,10 @@ fn too_long(rt: HostRuntime) -> Result<(), Fail> {
             Err(fault) => assert!(rt; !fits && fault == WriteFault::TooLong, "{len}: {fault:?}"),
         }
     }
-    Ok(())
 }
 
 #[test]
-fn reads_a_message(rt: HostRuntime) -> Result<(), Fail> {
+fn reads_a_message(rt: HostRuntime) {
     let message = Message::parse(&LOCAL_USE).expect(&rt, "a message");
     let head = message.head();
     assert!(rt; head.edition == 4 && head.master == 0 && head.centre == 98 && head.subcentre == 0);
@@ -144,7 +143,6 @@ fn reads_a_message(rt: HostRuntime) -> Result<(), Fail> {
     assert!(rt; message.length() == 56);
     let message = Message::parse(&COMPRESSED).expect(&rt, "a message");
     assert!(rt; message.subsets() == 2 && message.compressed() && message.section2() == None);
-    Ok(())
 }
 
 /// What section 1 of the message of edition 3 says.
@@ -168,7 +166,7 @@ const HEAD_OF_EDITION_3: Head = Head {
 };
 
 #[test]
-fn reads_a_message_of_edition_3(rt: HostRuntime) -> Result<(), Fail> {
+fn reads_a_message_of_edition_3(rt: HostRuntime) {
     let message = Message::parse(&EDITION_3_ODD).expect(&rt, "a message");
     assert_eq!(rt; message.head(), HEAD_OF_EDITION_3);
     assert_eq!(rt; message.local1(), b"\0".as_slice());
@@ -176,11 +174,10 @@ fn reads_a_message_of_edition_3(rt: HostRuntime) -> Result<(), Fail> {
     assert!(rt; message.descriptor(0) == Some(0x0101) && message.descriptor(1) == None);
     assert!(rt; message.subsets() == 1 && message.observed() && !message.compressed());
     assert!(rt; message.payload().len_bits() == 8 && message.payload().octet(0) == Some(0x14));
-    Ok(())
 }
 
 #[test]
-fn refuses_a_message(rt: HostRuntime) -> Result<(), Fail> {
+fn refuses_a_message(rt: HostRuntime) {
     let faults: [(&[(usize, u8)], SectionFault); 9] = [
         (&[(7, 2)], SectionFault::Edition(2)),
         (&[(10, 21)], SectionFault::SectionShort(1)),
@@ -203,31 +200,27 @@ fn refuses_a_message(rt: HostRuntime) -> Result<(), Fail> {
             Err(told) => assert!(rt; told == fault, "{fault:?}: {told:?}"),
         }
     }
-    Ok(())
 }
 
 #[test]
-fn reads_to_the_end(rt: HostRuntime) -> Result<(), Fail> {
+fn reads_to_the_end(rt: HostRuntime) {
     let mut r = ScriptIn::new(&LOCAL_USE, 9, None);
     let mut octets = Vec::new(rt.alloc());
     let mut reads = 0;
     let ran = read_to_end(&mut r, &mut octets, &mut reads);
     assert!(rt; ran == Ok(()) && reads == 8, "{reads}");
     assert_eq!(rt; octets.as_slice(), LOCAL_USE.as_slice());
-    Ok(())
 }
 
 /// A read behind octets that are held, up to a place; and one that fails.
 #[test]
-fn reads_behind_what_is_held(rt: HostRuntime) -> Result<(), Fail> {
+fn reads_behind_what_is_held(rt: HostRuntime) {
     let mut r = ScriptIn::new(b"bcde", 9, Some(2));
-    let mut buffer = Vec::new(rt.alloc());
-    buffer.extend_from_slice(b"a\0\0\0")?;
+    let mut buffer = Vec::from_slice(rt.alloc(), b"a\0\0\0").expect(&rt, "memory");
     let read = read_behind(&mut r, &mut buffer, 1, 3);
     assert_eq!(rt; read, Ok(2));
     assert_eq!(rt; buffer.as_slice(), b"abc\0".as_slice());
     let read = read_behind(&mut r, &mut buffer, 3, 4);
     assert_eq!(rt; read, Err(RunFault::Read));
     assert_eq!(rt; buffer.as_slice(), b"abc\0".as_slice());
-    Ok(())
 }

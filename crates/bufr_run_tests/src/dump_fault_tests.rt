@@ -1,5 +1,6 @@
 //! What `dump` refuses, and where its reader and its writers fail.
 
+use crate::ok;
 use crate::test_messages::{
     COMPRESSED, LOCAL_USE, ONE_ACCEPTED, ONE_REFUSED, STRAY, delayed_twice, joined, message_in,
     message_of, of_edition_2, one_block_number, text_of, text_of_one, words_of,
@@ -11,7 +12,6 @@ use crate::test_runs::{
 };
 use bufr_run::Tally;
 use std::process::Abort;
-use std::test::Fail;
 
 /// A message that is refused, and its fault line behind `offset 0: `.
 struct Refused {
@@ -190,16 +190,10 @@ static REFUSED: [Refused; 20] = [
 ];
 
 #[test]
-fn refuses_worked_examples(rt: HostRuntime) -> Result<(), Fail> {
+fn refuses_worked_examples(rt: HostRuntime) {
     for row in &REFUSED {
-        let message = message_in(
-            rt.alloc(),
-            row.subsets,
-            row.flags,
-            row.descriptors,
-            row.data,
-        )?;
-        let line = format!(in rt.alloc(); "offset 0: {}", row.fault)?;
+        let message = message_in(&rt, row.subsets, row.flags, row.descriptors, row.data);
+        let line = ok(&rt, format!(in rt.alloc(); "offset 0: {}", row.fault));
         assert_run(
             &rt,
             Command::Dump,
@@ -208,18 +202,17 @@ fn refuses_worked_examples(rt: HostRuntime) -> Result<(), Fail> {
             b"",
             line.as_bytes(),
             ONE_REFUSED,
-        )?;
+        );
     }
-    Ok(())
 }
 
 /// The 2,049th item of 65,535 subsets would be one value too many; each takes seven bits.
 #[test]
-fn refuses_too_many_values(rt: HostRuntime) -> Result<(), Fail> {
-    let words = words_of(rt.alloc(), "201122 102009 101228 001001")?;
+fn refuses_too_many_values(rt: HostRuntime) {
+    let words = words_of(&rt, "201122 102009 101228 001001");
     let mut data = Vec::new(rt.alloc());
-    data.resize(2000, 0)?;
-    let message = message_of(rt.alloc(), 65535, 0xC0, &words, &data)?;
+    ok(&rt, data.resize(2000, 0));
+    let message = message_of(&rt, 65535, 0xC0, &words, &data);
     assert_run(
         &rt,
         Command::Dump,
@@ -232,20 +225,24 @@ fn refuses_too_many_values(rt: HostRuntime) -> Result<(), Fail> {
 }
 
 /// A stray word, a message of edition 2, one whose second subset is refused, and one that is
-/// accepted: of the refused ones nothing is on the output.
+/// accepted.
+fn one_behind_refused(rt: &(impl Abort + AllocGlobal)) -> Vec<u8> {
+    let halved = message_of(rt, 2, 0x80, &[0x0101], &[0x14]);
+    joined(
+        rt,
+        &[STRAY, &of_edition_2(), &halved, &one_block_number(rt)],
+    )
+}
+
+/// Of the refused ones nothing is on the output.
 #[test]
-fn goes_on_behind_refused(rt: HostRuntime) -> Result<(), Fail> {
-    let good = one_block_number(rt.alloc())?;
-    let other = of_edition_2();
-    let halved = message_of(rt.alloc(), 2, 0x80, &[0x0101], &[0x14])?;
-    let input = joined(rt.alloc(), &[STRAY, &other, &halved, &good])?;
-    let text = text_of_one(rt.alloc())?;
+fn goes_on_behind_refused(rt: HostRuntime) {
     assert_run(
         &rt,
         Command::Dump,
         "refused ones",
-        &input,
-        text.as_bytes(),
+        &one_behind_refused(&rt),
+        text_of_one(&rt).as_bytes(),
         b"offset 0: 3 no end\n\
         offset 8: 10 edition 2\n\
         offset 56: 30 data end at subset 2 descriptor 001001 bit 7\n",
@@ -256,24 +253,44 @@ fn goes_on_behind_refused(rt: HostRuntime) -> Result<(), Fail> {
     )
 }
 
+/// The descriptors of a block number and a temperature.
+const TWO_ELEMENTS: &str = "001001 012101";
+
+/// The items of a message of these.
+const ITEMS_OF_TWO: &str = "subset 1\n\
+    001001 10  # WMO BLOCK NUMBER [Numeric]\n\
+    012101 288.15  # AIR TEMPERATURE [K]\n";
+
+/// Messages of these, with these data in hexadecimal.
+fn of_two_elements(rt: &(impl Abort + AllocGlobal), data: &[&str]) -> Vec<u8> {
+    let mut octets = Vec::new(rt.alloc());
+    for payload in data {
+        let message = message_in(rt, 1, 0x80, TWO_ELEMENTS, payload);
+        ok(rt, octets.extend_from_slice(&message));
+    }
+    octets
+}
+
+/// The text of such a message, so many times.
+fn texts_of_two_elements(rt: &(impl Abort + AllocGlobal), times: usize) -> Vec<u8> {
+    let text = text_of(rt, 1, 0x80, TWO_ELEMENTS, ITEMS_OF_TWO);
+    let mut texts = Vec::new(rt.alloc());
+    for _ in 0..times {
+        ok(rt, texts.extend_from_slice(text.as_bytes()));
+    }
+    texts
+}
+
 /// Messages that repeat their descriptors, of which the data of the third end early: the others are
 /// dumped as one alone is.
 #[test]
-fn goes_on_behind_refused_data_of_the_same_template(rt: HostRuntime) -> Result<(), Fail> {
-    let descriptors = "001001 012101";
-    let whole = message_in(rt.alloc(), 1, 0x80, descriptors, "14E11E")?;
-    let cut = message_in(rt.alloc(), 1, 0x80, descriptors, "14E1")?;
-    let body = "subset 1\n\
-        001001 10  # WMO BLOCK NUMBER [Numeric]\n\
-        012101 288.15  # AIR TEMPERATURE [K]\n";
-    let text = text_of(rt.alloc(), 1, 0x80, descriptors, body)?;
-    let text = text.as_bytes();
+fn goes_on_behind_refused_data_of_the_same_template(rt: HostRuntime) {
     assert_run(
         &rt,
         Command::Dump,
         "the same template",
-        &joined(rt.alloc(), &[&whole, &whole, &cut, &whole])?,
-        &joined(rt.alloc(), &[text, text, text])?,
+        &of_two_elements(&rt, &["14E11E", "14E11E", "14E1", "14E11E"]),
+        &texts_of_two_elements(&rt, 3),
         b"offset 104: 30 data end at subset 1 descriptor 012101 bit 7\n",
         Tally {
             accepted: 3,
@@ -284,7 +301,7 @@ fn goes_on_behind_refused_data_of_the_same_template(rt: HostRuntime) -> Result<(
 
 /// The four streams of one good message and a stray one before or in place of it.
 #[test]
-fn tells_strays(rt: HostRuntime) -> Result<(), Fail> {
+fn tells_strays(rt: HostRuntime) {
     static STREAMS: [(&str, &[u8], &[(usize, u8)], &[u8], &str, u64); 4] = [
         ("no end", b"", &[(47, b'6')], b"", "offset 0: 3 no end\n", 0),
         (
@@ -312,97 +329,95 @@ fn tells_strays(rt: HostRuntime) -> Result<(), Fail> {
             0,
         ),
     ];
-    let text = text_of_one(rt.alloc())?;
+    let text = text_of_one(&rt);
     for (name, before, edits, behind, errors, accepted) in &STREAMS {
-        let mut message = one_block_number(rt.alloc())?;
+        let mut message = one_block_number(&rt);
         for (place, octet) in *edits {
             assert!(rt; *place < message.len());
             message[*place] = *octet;
         }
         let mut input = Vec::new(rt.alloc());
-        input.extend_from_slice(before)?;
-        input.extend_from_slice(&message)?;
-        input.extend_from_slice(behind)?;
+        ok(&rt, input.extend_from_slice(before));
+        ok(&rt, input.extend_from_slice(&message));
+        ok(&rt, input.extend_from_slice(behind));
         let output = if *accepted > 0 { text.as_bytes() } else { b"" };
         let tally = Tally {
             accepted: *accepted,
             refused: 1,
         };
         let errors = errors.as_bytes();
-        assert_run(&rt, Command::Dump, name, &input, output, errors, tally)?;
+        assert_run(&rt, Command::Dump, name, &input, output, errors, tally);
     }
-    Ok(())
 }
 
 /// Wherever a read fails, what was certain before stands: a message that was read whole is dumped.
 #[test]
-fn stops_at_a_failed_read(rt: HostRuntime) -> Result<(), Fail> {
-    let text = text_of_one(rt.alloc())?;
-    let message = one_block_number(rt.alloc())?;
-    let input = joined(rt.alloc(), &[&message, &message])?;
-    assert_stops_at_failed_reads(&rt, Command::Dump, &input, 0..48, b"", b"")?;
+fn stops_at_a_failed_read(rt: HostRuntime) {
+    let text = text_of_one(&rt);
+    let message = one_block_number(&rt);
+    let input = joined(&rt, &[&message, &message]);
+    assert_stops_at_failed_reads(&rt, Command::Dump, &input, 0..48, b"", b"");
     assert_stops_at_failed_reads(&rt, Command::Dump, &input, 48..96, text.as_bytes(), b"")
 }
 
 /// An interrupted read is a failed one, and the texts of the messages that were read whole stand.
 #[test]
-fn stops_at_an_interrupted_read(rt: HostRuntime) -> Result<(), Fail> {
-    let text = text_of_one(rt.alloc())?;
-    let message = one_block_number(rt.alloc())?;
-    let input = joined(rt.alloc(), &[&message, &message])?;
-    let both = joined(rt.alloc(), &[text.as_bytes(), text.as_bytes()])?;
+fn stops_at_an_interrupted_read(rt: HostRuntime) {
+    let text = text_of_one(&rt);
+    let message = one_block_number(&rt);
+    let input = joined(&rt, &[&message, &message]);
+    let both = joined(&rt, &[text.as_bytes(), text.as_bytes()]);
     assert_stops_at_interrupted_reads(&rt, Command::Dump, &input, text.as_bytes(), &both)
 }
 
 /// Cut behind each octet but the last a message is told as cut, and nothing is told of fewer than
 /// the four octets of its word.
-fn assert_told_as_cut(
-    rt: &(impl Abort + AllocGlobal),
-    name: &str,
-    whole: &[u8],
-) -> Result<(), Fail> {
+fn assert_told_as_cut(rt: &(impl Abort + AllocGlobal), name: &str, whole: &[u8]) {
     for length in 0..whole.len() {
-        let front = whole.get(..length).unwrap_or(b"");
-        let (line, refused): (&[u8], u64) = if length < 4 {
-            (b"", 0)
-        } else {
-            (b"offset 0: 1 cut\n", 1)
-        };
-        let tally = Tally {
-            accepted: 0,
-            refused,
-        };
-        assert_run(rt, Command::Dump, name, front, b"", line, tally)?;
+        assert_front_told(rt, name, whole.get(..length).unwrap_or(b""));
     }
-    Ok(())
+}
+
+/// That, of one front.
+fn assert_front_told(rt: &(impl Abort + AllocGlobal), name: &str, front: &[u8]) {
+    let (line, refused): (&[u8], u64) = if front.len() < 4 {
+        (b"", 0)
+    } else {
+        (b"offset 0: 1 cut\n", 1)
+    };
+    let tally = Tally {
+        accepted: 0,
+        refused,
+    };
+    assert_run(rt, Command::Dump, name, front, b"", line, tally);
 }
 
 /// A delayed group, compressed data, and a message with octets for local use and a section 2.
 #[test]
-fn tells_a_cut_anywhere(rt: HostRuntime) -> Result<(), Fail> {
-    let delayed = delayed_twice(rt.alloc())?;
-    assert_told_as_cut(&rt, "delayed", &delayed)?;
-    assert_told_as_cut(&rt, "compressed", &COMPRESSED)?;
+fn tells_a_cut_anywhere(rt: HostRuntime) {
+    let delayed = delayed_twice(&rt);
+    assert_told_as_cut(&rt, "delayed", &delayed);
+    assert_told_as_cut(&rt, "compressed", &COMPRESSED);
     assert_told_as_cut(&rt, "local use", &LOCAL_USE)
 }
 
 /// A stray word that states 64 octets, the message behind it, and eight octets behind that.
 #[test]
-fn stops_behind_a_stray(rt: HostRuntime) -> Result<(), Fail> {
-    let text = text_of_one(rt.alloc())?;
-    let message = one_block_number(rt.alloc())?;
-    let input = stray_before(rt.alloc(), &message)?;
+fn stops_behind_a_stray(rt: HostRuntime) {
+    let text = text_of_one(&rt);
+    let message = one_block_number(&rt);
+    let input = stray_before(&rt, &message);
     assert_stops_around_a_stray(&rt, Command::Dump, &input, text.as_bytes())
 }
 
 /// Writers that fail, take nothing, or cannot be flushed have taken a front.
 #[test]
-fn stops_at_a_failed_write(rt: HostRuntime) -> Result<(), Fail> {
-    let text = text_of_one(rt.alloc())?;
-    let message = one_block_number(rt.alloc())?;
+fn stops_at_a_failed_write(rt: HostRuntime) {
+    let text = text_of_one(&rt);
+    let message = one_block_number(&rt);
     let whole = text.as_bytes();
-    assert_stops_at_failed_writes(&rt, Command::Dump, &message, whole, b"", ONE_ACCEPTED)?;
+    assert_stops_at_failed_writes(&rt, Command::Dump, &message, whole, b"", ONE_ACCEPTED);
     let line = b"offset 0: 30 data end at subset 1 descriptor 001001 bit 0\n";
-    let message = message_of(rt.alloc(), 1, 0x80, &[0x0101], b"")?;
+    let message = message_of(&rt, 1, 0x80, &[0x0101], b"");
     assert_stops_at_failed_errors(&rt, Command::Dump, &message, b"", b"", line, ONE_REFUSED)
 }

@@ -1,9 +1,9 @@
 //! The worked examples of `dump`, run.
 
+use crate::ok;
 use crate::test_messages::{HEAD, LOCAL_USE, NOTHING, ONE_ACCEPTED, message_in, text_of};
 use crate::test_runs::{Command, assert_run, run_whole};
 use std::process::Abort;
-use std::test::Fail;
 
 /// A message, and the lines of its subsets.
 struct Dumped {
@@ -243,22 +243,10 @@ static DUMPED: [Dumped; 24] = [
 ];
 
 #[test]
-fn dumps_worked_examples(rt: HostRuntime) -> Result<(), Fail> {
+fn dumps_worked_examples(rt: HostRuntime) {
     for row in &DUMPED {
-        let message = message_in(
-            rt.alloc(),
-            row.subsets,
-            row.flags,
-            row.descriptors,
-            row.data,
-        )?;
-        let text = text_of(
-            rt.alloc(),
-            row.subsets,
-            row.flags,
-            row.descriptors,
-            row.body,
-        )?;
+        let message = message_in(&rt, row.subsets, row.flags, row.descriptors, row.data);
+        let text = text_of(&rt, row.subsets, row.flags, row.descriptors, row.body);
         assert_run(
             &rt,
             Command::Dump,
@@ -267,38 +255,25 @@ fn dumps_worked_examples(rt: HostRuntime) -> Result<(), Fail> {
             text.as_bytes(),
             b"",
             ONE_ACCEPTED,
-        )?;
+        );
     }
-    Ok(())
 }
 
 /// A message is dumped so.
-fn assert_dumped(
-    rt: &(impl Abort + AllocGlobal),
-    name: &str,
-    message: &[u8],
-    text: &[u8],
-) -> Result<(), Fail> {
+fn assert_dumped(rt: &(impl Abort + AllocGlobal), name: &str, message: &[u8], text: &[u8]) {
     assert_run(rt, Command::Dump, name, message, text, b"", ONE_ACCEPTED)
 }
 
 /// What was dumped and encoded is dumped as before.
 #[test]
-fn dumps_what_was_encoded(rt: HostRuntime) -> Result<(), Fail> {
+fn dumps_what_was_encoded(rt: HostRuntime) {
     for row in &DUMPED {
-        let message = message_in(
-            rt.alloc(),
-            row.subsets,
-            row.flags,
-            row.descriptors,
-            row.data,
-        )?;
-        let text = run_whole(&rt, Command::Dump, &message)?;
-        let octets = run_whole(&rt, Command::Encode, text.output())?;
+        let message = message_in(&rt, row.subsets, row.flags, row.descriptors, row.data);
+        let text = run_whole(&rt, Command::Dump, &message);
+        let octets = run_whole(&rt, Command::Encode, text.output());
         assert!(rt; !octets.output().is_empty(), "{}", row.name);
-        assert_dumped(&rt, row.name, octets.output(), text.output())?;
+        assert_dumped(&rt, row.name, octets.output(), text.output());
     }
-    Ok(())
 }
 
 /// The dump text of the message with octets for local use, from `observed` on.
@@ -315,9 +290,9 @@ const LOCAL_USE_TEXT: &str = "observed 1\n\
 
 /// Local octets and a section 2, dumped and encoded.
 #[test]
-fn dumps_local_use(rt: HostRuntime) -> Result<(), Fail> {
-    let mut text = String::from_str(rt.alloc(), HEAD)?;
-    text.push_str(LOCAL_USE_TEXT)?;
+fn dumps_local_use(rt: HostRuntime) {
+    let mut text = ok(&rt, String::from_str(rt.alloc(), HEAD));
+    ok(&rt, text.push_str(LOCAL_USE_TEXT));
     let text = text.as_bytes();
     let name = "local use";
     assert_run(
@@ -328,7 +303,7 @@ fn dumps_local_use(rt: HostRuntime) -> Result<(), Fail> {
         text,
         b"",
         ONE_ACCEPTED,
-    )?;
+    );
     assert_run(
         &rt,
         Command::Encode,
@@ -341,6 +316,6 @@ fn dumps_local_use(rt: HostRuntime) -> Result<(), Fail> {
 }
 
 #[test]
-fn dumps_nothing(rt: HostRuntime) -> Result<(), Fail> {
+fn dumps_nothing(rt: HostRuntime) {
     assert_run(&rt, Command::Dump, "nothing", b"", b"", b"", NOTHING)
 }

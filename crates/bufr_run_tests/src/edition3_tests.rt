@@ -1,5 +1,6 @@
 //! Runs of the three commands over messages of edition 3.
 
+use crate::ok;
 use crate::test_messages::{
     ONE_ACCEPTED, ONE_BLOCK_NUMBER, ONE_REFUSED, joined, line_of_one, octets_of, one_block_number,
     text_of_one,
@@ -7,9 +8,7 @@ use crate::test_messages::{
 use crate::test_runs::{Command, assert_run, run_whole};
 use bufr_run::Tally;
 use bufr_text::Form;
-use std::alloc::Global;
 use std::process::Abort;
-use std::test::Fail;
 
 /// The message of one block number in edition 3: section 1 has one octet for local use behind the
 /// 17 that the edition lays down, and sections 3 and 4 each have an octet that makes them even.
@@ -29,20 +28,23 @@ const HEAD_OF_EDITION_3: &str = "\
 const BODY: &str = "descriptors 001001\nsubset 1\n001001 10  # WMO BLOCK NUMBER [Numeric]\nend\n";
 
 /// The octets of a text of hexadecimal digits and blanks.
-fn octets_in(alloc: Global, digits: &str) -> Result<Vec<u8>, Fail> {
-    let mut close = String::new(alloc);
+fn octets_in(rt: &(impl Abort + AllocGlobal), digits: &str) -> Vec<u8> {
+    let mut close = String::new(rt.alloc());
     for part in digits.split_whitespace() {
-        close.push_str(part)?;
+        ok(rt, close.push_str(part));
     }
-    octets_of(alloc, close.as_str())
+    octets_of(rt, close.as_str())
 }
 
 /// The dump text of such a message with these lines of sections 1 and 2.
-fn text_with(alloc: Global, optional: u8, local: &str) -> Result<String, Fail> {
-    Ok(format!(in alloc;
-        "{HEAD_OF_EDITION_3}second 0\nobserved 1\ncompressed 0\noptional {optional}\n\
+fn text_with(rt: &(impl Abort + AllocGlobal), optional: u8, local: &str) -> String {
+    ok(
+        rt,
+        format!(in rt.alloc();
+            "{HEAD_OF_EDITION_3}second 0\nobserved 1\ncompressed 0\noptional {optional}\n\
          subsets 1\n{local}{BODY}"
-    )?)
+        ),
+    )
 }
 
 /// A message of edition 3 with this block number: how its sections are laid out, and what that
@@ -126,11 +128,11 @@ static LAYOUTS: [Layout; 9] = [
 
 /// Each layout is dumped to its text, which is encoded with even sections 3 and 4.
 #[test]
-fn dumps_and_encodes_each_layout(rt: HostRuntime) -> Result<(), Fail> {
+fn dumps_and_encodes_each_layout(rt: HostRuntime) {
     for row in &LAYOUTS {
-        let octets = octets_in(rt.alloc(), row.octets)?;
-        let again = octets_in(rt.alloc(), row.again)?;
-        let text = text_with(rt.alloc(), row.optional, row.local)?;
+        let octets = octets_in(&rt, row.octets);
+        let again = octets_in(&rt, row.again);
+        let text = text_with(&rt, row.optional, row.local);
         let text = text.as_bytes();
         assert_run(
             &rt,
@@ -140,7 +142,7 @@ fn dumps_and_encodes_each_layout(rt: HostRuntime) -> Result<(), Fail> {
             text,
             b"",
             ONE_ACCEPTED,
-        )?;
+        );
         assert_run(
             &rt,
             Command::Encode,
@@ -149,19 +151,18 @@ fn dumps_and_encodes_each_layout(rt: HostRuntime) -> Result<(), Fail> {
             &again,
             b"",
             ONE_ACCEPTED,
-        )?;
+        );
     }
-    Ok(())
 }
 
 /// The sub-centre stands before the centre, the flags in octet 8, and the year as the message has
 /// it.
 #[test]
-fn lists_messages(rt: HostRuntime) -> Result<(), Fail> {
-    let mut input = octets_in(rt.alloc(), EVEN)?;
+fn lists_messages(rt: HostRuntime) {
+    let mut input = octets_in(&rt, EVEN);
     let line =
         b"offset=0 length=46 edition=3 centre=98/0 update=0 category=0/0/0 tables=0/14/0 time=0024-01-02T03:04:00 subsets=1 observed=1 compressed=0 optional=0 descriptors=1\n";
-    assert_run(&rt, Command::Ls, "listed", &input, line, b"", ONE_ACCEPTED)?;
+    assert_run(&rt, Command::Ls, "listed", &input, line, b"", ONE_ACCEPTED);
     assert!(rt; input.len() > 13);
     input[12] = 7;
     input[13] = 99;
@@ -173,15 +174,18 @@ fn lists_messages(rt: HostRuntime) -> Result<(), Fail> {
 /// A message of edition 4 whose edition is changed to 3 is read by the other layout, the next by
 /// its own.
 #[test]
-fn lists_editions_side_by_side(rt: HostRuntime) -> Result<(), Fail> {
-    let mut input = joined(rt.alloc(), &[&ONE_BLOCK_NUMBER, &ONE_BLOCK_NUMBER])?;
+fn lists_editions_side_by_side(rt: HostRuntime) {
+    let mut input = joined(&rt, &[&ONE_BLOCK_NUMBER, &ONE_BLOCK_NUMBER]);
     assert!(rt; input.len() > 7);
     input[7] = 3;
     let mut output = String::new(rt.alloc());
-    output.push_str(
-        "offset=0 length=48 edition=3 centre=98/0 update=0 category=0/0/0 tables=0/0/0 time=0000-14-00T07:232:00 subsets=1 observed=1 compressed=0 optional=0 descriptors=1\n",
-    )?;
-    output.push_str(line_of_one(rt.alloc(), "48")?.as_str())?;
+    ok(
+        &rt,
+        output.push_str(
+            "offset=0 length=48 edition=3 centre=98/0 update=0 category=0/0/0 tables=0/0/0 time=0000-14-00T07:232:00 subsets=1 observed=1 compressed=0 optional=0 descriptors=1\n",
+        ),
+    );
+    ok(&rt, output.push_str(line_of_one(&rt, "48").as_str()));
     let tally = Tally {
         accepted: 2,
         refused: 0,
@@ -199,16 +203,15 @@ fn lists_editions_side_by_side(rt: HostRuntime) -> Result<(), Fail> {
 
 /// Cut behind each octet but the last: from four octets on it is told as cut.
 #[test]
-fn tells_a_cut_anywhere(rt: HostRuntime) -> Result<(), Fail> {
+fn tells_a_cut_anywhere(rt: HostRuntime) {
     for row in &LAYOUTS {
-        let whole = octets_in(rt.alloc(), row.octets)?;
+        let whole = octets_in(&rt, row.octets);
         for length in 4..whole.len() {
             let front = whole.get(..length).unwrap_or(b"");
             let line = b"offset 0: 1 cut\n";
-            assert_run(&rt, Command::Dump, row.name, front, b"", line, ONE_REFUSED)?;
+            assert_run(&rt, Command::Dump, row.name, front, b"", line, ONE_REFUSED);
         }
     }
-    Ok(())
 }
 
 /// A compressed message with even sections.
@@ -217,9 +220,9 @@ const PACKED: &str = "425546520000 2E03 000012000062000000000E001801020304 00 00
 
 /// A message in compressed form: even sections.
 #[test]
-fn encodes_in_the_compressed_form(rt: HostRuntime) -> Result<(), Fail> {
-    let packed = octets_in(rt.alloc(), PACKED)?;
-    let plain = text_with(rt.alloc(), 0, "local1 00\n")?;
+fn encodes_in_the_compressed_form(rt: HostRuntime) {
+    let packed = octets_in(&rt, PACKED);
+    let plain = text_with(&rt, 0, "local1 00\n");
     let compressed = Command::EncodeIn(Form::Compressed);
     let (text, tally) = (plain.as_bytes(), ONE_ACCEPTED);
     assert_run(&rt, compressed, "compressed", text, &packed, b"", tally)
@@ -227,45 +230,45 @@ fn encodes_in_the_compressed_form(rt: HostRuntime) -> Result<(), Fail> {
 
 /// The message in compressed form, dumped, and back in plain form: even sections.
 #[test]
-fn encodes_in_the_plain_form(rt: HostRuntime) -> Result<(), Fail> {
-    let packed = octets_in(rt.alloc(), PACKED)?;
-    let even = octets_in(rt.alloc(), EVEN)?;
-    let said = changed(rt.alloc(), "compressed 0", "compressed 1")?;
+fn encodes_in_the_plain_form(rt: HostRuntime) {
+    let packed = octets_in(&rt, PACKED);
+    let even = octets_in(&rt, EVEN);
+    let said = changed(&rt, "compressed 0", "compressed 1");
     let (said, tally) = (said.as_bytes(), ONE_ACCEPTED);
-    assert_run(&rt, Command::Dump, "compressed", &packed, said, b"", tally)?;
+    assert_run(&rt, Command::Dump, "compressed", &packed, said, b"", tally);
     let plain = Command::EncodeIn(Form::Plain);
     assert_run(&rt, plain, "plain", said, &even, b"", tally)
 }
 
 /// A stream with messages of both editions: of edition 3, of edition 4, this one, of edition 4.
-fn of_both(alloc: Global, third: &str) -> Result<Vec<u8>, Fail> {
-    let even = octets_in(alloc, EVEN)?;
-    let third = octets_in(alloc, third)?;
-    let one = one_block_number(alloc)?;
-    Ok(joined(alloc, &[&even, &one, &third, &one])?)
+fn of_both(rt: &(impl Abort + AllocGlobal), third: &str) -> Vec<u8> {
+    let even = octets_in(rt, EVEN);
+    let third = octets_in(rt, third);
+    let one = one_block_number(rt);
+    joined(rt, &[&even, &one, &third, &one])
 }
 
 /// The text of such a stream.
-fn text_of_both(alloc: Global) -> Result<Vec<u8>, Fail> {
-    let of_3 = text_with(alloc, 0, "local1 00\n")?;
-    let of_4 = text_of_one(alloc)?;
+fn text_of_both(rt: &(impl Abort + AllocGlobal)) -> Vec<u8> {
+    let of_3 = text_with(rt, 0, "local1 00\n");
+    let of_4 = text_of_one(rt);
     let (of_3, of_4) = (of_3.as_bytes(), of_4.as_bytes());
-    Ok(joined(alloc, &[of_3, of_4, of_3, of_4])?)
+    joined(rt, &[of_3, of_4, of_3, of_4])
 }
 
 /// A stream with messages of both editions, one of edition 3 with odd sections: its text is encoded
 /// to the messages with even sections, which have the same text.
 #[test]
-fn closes_the_round_of_both_editions(rt: HostRuntime) -> Result<(), Fail> {
-    let stream = of_both(rt.alloc(), ODD)?;
-    let built = of_both(rt.alloc(), EVEN)?;
-    let text = text_of_both(rt.alloc())?;
+fn closes_the_round_of_both_editions(rt: HostRuntime) {
+    let stream = of_both(&rt, ODD);
+    let built = of_both(&rt, EVEN);
+    let text = text_of_both(&rt);
     let all = Tally {
         accepted: 4,
         refused: 0,
     };
-    assert_run(&rt, Command::Dump, "dumped", &stream, &text, b"", all)?;
-    assert_run(&rt, Command::Encode, "encoded", &text, &built, b"", all)?;
+    assert_run(&rt, Command::Dump, "dumped", &stream, &text, b"", all);
+    assert_run(&rt, Command::Encode, "encoded", &text, &built, b"", all);
     assert_run(&rt, Command::Dump, "again", &built, &text, b"", all)
 }
 
@@ -295,9 +298,9 @@ static VALUES: [(&str, &str, u8); 20] = [
 ];
 
 /// The text of a message with even sections, with another line in a line's place.
-fn changed(alloc: Global, old: &str, new: &str) -> Result<String, Fail> {
-    let text = text_with(alloc, 0, "local1 00\n")?;
-    Ok(text.as_str().replacen(alloc, old, new, 1)?)
+fn changed(rt: &(impl Abort + AllocGlobal), old: &str, new: &str) -> String {
+    let text = text_with(rt, 0, "local1 00\n");
+    ok(rt, text.as_str().replacen(rt.alloc(), old, new, 1))
 }
 
 /// What a document's run counts, which is refused at a line or accepted.
@@ -306,34 +309,27 @@ fn counts(line: u8) -> Tally {
 }
 
 /// The fault line of such a value, none where there is none.
-fn errors_at(alloc: Global, line: u8) -> Result<String, Fail> {
+fn errors_at(rt: &(impl Abort + AllocGlobal), line: u8) -> String {
     if line == 0 {
-        return Ok(String::new(alloc));
+        return String::new(rt.alloc());
     }
-    Ok(format!(in alloc; "line {line}: 61 header range\n")?)
+    ok(rt, format!(in rt.alloc(); "line {line}: 61 header range\n"))
 }
 
 /// The text with a line changed is refused at the line of this number, or accepted where it is 0.
-fn assert_changed(
-    rt: &(impl Abort + AllocGlobal),
-    old: &str,
-    new: &str,
-    line: u8,
-) -> Result<(), Fail> {
-    let text = changed(rt.alloc(), old, new)?;
-    let errors = errors_at(rt.alloc(), line)?;
-    let ran = run_whole(rt, Command::Encode, text.as_bytes())?;
+fn assert_changed(rt: &(impl Abort + AllocGlobal), old: &str, new: &str, line: u8) {
+    let text = changed(rt, old, new);
+    let errors = errors_at(rt, line);
+    let ran = run_whole(rt, Command::Encode, text.as_bytes());
     ran.assert_errors(rt, new, counts(line), errors.as_bytes());
-    Ok(())
 }
 
 /// A value past the octets of edition 3 is refused at its line.
 #[test]
-fn refuses_values_past_their_octets(rt: HostRuntime) -> Result<(), Fail> {
+fn refuses_values_past_their_octets(rt: HostRuntime) {
     for (old, new, line) in &VALUES {
-        assert_changed(&rt, old, new, *line)?;
+        assert_changed(&rt, old, new, *line);
     }
-    Ok(())
 }
 
 /// A message of 16,777,214 octets with an odd section 3, up to its data.
@@ -342,12 +338,11 @@ const LONG: &str =
 
 /// A message that could not be written with even sections is told by `ls` too.
 #[test]
-fn tells_a_long_message_with_an_odd_section(rt: HostRuntime) -> Result<(), Fail> {
-    let mut octets = octets_in(rt.alloc(), LONG)?;
-    octets.resize(16_777_210, 0)?;
-    octets.extend_from_slice(b"7777")?;
-    let ran = run_whole(&rt, Command::Ls, &octets)?;
+fn tells_a_long_message_with_an_odd_section(rt: HostRuntime) {
+    let mut octets = octets_in(&rt, LONG);
+    ok(&rt, octets.resize(16_777_210, 0));
+    ok(&rt, octets.extend_from_slice(b"7777"));
+    let ran = run_whole(&rt, Command::Ls, &octets);
     let line = b"offset 0: 14 edition 3 length\n";
     ran.assert_left(&rt, "long", 0, Ok(ONE_REFUSED), b"", line);
-    Ok(())
 }

@@ -1,5 +1,6 @@
 //! Each fault of a document beside the nearest document that is accepted, and faults of devices.
 
+use crate::ok;
 use crate::test_messages::{
     ONE_ACCEPTED, ONE_REFUSED, joined, message_in, message_of, octets_of, one_block_number,
     text_of, text_of_one, words_of,
@@ -9,7 +10,6 @@ use crate::test_runs::{
 };
 use bufr_bits::{End, ScriptIn, ScriptOut};
 use bufr_frame::RunFault;
-use std::alloc::Global;
 use std::process::Abort;
 use std::test::Fail;
 
@@ -371,12 +371,12 @@ static TOLD: [ToldDocument; 47] = [
 ];
 
 #[test]
-fn refuses_at_lines(rt: HostRuntime) -> Result<(), Fail> {
+fn refuses_at_lines(rt: HostRuntime) {
     for row in &TOLD {
         let flags = if row.subsets == 2 { 0xC0 } else { 0x80 };
-        let text = text_of(rt.alloc(), row.subsets, flags, row.descriptors, row.body)?;
+        let text = text_of(&rt, row.subsets, flags, row.descriptors, row.body);
         let (message, tally) = if row.errors.is_empty() {
-            let message = message_in(rt.alloc(), row.subsets, flags, row.descriptors, row.data)?;
+            let message = message_in(&rt, row.subsets, flags, row.descriptors, row.data);
             (message, ONE_ACCEPTED)
         } else {
             (Vec::new(rt.alloc()), ONE_REFUSED)
@@ -389,9 +389,8 @@ fn refuses_at_lines(rt: HostRuntime) -> Result<(), Fail> {
             &message,
             row.errors.as_bytes(),
             tally,
-        )?;
+        );
     }
-    Ok(())
 }
 
 /// The document of one block number with another line in a line's place, and its fault line; or the
@@ -417,34 +416,34 @@ static LINES: [(usize, &str, &str, &str); 17] = [
 ];
 
 /// The document of one block number, with this text in place of a line (from 1).
-fn with_line(alloc: Global, number: usize, line: &str) -> Result<String, Fail> {
-    let one = text_of_one(alloc)?;
-    let mut text = String::new(alloc);
+fn with_line(rt: &(impl Abort + AllocGlobal), number: usize, line: &str) -> String {
+    let one = text_of_one(rt);
+    let mut text = String::new(rt.alloc());
     let mut at = 0usize;
     for each in one.as_str().lines() {
         at = at.saturating_add(1);
         if at == number {
-            text.push_str(line)?;
+            ok(rt, text.push_str(line));
         } else {
-            text.push_str(each)?;
-            text.push('\n')?;
+            ok(rt, text.push_str(each));
+            ok(rt, text.push('\n'));
         }
     }
-    Ok(text)
+    text
 }
 
 #[test]
-fn refuses_header_lines(rt: HostRuntime) -> Result<(), Fail> {
-    let one = one_block_number(rt.alloc())?;
+fn refuses_header_lines(rt: HostRuntime) {
+    let one = one_block_number(&rt);
     for (number, line, octets, errors) in &LINES {
-        let text = with_line(rt.alloc(), *number, line)?;
+        let text = with_line(&rt, *number, line);
         let mut message = Vec::new(rt.alloc());
         if errors.is_empty() {
-            let front = octets_of(rt.alloc(), octets)?;
-            message.extend_from_slice(one.get(..8).unwrap_or(b""))?;
-            message.extend_from_slice(&front)?;
+            let front = octets_of(&rt, octets);
+            ok(&rt, message.extend_from_slice(one.get(..8).unwrap_or(b"")));
+            ok(&rt, message.extend_from_slice(&front));
             let behind = one.get(front.len().saturating_add(8)..);
-            message.extend_from_slice(behind.unwrap_or(b""))?;
+            ok(&rt, message.extend_from_slice(behind.unwrap_or(b"")));
         }
         let tally = if errors.is_empty() {
             ONE_ACCEPTED
@@ -453,26 +452,25 @@ fn refuses_header_lines(rt: HostRuntime) -> Result<(), Fail> {
         };
         let errors = errors.as_bytes();
         let input = text.as_bytes();
-        assert_run(&rt, Command::Encode, line, input, &message, errors, tally)?;
+        assert_run(&rt, Command::Encode, line, input, &message, errors, tally);
     }
-    Ok(())
 }
 
 /// A document behind a comment line of so many octets.
-fn behind_a_note(alloc: Global, octets: usize) -> Result<Vec<u8>, Fail> {
-    let mut text = Vec::new(alloc);
-    text.push(b'#')?;
-    text.resize(octets, b'x')?;
-    text.push(b'\n')?;
-    text.extend_from_slice(text_of_one(alloc)?.as_bytes())?;
-    Ok(text)
+fn behind_a_note(rt: &(impl Abort + AllocGlobal), octets: usize) -> Vec<u8> {
+    let mut text = Vec::new(rt.alloc());
+    ok(rt, text.push(b'#'));
+    ok(rt, text.resize(octets, b'x'));
+    ok(rt, text.push(b'\n'));
+    ok(rt, text.extend_from_slice(text_of_one(rt).as_bytes()));
+    text
 }
 
 /// A line of 4,096 octets is passed over; one more is refused.
 #[test]
-fn refuses_a_long_line(rt: HostRuntime) -> Result<(), Fail> {
-    let message = one_block_number(rt.alloc())?;
-    let text = behind_a_note(rt.alloc(), 4096)?;
+fn refuses_a_long_line(rt: HostRuntime) {
+    let message = one_block_number(&rt);
+    let text = behind_a_note(&rt, 4096);
     assert_run(
         &rt,
         Command::Encode,
@@ -481,37 +479,43 @@ fn refuses_a_long_line(rt: HostRuntime) -> Result<(), Fail> {
         &message,
         b"",
         ONE_ACCEPTED,
-    )?;
-    let text = behind_a_note(rt.alloc(), 4097)?;
+    );
+    let text = behind_a_note(&rt, 4097);
     let line = b"line 1: 50 line\n";
     assert_run(&rt, Command::Encode, "4,097", &text, b"", line, ONE_REFUSED)
 }
 
 /// Two texts that have so many octets in common, and one behind them in which they differ.
-fn two_texts(alloc: Global, common: usize) -> Result<String, Fail> {
-    let mut front = String::new(alloc);
+fn two_texts(rt: &(impl Abort + AllocGlobal), common: usize) -> String {
+    let mut front = String::new(rt.alloc());
     for _ in 0..common {
-        front.push('A')?;
+        ok(rt, front.push('A'));
     }
-    let first = format!(in alloc; "subset 1\n205064 \"{front}A\"\n")?;
-    let second = format!(in alloc; "subset 2\n205064 \"{front}B\"\n")?;
-    let mut body = String::from_str(alloc, first.as_str())?;
-    body.push_str(second.as_str())?;
-    Ok(text_of(alloc, 2, 0xC0, "205064", body.as_str())?)
+    let first = ok(
+        rt,
+        format!(in rt.alloc(); "subset 1\n205064 \"{front}A\"\n"),
+    );
+    let second = ok(
+        rt,
+        format!(in rt.alloc(); "subset 2\n205064 \"{front}B\"\n"),
+    );
+    let mut body = ok(rt, String::from_str(rt.alloc(), first.as_str()));
+    ok(rt, body.push_str(second.as_str()));
+    text_of(rt, 2, 0xC0, "205064", body.as_str())
 }
 
 /// An increment has 63 octets at most, with spaces behind them: so where the 64th octet is no space
 /// in both texts, no increments tell them apart.
 #[test]
-fn refuses_texts_that_no_increments_tell_apart(rt: HostRuntime) -> Result<(), Fail> {
+fn refuses_texts_that_no_increments_tell_apart(rt: HostRuntime) {
     let mut data = Vec::new(rt.alloc());
-    data.extend_from_slice(&[0; 64])?;
-    data.push(0xFD)?;
-    data.extend_from_slice(&[0x05; 125])?;
-    data.push(0x08)?;
-    let words = words_of(rt.alloc(), "205064")?;
-    let message = message_of(rt.alloc(), 2, 0xC0, &words, &data)?;
-    let text = two_texts(rt.alloc(), 62)?;
+    ok(&rt, data.extend_from_slice(&[0; 64]));
+    ok(&rt, data.push(0xFD));
+    ok(&rt, data.extend_from_slice(&[0x05; 125]));
+    ok(&rt, data.push(0x08));
+    let words = words_of(&rt, "205064");
+    let message = message_of(&rt, 2, 0xC0, &words, &data);
+    let text = two_texts(&rt, 62);
     assert_run(
         &rt,
         Command::Encode,
@@ -520,8 +524,8 @@ fn refuses_texts_that_no_increments_tell_apart(rt: HostRuntime) -> Result<(), Fa
         &message,
         b"",
         ONE_ACCEPTED,
-    )?;
-    let text = two_texts(rt.alloc(), 63)?;
+    );
+    let text = two_texts(&rt, 63);
     let line = b"line 24: 59 increment\n";
     assert_run(
         &rt,
@@ -535,70 +539,64 @@ fn refuses_texts_that_no_increments_tell_apart(rt: HostRuntime) -> Result<(), Fa
 }
 
 /// A subset of 66,045 empty texts.
-fn empty_texts(alloc: Global) -> Result<String, Fail> {
-    let mut body = String::from_str(alloc, "subset 1\n")?;
+fn empty_texts(rt: &(impl Abort + AllocGlobal)) -> String {
+    let mut body = ok(rt, String::from_str(rt.alloc(), "subset 1\n"));
     for _ in 0..66_045 {
-        body.push_str("205255 \"\"\n")?;
+        ok(rt, body.push_str("205255 \"\"\n"));
     }
-    Ok(body)
+    body
 }
 
 /// 66,045 texts of 255 octets are more than a message can have; nothing of them is written.
 #[test]
-fn refuses_a_long_message(rt: HostRuntime) -> Result<(), Fail> {
+fn refuses_a_long_message(rt: HostRuntime) {
     let descriptors = "102255 101255 205255 102004 101255 205255";
-    let body = empty_texts(rt.alloc())?;
-    let text = text_of(rt.alloc(), 1, 0x80, descriptors, body.as_str())?;
-    let ran = run_whole(&rt, Command::Encode, text.as_bytes())?;
+    let body = empty_texts(&rt);
+    let text = text_of(&rt, 1, 0x80, descriptors, body.as_str());
+    let ran = run_whole(&rt, Command::Encode, text.as_bytes());
     let line = b"line 1: 60 too long\n";
     ran.assert_left(&rt, "too long", 0, Ok(ONE_REFUSED), b"", line);
-    Ok(())
 }
 
 /// An interrupted read is a failed one, and the messages of the documents that were read whole
 /// stand.
 #[test]
-fn stops_at_an_interrupted_read(rt: HostRuntime) -> Result<(), Fail> {
-    let one = text_of_one(rt.alloc())?;
-    let message = one_block_number(rt.alloc())?;
-    let text = joined(rt.alloc(), &[one.as_bytes(), one.as_bytes()])?;
-    let both = joined(rt.alloc(), &[&message, &message])?;
+fn stops_at_an_interrupted_read(rt: HostRuntime) {
+    let one = text_of_one(&rt);
+    let message = one_block_number(&rt);
+    let text = joined(&rt, &[one.as_bytes(), one.as_bytes()]);
+    let both = joined(&rt, &[&message, &message]);
     assert_stops_at_interrupted_reads(&rt, Command::Encode, &text, &message, &both)
 }
 
 /// Where the output cannot be flushed, all of both writers stands.
 #[test]
-fn keeps_all_behind_a_failed_flush(rt: HostRuntime) -> Result<(), Fail> {
-    let message = one_block_number(rt.alloc())?;
-    let mut text = text_of_one(rt.alloc())?;
-    text.push_str("end\n")?;
+fn keeps_all_behind_a_failed_flush(rt: HostRuntime) {
+    let message = one_block_number(&rt);
+    let mut text = text_of_one(&rt);
+    ok(&rt, text.push_str("end\n"));
     let mut r = ScriptIn::new(text.as_bytes(), 4096, None);
-    let w = ScriptOut::new(rt.alloc(), 48, 1, End::Flush)?;
-    let e = ScriptOut::new(rt.alloc(), 4096, 1, End::Fail)?;
+    let w = ok(&rt, ScriptOut::new(rt.alloc(), 48, 1, End::Flush));
+    let e = ok(&rt, ScriptOut::new(rt.alloc(), 4096, 1, End::Fail));
     let ran = run_over(&rt, Command::Encode, &mut r, w, e);
     let line = b"line 26: 50 line\n";
     ran.assert_left(&rt, "flush", 0, Err(RunFault::Write), &message, line);
-    Ok(())
 }
 
 /// A message of two names, compressed: base, k and increments behind zeros.
-fn names(alloc: Global, increments: &[u8]) -> Result<Vec<u8>, Fail> {
-    let words = words_of(alloc, "001015")?;
-    let mut data = Vec::new(alloc);
+fn names(rt: &(impl Abort + AllocGlobal), increments: &[u8]) -> Vec<u8> {
+    let words = words_of(rt, "001015");
+    let mut data = Vec::new(rt.alloc());
     for _ in 0..20 {
-        data.push(0)?;
+        ok(rt, data.push(0));
     }
-    data.extend_from_slice(increments)?;
-    message_of(alloc, 2, 0xC0, &words, &data)
+    ok(rt, data.extend_from_slice(increments));
+    message_of(rt, 2, 0xC0, &words, &data)
 }
 
 /// Asserts that the dump text of a message is encoded to these octets.
-fn assert_encoded_again(
-    rt: &(impl Abort + AllocGlobal),
-    octets: &[u8],
-    packed: &[u8],
-) -> Result<(), Fail> {
-    let text = run_whole(rt, Command::Dump, octets)?;
+fn assert_encoded_again(rt: &(impl Abort + AllocGlobal), octets: &[u8], packed: &[u8]) {
+    let text = run_whole(rt, Command::Dump, octets);
     let input = text.output();
     assert_run(
         rt,
@@ -613,10 +611,10 @@ fn assert_encoded_again(
 
 /// Names whose increments were read with four octets are written with three, and those with three.
 #[test]
-fn packs_names_anew(rt: HostRuntime) -> Result<(), Fail> {
-    let message = names(rt.alloc(), b"\x11\x05\x09\x0C\x83\xFF\xFF\xFF\xFC")?;
-    let packed = names(rt.alloc(), b"\x0D\x05\x09\x0F\xFF\xFF\xFC")?;
+fn packs_names_anew(rt: HostRuntime) {
+    let message = names(&rt, b"\x11\x05\x09\x0C\x83\xFF\xFF\xFF\xFC");
+    let packed = names(&rt, b"\x0D\x05\x09\x0F\xFF\xFF\xFC");
     assert_eq!(rt; (message.len(), packed.len()), (76, 74));
-    assert_encoded_again(&rt, &message, &packed)?;
+    assert_encoded_again(&rt, &message, &packed);
     assert_encoded_again(&rt, &packed, &packed)
 }

@@ -1,5 +1,6 @@
 //! The worked examples of `encode`, run.
 
+use crate::ok;
 use crate::test_messages::{
     NOTHING, ONE_ACCEPTED, ONE_REFUSED, bulletins, delayed_twice, joined, message_in,
     messages_of_bulletins, one_block_number, text_of, text_of_one,
@@ -135,20 +136,12 @@ static ENCODED: [Encoded; 10] = [
 ];
 
 #[test]
-fn encodes_worked_examples(rt: HostRuntime) -> Result<(), Fail> {
+fn encodes_worked_examples(rt: HostRuntime) {
     for row in &ENCODED {
-        let mut text = text_of(
-            rt.alloc(),
-            row.subsets,
-            row.flags,
-            row.descriptors,
-            row.body,
-        )?;
-        text.push_str(row.behind)?;
+        let mut text = text_of(&rt, row.subsets, row.flags, row.descriptors, row.body);
+        ok(&rt, text.push_str(row.behind));
         let message = match row.data {
-            Some(digits) => {
-                message_in(rt.alloc(), row.subsets, row.flags, row.descriptors, digits)?
-            }
+            Some(digits) => { message_in(&rt, row.subsets, row.flags, row.descriptors, digits) }
             None => Vec::new(rt.alloc()),
         };
         let tally = Tally {
@@ -163,27 +156,26 @@ fn encodes_worked_examples(rt: HostRuntime) -> Result<(), Fail> {
             &message,
             row.errors.as_bytes(),
             tally,
-        )?;
+        );
     }
-    Ok(())
 }
 
 #[test]
-fn encodes_nothing(rt: HostRuntime) -> Result<(), Fail> {
+fn encodes_nothing(rt: HostRuntime) {
     assert_run(&rt, Command::Encode, "nothing", b"", b"", b"", NOTHING)
 }
 
 /// The first document that is refused ends the run: of what is behind it nothing is written.
 #[test]
-fn stops_at_the_first_refused(rt: HostRuntime) -> Result<(), Fail> {
-    let good = text_of_one(rt.alloc())?;
-    let refused = text_of(rt.alloc(), 1, 0x80, "012101", "subset 1\n012101 288.155\n")?;
+fn stops_at_the_first_refused(rt: HostRuntime) {
+    let good = text_of_one(&rt);
+    let refused = text_of(&rt, 1, 0x80, "012101", "subset 1\n012101 288.155\n");
     let mut text = String::new(rt.alloc());
-    text.push_str(good.as_str())?;
-    text.push_str(refused.as_str())?;
-    text.push_str(good.as_str())?;
-    text.push_str("no line of a dump\n")?;
-    let message = one_block_number(rt.alloc())?;
+    ok(&rt, text.push_str(good.as_str()));
+    ok(&rt, text.push_str(refused.as_str()));
+    ok(&rt, text.push_str(good.as_str()));
+    ok(&rt, text.push_str("no line of a dump\n"));
+    let message = one_block_number(&rt);
     assert_run(
         &rt,
         Command::Encode,
@@ -206,21 +198,20 @@ fn round_of(rt: &(impl Abort + AllocGlobal), stream: &[u8]) -> Round {
 
 /// What is proved of pieces and of whole streams can be called.
 #[test]
-fn has_laws(_rt: HostRuntime) -> Result<(), Fail> {
+fn has_laws(_rt: HostRuntime) {
     law::each_event_has_a_piece();
     law::an_event_has_one_piece();
     round_trip_law::dumped_streams_are_built_again();
     round_trip_law::canonical_streams_are_built_as_they_are();
     round_trip_law::runs_close_the_round();
     corrected_law::encoded_texts_are_dumped_in_one_spelling();
-    Ok(())
 }
 
 /// A stream is dumped; its text is encoded to the four messages, which are dumped to the same text.
 #[test]
-fn encodes_a_dumped_stream(rt: HostRuntime) -> Result<(), Fail> {
-    let messages = messages_of_bulletins(rt.alloc())?;
-    let stream = bulletins(rt.alloc())?;
+fn encodes_a_dumped_stream(rt: HostRuntime) {
+    let messages = messages_of_bulletins(&rt);
+    let stream = bulletins(&rt);
     let round = round_of(&rt, &stream);
     let dumped = Tally {
         accepted: 4,
@@ -233,23 +224,22 @@ fn encodes_a_dumped_stream(rt: HostRuntime) -> Result<(), Fail> {
         accepted: 4,
         refused: 0,
     };
-    assert_run(&rt, Command::Encode, "stream", text, &messages, b"", all)?;
+    assert_run(&rt, Command::Encode, "stream", text, &messages, b"", all);
     assert_eq!(rt; round.messages.output.taken(), messages.as_slice());
     assert!(rt; round.again.tally == all, "{:?}", round.again.tally);
     assert_eq!(rt; round.again.output.taken(), text);
-    Ok(())
 }
 
 /// A text of a thousand documents; the line feed of the last line is missing.
 #[test]
-fn encodes_a_thousand(rt: HostRuntime) -> Result<(), Fail> {
-    let one = text_of_one(rt.alloc())?;
-    let message = one_block_number(rt.alloc())?;
+fn encodes_a_thousand(rt: HostRuntime) {
+    let one = text_of_one(&rt);
+    let message = one_block_number(&rt);
     let mut text = Vec::new(rt.alloc());
     let mut messages = Vec::new(rt.alloc());
     for _ in 0..1000 {
-        text.extend_from_slice(one.as_bytes())?;
-        messages.extend_from_slice(&message)?;
+        ok(&rt, text.extend_from_slice(one.as_bytes()));
+        ok(&rt, messages.extend_from_slice(&message));
     }
     text.pop();
     let all = Tally {
@@ -270,46 +260,45 @@ fn encodes_a_thousand(rt: HostRuntime) -> Result<(), Fail> {
 /// Wherever a read fails, the messages of the documents whose last line was read whole stand, and
 /// no other.
 #[test]
-fn stops_at_a_failed_read(rt: HostRuntime) -> Result<(), Fail> {
-    let message = delayed_twice(rt.alloc())?;
+fn stops_at_a_failed_read(rt: HostRuntime) {
+    let message = delayed_twice(&rt);
     let body = "subset 1\n031001 2\n001001 10\n001001 11\n";
-    let one = text_of(rt.alloc(), 1, 0x80, "101000 031001 001001", body)?;
-    let text = joined(rt.alloc(), &[one.as_bytes(), one.as_bytes()])?;
-    let both = joined(rt.alloc(), &[&message, &message])?;
+    let one = text_of(&rt, 1, 0x80, "101000 031001 001001", body);
+    let text = joined(&rt, &[one.as_bytes(), one.as_bytes()]);
+    let both = joined(&rt, &[&message, &message]);
     let (half, whole) = (one.len(), text.len());
     let end = whole..whole.saturating_add(1);
-    assert_stops_at_failed_reads(&rt, Command::Encode, &text, 0..half, b"", b"")?;
-    assert_stops_at_failed_reads(&rt, Command::Encode, &text, half..whole, &message, b"")?;
+    assert_stops_at_failed_reads(&rt, Command::Encode, &text, 0..half, b"", b"");
+    assert_stops_at_failed_reads(&rt, Command::Encode, &text, half..whole, &message, b"");
     assert_stops_at_failed_reads(&rt, Command::Encode, &text, end, &both, b"")
 }
 
 /// A document that is refused ends the run before a read behind it fails.
 #[test]
-fn stops_before_a_failed_read(rt: HostRuntime) -> Result<(), Fail> {
-    let text = text_of(rt.alloc(), 1, 0x80, "012101", "subset 1\n012101 288.155\n")?;
+fn stops_before_a_failed_read(rt: HostRuntime) {
+    let text = text_of(&rt, 1, 0x80, "012101", "subset 1\n012101 288.155\n");
     let mut r = ScriptIn::new(text.as_bytes(), 7, Some(text.len()));
-    let w = ScriptOut::new(rt.alloc(), 0, 7, End::Fail)?;
-    let e = ScriptOut::new(rt.alloc(), 64, 7, End::Fail)?;
+    let w = ok(&rt, ScriptOut::new(rt.alloc(), 0, 7, End::Fail));
+    let e = ok(&rt, ScriptOut::new(rt.alloc(), 64, 7, End::Fail));
     let ran = run_over(&rt, Command::Encode, &mut r, w, e);
     let line = b"line 24: 52 number\n";
     ran.assert_left(&rt, "refused", 0, Ok(ONE_REFUSED), b"", line);
-    Ok(())
 }
 
 /// Writers that fail, take nothing, or cannot be flushed have taken a front; where the errors'
 /// writer fails, the messages before the refused document stand.
 #[test]
-fn stops_at_a_failed_write(rt: HostRuntime) -> Result<(), Fail> {
-    let good = text_of_one(rt.alloc())?;
-    let message = one_block_number(rt.alloc())?;
+fn stops_at_a_failed_write(rt: HostRuntime) {
+    let good = text_of_one(&rt);
+    let message = one_block_number(&rt);
     let input = good.as_bytes();
-    assert_stops_at_failed_writes(&rt, Command::Encode, input, &message, b"", ONE_ACCEPTED)?;
-    let refused = text_of(rt.alloc(), 1, 0x80, "012101", "subset 1\n012101 288.155\n")?;
+    assert_stops_at_failed_writes(&rt, Command::Encode, input, &message, b"", ONE_ACCEPTED);
+    let refused = text_of(&rt, 1, 0x80, "012101", "subset 1\n012101 288.155\n");
     let input = refused.as_bytes();
     let line = b"line 24: 52 number\n";
-    assert_stops_at_failed_errors(&rt, Command::Encode, input, b"", b"", line, ONE_REFUSED)?;
-    let mut both = text_of_one(rt.alloc())?;
-    both.push_str(refused.as_str())?;
+    assert_stops_at_failed_errors(&rt, Command::Encode, input, b"", b"", line, ONE_REFUSED);
+    let mut both = text_of_one(&rt);
+    ok(&rt, both.push_str(refused.as_str()));
     let input = both.as_bytes();
     let line = b"line 49: 52 number\n";
     let tally = Tally {

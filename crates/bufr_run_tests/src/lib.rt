@@ -5,6 +5,9 @@
 #![tactic(auto)]
 
 #[cfg(test)]
+use std::process::Abort;
+
+#[cfg(test)]
 mod dump_fault_tests;
 #[cfg(test)]
 mod dump_tests;
@@ -22,3 +25,13 @@ mod test_messages;
 mod test_runs;
 #[cfg(test)]
 mod tests;
+
+/// What a call answers that is to succeed. A test would carry each way out that a `?` is through
+/// its proof, with all that it drops there; this call is one step.
+#[cfg(test)]
+pub(crate) fn ok<T, E: Drop>(rt: &impl Abort, answer: Result<T, E>) -> T {
+    match answer {
+        Ok(value) => value,
+        Err(_) => panic!(rt; "a call failed"),
+    }
+}

@@ -1,8 +1,8 @@
 //! Tables, messages and texts for the tests.
 
+use crate::ok;
 use bufr_run::Tally;
-use std::alloc::Global;
-use std::test::Fail;
+use std::process::Abort;
 
 /// Test data, not WMO's.
 pub(crate) const TABLE_B: &[u8] = b"\
@@ -108,149 +108,161 @@ pub(crate) const ONE_REFUSED: Tally = Tally {
 };
 
 /// The octets of a text of hexadecimal digits.
-pub(crate) fn octets_of(alloc: Global, text: &str) -> Result<Vec<u8>, Fail> {
-    let mut octets = Vec::new(alloc);
+pub(crate) fn octets_of(rt: &(impl Abort + AllocGlobal), text: &str) -> Vec<u8> {
+    let mut octets = Vec::new(rt.alloc());
     let mut high = None;
     for digit in text.chars() {
-        let value = u8::try_from(digit.to_digit(16).unwrap_or(0))?;
+        let value = ok(rt, u8::try_from(digit.to_digit(16).unwrap_or(0)));
         high = match high {
             None => Some(value << 4),
             Some(first) => {
-                octets.push(first | value)?;
+                ok(rt, octets.push(first | value));
                 None
             }
         };
     }
-    Ok(octets)
+    octets
 }
 
 /// The word of a descriptor whose six digits are this number.
-fn word_of(number: u32) -> Result<u16, Fail> {
+fn word_of(rt: &(impl Abort + AllocGlobal), number: u32) -> u16 {
     let f = (number / 100_000).saturating_mul(16_384);
     let x = (number / 1000 % 100).saturating_mul(256);
     let word = f.saturating_add(x).saturating_add(number % 1000);
-    Ok(u16::try_from(word)?)
+    ok(rt, u16::try_from(word))
 }
 
 /// The words of a text of descriptors.
-pub(crate) fn words_of(alloc: Global, text: &str) -> Result<Vec<u16>, Fail> {
-    let mut words = Vec::new(alloc);
+pub(crate) fn words_of(rt: &(impl Abort + AllocGlobal), text: &str) -> Vec<u16> {
+    let mut words = Vec::new(rt.alloc());
     for digits in text.split_whitespace() {
-        words.push(word_of(digits.parse::<u32>()?)?)?;
+        ok(rt, words.push(word_of(rt, ok(rt, digits.parse::<u32>()))));
     }
-    Ok(words)
+    words
 }
 
 /// A message of edition 4 with these subsets, flags, descriptors and data.
 pub(crate) fn message_of(
-    alloc: Global,
+    rt: &(impl Abort + AllocGlobal),
     subsets: u16,
     flags: u8,
     descriptors: &[u16],
     payload: &[u8],
-) -> Result<Vec<u8>, Fail> {
-    let mut octets = Vec::new(alloc);
-    let third = u16::try_from(descriptors.len().saturating_mul(2).saturating_add(7))?;
-    let fourth = u16::try_from(payload.len().saturating_add(4))?;
+) -> Vec<u8> {
+    let mut octets = Vec::new(rt.alloc());
+    let third = ok(
+        rt,
+        u16::try_from(descriptors.len().saturating_mul(2).saturating_add(7)),
+    );
+    let fourth = ok(rt, u16::try_from(payload.len().saturating_add(4)));
     let length = third.saturating_add(fourth).saturating_add(34);
-    octets.extend_from_slice(b"BUFR\0")?;
-    octets.extend_from_slice(&length.to_be_bytes())?;
-    octets.extend_from_slice(&[4, 0, 0, 22, 0, 0, 98, 0, 0, 0, 0, 0, 0, 0, 14, 0])?;
-    octets.extend_from_slice(&[7, 232, 1, 2, 3, 4, 5, 0])?;
-    octets.extend_from_slice(&third.to_be_bytes())?;
-    octets.push(0)?;
-    octets.extend_from_slice(&subsets.to_be_bytes())?;
-    octets.push(flags)?;
+    ok(rt, octets.extend_from_slice(b"BUFR\0"));
+    ok(rt, octets.extend_from_slice(&length.to_be_bytes()));
+    ok(
+        rt,
+        octets.extend_from_slice(&[4, 0, 0, 22, 0, 0, 98, 0, 0, 0, 0, 0, 0, 0, 14, 0]),
+    );
+    ok(rt, octets.extend_from_slice(&[7, 232, 1, 2, 3, 4, 5, 0]));
+    ok(rt, octets.extend_from_slice(&third.to_be_bytes()));
+    ok(rt, octets.push(0));
+    ok(rt, octets.extend_from_slice(&subsets.to_be_bytes()));
+    ok(rt, octets.push(flags));
     for word in descriptors {
-        octets.extend_from_slice(&word.to_be_bytes())?;
+        ok(rt, octets.extend_from_slice(&word.to_be_bytes()));
     }
-    octets.push(0)?;
-    octets.extend_from_slice(&fourth.to_be_bytes())?;
-    octets.push(0)?;
-    octets.extend_from_slice(payload)?;
-    octets.extend_from_slice(b"7777")?;
-    Ok(octets)
+    ok(rt, octets.push(0));
+    ok(rt, octets.extend_from_slice(&fourth.to_be_bytes()));
+    ok(rt, octets.push(0));
+    ok(rt, octets.extend_from_slice(payload));
+    ok(rt, octets.extend_from_slice(b"7777"));
+    octets
 }
 
 /// Such a message of descriptors, six digits each, and data in hexadecimal digits.
 pub(crate) fn message_in(
-    alloc: Global,
+    rt: &(impl Abort + AllocGlobal),
     subsets: u16,
     flags: u8,
     descriptors: &str,
     data: &str,
-) -> Result<Vec<u8>, Fail> {
-    let words = words_of(alloc, descriptors)?;
-    let data = octets_of(alloc, data)?;
-    message_of(alloc, subsets, flags, &words, &data)
+) -> Vec<u8> {
+    let words = words_of(rt, descriptors);
+    let data = octets_of(rt, data);
+    message_of(rt, subsets, flags, &words, &data)
 }
 
 /// Octets one after another.
-pub(crate) fn joined(alloc: Global, parts: &[&[u8]]) -> Result<Vec<u8>, Fail> {
-    let mut octets = Vec::new(alloc);
+pub(crate) fn joined(rt: &(impl Abort + AllocGlobal), parts: &[&[u8]]) -> Vec<u8> {
+    let mut octets = Vec::new(rt.alloc());
     for part in parts {
-        octets.extend_from_slice(part)?;
+        ok(rt, octets.extend_from_slice(part));
     }
-    Ok(octets)
+    octets
 }
 
 /// The dump text of one of these messages.
 pub(crate) fn text_of(
-    alloc: Global,
+    rt: &(impl Abort + AllocGlobal),
     subsets: u16,
     flags: u8,
     descriptors: &str,
     body: &str,
-) -> Result<String, Fail> {
-    let mut text = String::from_str(alloc, HEAD)?;
+) -> String {
+    let mut text = ok(rt, String::from_str(rt.alloc(), HEAD));
     let compressed = flags / 64 % 2;
-    let counts = format!(in alloc;
-        "observed 1\ncompressed {compressed}\noptional 0\nsubsets {subsets}\n"
-    )?;
-    text.push_str(counts.as_str())?;
+    let counts = ok(
+        rt,
+        format!(in rt.alloc();
+            "observed 1\ncompressed {compressed}\noptional 0\nsubsets {subsets}\n"
+        ),
+    );
+    ok(rt, text.push_str(counts.as_str()));
     let mut place = 0usize;
     for digits in descriptors.split_whitespace() {
         if place % 8 == 0 {
-            text.push_str(if place == 0 {
-                "descriptors"
-            } else {
-                "\ndescriptors"
-            })?;
+            ok(
+                rt,
+                text.push_str(if place == 0 {
+                    "descriptors"
+                } else {
+                    "\ndescriptors"
+                }),
+            );
         }
-        text.push(' ')?;
-        text.push_str(digits)?;
+        ok(rt, text.push(' '));
+        ok(rt, text.push_str(digits));
         place = place.saturating_add(1);
     }
     if place > 0 {
-        text.push('\n')?;
+        ok(rt, text.push('\n'));
     }
-    text.push_str(body)?;
-    text.push_str("end\n")?;
-    Ok(text)
+    ok(rt, text.push_str(body));
+    ok(rt, text.push_str("end\n"));
+    text
 }
 
 /// The message with one block number, to be changed.
-pub(crate) fn one_block_number(alloc: Global) -> Result<Vec<u8>, Fail> {
-    joined(alloc, &[&ONE_BLOCK_NUMBER])
+pub(crate) fn one_block_number(rt: &(impl Abort + AllocGlobal)) -> Vec<u8> {
+    joined(rt, &[&ONE_BLOCK_NUMBER])
 }
 
 /// Its line in a listing, at this offset.
-pub(crate) fn line_of_one(alloc: Global, offset: &str) -> Result<String, Fail> {
-    let mut line = String::from_str(alloc, "offset=")?;
-    line.push_str(offset)?;
-    line.push_str(LINE_OF_ONE)?;
-    Ok(line)
+pub(crate) fn line_of_one(rt: &(impl Abort + AllocGlobal), offset: &str) -> String {
+    let mut line = ok(rt, String::from_str(rt.alloc(), "offset="));
+    ok(rt, line.push_str(offset));
+    ok(rt, line.push_str(LINE_OF_ONE));
+    line
 }
 
 /// Its dump text.
-pub(crate) fn text_of_one(alloc: Global) -> Result<String, Fail> {
+pub(crate) fn text_of_one(rt: &(impl Abort + AllocGlobal)) -> String {
     let body = "subset 1\n001001 10  # WMO BLOCK NUMBER [Numeric]\n";
-    text_of(alloc, 1, 0x80, "001001", body)
+    text_of(rt, 1, 0x80, "001001", body)
 }
 
 /// A message with a delayed group of two block numbers, 10 and 11, 54 octets.
-pub(crate) fn delayed_twice(alloc: Global) -> Result<Vec<u8>, Fail> {
-    message_in(alloc, 1, 0x80, "101000 031001 001001", "02142C")
+pub(crate) fn delayed_twice(rt: &(impl Abort + AllocGlobal)) -> Vec<u8> {
+    message_in(rt, 1, 0x80, "101000 031001 001001", "02142C")
 }
 
 /// The message with one block number, of edition 2, which is refused.
@@ -261,27 +273,24 @@ pub(crate) fn of_edition_2() -> [u8; 48] {
 }
 
 /// The four messages of the bulletins below.
-pub(crate) fn messages_of_bulletins(alloc: Global) -> Result<Vec<u8>, Fail> {
-    let delayed = delayed_twice(alloc)?;
-    joined(
-        alloc,
-        &[&ONE_BLOCK_NUMBER, &delayed, &COMPRESSED, &LOCAL_USE],
-    )
+pub(crate) fn messages_of_bulletins(rt: &(impl Abort + AllocGlobal)) -> Vec<u8> {
+    let delayed = delayed_twice(rt);
+    joined(rt, &[&ONE_BLOCK_NUMBER, &delayed, &COMPRESSED, &LOCAL_USE])
 }
 
 /// The stream of `examples/bulletins.bufr`: a heading, four messages, a stray word behind the
 /// second, a message of edition 2 before the last, and a short stray word at the end, 305 octets.
-pub(crate) fn bulletins(alloc: Global) -> Result<Vec<u8>, Fail> {
-    let delayed = delayed_twice(alloc)?;
+pub(crate) fn bulletins(rt: &(impl Abort + AllocGlobal)) -> Vec<u8> {
+    let delayed = delayed_twice(rt);
     let other = of_edition_2();
     let heading: &[u8] = b"IUSX40 ECMW 020300\r\r\n";
     let between: &[u8] = b"\r\r\nNNNN\n";
-    let first = joined(alloc, &[heading, &ONE_BLOCK_NUMBER, between, &delayed])?;
+    let first = joined(rt, &[heading, &ONE_BLOCK_NUMBER, between, &delayed]);
     let stray: &[u8] = b"BUFRjunk";
     let feed: &[u8] = b"\n";
     let short: &[u8] = b"BUFR\0\0\x0B\x04end";
     joined(
-        alloc,
+        rt,
         &[&first, stray, &COMPRESSED, &other, feed, &LOCAL_USE, short],
     )
 }

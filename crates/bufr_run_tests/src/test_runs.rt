@@ -2,6 +2,7 @@
 //! own proof does not have to carry the run's contract.
 ghost use Rattle.std.specs.Prelude.{◌≤◌};
 
+use crate::ok;
 use crate::test_messages::{STRAY, TABLE_B, TABLE_D, joined};
 use bufr_bits::{Device, End, ScriptIn, ScriptOut, Sink, Source};
 use bufr_frame::RunFault;
@@ -96,6 +97,40 @@ pub(crate) fn list<R: Source, W: Sink, E: Sink>(
     run_ls(alloc, r, w, e)
 }
 
+/// Dumps a stream over any devices.
+fn dump<R: Source, W: Sink, E: Sink>(
+    alloc: Global,
+    tables: &Tables,
+    r: &mut R,
+    w: &mut W,
+    e: &mut E,
+) -> Result<Tally, RunFault> {
+    run_dump(alloc, r, w, e, &tables.b, &tables.d)
+}
+
+/// Encodes a text over any devices.
+fn encode<R: Source, W: Sink, E: Sink>(
+    alloc: Global,
+    tables: &Tables,
+    r: &mut R,
+    w: &mut W,
+    e: &mut E,
+) -> Result<Tally, RunFault> {
+    run_encode(alloc, r, w, e, &tables.b, &tables.d)
+}
+
+/// Encodes a text in a form, over any devices.
+fn encode_in<R: Source, W: Sink, E: Sink>(
+    alloc: Global,
+    tables: &Tables,
+    form: Form,
+    r: &mut R,
+    w: &mut W,
+    e: &mut E,
+) -> Result<Tally, RunFault> {
+    run_encode_form(alloc, r, w, e, &tables.b, &tables.d, form)
+}
+
 /// Runs a command by these tables.
 fn run_by<R: Source>(
     alloc: Global,
@@ -105,14 +140,12 @@ fn run_by<R: Source>(
     mut output: ScriptOut,
     mut errors: ScriptOut,
 ) -> Ran {
-    let Tables { b, d } = tables;
+    let (w, e) = (&mut output, &mut errors);
     let answer = match command {
-        Command::Ls => run_ls(alloc, input, &mut output, &mut errors),
-        Command::Dump => run_dump(alloc, input, &mut output, &mut errors, b, d),
-        Command::Encode => run_encode(alloc, input, &mut output, &mut errors, b, d),
-        Command::EncodeIn(form) => {
-            run_encode_form(alloc, input, &mut output, &mut errors, b, d, form)
-        }
+        Command::Ls => list(alloc, input, w, e),
+        Command::Dump => dump(alloc, tables, input, w, e),
+        Command::Encode => encode(alloc, tables, input, w, e),
+        Command::EncodeIn(form) => encode_in(alloc, tables, form, input, w, e),
     };
     Ran {
         answer,
@@ -163,6 +196,15 @@ fn wanted_whole<'a>(
 }
 
 impl<'a> Wanted<'a> {
+    /// Runs the command over the input, `step` octets at a time, to writers with room for more.
+    fn run(&self, rt: &(impl Abort + AllocGlobal), tables: &Tables, step: usize) -> Ran
+        requires { 1 ≤ step }
+    {
+        let w = writer(rt, self.output.len().saturating_add(64), step, End::Fail);
+        let e = writer(rt, self.errors.len().saturating_add(64), step, End::Fail);
+        run_in_steps(rt, tables, self.command, self.input, step, None, w, e)
+    }
+
     /// Asserts that a run left this, by its place in a list of runs.
     fn assert_left(&self, rt: &(impl Abort + AllocGlobal), ran: &Ran, place: usize) {
         ran.assert_left(rt, self.name, place, self.answer, self.output, self.errors);
@@ -170,15 +212,10 @@ impl<'a> Wanted<'a> {
 }
 
 /// A writer that takes so many octets, at most `step` of them at once, and then fails so.
-fn writer(
-    rt: &(impl Abort + AllocGlobal),
-    room: usize,
-    step: usize,
-    end: End,
-) -> Result<ScriptOut, Fail>
+fn writer(rt: &(impl Abort + AllocGlobal), room: usize, step: usize, end: End) -> ScriptOut
     requires { 1 ≤ step }
 {
-    Ok(ScriptOut::new(rt.alloc(), room, step, end)?)
+    ok(rt, ScriptOut::new(rt.alloc(), room, step, end))
 }
 
 /// Runs a command over an input that gives at most `step` octets a read, and may fail at a place.
@@ -204,28 +241,20 @@ fn assert_run_in_steps(
     tables: &Tables,
     wanted: &Wanted<'_>,
     step: usize,
-) -> Result<(), Fail>
+)
     requires { 1 ≤ step }
 {
-    let w = writer(rt, wanted.output.len().saturating_add(64), step, End::Fail)?;
-    let e = writer(rt, wanted.errors.len().saturating_add(64), step, End::Fail)?;
-    let (command, input) = (wanted.command, wanted.input);
-    let ran = run_in_steps(rt, tables, command, input, step, None, w, e);
+    let ran = wanted.run(rt, tables, step);
     wanted.assert_left(rt, &ran, step);
-    Ok(())
 }
 
 /// Runs a command over an input, to writers with room for 4,096 octets.
-pub(crate) fn run_whole(
-    rt: &(impl Abort + AllocGlobal),
-    command: Command,
-    input: &[u8],
-) -> Result<Ran, Fail> {
-    let w = writer(rt, 4096, 4096, End::Fail)?;
-    let e = writer(rt, 4096, 4096, End::Fail)?;
+pub(crate) fn run_whole(rt: &(impl Abort + AllocGlobal), command: Command, input: &[u8]) -> Ran {
+    let w = writer(rt, 4096, 4096, End::Fail);
+    let e = writer(rt, 4096, 4096, End::Fail);
     let tables = read_tables(rt);
     let ran = run_in_steps(rt, &tables, command, input, 4096, None, w, e);
-    Ok(ran)
+    ran
 }
 
 /// Runs a command over `input`, however it is read, and asserts what comes of it.
@@ -237,12 +266,12 @@ pub(crate) fn assert_run(
     output: &[u8],
     errors: &[u8],
     tally: Tally,
-) -> Result<(), Fail> {
+) {
     let wanted = wanted_whole(command, name, input, output, errors, tally);
     let tables = read_tables(rt);
-    assert_run_in_steps(rt, &tables, &wanted, 1)?;
-    assert_run_in_steps(rt, &tables, &wanted, 3)?;
-    assert_run_in_steps(rt, &tables, &wanted, 7)?;
+    assert_run_in_steps(rt, &tables, &wanted, 1);
+    assert_run_in_steps(rt, &tables, &wanted, 3);
+    assert_run_in_steps(rt, &tables, &wanted, 7);
     assert_run_in_steps(rt, &tables, &wanted, 4096)
 }
 
@@ -269,16 +298,15 @@ fn assert_stops_at_the_output(
     wanted: &Wanted<'_>,
     end: End,
     room: usize,
-) -> Result<(), Fail> {
+) {
     let whole = wanted.output;
-    let w = writer(rt, room, 5, end)?;
-    let e = writer(rt, wanted.errors.len(), 5, End::Fail)?;
+    let w = writer(rt, room, 5, end);
+    let e = writer(rt, wanted.errors.len(), 5, End::Fail);
     let (command, input) = (wanted.command, wanted.input);
     let ran = run_in_steps(rt, tables, command, input, 4096, None, w, e);
     let front = whole.get(..room).unwrap_or(whole);
     let answer = answer_at(room, whole, end, wanted.answer);
     ran.assert_left(rt, wanted.name, room, answer, front, wanted.errors);
-    Ok(())
 }
 
 /// An output that fails, takes nothing, or cannot be flushed has taken a front of the whole, and
@@ -290,15 +318,14 @@ pub(crate) fn assert_stops_at_failed_writes(
     output: &[u8],
     errors: &[u8],
     tally: Tally,
-) -> Result<(), Fail> {
+) {
     let wanted = wanted_whole(command, "room", input, output, errors, tally);
     let tables = read_tables(rt);
     for room in 0..output.len().saturating_add(1) {
-        assert_stops_at_the_output(rt, &tables, &wanted, End::Fail, room)?;
-        assert_stops_at_the_output(rt, &tables, &wanted, End::Zero, room)?;
-        assert_stops_at_the_output(rt, &tables, &wanted, End::Flush, room)?;
+        assert_stops_at_the_output(rt, &tables, &wanted, End::Fail, room);
+        assert_stops_at_the_output(rt, &tables, &wanted, End::Zero, room);
+        assert_stops_at_the_output(rt, &tables, &wanted, End::Flush, room);
     }
-    Ok(())
 }
 
 /// The errors' writer with this room that fails so has taken a front of the line; the output has
@@ -310,10 +337,10 @@ fn assert_stops_at_the_errors(
     before: &[u8],
     end: End,
     room: usize,
-) -> Result<(), Fail> {
+) {
     let line = wanted.errors;
-    let w = writer(rt, wanted.output.len(), 1, End::Fail)?;
-    let e = writer(rt, room, 5, end)?;
+    let w = writer(rt, wanted.output.len(), 1, End::Fail);
+    let e = writer(rt, room, 5, end);
     let (command, input) = (wanted.command, wanted.input);
     let ran = run_in_steps(rt, tables, command, input, 4096, None, w, e);
     let front = line.get(..room).unwrap_or(line);
@@ -324,7 +351,6 @@ fn assert_stops_at_the_errors(
         wanted.output
     };
     ran.assert_left(rt, wanted.name, room, answer, output, front);
-    Ok(())
 }
 
 /// The errors' writer fails, takes nothing, or cannot be flushed: it has taken a front of the line,
@@ -337,15 +363,14 @@ pub(crate) fn assert_stops_at_failed_errors(
     output: &[u8],
     errors: &[u8],
     tally: Tally,
-) -> Result<(), Fail> {
+) {
     let wanted = wanted_whole(command, "room", input, output, errors, tally);
     let tables = read_tables(rt);
     for room in 0..errors.len().saturating_add(1) {
-        assert_stops_at_the_errors(rt, &tables, &wanted, before, End::Fail, room)?;
-        assert_stops_at_the_errors(rt, &tables, &wanted, before, End::Zero, room)?;
-        assert_stops_at_the_errors(rt, &tables, &wanted, before, End::Flush, room)?;
+        assert_stops_at_the_errors(rt, &tables, &wanted, before, End::Fail, room);
+        assert_stops_at_the_errors(rt, &tables, &wanted, before, End::Zero, room);
+        assert_stops_at_the_errors(rt, &tables, &wanted, before, End::Flush, room);
     }
-    Ok(())
 }
 
 /// A reader that fails at this place stops the run with this output and these errors.
@@ -355,15 +380,14 @@ fn assert_stops_at_the_read(
     wanted: &Wanted<'_>,
     step: usize,
     place: usize,
-) -> Result<(), Fail>
+)
     requires { 1 ≤ step }
 {
-    let w = writer(rt, 4096, 7, End::Fail)?;
-    let e = writer(rt, 4096, 7, End::Fail)?;
+    let w = writer(rt, 4096, 7, End::Fail);
+    let e = writer(rt, 4096, 7, End::Fail);
     let (command, input) = (wanted.command, wanted.input);
     let ran = run_in_steps(rt, tables, command, input, step, Some(place), w, e);
     wanted.assert_left(rt, &ran, place);
-    Ok(())
 }
 
 /// Wherever in these places the reader fails, the run stops with this output and these errors.
@@ -374,7 +398,7 @@ pub(crate) fn assert_stops_at_failed_reads(
     places: Range<usize>,
     output: &[u8],
     errors: &[u8],
-) -> Result<(), Fail> {
+) {
     let wanted = Wanted {
         command,
         name: "place",
@@ -385,10 +409,9 @@ pub(crate) fn assert_stops_at_failed_reads(
     };
     let tables = read_tables(rt);
     for place in places {
-        assert_stops_at_the_read(rt, &tables, &wanted, 1, place)?;
-        assert_stops_at_the_read(rt, &tables, &wanted, 7, place)?;
+        assert_stops_at_the_read(rt, &tables, &wanted, 1, place);
+        assert_stops_at_the_read(rt, &tables, &wanted, 7, place);
     }
-    Ok(())
 }
 
 /// A reader that is interrupted once, behind its front, and notes a read that is made then.
@@ -422,20 +445,19 @@ fn assert_stops_where_interrupted(
     input: &[u8],
     place: usize,
     output: &[u8],
-) -> Result<(), Fail> {
+) {
     let (interrupted, tried_again) = (Cell::new(false), Cell::new(false));
     let mut r = Device::new(Interrupted {
-        front: input.get(..place).ok_or("a front")?,
-        rest: input.get(place..).ok_or("a rest")?,
+        front: ok(rt, input.get(..place).ok_or("a front")),
+        rest: ok(rt, input.get(place..).ok_or("a rest")),
         interrupted: &interrupted,
         tried_again: &tried_again,
     });
-    let w = writer(rt, 4096, 7, End::Flush)?;
-    let e = writer(rt, 0, 7, End::Flush)?;
+    let w = writer(rt, 4096, 7, End::Flush);
+    let e = writer(rt, 0, 7, End::Flush);
     let ran = run_over(rt, command, &mut r, w, e);
     assert!(rt; interrupted.get() && !tried_again.get(), "{place}");
     ran.assert_left(rt, "place", place, Err(RunFault::Read), output, b"");
-    Ok(())
 }
 
 /// The input is two messages, or two documents, of as many octets. Wherever a read is interrupted,
@@ -446,7 +468,7 @@ pub(crate) fn assert_stops_at_interrupted_reads(
     input: &[u8],
     first: &[u8],
     both: &[u8],
-) -> Result<(), Fail> {
+) {
     let half = input.len() / 2;
     for place in [0, 1, half.saturating_sub(1), half, input.len()] {
         let output = if place == input.len() {
@@ -456,16 +478,15 @@ pub(crate) fn assert_stops_at_interrupted_reads(
         } else {
             b""
         };
-        assert_stops_where_interrupted(rt, command, input, place, output)?;
+        assert_stops_where_interrupted(rt, command, input, place, output);
     }
-    Ok(())
 }
 
 /// A stream of a message behind a stray word that states 64 octets, with zero octets to as many.
-pub(crate) fn stray_before(alloc: Global, message: &[u8]) -> Result<Vec<u8>, Fail> {
-    let mut input = joined(alloc, &[STRAY, message])?;
-    input.resize(64, 0)?;
-    Ok(input)
+pub(crate) fn stray_before(rt: &(impl Abort + AllocGlobal), message: &[u8]) -> Vec<u8> {
+    let mut input = joined(rt, &[STRAY, message]);
+    ok(rt, input.resize(64, 0));
+    input
 }
 
 /// Where the reader or a writer fails of such a stream, nothing was certain before its last octet,
@@ -475,14 +496,14 @@ pub(crate) fn assert_stops_around_a_stray(
     command: Command,
     input: &[u8],
     output: &[u8],
-) -> Result<(), Fail> {
+) {
     let line = b"offset 0: 3 no end\n";
     let tally = Tally {
         accepted: 1,
         refused: 1,
     };
-    assert_stops_at_failed_reads(rt, command, input, 0..64, b"", b"")?;
-    assert_stops_at_failed_reads(rt, command, input, 64..65, output, line)?;
-    assert_stops_at_failed_writes(rt, command, input, output, line, tally)?;
+    assert_stops_at_failed_reads(rt, command, input, 0..64, b"", b"");
+    assert_stops_at_failed_reads(rt, command, input, 64..65, output, line);
+    assert_stops_at_failed_writes(rt, command, input, output, line, tally);
     assert_stops_at_failed_errors(rt, command, input, b"", output, line, tally)
 }

@@ -1,5 +1,6 @@
 //! The worked examples of `ls`, run.
 
+use crate::ok;
 use crate::test_messages::{
     COMPRESSED, LOCAL_USE, NOTHING, ONE_ACCEPTED, ONE_BLOCK_NUMBER, ONE_REFUSED, STRAY, joined,
     line_of_one,
@@ -153,7 +154,7 @@ static LISTINGS: [ListedStream; 13] = [
 ];
 
 #[test]
-fn lists_worked_examples(rt: HostRuntime) -> Result<(), Fail> {
+fn lists_worked_examples(rt: HostRuntime) {
     for listing in &LISTINGS {
         let mut message = ONE_BLOCK_NUMBER;
         for (place, octet) in listing.edits {
@@ -161,13 +162,13 @@ fn lists_worked_examples(rt: HostRuntime) -> Result<(), Fail> {
             message[*place] = *octet;
         }
         let mut input = Vec::new(rt.alloc());
-        input.extend_from_slice(listing.before)?;
-        input.extend_from_slice(&message)?;
-        input.extend_from_slice(listing.behind)?;
+        ok(&rt, input.extend_from_slice(listing.before));
+        ok(&rt, input.extend_from_slice(&message));
+        ok(&rt, input.extend_from_slice(listing.behind));
         let mut output = String::new(rt.alloc());
         let mut accepted = 0u64;
         for offset in listing.listed {
-            output.push_str(line_of_one(rt.alloc(), offset)?.as_str())?;
+            ok(&rt, output.push_str(line_of_one(&rt, offset).as_str()));
             accepted = accepted.saturating_add(1);
         }
         let tally = Tally {
@@ -182,13 +183,12 @@ fn lists_worked_examples(rt: HostRuntime) -> Result<(), Fail> {
             output.as_bytes(),
             listing.errors.as_bytes(),
             tally,
-        )?;
+        );
     }
-    Ok(())
 }
 
 #[test]
-fn lists_optional_and_compressed(rt: HostRuntime) -> Result<(), Fail> {
+fn lists_optional_and_compressed(rt: HostRuntime) {
     assert_run(
         &rt,
         Command::Ls,
@@ -197,7 +197,7 @@ fn lists_optional_and_compressed(rt: HostRuntime) -> Result<(), Fail> {
         b"offset=0 length=56 edition=4 centre=98/0 update=0 category=0/0/0 tables=0/14/0 time=2024-01-02T03:04:05 subsets=1 observed=1 compressed=0 optional=1 descriptors=1\n",
         b"",
         ONE_ACCEPTED,
-    )?;
+    );
     assert_run(
         &rt,
         Command::Ls,
@@ -210,7 +210,7 @@ fn lists_optional_and_compressed(rt: HostRuntime) -> Result<(), Fail> {
 }
 
 #[test]
-fn cut_anywhere(rt: HostRuntime) -> Result<(), Fail> {
+fn cut_anywhere(rt: HostRuntime) {
     for len in 0..48 {
         let (errors, refused): (&[u8], u64) = if len < 4 {
             (b"", 0)
@@ -229,19 +229,21 @@ fn cut_anywhere(rt: HostRuntime) -> Result<(), Fail> {
             b"",
             errors,
             tally,
-        )?;
+        );
     }
-    Ok(())
 }
 
 #[test]
-fn words_only(rt: HostRuntime) -> Result<(), Fail> {
+fn words_only(rt: HostRuntime) {
     let mut input = Vec::new(rt.alloc());
     let mut errors = String::new(rt.alloc());
     let mut at = 0u64;
     for _ in 0..1024 {
-        input.extend_from_slice(b"BUFR")?;
-        errors.push_str(format!(in rt.alloc(); "offset {at}: 1 cut\n")?.as_str())?;
+        ok(&rt, input.extend_from_slice(b"BUFR"));
+        ok(
+            &rt,
+            errors.push_str(ok(&rt, format!(in rt.alloc(); "offset {at}: 1 cut\n")).as_str()),
+        );
         at = at.saturating_add(4);
     }
     let tally = Tally {
@@ -261,29 +263,29 @@ fn words_only(rt: HostRuntime) -> Result<(), Fail> {
 
 /// Wherever a read fails, what was certain before stands: a message that was read whole is listed.
 #[test]
-fn stops_at_a_failed_read(rt: HostRuntime) -> Result<(), Fail> {
-    let line = line_of_one(rt.alloc(), "0")?;
-    let input = joined(rt.alloc(), &[&ONE_BLOCK_NUMBER, &ONE_BLOCK_NUMBER])?;
-    assert_stops_at_failed_reads(&rt, Command::Ls, &input, 0..48, b"", b"")?;
+fn stops_at_a_failed_read(rt: HostRuntime) {
+    let line = line_of_one(&rt, "0");
+    let input = joined(&rt, &[&ONE_BLOCK_NUMBER, &ONE_BLOCK_NUMBER]);
+    assert_stops_at_failed_reads(&rt, Command::Ls, &input, 0..48, b"", b"");
     assert_stops_at_failed_reads(&rt, Command::Ls, &input, 48..96, line.as_bytes(), b"")
 }
 
 /// An interrupted read is a failed one, and the lines of the messages that were read whole stand.
 #[test]
-fn stops_at_an_interrupted_read(rt: HostRuntime) -> Result<(), Fail> {
-    let first = line_of_one(rt.alloc(), "0")?;
-    let second = line_of_one(rt.alloc(), "48")?;
-    let both = joined(rt.alloc(), &[first.as_bytes(), second.as_bytes()])?;
-    let input = joined(rt.alloc(), &[&ONE_BLOCK_NUMBER, &ONE_BLOCK_NUMBER])?;
+fn stops_at_an_interrupted_read(rt: HostRuntime) {
+    let first = line_of_one(&rt, "0");
+    let second = line_of_one(&rt, "48");
+    let both = joined(&rt, &[first.as_bytes(), second.as_bytes()]);
+    let input = joined(&rt, &[&ONE_BLOCK_NUMBER, &ONE_BLOCK_NUMBER]);
     assert_stops_at_interrupted_reads(&rt, Command::Ls, &input, first.as_bytes(), &both)
 }
 
 /// A stray word that states 64 octets, the message behind it, and eight octets behind that, 64 in
 /// all: nothing is certain before the last octet. The stray's line goes out before the message's.
 #[test]
-fn stops_behind_a_stray(rt: HostRuntime) -> Result<(), Fail> {
-    let input = stray_before(rt.alloc(), &ONE_BLOCK_NUMBER)?;
-    let listed = line_of_one(rt.alloc(), "8")?;
+fn stops_behind_a_stray(rt: HostRuntime) {
+    let input = stray_before(&rt, &ONE_BLOCK_NUMBER);
+    let listed = line_of_one(&rt, "8");
     assert_stops_around_a_stray(&rt, Command::Ls, &input, listed.as_bytes())
 }
 
@@ -333,8 +335,8 @@ impl<'a> Read for Watching<'a> {
 
 /// Each line is on the writer, whole and in one write, before the next message is read.
 #[test]
-fn lists_while_it_reads(rt: HostRuntime) -> Result<(), Fail> {
-    let line = line_of_one(rt.alloc(), "0")?.len();
+fn lists_while_it_reads(rt: HostRuntime) {
+    let line = line_of_one(&rt, "0").len();
     let (octets, writes, torn) = (Cell::new(0), Cell::new(0), Cell::new(false));
     let mut watching = Watching {
         octets: &octets,
@@ -347,7 +349,7 @@ fn lists_while_it_reads(rt: HostRuntime) -> Result<(), Fail> {
         writes: &writes,
         torn: &torn,
     });
-    let mut e = ScriptOut::new(rt.alloc(), 0, 1, End::Fail)?;
+    let mut e = ok(&rt, ScriptOut::new(rt.alloc(), 0, 1, End::Fail));
     let ran = list(rt.alloc(), &mut r, &mut w, &mut e);
     let both = Tally {
         accepted: 2,
@@ -360,16 +362,15 @@ fn lists_while_it_reads(rt: HostRuntime) -> Result<(), Fail> {
     );
     assert_eq!(rt; writes.get(), 2);
     assert!(rt; !torn.get());
-    Ok(())
 }
 
 /// A writer that fails, takes nothing, or cannot be flushed has taken a front of the line.
 #[test]
-fn stops_at_a_failed_write(rt: HostRuntime) -> Result<(), Fail> {
-    let line = line_of_one(rt.alloc(), "0")?;
+fn stops_at_a_failed_write(rt: HostRuntime) {
+    let line = line_of_one(&rt, "0");
     let whole = line.as_bytes();
     let one = &ONE_BLOCK_NUMBER;
-    assert_stops_at_failed_writes(&rt, Command::Ls, one, whole, b"", ONE_ACCEPTED)?;
+    assert_stops_at_failed_writes(&rt, Command::Ls, one, whole, b"", ONE_ACCEPTED);
     let cut = &ONE_BLOCK_NUMBER[..20];
     let line = b"offset 0: 1 cut\n";
     assert_stops_at_failed_errors(&rt, Command::Ls, cut, b"", b"", line, ONE_REFUSED)
@@ -377,7 +378,7 @@ fn stops_at_a_failed_write(rt: HostRuntime) -> Result<(), Fail> {
 
 /// An empty input gives nothing, also through a reader and writers of std.
 #[test]
-fn lists_nothing(rt: HostRuntime) -> Result<(), Fail> {
+fn lists_nothing(rt: HostRuntime) {
     let input: &[u8] = b"";
     let mut r = Device::new(input);
     let mut w = Device::new(Vec::new(rt.alloc()));

@@ -5,8 +5,21 @@
 #![tactic(auto)]
 
 #[cfg(test)]
+use std::process::Abort;
+
+#[cfg(test)]
 mod template_tests;
 #[cfg(test)]
 mod test_tables;
 #[cfg(test)]
 mod tests;
+
+/// What a call answers that is to succeed. A test would carry each way out that a `?` is through
+/// its proof, with all that it drops there; this call is one step.
+#[cfg(test)]
+pub(crate) fn ok<T, E: Drop>(rt: &impl Abort, answer: Result<T, E>) -> T {
+    match answer {
+        Ok(value) => value,
+        Err(_) => panic!(rt; "a call failed"),
+    }
+}

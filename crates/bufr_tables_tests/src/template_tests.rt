@@ -1,8 +1,9 @@
 //! What is shown by running: the worked lists, their cells, each fault, the limits.
+use crate::ok;
 use crate::test_tables::{NESTED, NO_FACTORS, TABLE_B, TABLE_D, read_b, read_d};
 use bufr_tables::{Cell, Fxy, TableB, TableD, TableFault, Template, TemplateFault, Templates};
-use std::alloc::{AllocError, Global};
-use std::test::Fail;
+use std::alloc::Global;
+use std::process::Abort;
 
 // A name for what is shown, the descriptors, and what comes of them.
 const ROWS: &[(&str, &str, &str)] = &[
@@ -145,21 +146,24 @@ const ROWS: &[(&str, &str, &str)] = &[
 ];
 
 // The descriptors of a text: six digits each, with spaces between them.
-fn descriptors_of(alloc: Global, text: &str) -> Result<Vec<Fxy>, Fail> {
-    let mut descriptors = Vec::new(alloc);
+fn descriptors_of(rt: &(impl Abort + AllocGlobal), text: &str) -> Vec<Fxy> {
+    let mut descriptors = Vec::new(rt.alloc());
     for digits in text.split_whitespace() {
-        let number = digits.parse::<u32>()?;
+        let number = ok(rt, digits.parse::<u32>());
         let word = number / 100_000 << 14 | number / 1000 % 100 << 8 | number % 1000;
-        descriptors.push(Fxy::from_word(u16::try_from(word)?))?;
+        ok(
+            rt,
+            descriptors.push(Fxy::from_word(ok(rt, u16::try_from(word)))),
+        );
     }
-    Ok(descriptors)
+    descriptors
 }
 
 // The tables of most tests.
-fn tables(alloc: Global) -> Result<(TableB, TableD), Fail> {
-    let table_b = read_b(alloc, TABLE_B)?;
-    let table_d = read_d(alloc, NESTED)?;
-    Ok((table_b, table_d))
+fn tables(rt: &(impl Abort + AllocGlobal)) -> (TableB, TableD) {
+    let table_b = ok(rt, read_b(rt.alloc(), TABLE_B));
+    let table_d = ok(rt, read_d(rt.alloc(), NESTED));
+    (table_b, table_d)
 }
 
 // A template, with no promise that the proof of a test would carry.
@@ -173,45 +177,45 @@ fn built(
 }
 
 // The places and the depth, or the fault's number and its text.
-fn told_of(alloc: Global, answer: &Result<Template, TemplateFault>) -> Result<String, AllocError> {
-    match answer {
+fn told_of(rt: &(impl Abort + AllocGlobal), answer: &Result<Template, TemplateFault>) -> String {
+    let text = match answer {
         Ok(template) => {
-            format!(in alloc; "places {} depth {}", template.places(), template.depth())
+            format!(in rt.alloc(); "places {} depth {}", template.places(), template.depth())
         }
-        Err(fault) => format!(in alloc; "{} {fault}", fault.number()),
-    }
+        Err(fault) => format!(in rt.alloc(); "{} {fault}", fault.number()),
+    };
+    ok(rt, text)
 }
 
 // That, of a template that is built.
 fn told(
-    alloc: Global,
+    rt: &(impl Abort + AllocGlobal),
     descriptors: &[Fxy],
     table_b: &TableB,
     table_d: &TableD,
-) -> Result<String, AllocError> {
-    let answer = built(alloc, descriptors, table_b, table_d);
-    told_of(alloc, &answer)
+) -> String {
+    let answer = built(rt.alloc(), descriptors, table_b, table_d);
+    told_of(rt, &answer)
 }
 
 // That, of the template that is kept or built.
 fn told_again(
-    alloc: Global,
+    rt: &(impl Abort + AllocGlobal),
     templates: &mut Templates<'_>,
     descriptors: &[Fxy],
-) -> Result<String, AllocError> {
-    templates.turn_to(descriptors)?;
-    told_of(alloc, templates.answer())
+) -> String {
+    ok(rt, templates.turn_to(descriptors));
+    told_of(rt, templates.answer())
 }
 
 #[test]
-fn worked_lists(rt: HostRuntime) -> Result<(), Fail> {
-    let (table_b, table_d) = tables(rt.alloc())?;
+fn worked_lists(rt: HostRuntime) {
+    let (table_b, table_d) = tables(&rt);
     for (name, text, want) in ROWS {
-        let descriptors = descriptors_of(rt.alloc(), text)?;
-        let told = told(rt.alloc(), &descriptors, &table_b, &table_d)?;
+        let descriptors = descriptors_of(&rt, text);
+        let told = told(&rt, &descriptors, &table_b, &table_d);
         assert_eq!(rt; told.as_str(), *want, "{name}");
     }
-    Ok(())
 }
 
 // Lists that are asked for one after another, and what comes of them: each template and each fault
@@ -229,27 +233,25 @@ const IN_TURN: &[(&str, &str)] = &[
 ];
 
 #[test]
-fn lists_that_are_repeated(rt: HostRuntime) -> Result<(), Fail> {
-    let (table_b, table_d) = tables(rt.alloc())?;
+fn lists_that_are_repeated(rt: HostRuntime) {
+    let (table_b, table_d) = tables(&rt);
     let mut templates = Templates::new(rt.alloc(), &table_b, &table_d);
     for (text, want) in IN_TURN {
-        let descriptors = descriptors_of(rt.alloc(), text)?;
-        let told = told_again(rt.alloc(), &mut templates, &descriptors)?;
+        let descriptors = descriptors_of(&rt, text);
+        let told = told_again(&rt, &mut templates, &descriptors);
         assert_eq!(rt; told.as_str(), *want, "{text}");
     }
-    Ok(())
 }
 
 #[test]
-fn keeps_the_last_list(rt: HostRuntime) -> Result<(), Fail> {
-    let (table_b, table_d) = tables(rt.alloc())?;
+fn keeps_the_last_list(rt: HostRuntime) {
+    let (table_b, table_d) = tables(&rt);
     let mut templates = Templates::new(rt.alloc(), &table_b, &table_d);
     let (one, other) = ([Fxy::from_word(0x0101)], [Fxy::from_word(0x0c65)]);
     assert!(rt; templates.keeps(&[]));
-    templates.turn_to(&one)?;
+    ok(&rt, templates.turn_to(&one));
     assert!(rt; templates.keeps(&one));
     assert!(rt; !templates.keeps(&other));
-    Ok(())
 }
 
 // A name for what is shown, the descriptors, and the cells: a letter for each kind, its descriptor
@@ -293,70 +295,68 @@ const CELLS: &[(&str, &str, &str)] = &[
 ];
 
 // The text of a cell.
-fn written(alloc: Global, cell: Cell) -> Result<String, AllocError> {
-    match cell {
-        Cell::Element(fxy) => format!(in alloc; "E{fxy}"),
-        Cell::Operator(fxy) => format!(in alloc; "O{fxy}"),
-        Cell::Fixed(count, after) => format!(in alloc; "X{count}:{after}"),
-        Cell::Delayed(after) => format!(in alloc; "D:{after}"),
-        Cell::Factor(fxy) => format!(in alloc; "R{fxy}"),
-        Cell::PassEnd => format!(in alloc; "P"),
-        Cell::Finish => format!(in alloc; "F"),
-    }
+fn written(rt: &(impl Abort + AllocGlobal), cell: Cell) -> String {
+    let text = match cell {
+        Cell::Element(fxy) => format!(in rt.alloc(); "E{fxy}"),
+        Cell::Operator(fxy) => format!(in rt.alloc(); "O{fxy}"),
+        Cell::Fixed(count, after) => format!(in rt.alloc(); "X{count}:{after}"),
+        Cell::Delayed(after) => format!(in rt.alloc(); "D:{after}"),
+        Cell::Factor(fxy) => format!(in rt.alloc(); "R{fxy}"),
+        Cell::PassEnd => format!(in rt.alloc(); "P"),
+        Cell::Finish => format!(in rt.alloc(); "F"),
+    };
+    ok(rt, text)
 }
 
 // The texts of cells, a space before each but the first.
-fn cells_told(alloc: Global, cells: &[Cell]) -> Result<String, AllocError> {
-    let mut told = String::new(alloc);
+fn cells_told(rt: &(impl Abort + AllocGlobal), cells: &[Cell]) -> String {
+    let mut told = String::new(rt.alloc());
     for cell in cells {
         if !told.is_empty() {
-            told.push(' ')?;
+            ok(rt, told.push(' '));
         }
-        told.push_str(&written(alloc, *cell)?)?;
+        ok(rt, told.push_str(&written(rt, *cell)));
     }
-    Ok(told)
+    told
 }
 
 // The cells of a template that is built.
 fn cells_built(
-    alloc: Global,
+    rt: &(impl Abort + AllocGlobal),
     text: &str,
     table_b: &TableB,
     table_d: &TableD,
-) -> Result<String, Fail> {
-    let descriptors = descriptors_of(alloc, text)?;
-    let template = built(alloc, &descriptors, table_b, table_d)?;
-    Ok(cells_told(alloc, template.cells())?)
+) -> String {
+    let descriptors = descriptors_of(rt, text);
+    let template = ok(rt, built(rt.alloc(), &descriptors, table_b, table_d));
+    cells_told(rt, template.cells())
 }
 
 #[test]
-fn cells_of_worked_lists(rt: HostRuntime) -> Result<(), Fail> {
-    let (table_b, table_d) = tables(rt.alloc())?;
+fn cells_of_worked_lists(rt: HostRuntime) {
+    let (table_b, table_d) = tables(&rt);
     for (name, text, want) in CELLS {
-        let told = cells_built(rt.alloc(), text, &table_b, &table_d)?;
+        let told = cells_built(&rt, text, &table_b, &table_d);
         assert_eq!(rt; told.as_str(), *want, "{name}");
     }
-    Ok(())
 }
 
 #[test]
-fn factor_that_table_b_lacks(rt: HostRuntime) -> Result<(), Fail> {
-    let table_b = read_b(rt.alloc(), NO_FACTORS)?;
-    let table_d = read_d(rt.alloc(), TABLE_D)?;
-    let descriptors = descriptors_of(rt.alloc(), "105000 031001 001001")?;
-    let told = told(rt.alloc(), &descriptors, &table_b, &table_d)?;
+fn factor_that_table_b_lacks(rt: HostRuntime) {
+    let table_b = ok(&rt, read_b(rt.alloc(), NO_FACTORS));
+    let table_d = ok(&rt, read_d(rt.alloc(), TABLE_D));
+    let descriptors = descriptors_of(&rt, "105000 031001 001001");
+    let told = told(&rt, &descriptors, &table_b, &table_d);
     assert_eq!(rt; told.as_str(), "20 unknown element 031001");
-    Ok(())
 }
 
 #[test]
-fn lacks_a_sequence(rt: HostRuntime) -> Result<(), Fail> {
-    let table_b = read_b(rt.alloc(), TABLE_B)?;
-    let table_d = read_d(rt.alloc(), TABLE_D)?;
+fn lacks_a_sequence(rt: HostRuntime) {
+    let table_b = ok(&rt, read_b(rt.alloc(), TABLE_B));
+    let table_d = ok(&rt, read_d(rt.alloc(), TABLE_D));
     let sequence = Fxy::from_word(0xC001);
-    let told = told(rt.alloc(), &[sequence], &table_b, &table_d)?;
+    let told = told(&rt, &[sequence], &table_b, &table_d);
     assert_eq!(rt; told.as_str(), "21 unknown sequence 300001");
-    Ok(())
 }
 
 #[test]

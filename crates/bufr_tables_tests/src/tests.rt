@@ -1,13 +1,14 @@
 //! The tables and their faults, run.
 
+use crate::ok;
 use crate::test_tables::{HEADER_B, HEADER_D, TABLE_B, TABLE_D, read_b, read_d};
 use bufr_tables::{Entry, Fxy, Kind, TableB, TableD, TableFault};
-use std::alloc::{AllocError, Global};
-use std::test::Fail;
+use std::alloc::Global;
+use std::process::Abort;
 
 /// The descriptors with these words and their texts.
 #[test]
-fn descriptors(rt: HostRuntime) -> Result<(), Fail> {
+fn descriptors(rt: HostRuntime) {
     for (word, text) in [
         (0x0101u16, b"001001"),
         (0x0c65, b"012101"),
@@ -20,7 +21,7 @@ fn descriptors(rt: HostRuntime) -> Result<(), Fail> {
         let fxy = Fxy::from_word(word);
         assert_eq!(rt; fxy.word(), word);
         assert_eq!(rt; fxy.text().as_slice(), text.as_slice());
-        let shown = format!(in rt.alloc(); "{fxy}")?;
+        let shown = ok(&rt, format!(in rt.alloc(); "{fxy}"));
         assert_eq!(rt; shown.as_bytes(), text.as_slice());
     }
     let fxy = Fxy::from_word(0xfcc0);
@@ -35,12 +36,11 @@ fn descriptors(rt: HostRuntime) -> Result<(), Fail> {
     ] {
         assert_eq!(rt; Fxy::from_word(word).is_factor(), is_factor, "at {word}");
     }
-    Ok(())
 }
 
 /// What six digits write, at the ends of F, X and Y and past them.
 #[test]
-fn descriptors_read(rt: HostRuntime) -> Result<(), Fail> {
+fn descriptors_read(rt: HostRuntime) {
     let rows: [(&[u8], Option<u16>); 9] = [
         (b"000000", Some(0)),
         (b"012101", Some(0x0c65)),
@@ -56,12 +56,11 @@ fn descriptors_read(rt: HostRuntime) -> Result<(), Fail> {
         let read = Fxy::read(text).map(|fxy| fxy.word());
         assert_eq!(rt; read, word);
     }
-    Ok(())
 }
 
 /// Each fault as text.
 #[test]
-fn fault_texts(rt: HostRuntime) -> Result<(), Fail> {
+fn fault_texts(rt: HostRuntime) {
     let local = Fxy::from_word(0x0101);
     for (fault, text) in [
         (
@@ -84,17 +83,16 @@ fn fault_texts(rt: HostRuntime) -> Result<(), Fail> {
         ),
         (TableFault::Memory, "out of memory"),
     ] {
-        let shown = format!(in rt.alloc(); "{fault}")?;
+        let shown = ok(&rt, format!(in rt.alloc(); "{fault}"));
         assert_eq!(rt; shown.as_str(), text);
     }
-    Ok(())
 }
 
 /// Text of rows under a header.
-fn under(alloc: Global, header: &[u8], rows: &[u8]) -> Result<Vec<u8>, AllocError> {
-    let mut text = Vec::from_slice(alloc, header)?;
-    text.extend_from_slice(rows)?;
-    Ok(text)
+fn under(rt: &(impl Abort + AllocGlobal), header: &[u8], rows: &[u8]) -> Vec<u8> {
+    let mut text = ok(rt, Vec::from_slice(rt.alloc(), header));
+    ok(rt, text.extend_from_slice(rows));
+    text
 }
 
 /// The entry of an element's word.
@@ -116,8 +114,8 @@ fn fault_d(alloc: Global, text: &[u8]) -> Option<TableFault> {
 }
 
 #[test]
-fn elements(rt: HostRuntime) -> Result<(), Fail> {
-    let table = read_b(rt.alloc(), TABLE_B)?;
+fn elements(rt: HostRuntime) {
+    let table = ok(&rt, read_b(rt.alloc(), TABLE_B));
     let temperature = Entry {
         name: b"AIR TEMPERATURE",
         unit: b"K",
@@ -136,7 +134,6 @@ fn elements(rt: HostRuntime) -> Result<(), Fail> {
         width: 15,
     };
     assert!(rt; entry_of(&table, 0x0502) == Some(latitude));
-    Ok(())
 }
 
 /// Elements of the table, with their kinds and widths.
@@ -150,23 +147,21 @@ const KINDS_AND_WIDTHS: &[(u16, Kind, u32)] = &[
 ];
 
 #[test]
-fn kinds_and_widths(rt: HostRuntime) -> Result<(), Fail> {
-    let table = read_b(rt.alloc(), TABLE_B)?;
+fn kinds_and_widths(rt: HostRuntime) {
+    let table = ok(&rt, read_b(rt.alloc(), TABLE_B));
     for (word, kind, width) in KINDS_AND_WIDTHS {
-        let entry = entry_of(&table, *word).ok_or("lacks an element")?;
+        let entry = ok(&rt, entry_of(&table, *word).ok_or("lacks an element"));
         assert_eq!(rt; (entry.kind, entry.width), (*kind, *width), "at {word}");
     }
-    Ok(())
 }
 
 /// An element that is not there, and descriptors that are no elements.
 #[test]
-fn words_that_are_no_elements(rt: HostRuntime) -> Result<(), Fail> {
-    let table = read_b(rt.alloc(), TABLE_B)?;
+fn words_that_are_no_elements(rt: HostRuntime) {
+    let table = ok(&rt, read_b(rt.alloc(), TABLE_B));
     for word in [0x3fffu16, 0x4c65, 0x8c65, 0xcc65] {
         assert!(rt; entry_of(&table, word).is_none(), "at {word}");
     }
-    Ok(())
 }
 
 /// The fault that rows are to have, none or one; a descriptor by its word.
@@ -257,13 +252,12 @@ const FAULTS_OF_TABLE_B: &[(&[u8], Want)] = &[
 ];
 
 #[test]
-fn faults_of_table_b(rt: HostRuntime) -> Result<(), Fail> {
+fn faults_of_table_b(rt: HostRuntime) {
     for (rows, want) in FAULTS_OF_TABLE_B {
-        let text = under(rt.alloc(), HEADER_B, rows)?;
+        let text = under(&rt, HEADER_B, rows);
         let told = fault_b(rt.alloc(), &text);
         assert!(rt; told == want.fault(), "{told:?} for {rows:?}");
     }
-    Ok(())
 }
 
 /// Texts whose first row is not that of Table B.
@@ -304,32 +298,30 @@ const KINDS: &[(&[u8], Kind)] = &[
 ];
 
 /// The kind of an element of this unit.
-fn kind_of(alloc: Global, unit: &[u8]) -> Result<Kind, Fail> {
-    let mut text = Vec::from_slice(alloc, HEADER_B)?;
-    text.extend_from_slice(b"001001,A,")?;
-    text.extend_from_slice(unit)?;
-    text.extend_from_slice(b",0,0,8\n")?;
-    let table = read_b(alloc, &text)?;
-    Ok(entry_of(&table, 0x0101).ok_or("lacks the element")?.kind)
+fn kind_of(rt: &(impl Abort + AllocGlobal), unit: &[u8]) -> Kind {
+    let mut text = ok(rt, Vec::from_slice(rt.alloc(), HEADER_B));
+    ok(rt, text.extend_from_slice(b"001001,A,"));
+    ok(rt, text.extend_from_slice(unit));
+    ok(rt, text.extend_from_slice(b",0,0,8\n"));
+    let table = ok(rt, read_b(rt.alloc(), &text));
+    ok(rt, entry_of(&table, 0x0101).ok_or("lacks the element")).kind
 }
 
 #[test]
-fn kinds(rt: HostRuntime) -> Result<(), Fail> {
+fn kinds(rt: HostRuntime) {
     for (unit, kind) in KINDS {
-        assert_eq!(rt; kind_of(rt.alloc(), unit)?, *kind, "for {unit:?}");
+        assert_eq!(rt; kind_of(&rt, unit), *kind, "for {unit:?}");
     }
-    Ok(())
 }
 
 #[test]
-fn sequences(rt: HostRuntime) -> Result<(), Fail> {
-    let table = read_d(rt.alloc(), TABLE_D)?;
-    let members = members_of(&table, 0xfcc0).ok_or("lacks the sequence")?;
+fn sequences(rt: HostRuntime) {
+    let table = ok(&rt, read_d(rt.alloc(), TABLE_D));
+    let members = ok(&rt, members_of(&table, 0xfcc0).ok_or("lacks the sequence"));
     assert!(rt; members == [Fxy::from_word(0x0101), Fxy::from_word(0x0c65)].as_slice());
     for word in [0xc001u16, 0x3cc0, 0x0101] {
         assert!(rt; members_of(&table, word).is_none(), "at {word}");
     }
-    Ok(())
 }
 
 /// Rows below the header of Table D, and the fault that they have.
@@ -361,13 +353,12 @@ const FAULTS_OF_TABLE_D: &[(&[u8], Want)] = &[
 ];
 
 #[test]
-fn faults_of_table_d(rt: HostRuntime) -> Result<(), Fail> {
+fn faults_of_table_d(rt: HostRuntime) {
     for (rows, want) in FAULTS_OF_TABLE_D {
-        let text = under(rt.alloc(), HEADER_D, rows)?;
+        let text = under(&rt, HEADER_D, rows);
         let told = fault_d(rt.alloc(), &text);
         assert!(rt; told == want.fault(), "{told:?} for {rows:?}");
     }
-    Ok(())
 }
 
 /// Texts whose first row is not that of Table D.
@@ -382,31 +373,36 @@ fn headers_of_table_d(rt: HostRuntime) {
 }
 
 /// A name or a unit of this many octets.
-fn long_name(alloc: Global, octets: usize, as_unit: bool) -> Result<Option<TableFault>, Fail> {
-    let mut text = Vec::from_slice(alloc, HEADER_B)?;
-    text.extend_from_slice(if as_unit {
-        b"001001,A,".as_slice()
-    } else {
-        b"001001,"
-    })?;
+fn long_name(rt: &(impl Abort + AllocGlobal), octets: usize, as_unit: bool) -> Option<TableFault> {
+    let mut text = ok(rt, Vec::from_slice(rt.alloc(), HEADER_B));
+    ok(
+        rt,
+        text.extend_from_slice(if as_unit {
+            b"001001,A,".as_slice()
+        } else {
+            b"001001,"
+        }),
+    );
     for _ in 0..octets {
-        text.push(b'x')?;
+        ok(rt, text.push(b'x'));
     }
-    text.extend_from_slice(if as_unit {
-        b",0,0,8\n".as_slice()
-    } else {
-        b",K,0,0,8\n"
-    })?;
-    Ok(fault_b(alloc, &text))
+    ok(
+        rt,
+        text.extend_from_slice(if as_unit {
+            b",0,0,8\n".as_slice()
+        } else {
+            b",K,0,0,8\n"
+        }),
+    );
+    fault_b(rt.alloc(), &text)
 }
 
 #[test]
-fn long_names(rt: HostRuntime) -> Result<(), Fail> {
+fn long_names(rt: HostRuntime) {
     for as_unit in [false, true] {
-        assert!(rt; long_name(rt.alloc(), 512, as_unit)?.is_none());
-        assert!(rt; long_name(rt.alloc(), 513, as_unit)? == Some(TableFault::Row(2)));
+        assert!(rt; long_name(&rt, 512, as_unit).is_none());
+        assert!(rt; long_name(&rt, 513, as_unit) == Some(TableFault::Row(2)));
     }
-    Ok(())
 }
 
 /// The digits of a word.
@@ -415,34 +411,32 @@ fn digits_of(word: u16) -> [u8; 6] {
 }
 
 /// A row of Table D.
-fn push_row(text: &mut Vec<u8>, sequence: u16, member: u16) -> Result<(), AllocError> {
-    text.extend_from_slice(&digits_of(sequence))?;
-    text.push(b',')?;
-    text.extend_from_slice(&digits_of(member))?;
-    text.push(b'\n')?;
-    Ok(())
+fn push_row(rt: &(impl Abort + AllocGlobal), text: &mut Vec<u8>, sequence: u16, member: u16) {
+    ok(rt, text.extend_from_slice(&digits_of(sequence)));
+    ok(rt, text.push(b','));
+    ok(rt, text.extend_from_slice(&digits_of(member)));
+    ok(rt, text.push(b'\n'));
 }
 
 #[test]
-fn as_many_rows_as_may_be(rt: HostRuntime) -> Result<(), Fail> {
-    let mut text = Vec::from_slice(rt.alloc(), HEADER_D)?;
+fn as_many_rows_as_may_be(rt: HostRuntime) {
+    let mut text = ok(&rt, Vec::from_slice(rt.alloc(), HEADER_D));
     for _ in 0..65536u32 {
-        push_row(&mut text, 0xc001, 0x0101)?;
+        push_row(&rt, &mut text, 0xc001, 0x0101);
     }
-    let table = read_d(rt.alloc(), &text)?;
-    let members = members_of(&table, 0xc001).ok_or("lacks the sequence")?;
+    let table = ok(&rt, read_d(rt.alloc(), &text));
+    let members = ok(&rt, members_of(&table, 0xc001).ok_or("lacks the sequence"));
     assert_eq!(rt; members.len(), 65536);
-    push_row(&mut text, 0xc001, 0x0101)?;
+    push_row(&rt, &mut text, 0xc001, 0x0101);
     assert!(rt; fault_d(rt.alloc(), &text) == Some(TableFault::TableSize));
-    push_row(&mut text, 0xc002, 0x0101)?;
+    push_row(&rt, &mut text, 0xc002, 0x0101);
     assert!(rt; fault_d(rt.alloc(), &text) == Some(TableFault::TableSize));
-    Ok(())
 }
 
 /// Every sequence that there is, each of four rows that name the one after it, or with `back` the
 /// one before it; the last ends the chain, or with `cycle` holds itself.
-fn long_chain(alloc: Global, back: bool, cycle: bool) -> Result<Vec<u8>, AllocError> {
-    let mut text = Vec::from_slice(alloc, HEADER_D)?;
+fn long_chain(rt: &(impl Abort + AllocGlobal), back: bool, cycle: bool) -> Vec<u8> {
+    let mut text = ok(rt, Vec::from_slice(rt.alloc(), HEADER_D));
     for key in 0..16384u16 {
         let sequence = if back { 0xffff - key } else { 0xc000 + key };
         let member = if sequence == 0xffff {
@@ -451,31 +445,33 @@ fn long_chain(alloc: Global, back: bool, cycle: bool) -> Result<Vec<u8>, AllocEr
             sequence + 1
         };
         for _ in 0..4u8 {
-            push_row(&mut text, sequence, member)?;
+            push_row(rt, &mut text, sequence, member);
         }
     }
-    Ok(text)
+    text
 }
 
 #[test]
-fn long_chains(rt: HostRuntime) -> Result<(), Fail> {
+fn long_chains(rt: HostRuntime) {
     for back in [false, true] {
-        let text = long_chain(rt.alloc(), back, false)?;
+        let text = long_chain(&rt, back, false);
         assert!(rt; fault_d(rt.alloc(), &text).is_none());
-        let text = long_chain(rt.alloc(), back, true)?;
+        let text = long_chain(&rt, back, true);
         assert!(rt; fault_d(rt.alloc(), &text) == Some(TableFault::Cycle(Fxy::from_word(0xffff))));
     }
-    Ok(())
 }
 
 /// A table of as many elements as the WMO's has, and more.
-fn usual_elements(alloc: Global) -> Result<Vec<u8>, AllocError> {
-    let mut text = Vec::from_slice(alloc, HEADER_B)?;
+fn usual_elements(rt: &(impl Abort + AllocGlobal)) -> Vec<u8> {
+    let mut text = ok(rt, Vec::from_slice(rt.alloc(), HEADER_B));
     for word in 0..2000u16 {
-        text.extend_from_slice(&digits_of(word * 3))?;
-        text.extend_from_slice(b",A NAME OF SOME THIRTY OCTETS,degree true,2,-9000,16\n")?;
+        ok(rt, text.extend_from_slice(&digits_of(word * 3)));
+        ok(
+            rt,
+            text.extend_from_slice(b",A NAME OF SOME THIRTY OCTETS,degree true,2,-9000,16\n"),
+        );
     }
-    Ok(text)
+    text
 }
 
 /// Whether the table has each third word up to 6,000, and nothing behind it.
@@ -489,23 +485,22 @@ fn has_each_third(table: &TableB) -> bool {
 }
 
 #[test]
-fn elements_of_a_table_of_usual_size(rt: HostRuntime) -> Result<(), Fail> {
-    let text = usual_elements(rt.alloc())?;
-    let table = read_b(rt.alloc(), &text)?;
+fn elements_of_a_table_of_usual_size(rt: HostRuntime) {
+    let text = usual_elements(&rt);
+    let table = ok(&rt, read_b(rt.alloc(), &text));
     assert!(rt; has_each_third(&table));
-    Ok(())
 }
 
 /// A table of as many rows as the WMO's has, and more: each sequence begins with the next one.
-fn usual_sequences(alloc: Global) -> Result<Vec<u8>, AllocError> {
-    let mut text = Vec::from_slice(alloc, HEADER_D)?;
+fn usual_sequences(rt: &(impl Abort + AllocGlobal)) -> Vec<u8> {
+    let mut text = ok(rt, Vec::from_slice(rt.alloc(), HEADER_D));
     for key in 0..1500u16 {
-        push_row(&mut text, 0xc000 + key, 0xc001 + key)?;
+        push_row(rt, &mut text, 0xc000 + key, 0xc001 + key);
         for place in 1..10u16 {
-            push_row(&mut text, 0xc000 + key, place)?;
+            push_row(rt, &mut text, 0xc000 + key, place);
         }
     }
-    Ok(text)
+    text
 }
 
 /// Whether each of the 1,500 sequences has ten members.
@@ -519,9 +514,8 @@ fn has_tens(table: &TableD) -> bool {
 }
 
 #[test]
-fn sequences_of_a_table_of_usual_size(rt: HostRuntime) -> Result<(), Fail> {
-    let text = usual_sequences(rt.alloc())?;
-    let table = read_d(rt.alloc(), &text)?;
+fn sequences_of_a_table_of_usual_size(rt: HostRuntime) {
+    let text = usual_sequences(&rt);
+    let table = ok(&rt, read_d(rt.alloc(), &text));
     assert!(rt; has_tens(&table));
-    Ok(())
 }

@@ -1,14 +1,15 @@
 //! The dump texts of worked messages.
 ghost use Rattle.std.specs.Prelude.{◌≤◌, length};
 
+use crate::ok;
 use bufr_bits::{Device, End, ScriptOut, Sink};
 use bufr_frame::{Head, Message, RunFault, write_message};
 use bufr_tables::{Fxy, TableB, TableD, Template};
 use bufr_text::write_dump;
 use bufr_walk::{Steps, read_message};
-use std::alloc::Global;
 use std::cell::Cell;
 use std::io::{self, Write};
+use std::process::Abort;
 use std::test::Fail;
 
 // Test data, not WMO's.
@@ -436,56 +437,67 @@ pub(crate) static ROWS: [Row; 21] = [
 ];
 
 // The word of a descriptor whose six digits are this number.
-fn word_of(number: u32) -> Result<u16, Fail> {
+fn word_of(rt: &(impl Abort + AllocGlobal), number: u32) -> u16 {
     let f = (number / 100_000).saturating_mul(16_384);
     let x = (number / 1000 % 100).saturating_mul(256);
     let word = f.saturating_add(x).saturating_add(number % 1000);
-    Ok(u16::try_from(word)?)
+    ok(rt, u16::try_from(word))
 }
 
 // The words of descriptors: six digits each, with spaces between them.
-fn words_of(alloc: Global, text: &str) -> Result<Vec<u16>, Fail> {
-    let mut words = Vec::new(alloc);
+fn words_of(rt: &(impl Abort + AllocGlobal), text: &str) -> Vec<u16> {
+    let mut words = Vec::new(rt.alloc());
     for digits in text.split_whitespace() {
-        words.push(word_of(digits.parse::<u32>()?)?)?;
+        ok(rt, words.push(word_of(rt, ok(rt, digits.parse::<u32>()))));
     }
-    Ok(words)
+    words
 }
 
 // The octets of a text of hexadecimal digits.
-pub(crate) fn octets_of(alloc: Global, text: &str) -> Result<Vec<u8>, Fail> {
-    let mut octets = Vec::new(alloc);
+pub(crate) fn octets_of(rt: &(impl Abort + AllocGlobal), text: &str) -> Vec<u8> {
+    let mut octets = Vec::new(rt.alloc());
     let mut high = None;
     for digit in text.chars() {
-        let value = u8::try_from(digit.to_digit(16).unwrap_or(0))?;
+        let value = ok(rt, u8::try_from(digit.to_digit(16).unwrap_or(0)));
         high = match high {
             None => Some(value << 4),
             Some(first) => {
-                octets.push(first | value)?;
+                ok(rt, octets.push(first | value));
                 None
             }
         };
     }
-    Ok(octets)
+    octets
 }
 
 // The message of a row.
-pub(crate) fn message_of(alloc: Global, row: &Row) -> Result<Vec<u8>, Fail> {
-    let words = words_of(alloc, row.descriptors)?;
-    let payload = octets_of(alloc, row.payload)?;
+pub(crate) fn message_of(rt: &(impl Abort + AllocGlobal), row: &Row) -> Vec<u8> {
+    let words = words_of(rt, row.descriptors);
+    let payload = octets_of(rt, row.payload);
     let (observed, compressed) = (row.flags >= 128, row.flags % 128 >= 64);
     let (local1, subsets) = (b"".as_slice(), row.subsets);
-    Ok(write_message(
-        alloc, &HEAD, local1, None, &words, subsets, observed, compressed, &payload,
-    )?)
+    ok(
+        rt,
+        write_message(
+            rt.alloc(),
+            &HEAD,
+            local1,
+            None,
+            &words,
+            subsets,
+            observed,
+            compressed,
+            &payload,
+        ),
+    )
 }
 
 // What comes of a dump.
 #[derive(Drop)]
-pub(crate) struct Outcome {
+struct Outcome {
     written: Result<(), RunFault>,
     steps: u64,
-    pub(crate) taken: Vec<u8>,
+    taken: Vec<u8>,
 }
 
 // The test tables.
@@ -495,57 +507,81 @@ pub(crate) struct Tables {
     pub(crate) d: TableD,
 }
 
-pub(crate) fn read_tables(alloc: Global) -> Result<Tables, Fail> {
-    Ok(Tables {
-        b: TableB::read(alloc, TABLE_B)?,
-        d: TableD::read(alloc, TABLE_D)?,
-    })
+pub(crate) fn read_tables(rt: &(impl Abort + AllocGlobal)) -> Tables {
+    Tables {
+        b: ok(rt, TableB::read(rt.alloc(), TABLE_B)),
+        d: ok(rt, TableD::read(rt.alloc(), TABLE_D)),
+    }
 }
 
 // The descriptors of a message.
-fn descriptors_in(alloc: Global, message: &Message<'_>) -> Result<Vec<Fxy>, Fail> {
-    let mut descriptors = Vec::new(alloc);
+fn descriptors_in(rt: &(impl Abort + AllocGlobal), message: &Message<'_>) -> Vec<Fxy> {
+    let mut descriptors = Vec::new(rt.alloc());
     for word in message.descriptors() {
-        descriptors.push(Fxy::from_word(word))?;
+        ok(rt, descriptors.push(Fxy::from_word(word)));
     }
-    Ok(descriptors)
+    descriptors
 }
 
 // The template of a message.
-fn template_of(alloc: Global, message: &Message<'_>, tables: &Tables) -> Result<Template, Fail> {
-    let descriptors = descriptors_in(alloc, message)?;
-    Ok(Template::build(alloc, &descriptors, &tables.b, &tables.d)?)
+fn template_of(
+    rt: &(impl Abort + AllocGlobal),
+    message: &Message<'_>,
+    tables: &Tables,
+) -> Template {
+    let descriptors = descriptors_in(rt, message);
+    ok(
+        rt,
+        Template::build(rt.alloc(), &descriptors, &tables.b, &tables.d),
+    )
+}
+
+// Dumps a message by its template.
+fn dump_by<W: Sink>(
+    rt: &(impl Abort + AllocGlobal),
+    message: &Message<'_>,
+    template: &Template,
+    table_b: &TableB,
+    steps: &mut Steps,
+    w: &mut W,
+) -> Result<(), RunFault> {
+    let reading = read_message(rt.alloc(), message, template, table_b, steps).expect(rt, "data");
+    write_dump(rt.alloc(), message, &reading, steps, w)
 }
 
 // Dumps a message.
 fn dump_to<W: Sink>(
-    alloc: Global,
+    rt: &(impl Abort + AllocGlobal),
     octets: &[u8],
     steps: &mut Steps,
     w: &mut W,
-) -> Result<Result<(), RunFault>, Fail> {
-    let message = message_in(octets).ok_or("a message")?;
-    let tables = read_tables(alloc)?;
-    let template = template_of(alloc, &message, &tables)?;
-    let reading = read_message(alloc, &message, &template, &tables.b, steps)?;
-    Ok(write_dump(alloc, &message, &reading, steps, w))
+) -> Result<(), RunFault> {
+    let message = ok(rt, message_in(octets).ok_or("a message"));
+    let tables = read_tables(rt);
+    let template = template_of(rt, &message, &tables);
+    dump_by(rt, &message, &template, &tables.b, steps, w)
 }
 
 // Dumps a message to a device that takes at most `room` octets in all, at most `step` of them at
 // once.
-pub(crate) fn dump(alloc: Global, octets: &[u8], room: usize, step: usize) -> Result<Outcome, Fail>
+fn dump(rt: &(impl Abort + AllocGlobal), octets: &[u8], room: usize, step: usize) -> Outcome
     requires { 1 ≤ step }
 {
     let mut steps = Steps::new();
-    let mut w = ScriptOut::new(alloc, room, step, End::Fail)?;
-    let written = dump_to(alloc, octets, &mut steps, &mut w)?;
-    let mut taken = Vec::new(alloc);
-    taken.extend_from_slice(w.taken())?;
-    Ok(Outcome {
+    let mut w = ok(rt, ScriptOut::new(rt.alloc(), room, step, End::Fail));
+    let written = dump_to(rt, octets, &mut steps, &mut w);
+    let mut taken = Vec::new(rt.alloc());
+    ok(rt, taken.extend_from_slice(w.taken()));
+    Outcome {
         written,
         steps: steps.count(),
         taken,
-    })
+    }
+}
+
+// The text of a message.
+pub(crate) fn dumped(rt: &(impl Abort + AllocGlobal), octets: &[u8]) -> Vec<u8> {
+    dump(rt, octets, 65536, 4096).taken
 }
 
 // The message that octets are.
@@ -557,26 +593,41 @@ fn message_in(octets: &[u8]) -> Option<Message<'_>> {
 }
 
 // The row of this name, and its text.
-fn row_of(alloc: Global, name: &str) -> Result<(Vec<u8>, String), Fail> {
-    let row = ROWS.iter().find(|row| row.name == name).ok_or("a row")?;
-    let mut text = String::from_str(alloc, FIRST_LINES)?;
-    text.push_str(row.text)?;
-    Ok((message_of(alloc, row)?, text))
+fn row_of(rt: &(impl Abort + AllocGlobal), name: &str) -> (Vec<u8>, String) {
+    let row = ok(rt, row_named(name).ok_or("a row"));
+    (message_of(rt, row), behind_the_first(rt, row.text))
+}
+
+// The row of this name.
+fn row_named(name: &str) -> Option<&'static Row> {
+    ROWS.iter().find(|row| row.name == name)
+}
+
+// A text whose first lines are those of all.
+pub(crate) fn behind_the_first(rt: &(impl Abort + AllocGlobal), rest: &str) -> String {
+    let mut text = ok(rt, String::from_str(rt.alloc(), FIRST_LINES));
+    ok(rt, text.push_str(rest));
+    text
 }
 
 #[test]
-fn dumps_worked_messages(rt: HostRuntime) -> Result<(), Fail> {
+fn dumps_worked_messages(rt: HostRuntime) {
     for row in &ROWS {
-        let octets = message_of(rt.alloc(), row)?;
-        let mut want = String::from_str(rt.alloc(), FIRST_LINES)?;
-        want.push_str(row.text)?;
-        for step in [1, 7, 4096] {
-            let dumped = dump(rt.alloc(), &octets, 65536, step)?;
-            assert_eq!(rt; dumped.written, Ok(()), "{}", row.name);
-            assert_eq!(rt; dumped.taken.as_slice(), want.as_bytes(), "{}", row.name);
-        }
+        let octets = message_of(&rt, row);
+        let want = behind_the_first(&rt, row.text);
+        assert_dumped(&rt, &octets, 1, want.as_str());
+        assert_dumped(&rt, &octets, 7, want.as_str());
+        assert_dumped(&rt, &octets, 4096, want.as_str());
     }
-    Ok(())
+}
+
+// Asserts the text of a message, on a writer that takes at most `step` octets at once.
+fn assert_dumped(rt: &(impl Abort + AllocGlobal), octets: &[u8], step: usize, want: &str)
+    requires { 1 ≤ step }
+{
+    let dumped = dump(rt, octets, 65536, step);
+    assert_eq!(rt; dumped.written, Ok(()));
+    assert_eq!(rt; dumped.taken.as_slice(), want.as_bytes());
 }
 
 /// A message with octets for local use in section 1 and a section 2, 56 octets.
@@ -588,17 +639,14 @@ const LOCAL_USE: [u8; 56] = [
 ];
 
 #[test]
-fn dumps_local_use_sections(rt: HostRuntime) -> Result<(), Fail> {
-    let mut want = String::from_str(rt.alloc(), FIRST_LINES)?;
-    want.push_str(
+fn dumps_local_use_sections(rt: HostRuntime) {
+    let want = behind_the_first(
+        &rt,
         "observed 1\ncompressed 0\noptional 1\nsubsets 1\n\
         local1 ABCD\nsection2 0102\ndescriptors 001001\n\
         subset 1\n001001 10  # WMO BLOCK NUMBER [Numeric]\nend\n",
-    )?;
-    let dumped = dump(rt.alloc(), &LOCAL_USE, 65536, 4096)?;
-    assert_eq!(rt; dumped.written, Ok(()));
-    assert_eq!(rt; dumped.taken.as_slice(), want.as_bytes());
-    Ok(())
+    );
+    assert_dumped(&rt, &LOCAL_USE, 4096, want.as_str());
 }
 
 /// A message of edition 3 with one block number, 46 octets.
@@ -623,78 +671,81 @@ pub(crate) const EDITION_3_TEXT: &str = "\
     descriptors 001001\nsubset 1\n001001 10  # WMO BLOCK NUMBER [Numeric]\nend\n";
 
 #[test]
-fn dumps_edition_3(rt: HostRuntime) -> Result<(), Fail> {
+fn dumps_edition_3(rt: HostRuntime) {
     for octets in [EDITION_3.as_slice(), ODD_EDITION_3.as_slice()] {
-        let dumped = dump(rt.alloc(), octets, 65536, 4096)?;
-        assert_eq!(rt; dumped.written, Ok(()));
-        assert_eq!(rt; dumped.taken.as_slice(), EDITION_3_TEXT.as_bytes());
+        assert_dumped(&rt, octets, 4096, EDITION_3_TEXT);
     }
-    Ok(())
 }
 
-/// A line has 32 octets for local use at most; an empty section 2 has no line.
-#[test]
-fn dumps_many_local_octets(rt: HostRuntime) -> Result<(), Fail> {
-    let mut local1 = [0x20; 33];
-    local1[0] = 0x00;
-    local1[31] = 0xF9;
-    local1[32] = 0x1A;
+/// A message without a subset, with these octets for local use and an empty section 2.
+fn with_local_octets(rt: &(impl Abort + AllocGlobal), local1: &[u8]) -> Vec<u8> {
     let empty = b"".as_slice();
-    let (words, none) = ([257].as_slice(), Some(empty));
+    let (words, section2) = ([257].as_slice(), Some(empty));
     let octets = write_message(
         rt.alloc(),
         &HEAD,
-        &local1,
-        none,
+        local1,
+        section2,
         words,
         0,
         false,
         false,
         empty,
-    )?;
-    let mut want = String::from_str(rt.alloc(), FIRST_LINES)?;
-    want.push_str(
+    );
+    ok(rt, octets)
+}
+
+/// A line has 32 octets for local use at most; an empty section 2 has no line.
+#[test]
+fn dumps_many_local_octets(rt: HostRuntime) {
+    let mut local1 = [0x20; 33];
+    local1[0] = 0x00;
+    local1[31] = 0xF9;
+    local1[32] = 0x1A;
+    let octets = with_local_octets(&rt, &local1);
+    let want = behind_the_first(
+        &rt,
         "observed 0\ncompressed 0\noptional 1\nsubsets 0\n\
         local1 00202020202020202020202020202020202020202020202020202020202020F9\n\
         local1 1A\ndescriptors 001001\nend\n",
-    )?;
-    let dumped = dump(rt.alloc(), &octets, 65536, 4096)?;
-    assert_eq!(rt; dumped.written, Ok(()));
-    assert_eq!(rt; dumped.taken.as_slice(), want.as_bytes());
-    Ok(())
+    );
+    assert_dumped(&rt, &octets, 4096, want.as_str());
 }
 
 /// Wherever the writer ends, the front of the text is on it.
 #[test]
-fn stops_where_the_writer_ends(rt: HostRuntime) -> Result<(), Fail> {
-    let (octets, text) = row_of(rt.alloc(), "one_block_number")?;
+fn stops_where_the_writer_ends(rt: HostRuntime) {
+    let (octets, text) = row_of(&rt, "one_block_number");
     for room in 0..text.len() {
-        let dumped = dump(rt.alloc(), &octets, room, 9)?;
+        let dumped = dump(&rt, &octets, room, 9);
         assert_eq!(rt; dumped.written, Err(RunFault::Write), "{room}");
         assert!(rt; text.as_bytes().starts_with(&dumped.taken), "{room}");
         assert_eq!(rt; dumped.taken.len(), room);
     }
-    Ok(())
+}
+
+/// The rows that are dumped, the room of the writer, and the steps.
+const STOPS: &[(&str, usize, u64)] = &[
+    ("delayed_twice", 65536, 7),
+    ("delayed_twice", 200, 0),
+    ("delayed_twice", 280, 2),
+    ("delayed_twice", 370, 5),
+    ("compressed_missing", 65536, 0),
+];
+
+/// The steps of the dump of a row to a writer with this room.
+fn steps_to(rt: &(impl Abort + AllocGlobal), name: &str, room: usize) -> u64 {
+    let (octets, _text) = row_of(rt, name);
+    dump(rt, &octets, room, 4096).steps
 }
 
 /// The turns up to the line where it stops: none before the subset, and a factor, an item and an
-/// end of a pass before the
-/// third item. Compressed data are shown without a turn.
+/// end of a pass before the third item. Compressed data are shown without a turn.
 #[test]
-fn counts_turns(rt: HostRuntime) -> Result<(), Fail> {
-    static STOPS: [(&str, usize, u64); 5] = [
-        ("delayed_twice", 65536, 7),
-        ("delayed_twice", 200, 0),
-        ("delayed_twice", 280, 2),
-        ("delayed_twice", 370, 5),
-        ("compressed_missing", 65536, 0),
-    ];
-    for (name, room, steps) in &STOPS {
-        let (octets, _text) = row_of(rt.alloc(), name)?;
-        let dumped = dump(rt.alloc(), &octets, *room, 4096)?;
-        assert_eq!(rt; dumped.steps, *steps, "{name} {room}");
+fn counts_turns(rt: HostRuntime) {
+    for (name, room, steps) in STOPS {
+        assert_eq!(rt; steps_to(&rt, name, *room), *steps, "{name} {room}");
     }
-    Ok(())
 }
 
 /// A writer that counts the writes it is given, and notes one that does not end a line.
@@ -718,16 +769,15 @@ impl<'a> Write for Watched<'a> {
 
 /// No line is torn: two writes for the header, and one for each line behind it.
 #[test]
-fn writes_whole_lines(rt: HostRuntime) -> Result<(), Fail> {
-    let (octets, _text) = row_of(rt.alloc(), "delayed_twice")?;
+fn writes_whole_lines(rt: HostRuntime) {
+    let (octets, _text) = row_of(&rt, "delayed_twice");
     let (writes, torn) = (Cell::new(0), Cell::new(false));
     let mut w = Device::new(Watched {
         writes: &writes,
         torn: &torn,
     });
-    let written = dump_to(rt.alloc(), &octets, &mut Steps::new(), &mut w)?;
+    let written = dump_to(&rt, &octets, &mut Steps::new(), &mut w);
     assert_eq!(rt; written, Ok(()));
     assert_eq!(rt; writes.get(), 8);
     assert!(rt; !torn.get());
-    Ok(())
 }

@@ -3,37 +3,21 @@
 use bufr_fill::Expected;
 use bufr_tables::{Fxy, TemplateFault};
 use bufr_text::{DocumentFault, WalkRefusal};
-use std::test::Fail;
+
+/// A fault's number and its line.
+fn told(fault: &DocumentFault) -> (u8, Option<u64>) {
+    (fault.number(), fault.line())
+}
 
 #[test]
-fn tells_numbers_and_lines(rt: HostRuntime) -> Result<(), Fail> {
+fn tells_numbers_and_lines(rt: HostRuntime) {
     let fxy = Fxy::from_word(0x0101);
-    assert_eq!(rt;
-        DocumentFault::WrongDescriptor(24, Expected::Item(fxy)).number(),
-        51
-    );
-    assert_eq!(rt;
-        DocumentFault::WrongDescriptor(24, Expected::Item(fxy)).line(),
-        Some(24)
-    );
-    assert_eq!(rt;
-        DocumentFault::Template(1, TemplateFault::EmptyGroup(fxy)).number(),
-        56
-    );
-    assert_eq!(rt;
-        DocumentFault::Template(1, TemplateFault::EmptyGroup(fxy)).line(),
-        Some(1)
-    );
-    assert_eq!(rt;
-        DocumentFault::Walk(24, WalkRefusal::TooManyValues(fxy)).number(),
-        62
-    );
-    assert_eq!(rt;
-        DocumentFault::Walk(24, WalkRefusal::TooManyValues(fxy)).line(),
-        Some(24)
-    );
-    assert_eq!(rt; DocumentFault::Memory.number(), 73);
-    assert_eq!(rt; DocumentFault::Memory.line(), None);
+    let expected = DocumentFault::WrongDescriptor(24, Expected::Item(fxy));
+    assert_eq!(rt; told(&expected), (51, Some(24)));
+    let empty = DocumentFault::Template(1, TemplateFault::EmptyGroup(fxy));
+    assert_eq!(rt; told(&empty), (56, Some(1)));
+    let values = DocumentFault::Walk(24, WalkRefusal::TooManyValues(fxy));
+    assert_eq!(rt; told(&values), (62, Some(24)));
+    assert_eq!(rt; told(&DocumentFault::Memory), (73, None));
     assert_eq!(rt; WalkRefusal::TooManyValues(fxy).number(), 35);
-    Ok(())
 }

@@ -1,9 +1,10 @@
 //! Documents and their messages.
 
 use crate::dump_tests::{
-    EDITION_3, EDITION_3_TEXT, FIRST_LINES, ODD_EDITION_3, ROWS as DUMPED, Tables, dump,
-    message_of, octets_of, read_tables,
+    EDITION_3, EDITION_3_TEXT, FIRST_LINES, ODD_EDITION_3, ROWS as DUMPED, Row as DumpedRow,
+    Tables, behind_the_first, dumped, message_of, octets_of, read_tables,
 };
+use crate::ok;
 use bufr_bits::ScriptIn;
 use bufr_tables::Templates;
 use bufr_text::{
@@ -11,12 +12,12 @@ use bufr_text::{
 };
 use bufr_walk::Steps;
 use std::alloc::Global;
-use std::test::Fail;
+use std::process::Abort;
 
 // What is wanted: the octets behind octet 22 of section 1 up to section 5, in hexadecimal, and the
 // steps; or the number of a fault, its line, and the steps.
 #[derive(Clone, Copy)]
-enum Wanted {
+pub(crate) enum Wanted {
     Octets(&'static str, u64),
     Refused(u8, u64, u64),
 }
@@ -229,17 +230,18 @@ fn behind_the_head(octets: &[u8]) -> &[u8] {
 }
 
 // The first document of a text.
-pub(crate) fn document_of(alloc: Global, text: &[u8]) -> Result<Document, Fail> {
-    let mut reader = DumpReader::new(alloc);
+pub(crate) fn document_of(rt: &(impl Abort + AllocGlobal), text: &[u8]) -> Document {
+    let mut reader = DumpReader::new(rt.alloc());
     let mut input = ScriptIn::new(text, 4096, None);
-    Ok(reader.next_document(&mut input)?.ok_or("a document")?)
+    ok(
+        rt,
+        ok(rt, reader.next_document(&mut input)).ok_or("a document"),
+    )
 }
 
 // The document of a row.
-fn document_in(alloc: Global, row: &Row) -> Result<Document, Fail> {
-    let mut text = String::from_str(alloc, FIRST_LINES)?;
-    text.push_str(row.text)?;
-    document_of(alloc, text.as_bytes())
+fn document_in(rt: &(impl Abort + AllocGlobal), row: &Row) -> Document {
+    document_of(rt, behind_the_first(rt, row.text).as_bytes())
 }
 
 // What a document is encoded to by the test tables.
@@ -254,56 +256,45 @@ fn encoded_by(
 
 // The same, and the steps; those of an earlier call do not count.
 pub(crate) fn encoded(
-    alloc: Global,
+    rt: &(impl Abort + AllocGlobal),
     document: &Document,
-) -> Result<(Result<Vec<u8>, DocumentFault>, u64), Fail> {
-    let tables = read_tables(alloc)?;
+) -> (Result<Vec<u8>, DocumentFault>, u64) {
+    let tables = read_tables(rt);
     let mut steps = Steps::new();
-    let _ = encoded_by(alloc, document, &tables, &mut steps);
-    let result = encoded_by(alloc, document, &tables, &mut steps);
-    Ok((result, steps.count()))
+    let _ = encoded_by(rt.alloc(), document, &tables, &mut steps);
+    let result = encoded_by(rt.alloc(), document, &tables, &mut steps);
+    (result, steps.count())
 }
 
 // Whether a message has these octets behind its head.
-pub(crate) fn has_behind_its_head(
-    alloc: Global,
-    octets: &[u8],
-    wanted: &str,
-) -> Result<bool, Fail> {
-    Ok(behind_the_head(octets) == octets_of(alloc, wanted)?.as_slice())
+fn has_behind_its_head(rt: &(impl Abort + AllocGlobal), octets: &[u8], wanted: &str) -> bool {
+    behind_the_head(octets) == octets_of(rt, wanted).as_slice()
+}
+
+// Whether this comes of a document, in so many steps.
+pub(crate) fn is_wanted(
+    rt: &(impl Abort + AllocGlobal),
+    answer: &Result<Vec<u8>, DocumentFault>,
+    steps: u64,
+    wanted: Wanted,
+) -> bool {
+    match (answer, wanted) {
+        (Ok(octets), Octets(text, turns)) => {
+            steps == turns && has_behind_its_head(rt, octets.as_slice(), text)
+        }
+        (Err(fault), Refused(number, line, turns)) => {
+            steps == turns && fault.number() == number && fault.line() == Some(line)
+        }
+        _ => false,
+    }
 }
 
 #[test]
-fn encodes_worked_documents(rt: HostRuntime) -> Result<(), Fail> {
+fn encodes_worked_documents(rt: HostRuntime) {
     for row in &ROWS {
-        let document = document_in(rt.alloc(), row)?;
-        let (result, steps) = encoded(rt.alloc(), &document)?;
-        match (result, row.wanted) {
-            (Ok(octets), Octets(wanted, turns)) => {
-                let same = has_behind_its_head(rt.alloc(), octets.as_slice(), wanted)?;
-                assert!(rt; same, "{}", row.name);
-                assert_eq!(rt; steps, turns, "{}", row.name);
-            }
-            (Err(fault), Refused(number, _, turns)) => {
-                assert_eq!(rt; fault.number(), number, "{}", row.name);
-                assert_eq!(rt; steps, turns, "{}", row.name);
-            }
-            _ => assert!(rt; false, "{}", row.name),
-        }
+        let (result, steps) = encoded(&rt, &document_in(&rt, row));
+        assert!(rt; is_wanted(&rt, &result, steps, row.wanted), "{}", row.name);
     }
-    Ok(())
-}
-
-#[test]
-fn refuses_documents_at_their_lines(rt: HostRuntime) -> Result<(), Fail> {
-    for row in &ROWS {
-        let document = document_in(rt.alloc(), row)?;
-        let (result, _) = encoded(rt.alloc(), &document)?;
-        if let (Err(fault), Refused(_, line, _)) = (result, row.wanted) {
-            assert_eq!(rt; fault.line(), Some(line), "{}", row.name);
-        }
-    }
-    Ok(())
 }
 
 // Whether two encodings have the same octets, or the same fault.
@@ -329,43 +320,58 @@ fn encoded_behind(
 /// Whether a document comes to the same by the templates that are kept as alone, and in as many
 /// steps.
 fn is_encoded_as_alone(
-    alloc: Global,
+    rt: &(impl Abort + AllocGlobal),
     document: &Document,
     templates: &mut Templates<'_>,
-) -> Result<bool, Fail> {
-    let (alone, turns) = encoded(alloc, document)?;
-    let (behind, steps) = encoded_behind(alloc, document, templates);
-    Ok(are_alike(&behind, &alone) && steps == turns)
+) -> bool {
+    let (alone, turns) = encoded(rt, document);
+    let (behind, steps) = encoded_behind(rt.alloc(), document, templates);
+    are_alike(&behind, &alone) && steps == turns
+}
+
+/// Asserts that, of a row's document and of the same behind it.
+fn assert_encoded_as_alone(
+    rt: &(impl Abort + AllocGlobal),
+    row: &Row,
+    templates: &mut Templates<'_>,
+) {
+    let document = document_in(rt, row);
+    assert!(rt;
+        is_encoded_as_alone(rt, &document, templates),
+        "{}",
+        row.name
+    );
+    assert!(rt;
+        is_encoded_as_alone(rt, &document, templates),
+        "{}",
+        row.name
+    );
 }
 
 /// Documents of many descriptors one after another, and each of them twice, by the same templates:
 /// that of the one before changes nothing.
 #[test]
-fn encodes_documents_behind_others(rt: HostRuntime) -> Result<(), Fail> {
-    let tables = read_tables(rt.alloc())?;
+fn encodes_documents_behind_others(rt: HostRuntime) {
+    let tables = read_tables(&rt);
     let mut templates = Templates::new(rt.alloc(), &tables.b, &tables.d);
     for row in &ROWS {
-        let document = document_in(rt.alloc(), row)?;
-        for time in 0..2 {
-            let alike = is_encoded_as_alone(rt.alloc(), &document, &mut templates)?;
-            assert!(rt; alike, "{} {time}", row.name);
-        }
+        assert_encoded_as_alone(&rt, row, &mut templates);
     }
-    Ok(())
 }
 
 /// A document is read whole before its items are looked at: a line that may not stand there is
 /// told, and not the item above it that is not whole at its scale.
 #[test]
-fn tells_a_line_before_an_item(rt: HostRuntime) -> Result<(), Fail> {
-    let mut text = String::from_str(rt.alloc(), FIRST_LINES)?;
-    text.push_str("observed 1\ncompressed 0\noptional 0\nsubsets 1\ndescriptors 012101\n")?;
-    text.push_str("subset 1\n012101 288.155\nx\nend\n")?;
+fn tells_a_line_before_an_item(rt: HostRuntime) {
+    let text = behind_the_first(
+        &rt,
+        "observed 1\ncompressed 0\noptional 0\nsubsets 1\ndescriptors 012101\n\
+        subset 1\n012101 288.155\nx\nend\n",
+    );
     let mut reader = DumpReader::new(rt.alloc());
     let mut input = ScriptIn::new(text.as_bytes(), 4096, None);
     let next = reader.next_document(&mut input);
     assert!(rt; matches!(next, Err(ReadFault::Line(25))));
-    Ok(())
 }
 
 /// 65,792 empty texts of 255 octets, and one of its own width behind them.
@@ -373,30 +379,29 @@ const MANY_TEXTS: &str = "observed 1\ncompressed 0\noptional 0\nsubsets 1\n\
     descriptors 102255 101255 205255 102003 101255 205255 205255 205255\ndescriptors ";
 
 /// A document of such texts, of whose data only the last item's width is not 16,776,960 octets.
-fn many_texts(alloc: Global, last: &str) -> Result<Document, Fail> {
-    let mut text = String::from_str(alloc, "# a note\n")?;
+fn many_texts(rt: &(impl Abort + AllocGlobal), last: &str) -> Document {
+    let mut text = ok(rt, String::from_str(rt.alloc(), "# a note\n"));
     for part in [FIRST_LINES, MANY_TEXTS, last, "\nsubset 1\n"] {
-        text.push_str(part)?;
+        ok(rt, text.push_str(part));
     }
     for _ in 0..65_792 {
-        text.push_str("205255 \"\"\n")?;
+        ok(rt, text.push_str("205255 \"\"\n"));
     }
-    text.push_str(last)?;
-    text.push_str(" \"end\"\nend\n")?;
-    document_of(alloc, text.as_bytes())
+    ok(rt, text.push_str(last));
+    ok(rt, text.push_str(" \"end\"\nend\n"));
+    document_of(rt, text.as_bytes())
 }
 
 /// The longest message has 16,777,215 octets; of one octet more nothing is written.
 #[test]
-fn encodes_the_longest_message(rt: HostRuntime) -> Result<(), Fail> {
-    let (octets, _) = encoded(rt.alloc(), &many_texts(rt.alloc(), "205192")?)?;
-    let octets = octets?;
+fn encodes_the_longest_message(rt: HostRuntime) {
+    let (octets, _) = encoded(&rt, &many_texts(&rt, "205192"));
+    let octets = ok(&rt, octets);
     assert_eq!(rt; octets.len(), 16_777_215);
     assert!(rt; octets.starts_with(b"BUFR\xFF\xFF\xFF\x04"));
     assert!(rt; octets.ends_with(b" 7777"));
-    let (refused, _) = encoded(rt.alloc(), &many_texts(rt.alloc(), "205193")?)?;
+    let (refused, _) = encoded(&rt, &many_texts(&rt, "205193"));
     assert!(rt; matches!(refused, Err(DocumentFault::TooLong(2))));
-    Ok(())
 }
 
 // What is proved of dumps that are encoded. A test that calls it does not have to carry the
@@ -414,41 +419,40 @@ fn laws() {
 /// The messages whose dump texts are worked out: each is encoded to a message that is no longer and
 /// has the same text, and to itself where it is canonical.
 #[test]
-fn encodes_what_was_dumped(rt: HostRuntime) -> Result<(), Fail> {
+fn encodes_what_was_dumped(rt: HostRuntime) {
     laws();
     for row in &DUMPED {
-        let message = message_of(rt.alloc(), row)?;
-        let text = dump(rt.alloc(), &message, 65536, 4096)?;
-        let (octets, _) = encoded(rt.alloc(), &document_of(rt.alloc(), &text.taken)?)?;
-        let octets = octets?;
-        let again = dump(rt.alloc(), &octets, 65536, 4096)?;
-        assert!(rt; again.taken == text.taken, "{}", row.name);
-        let packed_otherwise = row.name == "compressed_name" || row.name == "increment_to_all_ones";
-        assert_eq!(rt; octets == message, !packed_otherwise, "{}", row.name);
-        assert!(rt; octets.len() <= message.len(), "{}", row.name);
+        assert_encoded_again(&rt, row);
     }
-    Ok(())
+}
+
+/// Asserts that, of one message.
+fn assert_encoded_again(rt: &(impl Abort + AllocGlobal), row: &DumpedRow) {
+    let message = message_of(rt, row);
+    let text = dumped(rt, &message);
+    let octets = octets_for(rt, &text);
+    assert!(rt; dumped(rt, &octets) == text, "{}", row.name);
+    let packed_otherwise = row.name == "compressed_name" || row.name == "increment_to_all_ones";
+    assert!(rt; (octets == message) != packed_otherwise, "{}", row.name);
+    assert!(rt; octets.len() <= message.len(), "{}", row.name);
 }
 
 // The octets that a text's first document is encoded to.
-fn octets_for(alloc: Global, text: &[u8]) -> Result<Vec<u8>, Fail> {
-    let document = document_of(alloc, text)?;
-    Ok(encoded(alloc, &document)?.0?)
+pub(crate) fn octets_for(rt: &(impl Abort + AllocGlobal), text: &[u8]) -> Vec<u8> {
+    let document = document_of(rt, text);
+    ok(rt, encoded(rt, &document).0)
 }
 
 /// Sections 3 and 4 of edition 3 are made even, with zero octets.
 #[test]
-fn encodes_edition_3(rt: HostRuntime) -> Result<(), Fail> {
-    let octets = octets_for(rt.alloc(), EDITION_3_TEXT.as_bytes())?;
+fn encodes_edition_3(rt: HostRuntime) {
+    let octets = octets_for(&rt, EDITION_3_TEXT.as_bytes());
     assert_eq!(rt; octets.as_slice(), EDITION_3.as_slice());
-    Ok(())
 }
 
 /// Sections 3 and 4 that a message of edition 3 had odd are made even too.
 #[test]
-fn makes_odd_sections_even(rt: HostRuntime) -> Result<(), Fail> {
-    let text = dump(rt.alloc(), &ODD_EDITION_3, 65536, 4096)?;
-    let octets = octets_for(rt.alloc(), &text.taken)?;
+fn makes_odd_sections_even(rt: HostRuntime) {
+    let octets = octets_for(&rt, &dumped(&rt, &ODD_EDITION_3));
     assert_eq!(rt; octets.as_slice(), EDITION_3.as_slice());
-    Ok(())
 }

@@ -1,21 +1,13 @@
 //! Documents and their messages in another form than they say.
 
-use crate::dump_tests::{FIRST_LINES, Tables, dump, read_tables};
-use crate::encode_tests::{document_of, has_behind_its_head};
+use crate::dump_tests::{Tables, behind_the_first, dumped, read_tables};
+use crate::encode_tests::Wanted::{Octets, Refused};
+use crate::encode_tests::{Wanted, document_of, is_wanted};
+use crate::ok;
 use bufr_text::{Document, DocumentFault, Form, encode_form, encode_law};
 use bufr_walk::Steps;
 use std::alloc::Global;
-use std::test::Fail;
-
-// What is wanted: the octets behind octet 22 of section 1 up to section 5, in hexadecimal, and the
-// steps; or the number of a fault, its line, and the steps.
-#[derive(Clone, Copy)]
-enum Wanted {
-    Octets(&'static str, u64),
-    Refused(u8, u64, u64),
-}
-
-use Wanted::{Octets, Refused};
+use std::process::Abort;
 
 // A document from `observed` on, and a form.
 struct Row {
@@ -102,10 +94,8 @@ static ROWS: [Row; 8] = [
 ];
 
 // The document of a text behind the first lines.
-fn document_behind(alloc: Global, rest: &str) -> Result<Document, Fail> {
-    let mut text = String::from_str(alloc, FIRST_LINES)?;
-    text.push_str(rest)?;
-    document_of(alloc, text.as_bytes())
+fn document_behind(rt: &(impl Abort + AllocGlobal), rest: &str) -> Document {
+    document_of(rt, behind_the_first(rt, rest).as_bytes())
 }
 
 // What a document is encoded to in a form by the test tables.
@@ -121,59 +111,38 @@ fn encoded_by(
 
 // The same, and the steps; those of an earlier call do not count.
 fn formed(
-    alloc: Global,
+    rt: &(impl Abort + AllocGlobal),
     document: &Document,
     form: Form,
-) -> Result<(Result<Vec<u8>, DocumentFault>, u64), Fail> {
-    let tables = read_tables(alloc)?;
+) -> (Result<Vec<u8>, DocumentFault>, u64) {
+    let tables = read_tables(rt);
     let mut steps = Steps::new();
-    let _ = encoded_by(alloc, document, form, &tables, &mut steps);
-    let result = encoded_by(alloc, document, form, &tables, &mut steps);
-    Ok((result, steps.count()))
+    let _ = encoded_by(rt.alloc(), document, form, &tables, &mut steps);
+    let result = encoded_by(rt.alloc(), document, form, &tables, &mut steps);
+    (result, steps.count())
 }
 
 // The octets that a document is encoded to in a form.
-fn octets_in(alloc: Global, document: &Document, form: Form) -> Result<Vec<u8>, Fail> {
-    let (octets, _) = formed(alloc, document, form)?;
-    Ok(octets?)
+fn octets_in(rt: &(impl Abort + AllocGlobal), document: &Document, form: Form) -> Vec<u8> {
+    let (octets, _) = formed(rt, document, form);
+    ok(rt, octets)
 }
 
 #[test]
-fn encodes_in_a_form(rt: HostRuntime) -> Result<(), Fail> {
+fn encodes_in_a_form(rt: HostRuntime) {
     for row in &ROWS {
-        let document = document_behind(rt.alloc(), row.text)?;
-        let (result, steps) = formed(rt.alloc(), &document, row.form)?;
-        match (result, row.wanted) {
-            (Ok(octets), Octets(wanted, turns)) => {
-                let same = has_behind_its_head(rt.alloc(), octets.as_slice(), wanted)?;
-                assert!(rt; same, "{}", row.name);
-                assert_eq!(rt; steps, turns, "{}", row.name);
-            }
-            (Err(fault), Refused(number, _, turns)) => {
-                assert_eq!(rt; fault.number(), number, "{}", row.name);
-                assert_eq!(rt; steps, turns, "{}", row.name);
-            }
-            _ => assert!(rt; false, "{}", row.name),
-        }
+        let document = document_behind(&rt, row.text);
+        let (result, steps) = formed(&rt, &document, row.form);
+        assert!(rt; is_wanted(&rt, &result, steps, row.wanted), "{}", row.name);
     }
-    Ok(())
-}
-
-#[test]
-fn refuses_a_form_at_its_line(rt: HostRuntime) -> Result<(), Fail> {
-    for row in &ROWS {
-        let document = document_behind(rt.alloc(), row.text)?;
-        let (result, _) = formed(rt.alloc(), &document, row.form)?;
-        if let (Err(fault), Refused(_, line, _)) = (result, row.wanted) {
-            assert_eq!(rt; fault.line(), Some(line), "{}", row.name);
-        }
-    }
-    Ok(())
 }
 
 /// A text with another line in the place of one.
-fn with_other(alloc: Global, text: &[u8], line: &str, other: &str) -> Result<String, Fail> {
-    Ok(str::from_utf8(text)?.replacen(alloc, line, other, 1)?)
+fn with_other(rt: &(impl Abort + AllocGlobal), text: &[u8], line: &str, other: &str) -> String {
+    ok(
+        rt,
+        ok(rt, str::from_utf8(text)).replacen(rt.alloc(), line, other, 1),
+    )
 }
 
 // What is proved of forms. A test that calls it does not have to carry the contracts.
@@ -186,61 +155,61 @@ fn laws() {
 }
 
 /// A document's dump text, in a form.
-fn dump_in(alloc: Global, document: &Document, form: Form) -> Result<Vec<u8>, Fail> {
-    let octets = octets_in(alloc, document, form)?;
-    Ok(dump(alloc, &octets, 65536, 4096)?.taken)
+fn dump_in(rt: &(impl Abort + AllocGlobal), document: &Document, form: Form) -> Vec<u8> {
+    let octets = octets_in(rt, document, form);
+    dumped(rt, &octets)
 }
 
 /// A compressed message in plain form: its dump text differs in the flag alone.
 #[test]
-fn dumps_the_plain_form(rt: HostRuntime) -> Result<(), Fail> {
-    let document = document_behind(rt.alloc(), COMPRESSED_MISSING)?;
-    let packed = dump_in(rt.alloc(), &document, Form::AsWritten)?;
-    let dumped = dump_in(rt.alloc(), &document, Form::Plain)?;
-    let wanted = with_other(rt.alloc(), &packed, "compressed 1\n", "compressed 0\n")?;
+fn dumps_the_plain_form(rt: HostRuntime) {
+    let document = document_behind(&rt, COMPRESSED_MISSING);
+    let packed = dump_in(&rt, &document, Form::AsWritten);
+    let dumped = dump_in(&rt, &document, Form::Plain);
+    let wanted = with_other(&rt, &packed, "compressed 1\n", "compressed 0\n");
     assert_eq!(rt; dumped.as_slice(), wanted.as_bytes());
-    Ok(())
 }
 
 /// What comes of a document's plain form that is dumped and compressed again.
-fn back_again(alloc: Global, document: &Document) -> Result<Vec<u8>, Fail> {
-    let dumped = dump_in(alloc, document, Form::Plain)?;
-    let again = document_of(alloc, &dumped)?;
-    octets_in(alloc, &again, Form::Compressed)
+fn back_again(rt: &(impl Abort + AllocGlobal), document: &Document) -> Vec<u8> {
+    let dumped = dump_in(rt, document, Form::Plain);
+    let again = document_of(rt, &dumped);
+    octets_in(rt, &again, Form::Compressed)
 }
 
 /// A compressed message, in plain form and back again: the same octets.
 #[test]
-fn comes_back_from_the_plain_form(rt: HostRuntime) -> Result<(), Fail> {
+fn comes_back_from_the_plain_form(rt: HostRuntime) {
     laws();
-    let document = document_behind(rt.alloc(), COMPRESSED_MISSING)?;
-    let first = octets_in(rt.alloc(), &document, Form::AsWritten)?;
+    let document = document_behind(&rt, COMPRESSED_MISSING);
+    let first = octets_in(&rt, &document, Form::AsWritten);
     assert_eq!(rt; first.len(), 50);
-    assert_eq!(rt; octets_in(rt.alloc(), &document, Form::Plain)?.len(), 51);
-    assert!(rt; back_again(rt.alloc(), &document)? == first);
-    Ok(())
+    assert_eq!(rt; octets_in(&rt, &document, Form::Plain).len(), 51);
+    assert!(rt; back_again(&rt, &document) == first);
 }
 
 // Two texts of spaces in each of 65,535 subsets.
-fn many_texts(alloc: Global) -> Result<String, Fail> {
-    let mut text = String::from_str(alloc, MANY_SUBSETS)?;
+fn many_texts(rt: &(impl Abort + AllocGlobal)) -> String {
+    let mut text = ok(rt, String::from_str(rt.alloc(), MANY_SUBSETS));
     for subset in 1..=65_535 {
-        let lines = format!(in alloc; "subset {subset}\n205255 \"\"\n205002 \"\"\n")?;
-        text.push_str(&lines)?;
+        let lines = ok(
+            rt,
+            format!(in rt.alloc(); "subset {subset}\n205255 \"\"\n205002 \"\"\n"),
+        );
+        ok(rt, text.push_str(&lines));
     }
-    text.push_str("end\n")?;
-    Ok(text)
+    ok(rt, text.push_str("end\n"));
+    text
 }
 
 /// Two texts of spaces in each of 65,535 subsets: compressed they are few octets, and plain too
 /// many.
 #[test]
-fn refuses_a_long_plain_form(rt: HostRuntime) -> Result<(), Fail> {
-    let text = many_texts(rt.alloc())?;
-    let document = document_behind(rt.alloc(), text.as_str())?;
-    let packed = octets_in(rt.alloc(), &document, Form::AsWritten)?;
+fn refuses_a_long_plain_form(rt: HostRuntime) {
+    let text = many_texts(&rt);
+    let document = document_behind(&rt, text.as_str());
+    let packed = octets_in(&rt, &document, Form::AsWritten);
     assert_eq!(rt; packed.len(), 308);
-    let refused = formed(rt.alloc(), &document, Form::Plain)?.0;
+    let refused = formed(&rt, &document, Form::Plain).0;
     assert!(rt; matches!(refused, Err(DocumentFault::TooLong(1))));
-    Ok(())
 }

@@ -1,13 +1,13 @@
 //! Dump texts, read by readers of 1, 3 and 4,096 octets per read.
 
 use crate::dump_tests::FIRST_LINES;
+use crate::ok;
 use bufr_bits::{Device, ScriptIn, Source};
 use bufr_fill::Form;
 use bufr_frame::RunFault;
 use bufr_text::{Document, DumpReader, Entry, ReadFault, law};
-use std::alloc::{AllocError, Global};
+use std::alloc::Global;
 use std::process::Abort;
-use std::test::Fail;
 
 /// The lines of a message with one block number.
 const ONE_BLOCK_NUMBER: [&[u8]; 25] = [
@@ -53,19 +53,19 @@ use ReadFault::{HeaderRange, Line, SubsetCount};
 use Told::{Done, Refused, Spelled};
 
 /// The lines of the document, with this text in place of a line (from 1).
-fn with_line(alloc: Global, number: usize, text: &[u8]) -> Result<Vec<u8>, AllocError> {
-    let mut octets = Vec::new(alloc);
+fn with_line(rt: &(impl Abort + AllocGlobal), number: usize, text: &[u8]) -> Vec<u8> {
+    let mut octets = Vec::new(rt.alloc());
     let mut at = 0usize;
     for line in ONE_BLOCK_NUMBER {
         at = at.saturating_add(1);
         if at == number {
-            octets.extend_from_slice(text)?;
+            ok(rt, octets.extend_from_slice(text));
         } else {
-            octets.extend_from_slice(line)?;
-            octets.push(b'\n')?;
+            ok(rt, octets.extend_from_slice(line));
+            ok(rt, octets.push(b'\n'));
         }
     }
-    Ok(octets)
+    octets
 }
 
 /// A part of a text.
@@ -83,17 +83,23 @@ enum Piece {
 use Piece::{Notes, OneTooFew, Text, Whole};
 
 /// The parts, one after another.
-fn joined(alloc: Global, parts: &[Piece]) -> Result<Vec<u8>, AllocError> {
-    let mut octets = Vec::new(alloc);
+fn joined(rt: &(impl Abort + AllocGlobal), parts: &[Piece]) -> Vec<u8> {
+    let mut octets = Vec::new(rt.alloc());
     for part in parts {
         match *part {
-            Piece::Whole => octets.extend_from_slice(&with_line(alloc, 0, b"")?)?,
-            Piece::OneTooFew => octets.extend_from_slice(&with_line(alloc, 21, b"subsets 2\n")?)?,
-            Piece::Text(text) => octets.extend_from_slice(text)?,
-            Piece::Notes(times) => octets.extend_from_slice(&vec![in alloc; b'#'; times]?)?,
+            Piece::Whole => ok(rt, octets.extend_from_slice(&with_line(rt, 0, b""))),
+            Piece::OneTooFew => ok(
+                rt,
+                octets.extend_from_slice(&with_line(rt, 21, b"subsets 2\n")),
+            ),
+            Piece::Text(text) => ok(rt, octets.extend_from_slice(text)),
+            Piece::Notes(times) => ok(
+                rt,
+                octets.extend_from_slice(&ok(rt, vec![in rt.alloc(); b'#'; times])),
+            ),
         }
     }
-    Ok(octets)
+    octets
 }
 
 /// What a document is told as.
@@ -129,23 +135,36 @@ fn assert_told(
         let mut r = ScriptIn::new(text, step, fails_at);
         let mut reader = DumpReader::new(rt.alloc());
         assert!(rt; reader.held() == 0);
-        let mut last = Done;
         for one in wanted {
-            last = next_told(&mut reader, &mut r);
-            assert!(rt; last == *one, "{last:?}, not {one:?} by {step}");
-            assert!(rt; reader.held() <= 8192, "{}", reader.held());
+            assert_next(rt, &mut reader, &mut r, *one);
         }
+        // the last one is told again
         for _ in 0..2 {
-            let again = next_told(&mut reader, &mut r);
-            assert!(rt; again == last, "{again:?} after {last:?} by {step}");
+            assert_next(
+                rt,
+                &mut reader,
+                &mut r,
+                wanted.last().copied().unwrap_or(Done),
+            );
         }
     }
+}
+
+/// Asserts what is told next, and that few octets are held.
+fn assert_next<R: Source>(
+    rt: &(impl Abort + AllocGlobal),
+    reader: &mut DumpReader,
+    r: &mut R,
+    wanted: Told,
+) {
+    assert_eq!(rt; next_told(reader, r), wanted);
+    assert!(rt; reader.held() <= 8192, "{}", reader.held());
 }
 
 /// Rules of lines: a text in place of a line, and what the document then is. Beside each rule
 /// stands its nearest wrong neighbour.
 #[test]
-fn rules(rt: HostRuntime) -> Result<(), Fail> {
+fn rules(rt: HostRuntime) {
     let table: [(usize, &[u8], Told); 72] = [
         (24, b"001001 10\n", Spelled(2, 25)),
         (24, b"001001\t10\n", Refused(Line(24))),
@@ -233,84 +252,78 @@ fn rules(rt: HostRuntime) -> Result<(), Fail> {
         (25, b"end", Spelled(2, 25)),
     ];
     for (number, text, wanted) in table {
-        assert_line(&rt, number, text, wanted)?;
+        assert_line(&rt, number, text, wanted);
     }
-    Ok(())
 }
 
 /// Asserts what a document is with a text of these parts in place of a line.
-fn assert_line(
-    rt: &(impl Abort + AllocGlobal),
-    number: usize,
-    text: &[u8],
-    wanted: Told,
-) -> Result<(), AllocError> {
-    let octets = with_line(rt.alloc(), number, text)?;
+fn assert_line(rt: &(impl Abort + AllocGlobal), number: usize, text: &[u8], wanted: Told) {
+    let octets = with_line(rt, number, text);
     let end = match wanted {
         Spelled(..) => Done,
         _ => wanted,
     };
     assert_told(rt, &octets, None, &[wanted, end]);
-    Ok(())
 }
 
 /// A line that ends with so many digits.
-fn with_digits(alloc: Global, word: &[u8], times: usize) -> Result<Vec<u8>, AllocError> {
-    let mut line = Vec::new(alloc);
-    line.extend_from_slice(word)?;
-    line.extend_from_slice(&vec![in alloc; b'9'; times]?)?;
-    line.push(b'\n')?;
-    Ok(line)
+fn with_digits(rt: &(impl Abort + AllocGlobal), word: &[u8], times: usize) -> Vec<u8> {
+    let mut line = Vec::new(rt.alloc());
+    ok(rt, line.extend_from_slice(word));
+    ok(
+        rt,
+        line.extend_from_slice(&ok(rt, vec![in rt.alloc(); b'9'; times])),
+    );
+    ok(rt, line.push(b'\n'));
+    line
 }
 
 /// The first lines of a document, and what stands behind them.
-fn behind_the_first(alloc: Global, rest: &[&[u8]]) -> Result<Vec<u8>, AllocError> {
-    let mut text = Vec::from_slice(alloc, FIRST_LINES.as_bytes())?;
+fn behind_the_first(rt: &(impl Abort + AllocGlobal), rest: &[&[u8]]) -> Vec<u8> {
+    let mut text = ok(rt, Vec::from_slice(rt.alloc(), FIRST_LINES.as_bytes()));
     for part in rest {
-        text.extend_from_slice(part)?;
+        ok(rt, text.extend_from_slice(part));
     }
-    Ok(text)
+    text
 }
 
 /// A document without a subset, with these lines of octets.
-fn with_octets(alloc: Global, octets: &[u8]) -> Result<Vec<u8>, AllocError> {
+fn with_octets(rt: &(impl Abort + AllocGlobal), octets: &[u8]) -> Vec<u8> {
     let head = b"observed 1\ncompressed 0\noptional 1\nsubsets 0\n";
-    behind_the_first(alloc, &[head, octets, b"descriptors 001001\nend\n"])
+    behind_the_first(rt, &[head, octets, b"descriptors 001001\nend\n"])
 }
 
 /// Lines of octets have at most 64 digits, and an even number of them.
 #[test]
-fn long_octet_lines(rt: HostRuntime) -> Result<(), Fail> {
+fn long_octet_lines(rt: HostRuntime) {
     let alloc = rt.alloc();
     for word in [b"local1 ".as_slice(), b"section2 ".as_slice()] {
-        let most = with_octets(alloc, &with_digits(alloc, word, 64)?)?;
+        let most = with_octets(&rt, &with_digits(&rt, word, 64));
         assert_told(&rt, &most, None, &[Spelled(0, 0), Done]);
         for times in [63, 66] {
-            let more = with_octets(alloc, &with_digits(alloc, word, times)?)?;
+            let more = with_octets(&rt, &with_digits(&rt, word, times));
             assert_told(&rt, &more, None, &[Refused(Line(22))]);
         }
     }
-    Ok(())
 }
 
 /// Lines of 4,096 octets are read, one more octet is too much, before its line feed is seen.
 #[test]
-fn long_lines(rt: HostRuntime) -> Result<(), Fail> {
+fn long_lines(rt: HostRuntime) {
     let alloc = rt.alloc();
-    let most = joined(alloc, &[Notes(4096), Text(b"\n001001 10\n")])?;
-    assert_line(&rt, 24, &most, Spelled(2, 26))?;
-    let more = joined(alloc, &[Notes(4097), Text(b"\n001001 10\n")])?;
-    assert_line(&rt, 24, &more, Refused(Line(24)))?;
-    let centre = with_digits(alloc, b"centre ", 4089)?;
-    assert_line(&rt, 4, &centre, Refused(HeaderRange(4)))?;
-    let most = with_digits(alloc, b"001001 ", 4089)?;
-    assert_line(&rt, 24, &most, Spelled(2, 25))?;
-    let more = with_digits(alloc, b"001001 ", 4090)?;
-    assert_line(&rt, 24, &more, Refused(Line(24)))?;
+    let most = joined(&rt, &[Notes(4096), Text(b"\n001001 10\n")]);
+    assert_line(&rt, 24, &most, Spelled(2, 26));
+    let more = joined(&rt, &[Notes(4097), Text(b"\n001001 10\n")]);
+    assert_line(&rt, 24, &more, Refused(Line(24)));
+    let centre = with_digits(&rt, b"centre ", 4089);
+    assert_line(&rt, 4, &centre, Refused(HeaderRange(4)));
+    let most = with_digits(&rt, b"001001 ", 4089);
+    assert_line(&rt, 24, &most, Spelled(2, 25));
+    let more = with_digits(&rt, b"001001 ", 4090);
+    assert_line(&rt, 24, &more, Refused(Line(24)));
     // no read is made behind the first octet that is too many
-    let cut = joined(alloc, &[Notes(4097)])?;
+    let cut = joined(&rt, &[Notes(4097)]);
     assert_told(&rt, &cut, Some(4097), &[Refused(Line(1))]);
-    Ok(())
 }
 
 /// How many octets the document has.
@@ -318,7 +331,7 @@ const WHOLE: usize = 300;
 
 /// Documents in a row: lines are counted on. What comes between them is passed over or refused.
 #[test]
-fn several_documents(rt: HostRuntime) -> Result<(), Fail> {
+fn several_documents(rt: HostRuntime) {
     let table: [(&[Piece], Option<usize>, &[Told]); 8] = [
         (&[], None, &[Done]),
         (&[Text(b"\n# note\n")], None, &[Done]),
@@ -350,10 +363,9 @@ fn several_documents(rt: HostRuntime) -> Result<(), Fail> {
         ),
     ];
     for (parts, fails_at, wanted) in table {
-        let text = joined(rt.alloc(), parts)?;
+        let text = joined(&rt, parts);
         assert_told(&rt, &text, fails_at, wanted);
     }
-    Ok(())
 }
 
 /// The first document of a text.
@@ -365,9 +377,9 @@ fn first_document(alloc: Global, text: &[u8]) -> Option<Document> {
 
 /// What the document of one block number says.
 #[test]
-fn one_block_number(rt: HostRuntime) -> Result<(), Fail> {
-    let text = joined(rt.alloc(), &[Whole])?;
-    let document = first_document(rt.alloc(), &text).ok_or("a document")?;
+fn one_block_number(rt: HostRuntime) {
+    let text = joined(&rt, &[Whole]);
+    let document = ok(&rt, first_document(rt.alloc(), &text).ok_or("a document"));
     let head = document.head();
     assert!(rt; document.line() == 1);
     assert!(rt; head.edition == 4 && head.centre == 98 && head.master_version == 14);
@@ -376,7 +388,6 @@ fn one_block_number(rt: HostRuntime) -> Result<(), Fail> {
     assert!(rt; document.observed() && !document.compressed());
     assert!(rt; document.subsets() == 1 && document.descriptors() == [0x0101u16].as_slice());
     assert!(rt; document.local1().is_empty() && document.section2().is_none());
-    Ok(())
 }
 
 /// Asserts what an item of a document is.
@@ -391,37 +402,35 @@ fn assert_item(rt: &impl Abort, document: &Document, place: usize, wanted: (u64,
 
 /// The forms of items.
 #[test]
-fn forms_of_items(rt: HostRuntime) -> Result<(), Fail> {
+fn forms_of_items(rt: HostRuntime) {
     let text = with_line(
-        rt.alloc(),
+        &rt,
         24,
         b"001001 10  # note\n205001 \"\\x0A\"\n012101 MISSING\nR 012101 -400\n",
-    )?;
-    let document = first_document(rt.alloc(), &text).ok_or("a document")?;
+    );
+    let document = ok(&rt, first_document(rt.alloc(), &text).ok_or("a document"));
     assert!(rt; document.entries() == 5);
     assert_item(&rt, &document, 0, (24, 0x0101, Form::Number(b"10")));
     assert_item(&rt, &document, 1, (25, 0x8501, Form::Text(b"\n")));
     assert_item(&rt, &document, 2, (26, 0x0c65, Form::Missing));
     assert_item(&rt, &document, 3, (27, 0x0c65, Form::Reference(b"-400")));
     assert!(rt; document.entry(4) == Entry::End(28));
-    Ok(())
 }
 
 /// Octets of local use and of section 2.
 #[test]
-fn local_use(rt: HostRuntime) -> Result<(), Fail> {
+fn local_use(rt: HostRuntime) {
     let alloc = rt.alloc();
-    let text = with_octets(alloc, b"local1 01\nlocal1 0203\nsection2 ab\n")?;
-    let document = first_document(alloc, &text).ok_or("a document")?;
+    let text = with_octets(&rt, b"local1 01\nlocal1 0203\nsection2 ab\n");
+    let document = ok(&rt, first_document(alloc, &text).ok_or("a document"));
     assert_eq!(rt; document.local1(), b"\x01\x02\x03".as_slice());
     assert!(rt; document.section2() == Some(b"\xAB".as_slice()));
     assert_eq!(rt; (document.subsets(), document.entries()), (0, 0));
-    Ok(())
 }
 
 /// Each fault as text, with its number.
 #[test]
-fn fault_texts(rt: HostRuntime) -> Result<(), Fail> {
+fn fault_texts(rt: HostRuntime) {
     for (fault, number, text) in [
         (Line(3), 50u8, "line 3 is not one that can stand there"),
         (
@@ -433,20 +442,19 @@ fn fault_texts(rt: HostRuntime) -> Result<(), Fail> {
         (ReadFault::Run(RunFault::Memory), 73, "the reading ended"),
     ] {
         assert_eq!(rt; fault.number(), number);
-        let shown = format!(in rt.alloc(); "{fault}")?;
+        let shown = ok(&rt, format!(in rt.alloc(); "{fault}"));
         assert_eq!(rt; shown.as_str(), text);
     }
-    Ok(())
 }
 
 /// The document, a thousand times.
-fn thousand_documents(alloc: Global) -> Result<Vec<u8>, AllocError> {
-    let one = joined(alloc, &[Whole])?;
-    let mut text = Vec::new(alloc);
+fn thousand_documents(rt: &(impl Abort + AllocGlobal)) -> Vec<u8> {
+    let one = joined(rt, &[Whole]);
+    let mut text = Vec::new(rt.alloc());
     for _ in 0..1000 {
-        text.extend_from_slice(&one)?;
+        ok(rt, text.extend_from_slice(&one));
     }
-    Ok(text)
+    text
 }
 
 // What is proved of readers. A test that calls it does not have to carry the contracts.
@@ -467,9 +475,9 @@ fn laws() {
 /// However a text is read, its documents are told one after another, the end comes again, and at
 /// most 8,192 octets are held.
 #[test]
-fn tells_a_thousand_documents(rt: HostRuntime) -> Result<(), Fail> {
+fn tells_a_thousand_documents(rt: HostRuntime) {
     laws();
-    let text = thousand_documents(rt.alloc())?;
+    let text = thousand_documents(&rt);
     for step in STEPS {
         assert!(rt; step > 0);
         let mut r = ScriptIn::new(&text, step, None);
@@ -477,59 +485,60 @@ fn tells_a_thousand_documents(rt: HostRuntime) -> Result<(), Fail> {
         let mut line = 0u64;
         for _ in 0..1000 {
             line = line.saturating_add(25);
-            let told = next_told(&mut reader, &mut r);
-            assert!(rt; told == Spelled(2, line), "{told:?} by {step}");
-            assert!(rt; reader.held() <= 8192, "{}", reader.held());
+            assert_next(&rt, &mut reader, &mut r, Spelled(2, line));
         }
         for _ in 0..2 {
-            let told = next_told(&mut reader, &mut r);
-            assert!(rt; told == Done, "{told:?} by {step}");
+            assert_next(&rt, &mut reader, &mut r, Done);
         }
     }
-    Ok(())
 }
 
 /// Documents are told alike where each takes the memory of the one before, longer or shorter.
 #[test]
-fn reuses_memory(rt: HostRuntime) -> Result<(), Fail> {
-    let text = joined(rt.alloc(), &[Whole, Text(b"# note\n"), Whole, OneTooFew])?;
+fn reuses_memory(rt: HostRuntime) {
+    let text = joined(&rt, &[Whole, Text(b"# note\n"), Whole, OneTooFew]);
     let mut r = ScriptIn::new(&text, 3, None);
     let mut reader = DumpReader::new(rt.alloc());
-    reader.reuse(first_document(rt.alloc(), &text).ok_or("a document")?);
+    reader.reuse(ok(&rt, first_document(rt.alloc(), &text).ok_or("a document")));
     for line in [25, 51] {
-        let document = reader.next_document(&mut r)?.ok_or("a document")?;
+        let document = ok(
+            &rt,
+            ok(&rt, reader.next_document(&mut r)).ok_or("a document"),
+        );
         assert!(rt; as_told(&document) == Spelled(2, line));
         reader.reuse(document);
     }
     let last = next_told(&mut reader, &mut r);
     assert!(rt; last == Refused(SubsetCount(76)), "{last:?}");
-    Ok(())
+}
+
+/// What a reader of octets in memory tells next.
+fn told_of(reader: &mut DumpReader, unread: &mut &[u8]) -> Told {
+    next_told(reader, &mut Device::new(unread))
 }
 
 /// What was read behind the last line of a document is held, and nothing else.
 #[test]
-fn holds_what_is_behind_a_document(rt: HostRuntime) -> Result<(), Fail> {
+fn holds_what_is_behind_a_document(rt: HostRuntime) {
     law::octets_behind_the_lines_are_held();
-    let text = thousand_documents(rt.alloc())?;
+    let text = thousand_documents(&rt);
     let mut unread = text.as_slice();
     let mut reader = DumpReader::new(rt.alloc());
     let mut told = 0usize;
     for _ in 0..1000 {
-        let mut r = Device::new(&mut unread);
-        let next = next_told(&mut reader, &mut r);
+        let next = told_of(&mut reader, &mut unread);
         assert!(rt; matches!(next, Spelled(2, _)), "{next:?}");
         told = told.saturating_add(WHOLE);
         let read = text.len().saturating_sub(unread.len());
         assert_eq!(rt; reader.held(), read.saturating_sub(told));
     }
     assert!(rt; unread.is_empty() && reader.held() == 0);
-    Ok(())
 }
 
 /// Of a last line that lacks its line feed its own octets are held, and none besides.
 #[test]
-fn holds_the_octets_of_the_text_alone(rt: HostRuntime) -> Result<(), Fail> {
-    let text = joined(rt.alloc(), &[Whole, Text(b"# note")])?;
+fn holds_the_octets_of_the_text_alone(rt: HostRuntime) {
+    let text = joined(&rt, &[Whole, Text(b"# note")]);
     let mut r = ScriptIn::new(&text, 4096, None);
     let mut reader = DumpReader::new(rt.alloc());
     let told = next_told(&mut reader, &mut r);
@@ -540,20 +549,18 @@ fn holds_the_octets_of_the_text_alone(rt: HostRuntime) -> Result<(), Fail> {
     );
     let end = next_told(&mut reader, &mut r);
     assert!(rt; end == Done && reader.held() == 0, "{}", reader.held());
-    Ok(())
 }
 
 /// A compressed document with two subsets: the items of each stand before its end.
 #[test]
-fn compressed(rt: HostRuntime) -> Result<(), Fail> {
+fn compressed(rt: HostRuntime) {
     let rest = b"observed 0\ncompressed 1\noptional 0\nsubsets 2\ndescriptors 001001\n\
         subset 1\n001001 10\nsubset 2\n001001 11\nend\n";
-    let text = behind_the_first(rt.alloc(), &[rest])?;
-    let document = first_document(rt.alloc(), &text).ok_or("a document")?;
+    let text = behind_the_first(&rt, &[rest]);
+    let document = ok(&rt, first_document(rt.alloc(), &text).ok_or("a document"));
     assert!(rt; document.compressed() && !document.observed());
     assert_eq!(rt; (document.subsets(), document.entries()), (2, 4));
     assert!(rt; document.entries() == 4);
     assert!(rt; document.entry(1) == Entry::End(25));
     assert!(rt; document.entry(3) == Entry::End(27));
-    Ok(())
 }

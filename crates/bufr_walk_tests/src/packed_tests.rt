@@ -7,7 +7,6 @@ use bufr_tables::Fxy;
 use bufr_walk::{Fields, PackedFault, PackedIn, Steps, WalkStop, walk};
 use std::alloc::Global;
 use std::process::Abort;
-use std::test::Fail;
 
 // Items of two subsets: a name, the descriptors, the data in hexadecimal, the number of the fault
 // or 0, and the bits of the items that were read.
@@ -61,43 +60,36 @@ fn taken(alloc: Global, asked: &Asked, subsets: u16, octets: &[u8]) -> (u8, u64)
 }
 
 // Asserts what comes of one row.
-fn assert_taken(
-    rt: &(impl Abort + AllocGlobal),
-    row: &(&str, &str, &str, u8, u64),
-) -> Result<(), Fail> {
+fn assert_taken(rt: &(impl Abort + AllocGlobal), row: &(&str, &str, &str, u8, u64)) {
     let (name, descriptors, data_text, number, bits) = *row;
-    let octets = octets_of(rt.alloc(), data_text)?;
-    let asked = Asked::new(rt.alloc(), descriptors)?;
+    let octets = octets_of(rt, data_text);
+    let asked = Asked::new(rt, descriptors);
     assert!(rt; octets.len() <= 100);
     assert_eq!(rt;
         taken(rt.alloc(), &asked, 2, &octets),
         (number, bits),
         "{name}"
     );
-    Ok(())
 }
 
 #[test]
-fn items_of_two_subsets(rt: HostRuntime) -> Result<(), Fail> {
+fn items_of_two_subsets(rt: HostRuntime) {
     for row in ITEMS {
-        assert_taken(&rt, row)?;
+        assert_taken(&rt, row);
     }
-    Ok(())
 }
 
 // The octets of a text belong to the item, also where there are more than its width holds.
 #[test]
-fn octets_past_the_data(rt: HostRuntime) -> Result<(), Fail> {
-    let asked = Asked::new(rt.alloc(), "205002")?;
+fn octets_past_the_data(rt: HostRuntime) {
+    let asked = Asked::new(&rt, "205002");
     assert_eq!(rt; taken(rt.alloc(), &asked, 2, &[0x00, 0x00, 0x0C]), (30, 0));
-    Ok(())
 }
 
 #[test]
-fn one_value_for_all_subsets(rt: HostRuntime) -> Result<(), Fail> {
-    let asked = Asked::new(rt.alloc(), "001001")?;
+fn one_value_for_all_subsets(rt: HostRuntime) {
+    let asked = Asked::new(&rt, "001001");
     assert_eq!(rt; taken(rt.alloc(), &asked, 65535, &[0x14, 0x00]), (0, 13));
-    Ok(())
 }
 
 #[test]

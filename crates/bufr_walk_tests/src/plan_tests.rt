@@ -3,7 +3,6 @@
 use crate::test_messages::{APART, Worked, octets_of, tables, told_by};
 use bufr_walk::Plans;
 use std::process::Abort;
-use std::test::Fail;
 
 // The number of subsets, the descriptors, the data in hexadecimal, and what comes of them, which is
 // what comes of the message alone. From the second on there is a plan; the data of the fourth and
@@ -68,32 +67,29 @@ fn assert_told(
     rt: &(impl Abort + AllocGlobal),
     plans: &mut Plans<'_>,
     row: &(u16, &str, &str, &str),
-) -> Result<(), Fail> {
+) {
     let (subsets, descriptors, data_text, want) = *row;
-    let payload = octets_of(rt.alloc(), data_text)?;
-    let told = told_by(rt.alloc(), plans, subsets, descriptors, &payload)?;
+    let payload = octets_of(rt, data_text);
+    let told = told_by(rt, plans, subsets, descriptors, &payload);
     assert_eq!(rt; told.as_str(), want);
-    let worked = Worked::new(rt.alloc(), subsets, APART, descriptors, &payload)?;
-    assert_eq!(rt; worked.told(rt.alloc())?.as_str(), want);
-    Ok(())
+    let worked = Worked::new(rt, subsets, APART, descriptors, &payload);
+    assert_eq!(rt; worked.told(rt).as_str(), want);
 }
 
 #[test]
-fn messages_that_repeat_one_template(rt: HostRuntime) -> Result<(), Fail> {
-    let (table_b, table_d) = tables(rt.alloc())?;
+fn messages_that_repeat_one_template(rt: HostRuntime) {
+    let (table_b, table_d) = tables(&rt);
     let mut plans = Plans::new(rt.alloc(), &table_b, &table_d);
     for row in ROWS_OF_ONE_TEMPLATE {
-        assert_told(&rt, &mut plans, row)?;
+        assert_told(&rt, &mut plans, row);
     }
-    Ok(())
 }
 
 #[test]
-fn messages_of_two_templates_in_turn(rt: HostRuntime) -> Result<(), Fail> {
-    let (table_b, table_d) = tables(rt.alloc())?;
+fn messages_of_two_templates_in_turn(rt: HostRuntime) {
+    let (table_b, table_d) = tables(&rt);
     let mut plans = Plans::new(rt.alloc(), &table_b, &table_d);
     for row in ROWS_OF_TWO_TEMPLATES {
-        assert_told(&rt, &mut plans, row)?;
+        assert_told(&rt, &mut plans, row);
     }
-    Ok(())
 }

@@ -1,4 +1,5 @@
 //! Messages of worked examples, and what is told of them.
+use crate::ok;
 use bufr_frame::Message;
 use bufr_tables::{Fxy, TableB, TableD, Template};
 use bufr_walk::{
@@ -6,7 +7,7 @@ use bufr_walk::{
     read_prepared,
 };
 use std::alloc::{AllocError, Global};
-use std::test::Fail;
+use std::process::Abort;
 
 // Test data, not WMO's.
 const TABLE_B: &[u8] = b"\
@@ -29,62 +30,69 @@ pub(crate) const APART: u8 = 0x80;
 pub(crate) const TOGETHER: u8 = 0xC0;
 
 /// The descriptors of a text: six digits each, with spaces between them.
-fn descriptors_of(alloc: Global, text: &str) -> Result<Vec<Fxy>, Fail> {
-    let mut descriptors = Vec::new(alloc);
+fn descriptors_of(rt: &(impl Abort + AllocGlobal), text: &str) -> Vec<Fxy> {
+    let mut descriptors = Vec::new(rt.alloc());
     for digits in text.split_whitespace() {
-        let number = digits.parse::<u32>()?;
+        let number = ok(rt, digits.parse::<u32>());
         let word = number / 100_000 << 14 | number / 1000 % 100 << 8 | number % 1000;
-        descriptors.push(Fxy::from_word(u16::try_from(word)?))?;
+        let fxy = Fxy::from_word(ok(rt, u16::try_from(word)));
+        ok(rt, descriptors.push(fxy));
     }
-    Ok(descriptors)
+    descriptors
 }
 
 /// The octets of a text of hexadecimal digits.
-pub(crate) fn octets_of(alloc: Global, text: &str) -> Result<Vec<u8>, Fail> {
-    let mut octets = Vec::new(alloc);
+pub(crate) fn octets_of(rt: &(impl Abort + AllocGlobal), text: &str) -> Vec<u8> {
+    let mut octets = Vec::new(rt.alloc());
     let mut high = None;
     for digit in text.chars() {
-        let value = u8::try_from(digit.to_digit(16).unwrap_or(0))?;
+        let value = ok(rt, u8::try_from(digit.to_digit(16).unwrap_or(0)));
         high = match high {
             None => Some(value << 4),
             Some(first) => {
-                octets.push(first | value)?;
+                ok(rt, octets.push(first | value));
                 None
             }
         };
     }
-    Ok(octets)
+    octets
 }
 
 /// A message of edition 4 with these subsets, flags, descriptors and data.
 fn message_of(
-    alloc: Global,
+    rt: &(impl Abort + AllocGlobal),
     subsets: u16,
     flags: u8,
     descriptors: &[Fxy],
     payload: &[u8],
-) -> Result<Vec<u8>, Fail> {
-    let mut octets = Vec::new(alloc);
-    let third = u16::try_from(descriptors.len().saturating_mul(2).saturating_add(7))?;
-    let fourth = u16::try_from(payload.len().saturating_add(4))?;
+) -> Vec<u8> {
+    let mut octets = Vec::new(rt.alloc());
+    let third = ok(
+        rt,
+        u16::try_from(descriptors.len().saturating_mul(2).saturating_add(7)),
+    );
+    let fourth = ok(rt, u16::try_from(payload.len().saturating_add(4)));
     let length = third.saturating_add(fourth).saturating_add(34);
-    octets.extend_from_slice(b"BUFR\0")?;
-    octets.extend_from_slice(&length.to_be_bytes())?;
-    octets.extend_from_slice(&[4, 0, 0, 22, 0, 0, 98, 0, 0, 0, 0, 0, 0, 0, 14, 0])?;
-    octets.extend_from_slice(&[7, 232, 1, 2, 3, 4, 5, 0])?;
-    octets.extend_from_slice(&third.to_be_bytes())?;
-    octets.push(0)?;
-    octets.extend_from_slice(&subsets.to_be_bytes())?;
-    octets.push(flags)?;
+    ok(rt, octets.extend_from_slice(b"BUFR\0"));
+    ok(rt, octets.extend_from_slice(&length.to_be_bytes()));
+    ok(
+        rt,
+        octets.extend_from_slice(&[4, 0, 0, 22, 0, 0, 98, 0, 0, 0, 0, 0, 0, 0, 14, 0]),
+    );
+    ok(rt, octets.extend_from_slice(&[7, 232, 1, 2, 3, 4, 5, 0]));
+    ok(rt, octets.extend_from_slice(&third.to_be_bytes()));
+    ok(rt, octets.push(0));
+    ok(rt, octets.extend_from_slice(&subsets.to_be_bytes()));
+    ok(rt, octets.push(flags));
     for fxy in descriptors {
-        octets.extend_from_slice(&fxy.word().to_be_bytes())?;
+        ok(rt, octets.extend_from_slice(&fxy.word().to_be_bytes()));
     }
-    octets.push(0)?;
-    octets.extend_from_slice(&fourth.to_be_bytes())?;
-    octets.push(0)?;
-    octets.extend_from_slice(payload)?;
-    octets.extend_from_slice(b"7777")?;
-    Ok(octets)
+    ok(rt, octets.push(0));
+    ok(rt, octets.extend_from_slice(&fourth.to_be_bytes()));
+    ok(rt, octets.push(0));
+    ok(rt, octets.extend_from_slice(payload));
+    ok(rt, octets.extend_from_slice(b"7777"));
+    octets
 }
 
 /// A visitor that writes down what it is told.
@@ -151,93 +159,98 @@ fn message_in(octets: &[u8]) -> Option<Message<'_>> {
 
 /// What is told of a reading: its bits, the steps that were made, and the items that it keeps, if
 /// any.
-fn read_as(alloc: Global, reading: &Reading<'_>, steps: &Steps) -> Result<String, Fail> {
+fn read_as(rt: &(impl Abort + AllocGlobal), reading: &Reading<'_>, steps: &Steps) -> String {
     let (bits, count, held) = (reading.bits(), steps.count(), reading.held());
-    let mut text = format!(in alloc; "bits {bits} steps {count}")?;
+    let mut text = ok(rt, format!(in rt.alloc(); "bits {bits} steps {count}"));
     if held > 0 {
-        text.push_str(format!(in alloc; " held {held}")?.as_str())?;
+        ok(
+            rt,
+            text.push_str(ok(rt, format!(in rt.alloc(); " held {held}")).as_str()),
+        );
     }
-    Ok(text)
+    text
 }
 
 /// The same, and then its subsets and items. A showing takes as many steps as the reading did, and
 /// none where items are kept.
-fn shown(alloc: Global, reading: &Reading<'_>, steps: &mut Steps) -> Result<String, Fail> {
+fn shown(rt: &(impl Abort + AllocGlobal), reading: &Reading<'_>, steps: &mut Steps) -> String {
     let mut lines = Lines {
-        alloc,
-        text: read_as(alloc, reading, steps)?,
+        alloc: rt.alloc(),
+        text: read_as(rt, reading, steps),
     };
     if reading.subsets() > 0 {
-        lines.text.push(';')?;
+        ok(rt, lines.text.push(';'));
     }
     let want = if reading.held() > 0 { 0 } else { steps.count() };
-    if reading.show(alloc, &mut lines, steps).is_err() {
-        lines.text.push_str(" out of memory")?;
+    if reading.show(rt.alloc(), &mut lines, steps).is_err() {
+        ok(rt, lines.text.push_str(" out of memory"));
     }
     if steps.count() != want {
-        lines.text.push_str(" other steps")?;
+        ok(rt, lines.text.push_str(" other steps"));
     }
-    Ok(lines.text)
+    lines.text
 }
 
 /// What is told of a fault: its number, where it stands, and the steps that were made.
-fn refused(alloc: Global, fault: WalkFault, steps: &Steps) -> Result<String, Fail> {
+fn refused(rt: &(impl Abort + AllocGlobal), fault: &WalkFault, steps: &Steps) -> String {
     let (number, count) = (fault.number(), steps.count());
-    match spot_of(fault) {
-        Some(spot) => Ok(format!(in alloc;
-            "{number} at {} {} {} steps {count}",
-            spot.subset, spot.fxy, spot.bit
-        )?),
-        None => Ok(format!(in alloc; "{number}")?),
-    }
+    let Some(spot) = spot_of(*fault) else {
+        return ok(rt, format!(in rt.alloc(); "{number}"));
+    };
+    let (subset, fxy, bit) = (spot.subset, spot.fxy, spot.bit);
+    let text = format!(in rt.alloc(); "{number} at {subset} {fxy} {bit} steps {count}");
+    ok(rt, text)
 }
 
 /// Table B. It promises nothing, so that the proof of a test does not carry the table's contract.
-fn table_b(alloc: Global) -> Result<TableB, Fail> {
-    Ok(TableB::read(alloc, TABLE_B)?)
+fn table_b(rt: &(impl Abort + AllocGlobal)) -> TableB {
+    ok(rt, TableB::read(rt.alloc(), TABLE_B))
 }
 
 /// Table D, with no promise either.
-fn table_d(alloc: Global) -> Result<TableD, Fail> {
-    Ok(TableD::read(alloc, TABLE_D)?)
+fn table_d(rt: &(impl Abort + AllocGlobal)) -> TableD {
+    ok(rt, TableD::read(rt.alloc(), TABLE_D))
 }
 
 /// The template of these descriptors, with no promise either.
-fn template_of(alloc: Global, descriptors: &[Fxy], table: &TableB) -> Result<Template, Fail> {
-    let sequences = table_d(alloc)?;
-    Ok(Template::build(alloc, descriptors, table, &sequences)?)
+fn template_of(rt: &(impl Abort + AllocGlobal), descriptors: &[Fxy], table: &TableB) -> Template {
+    let sequences = table_d(rt);
+    ok(
+        rt,
+        Template::build(rt.alloc(), descriptors, table, &sequences),
+    )
 }
 
 /// The tables by which messages are read.
-pub(crate) fn tables(alloc: Global) -> Result<(TableB, TableD), Fail> {
-    Ok((table_b(alloc)?, table_d(alloc)?))
+pub(crate) fn tables(rt: &(impl Abort + AllocGlobal)) -> (TableB, TableD) {
+    (table_b(rt), table_d(rt))
 }
 
 /// What comes of reading and showing a message by what is prepared for its template.
-fn told_prepared(alloc: Global, octets: &[u8], prepared: Prepared<'_>) -> Result<String, Fail> {
-    let message = message_in(octets).ok_or("a message")?;
+fn told_prepared(rt: &(impl Abort + AllocGlobal), octets: &[u8], prepared: Prepared<'_>) -> String {
+    let message = ok(rt, message_in(octets).ok_or("a message"));
     let mut steps = Steps::new();
-    match read_prepared(alloc, &message, prepared, &mut steps) {
-        Ok(reading) => shown(alloc, &reading, &mut steps),
-        Err(fault) => refused(alloc, fault, &steps),
+    match read_prepared(rt.alloc(), &message, prepared, &mut steps) {
+        Ok(reading) => shown(rt, &reading, &mut steps),
+        Err(fault) => refused(rt, &fault, &steps),
     }
 }
 
 /// What comes of reading and showing the message with these subsets, descriptors and data by what
 /// is kept of the messages before.
 pub(crate) fn told_by(
-    alloc: Global,
+    rt: &(impl Abort + AllocGlobal),
     plans: &mut Plans<'_>,
     subsets: u16,
     descriptors: &str,
     payload: &[u8],
-) -> Result<String, Fail> {
-    let descriptors = descriptors_of(alloc, descriptors)?;
-    let octets = message_of(alloc, subsets, APART, &descriptors, payload)?;
-    plans.turn_to(&descriptors)?;
+) -> String {
+    let descriptors = descriptors_of(rt, descriptors);
+    let octets = message_of(rt, subsets, APART, &descriptors, payload);
+    ok(rt, plans.turn_to(&descriptors));
     match plans.answer() {
-        Ok(prepared) => told_prepared(alloc, &octets, prepared),
-        Err(fault) => Ok(format!(in alloc; "{fault}")?),
+        Ok(prepared) => told_prepared(rt, &octets, prepared),
+        Err(fault) => ok(rt, format!(in rt.alloc(); "{fault}")),
     }
 }
 
@@ -250,11 +263,11 @@ pub(crate) struct Asked {
 
 impl Asked {
     /// The template of these descriptors.
-    pub(crate) fn new(alloc: Global, descriptors: &str) -> Result<Asked, Fail> {
-        let table = table_b(alloc)?;
-        let descriptors = descriptors_of(alloc, descriptors)?;
-        let template = template_of(alloc, &descriptors, &table)?;
-        Ok(Asked { template, table })
+    pub(crate) fn new(rt: &(impl Abort + AllocGlobal), descriptors: &str) -> Asked {
+        let table = table_b(rt);
+        let descriptors = descriptors_of(rt, descriptors);
+        let template = template_of(rt, &descriptors, &table);
+        Asked { template, table }
     }
 
     /// The template.
@@ -279,63 +292,84 @@ pub(crate) struct Worked {
 impl Worked {
     /// The message with these subsets, flags, descriptors and data.
     pub(crate) fn new(
-        alloc: Global,
+        rt: &(impl Abort + AllocGlobal),
         subsets: u16,
         flags: u8,
         descriptors: &str,
         payload: &[u8],
-    ) -> Result<Worked, Fail> {
-        let table = table_b(alloc)?;
-        let descriptors = descriptors_of(alloc, descriptors)?;
-        let octets = message_of(alloc, subsets, flags, &descriptors, payload)?;
-        let template = template_of(alloc, &descriptors, &table)?;
-        Ok(Worked {
+    ) -> Worked {
+        let table = table_b(rt);
+        let descriptors = descriptors_of(rt, descriptors);
+        let octets = message_of(rt, subsets, flags, &descriptors, payload);
+        let template = template_of(rt, &descriptors, &table);
+        Worked {
             octets,
             template,
             table,
-        })
+        }
     }
 
     /// What comes of reading it.
-    pub(crate) fn read(&self, alloc: Global) -> Result<String, Fail> {
-        let message = message_in(&self.octets).ok_or("a message")?;
+    pub(crate) fn read(&self, rt: &(impl Abort + AllocGlobal)) -> String {
+        let message = ok(rt, message_in(&self.octets).ok_or("a message"));
         let mut steps = Steps::new();
-        match read_message(alloc, &message, &self.template, &self.table, &mut steps) {
-            Ok(reading) => read_as(alloc, &reading, &steps),
-            Err(fault) => refused(alloc, fault, &steps),
+        match read_message(
+            rt.alloc(),
+            &message,
+            &self.template,
+            &self.table,
+            &mut steps,
+        ) {
+            Ok(reading) => read_as(rt, &reading, &steps),
+            Err(fault) => refused(rt, &fault, &steps),
         }
     }
 
     /// What comes of reading and showing it.
-    pub(crate) fn told(&self, alloc: Global) -> Result<String, Fail> {
-        let message = message_in(&self.octets).ok_or("a message")?;
+    pub(crate) fn told(&self, rt: &(impl Abort + AllocGlobal)) -> String {
+        let message = ok(rt, message_in(&self.octets).ok_or("a message"));
         let mut steps = Steps::new();
-        match read_message(alloc, &message, &self.template, &self.table, &mut steps) {
-            Ok(reading) => shown(alloc, &reading, &mut steps),
-            Err(fault) => refused(alloc, fault, &steps),
+        match read_message(
+            rt.alloc(),
+            &message,
+            &self.template,
+            &self.table,
+            &mut steps,
+        ) {
+            Ok(reading) => shown(rt, &reading, &mut steps),
+            Err(fault) => refused(rt, &fault, &steps),
         }
     }
 
     /// How many subsets and items it shows, and in how many steps, where the item behind so many is
     /// refused.
-    pub(crate) fn counted_to(&self, alloc: Global, most: u64) -> Result<(u64, u64, u64), Fail> {
-        let message = message_in(&self.octets).ok_or("a message")?;
+    pub(crate) fn counted_to(&self, rt: &(impl Abort + AllocGlobal), most: u64) -> (u64, u64, u64) {
+        let message = ok(rt, message_in(&self.octets).ok_or("a message"));
         let mut steps = Steps::new();
         let mut counts = Counts {
             subsets: 0,
             items: 0,
             most,
         };
-        let reading = read_message(alloc, &message, &self.template, &self.table, &mut steps)?;
+        let reading = ok(
+            rt,
+            read_message(
+                rt.alloc(),
+                &message,
+                &self.template,
+                &self.table,
+                &mut steps,
+            ),
+        );
         // Where it is refused, what was counted tells where.
-        let _ = reading.show(alloc, &mut counts, &mut steps);
-        Ok((counts.subsets, counts.items, steps.count()))
+        let _ = reading.show(rt.alloc(), &mut counts, &mut steps);
+        (counts.subsets, counts.items, steps.count())
     }
 
     /// How many subsets and items it shows.
-    pub(crate) fn counted(&self, alloc: Global) -> Result<(u64, u64), Fail> {
-        let (subsets, items, _) = self.counted_to(alloc, u64::MAX)?;
-        Ok((subsets, items))
+    pub(crate) fn counted(&self, rt: &(impl Abort + AllocGlobal)) -> (u64, u64) {
+        let (subsets, items, _) = self.counted_to(rt, u64::MAX);
+        (subsets, items)
     }
 }
 

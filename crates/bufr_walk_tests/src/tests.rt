@@ -1,10 +1,9 @@
 //! What is shown by running: the worked messages, each fault, the limits.
+use crate::ok;
 use crate::test_messages::{APART, TOGETHER, Worked, octets_of};
 use bufr_tables::Fxy;
 use bufr_walk::{Spot, WalkFault};
-use std::alloc::Global;
 use std::process::Abort;
-use std::test::Fail;
 
 // A name for what is shown, the number of subsets, the descriptors, the data in hexadecimal, and
 // what comes of them: the bits and the steps of a reading, the items that it keeps, if any, and its
@@ -418,119 +417,99 @@ const ROWS_TOGETHER: &[(&str, u16, &str, &str, &str)] = &[
 ];
 
 // Asserts what comes of reading and showing a message.
-fn assert_told(
-    rt: &(impl Abort + AllocGlobal),
-    flags: u8,
-    row: &(&str, u16, &str, &str, &str),
-) -> Result<(), Fail> {
+fn assert_told(rt: &(impl Abort + AllocGlobal), flags: u8, row: &(&str, u16, &str, &str, &str)) {
     let (name, subsets, descriptors, data_text, want) = *row;
-    let payload = octets_of(rt.alloc(), data_text)?;
-    let worked = Worked::new(rt.alloc(), subsets, flags, descriptors, &payload)?;
-    assert_eq!(rt; worked.told(rt.alloc())?.as_str(), want, "{name}");
-    Ok(())
+    let payload = octets_of(rt, data_text);
+    let worked = Worked::new(rt, subsets, flags, descriptors, &payload);
+    assert_eq!(rt; worked.told(rt).as_str(), want, "{name}");
 }
 
 // Asserts what comes of reading a message.
-fn assert_read(rt: &(impl Abort + AllocGlobal), worked: &Worked, want: &str) -> Result<(), Fail> {
-    assert_eq!(rt; worked.read(rt.alloc())?.as_str(), want);
-    Ok(())
+fn assert_read(rt: &(impl Abort + AllocGlobal), worked: &Worked, want: &str) {
+    assert_eq!(rt; worked.read(rt).as_str(), want);
 }
 
 // Asserts how many subsets and items a message shows.
-fn assert_counted(
-    rt: &(impl Abort + AllocGlobal),
-    worked: &Worked,
-    want: (u64, u64),
-) -> Result<(), Fail> {
-    assert_eq!(rt; worked.counted(rt.alloc())?, want);
-    Ok(())
+fn assert_counted(rt: &(impl Abort + AllocGlobal), worked: &Worked, want: (u64, u64)) {
+    assert_eq!(rt; worked.counted(rt), want);
 }
 
 #[test]
-fn worked_messages(rt: HostRuntime) -> Result<(), Fail> {
+fn worked_messages(rt: HostRuntime) {
     for row in ROWS {
-        assert_told(&rt, APART, row)?;
+        assert_told(&rt, APART, row);
     }
-    Ok(())
 }
 
 #[test]
-fn compressed_messages(rt: HostRuntime) -> Result<(), Fail> {
+fn compressed_messages(rt: HostRuntime) {
     for row in ROWS_TOGETHER {
-        assert_told(&rt, TOGETHER, row)?;
+        assert_told(&rt, TOGETHER, row);
     }
-    Ok(())
 }
 
 // So many octets, the first two of them given.
-fn octets_with(alloc: Global, size: usize, first: u8, second: u8) -> Result<Vec<u8>, Fail> {
-    let mut octets = Vec::from_slice(alloc, &[first, second])?;
-    octets.resize(size, 0)?;
-    Ok(octets)
+fn octets_with(rt: &(impl Abort + AllocGlobal), size: usize, first: u8, second: u8) -> Vec<u8> {
+    let mut octets = ok(rt, Vec::from_slice(rt.alloc(), &[first, second]));
+    ok(rt, octets.resize(size, 0));
+    octets
 }
 
 #[test]
-fn one_item_too_many(rt: HostRuntime) -> Result<(), Fail> {
+fn one_item_too_many(rt: HostRuntime) {
     let descriptors = "101000 031002 001001";
-    let payload = octets_with(rt.alloc(), 3330, 0x08, 0x00)?;
-    let worked = Worked::new(rt.alloc(), 65535, TOGETHER, descriptors, &payload)?;
-    assert_read(&rt, &worked, "35 at 0 001001 26633 steps 4097")?;
-    Ok(())
+    let payload = octets_with(&rt, 3330, 0x08, 0x00);
+    let worked = Worked::new(&rt, 65535, TOGETHER, descriptors, &payload);
+    assert_read(&rt, &worked, "35 at 0 001001 26633 steps 4097");
 }
 
 #[test]
-fn as_many_items_as_may_be(rt: HostRuntime) -> Result<(), Fail> {
+fn as_many_items_as_may_be(rt: HostRuntime) {
     let descriptors = "101000 031002 001001";
-    let payload = octets_with(rt.alloc(), 3330, 0x07, 0xFF)?;
-    let worked = Worked::new(rt.alloc(), 65535, TOGETHER, descriptors, &payload)?;
-    assert_read(&rt, &worked, "bits 26633 steps 4097 held 2048")?;
-    Ok(())
+    let payload = octets_with(&rt, 3330, 0x07, 0xFF);
+    let worked = Worked::new(&rt, 65535, TOGETHER, descriptors, &payload);
+    assert_read(&rt, &worked, "bits 26633 steps 4097 held 2048");
 }
 
 #[test]
-fn a_width_before_one_item_too_many(rt: HostRuntime) -> Result<(), Fail> {
+fn a_width_before_one_item_too_many(rt: HostRuntime) {
     let descriptors = "101000 031002 001001 201121 001001";
-    let payload = octets_with(rt.alloc(), 3330, 0x07, 0xFF)?;
-    let worked = Worked::new(rt.alloc(), 65535, TOGETHER, descriptors, &payload)?;
-    assert_read(&rt, &worked, "31 at 0 001001 26633 steps 4098")?;
-    Ok(())
+    let payload = octets_with(&rt, 3330, 0x07, 0xFF);
+    let worked = Worked::new(&rt, 65535, TOGETHER, descriptors, &payload);
+    assert_read(&rt, &worked, "31 at 0 001001 26633 steps 4098");
 }
 
 #[test]
-fn factors_that_are_none(rt: HostRuntime) -> Result<(), Fail> {
+fn factors_that_are_none(rt: HostRuntime) {
     let descriptors = "103000 031001 101000 031001 001001";
-    let payload = octets_with(rt.alloc(), 256, 0xFF, 0x00)?;
-    let worked = Worked::new(rt.alloc(), 1, APART, descriptors, &payload)?;
-    assert_read(&rt, &worked, "bits 2048 steps 768")?;
-    assert_counted(&rt, &worked, (1, 256))?;
-    Ok(())
+    let payload = octets_with(&rt, 256, 0xFF, 0x00);
+    let worked = Worked::new(&rt, 1, APART, descriptors, &payload);
+    assert_read(&rt, &worked, "bits 2048 steps 768");
+    assert_counted(&rt, &worked, (1, 256));
 }
 
 #[test]
-fn as_many_subsets_as_may_be(rt: HostRuntime) -> Result<(), Fail> {
-    let payload = octets_with(rt.alloc(), 8192, 0x00, 0x00)?;
-    let worked = Worked::new(rt.alloc(), 65535, APART, "031000", &payload)?;
-    assert_read(&rt, &worked, "bits 65535 steps 131070")?;
-    assert_counted(&rt, &worked, (65535, 65535))?;
-    Ok(())
+fn as_many_subsets_as_may_be(rt: HostRuntime) {
+    let payload = octets_with(&rt, 8192, 0x00, 0x00);
+    let worked = Worked::new(&rt, 65535, APART, "031000", &payload);
+    assert_read(&rt, &worked, "bits 65535 steps 131070");
+    assert_counted(&rt, &worked, (65535, 65535));
 }
 
 #[test]
-fn as_many_compressed_subsets_as_may_be(rt: HostRuntime) -> Result<(), Fail> {
-    let worked = Worked::new(rt.alloc(), 65535, TOGETHER, "001001", &[0x14, 0x00])?;
-    assert_read(&rt, &worked, "bits 13 steps 2 held 1")?;
-    assert_counted(&rt, &worked, (65535, 65535))?;
-    Ok(())
+fn as_many_compressed_subsets_as_may_be(rt: HostRuntime) {
+    let worked = Worked::new(&rt, 65535, TOGETHER, "001001", &[0x14, 0x00]);
+    assert_read(&rt, &worked, "bits 13 steps 2 held 1");
+    assert_counted(&rt, &worked, (65535, 65535));
 }
 
 // Subsets with more fields than a plan has room for.
 #[test]
-fn more_fields_than_a_plan_has(rt: HostRuntime) -> Result<(), Fail> {
-    let payload = octets_with(rt.alloc(), 1794, 0x14, 0x00)?;
-    let worked = Worked::new(rt.alloc(), 2, APART, "102205 101005 001001", &payload)?;
-    assert_read(&rt, &worked, "bits 14350 steps 4924")?;
-    assert_counted(&rt, &worked, (2, 2050))?;
-    Ok(())
+fn more_fields_than_a_plan_has(rt: HostRuntime) {
+    let payload = octets_with(&rt, 1794, 0x14, 0x00);
+    let worked = Worked::new(&rt, 2, APART, "102205 101005 001001", &payload);
+    assert_read(&rt, &worked, "bits 14350 steps 4924");
+    assert_counted(&rt, &worked, (2, 2050));
 }
 
 // Asserts how many steps a showing makes up to the item behind so many.
@@ -539,9 +518,8 @@ fn assert_steps_to(
     worked: &Worked,
     most: u64,
     want: (u64, u64, u64),
-) -> Result<(), Fail> {
-    assert_eq!(rt; worked.counted_to(rt.alloc(), most)?, want);
-    Ok(())
+) {
+    assert_eq!(rt; worked.counted_to(rt, most), want);
 }
 
 // How many items a visitor of two subsets takes, and the subsets and items that it was told, with
@@ -555,21 +533,19 @@ const REFUSED_ITEMS: &[(u64, (u64, u64, u64))] = &[
 ];
 
 #[test]
-fn refused_items_of_two_subsets(rt: HostRuntime) -> Result<(), Fail> {
-    let payload = octets_with(rt.alloc(), 8, 0x14, 0x00)?;
-    let worked = Worked::new(rt.alloc(), 2, APART, "012101 101002 001001", &payload)?;
+fn refused_items_of_two_subsets(rt: HostRuntime) {
+    let payload = octets_with(&rt, 8, 0x14, 0x00);
+    let worked = Worked::new(&rt, 2, APART, "012101 101002 001001", &payload);
     for (most, want) in REFUSED_ITEMS {
-        assert_steps_to(&rt, &worked, *most, *want)?;
+        assert_steps_to(&rt, &worked, *most, *want);
     }
-    Ok(())
 }
 
 #[test]
-fn as_many_characters_as_may_be(rt: HostRuntime) -> Result<(), Fail> {
-    let payload = octets_with(rt.alloc(), 258, 0x00, 0x00)?;
-    let worked = Worked::new(rt.alloc(), 1, APART, "201129 012101 205255", &payload)?;
-    assert_eq!(rt; worked.told(rt.alloc())?.len(), 554);
-    Ok(())
+fn as_many_characters_as_may_be(rt: HostRuntime) {
+    let payload = octets_with(&rt, 258, 0x00, 0x00);
+    let worked = Worked::new(&rt, 1, APART, "201129 012101 205255", &payload);
+    assert_eq!(rt; worked.told(&rt).len(), 554);
 }
 
 // The front of the first subset.
