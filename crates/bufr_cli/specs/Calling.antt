@@ -1,41 +1,15 @@
--- What a call of the program comes to. (a choice of this project)
+-- What the process does with its words. (a choice of this project)
 -- Cited by public contracts.
-use Rattle.std.specs.Prelude.{◌≡◌, ◌⊎◌, ℕ, Bool, true, List, Option, None, codes}
+use Rattle.std.specs.Prelude.{◌≡◌, ◌⊎◌, ℕ, Bool, List, Option, None, codes}
 use Rattle.std.specs.Borrow.{Bor}
-use Rattle.std.specs.Io.KnownBytes.{Appends, Keeps}
-use Rattle.clap.specs.Words.{Kinds, Row, Text, fault_of, subcommand_of}
-use Rattle.bufr_frame.specs.declared.fault.RunFault.{RunFault}
+use Rattle.clap.specs.Words.{fault_of, subcommand_of}
 use Rattle.bufr_frame.specs.declared.fault.RunFault.TheVariants.{Memory}
 use Rattle.bufr_text.specs.Writing.{GrowsByFront}
-use Rattle.bufr_cli.specs.Finish.{last_line, run_line, status_of}
-use Rattle.bufr_cli.specs.Line.{AsksHelp, IsJobOf, IsMistaken, bufr_app}
-use Rattle.bufr_cli.specs.Program.{OutcomeSo}
-use Rattle.bufr_cli.specs.declared.finish.Outcome.{Outcome}
-use Rattle.bufr_cli.specs.declared.finish.Outcome.TheVariants.{Usage, Run}
-use Rattle.bufr_cli.specs.declared.job.Job.{Job}
-
--- Of words whose parse may fail by these kinds and meets this subcommand: its job was done, and its
--- outcome told by a last line (or a front of it) and the status; or help was asked for, written and
--- handed on, or a front of it was written; or the words are mistaken; or memory ran out before
--- there was a job.
-pub data CallSo (kinds : Kinds) (subcommand : Option (Text × List Row)) (standard : Option (List ℕ))
-    (named : List ℕ → Option (List ℕ))
-    (output output' errors errors' : Option (List ℕ)) (handed : Bool) (status : ℕ) : Type 0 where
-  Does : (job : Job) → IsJobOf subcommand job → (outcome : Outcome) → (between : Option (List ℕ))
-      → OutcomeSo standard named job output output' errors between outcome
-      → GrowsByFront between errors' (last_line outcome) → status ≡ status_of outcome
-      → CallSo kinds subcommand standard named output output' errors errors' handed status
-  Helps : AsksHelp kinds → (text : List ℕ) → Appends output output' text → handed ≡ true
-      → Keeps errors errors' → status ≡ 0
-      → CallSo kinds subcommand standard named output output' errors errors' handed status
-  HelpsInPart : AsksHelp kinds → (text : List ℕ) → GrowsByFront output output' text
-      → (fault : RunFault) → GrowsByFront errors errors' (run_line fault) → status ≡ 2
-      → CallSo kinds subcommand standard named output output' errors errors' handed status
-  Refuses : IsMistaken kinds subcommand → Keeps output output' → (text : List ℕ)
-      → GrowsByFront errors errors' text → status ≡ 2
-      → CallSo kinds subcommand standard named output output' errors errors' handed status
-  WantsMemory : Keeps output output' → GrowsByFront errors errors' (run_line Memory) → status ≡ 2
-      → CallSo kinds subcommand standard named output output' errors errors' handed status
+use Rattle.bufr_command.specs.Calling.{CallSo}
+use Rattle.bufr_command.specs.Finish.{last_line, status_of}
+use Rattle.bufr_command.specs.Line.{bufr_app}
+use Rattle.bufr_command.specs.declared.finish.Outcome.{Outcome}
+use Rattle.bufr_command.specs.declared.finish.Outcome.TheVariants.{Usage, Run}
 
 -- the words cannot be had: memory ran out, or one of them is no text
 abbrev pub IsWordless : Outcome → Type 0

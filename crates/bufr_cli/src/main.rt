@@ -6,55 +6,19 @@
 //! where nothing was refused, 1 where a message or a document was, and 2 where the command line, a
 //! file, a table, reading, writing or memory failed.
 //!
-//! What stands here only wraps the process's own inputs and writers. What the words ask for is done
-//! by [`program::run`], over any inputs and writers, and the runs are those of `bufr_run`.
+//! What stands here only wraps the process's words and writers. What the words ask for is done by
+//! [`run`] of `bufr_command`, over any inputs and writers, and the runs are those of `bufr_run`.
 #![tactic(auto)]
 
 ghost use Rattle.bufr_cli.specs.Calling.{IsWordless, WordsSo};
 
-mod buffered;
-mod finish;
-mod job;
-mod program;
-mod read_all;
-
-use buffered::Buffered;
 use bufr_bits::{Device, Sink};
+use bufr_command::Buffered;
+use bufr_command::finish::{Outcome, finish};
+use bufr_command::program::{BUFFERED, run};
 use bufr_frame::RunFault;
-use finish::{Outcome, finish};
-use program::{BUFFERED, Inputs, Unopened, run};
-use std::fs::{self, File};
-use std::io::{BufWriter, Error, ErrorKind, Stdin};
+use std::io::{BufWriter, Error, ErrorKind};
 use std::process::ExitCode;
-
-#[cfg(test)]
-mod program_tests;
-#[cfg(test)]
-mod test_messages;
-
-/// The inputs of the process, of whose octets nothing is known before they are read.
-impl Inputs for HostRuntime {
-    ghost use Rattle.std.specs.Prelude.{None};
-
-    type Standard = Stdin;
-
-    type File = File;
-
-    ghost standard_octets = { λ _. None };
-
-    ghost file_octets = { λ _ _. None };
-
-    fn standard(&self) -> Stdin {
-        self.stdin()
-    }
-
-    fn open(&self, name: &str) -> Result<File, Unopened> {
-        match fs::open(self, name) {
-            Ok(file) => Ok(file),
-            Err(_) => Err(Unopened),
-        }
-    }
-}
 
 /// Runs the command line over the process's own inputs and writers.
 fn main(rt: HostRuntime) -> ExitCode {

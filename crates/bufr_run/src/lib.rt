@@ -1,8 +1,9 @@
 //! The runs of `bufr`: a stream listed or dumped, a text encoded, and the lines that tell faults.
 //!
-//! `bufr_cli` calls [`run_ls::run_ls`], [`run_dump::run_dump`] or [`run_encode::run_encode_form`]
-//! once, over the input and the writers that its command line names, and takes its exit status from
-//! the counts that the run answers ([`Tally`]). None of them knows of files or of a command line:
+//! `bufr_command` calls [`run_ls::run_ls`], [`run_dump::run_dump`] or
+//! [`run_encode::run_encode_form`] once, over the input that its words name and the writers that it
+//! was given, and takes its exit status from the counts that the run answers ([`Tally`]). None of
+//! them knows of files or of a command line:
 //!
 //! ```
 //! let mut r = Device::new(b"BUFR".as_slice());

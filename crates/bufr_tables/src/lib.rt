@@ -4,7 +4,7 @@
 //! sequences. A list of descriptors is expanded to a [`Template`], the tree that says what a
 //! message's data hold.
 //!
-//! `bufr_cli` reads the two tables once. `bufr_run` asks [`Templates`] for the template of each
+//! `bufr_command` reads the two tables once. `bufr_run` asks [`Templates`] for the template of each
 //! message that it dumps, which keeps the last one, for messages that repeat their descriptors;
 //! `bufr_text` builds one for each document that it encodes. `bufr_walk` goes through the cells of
 //! the template, and asks Table B for each element. The tests `elements`, `sequences`,

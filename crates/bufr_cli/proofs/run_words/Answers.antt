@@ -1,7 +1,7 @@
 use Rattle.std.proofs.Common.{inl, map, refl, string_bytes}
 use Rattle.bufr_frame.specs.declared.fault.RunFault.TheVariants.{Memory}
 use Rattle.bufr_cli.specs.Calling.{Calls, NoWords}
-use Rattle.bufr_cli.specs.declared.finish.Outcome.TheVariants.{Run}
+use Rattle.bufr_command.specs.declared.finish.Outcome.TheVariants.{Run}
 use Rattle.bufr_cli.proofs.run_words.Goals as goal
 
 pub returns-in-Err : goal.returns-in-Err

@@ -1,0 +1,677 @@
+//! Command lines: which are understood, what comes of them over inputs in memory, and the last line
+//! and status.
+
+use crate::ok;
+use crate::test_messages::{ONE_BLOCK_NUMBER, TABLE_B, TABLE_D, TEXT_OF_ONE, joined, line_of_one};
+use bufr_bits::{Device, End, ScriptIn, ScriptOut, Sink};
+use bufr_command::Buffered;
+use bufr_command::finish::{Outcome, finish};
+use bufr_command::job::{LineFault, Subcommand, TableNames, parse_line};
+use bufr_command::program::{Inputs, Unopened, run};
+use bufr_command::read_all::read_all;
+use bufr_frame::RunFault;
+use bufr_run::Tally;
+use bufr_tables::{Fxy, TableD, TableFault};
+use bufr_text::Form;
+use std::alloc::Global;
+use std::cell::Cell;
+use std::io::{self, BufWriter, ErrorKind, Read, Write};
+use std::process::Abort;
+use std::test::Fail;
+
+/// The words of a command line: the program's name, a command, and what stands behind it.
+fn words_behind(
+    rt: &(impl Abort + AllocGlobal),
+    command: &'static str,
+    arguments: &'static [&'static str],
+) -> Vec<&'static str> {
+    let mut words = Vec::new(rt.alloc());
+    ok(rt, words.extend_from_slice(&["bufr", command]));
+    ok(rt, words.extend_from_slice(arguments));
+    words
+}
+
+#[test]
+fn parses_lines(rt: HostRuntime) {
+    let words = ["bufr", "ls"];
+    let job = parse_line(rt.alloc(), words.as_slice()).expect(&rt, "a job");
+    assert!(rt; job.command == Subcommand::Ls && job.file == None);
+    let words = ["bufr", "ls", "bulletins.bufr"];
+    let job = parse_line(rt.alloc(), words.as_slice()).expect(&rt, "a job");
+    assert!(rt; job.command == Subcommand::Ls && job.file == Some("bulletins.bufr"));
+}
+
+/// What stands behind a command that takes tables, and its FILE. The tables are always the same.
+static ARGUMENTS: [(&[&str], Option<&str>); 5] = [
+    (&["-B", "b.csv", "-D", "d.csv"], None),
+    (&["-B", "b.csv", "-D", "d.csv", "x.bufr"], Some("x.bufr")),
+    (&["x.bufr", "-D", "d.csv", "-B", "b.csv"], Some("x.bufr")),
+    (&["-Bb.csv", "x.bufr", "-D=d.csv"], Some("x.bufr")),
+    (&["-B", "b.csv", "-D", "d.csv", "--", "-B"], Some("-B")),
+];
+
+const TABLE_NAMES: TableNames<'static> = TableNames {
+    table_b: "b.csv",
+    table_d: "d.csv",
+};
+
+/// Words are understood as this command with this FILE.
+fn assert_parsed(
+    rt: &(impl Abort + AllocGlobal),
+    words: &[&str],
+    command: Subcommand<'_>,
+    file: Option<&str>,
+) {
+    let job = parse_line(rt.alloc(), words).expect(rt, "a job");
+    assert!(rt; job.command == command, "{words:?}");
+    assert!(rt; job.file == file, "{words:?}");
+}
+
+#[test]
+fn parses_lines_with_tables(rt: HostRuntime) {
+    let encodes = Subcommand::Encode(TABLE_NAMES, Form::AsWritten);
+    for (arguments, file) in &ARGUMENTS {
+        let words = words_behind(&rt, "dump", *arguments);
+        assert_parsed(&rt, words.as_slice(), Subcommand::Dump(TABLE_NAMES), *file);
+        let words = words_behind(&rt, "encode", *arguments);
+        assert_parsed(&rt, words.as_slice(), encodes, *file);
+    }
+}
+
+/// What stands behind `encode` with its tables, and the form that it asks for.
+static FORMS: [(&[&str], Form); 3] = [
+    (
+        &["-B", "b.csv", "-D", "d.csv", "--form", "plain"],
+        Form::Plain,
+    ),
+    (
+        &["--form=compressed", "-B", "b.csv", "-D", "d.csv"],
+        Form::Compressed,
+    ),
+    (&["-B", "b.csv", "-D", "d.csv"], Form::AsWritten),
+];
+
+#[test]
+fn parses_forms(rt: HostRuntime) {
+    for (arguments, form) in &FORMS {
+        let words = words_behind(&rt, "encode", *arguments);
+        let encodes = Subcommand::Encode(TABLE_NAMES, *form);
+        assert_parsed(&rt, words.as_slice(), encodes, None);
+    }
+    for word in ["other", "", "Plain", "plain ", "compress"] {
+        let words = ["bufr", "encode", "-B", "b", "-D", "d", "--form", word];
+        assert_usage(
+            &rt,
+            words.as_slice(),
+            "[possible values: plain, compressed]",
+        );
+    }
+    let twice = [
+        "bufr", "encode", "-B", "b", "-D", "d", "--form", "plain", "--form", "plain",
+    ];
+    assert_usage(&rt, twice.as_slice(), "cannot be used multiple times");
+    let of_dump = ["bufr", "dump", "-B", "b", "-D", "d", "--form", "plain"];
+    assert_usage(
+        &rt,
+        of_dump.as_slice(),
+        "unexpected argument '--form' found",
+    );
+}
+
+/// Asserts that a command line is not understood, and that its text says so.
+fn assert_usage(rt: &(impl Abort + AllocGlobal), words: &[&str], part: &str) {
+    match parse_line(rt.alloc(), words) {
+        Err(LineFault::Usage(text)) => assert!(rt; text.as_str().contains(part), "{text}"),
+        other => assert!(rt; false, "{words:?}: {other:?}"),
+    }
+}
+
+#[test]
+fn refuses_lines(rt: HostRuntime) {
+    static REFUSED: [(&[&str], &str); 6] = [
+        (&["bufr"], "Usage: bufr <COMMAND>"),
+        (&["/usr/bin/other"], "Usage: bufr <COMMAND>"),
+        (&["bufr", "lst"], "unrecognized subcommand 'lst'"),
+        (&["bufr", "ls", "a", "b"], "unexpected argument 'b' found"),
+        (
+            &["bufr", "ls", "--long"],
+            "unexpected argument '--long' found",
+        ),
+        (
+            &["bufr", "ls", "-B", "b.csv"],
+            "unexpected argument '-B' found",
+        ),
+    ];
+    for (words, part) in &REFUSED {
+        assert_usage(&rt, *words, *part);
+    }
+}
+
+#[test]
+fn refuses_lines_with_tables(rt: HostRuntime) {
+    static REFUSED: [(&[&str], &str); 7] = [
+        (
+            &["-B", "b", "-D", "d", "--long"],
+            "unexpected argument '--long' found",
+        ),
+        (
+            &[],
+            "required arguments were not provided:\n  -B <FILE>\n  -D <FILE>\n",
+        ),
+        (
+            &["-B", "b.csv"],
+            "required arguments were not provided:\n  -D <FILE>\n",
+        ),
+        (
+            &["-D", "d.csv", "x.bufr"],
+            "required arguments were not provided:\n  -B <FILE>\n",
+        ),
+        (&["-D", "d.csv", "-B"], "value is required"),
+        (
+            &["-B", "b", "-D", "d", "-B", "c"],
+            "cannot be used multiple times",
+        ),
+        (
+            &["-B", "b", "-D", "d", "x", "y"],
+            "unexpected argument 'y' found",
+        ),
+    ];
+    for (arguments, part) in &REFUSED {
+        let words = words_behind(&rt, "dump", *arguments);
+        assert_usage(&rt, words.as_slice(), *part);
+        let words = words_behind(&rt, "encode", *arguments);
+        assert_usage(&rt, words.as_slice(), *part);
+    }
+}
+
+/// Asserts that a command line asks for help, and that its text has these parts.
+fn assert_help(rt: &(impl Abort + AllocGlobal), words: &[&str], parts: &[&str]) {
+    match parse_line(rt.alloc(), words) {
+        Err(LineFault::Help(text)) => {
+            for part in parts {
+                assert!(rt; text.as_str().contains(*part), "{text}");
+            }
+        }
+        other => assert!(rt; false, "{words:?}: {other:?}"),
+    }
+}
+
+#[test]
+fn gives_help(rt: HostRuntime) {
+    static HELP: [(&[&str], &[&str]); 4] = [
+        (&["bufr", "--help"], &["Usage: bufr <COMMAND>"]),
+        (&["bufr", "ls", "--help"], &["Usage: bufr ls [FILE]"]),
+        (
+            &["bufr", "dump", "--help"],
+            &[
+                "Usage: bufr dump -B <FILE> -D <FILE> [FILE]",
+                "-B <FILE>",
+                "-D <FILE>",
+                "Exit status:",
+                "bufr dump -B b.csv -D d.csv",
+            ],
+        ),
+        (
+            &["bufr", "encode", "--help"],
+            &[
+                "Usage: bufr encode [OPTIONS] -B <FILE> -D <FILE> [FILE]",
+                "-B <FILE>",
+                "-D <FILE>",
+                "--form <WORD>",
+                "Exit status:",
+                "bufr encode -B b.csv -D d.csv",
+            ],
+        ),
+    ];
+    for (words, parts) in &HELP {
+        assert_help(&rt, *words, *parts);
+    }
+}
+
+/// Calls the program. A test sees only what a call left, so that its own proof does not have to
+/// carry the call's contract.
+fn call<'a, I: Inputs, W: Sink, E: Sink>(
+    alloc: Global,
+    words: &'a [&'static str],
+    inputs: &I,
+    w: &mut W,
+    e: &mut E,
+) -> u8 {
+    run(alloc, words, inputs, w, e)
+}
+
+/// Asserts what comes of a call: its status, its output, and what its errors hold, where they hold
+/// something.
+fn assert_called<'a, I: Inputs>(
+    rt: &(impl Abort + AllocGlobal),
+    words: &'a [&'static str],
+    inputs: &I,
+    status: u8,
+    output: &[u8],
+    errors: &str,
+) {
+    let mut w = ok(rt, ScriptOut::new(rt.alloc(), 4096, 4096, End::Fail));
+    let mut e = ok(rt, ScriptOut::new(rt.alloc(), 4096, 4096, End::Fail));
+    let answer = call(rt.alloc(), words, inputs, &mut w, &mut e);
+    assert_eq!(rt; answer, status, "{words:?}");
+    assert_eq!(rt; w.taken(), output, "{words:?}");
+    let told = str::from_utf8(e.taken()).expect(rt, "text");
+    assert!(rt; told.contains(errors), "{words:?}: {told}");
+    assert!(rt; told.is_empty() == errors.is_empty(), "{words:?}: {told}");
+}
+
+/// An input of one file and of standard input.
+#[derive(Drop)]
+struct Shelf<'a> {
+    name: &'a str,
+    file: &'a [u8],
+    standard: &'a [u8],
+}
+
+impl<'a> Inputs for Shelf<'a> {
+    ghost use Rattle.std.specs.Prelude.{Some, None, if◌then◌else◌};
+    ghost use Rattle.std.specs.Str.{bytes_eq};
+
+    type Standard = &'a [u8];
+
+    type File = &'a [u8];
+
+    ghost standard_octets = { λ s. Some s.standard.now };
+
+    ghost file_octets = { λ s name. if bytes_eq name s.name.now then Some s.file.now else None };
+
+    fn standard(&self) -> &'a [u8] {
+        self.standard
+    }
+
+    fn open(&self, name: &str) -> Result<&'a [u8], Unopened> {
+        if name == self.name {
+            Ok(self.file)
+        } else {
+            Err(Unopened)
+        }
+    }
+}
+
+/// What comes of a command line over one file, `one.bufr`, which has the message behind a stray
+/// word, and standard input, which has the message alone.
+#[test]
+fn runs_lines(rt: HostRuntime) {
+    static LISTED: [(&[&str], u8, &str, &str); 2] = [
+        (&["bufr", "ls"], 0, "0", ""),
+        (&["bufr", "ls", "one.bufr"], 1, "4", "offset 0: 1 cut\n"),
+    ];
+    static ROWS: [(&[&str], u8, &str, &str); 5] = [
+        (
+            &["bufr", "ls", "two.bufr"],
+            2,
+            "",
+            "bufr: cannot open two.bufr\n",
+        ),
+        (&["bufr", "ls", "-"], 2, "", "bufr: cannot open -\n"),
+        (&["bufr"], 2, "", "Usage: bufr <COMMAND>"),
+        (&["bufr", "--version"], 0, "bufr 0.1.0\n", ""),
+        (
+            &["bufr", "ls", "one.bufr", "two.bufr"],
+            2,
+            "",
+            "unexpected argument 'two.bufr' found",
+        ),
+    ];
+    let stray: &[u8] = b"BUFR";
+    let file = joined(&rt, &[stray, &ONE_BLOCK_NUMBER]);
+    let shelf = Shelf {
+        name: "one.bufr",
+        file: &file,
+        standard: &ONE_BLOCK_NUMBER,
+    };
+    for (words, status, offset, errors) in &LISTED {
+        let line = line_of_one(&rt, offset);
+        assert_called(&rt, *words, &shelf, *status, line.as_bytes(), *errors);
+    }
+    for (words, status, output, errors) in &ROWS {
+        assert_called(&rt, *words, &shelf, *status, output.as_bytes(), *errors);
+    }
+}
+
+/// Help is handed on; where it cannot be written the status says so.
+#[test]
+fn shows_help(rt: HostRuntime) {
+    let shelf = Shelf {
+        name: "",
+        file: b"",
+        standard: b"",
+    };
+    for words in [
+        ["bufr", "--help"].as_slice(),
+        ["bufr", "ls", "--help"].as_slice(),
+        ["bufr", "dump", "--help"].as_slice(),
+        ["bufr", "encode", "--help"].as_slice(),
+    ] {
+        let mut w = ok(&rt, ScriptOut::new(rt.alloc(), 4096, 4096, End::Zero));
+        let mut e = ok(&rt, ScriptOut::new(rt.alloc(), 4096, 4096, End::Zero));
+        assert_eq!(rt; call(rt.alloc(), words, &shelf, &mut w, &mut e), 0);
+        let told = str::from_utf8(w.taken()).expect(&rt, "text");
+        assert!(rt; told.contains("Exit status:"), "{told}");
+        assert!(rt; e.taken().is_empty());
+        let mut w = ok(&rt, ScriptOut::new(rt.alloc(), 4096, 4096, End::Flush));
+        assert_eq!(rt; call(rt.alloc(), words, &shelf, &mut w, &mut e), 2);
+        assert_eq!(rt; e.taken(), b"bufr: 71 write failed\n".as_slice());
+    }
+}
+
+/// The process's own files: one that is not there cannot be opened.
+#[test]
+fn opens_files_of_the_process(rt: HostRuntime) {
+    assert!(rt; rt.open("no such file.bufr").is_err());
+}
+
+/// A file that is read; a torn one fails where its octets end.
+#[derive(Drop)]
+struct Page<'a> {
+    octets: &'a [u8],
+    torn: bool,
+}
+
+impl<'a> Read for Page<'a> {
+    fn read(&mut self, buf: &mut [u8]) -> io::Result<usize> {
+        if self.torn && self.octets.is_empty() {
+            return Err(ErrorKind::Other.into());
+        }
+        self.octets.read(buf)
+    }
+}
+
+/// Tables, the file `one`, a torn one and standard input.
+#[derive(Drop)]
+struct Library<'a> {
+    one: &'a [u8],
+    standard: &'a [u8],
+}
+
+impl<'a> Inputs for Library<'a> {
+    ghost use Rattle.std.specs.Prelude.{None};
+
+    type Standard = Page<'a>;
+
+    type File = Page<'a>;
+
+    ghost standard_octets = { λ _. None };
+
+    ghost file_octets = { λ _ _. None };
+
+    fn standard(&self) -> Page<'a> {
+        Page {
+            octets: self.standard,
+            torn: false,
+        }
+    }
+
+    fn open(&self, name: &str) -> Result<Page<'a>, Unopened> {
+        let octets = if name == "b.csv" {
+            TABLE_B
+        } else if name == "d.csv" {
+            TABLE_D
+        } else if name == "cycle.csv" {
+            b"fxy,member\n300001,300002\n300002,300001\n"
+        } else if name == "one" {
+            self.one
+        } else if name == "torn" {
+            b"fxy"
+        } else if name == "torn.bufr" {
+            self.standard
+        } else {
+            return Err(Unopened);
+        };
+        let torn = name == "torn" || name == "torn.bufr";
+        Ok(Page { octets, torn })
+    }
+}
+
+/// What stands behind a command that takes tables, the status, whether its output is written, and
+/// what the errors hold; without it, they are those of the file `one`. Table B is read first, then
+/// Table D, then the input.
+static RUNS: [(&[&str], u8, bool, Option<&str>); 12] = [
+    (&["-B", "b.csv", "-D", "d.csv"], 0, true, Some("")),
+    (&["-B", "b.csv", "-D", "d.csv", "one"], 1, true, None),
+    (
+        &["-B", "b.csv", "-D", "d.csv", "two"],
+        2,
+        false,
+        Some("bufr: cannot open two\n"),
+    ),
+    (
+        &["-B", "no.csv", "-D", "none.csv"],
+        2,
+        false,
+        Some("bufr: cannot open no.csv\n"),
+    ),
+    (
+        &["-B", "b.csv", "-D", "none.csv", "two"],
+        2,
+        false,
+        Some("bufr: cannot open none.csv\n"),
+    ),
+    (
+        &["-B", "d.csv", "-D", "none.csv"],
+        2,
+        false,
+        Some("table B: 40 header\n"),
+    ),
+    (
+        &["-B", "b.csv", "-D", "b.csv", "two"],
+        2,
+        false,
+        Some("table D: 40 header\n"),
+    ),
+    (
+        &["-B", "b.csv", "-D", "cycle.csv", "two"],
+        2,
+        false,
+        Some("table D: 43 cycle 300001\n"),
+    ),
+    (
+        &["-B", "torn", "-D", "none.csv"],
+        2,
+        false,
+        Some("bufr: 70 read failed\n"),
+    ),
+    (
+        &["-B", "b.csv", "-D", "torn", "two"],
+        2,
+        false,
+        Some("bufr: 70 read failed\n"),
+    ),
+    (
+        &["-B", "b.csv", "-D", "d.csv", "torn"],
+        2,
+        false,
+        Some("bufr: 70 read failed\n"),
+    ),
+    (
+        &["-D", "d.csv"],
+        2,
+        false,
+        Some("required arguments were not provided"),
+    ),
+];
+
+/// Runs a command over these inputs, and asserts what comes of it: `output` of each input, and
+/// these errors of the file `one`.
+fn assert_runs(
+    rt: &(impl Abort + AllocGlobal),
+    command: &'static str,
+    library: &Library<'_>,
+    output: &[u8],
+    errors: &str,
+) {
+    for (arguments, status, written, other) in &RUNS {
+        let words = words_behind(rt, command, *arguments);
+        let want = if *written { output } else { b"" };
+        let errors = other.unwrap_or(errors);
+        assert_called(rt, words.as_slice(), library, *status, want, errors);
+    }
+}
+
+/// A file that is torn behind its message: the message's line is handed on, and the fault is told.
+#[test]
+fn lists_a_torn_file(rt: HostRuntime) {
+    let library = Library {
+        one: b"",
+        standard: &ONE_BLOCK_NUMBER,
+    };
+    let words = ["bufr", "ls", "torn.bufr"];
+    let want = line_of_one(&rt, "0");
+    let fault = "bufr: 70 read failed\n";
+    assert_called(&rt, words.as_slice(), &library, 2, want.as_bytes(), fault)
+}
+
+/// A writer that is full, and counts the writes that it is given.
+#[derive(Drop)]
+struct Full<'a> {
+    writes: &'a Cell<usize>,
+}
+
+impl<'a> Write for Full<'a> {
+    fn write(&mut self, _buf: &[u8]) -> io::Result<usize> {
+        self.writes.set(self.writes.get().saturating_add(1));
+        Err(ErrorKind::Other.into())
+    }
+
+    fn flush(&mut self) -> io::Result<()> {
+        Ok(())
+    }
+}
+
+/// A write that failed is not tried again, neither by the run, nor by a flush, nor at the writer's
+/// end.
+#[test]
+fn tries_no_write_again(rt: HostRuntime) {
+    let shelf = Shelf {
+        name: "",
+        file: b"",
+        standard: &ONE_BLOCK_NUMBER,
+    };
+    let writes = Cell::new(0);
+    let full = BufWriter::with_capacity(rt.alloc(), 1000, Full { writes: &writes });
+    let mut w = Device::new(Buffered::new(full.expect(&rt, "memory")));
+    let mut e = ok(&rt, ScriptOut::new(rt.alloc(), 4096, 4096, End::Fail));
+    let words = ["bufr", "ls"].as_slice();
+    assert_eq!(rt; call(rt.alloc(), words, &shelf, &mut w, &mut e), 2);
+    assert!(rt; w.flush().is_err());
+    drop(w);
+    assert_eq!(rt; writes.get(), 1);
+    assert_eq!(rt; e.taken(), b"bufr: 71 write failed\n".as_slice());
+}
+
+/// The file has a stray word before the message.
+#[test]
+fn runs_dump_lines(rt: HostRuntime) {
+    let stray: &[u8] = b"BUFR";
+    let one = joined(&rt, &[stray, &ONE_BLOCK_NUMBER]);
+    let library = Library {
+        one: &one,
+        standard: &ONE_BLOCK_NUMBER,
+    };
+    let errors = "offset 0: 1 cut\n";
+    assert_runs(&rt, "dump", &library, TEXT_OF_ONE.as_bytes(), errors)
+}
+
+/// The file has a line behind the document that may not stand there.
+#[test]
+fn runs_encode_lines(rt: HostRuntime) {
+    let mut one = String::new(rt.alloc());
+    ok(&rt, one.push_str(TEXT_OF_ONE));
+    ok(&rt, one.push_str("subset 1\n"));
+    let library = Library {
+        one: one.as_bytes(),
+        standard: TEXT_OF_ONE.as_bytes(),
+    };
+    let errors = "line 26: 50 line\n";
+    assert_runs(&rt, "encode", &library, &ONE_BLOCK_NUMBER, errors)
+}
+
+#[test]
+fn reads_all(rt: HostRuntime) {
+    let mut r = ScriptIn::new(&ONE_BLOCK_NUMBER, 7, None);
+    let octets = read_all(rt.alloc(), &mut r).expect(&rt, "the octets");
+    assert_eq!(rt; octets.as_slice(), ONE_BLOCK_NUMBER.as_slice());
+    let mut r = ScriptIn::new(&ONE_BLOCK_NUMBER, 7, Some(20));
+    assert!(rt; matches!(read_all(rt.alloc(), &mut r), Err(RunFault::Read)));
+}
+
+/// What `finish` answers, and what it wrote to a writer with this room.
+fn finished(
+    rt: &(impl Abort + AllocGlobal),
+    outcome: &Outcome<'_>,
+    room: usize,
+    end: End,
+) -> (u8, ScriptOut) {
+    let mut e = ok(rt, ScriptOut::new(rt.alloc(), room, 3, end));
+    let status = finish(outcome, &mut e);
+    (status, e)
+}
+
+/// Asserts what `finish` writes and answers, also where it cannot write.
+fn assert_finished(rt: &(impl Abort + AllocGlobal), outcome: &Outcome<'_>, line: &str, status: u8) {
+    let (answer, e) = finished(rt, outcome, 100, End::Fail);
+    assert_eq!(rt; answer, status, "{line}");
+    assert_eq!(rt; e.taken(), line.as_bytes(), "{line}");
+    let (answer, _) = finished(rt, outcome, 4, End::Zero);
+    assert_eq!(rt; answer, status, "{line}");
+}
+
+#[test]
+fn finishes(rt: HostRuntime) {
+    let clean = Tally {
+        accepted: 3,
+        refused: 0,
+    };
+    let refusing = Tally {
+        accepted: 3,
+        refused: 1,
+    };
+    assert_finished(&rt, &Outcome::Ran(clean), "", 0);
+    assert_finished(&rt, &Outcome::Ran(refusing), "", 1);
+    let usage = "error: no command\n";
+    assert_finished(&rt, &Outcome::Usage(usage), usage, 2);
+    let line = "bufr: cannot open x.bufr\n";
+    assert_finished(&rt, &Outcome::CannotOpen("x.bufr"), line, 2);
+    static FAULTS: [(RunFault, &str); 4] = [
+        (RunFault::Read, "bufr: 70 read failed\n"),
+        (RunFault::Write, "bufr: 71 write failed\n"),
+        (RunFault::InputTooLong, "bufr: 72 input too long\n"),
+        (RunFault::Memory, "bufr: 73 out of memory\n"),
+    ];
+    for (fault, line) in &FAULTS {
+        assert_finished(&rt, &Outcome::Run(*fault), line, 2);
+    }
+}
+
+#[test]
+fn finishes_tables(rt: HostRuntime) {
+    let block = Fxy::from_word(0x0101);
+    let sequence = Fxy::from_word(0xC001);
+    let b = Outcome::TableB(TableFault::Header);
+    assert_finished(&rt, &b, "table B: 40 header\n", 2);
+    let b = Outcome::TableB(TableFault::Row(18_446_744_073_709_551_615));
+    assert_finished(&rt, &b, "table B: 41 row 18446744073709551615\n", 2);
+    let b = Outcome::TableB(TableFault::Duplicate(block));
+    assert_finished(&rt, &b, "table B: 42 duplicate 001001\n", 2);
+    let b = Outcome::TableB(TableFault::Csv);
+    assert_finished(&rt, &b, "table B: 45 csv\n", 2);
+    let b = Outcome::TableB(TableFault::Memory);
+    assert_finished(&rt, &b, "bufr: 73 out of memory\n", 2);
+    let d = Outcome::TableD(TableFault::Row(2));
+    assert_finished(&rt, &d, "table D: 41 row 2\n", 2);
+    let d = Outcome::TableD(TableFault::Duplicate(sequence));
+    assert_finished(&rt, &d, "table D: 42 duplicate 300001\n", 2);
+    let d = Outcome::TableD(TableFault::TableSize);
+    assert_finished(&rt, &d, "table D: 44 table size\n", 2);
+    let d = Outcome::TableD(TableFault::Memory);
+    assert_finished(&rt, &d, "bufr: 73 out of memory\n", 2);
+    let rows = b"fxy,member\n300001,300002\n300002,300001\n";
+    let fault = TableD::read(rt.alloc(), rows).err().expect(&rt, "a fault");
+    let d = Outcome::TableD(fault);
+    assert_finished(&rt, &d, "table D: 43 cycle 300001\n", 2)
+}
