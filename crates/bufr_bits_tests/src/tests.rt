@@ -1,7 +1,7 @@
 //! The worked examples, each public call once on its happy path, and `get` against single bits.
 ghost use Rattle.std.specs.Prelude.{◌≤◌, length};
 
-use crate::ok;
+use crate::{assert_same, ok};
 use bufr_bits::{
     BitSlice, BitWriter, Device, End, Failed, NumberFault, ScriptIn, ScriptOut, Sink, Source,
     decimal_read, decimal_text,
@@ -71,18 +71,34 @@ fn read_decimal(text: &[u8], scale: i16) -> Result<i128, NumberFault> {
     decimal_read(text, scale)
 }
 
+/// Asserts which number stands at a place. So do the next ones, each of what it names.
+fn assert_number(rt: &impl Abort, octets: &[u8], at: u64, width: u32, want: Option<u64>)
+    requires few { length octets.now ≤ 100000 }
+    requires narrow { width ≤ 63 }
+{
+    assert_same(rt, &number_at(octets, at, width), &want, &(at, width));
+}
+
+fn assert_octet(rt: &impl Abort, octets: &[u8], at: u64, want: Option<u8>)
+    requires { length octets.now ≤ 100000 }
+{
+    assert_same(rt, &octet_at(octets, at), &want, &at);
+}
+
+fn assert_ones(rt: &impl Abort, octets: &[u8], at: u64, width: u32, want: Option<bool>)
+    requires { length octets.now ≤ 100000 }
+{
+    assert_same(rt, &all_ones(octets, at, width), &want, &(at, width));
+}
+
 #[test]
 fn get_is_bit_by_bit(rt: HostRuntime) {
     let bits = BitSlice::new(&NINE);
-    assert_eq!(rt; bits.len_bits(), 72);
+    assert_same(&rt, &bits.len_bits(), &72, &"length");
     for at in 0..74 {
         for width in 0..64 {
             if at <= 72 || width > 0 {
-                assert_eq!(rt;
-                    number_at(&NINE, at, width),
-                    bit_by_bit(&NINE, at, width),
-                    "at {at}, {width} bits"
-                );
+                assert_number(&rt, &NINE, at, width, bit_by_bit(&NINE, at, width));
             }
         }
     }
@@ -103,36 +119,59 @@ const NUMBERS_AT_THE_ENDS: &[(u64, u32, Option<u64>)] = &[
 #[test]
 fn get_at_the_ends(rt: HostRuntime) {
     for (at, width, want) in NUMBERS_AT_THE_ENDS {
-        assert_eq!(rt;
-            number_at(&NINE, *at, *width),
-            *want,
-            "at {at}, {width} bits"
-        );
+        assert_number(&rt, &NINE, *at, *width, *want);
     }
     for (at, want) in OCTETS_AT_THE_ENDS {
-        assert_eq!(rt; octet_at(&NINE, *at), *want, "at {at}");
+        assert_octet(&rt, &NINE, *at, *want);
     }
+}
+
+/// Places, counts of octets, and the octets that stand there.
+const BORROWED_OCTETS: &[(u64, usize, Option<&[u8]>)] = &[
+    (56, 2, Some(b"\xEF\x01")),
+    (72, 0, Some(b"")),
+    (57, 1, None),
+    (64, 2, None),
+    (80, 0, None),
+];
+
+/// Asserts which octets are borrowed at a place.
+fn assert_borrowed(rt: &impl Abort, at: u64, count: usize, want: Option<&[u8]>) {
+    let octets = BitSlice::new(&NINE).octets(at, count);
+    assert_same(rt, &octets, &want, &(at, count));
 }
 
 #[test]
 fn octets_are_borrowed_where_they_begin(rt: HostRuntime) {
-    let bits = BitSlice::new(&NINE);
-    assert_eq!(rt; bits.octets(56, 2), Some([0xEF, 0x01].as_slice()));
-    assert_eq!(rt; bits.octets(72, 0), Some([].as_slice()));
-    assert_eq!(rt; bits.octets(57, 1), None);
-    assert_eq!(rt; bits.octets(64, 2), None);
-    assert_eq!(rt; bits.octets(80, 0), None);
+    for (at, count, want) in BORROWED_OCTETS {
+        assert_borrowed(&rt, *at, *count, *want);
+    }
+}
+
+/// What a read answers.
+fn read<R: Source>(source: &mut R, buf: &mut [u8]) -> Result<usize, Failed> {
+    source.read(buf)
 }
 
 #[test]
 fn script_in_keeps_to_its_script(rt: HostRuntime) {
     let mut source = ScriptIn::new(b"abcdefg", 3, Some(5));
     let mut buf = [0u8; 4];
-    let want = [Ok(3), Ok(2), Err(Failed), Err(Failed)];
-    for answer in want {
-        assert_eq!(rt; source.read(&mut buf), answer);
-    }
-    assert_eq!(rt; buf.as_slice(), b"dec\0".as_slice());
+    assert_same(&rt, &read(&mut source, &mut buf), &Ok(3), &"first read");
+    assert_same(&rt, &read(&mut source, &mut buf), &Ok(2), &"second read");
+    assert_same(
+        &rt,
+        &read(&mut source, &mut buf),
+        &Err(Failed),
+        &"third read",
+    );
+    assert_same(
+        &rt,
+        &read(&mut source, &mut buf),
+        &Err(Failed),
+        &"fourth read",
+    );
+    assert_same(&rt, &buf, b"dec\0", &"octets");
 }
 
 /// What a write answers.
@@ -153,12 +192,12 @@ fn assert_script(
     flushed: Result<(), Failed>,
 ) {
     let mut sink = ok(rt, ScriptOut::new(rt.alloc(), 5, 3, end));
-    assert_eq!(rt; write(&mut sink, b""), Ok(0));
-    assert_eq!(rt; write(&mut sink, b"abcd"), Ok(3));
-    assert_eq!(rt; write(&mut sink, b"def"), Ok(2));
-    assert_eq!(rt; write(&mut sink, b"fg"), at_the_end);
-    assert_eq!(rt; flush(&mut sink), flushed);
-    assert_eq!(rt; sink.taken(), b"abcde".as_slice());
+    assert_same(rt, &write(&mut sink, b""), &Ok(0), &end);
+    assert_same(rt, &write(&mut sink, b"abcd"), &Ok(3), &end);
+    assert_same(rt, &write(&mut sink, b"def"), &Ok(2), &end);
+    assert_same(rt, &write(&mut sink, b"fg"), &at_the_end, &end);
+    assert_same(rt, &flush(&mut sink), &flushed, &end);
+    assert_same(rt, &sink.taken(), &b"abcde".as_slice(), &end);
 }
 
 #[test]
@@ -170,26 +209,26 @@ fn script_out_keeps_to_its_script(rt: HostRuntime) {
 
 /// What a read of two octets answers.
 fn read_two<R: Source>(source: &mut R) -> Result<usize, Failed> {
-    source.read(&mut [0u8; 2])
+    read(source, &mut [0u8; 2])
 }
 
 #[test]
 fn device_reads_and_writes(rt: HostRuntime) {
     let mut source = Device::new(b"abc".as_slice());
-    assert_eq!(rt; read_two(&mut source), Ok(2));
-    assert_eq!(rt; read_two(&mut source), Ok(1));
-    assert_eq!(rt; read_two(&mut source), Ok(0));
+    assert_same(&rt, &read_two(&mut source), &Ok(2), &"first read");
+    assert_same(&rt, &read_two(&mut source), &Ok(1), &"second read");
+    assert_same(&rt, &read_two(&mut source), &Ok(0), &"third read");
     let mut sink = Device::new(Vec::new(rt.alloc()));
-    assert_eq!(rt; write(&mut sink, b"abc"), Ok(3));
-    assert_eq!(rt; flush(&mut sink), Ok(()));
+    assert_same(&rt, &write(&mut sink, b"abc"), &Ok(3), &"write");
+    assert_same(&rt, &flush(&mut sink), &Ok(()), &"flush");
 }
 
 #[test]
 fn device_fails_where_its_reader_or_writer_does(rt: HostRuntime) {
     let mut device = Device::new(Broken);
-    assert_eq!(rt; read_two(&mut device), Err(Failed));
-    assert_eq!(rt; write(&mut device, b"abc"), Err(Failed));
-    assert_eq!(rt; flush(&mut device), Err(Failed));
+    assert_same(&rt, &read_two(&mut device), &Err(Failed), &"read");
+    assert_same(&rt, &write(&mut device, b"abc"), &Err(Failed), &"write");
+    assert_same(&rt, &flush(&mut device), &Err(Failed), &"flush");
 }
 
 /// Of fifteen ones and a zero: a place, a width, and whether these are ones.
@@ -204,90 +243,124 @@ const ONES_AND_A_ZERO: &[(u64, u32, Option<bool>)] = &[
 #[test]
 fn all_ones_at_any_width(rt: HostRuntime) {
     for (at, width, want) in ONES_AND_A_ZERO {
-        assert_eq!(rt;
-            all_ones(&[0xFF, 0xFE], *at, *width),
-            *want,
-            "at {at}, {width} bits"
-        );
+        assert_ones(&rt, &[0xFF, 0xFE], *at, *width, *want);
     }
-    // One zero bit among ones: it is found wherever it stands.
+}
+
+/// One zero bit among ones is found wherever it stands.
+#[test]
+fn one_zero_among_ones(rt: HostRuntime) {
     let mut octets = [0xFFu8; 40];
-    assert_eq!(rt; all_ones(&octets, 3, 317), Some(true));
+    assert_ones(&rt, &octets, 3, 317, Some(true));
     octets[20] = 0xF7;
     for at in 0..172 {
         for width in 0..148 {
             let ones = at + u64::from(width) <= 164 || at > 164;
-            assert_eq!(rt;
-                all_ones(&octets, at, width),
-                Some(ones),
-                "at {at}, {width} bits"
-            );
+            assert_ones(&rt, &octets, at, width, Some(ones));
         }
     }
 }
 
+/// Three bits and an octet, as they are written.
+fn eleven_bits(rt: &(impl Abort + AllocGlobal)) -> Vec<u8> {
+    let mut writer = BitWriter::new(rt.alloc());
+    ok(rt, writer.push(5, 3));
+    ok(rt, writer.push_octets(&[0xAB]));
+    assert_same(rt, &writer.len_bits(), &11, &"length");
+    writer.into_octets()
+}
+
 #[test]
 fn bits_are_pushed(rt: HostRuntime) {
+    let octets = eleven_bits(&rt);
+    assert_same(&rt, &octets.as_slice(), &b"\xB5\x60".as_slice(), &"octets");
+    assert!(rt; octets.len() == 2);
+    assert_number(&rt, &octets, 3, 8, Some(171));
+    assert_number(&rt, &octets, 16, 0, Some(0));
+    assert_number(&rt, &octets, 16, 1, None);
+}
+
+/// The first of nineteen bits, all of them where there are no more, and a one behind them.
+fn cut_off(rt: &(impl Abort + AllocGlobal), bits: u32) -> Vec<u8> {
     let mut writer = BitWriter::new(rt.alloc());
-    ok(&rt, writer.push(5, 3));
-    ok(&rt, writer.push_octets(&[0xAB]));
-    assert_eq!(rt; writer.len_bits(), 11);
-    let octets = writer.into_octets();
-    assert_eq!(rt; octets.as_slice(), [0xB5, 0x60].as_slice());
-    assert_eq!(rt; octets.len(), 2);
-    assert_eq!(rt; number_at(&octets, 3, 8), Some(171));
-    assert_eq!(rt; number_at(&octets, 16, 0), Some(0));
-    assert_eq!(rt; number_at(&octets, 16, 1), None);
+    ok(rt, writer.push_octets(&[0xA5, 0xFF]));
+    ok(rt, writer.push(5, 3));
+    writer.truncate(u64::from(bits));
+    assert_same(rt, &writer.len_bits(), &u64::from(bits.min(19)), &bits);
+    ok(rt, writer.push(1, 1));
+    writer.into_octets()
 }
 
 #[test]
 fn bits_are_cut_off(rt: HostRuntime) {
     for bits in 0..22u32 {
-        let kept = bits.min(19);
-        let mut writer = BitWriter::new(rt.alloc());
-        ok(&rt, writer.push_octets(&[0xA5, 0xFF]));
-        ok(&rt, writer.push(5, 3));
-        writer.truncate(u64::from(bits));
-        assert_eq!(rt; writer.len_bits(), u64::from(kept));
-        ok(&rt, writer.push(1, 1));
-        let octets = writer.into_octets();
+        let octets = cut_off(&rt, bits);
         assert!(rt; octets.len() < 4);
+        let kept = bits.min(19);
         let number = (0x5_2FFD >> (19 - kept)) * 2 + 1;
-        assert_eq!(rt; number_at(&octets, 0, kept + 1), Some(number));
+        assert_number(&rt, &octets, 0, kept + 1, Some(number));
     }
+}
+
+/// Of these the lowest bits are pushed, as many as a width has.
+const PUSHED: &[u64] = &[0, 1, u64::MAX, 0x5A5A_5A5A_5A5A_5A5A];
+
+/// Pushes the lowest bits of a value.
+fn push_lowest(rt: &impl Abort, writer: &mut BitWriter, value: u64, width: u32)
+    requires { width ≤ 63 }
+{
+    assert!(rt; writer.len_bits() < 100_000);
+    ok(rt, writer.push(value % (1 << width), width));
+}
+
+/// Pushes the nine octets.
+fn push_nine(rt: &impl Abort, writer: &mut BitWriter) {
+    assert!(rt; writer.len_bits() < 100_000);
+    ok(rt, writer.push_octets(&NINE));
+}
+
+/// A writer to which the values were pushed at each width, and the nine octets behind them.
+fn pushed_at_every_width(rt: &(impl Abort + AllocGlobal)) -> BitWriter {
+    let mut writer = BitWriter::new(rt.alloc());
+    for width in 0..64u32 {
+        for value in PUSHED {
+            push_lowest(rt, &mut writer, *value, width);
+        }
+        push_nine(rt, &mut writer);
+    }
+    writer
+}
+
+/// Asserts that the values of a width and the nine octets stand at a place, and gives the place
+/// behind them.
+fn assert_width(rt: &impl Abort, octets: &[u8], at: u64, width: u32) -> u64
+    requires few { length octets.now ≤ 100000 }
+    requires narrow { width ≤ 63 }
+{
+    let mut place = at;
+    for value in PUSHED {
+        assert_number(rt, octets, place, width, Some(*value % (1 << width)));
+        place = place.saturating_add(u64::from(width));
+    }
+    for octet in &NINE {
+        assert_octet(rt, octets, place, Some(*octet));
+        place = place.saturating_add(8);
+    }
+    place
 }
 
 #[test]
 fn pushes_of_every_width(rt: HostRuntime) {
-    let mut writer = BitWriter::new(rt.alloc());
-    for width in 0..64u32 {
-        for value in [0, 1, (1 << width) - 1, 0x5A5A_5A5A_5A5A_5A5A] {
-            assert!(rt; writer.len_bits() < 100_000);
-            ok(&rt, writer.push(value % (1 << width), width));
-        }
-        assert!(rt; writer.len_bits() < 100_000);
-        ok(&rt, writer.push_octets(&NINE));
-    }
+    let writer = pushed_at_every_width(&rt);
     let length = writer.len_bits();
     let octets = writer.into_octets();
-    assert_eq!(rt; octets.len() as u64, length.div_ceil(8));
+    assert_same(&rt, &(octets.len() as u64), &length.div_ceil(8), &"octets");
     assert!(rt; octets.len() < 100_000);
     let mut at = 0u64;
     for width in 0..64u32 {
-        for value in [0, 1, (1 << width) - 1, 0x5A5A_5A5A_5A5A_5A5A] {
-            assert_eq!(rt;
-                number_at(&octets, at, width),
-                Some(value % (1 << width)),
-                "{width} bits"
-            );
-            at = at.saturating_add(u64::from(width));
-        }
-        for octet in NINE {
-            assert_eq!(rt; octet_at(&octets, at), Some(octet));
-            at = at.saturating_add(8);
-        }
+        at = assert_width(&rt, &octets, at, width);
     }
-    assert_eq!(rt; at, length);
+    assert_same(&rt, &at, &length, &"length");
 }
 
 const DECIMAL_TEXTS: &[(i128, i16, &[u8])] = &[
@@ -308,12 +381,17 @@ const DECIMAL_TEXTS: &[(i128, i16, &[u8])] = &[
 #[test]
 fn decimal_texts(rt: HostRuntime) {
     for (v, scale, want) in DECIMAL_TEXTS {
-        let mut out = Vec::new(rt.alloc());
-        put_decimal(&rt, *v, *scale, &mut out);
-        put_decimal(&rt, *v, *scale, &mut out);
-        assert_eq!(rt; out.len() / 2, want.len(), "{v} at {scale}");
+        assert_length_of_two(&rt, *v, *scale, want.len());
         assert_text(&rt, *v, *scale, want);
     }
+}
+
+/// Asserts that a number that is put twice, one behind the other, takes twice so many octets.
+fn assert_length_of_two(rt: &(impl Abort + AllocGlobal), v: i128, scale: i16, want: usize) {
+    let mut out = Vec::new(rt.alloc());
+    put_decimal(rt, v, scale, &mut out);
+    put_decimal(rt, v, scale, &mut out);
+    assert_same(rt, &(out.len() / 2), &want, &(v, scale));
 }
 
 /// A number as text at scale -300: its sign, its digits, and 300 zeros.
@@ -341,8 +419,13 @@ fn fraction_of(rt: &(impl Abort + AllocGlobal), sign: &[u8], digits: &[u8]) -> V
 fn assert_text(rt: &(impl Abort + AllocGlobal), v: i128, scale: i16, want: &[u8]) {
     let mut out = Vec::new(rt.alloc());
     put_decimal(rt, v, scale, &mut out);
-    assert_eq!(rt; out.as_slice(), want, "{v} at {scale}");
-    assert_eq!(rt; read_decimal(&out, scale), Ok(v), "{v} at {scale}");
+    assert_same(rt, &out.as_slice(), &want, &(v, scale));
+    assert_reading(rt, &out, scale, Ok(v));
+}
+
+/// Asserts what is read from a text at a scale.
+fn assert_reading(rt: &impl Abort, text: &[u8], scale: i16, want: Result<i128, NumberFault>) {
+    assert_same(rt, &read_decimal(text, scale), &want, &(text, scale));
 }
 
 const NUMBERS_AT_THE_END: &[(i128, &[u8], &[u8])] = &[
@@ -409,11 +492,16 @@ const DECIMAL_READINGS: &[(&[u8], i16, Result<i128, NumberFault>)] = &[
     ),
 ];
 
+/// Asserts what is read from each text.
+fn assert_readings(rt: &impl Abort, rows: &[(&[u8], i16, Result<i128, NumberFault>)]) {
+    for (text, scale, want) in rows {
+        assert_reading(rt, text, *scale, *want);
+    }
+}
+
 #[test]
 fn decimal_readings(rt: HostRuntime) {
-    for (text, scale, want) in DECIMAL_READINGS {
-        assert_eq!(rt; read_decimal(text, *scale), *want, "{text:?} at {scale}");
-    }
+    assert_readings(&rt, DECIMAL_READINGS);
 }
 
 const DECIMAL_READINGS_OF_64_BITS: &[(&[u8], i16, Result<i128, NumberFault>)] = &[
@@ -453,7 +541,5 @@ const DECIMAL_READINGS_OF_64_BITS: &[(&[u8], i16, Result<i128, NumberFault>)] = 
 
 #[test]
 fn decimal_readings_of_64_bits(rt: HostRuntime) {
-    for (text, scale, want) in DECIMAL_READINGS_OF_64_BITS {
-        assert_eq!(rt; read_decimal(text, *scale), *want, "{text:?} at {scale}");
-    }
+    assert_readings(&rt, DECIMAL_READINGS_OF_64_BITS);
 }

@@ -5,6 +5,8 @@
 #![tactic(auto)]
 
 #[cfg(test)]
+use std::fmt::Debug;
+#[cfg(test)]
 use std::process::Abort;
 
 #[cfg(test)]
@@ -22,4 +24,17 @@ pub(crate) fn ok<T, E: Drop>(rt: &impl Abort, answer: Result<T, E>) -> T {
         Ok(value) => value,
         Err(_) => panic!(rt; "a call failed"),
     }
+}
+
+/// Asserts that what was told is what was wanted, and shows the case where it is not. A test would
+/// carry the way out of each `assert_eq!` through its proof, with the text that is made there; this
+/// call is one step.
+#[cfg(test)]
+pub(crate) fn assert_same<T: Debug + PartialEq, C: Debug>(
+    rt: &impl Abort,
+    told: &T,
+    want: &T,
+    case: &C,
+) {
+    assert_eq!(rt; told, want, "for {case:?}");
 }

@@ -189,20 +189,25 @@ static REFUSED: [Refused; 20] = [
     },
 ];
 
+/// A message is refused at its fault.
+fn assert_refused(rt: &(impl Abort + AllocGlobal), row: &Refused) {
+    let message = message_in(rt, row.subsets, row.flags, row.descriptors, row.data);
+    let line = ok(rt, format!(in rt.alloc(); "offset 0: {}", row.fault));
+    assert_run(
+        rt,
+        Command::Dump,
+        row.name,
+        &message,
+        b"",
+        line.as_bytes(),
+        ONE_REFUSED,
+    );
+}
+
 #[test]
 fn refuses_worked_examples(rt: HostRuntime) {
     for row in &REFUSED {
-        let message = message_in(&rt, row.subsets, row.flags, row.descriptors, row.data);
-        let line = ok(&rt, format!(in rt.alloc(); "offset 0: {}", row.fault));
-        assert_run(
-            &rt,
-            Command::Dump,
-            row.name,
-            &message,
-            b"",
-            line.as_bytes(),
-            ONE_REFUSED,
-        );
+        assert_refused(&rt, row);
     }
 }
 

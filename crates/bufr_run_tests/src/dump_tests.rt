@@ -242,20 +242,25 @@ static DUMPED: [Dumped; 24] = [
     },
 ];
 
+/// A message is dumped to its text.
+fn assert_row_dumped(rt: &(impl Abort + AllocGlobal), row: &Dumped) {
+    let message = message_in(rt, row.subsets, row.flags, row.descriptors, row.data);
+    let text = text_of(rt, row.subsets, row.flags, row.descriptors, row.body);
+    assert_run(
+        rt,
+        Command::Dump,
+        row.name,
+        &message,
+        text.as_bytes(),
+        b"",
+        ONE_ACCEPTED,
+    );
+}
+
 #[test]
 fn dumps_worked_examples(rt: HostRuntime) {
     for row in &DUMPED {
-        let message = message_in(&rt, row.subsets, row.flags, row.descriptors, row.data);
-        let text = text_of(&rt, row.subsets, row.flags, row.descriptors, row.body);
-        assert_run(
-            &rt,
-            Command::Dump,
-            row.name,
-            &message,
-            text.as_bytes(),
-            b"",
-            ONE_ACCEPTED,
-        );
+        assert_row_dumped(&rt, row);
     }
 }
 
@@ -264,15 +269,20 @@ fn assert_dumped(rt: &(impl Abort + AllocGlobal), name: &str, message: &[u8], te
     assert_run(rt, Command::Dump, name, message, text, b"", ONE_ACCEPTED)
 }
 
+/// What was dumped of a message and encoded is dumped as before.
+fn assert_dumped_as_before(rt: &(impl Abort + AllocGlobal), row: &Dumped) {
+    let message = message_in(rt, row.subsets, row.flags, row.descriptors, row.data);
+    let text = run_whole(rt, Command::Dump, &message);
+    let octets = run_whole(rt, Command::Encode, text.output());
+    assert!(rt; !octets.output().is_empty(), "{}", row.name);
+    assert_dumped(rt, row.name, octets.output(), text.output());
+}
+
 /// What was dumped and encoded is dumped as before.
 #[test]
 fn dumps_what_was_encoded(rt: HostRuntime) {
     for row in &DUMPED {
-        let message = message_in(&rt, row.subsets, row.flags, row.descriptors, row.data);
-        let text = run_whole(&rt, Command::Dump, &message);
-        let octets = run_whole(&rt, Command::Encode, text.output());
-        assert!(rt; !octets.output().is_empty(), "{}", row.name);
-        assert_dumped(&rt, row.name, octets.output(), text.output());
+        assert_dumped_as_before(&rt, row);
     }
 }
 

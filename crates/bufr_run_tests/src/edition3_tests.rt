@@ -126,32 +126,37 @@ static LAYOUTS: [Layout; 9] = [
     },
 ];
 
+/// A layout is dumped to its text, which is encoded with even sections 3 and 4.
+fn assert_laid_out(rt: &(impl Abort + AllocGlobal), row: &Layout) {
+    let octets = octets_in(rt, row.octets);
+    let again = octets_in(rt, row.again);
+    let text = text_with(rt, row.optional, row.local);
+    let text = text.as_bytes();
+    assert_run(
+        rt,
+        Command::Dump,
+        row.name,
+        &octets,
+        text,
+        b"",
+        ONE_ACCEPTED,
+    );
+    assert_run(
+        rt,
+        Command::Encode,
+        row.name,
+        text,
+        &again,
+        b"",
+        ONE_ACCEPTED,
+    );
+}
+
 /// Each layout is dumped to its text, which is encoded with even sections 3 and 4.
 #[test]
 fn dumps_and_encodes_each_layout(rt: HostRuntime) {
     for row in &LAYOUTS {
-        let octets = octets_in(&rt, row.octets);
-        let again = octets_in(&rt, row.again);
-        let text = text_with(&rt, row.optional, row.local);
-        let text = text.as_bytes();
-        assert_run(
-            &rt,
-            Command::Dump,
-            row.name,
-            &octets,
-            text,
-            b"",
-            ONE_ACCEPTED,
-        );
-        assert_run(
-            &rt,
-            Command::Encode,
-            row.name,
-            text,
-            &again,
-            b"",
-            ONE_ACCEPTED,
-        );
+        assert_laid_out(&rt, row);
     }
 }
 
@@ -201,16 +206,21 @@ fn lists_editions_side_by_side(rt: HostRuntime) {
     )
 }
 
+/// A layout that is cut behind an octet is told as cut.
+fn assert_cut_anywhere(rt: &(impl Abort + AllocGlobal), row: &Layout) {
+    let whole = octets_in(rt, row.octets);
+    for length in 4..whole.len() {
+        let front = whole.get(..length).unwrap_or(b"");
+        let line = b"offset 0: 1 cut\n";
+        assert_run(rt, Command::Dump, row.name, front, b"", line, ONE_REFUSED);
+    }
+}
+
 /// Cut behind each octet but the last: from four octets on it is told as cut.
 #[test]
 fn tells_a_cut_anywhere(rt: HostRuntime) {
     for row in &LAYOUTS {
-        let whole = octets_in(&rt, row.octets);
-        for length in 4..whole.len() {
-            let front = whole.get(..length).unwrap_or(b"");
-            let line = b"offset 0: 1 cut\n";
-            assert_run(&rt, Command::Dump, row.name, front, b"", line, ONE_REFUSED);
-        }
+        assert_cut_anywhere(&rt, row);
     }
 }
 

@@ -370,26 +370,31 @@ static TOLD: [ToldDocument; 47] = [
     },
 ];
 
+/// A document is encoded, or refused at its line.
+fn assert_told(rt: &(impl Abort + AllocGlobal), row: &ToldDocument) {
+    let flags = if row.subsets == 2 { 0xC0 } else { 0x80 };
+    let text = text_of(rt, row.subsets, flags, row.descriptors, row.body);
+    let (message, tally) = if row.errors.is_empty() {
+        let message = message_in(rt, row.subsets, flags, row.descriptors, row.data);
+        (message, ONE_ACCEPTED)
+    } else {
+        (Vec::new(rt.alloc()), ONE_REFUSED)
+    };
+    assert_run(
+        rt,
+        Command::Encode,
+        row.body,
+        text.as_bytes(),
+        &message,
+        row.errors.as_bytes(),
+        tally,
+    );
+}
+
 #[test]
 fn refuses_at_lines(rt: HostRuntime) {
     for row in &TOLD {
-        let flags = if row.subsets == 2 { 0xC0 } else { 0x80 };
-        let text = text_of(&rt, row.subsets, flags, row.descriptors, row.body);
-        let (message, tally) = if row.errors.is_empty() {
-            let message = message_in(&rt, row.subsets, flags, row.descriptors, row.data);
-            (message, ONE_ACCEPTED)
-        } else {
-            (Vec::new(rt.alloc()), ONE_REFUSED)
-        };
-        assert_run(
-            &rt,
-            Command::Encode,
-            row.body,
-            text.as_bytes(),
-            &message,
-            row.errors.as_bytes(),
-            tally,
-        );
+        assert_told(&rt, row);
     }
 }
 
@@ -432,27 +437,33 @@ fn with_line(rt: &(impl Abort + AllocGlobal), number: usize, line: &str) -> Stri
     text
 }
 
+/// The document of one block number with another line is encoded, or refused at that line.
+fn assert_line_told(rt: &(impl Abort + AllocGlobal), row: &(usize, &str, &str, &str), one: &[u8]) {
+    let (number, line, octets, errors) = row;
+    let text = with_line(rt, *number, line);
+    let mut message = Vec::new(rt.alloc());
+    if errors.is_empty() {
+        let front = octets_of(rt, octets);
+        ok(rt, message.extend_from_slice(one.get(..8).unwrap_or(b"")));
+        ok(rt, message.extend_from_slice(&front));
+        let behind = one.get(front.len().saturating_add(8)..);
+        ok(rt, message.extend_from_slice(behind.unwrap_or(b"")));
+    }
+    let tally = if errors.is_empty() {
+        ONE_ACCEPTED
+    } else {
+        ONE_REFUSED
+    };
+    let errors = errors.as_bytes();
+    let input = text.as_bytes();
+    assert_run(rt, Command::Encode, line, input, &message, errors, tally);
+}
+
 #[test]
 fn refuses_header_lines(rt: HostRuntime) {
     let one = one_block_number(&rt);
-    for (number, line, octets, errors) in &LINES {
-        let text = with_line(&rt, *number, line);
-        let mut message = Vec::new(rt.alloc());
-        if errors.is_empty() {
-            let front = octets_of(&rt, octets);
-            ok(&rt, message.extend_from_slice(one.get(..8).unwrap_or(b"")));
-            ok(&rt, message.extend_from_slice(&front));
-            let behind = one.get(front.len().saturating_add(8)..);
-            ok(&rt, message.extend_from_slice(behind.unwrap_or(b"")));
-        }
-        let tally = if errors.is_empty() {
-            ONE_ACCEPTED
-        } else {
-            ONE_REFUSED
-        };
-        let errors = errors.as_bytes();
-        let input = text.as_bytes();
-        assert_run(&rt, Command::Encode, line, input, &message, errors, tally);
+    for row in &LINES {
+        assert_line_told(&rt, row, &one);
     }
 }
 

@@ -135,28 +135,33 @@ static ENCODED: [Encoded; 10] = [
     },
 ];
 
+/// A text is encoded to its messages, and told at its line.
+fn assert_encoded(rt: &(impl Abort + AllocGlobal), row: &Encoded) {
+    let mut text = text_of(rt, row.subsets, row.flags, row.descriptors, row.body);
+    ok(rt, text.push_str(row.behind));
+    let message = match row.data {
+        Some(digits) => { message_in(rt, row.subsets, row.flags, row.descriptors, digits) }
+        None => Vec::new(rt.alloc()),
+    };
+    let tally = Tally {
+        accepted: u64::from(row.data.is_some()),
+        refused: u64::from(!row.errors.is_empty()),
+    };
+    assert_run(
+        rt,
+        Command::Encode,
+        row.name,
+        text.as_bytes(),
+        &message,
+        row.errors.as_bytes(),
+        tally,
+    );
+}
+
 #[test]
 fn encodes_worked_examples(rt: HostRuntime) {
     for row in &ENCODED {
-        let mut text = text_of(&rt, row.subsets, row.flags, row.descriptors, row.body);
-        ok(&rt, text.push_str(row.behind));
-        let message = match row.data {
-            Some(digits) => { message_in(&rt, row.subsets, row.flags, row.descriptors, digits) }
-            None => Vec::new(rt.alloc()),
-        };
-        let tally = Tally {
-            accepted: u64::from(row.data.is_some()),
-            refused: u64::from(!row.errors.is_empty()),
-        };
-        assert_run(
-            &rt,
-            Command::Encode,
-            row.name,
-            text.as_bytes(),
-            &message,
-            row.errors.as_bytes(),
-            tally,
-        );
+        assert_encoded(&rt, row);
     }
 }
 

@@ -15,6 +15,7 @@ use bufr_frame::RunFault;
 use bufr_run::Tally;
 use std::cell::Cell;
 use std::io::{self, Read, Write};
+use std::process::Abort;
 use std::test::Fail;
 
 /// A stream made of the message with one block number, and what `ls` makes of it.
@@ -153,37 +154,42 @@ static LISTINGS: [ListedStream; 13] = [
     },
 ];
 
+/// A stream is listed, and its faults are told.
+fn assert_listed(rt: &(impl Abort + AllocGlobal), listing: &ListedStream) {
+    let mut message = ONE_BLOCK_NUMBER;
+    for (place, octet) in listing.edits {
+        assert!(rt; *place < 48);
+        message[*place] = *octet;
+    }
+    let mut input = Vec::new(rt.alloc());
+    ok(rt, input.extend_from_slice(listing.before));
+    ok(rt, input.extend_from_slice(&message));
+    ok(rt, input.extend_from_slice(listing.behind));
+    let mut output = String::new(rt.alloc());
+    let mut accepted = 0u64;
+    for offset in listing.listed {
+        ok(rt, output.push_str(line_of_one(rt, offset).as_str()));
+        accepted = accepted.saturating_add(1);
+    }
+    let tally = Tally {
+        accepted,
+        refused: listing.refused,
+    };
+    assert_run(
+        rt,
+        Command::Ls,
+        listing.name,
+        &input,
+        output.as_bytes(),
+        listing.errors.as_bytes(),
+        tally,
+    );
+}
+
 #[test]
 fn lists_worked_examples(rt: HostRuntime) {
     for listing in &LISTINGS {
-        let mut message = ONE_BLOCK_NUMBER;
-        for (place, octet) in listing.edits {
-            assert!(rt; *place < 48);
-            message[*place] = *octet;
-        }
-        let mut input = Vec::new(rt.alloc());
-        ok(&rt, input.extend_from_slice(listing.before));
-        ok(&rt, input.extend_from_slice(&message));
-        ok(&rt, input.extend_from_slice(listing.behind));
-        let mut output = String::new(rt.alloc());
-        let mut accepted = 0u64;
-        for offset in listing.listed {
-            ok(&rt, output.push_str(line_of_one(&rt, offset).as_str()));
-            accepted = accepted.saturating_add(1);
-        }
-        let tally = Tally {
-            accepted,
-            refused: listing.refused,
-        };
-        assert_run(
-            &rt,
-            Command::Ls,
-            listing.name,
-            &input,
-            output.as_bytes(),
-            listing.errors.as_bytes(),
-            tally,
-        );
+        assert_listed(&rt, listing);
     }
 }
 

@@ -1,6 +1,6 @@
 //! What is shown by running: the worked lists, their cells, each fault, the limits.
-use crate::ok;
 use crate::test_tables::{NESTED, NO_FACTORS, TABLE_B, TABLE_D, read_b, read_d};
+use crate::{assert_same, ok};
 use bufr_tables::{Cell, Fxy, TableB, TableD, TableFault, Template, TemplateFault, Templates};
 use std::alloc::Global;
 use std::process::Abort;
@@ -145,24 +145,26 @@ const ROWS: &[(&str, &str, &str)] = &[
     ),
 ];
 
+// The descriptor of six digits.
+fn descriptor_of(rt: &impl Abort, digits: &str) -> Fxy {
+    let number = ok(rt, digits.parse::<u32>());
+    let word = number / 100_000 << 14 | number / 1000 % 100 << 8 | number % 1000;
+    Fxy::from_word(ok(rt, u16::try_from(word)))
+}
+
 // The descriptors of a text: six digits each, with spaces between them.
 fn descriptors_of(rt: &(impl Abort + AllocGlobal), text: &str) -> Vec<Fxy> {
     let mut descriptors = Vec::new(rt.alloc());
     for digits in text.split_whitespace() {
-        let number = ok(rt, digits.parse::<u32>());
-        let word = number / 100_000 << 14 | number / 1000 % 100 << 8 | number % 1000;
-        ok(
-            rt,
-            descriptors.push(Fxy::from_word(ok(rt, u16::try_from(word)))),
-        );
+        ok(rt, descriptors.push(descriptor_of(rt, digits)));
     }
     descriptors
 }
 
-// The tables of most tests.
-fn tables(rt: &(impl Abort + AllocGlobal)) -> (TableB, TableD) {
-    let table_b = ok(rt, read_b(rt.alloc(), TABLE_B));
-    let table_d = ok(rt, read_d(rt.alloc(), NESTED));
+// The tables of these texts.
+fn tables(rt: &(impl Abort + AllocGlobal), text_b: &[u8], text_d: &[u8]) -> (TableB, TableD) {
+    let table_b = ok(rt, read_b(rt.alloc(), text_b));
+    let table_d = ok(rt, read_d(rt.alloc(), text_d));
     (table_b, table_d)
 }
 
@@ -208,14 +210,34 @@ fn told_again(
     told_of(rt, templates.answer())
 }
 
+// Asserts what comes of the descriptors of a text.
+fn assert_list(
+    rt: &(impl Abort + AllocGlobal),
+    table_b: &TableB,
+    table_d: &TableD,
+    (name, text, want): (&str, &str, &str),
+) {
+    let descriptors = descriptors_of(rt, text);
+    let told = told(rt, &descriptors, table_b, table_d);
+    assert_same(rt, &told.as_str(), &want, &name);
+}
+
+// Asserts what comes of each list, by tables of these texts.
+fn assert_lists(
+    rt: &(impl Abort + AllocGlobal),
+    text_b: &[u8],
+    text_d: &[u8],
+    rows: &[(&str, &str, &str)],
+) {
+    let (table_b, table_d) = tables(rt, text_b, text_d);
+    for row in rows {
+        assert_list(rt, &table_b, &table_d, *row);
+    }
+}
+
 #[test]
 fn worked_lists(rt: HostRuntime) {
-    let (table_b, table_d) = tables(&rt);
-    for (name, text, want) in ROWS {
-        let descriptors = descriptors_of(&rt, text);
-        let told = told(&rt, &descriptors, &table_b, &table_d);
-        assert_eq!(rt; told.as_str(), *want, "{name}");
-    }
+    assert_lists(&rt, TABLE_B, NESTED, ROWS);
 }
 
 // Lists that are asked for one after another, and what comes of them: each template and each fault
@@ -232,26 +254,51 @@ const IN_TURN: &[(&str, &str)] = &[
     ("001001 012101", "places 3 depth 0"),
 ];
 
-#[test]
-fn lists_that_are_repeated(rt: HostRuntime) {
-    let (table_b, table_d) = tables(&rt);
-    let mut templates = Templates::new(rt.alloc(), &table_b, &table_d);
-    for (text, want) in IN_TURN {
-        let descriptors = descriptors_of(&rt, text);
-        let told = told_again(&rt, &mut templates, &descriptors);
-        assert_eq!(rt; told.as_str(), *want, "{text}");
+// Asserts what comes of a text's descriptors behind those that were asked for before.
+fn assert_in_turn(
+    rt: &(impl Abort + AllocGlobal),
+    templates: &mut Templates<'_>,
+    text: &str,
+    want: &str,
+) {
+    let descriptors = descriptors_of(rt, text);
+    let told = told_again(rt, templates, &descriptors);
+    assert_same(rt, &told.as_str(), &want, &text);
+}
+
+// Asserts what comes of each list behind those before it.
+fn assert_all_in_turn(
+    rt: &(impl Abort + AllocGlobal),
+    table_b: &TableB,
+    table_d: &TableD,
+    rows: &[(&str, &str)],
+) {
+    let mut templates = Templates::new(rt.alloc(), table_b, table_d);
+    for (text, want) in rows {
+        assert_in_turn(rt, &mut templates, text, want);
     }
 }
 
 #[test]
-fn keeps_the_last_list(rt: HostRuntime) {
-    let (table_b, table_d) = tables(&rt);
-    let mut templates = Templates::new(rt.alloc(), &table_b, &table_d);
+fn lists_that_are_repeated(rt: HostRuntime) {
+    let (table_b, table_d) = tables(&rt, TABLE_B, NESTED);
+    assert_all_in_turn(&rt, &table_b, &table_d, IN_TURN);
+}
+
+// Whether no descriptors are kept at first, and behind one list that list and another one.
+fn kept_lists(rt: &(impl Abort + AllocGlobal), table_b: &TableB, table_d: &TableD) -> [bool; 3] {
+    let mut templates = Templates::new(rt.alloc(), table_b, table_d);
     let (one, other) = ([Fxy::from_word(0x0101)], [Fxy::from_word(0x0c65)]);
-    assert!(rt; templates.keeps(&[]));
-    ok(&rt, templates.turn_to(&one));
-    assert!(rt; templates.keeps(&one));
-    assert!(rt; !templates.keeps(&other));
+    let at_first = templates.keeps(&[]);
+    ok(rt, templates.turn_to(&one));
+    [at_first, templates.keeps(&one), templates.keeps(&other)]
+}
+
+#[test]
+fn keeps_the_last_list(rt: HostRuntime) {
+    let (table_b, table_d) = tables(&rt, TABLE_B, NESTED);
+    let kept = kept_lists(&rt, &table_b, &table_d);
+    assert_same(&rt, &kept, &[true, true, false], &"kept");
 }
 
 // A name for what is shown, the descriptors, and the cells: a letter for each kind, its descriptor
@@ -294,16 +341,21 @@ const CELLS: &[(&str, &str, &str)] = &[
     ),
 ];
 
+// A letter and a descriptor.
+fn lettered(rt: &(impl Abort + AllocGlobal), letter: &str, fxy: Fxy) -> String {
+    ok(rt, format!(in rt.alloc(); "{letter}{fxy}"))
+}
+
 // The text of a cell.
 fn written(rt: &(impl Abort + AllocGlobal), cell: Cell) -> String {
     let text = match cell {
-        Cell::Element(fxy) => format!(in rt.alloc(); "E{fxy}"),
-        Cell::Operator(fxy) => format!(in rt.alloc(); "O{fxy}"),
+        Cell::Element(fxy) => return lettered(rt, "E", fxy),
+        Cell::Operator(fxy) => return lettered(rt, "O", fxy),
+        Cell::Factor(fxy) => return lettered(rt, "R", fxy),
         Cell::Fixed(count, after) => format!(in rt.alloc(); "X{count}:{after}"),
         Cell::Delayed(after) => format!(in rt.alloc(); "D:{after}"),
-        Cell::Factor(fxy) => format!(in rt.alloc(); "R{fxy}"),
-        Cell::PassEnd => format!(in rt.alloc(); "P"),
-        Cell::Finish => format!(in rt.alloc(); "F"),
+        Cell::PassEnd => String::from_str(rt.alloc(), "P"),
+        Cell::Finish => String::from_str(rt.alloc(), "F"),
     };
     ok(rt, text)
 }
@@ -332,59 +384,82 @@ fn cells_built(
     cells_told(rt, template.cells())
 }
 
-#[test]
-fn cells_of_worked_lists(rt: HostRuntime) {
-    let (table_b, table_d) = tables(&rt);
-    for (name, text, want) in CELLS {
-        let told = cells_built(&rt, text, &table_b, &table_d);
-        assert_eq!(rt; told.as_str(), *want, "{name}");
+// Asserts the cells of the descriptors of a text.
+fn assert_cells(
+    rt: &(impl Abort + AllocGlobal),
+    table_b: &TableB,
+    table_d: &TableD,
+    (name, text, want): (&str, &str, &str),
+) {
+    let told = cells_built(rt, text, table_b, table_d);
+    assert_same(rt, &told.as_str(), &want, &name);
+}
+
+// Asserts the cells of each list.
+fn assert_all_cells(rt: &(impl Abort + AllocGlobal), rows: &[(&str, &str, &str)]) {
+    let (table_b, table_d) = tables(rt, TABLE_B, NESTED);
+    for row in rows {
+        assert_cells(rt, &table_b, &table_d, *row);
     }
 }
+
+#[test]
+fn cells_of_worked_lists(rt: HostRuntime) {
+    assert_all_cells(&rt, CELLS);
+}
+
+const WITHOUT_FACTORS: &[(&str, &str, &str)] = &[(
+    "factor_that_table_b_lacks",
+    "105000 031001 001001",
+    "20 unknown element 031001",
+)];
 
 #[test]
 fn factor_that_table_b_lacks(rt: HostRuntime) {
-    let table_b = ok(&rt, read_b(rt.alloc(), NO_FACTORS));
-    let table_d = ok(&rt, read_d(rt.alloc(), TABLE_D));
-    let descriptors = descriptors_of(&rt, "105000 031001 001001");
-    let told = told(&rt, &descriptors, &table_b, &table_d);
-    assert_eq!(rt; told.as_str(), "20 unknown element 031001");
+    assert_lists(&rt, NO_FACTORS, TABLE_D, WITHOUT_FACTORS);
 }
+
+const UNKNOWN_SEQUENCE: &[(&str, &str, &str)] = &[(
+    "lacks_a_sequence",
+    "300001",
+    "21 unknown sequence 300001",
+)];
 
 #[test]
 fn lacks_a_sequence(rt: HostRuntime) {
-    let table_b = ok(&rt, read_b(rt.alloc(), TABLE_B));
-    let table_d = ok(&rt, read_d(rt.alloc(), TABLE_D));
-    let sequence = Fxy::from_word(0xC001);
-    let told = told(&rt, &[sequence], &table_b, &table_d);
-    assert_eq!(rt; told.as_str(), "21 unknown sequence 300001");
+    assert_lists(&rt, TABLE_B, TABLE_D, UNKNOWN_SEQUENCE);
 }
 
 #[test]
-fn faults_have_numbers(rt: HostRuntime) {
+fn template_faults_have_numbers(rt: HostRuntime) {
     let sequence = Fxy::from_word(0xC001);
-    for (fault, number) in [
-        (TemplateFault::UnknownElement(sequence), 20),
-        (TemplateFault::UnknownSequence(sequence), 21),
-        (TemplateFault::Operator(sequence), 22),
-        (TemplateFault::GroupShape(sequence), 23),
-        (TemplateFault::NoFactor(sequence), 24),
-        (TemplateFault::EmptyGroup(sequence), 25),
-        (TemplateFault::Depth(sequence), 26),
-        (TemplateFault::TemplateSize(sequence), 27),
-        (TemplateFault::LocalShape(sequence), 28),
-        (TemplateFault::Memory, 73),
-    ] {
-        assert_eq!(rt; fault.number(), number);
-    }
-    for (fault, number) in [
-        (TableFault::Header, 40),
-        (TableFault::Row(2), 41),
-        (TableFault::Duplicate(sequence), 42),
-        (TableFault::Cycle(sequence), 43),
-        (TableFault::TableSize, 44),
-        (TableFault::Csv, 45),
-        (TableFault::Memory, 73),
-    ] {
-        assert_eq!(rt; fault.number(), number);
-    }
+    let numbers = [
+        TemplateFault::UnknownElement(sequence).number(),
+        TemplateFault::UnknownSequence(sequence).number(),
+        TemplateFault::Operator(sequence).number(),
+        TemplateFault::GroupShape(sequence).number(),
+        TemplateFault::NoFactor(sequence).number(),
+        TemplateFault::EmptyGroup(sequence).number(),
+        TemplateFault::Depth(sequence).number(),
+        TemplateFault::TemplateSize(sequence).number(),
+        TemplateFault::LocalShape(sequence).number(),
+        TemplateFault::Memory.number(),
+    ];
+    let want = [20, 21, 22, 23, 24, 25, 26, 27, 28, 73];
+    assert_same(&rt, &numbers, &want, &"numbers");
+}
+
+#[test]
+fn table_faults_have_numbers(rt: HostRuntime) {
+    let sequence = Fxy::from_word(0xC001);
+    let numbers = [
+        TableFault::Header.number(),
+        TableFault::Row(2).number(),
+        TableFault::Duplicate(sequence).number(),
+        TableFault::Cycle(sequence).number(),
+        TableFault::TableSize.number(),
+        TableFault::Csv.number(),
+        TableFault::Memory.number(),
+    ];
+    assert_same(&rt, &numbers, &[40, 41, 42, 43, 44, 45, 73], &"numbers");
 }

@@ -1,98 +1,133 @@
 //! The tables and their faults, run.
 
-use crate::ok;
 use crate::test_tables::{HEADER_B, HEADER_D, TABLE_B, TABLE_D, read_b, read_d};
+use crate::{assert_same, ok};
 use bufr_tables::{Entry, Fxy, Kind, TableB, TableD, TableFault};
 use std::alloc::Global;
 use std::process::Abort;
 
-/// The descriptors with these words and their texts.
+/// Words of descriptors and their texts.
+const DESCRIPTORS: &[(u16, &[u8])] = &[
+    (0x0101, b"001001"),
+    (0x0c65, b"012101"),
+    (0x3fff, b"063255"),
+    (0x41ff, b"101255"),
+    (0x8184, b"201132"),
+    (0xfcc0, b"360192"),
+    (0xffff, b"363255"),
+];
+
+/// The word of a word's descriptor.
+fn word_again(word: u16) -> u16 {
+    Fxy::from_word(word).word()
+}
+
+/// A descriptor as it is shown.
+fn shown(rt: &(impl Abort + AllocGlobal), word: u16) -> String {
+    let fxy = Fxy::from_word(word);
+    ok(rt, format!(in rt.alloc(); "{fxy}"))
+}
+
+/// Asserts the text of a word's descriptor, written and shown.
+fn assert_descriptor(rt: &(impl Abort + AllocGlobal), word: u16, text: &[u8]) {
+    assert_same(rt, &word_again(word), &word, &text);
+    assert_same(rt, &digits_of(word).as_slice(), &text, &word);
+    assert_same(rt, &shown(rt, word).as_bytes(), &text, &word);
+}
+
 #[test]
 fn descriptors(rt: HostRuntime) {
-    for (word, text) in [
-        (0x0101u16, b"001001"),
-        (0x0c65, b"012101"),
-        (0x3fff, b"063255"),
-        (0x41ff, b"101255"),
-        (0x8184, b"201132"),
-        (0xfcc0, b"360192"),
-        (0xffff, b"363255"),
-    ] {
-        let fxy = Fxy::from_word(word);
-        assert_eq!(rt; fxy.word(), word);
-        assert_eq!(rt; fxy.text().as_slice(), text.as_slice());
-        let shown = ok(&rt, format!(in rt.alloc(); "{fxy}"));
-        assert_eq!(rt; shown.as_bytes(), text.as_slice());
+    for (word, text) in DESCRIPTORS {
+        assert_descriptor(&rt, *word, text);
     }
+}
+
+#[test]
+fn parts_of_a_descriptor(rt: HostRuntime) {
     let fxy = Fxy::from_word(0xfcc0);
-    assert_eq!(rt; (fxy.f(), fxy.x(), fxy.y()), (3, 60, 192));
-    for (word, is_factor) in [
-        (0x1effu16, false),
-        (0x1f00, true),
-        (0x1f01, true),
-        (0x1f02, true),
-        (0x1f03, false),
-        (0x5f01, false),
-    ] {
-        assert_eq!(rt; Fxy::from_word(word).is_factor(), is_factor, "at {word}");
+    assert_same(&rt, &(fxy.f(), fxy.x(), fxy.y()), &(3, 60, 192), &fxy);
+}
+
+/// Words, and whether their descriptors are factors.
+const FACTORS: &[(u16, bool)] = &[
+    (0x1eff, false),
+    (0x1f00, true),
+    (0x1f01, true),
+    (0x1f02, true),
+    (0x1f03, false),
+    (0x5f01, false),
+];
+
+fn is_factor(word: u16) -> bool {
+    Fxy::from_word(word).is_factor()
+}
+
+#[test]
+fn factors(rt: HostRuntime) {
+    for (word, want) in FACTORS {
+        assert_same(&rt, &is_factor(*word), want, word);
     }
 }
 
 /// What six digits write, at the ends of F, X and Y and past them.
+const DIGITS: &[(&[u8], Option<u16>)] = &[
+    (b"000000", Some(0)),
+    (b"012101", Some(0x0c65)),
+    (b"363255", Some(0xffff)),
+    (b"400000", None),
+    (b"064000", None),
+    (b"000256", None),
+    (b"01210", None),
+    (b"0121010", None),
+    (b"01210a", None),
+];
+
+/// The word of the descriptor that a text writes.
+fn word_of(text: &[u8]) -> Option<u16> {
+    match Fxy::read(text) {
+        Some(fxy) => Some(fxy.word()),
+        None => None,
+    }
+}
+
 #[test]
 fn descriptors_read(rt: HostRuntime) {
-    let rows: [(&[u8], Option<u16>); 9] = [
-        (b"000000", Some(0)),
-        (b"012101", Some(0x0c65)),
-        (b"363255", Some(0xffff)),
-        (b"400000", None),
-        (b"064000", None),
-        (b"000256", None),
-        (b"01210", None),
-        (b"0121010", None),
-        (b"01210a", None),
-    ];
-    for (text, word) in rows {
-        let read = Fxy::read(text).map(|fxy| fxy.word());
-        assert_eq!(rt; read, word);
+    for (text, word) in DIGITS {
+        assert_same(&rt, &word_of(text), word, text);
     }
+}
+
+/// Asserts a fault as text.
+fn assert_fault_text(rt: &(impl Abort + AllocGlobal), fault: TableFault, text: &str) {
+    let shown = ok(rt, format!(in rt.alloc(); "{fault}"));
+    assert_same(rt, &shown.as_str(), &text, &fault);
 }
 
 /// Each fault as text.
 #[test]
 fn fault_texts(rt: HostRuntime) {
     let local = Fxy::from_word(0x0101);
-    for (fault, text) in [
-        (
-            TableFault::Header,
-            "the first record is not the header of the table",
-        ),
-        (TableFault::Row(2), "record 2 does not read as a row"),
-        (
-            TableFault::Duplicate(local),
-            "001001 is in the table already",
-        ),
-        (
-            TableFault::Cycle(Fxy::from_word(0xc001)),
-            "sequence 300001 reaches itself",
-        ),
-        (TableFault::TableSize, "the table has too many rows"),
-        (
-            TableFault::Csv,
-            "a record has another number of fields than the header",
-        ),
-        (TableFault::Memory, "out of memory"),
-    ] {
-        let shown = ok(&rt, format!(in rt.alloc(); "{fault}"));
-        assert_eq!(rt; shown.as_str(), text);
-    }
+    let sequence = Fxy::from_word(0xc001);
+    let header = "the first record is not the header of the table";
+    assert_fault_text(&rt, TableFault::Header, header);
+    assert_fault_text(&rt, TableFault::Row(2), "record 2 does not read as a row");
+    let twice = "001001 is in the table already";
+    assert_fault_text(&rt, TableFault::Duplicate(local), twice);
+    let cycle = "sequence 300001 reaches itself";
+    assert_fault_text(&rt, TableFault::Cycle(sequence), cycle);
+    assert_fault_text(&rt, TableFault::TableSize, "the table has too many rows");
+    let fields = "a record has another number of fields than the header";
+    assert_fault_text(&rt, TableFault::Csv, fields);
+    assert_fault_text(&rt, TableFault::Memory, "out of memory");
 }
 
-/// Text of rows under a header.
-fn under(rt: &(impl Abort + AllocGlobal), header: &[u8], rows: &[u8]) -> Vec<u8> {
-    let mut text = ok(rt, Vec::from_slice(rt.alloc(), header));
-    ok(rt, text.extend_from_slice(rows));
-    text
+/// The octets of the parts, one after another.
+fn joined(rt: &(impl Abort + AllocGlobal), parts: &[&[u8]]) -> Vec<u8> {
+    let mut octets = Vec::new(rt.alloc());
+    for part in parts {
+        ok(rt, octets.extend_from_slice(part));
+    }
+    octets
 }
 
 /// The entry of an element's word.
@@ -113,27 +148,34 @@ fn fault_d(alloc: Global, text: &[u8]) -> Option<TableFault> {
     read_d(alloc, text).err()
 }
 
+const TEMPERATURE: Entry<'static> = Entry {
+    name: b"AIR TEMPERATURE",
+    unit: b"K",
+    kind: Kind::Numeric,
+    scale: 2,
+    reference: 0,
+    width: 16,
+};
+
+const LATITUDE: Entry<'static> = Entry {
+    name: b"LATITUDE (COARSE ACCURACY)",
+    unit: b"degree",
+    kind: Kind::Numeric,
+    scale: 2,
+    reference: -9000,
+    width: 15,
+};
+
+/// Asserts the entry of an element.
+fn assert_entry(rt: &impl Abort, table: &TableB, word: u16, want: Option<Entry<'_>>) {
+    assert_same(rt, &entry_of(table, word), &want, &word);
+}
+
 #[test]
 fn elements(rt: HostRuntime) {
     let table = ok(&rt, read_b(rt.alloc(), TABLE_B));
-    let temperature = Entry {
-        name: b"AIR TEMPERATURE",
-        unit: b"K",
-        kind: Kind::Numeric,
-        scale: 2,
-        reference: 0,
-        width: 16,
-    };
-    assert!(rt; entry_of(&table, 0x0c65) == Some(temperature));
-    let latitude = Entry {
-        name: b"LATITUDE (COARSE ACCURACY)",
-        unit: b"degree",
-        kind: Kind::Numeric,
-        scale: 2,
-        reference: -9000,
-        width: 15,
-    };
-    assert!(rt; entry_of(&table, 0x0502) == Some(latitude));
+    assert_entry(&rt, &table, 0x0c65, Some(TEMPERATURE));
+    assert_entry(&rt, &table, 0x0502, Some(LATITUDE));
 }
 
 /// Elements of the table, with their kinds and widths.
@@ -146,21 +188,28 @@ const KINDS_AND_WIDTHS: &[(u16, Kind, u32)] = &[
     (0x1f02, Kind::Numeric, 16),
 ];
 
+/// Asserts the kind and the width of an element.
+fn assert_kind(rt: &impl Abort, table: &TableB, word: u16, kind: Kind, width: u32) {
+    let entry = ok(rt, entry_of(table, word).ok_or("lacks an element"));
+    assert_same(rt, &(entry.kind, entry.width), &(kind, width), &word);
+}
+
 #[test]
 fn kinds_and_widths(rt: HostRuntime) {
     let table = ok(&rt, read_b(rt.alloc(), TABLE_B));
     for (word, kind, width) in KINDS_AND_WIDTHS {
-        let entry = ok(&rt, entry_of(&table, *word).ok_or("lacks an element"));
-        assert_eq!(rt; (entry.kind, entry.width), (*kind, *width), "at {word}");
+        assert_kind(&rt, &table, *word, *kind, *width);
     }
 }
 
 /// An element that is not there, and descriptors that are no elements.
+const NO_ELEMENTS: &[u16] = &[0x3fff, 0x4c65, 0x8c65, 0xcc65];
+
 #[test]
 fn words_that_are_no_elements(rt: HostRuntime) {
     let table = ok(&rt, read_b(rt.alloc(), TABLE_B));
-    for word in [0x3fffu16, 0x4c65, 0x8c65, 0xcc65] {
-        assert!(rt; entry_of(&table, word).is_none(), "at {word}");
+    for word in NO_ELEMENTS {
+        assert_entry(&rt, &table, *word, None);
     }
 }
 
@@ -251,13 +300,22 @@ const FAULTS_OF_TABLE_B: &[(&[u8], Want)] = &[
     (b"001001,A,K,0,0,x\n001001,A", Want::Row(2)),
 ];
 
+/// Asserts the fault of rows below the header of Table B.
+fn assert_rows_of_b(rt: &(impl Abort + AllocGlobal), rows: &[u8], want: Want) {
+    let text = joined(rt, &[HEADER_B, rows]);
+    assert_same(rt, &fault_b(rt.alloc(), &text), &want.fault(), &rows);
+}
+
+/// Asserts the faults of all of them.
+fn assert_all_of_b(rt: &(impl Abort + AllocGlobal), all: &[(&[u8], Want)]) {
+    for (rows, want) in all {
+        assert_rows_of_b(rt, rows, *want);
+    }
+}
+
 #[test]
 fn faults_of_table_b(rt: HostRuntime) {
-    for (rows, want) in FAULTS_OF_TABLE_B {
-        let text = under(&rt, HEADER_B, rows);
-        let told = fault_b(rt.alloc(), &text);
-        assert!(rt; told == want.fault(), "{told:?} for {rows:?}");
-    }
+    assert_all_of_b(&rt, FAULTS_OF_TABLE_B);
 }
 
 /// Texts whose first row is not that of Table B.
@@ -275,7 +333,7 @@ const NO_HEADERS_OF_TABLE_B: &[&[u8]] = &[
 fn headers_of_table_b(rt: HostRuntime) {
     for text in NO_HEADERS_OF_TABLE_B {
         let told = fault_b(rt.alloc(), text);
-        assert!(rt; told == Some(TableFault::Header), "{told:?} for {text:?}");
+        assert_same(&rt, &told, &Some(TableFault::Header), text);
     }
 }
 
@@ -299,10 +357,7 @@ const KINDS: &[(&[u8], Kind)] = &[
 
 /// The kind of an element of this unit.
 fn kind_of(rt: &(impl Abort + AllocGlobal), unit: &[u8]) -> Kind {
-    let mut text = ok(rt, Vec::from_slice(rt.alloc(), HEADER_B));
-    ok(rt, text.extend_from_slice(b"001001,A,"));
-    ok(rt, text.extend_from_slice(unit));
-    ok(rt, text.extend_from_slice(b",0,0,8\n"));
+    let text = joined(rt, &[HEADER_B, b"001001,A,", unit, b",0,0,8\n"]);
     let table = ok(rt, read_b(rt.alloc(), &text));
     ok(rt, entry_of(&table, 0x0101).ok_or("lacks the element")).kind
 }
@@ -310,17 +365,30 @@ fn kind_of(rt: &(impl Abort + AllocGlobal), unit: &[u8]) -> Kind {
 #[test]
 fn kinds(rt: HostRuntime) {
     for (unit, kind) in KINDS {
-        assert_eq!(rt; kind_of(&rt, unit), *kind, "for {unit:?}");
+        assert_same(&rt, &kind_of(&rt, unit), kind, unit);
     }
+}
+
+/// Asserts the members of a sequence.
+fn assert_members(rt: &impl Abort, table: &TableD, word: u16, want: Option<&[Fxy]>) {
+    assert_same(rt, &members_of(table, word), &want, &word);
 }
 
 #[test]
 fn sequences(rt: HostRuntime) {
     let table = ok(&rt, read_d(rt.alloc(), TABLE_D));
-    let members = ok(&rt, members_of(&table, 0xfcc0).ok_or("lacks the sequence"));
-    assert!(rt; members == [Fxy::from_word(0x0101), Fxy::from_word(0x0c65)].as_slice());
-    for word in [0xc001u16, 0x3cc0, 0x0101] {
-        assert!(rt; members_of(&table, word).is_none(), "at {word}");
+    let members = [Fxy::from_word(0x0101), Fxy::from_word(0x0c65)];
+    assert_members(&rt, &table, 0xfcc0, Some(&members));
+}
+
+/// A sequence that is not there, and descriptors that are no sequences.
+const NO_SEQUENCES: &[u16] = &[0xc001, 0x3cc0, 0x0101];
+
+#[test]
+fn words_that_are_no_sequences(rt: HostRuntime) {
+    let table = ok(&rt, read_d(rt.alloc(), TABLE_D));
+    for word in NO_SEQUENCES {
+        assert_members(&rt, &table, *word, None);
     }
 }
 
@@ -352,13 +420,22 @@ const FAULTS_OF_TABLE_D: &[(&[u8], Want)] = &[
     (b"300001,300001\n300002,x", Want::Row(3)),
 ];
 
+/// Asserts the fault of rows below the header of Table D.
+fn assert_rows_of_d(rt: &(impl Abort + AllocGlobal), rows: &[u8], want: Want) {
+    let text = joined(rt, &[HEADER_D, rows]);
+    assert_same(rt, &fault_d(rt.alloc(), &text), &want.fault(), &rows);
+}
+
+/// Asserts the faults of all of them.
+fn assert_all_of_d(rt: &(impl Abort + AllocGlobal), all: &[(&[u8], Want)]) {
+    for (rows, want) in all {
+        assert_rows_of_d(rt, rows, *want);
+    }
+}
+
 #[test]
 fn faults_of_table_d(rt: HostRuntime) {
-    for (rows, want) in FAULTS_OF_TABLE_D {
-        let text = under(&rt, HEADER_D, rows);
-        let told = fault_d(rt.alloc(), &text);
-        assert!(rt; told == want.fault(), "{told:?} for {rows:?}");
-    }
+    assert_all_of_d(&rt, FAULTS_OF_TABLE_D);
 }
 
 /// Texts whose first row is not that of Table D.
@@ -368,41 +445,32 @@ const NO_HEADERS_OF_TABLE_D: &[&[u8]] = &[b"", b"fxy\n", b"fxy,members\n", HEADE
 fn headers_of_table_d(rt: HostRuntime) {
     for text in NO_HEADERS_OF_TABLE_D {
         let told = fault_d(rt.alloc(), text);
-        assert!(rt; told == Some(TableFault::Header), "{told:?} for {text:?}");
+        assert_same(&rt, &told, &Some(TableFault::Header), text);
     }
 }
 
-/// A name or a unit of this many octets.
+/// The fault of a name or a unit of this many octets.
 fn long_name(rt: &(impl Abort + AllocGlobal), octets: usize, as_unit: bool) -> Option<TableFault> {
-    let mut text = ok(rt, Vec::from_slice(rt.alloc(), HEADER_B));
-    ok(
-        rt,
-        text.extend_from_slice(if as_unit {
-            b"001001,A,".as_slice()
-        } else {
-            b"001001,"
-        }),
-    );
-    for _ in 0..octets {
-        ok(rt, text.push(b'x'));
-    }
-    ok(
-        rt,
-        text.extend_from_slice(if as_unit {
-            b",0,0,8\n".as_slice()
-        } else {
-            b",K,0,0,8\n"
-        }),
-    );
+    let long = ok(rt, vec![in rt.alloc(); b'x'; octets]);
+    let text = if as_unit {
+        joined(rt, &[HEADER_B, b"001001,A,", &long, b",0,0,8\n"])
+    } else {
+        joined(rt, &[HEADER_B, b"001001,", &long, b",K,0,0,8\n"])
+    };
     fault_b(rt.alloc(), &text)
+}
+
+/// Asserts the longest name or unit, and that the next one is refused.
+fn assert_long_names(rt: &(impl Abort + AllocGlobal), as_unit: bool) {
+    assert_same(rt, &long_name(rt, 512, as_unit), &None, &as_unit);
+    let fault = Some(TableFault::Row(2));
+    assert_same(rt, &long_name(rt, 513, as_unit), &fault, &as_unit);
 }
 
 #[test]
 fn long_names(rt: HostRuntime) {
-    for as_unit in [false, true] {
-        assert!(rt; long_name(&rt, 512, as_unit).is_none());
-        assert!(rt; long_name(&rt, 513, as_unit) == Some(TableFault::Row(2)));
-    }
+    assert_long_names(&rt, false);
+    assert_long_names(&rt, true);
 }
 
 /// The digits of a word.
@@ -418,19 +486,35 @@ fn push_row(rt: &(impl Abort + AllocGlobal), text: &mut Vec<u8>, sequence: u16, 
     ok(rt, text.push(b'\n'));
 }
 
+/// As many rows of Table D as there may be, all of one sequence.
+fn most_rows(rt: &(impl Abort + AllocGlobal)) -> Vec<u8> {
+    let mut text = ok(rt, Vec::from_slice(rt.alloc(), HEADER_D));
+    for _ in 0..65536u32 {
+        push_row(rt, &mut text, 0xc001, 0x0101);
+    }
+    text
+}
+
+/// How many members the sequence of these rows has.
+fn count_of_members(rt: &(impl Abort + AllocGlobal), text: &[u8]) -> usize {
+    let table = ok(rt, read_d(rt.alloc(), text));
+    ok(rt, members_of(&table, 0xc001).ok_or("lacks the sequence")).len()
+}
+
+/// Asserts that a text has too many rows.
+fn assert_too_long(rt: &(impl Abort + AllocGlobal), text: &[u8]) {
+    let told = fault_d(rt.alloc(), text);
+    assert_same(rt, &told, &Some(TableFault::TableSize), &"rows");
+}
+
 #[test]
 fn as_many_rows_as_may_be(rt: HostRuntime) {
-    let mut text = ok(&rt, Vec::from_slice(rt.alloc(), HEADER_D));
-    for _ in 0..65536u32 {
-        push_row(&rt, &mut text, 0xc001, 0x0101);
-    }
-    let table = ok(&rt, read_d(rt.alloc(), &text));
-    let members = ok(&rt, members_of(&table, 0xc001).ok_or("lacks the sequence"));
-    assert_eq!(rt; members.len(), 65536);
+    let mut text = most_rows(&rt);
+    assert_same(&rt, &count_of_members(&rt, &text), &65536, &"rows");
     push_row(&rt, &mut text, 0xc001, 0x0101);
-    assert!(rt; fault_d(rt.alloc(), &text) == Some(TableFault::TableSize));
+    assert_too_long(&rt, &text);
     push_row(&rt, &mut text, 0xc002, 0x0101);
-    assert!(rt; fault_d(rt.alloc(), &text) == Some(TableFault::TableSize));
+    assert_too_long(&rt, &text);
 }
 
 /// Every sequence that there is, each of four rows that name the one after it, or with `back` the
@@ -451,14 +535,19 @@ fn long_chain(rt: &(impl Abort + AllocGlobal), back: bool, cycle: bool) -> Vec<u
     text
 }
 
+/// Asserts that a long chain is no fault, and that with a cycle at its end it is.
+fn assert_long_chain(rt: &(impl Abort + AllocGlobal), back: bool) {
+    let text = long_chain(rt, back, false);
+    assert_same(rt, &fault_d(rt.alloc(), &text), &None, &back);
+    let text = long_chain(rt, back, true);
+    let fault = Some(TableFault::Cycle(Fxy::from_word(0xffff)));
+    assert_same(rt, &fault_d(rt.alloc(), &text), &fault, &back);
+}
+
 #[test]
 fn long_chains(rt: HostRuntime) {
-    for back in [false, true] {
-        let text = long_chain(&rt, back, false);
-        assert!(rt; fault_d(rt.alloc(), &text).is_none());
-        let text = long_chain(&rt, back, true);
-        assert!(rt; fault_d(rt.alloc(), &text) == Some(TableFault::Cycle(Fxy::from_word(0xffff))));
-    }
+    assert_long_chain(&rt, false);
+    assert_long_chain(&rt, true);
 }
 
 /// A table of as many elements as the WMO's has, and more.

@@ -1,7 +1,7 @@
 //! The dump texts of worked messages.
 ghost use Rattle.std.specs.Prelude.{◌≤◌, length};
 
-use crate::ok;
+use crate::{assert_same, assert_that, ok};
 use bufr_bits::{Device, End, ScriptOut, Sink};
 use bufr_frame::{Head, Message, RunFault, write_message};
 use bufr_tables::{Fxy, TableB, TableD, Template};
@@ -10,7 +10,6 @@ use bufr_walk::{Steps, read_message};
 use std::cell::Cell;
 use std::io::{self, Write};
 use std::process::Abort;
-use std::test::Fail;
 
 // Test data, not WMO's.
 const TABLE_B: &[u8] = b"\
@@ -27,7 +26,7 @@ const TABLE_B: &[u8] = b"\
 const TABLE_D: &[u8] = b"fxy,member\n360192,001001\n360192,012101\n";
 
 // What section 1 of each message says.
-const HEAD: Head = Head {
+pub(crate) const HEAD: Head = Head {
     edition: 4,
     master: 0,
     centre: 98,
@@ -78,7 +77,7 @@ pub(crate) struct Row {
     text: &'static str,
 }
 
-pub(crate) static ROWS: [Row; 21] = [
+static ROWS: [Row; 21] = [
     Row {
         name: "one_block_number",
         subsets: 1,
@@ -436,6 +435,11 @@ pub(crate) static ROWS: [Row; 21] = [
     },
 ];
 
+// The rows. What names them carries all their texts through its proof; what calls this does not.
+pub(crate) fn rows() -> &'static [Row] {
+    &ROWS
+}
+
 // The word of a descriptor whose six digits are this number.
 fn word_of(rt: &(impl Abort + AllocGlobal), number: u32) -> u16 {
     let f = (number / 100_000).saturating_mul(16_384);
@@ -518,9 +522,14 @@ pub(crate) fn read_tables(rt: &(impl Abort + AllocGlobal)) -> Tables {
 fn descriptors_in(rt: &(impl Abort + AllocGlobal), message: &Message<'_>) -> Vec<Fxy> {
     let mut descriptors = Vec::new(rt.alloc());
     for word in message.descriptors() {
-        ok(rt, descriptors.push(Fxy::from_word(word)));
+        push_word(rt, &mut descriptors, word);
     }
     descriptors
+}
+
+// Puts the descriptor of a word behind others.
+fn push_word(rt: &impl Abort, descriptors: &mut Vec<Fxy>, word: u16) {
+    ok(rt, descriptors.push(Fxy::from_word(word)));
 }
 
 // The template of a message.
@@ -557,9 +566,35 @@ fn dump_to<W: Sink>(
     w: &mut W,
 ) -> Result<(), RunFault> {
     let message = ok(rt, message_in(octets).ok_or("a message"));
-    let tables = read_tables(rt);
-    let template = template_of(rt, &message, &tables);
-    dump_by(rt, &message, &template, &tables.b, steps, w)
+    dump_with(rt, &message, &read_tables(rt), steps, w)
+}
+
+// Dumps a message by these tables.
+fn dump_with<W: Sink>(
+    rt: &(impl Abort + AllocGlobal),
+    message: &Message<'_>,
+    tables: &Tables,
+    steps: &mut Steps,
+    w: &mut W,
+) -> Result<(), RunFault> {
+    let template = template_of(rt, message, tables);
+    dump_by(rt, message, &template, &tables.b, steps, w)
+}
+
+// Dumps a message, and counts the steps.
+fn dump_counted<W: Sink>(
+    rt: &(impl Abort + AllocGlobal),
+    octets: &[u8],
+    w: &mut W,
+) -> (Result<(), RunFault>, u64) {
+    let mut steps = Steps::new();
+    let written = dump_to(rt, octets, &mut steps, w);
+    (written, steps.count())
+}
+
+// Octets of their own.
+fn copied(rt: &(impl Abort + AllocGlobal), octets: &[u8]) -> Vec<u8> {
+    ok(rt, Vec::from_slice(rt.alloc(), octets))
 }
 
 // Dumps a message to a device that takes at most `room` octets in all, at most `step` of them at
@@ -567,14 +602,12 @@ fn dump_to<W: Sink>(
 fn dump(rt: &(impl Abort + AllocGlobal), octets: &[u8], room: usize, step: usize) -> Outcome
     requires { 1 ≤ step }
 {
-    let mut steps = Steps::new();
     let mut w = ok(rt, ScriptOut::new(rt.alloc(), room, step, End::Fail));
-    let written = dump_to(rt, octets, &mut steps, &mut w);
-    let mut taken = Vec::new(rt.alloc());
-    ok(rt, taken.extend_from_slice(w.taken()));
+    let (written, steps) = dump_counted(rt, octets, &mut w);
+    let taken = copied(rt, w.taken());
     Outcome {
         written,
-        steps: steps.count(),
+        steps,
         taken,
     }
 }
@@ -600,7 +633,7 @@ fn row_of(rt: &(impl Abort + AllocGlobal), name: &str) -> (Vec<u8>, String) {
 
 // The row of this name.
 fn row_named(name: &str) -> Option<&'static Row> {
-    ROWS.iter().find(|row| row.name == name)
+    rows().iter().find(|row| row.name == name)
 }
 
 // A text whose first lines are those of all.
@@ -610,15 +643,25 @@ pub(crate) fn behind_the_first(rt: &(impl Abort + AllocGlobal), rest: &str) -> S
     text
 }
 
+// Asserts the text of a row, on writers of 1, 7 and 4,096 octets at once.
+fn assert_row(rt: &(impl Abort + AllocGlobal), row: &Row) {
+    let octets = message_of(rt, row);
+    let want = behind_the_first(rt, row.text);
+    assert_dumped(rt, &octets, 1, want.as_str());
+    assert_dumped(rt, &octets, 7, want.as_str());
+    assert_dumped(rt, &octets, 4096, want.as_str());
+}
+
+// Asserts that, of each row.
+fn assert_rows(rt: &(impl Abort + AllocGlobal), rows: &[Row]) {
+    for row in rows {
+        assert_row(rt, row);
+    }
+}
+
 #[test]
 fn dumps_worked_messages(rt: HostRuntime) {
-    for row in &ROWS {
-        let octets = message_of(&rt, row);
-        let want = behind_the_first(&rt, row.text);
-        assert_dumped(&rt, &octets, 1, want.as_str());
-        assert_dumped(&rt, &octets, 7, want.as_str());
-        assert_dumped(&rt, &octets, 4096, want.as_str());
-    }
+    assert_rows(&rt, rows());
 }
 
 // Asserts the text of a message, on a writer that takes at most `step` octets at once.
@@ -626,8 +669,8 @@ fn assert_dumped(rt: &(impl Abort + AllocGlobal), octets: &[u8], step: usize, wa
     requires { 1 ≤ step }
 {
     let dumped = dump(rt, octets, 65536, step);
-    assert_eq!(rt; dumped.written, Ok(()));
-    assert_eq!(rt; dumped.taken.as_slice(), want.as_bytes());
+    assert_same(rt, &dumped.written, &Ok(()), &step);
+    assert_same(rt, &dumped.taken.as_slice(), &want.as_bytes(), &step);
 }
 
 /// A message with octets for local use in section 1 and a section 2, 56 octets.
@@ -672,9 +715,8 @@ pub(crate) const EDITION_3_TEXT: &str = "\
 
 #[test]
 fn dumps_edition_3(rt: HostRuntime) {
-    for octets in [EDITION_3.as_slice(), ODD_EDITION_3.as_slice()] {
-        assert_dumped(&rt, octets, 4096, EDITION_3_TEXT);
-    }
+    assert_dumped(&rt, &EDITION_3, 4096, EDITION_3_TEXT);
+    assert_dumped(&rt, &ODD_EDITION_3, 4096, EDITION_3_TEXT);
 }
 
 /// A message without a subset, with these octets for local use and an empty section 2.
@@ -712,15 +754,21 @@ fn dumps_many_local_octets(rt: HostRuntime) {
     assert_dumped(&rt, &octets, 4096, want.as_str());
 }
 
+// Asserts that the front of a text is on a writer that has no more room.
+fn assert_front(rt: &(impl Abort + AllocGlobal), octets: &[u8], text: &str, room: usize) {
+    let dumped = dump(rt, octets, room, 9);
+    assert_same(rt, &dumped.written, &Err(RunFault::Write), &room);
+    let is_front = text.as_bytes().starts_with(&dumped.taken);
+    assert_that(rt, is_front, &room);
+    assert_same(rt, &dumped.taken.len(), &room, &room);
+}
+
 /// Wherever the writer ends, the front of the text is on it.
 #[test]
 fn stops_where_the_writer_ends(rt: HostRuntime) {
     let (octets, text) = row_of(&rt, "one_block_number");
     for room in 0..text.len() {
-        let dumped = dump(&rt, &octets, room, 9);
-        assert_eq!(rt; dumped.written, Err(RunFault::Write), "{room}");
-        assert!(rt; text.as_bytes().starts_with(&dumped.taken), "{room}");
-        assert_eq!(rt; dumped.taken.len(), room);
+        assert_front(&rt, &octets, text.as_str(), room);
     }
 }
 
@@ -744,7 +792,7 @@ fn steps_to(rt: &(impl Abort + AllocGlobal), name: &str, room: usize) -> u64 {
 #[test]
 fn counts_turns(rt: HostRuntime) {
     for (name, room, steps) in STOPS {
-        assert_eq!(rt; steps_to(&rt, name, *room), *steps, "{name} {room}");
+        assert_same(&rt, &steps_to(&rt, name, *room), steps, &(*name, *room));
     }
 }
 
@@ -777,7 +825,7 @@ fn writes_whole_lines(rt: HostRuntime) {
         torn: &torn,
     });
     let written = dump_to(&rt, &octets, &mut Steps::new(), &mut w);
-    assert_eq!(rt; written, Ok(()));
-    assert_eq!(rt; writes.get(), 8);
+    assert_same(&rt, &written, &Ok(()), &"written");
+    assert_same(&rt, &writes.get(), &8, &"writes");
     assert!(rt; !torn.get());
 }

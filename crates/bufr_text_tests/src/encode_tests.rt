@@ -1,10 +1,10 @@
 //! Documents and their messages.
 
 use crate::dump_tests::{
-    EDITION_3, EDITION_3_TEXT, FIRST_LINES, ODD_EDITION_3, ROWS as DUMPED, Row as DumpedRow,
-    Tables, behind_the_first, dumped, message_of, octets_of, read_tables,
+    EDITION_3, EDITION_3_TEXT, FIRST_LINES, ODD_EDITION_3, Row as DumpedRow, Tables,
+    behind_the_first, dumped, message_of, octets_of, read_tables, rows as dumped_rows,
 };
-use crate::ok;
+use crate::{assert_same, assert_that, ok};
 use bufr_bits::ScriptIn;
 use bufr_tables::Templates;
 use bufr_text::{
@@ -221,6 +221,11 @@ static ROWS: [Row; 30] = [
     },
 ];
 
+// The rows. What names them carries all their texts through its proof; what calls this does not.
+fn rows() -> &'static [Row] {
+    &ROWS
+}
+
 // What stands behind octet 22 of section 1, up to section 5.
 fn behind_the_head(octets: &[u8]) -> &[u8] {
     match octets.get(30..octets.len().saturating_sub(4)) {
@@ -278,30 +283,57 @@ pub(crate) fn is_wanted(
     steps: u64,
     wanted: Wanted,
 ) -> bool {
-    match (answer, wanted) {
-        (Ok(octets), Octets(text, turns)) => {
-            steps == turns && has_behind_its_head(rt, octets.as_slice(), text)
-        }
-        (Err(fault), Refused(number, line, turns)) => {
-            steps == turns && fault.number() == number && fault.line() == Some(line)
-        }
-        _ => false,
+    match answer {
+        Ok(octets) => are_wanted(rt, octets.as_slice(), steps, wanted),
+        Err(fault) => is_refused(fault, steps, wanted),
+    }
+}
+
+// Whether these octets come of a document, in so many steps.
+fn are_wanted(rt: &(impl Abort + AllocGlobal), octets: &[u8], steps: u64, wanted: Wanted) -> bool {
+    match wanted {
+        Octets(text, turns) => steps == turns && has_behind_its_head(rt, octets, text),
+        Refused(..) => false,
+    }
+}
+
+// Whether this fault comes of a document, in so many steps.
+fn is_refused(fault: &DocumentFault, steps: u64, wanted: Wanted) -> bool {
+    match wanted {
+        Octets(..) => false,
+        Refused(number, line, turns) => steps == turns && told(fault) == (number, Some(line)),
+    }
+}
+
+// A fault's number and its line.
+fn told(fault: &DocumentFault) -> (u8, Option<u64>) {
+    (fault.number(), fault.line())
+}
+
+// Asserts what comes of a row.
+fn assert_encoded(rt: &(impl Abort + AllocGlobal), row: &Row) {
+    let document = document_in(rt, row);
+    let (result, steps) = encoded(rt, &document);
+    assert_that(rt, is_wanted(rt, &result, steps, row.wanted), &row.name);
+}
+
+// Asserts that, of each row.
+fn assert_each_encoded(rt: &(impl Abort + AllocGlobal), rows: &[Row]) {
+    for row in rows {
+        assert_encoded(rt, row);
     }
 }
 
 #[test]
 fn encodes_worked_documents(rt: HostRuntime) {
-    for row in &ROWS {
-        let (result, steps) = encoded(&rt, &document_in(&rt, row));
-        assert!(rt; is_wanted(&rt, &result, steps, row.wanted), "{}", row.name);
-    }
+    assert_each_encoded(&rt, rows());
 }
 
 // Whether two encodings have the same octets, or the same fault.
 fn are_alike(one: &Result<Vec<u8>, DocumentFault>, other: &Result<Vec<u8>, DocumentFault>) -> bool {
     match (one, other) {
         (Ok(one), Ok(other)) => one == other,
-        (Err(one), Err(other)) => (one.number(), one.line()) == (other.number(), other.line()),
+        (Err(one), Err(other)) => told(one) == told(other),
         _ => false,
     }
 }
@@ -324,9 +356,19 @@ fn is_encoded_as_alone(
     document: &Document,
     templates: &mut Templates<'_>,
 ) -> bool {
-    let (alone, turns) = encoded(rt, document);
     let (behind, steps) = encoded_behind(rt.alloc(), document, templates);
-    are_alike(&behind, &alone) && steps == turns
+    comes_alone(rt, document, &behind, steps)
+}
+
+/// Whether this comes of a document alone, in so many steps.
+fn comes_alone(
+    rt: &(impl Abort + AllocGlobal),
+    document: &Document,
+    behind: &Result<Vec<u8>, DocumentFault>,
+    steps: u64,
+) -> bool {
+    let (alone, turns) = encoded(rt, document);
+    steps == turns && are_alike(behind, &alone)
 }
 
 /// Asserts that, of a row's document and of the same behind it.
@@ -336,16 +378,18 @@ fn assert_encoded_as_alone(
     templates: &mut Templates<'_>,
 ) {
     let document = document_in(rt, row);
-    assert!(rt;
-        is_encoded_as_alone(rt, &document, templates),
-        "{}",
-        row.name
-    );
-    assert!(rt;
-        is_encoded_as_alone(rt, &document, templates),
-        "{}",
-        row.name
-    );
+    let first = is_encoded_as_alone(rt, &document, templates);
+    assert_that(rt, first, &row.name);
+    let second = is_encoded_as_alone(rt, &document, templates);
+    assert_that(rt, second, &row.name);
+}
+
+/// Asserts that, of each row.
+fn assert_each_as_alone(rt: &(impl Abort + AllocGlobal), rows: &[Row], tables: &Tables) {
+    let mut templates = Templates::new(rt.alloc(), &tables.b, &tables.d);
+    for row in rows {
+        assert_encoded_as_alone(rt, row, &mut templates);
+    }
 }
 
 /// Documents of many descriptors one after another, and each of them twice, by the same templates:
@@ -353,10 +397,14 @@ fn assert_encoded_as_alone(
 #[test]
 fn encodes_documents_behind_others(rt: HostRuntime) {
     let tables = read_tables(&rt);
-    let mut templates = Templates::new(rt.alloc(), &tables.b, &tables.d);
-    for row in &ROWS {
-        assert_encoded_as_alone(&rt, row, &mut templates);
-    }
+    assert_each_as_alone(&rt, rows(), &tables);
+}
+
+// The fault of reading a text's first document.
+fn read_fault_of(alloc: Global, text: &[u8]) -> Option<ReadFault> {
+    let mut reader = DumpReader::new(alloc);
+    let mut input = ScriptIn::new(text, 4096, None);
+    reader.next_document(&mut input).err()
 }
 
 /// A document is read whole before its items are looked at: a line that may not stand there is
@@ -368,10 +416,8 @@ fn tells_a_line_before_an_item(rt: HostRuntime) {
         "observed 1\ncompressed 0\noptional 0\nsubsets 1\ndescriptors 012101\n\
         subset 1\n012101 288.155\nx\nend\n",
     );
-    let mut reader = DumpReader::new(rt.alloc());
-    let mut input = ScriptIn::new(text.as_bytes(), 4096, None);
-    let next = reader.next_document(&mut input);
-    assert!(rt; matches!(next, Err(ReadFault::Line(25))));
+    let fault = read_fault_of(rt.alloc(), text.as_bytes());
+    assert_same(&rt, &fault, &Some(ReadFault::Line(25)), &"a line");
 }
 
 /// 65,792 empty texts of 255 octets, and one of its own width behind them.
@@ -395,13 +441,29 @@ fn many_texts(rt: &(impl Abort + AllocGlobal), last: &str) -> Document {
 /// The longest message has 16,777,215 octets; of one octet more nothing is written.
 #[test]
 fn encodes_the_longest_message(rt: HostRuntime) {
-    let (octets, _) = encoded(&rt, &many_texts(&rt, "205192"));
-    let octets = ok(&rt, octets);
-    assert_eq!(rt; octets.len(), 16_777_215);
+    assert_longest(&rt, &octets_in(&rt, &many_texts(&rt, "205192")));
+    assert!(rt; is_refused_as_long(&rt, &many_texts(&rt, "205193")));
+}
+
+// Asserts that these are the octets of a message as long as there may be.
+fn assert_longest(rt: &impl Abort, octets: &[u8]) {
+    assert_same(rt, &octets.len(), &16_777_215, &"length");
     assert!(rt; octets.starts_with(b"BUFR\xFF\xFF\xFF\x04"));
     assert!(rt; octets.ends_with(b" 7777"));
-    let (refused, _) = encoded(&rt, &many_texts(&rt, "205193"));
-    assert!(rt; matches!(refused, Err(DocumentFault::TooLong(2))));
+}
+
+// Whether a document is refused since its message is too long.
+fn is_refused_as_long(rt: &(impl Abort + AllocGlobal), document: &Document) -> bool {
+    let (refused, _) = encoded(rt, document);
+    is_too_long(&refused, 2)
+}
+
+// Whether a message is too long for a document whose first line is this.
+pub(crate) fn is_too_long(answer: &Result<Vec<u8>, DocumentFault>, line: u64) -> bool {
+    match answer {
+        Err(DocumentFault::TooLong(first)) => *first == line,
+        _ => false,
+    }
 }
 
 // What is proved of dumps that are encoded. A test that calls it does not have to carry the
@@ -421,38 +483,64 @@ fn laws() {
 #[test]
 fn encodes_what_was_dumped(rt: HostRuntime) {
     laws();
-    for row in &DUMPED {
-        assert_encoded_again(&rt, row);
-    }
+    assert_each_encoded_again(&rt, dumped_rows());
 }
 
 /// Asserts that, of one message.
 fn assert_encoded_again(rt: &(impl Abort + AllocGlobal), row: &DumpedRow) {
     let message = message_of(rt, row);
-    let text = dumped(rt, &message);
+    let octets = dumped_and_encoded(rt, row.name, &message);
+    let is_itself = octets == message;
+    assert_same(rt, &is_itself, &!is_packed_otherwise(row.name), &row.name);
+    assert_that(rt, octets.len() <= message.len(), &row.name);
+}
+
+// What the dump text of a message is encoded to. Asserts that it has the same text.
+fn dumped_and_encoded(rt: &(impl Abort + AllocGlobal), name: &str, message: &[u8]) -> Vec<u8> {
+    let text = dumped(rt, message);
     let octets = octets_for(rt, &text);
-    assert!(rt; dumped(rt, &octets) == text, "{}", row.name);
-    let packed_otherwise = row.name == "compressed_name" || row.name == "increment_to_all_ones";
-    assert!(rt; (octets == message) != packed_otherwise, "{}", row.name);
-    assert!(rt; octets.len() <= message.len(), "{}", row.name);
+    let again = dumped(rt, &octets);
+    assert_same(rt, &again.as_slice(), &text.as_slice(), &name);
+    octets
+}
+
+// Whether the message of this name is not canonical.
+fn is_packed_otherwise(name: &str) -> bool {
+    name == "compressed_name" || name == "increment_to_all_ones"
+}
+
+// Asserts that, of each message.
+fn assert_each_encoded_again(rt: &(impl Abort + AllocGlobal), rows: &[DumpedRow]) {
+    for row in rows {
+        assert_encoded_again(rt, row);
+    }
+}
+
+// The octets that a document is encoded to.
+fn octets_in(rt: &(impl Abort + AllocGlobal), document: &Document) -> Vec<u8> {
+    ok(rt, encoded(rt, document).0)
 }
 
 // The octets that a text's first document is encoded to.
 pub(crate) fn octets_for(rt: &(impl Abort + AllocGlobal), text: &[u8]) -> Vec<u8> {
-    let document = document_of(rt, text);
-    ok(rt, encoded(rt, &document).0)
+    octets_in(rt, &document_of(rt, text))
+}
+
+// Asserts that these are the octets of the message of edition 3.
+fn assert_edition_3(rt: &impl Abort, octets: &[u8]) {
+    assert_same(rt, &octets, &EDITION_3.as_slice(), &"octets");
 }
 
 /// Sections 3 and 4 of edition 3 are made even, with zero octets.
 #[test]
 fn encodes_edition_3(rt: HostRuntime) {
     let octets = octets_for(&rt, EDITION_3_TEXT.as_bytes());
-    assert_eq!(rt; octets.as_slice(), EDITION_3.as_slice());
+    assert_edition_3(&rt, &octets);
 }
 
 /// Sections 3 and 4 that a message of edition 3 had odd are made even too.
 #[test]
 fn makes_odd_sections_even(rt: HostRuntime) {
     let octets = octets_for(&rt, &dumped(&rt, &ODD_EDITION_3));
-    assert_eq!(rt; octets.as_slice(), EDITION_3.as_slice());
+    assert_edition_3(&rt, &octets);
 }

@@ -2,8 +2,8 @@
 
 use crate::dump_tests::{Tables, behind_the_first, dumped, read_tables};
 use crate::encode_tests::Wanted::{Octets, Refused};
-use crate::encode_tests::{Wanted, document_of, is_wanted};
-use crate::ok;
+use crate::encode_tests::{Wanted, document_of, is_too_long, is_wanted};
+use crate::{assert_same, assert_that, ok};
 use bufr_text::{Document, DocumentFault, Form, encode_form, encode_law};
 use bufr_walk::Steps;
 use std::alloc::Global;
@@ -128,13 +128,23 @@ fn octets_in(rt: &(impl Abort + AllocGlobal), document: &Document, form: Form) -
     ok(rt, octets)
 }
 
+// Asserts what comes of a row.
+fn assert_formed(rt: &(impl Abort + AllocGlobal), row: &Row) {
+    let document = document_behind(rt, row.text);
+    let (result, steps) = formed(rt, &document, row.form);
+    assert_that(rt, is_wanted(rt, &result, steps, row.wanted), &row.name);
+}
+
+// Asserts that, of each row.
+fn assert_each_formed(rt: &(impl Abort + AllocGlobal), rows: &[Row]) {
+    for row in rows {
+        assert_formed(rt, row);
+    }
+}
+
 #[test]
 fn encodes_in_a_form(rt: HostRuntime) {
-    for row in &ROWS {
-        let document = document_behind(&rt, row.text);
-        let (result, steps) = formed(&rt, &document, row.form);
-        assert!(rt; is_wanted(&rt, &result, steps, row.wanted), "{}", row.name);
-    }
+    assert_each_formed(&rt, &ROWS);
 }
 
 /// A text with another line in the place of one.
@@ -167,7 +177,7 @@ fn dumps_the_plain_form(rt: HostRuntime) {
     let packed = dump_in(&rt, &document, Form::AsWritten);
     let dumped = dump_in(&rt, &document, Form::Plain);
     let wanted = with_other(&rt, &packed, "compressed 1\n", "compressed 0\n");
-    assert_eq!(rt; dumped.as_slice(), wanted.as_bytes());
+    assert_same(&rt, &dumped.as_slice(), &wanted.as_bytes(), &"text");
 }
 
 /// What comes of a document's plain form that is dumped and compressed again.
@@ -177,26 +187,43 @@ fn back_again(rt: &(impl Abort + AllocGlobal), document: &Document) -> Vec<u8> {
     octets_in(rt, &again, Form::Compressed)
 }
 
+// Asserts how many octets a document has in a form.
+fn assert_length(rt: &(impl Abort + AllocGlobal), document: &Document, form: Form, wanted: usize) {
+    let octets = octets_in(rt, document, form);
+    assert_same(rt, &octets.len(), &wanted, &"length");
+}
+
+// Asserts that a document's octets come back.
+fn assert_back_again(rt: &(impl Abort + AllocGlobal), document: &Document) {
+    let first = octets_in(rt, document, Form::AsWritten);
+    let again = back_again(rt, document);
+    assert_same(rt, &again.as_slice(), &first.as_slice(), &"octets");
+}
+
 /// A compressed message, in plain form and back again: the same octets.
 #[test]
 fn comes_back_from_the_plain_form(rt: HostRuntime) {
     laws();
     let document = document_behind(&rt, COMPRESSED_MISSING);
-    let first = octets_in(&rt, &document, Form::AsWritten);
-    assert_eq!(rt; first.len(), 50);
-    assert_eq!(rt; octets_in(&rt, &document, Form::Plain).len(), 51);
-    assert!(rt; back_again(&rt, &document) == first);
+    assert_length(&rt, &document, Form::Plain, 51);
+    assert_length(&rt, &document, Form::AsWritten, 50);
+    assert_back_again(&rt, &document);
+}
+
+// Pushes the lines of a subset of two texts of spaces.
+fn push_subset(rt: &(impl Abort + AllocGlobal), text: &mut String, subset: u32) {
+    let lines = ok(
+        rt,
+        format!(in rt.alloc(); "subset {subset}\n205255 \"\"\n205002 \"\"\n"),
+    );
+    ok(rt, text.push_str(&lines));
 }
 
 // Two texts of spaces in each of 65,535 subsets.
 fn many_texts(rt: &(impl Abort + AllocGlobal)) -> String {
     let mut text = ok(rt, String::from_str(rt.alloc(), MANY_SUBSETS));
     for subset in 1..=65_535 {
-        let lines = ok(
-            rt,
-            format!(in rt.alloc(); "subset {subset}\n205255 \"\"\n205002 \"\"\n"),
-        );
-        ok(rt, text.push_str(&lines));
+        push_subset(rt, &mut text, subset);
     }
     ok(rt, text.push_str("end\n"));
     text
@@ -208,8 +235,7 @@ fn many_texts(rt: &(impl Abort + AllocGlobal)) -> String {
 fn refuses_a_long_plain_form(rt: HostRuntime) {
     let text = many_texts(&rt);
     let document = document_behind(&rt, text.as_str());
-    let packed = octets_in(&rt, &document, Form::AsWritten);
-    assert_eq!(rt; packed.len(), 308);
-    let refused = formed(&rt, &document, Form::Plain).0;
-    assert!(rt; matches!(refused, Err(DocumentFault::TooLong(1))));
+    assert_length(&rt, &document, Form::AsWritten, 308);
+    let (refused, _) = formed(&rt, &document, Form::Plain);
+    assert!(rt; is_too_long(&refused, 1));
 }

@@ -1,5 +1,6 @@
 //! Documents in other spellings than that of a dump.
 
+use crate::assert_same;
 use crate::dump_tests::{behind_the_first, dumped};
 use crate::encode_tests::octets_for;
 use bufr_text::readback_law;
@@ -30,7 +31,8 @@ fn dumps_what_was_written_by_hand(rt: HostRuntime) {
     laws();
     let octets = octets_for(&rt, behind_the_first(&rt, BY_HAND).as_bytes());
     let text = dumped(&rt, &octets);
-    assert!(rt; text.as_slice() == behind_the_first(&rt, AS_DUMPED).as_bytes());
+    let wanted = behind_the_first(&rt, AS_DUMPED);
+    assert_same(&rt, &text.as_slice(), &wanted.as_bytes(), &"text");
     let again = octets_for(&rt, &text);
-    assert!(rt; again == octets);
+    assert_same(&rt, &again.as_slice(), &octets.as_slice(), &"octets");
 }

@@ -1,6 +1,7 @@
 //! Items of compressed data, read by a walk over a template.
 ghost use Rattle.std.specs.Prelude.{◌≤◌, length};
 
+use crate::assert_same;
 use crate::test_messages::{Asked, octets_of};
 use bufr_bits::BitSlice;
 use bufr_tables::Fxy;
@@ -65,44 +66,48 @@ fn assert_taken(rt: &(impl Abort + AllocGlobal), row: &(&str, &str, &str, u8, u6
     let octets = octets_of(rt, data_text);
     let asked = Asked::new(rt, descriptors);
     assert!(rt; octets.len() <= 100);
-    assert_eq!(rt;
-        taken(rt.alloc(), &asked, 2, &octets),
-        (number, bits),
-        "{name}"
-    );
+    let told = taken(rt.alloc(), &asked, 2, &octets);
+    assert_same(rt, &told, &(number, bits), &name);
+}
+
+// Asserts that, of each row.
+fn assert_rows(rt: &(impl Abort + AllocGlobal), rows: &[(&str, &str, &str, u8, u64)]) {
+    for row in rows {
+        assert_taken(rt, row);
+    }
 }
 
 #[test]
 fn items_of_two_subsets(rt: HostRuntime) {
-    for row in ITEMS {
-        assert_taken(&rt, row);
-    }
+    assert_rows(&rt, ITEMS);
 }
 
 // The octets of a text belong to the item, also where there are more than its width holds.
 #[test]
 fn octets_past_the_data(rt: HostRuntime) {
     let asked = Asked::new(&rt, "205002");
-    assert_eq!(rt; taken(rt.alloc(), &asked, 2, &[0x00, 0x00, 0x0C]), (30, 0));
+    let told = taken(rt.alloc(), &asked, 2, &[0x00, 0x00, 0x0C]);
+    assert_same(&rt, &told, &(30, 0), &"the octets end");
 }
 
 #[test]
 fn one_value_for_all_subsets(rt: HostRuntime) {
     let asked = Asked::new(&rt, "001001");
-    assert_eq!(rt; taken(rt.alloc(), &asked, 65535, &[0x14, 0x00]), (0, 13));
+    let told = taken(rt.alloc(), &asked, 65535, &[0x14, 0x00]);
+    assert_same(&rt, &told, &(0, 13), &"one value");
 }
 
 #[test]
 fn packed_faults_have_numbers(rt: HostRuntime) {
     let fxy = Fxy::from_word(257);
-    let rows = [
-        (PackedFault::DataEnd(fxy), 30),
-        (PackedFault::UnequalFactor(fxy), 33),
-        (PackedFault::Increment(fxy), 34),
-        (PackedFault::TooManyValues(fxy), 35),
-        (PackedFault::Memory, 73),
-    ];
-    for (fault, number) in rows {
-        assert_eq!(rt; fault.number(), number, "{fault:?}");
-    }
+    assert_number(&rt, &PackedFault::DataEnd(fxy), 30);
+    assert_number(&rt, &PackedFault::UnequalFactor(fxy), 33);
+    assert_number(&rt, &PackedFault::Increment(fxy), 34);
+    assert_number(&rt, &PackedFault::TooManyValues(fxy), 35);
+    assert_number(&rt, &PackedFault::Memory, 73);
+}
+
+// Asserts the number of a fault.
+fn assert_number(rt: &impl Abort, fault: &PackedFault, number: u8) {
+    assert_same(rt, &fault.number(), &number, fault);
 }

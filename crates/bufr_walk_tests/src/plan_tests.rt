@@ -1,5 +1,6 @@
 //! What is shown by running: messages one after another, read by the template and the plan that are
 //! kept.
+use crate::assert_same;
 use crate::test_messages::{APART, Worked, octets_of, tables, told_by};
 use bufr_walk::Plans;
 use std::process::Abort;
@@ -71,25 +72,36 @@ fn assert_told(
     let (subsets, descriptors, data_text, want) = *row;
     let payload = octets_of(rt, data_text);
     let told = told_by(rt, plans, subsets, descriptors, &payload);
-    assert_eq!(rt; told.as_str(), want);
-    let worked = Worked::new(rt, subsets, APART, descriptors, &payload);
-    assert_eq!(rt; worked.told(rt).as_str(), want);
+    assert_same(rt, &told.as_str(), &want, &data_text);
+    let alone = told_alone(rt, subsets, descriptors, &payload);
+    assert_same(rt, &alone.as_str(), &want, &data_text);
+}
+
+// What comes of a message alone.
+fn told_alone(
+    rt: &(impl Abort + AllocGlobal),
+    subsets: u16,
+    descriptors: &str,
+    payload: &[u8],
+) -> String {
+    Worked::new(rt, subsets, APART, descriptors, payload).told(rt)
+}
+
+// Asserts that, of each row, by the same that is kept.
+fn assert_rows(rt: &(impl Abort + AllocGlobal), rows: &[(u16, &str, &str, &str)]) {
+    let (table_b, table_d) = tables(rt);
+    let mut plans = Plans::new(rt.alloc(), &table_b, &table_d);
+    for row in rows {
+        assert_told(rt, &mut plans, row);
+    }
 }
 
 #[test]
 fn messages_that_repeat_one_template(rt: HostRuntime) {
-    let (table_b, table_d) = tables(&rt);
-    let mut plans = Plans::new(rt.alloc(), &table_b, &table_d);
-    for row in ROWS_OF_ONE_TEMPLATE {
-        assert_told(&rt, &mut plans, row);
-    }
+    assert_rows(&rt, ROWS_OF_ONE_TEMPLATE);
 }
 
 #[test]
 fn messages_of_two_templates_in_turn(rt: HostRuntime) {
-    let (table_b, table_d) = tables(&rt);
-    let mut plans = Plans::new(rt.alloc(), &table_b, &table_d);
-    for row in ROWS_OF_TWO_TEMPLATES {
-        assert_told(&rt, &mut plans, row);
-    }
+    assert_rows(&rt, ROWS_OF_TWO_TEMPLATES);
 }

@@ -66,33 +66,46 @@ fn message_of(
     descriptors: &[Fxy],
     payload: &[u8],
 ) -> Vec<u8> {
-    let mut octets = Vec::new(rt.alloc());
-    let third = ok(
-        rt,
-        u16::try_from(descriptors.len().saturating_mul(2).saturating_add(7)),
-    );
-    let fourth = ok(rt, u16::try_from(payload.len().saturating_add(4)));
+    let third = length_of(rt, descriptors.len().saturating_mul(2).saturating_add(7));
+    let fourth = length_of(rt, payload.len().saturating_add(4));
     let length = third.saturating_add(fourth).saturating_add(34);
-    ok(rt, octets.extend_from_slice(b"BUFR\0"));
-    ok(rt, octets.extend_from_slice(&length.to_be_bytes()));
-    ok(
-        rt,
-        octets.extend_from_slice(&[4, 0, 0, 22, 0, 0, 98, 0, 0, 0, 0, 0, 0, 0, 14, 0]),
-    );
-    ok(rt, octets.extend_from_slice(&[7, 232, 1, 2, 3, 4, 5, 0]));
-    ok(rt, octets.extend_from_slice(&third.to_be_bytes()));
-    ok(rt, octets.push(0));
-    ok(rt, octets.extend_from_slice(&subsets.to_be_bytes()));
-    ok(rt, octets.push(flags));
-    for fxy in descriptors {
-        ok(rt, octets.extend_from_slice(&fxy.word().to_be_bytes()));
-    }
-    ok(rt, octets.push(0));
-    ok(rt, octets.extend_from_slice(&fourth.to_be_bytes()));
-    ok(rt, octets.push(0));
-    ok(rt, octets.extend_from_slice(payload));
-    ok(rt, octets.extend_from_slice(b"7777"));
+    let mut octets = Vec::new(rt.alloc());
+    push_octets(rt, &mut octets, b"BUFR\0");
+    push_octets(rt, &mut octets, &length.to_be_bytes());
+    push_octets(rt, &mut octets, HEAD);
+    push_octets(rt, &mut octets, &third.to_be_bytes());
+    push_octets(rt, &mut octets, b"\0");
+    push_octets(rt, &mut octets, &subsets.to_be_bytes());
+    push_octets(rt, &mut octets, &[flags]);
+    push_words(rt, &mut octets, descriptors);
+    push_octets(rt, &mut octets, b"\0");
+    push_octets(rt, &mut octets, &fourth.to_be_bytes());
+    push_octets(rt, &mut octets, b"\0");
+    push_octets(rt, &mut octets, payload);
+    push_octets(rt, &mut octets, b"7777");
     octets
+}
+
+/// What stands between the length of a message and that of its section 3, all but the last octet.
+const HEAD: &[u8] = &[
+    4, 0, 0, 22, 0, 0, 98, 0, 0, 0, 0, 0, 0, 0, 14, 0, 7, 232, 1, 2, 3, 4, 5, 0,
+];
+
+/// A length in two octets.
+fn length_of(rt: &impl Abort, length: usize) -> u16 {
+    ok(rt, u16::try_from(length))
+}
+
+/// Puts octets behind others. It promises nothing, so that a message's proof is short.
+fn push_octets(rt: &impl Abort, octets: &mut Vec<u8>, more: &[u8]) {
+    ok(rt, octets.extend_from_slice(more));
+}
+
+/// Puts the words of descriptors behind octets.
+fn push_words(rt: &impl Abort, octets: &mut Vec<u8>, descriptors: &[Fxy]) {
+    for fxy in descriptors {
+        push_octets(rt, octets, &fxy.word().to_be_bytes());
+    }
 }
 
 /// A visitor that writes down what it is told.
@@ -113,27 +126,38 @@ impl Visitor for Lines {
     }
 
     fn item(&mut self, item: &ItemView<'_>) -> Result<(), AllocError> {
-        let line = match item.value {
-            Value::Number(number, scale) => {
-                format!(in self.alloc; " {} {number}e{scale}", item.fxy)?
-            }
-            Value::Text(octets) => {
-                let mut line = format!(in self.alloc; " {} \"", item.fxy)?;
-                for octet in octets {
-                    line.push_str(format!(in self.alloc; "{octet:02X}")?.as_str())?;
-                }
-                line.push('"')?;
-                line
-            }
-            Value::Missing => format!(in self.alloc; " {} missing", item.fxy)?,
-            Value::Reference(number) => format!(in self.alloc; " {} R{number}", item.fxy)?,
-        };
+        let line = line_of(self.alloc, item)?;
         self.text.push_str(line.as_str())?;
         if item.entry.is_some() {
             self.text.push_str(" #")?;
         }
         Ok(())
     }
+}
+
+/// What is written down of an item.
+fn line_of(alloc: Global, item: &ItemView<'_>) -> Result<String, AllocError> {
+    match item.value {
+        Value::Number(number, scale) => { format!(in alloc; " {} {number}e{scale}", item.fxy) }
+        Value::Text(octets) => line_of_text(alloc, item.fxy, octets),
+        Value::Missing => format!(in alloc; " {} missing", item.fxy),
+        Value::Reference(number) => format!(in alloc; " {} R{number}", item.fxy),
+    }
+}
+
+/// The same of a text.
+fn line_of_text(alloc: Global, fxy: Fxy, octets: &[u8]) -> Result<String, AllocError> {
+    let mut line = format!(in alloc; " {fxy} \"")?;
+    for octet in octets {
+        push_octet(alloc, &mut line, *octet)?;
+    }
+    line.push('"')?;
+    Ok(line)
+}
+
+/// Puts the hexadecimal digits of an octet behind a line.
+fn push_octet(alloc: Global, line: &mut String, octet: u8) -> Result<(), AllocError> {
+    line.push_str(format!(in alloc; "{octet:02X}")?.as_str())
 }
 
 /// Where a fault stands.

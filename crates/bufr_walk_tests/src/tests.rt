@@ -1,6 +1,6 @@
 //! What is shown by running: the worked messages, each fault, the limits.
-use crate::ok;
 use crate::test_messages::{APART, TOGETHER, Worked, octets_of};
+use crate::{assert_same, ok};
 use bufr_tables::Fxy;
 use bufr_walk::{Spot, WalkFault};
 use std::process::Abort;
@@ -421,31 +421,34 @@ fn assert_told(rt: &(impl Abort + AllocGlobal), flags: u8, row: &(&str, u16, &st
     let (name, subsets, descriptors, data_text, want) = *row;
     let payload = octets_of(rt, data_text);
     let worked = Worked::new(rt, subsets, flags, descriptors, &payload);
-    assert_eq!(rt; worked.told(rt).as_str(), want, "{name}");
+    assert_same(rt, &worked.told(rt).as_str(), &want, &name);
+}
+
+// Asserts that, of each row.
+fn assert_rows(rt: &(impl Abort + AllocGlobal), flags: u8, rows: &[(&str, u16, &str, &str, &str)]) {
+    for row in rows {
+        assert_told(rt, flags, row);
+    }
 }
 
 // Asserts what comes of reading a message.
 fn assert_read(rt: &(impl Abort + AllocGlobal), worked: &Worked, want: &str) {
-    assert_eq!(rt; worked.read(rt).as_str(), want);
+    assert_same(rt, &worked.read(rt).as_str(), &want, &"read");
 }
 
 // Asserts how many subsets and items a message shows.
 fn assert_counted(rt: &(impl Abort + AllocGlobal), worked: &Worked, want: (u64, u64)) {
-    assert_eq!(rt; worked.counted(rt), want);
+    assert_same(rt, &worked.counted(rt), &want, &"counted");
 }
 
 #[test]
 fn worked_messages(rt: HostRuntime) {
-    for row in ROWS {
-        assert_told(&rt, APART, row);
-    }
+    assert_rows(&rt, APART, ROWS);
 }
 
 #[test]
 fn compressed_messages(rt: HostRuntime) {
-    for row in ROWS_TOGETHER {
-        assert_told(&rt, TOGETHER, row);
-    }
+    assert_rows(&rt, TOGETHER, ROWS_TOGETHER);
 }
 
 // So many octets, the first two of them given.
@@ -519,7 +522,7 @@ fn assert_steps_to(
     most: u64,
     want: (u64, u64, u64),
 ) {
-    assert_eq!(rt; worked.counted_to(rt, most), want);
+    assert_same(rt, &worked.counted_to(rt, most), &want, &most);
 }
 
 // How many items a visitor of two subsets takes, and the subsets and items that it was told, with
@@ -545,7 +548,7 @@ fn refused_items_of_two_subsets(rt: HostRuntime) {
 fn as_many_characters_as_may_be(rt: HostRuntime) {
     let payload = octets_with(&rt, 258, 0x00, 0x00);
     let worked = Worked::new(&rt, 1, APART, "201129 012101 205255", &payload);
-    assert_eq!(rt; worked.told(&rt).len(), 554);
+    assert_same(&rt, &worked.told(&rt).len(), &554, &"told");
 }
 
 // The front of the first subset.
@@ -559,16 +562,16 @@ fn front() -> Spot {
 
 #[test]
 fn faults_have_numbers(rt: HostRuntime) {
-    let rows = [
-        (WalkFault::DataEnd(front()), 30),
-        (WalkFault::Width(front()), 31),
-        (WalkFault::Defining(front()), 32),
-        (WalkFault::UnequalFactor(front()), 33),
-        (WalkFault::Increment(front()), 34),
-        (WalkFault::TooManyValues(front()), 35),
-        (WalkFault::Memory, 73),
-    ];
-    for (fault, number) in rows {
-        assert_eq!(rt; fault.number(), number, "{fault:?}");
-    }
+    assert_number(&rt, &WalkFault::DataEnd(front()), 30);
+    assert_number(&rt, &WalkFault::Width(front()), 31);
+    assert_number(&rt, &WalkFault::Defining(front()), 32);
+    assert_number(&rt, &WalkFault::UnequalFactor(front()), 33);
+    assert_number(&rt, &WalkFault::Increment(front()), 34);
+    assert_number(&rt, &WalkFault::TooManyValues(front()), 35);
+    assert_number(&rt, &WalkFault::Memory, 73);
+}
+
+// Asserts the number of a fault.
+fn assert_number(rt: &impl Abort, fault: &WalkFault, number: u8) {
+    assert_same(rt, &fault.number(), &number, fault);
 }
