@@ -2,9 +2,9 @@
 ghost use Rattle.std.specs.Prelude.{◌≡◌, IfErr, IfNone, IfOk, IfSome, codes, map, false, Some};
 ghost use Rattle.clap.specs.declared.builder.command.Command.TheViews.{out-Command};
 ghost use Rattle.clap.specs.Values.{kind_of};
-ghost use Rattle.clap.specs.Words.{app_of, fault_of, first_of, found_of, rows_of, rule_of, subcommand_of};
+ghost use Rattle.clap.specs.Words.{app_of, fault_of, first_of, found_of, new_app, new_rule, rows_of, rule_of, subcommand_of, with_subcommand};
 ghost use Rattle.bufr_text.specs.declared.form.Form.{Form};
-ghost use Rattle.bufr_command.specs.Line.{bufr_app, encode_app, form_rule, ls_app, name_of, table_rule, tables_app, word_of};
+ghost use Rattle.bufr_command.specs.Line.{bufr_app, encode_app, form_rule, ls_app, name_of, table_rule, tables_app, top_app, word_of};
 ghost use Rattle.bufr_command.specs.Line.{AreNamed, HasNoJob, HasTables, IsJobOf, LacksForm, LacksTables, SaysWhy, TellsKind};
 
 use bufr_text::Form;
@@ -168,16 +168,37 @@ impl From<AllocError> for LineFault {
     }
 }
 
+/// A command of this name, which help tells about, with these notes under its own help.
+fn named_command<'a>(
+    alloc: Global,
+    name: &'a str,
+    about: &'a str,
+    notes: &'a str,
+) -> clap::Command<'a>
+    ensures app { app_of result ≡ new_app name.entry.now }
+    ensures local { (out-Command result).has_globals ≡ false }
+{
+    clap::Command::new(alloc, name)
+        .about(about)
+        .after_help(notes)
+}
+
+/// The input's file, which help tells about.
+fn file_argument<'a>(alloc: Global, help: &'a str) -> Arg<'a>
+    ensures rule { rule_of result ≡ new_rule (codes "FILE") }
+    ensures global { result.global ≡ false }
+{
+    Arg::new(alloc, "FILE").help(help)
+}
+
 /// `bufr ls [FILE]`.
 fn ls_command<'a>(alloc: Global) -> Result<clap::Command<'a>, AllocError>
     ensures app { IfOk result (λ c. app_of c ≡ ls_app) }
     ensures local { IfOk result (λ c. (out-Command c).has_globals ≡ false) }
 {
-    let file = Arg::new(alloc, "FILE").help("The file to list; standard input without it");
-    clap::Command::new(alloc, "ls")
-        .about("Lists each BUFR message on a line")
-        .after_help(LS_NOTES)
-        .arg(file)
+    let about = "Lists each BUFR message on a line";
+    let file = file_argument(alloc, "The file to list; standard input without it");
+    named_command(alloc, "ls", about, LS_NOTES).arg(file)
 }
 
 /// The option of a table, of one letter, which must be there.
@@ -204,14 +225,10 @@ fn command_with_tables<'a>(
     ensures local { IfOk result (λ c. (out-Command c).has_globals ≡ false) }
 {
     let table_b = table_option(alloc, "B", 'B', "Table B, the elements, as CSV");
+    let command = named_command(alloc, name, about, notes).arg(table_b)?;
     let table_d = table_option(alloc, "D", 'D', "Table D, the sequences, as CSV");
-    let file = Arg::new(alloc, "FILE").help(file);
-    clap::Command::new(alloc, name)
-        .about(about)
-        .after_help(notes)
-        .arg(table_b)?
-        .arg(table_d)?
-        .arg(file)
+    let command = command.arg(table_d)?;
+    command.arg(file_argument(alloc, file))
 }
 
 /// `bufr dump -B FILE -D FILE [FILE]`.
@@ -245,22 +262,52 @@ fn encode_command<'a>(alloc: Global) -> Result<clap::Command<'a>, AllocError>
     command.arg(form_option(alloc))
 }
 
+/// `bufr` without its subcommands.
+fn top_command<'a>(alloc: Global) -> Result<clap::Command<'a>, AllocError>
+    ensures { IfOk result (λ c. app_of c ≡ top_app) }
+{
+    let about = "Lists, dumps and encodes messages of FM 94 BUFR";
+    let command = named_command(alloc, "bufr", about, PROGRAM_NOTES).bin_name("bufr")?;
+    Ok(command.version(VERSION).subcommand_required(true))
+}
+
+/// A command and the subcommand `ls`.
+fn with_ls<'a>(alloc: Global, command: clap::Command<'a>) -> Result<clap::Command<'a>, AllocError>
+    ensures { IfOk result (λ c. app_of c ≡ with_subcommand (app_of command.entry) ls_app.top) }
+{
+    let ls = ls_command(alloc)?;
+    command.subcommand(ls)
+}
+
+/// A command and the subcommand `dump`.
+fn with_dump<'a>(alloc: Global, command: clap::Command<'a>) -> Result<clap::Command<'a>, AllocError>
+    ensures { IfOk result (λ c. app_of c
+        ≡ with_subcommand (app_of command.entry) (tables_app (codes "dump")).top) }
+{
+    let dump = dump_command(alloc)?;
+    command.subcommand(dump)
+}
+
+/// A command and the subcommand `encode`.
+fn with_encode<'a>(
+    alloc: Global,
+    command: clap::Command<'a>,
+) -> Result<clap::Command<'a>, AllocError>
+    ensures { IfOk result (λ c. app_of c
+        ≡ with_subcommand (app_of command.entry) encode_app.top) }
+{
+    let encode = encode_command(alloc)?;
+    command.subcommand(encode)
+}
+
 /// The command line of `bufr`.
 fn bufr_command<'a>(alloc: Global) -> Result<clap::Command<'a>, AllocError>
     ensures { IfOk result (λ c. app_of c ≡ bufr_app) }
 {
-    let ls = ls_command(alloc)?;
-    let dump = dump_command(alloc)?;
-    let encode = encode_command(alloc)?;
-    clap::Command::new(alloc, "bufr")
-        .bin_name("bufr")?
-        .about("Lists, dumps and encodes messages of FM 94 BUFR")
-        .after_help(PROGRAM_NOTES)
-        .version(VERSION)
-        .subcommand_required(true)
-        .subcommand(ls)?
-        .subcommand(dump)?
-        .subcommand(encode)
+    let command = top_command(alloc)?;
+    let command = with_ls(alloc, command)?;
+    let command = with_dump(alloc, command)?;
+    with_encode(alloc, command)
 }
 
 /// The fault that an error of clap stands for, with its text.

@@ -6,7 +6,7 @@ use crate::test_messages::{ONE_BLOCK_NUMBER, TABLE_B, TABLE_D, TEXT_OF_ONE, join
 use bufr_bits::{Device, End, ScriptIn, ScriptOut, Sink};
 use bufr_command::Buffered;
 use bufr_command::finish::{Outcome, finish};
-use bufr_command::job::{LineFault, Subcommand, TableNames, parse_line};
+use bufr_command::job::{Job, LineFault, Subcommand, TableNames, parse_line};
 use bufr_command::program::{Inputs, Unopened, run};
 use bufr_command::read_all::read_all;
 use bufr_frame::RunFault;
@@ -31,14 +31,17 @@ fn words_behind(
     words
 }
 
+/// Lines of `ls`, and their FILE.
+static LISTINGS: [(&[&str], Option<&str>); 2] = [
+    (&["bufr", "ls"], None),
+    (&["bufr", "ls", "bulletins.bufr"], Some("bulletins.bufr")),
+];
+
 #[test]
 fn parses_lines(rt: HostRuntime) {
-    let words = ["bufr", "ls"];
-    let job = parse_line(rt.alloc(), words.as_slice()).expect(&rt, "a job");
-    assert!(rt; job.command == Subcommand::Ls && job.file == None);
-    let words = ["bufr", "ls", "bulletins.bufr"];
-    let job = parse_line(rt.alloc(), words.as_slice()).expect(&rt, "a job");
-    assert!(rt; job.command == Subcommand::Ls && job.file == Some("bulletins.bufr"));
+    for (words, file) in &LISTINGS {
+        assert_parsed(&rt, *words, Subcommand::Ls, *file);
+    }
 }
 
 /// What stands behind a command that takes tables, and its FILE. The tables are always the same.
@@ -55,6 +58,11 @@ const TABLE_NAMES: TableNames<'static> = TableNames {
     table_d: "d.csv",
 };
 
+/// The job of a line that is understood.
+fn parsed<'a, 'b>(rt: &(impl Abort + AllocGlobal), words: &'a [&'b str]) -> Job<'a> {
+    ok(rt, parse_line(rt.alloc(), words))
+}
+
 /// Words are understood as this command with this FILE.
 fn assert_parsed(
     rt: &(impl Abort + AllocGlobal),
@@ -62,19 +70,30 @@ fn assert_parsed(
     command: Subcommand<'_>,
     file: Option<&str>,
 ) {
-    let job = parse_line(rt.alloc(), words).expect(rt, "a job");
+    let job = parsed(rt, words);
     assert!(rt; job.command == command, "{words:?}");
     assert!(rt; job.file == file, "{words:?}");
 }
 
+/// A command and what stands behind it are understood as this command with this FILE.
+fn assert_parsed_behind(
+    rt: &(impl Abort + AllocGlobal),
+    name: &'static str,
+    arguments: &'static [&'static str],
+    command: Subcommand<'_>,
+    file: Option<&str>,
+) {
+    let words = words_behind(rt, name, arguments);
+    assert_parsed(rt, words.as_slice(), command, file);
+}
+
 #[test]
 fn parses_lines_with_tables(rt: HostRuntime) {
+    let dumps = Subcommand::Dump(TABLE_NAMES);
     let encodes = Subcommand::Encode(TABLE_NAMES, Form::AsWritten);
     for (arguments, file) in &ARGUMENTS {
-        let words = words_behind(&rt, "dump", *arguments);
-        assert_parsed(&rt, words.as_slice(), Subcommand::Dump(TABLE_NAMES), *file);
-        let words = words_behind(&rt, "encode", *arguments);
-        assert_parsed(&rt, words.as_slice(), encodes, *file);
+        assert_parsed_behind(&rt, "dump", *arguments, dumps, *file);
+        assert_parsed_behind(&rt, "encode", *arguments, encodes, *file);
     }
 }
 
@@ -94,36 +113,65 @@ static FORMS: [(&[&str], Form); 3] = [
 #[test]
 fn parses_forms(rt: HostRuntime) {
     for (arguments, form) in &FORMS {
-        let words = words_behind(&rt, "encode", *arguments);
         let encodes = Subcommand::Encode(TABLE_NAMES, *form);
-        assert_parsed(&rt, words.as_slice(), encodes, None);
+        assert_parsed_behind(&rt, "encode", *arguments, encodes, None);
     }
-    for word in ["other", "", "Plain", "plain ", "compress"] {
-        let words = ["bufr", "encode", "-B", "b", "-D", "d", "--form", word];
-        assert_usage(
-            &rt,
-            words.as_slice(),
-            "[possible values: plain, compressed]",
-        );
+}
+
+/// Words of `--form` that name none.
+static NO_FORMS: [&str; 5] = ["other", "", "Plain", "plain ", "compress"];
+
+/// Asserts that `--form` does not take a word.
+fn assert_no_form(rt: &(impl Abort + AllocGlobal), word: &str) {
+    let words = ["bufr", "encode", "-B", "b", "-D", "d", "--form", word];
+    assert_usage(rt, words.as_slice(), "[possible values: plain, compressed]");
+}
+
+#[test]
+fn refuses_forms(rt: HostRuntime) {
+    for word in &NO_FORMS {
+        assert_no_form(&rt, *word);
     }
-    let twice = [
-        "bufr", "encode", "-B", "b", "-D", "d", "--form", "plain", "--form", "plain",
+    static REFUSED: [(&[&str], &str); 2] = [
+        (
+            &[
+                "bufr", "encode", "-B", "b", "-D", "d", "--form", "plain", "--form", "plain",
+            ],
+            "cannot be used multiple times",
+        ),
+        (
+            &["bufr", "dump", "-B", "b", "-D", "d", "--form", "plain"],
+            "unexpected argument '--form' found",
+        ),
     ];
-    assert_usage(&rt, twice.as_slice(), "cannot be used multiple times");
-    let of_dump = ["bufr", "dump", "-B", "b", "-D", "d", "--form", "plain"];
-    assert_usage(
-        &rt,
-        of_dump.as_slice(),
-        "unexpected argument '--form' found",
-    );
+    for (words, part) in &REFUSED {
+        assert_usage(&rt, *words, *part);
+    }
+}
+
+/// The text of a line that is not understood.
+fn usage_of(rt: &(impl Abort + AllocGlobal), words: &[&str]) -> String {
+    match parse_line(rt.alloc(), words) {
+        Err(LineFault::Usage(text)) => text,
+        _ => panic!(rt; "{words:?} gave no usage fault"),
+    }
 }
 
 /// Asserts that a command line is not understood, and that its text says so.
 fn assert_usage(rt: &(impl Abort + AllocGlobal), words: &[&str], part: &str) {
-    match parse_line(rt.alloc(), words) {
-        Err(LineFault::Usage(text)) => assert!(rt; text.as_str().contains(part), "{text}"),
-        other => assert!(rt; false, "{words:?}: {other:?}"),
-    }
+    let text = usage_of(rt, words);
+    assert!(rt; text.as_str().contains(part), "{text}");
+}
+
+/// Asserts the same of a command and what stands behind it.
+fn assert_usage_behind(
+    rt: &(impl Abort + AllocGlobal),
+    name: &'static str,
+    arguments: &'static [&'static str],
+    part: &str,
+) {
+    let words = words_behind(rt, name, arguments);
+    assert_usage(rt, words.as_slice(), part);
 }
 
 #[test]
@@ -177,22 +225,24 @@ fn refuses_lines_with_tables(rt: HostRuntime) {
         ),
     ];
     for (arguments, part) in &REFUSED {
-        let words = words_behind(&rt, "dump", *arguments);
-        assert_usage(&rt, words.as_slice(), *part);
-        let words = words_behind(&rt, "encode", *arguments);
-        assert_usage(&rt, words.as_slice(), *part);
+        assert_usage_behind(&rt, "dump", *arguments, *part);
+        assert_usage_behind(&rt, "encode", *arguments, *part);
+    }
+}
+
+/// The text of a line that asks for help.
+fn help_of(rt: &(impl Abort + AllocGlobal), words: &[&str]) -> String {
+    match parse_line(rt.alloc(), words) {
+        Err(LineFault::Help(text)) => text,
+        _ => panic!(rt; "{words:?} gave no help"),
     }
 }
 
 /// Asserts that a command line asks for help, and that its text has these parts.
 fn assert_help(rt: &(impl Abort + AllocGlobal), words: &[&str], parts: &[&str]) {
-    match parse_line(rt.alloc(), words) {
-        Err(LineFault::Help(text)) => {
-            for part in parts {
-                assert!(rt; text.as_str().contains(*part), "{text}");
-            }
-        }
-        other => assert!(rt; false, "{words:?}: {other:?}"),
+    let text = help_of(rt, words);
+    for part in parts {
+        assert!(rt; text.as_str().contains(*part), "{text}");
     }
 }
 
@@ -240,6 +290,58 @@ fn call<'a, I: Inputs, W: Sink, E: Sink>(
     run(alloc, words, inputs, w, e)
 }
 
+/// A writer with room for what a call tells.
+fn roomy(rt: &(impl Abort + AllocGlobal), end: End) -> ScriptOut {
+    ok(rt, ScriptOut::new(rt.alloc(), 4096, 4096, end))
+}
+
+/// The text that was written.
+fn told_by<'a>(rt: &impl Abort, writer: &'a ScriptOut) -> &'a str {
+    ok(rt, str::from_utf8(writer.taken()))
+}
+
+/// What comes of a call: its status, and its writers.
+#[derive(Drop)]
+struct Reply {
+    status: u8,
+    output: ScriptOut,
+    errors: ScriptOut,
+}
+
+/// Calls the program with writers of these ends.
+fn reply_to<'a, I: Inputs>(
+    rt: &(impl Abort + AllocGlobal),
+    words: &'a [&'static str],
+    inputs: &I,
+    end: End,
+) -> Reply {
+    let mut output = roomy(rt, end);
+    let mut errors = roomy(rt, End::Fail);
+    let status = call(rt.alloc(), words, inputs, &mut output, &mut errors);
+    Reply {
+        status,
+        output,
+        errors,
+    }
+}
+
+/// Asserts a status. What an assertion makes of its values is a part of each test that has one, so
+/// it stands in a function of its own.
+fn assert_status(rt: &impl Abort, words: &[&str], answer: u8, status: u8) {
+    assert_eq!(rt; answer, status, "{words:?}");
+}
+
+/// Asserts what octets there are.
+fn assert_octets(rt: &impl Abort, words: &[&str], octets: &[u8], want: &[u8]) {
+    assert_eq!(rt; octets, want, "{words:?}");
+}
+
+/// Asserts what a text holds, where it holds something.
+fn assert_holds(rt: &impl Abort, text: &str, part: &str) {
+    assert!(rt; text.contains(part), "{text}");
+    assert!(rt; text.is_empty() == part.is_empty(), "{text}");
+}
+
 /// Asserts what comes of a call: its status, its output, and what its errors hold, where they hold
 /// something.
 fn assert_called<'a, I: Inputs>(
@@ -250,14 +352,10 @@ fn assert_called<'a, I: Inputs>(
     output: &[u8],
     errors: &str,
 ) {
-    let mut w = ok(rt, ScriptOut::new(rt.alloc(), 4096, 4096, End::Fail));
-    let mut e = ok(rt, ScriptOut::new(rt.alloc(), 4096, 4096, End::Fail));
-    let answer = call(rt.alloc(), words, inputs, &mut w, &mut e);
-    assert_eq!(rt; answer, status, "{words:?}");
-    assert_eq!(rt; w.taken(), output, "{words:?}");
-    let told = str::from_utf8(e.taken()).expect(rt, "text");
-    assert!(rt; told.contains(errors), "{words:?}: {told}");
-    assert!(rt; told.is_empty() == errors.is_empty(), "{words:?}: {told}");
+    let reply = reply_to(rt, words, inputs, End::Fail);
+    assert_status(rt, words, reply.status, status);
+    assert_octets(rt, words, reply.output.taken(), output);
+    assert_holds(rt, told_by(rt, &reply.errors), errors);
 }
 
 /// An input of one file and of standard input.
@@ -292,6 +390,13 @@ impl<'a> Inputs for Shelf<'a> {
         }
     }
 }
+
+/// A shelf without a file.
+const EMPTY_SHELF: Shelf<'static> = Shelf {
+    name: "",
+    file: b"",
+    standard: b"",
+};
 
 /// What comes of a command line over one file, `one.bufr`, which has the message behind a stray
 /// word, and standard input, which has the message alone.
@@ -334,29 +439,35 @@ fn runs_lines(rt: HostRuntime) {
     }
 }
 
+/// Lines that ask for help.
+static HELPS: [&[&str]; 4] = [
+    &["bufr", "--help"],
+    &["bufr", "ls", "--help"],
+    &["bufr", "dump", "--help"],
+    &["bufr", "encode", "--help"],
+];
+
+/// Asserts that help is handed on.
+fn assert_shown(rt: &(impl Abort + AllocGlobal), words: &'static [&'static str]) {
+    let reply = reply_to(rt, words, &EMPTY_SHELF, End::Zero);
+    assert_status(rt, words, reply.status, 0);
+    assert_holds(rt, told_by(rt, &reply.output), "Exit status:");
+    assert_octets(rt, words, reply.errors.taken(), b"");
+}
+
+/// Asserts that the status says so where help cannot be handed on.
+fn assert_not_shown(rt: &(impl Abort + AllocGlobal), words: &'static [&'static str]) {
+    let reply = reply_to(rt, words, &EMPTY_SHELF, End::Flush);
+    assert_status(rt, words, reply.status, 2);
+    assert_octets(rt, words, reply.errors.taken(), b"bufr: 71 write failed\n");
+}
+
 /// Help is handed on; where it cannot be written the status says so.
 #[test]
 fn shows_help(rt: HostRuntime) {
-    let shelf = Shelf {
-        name: "",
-        file: b"",
-        standard: b"",
-    };
-    for words in [
-        ["bufr", "--help"].as_slice(),
-        ["bufr", "ls", "--help"].as_slice(),
-        ["bufr", "dump", "--help"].as_slice(),
-        ["bufr", "encode", "--help"].as_slice(),
-    ] {
-        let mut w = ok(&rt, ScriptOut::new(rt.alloc(), 4096, 4096, End::Zero));
-        let mut e = ok(&rt, ScriptOut::new(rt.alloc(), 4096, 4096, End::Zero));
-        assert_eq!(rt; call(rt.alloc(), words, &shelf, &mut w, &mut e), 0);
-        let told = str::from_utf8(w.taken()).expect(&rt, "text");
-        assert!(rt; told.contains("Exit status:"), "{told}");
-        assert!(rt; e.taken().is_empty());
-        let mut w = ok(&rt, ScriptOut::new(rt.alloc(), 4096, 4096, End::Flush));
-        assert_eq!(rt; call(rt.alloc(), words, &shelf, &mut w, &mut e), 2);
-        assert_eq!(rt; e.taken(), b"bufr: 71 write failed\n".as_slice());
+    for words in &HELPS {
+        assert_shown(&rt, *words);
+        assert_not_shown(&rt, *words);
     }
 }
 
@@ -543,25 +654,37 @@ impl<'a> Write for Full<'a> {
     }
 }
 
+/// The program's own writer over one that is full.
+fn full_writer<'a>(
+    rt: &(impl Abort + AllocGlobal),
+    writes: &'a Cell<usize>,
+) -> Device<Buffered<Full<'a>>> {
+    let full = BufWriter::with_capacity(rt.alloc(), 1000, Full { writes });
+    Device::new(Buffered::new(ok(rt, full)))
+}
+
+/// The status of a call over such a writer, which is then flushed and ends.
+fn called_full(rt: &(impl Abort + AllocGlobal), writes: &Cell<usize>, e: &mut ScriptOut) -> u8 {
+    let shelf = Shelf {
+        standard: &ONE_BLOCK_NUMBER,
+        ..EMPTY_SHELF
+    };
+    let mut w = full_writer(rt, writes);
+    let status = call(rt.alloc(), &["bufr", "ls"], &shelf, &mut w, e);
+    assert!(rt; w.flush().is_err());
+    status
+}
+
 /// A write that failed is not tried again, neither by the run, nor by a flush, nor at the writer's
 /// end.
 #[test]
 fn tries_no_write_again(rt: HostRuntime) {
-    let shelf = Shelf {
-        name: "",
-        file: b"",
-        standard: &ONE_BLOCK_NUMBER,
-    };
     let writes = Cell::new(0);
-    let full = BufWriter::with_capacity(rt.alloc(), 1000, Full { writes: &writes });
-    let mut w = Device::new(Buffered::new(full.expect(&rt, "memory")));
-    let mut e = ok(&rt, ScriptOut::new(rt.alloc(), 4096, 4096, End::Fail));
-    let words = ["bufr", "ls"].as_slice();
-    assert_eq!(rt; call(rt.alloc(), words, &shelf, &mut w, &mut e), 2);
-    assert!(rt; w.flush().is_err());
-    drop(w);
+    let mut e = roomy(&rt, End::Fail);
+    let status = called_full(&rt, &writes, &mut e);
+    assert_status(&rt, &["bufr", "ls"], status, 2);
     assert_eq!(rt; writes.get(), 1);
-    assert_eq!(rt; e.taken(), b"bufr: 71 write failed\n".as_slice());
+    assert_octets(&rt, &["bufr", "ls"], e.taken(), b"bufr: 71 write failed\n");
 }
 
 /// The file has a stray word before the message.
@@ -591,13 +714,20 @@ fn runs_encode_lines(rt: HostRuntime) {
     assert_runs(&rt, "encode", &library, &ONE_BLOCK_NUMBER, errors)
 }
 
+/// The octets of a message that comes in parts, and may be torn.
+fn all_of_one(
+    rt: &(impl Abort + AllocGlobal),
+    fails_at: Option<usize>,
+) -> Result<Vec<u8>, RunFault> {
+    let mut r = ScriptIn::new(&ONE_BLOCK_NUMBER, 7, fails_at);
+    read_all(rt.alloc(), &mut r)
+}
+
 #[test]
 fn reads_all(rt: HostRuntime) {
-    let mut r = ScriptIn::new(&ONE_BLOCK_NUMBER, 7, None);
-    let octets = read_all(rt.alloc(), &mut r).expect(&rt, "the octets");
-    assert_eq!(rt; octets.as_slice(), ONE_BLOCK_NUMBER.as_slice());
-    let mut r = ScriptIn::new(&ONE_BLOCK_NUMBER, 7, Some(20));
-    assert!(rt; matches!(read_all(rt.alloc(), &mut r), Err(RunFault::Read)));
+    let octets = ok(&rt, all_of_one(&rt, None));
+    assert_octets(&rt, &[], octets.as_slice(), &ONE_BLOCK_NUMBER);
+    assert!(rt; matches!(all_of_one(&rt, Some(20)), Err(RunFault::Read)));
 }
 
 /// What `finish` answers, and what it wrote to a writer with this room.
@@ -615,10 +745,10 @@ fn finished(
 /// Asserts what `finish` writes and answers, also where it cannot write.
 fn assert_finished(rt: &(impl Abort + AllocGlobal), outcome: &Outcome<'_>, line: &str, status: u8) {
     let (answer, e) = finished(rt, outcome, 100, End::Fail);
-    assert_eq!(rt; answer, status, "{line}");
-    assert_eq!(rt; e.taken(), line.as_bytes(), "{line}");
+    assert_status(rt, &[line], answer, status);
+    assert_octets(rt, &[line], e.taken(), line.as_bytes());
     let (answer, _) = finished(rt, outcome, 4, End::Zero);
-    assert_eq!(rt; answer, status, "{line}");
+    assert_status(rt, &[line], answer, status);
 }
 
 #[test]

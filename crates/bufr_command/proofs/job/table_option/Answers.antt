@@ -1,15 +1,16 @@
-use Rattle.std.proofs.Common.{◌≡◌, ◌∙◌, ap, Some, true}
-use Rattle.clap.specs.Words.{Rule, new_rule, rule_of}
+use Rattle.bufr_command.proofs.CommandLemmas.{help-global, help-rule, required-global, required-rule, short-global, short-rule, value-global, value-rule}
 use Rattle.bufr_command.proofs.job.table_option.Goals as goal
 
 pub returns-clause-rule : goal.returns-clause-rule
 returns-clause-rule c =
-    let short : rule_of c.short.result
-    ≡ record (new_rule c.args.id.now) { short = Some c.args.letter }
-    = ap rule_of c.short.ensures
-    ∙ ap (λ (r : Rule). record r { short = Some c.args.letter }) c.new.ensures.rule in
-    let named : rule_of c.value_name.result
-    ≡ record (new_rule c.args.id.now) { short = Some c.args.letter; value_names = 1 }
-    = ap rule_of c.value_name.ensures ∙ ap (λ (r : Rule). record r { value_names = 1 }) short in
-    ap rule_of c.help.ensures
-    ∙ (ap rule_of c.required.ensures ∙ ap (λ (r : Rule). record r { required = true }) named)
+    let short = short-rule c.new.result c.short.result c.args.letter _ c.short.ensures c.new.ensures.rule in
+    let named = value-rule c.short.result c.value_name.result _ _ c.value_name.ensures short in
+    let required = required-rule c.value_name.result c.required.result _ _ c.required.ensures named in
+    help-rule c.required.result c.help.result _ _ c.help.ensures required
+
+pub returns-clause-global : goal.returns-clause-global
+returns-clause-global c =
+    let short = short-global c.new.result c.short.result c.args.letter _ c.short.ensures c.new.ensures.optional.1 in
+    let named = value-global c.short.result c.value_name.result _ _ c.value_name.ensures short in
+    let required = required-global c.value_name.result c.required.result _ _ c.required.ensures named in
+    help-global c.required.result c.help.result _ _ c.help.ensures required
