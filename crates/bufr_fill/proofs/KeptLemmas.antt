@@ -1,7 +1,8 @@
 -- What a list of entries keeps of them.
-use Rattle.std.proofs.Common.{◌≡◌, ℕ, ◌+◌, ◌-◌, ◌≤◌, List, [], ◌∷◌, ◌++◌, length, drop, map, refl, ap, ◌∙◌, arith, length-append}
-use Rattle.std.specs.Prelude.{slice_range}
-use Rattle.std.proofs.lemmas.List.{take-append-le, drop-append-le, length-drop, map-append, take_all}
+use Rattle.std.proofs.Common.{◌≡◌, ℕ, ◌+◌, ◌-◌, ◌<◌, ◌≤◌, List, [], ◌∷◌, ◌++◌, length, drop, get_or, map, Some, None, refl, sym, ap, ◌∙◌, arith, length-append}
+use Rattle.std.specs.Prelude.{slice_range, slice_get, option_map}
+use Rattle.std.proofs.lemmas.List.{take-append-le, drop-append-le, length-drop, length-map, map-append, take_all}
+use Rattle.std.proofs.lemmas.Option.{slice_get-map, slice_get-get_or, slice_get_past}
 use Rattle.std.proofs.Math.Seq.{drop-append_seam}
 use Rattle.bufr_fill.specs.Entries.{Entry}
 use Rattle.bufr_fill.specs.Kept.{entry_by, entry_kept, entries_kept, IsInside, AreInside}
@@ -40,3 +41,20 @@ entries-same octets more new cells same all is kept =
     ap (entries_kept new) kept
     ∙ ap (λ (t : List ℕ). entries_kept t cells) is
     ∙ entries-append octets more cells all
+
+-- the entry at a place
+pub kept-there : (octets block : List ℕ) (cells : List Kept) (entries : List Entry) (place : ℕ) (one : Kept) (e : Entry) → entries_kept octets cells ≡ entries → place < length cells → one ≡ get_or cells place one → block ≡ octets → e ≡ entry_kept block one
+    → Some e ≡ slice_get entries place
+kept-there octets block cells entries place one e are within here is said =
+    sym (ap (λ (t : List Entry). slice_get t place) (sym are)
+    ∙ slice_get-map (entry_kept octets) cells place
+    ∙ ap (option_map (entry_kept octets)) (slice_get-get_or cells place one within)
+    ∙ ap (λ (k : Kept). Some (entry_kept octets k)) (sym here)
+    ∙ ap (λ (t : List ℕ). Some (entry_kept t one)) (sym is)
+    ∙ ap (λ (x : Entry). Some x) (sym said))
+
+-- and none behind the last
+pub kept-past : (octets : List ℕ) (cells : List Kept) (entries : List Entry) (place : ℕ) → entries_kept octets cells ≡ entries → length cells ≤ place → None ≡ slice_get entries place
+kept-past octets cells entries place are past =
+    sym (ap (λ (t : List Entry). slice_get t place) (sym are)
+    ∙ slice_get_past (entries_kept octets cells) place (omega (arith, length-map cells (entry_kept octets))))
