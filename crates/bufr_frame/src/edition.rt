@@ -3,7 +3,7 @@ ghost use Rattle.bufr_frame.specs.Editions.{IsNumbered};
 
 /// An edition of FM 94. What differs between them is matched on it, so that one more edition is
 /// missed nowhere.
-#[derive(Clone, Copy, Debug, PartialEq, Eq)]
+#[derive(Clone, Copy, Debug)]
 pub(crate) enum Edition {
     /// Edition 3.
     Third,

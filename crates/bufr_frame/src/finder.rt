@@ -24,7 +24,7 @@ pub enum Event<'a> {
 }
 
 /// An event that was passed, and how many octets it took.
-#[derive(Clone, Copy, Debug)]
+#[derive(Clone, Copy)]
 struct Passed {
     offset: u64,
     here: Verdict,
@@ -32,7 +32,7 @@ struct Passed {
 }
 
 /// How far a finder has come with its input.
-#[derive(Clone, Copy, Debug)]
+#[derive(Clone, Copy)]
 enum Phase {
     /// More octets may come.
     Reading,

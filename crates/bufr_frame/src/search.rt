@@ -17,7 +17,7 @@ const LENGTH: usize = 4;
 const NEAR: usize = 16;
 
 /// What is at the front of the octets that are left.
-#[derive(Clone, Copy, Debug, PartialEq, Eq)]
+#[derive(Clone, Copy)]
 pub(crate) enum Verdict {
     /// `BUFR` does not stand there.
     Nothing,
@@ -28,7 +28,7 @@ pub(crate) enum Verdict {
 }
 
 /// The next event of some octets, which is certain.
-#[derive(Clone, Copy, Debug)]
+#[derive(Clone, Copy)]
 pub(crate) struct Found {
     /// The place where `BUFR` stands, from 0.
     pub(crate) place: usize,
@@ -39,7 +39,7 @@ pub(crate) struct Found {
 }
 
 /// A place before which no event is; more octets are needed to tell what is there.
-#[derive(Clone, Copy, Debug)]
+#[derive(Clone, Copy)]
 pub(crate) struct Wanted {
     /// The place, from 0.
     pub(crate) place: usize,
@@ -48,7 +48,7 @@ pub(crate) struct Wanted {
 }
 
 /// What the octets at hand show.
-#[derive(Clone, Copy, Debug)]
+#[derive(Clone, Copy)]
 pub(crate) enum Sight {
     /// An event.
     Decided(Found),
