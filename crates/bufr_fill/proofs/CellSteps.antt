@@ -1,14 +1,17 @@
 -- Steps of the loops over what all subsets give at a place.
 use Rattle.std.proofs.Common.{◌≡◌, ℕ, zero, suc, ◌+◌, ◌<◌, ◌≤◌, Bool, true, false, List, [], ◌∷◌, ◌++◌, length, drop, get_or, Option, Some, None, Result, Ok, Err, refl, sym, ◌∙◌, ap, arith, append_assoc}
-use Rattle.std.specs.Prelude.{slice_get, if◌then◌else◌}
-use Rattle.std.proofs.lemmas.List.{append-nil, length-append}
+use Rattle.std.specs.Prelude.{map, option_map, slice_get, take, if◌then◌else◌}
+use Rattle.std.proofs.lemmas.List.{append-nil, length-append, length-map, map-append, take_all}
+use Rattle.std.proofs.lemmas.Option.{slice_get-get_or, slice_get-map}
 use Rattle.bufr_fill.specs.declared.draw.Drawn.{Drawn}
+use Rattle.bufr_fill.specs.declared.entries.Found.{Found}
 use Rattle.bufr_walk.specs.Asked.{Asked}
 use Rattle.bufr_walk.specs.Content.{Content}
 use Rattle.bufr_fill.specs.Draft.{Draft}
 use Rattle.bufr_fill.specs.Entries.{Entry, Holds, Ends}
 use Rattle.bufr_fill.specs.Fault.{FaultAt, at_line, item_too_many}
 use Rattle.bufr_fill.specs.Drawn.{content_drawn, IsDrawn}
+use Rattle.bufr_fill.specs.Kept.{entry_found}
 use Rattle.bufr_fill.specs.Encoding.{Cell, content_here, contents_here, first_unlike, unlike_line, line_of, line_in, first_line, ◌>>=◌}
 use Rattle.bufr_fill.specs.Gathered.{entry_by, cell_entry, entry_here, entry_line, AllDrawn, contents_drawn, in_front, IsGathering, unlike_from}
 use Rattle.bufr_fill.specs.PlainOut.{WhereTold}
@@ -80,6 +83,34 @@ module _ (count : ℕ) (spec : Asked) (cells : List Cell) (j : ℕ) (ds : List D
 
 pub gathered : (count : ℕ) (spec : Asked) (cells : List Cell) (j : ℕ) (ds : List Drawn) → IsGathering count spec cells j ds → length cells ≤ j → contents_here spec cells ≡ Ok (contents_drawn count ds)
 gathered count spec cells j ds inv h = inv.so ∙ ap (λ cs. in_front (contents_drawn count ds) (contents_here spec cs)) (drop_none cells j h) ∙ ap Ok (append-nil (contents_drawn count ds))
+
+-- the entries that were found are those of the first cells, one more or all
+pub found_more : (cells : List Cell) (j : ℕ) (fs : List Found) (e : Found) → j < length cells → map entry_found fs ≡ map cell_entry (take j cells) → ((c : Cell) → slice_get cells j ≡ Some c → entry_found e ≡ cell_entry c)
+    → map entry_found (fs ++ e ∷ []) ≡ map cell_entry (take (j + 1) cells)
+found_more cells j fs e h inv here =
+    let k = cell_at cells j h in
+    map-append entry_found fs (e ∷ []) ∙ ap (λ es. es ++ entry_found e ∷ []) inv ∙ ap (λ x. map cell_entry (take j cells) ++ x ∷ []) (here k.cell k.is) ∙ taken cells j k.cell k.is
+  where
+    taken : (cells : List Cell) (j : ℕ) (c : Cell) → slice_get cells j ≡ Some c → map cell_entry (take j cells) ++ cell_entry c ∷ [] ≡ map cell_entry (take (j + 1) cells)
+    taken [] j c h = absurd cc
+    taken (x ∷ cells) zero c h = let same : x ≡ c = cc in ap (λ z. cell_entry z ∷ []) (sym same)
+    taken (x ∷ cells) (suc j) c h =
+        let n : suc (j + 1) ≡ suc j + 1 = omega arith in
+        ap (λ es. cell_entry x ∷ es) (taken cells j c h) ∙ ap (λ k. map cell_entry (take k (x ∷ cells))) n
+
+pub found_all : (cells : List Cell) (j : ℕ) (fs : List Found) → length cells ≤ j → map entry_found fs ≡ map cell_entry (take j cells) → map entry_found fs ≡ map cell_entry cells
+found_all cells j fs h inv = inv ∙ ap (map cell_entry) (take_all j cells h)
+
+pub count_found : (cells : List Cell) (fs : List Found) → map entry_found fs ≡ map cell_entry cells → length fs ≡ length cells
+count_found cells fs h = sym (length-map fs entry_found) ∙ ap length h ∙ length-map cells cell_entry
+
+pub found_at : (cells : List Cell) (fs : List Found) (j : ℕ) (z : Found) → map entry_found fs ≡ map cell_entry cells → j < length fs → (c : Cell) → slice_get cells j ≡ Some c → entry_found (get_or fs j z) ≡ cell_entry c
+found_at cells fs j z is h c here =
+    some_same (entry_found (get_or fs j z)) (cell_entry c)
+    (ap (option_map entry_found) (sym (slice_get-get_or fs j z h)) ∙ sym (slice_get-map entry_found fs j) ∙ ap (λ es. slice_get es j) is ∙ slice_get-map cell_entry cells j ∙ ap (option_map cell_entry) here)
+  where
+    some_same : (a b : Entry) → ◌≡◌ {A = Option Entry} (Some a) (Some b) → a ≡ b
+    some_same a b h = cc
 
 -- whether all subsets end
 pub end_item : (cells : List Cell) (j : ℕ) (e : Entry) (d : Draft) → j < length cells → ((c : Cell) → slice_get cells j ≡ Some c → e ≡ cell_entry c) → e ≡ Holds d → all_end cells ≡ all_end (drop j cells) → all_end cells ≡ Err (at_line d.line item_too_many)

@@ -1,8 +1,9 @@
 -- What all subsets give at one place, as the code looks at it.
 -- Cited by private steps only.
-use Rattle.std.specs.Prelude.{ℕ, zero, suc, ◌≡◌, ◌++◌, List, [], ◌∷◌, length, drop, slice_get, Option, Some, None, Result, Ok, Err}
+use Rattle.std.specs.Prelude.{ℕ, zero, suc, ◌≡◌, ◌++◌, List, [], ◌∷◌, length, drop, map, slice_get, Option, Some, None, Result, Ok, Err}
 use Rattle.bufr_fill.specs.declared.fault.DraftFault.{DraftFault}
 use Rattle.bufr_fill.specs.declared.draw.Drawn.{Drawn}
+use Rattle.bufr_fill.specs.declared.entries.Found.{Found}
 use Rattle.bufr_walk.specs.Asked.{Asked}
 use Rattle.bufr_walk.specs.Content.{Content}
 use Rattle.bufr_fill.specs.Draft.{Draft}
@@ -11,6 +12,7 @@ use Rattle.bufr_fill.specs.Fault.{FaultAt}
 use Rattle.bufr_fill.specs.Drawn.{content_drawn, IsDrawn}
 use Rattle.bufr_fill.specs.Encoding.{Cell, cells_at, content_here, contents_here, first_unlike}
 use Rattle.bufr_fill.specs.PlainOut.{WhereTold}
+use Rattle.bufr_fill.specs.Kept.{entry_found}
 use Rattle.bufr_fill.specs.Told.{told_fault}
 
 -- where a subset's entries begin, by where the subsets end
@@ -52,12 +54,9 @@ pub record LineAt (place subset : ℕ) (entries : List Entry) (line : ℕ) : Typ
   pub there : IsAt place subset entries e
   pub so : line ≡ entry_line e
 
--- it was drawn, or its fault was told
-pub record DrawsAt (count : ℕ) (spec : Asked) (place subset : ℕ) (entries : List Entry)
-    (result : Result Drawn DraftFault) : Type 0 where
-  pub e : Entry
-  pub there : IsAt place subset entries e
-  pub so : DrawnSo count spec (entry_here spec e) result
+-- the entries that were found are those of the cells
+abbrev pub AreFound : List Cell → List Found → Type 0
+AreFound cells found = map entry_found found ≡ map cell_entry cells
 
 abbrev pub AllDrawn : Asked → List Drawn → Type 0
 AllDrawn spec [] = Unit {0}

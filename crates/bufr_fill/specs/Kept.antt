@@ -6,6 +6,7 @@ use Rattle.bufr_fill.specs.Draft.{draft, number_token, text_form, missing_form, 
 use Rattle.bufr_fill.specs.Entries.{Entry, Holds, Ends}
 use Rattle.bufr_fill.specs.declared.entries.Kind.{Kind}
 use Rattle.bufr_fill.specs.declared.entries.Kind.TheVariants as kind
+use Rattle.bufr_fill.specs.declared.entries.Found.{Found}
 use Rattle.bufr_fill.specs.declared.entries.Kept.{Kept}
 
 -- the entry of a line with a descriptor and octets
@@ -19,6 +20,10 @@ entry_by kind.End line fxy octets = Ends line
 -- the entry that is kept
 abbrev pub entry_kept : List ℕ → Kept → Entry
 entry_kept octets k = entry_by k.kind k.line k.fxy (slice_range octets k.start k.end)
+
+-- and as it was found there
+abbrev pub entry_found : Found → Entry
+entry_found f = entry_by f.kind f.line f.word f.octets.now
 
 abbrev pub entries_kept : List ℕ → List Kept → List Entry
 entries_kept octets kept = map (entry_kept octets) kept

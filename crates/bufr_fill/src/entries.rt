@@ -3,7 +3,7 @@ ghost use Rattle.std.specs.Prelude.{◌≡◌, ℕ, List, length, option_map, sl
 ghost use Rattle.bufr_fill.specs.Draft.{draft};
 ghost use Rattle.bufr_fill.specs.Entries.{Entry, Holds};
 ghost use Rattle.bufr_fill.specs.Given.{entry_in, form_in};
-ghost use Rattle.bufr_fill.specs.Kept.{entry_by, entry_kept, IsInside};
+ghost use Rattle.bufr_fill.specs.Kept.{entry_by, entry_found, entry_kept, IsInside};
 
 use crate::draft::{DraftItem, Entry, Form};
 use bufr_tables::Fxy;
@@ -52,19 +52,47 @@ fn item<'a>(line: u64, fxy: Fxy, form: Form<'a>) -> Entry<'a>
     Entry::Item(DraftItem { line, fxy, form })
 }
 
-/// The entry that is kept in this block of octets.
+/// An entry as it was found among the others, with its octets.
+#[derive(Clone, Copy)]
+pub(crate) struct Found<'a> {
+    octets: &'a [u8],
+    line: u64,
+    word: u16,
+    kind: Kind,
+}
+
+impl<'a> Found<'a> {
+    ghost use Rattle.std.specs.Prelude.{◌≡◌};
+    ghost use Rattle.bufr_fill.specs.Given.{entry_in};
+    ghost use Rattle.bufr_fill.specs.Kept.{entry_found};
+
+    /// The entry.
+    #[inline(always)]
+    pub(crate) fn entry(self) -> Entry<'a>
+        ensures { entry_in result ≡ entry_found self.entry }
+    {
+        let fxy = Fxy::from_word(self.word);
+        match self.kind {
+            Kind::Number => item(self.line, fxy, Form::Number(self.octets)),
+            Kind::Text => item(self.line, fxy, Form::Text(self.octets)),
+            Kind::Missing => item(self.line, fxy, Form::Missing),
+            Kind::Reference => item(self.line, fxy, Form::Reference(self.octets)),
+            Kind::End => Entry::End(self.line),
+        }
+    }
+}
+
+/// The entry that is kept, with its octets in this block.
 #[inline(always)]
-fn entry_kept<'a>(octets: &'a [u8], kept: Kept) -> Entry<'a>
+fn found_in<'a>(octets: &'a [u8], kept: Kept) -> Found<'a>
     requires { IsInside (length octets.now) kept }
-    ensures { entry_in result ≡ entry_kept octets.now kept }
+    ensures { entry_found result ≡ entry_kept octets.now kept }
 {
-    let octets = &octets[kept.start..kept.end];
-    match kept.kind {
-        Kind::Number => item(kept.line, kept.fxy, Form::Number(octets)),
-        Kind::Text => item(kept.line, kept.fxy, Form::Text(octets)),
-        Kind::Missing => item(kept.line, kept.fxy, Form::Missing),
-        Kind::Reference => item(kept.line, kept.fxy, Form::Reference(octets)),
-        Kind::End => Entry::End(kept.line),
+    Found {
+        octets: &octets[kept.start..kept.end],
+        line: kept.line,
+        word: kept.fxy.word(),
+        kind: kept.kind,
     }
 }
 
@@ -102,7 +130,7 @@ impl Entries {
     ghost use Rattle.std.specs.Prelude.{◌≡◌, ◌<◌, [], ◌∷◌, ◌++◌, length, option_map, slice_get, Some, OnOk, OnErr};
     ghost use Rattle.bufr_fill.specs.Draft.{draft};
     ghost use Rattle.bufr_fill.specs.Entries.{Holds, Ends};
-    ghost use Rattle.bufr_fill.specs.Kept.{is_end};
+    ghost use Rattle.bufr_fill.specs.Kept.{entry_found, is_end};
     ghost use Rattle.bufr_fill.specs.Given.{entry_in, form_in};
 
     /// No entries. It takes no memory.
@@ -180,8 +208,17 @@ impl Entries {
     pub fn get(&self, place: usize) -> Option<Entry<'_>>
         ensures { option_map entry_in result ≡ slice_get self.now place }
     {
+        Some(self.find(place)?.entry())
+    }
+
+    /// The entry at a place, from 0, with its octets, or `None` behind the last. They are not
+    /// looked at.
+    #[inline(always)]
+    pub(crate) fn find(&self, place: usize) -> Option<Found<'_>>
+        ensures { option_map entry_found result ≡ slice_get self.now place }
+    {
         if place < self.kept.len() {
-            Some(entry_kept(self.octets.as_slice(), self.kept[place]))
+            Some(found_in(self.octets.as_slice(), self.kept[place]))
         } else {
             None
         }

@@ -1,17 +1,19 @@
 //! What all subsets give at one place.
-ghost use Rattle.std.specs.Prelude.{◌≡◌, ◌≤◌, ◌<◌, ◌+◌, ◌/◌, ◌^◌, ℕ, length, slice_get, get_or, Some};
+ghost use Rattle.std.specs.Prelude.{◌≡◌, ◌≤◌, ◌<◌, ◌+◌, ◌/◌, ◌^◌, ℕ, List, length, slice_get, get_or, Some, IfOk};
 ghost use Rattle.bufr_fill.specs.Encoding.{Cell, cells_at, unlike_line};
 ghost use Rattle.bufr_fill.specs.Entries.{Holds, subsets_of};
-ghost use Rattle.bufr_fill.specs.Gathered.{begin_of, cell_entry, entry_here, LineAt, DrawsAt, DrawnSo, AllDrawn, contents_drawn, GatheredSo};
+ghost use Rattle.bufr_fill.specs.Gathered.{begin_of, cell_entry, entry_here, LineAt, DrawnSo, AreFound, AllDrawn, contents_drawn, GatheredSo};
 ghost use Rattle.bufr_fill.specs.Given.{draft_in, entry_in};
+ghost use Rattle.bufr_fill.specs.Kept.{entry_found};
 ghost use Rattle.bufr_fill.specs.PackedOut.{ends_of, first_line_at, EndsSo};
 
 use crate::draft::{DraftItem, Entry};
 use crate::draw::{Drawn, draw, wrong_item};
-use crate::entries::Entries;
+use crate::entries::{Entries, Found};
 use crate::fault::{DraftFault, Expected, Wrong};
 use crate::packing::is_same;
 use bufr_walk::Spec;
+use std::alloc::AllocError;
 
 /// Where a subset's entries begin, by the places of the entries that end subsets.
 #[tactic(auto, using(crate::proofs::Places::begin_more, crate::proofs::Places::begin_none))]
@@ -24,14 +26,26 @@ fn begin_of(ends: &[usize], subset: usize) -> usize
     if subset == 0 { 0 } else { ends[subset - 1] + 1 }
 }
 
-/// A subset's entry at a place, counted from its first: its item, or its end where that comes
-/// first.
-pub(crate) fn entry_of<'s>(
-    entries: &'s Entries,
-    ends: &[usize],
-    subset: usize,
-    place: usize,
-) -> Entry<'s>
+/// Finds a subset's entry at a place, counted from its first: its item, or its end where that
+/// comes first.
+#[inline(always)]
+fn find_at<'s>(entries: &'s Entries, ends: &[usize], subset: usize, place: usize) -> Found<'s>
+    requires ends { ends.now ≡ ends_of 0 entries.now }
+    requires few { length entries.now ≤ 2 ^ 45 }
+    requires subset { subset < length ends.now }
+    requires near { place ≤ 2 ^ 45 }
+    ensures { (c : Cell) → slice_get (cells_at place (subsets_of entries.now)) subset
+        ≡ Some c → entry_found result ≡ cell_entry c }
+{
+    let start = begin_of(ends, subset);
+    match entries.find(ends[subset].min(start + place)) {
+        Some(found) => found,
+        None => unreachable!(),
+    }
+}
+
+/// A subset's entry at a place.
+fn entry_of<'s>(entries: &'s Entries, ends: &[usize], subset: usize, place: usize) -> Entry<'s>
     requires ends { ends.now ≡ ends_of 0 entries.now }
     requires few { length entries.now ≤ 2 ^ 45 }
     requires subset { subset < length ends.now }
@@ -39,11 +53,7 @@ pub(crate) fn entry_of<'s>(
     ensures { (c : Cell) → slice_get (cells_at place (subsets_of entries.now)) subset
         ≡ Some c → entry_in result ≡ cell_entry c }
 {
-    let start = begin_of(ends, subset);
-    match entries.get(ends[subset].min(start + place)) {
-        Some(entry) => entry,
-        None => unreachable!(),
-    }
+    find_at(entries, ends, subset, place).entry()
 }
 
 /// The line of a subset's entry at a place.
@@ -71,44 +81,50 @@ fn draw_item<'a>(item: &DraftItem<'a>, spec: &Spec) -> Result<Drawn<'a>, DraftFa
     }
 }
 
-/// What a subset's entry at a place is as the content of a field.
-fn draw_at<'s>(
-    entries: &'s Entries,
-    ends: &[usize],
-    subset: usize,
-    place: usize,
-    spec: &Spec,
-) -> Result<Drawn<'s>, DraftFault>
-    requires ends { ends.now ≡ ends_of 0 entries.now }
-    requires few { length entries.now ≤ 2 ^ 45 }
-    requires subset { subset < length ends.now }
-    requires near { place ≤ 2 ^ 45 }
-    ensures { DrawsAt (spec.now.width / 8) spec.now place subset entries.now result }
+/// What an entry is as the content of a field, or its fault.
+fn draw_found<'a>(found: Found<'a>, spec: &Spec) -> Result<Drawn<'a>, DraftFault>
+    ensures { DrawnSo (spec.now.width / 8) spec.now
+        (entry_here spec.now (entry_found found.entry)) result }
 {
-    match entry_of(entries, ends, subset, place) {
+    match found.entry() {
         Entry::Item(item) => draw_item(&item, spec),
         Entry::End(line) => Err(wrong_item(spec).at(line)),
     }
 }
 
-/// Draws what each subset gives at a place, for a field; the ends are the places of the entries
-/// that end the subsets.
-pub(crate) fn gather<'a>(
+/// Finds each subset's entry at a place. The entries stand far apart in memory: fetched one right
+/// behind another they are waited for together, and not each by itself where its value is read.
+fn find_all<'a>(
     entries: &'a Entries,
     ends: &[usize],
     place: usize,
-    spec: &Spec,
-    drawn: &mut Vec<Drawn<'a>>,
-) -> Result<(), DraftFault>
+    found: &mut Vec<Found<'a>>,
+) -> Result<(), AllocError>
     requires ends { ends.now ≡ ends_of 0 entries.now }
     requires few { length entries.now ≤ 2 ^ 45 }
     requires near { place ≤ 2 ^ 45 }
-    ensures { GatheredSo (spec.now.width / 8) spec.now
-        (cells_at place (subsets_of entries.now)) drawn.new.items result }
+    ensures { IfOk result
+        (λ _. AreFound (cells_at place (subsets_of entries.now)) found.new.items) }
+{
+    found.clear();
+    for subset in 0..ends.len() {
+        found.push(find_at(entries, ends, subset, place))?;
+    }
+    Ok(())
+}
+
+/// Draws what each subset gives, for a field.
+fn draw_all<'a>(
+    found: &[Found<'a>],
+    spec: &Spec,
+    drawn: &mut Vec<Drawn<'a>>,
+) -> Result<(), DraftFault>
+    ensures { (cells : List Cell) → AreFound cells found.now →
+        GatheredSo (spec.now.width / 8) spec.now cells drawn.new.items result }
 {
     drawn.clear();
-    for subset in 0..ends.len() {
-        let content = match draw_at(entries, ends, subset, place, spec) {
+    for one in found {
+        let content = match draw_found(*one, spec) {
             Ok(content) => content,
             Err(why) => return Err(why),
         };
@@ -118,6 +134,28 @@ pub(crate) fn gather<'a>(
         }
     }
     Ok(())
+}
+
+/// Draws what each subset gives at a place, for a field; the ends are the places of the entries
+/// that end the subsets.
+pub(crate) fn gather<'a>(
+    entries: &'a Entries,
+    ends: &[usize],
+    place: usize,
+    spec: &Spec,
+    found: &mut Vec<Found<'a>>,
+    drawn: &mut Vec<Drawn<'a>>,
+) -> Result<(), DraftFault>
+    requires ends { ends.now ≡ ends_of 0 entries.now }
+    requires few { length entries.now ≤ 2 ^ 45 }
+    requires near { place ≤ 2 ^ 45 }
+    ensures { GatheredSo (spec.now.width / 8) spec.now
+        (cells_at place (subsets_of entries.now)) drawn.new.items result }
+{
+    match find_all(entries, ends, place, found) {
+        Ok(()) => draw_all(found, spec, drawn),
+        Err(_) => Err(DraftFault::Memory),
+    }
 }
 
 /// The line of the first subset whose content at a place is not that of the first subset.

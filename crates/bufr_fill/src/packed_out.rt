@@ -9,7 +9,7 @@ ghost use Rattle.bufr_fill.specs.Packs.{PutAcross};
 ghost use Rattle.bufr_fill.specs.PackedOut.{ends_of};
 
 use crate::draw::Drawn;
-use crate::entries::Entries;
+use crate::entries::{Entries, Found};
 use crate::fault::DraftFault;
 use crate::gather::{all_end, first_line, gather, unlike_line};
 use crate::packing::{Unpacked, pack};
@@ -31,6 +31,9 @@ pub struct PackedOut<'s> {
     entries: &'s Entries,
     ends: Vec<usize>,
     place: usize,
+    /// The entries of the item that is packed, and what they give. Each item uses their memory
+    /// again.
+    found: Vec<Found<'s>>,
     drawn: Vec<Drawn<'s>>,
     out: BitWriter,
 }
@@ -105,6 +108,7 @@ fn pack_next<'a>(
     ends: &[usize],
     place: usize,
     spec: &Spec,
+    found: &mut Vec<Found<'a>>,
     drawn: &mut Vec<Drawn<'a>>,
     out: &mut BitWriter,
 ) -> Result<Taken, DraftFault>
@@ -124,7 +128,7 @@ fn pack_next<'a>(
         let line = first_line(entries, ends, place);
         return Err(DraftFault::TooManyValues(line, spec.fxy()));
     }
-    match gather(entries, ends, place, spec, drawn) {
+    match gather(entries, ends, place, spec, found, drawn) {
         Ok(()) => put_drawn(entries, ends, place, spec, drawn, out),
         Err(why) => Err(why),
     }
@@ -154,6 +158,7 @@ impl<'s> PackedOut<'s> {
             entries,
             ends,
             place: 0,
+            found: Vec::new(alloc),
             drawn: Vec::new(alloc),
             out: BitWriter::new(alloc),
         }))
@@ -187,6 +192,7 @@ impl<'s> PackedOut<'s> {
             entries: _,
             ends: _,
             place: _,
+            found: _,
             drawn: _,
             out,
         } = self;
@@ -216,6 +222,7 @@ impl<'s> Fields for PackedOut<'s> {
             &self.ends,
             self.place,
             spec,
+            &mut self.found,
             &mut self.drawn,
             &mut self.out,
         ) {

@@ -1,13 +1,13 @@
 use Rattle.std.proofs.Common.{arith}
-use Rattle.bufr_fill.specs.Given.{entry_in}
+use Rattle.bufr_fill.specs.Kept.{entry_found}
 use Rattle.bufr_fill.proofs.KeptLemmas.{kept-there, kept-past}
-use Rattle.bufr_fill.proofs.entries.Entries.get.Goals as goal
+use Rattle.bufr_fill.proofs.entries.Entries.find.Goals as goal
 
 pub returns-then-place-len : goal.returns-then-place-len
 returns-then-place-len c =
     let d = c.self.inside in
-    kept-there d.octets.items c.as_slice.result.now d.kept.items c.args.self.now c.args.place c.index.result.now (entry_in c.entry_kept.result)
-    c.self.view_is (omega (arith, c.if-place-len.true, c.len.ensures, d.kept.ok.0)) c.index.ensures c.as_slice.ensures.value c.entry_kept.ensures
+    kept-there d.octets.items c.as_slice.result.now d.kept.items c.args.self.now c.args.place c.index.result.now (entry_found c.found_in.result)
+    c.self.view_is (omega (arith, c.if-place-len.true, c.len.ensures, d.kept.ok.0)) c.index.ensures c.as_slice.ensures.value c.found_in.ensures
 
 pub returns-else-place-len : goal.returns-else-place-len
 returns-else-place-len c =
