@@ -8,6 +8,8 @@
 use std::process::Abort;
 
 #[cfg(test)]
+mod finish_tests;
+#[cfg(test)]
 mod program_tests;
 #[cfg(test)]
 mod test_messages;

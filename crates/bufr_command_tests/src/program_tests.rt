@@ -1,23 +1,18 @@
-//! Command lines: which are understood, what comes of them over inputs in memory, and the last line
-//! and status.
+//! Command lines: which are understood, and what comes of them over inputs in memory.
 
 use crate::ok;
 use crate::test_messages::{ONE_BLOCK_NUMBER, TABLE_B, TABLE_D, TEXT_OF_ONE, joined, line_of_one};
 use bufr_bits::{Device, End, ScriptIn, ScriptOut, Sink};
 use bufr_command::Buffered;
-use bufr_command::finish::{Outcome, finish};
 use bufr_command::job::{Job, LineFault, Subcommand, TableNames, parse_line};
 use bufr_command::program::{Inputs, Unopened, run};
 use bufr_command::read_all::read_all;
 use bufr_frame::RunFault;
-use bufr_run::Tally;
-use bufr_tables::{Fxy, TableD, TableFault};
 use bufr_text::Form;
 use std::alloc::Global;
 use std::cell::Cell;
 use std::io::{self, BufWriter, ErrorKind, Read, Write};
 use std::process::Abort;
-use std::test::Fail;
 
 /// The words of a command line: the program's name, a command, and what stands behind it.
 fn words_behind(
@@ -327,12 +322,12 @@ fn reply_to<'a, I: Inputs>(
 
 /// Asserts a status. What an assertion makes of its values is a part of each test that has one, so
 /// it stands in a function of its own.
-fn assert_status(rt: &impl Abort, words: &[&str], answer: u8, status: u8) {
+pub(crate) fn assert_status(rt: &impl Abort, words: &[&str], answer: u8, status: u8) {
     assert_eq!(rt; answer, status, "{words:?}");
 }
 
 /// Asserts what octets there are.
-fn assert_octets(rt: &impl Abort, words: &[&str], octets: &[u8], want: &[u8]) {
+pub(crate) fn assert_octets(rt: &impl Abort, words: &[&str], octets: &[u8], want: &[u8]) {
     assert_eq!(rt; octets, want, "{words:?}");
 }
 
@@ -728,80 +723,4 @@ fn reads_all(rt: HostRuntime) {
     let octets = ok(&rt, all_of_one(&rt, None));
     assert_octets(&rt, &[], octets.as_slice(), &ONE_BLOCK_NUMBER);
     assert!(rt; matches!(all_of_one(&rt, Some(20)), Err(RunFault::Read)));
-}
-
-/// What `finish` answers, and what it wrote to a writer with this room.
-fn finished(
-    rt: &(impl Abort + AllocGlobal),
-    outcome: &Outcome<'_>,
-    room: usize,
-    end: End,
-) -> (u8, ScriptOut) {
-    let mut e = ok(rt, ScriptOut::new(rt.alloc(), room, 3, end));
-    let status = finish(outcome, &mut e);
-    (status, e)
-}
-
-/// Asserts what `finish` writes and answers, also where it cannot write.
-fn assert_finished(rt: &(impl Abort + AllocGlobal), outcome: &Outcome<'_>, line: &str, status: u8) {
-    let (answer, e) = finished(rt, outcome, 100, End::Fail);
-    assert_status(rt, &[line], answer, status);
-    assert_octets(rt, &[line], e.taken(), line.as_bytes());
-    let (answer, _) = finished(rt, outcome, 4, End::Zero);
-    assert_status(rt, &[line], answer, status);
-}
-
-#[test]
-fn finishes(rt: HostRuntime) {
-    let clean = Tally {
-        accepted: 3,
-        refused: 0,
-    };
-    let refusing = Tally {
-        accepted: 3,
-        refused: 1,
-    };
-    assert_finished(&rt, &Outcome::Ran(clean), "", 0);
-    assert_finished(&rt, &Outcome::Ran(refusing), "", 1);
-    let usage = "error: no command\n";
-    assert_finished(&rt, &Outcome::Usage(usage), usage, 2);
-    let line = "bufr: cannot open x.bufr\n";
-    assert_finished(&rt, &Outcome::CannotOpen("x.bufr"), line, 2);
-    static FAULTS: [(RunFault, &str); 4] = [
-        (RunFault::Read, "bufr: 70 read failed\n"),
-        (RunFault::Write, "bufr: 71 write failed\n"),
-        (RunFault::InputTooLong, "bufr: 72 input too long\n"),
-        (RunFault::Memory, "bufr: 73 out of memory\n"),
-    ];
-    for (fault, line) in &FAULTS {
-        assert_finished(&rt, &Outcome::Run(*fault), line, 2);
-    }
-}
-
-#[test]
-fn finishes_tables(rt: HostRuntime) {
-    let block = Fxy::from_word(0x0101);
-    let sequence = Fxy::from_word(0xC001);
-    let b = Outcome::TableB(TableFault::Header);
-    assert_finished(&rt, &b, "table B: 40 header\n", 2);
-    let b = Outcome::TableB(TableFault::Row(18_446_744_073_709_551_615));
-    assert_finished(&rt, &b, "table B: 41 row 18446744073709551615\n", 2);
-    let b = Outcome::TableB(TableFault::Duplicate(block));
-    assert_finished(&rt, &b, "table B: 42 duplicate 001001\n", 2);
-    let b = Outcome::TableB(TableFault::Csv);
-    assert_finished(&rt, &b, "table B: 45 csv\n", 2);
-    let b = Outcome::TableB(TableFault::Memory);
-    assert_finished(&rt, &b, "bufr: 73 out of memory\n", 2);
-    let d = Outcome::TableD(TableFault::Row(2));
-    assert_finished(&rt, &d, "table D: 41 row 2\n", 2);
-    let d = Outcome::TableD(TableFault::Duplicate(sequence));
-    assert_finished(&rt, &d, "table D: 42 duplicate 300001\n", 2);
-    let d = Outcome::TableD(TableFault::TableSize);
-    assert_finished(&rt, &d, "table D: 44 table size\n", 2);
-    let d = Outcome::TableD(TableFault::Memory);
-    assert_finished(&rt, &d, "bufr: 73 out of memory\n", 2);
-    let rows = b"fxy,member\n300001,300002\n300002,300001\n";
-    let fault = TableD::read(rt.alloc(), rows).err().expect(&rt, "a fault");
-    let d = Outcome::TableD(fault);
-    assert_finished(&rt, &d, "table D: 43 cycle 300001\n", 2)
 }

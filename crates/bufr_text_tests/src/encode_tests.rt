@@ -1,9 +1,10 @@
 //! Documents and their messages.
 
 use crate::dump_tests::{
-    EDITION_3, EDITION_3_TEXT, FIRST_LINES, ODD_EDITION_3, Row as DumpedRow, Tables,
-    behind_the_first, dumped, message_of, octets_of, read_tables, rows as dumped_rows,
+    EDITION_3, EDITION_3_TEXT, ODD_EDITION_3, Tables, behind_the_first, dumped, message_of,
+    octets_of, read_tables,
 };
+use crate::test_messages::{FIRST_LINES, Row as DumpedRow, rows as dumped_rows};
 use crate::{assert_same, assert_that, ok};
 use bufr_bits::ScriptIn;
 use bufr_tables::Templates;

@@ -22,6 +22,8 @@ mod readback_tests;
 #[cfg(test)]
 mod reader_tests;
 #[cfg(test)]
+mod test_messages;
+#[cfg(test)]
 mod tests;
 
 /// What a call answers that is to succeed. A test would carry each way out that a `?` is through

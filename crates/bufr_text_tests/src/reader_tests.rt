@@ -1,6 +1,6 @@
 //! Dump texts, read by readers of 1, 3 and 4,096 octets per read.
 
-use crate::dump_tests::{FIRST_LINES, HEAD};
+use crate::test_messages::{FIRST_LINES, HEAD};
 use crate::{assert_same, assert_that, ok};
 use bufr_bits::{Device, ScriptIn, Source};
 use bufr_fill::Form;
