@@ -189,10 +189,15 @@ static REFUSED: [Refused; 20] = [
     },
 ];
 
+/// The line of a fault at the beginning of a stream.
+fn line_at_first(rt: &(impl Abort + AllocGlobal), fault: &str) -> String {
+    ok(rt, format!(in rt.alloc(); "offset 0: {fault}"))
+}
+
 /// A message is refused at its fault.
 fn assert_refused(rt: &(impl Abort + AllocGlobal), row: &Refused) {
     let message = message_in(rt, row.subsets, row.flags, row.descriptors, row.data);
-    let line = ok(rt, format!(in rt.alloc(); "offset 0: {}", row.fault));
+    let line = line_at_first(rt, row.fault);
     assert_run(
         rt,
         Command::Dump,
@@ -304,54 +309,85 @@ fn goes_on_behind_refused_data_of_the_same_template(rt: HostRuntime) {
     )
 }
 
-/// The four streams of one good message and a stray one before or in place of it.
+/// A stream of a message in which octets are changed, and what stands before and behind it.
+struct Stray {
+    name: &'static str,
+    before: &'static [u8],
+    changes: &'static [(usize, u8)],
+    behind: &'static [u8],
+    fault: &'static str,
+    /// How many messages are dumped.
+    accepted: u64,
+}
+
+/// A message that cannot be one, in place of the good one or before it.
+static STRAYS: [Stray; 4] = [
+    Stray {
+        name: "no end",
+        before: b"",
+        changes: &[(47, b'6')],
+        behind: b"",
+        fault: "offset 0: 3 no end\n",
+        accepted: 0,
+    },
+    Stray {
+        name: "a word that states 64 octets",
+        before: STRAY,
+        changes: &[],
+        behind: b"\0\0\0\0\0\0\0\0",
+        fault: "offset 0: 3 no end\n",
+        accepted: 1,
+    },
+    Stray {
+        name: "edition 2",
+        before: b"",
+        changes: &[(7, 2)],
+        behind: b"",
+        fault: "offset 0: 10 edition 2\n",
+        accepted: 0,
+    },
+    Stray {
+        name: "a short length",
+        before: b"",
+        changes: &[(6, 11)],
+        behind: b"",
+        fault: "offset 0: 2 short length\n",
+        accepted: 0,
+    },
+];
+
+/// The message with one block number, octets of it changed.
+fn changed(rt: &(impl Abort + AllocGlobal), changes: &[(usize, u8)]) -> Vec<u8> {
+    let mut message = one_block_number(rt);
+    for (place, octet) in changes {
+        assert!(rt; *place < message.len());
+        message[*place] = *octet;
+    }
+    message
+}
+
+/// The stray is told, and the good message behind it dumped.
+fn assert_stray(rt: &(impl Abort + AllocGlobal), stray: &Stray, text: &str) {
+    let message = changed(rt, stray.changes);
+    let input = joined(rt, &[stray.before, &message, stray.behind]);
+    let output = if stray.accepted > 0 {
+        text.as_bytes()
+    } else {
+        b""
+    };
+    let tally = Tally {
+        accepted: stray.accepted,
+        refused: 1,
+    };
+    let errors = stray.fault.as_bytes();
+    assert_run(rt, Command::Dump, stray.name, &input, output, errors, tally)
+}
+
 #[test]
 fn tells_strays(rt: HostRuntime) {
-    static STREAMS: [(&str, &[u8], &[(usize, u8)], &[u8], &str, u64); 4] = [
-        ("no end", b"", &[(47, b'6')], b"", "offset 0: 3 no end\n", 0),
-        (
-            "a word that states 64 octets",
-            STRAY,
-            &[],
-            b"\0\0\0\0\0\0\0\0",
-            "offset 0: 3 no end\n",
-            1,
-        ),
-        (
-            "edition 2",
-            b"",
-            &[(7, 2)],
-            b"",
-            "offset 0: 10 edition 2\n",
-            0,
-        ),
-        (
-            "a short length",
-            b"",
-            &[(6, 11)],
-            b"",
-            "offset 0: 2 short length\n",
-            0,
-        ),
-    ];
     let text = text_of_one(&rt);
-    for (name, before, edits, behind, errors, accepted) in &STREAMS {
-        let mut message = one_block_number(&rt);
-        for (place, octet) in *edits {
-            assert!(rt; *place < message.len());
-            message[*place] = *octet;
-        }
-        let mut input = Vec::new(rt.alloc());
-        ok(&rt, input.extend_from_slice(before));
-        ok(&rt, input.extend_from_slice(&message));
-        ok(&rt, input.extend_from_slice(behind));
-        let output = if *accepted > 0 { text.as_bytes() } else { b"" };
-        let tally = Tally {
-            accepted: *accepted,
-            refused: 1,
-        };
-        let errors = errors.as_bytes();
-        assert_run(&rt, Command::Dump, name, &input, output, errors, tally);
+    for stray in &STRAYS {
+        assert_stray(&rt, stray, text.as_str());
     }
 }
 

@@ -200,6 +200,38 @@ pub(crate) fn joined(rt: &(impl Abort + AllocGlobal), parts: &[&[u8]]) -> Vec<u8
     octets
 }
 
+/// Puts the lines of descriptors behind a text: eight a line.
+fn push_descriptors(rt: &(impl Abort + AllocGlobal), text: &mut String, descriptors: &str) {
+    let mut place = 0usize;
+    for digits in descriptors.split_whitespace() {
+        if place % 8 == 0 {
+            let key = if place == 0 {
+                "descriptors"
+            } else {
+                "\ndescriptors"
+            };
+            ok(rt, text.push_str(key));
+        }
+        ok(rt, text.push(' '));
+        ok(rt, text.push_str(digits));
+        place = place.saturating_add(1);
+    }
+    if place > 0 {
+        ok(rt, text.push('\n'));
+    }
+}
+
+/// The lines of a dump text from `observed` to the descriptors.
+fn counts_of(rt: &(impl Abort + AllocGlobal), subsets: u16, flags: u8) -> String {
+    let compressed = flags / 64 % 2;
+    ok(
+        rt,
+        format!(in rt.alloc();
+            "observed 1\ncompressed {compressed}\noptional 0\nsubsets {subsets}\n"
+        ),
+    )
+}
+
 /// The dump text of one of these messages.
 pub(crate) fn text_of(
     rt: &(impl Abort + AllocGlobal),
@@ -209,33 +241,9 @@ pub(crate) fn text_of(
     body: &str,
 ) -> String {
     let mut text = ok(rt, String::from_str(rt.alloc(), HEAD));
-    let compressed = flags / 64 % 2;
-    let counts = ok(
-        rt,
-        format!(in rt.alloc();
-            "observed 1\ncompressed {compressed}\noptional 0\nsubsets {subsets}\n"
-        ),
-    );
+    let counts = counts_of(rt, subsets, flags);
     ok(rt, text.push_str(counts.as_str()));
-    let mut place = 0usize;
-    for digits in descriptors.split_whitespace() {
-        if place % 8 == 0 {
-            ok(
-                rt,
-                text.push_str(if place == 0 {
-                    "descriptors"
-                } else {
-                    "\ndescriptors"
-                }),
-            );
-        }
-        ok(rt, text.push(' '));
-        ok(rt, text.push_str(digits));
-        place = place.saturating_add(1);
-    }
-    if place > 0 {
-        ok(rt, text.push('\n'));
-    }
+    push_descriptors(rt, &mut text, descriptors);
     ok(rt, text.push_str(body));
     ok(rt, text.push_str("end\n"));
     text
