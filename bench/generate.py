@@ -7,47 +7,9 @@ import pathlib
 import random
 import sys
 
-# by edition, with one octet for local use in edition 3
-SECTION_1 = {
-    3: bytes.fromhex("000012000062000000000E00180102030400"),
-    4: bytes.fromhex("000016000062000000000000000E0007E80102030405"),
-}
+sys.path.insert(0, str(pathlib.Path(__file__).resolve().parent.parent / "tests"))
 
-
-def section(content: bytes, edition: int) -> bytes:
-    """A section with its length; in edition 3 a zero octet makes it even."""
-    content += b"\0" * (edition == 3 and len(content) % 2 == 0)
-    return (len(content) + 3).to_bytes(3, "big") + content
-
-
-def message(data: bytes, descriptors: bytes = b"\x01\x01", subsets: int = 1, flags: int = 0x80, edition: int = 4) -> bytes:
-    """A message with least lengths and no optional section."""
-    three = section(b"\0" + subsets.to_bytes(2, "big") + bytes([flags]) + descriptors, edition)
-    body = SECTION_1[edition] + three + section(b"\0" + data, edition) + b"7777"
-    return b"BUFR" + (8 + len(body)).to_bytes(3, "big") + bytes([edition]) + body
-
-
-def words(text: str) -> bytes:
-    """Descriptors, six digits each, as section 3 has them."""
-    return b"".join((int(d[0]) << 14 | int(d[1:3]) << 8 | int(d[3:])).to_bytes(2, "big") for d in text.split())
-
-
-class Bits:
-    """Bits that are put together, the first ones first."""
-
-    def __init__(self) -> None:
-        self.value, self.count, self.done = 0, 0, bytearray()
-
-    def put(self, number: int, width: int) -> None:
-        self.value, self.count = self.value << width | number, self.count + width
-        while self.count >= 8:
-            self.count -= 8
-            self.done.append(self.value >> self.count)
-            self.value &= (1 << self.count) - 1
-
-    def octets(self) -> bytes:
-        return bytes(self.done) + (bytes([self.value << 8 - self.count]) if self.count else b"")
-
+from lib import Bits, message, words
 
 # five elements that every version of WMO's Table B has, with their widths: a hundred times a subset
 FIVE = "012101 010004 011001 011002 020003"
@@ -79,6 +41,20 @@ def packed(subsets: int, times: int) -> bytes:
             there = value(subset, item, width)
             bits.put(63 if there == (1 << width) - 1 else there - (1 << width - 1), 6)
     return message(bits.octets(), words(f"105{times:03} {FIVE}"), subsets, 0xC0)
+
+
+def lists_in_turn(messages: int) -> bytes:
+    """Messages of 100 items each, which have 14 lists of descriptors in turn."""
+    made, elements = [], FIVE.split()
+    for number in range(messages):
+        turn, bits = number % 14, Bits()
+        order = [(turn + place) % 5 for place in range(5)] * (1, 2, 4)[turn // 5]
+        for item in range(100):
+            width = WIDTHS[order[item % 5]]
+            bits.put(value(number, item, width), width)
+        replication = f"1{len(order):02}{100 // len(order):03}"
+        made.append(message(bits.octets(), words(" ".join([replication, *(elements[place] for place in order)]))))
+    return b"".join(made)
 
 
 def pack_numbers(bits: Bits, values: list, width: int) -> None:
@@ -166,13 +142,14 @@ def streams():
         "bulletins": lambda: repeated(b"\x01\r\r\n123\r\r\nISMD01 EDZW 221200\r\r\n" + ten_thousand + b"\r\r\n\x03", 25_600),
         # the word every eight octets, each with a stated length of 1 MB, so that nothing is decided at once
         "hostile": lambda: repeated(b"BUFR\x10\x00\x00\x04", 6_000_000),
-        # for `dump`: short reports in each edition, and compressed 200 together; 1,000 subsets of 500 elements, plain
-        # and compressed
+        # For `dump`: short reports in each edition, and compressed 200 together. Then 1,000 subsets of 500 elements,
+        # plain and compressed, and messages of 100 elements with 14 lists of descriptors in turn.
         "dump_reports": lambda: repeated(report(4), 100_000),
         "dump_reports_3": lambda: repeated(report(3), 100_000),
         "dump_packed_reports": lambda: repeated(packed_reports(200), 1_000),
         "dump_plain": lambda: repeated(plain(1000, 100), 10),
         "dump_packed": lambda: repeated(packed(1000, 100), 10),
+        "dump_lists": lambda: repeated(lists_in_turn(700), 40),
     }
 
 

@@ -2,22 +2,19 @@
 """Times `bufr dump`, and `encode` for one of them, on streams that ask for much: each shape once, twice and four times as
 large.
 
-    bench/hostile_shapes.py [PROGRAM]        the program that `rt run` left in crates/bufr_cli/out by default
+    bench/hostile_shapes.py [PROGRAM]        crates/bufr/out/bufr by default
 
 It prints a table in Markdown; measure.py prints it too. A shape whose seconds grow faster than its octets is told with a
 `!`. The tables and streams lie in bench/out/shapes; the tables hold 12,000 elements and 15 sequences of their own.
 Outside the gate: it wants Linux, python3 and GNU time.
 """
 import os
-import pathlib
 import subprocess
 import sys
 
-sys.dont_write_bytecode = True  # nothing is written beside bench/out
+import generate  # finds tests/lib.py
+from lib import BUILT, TOP, Bits, message
 
-from generate import Bits, message
-
-TOP = pathlib.Path(__file__).resolve().parent.parent
 FOLDER = TOP / "bench/out/shapes"
 ELEMENTS = [x << 8 | y for x in range(1, 64) if x != 31 for y in range(1, 256)][:12_000]
 RUNS = 7
@@ -196,4 +193,4 @@ def table(program: str) -> None:
 
 
 if __name__ == "__main__":
-    table(sys.argv[1] if len(sys.argv) > 1 else str(TOP / "crates/bufr_cli/out/bufr_cli"))
+    table(sys.argv[1] if len(sys.argv) > 1 else str(BUILT))

@@ -1,14 +1,14 @@
 #!/usr/bin/env python3
-"""Times `bufr ls`, `bufr dump` and `bufr encode` on generated streams, beside a lister, a dumper and an encoder written
-by hand, and beside the tools of ecCodes where they are installed; then `bufr dump` on hostile shapes.
+"""Times `bufr ls`, `bufr dump` and `bufr encode` on generated streams, then `bufr dump` on hostile shapes.
 
     bench/measure.py [PROGRAM [FOLDER]]
 
-PROGRAM is what `rt run` left in crates/bufr_cli/out by default, FOLDER holds the streams, bench/out by default. It prints
-tables in Markdown, as docs/MEASUREMENTS.md has them. The program and the one by hand run in turn, fifteen rounds; of each
-the least processor seconds count, its own and the system's for it, its output thrown away. Before that the two have to
-write the same octets. The memory is what one run had resident at most. Outside the gate: it wants Linux, python3, rustc,
-GNU time and 2 GB of disk.
+Beside them run a lister, a dumper and an encoder written by hand, and the tools of ecCodes where they are installed.
+PROGRAM is crates/bufr/out/bufr by default, FOLDER holds the streams, bench/out by default. It prints tables in
+Markdown: one of each command, that of bench/README.md, and that of the hostile shapes. The program and the one by
+hand run in turn, fifteen rounds, their output thrown away. Of each the least processor seconds count, its own and the
+system's for it. Before that the two have to write the same octets. The memory is what one run had resident at most.
+Outside the gate: it wants Linux, python3, rustc, GNU time and 2 GB of disk.
 
 ecCodes reads the first tenth of the streams that take it long, and ten times its seconds are told, with a `*`.
 """
@@ -19,17 +19,13 @@ import subprocess
 import sys
 import time
 
-sys.dont_write_bytecode = True  # nothing is written beside bench/out
-
 import generate
 import hostile_shapes
+from lib import BUILT, TABLES, TOP
 
-TOP = pathlib.Path(__file__).resolve().parent.parent
-TABLES = [str(TOP / "tables/wmo-39/B.csv"), str(TOP / "tables/wmo-39/D.csv")]
 ROUNDS = 15
 # by hand less is not told from starting up
 SHORT = 0.01
-AIMS = {"ls": 1.0, "dump": 1.5, "encode": 2.0}
 
 STREAMS = {
     "small": "500,000 messages of 48 octets",
@@ -39,22 +35,20 @@ STREAMS = {
     "large": "messages of 1 MB",
     "noise": "no message",
     "hostile": "six million words, each stating 1 MB",
-    "dump_reports": "100,000 short reports of 15 elements",
+    "dump_reports": "100,000 short reports",
     "dump_reports_3": "the same in edition 3",
     "dump_packed_reports": "1,000 messages of 200 short reports, compressed",
     "dump_plain": "10 messages of 1,000 subsets by 500 elements",
     "dump_packed": "the same, compressed",
+    "dump_lists": "28,000 messages of 100 elements, 14 lists in turn",
 }
 LISTED = [name for name in STREAMS if not name.startswith("dump_")]
 DUMPED = [name for name in STREAMS if name.startswith("dump_")]
-# the columns of the table of ratios, and the streams that `ls`, `dump` and `encode` have there
-RATIOS = {
-    "many small messages": ("small", "dump_reports", "dump_reports"),
-    "long, plain": (None, "dump_plain", "dump_plain"),
-    "long, compressed": (None, "dump_packed", "dump_packed"),
-    "compressed reports": (None, "dump_packed_reports", "dump_packed_reports"),
-    "six million stray words": ("hostile", "hostile", None),
-    "noise": ("noise", "noise", None),
+# the rows of bench/README.md
+REPORTED = {
+    "ls": ("small", "middle", "noise", "hostile"),
+    "dump": ("dump_reports", "dump_packed_reports", "dump_plain", "dump_packed"),
+    "encode": ("dump_reports", "dump_packed_reports", "dump_plain", "dump_packed"),
 }
 # the streams of which ecCodes reads a tenth, and the one at which it is not timed: a tenth takes it minutes
 SHORTENED = ("small", "small_3", "dump_reports", "dump_reports_3", "dump_plain")
@@ -93,11 +87,10 @@ class Measuring:
     """What is measured: the program, the ones by hand, and the folder of the streams."""
 
     def __init__(self, program: str, folder: pathlib.Path) -> None:
-        self.folder, self.ratios = folder, {}
+        self.folder, self.cells = folder, {}
         names = {"ls": "baseline", "dump": "dump_by_hand", "encode": "encode_by_hand"}
-        tables = ["-B", TABLES[0], "-D", TABLES[1]]
-        self.ours = {command: [program, command, *(tables if command != "ls" else [])] for command in names}
-        self.by_hand = {c: [self.built(name), *(TABLES if c != "ls" else [])] for c, name in names.items()}
+        self.ours = {command: [program, command, *(TABLES if command != "ls" else [])] for command in names}
+        self.by_hand = {c: [self.built(name), *(TABLES[1::2] if c != "ls" else [])] for c, name in names.items()}
 
     def built(self, name: str) -> str:
         """A program by hand, compiled for the processors that `rt` compiles for."""
@@ -113,7 +106,7 @@ class Measuring:
         times = least(ours, by_hand, *([*other, str(path)] for other in others))
         kib = resident(ours, self.folder / "resident.txt")
         ratio = "" if times[1] < SHORT else f"{times[0] / times[1]:.1f}"
-        self.ratios[command, stream] = ratio or "–"
+        self.cells[command, stream] = [f"{times[0]:.3f}", ratio, f"{kib:,}"]
         size = path.stat().st_size
         speed = max(size, text) / times[0] / 1e6
         cells = [STREAMS[stream], f"{size / 1e6:.0f}", f"{text / 1e6:.0f}", f"{times[0]:.3f}", f"{speed:,.0f}"]
@@ -146,11 +139,11 @@ class Measuring:
             self.row("encode", stream, text)
 
     def summary(self) -> None:
-        """Prints the ratios."""
-        print("\n| to the one by hand | " + " | ".join(RATIOS) + " |\n" + "|---" * (1 + len(RATIOS)) + "|")
-        for place, (command, aim) in enumerate(AIMS.items()):
-            cells = [self.ratios.get((command, streams[place]), "–") for streams in RATIOS.values()]
-            print(f"| `{command}`, aim {aim} | " + " | ".join(cells) + " |")
+        """Prints the table of bench/README.md."""
+        print("\n| command | stream | seconds | ratio | KiB |\n|---|---|---|---|---|")
+        for command, streams in REPORTED.items():
+            for stream in streams:
+                print("| " + " | ".join([f"`{command}`", STREAMS[stream], *self.cells[command, stream]]) + " |")
 
     def eccodes(self) -> None:
         """Prints what the tools of ecCodes take."""
@@ -175,7 +168,7 @@ class Measuring:
 
 
 def main() -> None:
-    program = sys.argv[1] if len(sys.argv) > 1 else str(TOP / "crates/bufr_cli/out/bufr_cli")
+    program = sys.argv[1] if len(sys.argv) > 1 else str(BUILT)
     folder = pathlib.Path(sys.argv[2]) if len(sys.argv) > 2 else TOP / "bench/out"
     if not pathlib.Path(program).exists():
         sys.exit(f"{program} is not there: build it first (README.md, On a fresh machine)")

@@ -17,6 +17,9 @@ _bufr() {
             ;;
         *) return ;;
     esac
+    # Bash makes three words of `--form=plain`.
+    [ "$word" != = ] || word=''
+    [ "$before" != = ] || before=${COMP_WORDS[COMP_CWORD - 2]}
     case $before in
         --form)
             mapfile -t COMPREPLY < <(compgen -W 'plain compressed' -- "$word")

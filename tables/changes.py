@@ -37,8 +37,11 @@ def tell(what: str, names: list) -> None:
 
 
 def main() -> None:
+    if sys.argv[1:] in (["-h"], ["--help"]):
+        sys.exit(print(__doc__))
     if len(sys.argv) != 3:
-        sys.exit(__doc__)
+        print(__doc__, file=sys.stderr)
+        sys.exit(2)
     old, new = map(read, sys.argv[1:])
     print(" to ".join(pathlib.Path(folder).name for folder in sys.argv[1:]))
     for kind_of_row, before, after in zip(("elements", "sequences"), old, new):

@@ -3,12 +3,15 @@
 
     tables/convert.py OUT SOURCE..
 
-Each SOURCE is a folder, and what it holds says what it is:
+Each SOURCE is a folder. What it holds says what it is:
 
     B.csv, D.csv                      a set as in this folder
     BUFRCREX_TableB_en*.csv,          WMO's published CSV files
     BUFR_TableD_en*.csv
     element.table, sequence.def       definition files of ecCodes, a centre's local ones too
+    B*.txt, D*.txt                    wreport's files of fixed columns
+
+wreport keeps many tables in one folder. There SOURCE is one file, B*.txt, and the D*.txt of that name goes with it.
 
 The rows of a later SOURCE take the place of those of an earlier one, so a centre's local tables stand behind the
 master table that they belong to. OUT/B.csv and OUT/D.csv are written, in the order of the descriptors.
@@ -28,6 +31,15 @@ WMO_B = "FXY ElementName_en BUFR_Unit BUFR_Scale BUFR_ReferenceValue BUFR_DataWi
 WMO_D = "FXY1 FXY2".split()
 OURS_B = "fxy name unit scale reference width".split()
 OURS_D = "fxy member".split()
+# Where the columns of wreport's B*.txt begin, in characters: the six of OURS_B, and what stands behind them.
+WREPORT_B = [1, 8, 73, 97, 101, 114, 118]
+# How wreport's files shorten the beginning of a unit.
+WREPORT_UNITS = {
+    "CCITTIA5": "CCITT IA5",
+    "COMMONCODETABLE": "COMMON CODE TABLE ",
+    "CODETABLE": "CODE TABLE ",
+    "FLAGTABLE": "FLAG TABLE ",
+}
 # Octets that are not UTF-8 are passed on as they are, since `bufr` does not look at them either.
 AS_IT_IS = {"encoding": "utf-8", "errors": "surrogateescape"}
 # The widths of the factors of delayed replications.
@@ -66,10 +78,17 @@ def sequences_of(rows):
         yield [fxy, *(member for _, member in run)]
 
 
+def lines_of(path: pathlib.Path):
+    """The number and the text of each line that is not empty."""
+    for number, line in enumerate(path.read_text(**AS_IT_IS).split("\n"), 1):
+        if line.strip():
+            yield number, line
+
+
 def of_element_table(path: pathlib.Path):
     """The rows of ecCodes' element.table: code|abbreviation|type|name|unit|scale|reference|width|.."""
-    for number, line in enumerate(path.read_text(**AS_IT_IS).split("\n"), 1):
-        if line.strip() and not line.startswith("#"):
+    for number, line in lines_of(path):
+        if not line.startswith("#"):
             fields = [one_line(field) for field in line.split("|")]
             if len(fields) < 8:
                 stop(f"{path}, line {number}: fewer than eight fields")
@@ -87,6 +106,46 @@ def of_sequence_def(path: pathlib.Path):
         yield [one_line(fxy), *(one_line(member) for member in members.split(",") if member.strip())]
 
 
+def of_wreport_b(path: pathlib.Path):
+    """The rows of wreport's B*.txt."""
+    for number, line in lines_of(path):
+        fxy, name, unit, *numbers = (one_line(line[at:end]) for at, end in zip(WREPORT_B, WREPORT_B[1:]))
+        if not all(numbers):
+            stop(f"{path}, line {number}: no scale, reference and width in columns 98 to 118")
+        for short, whole in WREPORT_UNITS.items():
+            if unit.startswith(short):
+                unit = one_line(whole + unit[len(short) :])
+        # `- 4000` is -4000.
+        yield [fxy, name, unit, *(text.replace(" ", "") for text in numbers)]
+
+
+def of_wreport_d(path: pathlib.Path):
+    """The sequences of wreport's D*.txt, where a count of its members stands behind each.
+
+    Where a sequence stands there twice, the first counts.
+    """
+    runs = []
+    for number, line in lines_of(path):
+        found = re.match(" (?:([0-9]{6}) *([0-9]{1,3}) +| +)([0-9]{6})(?![0-9])", line)
+        if found and found[1]:
+            runs.append((found[1], int(found[2]), []))
+        if not found or not runs:
+            stop(f"{path}, line {number}: no member of a sequence")
+        runs[-1][2].append(found[3])
+    first = {}
+    for fxy, count, members in runs:
+        if count != len(members):
+            stop(f"{path}: {fxy} states {count} members and has {len(members)}")
+        first.setdefault(fxy, [fxy, *members])
+    return first.values()
+
+
+def of_wreport(path: pathlib.Path):
+    """The rows and the sequences of wreport's B*.txt and D*.txt of one name, of which one may be missing."""
+    table_b, table_d = (path.with_name(letter + path.name[1:]) for letter in "BD")
+    return of_wreport_b(table_b) if table_b.exists() else [], of_wreport_d(table_d) if table_d.exists() else []
+
+
 def source(folder: pathlib.Path):
     """The rows of a source for Table B, and its sequences for Table D."""
     if (folder / "B.csv").exists() or (folder / "D.csv").exists():
@@ -100,6 +159,11 @@ def source(folder: pathlib.Path):
     if any(folder.glob("BUFR*_Table[BD]_en*.csv")):
         table_d = of_csv(folder, "BUFR_TableD_en*.csv", WMO_D)
         return of_csv(folder, "BUFRCREX_TableB_en*.csv", WMO_B), sequences_of(table_d)
+    texts = [folder] if folder.match("[BD]*.txt") else sorted(folder.glob("[BD]*.txt"))
+    if len({text.name[1:] for text in texts}) > 1:
+        stop(f"{folder} holds many tables of wreport: name one of its files B*.txt")
+    if texts and texts[0].exists():
+        return of_wreport(texts[0])
     stop(f"{folder} holds no tables that are known here")
 
 
@@ -187,6 +251,8 @@ def write(path: pathlib.Path, header: list, rows) -> None:
 
 
 def main() -> None:
+    if sys.argv[1:] in (["-h"], ["--help"]):
+        sys.exit(print(__doc__))
     if len(sys.argv) < 3:
         stop(__doc__)
     out, *folders = map(pathlib.Path, sys.argv[1:])

@@ -4,7 +4,7 @@ use Rattle.std.proofs.lemmas.Nat.{shr_high, mod_low, shl_whole}
 use Rattle.std.proofs.lemmas.Bool.Decides.{nat_tests}
 use Rattle.std.proofs.lemmas.List.{drop-append-le, take-append-le, take_all, drop_more, drop_all}
 use Rattle.std.proofs.Math.Nat.{pow-suc, mul-le-mul_right}
-use Rattle.bufr_bits.specs.Bits.{bits_of_octet, bits_of, number_behind, number_of, bits_at}
+use Rattle.bufr_bits.specs.Bits.{bits_of_octet, bits_of, number_after_bits, number_of, bits_at}
 
 -- a bit as a number
 abbrev pub bit : Bool → ℕ
@@ -14,13 +14,13 @@ shift_once : (n b p q r : ℕ) → q ≡ p * 2 → (2 * n + b) * p + r ≡ n * q
 shift_once n b p q r e = rw e (omega arith)
 
 -- bits behind a number: the number moves up by as many places
-pub number_behind-is : (n : ℕ) (xs : List Bool) → number_behind n xs ≡ n * 2 ^ length xs + number_of xs
+pub number_behind-is : (n : ℕ) (xs : List Bool) → number_after_bits n xs ≡ n * 2 ^ length xs + number_of xs
 number_behind-is n [] = omega arith
 number_behind-is n (x ∷ xs) =
     let q = 2 ^ suc (length xs) in
     number_behind-is (2 * n + bit x) xs ∙ shift_once n (bit x) (2 ^ length xs) q (number_of xs) (pow-suc 2 (length xs)) ∙ ap (λ (k : ℕ). n * q + k) (sym (number_behind-is (2 * 0 + bit x) xs))
 
-pub number_behind-append : (n : ℕ) (xs ys : List Bool) → number_behind n (xs ++ ys) ≡ number_behind (number_behind n xs) ys
+pub number_behind-append : (n : ℕ) (xs ys : List Bool) → number_after_bits n (xs ++ ys) ≡ number_after_bits (number_after_bits n xs) ys
 number_behind-append n [] ys = refl
 number_behind-append n (x ∷ xs) ys = number_behind-append (2 * n + bit x) xs ys
 

@@ -4,7 +4,7 @@ use Rattle.std.specs.Prelude.{codes}
 use Rattle.std.specs.Fmt.{digits}
 use Rattle.bufr_bits.specs.DecimalText.{decimal_text_of, unsigned_text}
 use Rattle.bufr_bits.specs.DecimalValue.{decimal_value_of}
-use Rattle.bufr_bits.specs.Bits.{bits_of, bits_in, bits_at, number_of, all_set, padding}
+use Rattle.bufr_bits.specs.Bits.{bits_of, bits_in, bits_at, number_of, are_all_ones, padding}
 use Rattle.bufr_bits.specs.declared.decimal.NumberFault.TheVariants.{Syntax, Inexact, Large}
 
 -- -0.05, 28800, 0.00, 0
@@ -87,10 +87,10 @@ writer_example : bits_in 5 3 ++ bits_of (171 ∷ []) ++ padding 11 ≡ bits_of (
 unfolding bits_of bits_in
 writer_example = refl
 
-ones_yes : all_set (bits_at (255 ∷ 254 ∷ []) 0 15) ≡ true
+ones_yes : are_all_ones (bits_at (255 ∷ 254 ∷ []) 0 15) ≡ true
 unfolding bits_of
 ones_yes = refl
 
-ones_no : all_set (bits_at (255 ∷ 254 ∷ []) 0 16) ≡ false
+ones_no : are_all_ones (bits_at (255 ∷ 254 ∷ []) 0 16) ≡ false
 unfolding bits_of
 ones_no = refl

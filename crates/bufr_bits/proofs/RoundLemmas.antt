@@ -10,7 +10,7 @@ use Rattle.std.proofs.lemmas.Bool.Decides.{nat_tests}
 use Rattle.std.proofs.lemmas.Fmt.{decimal_is_IsNumeral_wide}
 use Rattle.std.proofs.lemmas.List.{take_all, drop_all, take_at, drop_at, length-replicate}
 use Rattle.bufr_bits.specs.DecimalText.{decimal_text_of, unsigned_text, pointed}
-use Rattle.bufr_bits.specs.DecimalValue.{all_digits, is_digits, is_unsigned, whole_part, fraction_part, whole_quotient, scaled, signed, decimal_value_of, power_up, power_down}
+use Rattle.bufr_bits.specs.DecimalValue.{all_digits, is_digits, is_unsigned, whole_part, fraction_part, whole_quotient, scaled, signed, decimal_value_of, positive_scale, negative_scale}
 use Rattle.bufr_bits.proofs.OnesLemmas.{list_all-append}
 use Rattle.bufr_bits.proofs.ScaledLemmas.{and_first, and_second, all_digits-take, all_digits-drop}
 use Rattle.bufr_bits.proofs.DecimalLemmas.{own, value-append, quotient_is, ten_pos}
@@ -109,10 +109,10 @@ text_with_point whole fraction n places sw sf hw hf len e = record {
   first = first_digit whole (46 ∷ fraction) sw hw;
 }
 
-text_alone : (whole : List ℕ) (n k : ℕ) (scale : ℤ) → 0 < length whole → all_digits whole ≡ true → digits_value 10 whole * 10 ^ power_up scale ≡ n * 10 ^ k → power_down scale ≡ k → IsTextOf whole n scale
+text_alone : (whole : List ℕ) (n k : ℕ) (scale : ℤ) → 0 < length whole → all_digits whole ≡ true → digits_value 10 whole * 10 ^ positive_scale scale ≡ n * 10 ^ k → negative_scale scale ≡ k → IsTextOf whole n scale
 text_alone whole n k scale sw hw e d = record {
   form = form_alone whole sw hw;
-  value = rw (whole_alone whole hw, fraction_alone whole hw, append-nil whole, e) (exact_quotient n k (0 + power_down scale) (omega arith));
+  value = rw (whole_alone whole hw, fraction_alone whole hw, append-nil whole, e) (exact_quotient n k (0 + negative_scale scale) (omega arith));
   first = rw append-nil at (first_digit whole [] sw hw);
 }
 

@@ -6,7 +6,7 @@ use Rattle.std.specs.Char.{is_ascii_digit}
 use Rattle.std.specs.Str.Parse.{digits_value, digits_value_after, starts_with_minus}
 use Rattle.std.proofs.lemmas.List.{take_all, drop_all}
 use Rattle.bufr_bits.specs.Capped.{capped, capped_ok}
-use Rattle.bufr_bits.specs.DecimalValue.{all_digits, whole_quotient, scaled, signed, and_then, IsParts, is_unsigned, unsigned_part, decimal_value_of, power_up, power_down}
+use Rattle.bufr_bits.specs.DecimalValue.{all_digits, whole_quotient, scaled, signed, and_then, IsParts, is_unsigned, unsigned_part, decimal_value_of, positive_scale, negative_scale}
 use Rattle.bufr_bits.specs.declared.decimal.NumberFault.{NumberFault}
 use Rattle.bufr_bits.specs.declared.decimal.NumberFault.TheVariants.{Syntax, Inexact}
 use Rattle.bufr_bits.proofs.OnesLemmas.{list_all-append}
@@ -140,17 +140,17 @@ value_by_parts text body whole fraction scale b h =
 abbrev quotient_of : (whole fraction : List ℕ) (up down : ℕ) → Result ℕ NumberFault
 quotient_of whole fraction up down = whole_quotient (digits_value 10 (whole ++ fraction) * 10 ^ up) (10 ^ (length fraction + down))
 
-value_by_powers : (text body whole fraction : List ℕ) (scale : ℤ) (up down : ℕ) → body ≡ unsigned_part text → IsParts body whole fraction → up ≡ power_up scale → down ≡ power_down scale → decimal_value_of text scale ≡ and_then (quotient_of whole fraction up down) (signed (starts_with_minus text))
+value_by_powers : (text body whole fraction : List ℕ) (scale : ℤ) (up down : ℕ) → body ≡ unsigned_part text → IsParts body whole fraction → up ≡ positive_scale scale → down ≡ negative_scale scale → decimal_value_of text scale ≡ and_then (quotient_of whole fraction up down) (signed (starts_with_minus text))
 value_by_powers text body whole fraction scale up down b h hu hd =
-    value_by_parts text body whole fraction scale b h ∙ ap (λ (k : ℕ). and_then (quotient_of whole fraction k (power_down scale)) (signed (starts_with_minus text))) (sym hu) ∙ ap (λ (k : ℕ). and_then (quotient_of whole fraction up k) (signed (starts_with_minus text))) (sym hd)
+    value_by_parts text body whole fraction scale b h ∙ ap (λ (k : ℕ). and_then (quotient_of whole fraction k (negative_scale scale)) (signed (starts_with_minus text))) (sym hu) ∙ ap (λ (k : ℕ). and_then (quotient_of whole fraction up k) (signed (starts_with_minus text))) (sym hd)
 
-pub read_fault : (text body whole fraction : List ℕ) (scale : ℤ) (up down : ℕ) (fault : NumberFault) (r : Result ℤ NumberFault) → body ≡ unsigned_part text → IsParts body whole fraction → up ≡ power_up scale → down ≡ power_down scale → Err fault ≡ capped_ok (whole_quotient (digits_value 10 (whole ++ fraction) * 10 ^ up) (10 ^ (length fraction + down))) → r ≡ Err fault → r ≡ decimal_value_of text scale
+pub read_fault : (text body whole fraction : List ℕ) (scale : ℤ) (up down : ℕ) (fault : NumberFault) (r : Result ℤ NumberFault) → body ≡ unsigned_part text → IsParts body whole fraction → up ≡ positive_scale scale → down ≡ negative_scale scale → Err fault ≡ capped_ok (whole_quotient (digits_value 10 (whole ++ fraction) * 10 ^ up) (10 ^ (length fraction + down))) → r ≡ Err fault → r ≡ decimal_value_of text scale
 read_fault text body whole fraction scale up down fault r b h hu hd e result =
     let quotient = capped_err (quotient_of whole fraction up down) fault e in
     let value = value_by_powers text body whole fraction scale up down b h hu hd in
     result ∙ sym (value ∙ ap (λ (q : Result ℕ NumberFault). and_then q (signed (starts_with_minus text))) quotient)
 
-pub read_found : (text body whole fraction : List ℕ) (scale : ℤ) (up down n : ℕ) (negative : Bool) (r : Result ℤ NumberFault) → body ≡ unsigned_part text → IsParts body whole fraction → up ≡ power_up scale → down ≡ power_down scale → negative ≡ starts_with_minus text → Ok n ≡ capped_ok (whole_quotient (digits_value 10 (whole ++ fraction) * 10 ^ up) (10 ^ (length fraction + down))) → ((m : ℕ) → n ≡ capped m → r ≡ signed negative m) → r ≡ decimal_value_of text scale
+pub read_found : (text body whole fraction : List ℕ) (scale : ℤ) (up down n : ℕ) (negative : Bool) (r : Result ℤ NumberFault) → body ≡ unsigned_part text → IsParts body whole fraction → up ≡ positive_scale scale → down ≡ negative_scale scale → negative ≡ starts_with_minus text → Ok n ≡ capped_ok (whole_quotient (digits_value 10 (whole ++ fraction) * 10 ^ up) (10 ^ (length fraction + down))) → ((m : ℕ) → n ≡ capped m → r ≡ signed negative m) → r ≡ decimal_value_of text scale
 read_found text body whole fraction scale up down n negative r b h hu hd hn e result =
     let found = capped_found (quotient_of whole fraction up down) n e in
     let value = value_by_powers text body whole fraction scale up down b h hu hd in

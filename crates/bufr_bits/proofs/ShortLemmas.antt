@@ -8,7 +8,7 @@ use Rattle.std.proofs.lemmas.Nat.{div-add-mod', mod_below}
 use Rattle.std.proofs.lemmas.Bool.Decides.{nat_tests}
 use Rattle.std.proofs.lemmas.List.{take_more, drop_more, take_all}
 use Rattle.std.proofs.Math.Nat.{pow-suc, mul-le-mul_right, pow-le-pow_right}
-use Rattle.bufr_bits.specs.DecimalValue.{all_digits, whole_part, fraction_part, whole_quotient, signed, and_then, IsShort, unsigned_part, decimal_value_of, power_up, power_down}
+use Rattle.bufr_bits.specs.DecimalValue.{all_digits, whole_part, fraction_part, whole_quotient, signed, and_then, IsShortDecimal, unsigned_part, decimal_value_of, positive_scale, negative_scale}
 use Rattle.bufr_bits.specs.declared.decimal.NumberFault.{NumberFault}
 use Rattle.bufr_bits.specs.declared.decimal.NumberFault.TheVariants.{Inexact}
 use Rattle.bufr_bits.proofs.OnesLemmas.{list_all-append}
@@ -129,7 +129,7 @@ scaled_by_quotient n up less lt =
     sym (quotient_is (n * u) (10 ^ less) q (r * u) parts small ∙ ap (λ (b : Bool). if b then Ok q else Err Inexact) (product_zero r u some))
 
 -- a short text by its parts
-pub short_alone : (text : List ℕ) (count n : ℕ) → 0 < count → count ≡ length text → all_digits (take count text) ≡ true → n ≡ digits_value_after 10 0 (take count text) → IsShort text n 0
+pub short_alone : (text : List ℕ) (count n : ℕ) → 0 < count → count ≡ length text → all_digits (take count text) ≡ true → n ≡ digits_value_after 10 0 (take count text) → IsShortDecimal text n 0
 short_alone text count n some e h v =
     let all : take count text ≡ text = take_all count text (omega arith) in
     let digits : all_digits text ≡ true = sym (ap all_digits all) ∙ h in
@@ -157,7 +157,7 @@ pointed_below whole fraction n hw hf e =
     let more : 10 ^ length (whole ++ fraction) ≤ 10 ^ length (whole ++ 46 ∷ fraction) = pow-le-pow_right (omega arith) (omega (arith, short, long)) in
     omega (arith, below, more, e)
 
-short_parts : (whole fraction : List ℕ) (m n : ℕ) → 0 < length whole → 0 < length fraction → all_digits whole ≡ true → all_digits fraction ≡ true → m ≡ digits_value_after 10 0 whole → n ≡ digits_value_after 10 m fraction → IsShort (whole ++ 46 ∷ fraction) n (length fraction)
+short_parts : (whole fraction : List ℕ) (m n : ℕ) → 0 < length whole → 0 < length fraction → all_digits whole ≡ true → all_digits fraction ≡ true → m ≡ digits_value_after 10 0 whole → n ≡ digits_value_after 10 m fraction → IsShortDecimal (whole ++ 46 ∷ fraction) n (length fraction)
 short_parts whole fraction m n sw sf hw hf hm hn =
     let w = whole_with_point whole fraction hw in
     let f = fraction_with_point whole fraction hw in
@@ -169,7 +169,7 @@ short_parts whole fraction m n sw sf hw hf hm hn =
       below = pointed_below whole fraction n hw hf value;
     }
 
-pub short_pointed : (text fraction : List ℕ) (count places m n : ℕ) → 0 < count → count < length text → get_or text count 0 ≡ 46 → fraction ≡ drop (count + 1) text → 0 < places → places ≡ length fraction → all_digits (take count text) ≡ true → m ≡ digits_value_after 10 0 (take count text) → all_digits (take places fraction) ≡ true → n ≡ digits_value_after 10 m (take places fraction) → IsShort text n places
+pub short_pointed : (text fraction : List ℕ) (count places m n : ℕ) → 0 < count → count < length text → get_or text count 0 ≡ 46 → fraction ≡ drop (count + 1) text → 0 < places → places ≡ length fraction → all_digits (take count text) ≡ true → m ≡ digits_value_after 10 0 (take count text) → all_digits (take places fraction) ≡ true → n ≡ digits_value_after 10 m (take places fraction) → IsShortDecimal text n places
 short_pointed text fraction count places m n sw lt point f sf len hw hm hf hn =
     let whole = take count text in
     let all : take places fraction ≡ fraction = take_all places fraction (omega arith) in
@@ -177,7 +177,7 @@ short_pointed text fraction count places m n sw lt point f sf len hw hm hf hn =
     let same : whole ++ 46 ∷ fraction ≡ text = ap (λ (ds : List ℕ). whole ++ ds) (sym behind) ∙ take-append-drop count text in
     let some : 0 < length whole = omega (arith, length-take-le count text (omega arith)) in
     let parts = short_parts whole fraction m n some (omega arith) hw (sym (ap all_digits all) ∙ hf) hm (hn ∙ ap (digits_value_after 10 m) all) in
-    subst (λ (k : ℕ). IsShort text n k) (sym len) (subst (λ (ds : List ℕ). IsShort ds n (length fraction)) same parts)
+    subst (λ (k : ℕ). IsShortDecimal text n k) (sym len) (subst (λ (ds : List ℕ). IsShortDecimal ds n (length fraction)) same parts)
 
 -- what is read behind the point fits, and what ten multiplies
 pub fraction_fits : (text fraction : List ℕ) (count m : ℕ) → length text ≤ 19 → count < length text → fraction ≡ drop (count + 1) text → all_digits (take count text) ≡ true → m ≡ digits_value_after 10 0 (take count text) → (m + 1) * 10 ^ length fraction ≤ 2 ^ 64
@@ -193,7 +193,7 @@ fraction_fits text fraction count m few lt f h e =
     let literal : 10 ^ 19 ≤ 2 ^ 64 = omega arith in
     omega (arith, product, split, most, literal)
 
-pub short_fits : (text : List ℕ) (n places up : ℕ) → IsShort text n places → length text + up ≤ 19 → n * 10 ^ up < 2 ^ 64
+pub short_fits : (text : List ℕ) (n places up : ℕ) → IsShortDecimal text n places → length text + up ≤ 19 → n * 10 ^ up < 2 ^ 64
 short_fits text n places up h few =
     let below = mul-le-mul_right (10 ^ up) h.below in
     let split : 10 ^ (length text + up) ≡ 10 ^ length text * 10 ^ up = ten_split (length text + up) (length text) up refl in
@@ -203,18 +203,18 @@ short_fits text n places up h few =
     omega (arith, below, split, most, literal, some)
 
 -- what reading a short text answers
-value_short : (text body : List ℕ) (scale : ℤ) (up down n places : ℕ) → body ≡ unsigned_part text → IsShort body n places → up ≡ power_up scale → down ≡ power_down scale → decimal_value_of text scale ≡ and_then (whole_quotient (n * 10 ^ up) (10 ^ (places + down))) (signed (starts_with_minus text))
+value_short : (text body : List ℕ) (scale : ℤ) (up down n places : ℕ) → body ≡ unsigned_part text → IsShortDecimal body n places → up ≡ positive_scale scale → down ≡ negative_scale scale → decimal_value_of text scale ≡ and_then (whole_quotient (n * 10 ^ up) (10 ^ (places + down))) (signed (starts_with_minus text))
 unfolding decimal_value_of
 value_short text body scale up down n places b h hu hd =
-    let short : IsShort (unsigned_part text) n places = subst (λ (t : List ℕ). IsShort t n places) b h in
+    let short : IsShortDecimal (unsigned_part text) n places = subst (λ (t : List ℕ). IsShortDecimal t n places) b h in
     rw (short.form, hu, hd, short.value, short.behind) refl
 
-pub read_short : (text body : List ℕ) (scale : ℤ) (up down n places size : ℕ) (negative : Bool) (r : Result ℤ NumberFault) → body ≡ unsigned_part text → IsShort body n places → up ≡ power_up scale → down ≡ power_down scale → negative ≡ starts_with_minus text → Ok size ≡ whole_quotient (n * 10 ^ up) (10 ^ (places + down)) → r ≡ signed negative size → r ≡ decimal_value_of text scale
+pub read_short : (text body : List ℕ) (scale : ℤ) (up down n places size : ℕ) (negative : Bool) (r : Result ℤ NumberFault) → body ≡ unsigned_part text → IsShortDecimal body n places → up ≡ positive_scale scale → down ≡ negative_scale scale → negative ≡ starts_with_minus text → Ok size ≡ whole_quotient (n * 10 ^ up) (10 ^ (places + down)) → r ≡ signed negative size → r ≡ decimal_value_of text scale
 read_short text body scale up down n places size negative r b h hu hd hn e result =
     let value = value_short text body scale up down n places b h hu hd in
     result ∙ ap (λ (s : Bool). signed s size) hn ∙ ap (λ (q : Result ℕ NumberFault). and_then q (signed (starts_with_minus text))) e ∙ sym value
 
-pub read_short_fault : (text body : List ℕ) (scale : ℤ) (up down n places : ℕ) (fault : NumberFault) (r : Result ℤ NumberFault) → body ≡ unsigned_part text → IsShort body n places → up ≡ power_up scale → down ≡ power_down scale → Err fault ≡ whole_quotient (n * 10 ^ up) (10 ^ (places + down)) → r ≡ Err fault → r ≡ decimal_value_of text scale
+pub read_short_fault : (text body : List ℕ) (scale : ℤ) (up down n places : ℕ) (fault : NumberFault) (r : Result ℤ NumberFault) → body ≡ unsigned_part text → IsShortDecimal body n places → up ≡ positive_scale scale → down ≡ negative_scale scale → Err fault ≡ whole_quotient (n * 10 ^ up) (10 ^ (places + down)) → r ≡ Err fault → r ≡ decimal_value_of text scale
 read_short_fault text body scale up down n places fault r b h hu hd e result =
     let value = value_short text body scale up down n places b h hu hd in
     result ∙ ap (λ (q : Result ℕ NumberFault). and_then q (signed (starts_with_minus text))) e ∙ sym value

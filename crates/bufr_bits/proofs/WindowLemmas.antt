@@ -4,7 +4,7 @@ use Rattle.std.proofs.lemmas.Nat.{shl_whole, be_bytes_8, mod_below, pow_pos}
 use Rattle.std.proofs.lemmas.List.{drop-append-le, take-append-le, take_rest}
 use Rattle.std.proofs.lemmas.Bool.Decides.{nat_tests}
 use Rattle.std.specs.Int.{from_be_bytes, w64}
-use Rattle.bufr_bits.specs.Bits.{bits_of, bits_in, bits_at, number_of, all_set}
+use Rattle.bufr_bits.specs.Bits.{bits_of, bits_in, bits_at, number_of, are_all_ones}
 use Rattle.bufr_bits.specs.Window.{IsWindow}
 use Rattle.bufr_bits.proofs.OnesLemmas.{all_set-number, list_all-append}
 use Rattle.bufr_bits.proofs.BitLemmas.{number_of_middle, number_of_more, number_of_part, drop-bits_of}
@@ -90,20 +90,20 @@ window_answer None xs ys first h e few =
 window_answer (Some w) xs ys first h e there = window_behind xs ys first w h e there
 
 -- octets are all ones where their window is the greatest number and the others are
-pub window_ones : (xs : List ℕ) (w : ℕ) → IsWindow w 0 xs → all_set (bits_of xs) ≡ ((w == 2 ^ 64 - 1) && all_set (bits_of (drop 8 xs)))
+pub window_ones : (xs : List ℕ) (w : ℕ) → IsWindow w 0 xs → are_all_ones (bits_of xs) ≡ ((w == 2 ^ 64 - 1) && are_all_ones (bits_of (drop 8 xs)))
 window_ones xs w h =
     let word = bits_in w 64 in
     let parts : bits_of xs ≡ word ++ bits_of (drop 8 xs) = ap bits_of (sym (take-append-drop 8 xs)) ∙ bits_of-append (take 8 xs) (drop 8 xs) ∙ ap (λ (bs : List Bool). bs ++ bits_of (drop 8 xs)) h.bits in
     let value : number_of word ≡ w = number_of-bits_in w 64 ∙ mod-eq_of_lt h.small in
-    let ones : all_set word ≡ (w == 2 ^ 64 - 1) = sym (all_set-number word) ∙ ap (λ (m : ℕ). m == 2 ^ length word - 1) value ∙ ap (λ (k : ℕ). w == 2 ^ k - 1) (length-bits_in w 64) in
-    ap all_set parts ∙ list_all-append (λ (b : Bool). b) word (bits_of (drop 8 xs)) ∙ ap (λ (b : Bool). b && all_set (bits_of (drop 8 xs))) ones
+    let ones : are_all_ones word ≡ (w == 2 ^ 64 - 1) = sym (all_set-number word) ∙ ap (λ (m : ℕ). m == 2 ^ length word - 1) value ∙ ap (λ (k : ℕ). w == 2 ^ k - 1) (length-bits_in w 64) in
+    ap are_all_ones parts ∙ list_all-append (λ (b : Bool). b) word (bits_of (drop 8 xs)) ∙ ap (λ (b : Bool). b && are_all_ones (bits_of (drop 8 xs))) ones
 
-pub window_not_ones : (xs : List ℕ) (w : ℕ) (all : Bool) → IsWindow w 0 xs → (w ≡ 2 ^ 64 - 1 → ⊥) → all ≡ all_set (bits_of xs) → false ≡ all
+pub window_not_ones : (xs : List ℕ) (w : ℕ) (all : Bool) → IsWindow w 0 xs → (w ≡ 2 ^ 64 - 1 → ⊥) → all ≡ are_all_ones (bits_of xs) → false ≡ all
 window_not_ones xs w all h other e =
     let no_ones : (w == 2 ^ 64 - 1) ≡ false = grind (arith, nat_tests) in
-    sym (e ∙ window_ones xs w h ∙ ap (λ (b : Bool). b && all_set (bits_of (drop 8 xs))) no_ones)
+    sym (e ∙ window_ones xs w h ∙ ap (λ (b : Bool). b && are_all_ones (bits_of (drop 8 xs))) no_ones)
 
-pub window_all_ones : (xs ys : List ℕ) (w : ℕ) → IsWindow w 0 xs → w ≡ 2 ^ 64 - 1 → ys ≡ take (length xs - 8) (drop 8 xs) → all_set (bits_of xs) ≡ all_set (bits_of ys)
+pub window_all_ones : (xs ys : List ℕ) (w : ℕ) → IsWindow w 0 xs → w ≡ 2 ^ 64 - 1 → ys ≡ take (length xs - 8) (drop 8 xs) → are_all_ones (bits_of xs) ≡ are_all_ones (bits_of ys)
 window_all_ones xs ys w h ones e =
     let yes : (w == 2 ^ 64 - 1) ≡ true = grind (arith, nat_tests) in
-    window_ones xs w h ∙ ap (λ (b : Bool). b && all_set (bits_of (drop 8 xs))) yes ∙ ap (λ (zs : List ℕ). all_set (bits_of zs)) (sym (e ∙ take_rest xs 8))
+    window_ones xs w h ∙ ap (λ (b : Bool). b && are_all_ones (bits_of (drop 8 xs))) yes ∙ ap (λ (zs : List ℕ). are_all_ones (bits_of zs)) (sym (e ∙ take_rest xs 8))

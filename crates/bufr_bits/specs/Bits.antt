@@ -16,21 +16,21 @@ bits_of [] = []
 bits_of (octet ∷ more) = bits_of_octet octet ++ bits_of more
 
 -- the number that bits write behind a number that was written before them
-abbrev pub number_behind : ℕ → List Bool → ℕ
-number_behind n [] = n
-number_behind n (bit ∷ bits) = number_behind (2 * n + (if bit then 1 else 0)) bits
+abbrev pub number_after_bits : ℕ → List Bool → ℕ
+number_after_bits n [] = n
+number_after_bits n (bit ∷ bits) = number_after_bits (2 * n + (if bit then 1 else 0)) bits
 
 -- the number that bits write
 abbrev pub number_of : List Bool → ℕ
-number_of bits = number_behind 0 bits
+number_of bits = number_after_bits 0 bits
 
 -- so many of the bits of octets, from a place on
 abbrev pub bits_at : (octets : List ℕ) (at width : ℕ) → List Bool
 bits_at octets at width = take width (drop at (bits_of octets))
 
 -- whether all bits are ones
-abbrev pub all_set : List Bool → Bool
-all_set bits = list_all (λ bit. bit) bits
+abbrev pub are_all_ones : List Bool → Bool
+are_all_ones bits = list_all (λ bit. bit) bits
 
 -- the bits by which a number is written in a width: its last ones, the most significant first
 unfoldable pub bits_in : (value width : ℕ) → List Bool

@@ -20,12 +20,12 @@ empty_writes_after count [] (Ok zero) = count
 empty_writes_after count (octet ∷ more) (Ok zero) = counted count 1
 
 -- all octets that were taken were handed on, after a write: not if it took some
-abbrev pub handed_on_after_write : {E : Type 0} → Bool → Result ℕ E → Bool
-handed_on_after_write before (Err e) = before
-handed_on_after_write before (Ok zero) = before
-handed_on_after_write before (Ok (suc taken)) = false
+abbrev pub all_flushed_after_write : {E : Type 0} → Bool → Result ℕ E → Bool
+all_flushed_after_write before (Err e) = before
+all_flushed_after_write before (Ok zero) = before
+all_flushed_after_write before (Ok (suc taken)) = false
 
 -- the same after a flush: they were, if it went through
-abbrev pub handed_on_after_flush : {A E : Type 0} → Bool → Result A E → Bool
-handed_on_after_flush before (Ok x) = true
-handed_on_after_flush before (Err e) = before
+abbrev pub all_flushed_after_flush : {A E : Type 0} → Bool → Result A E → Bool
+all_flushed_after_flush before (Ok x) = true
+all_flushed_after_flush before (Err e) = before

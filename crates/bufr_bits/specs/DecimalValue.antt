@@ -35,14 +35,14 @@ is_unsigned text =
     && (if is_some (position (λ c. c == 46) text) then is_digits (fraction_part text) else true)
 
 -- how often ten multiplies a number at a scale
-abbrev pub power_up : ℤ → ℕ
-power_up (pos n) = n
-power_up (negsuc n) = 0
+abbrev pub positive_scale : ℤ → ℕ
+positive_scale (pos n) = n
+positive_scale (negsuc n) = 0
 
 -- how often ten divides it
-abbrev pub power_down : ℤ → ℕ
-power_down (pos n) = 0
-power_down (negsuc n) = n + 1
+abbrev pub negative_scale : ℤ → ℕ
+negative_scale (pos n) = 0
+negative_scale (negsuc n) = n + 1
 
 -- a quotient that is whole
 abbrev pub whole_quotient : (n d : ℕ) → Result ℕ NumberFault
@@ -51,7 +51,8 @@ whole_quotient n d = if n % d == 0 then Ok (n / d) else Err Inexact
 -- the number that digits with a point before the last so many write, times ten to the scale
 abbrev pub scaled : (digits : List ℕ) (places : ℕ) (scale : ℤ) → Result ℕ NumberFault
 scaled digits places scale =
-    whole_quotient (digits_value 10 digits * 10 ^ power_up scale) (10 ^ (places + power_down scale))
+    whole_quotient (digits_value 10 digits * 10 ^ positive_scale scale)
+    (10 ^ (places + negative_scale scale))
 
 -- a number with its sign, within an i128
 abbrev pub signed : (negative : Bool) → ℕ → Result ℤ NumberFault
@@ -78,7 +79,7 @@ pub record IsParts (text whole fraction : List ℕ) : Type 0 where
   pub behind : fraction ≡ fraction_part text
 
 -- an unsigned decimal text, by the number that its digits write and how many stand behind the point
-pub record IsShort (text : List ℕ) (number places : ℕ) : Type 0 where
+pub record IsShortDecimal (text : List ℕ) (number places : ℕ) : Type 0 where
   pub form : is_unsigned text ≡ true
   pub value : number ≡ digits_value 10 (whole_part text ++ fraction_part text)
   pub behind : places ≡ length (fraction_part text)

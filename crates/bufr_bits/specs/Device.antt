@@ -12,5 +12,5 @@ fresh_device inner =
       reads = 0;
       empty_writes = 0;
       flushes = 0;
-      handed_on = true;
+      all_flushed = true;
     }

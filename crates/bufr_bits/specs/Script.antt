@@ -34,9 +34,9 @@ read_answer step room held (Some zero) = Err (record {})
 read_answer step room held (Some (suc before)) = Ok (min (min (min step room) held) (suc before))
 
 -- how many octets an answer tells of
-abbrev pub moved : Result ℕ Failed → ℕ
-moved (Ok n) = n
-moved (Err e) = 0
+abbrev pub octets_moved : Result ℕ Failed → ℕ
+octets_moved (Ok n) = n
+octets_moved (Err e) = 0
 
 -- the place of failure after that many octets more
 abbrev pub failure_after : Option ℕ → ℕ → Option ℕ
@@ -59,8 +59,8 @@ abbrev pub out_flushes_of : ScriptOut → ℕ
 out_flushes_of s = s.flushes
 
 -- all octets that it took were handed on
-abbrev pub has_handed_on : ScriptOut → Bool
-has_handed_on s = s.handed_on
+abbrev pub out_all_flushed : ScriptOut → Bool
+out_all_flushed s = s.all_flushed
 
 -- how many octets a writer still takes
 abbrev pub left_of : ScriptOut → ℕ

@@ -1,7 +1,7 @@
 //! Octets read as bits, most significant first.
 ghost use Rattle.std.specs.Prelude.{◌≡◌, ◌≤◌, ◌<◌, ◌+◌, ◌-◌, ◌/◌, ◌%◌, ◌^◌, ◌==◌, ℕ, MatchOption, length, slice_index, slice_range};
 ghost use Rattle.std.specs.List.{list_all};
-ghost use Rattle.bufr_bits.specs.Bits.{bits_of, all_set};
+ghost use Rattle.bufr_bits.specs.Bits.{bits_of, are_all_ones};
 ghost use Rattle.bufr_bits.specs.Window.{IsWindow};
 
 /// Octets that are read as bits, at most 2^60 octets. Bits are counted from 0, most significant
@@ -21,7 +21,7 @@ pub struct BitSlice<'a> {
 
 impl<'a> BitSlice<'a> {
     ghost use Rattle.std.specs.Prelude.{◌≡◌, ◌≤◌, ◌+◌, ◌*◌, ◌/◌, ◌%◌, ◌^◌, ◌<◌, ℕ, length, option_map, slice_index, slice_range, SomeIff, IfSome, MatchOption};
-    ghost use Rattle.bufr_bits.specs.Bits.{number_of, bits_at, all_set};
+    ghost use Rattle.bufr_bits.specs.Bits.{number_of, bits_at, are_all_ones};
     ghost use Rattle.bufr_bits.specs.BitSlice.{octets_of};
     ghost use Rattle.bufr_bits.specs.Window.{IsWindow};
 
@@ -55,13 +55,26 @@ impl<'a> BitSlice<'a> {
         if width == 0 {
             return Some(0);
         }
+        Some(self.number(at, width))
+    }
+
+    /// The number that bits write from bit `at` on which are there, at least one and at most 63.
+    #[inline(always)]
+    pub fn number(&self, at: u64, width: u32) -> u64
+        requires some { 1 ≤ width }
+        requires few { width ≤ 63 }
+        requires within { at + width ≤ 8 * length (octets_of self.now) }
+        ensures value { result ≡ number_of (bits_at (octets_of self.now) at width) }
+        ensures below { result < 2 ^ width }
+    {
         match self.window_at((at / 8) as usize) {
-            Some(window) => Some(self.by_window(window, at, width)),
-            None => Some(self.by_octets(at, width)),
+            Some(window) => self.by_window(window, at, width),
+            None => self.by_octets(at, width),
         }
     }
 
     /// The number that eight octets write, or `None` where fewer are left.
+    #[inline(always)]
     fn window_at(&self, first: usize) -> Option<u64>
         requires { first ≤ length (octets_of self.now) }
         ensures { MatchOption result (length (octets_of self.now) < first + 8)
@@ -72,6 +85,7 @@ impl<'a> BitSlice<'a> {
 
     /// The number of some bits by the eight octets that begin with bit `at`, and the ninth where
     /// the bits reach into it.
+    #[inline(always)]
     fn by_window(&self, window: u64, at: u64, width: u32) -> u64
         requires some { 0 < width }
         requires few { width ≤ 63 }
@@ -83,12 +97,26 @@ impl<'a> BitSlice<'a> {
         if from + width <= 64 {
             return (window >> (64 - from - width)) % (1 << width);
         }
+        self.by_nine(window, at, width)
+    }
+
+    /// The same of bits that reach into the ninth octet.
+    #[inline(never)]
+    fn by_nine(&self, window: u64, at: u64, width: u32) -> u64
+        requires few { width ≤ 63 }
+        requires within { at + width ≤ 8 * length (octets_of self.now) }
+        requires window { IsWindow window (at / 8) (octets_of self.now) }
+        requires beyond { 64 < at % 8 + width }
+        ensures { result ≡ number_of (bits_at (octets_of self.now) at width) }
+    {
+        let from = (at % 8) as u32;
         let over = from + width - 64;
         let ninth = self.octets[(at / 8) as usize + 8];
         ((window % (1 << (64 - from))) << over) + part_of(ninth, 0, over)
     }
 
     /// The number of some bits, octet by octet.
+    #[inline(never)]
     fn by_octets(&self, at: u64, width: u32) -> u64
         requires few { width ≤ 63 }
         requires within { at + width ≤ 8 * length (octets_of self.now) }
@@ -138,7 +166,7 @@ impl<'a> BitSlice<'a> {
     /// they go past the end. Where there are no bits they are.
     pub fn all_ones(&self, at: u64, width: u32) -> Option<bool>
         ensures { SomeIff result (at + width ≤ 8 * length (octets_of self.now))
-            (all_set (bits_at (octets_of self.now) at width)) }
+            (are_all_ones (bits_at (octets_of self.now) at width)) }
     {
         let len = self.len_bits();
         if at > len || u64::from(width) > len - at {
@@ -151,7 +179,7 @@ impl<'a> BitSlice<'a> {
     /// to the next octet, the whole octets, and those behind them.
     fn are_ones(&self, at: u64, width: u32) -> bool
         requires { at + width ≤ 8 * length (octets_of self.now) }
-        ensures { result ≡ all_set (bits_at (octets_of self.now) at width) }
+        ensures { result ≡ are_all_ones (bits_at (octets_of self.now) at width) }
     {
         if width < 64 {
             return self.few_are_ones(at, width);
@@ -172,7 +200,7 @@ impl<'a> BitSlice<'a> {
     fn few_are_ones(&self, at: u64, width: u32) -> bool
         requires few { width < 64 }
         requires within { at + width ≤ 8 * length (octets_of self.now) }
-        ensures { result ≡ all_set (bits_at (octets_of self.now) at width) }
+        ensures { result ≡ are_all_ones (bits_at (octets_of self.now) at width) }
     {
         self.get(at, width) == Some((1 << width) - 1)
     }
@@ -180,7 +208,7 @@ impl<'a> BitSlice<'a> {
     /// The same of whole octets.
     fn octets_are_ones(&self, first: usize, count: usize) -> bool
         requires { first + count ≤ length (octets_of self.now) }
-        ensures { result ≡ all_set (bits_at (octets_of self.now) (8 * first) (8 * count)) }
+        ensures { result ≡ are_all_ones (bits_at (octets_of self.now) (8 * first) (8 * count)) }
     {
         are_full(&self.octets[first..first + count])
     }
@@ -196,6 +224,7 @@ fn part(octets: &[u8], first: usize, count: usize) -> &[u8]
 }
 
 /// The number that the first eight octets write, or `None` where there are fewer.
+#[inline(always)]
 fn first_window(octets: &[u8]) -> Option<u64>
     ensures { MatchOption result (length octets.now < 8) (λ window. IsWindow window 0 octets.now) }
 {
@@ -207,7 +236,7 @@ fn first_window(octets: &[u8]) -> Option<u64>
 
 /// Whether all bits of octets are ones, eight octets at a time.
 fn are_full(octets: &[u8]) -> bool
-    ensures { result ≡ all_set (bits_of octets.now) }
+    ensures { result ≡ are_all_ones (bits_of octets.now) }
 {
     let mut rest = octets;
     while let Some(window) = first_window(rest) {

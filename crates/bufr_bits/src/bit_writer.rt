@@ -72,7 +72,7 @@ impl BitWriter {
         let kept = total % 8;
         let whole = (total / 8) as usize;
         self.octets.reserve(whole + 1)?;
-        let (head, tail) = joined(self.last, self.count, value, width);
+        let (head, tail) = join_bits(self.last, self.count, value, width);
         put(&mut self.octets, &head.to_be_bytes()[8 - whole..]);
         self.last = tail;
         self.count = kept;
@@ -94,7 +94,7 @@ impl BitWriter {
         if self.count == 0 {
             put(&mut self.octets, octets);
         } else {
-            self.last = put_behind(&mut self.octets, self.last, self.count, octets);
+            self.last = append_shifted(&mut self.octets, self.last, self.count, octets);
         }
         Ok(())
     }
@@ -109,7 +109,7 @@ impl BitWriter {
         }
         let whole = (bits / 8) as usize;
         let kept = (bits % 8) as u32;
-        self.last = tail_of(self.octets.as_slice(), self.last, self.count, whole, kept);
+        self.last = last_bits(self.octets.as_slice(), self.last, self.count, whole, kept);
         self.octets.truncate(whole);
         self.count = kept;
     }
@@ -133,7 +133,7 @@ impl BitWriter {
 
 /// The bits that stand last and those of a value behind them, as whole octets in the low octets
 /// of a number and as the bits behind these.
-fn joined(last: u8, count: u32, value: u64, width: u32) -> (u64, u8)
+fn join_bits(last: u8, count: u32, value: u64, width: u32) -> (u64, u8)
     requires few { count < 8 }
     requires low { last < 2 ^ count }
     requires width { width ≤ 63 }
@@ -151,7 +151,7 @@ fn joined(last: u8, count: u32, value: u64, width: u32) -> (u64, u8)
 }
 
 /// The `kept` bits behind the first `whole` octets, where more bits than these stand there.
-fn tail_of(octets: &[u8], last: u8, count: u32, whole: usize, kept: u32) -> u8
+fn last_bits(octets: &[u8], last: u8, count: u32, whole: usize, kept: u32) -> u8
     requires few { count < 8 }
     requires low { last < 2 ^ count }
     requires kept { kept < 8 }
@@ -168,7 +168,7 @@ fn tail_of(octets: &[u8], last: u8, count: u32, whole: usize, kept: u32) -> u8
 }
 
 /// Appends octets behind `count` bits, and answers the bits that then stand last.
-fn put_behind(out: &mut Vec<u8>, last: u8, count: u32, octets: &[u8]) -> u8
+fn append_shifted(out: &mut Vec<u8>, last: u8, count: u32, octets: &[u8]) -> u8
     requires few { count < 8 }
     requires low { last < 2 ^ count }
     requires room { vec_len out.old + length octets.now ≤ vec_capacity out.old }

@@ -4,7 +4,7 @@ ghost use Rattle.std.specs.List.{list_all, position};
 ghost use Rattle.std.specs.Str.Parse.{digits_value, digits_value_after, starts_with_minus};
 ghost use Rattle.bufr_bits.specs.Capped.{capped, capped_ok};
 ghost use Rattle.bufr_bits.specs.DecimalText.{decimal_text_of, pointed, sign_of};
-ghost use Rattle.bufr_bits.specs.DecimalValue.{decimal_value_of, unsigned_part, is_unsigned, all_digits, is_digits, IsParts, power_up, power_down, whole_quotient, signed};
+ghost use Rattle.bufr_bits.specs.DecimalValue.{decimal_value_of, unsigned_part, is_unsigned, all_digits, is_digits, IsParts, positive_scale, negative_scale, whole_quotient, signed};
 
 use crate::append::{put, put_zero_digits};
 use crate::short_decimal::{short_number, short_scaled, short_signed};
@@ -49,11 +49,11 @@ pub fn decimal_text(v: i128, scale: i16, out: &mut Vec<u8>) -> Result<(), AllocE
     let mut buffer = Buffer::new();
     let digits = buffer.format(size).as_bytes();
     let (places, power) = powers_of(scale);
-    let zeros = zeros_behind(size, power);
+    let zeros = trailing_zeros(size, power);
     out.reserve(digits.len() + places + zeros + 3)?;
-    put_sign(out, v);
+    push_sign(out, v);
     if places > 0 {
-        put_pointed(out, digits, places);
+        push_with_point(out, digits, places);
     } else {
         put(out, digits);
         put_zero_digits(out, zeros);
@@ -62,7 +62,7 @@ pub fn decimal_text(v: i128, scale: i16, out: &mut Vec<u8>) -> Result<(), AllocE
 }
 
 /// How many zeros stand behind the digits of a number that ten multiplies so often: none behind 0.
-fn zeros_behind(size: u128, power: usize) -> usize
+fn trailing_zeros(size: u128, power: usize) -> usize
     ensures value { result ≡ (if size == 0 then 0 else power) }
     ensures few { result ≤ power }
 {
@@ -71,8 +71,8 @@ fn zeros_behind(size: u128, power: usize) -> usize
 
 /// How often ten multiplies and how often it divides a number at a scale.
 fn powers_of(scale: i16) -> (usize, usize)
-    ensures up { result.0 ≡ power_up scale }
-    ensures down { result.1 ≡ power_down scale }
+    ensures up { result.0 ≡ positive_scale scale }
+    ensures down { result.1 ≡ negative_scale scale }
     ensures few { result.0 + result.1 ≤ 2 ^ 15 }
 {
     let size = scale.unsigned_abs() as usize;
@@ -80,7 +80,7 @@ fn powers_of(scale: i16) -> (usize, usize)
 }
 
 /// Appends the sign of a number, for which there is room.
-fn put_sign(out: &mut Vec<u8>, v: i128)
+fn push_sign(out: &mut Vec<u8>, v: i128)
     requires { vec_len out.old + 1 ≤ vec_capacity out.old }
     ensures items { out.new.items ≡ out.old.items ++ sign_of v }
     ensures len { vec_len out.new ≤ vec_len out.old + 1 }
@@ -92,7 +92,7 @@ fn put_sign(out: &mut Vec<u8>, v: i128)
 }
 
 /// Appends digits with a point before the last `places` of them.
-fn put_pointed(out: &mut Vec<u8>, digits: &[u8], places: usize)
+fn push_with_point(out: &mut Vec<u8>, digits: &[u8], places: usize)
     requires { vec_len out.old + length digits.now + places + 2 ≤ vec_capacity out.old }
     ensures { out.new.items ≡ out.old.items ++ pointed places digits.now }
 {
@@ -146,7 +146,7 @@ fn long_read(text: &[u8], scale: i16) -> Result<i128, NumberFault>
     };
     let (up, down) = powers_of(scale);
     let number = scaled(whole, fraction, up, down)?;
-    with_sign(negative, number)
+    apply_sign(negative, number)
 }
 
 /// Whether a text begins with a minus sign, and what stands behind that.
@@ -212,7 +212,7 @@ fn scaled(whole: &[u8], fraction: &[u8], up: usize, down: usize) -> Result<u128,
     if !are_zeros(left) {
         return Err(NumberFault::Inexact);
     }
-    let number = read_on(read_on(0, kept), moved);
+    let number = extend_with_digits(extend_with_digits(0, kept), moved);
     Ok(times_ten(number, up - moved.len()))
 }
 
@@ -224,7 +224,7 @@ fn are_zeros(digits: &[u8]) -> bool
 }
 
 /// The number that digits write behind a number, up to the greatest `u128`.
-fn read_on(number: u128, digits: &[u8]) -> u128
+fn extend_with_digits(number: u128, digits: &[u8]) -> u128
     requires { all_digits digits.now ≡ true }
     ensures { (n : ℕ) → number ≡ capped n → result ≡ capped (digits_value_after 10 n digits.now) }
 {
@@ -249,7 +249,7 @@ fn times_ten(number: u128, times: usize) -> u128
 }
 
 /// A number with its sign, if it is within `i128`.
-fn with_sign(negative: bool, number: u128) -> Result<i128, NumberFault>
+fn apply_sign(negative: bool, number: u128) -> Result<i128, NumberFault>
     ensures { (n : ℕ) → number ≡ capped n → result ≡ signed negative n }
 {
     let signed = if negative {

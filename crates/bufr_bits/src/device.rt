@@ -1,7 +1,7 @@
 //! Readers and writers that count their failures, and the readers and writers of `std` as such.
 ghost use Rattle.std.specs.Prelude.{◌≡◌, ◌≤◌, ℕ, Bool, List, Option, length, IfOk};
 ghost use Rattle.std.specs.Io.KnownBytes.{ReadConsumes, WriteAppends, Keeps};
-ghost use Rattle.bufr_bits.specs.Counts.{counted, failures_after, empty_writes_after, handed_on_after_write, handed_on_after_flush};
+ghost use Rattle.bufr_bits.specs.Counts.{counted, failures_after, empty_writes_after, all_flushed_after_write, all_flushed_after_flush};
 
 use std::io::{Read, Write};
 use thiserror::Error;
@@ -59,7 +59,7 @@ pub trait Sink {
     ghost flushes: { Self → ℕ };
 
     /// Whether all octets that were taken were handed on.
-    ghost handed_on: { Self → Bool };
+    ghost all_flushed: { Self → Bool };
 
     /// Takes octets from the front of `buf` and answers how many.
     ///
@@ -73,7 +73,8 @@ pub trait Sink {
         ensures empty { empty_writes self.new
             ≡ empty_writes_after (empty_writes self.old) buf.now result }
         ensures flushed { flushes self.new ≡ flushes self.old }
-        ensures handed { handed_on self.new ≡ handed_on_after_write (handed_on self.old) result };
+        ensures handed { all_flushed self.new ≡ all_flushed_after_write (all_flushed self.old)
+            result };
 
     /// Hands on what was taken.
     ///
@@ -85,7 +86,8 @@ pub trait Sink {
         ensures failed { failures self.new ≡ failures_after (failures self.old) result }
         ensures empty { empty_writes self.new ≡ empty_writes self.old }
         ensures flushed { flushes self.new ≡ counted (flushes self.old) 1 }
-        ensures handed { handed_on self.new ≡ handed_on_after_flush (handed_on self.old) result };
+        ensures handed { all_flushed self.new ≡ all_flushed_after_flush (all_flushed self.old)
+            result };
 }
 
 /// A reader or writer of `std` as a [`Source`] or a [`Sink`].
@@ -103,7 +105,7 @@ pub struct Device<T> {
     reads: u64,
     empty_writes: u64,
     flushes: u64,
-    handed_on: bool,
+    all_flushed: bool,
 }
 
 impl<T> Device<T> {
@@ -120,7 +122,7 @@ impl<T> Device<T> {
             reads: 0,
             empty_writes: 0,
             flushes: 0,
-            handed_on: true,
+            all_flushed: true,
         }
     }
 }
@@ -153,7 +155,7 @@ impl<T: Write> Sink for Device<T> {
 
     ghost flushes = { λ d. d.flushes };
 
-    ghost handed_on = { λ d. d.handed_on };
+    ghost all_flushed = { λ d. d.all_flushed };
 
     fn write(&mut self, buf: &[u8]) -> Result<usize, Failed> {
         match self.inner.write(buf) {
@@ -164,7 +166,7 @@ impl<T: Write> Sink for Device<T> {
                 Ok(0)
             }
             Ok(n) => {
-                self.handed_on = false;
+                self.all_flushed = false;
                 Ok(n)
             }
             Err(_) => {
@@ -178,7 +180,7 @@ impl<T: Write> Sink for Device<T> {
         self.flushes = self.flushes.saturating_add(1);
         match self.inner.flush() {
             Ok(()) => {
-                self.handed_on = true;
+                self.all_flushed = true;
                 Ok(())
             }
             Err(_) => {

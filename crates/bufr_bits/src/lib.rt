@@ -4,7 +4,7 @@
 //!
 //! All crates above stand on it: `bufr_frame` reads a source, `bufr_walk` the bits of a message by
 //! a [`BitSlice`], `bufr_fill` writes them by a [`BitWriter`], `bufr_fill` and `bufr_text` read and
-//! write the text of numbers, and `bufr_command` makes devices of files. The tests
+//! write the text of numbers, and `bufr_cli` makes devices of files. The tests
 //! `get_is_bit_by_bit`, `bits_are_pushed`, `decimal_texts` and `device_reads_and_writes` show each.
 #![tactic(auto)]
 

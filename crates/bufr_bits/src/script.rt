@@ -44,7 +44,7 @@ impl<'a> Source for ScriptIn<'a> {
     ghost use Rattle.std.specs.Prelude.{◌≡◌, ◌≤◌, Some, length, IfOk};
     ghost use Rattle.std.specs.Io.KnownBytes.{ReadConsumes};
     ghost use Rattle.bufr_bits.specs.Counts.{counted, failures_after};
-    ghost use Rattle.bufr_bits.specs.Script.{unread_of, step_of, fails_after, failures_of, reads_of, read_answer, moved, failure_after};
+    ghost use Rattle.bufr_bits.specs.Script.{unread_of, step_of, fails_after, failures_of, reads_of, read_answer, octets_moved, failure_after};
 
     ghost left = { λ s. Some s.rest.now };
 
@@ -62,7 +62,7 @@ impl<'a> Source for ScriptIn<'a> {
         ensures answer { result ≡ read_answer (step_of self.old) (length buf.old)
             (length (unread_of self.old)) (fails_after self.old) }
         ensures failing { fails_after self.new
-            ≡ failure_after (fails_after self.old) (moved result) }
+            ≡ failure_after (fails_after self.old) (octets_moved result) }
         ensures step { step_of self.new ≡ step_of self.old }
     {
         self.reads = self.reads.saturating_add(1);
@@ -103,7 +103,7 @@ pub struct ScriptOut {
     failures: u64,
     empty_writes: u64,
     flushes: u64,
-    handed_on: bool,
+    all_flushed: bool,
     ghost has_step: { 0 < step },
     ghost within_room: { vec_len taken ≤ room },
     ghost reserved: { room ≤ vec_capacity taken },
@@ -111,7 +111,7 @@ pub struct ScriptOut {
 
 impl ScriptOut {
     ghost use Rattle.std.specs.Prelude.{◌≡◌, ◌<◌, [], IfOk, true};
-    ghost use Rattle.bufr_bits.specs.Script.{taken_of, left_of, out_step_of, end_of, out_failures_of, out_empty_writes_of, out_flushes_of, has_handed_on};
+    ghost use Rattle.bufr_bits.specs.Script.{taken_of, left_of, out_step_of, end_of, out_failures_of, out_empty_writes_of, out_flushes_of, out_all_flushed};
 
     /// A writer that takes `room` octets in all and at most `step`, which is at least 1, per write.
     /// It reserves the room here, so that no write can want memory. While room is left a write of
@@ -129,7 +129,7 @@ impl ScriptOut {
         ensures failures { IfOk result (λ s. out_failures_of s ≡ 0) }
         ensures empty_writes { IfOk result (λ s. out_empty_writes_of s ≡ 0) }
         ensures flushes { IfOk result (λ s. out_flushes_of s ≡ 0) }
-        ensures handed_on { IfOk result (λ s. has_handed_on s ≡ true) }
+        ensures all_flushed { IfOk result (λ s. out_all_flushed s ≡ true) }
     {
         let taken = Vec::with_capacity(alloc, room)?;
         Ok(ScriptOut {
@@ -140,7 +140,7 @@ impl ScriptOut {
             failures: 0,
             empty_writes: 0,
             flushes: 0,
-            handed_on: true,
+            all_flushed: true,
         })
     }
 
@@ -155,8 +155,8 @@ impl ScriptOut {
 impl Sink for ScriptOut {
     ghost use Rattle.std.specs.Prelude.{◌≡◌, ◌≤◌, ◌-◌, Some, length, IfOk};
     ghost use Rattle.std.specs.Io.KnownBytes.{WriteAppends, Keeps};
-    ghost use Rattle.bufr_bits.specs.Counts.{counted, failures_after, empty_writes_after, handed_on_after_write, handed_on_after_flush};
-    ghost use Rattle.bufr_bits.specs.Script.{taken_of, left_of, out_step_of, end_of, out_failures_of, out_empty_writes_of, out_flushes_of, has_handed_on, write_answer, flush_answer, moved};
+    ghost use Rattle.bufr_bits.specs.Counts.{counted, failures_after, empty_writes_after, all_flushed_after_write, all_flushed_after_flush};
+    ghost use Rattle.bufr_bits.specs.Script.{taken_of, left_of, out_step_of, end_of, out_failures_of, out_empty_writes_of, out_flushes_of, out_all_flushed, write_answer, flush_answer, octets_moved};
 
     ghost taken = { λ s. Some s.taken.items };
 
@@ -166,7 +166,7 @@ impl Sink for ScriptOut {
 
     ghost flushes = { λ s. s.flushes };
 
-    ghost handed_on = { λ s. s.handed_on };
+    ghost all_flushed = { λ s. s.all_flushed };
 
     fn write(&mut self, buf: &[u8]) -> Result<usize, Failed>
         ensures bound { IfOk result (λ n. n ≤ length buf.now) }
@@ -177,12 +177,12 @@ impl Sink for ScriptOut {
         ensures empty { out_empty_writes_of self.new
             ≡ empty_writes_after (out_empty_writes_of self.old) buf.now result }
         ensures flushed { out_flushes_of self.new ≡ out_flushes_of self.old }
-        ensures handed { has_handed_on self.new
-            ≡ handed_on_after_write (has_handed_on self.old) result }
+        ensures handed { out_all_flushed self.new
+            ≡ all_flushed_after_write (out_all_flushed self.old) result }
         // The script is kept to: the answer, the room left, the step and the end.
         ensures answer { result ≡ write_answer (end_of self.old) (out_step_of self.old)
             (left_of self.old) (length buf.now) }
-        ensures left { left_of self.new ≡ left_of self.old - moved result }
+        ensures left { left_of self.new ≡ left_of self.old - octets_moved result }
         ensures step { out_step_of self.new ≡ out_step_of self.old }
         ensures end { end_of self.new ≡ end_of self.old }
     {
@@ -195,7 +195,7 @@ impl Sink for ScriptOut {
         if n == 0 && !buf.is_empty() {
             self.empty_writes = self.empty_writes.saturating_add(1);
         }
-        self.handed_on = self.handed_on && n == 0;
+        self.all_flushed = self.all_flushed && n == 0;
         match self.taken.extend_from_slice(&buf[..n]) {
             Ok(()) => Ok(n),
             Err(_) => unreachable!(),
@@ -208,8 +208,8 @@ impl Sink for ScriptOut {
             ≡ failures_after (out_failures_of self.old) result }
         ensures empty { out_empty_writes_of self.new ≡ out_empty_writes_of self.old }
         ensures flushed { out_flushes_of self.new ≡ counted (out_flushes_of self.old) 1 }
-        ensures handed { has_handed_on self.new
-            ≡ handed_on_after_flush (has_handed_on self.old) result }
+        ensures handed { out_all_flushed self.new
+            ≡ all_flushed_after_flush (out_all_flushed self.old) result }
         ensures answer { result ≡ flush_answer (end_of self.old) }
         ensures left { left_of self.new ≡ left_of self.old }
         ensures step { out_step_of self.new ≡ out_step_of self.old }
@@ -220,7 +220,7 @@ impl Sink for ScriptOut {
             self.failures = self.failures.saturating_add(1);
             return Err(Failed);
         }
-        self.handed_on = true;
+        self.all_flushed = true;
         Ok(())
     }
 }

@@ -1,22 +1,22 @@
 //! Short decimal texts, read in one pass in 64 bits.
 ghost use Rattle.std.specs.Prelude.{◌≡◌, ◌≤◌, ◌<◌, ◌+◌, ◌*◌, ◌^◌, true, length, take, IfSome, OnSome, Ok};
 ghost use Rattle.std.specs.Str.Parse.{digits_value_after};
-ghost use Rattle.bufr_bits.specs.DecimalValue.{all_digits, IsShort, whole_quotient, signed};
+ghost use Rattle.bufr_bits.specs.DecimalValue.{all_digits, IsShortDecimal, whole_quotient, signed};
 
 use crate::decimal::NumberFault;
 
 /// The most digits whose number always fits a `u64`.
-const MOST_DIGITS: usize = 19;
+const MAX_DIGITS: usize = 19;
 
 /// The number that an unsigned text writes without its point, and how many digits stand behind the
 /// point. `None` where the text is not of that form, or so long that its number times ten to
 /// `power` may not fit.
 pub(crate) fn short_number(body: &[u8], power: usize) -> Option<(u64, usize)>
     requires { power ≤ 2 ^ 15 }
-    ensures number { IfSome result (λ found. IsShort body.now found.0 found.1) }
+    ensures number { IfSome result (λ found. IsShortDecimal body.now found.0 found.1) }
     ensures short { OnSome result (length body.now + power ≤ 19) }
 {
-    if body.len() + power > MOST_DIGITS {
+    if body.len() + power > MAX_DIGITS {
         return None;
     }
     let (whole, count) = read_digits(0, body);

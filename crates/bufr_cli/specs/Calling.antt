@@ -1,30 +1,37 @@
--- What the process does with its words. (a choice of this project)
+-- What a call of the program comes to. (a choice of this project)
 -- Cited by public contracts.
-use Rattle.std.specs.Prelude.{◌≡◌, ◌⊎◌, ℕ, Bool, List, Option, None, codes}
-use Rattle.std.specs.Borrow.{Bor}
-use Rattle.clap.specs.Words.{fault_of, subcommand_of}
+use Rattle.std.specs.Prelude.{◌≡◌, ℕ, Bool, true, List, Option}
+use Rattle.std.specs.Io.KnownBytes.{Appends, Keeps}
+use Rattle.clap.specs.Words.{Kinds, Row, Text}
+use Rattle.bufr_frame.specs.declared.fault.RunFault.{RunFault}
 use Rattle.bufr_frame.specs.declared.fault.RunFault.TheVariants.{Memory}
-use Rattle.bufr_text.specs.Writing.{GrowsByFront}
-use Rattle.bufr_command.specs.Calling.{CallSo}
-use Rattle.bufr_command.specs.Finish.{last_line, status_of}
-use Rattle.bufr_command.specs.Line.{bufr_app}
-use Rattle.bufr_command.specs.declared.finish.Outcome.{Outcome}
-use Rattle.bufr_command.specs.declared.finish.Outcome.TheVariants.{Usage, Run}
+use Rattle.bufr_text.specs.Writing.{GrowsByPrefix}
+use Rattle.bufr_cli.specs.Finish.{last_line, run_line, status_of}
+use Rattle.bufr_cli.specs.Line.{AsksHelp, IsJobOf, IsMistaken}
+use Rattle.bufr_cli.specs.Program.{RunsJob}
+use Rattle.bufr_cli.specs.declared.outcome.Outcome.{Outcome}
+use Rattle.bufr_cli.specs.declared.job.Job.{Job}
 
--- the words cannot be had: memory ran out, or one of them is no text
-abbrev pub IsWordless : Outcome → Type 0
-IsWordless outcome =
-    (outcome ≡ Run Memory) ⊎ ((text : Bor (List ℕ)) × (outcome ≡ Usage text)
-    × (text.now ≡ codes "error: an argument is not UTF-8\n"))
-
--- What the process does with its words, whichever they are: what a call of the program with them
--- comes to, of whose inputs nothing is known; or they cannot be had, and that is told by a last
--- line (or a front of it) and the status, with no output.
-pub data WordsSo (output output' errors errors' : Option (List ℕ)) (handed : Bool)
-    (status : ℕ) : Type 0 where
-  Calls : (words : List (List ℕ)) → CallSo (fault_of bufr_app words) (subcommand_of bufr_app words)
-      None (λ _. None) output output' errors errors' handed status
-      → WordsSo output output' errors errors' handed status
-  NoWords : (outcome : Outcome) → IsWordless outcome → output' ≡ output
-      → GrowsByFront errors errors' (last_line outcome) → status ≡ status_of outcome
-      → WordsSo output output' errors errors' handed status
+-- Of words whose parse may fail by these kinds and meets this subcommand: its job was done, and its
+-- outcome told by a last line (or a front of it) and the status; or help was asked for, written and
+-- handed on, or a front of it was written; or the words are mistaken; or memory ran out before
+-- there was a job.
+pub data RunsProgram (kinds : Kinds) (subcommand : Option (Text × List Row))
+    (standard : Option (List ℕ))
+    (named : List ℕ → Option (List ℕ))
+    (output output' errors errors' : Option (List ℕ)) (handed : Bool) (status : ℕ) : Type 0 where
+  Does : (job : Job) → IsJobOf subcommand job → (outcome : Outcome) → (between : Option (List ℕ))
+      → RunsJob standard named job output output' errors between outcome
+      → GrowsByPrefix between errors' (last_line outcome) → status ≡ status_of outcome
+      → RunsProgram kinds subcommand standard named output output' errors errors' handed status
+  Helps : AsksHelp kinds → (text : List ℕ) → Appends output output' text → handed ≡ true
+      → Keeps errors errors' → status ≡ 0
+      → RunsProgram kinds subcommand standard named output output' errors errors' handed status
+  HelpsInPart : AsksHelp kinds → (text : List ℕ) → GrowsByPrefix output output' text
+      → (fault : RunFault) → GrowsByPrefix errors errors' (run_line fault) → status ≡ 2
+      → RunsProgram kinds subcommand standard named output output' errors errors' handed status
+  Refuses : IsMistaken kinds subcommand → Keeps output output' → (text : List ℕ)
+      → GrowsByPrefix errors errors' text → status ≡ 2
+      → RunsProgram kinds subcommand standard named output output' errors errors' handed status
+  WantsMemory : Keeps output output' → GrowsByPrefix errors errors' (run_line Memory) → status ≡ 2
+      → RunsProgram kinds subcommand standard named output output' errors errors' handed status

@@ -3,20 +3,20 @@ use Rattle.std.proofs.Common.{◌≡◌, ℕ, ◌+◌, ◌*◌, ◌<◌, ◌≤�
 use Rattle.std.specs.Prelude.{nat_lt, if◌then◌else◌}
 use Rattle.std.proofs.lemmas.Bool.Decides.{nat_tests}
 use Rattle.bufr_walk.specs.declared.spec.Taken.{Taken}
-use Rattle.bufr_fill.specs.declared.draw.Drawn.{Drawn}
-use Rattle.bufr_walk.specs.Asked.{Asked}
-use Rattle.bufr_walk.specs.Content.{Content, told, bits_for}
+use Rattle.bufr_fill.specs.declared.field_value.FieldContent.{FieldContent}
+use Rattle.bufr_walk.specs.FieldSpec.{FieldSpec}
+use Rattle.bufr_walk.specs.Content.{Content, answer_of, bits_for}
 use Rattle.bufr_walk.specs.PackedField.{told_first}
 use Rattle.bufr_walk.specs.PlainField.{increment, unequal_factor}
-use Rattle.bufr_walk.specs.Reading.{most_values}
+use Rattle.bufr_walk.specs.Reading.{max_values}
 use Rattle.bufr_fill.specs.Entries.{Subset}
 use Rattle.bufr_fill.specs.Fault.{FaultAt, at_line, unequal_factors, uneven_increment, too_many_values}
-use Rattle.bufr_fill.specs.Filling.{written}
-use Rattle.bufr_fill.specs.Drawn.{content_drawn}
-use Rattle.bufr_fill.specs.Encoding.{across, cells_at, contents_here, first_line, unlike_line, packed_to, pack_across, ◌>>=◌}
-use Rattle.bufr_fill.specs.Gathered.{contents_drawn}
+use Rattle.bufr_fill.specs.Filling.{written_item}
+use Rattle.bufr_fill.specs.FieldContent.{content_drawn}
+use Rattle.bufr_fill.specs.Encoding.{item_row, cells_at, contents_here, first_line, unlike_line, packed_to, pack_across, ◌>>=◌}
+use Rattle.bufr_fill.specs.PackedRows.{contents_drawn}
 use Rattle.bufr_fill.specs.Packing.{packing, packed_bits, packed_unlike, are_same}
-use Rattle.bufr_fill.specs.PlainOut.{WhereTold}
+use Rattle.bufr_fill.specs.PlainOut.{IfDraftFault}
 use Rattle.bufr_fill.specs.Packs.{PutFault}
 use Rattle.bufr_fill.proofs.LeastLemmas.{content_self}
 use Rattle.bufr_fill.proofs.GrowthSteps.{grows_not}
@@ -27,49 +27,49 @@ few_test a b h = grind (arith, nat_tests)
 many_test : (a b : ℕ) → a < b → nat_lt a b ≡ true
 many_test a b h = grind (arith, nat_tests)
 
-module _ (spec : Asked) (place : ℕ) (subsets : List Subset) where
+module _ (spec : FieldSpec) (place : ℕ) (subsets : List Subset) where
   -- with too many values
-  pub many_fault : most_values < (place + 1) * length (cells_at place subsets) → pack_across spec (across place subsets) ≡ Err (at_line (first_line (cells_at place subsets)) (too_many_values spec.fxy))
+  pub many_fault : max_values < (place + 1) * length (cells_at place subsets) → pack_across spec (item_row place subsets) ≡ Err (at_line (first_line (cells_at place subsets)) (too_many_values spec.fxy))
   many_fault h =
       ap (λ b. if b then Err (at_line (first_line (cells_at place subsets)) (too_many_values spec.fxy)) else (contents_here spec (cells_at place subsets) >>= λ cs. packed_to cs (cells_at place subsets) (packing spec cs)))
-      (many_test most_values ((place + 1) * length (cells_at place subsets)) h)
+      (many_test max_values ((place + 1) * length (cells_at place subsets)) h)
 
-  module _ (few : (place + 1) * length (cells_at place subsets) ≤ most_values) where
-    across_is : pack_across spec (across place subsets) ≡ (contents_here spec (cells_at place subsets) >>= λ cs. packed_to cs (cells_at place subsets) (packing spec cs))
+  module _ (few : (place + 1) * length (cells_at place subsets) ≤ max_values) where
+    across_is : pack_across spec (item_row place subsets) ≡ (contents_here spec (cells_at place subsets) >>= λ cs. packed_to cs (cells_at place subsets) (packing spec cs))
     across_is =
         ap (λ b. if b then Err (at_line (first_line (cells_at place subsets)) (too_many_values spec.fxy)) else (contents_here spec (cells_at place subsets) >>= λ cs. packed_to cs (cells_at place subsets) (packing spec cs)))
-        (few_test most_values ((place + 1) * length (cells_at place subsets)) few)
+        (few_test max_values ((place + 1) * length (cells_at place subsets)) few)
 
-    pub put_fault : (o : Option FaultAt) (old : List Bool) → WhereTold o (λ f. contents_here spec (cells_at place subsets) ≡ Err f) → PutFault o old old spec (across place subsets)
+    pub put_fault : (o : Option FaultAt) (old : List Bool) → IfDraftFault o (λ f. contents_here spec (cells_at place subsets) ≡ Err f) → PutFault o old old spec (item_row place subsets)
     put_fault None old h = grows_not old old refl
     put_fault (Some f) old h = (across_is ∙ ap (λ r. r >>= λ cs. packed_to cs (cells_at place subsets) (packing spec cs)) h, refl)
 
-    given : (cs : List Content) → contents_here spec (cells_at place subsets) ≡ Ok cs → pack_across spec (across place subsets) ≡ packed_to cs (cells_at place subsets) (packing spec cs)
+    given : (cs : List Content) → contents_here spec (cells_at place subsets) ≡ Ok cs → pack_across spec (item_row place subsets) ≡ packed_to cs (cells_at place subsets) (packing spec cs)
     given cs h = across_is ∙ ap (λ r. r >>= λ cs. packed_to cs (cells_at place subsets) (packing spec cs)) h
 
-    pub put_ok : (cs : List Content) (bits : List Bool) → contents_here spec (cells_at place subsets) ≡ Ok cs → packing spec cs ≡ Ok bits → pack_across spec (across place subsets) ≡ Ok (written cs bits)
+    pub put_ok : (cs : List Content) (bits : List Bool) → contents_here spec (cells_at place subsets) ≡ Ok cs → packing spec cs ≡ Ok bits → pack_across spec (item_row place subsets) ≡ Ok (written_item cs bits)
     put_ok cs bits h e = given cs h ∙ ap (packed_to cs (cells_at place subsets)) e
 
-    pub put_unequal : (cs : List Content) → contents_here spec (cells_at place subsets) ≡ Ok cs → packing spec cs ≡ Err unequal_factor → pack_across spec (across place subsets) ≡ Err (at_line (unlike_line cs (cells_at place subsets)) unequal_factors)
+    pub put_unequal : (cs : List Content) → contents_here spec (cells_at place subsets) ≡ Ok cs → packing spec cs ≡ Err unequal_factor → pack_across spec (item_row place subsets) ≡ Err (at_line (unlike_line cs (cells_at place subsets)) unequal_factors)
     put_unequal cs h e = given cs h ∙ ap (packed_to cs (cells_at place subsets)) e
 
-    pub put_uneven : (cs : List Content) → contents_here spec (cells_at place subsets) ≡ Ok cs → packing spec cs ≡ Err increment → pack_across spec (across place subsets) ≡ Err (at_line (first_line (cells_at place subsets)) uneven_increment)
+    pub put_uneven : (cs : List Content) → contents_here spec (cells_at place subsets) ≡ Ok cs → packing spec cs ≡ Err increment → pack_across spec (item_row place subsets) ≡ Err (at_line (first_line (cells_at place subsets)) uneven_increment)
     put_uneven cs h e = given cs h ∙ ap (packed_to cs (cells_at place subsets)) e
 
 -- what the first subset's content tells
-pub tells_first : (spec : Asked) (count : ℕ) (ds : List Drawn) (z : Drawn) (t : Taken) → 0 < length ds → t ≡ told spec (content_drawn count (get_or ds 0 z)) → t ≡ told_first spec (contents_drawn count ds)
+pub tells_first : (spec : FieldSpec) (count : ℕ) (ds : List FieldContent) (z : FieldContent) (t : Taken) → 0 < length ds → t ≡ answer_of spec (content_drawn count (get_or ds 0 z)) → t ≡ told_first spec (contents_drawn count ds)
 tells_first spec count [] z t h e = absurd (omega (arith, h))
 tells_first spec count (d ∷ ds) z t h e = e
 
 -- contents that are all alike, and those that are not
-pub packed_alike : (spec : Asked) (count : ℕ) (ds : List Drawn) (z : Drawn) → 0 < length ds → are_same (content_drawn count (get_or ds 0 z)) (contents_drawn count ds) ≡ true
+pub packed_alike : (spec : FieldSpec) (count : ℕ) (ds : List FieldContent) (z : FieldContent) → 0 < length ds → are_same (content_drawn count (get_or ds 0 z)) (contents_drawn count ds) ≡ true
     → packing spec (contents_drawn count ds) ≡ Ok (packed_bits (bits_for spec.width (content_drawn count (get_or ds 0 z))) 0 [])
 packed_alike spec count [] z h e = absurd (omega (arith, h))
 packed_alike spec count (d ∷ ds) z h e =
     ap (λ b. if b then Ok (packed_bits (bits_for spec.width (content_drawn count d)) 0 []) else packed_unlike spec.role spec (contents_drawn count (d ∷ ds)))
     (ap (λ t. t && are_same (content_drawn count d) (contents_drawn count ds)) (sym (content_self (content_drawn count d))) ∙ e)
 
-pub packed_apart : (spec : Asked) (count : ℕ) (ds : List Drawn) (z : Drawn) → 0 < length ds → are_same (content_drawn count (get_or ds 0 z)) (contents_drawn count ds) ≡ false
+pub packed_apart : (spec : FieldSpec) (count : ℕ) (ds : List FieldContent) (z : FieldContent) → 0 < length ds → are_same (content_drawn count (get_or ds 0 z)) (contents_drawn count ds) ≡ false
     → packing spec (contents_drawn count ds) ≡ packed_unlike spec.role spec (contents_drawn count ds)
 packed_apart spec count [] z h e = absurd (omega (arith, h))
 packed_apart spec count (d ∷ ds) z h e =

@@ -12,7 +12,7 @@ use Rattle.bufr_fill.specs.Draft.{Draft}
 use Rattle.bufr_fill.specs.Encoding.{plain_data, packed_data}
 use Rattle.bufr_fill.specs.Entries.{Subset}
 use Rattle.bufr_fill.specs.ReadBack.{AllHaveOctets, IsSaid, AreSaid, AreSaidFrom}
-use Rattle.bufr_fill.specs.WrittenAgain.{AreDrafts, items_of}
+use Rattle.bufr_fill.specs.WrittenAgain.{AreDrafts, items_of_subset}
 use Rattle.bufr_fill.proofs.BackLaws.{plain_template_back, packed_template_back}
 use Rattle.bufr_fill.proofs.SaidWritten.{plain_said_alike, packed_said_alike}
 
@@ -36,7 +36,7 @@ together_alike : (j : ℕ) (items : List (Item (List Content))) (ss ts : List Su
 together_alike j items [] [] a h = tt
 together_alike j items [] (t ∷ ts) a h = absurd a
 together_alike j items (s ∷ ss) [] a h = tt
-together_alike j items (s ∷ ss) (t ∷ ts) a h = (items_alike (items_of j items) s.items t.items a.0 h.0, together_alike (suc j) items ss ts a.1 h.1)
+together_alike j items (s ∷ ss) (t ∷ ts) a h = (items_alike (items_of_subset j items) s.items t.items a.0 h.0, together_alike (suc j) items ss ts a.1 h.1)
 
 length-alike : (ss ts : List Subset) → AllAlike ss ts → length ts ≡ length ss
 length-alike [] [] a = refl

@@ -7,23 +7,23 @@ use Rattle.bufr_tables.specs.Legal.{IsLegal}
 use Rattle.bufr_tables.specs.Records.{Record}
 use Rattle.bufr_tables.specs.TableB.{Row, AreRows}
 use Rattle.bufr_tables.specs.Tree.{Tree}
-use Rattle.bufr_walk.specs.Asked.{Asked, IsSpec}
+use Rattle.bufr_walk.specs.FieldSpec.{FieldSpec, IsSpec}
 use Rattle.bufr_walk.specs.Calls.{content_at}
 use Rattle.bufr_walk.specs.Content.{Content, bits_for}
 use Rattle.bufr_walk.specs.Course.{Course, Next, take_next, at_end, astray, refused, next_item}
 use Rattle.bufr_walk.specs.PlainField.{FieldFault, found}
-use Rattle.bufr_walk.specs.Reading.{most_values, Item, Form, plain, packed, ReadsAll}
+use Rattle.bufr_walk.specs.Reading.{max_values, Item, DataCoding, plain, packed, ReadsPass}
 use Rattle.bufr_fill.specs.Draft.{Draft}
 use Rattle.bufr_fill.specs.DraftContent.{content_of, plainly, plain_filler}
-use Rattle.bufr_fill.specs.Encoding.{Cell, Across, cells_at, rows, longest, placed, content_here, contents_here, packed_to, are_many, pack_across, packed_filler, plain_data, packed_data, first_line, ◌>>=◌}
+use Rattle.bufr_fill.specs.Encoding.{RowCell, ItemRow, cells_at, rows, longest, at_line_if_fault, content_here, contents_here, packed_to, are_many, pack_across, packed_filler, plain_data, packed_data, first_line, ◌>>=◌}
 use Rattle.bufr_fill.specs.Entries.{Subset}
-use Rattle.bufr_fill.specs.Fault.{Fault, FaultAt, at_line, too_many_values}
-use Rattle.bufr_fill.specs.Filling.{Written, written, Filler, fill, fill_one, fill_none, filled, and_behind}
+use Rattle.bufr_fill.specs.Fault.{DraftFaultKind, FaultAt, at_line, too_many_values}
+use Rattle.bufr_fill.specs.Filling.{WrittenItem, written_item, Filler, fill, fill_one, fill_none, filled, and_behind}
 use Rattle.bufr_fill.specs.Fits.{Fits, AllFit}
 use Rattle.bufr_fill.proofs.Limits.{IsWithin}
 use Rattle.bufr_fill.specs.Packing.{packing}
 use Rattle.bufr_fill.specs.ReadBack.{HasOctets, HaveOctets, AllHaveOctets, IsSaid, AreSaidFrom, IsReadBack, IsPackedReadBack}
-use Rattle.bufr_fill.specs.WrittenAgain.{AreDrafts, items_of}
+use Rattle.bufr_fill.specs.WrittenAgain.{AreDrafts, items_of_subset}
 use Rattle.bufr_fill.proofs.Fitting.{draft_fits}
 use Rattle.bufr_fill.proofs.GoodReads.{IsGoodCourse, template_good, told_within}
 use Rattle.bufr_fill.proofs.PackedFits.{fitting_again}
@@ -33,25 +33,25 @@ use Rattle.bufr_fill.proofs.TableRows.{table_good}
 same_ok : {A E : Type 0} (a b : A) → ◌≡◌ {A = Result A E} (Ok a) (Ok b) → a ≡ b
 same_ok a b e = cc
 
-item_with : {C : Type 0} → Asked → C → Item C
+item_with : {C : Type 0} → FieldSpec → C → Item C
 item_with spec c = record { spec = spec; content = c }
 
 -- ---- one item after another
 
-pub record IsBack {C D : Type 0} (form : Form C) (of_item : Item C → D → Type 0) (course : Course) (ds : List D) (out : List Bool) : Type 0 where
+pub record IsBack {C D : Type 0} (form : DataCoding C) (of_item : Item C → D → Type 0) (course : Course) (ds : List D) (out : List Bool) : Type 0 where
   pub items : List (Item C)
   pub said : AreDrafts of_item items ds
-  pub read : (more : List Bool) → ReadsAll form course items (out ++ more) more
+  pub read : (more : List Bool) → ReadsPass form course items (out ++ more) more
 
 -- what one item must be
-pub record IsOneBack {C D : Type 0} (form : Form C) (of_item : Item C → D → Type 0) (spec : Asked) (d : D) (w : Written C) : Type 0 where
+pub record IsOneBack {C D : Type 0} (form : DataCoding C) (of_item : Item C → D → Type 0) (spec : FieldSpec) (d : D) (w : WrittenItem C) : Type 0 where
   pub said : of_item (record { spec = spec; content = w.content }) d
   pub within : IsWithin (form.tells spec w.content)
   pub read : (more : List Bool) → form.field spec (w.bits ++ more) ≡ Ok (found w.content more)
 
-module _ {C D E : Type 0} (form : Form C) (filler : Filler D C E) (of_item : Item C → D → Type 0) (HasText : D → Type 0)
-    (same_told : (spec : Asked) (c : C) → filler.tells spec c ≡ form.tells spec c)
-    (one : (spec : Asked) (d : D) (w : Written C) → IsSpec spec → HasText d → filler.fills spec d ≡ Ok w → IsOneBack form of_item spec d w) where
+module _ {C D E : Type 0} (form : DataCoding C) (filler : Filler D C E) (of_item : Item C → D → Type 0) (HasText : D → Type 0)
+    (same_told : (spec : FieldSpec) (c : C) → filler.tells spec c ≡ form.tells spec c)
+    (one : (spec : FieldSpec) (d : D) (w : WrittenItem C) → IsSpec spec → HasText d → filler.fills spec d ≡ Ok w → IsOneBack form of_item spec d w) where
   back_end : (course : Course) (out : List Bool) (n : Next) → (course []).next ≡ n → fill_none filler n ≡ Ok out → IsBack form of_item course [] out
   back_end course out (take_next spec) q e = cc
   back_end course out at_end q e = record { items = []; said = tt; read = λ more. (ap (λ x. x ++ more) (sym (same_ok [] out e)), q) }
@@ -60,7 +60,7 @@ module _ {C D E : Type 0} (form : Form C) (filler : Filler D C E) (of_item : Ite
 
   module _ (course : Course) (d : D) (ds : List D) (out : List Bool) (good : IsGoodCourse course) (text : HasText d)
       (others : (next : Course) (rest : List Bool) → IsGoodCourse next → fill filler next ds ≡ Ok rest → IsBack form of_item next ds rest) where
-    back_rest : (spec : Asked) (w : Written C) → (course []).next ≡ take_next spec → IsOneBack form of_item spec d w → (r : Result (List Bool) E) → fill filler (λ told. course (form.tells spec w.content ∷ told)) ds ≡ r → and_behind filler w.bits r ≡ Ok out → IsBack form of_item course (d ∷ ds) out
+    back_rest : (spec : FieldSpec) (w : WrittenItem C) → (course []).next ≡ take_next spec → IsOneBack form of_item spec d w → (r : Result (List Bool) E) → fill filler (λ told. course (form.tells spec w.content ∷ told)) ds ≡ r → and_behind filler w.bits r ≡ Ok out → IsBack form of_item course (d ∷ ds) out
     back_rest spec w q here (Err why) p e = cc
     back_rest spec w q here (Ok rest) p e =
         let behind = others (λ told. course (form.tells spec w.content ∷ told)) rest (λ told asked ws n. good (form.tells spec w.content ∷ told) asked (here.within, ws) n) p in
@@ -74,7 +74,7 @@ module _ {C D E : Type 0} (form : Form C) (filler : Filler D C E) (of_item : Ite
               ((rest ++ more, q, subst (λ bits. form.field spec bits ≡ Ok (found w.content (rest ++ more))) turned (here.read (rest ++ more)), r.0), r.1);
         }
 
-    back_fill : (spec : Asked) → (course []).next ≡ take_next spec → (r : Result (Written C) E) → filler.fills spec d ≡ r → filled filler spec r (λ t. fill filler (λ told. course (t ∷ told)) ds) ≡ Ok out → IsBack form of_item course (d ∷ ds) out
+    back_fill : (spec : FieldSpec) → (course []).next ≡ take_next spec → (r : Result (WrittenItem C) E) → filler.fills spec d ≡ r → filled filler spec r (λ t. fill filler (λ told. course (t ∷ told)) ds) ≡ Ok out → IsBack form of_item course (d ∷ ds) out
     back_fill spec q (Err why) p e = cc
     back_fill spec q (Ok w) p e =
         let here = one spec d w (good [] spec tt q) text p in
@@ -93,14 +93,14 @@ module _ {C D E : Type 0} (form : Form C) (filler : Filler D C E) (of_item : Ite
 
 -- ---- data that are not compressed
 
-plain_one : (end_line : ℕ) (spec : Asked) (d : Draft) (w : Written Content) → IsSpec spec → HasOctets d.form → plainly d.line spec (content_of spec d) ≡ Ok w → IsOneBack plain IsSaid spec d w
+plain_one : (end_line : ℕ) (spec : FieldSpec) (d : Draft) (w : WrittenItem Content) → IsSpec spec → HasOctets d.form → plainly d.line spec (content_of spec d) ≡ Ok w → IsOneBack plain IsSaid spec d w
 plain_one end_line spec d w good text e = by_content (content_of spec d) refl e
   where
-    by_content : (r : Result Content Fault) → content_of spec d ≡ r → plainly d.line spec r ≡ Ok w → IsOneBack plain IsSaid spec d w
+    by_content : (r : Result Content DraftFaultKind) → content_of spec d ≡ r → plainly d.line spec r ≡ Ok w → IsOneBack plain IsSaid spec d w
     by_content (Err why) p q = cc
     by_content (Ok c) p q =
         let fits : Fits spec c = draft_fits spec d c text p in
-        let is : written c (bits_for spec.width c) ≡ w = same_ok (written c (bits_for spec.width c)) w q in
+        let is : written_item c (bits_for spec.width c) ≡ w = same_ok (written_item c (bits_for spec.width c)) w q in
         subst (λ v. IsOneBack plain IsSaid spec d v) is (record { said = p; within = told_within spec.role spec c good good.role fits; read = plain_again spec good c fits })
 
 module _ (course : Course) (good : IsGoodCourse course) where
@@ -117,7 +117,7 @@ module _ (course : Course) (good : IsGoodCourse course) where
         said = (first.said, rest.said);
         read = λ more.
             let turned : x ++ (y ++ more) ≡ out ++ more = sym (append_assoc x y more) ∙ ap (λ z. z ++ more) joined in
-            (y ++ more, subst (λ bits. ReadsAll plain course first.items bits (y ++ more)) turned (first.read (y ++ more)), rest.read more);
+            (y ++ more, subst (λ bits. ReadsPass plain course first.items bits (y ++ more)) turned (first.read (y ++ more)), rest.read more);
       }
 
   pub plain_back : (ss : List Subset) (out : List Bool) → AllHaveOctets ss → plain_data course ss ≡ Ok out → IsReadBack course ss out
@@ -127,7 +127,7 @@ module _ (course : Course) (good : IsGoodCourse course) where
 -- ---- compressed data
 
 -- what a cell says
-abbrev IsCellSaid : Asked → Content → Option Draft → Type 0
+abbrev IsCellSaid : FieldSpec → Content → Option Draft → Type 0
 IsCellSaid spec c None = ⊥
 IsCellSaid spec c (Some d) = content_of spec d ≡ Ok c
 
@@ -136,28 +136,28 @@ OctetsIn None = Unit {0}
 OctetsIn (Some d) = HasOctets d.form
 
 -- the cells say the contents, from that of one subset on
-abbrev SaidFrom : ℕ → Asked → List Content → List Cell → Type 0
+abbrev SaidFrom : ℕ → FieldSpec → List Content → List RowCell → Type 0
 SaidFrom j spec cs [] = Unit {0}
 SaidFrom j spec cs (cell ∷ cells) = IsCellSaid spec (content_at j cs) cell.draft × SaidFrom (suc j) spec cs cells
 
-said_shift : (j : ℕ) (spec : Asked) (c : Content) (cs : List Content) (cells : List Cell) → SaidFrom j spec cs cells → SaidFrom (suc j) spec (c ∷ cs) cells
+said_shift : (j : ℕ) (spec : FieldSpec) (c : Content) (cs : List Content) (cells : List RowCell) → SaidFrom j spec cs cells → SaidFrom (suc j) spec (c ∷ cs) cells
 said_shift j spec c cs [] h = tt
 said_shift j spec c cs (cell ∷ cells) h = (h.0, said_shift (suc j) spec c cs cells h.1)
 
-cell_said : (spec : Asked) (o : Option Draft) (end_line : ℕ) (c : Content) → OctetsIn o → content_here spec o end_line ≡ Ok c → IsCellSaid spec c o × Fits spec c
+cell_said : (spec : FieldSpec) (o : Option Draft) (end_line : ℕ) (c : Content) → OctetsIn o → content_here spec o end_line ≡ Ok c → IsCellSaid spec c o × Fits spec c
 cell_said spec None end_line c text e = cc
 cell_said spec (Some d) end_line c text e = by_content (content_of spec d) refl e
   where
-    by_content : (r : Result Content Fault) → content_of spec d ≡ r → placed d.line r ≡ Ok c → (content_of spec d ≡ Ok c) × Fits spec c
+    by_content : (r : Result Content DraftFaultKind) → content_of spec d ≡ r → at_line_if_fault d.line r ≡ Ok c → (content_of spec d ≡ Ok c) × Fits spec c
     by_content (Err why) p q = cc
     by_content (Ok x) p q = let h : content_of spec d ≡ Ok c = p ∙ ap Ok (same_ok x c q) in (h, draft_fits spec d c text h)
 
-record AreCellsSaid (spec : Asked) (cells : List Cell) (cs : List Content) : Type 0 where
+record AreCellsSaid (spec : FieldSpec) (cells : List RowCell) (cs : List Content) : Type 0 where
   said : SaidFrom 0 spec cs cells
   fits : AllFit spec cs
   count : length cs ≡ length cells
 
-cells_join : (spec : Asked) (cell : Cell) (cells : List Cell) (cs : List Content) → OctetsIn cell.draft → ((rest : List Content) → contents_here spec cells ≡ Ok rest → AreCellsSaid spec cells rest)
+cells_join : (spec : FieldSpec) (cell : RowCell) (cells : List RowCell) (cs : List Content) → OctetsIn cell.draft → ((rest : List Content) → contents_here spec cells ≡ Ok rest → AreCellsSaid spec cells rest)
     → (a : Result Content FaultAt) (b : Result (List Content) FaultAt) → content_here spec cell.draft cell.end_line ≡ a → contents_here spec cells ≡ b → (a >>= λ first. b >>= λ rest. Ok (first ∷ rest)) ≡ Ok cs → AreCellsSaid spec (cell ∷ cells) cs
 cells_join spec cell cells cs text others (Err why) b p q e = cc
 cells_join spec cell cells cs text others (Ok c) (Err why) p q e = cc
@@ -166,27 +166,27 @@ cells_join spec cell cells cs text others (Ok c) (Ok rest) p q e =
     let behind = others rest q in
     subst (AreCellsSaid spec (cell ∷ cells)) (same_ok (c ∷ rest) cs e) (record { said = (here.0, said_shift 0 spec c rest cells behind.said); fits = (here.1, behind.fits); count = ap suc behind.count })
 
-cells_said : (spec : Asked) (cells : List Cell) (cs : List Content) → AllByRecursion (λ (cell : Cell). OctetsIn cell.draft) cells → contents_here spec cells ≡ Ok cs → AreCellsSaid spec cells cs
+cells_said : (spec : FieldSpec) (cells : List RowCell) (cs : List Content) → AllByRecursion (λ (cell : RowCell). OctetsIn cell.draft) cells → contents_here spec cells ≡ Ok cs → AreCellsSaid spec cells cs
 cells_said spec [] cs text e = subst (AreCellsSaid spec []) (same_ok [] cs e) (record { said = tt; fits = tt; count = refl })
 cells_said spec (cell ∷ cells) cs text e = cells_join spec cell cells cs text.0 (λ rest q. cells_said spec cells rest text.1 q) (content_here spec cell.draft cell.end_line) (contents_here spec cells) refl refl e
 
 -- an item of all subsets
-abbrev IsSaidAcross : ℕ → Item (List Content) → Across → Type 0
-IsSaidAcross n i a = SaidFrom 0 i.spec i.content a.cells × ((a.place + 1) * n ≤ most_values)
+abbrev IsSaidAcross : ℕ → Item (List Content) → ItemRow → Type 0
+IsSaidAcross n i a = SaidFrom 0 i.spec i.content a.cells × ((a.place + 1) * n ≤ max_values)
 
-abbrev IsRowOf : ℕ → Across → Type 0
-IsRowOf n a = (length a.cells ≡ n) × AllByRecursion (λ (cell : Cell). OctetsIn cell.draft) a.cells
+abbrev IsRowOf : ℕ → ItemRow → Type 0
+IsRowOf n a = (length a.cells ≡ n) × AllByRecursion (λ (cell : RowCell). OctetsIn cell.draft) a.cells
 
-few_of : (place n : ℕ) → are_many place n ≡ false → (place + 1) * n ≤ most_values
-few_of place n h = at_most most_values ((place + 1) * n) h
+few_of : (place n : ℕ) → are_many place n ≡ false → (place + 1) * n ≤ max_values
+few_of place n h = at_most max_values ((place + 1) * n) h
   where
     at_most : (a b : ℕ) → nat_lt a b ≡ false → b ≤ a
     at_most a b h = grind (arith, nat_tests)
 
-packed_one : (n : ℕ) → 1 ≤ n → (spec : Asked) (a : Across) (w : Written (List Content)) → IsSpec spec → IsRowOf n a → pack_across spec a ≡ Ok w → IsOneBack (packed n) (IsSaidAcross n) spec a w
+packed_one : (n : ℕ) → 1 ≤ n → (spec : FieldSpec) (a : ItemRow) (w : WrittenItem (List Content)) → IsSpec spec → IsRowOf n a → pack_across spec a ≡ Ok w → IsOneBack (packed n) (IsSaidAcross n) spec a w
 packed_one n some spec a w good row e = by_many (are_many a.place (length a.cells)) refl e
   where
-    by_list : (cs : List Content) (bits : List Bool) → (a.place + 1) * n ≤ most_values → AreCellsSaid spec a.cells cs → packing spec cs ≡ Ok bits → IsOneBack (packed n) (IsSaidAcross n) spec a (written cs bits)
+    by_list : (cs : List Content) (bits : List Bool) → (a.place + 1) * n ≤ max_values → AreCellsSaid spec a.cells cs → packing spec cs ≡ Ok bits → IsOneBack (packed n) (IsSaidAcross n) spec a (written_item cs bits)
     by_list [] bits few are q = absurd (omega (arith, some, are.count, row.0))
     by_list (c ∷ cs) bits few are q = record {
       said = (are.said, few);
@@ -194,17 +194,17 @@ packed_one n some spec a w good row e = by_many (are_many a.place (length a.cell
       read = λ more. fitting_again n spec good c cs bits more are.fits (are.count ∙ row.0) q;
     }
 
-    by_packing : (cs : List Content) → (a.place + 1) * n ≤ most_values → AreCellsSaid spec a.cells cs → (r : Result (List Bool) FieldFault) → packing spec cs ≡ r → packed_to cs a.cells r ≡ Ok w → IsOneBack (packed n) (IsSaidAcross n) spec a w
-    by_packing cs few are (Ok bits) q r = subst (IsOneBack (packed n) (IsSaidAcross n) spec a) (same_ok (written cs bits) w r) (by_list cs bits few are q)
+    by_packing : (cs : List Content) → (a.place + 1) * n ≤ max_values → AreCellsSaid spec a.cells cs → (r : Result (List Bool) FieldFault) → packing spec cs ≡ r → packed_to cs a.cells r ≡ Ok w → IsOneBack (packed n) (IsSaidAcross n) spec a w
+    by_packing cs few are (Ok bits) q r = subst (IsOneBack (packed n) (IsSaidAcross n) spec a) (same_ok (written_item cs bits) w r) (by_list cs bits few are q)
     by_packing cs few are (Err why) q r = cc
 
-    by_contents : (a.place + 1) * n ≤ most_values → (r : Result (List Content) FaultAt) → contents_here spec a.cells ≡ r → (r >>= λ cs. packed_to cs a.cells (packing spec cs)) ≡ Ok w → IsOneBack (packed n) (IsSaidAcross n) spec a w
+    by_contents : (a.place + 1) * n ≤ max_values → (r : Result (List Content) FaultAt) → contents_here spec a.cells ≡ r → (r >>= λ cs. packed_to cs a.cells (packing spec cs)) ≡ Ok w → IsOneBack (packed n) (IsSaidAcross n) spec a w
     by_contents few (Err why) p q = cc
     by_contents few (Ok cs) p q = by_packing cs few (cells_said spec a.cells cs row.1 p) (packing spec cs) refl q
 
     by_many : (b : Bool) → are_many a.place (length a.cells) ≡ b → (if b then Err (at_line (first_line a.cells) (too_many_values spec.fxy)) else (contents_here spec a.cells >>= λ cs. packed_to cs a.cells (packing spec cs))) ≡ Ok w → IsOneBack (packed n) (IsSaidAcross n) spec a w
     by_many true p q = cc
-    by_many false p q = by_contents (subst (λ k. (a.place + 1) * k ≤ most_values) row.0 (few_of a.place (length a.cells) p)) (contents_here spec a.cells) refl q
+    by_many false p q = by_contents (subst (λ k. (a.place + 1) * k ≤ max_values) row.0 (few_of a.place (length a.cells) p)) (contents_here spec a.cells) refl q
 
 -- ---- rows and subsets
 
@@ -218,7 +218,7 @@ draft_octets [] (suc p) h = tt
 draft_octets (d ∷ ds) zero h = h.0
 draft_octets (d ∷ ds) (suc p) h = draft_octets ds p h.1
 
-cells_octets : (p : ℕ) (ss : List Subset) → AllHaveOctets ss → AllByRecursion (λ (cell : Cell). OctetsIn cell.draft) (cells_at p ss)
+cells_octets : (p : ℕ) (ss : List Subset) → AllHaveOctets ss → AllByRecursion (λ (cell : RowCell). OctetsIn cell.draft) (cells_at p ss)
 cells_octets p [] h = tt
 cells_octets p (s ∷ ss) h = (draft_octets s.items p h.0, cells_octets p ss h.1)
 
@@ -227,7 +227,7 @@ rows_octets n zero from ss e h = tt
 rows_octets n (suc count) from ss e h = ((length-cells from ss ∙ e, cells_octets from ss h), rows_octets n count (from + 1) ss e h)
 
 -- a cell's draft is the next of its subset
-draft_next : (spec : Asked) (c : Content) (ds : List Draft) (p : ℕ) → IsCellSaid spec c (slice_get ds p) → (d : Draft) × (drop p ds ≡ d ∷ drop (p + 1) ds) × (content_of spec d ≡ Ok c)
+draft_next : (spec : FieldSpec) (c : Content) (ds : List Draft) (p : ℕ) → IsCellSaid spec c (slice_get ds p) → (d : Draft) × (drop p ds ≡ d ∷ drop (p + 1) ds) × (content_of spec d ≡ Ok c)
 draft_next spec c [] zero h = absurd h
 draft_next spec c [] (suc p) h = absurd h
 draft_next spec c (d ∷ ds) zero h = (d, refl, h)
@@ -242,25 +242,25 @@ drop_none (suc n) [] h = refl
 drop_none zero (x ∷ xs) h = absurd (omega (arith, h))
 drop_none (suc n) (x ∷ xs) h = drop_none n xs (omega (arith, h))
 
-abbrev RowsSaid : ℕ → List (Item (List Content)) → List Across → Type 0
+abbrev RowsSaid : ℕ → List (Item (List Content)) → List ItemRow → Type 0
 RowsSaid j [] [] = Unit {0}
 RowsSaid j [] (a ∷ more) = ⊥
 RowsSaid j (i ∷ items) [] = ⊥
 RowsSaid j (i ∷ items) (a ∷ more) = SaidFrom j i.spec i.content a.cells × RowsSaid j items more
 
-rows_said : (n : ℕ) (items : List (Item (List Content))) (more : List Across) → AreDrafts (IsSaidAcross n) items more → RowsSaid 0 items more
+rows_said : (n : ℕ) (items : List (Item (List Content))) (more : List ItemRow) → AreDrafts (IsSaidAcross n) items more → RowsSaid 0 items more
 rows_said n [] [] h = tt
 rows_said n [] (a ∷ more) h = absurd h
 rows_said n (i ∷ items) [] h = absurd h
 rows_said n (i ∷ items) (a ∷ more) h = (h.0.0, rows_said n items more h.1)
 
-first_subset : (j count from : ℕ) (s : Subset) (ss : List Subset) (items : List (Item (List Content))) → RowsSaid j items (rows count from (s ∷ ss)) → length s.items ≤ from + count → AreDrafts IsSaid (items_of j items) (drop from s.items)
+first_subset : (j count from : ℕ) (s : Subset) (ss : List Subset) (items : List (Item (List Content))) → RowsSaid j items (rows count from (s ∷ ss)) → length s.items ≤ from + count → AreDrafts IsSaid (items_of_subset j items) (drop from s.items)
 first_subset j zero from s ss [] h l = subst (AreDrafts IsSaid []) (sym (drop_none from s.items (omega (arith, l)))) tt
 first_subset j zero from s ss (i ∷ items) h l = absurd h
 first_subset j (suc count) from s ss [] h l = absurd h
 first_subset j (suc count) from s ss (i ∷ items) h l =
     let g = draft_next i.spec (content_at j i.content) s.items from h.0.0 in
-    subst (AreDrafts IsSaid (items_of j (i ∷ items))) (sym g.1) (g.2, first_subset j count (from + 1) s ss items h.1 (omega (arith, l)))
+    subst (AreDrafts IsSaid (items_of_subset j (i ∷ items))) (sym g.1) (g.2, first_subset j count (from + 1) s ss items h.1 (omega (arith, l)))
 
 other_subsets : (j count from : ℕ) (s : Subset) (ss : List Subset) (items : List (Item (List Content))) → RowsSaid j items (rows count from (s ∷ ss)) → RowsSaid (suc j) items (rows count from ss)
 other_subsets j zero from s ss [] h = tt
@@ -272,13 +272,13 @@ all_subsets : (j count : ℕ) (ss : List Subset) (items : List (Item (List Conte
 all_subsets j count [] items h l = tt
 all_subsets j count (s ∷ ss) items h l = (first_subset j count 0 s ss items h (omega (arith, l)), all_subsets (suc j) count ss items (other_subsets j count 0 s ss items h) (omega (arith, l)))
 
-few_rows : (n count from : ℕ) (ss : List Subset) (items : List (Item (List Content))) → from * n ≤ most_values → AreDrafts (IsSaidAcross n) items (rows count from ss) → (from + length items) * n ≤ most_values
-few_rows n zero from ss [] few h = let q : from ≡ from + 0 = omega arith in subst (λ k. k * n ≤ most_values) q few
+few_rows : (n count from : ℕ) (ss : List Subset) (items : List (Item (List Content))) → from * n ≤ max_values → AreDrafts (IsSaidAcross n) items (rows count from ss) → (from + length items) * n ≤ max_values
+few_rows n zero from ss [] few h = let q : from ≡ from + 0 = omega arith in subst (λ k. k * n ≤ max_values) q few
 few_rows n zero from ss (i ∷ items) few h = absurd h
 few_rows n (suc count) from ss [] few h = absurd h
 few_rows n (suc count) from ss (i ∷ items) few h =
     let q : from + 1 + length items ≡ from + length (i ∷ items) = omega arith in
-    subst (λ k. k * n ≤ most_values) q (few_rows n count (from + 1) ss items h.0.1 h.1)
+    subst (λ k. k * n ≤ max_values) q (few_rows n count (from + 1) ss items h.0.1 h.1)
 
 pub packed_back : (course : Course) → IsGoodCourse course → (ss : List Subset) (out : List Bool) → AllHaveOctets ss → packed_data course ss ≡ Ok out → IsPackedReadBack course ss out
 packed_back course good [] out text e = record { items = []; said = tt; read = λ more. (refl, ap (λ x. x ++ more) (sym (same_ok [] out e))) }
@@ -290,7 +290,7 @@ packed_back course good (s ∷ ss) out text e =
     record {
       items = b.items;
       said = all_subsets 0 most (s ∷ ss) b.items (rows_said n b.items (rows most 0 (s ∷ ss)) b.said) (omega arith);
-      read = λ more. (b.read more, subst (λ k. k * n ≤ most_values) zero_more (few_rows n most 0 (s ∷ ss) b.items (omega arith) b.said));
+      read = λ more. (b.read more, subst (λ k. k * n ≤ max_values) zero_more (few_rows n most 0 (s ∷ ss) b.items (omega arith) b.said));
     }
 
 pub plain_template_back : (records : List Record) (table : List Row) (template : Tree) (drafts : List Subset) (bits : List Bool) → AreRows records table → IsLegal template → AllHaveOctets drafts → plain_data (next_item table template) drafts ≡ Ok bits → IsReadBack (next_item table template) drafts bits

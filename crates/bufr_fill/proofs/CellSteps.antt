@@ -3,29 +3,29 @@ use Rattle.std.proofs.Common.{◌≡◌, ℕ, zero, suc, ◌+◌, ◌<◌, ◌�
 use Rattle.std.specs.Prelude.{map, option_map, slice_get, take, if◌then◌else◌}
 use Rattle.std.proofs.lemmas.List.{append-nil, length-append, length-map, map-append, take_all}
 use Rattle.std.proofs.lemmas.Option.{slice_get-get_or, slice_get-map}
-use Rattle.bufr_fill.specs.declared.draw.Drawn.{Drawn}
-use Rattle.bufr_fill.specs.declared.entries.Found.{Found}
-use Rattle.bufr_walk.specs.Asked.{Asked}
+use Rattle.bufr_fill.specs.declared.field_value.FieldContent.{FieldContent}
+use Rattle.bufr_fill.specs.declared.entries.EntryRef.{EntryRef}
+use Rattle.bufr_walk.specs.FieldSpec.{FieldSpec}
 use Rattle.bufr_walk.specs.Content.{Content}
 use Rattle.bufr_fill.specs.Draft.{Draft}
-use Rattle.bufr_fill.specs.Entries.{Entry, Holds, Ends}
+use Rattle.bufr_fill.specs.Entries.{DraftEntry, Holds, Ends}
 use Rattle.bufr_fill.specs.Fault.{FaultAt, at_line, item_too_many}
-use Rattle.bufr_fill.specs.Drawn.{content_drawn, IsDrawn}
+use Rattle.bufr_fill.specs.FieldContent.{content_drawn, IsDrawn}
 use Rattle.bufr_fill.specs.Kept.{entry_found}
-use Rattle.bufr_fill.specs.Encoding.{Cell, content_here, contents_here, first_unlike, unlike_line, line_of, line_in, first_line, ◌>>=◌}
-use Rattle.bufr_fill.specs.Gathered.{entry_by, cell_entry, entry_here, entry_line, AllDrawn, contents_drawn, in_front, IsGathering, unlike_from}
-use Rattle.bufr_fill.specs.PlainOut.{WhereTold}
+use Rattle.bufr_fill.specs.Encoding.{RowCell, content_here, contents_here, first_unlike, unlike_line, cell_line, line_in, first_line, ◌>>=◌}
+use Rattle.bufr_fill.specs.PackedRows.{entry_or_end, cell_entry, entry_here, entry_line, AllDrawn, contents_drawn, in_front, IsGathering, unlike_from}
+use Rattle.bufr_fill.specs.PlainOut.{IfDraftFault}
 use Rattle.bufr_fill.specs.Packing.{same}
-use Rattle.bufr_fill.specs.PackedOut.{and_end, all_end}
+use Rattle.bufr_fill.specs.PackedOut.{and_end, all_at_end}
 use Rattle.bufr_fill.proofs.PackSteps.{at_index}
 
 -- the cell at a number
-pub record CellAt (cells : List Cell) (j : ℕ) : Type 0 where
-  pub cell : Cell
+pub record CellAt (cells : List RowCell) (j : ℕ) : Type 0 where
+  pub cell : RowCell
   pub is : slice_get cells j ≡ Some cell
   pub left : drop j cells ≡ cell ∷ drop (j + 1) cells
 
-pub cell_at : (cells : List Cell) (j : ℕ) → j < length cells → CellAt cells j
+pub cell_at : (cells : List RowCell) (j : ℕ) → j < length cells → CellAt cells j
 cell_at [] j h = absurd (omega (arith, h))
 cell_at (c ∷ cells) zero h = record { cell = c; is = refl; left = refl }
 cell_at (c ∷ cells) (suc j) h =
@@ -34,11 +34,11 @@ cell_at (c ∷ cells) (suc j) h =
     record { cell = r.cell; is = r.is; left = r.left ∙ ap (λ k. r.cell ∷ drop k (c ∷ cells)) n }
 
 -- an entry gives what its cell does
-entry_same : (spec : Asked) (o : Option Draft) (line : ℕ) → entry_here spec (entry_by o line) ≡ content_here spec o line
+entry_same : (spec : FieldSpec) (o : Option Draft) (line : ℕ) → entry_here spec (entry_or_end o line) ≡ content_here spec o line
 entry_same spec None line = refl
 entry_same spec (Some d) line = refl
 
-line_same : (o : Option Draft) (line : ℕ) → entry_line (entry_by o line) ≡ line_in o line
+line_same : (o : Option Draft) (line : ℕ) → entry_line (entry_or_end o line) ≡ line_in o line
 line_same None line = refl
 line_same (Some d) line = refl
 
@@ -48,11 +48,11 @@ drop_none [] (suc n) h = refl
 drop_none (x ∷ xs) zero h = absurd (omega (arith, h))
 drop_none (x ∷ xs) (suc n) h = drop_none xs n (omega (arith, h))
 
-contents_more : (count : ℕ) (ds : List Drawn) (d : Drawn) → contents_drawn count (ds ++ d ∷ []) ≡ contents_drawn count ds ++ content_drawn count d ∷ []
+contents_more : (count : ℕ) (ds : List FieldContent) (d : FieldContent) → contents_drawn count (ds ++ d ∷ []) ≡ contents_drawn count ds ++ content_drawn count d ∷ []
 contents_more count [] d = refl
 contents_more count (x ∷ ds) d = ap (λ cs. content_drawn count x ∷ cs) (contents_more count ds d)
 
-all_more : (spec : Asked) (ds : List Drawn) (d : Drawn) → AllDrawn spec ds → IsDrawn spec d → AllDrawn spec (ds ++ d ∷ [])
+all_more : (spec : FieldSpec) (ds : List FieldContent) (d : FieldContent) → AllDrawn spec ds → IsDrawn spec d → AllDrawn spec (ds ++ d ∷ [])
 all_more spec [] d h g = (g, tt)
 all_more spec (x ∷ ds) d h g = (h.0, all_more spec ds d h.1 g)
 
@@ -60,20 +60,20 @@ front_more : (cs : List Content) (x : Content) (r : Result (List Content) FaultA
 front_more cs x (Ok more) = ap Ok (sym (append_assoc cs (x ∷ []) more))
 front_more cs x (Err f) = refl
 
-module _ (count : ℕ) (spec : Asked) (cells : List Cell) (j : ℕ) (ds : List Drawn) (e : Entry) (inv : IsGathering count spec cells j ds) (within : j < length cells)
-    (here : (c : Cell) → slice_get cells j ≡ Some c → e ≡ cell_entry c) where
+module _ (count : ℕ) (spec : FieldSpec) (cells : List RowCell) (j : ℕ) (ds : List FieldContent) (e : DraftEntry) (inv : IsGathering count spec cells j ds) (within : j < length cells)
+    (here : (c : RowCell) → slice_get cells j ≡ Some c → e ≡ cell_entry c) where
   -- what comes next, by its cell
   next_is : (k : CellAt cells j) → contents_here spec cells ≡ in_front (contents_drawn count ds) (entry_here spec e >>= λ first. contents_here spec (drop (j + 1) cells) >>= λ rest. Ok (first ∷ rest))
   next_is k =
       inv.so ∙ ap (λ cs. in_front (contents_drawn count ds) (contents_here spec cs)) k.left
       ∙ ap (λ r. in_front (contents_drawn count ds) (r >>= λ first. contents_here spec (drop (j + 1) cells) >>= λ rest. Ok (first ∷ rest))) (sym (entry_same spec k.cell.draft k.cell.end_line) ∙ ap (entry_here spec) (sym (here k.cell k.is)))
 
-  pub gather_fault : (o : Option FaultAt) → WhereTold o (λ f. entry_here spec e ≡ Err f) → WhereTold o (λ f. contents_here spec cells ≡ Err f)
+  pub gather_fault : (o : Option FaultAt) → IfDraftFault o (λ f. entry_here spec e ≡ Err f) → IfDraftFault o (λ f. contents_here spec cells ≡ Err f)
   gather_fault None h = tt
   gather_fault (Some f) h =
       next_is (cell_at cells j within) ∙ ap (λ r. in_front (contents_drawn count ds) (r >>= λ first. contents_here spec (drop (j + 1) cells) >>= λ rest. Ok (first ∷ rest))) h
 
-  pub gather_more : (d : Drawn) → entry_here spec e ≡ Ok (content_drawn count d) → IsDrawn spec d → IsGathering count spec cells (j + 1) (ds ++ d ∷ [])
+  pub gather_more : (d : FieldContent) → entry_here spec e ≡ Ok (content_drawn count d) → IsDrawn spec d → IsGathering count spec cells (j + 1) (ds ++ d ∷ [])
   gather_more d h g = record {
     so = next_is (cell_at cells j within) ∙ ap (λ r. in_front (contents_drawn count ds) (r >>= λ first. contents_here spec (drop (j + 1) cells) >>= λ rest. Ok (first ∷ rest))) h
         ∙ front_more (contents_drawn count ds) (content_drawn count d) (contents_here spec (drop (j + 1) cells)) ∙ ap (λ cs. in_front cs (contents_here spec (drop (j + 1) cells))) (sym (contents_more count ds d));
@@ -81,92 +81,92 @@ module _ (count : ℕ) (spec : Asked) (cells : List Cell) (j : ℕ) (ds : List D
     many = omega (arith, length-append ds (d ∷ []), inv.many);
   }
 
-pub gathered : (count : ℕ) (spec : Asked) (cells : List Cell) (j : ℕ) (ds : List Drawn) → IsGathering count spec cells j ds → length cells ≤ j → contents_here spec cells ≡ Ok (contents_drawn count ds)
+pub gathered : (count : ℕ) (spec : FieldSpec) (cells : List RowCell) (j : ℕ) (ds : List FieldContent) → IsGathering count spec cells j ds → length cells ≤ j → contents_here spec cells ≡ Ok (contents_drawn count ds)
 gathered count spec cells j ds inv h = inv.so ∙ ap (λ cs. in_front (contents_drawn count ds) (contents_here spec cs)) (drop_none cells j h) ∙ ap Ok (append-nil (contents_drawn count ds))
 
 -- the entries that were found are those of the first cells, one more or all
-pub found_more : (cells : List Cell) (j : ℕ) (fs : List Found) (e : Found) → j < length cells → map entry_found fs ≡ map cell_entry (take j cells) → ((c : Cell) → slice_get cells j ≡ Some c → entry_found e ≡ cell_entry c)
+pub found_more : (cells : List RowCell) (j : ℕ) (fs : List EntryRef) (e : EntryRef) → j < length cells → map entry_found fs ≡ map cell_entry (take j cells) → ((c : RowCell) → slice_get cells j ≡ Some c → entry_found e ≡ cell_entry c)
     → map entry_found (fs ++ e ∷ []) ≡ map cell_entry (take (j + 1) cells)
 found_more cells j fs e h inv here =
     let k = cell_at cells j h in
     map-append entry_found fs (e ∷ []) ∙ ap (λ es. es ++ entry_found e ∷ []) inv ∙ ap (λ x. map cell_entry (take j cells) ++ x ∷ []) (here k.cell k.is) ∙ taken cells j k.cell k.is
   where
-    taken : (cells : List Cell) (j : ℕ) (c : Cell) → slice_get cells j ≡ Some c → map cell_entry (take j cells) ++ cell_entry c ∷ [] ≡ map cell_entry (take (j + 1) cells)
+    taken : (cells : List RowCell) (j : ℕ) (c : RowCell) → slice_get cells j ≡ Some c → map cell_entry (take j cells) ++ cell_entry c ∷ [] ≡ map cell_entry (take (j + 1) cells)
     taken [] j c h = absurd cc
     taken (x ∷ cells) zero c h = let same : x ≡ c = cc in ap (λ z. cell_entry z ∷ []) (sym same)
     taken (x ∷ cells) (suc j) c h =
         let n : suc (j + 1) ≡ suc j + 1 = omega arith in
         ap (λ es. cell_entry x ∷ es) (taken cells j c h) ∙ ap (λ k. map cell_entry (take k (x ∷ cells))) n
 
-pub found_all : (cells : List Cell) (j : ℕ) (fs : List Found) → length cells ≤ j → map entry_found fs ≡ map cell_entry (take j cells) → map entry_found fs ≡ map cell_entry cells
+pub found_all : (cells : List RowCell) (j : ℕ) (fs : List EntryRef) → length cells ≤ j → map entry_found fs ≡ map cell_entry (take j cells) → map entry_found fs ≡ map cell_entry cells
 found_all cells j fs h inv = inv ∙ ap (map cell_entry) (take_all j cells h)
 
-pub count_found : (cells : List Cell) (fs : List Found) → map entry_found fs ≡ map cell_entry cells → length fs ≡ length cells
+pub count_found : (cells : List RowCell) (fs : List EntryRef) → map entry_found fs ≡ map cell_entry cells → length fs ≡ length cells
 count_found cells fs h = sym (length-map fs entry_found) ∙ ap length h ∙ length-map cells cell_entry
 
-pub found_at : (cells : List Cell) (fs : List Found) (j : ℕ) (z : Found) → map entry_found fs ≡ map cell_entry cells → j < length fs → (c : Cell) → slice_get cells j ≡ Some c → entry_found (get_or fs j z) ≡ cell_entry c
+pub found_at : (cells : List RowCell) (fs : List EntryRef) (j : ℕ) (z : EntryRef) → map entry_found fs ≡ map cell_entry cells → j < length fs → (c : RowCell) → slice_get cells j ≡ Some c → entry_found (get_or fs j z) ≡ cell_entry c
 found_at cells fs j z is h c here =
     some_same (entry_found (get_or fs j z)) (cell_entry c)
     (ap (option_map entry_found) (sym (slice_get-get_or fs j z h)) ∙ sym (slice_get-map entry_found fs j) ∙ ap (λ es. slice_get es j) is ∙ slice_get-map cell_entry cells j ∙ ap (option_map cell_entry) here)
   where
-    some_same : (a b : Entry) → ◌≡◌ {A = Option Entry} (Some a) (Some b) → a ≡ b
+    some_same : (a b : DraftEntry) → ◌≡◌ {A = Option DraftEntry} (Some a) (Some b) → a ≡ b
     some_same a b h = cc
 
 -- whether all subsets end
-pub end_item : (cells : List Cell) (j : ℕ) (e : Entry) (d : Draft) → j < length cells → ((c : Cell) → slice_get cells j ≡ Some c → e ≡ cell_entry c) → e ≡ Holds d → all_end cells ≡ all_end (drop j cells) → all_end cells ≡ Err (at_line d.line item_too_many)
+pub end_item : (cells : List RowCell) (j : ℕ) (e : DraftEntry) (d : Draft) → j < length cells → ((c : RowCell) → slice_get cells j ≡ Some c → e ≡ cell_entry c) → e ≡ Holds d → all_at_end cells ≡ all_at_end (drop j cells) → all_at_end cells ≡ Err (at_line d.line item_too_many)
 end_item cells j e d h here is inv = by (cell_at cells j h)
   where
-    item : (o : Option Draft) (line : ℕ) → entry_by o line ≡ Holds d → (r : Result (Unit {0}) FaultAt) → and_end o r ≡ Err (at_line d.line item_too_many)
+    item : (o : Option Draft) (line : ℕ) → entry_or_end o line ≡ Holds d → (r : Result (Unit {0}) FaultAt) → and_end o r ≡ Err (at_line d.line item_too_many)
     item None line q r = absurd cc
     item (Some x) line q r = let same : x ≡ d = cc in ap (λ (z : Draft). Err (at_line z.line item_too_many)) same
 
-    by : CellAt cells j → all_end cells ≡ Err (at_line d.line item_too_many)
-    by k = inv ∙ ap all_end k.left ∙ item k.cell.draft k.cell.end_line (sym (here k.cell k.is) ∙ is) (all_end (drop (j + 1) cells))
+    by : CellAt cells j → all_at_end cells ≡ Err (at_line d.line item_too_many)
+    by k = inv ∙ ap all_at_end k.left ∙ item k.cell.draft k.cell.end_line (sym (here k.cell k.is) ∙ is) (all_at_end (drop (j + 1) cells))
 
-pub end_more : (cells : List Cell) (j : ℕ) (e : Entry) (line : ℕ) → j < length cells → ((c : Cell) → slice_get cells j ≡ Some c → e ≡ cell_entry c) → e ≡ Ends line → all_end cells ≡ all_end (drop j cells) → all_end cells ≡ all_end (drop (j + 1) cells)
+pub end_more : (cells : List RowCell) (j : ℕ) (e : DraftEntry) (line : ℕ) → j < length cells → ((c : RowCell) → slice_get cells j ≡ Some c → e ≡ cell_entry c) → e ≡ Ends line → all_at_end cells ≡ all_at_end (drop j cells) → all_at_end cells ≡ all_at_end (drop (j + 1) cells)
 end_more cells j e line h here is inv = by (cell_at cells j h)
   where
-    ends : (o : Option Draft) (l : ℕ) → entry_by o l ≡ Ends line → (r : Result (Unit {0}) FaultAt) → and_end o r ≡ r
+    ends : (o : Option Draft) (l : ℕ) → entry_or_end o l ≡ Ends line → (r : Result (Unit {0}) FaultAt) → and_end o r ≡ r
     ends None l q r = refl
     ends (Some x) l q r = absurd cc
 
-    by : CellAt cells j → all_end cells ≡ all_end (drop (j + 1) cells)
-    by k = inv ∙ ap all_end k.left ∙ ends k.cell.draft k.cell.end_line (sym (here k.cell k.is) ∙ is) (all_end (drop (j + 1) cells))
+    by : CellAt cells j → all_at_end cells ≡ all_at_end (drop (j + 1) cells)
+    by k = inv ∙ ap all_at_end k.left ∙ ends k.cell.draft k.cell.end_line (sym (here k.cell k.is) ∙ is) (all_at_end (drop (j + 1) cells))
 
-pub end_done : (cells : List Cell) (j : ℕ) → length cells ≤ j → all_end cells ≡ all_end (drop j cells) → all_end cells ≡ Ok tt
-end_done cells j h inv = inv ∙ ap all_end (drop_none cells j h)
+pub end_done : (cells : List RowCell) (j : ℕ) → length cells ≤ j → all_at_end cells ≡ all_at_end (drop j cells) → all_at_end cells ≡ Ok tt
+end_done cells j h inv = inv ∙ ap all_at_end (drop_none cells j h)
 
 -- the first subset's line
-pub first_is : (cells : List Cell) (e : Entry) (n : ℕ) → 0 < length cells → ((c : Cell) → slice_get cells 0 ≡ Some c → e ≡ cell_entry c) → n ≡ entry_line e → n ≡ first_line cells
+pub first_is : (cells : List RowCell) (e : DraftEntry) (n : ℕ) → 0 < length cells → ((c : RowCell) → slice_get cells 0 ≡ Some c → e ≡ cell_entry c) → n ≡ entry_line e → n ≡ first_line cells
 first_is [] e n h here is = absurd (omega (arith, h))
 first_is (c ∷ cells) e n h here is = is ∙ ap entry_line (here c refl) ∙ line_same c.draft c.end_line
 
 -- the line of the first that differs
-unlike_left : (c : Content) (cs : List Content) (d : Content) (ds : List Content) (k : Cell) (ks : List Cell) (b : Bool) → same c d ≡ b → unlike_from (c ∷ cs) (d ∷ ds) (k ∷ ks) ≡ (if b then unlike_from (c ∷ cs) ds ks else line_of k)
-unlike_left c cs d ds k ks b e = ap (λ t. if t then first_unlike c ds ks else line_of k) e
+unlike_left : (c : Content) (cs : List Content) (d : Content) (ds : List Content) (k : RowCell) (ks : List RowCell) (b : Bool) → same c d ≡ b → unlike_from (c ∷ cs) (d ∷ ds) (k ∷ ks) ≡ (if b then unlike_from (c ∷ cs) ds ks else cell_line k)
+unlike_left c cs d ds k ks b e = ap (λ t. if t then first_unlike c ds ks else cell_line k) e
 
-first_drawn : (count : ℕ) (ds : List Drawn) (z : Drawn) → 0 < length ds → contents_drawn count ds ≡ content_drawn count (get_or ds 0 z) ∷ contents_drawn count (drop 1 ds)
+first_drawn : (count : ℕ) (ds : List FieldContent) (z : FieldContent) → 0 < length ds → contents_drawn count ds ≡ content_drawn count (get_or ds 0 z) ∷ contents_drawn count (drop 1 ds)
 first_drawn count [] z h = absurd (omega (arith, h))
 first_drawn count (d ∷ []) z h = refl
 first_drawn count (d ∷ x ∷ ds) z h = refl
 
-module _ (count : ℕ) (ds : List Drawn) (cells : List Cell) (j : ℕ) (z : Drawn) (within : j < length ds) (many : length cells ≡ length ds)
+module _ (count : ℕ) (ds : List FieldContent) (cells : List RowCell) (j : ℕ) (z : FieldContent) (within : j < length ds) (many : length cells ≡ length ds)
     (inv : unlike_line (contents_drawn count ds) cells ≡ unlike_from (contents_drawn count ds) (contents_drawn count (drop j ds)) (drop j cells)) where
   unlike_next : (b : Bool) → same (content_drawn count (get_or ds 0 z)) (content_drawn count (get_or ds j z)) ≡ b → (k : CellAt cells j)
-      → unlike_line (contents_drawn count ds) cells ≡ (if b then unlike_from (contents_drawn count ds) (contents_drawn count (drop (j + 1) ds)) (drop (j + 1) cells) else line_of k.cell)
+      → unlike_line (contents_drawn count ds) cells ≡ (if b then unlike_from (contents_drawn count ds) (contents_drawn count (drop (j + 1) ds)) (drop (j + 1) cells) else cell_line k.cell)
   unlike_next b e k =
       let all = first_drawn count ds z (omega (arith, within)) in
       inv ∙ ap (λ xs. unlike_from (contents_drawn count ds) (contents_drawn count xs) (drop j cells)) (at_index ds j z within)
       ∙ ap (λ ks. unlike_from (contents_drawn count ds) (content_drawn count (get_or ds j z) ∷ contents_drawn count (drop (j + 1) ds)) ks) k.left
       ∙ ap (λ cs. unlike_from cs (content_drawn count (get_or ds j z) ∷ contents_drawn count (drop (j + 1) ds)) (k.cell ∷ drop (j + 1) cells)) all
       ∙ unlike_left (content_drawn count (get_or ds 0 z)) (contents_drawn count (drop 1 ds)) (content_drawn count (get_or ds j z)) (contents_drawn count (drop (j + 1) ds)) k.cell (drop (j + 1) cells) b e
-      ∙ ap (λ cs. if b then unlike_from cs (contents_drawn count (drop (j + 1) ds)) (drop (j + 1) cells) else line_of k.cell) (sym all)
+      ∙ ap (λ cs. if b then unlike_from cs (contents_drawn count (drop (j + 1) ds)) (drop (j + 1) cells) else cell_line k.cell) (sym all)
 
   pub unlike_more : same (content_drawn count (get_or ds 0 z)) (content_drawn count (get_or ds j z)) ≡ true
       → unlike_line (contents_drawn count ds) cells ≡ unlike_from (contents_drawn count ds) (contents_drawn count (drop (j + 1) ds)) (drop (j + 1) cells)
   unlike_more e = unlike_next true e (cell_at cells j (omega (arith, within, many)))
 
-  pub unlike_here : same (content_drawn count (get_or ds 0 z)) (content_drawn count (get_or ds j z)) ≡ false → (e : Entry) (n : ℕ) → ((c : Cell) → slice_get cells j ≡ Some c → e ≡ cell_entry c) → n ≡ entry_line e → n ≡ unlike_line (contents_drawn count ds) cells
+  pub unlike_here : same (content_drawn count (get_or ds 0 z)) (content_drawn count (get_or ds j z)) ≡ false → (e : DraftEntry) (n : ℕ) → ((c : RowCell) → slice_get cells j ≡ Some c → e ≡ cell_entry c) → n ≡ entry_line e → n ≡ unlike_line (contents_drawn count ds) cells
   unlike_here s e n here is =
       let k = cell_at cells j (omega (arith, within, many)) in
       is ∙ ap entry_line (here k.cell k.is) ∙ line_same k.cell.draft k.cell.end_line ∙ sym (unlike_next false s k)

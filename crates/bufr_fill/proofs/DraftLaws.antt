@@ -14,13 +14,13 @@ use Rattle.bufr_tables.specs.declared.kind.Kind.TheVariants as kind
 use Rattle.bufr_tables.specs.TableB.{is_character}
 use Rattle.bufr_walk.specs.declared.spec.Role.{Role}
 use Rattle.bufr_walk.specs.declared.spec.Role.TheVariants as role
-use Rattle.bufr_walk.specs.Asked.{Asked, IsSpec, HasWidth, HasRole, HasMissing}
+use Rattle.bufr_walk.specs.FieldSpec.{FieldSpec, IsSpec, HasWidth, HasRole, HasMissing}
 use Rattle.bufr_walk.specs.Content.{Content, number, text, missing, reference}
 use Rattle.bufr_fill.specs.Fits.{FitsText, FitsKind, FitsRole, Fits}
-use Rattle.bufr_fill.specs.Packing.{top}
+use Rattle.bufr_fill.specs.Packing.{raw_limit}
 use Rattle.bufr_fill.specs.Fault.{wrong_number, out_of_range, text_long}
-use Rattle.bufr_fill.specs.DraftContent.{content_of, content_by_form, raw_within, raw_of, reference_of, text_within, missing_of, form_of, is_marked, wrong_for}
-use Rattle.bufr_walk.specs.Asked.{is_reference}
+use Rattle.bufr_fill.specs.DraftContent.{content_of, content_by_form, raw_within, raw_of, reference_of, text_within, missing_of, draft_value_of, is_marked, wrong_for}
+use Rattle.bufr_walk.specs.FieldSpec.{is_reference}
 
 below_test : (a b : ℕ) → a < b → nat_lt a b ≡ true
 below_test a b h = grind (arith, nat_tests)
@@ -42,17 +42,17 @@ sum_within raw (negsuc r) h g = by_order (ltb raw (suc r)) raw r h g
 minus_back : (raw : ℕ) (z : ℤ) → (pos raw +ℤ z) -ℤ z ≡ pos raw
 minus_back raw z = omega (arith, ints)
 
-top_most : (m : Bool) (w raw : ℕ) → w ≤ 63 → raw < top m w → raw < 2 ^ 63
+top_most : (m : Bool) (w raw : ℕ) → w ≤ 63 → raw < raw_limit m w → raw < 2 ^ 63
 top_most true w raw h g = let p : 2 ^ w ≤ 2 ^ 63 = pow_mono h in omega arith
 top_most false w raw h g = let p : 2 ^ w ≤ 2 ^ 63 = pow_mono h in omega arith
 
-module _ (spec : Asked) (good : IsSpec spec) where
+module _ (spec : FieldSpec) (good : IsSpec spec) where
   -- a number
-  raw_again : (raw : ℕ) → spec.width ≤ 63 → raw < top spec.may_be_missing spec.width → raw_of spec (decimal_value_of (decimal_text_of (pos raw +ℤ spec.reference) spec.scale) spec.scale) ≡ Ok (number raw)
+  raw_again : (raw : ℕ) → spec.width ≤ 63 → raw < raw_limit spec.may_be_missing spec.width → raw_of spec (decimal_value_of (decimal_text_of (pos raw +ℤ spec.reference) spec.scale) spec.scale) ≡ Ok (number raw)
   raw_again raw narrow h =
       ap (raw_of spec) (reads_back (pos raw +ℤ spec.reference) spec.scale (sum_within raw spec.reference (top_most spec.may_be_missing spec.width raw narrow h) good.reference))
       ∙ ap (raw_within spec.may_be_missing spec.width) (minus_back raw spec.reference)
-      ∙ ap (λ b. if b then Ok (number raw) else Err out_of_range) (below_test raw (top spec.may_be_missing spec.width) h)
+      ∙ ap (λ b. if b then Ok (number raw) else Err out_of_range) (below_test raw (raw_limit spec.may_be_missing spec.width) h)
 
   -- a text
   text_again : (count : ℕ) (octets : List ℕ) → FitsText count (text octets) → text_within count octets ≡ Ok (text octets)
@@ -63,13 +63,13 @@ module _ (spec : Asked) (good : IsSpec spec) where
       ∙ ap (λ os. if list_all (λ octet. octet == 255) os then Err out_of_range else Ok (text os)) whole
       ∙ ap (λ b. if b then Err out_of_range else Ok (text octets)) h.2
 
-  as_number : (raw : ℕ) → is_character spec.kind ≡ false → content_by_form (form_of spec (number raw)) spec ≡ raw_of spec (decimal_value_of (decimal_text_of (pos raw +ℤ spec.reference) spec.scale) spec.scale)
+  as_number : (raw : ℕ) → is_character spec.kind ≡ false → content_by_form (draft_value_of spec (number raw)) spec ≡ raw_of spec (decimal_value_of (decimal_text_of (pos raw +ℤ spec.reference) spec.scale) spec.scale)
   as_number raw e = ap (λ b. if b then Err wrong_number else raw_of spec (decimal_value_of (decimal_text_of (pos raw +ℤ spec.reference) spec.scale) spec.scale)) e
 
   missing_again : (m : Bool) → m ≡ true → missing_of m ≡ Ok missing
   missing_again m e = ap missing_of e
 
-  kind_again : (k : Kind) (c : Content) → HasWidth k spec.width → HasMissing k spec.may_be_missing → FitsKind k spec.may_be_missing spec.width c → k ≡ spec.kind → content_by_form (form_of spec c) spec ≡ Ok c
+  kind_again : (k : Kind) (c : Content) → HasWidth k spec.width → HasMissing k spec.may_be_missing → FitsKind k spec.may_be_missing spec.width c → k ≡ spec.kind → content_by_form (draft_value_of spec c) spec ≡ Ok c
   kind_again kind.Character (number raw) hw hm h q = absurd h
   kind_again kind.Character (text octets) hw hm h q = ap (λ k. if is_character k then text_within (spec.width / 8) octets else Err wrong_number) (sym q) ∙ text_again (spec.width / 8) octets h
   kind_again kind.Character missing hw hm h q = missing_again spec.may_be_missing hm
@@ -99,7 +99,7 @@ module _ (spec : Asked) (good : IsSpec spec) where
   numeric_width kind.Coded h e = h
   numeric_width kind.Character h e = absurd cc
 
-  role_again : (r : Role) (c : Content) → HasRole r spec.kind spec.may_be_missing → FitsRole r spec c → content_by_form (form_of spec c) spec ≡ Ok c
+  role_again : (r : Role) (c : Content) → HasRole r spec.kind spec.may_be_missing → FitsRole r spec c → content_by_form (draft_value_of spec c) spec ≡ Ok c
   role_again role.Element c hr h = kind_again spec.kind c good.width good.missing h refl
   role_again role.Inserted c hr h = kind_again spec.kind c good.width good.missing h refl
   role_again role.Factor c hr h = kind_again spec.kind c good.width good.missing h refl
@@ -108,7 +108,7 @@ module _ (spec : Asked) (good : IsSpec spec) where
   role_again role.Reference (text octets) hr h = absurd h
   role_again role.Reference missing hr h = absurd h
 
-  mark_kind : (r : Role) (k : Kind) (m : Bool) (w : ℕ) (c : Content) → FitsKind k m w c → is_marked (form_of spec c) ≡ false
+  mark_kind : (r : Role) (k : Kind) (m : Bool) (w : ℕ) (c : Content) → FitsKind k m w c → is_marked (draft_value_of spec c) ≡ false
   mark_kind r k m w (number raw) h = refl
   mark_kind r k m w (text octets) h = refl
   mark_kind r k m w missing h = refl
@@ -116,7 +116,7 @@ module _ (spec : Asked) (good : IsSpec spec) where
   mark_kind r kind.Coded m w (reference v) h = absurd h
   mark_kind r kind.Numeric m w (reference v) h = absurd h
 
-  marked : (r : Role) (c : Content) → FitsRole r spec c → (if is_reference r then is_marked (form_of spec c) else not (is_marked (form_of spec c))) ≡ true
+  marked : (r : Role) (c : Content) → FitsRole r spec c → (if is_reference r then is_marked (draft_value_of spec c) else not (is_marked (draft_value_of spec c))) ≡ true
   marked role.Element c h = ap not (mark_kind role.Element spec.kind spec.may_be_missing spec.width c h)
   marked role.Inserted c h = ap not (mark_kind role.Inserted spec.kind spec.may_be_missing spec.width c h)
   marked role.Factor c h = ap not (mark_kind role.Factor spec.kind spec.may_be_missing spec.width c h)
@@ -126,8 +126,8 @@ module _ (spec : Asked) (good : IsSpec spec) where
   marked role.Reference missing h = absurd h
 
   -- whatever the line
-  pub draft_again : (line : ℕ) (c : Content) → Fits spec c → content_of spec (record { line = line; fxy = spec.fxy; form = form_of spec c }) ≡ Ok c
+  pub draft_again : (line : ℕ) (c : Content) → Fits spec c → content_of spec (record { line = line; fxy = spec.fxy; form = draft_value_of spec c }) ≡ Ok c
   draft_again line c h =
-      ap (λ b. if b && (if is_reference spec.role then is_marked (form_of spec c) else not (is_marked (form_of spec c))) then content_by_form (form_of spec c) spec else Err (wrong_for spec)) (equal_test spec.fxy)
-      ∙ ap (λ b. if b then content_by_form (form_of spec c) spec else Err (wrong_for spec)) (marked spec.role c h)
+      ap (λ b. if b && (if is_reference spec.role then is_marked (draft_value_of spec c) else not (is_marked (draft_value_of spec c))) then content_by_form (draft_value_of spec c) spec else Err (wrong_for spec)) (equal_test spec.fxy)
+      ∙ ap (λ b. if b then content_by_form (draft_value_of spec c) spec else Err (wrong_for spec)) (marked spec.role c h)
       ∙ role_again spec.role c good.role h

@@ -1,13 +1,13 @@
 -- What an item is as the content of a field, as the code draws it.
 use Rattle.std.proofs.Common.{◌≡◌, ℕ, ◌^◌, ◌<◌, ◌&&◌, Bool, true, false, not, ℤ, Result, Err, refl, sym, ◌∙◌, ap, arith}
 use Rattle.std.specs.Prelude.{◌==◌, if◌then◌else◌}
-use Rattle.bufr_walk.specs.Asked.{Asked, is_reference}
-use Rattle.bufr_walk.specs.Content.{Content, told, told_by_role, count_in, reference_in}
+use Rattle.bufr_walk.specs.FieldSpec.{FieldSpec, is_reference}
+use Rattle.bufr_walk.specs.Content.{Content, answer_of, told_by_role, count_in, reference_in}
 use Rattle.bufr_walk.specs.declared.spec.Role.TheVariants as role
 use Rattle.bufr_walk.specs.declared.spec.Taken.TheVariants as taken
-use Rattle.bufr_fill.specs.Packing.{top}
+use Rattle.bufr_fill.specs.Packing.{raw_limit}
 use Rattle.bufr_fill.specs.Draft.{Draft}
-use Rattle.bufr_fill.specs.Fault.{Fault}
+use Rattle.bufr_fill.specs.Fault.{DraftFaultKind}
 use Rattle.bufr_fill.specs.DraftContent.{is_of, is_marked, wrong_for, content_of, content_by_form}
 
 and_second : (a b : Bool) → (a && b) ≡ true → b ≡ true
@@ -15,7 +15,7 @@ and_second true b h = h
 and_second false b h = absurd cc
 
 -- an item that is that of a field has its mark
-pub marks : (spec : Asked) (d : Draft) → is_of spec d ≡ true → is_reference spec.role ≡ is_marked d.form
+pub marks : (spec : FieldSpec) (d : Draft) → is_of spec d ≡ true → is_reference spec.role ≡ is_marked d.form
 marks spec d h = by (is_reference spec.role) (is_marked d.form) (and_second (d.fxy == spec.fxy) _ h)
   where
     by : (a b : Bool) → (if a then b else not b) ≡ true → a ≡ b
@@ -24,26 +24,26 @@ marks spec d h = by (is_reference spec.role) (is_marked d.form) (and_second (d.f
     by false false q = refl
 
 -- an item that is that of a field has its form's content
-pub content_there : (spec : Asked) (d : Draft) (r : Result Content Fault) → is_of spec d ≡ true → r ≡ content_by_form d.form spec → r ≡ content_of spec d
+pub content_there : (spec : FieldSpec) (d : Draft) (r : Result Content DraftFaultKind) → is_of spec d ≡ true → r ≡ content_by_form d.form spec → r ≡ content_of spec d
 content_there spec d r h e = e ∙ ap (λ b. if b then content_by_form d.form spec else Err (wrong_for spec)) (sym h)
 
-pub content_wrong : (spec : Asked) (d : Draft) → is_of spec d ≡ false → content_of spec d ≡ Err (wrong_for spec)
+pub content_wrong : (spec : FieldSpec) (d : Draft) → is_of spec d ≡ false → content_of spec d ≡ Err (wrong_for spec)
 content_wrong spec d h = ap (λ b. if b then content_by_form d.form spec else Err (wrong_for spec)) h
 
 -- what each role tells
-pub told_element : (spec : Asked) (c : Content) → spec.role ≡ role.Element → taken.Plain ≡ told spec c
+pub told_element : (spec : FieldSpec) (c : Content) → spec.role ≡ role.Element → taken.Plain ≡ answer_of spec c
 told_element spec c e = sym (ap (λ r. told_by_role r c) e)
 
-pub told_inserted : (spec : Asked) (c : Content) → spec.role ≡ role.Inserted → taken.Plain ≡ told spec c
+pub told_inserted : (spec : FieldSpec) (c : Content) → spec.role ≡ role.Inserted → taken.Plain ≡ answer_of spec c
 told_inserted spec c e = sym (ap (λ r. told_by_role r c) e)
 
-pub told_count : (spec : Asked) (c : Content) (n : ℕ) → spec.role ≡ role.Factor → n ≡ count_in c → taken.Count n ≡ told spec c
+pub told_count : (spec : FieldSpec) (c : Content) (n : ℕ) → spec.role ≡ role.Factor → n ≡ count_in c → taken.Count n ≡ answer_of spec c
 told_count spec c n e h = ap taken.Count h ∙ sym (ap (λ r. told_by_role r c) e)
 
-pub told_reference : (spec : Asked) (c : Content) (v : ℤ) → spec.role ≡ role.Reference → v ≡ reference_in c → taken.Reference v ≡ told spec c
+pub told_reference : (spec : FieldSpec) (c : Content) (v : ℤ) → spec.role ≡ role.Reference → v ≡ reference_in c → taken.Reference v ≡ answer_of spec c
 told_reference spec c v e h = ap taken.Reference h ∙ sym (ap (λ r. told_by_role r c) e)
 
 -- a number is written in at most 63 bits
-pub drawn_narrow : (m : Bool) (w raw : ℕ) → raw < top m w → raw < 2 ^ w
+pub drawn_narrow : (m : Bool) (w raw : ℕ) → raw < raw_limit m w → raw < 2 ^ w
 drawn_narrow true w raw h = omega (arith, h)
 drawn_narrow false w raw h = h

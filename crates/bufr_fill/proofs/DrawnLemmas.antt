@@ -12,17 +12,17 @@ use Rattle.std.proofs.lemmas.Int.{ints, to_z-of_z, fits_signed_from_abs}
 use Rattle.bufr_walk.specs.Content.{number}
 use Rattle.bufr_fill.specs.Fault.{out_of_range}
 use Rattle.bufr_fill.specs.DraftContent.{raw_within}
-use Rattle.bufr_fill.specs.Packing.{top}
+use Rattle.bufr_fill.specs.Packing.{raw_limit}
 
 past : (a b : ℕ) → b ≤ a → nat_lt a b ≡ false
 past a b h = grind (arith, nat_tests)
 
-top_least : (m : Bool) (w raw : ℕ) → w ≤ 63 → 2 ^ 63 ≤ raw → top m w ≤ raw
+top_least : (m : Bool) (w raw : ℕ) → w ≤ 63 → 2 ^ 63 ≤ raw → raw_limit m w ≤ raw
 top_least true w raw h g = let p : 2 ^ w ≤ 2 ^ 63 = pow_mono h in omega arith
 top_least false w raw h g = let p : 2 ^ w ≤ 2 ^ 63 = pow_mono h in omega arith
 
 pub beyond : (m : Bool) (w : ℕ) (z : ℤ) → w ≤ 63 → ((raw : ℕ) → z ≡ pos raw → 2 ^ 63 ≤ raw) → Err out_of_range ≡ raw_within m w z
-beyond m w (pos raw) h g = ap (λ b. if b then Ok (number raw) else Err out_of_range) (sym (past raw (top m w) (top_least m w raw h (g raw refl))))
+beyond m w (pos raw) h g = ap (λ b. if b then Ok (number raw) else Err out_of_range) (sym (past raw (raw_limit m w) (top_least m w raw h (g raw refl))))
 beyond m w (negsuc n) h g = refl
 
 by_order : (b : Bool) (a c : ℕ) → nat_lt a c ≡ b → (a < c → ⊥) → c ≤ a

@@ -49,9 +49,9 @@ unfoldable pub latitude : Tree
 unfolding fxy
 latitude = element (fxy 0 5 2) bare
 
-unfoldable pub figure : Tree
+unfoldable pub coded_spec : Tree
 unfolding fxy
-figure = element (fxy 0 31 21) bare
+coded_spec = element (fxy 0 31 21) bare
 
 unfoldable pub name : Tree
 unfolding fxy

@@ -6,25 +6,25 @@ use Rattle.bufr_bits.proofs.ScaledLemmas.{and_second}
 use Rattle.std.proofs.lemmas.List.{nil_from_length, take-append-drop, take_at, drop_at, length-replicate, length-take-le, length-drop}
 use Rattle.std.proofs.lemmas.Bool.Decides.{nat_tests}
 use Rattle.std.proofs.lemmas.Nat.{shr_high}
-use Rattle.bufr_bits.specs.Bits.{bits_of, bits_of_octet, bits_in, number_behind, number_of, all_set}
+use Rattle.bufr_bits.specs.Bits.{bits_of, bits_of_octet, bits_in, number_after_bits, number_of, are_all_ones}
 use Rattle.bufr_bits.proofs.BitLemmas.{bit, number_behind-is, number_of-below, number-bits_of_octet, length-bits_of}
 use Rattle.bufr_bits.proofs.PushLemmas.{bits_in-above, bits_in-octet, length-bits_in, number_of-bits_in}
 use Rattle.bufr_bits.proofs.OnesLemmas.{all_set-number, all_set-bits_of}
 use Rattle.bufr_tables.specs.declared.kind.Kind.{Kind}
 use Rattle.bufr_tables.specs.declared.kind.Kind.TheVariants as kind
-use Rattle.bufr_walk.specs.Asked.{HasWidth, HasMissing}
+use Rattle.bufr_walk.specs.FieldSpec.{HasWidth, HasMissing}
 use Rattle.bufr_walk.specs.Content.{Content, number, text, missing, reference, octets_in, signed_by, said_by, sign_bit, bits_for}
 use Rattle.bufr_fill.specs.Fits.{AreOctets, FitsKind}
-use Rattle.bufr_fill.specs.Packing.{top}
+use Rattle.bufr_fill.specs.Packing.{raw_limit}
 
 -- a number that its bits can write is written so
 pub number_again : (v w : ℕ) → v < 2 ^ w → number_of (bits_in v w) ≡ v
 number_again v w h = number_of-bits_in v w ∙ mod-eq_of_lt h
 
-pub ones_test : (xs : List Bool) (w : ℕ) → length xs ≡ w → eqb (number_of xs) (2 ^ w - 1) ≡ all_set xs
-ones_test xs w e = subst (λ n. eqb (number_of xs) (2 ^ n - 1) ≡ all_set xs) e (all_set-number xs)
+pub ones_test : (xs : List Bool) (w : ℕ) → length xs ≡ w → eqb (number_of xs) (2 ^ w - 1) ≡ are_all_ones xs
+ones_test xs w e = subst (λ n. eqb (number_of xs) (2 ^ n - 1) ≡ are_all_ones xs) e (all_set-number xs)
 
-pub top_below : (m : Bool) (w v : ℕ) → v < top m w → v < 2 ^ w
+pub top_below : (m : Bool) (w v : ℕ) → v < raw_limit m w → v < 2 ^ w
 top_below true w v h = omega arith
 top_below false w v h = h
 
@@ -32,22 +32,22 @@ not_ones : (v w : ℕ) → v < 2 ^ w - 1 → eqb v (2 ^ w - 1) ≡ false
 not_ones v w h = grind (arith, nat_tests)
 
 -- a number below its top is not missing
-not_missing : (m : Bool) (w v : ℕ) (b : Bool) → v < top m w → (m ≡ true → b ≡ eqb v (2 ^ w - 1)) → (b && m) ≡ false
+not_missing : (m : Bool) (w v : ℕ) (b : Bool) → v < raw_limit m w → (m ≡ true → b ≡ eqb v (2 ^ w - 1)) → (b && m) ≡ false
 not_missing true w v b h e = ap (λ x. x && true) (e refl ∙ not_ones v w h)
 not_missing false w v true h e = refl
 not_missing false w v false h e = refl
 
-pub ones_set : (w : ℕ) → all_set (replicate w true) ≡ true
+pub ones_set : (w : ℕ) → are_all_ones (replicate w true) ≡ true
 ones_set zero = refl
 ones_set (suc w) = ones_set w
 
 -- a number that bits write is below their top, where it is not missing
-below_top : (m : Bool) (xs : List Bool) (w : ℕ) → length xs ≡ w → (all_set xs && m) ≡ false → number_of xs < top m w
+below_top : (m : Bool) (xs : List Bool) (w : ℕ) → length xs ≡ w → (are_all_ones xs && m) ≡ false → number_of xs < raw_limit m w
 below_top false xs w e h = subst (λ n. number_of xs < 2 ^ n) e (number_of-below xs)
 below_top true xs w e h =
     let below : number_of xs < 2 ^ w = subst (λ n. number_of xs < 2 ^ n) e (number_of-below xs) in
-    let test : eqb (number_of xs) (2 ^ w - 1) ≡ all_set xs = ones_test xs w e in
-    apart_below (number_of xs) (2 ^ w) (all_set xs) below test h
+    let test : eqb (number_of xs) (2 ^ w - 1) ≡ are_all_ones xs = ones_test xs w e in
+    apart_below (number_of xs) (2 ^ w) (are_all_ones xs) below test h
   where
     apart_below : (v p : ℕ) (b : Bool) → v < p → eqb v (p - 1) ≡ b → (b && true) ≡ false → v < p - 1
     apart_below v p true h e f = cc
@@ -80,7 +80,7 @@ octet_at [] h k = omega arith
 octet_at (x ∷ xs) h zero = h.0
 octet_at (x ∷ xs) h (suc k) = octet_at xs h.1 k
 
-pub full_test : (octets : List ℕ) → AreOctets octets → all_set (bits_of octets) ≡ list_all (λ octet. octet == 255) octets
+pub full_test : (octets : List ℕ) → AreOctets octets → are_all_ones (bits_of octets) ≡ list_all (λ octet. octet == 255) octets
 full_test octets h = sym (all_set-bits_of octets (octet_at octets h))
 
 bit_test : (b : Bool) → eqb (bit b % 2) 1 ≡ b
@@ -95,7 +95,7 @@ pub bits_again : (xs : List Bool) → bits_in (number_of xs) (length xs) ≡ xs
 unfolding bits_in
 bits_again [] = refl
 bits_again (x ∷ xs) =
-    let e : number_of (x ∷ xs) ≡ bit x * 2 ^ length xs + number_of xs = ap (λ n. number_behind n xs) (omega arith) ∙ number_behind-is (bit x) xs in
+    let e : number_of (x ∷ xs) ≡ bit x * 2 ^ length xs + number_of xs = ap (λ n. number_after_bits n xs) (omega arith) ∙ number_behind-is (bit x) xs in
     ap (λ n. bits_in n (suc (length xs))) e
     ∙ ap (λ b. b ∷ bits_in (bit x * 2 ^ length xs + number_of xs) (length xs)) (first_bit x (number_of xs) (length xs) (number_of-below xs))
     ∙ ap (λ bs. x ∷ bs) (bits_in-above (bit x) (number_of xs) (length xs) ∙ bits_again xs)
@@ -116,15 +116,15 @@ octet_bits_again (suc n) bits h =
     ∙ take-append-drop 8 bits
 
 module _ (w : ℕ) where
-  pub number_back : (m : Bool) (raw : ℕ) → raw < top m w → (all_set (bits_in raw w) && m) ≡ false
-  number_back m raw h = not_missing m w raw (all_set (bits_in raw w)) h (λ e. sym (ones_test (bits_in raw w) w (length-bits_in raw w)) ∙ ap (λ n. eqb n (2 ^ w - 1)) (number_again raw w (top_below m w raw h)))
+  pub number_back : (m : Bool) (raw : ℕ) → raw < raw_limit m w → (are_all_ones (bits_in raw w) && m) ≡ false
+  number_back m raw h = not_missing m w raw (are_all_ones (bits_in raw w)) h (λ e. sym (ones_test (bits_in raw w) w (length-bits_in raw w)) ∙ ap (λ n. eqb n (2 ^ w - 1)) (number_again raw w (top_below m w raw h)))
 
   -- a text
-  text_back : (m : Bool) (octets : List ℕ) → AreOctets octets → list_all (λ octet. octet == 255) octets ≡ false → (all_set (bits_of octets) && m) ≡ false
+  text_back : (m : Bool) (octets : List ℕ) → AreOctets octets → list_all (λ octet. octet == 255) octets ≡ false → (are_all_ones (bits_of octets) && m) ≡ false
   text_back m octets h e = ap (λ b. b && m) (full_test octets h ∙ e)
 
   -- a missing value
-  missing_back : (m : Bool) → m ≡ true → (all_set (replicate w true) && m) ≡ true
+  missing_back : (m : Bool) → m ≡ true → (are_all_ones (replicate w true) && m) ≡ true
   missing_back m e = ap (λ b. b && m) (ones_set w) ∙ e
 
   by_test : (b : Bool) (c d : Content) → b ≡ false → (if b then missing else c) ≡ d → (if b then missing else c) ≡ d
@@ -137,19 +137,19 @@ module _ (w : ℕ) where
   chosen_yes b c e = ap (λ x. if x then missing else c) e
 
   -- what is written by kind is what is read
-  pub kind_back : (k : Kind) (m : Bool) (c : Content) → HasWidth k w → HasMissing k m → FitsKind k m w c → (if all_set (bits_for w c) && m then missing else said_by k w (bits_for w c)) ≡ c
+  pub kind_back : (k : Kind) (m : Bool) (c : Content) → HasWidth k w → HasMissing k m → FitsKind k m w c → (if are_all_ones (bits_for w c) && m then missing else said_by k w (bits_for w c)) ≡ c
   kind_back kind.Character m (number raw) hw hm h = absurd h
   kind_back kind.Character m (reference v) hw hm h = absurd h
-  kind_back kind.Character m missing hw hm h = chosen_yes (all_set (replicate w true) && m) _ (missing_back m hm)
+  kind_back kind.Character m missing hw hm h = chosen_yes (are_all_ones (replicate w true) && m) _ (missing_back m hm)
   kind_back kind.Character m (text octets) hw hm h =
-      chosen_no (all_set (bits_of octets) && m) (text (octets_in (w / 8) (bits_of octets))) (text octets) (text_back m octets h.1 h.2) (ap (λ n. text (octets_in n (bits_of octets))) (sym h.0) ∙ ap text (octets_again octets h.1))
-  kind_back kind.Coded m (number raw) hw hm h = chosen_no (all_set (bits_in raw w) && m) (number (number_of (bits_in raw w))) (number raw) (number_back m raw h) (ap number (number_again raw w (top_below m w raw h)))
+      chosen_no (are_all_ones (bits_of octets) && m) (text (octets_in (w / 8) (bits_of octets))) (text octets) (text_back m octets h.1 h.2) (ap (λ n. text (octets_in n (bits_of octets))) (sym h.0) ∙ ap text (octets_again octets h.1))
+  kind_back kind.Coded m (number raw) hw hm h = chosen_no (are_all_ones (bits_in raw w) && m) (number (number_of (bits_in raw w))) (number raw) (number_back m raw h) (ap number (number_again raw w (top_below m w raw h)))
   kind_back kind.Coded m (reference v) hw hm h = absurd h
-  kind_back kind.Coded m missing hw hm h = chosen_yes (all_set (replicate w true) && m) _ (missing_back m h)
+  kind_back kind.Coded m missing hw hm h = chosen_yes (are_all_ones (replicate w true) && m) _ (missing_back m h)
   kind_back kind.Coded m (text octets) hw hm h = absurd h
-  kind_back kind.Numeric m (number raw) hw hm h = chosen_no (all_set (bits_in raw w) && m) (number (number_of (bits_in raw w))) (number raw) (number_back m raw h) (ap number (number_again raw w (top_below m w raw h)))
+  kind_back kind.Numeric m (number raw) hw hm h = chosen_no (are_all_ones (bits_in raw w) && m) (number (number_of (bits_in raw w))) (number raw) (number_back m raw h) (ap number (number_again raw w (top_below m w raw h)))
   kind_back kind.Numeric m (reference v) hw hm h = absurd h
-  kind_back kind.Numeric m missing hw hm h = chosen_yes (all_set (replicate w true) && m) _ (missing_back m h)
+  kind_back kind.Numeric m missing hw hm h = chosen_yes (are_all_ones (replicate w true) && m) _ (missing_back m h)
   kind_back kind.Numeric m (text octets) hw hm h = absurd h
 
   eighths : w % 8 ≡ 0 → 8 * (w / 8) ≡ w
@@ -169,25 +169,25 @@ module _ (w : ℕ) where
   kind_length kind.Numeric m missing hw h = length-replicate w true
   kind_length kind.Numeric m (text octets) hw h = absurd h
 
-  fits_said : (b : Bool) (k : Kind) (m : Bool) (bits : List Bool) → length bits ≡ w → HasWidth k w → HasMissing k m → (all_set bits && m) ≡ b → FitsKind k m w (if b then missing else said_by k w bits)
+  fits_said : (b : Bool) (k : Kind) (m : Bool) (bits : List Bool) → length bits ≡ w → HasWidth k w → HasMissing k m → (are_all_ones bits && m) ≡ b → FitsKind k m w (if b then missing else said_by k w bits)
   fits_said true kind.Character m bits l hw hm e = tt
-  fits_said true kind.Coded m bits l hw hm e = and_second (all_set bits) m e
-  fits_said true kind.Numeric m bits l hw hm e = and_second (all_set bits) m e
+  fits_said true kind.Coded m bits l hw hm e = and_second (are_all_ones bits) m e
+  fits_said true kind.Numeric m bits l hw hm e = and_second (are_all_ones bits) m e
   fits_said false kind.Coded m bits l hw hm e = below_top m bits w l e
   fits_said false kind.Numeric m bits l hw hm e = below_top m bits w l e
   fits_said false kind.Character m bits l hw hm e =
       let whole : length bits ≡ 8 * (w / 8) = l ∙ sym (eighths hw.2) in
       let are : AreOctets (octets_in (w / 8) bits) = octets_in-are (w / 8) bits whole in
-      let set : all_set bits ≡ false = and_true (all_set bits) ∙ ap (λ b. all_set bits && b) (sym hm) ∙ e in
-      (length-octets_in (w / 8) bits, are, sym (full_test (octets_in (w / 8) bits) are) ∙ ap all_set (octet_bits_again (w / 8) bits whole) ∙ set)
+      let set : are_all_ones bits ≡ false = and_true (are_all_ones bits) ∙ ap (λ b. are_all_ones bits && b) (sym hm) ∙ e in
+      (length-octets_in (w / 8) bits, are, sym (full_test (octets_in (w / 8) bits) are) ∙ ap are_all_ones (octet_bits_again (w / 8) bits whole) ∙ set)
     where
       and_true : (b : Bool) → b ≡ (b && true)
       and_true true = refl
       and_true false = refl
 
   -- what bits say is a content that the field can have
-  pub kind_fits : (k : Kind) (m : Bool) (bits : List Bool) → length bits ≡ w → HasWidth k w → HasMissing k m → FitsKind k m w (if all_set bits && m then missing else said_by k w bits)
-  kind_fits k m bits l hw hm = fits_said (all_set bits && m) k m bits l hw hm refl
+  pub kind_fits : (k : Kind) (m : Bool) (bits : List Bool) → length bits ≡ w → HasWidth k w → HasMissing k m → FitsKind k m w (if are_all_ones bits && m then missing else said_by k w bits)
+  kind_fits k m bits l hw hm = fits_said (are_all_ones bits && m) k m bits l hw hm refl
 
 -- a number with a sign, there and back
 pub signed_back : (v : ℤ) (w : ℕ) → nat_abs v < 2 ^ (w - 1) → signed_by (sign_bit v ∷ bits_in (nat_abs v) (w - 1)) ≡ v

@@ -1,19 +1,19 @@
 -- One field that an encoder is asked for.
 use Rattle.std.specs.Prelude.{◌≡◌, Bool, List, [], ◌∷◌, ◌++◌, Ok, Err}
 use Rattle.bufr_walk.specs.declared.spec.Taken.{Taken}
-use Rattle.bufr_walk.specs.Asked.{Asked}
-use Rattle.bufr_fill.specs.Filling.{Written, Filler}
+use Rattle.bufr_walk.specs.FieldSpec.{FieldSpec}
+use Rattle.bufr_fill.specs.Filling.{WrittenItem, Filler}
 
 -- the first of the drafts that are left was taken as the field, and its bits were written
-pub record HasFilled {D C E : Type 0} (filler : Filler D C E) (left : List D) (out : List Bool) (spec : Asked) (t : Taken) (left' : List D) (out' : List Bool) : Type 0 where
+pub record HasFilled {D C E : Type 0} (filler : Filler D C E) (left : List D) (out : List Bool) (spec : FieldSpec) (t : Taken) (left' : List D) (out' : List Bool) : Type 0 where
   pub draft : D
-  pub item : Written C
+  pub item : WrittenItem C
   pub here : left ≡ draft ∷ left'
   pub fills : filler.fills spec draft ≡ Ok item
   pub tells : t ≡ filler.tells spec item.content
   pub bits : out' ≡ out ++ item.bits
 
 -- why the field could not be filled
-abbrev pub IsUnfilled : {D C E : Type 0} → Filler D C E → List D → Asked → E → Type 0
+abbrev pub IsUnfilled : {D C E : Type 0} → Filler D C E → List D → FieldSpec → E → Type 0
 IsUnfilled filler [] spec e = e ≡ filler.none_left spec
 IsUnfilled filler (d ∷ ds) spec e = filler.fills spec d ≡ Err e

@@ -12,16 +12,16 @@ use Rattle.bufr_tables.specs.declared.kind.Kind.TheVariants as kind
 use Rattle.bufr_tables.specs.TableB.{is_character}
 use Rattle.bufr_walk.specs.declared.spec.Role.{Role}
 use Rattle.bufr_walk.specs.declared.spec.Role.TheVariants as role
-use Rattle.bufr_walk.specs.Asked.{Asked, is_reference}
+use Rattle.bufr_walk.specs.FieldSpec.{FieldSpec, is_reference}
 use Rattle.bufr_walk.specs.Content.{Content, number, text, missing, reference}
-use Rattle.bufr_fill.specs.Draft.{Form, number_token, text_form, missing_form, reference_token, Draft}
+use Rattle.bufr_fill.specs.Draft.{DraftValue, number_token, text_form, missing_form, reference_token, Draft}
 use Rattle.bufr_fill.specs.DraftContent.{is_marked, raw_within, raw_of, reference_of, text_within, missing_of, content_by_form, is_of, wrong_for, content_of}
-use Rattle.bufr_fill.specs.Fault.{Fault, wrong_number, out_of_range, text_long, missing_forbidden}
+use Rattle.bufr_fill.specs.Fault.{DraftFaultKind, wrong_number, out_of_range, text_long, missing_forbidden}
 use Rattle.bufr_fill.specs.Fits.{AreOctets, FitsNumber, FitsText, FitsReference, FitsKind, FitsRole, Fits}
-use Rattle.bufr_fill.specs.Packing.{top}
+use Rattle.bufr_fill.specs.Packing.{raw_limit}
 use Rattle.bufr_fill.specs.ReadBack.{HasOctets}
 
-same_ok : {A : Type 0} (a b : A) → ◌≡◌ {A = Result A Fault} (Ok a) (Ok b) → a ≡ b
+same_ok : {A : Type 0} (a b : A) → ◌≡◌ {A = Result A DraftFaultKind} (Ok a) (Ok b) → a ≡ b
 same_ok a b e = cc
 
 below_from : (a b : ℕ) → nat_lt a b ≡ true → a < b
@@ -31,12 +31,12 @@ at_most : (a b : ℕ) → nat_lt a b ≡ false → b ≤ a
 at_most a b h = grind (arith, nat_tests)
 
 module _ (m : Bool) (w : ℕ) (c : Content) where
-  number_test : (raw : ℕ) (b : Bool) → nat_lt raw (top m w) ≡ b → (if b then Ok (number raw) else Err out_of_range) ≡ Ok c → FitsNumber m w c
-  number_test raw true p e = subst (FitsNumber m w) (same_ok (number raw) c e) (below_from raw (top m w) p)
+  number_test : (raw : ℕ) (b : Bool) → nat_lt raw (raw_limit m w) ≡ b → (if b then Ok (number raw) else Err out_of_range) ≡ Ok c → FitsNumber m w c
+  number_test raw true p e = subst (FitsNumber m w) (same_ok (number raw) c e) (below_from raw (raw_limit m w) p)
   number_test raw false p e = cc
 
   number_fits : (v : ℤ) → raw_within m w v ≡ Ok c → FitsNumber m w c
-  number_fits (pos raw) e = number_test raw (nat_lt raw (top m w)) refl e
+  number_fits (pos raw) e = number_test raw (nat_lt raw (raw_limit m w)) refl e
   number_fits (negsuc n) e = cc
 
   missing_test : (b : Bool) → m ≡ b → (if b then Ok missing else Err missing_forbidden) ≡ Ok c → (m ≡ true) × (c ≡ missing)
@@ -69,7 +69,7 @@ text_fits count octets c h e = by_tests (nat_lt count (length octets)) (list_all
         let size : length whole ≡ count = omega (arith, short, length-append octets (replicate (count - length octets) 32), length-replicate {A = ℕ} (count - length octets) 32) in
         subst (FitsText count) (same_ok (text whole) c r) (size, octets_and octets (replicate (count - length octets) 32) h (spaces_are (count - length octets)), q)
 
-module _ (spec : Asked) (c : Content) where
+module _ (spec : FieldSpec) (c : Content) where
   raw_fits : (r : Result ℤ NumberFault) → raw_of spec r ≡ Ok c → FitsNumber spec.may_be_missing spec.width c
   raw_fits (Ok v) e = number_fits spec.may_be_missing spec.width c (v -ℤ spec.reference) e
   raw_fits (Err why) e = cc
@@ -92,13 +92,13 @@ module _ (spec : Asked) (c : Content) where
   text_kind kind.Coded octets h e = cc
   text_kind kind.Numeric octets h e = cc
 
-  kind_form : (f : Form) → HasOctets f → not (is_marked f) ≡ true → content_by_form f spec ≡ Ok c → FitsKind spec.kind spec.may_be_missing spec.width c
+  kind_form : (f : DraftValue) → HasOctets f → not (is_marked f) ≡ true → content_by_form f spec ≡ Ok c → FitsKind spec.kind spec.may_be_missing spec.width c
   kind_form (number_token digits) h p e = number_kind spec.kind (decimal_value_of digits spec.scale) e
   kind_form (text_form octets) h p e = text_kind spec.kind octets h e
   kind_form missing_form h p e = missing_fits spec.may_be_missing spec.width c spec.kind e
   kind_form (reference_token digits) h p e = cc
 
-  role_form : (r : Role) (f : Form) → HasOctets f → (if is_reference r then is_marked f else not (is_marked f)) ≡ true → content_by_form f spec ≡ Ok c → FitsRole r spec c
+  role_form : (r : Role) (f : DraftValue) → HasOctets f → (if is_reference r then is_marked f else not (is_marked f)) ≡ true → content_by_form f spec ≡ Ok c → FitsRole r spec c
   role_form role.Element f h p e = kind_form f h p e
   role_form role.Inserted f h p e = kind_form f h p e
   role_form role.Factor f h p e = kind_form f h p e
@@ -112,5 +112,5 @@ module _ (spec : Asked) (c : Content) where
   by_draft d h false p e = cc
 
 -- what a draft says at a field fits it
-pub draft_fits : (spec : Asked) (d : Draft) (c : Content) → HasOctets d.form → content_of spec d ≡ Ok c → Fits spec c
+pub draft_fits : (spec : FieldSpec) (d : Draft) (c : Content) → HasOctets d.form → content_of spec d ≡ Ok c → Fits spec c
 draft_fits spec d c h e = by_draft spec c d h (is_of spec d) refl e

@@ -10,13 +10,13 @@ use Rattle.bufr_tables.specs.Legal.{IsLegal}
 use Rattle.bufr_walk.specs.declared.spec.Taken.{Taken}
 use Rattle.bufr_walk.specs.declared.spec.Taken.TheVariants as taken
 use Rattle.bufr_walk.specs.declared.spec.Role.TheVariants as role
-use Rattle.bufr_walk.specs.declared.spec.Refusal.{Refusal}
-use Rattle.bufr_walk.specs.declared.spec.Refusal.TheVariants as refusal
-use Rattle.bufr_walk.specs.Asked.{Asked, IsSpec}
-use Rattle.bufr_walk.specs.Settings.{Settings, Redefined, begin, is_defining, with_references, with_operator, after_operator, after_field, with_reference}
-use Rattle.bufr_walk.specs.Rules.{text_of, element_spec, factor_spec, inserted_spec}
+use Rattle.bufr_walk.specs.declared.spec.TurnRefusal.{TurnRefusal}
+use Rattle.bufr_walk.specs.declared.spec.TurnRefusal.TheVariants as refusal
+use Rattle.bufr_walk.specs.FieldSpec.{FieldSpec, IsSpec}
+use Rattle.bufr_walk.specs.Operators.{OperatorModel, Redefined, begin, is_defining, with_references, with_operator, after_operator, after_field, with_reference}
+use Rattle.bufr_walk.specs.Rules.{text_spec, element_spec, factor_spec, inserted_spec}
 use Rattle.bufr_walk.specs.Turns.{Turns, finish, open_end, group, pass_end, factor_turn, element_turn, operator_turn, Rest, passes, unroll, turns_of}
-use Rattle.bufr_walk.specs.Course.{take_next, Ahead, asked, operated, ahead, next_item, counts_of}
+use Rattle.bufr_walk.specs.Course.{take_next, NextTurn, asked, operated, ahead, next_item, counts_of}
 use Rattle.bufr_fill.proofs.Limits.{AreGoodRows, IsWithin, AreWithin, AreRedefined, IsSettings, AreLegal}
 use Rattle.bufr_fill.proofs.GoodSpecs.{element_good, factor_good}
 
@@ -61,37 +61,37 @@ operand_seven x y e h = le_from y (subst (λ z. has_legal_operand z y ≡ true) 
 operand_most : (fxy : ℕ) → y_of fxy ≤ 255
 operand_most fxy = omega arith
 
-inserted_good : (s : Settings) (fxy : ℕ) (spec : Asked) → is_inserted_text fxy ≡ true → is_legal_operator fxy ≡ true → inserted_spec s fxy ≡ Ok spec → IsSpec spec
+inserted_good : (s : OperatorModel) (fxy : ℕ) (spec : FieldSpec) → is_inserted_text fxy ≡ true → is_legal_operator fxy ≡ true → inserted_spec s fxy ≡ Ok spec → IsSpec spec
 inserted_good s fxy spec x legal e = by (is_defining s) e
   where
-    by : (b : Bool) → (if b then Err (refusal.Defining fxy) else Ok (text_of role.Inserted fxy (8 * y_of fxy) false)) ≡ Ok spec → IsSpec spec
+    by : (b : Bool) → (if b then Err (refusal.Defining fxy) else Ok (text_spec role.Inserted fxy (8 * y_of fxy) false)) ≡ Ok spec → IsSpec spec
     by true q = absurd cc
     by false q =
-        let is : text_of role.Inserted fxy (8 * y_of fxy) false ≡ spec = cc in
+        let is : text_spec role.Inserted fxy (8 * y_of fxy) false ≡ spec = cc in
         let some : 1 ≤ y_of fxy = operand_five (x_of fxy) (y_of fxy) x legal in
         let most : y_of fxy ≤ 255 = operand_most fxy in
         subst IsSpec is (record { width = (omega arith, omega arith, omega arith); role = refl; missing = refl; scale = omega arith; reference = omega arith })
 
 -- settings after an operator, and after a field
-references_good : (s : Settings) (y : ℕ) → IsSettings s → ((y == 255) ≡ false → y ≤ 63) → IsSettings (with_references y s)
+references_good : (s : OperatorModel) (y : ℕ) → IsSettings s → ((y == 255) ≡ false → y ≤ 63) → IsSettings (with_references y s)
 references_good s y set h = by (y == 255) (y == 0) refl
   where
-    by : (a b : Bool) → (y == 255) ≡ a → IsSettings (if a then record s { defining = 0 } else if b then record s { redefined = [] } else record s { defining = y })
-    by true b q = record { widened = set.widened; rescaled = set.rescaled; defining = omega arith; refined = set.refined; lettered = set.lettered; given = set.given; redefined = set.redefined }
-    by false true q = record { widened = set.widened; rescaled = set.rescaled; defining = set.defining; refined = set.refined; lettered = set.lettered; given = set.given; redefined = tt }
-    by false false q = record { widened = set.widened; rescaled = set.rescaled; defining = h q; refined = set.refined; lettered = set.lettered; given = set.given; redefined = set.redefined }
+    by : (a b : Bool) → (y == 255) ≡ a → IsSettings (if a then record s { new_reference_width = 0 } else if b then record s { new_references = [] } else record s { new_reference_width = y })
+    by true b q = record { width_change = set.width_change; scale_change = set.scale_change; new_reference_width = omega arith; precision_increase = set.precision_increase; character_octets = set.character_octets; local_width = set.local_width; new_references = set.new_references }
+    by false true q = record { width_change = set.width_change; scale_change = set.scale_change; new_reference_width = set.new_reference_width; precision_increase = set.precision_increase; character_octets = set.character_octets; local_width = set.local_width; new_references = tt }
+    by false false q = record { width_change = set.width_change; scale_change = set.scale_change; new_reference_width = h q; precision_increase = set.precision_increase; character_octets = set.character_octets; local_width = set.local_width; new_references = set.new_references }
 
-operator_good : (s : Settings) (x y : ℕ) → IsSettings s → y ≤ 255 → has_legal_operand x y ≡ true → IsSettings (with_operator x y s)
+operator_good : (s : OperatorModel) (x y : ℕ) → IsSettings s → y ≤ 255 → has_legal_operand x y ≡ true → IsSettings (with_operator x y s)
 operator_good s x y set most legal = by (x == 1) (x == 2) (x == 3) (x == 6) (x == 7) (x == 8) refl refl
   where
     by : (a b c d e f : Bool) → (x == 3) ≡ c → (x == 7) ≡ e
-        → IsSettings (if a then record s { widened = y } else if b then record s { rescaled = y } else if c then with_references y s else if d then record s { given = y } else if e then record s { refined = y } else if f then record s { lettered = y } else s)
-    by true b c d e f p q = record { widened = most; rescaled = set.rescaled; defining = set.defining; refined = set.refined; lettered = set.lettered; given = set.given; redefined = set.redefined }
-    by false true c d e f p q = record { widened = set.widened; rescaled = most; defining = set.defining; refined = set.refined; lettered = set.lettered; given = set.given; redefined = set.redefined }
+        → IsSettings (if a then record s { width_change = y } else if b then record s { scale_change = y } else if c then with_references y s else if d then record s { local_width = y } else if e then record s { precision_increase = y } else if f then record s { character_octets = y } else s)
+    by true b c d e f p q = record { width_change = most; scale_change = set.scale_change; new_reference_width = set.new_reference_width; precision_increase = set.precision_increase; character_octets = set.character_octets; local_width = set.local_width; new_references = set.new_references }
+    by false true c d e f p q = record { width_change = set.width_change; scale_change = most; new_reference_width = set.new_reference_width; precision_increase = set.precision_increase; character_octets = set.character_octets; local_width = set.local_width; new_references = set.new_references }
     by false false true d e f p q = references_good s y set (λ r. operand_three x y p legal r)
-    by false false false true e f p q = record { widened = set.widened; rescaled = set.rescaled; defining = set.defining; refined = set.refined; lettered = set.lettered; given = most; redefined = set.redefined }
-    by false false false false true f p q = record { widened = set.widened; rescaled = set.rescaled; defining = set.defining; refined = operand_seven x y q legal; lettered = set.lettered; given = set.given; redefined = set.redefined }
-    by false false false false false true p q = record { widened = set.widened; rescaled = set.rescaled; defining = set.defining; refined = set.refined; lettered = most; given = set.given; redefined = set.redefined }
+    by false false false true e f p q = record { width_change = set.width_change; scale_change = set.scale_change; new_reference_width = set.new_reference_width; precision_increase = set.precision_increase; character_octets = set.character_octets; local_width = most; new_references = set.new_references }
+    by false false false false true f p q = record { width_change = set.width_change; scale_change = set.scale_change; new_reference_width = set.new_reference_width; precision_increase = operand_seven x y q legal; character_octets = set.character_octets; local_width = set.local_width; new_references = set.new_references }
+    by false false false false false true p q = record { width_change = set.width_change; scale_change = set.scale_change; new_reference_width = set.new_reference_width; precision_increase = set.precision_increase; character_octets = most; local_width = set.local_width; new_references = set.new_references }
     by false false false false false false p q = set
 
 -- the references with one more that was told
@@ -105,29 +105,29 @@ references_kept fxy reference (r ∷ more) told h = by (nat_lt fxy r.fxy) (fxy =
     by false true others = (told, h.1)
     by false false others = (h.0, others)
 
-field_good : (s : Settings) (fxy : ℕ) (t : Taken) → IsSettings s → IsWithin t → IsSettings (after_field s fxy t)
-field_good s fxy taken.Plain set h = record { widened = set.widened; rescaled = set.rescaled; defining = set.defining; refined = set.refined; lettered = set.lettered; given = omega arith; redefined = set.redefined }
-field_good s fxy (taken.Count n) set h = record { widened = set.widened; rescaled = set.rescaled; defining = set.defining; refined = set.refined; lettered = set.lettered; given = omega arith; redefined = set.redefined }
-field_good s fxy (taken.Reference r) set h = record { widened = set.widened; rescaled = set.rescaled; defining = set.defining; refined = set.refined; lettered = set.lettered; given = omega arith; redefined = references_kept fxy r s.redefined h set.redefined }
+field_good : (s : OperatorModel) (fxy : ℕ) (t : Taken) → IsSettings s → IsWithin t → IsSettings (after_field s fxy t)
+field_good s fxy taken.Plain set h = record { width_change = set.width_change; scale_change = set.scale_change; new_reference_width = set.new_reference_width; precision_increase = set.precision_increase; character_octets = set.character_octets; local_width = omega arith; new_references = set.new_references }
+field_good s fxy (taken.Count n) set h = record { width_change = set.width_change; scale_change = set.scale_change; new_reference_width = set.new_reference_width; precision_increase = set.precision_increase; character_octets = set.character_octets; local_width = omega arith; new_references = set.new_references }
+field_good s fxy (taken.Reference r) set h = record { width_change = set.width_change; scale_change = set.scale_change; new_reference_width = set.new_reference_width; precision_increase = set.precision_increase; character_octets = set.character_octets; local_width = omega arith; new_references = references_kept fxy r s.new_references h set.new_references }
 
 module _ (table : List Row) (rows : AreGoodRows table) where
-  asked_good : (r : Result Asked Refusal) (go : Taken → List Taken → Ahead) (told : List Taken) (spec : Asked) → AreWithin told → ((x : Asked) → r ≡ Ok x → IsSpec x) → ((t : Taken) (more : List Taken) → IsWithin t → AreWithin more → (go t more).next ≡ take_next spec → IsSpec spec) → (asked r go told).next ≡ take_next spec → IsSpec spec
+  asked_good : (r : Result FieldSpec TurnRefusal) (go : Taken → List Taken → NextTurn) (told : List Taken) (spec : FieldSpec) → AreWithin told → ((x : FieldSpec) → r ≡ Ok x → IsSpec x) → ((t : Taken) (more : List Taken) → IsWithin t → AreWithin more → (go t more).next ≡ take_next spec → IsSpec spec) → (asked r go told).next ≡ take_next spec → IsSpec spec
   asked_good (Err why) go told spec w h g e = absurd cc
   asked_good (Ok x) go [] spec w h g e = let is : x ≡ spec = cc in subst IsSpec is (h x refl)
   asked_good (Ok x) go (t ∷ told) spec w h g e = g t told w.0 w.1 e
 
-  operated_good : (r : Result Settings Refusal) (go : Settings → Ahead) (spec : Asked) → ((s : Settings) → r ≡ Ok s → (go s).next ≡ take_next spec → IsSpec spec) → (operated r go).next ≡ take_next spec → IsSpec spec
+  operated_good : (r : Result OperatorModel TurnRefusal) (go : OperatorModel → NextTurn) (spec : FieldSpec) → ((s : OperatorModel) → r ≡ Ok s → (go s).next ≡ take_next spec → IsSpec spec) → (operated r go).next ≡ take_next spec → IsSpec spec
   operated_good (Err why) go spec g e = absurd cc
   operated_good (Ok s) go spec g e = g s refl e
 
-  after_good : (s : Settings) (fxy : ℕ) (s' : Settings) → IsSettings s → is_legal_operator fxy ≡ true → after_operator s fxy ≡ Ok s' → IsSettings s'
+  after_good : (s : OperatorModel) (fxy : ℕ) (s' : OperatorModel) → IsSettings s → is_legal_operator fxy ≡ true → after_operator s fxy ≡ Ok s' → IsSettings s'
   after_good s fxy s' set legal e = by (is_defining s && not (x_of fxy == 3 && y_of fxy == 255)) e
     where
       by : (b : Bool) → (if b then Err (refusal.Defining fxy) else Ok (with_operator (x_of fxy) (y_of fxy) s)) ≡ Ok s' → IsSettings s'
       by true q = absurd cc
       by false q = let is : with_operator (x_of fxy) (y_of fxy) s ≡ s' = cc in subst IsSettings is (operator_good s (x_of fxy) (y_of fxy) set (operand_most fxy) legal)
 
-  ahead_good : (turns : Turns) (s : Settings) (told : List Taken) (spec : Asked) → AreLegal turns → IsSettings s → AreWithin told → (ahead table turns s told).next ≡ take_next spec → IsSpec spec
+  ahead_good : (turns : Turns) (s : OperatorModel) (told : List Taken) (spec : FieldSpec) → AreLegal turns → IsSettings s → AreWithin told → (ahead table turns s told).next ≡ take_next spec → IsSpec spec
   ahead_good finish s told spec legal set w e = absurd cc
   ahead_good open_end s told spec legal set w e = absurd cc
   ahead_good (group next) s told spec legal set w e = ahead_good next s told spec legal set w e
@@ -141,7 +141,7 @@ module _ (table : List Row) (rows : AreGoodRows table) where
     where
       by : (b : Bool) → is_inserted_text fxy ≡ b → (if b then asked (inserted_spec s fxy) (λ t more. ahead table next (after_field s fxy t) more) told else operated (after_operator s fxy) (λ s'. ahead table next s' told)).next ≡ take_next spec
           → ((t : Taken) (more : List Taken) → IsWithin t → AreWithin more → (ahead table next (after_field s fxy t) more).next ≡ take_next spec → IsSpec spec)
-          → ((s' : Settings) → after_operator s fxy ≡ Ok s' → (ahead table next s' told).next ≡ take_next spec → IsSpec spec) → IsSpec spec
+          → ((s' : OperatorModel) → after_operator s fxy ≡ Ok s' → (ahead table next s' told).next ≡ take_next spec → IsSpec spec) → IsSpec spec
       by true p q f g = asked_good (inserted_spec s fxy) (λ t more. ahead table next (after_field s fxy t) more) told spec w (λ x r. inserted_good s fxy x p legal.0 r) f q
       by false p q f g = operated_good (after_operator s fxy) (λ s'. ahead table next s' told) spec g q
 
@@ -158,8 +158,8 @@ module _ (table : List Row) (rows : AreGoodRows table) where
   unroll_legal (delayed fxy body more) rest legal g (n ∷ counts) = passes_legal n (unroll body) (unroll more rest) (λ r h c. unroll_legal body r legal.1.0 h c) (unroll_legal more rest legal.1.1 g) counts
 
   begin_good : IsSettings begin
-  begin_good = record { widened = omega arith; rescaled = omega arith; defining = omega arith; refined = omega arith; lettered = omega arith; given = omega arith; redefined = tt }
+  begin_good = record { width_change = omega arith; scale_change = omega arith; new_reference_width = omega arith; precision_increase = omega arith; character_octets = omega arith; local_width = omega arith; new_references = tt }
 
-  pub next_good : (tree : Tree) (told : List Taken) (spec : Asked) → IsLegal tree → AreWithin told → (next_item table tree told).next ≡ take_next spec → IsSpec spec
+  pub next_good : (tree : Tree) (told : List Taken) (spec : FieldSpec) → IsLegal tree → AreWithin told → (next_item table tree told).next ≡ take_next spec → IsSpec spec
   unfolding next_item
   next_good tree told spec legal w e = ahead_good (turns_of tree (counts_of told)) begin told spec (unroll_legal tree (λ _. finish) legal (λ c. tt) (counts_of told)) begin_good w e

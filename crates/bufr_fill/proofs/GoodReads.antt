@@ -8,13 +8,13 @@ use Rattle.bufr_tables.specs.Legal.{IsLegal}
 use Rattle.bufr_walk.specs.declared.spec.Role.{Role}
 use Rattle.bufr_walk.specs.declared.spec.Role.TheVariants as role
 use Rattle.bufr_walk.specs.declared.spec.Taken.{Taken}
-use Rattle.bufr_walk.specs.Asked.{Asked, IsSpec, HasWidth, HasRole}
+use Rattle.bufr_walk.specs.FieldSpec.{FieldSpec, IsSpec, HasWidth, HasRole}
 use Rattle.bufr_walk.specs.Course.{Course, take_next, next_item}
-use Rattle.bufr_walk.specs.Content.{Content, number, text, missing, reference, told_by_role, told}
+use Rattle.bufr_walk.specs.Content.{Content, number, text, missing, reference, told_by_role, answer_of}
 use Rattle.bufr_walk.specs.PlainField.{found, plain_field}
 use Rattle.bufr_walk.specs.PackedField.{packed_field, told_first}
 use Rattle.bufr_fill.specs.Fits.{FitsRole}
-use Rattle.bufr_walk.specs.Reading.{Item, Form, plain, packed, Reads, ReadsSubsets, tells_of, after}
+use Rattle.bufr_walk.specs.Reading.{Item, DataCoding, plain, packed, ReadsItems, ReadsSubsets, tells_of, after}
 use Rattle.bufr_fill.proofs.Limits.{AreGoodRows, IsWithin, AreWithin}
 use Rattle.bufr_fill.proofs.WrittenLists.{AllSpecs, EachSpecs}
 use Rattle.bufr_fill.proofs.PlainLaws.{plain_read}
@@ -23,17 +23,17 @@ use Rattle.bufr_fill.proofs.GoodCourse.{next_good}
 
 -- whatever comes next on a course is a specification as every one is
 abbrev pub IsGoodCourse : Course → Type 0
-IsGoodCourse course = (told : List Taken) (spec : Asked) → AreWithin told → (course told).next ≡ take_next spec → IsSpec spec
+IsGoodCourse course = (answer_of : List Taken) (spec : FieldSpec) → AreWithin answer_of → (course answer_of).next ≡ take_next spec → IsSpec spec
 
 pub template_good : (table : List Row) (tree : Tree) → AreGoodRows table → IsLegal tree → IsGoodCourse (next_item table tree)
-template_good table tree rows legal told spec w e = next_good table rows tree told spec legal w e
+template_good table tree rows legal answer_of spec w e = next_good table rows tree answer_of spec legal w e
 
 narrow : (k : Kind) (w : ℕ) → HasWidth k w → k ≡ kind.Numeric → w ≤ 63
 narrow kind.Numeric w h e = h.1
 narrow kind.Coded w h e = h.1
 narrow kind.Character w h e = absurd cc
 
-pub told_within : (r : Role) (spec : Asked) (c : Content) → IsSpec spec → HasRole r spec.kind spec.may_be_missing → FitsRole r spec c → IsWithin (told_by_role r c)
+pub told_within : (r : Role) (spec : FieldSpec) (c : Content) → IsSpec spec → HasRole r spec.kind spec.may_be_missing → FitsRole r spec c → IsWithin (told_by_role r c)
 told_within role.Element spec c good hr h = tt
 told_within role.Inserted spec c good hr h = tt
 told_within role.Factor spec c good hr h = tt
@@ -45,18 +45,18 @@ told_within role.Reference spec (number raw) good hr h = absurd h
 told_within role.Reference spec (text os) good hr h = absurd h
 told_within role.Reference spec missing good hr h = absurd h
 
-module _ {C : Type 0} (form : Form C) (tells : (spec : Asked) (c : C) (bits mid : List Bool) → IsSpec spec → form.field spec bits ≡ Ok (found c mid) → IsWithin (form.tells spec c)) where
-  pub specs_of_reads : (course : Course) (items : List (Item C)) (bits behind : List Bool) → IsGoodCourse course → Reads form course items bits behind → AllSpecs items
+module _ {C : Type 0} (form : DataCoding C) (tells : (spec : FieldSpec) (c : C) (bits mid : List Bool) → IsSpec spec → form.field spec bits ≡ Ok (found c mid) → IsWithin (form.tells spec c)) where
+  pub specs_of_reads : (course : Course) (items : List (Item C)) (bits behind : List Bool) → IsGoodCourse course → ReadsItems form course items bits behind → AllSpecs items
   specs_of_reads course [] bits behind good h = tt
   specs_of_reads course (i ∷ items) bits behind good h =
       let here : IsSpec i.spec = good [] i.spec tt h.1 in
       let within : IsWithin (tells_of form i) = tells i.spec i.content bits h.0 here h.2 in
-      (here, specs_of_reads (after form course i) items h.0 behind (λ told spec w e. good (tells_of form i ∷ told) spec (within, w) e) h.3)
+      (here, specs_of_reads (after form course i) items h.0 behind (λ answer_of spec w e. good (tells_of form i ∷ answer_of) spec (within, w) e) h.3)
 
-plain_tells : (spec : Asked) (c : Content) (bits mid : List Bool) → IsSpec spec → plain_field spec bits ≡ Ok (found c mid) → IsWithin (told spec c)
+plain_tells : (spec : FieldSpec) (c : Content) (bits mid : List Bool) → IsSpec spec → plain_field spec bits ≡ Ok (found c mid) → IsWithin (answer_of spec c)
 plain_tells spec c bits mid good e = told_within spec.role spec c good good.role (plain_read spec good bits mid c e).0
 
-packed_tells : (n : ℕ) (spec : Asked) (cs : List Content) (bits mid : List Bool) → IsSpec spec → packed_field n spec bits ≡ Ok (found cs mid) → IsWithin (told_first spec cs)
+packed_tells : (n : ℕ) (spec : FieldSpec) (cs : List Content) (bits mid : List Bool) → IsSpec spec → packed_field n spec bits ≡ Ok (found cs mid) → IsWithin (told_first spec cs)
 packed_tells n spec [] bits mid good e = tt
 packed_tells n spec (c ∷ cs) bits mid good e = told_within spec.role spec c good good.role (packed_again n spec good c cs bits mid e).2.fits.0
 
@@ -64,5 +64,5 @@ pub plain_specs : (course : Course) (subsets : List (List (Item Content))) (bits
 plain_specs course [] bits behind good h = tt
 plain_specs course (items ∷ subsets) bits behind good h = (specs_of_reads plain plain_tells course items bits h.0 good h.1.0, plain_specs course subsets h.0 behind good h.2)
 
-pub packed_specs : (n : ℕ) (course : Course) (items : List (Item (List Content))) (bits behind : List Bool) → IsGoodCourse course → Reads (packed n) course items bits behind → AllSpecs items
+pub packed_specs : (n : ℕ) (course : Course) (items : List (Item (List Content))) (bits behind : List Bool) → IsGoodCourse course → ReadsItems (packed n) course items bits behind → AllSpecs items
 packed_specs n course items bits behind good h = specs_of_reads (packed n) (packed_tells n) course items bits behind good h

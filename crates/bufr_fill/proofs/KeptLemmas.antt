@@ -4,9 +4,9 @@ use Rattle.std.specs.Prelude.{slice_range, slice_get, option_map}
 use Rattle.std.proofs.lemmas.List.{take-append-le, drop-append-le, length-drop, length-map, map-append, take_all}
 use Rattle.std.proofs.lemmas.Option.{slice_get-map, slice_get-get_or, slice_get_past}
 use Rattle.std.proofs.Math.Seq.{drop-append_seam}
-use Rattle.bufr_fill.specs.Entries.{Entry}
-use Rattle.bufr_fill.specs.Kept.{entry_by, entry_kept, entries_kept, IsInside, AreInside}
-use Rattle.bufr_fill.specs.declared.entries.Kept.{Kept}
+use Rattle.bufr_fill.specs.Entries.{DraftEntry}
+use Rattle.bufr_fill.specs.Kept.{entry_by, entry_kept, entries_kept, IsEntryInside, AreInside}
+use Rattle.bufr_fill.specs.declared.entries.StoredEntry.{StoredEntry}
 
 -- octets behind the block leave the entries as they are
 range-append : (xs ys : List ℕ) (i j : ℕ) → i ≤ j → j ≤ length xs → slice_range (xs ++ ys) i j ≡ slice_range xs i j
@@ -16,45 +16,45 @@ range-append xs ys i j before inside =
 range-behind : (xs ys : List ℕ) (j : ℕ) → j ≡ length xs + length ys → slice_range (xs ++ ys) (length xs) j ≡ ys
 range-behind xs ys j e = rw (drop-append_seam xs ys) (take_all (j - length xs) ys (omega arith))
 
-entry-append : (octets more : List ℕ) (one : Kept) → IsInside (length octets) one → entry_kept (octets ++ more) one ≡ entry_kept octets one
+entry-append : (octets more : List ℕ) (one : StoredEntry) → IsEntryInside (length octets) one → entry_kept (octets ++ more) one ≡ entry_kept octets one
 entry-append octets more one (order, inside) = ap (entry_by one.kind one.line one.fxy) (range-append octets more one.start one.end order inside)
 
-entries-append : (octets more : List ℕ) (cells : List Kept) → AreInside (length octets) cells → entries_kept (octets ++ more) cells ≡ entries_kept octets cells
+entries-append : (octets more : List ℕ) (cells : List StoredEntry) → AreInside (length octets) cells → entries_kept (octets ++ more) cells ≡ entries_kept octets cells
 entries-append octets more [] all = refl
 entries-append octets more (one ∷ cells) (here, all) = rw (entry-append octets more one here, entries-append octets more cells all) refl
 
 -- one entry more, with its octets behind the block
-pub entries-push : (octets more new : List ℕ) (cells : List Kept) (one : Kept) (e : Entry) → AreInside (length octets) cells → new ≡ octets ++ more → one.start ≡ length octets → one.end ≡ length new → entry_by one.kind one.line one.fxy more ≡ e
+pub entries-push : (octets more new : List ℕ) (cells : List StoredEntry) (one : StoredEntry) (e : DraftEntry) → AreInside (length octets) cells → new ≡ octets ++ more → one.start ≡ length octets → one.end ≡ length new → entry_by one.kind one.line one.fxy more ≡ e
     → entries_kept new (cells ++ one ∷ []) ≡ entries_kept octets cells ++ e ∷ []
 entries-push octets more new cells one e all is from at said =
     let stop : one.end ≡ length octets + length more = at ∙ ap length is ∙ length-append octets more in
     let range : slice_range new one.start one.end ≡ more = ap (λ (t : List ℕ). slice_range t one.start one.end) is ∙ ap (λ n. slice_range (octets ++ more) n one.end) from ∙ range-behind octets more one.end stop in
     map-append (entry_kept new) cells (one ∷ [])
     ∙ ap (λ (t : List ℕ). map (entry_kept new) cells ++ entry_by one.kind one.line one.fxy t ∷ []) range
-    ∙ ap (λ (x : Entry). map (entry_kept new) cells ++ x ∷ []) said
+    ∙ ap (λ (x : DraftEntry). map (entry_kept new) cells ++ x ∷ []) said
     ∙ ap (λ (t : List ℕ). map (entry_kept t) cells ++ e ∷ []) is
-    ∙ ap (λ (t : List Entry). t ++ e ∷ []) (entries-append octets more cells all)
+    ∙ ap (λ (t : List DraftEntry). t ++ e ∷ []) (entries-append octets more cells all)
 
 -- no entry more, though octets were put behind the block
-pub entries-same : (octets more new : List ℕ) (cells same : List Kept) → AreInside (length octets) cells → new ≡ octets ++ more → same ≡ cells → entries_kept new same ≡ entries_kept octets cells
+pub entries-same : (octets more new : List ℕ) (cells same : List StoredEntry) → AreInside (length octets) cells → new ≡ octets ++ more → same ≡ cells → entries_kept new same ≡ entries_kept octets cells
 entries-same octets more new cells same all is kept =
     ap (entries_kept new) kept
     ∙ ap (λ (t : List ℕ). entries_kept t cells) is
     ∙ entries-append octets more cells all
 
 -- the entry at a place
-pub kept-there : (octets block : List ℕ) (cells : List Kept) (entries : List Entry) (place : ℕ) (one : Kept) (e : Entry) → entries_kept octets cells ≡ entries → place < length cells → one ≡ get_or cells place one → block ≡ octets → e ≡ entry_kept block one
+pub kept-there : (octets block : List ℕ) (cells : List StoredEntry) (entries : List DraftEntry) (place : ℕ) (one : StoredEntry) (e : DraftEntry) → entries_kept octets cells ≡ entries → place < length cells → one ≡ get_or cells place one → block ≡ octets → e ≡ entry_kept block one
     → Some e ≡ slice_get entries place
 kept-there octets block cells entries place one e are within here is said =
-    sym (ap (λ (t : List Entry). slice_get t place) (sym are)
+    sym (ap (λ (t : List DraftEntry). slice_get t place) (sym are)
     ∙ slice_get-map (entry_kept octets) cells place
     ∙ ap (option_map (entry_kept octets)) (slice_get-get_or cells place one within)
-    ∙ ap (λ (k : Kept). Some (entry_kept octets k)) (sym here)
+    ∙ ap (λ (k : StoredEntry). Some (entry_kept octets k)) (sym here)
     ∙ ap (λ (t : List ℕ). Some (entry_kept t one)) (sym is)
-    ∙ ap (λ (x : Entry). Some x) (sym said))
+    ∙ ap (λ (x : DraftEntry). Some x) (sym said))
 
 -- and none behind the last
-pub kept-past : (octets : List ℕ) (cells : List Kept) (entries : List Entry) (place : ℕ) → entries_kept octets cells ≡ entries → length cells ≤ place → None ≡ slice_get entries place
+pub kept-past : (octets : List ℕ) (cells : List StoredEntry) (entries : List DraftEntry) (place : ℕ) → entries_kept octets cells ≡ entries → length cells ≤ place → None ≡ slice_get entries place
 kept-past octets cells entries place are past =
-    sym (ap (λ (t : List Entry). slice_get t place) (sym are)
+    sym (ap (λ (t : List DraftEntry). slice_get t place) (sym are)
     ∙ slice_get_past (entries_kept octets cells) place (omega (arith, length-map cells (entry_kept octets))))

@@ -5,7 +5,7 @@ use Rattle.std.proofs.lemmas.Bool.{false≢true}
 use Rattle.std.proofs.lemmas.Bool.Decides.{nat_tests}
 use Rattle.bufr_bits.proofs.ScaledLemmas.{and_first, and_second}
 use Rattle.bufr_walk.specs.Content.{Content, number, text, missing, reference, sign_bit}
-use Rattle.bufr_fill.specs.Packing.{top, same_octets, same_sign, same, are_same, smaller, lowest, first_from}
+use Rattle.bufr_fill.specs.Packing.{raw_limit, same_octets, same_sign, same, are_same, smaller, lowest, first_from}
 use Rattle.bufr_fill.specs.Fits.{FitsNumber}
 
 equal_from : (a b : ℕ) → (a == b) ≡ true → a ≡ b
@@ -129,11 +129,11 @@ lowest_over (missing ∷ cs) m e = (tt, lowest_over cs m e)
 lowest_over (reference v ∷ cs) m e = (tt, lowest_over cs m e)
 
 -- the least number fits as each does
-pub lowest_fits : (may : Bool) (w : ℕ) (cs : List Content) (m : ℕ) → AreNumbers may w cs → lowest cs ≡ Some m → m < top may w
+pub lowest_fits : (may : Bool) (w : ℕ) (cs : List Content) (m : ℕ) → AreNumbers may w cs → lowest cs ≡ Some m → m < raw_limit may w
 lowest_fits may w [] m h e = absurd cc
 lowest_fits may w (number n ∷ cs) m h e = by_rest (lowest cs) e
   where
-    by_rest : (o : Option ℕ) → Some (smaller n o) ≡ Some m → m < top may w
+    by_rest : (o : Option ℕ) → Some (smaller n o) ≡ Some m → m < raw_limit may w
     by_rest None q = let s : n ≡ m = cc in omega (arith, h.0)
     by_rest (Some l) q = let s : min n l ≡ m = cc in omega (arith, h.0)
 lowest_fits may w (text o ∷ cs) m h e = absurd h.0

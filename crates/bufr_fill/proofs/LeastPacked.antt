@@ -10,10 +10,10 @@ use Rattle.bufr_tables.specs.declared.kind.Kind.{Kind}
 use Rattle.bufr_tables.specs.declared.kind.Kind.TheVariants as kind
 use Rattle.bufr_walk.specs.declared.spec.Role.{Role}
 use Rattle.bufr_walk.specs.declared.spec.Role.TheVariants as role
-use Rattle.bufr_walk.specs.Asked.{Asked, IsSpec}
+use Rattle.bufr_walk.specs.FieldSpec.{FieldSpec, IsSpec}
 use Rattle.bufr_walk.specs.Content.{Content, content_in}
 use Rattle.bufr_walk.specs.PlainField.{FieldFault, found}
-use Rattle.bufr_walk.specs.PackedField.{step_of, varied, packed_field}
+use Rattle.bufr_walk.specs.PackedField.{increment_bits_of, varied, packed_field}
 use Rattle.bufr_fill.specs.Packing.{packing}
 use Rattle.bufr_fill.specs.LeastK.{k_of, HasLeastK}
 use Rattle.bufr_fill.proofs.PackedLaws.{unpacked, packed_again, packed_count}
@@ -25,7 +25,7 @@ same_ok : (a b : List Bool) → ◌≡◌ {A = Result (List Bool) FieldFault} (O
 same_ok a b e = cc
 
 -- where an increment is no longer, its k is no greater
-lesser_step : (r : Role) (kd : Kind) (k j : ℕ) → r ≢ role.Reference → step_of r kd k ≤ step_of r kd j → k ≤ j
+lesser_step : (r : Role) (kd : Kind) (k j : ℕ) → r ≢ role.Reference → increment_bits_of r kd k ≤ increment_bits_of r kd j → k ≤ j
 lesser_step role.Element kind.Character k j h g = omega (arith, g)
 lesser_step role.Element kind.Coded k j h g = g
 lesser_step role.Element kind.Numeric k j h g = g
@@ -37,10 +37,10 @@ lesser_step role.Factor kind.Coded k j h g = g
 lesser_step role.Factor kind.Numeric k j h g = g
 lesser_step role.Reference kd k j h g = absurd (h refl)
 
-module _ (n : ℕ) (spec : Asked) (some : 1 ≤ n) where
+module _ (n : ℕ) (spec : FieldSpec) (some : 1 ≤ n) where
   -- a reference has no k but 0
   lesser_k : (r : Role) (b : Bool) (k j : ℕ) (base : List Bool) (is : List (List Bool)) (cs : List Content) → (k == 0) ≡ b → (if b then Ok (map (λ i. content_in spec base) is) else varied r spec k base is) ≡ Ok cs
-      → n * step_of r spec.kind k ≤ n * step_of r spec.kind j → k ≤ j
+      → n * increment_bits_of r spec.kind k ≤ n * increment_bits_of r spec.kind j → k ≤ j
   lesser_k r true k j base is cs p e h = omega (arith, none_from k p)
   lesser_k role.Element false k j base is cs p e h = lesser_step role.Element spec.kind k j (λ q. cc) (le_of_mul-le-mul_left h some)
   lesser_k role.Inserted false k j base is cs p e h = lesser_step role.Inserted spec.kind k j (λ q. cc) (le_of_mul-le-mul_left h some)
@@ -74,5 +74,5 @@ module _ (n : ℕ) (spec : Asked) (some : 1 ≤ n) where
           short = λ bs mid f. no_longer c cs p.out bs mid p.is f;
         }
 
-pub least_k_packed : (n : ℕ) (spec : Asked) (contents : List Content) (bits behind : List Bool) → 1 ≤ n → IsSpec spec → packed_field n spec bits ≡ Ok (found contents behind) → HasLeastK n spec contents
+pub least_k_packed : (n : ℕ) (spec : FieldSpec) (contents : List Content) (bits behind : List Bool) → 1 ≤ n → IsSpec spec → packed_field n spec bits ≡ Ok (found contents behind) → HasLeastK n spec contents
 least_k_packed n spec contents bits behind some good e = by_contents n spec some good contents bits behind e

@@ -4,7 +4,7 @@ use Rattle.bufr_tables.specs.TableB.{Row, allows_width}
 use Rattle.bufr_tables.specs.Operators.{is_legal_operator}
 use Rattle.bufr_walk.specs.declared.spec.Taken.{Taken}
 use Rattle.bufr_walk.specs.declared.spec.Taken.TheVariants as taken
-use Rattle.bufr_walk.specs.Settings.{Settings, Redefined}
+use Rattle.bufr_walk.specs.Operators.{OperatorModel, Redefined}
 use Rattle.bufr_walk.specs.Turns.{Turns, finish, open_end, group, pass_end, factor_turn, element_turn, operator_turn}
 
 -- a width of its kind, a scale up to 127 and a reference of 64 bits
@@ -32,14 +32,14 @@ AreRedefined [] = Unit {0}
 AreRedefined (r ∷ more) = (unsigned_abs r.reference ≤ 2 ^ 63) × AreRedefined more
 
 -- operands in force are those of legal operators
-pub record IsSettings (s : Settings) : Type 0 where
-  pub widened : s.widened ≤ 255
-  pub rescaled : s.rescaled ≤ 255
-  pub defining : s.defining ≤ 63
-  pub refined : s.refined ≤ 18
-  pub lettered : s.lettered ≤ 255
-  pub given : s.given ≤ 255
-  pub redefined : AreRedefined s.redefined
+pub record IsSettings (s : OperatorModel) : Type 0 where
+  pub width_change : s.width_change ≤ 255
+  pub scale_change : s.scale_change ≤ 255
+  pub new_reference_width : s.new_reference_width ≤ 63
+  pub precision_increase : s.precision_increase ≤ 18
+  pub character_octets : s.character_octets ≤ 255
+  pub local_width : s.local_width ≤ 255
+  pub new_references : AreRedefined s.new_references
 
 -- each operator is one that a template may hold
 abbrev pub AreLegal : Turns → Type 0

@@ -6,7 +6,7 @@ use Rattle.bufr_tables.specs.TableB.{Row, AreRows}
 use Rattle.bufr_tables.specs.Tree.{Tree}
 use Rattle.bufr_walk.specs.Content.{Content}
 use Rattle.bufr_walk.specs.Course.{next_item}
-use Rattle.bufr_walk.specs.Reading.{most_values, Item, ReadsSubsets, IsPackedReading}
+use Rattle.bufr_walk.specs.Reading.{max_values, Item, ReadsSubsets, IsPackedReading}
 use Rattle.bufr_fill.specs.Entries.{Subset}
 use Rattle.bufr_fill.proofs.Limits.{AreGoodRows}
 use Rattle.bufr_fill.specs.OtherForm.{IsWrittenApart, IsTogetherOrNot}
@@ -26,11 +26,11 @@ pub written_apart : (n : ℕ) (records : List Record) (table : List Row) (templa
     → IsWrittenApart n (next_item table template) items drafts
 written_apart n records table template items drafts bits behind rows legal count dumped h = template_apart n table template items drafts bits behind (table_good records table rows) legal count dumped h
 
-pub template_together : (table : List Row) (template : Tree) (subsets : List (List (Item Content))) (drafts : List Subset) (bits behind : List Bool) → length bits ≤ most_values → AreGoodRows table → IsLegal template → AreDumped subsets drafts → ReadsSubsets (next_item table template) subsets bits behind
+pub template_together : (table : List Row) (template : Tree) (subsets : List (List (Item Content))) (drafts : List Subset) (bits behind : List Bool) → length bits ≤ max_values → AreGoodRows table → IsLegal template → AreDumped subsets drafts → ReadsSubsets (next_item table template) subsets bits behind
     → IsTogetherOrNot (next_item table template) subsets drafts
 template_together table template subsets drafts bits behind few rows legal dumped h =
     together (next_item table template) subsets drafts bits behind few (plain_specs (next_item table template) subsets bits behind (template_good table template rows legal) h) dumped h
 
-pub written_together : (records : List Record) (table : List Row) (template : Tree) (subsets : List (List (Item Content))) (drafts : List Subset) (bits behind : List Bool) → length bits ≤ most_values → AreRows records table → IsLegal template → AreDumped subsets drafts → ReadsSubsets (next_item table template) subsets bits behind
+pub written_together : (records : List Record) (table : List Row) (template : Tree) (subsets : List (List (Item Content))) (drafts : List Subset) (bits behind : List Bool) → length bits ≤ max_values → AreRows records table → IsLegal template → AreDumped subsets drafts → ReadsSubsets (next_item table template) subsets bits behind
     → IsTogetherOrNot (next_item table template) subsets drafts
 written_together records table template subsets drafts bits behind few rows legal dumped h = template_together table template subsets drafts bits behind few (table_good records table rows) legal dumped h

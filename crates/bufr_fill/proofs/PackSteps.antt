@@ -7,14 +7,14 @@ use Rattle.std.proofs.lemmas.Bool.Decides.{nat_tests}
 use Rattle.std.proofs.lemmas.List.{append-nil}
 use Rattle.std.proofs.lemmas.List.{take-replicate}
 use Rattle.bufr_bits.specs.Bits.{bits_of}
-use Rattle.bufr_fill.specs.declared.draw.Drawn.{Drawn}
-use Rattle.bufr_fill.specs.declared.draw.Drawn.TheVariants as drawn
-use Rattle.bufr_walk.specs.Asked.{Asked}
+use Rattle.bufr_fill.specs.declared.field_value.FieldContent.{FieldContent}
+use Rattle.bufr_fill.specs.declared.field_value.FieldContent.TheVariants as drawn
+use Rattle.bufr_walk.specs.FieldSpec.{FieldSpec}
 use Rattle.bufr_walk.specs.Content.{Content, reference}
-use Rattle.bufr_fill.specs.Drawn.{content_drawn, IsDrawn}
-use Rattle.bufr_fill.specs.Gathered.{AllDrawn, contents_drawn}
-use Rattle.bufr_fill.specs.Packing.{same, are_same, smaller, lowest, top, first_from}
-use Rattle.bufr_fill.specs.Packs.{over_of, spread, lesser, number_in, need_of, most_need, IsShort, AreShort, least_from}
+use Rattle.bufr_fill.specs.FieldContent.{content_drawn, IsDrawn}
+use Rattle.bufr_fill.specs.PackedRows.{AllDrawn, contents_drawn}
+use Rattle.bufr_fill.specs.Packing.{same, are_same, smaller, lowest, raw_limit, first_from}
+use Rattle.bufr_fill.specs.Packs.{over_of, spread, lesser, number_in, need_of, most_need, FitsIncrement, AreShort, least_from}
 use Rattle.bufr_fill.proofs.LeastLemmas.{content_same, content_self}
 
 -- references that are equal, and those that are not
@@ -42,7 +42,7 @@ drop_all (x ∷ xs) zero h = absurd (omega (arith, h))
 drop_all (x ∷ xs) (suc n) h = drop_all xs n (omega (arith, h))
 
 -- the least number so far, and of those that are left
-lesser_one : (count : ℕ) (o : Option ℕ) (d : Drawn) (ds : List Drawn) → lesser (lesser o (number_in d)) (lowest (contents_drawn count ds)) ≡ lesser o (lowest (content_drawn count d ∷ contents_drawn count ds))
+lesser_one : (count : ℕ) (o : Option ℕ) (d : FieldContent) (ds : List FieldContent) → lesser (lesser o (number_in d)) (lowest (contents_drawn count ds)) ≡ lesser o (lowest (content_drawn count d ∷ contents_drawn count ds))
 lesser_one count None (drawn.Number n) ds = refl
 lesser_one count None (drawn.Text t) ds = refl
 lesser_one count None drawn.Missing ds = refl
@@ -56,7 +56,7 @@ lesser_one count (Some m) (drawn.Text t) ds = refl
 lesser_one count (Some m) drawn.Missing ds = refl
 lesser_one count (Some m) (drawn.Reference v) ds = refl
 
-pub lowest_more : (ds : List Drawn) (i : ℕ) (d : Drawn) (o next : Option ℕ) → i < length ds → d ≡ get_or ds i d → ((count : ℕ) → lesser o (lowest (contents_drawn count (drop i ds))) ≡ lowest (contents_drawn count ds)) → next ≡ lesser o (number_in d)
+pub lowest_more : (ds : List FieldContent) (i : ℕ) (d : FieldContent) (o next : Option ℕ) → i < length ds → d ≡ get_or ds i d → ((count : ℕ) → lesser o (lowest (contents_drawn count (drop i ds))) ≡ lowest (contents_drawn count ds)) → next ≡ lesser o (number_in d)
     → (count : ℕ) → lesser next (lowest (contents_drawn count (drop (i + 1) ds))) ≡ lowest (contents_drawn count ds)
 lowest_more ds i d o next h e inv is count =
     ap (λ x. lesser x (lowest (contents_drawn count (drop (i + 1) ds)))) is
@@ -68,21 +68,21 @@ lesser_none : (o : Option ℕ) → lesser o None ≡ o
 lesser_none None = refl
 lesser_none (Some n) = refl
 
-pub lowest_done : (ds : List Drawn) (i : ℕ) (o : Option ℕ) → length ds ≤ i → ((count : ℕ) → lesser o (lowest (contents_drawn count (drop i ds))) ≡ lowest (contents_drawn count ds)) → (count : ℕ) → o ≡ lowest (contents_drawn count ds)
+pub lowest_done : (ds : List FieldContent) (i : ℕ) (o : Option ℕ) → length ds ≤ i → ((count : ℕ) → lesser o (lowest (contents_drawn count (drop i ds))) ≡ lowest (contents_drawn count ds)) → (count : ℕ) → o ≡ lowest (contents_drawn count ds)
 lowest_done ds i o h inv count = sym (lesser_none o) ∙ ap (λ xs. lesser o (lowest (contents_drawn count xs))) (sym (drop_all ds i h)) ∙ inv count
 
 -- the greatest increment so far, and of those that are left
-pub spread_more : (base : ℕ) (ds : List Drawn) (i : ℕ) (d : Drawn) (most one : ℕ) → i < length ds → d ≡ get_or ds i d → max most (spread base (drop i ds)) ≡ spread base ds → one ≡ over_of base d → max (max one most) (spread base (drop (i + 1) ds)) ≡ spread base ds
+pub spread_more : (base : ℕ) (ds : List FieldContent) (i : ℕ) (d : FieldContent) (most one : ℕ) → i < length ds → d ≡ get_or ds i d → max most (spread base (drop i ds)) ≡ spread base ds → one ≡ over_of base d → max (max one most) (spread base (drop (i + 1) ds)) ≡ spread base ds
 spread_more base ds i d most one h e inv is = omega (arith, ap (spread base) (at_place ds i d h e), inv, is)
 
-pub spread_done : (base : ℕ) (ds : List Drawn) (i most : ℕ) → length ds ≤ i → max most (spread base (drop i ds)) ≡ spread base ds → most ≡ spread base ds
+pub spread_done : (base : ℕ) (ds : List FieldContent) (i most : ℕ) → length ds ≤ i → max most (spread base (drop i ds)) ≡ spread base ds → most ≡ spread base ds
 spread_done base ds i most h inv = omega (arith, ap (spread base) (drop_all ds i h), inv)
 
 -- the octets needed so far, and by those that are left
-pub need_more : (ds : List Drawn) (i : ℕ) (d : Drawn) (most one : ℕ) → i < length ds → d ≡ get_or ds i d → max most (most_need (drop i ds)) ≡ most_need ds → one ≡ need_of d → max (max one most) (most_need (drop (i + 1) ds)) ≡ most_need ds
+pub need_more : (ds : List FieldContent) (i : ℕ) (d : FieldContent) (most one : ℕ) → i < length ds → d ≡ get_or ds i d → max most (most_need (drop i ds)) ≡ most_need ds → one ≡ need_of d → max (max one most) (most_need (drop (i + 1) ds)) ≡ most_need ds
 need_more ds i d most one h e inv is = omega (arith, ap most_need (at_place ds i d h e), inv, is)
 
-pub need_done : (ds : List Drawn) (i most : ℕ) → 1 ≤ most → length ds ≤ i → max most (most_need (drop i ds)) ≡ most_need ds → most ≡ most_need ds
+pub need_done : (ds : List FieldContent) (i most : ℕ) → 1 ≤ most → length ds ≤ i → max most (most_need (drop i ds)) ≡ most_need ds → most ≡ most_need ds
 need_done ds i most some h inv = omega (arith, some, ap most_need (drop_all ds i h), inv)
 
 -- the first k that passes
@@ -100,31 +100,31 @@ below_test a b h = grind (arith, nat_tests)
 above_test : (a b : ℕ) → b ≤ a → nat_lt a b ≡ false
 above_test a b h = grind (arith, nat_tests)
 
-pub least_here : (m : Bool) (s k : ℕ) → k < 64 → s < top m k → least_from m s k ≡ k
+pub least_here : (m : Bool) (s k : ℕ) → k < 64 → s < raw_limit m k → least_from m s k ≡ k
 unfolding least_from
-least_here m s k h e = first_here (λ k. nat_lt s (top m k)) (64 - k) k (omega (arith, h)) (below_test s (top m k) e)
+least_here m s k h e = first_here (λ k. nat_lt s (raw_limit m k)) (64 - k) k (omega (arith, h)) (below_test s (raw_limit m k) e)
 
-pub least_later : (m : Bool) (s k : ℕ) → k < 64 → top m k ≤ s → least_from m s k ≡ least_from m s (k + 1)
+pub least_later : (m : Bool) (s k : ℕ) → k < 64 → raw_limit m k ≤ s → least_from m s k ≡ least_from m s (k + 1)
 unfolding least_from
 least_later m s k h e =
     let q : 64 - k - 1 ≡ 64 - (k + 1) = omega arith in
-    first_later (λ k. nat_lt s (top m k)) (64 - k) k (omega (arith, h)) (above_test s (top m k) e) ∙ ap (λ f. first_from (λ k. nat_lt s (top m k)) f (k + 1)) q
+    first_later (λ k. nat_lt s (raw_limit m k)) (64 - k) k (omega (arith, h)) (above_test s (raw_limit m k) e) ∙ ap (λ f. first_from (λ k. nat_lt s (raw_limit m k)) f (k + 1)) q
 
 pub least_end : (m : Bool) (s k : ℕ) → 64 ≤ k → least_from m s k ≡ k
 unfolding least_from
-least_end m s k h = let q : 64 - k ≡ 0 = omega (arith, h) in ap (λ f. first_from (λ k. nat_lt s (top m k)) f k) q
+least_end m s k h = let q : 64 - k ≡ 0 = omega (arith, h) in ap (λ f. first_from (λ k. nat_lt s (raw_limit m k)) f k) q
 
 -- a text has at most 255 octets
 pub eighth_most : (w : ℕ) → w ≤ 2040 → w / 8 ≤ 255
 eighth_most w h = omega (arith, h)
 
 -- what holds of all holds of each
-pub drawn_at : (spec : Asked) (ds : List Drawn) (i : ℕ) (d : Drawn) → i < length ds → AllDrawn spec ds → IsDrawn spec (get_or ds i d)
+pub drawn_at : (spec : FieldSpec) (ds : List FieldContent) (i : ℕ) (d : FieldContent) → i < length ds → AllDrawn spec ds → IsDrawn spec (get_or ds i d)
 drawn_at spec [] i d h all = absurd (omega (arith, h))
 drawn_at spec (x ∷ ds) zero d h all = all.0
 drawn_at spec (x ∷ ds) (suc i) d h all = drawn_at spec ds i d (omega (arith, h)) all.1
 
-pub short_at : (base k : ℕ) (ds : List Drawn) (i : ℕ) (d : Drawn) → i < length ds → AreShort base k ds → IsShort base k (get_or ds i d)
+pub short_at : (base k : ℕ) (ds : List FieldContent) (i : ℕ) (d : FieldContent) → i < length ds → AreShort base k ds → FitsIncrement base k (get_or ds i d)
 short_at base k [] i d h s = absurd (omega (arith, h))
 short_at base k (x ∷ ds) zero d h s = s.0
 short_at base k (x ∷ ds) (suc i) d h s = short_at base k ds i d (omega (arith, h)) s.1
@@ -133,7 +133,7 @@ short_at base k (x ∷ ds) (suc i) d h s = short_at base k ds i d (omega (arith,
 pub at_index : {X : Type 0} (xs : List X) (i : ℕ) (z : X) → i < length xs → drop i xs ≡ get_or xs i z ∷ drop (i + 1) xs
 at_index xs i z h = drop-cons xs i z h ∙ ap (λ j. get_or xs i z ∷ drop j xs) (sym (add-one i))
 
-pub most_some : (ds : List Drawn) → 1 ≤ most_need ds
+pub most_some : (ds : List FieldContent) → 1 ≤ most_need ds
 most_some [] = omega arith
 most_some (d ∷ ds) = omega (arith, most_some ds)
 
@@ -141,27 +141,27 @@ most_some (d ∷ ds) = omega (arith, most_some ds)
 flat_one : (f : Content → List Bool) (old now new bits rest all : List Bool) → now ++ (bits ++ rest) ≡ old ++ all → new ≡ now ++ bits → new ++ rest ≡ old ++ all
 flat_one f old now new bits rest all inv is = ap (λ x. x ++ rest) is ∙ append_assoc now bits rest ∙ inv
 
-pub flat_more : (f : Content → List Bool) (count : ℕ) (old now new : List Bool) (ds : List Drawn) (i : ℕ) (z : Drawn) → i < length ds
+pub flat_more : (f : Content → List Bool) (count : ℕ) (old now new : List Bool) (ds : List FieldContent) (i : ℕ) (z : FieldContent) → i < length ds
     → now ++ flat_map f (contents_drawn count (drop i ds)) ≡ old ++ flat_map f (contents_drawn count ds) → new ≡ now ++ f (content_drawn count (get_or ds i z))
     → new ++ flat_map f (contents_drawn count (drop (i + 1) ds)) ≡ old ++ flat_map f (contents_drawn count ds)
 flat_more f count old now new ds i z h inv is =
     flat_one f old now new (f (content_drawn count (get_or ds i z))) (flat_map f (contents_drawn count (drop (i + 1) ds))) (flat_map f (contents_drawn count ds))
     (sym (ap (λ xs. now ++ flat_map f (contents_drawn count xs)) (at_index ds i z h)) ∙ inv) is
 
-pub flat_done : (f : Content → List Bool) (count : ℕ) (old now : List Bool) (ds : List Drawn) (i : ℕ) → length ds ≤ i
+pub flat_done : (f : Content → List Bool) (count : ℕ) (old now : List Bool) (ds : List FieldContent) (i : ℕ) → length ds ≤ i
     → now ++ flat_map f (contents_drawn count (drop i ds)) ≡ old ++ flat_map f (contents_drawn count ds) → now ≡ old ++ flat_map f (contents_drawn count ds)
 flat_done f count old now ds i h inv = sym (append-nil now) ∙ ap (λ xs. now ++ flat_map f (contents_drawn count xs)) (sym (drop_all ds i h)) ∙ inv
 
 -- whether those that are left are the same as one
-pub alike_more : (count : ℕ) (c : Content) (ds : List Drawn) (i : ℕ) (d : Drawn) (b : Bool) → i < length ds → d ≡ get_or ds i d → are_same c (contents_drawn count ds) ≡ are_same c (contents_drawn count (drop i ds)) → same c (content_drawn count d) ≡ true
+pub alike_more : (count : ℕ) (c : Content) (ds : List FieldContent) (i : ℕ) (d : FieldContent) (b : Bool) → i < length ds → d ≡ get_or ds i d → are_same c (contents_drawn count ds) ≡ are_same c (contents_drawn count (drop i ds)) → same c (content_drawn count d) ≡ true
     → are_same c (contents_drawn count ds) ≡ are_same c (contents_drawn count (drop (i + 1) ds))
 alike_more count c ds i d b h e inv is = inv ∙ ap (λ xs. are_same c (contents_drawn count xs)) (at_place ds i d h e) ∙ ap (λ t. t && are_same c (contents_drawn count (drop (i + 1) ds))) is
 
-pub alike_not : (count : ℕ) (c : Content) (ds : List Drawn) (i : ℕ) (d : Drawn) → i < length ds → d ≡ get_or ds i d → are_same c (contents_drawn count ds) ≡ are_same c (contents_drawn count (drop i ds)) → same c (content_drawn count d) ≡ false
+pub alike_not : (count : ℕ) (c : Content) (ds : List FieldContent) (i : ℕ) (d : FieldContent) → i < length ds → d ≡ get_or ds i d → are_same c (contents_drawn count ds) ≡ are_same c (contents_drawn count (drop i ds)) → same c (content_drawn count d) ≡ false
     → are_same c (contents_drawn count ds) ≡ false
 alike_not count c ds i d h e inv is = inv ∙ ap (λ xs. are_same c (contents_drawn count xs)) (at_place ds i d h e) ∙ ap (λ t. t && are_same c (contents_drawn count (drop (i + 1) ds))) is
 
-pub alike_done : (count : ℕ) (c : Content) (ds : List Drawn) (i : ℕ) → length ds ≤ i → are_same c (contents_drawn count ds) ≡ are_same c (contents_drawn count (drop i ds)) → are_same c (contents_drawn count ds) ≡ true
+pub alike_done : (count : ℕ) (c : Content) (ds : List FieldContent) (i : ℕ) → length ds ≤ i → are_same c (contents_drawn count ds) ≡ are_same c (contents_drawn count (drop i ds)) → are_same c (contents_drawn count ds) ≡ true
 alike_done count c ds i h inv = inv ∙ ap (λ xs. are_same c (contents_drawn count xs)) (drop_all ds i h)
 
 -- octets of zeros

@@ -4,14 +4,14 @@ use Rattle.std.specs.Prelude.{◌==◌, nat_lt, if◌then◌else◌}
 use Rattle.std.specs.List.{list_all, flat_map}
 use Rattle.std.proofs.lemmas.List.{take_at, drop_at, length-append, length-replicate, length-take-le}
 use Rattle.std.proofs.lemmas.Bool.Decides.{nat_tests}
-use Rattle.bufr_bits.specs.Bits.{bits_of, bits_in, number_of, all_set}
+use Rattle.bufr_bits.specs.Bits.{bits_of, bits_in, number_of, are_all_ones}
 use Rattle.bufr_bits.proofs.BitLemmas.{length-bits_of}
 use Rattle.bufr_bits.proofs.PushLemmas.{length-bits_in}
 use Rattle.bufr_bits.proofs.ScaledLemmas.{and_first, and_second}
 use Rattle.bufr_walk.specs.Content.{Content, number, text, missing, reference, octets_in}
 use Rattle.bufr_walk.specs.PlainField.{FieldFault, increment}
-use Rattle.bufr_walk.specs.PackedField.{ones, and_more, increased, increments, all_increased, padded_text}
-use Rattle.bufr_fill.specs.Packing.{top, same_octets, has_bits, has_octets, increment_bits, octet_bits}
+use Rattle.bufr_walk.specs.PackedField.{ones, and_contents, increased, increments, all_increased, padded_text}
+use Rattle.bufr_fill.specs.Packing.{raw_limit, same_octets, has_bits, has_octets, increment_bits, octet_bits}
 use Rattle.bufr_fill.specs.Fits.{AreOctets, FitsNumber, FitsText}
 use Rattle.bufr_fill.proofs.FieldBits.{number_again, ones_test, ones_set, octets_again, full_test}
 use Rattle.bufr_fill.proofs.LeastLemmas.{AreNumbers, IsOver, AreOver, octets_same}
@@ -59,17 +59,17 @@ by_tests a b c x y p q r e =
     ∙ ap (λ t. if t then Err increment else if c then Ok missing else Ok x) q
     ∙ ap (λ t. if t then Ok missing else Ok x) r ∙ ap Ok e
 
-top_pow : (m : Bool) (k v : ℕ) → v < top m k → v < 2 ^ k
+top_pow : (m : Bool) (k v : ℕ) → v < raw_limit m k → v < 2 ^ k
 top_pow true k v h = omega arith
 top_pow false k v h = h
 
-top_ones : (m : Bool) (k v : ℕ) → v < top m k → m ≡ true → v < ones k
+top_ones : (m : Bool) (k v : ℕ) → v < raw_limit m k → m ≡ true → v < ones k
 top_ones true k v h e = h
 top_ones false k v h e = absurd cc
 
 module _ (m : Bool) (w base k : ℕ) where
-  number_increased : (n : ℕ) → base ≤ n → n < top m w → n - base < top m k → increased m w base k (number_of (bits_in (n - base) k)) ≡ Ok (number n)
-  number_increased n over fits short =
+  number_increased : (n : ℕ) → base ≤ n → n < raw_limit m w → n - base < raw_limit m k → increased m w base k (number_of (bits_in (n - base) k)) ≡ Ok (number n)
+  number_increased n increment_over fits short =
       let i : number_of (bits_in (n - base) k) ≡ n - base = number_again (n - base) k (top_pow m k (n - base) short) in
       let e : base + (n - base) ≡ n = omega arith in
       ap (increased m w base k) i
@@ -91,7 +91,7 @@ module _ (m : Bool) (w base k : ℕ) where
       ∙ ap (λ b. if b then Ok missing else if nat_lt (ones w) (base + ones k) then Err increment else if m && (base + ones k == ones w) then Ok missing else Ok (number (base + ones k))) (equal (ones k))
 
   one_increased : (c : Content) → FitsNumber m w c → IsOver base c → has_bits m base k c ≡ true → increased m w base k (number_of (increment_bits base k c)) ≡ Ok c
-  one_increased (number n) h o p = number_increased n o h (below_from (n - base) (top m k) p)
+  one_increased (number n) h o p = number_increased n o h (below_from (n - base) (raw_limit m k) p)
   one_increased (text os) h o p = absurd h
   one_increased missing h o p = missing_increased h
   one_increased (reference v) h o p = absurd h
@@ -100,8 +100,8 @@ module _ (m : Bool) (w base k : ℕ) where
   pub numbers_back : (cs : List Content) → AreNumbers m w cs → AreOver base cs → list_all (has_bits m base k) cs ≡ true → all_increased m w base k (map (increment_bits base k) cs) ≡ Ok cs
   numbers_back [] h o p = refl
   numbers_back (c ∷ cs) h o p =
-      ap (λ r. and_more r (all_increased m w base k (map (increment_bits base k) cs))) (one_increased c h.0 o.0 (and_first (has_bits m base k c) (list_all (has_bits m base k) cs) p))
-      ∙ ap (and_more (Ok c)) (numbers_back cs h.1 o.1 (and_second (has_bits m base k c) (list_all (has_bits m base k) cs) p))
+      ap (λ r. and_contents r (all_increased m w base k (map (increment_bits base k) cs))) (one_increased c h.0 o.0 (and_first (has_bits m base k c) (list_all (has_bits m base k) cs) p))
+      ∙ ap (and_contents (Ok c)) (numbers_back cs h.1 o.1 (and_second (has_bits m base k c) (list_all (has_bits m base k) cs) p))
 
   pub increment_length : (c : Content) → length (increment_bits base k c) ≡ k
   increment_length (number n) = length-bits_in (n - base) k
@@ -146,7 +146,7 @@ module _ (count k : ℕ) (short : k ≤ count) where
       let front = take k os in
       let l : length front ≡ k = length-take-le k os (omega (arith, h.0)) in
       let are : AreOctets front = AreOctets-take k os h.1 in
-      let some : all_set (bits_of front) ≡ false = full_test front are ∙ not_true (list_all (λ octet. octet == 255) front) (and_second (same_octets (front ++ replicate (length os - k) 32) os) (not (list_all (λ octet. octet == 255) front)) p) in
+      let some : are_all_ones (bits_of front) ≡ false = full_test front are ∙ not_true (list_all (λ octet. octet == 255) front) (and_second (same_octets (front ++ replicate (length os - k) 32) os) (not (list_all (λ octet. octet == 255) front)) p) in
       let whole : front ++ replicate (length os - k) 32 ≡ os = octets_same (front ++ replicate (length os - k) 32) os (and_first (same_octets (front ++ replicate (length os - k) 32) os) (not (list_all (λ octet. octet == 255) front)) p) in
       ap (λ b. if b then missing else text (octets_in k (bits_of front) ++ replicate (count - k) 32)) some
       ∙ ap (λ n. text (octets_in n (bits_of front) ++ replicate (count - k) 32)) (sym l)

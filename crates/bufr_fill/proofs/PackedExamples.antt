@@ -4,9 +4,9 @@ use Rattle.std.specs.Prelude.{codes, take}
 use Rattle.bufr_bits.specs.Bits.{bits_of, bits_in}
 use Rattle.bufr_bits.specs.DecimalValue.{decimal_value_of}
 use Rattle.bufr_tables.specs.declared.kind.Kind.TheVariants as kind
-use Rattle.bufr_walk.specs.declared.spec.Refusal.TheVariants as refusal
+use Rattle.bufr_walk.specs.declared.spec.TurnRefusal.TheVariants as refusal
 use Rattle.bufr_walk.specs.declared.spec.Role.TheVariants as role
-use Rattle.bufr_walk.specs.Asked.{Asked}
+use Rattle.bufr_walk.specs.FieldSpec.{FieldSpec}
 use Rattle.bufr_walk.specs.Content.{number, missing}
 use Rattle.bufr_walk.specs.PackedField.{packed_field}
 use Rattle.bufr_walk.specs.PlainField.{found}
@@ -14,10 +14,10 @@ use Rattle.bufr_tables.specs.Tree.{bare, operator}
 use Rattle.bufr_fill.specs.Draft.{draft, text_form, missing_form, reference_token}
 use Rattle.bufr_fill.specs.Entries.{subset}
 use Rattle.bufr_fill.specs.Fault.{at_line, wrong_descriptor, wrong_number, out_of_range, item_too_many, unequal_factors, uneven_increment, too_many_values, walk_refused}
-use Rattle.bufr_fill.specs.Encoding.{across, pack_across, none_across}
+use Rattle.bufr_fill.specs.Encoding.{item_row, pack_across, none_across}
 use Rattle.bufr_fill.specs.LeastK.{k_of}
 use Rattle.bufr_fill.specs.Packing.{packing}
-use Rattle.bufr_fill.proofs.ExampleTables.{temperature, block, figure, name, four_letters, delayed_blocks, redefined, width_of_none, numbered, packed_to_bits, ok_bits, zeros, letters}
+use Rattle.bufr_fill.proofs.ExampleTables.{temperature, block, coded_spec, name, four_letters, delayed_blocks, redefined, width_of_none, numbered, packed_to_bits, ok_bits, zeros, letters}
 
 missing_written : packed_to_bits temperature (subset (numbered 24 3173 (codes "288.15") ∷ []) 25 ∷ subset (draft 26 3173 missing_form ∷ []) 27 ∷ []) ≡ ok_bits (112 ∷ 143 ∷ 5 ∷ []) 24
 unfolding packed_to_bits ok_bits temperature decimal_value_of bits_in
@@ -47,8 +47,8 @@ unfolding packed_to_bits ok_bits block decimal_value_of bits_in
 missing_first = refl
 
 -- where nothing is missing an increment may be all ones
-figures_written : packed_to_bits figure (subset (numbered 24 7957 (codes "5") ∷ []) 25 ∷ subset (numbered 26 7957 (codes "6") ∷ []) 27 ∷ []) ≡ ok_bits (20 ∷ 20 ∷ []) 14
-unfolding packed_to_bits ok_bits figure decimal_value_of bits_in
+figures_written : packed_to_bits coded_spec (subset (numbered 24 7957 (codes "5") ∷ []) 25 ∷ subset (numbered 26 7957 (codes "6") ∷ []) 27 ∷ []) ≡ ok_bits (20 ∷ 20 ∷ []) 14
+unfolding packed_to_bits ok_bits coded_spec decimal_value_of bits_in
 figures_written = refl
 
 name_written : packed_to_bits name (subset (draft 24 271 (text_form (codes "ABC")) ∷ []) 25 ∷ subset (draft 26 271 missing_form ∷ []) 27 ∷ []) ≡ ok_bits (zeros 20 (13 ∷ 5 ∷ 9 ∷ 15 ∷ 255 ∷ 255 ∷ 252 ∷ [])) 214
@@ -127,15 +127,15 @@ no_subsets : packed_to_bits width_of_none [] ≡ Ok []
 unfolding packed_to_bits
 no_subsets = refl
 
-as_quantity : Asked
+as_quantity : FieldSpec
 as_quantity = record { fxy = 3173; role = role.Element; kind = kind.Numeric; width = 16; scale = pos 2; reference = pos 0; may_be_missing = Bool.true; listed = Bool.true }
 
 -- 134,217,728 values are allowed, one more is not; that goes before another descriptor
-last_value : pack_across as_quantity (across 67108863 (subset [] 25 ∷ subset [] 26 ∷ [])) ≡ Err (at_line 25 (wrong_descriptor 3173 Bool.false))
+last_value : pack_across as_quantity (item_row 67108863 (subset [] 25 ∷ subset [] 26 ∷ [])) ≡ Err (at_line 25 (wrong_descriptor 3173 Bool.false))
 unfolding as_quantity
 last_value = refl
 
-values_too_many : pack_across as_quantity (across 67108864 (subset [] 25 ∷ subset [] 26 ∷ [])) ≡ Err (at_line 25 (too_many_values 3173))
+values_too_many : pack_across as_quantity (item_row 67108864 (subset [] 25 ∷ subset [] 26 ∷ [])) ≡ Err (at_line 25 (too_many_values 3173))
 unfolding as_quantity
 values_too_many = refl
 

@@ -2,19 +2,19 @@
 use Rattle.std.proofs.Common.{◌≡◌, ◌≤◌, ◌<◌, ◌+◌, ◌-◌, ℕ, zero, suc, max, Bool, true, false, List, [], ◌∷◌, length, Option, Some, None, Result, Ok, Err, refl, sym, ◌∙◌, ap, arith}
 use Rattle.std.specs.Prelude.{slice_get, if◌then◌else◌}
 use Rattle.std.proofs.lemmas.List.{append-nil}
-use Rattle.bufr_walk.specs.declared.spec.Refusal.TheVariants as refusal
-use Rattle.bufr_walk.specs.Asked.{Asked}
+use Rattle.bufr_walk.specs.declared.spec.TurnRefusal.TheVariants as refusal
+use Rattle.bufr_walk.specs.FieldSpec.{FieldSpec}
 use Rattle.bufr_walk.specs.Content.{Content}
 use Rattle.bufr_walk.specs.Course.{Course, Next, take_next, at_end, astray, refused}
-use Rattle.bufr_walk.specs.Taking.{Turn, Takes, course_after}
-use Rattle.bufr_walk.specs.Walked.{oks, told_by}
+use Rattle.bufr_walk.specs.Taking.{TakenField, Takes, course_after}
+use Rattle.bufr_walk.specs.Walked.{oks, answers_of}
 use Rattle.bufr_fill.specs.Draft.{Draft}
-use Rattle.bufr_fill.specs.Encoding.{Across, across, cells_at, rows, longest, first_there, there_or, line_in, content_here, contents_here, packed_to, are_many, pack_across, none_across, packed_filler, packed_data, ◌>>=◌}
+use Rattle.bufr_fill.specs.Encoding.{ItemRow, item_row, cells_at, rows, longest, first_there, there_or, line_in, content_here, contents_here, packed_to, are_many, pack_across, none_across, packed_filler, packed_data, ◌>>=◌}
 use Rattle.bufr_fill.specs.Entries.{Subset}
 use Rattle.bufr_fill.specs.Fault.{FaultAt, at_line, item_too_many, too_many_values, walk_refused}
 use Rattle.bufr_fill.specs.Filling.{Filler, fill, fill_one, fill_none, and_behind}
 use Rattle.bufr_fill.specs.Packing.{packing}
-use Rattle.bufr_fill.specs.PackedOut.{PackedPen, packed_start, PackedFills, and_end, all_end, first_line_at, rows_left, IsFaultHere}
+use Rattle.bufr_fill.specs.PackedOut.{PackedOutModel, new_packed_out, PackedFills, and_end, all_at_end, first_line_at, rows_left, IsFaultHere}
 use Rattle.bufr_fill.proofs.PackedWalks.{some_there, within, row_first, fills}
 use Rattle.bufr_fill.proofs.Places.{length-cells}
 use Rattle.bufr_fill.proofs.WalkFills.{after_told, walk_fills, unfilled}
@@ -35,39 +35,39 @@ no_row : (place : ℕ) (ss : List Subset) → longest ss ≤ place → rows (lon
 no_row place ss h = let e : longest ss - place ≡ 0 = omega (arith, h) in ap (λ n. rows n place ss) e
 
 -- all subsets end behind the longest
-ends_past : (place : ℕ) (ss : List Subset) → all_end (cells_at place ss) ≡ Ok tt → longest ss ≤ place
+ends_past : (place : ℕ) (ss : List Subset) → all_at_end (cells_at place ss) ≡ Ok tt → longest ss ≤ place
 ends_past place [] e = omega arith
 ends_past place (s ∷ ss) e = by (slice_get s.items place) refl e (λ e. ends_past place ss e)
   where
-    by : (o : Option Draft) → slice_get s.items place ≡ o → and_end o (all_end (cells_at place ss)) ≡ Ok tt → (all_end (cells_at place ss) ≡ Ok tt → longest ss ≤ place) → max (length s.items) (longest ss) ≤ place
+    by : (o : Option Draft) → slice_get s.items place ≡ o → and_end o (all_at_end (cells_at place ss)) ≡ Ok tt → (all_at_end (cells_at place ss) ≡ Ok tt → longest ss ≤ place) → max (length s.items) (longest ss) ≤ place
     by None is e g = omega (arith, past_none s.items place is, g e)
     by (Some d) is e g = absurd cc e
 
 -- an item that is left over is there
-ends_before : (place : ℕ) (ss : List Subset) (f : FaultAt) → all_end (cells_at place ss) ≡ Err f → (place < longest ss) × (f ≡ at_line (first_there (cells_at place ss)) item_too_many)
+ends_before : (place : ℕ) (ss : List Subset) (f : FaultAt) → all_at_end (cells_at place ss) ≡ Err f → (place < longest ss) × (f ≡ at_line (first_there (cells_at place ss)) item_too_many)
 ends_before place [] f e = absurd cc e
 ends_before place (s ∷ ss) f e = by (slice_get s.items place) refl e (λ e. ends_before place ss f e)
   where
-    by : (o : Option Draft) → slice_get s.items place ≡ o → and_end o (all_end (cells_at place ss)) ≡ Err f → (all_end (cells_at place ss) ≡ Err f → (place < longest ss) × (f ≡ at_line (first_there (cells_at place ss)) item_too_many)) → (place < longest (s ∷ ss)) × (f ≡ at_line (first_there (cells_at place (s ∷ ss))) item_too_many)
+    by : (o : Option Draft) → slice_get s.items place ≡ o → and_end o (all_at_end (cells_at place ss)) ≡ Err f → (all_at_end (cells_at place ss) ≡ Err f → (place < longest ss) × (f ≡ at_line (first_there (cells_at place ss)) item_too_many)) → (place < longest (s ∷ ss)) × (f ≡ at_line (first_there (cells_at place (s ∷ ss))) item_too_many)
     by None is e g = let r = g e in (omega (arith, r.0), r.1 ∙ ap (λ o. at_line (there_or o (first_there (cells_at place ss))) item_too_many) (sym is))
     by (Some d) is e g = let same : at_line d.line item_too_many ≡ f = cc in (omega (arith, some_there s.items place d is), sym same ∙ ap (λ o. at_line (there_or o (first_there (cells_at place ss))) item_too_many) (sym is))
 
 -- ---- the walk
 
 -- a walk stays with its subsets, and within the longest of them
-pub record Stays (s s' : PackedPen) : Type 0 where
+pub record Stays (s s' : PackedOutModel) : Type 0 where
   pub subsets : s'.subsets ≡ s.subsets
   pub within : s'.place ≤ longest s'.subsets
 
-pub stays : (course : Course) (s : PackedPen) (items : List Turn) (s' : PackedPen) → Takes (oks PackedFills) course s items s' → s.place ≤ longest s.subsets → Stays s s'
-stays course s [] s' h p = record { subsets = ap (λ (x : PackedPen). x.subsets) h; within = omega (arith, p, ap (λ (x : PackedPen). x.place) h, ap (λ (x : PackedPen). longest x.subsets) h) }
+pub stays : (course : Course) (s : PackedOutModel) (items : List TakenField) (s' : PackedOutModel) → Takes (oks PackedFills) course s items s' → s.place ≤ longest s.subsets → Stays s s'
+stays course s [] s' h p = record { subsets = ap (λ (x : PackedOutModel). x.subsets) h; within = omega (arith, p, ap (λ (x : PackedOutModel). x.place) h, ap (λ (x : PackedOutModel). longest x.subsets) h) }
 stays course s (i ∷ items) s' h p =
     let near = within s h.0 i.spec i.taken h.2 in
     let rest = stays (λ told. course (i.taken ∷ told)) h.0 items s' h.3 (omega (arith, near, h.2.place, ap longest h.2.subsets)) in
     record { subsets = rest.subsets ∙ h.2.subsets; within = rest.within }
 
 module _ (course : Course) (s : Subset) (more : List Subset) where
-  abbrev filler : Filler Across (List Content) FaultAt
+  abbrev filler : Filler ItemRow (List Content) FaultAt
   filler = packed_filler s.end_line (are_many (longest (s ∷ more)) (length (s ∷ more)))
 
   -- what the definition makes of the rows from a place on
@@ -75,17 +75,17 @@ module _ (course : Course) (s : Subset) (more : List Subset) where
   fill_from c place = fill filler c (rows (longest (s ∷ more) - place) place (s ∷ more))
 
   -- what a walk from the beginning wrote
-  record Came (items : List Turn) (mid : PackedPen) : Type 0 where
+  record Came (items : List TakenField) (mid : PackedOutModel) : Type 0 where
     bits : List Bool
     are : mid.bits ≡ bits
     is : packed_data course (s ∷ more) ≡ and_behind filler bits (fill_from (course_after course items) mid.place)
     subsets : mid.subsets ≡ s ∷ more
     near : mid.place ≤ longest (s ∷ more)
 
-  came : (items : List Turn) (mid : PackedPen) → Takes (oks PackedFills) course (packed_start (s ∷ more)) items mid → Came items mid
+  came : (items : List TakenField) (mid : PackedOutModel) → Takes (oks PackedFills) course (new_packed_out (s ∷ more)) items mid → Came items mid
   came items mid h =
-      let w = stays course (packed_start (s ∷ more)) items mid h (omega arith) in
-      let f = walk_fills filler rows_left (λ (p : PackedPen). p.bits) (oks PackedFills) (fills s.end_line (are_many (longest (s ∷ more)) (length (s ∷ more)))) course (packed_start (s ∷ more)) items mid h in
+      let w = stays course (new_packed_out (s ∷ more)) items mid h (omega arith) in
+      let f = walk_fills filler rows_left (λ (p : PackedOutModel). p.bits) (oks PackedFills) (fills s.end_line (are_many (longest (s ∷ more)) (length (s ∷ more)))) course (new_packed_out (s ∷ more)) items mid h in
       let e : longest (s ∷ more) - 0 ≡ longest (s ∷ more) = omega arith in
       record {
         bits = f.0;
@@ -106,10 +106,10 @@ module _ (course : Course) (s : Subset) (more : List Subset) where
           ∙ ap (λ o. Err (at_line (line_in o s.end_line) (walk_refused why))) (sym (none_past s.items place (omega (arith, l, h))))
       by (suc k) l =
           ap (λ k. fill filler c (rows k place (s ∷ more))) l
-          ∙ ap (λ x. fill_one filler x (across place (s ∷ more)) (λ t. fill filler (λ told. c (t ∷ told)) (rows k (place + 1) (s ∷ more)))) e
+          ∙ ap (λ x. fill_one filler x (item_row place (s ∷ more)) (λ t. fill filler (λ told. c (t ∷ told)) (rows k (place + 1) (s ∷ more)))) e
 
   -- where an item is at fault
-  fault_here : (c : Course) (place : ℕ) (spec : Asked) (f : FaultAt) → (c []).next ≡ take_next spec → place ≤ longest (s ∷ more) → pack_across spec (across place (s ∷ more)) ≡ Err f → fill_from c place ≡ Err f
+  fault_here : (c : Course) (place : ℕ) (spec : FieldSpec) (f : FaultAt) → (c []).next ≡ take_next spec → place ≤ longest (s ∷ more) → pack_across spec (item_row place (s ∷ more)) ≡ Err f → fill_from c place ≡ Err f
   fault_here c place spec f e h p = by (longest (s ∷ more) - place) refl
     where
       past : (many many' : Bool) (o : Option Draft) → many ≡ many' → o ≡ None
@@ -129,43 +129,43 @@ module _ (course : Course) (s : Subset) (more : List Subset) where
           ∙ ap Err (past (are_many place (length (cells_at place (s ∷ more)))) (are_many (longest (s ∷ more)) (length (s ∷ more))) (slice_get s.items place) (ap (are_many place) (length-cells place (s ∷ more)) ∙ ap (λ x. are_many x (length (s ∷ more))) at) (none_past s.items place (omega (arith, l, h))) p)
       by (suc k) l =
           ap (λ k. fill filler c (rows k place (s ∷ more))) l
-          ∙ unfilled filler rows_left (λ (p : PackedPen). p.bits) (oks PackedFills) (fills s.end_line (are_many (longest (s ∷ more)) (length (s ∷ more)))) c (across place (s ∷ more) ∷ rows k (place + 1) (s ∷ more)) spec f e p
+          ∙ unfilled filler rows_left (λ (p : PackedOutModel). p.bits) (oks PackedFills) (fills s.end_line (are_many (longest (s ∷ more)) (length (s ∷ more)))) c (item_row place (s ∷ more) ∷ rows k (place + 1) (s ∷ more)) spec f e p
 
   -- where an item is left over
-  over_here : (c : Course) (place : ℕ) (f : FaultAt) → (c []).next ≡ at_end → all_end (cells_at place (s ∷ more)) ≡ Err f → fill_from c place ≡ Err f
+  over_here : (c : Course) (place : ℕ) (f : FaultAt) → (c []).next ≡ at_end → all_at_end (cells_at place (s ∷ more)) ≡ Err f → fill_from c place ≡ Err f
   over_here c place f e p =
       let b = ends_before place (s ∷ more) f p in
       ap (fill filler c) (row_first (longest (s ∷ more)) place (s ∷ more) b.0)
-      ∙ ap (λ x. fill_one filler x (across place (s ∷ more)) (λ t. fill filler (λ told. c (t ∷ told)) (rows (longest (s ∷ more) - (place + 1)) (place + 1) (s ∷ more)))) e
+      ∙ ap (λ x. fill_one filler x (item_row place (s ∷ more)) (λ t. fill filler (λ told. c (t ∷ told)) (rows (longest (s ∷ more) - (place + 1)) (place + 1) (s ∷ more)))) e
       ∙ ap Err (sym b.1)
 
-  later : (items : List Turn) (mid : PackedPen) → Came items mid → (f : FaultAt) → fill_from (course_after course items) mid.place ≡ Err f → packed_data course (s ∷ more) ≡ Err f
+  later : (items : List TakenField) (mid : PackedOutModel) → Came items mid → (f : FaultAt) → fill_from (course_after course items) mid.place ≡ Err f → packed_data course (s ∷ more) ≡ Err f
   later items mid h f e = h.is ∙ ap (and_behind filler h.bits) e
 
-  stops : (items : List Turn) (mid : PackedPen) (f : FaultAt) → Takes (oks PackedFills) course (packed_start (s ∷ more)) items mid → IsFaultHere (course (told_by items)).next mid f → packed_data course (s ∷ more) ≡ Err f
-  stops items mid f h x = later items mid k f (by (course (told_by items)).next (ap (λ a. a.next) (after_told course items)) x)
+  stops : (items : List TakenField) (mid : PackedOutModel) (f : FaultAt) → Takes (oks PackedFills) course (new_packed_out (s ∷ more)) items mid → IsFaultHere (course (answers_of items)).next mid f → packed_data course (s ∷ more) ≡ Err f
+  stops items mid f h x = later items mid k f (by (course (answers_of items)).next (ap (λ a. a.next) (after_told course items)) x)
     where
       k : Came items mid
       k = came items mid h
 
       by : (next : Next) → (course_after course items []).next ≡ next → IsFaultHere next mid f → fill_from (course_after course items) mid.place ≡ Err f
-      by (take_next spec) e x = fault_here (course_after course items) mid.place spec f e k.near (ap (λ ss. pack_across spec (across mid.place ss)) (sym k.subsets) ∙ x)
+      by (take_next spec) e x = fault_here (course_after course items) mid.place spec f e k.near (ap (λ ss. pack_across spec (item_row mid.place ss)) (sym k.subsets) ∙ x)
       by (refused why) e x = refused_here (course_after course items) mid.place why e k.near ∙ ap (λ ss. Err (at_line (first_line_at mid.place ss) (walk_refused why))) (sym k.subsets) ∙ ap Err (sym x)
-      by at_end e x = over_here (course_after course items) mid.place f e (ap (λ ss. all_end (cells_at mid.place ss)) (sym k.subsets) ∙ x)
+      by at_end e x = over_here (course_after course items) mid.place f e (ap (λ ss. all_at_end (cells_at mid.place ss)) (sym k.subsets) ∙ x)
       by astray e x = absurd x
 
-  ends : (items : List Turn) (mid : PackedPen) → Takes (oks PackedFills) course (packed_start (s ∷ more)) items mid → (course (told_by items)).next ≡ at_end → all_end (cells_at mid.place mid.subsets) ≡ Ok tt → packed_data course (s ∷ more) ≡ Ok mid.bits
+  ends : (items : List TakenField) (mid : PackedOutModel) → Takes (oks PackedFills) course (new_packed_out (s ∷ more)) items mid → (course (answers_of items)).next ≡ at_end → all_at_end (cells_at mid.place mid.subsets) ≡ Ok tt → packed_data course (s ∷ more) ≡ Ok mid.bits
   ends items mid h e x =
       let k = came items mid h in
-      let past = ends_past mid.place (s ∷ more) (ap (λ ss. all_end (cells_at mid.place ss)) (sym k.subsets) ∙ x) in
+      let past = ends_past mid.place (s ∷ more) (ap (λ ss. all_at_end (cells_at mid.place ss)) (sym k.subsets) ∙ x) in
       let none : fill_from (course_after course items) mid.place ≡ Ok [] =
       ap (fill filler (course_after course items)) (no_row mid.place (s ∷ more) past) ∙ ap (fill_none filler) (ap (λ a. a.next) (after_told course items) ∙ e) in
       k.is ∙ ap (and_behind filler k.bits) none ∙ ap Ok (append-nil k.bits ∙ sym k.are)
 
-pub fault_as_defined : (course : Course) (subsets : List Subset) (items : List Turn) (s : PackedPen) (f : FaultAt) → 1 ≤ length subsets → Takes (oks PackedFills) course (packed_start subsets) items s → IsFaultHere (course (told_by items)).next s f → packed_data course subsets ≡ Err f
+pub fault_as_defined : (course : Course) (subsets : List Subset) (items : List TakenField) (s : PackedOutModel) (f : FaultAt) → 1 ≤ length subsets → Takes (oks PackedFills) course (new_packed_out subsets) items s → IsFaultHere (course (answers_of items)).next s f → packed_data course subsets ≡ Err f
 fault_as_defined course [] items s f some h x = absurd (omega (arith, some))
 fault_as_defined course (first ∷ more) items s f some h x = stops course first more items s f h x
 
-pub written_as_defined : (course : Course) (subsets : List Subset) (items : List Turn) (s : PackedPen) → 1 ≤ length subsets → Takes (oks PackedFills) course (packed_start subsets) items s → (course (told_by items)).next ≡ at_end → all_end (cells_at s.place s.subsets) ≡ Ok tt → packed_data course subsets ≡ Ok s.bits
+pub written_as_defined : (course : Course) (subsets : List Subset) (items : List TakenField) (s : PackedOutModel) → 1 ≤ length subsets → Takes (oks PackedFills) course (new_packed_out subsets) items s → (course (answers_of items)).next ≡ at_end → all_at_end (cells_at s.place s.subsets) ≡ Ok tt → packed_data course subsets ≡ Ok s.bits
 written_as_defined course [] items s some h e x = absurd (omega (arith, some))
 written_as_defined course (first ∷ more) items s some h e x = ends course first more items s h e x

@@ -8,13 +8,13 @@ use Rattle.bufr_tables.specs.declared.kind.Kind.{Kind}
 use Rattle.bufr_tables.specs.declared.kind.Kind.TheVariants as kind
 use Rattle.bufr_walk.specs.declared.spec.Role.{Role}
 use Rattle.bufr_walk.specs.declared.spec.Role.TheVariants as role
-use Rattle.bufr_walk.specs.Asked.{Asked, IsSpec, HasWidth}
+use Rattle.bufr_walk.specs.FieldSpec.{FieldSpec, IsSpec, HasWidth}
 use Rattle.bufr_walk.specs.Content.{Content, number, text, missing, reference, bits_for}
 use Rattle.bufr_walk.specs.PackedField.{packed_field}
 use Rattle.bufr_walk.specs.PlainField.{FieldFault, increment, found}
 use Rattle.bufr_fill.specs.Fits.{FitsNumber, FitsText, FitsKind, FitsRole, AllFit}
 use Rattle.bufr_fill.specs.LeastK.{HasLeastK}
-use Rattle.bufr_fill.specs.Packing.{top, same_octets, are_same, has_bits, gives_again, has_octets, first_from, least_k, octet_bits, packed_bits, packed_by, packed_unlike, packing}
+use Rattle.bufr_fill.specs.Packing.{raw_limit, same_octets, are_same, has_bits, gives_again, has_octets, first_from, least_k, octet_bits, packed_bits, packed_by, packed_unlike, packing}
 use Rattle.bufr_fill.proofs.LeastLemmas.{AreNumbers, first_least, first_from_start, octets_self}
 use Rattle.bufr_fill.proofs.LeastPacked.{least_k_packed}
 use Rattle.bufr_fill.proofs.PackedBack.{AreTexts}
@@ -37,7 +37,7 @@ below a b h = grind (arith, nat_tests)
 
 -- the whole width is enough
 number_has : (m : Bool) (w low : ℕ) (c : Content) → FitsNumber m w c → has_bits m low w c ≡ true
-number_has m w low (number n) h = below (n - low) (top m w) (omega (arith, h))
+number_has m w low (number n) h = below (n - low) (raw_limit m w) (omega (arith, h))
 number_has m w low (text os) h = absurd h
 number_has m w low missing h = refl
 number_has m w low (reference v) h = absurd h
@@ -105,7 +105,7 @@ text_varies true m w cs out wide are q e =
     let least : k ≤ w / 8 = first_least (λ k. list_all (has_octets k) cs) 63 1 (w / 8) some (texts_have (w / 8) cs are) in
     (k, first_from_start (λ k. list_all (has_octets k) cs) 63 1, few, (are, passes, least))
 
-kind_varies : (kd : Kind) (spec : Asked) (cs : List Content) (out : List Bool) → HasWidth kd spec.width → AllKind kd spec.may_be_missing spec.width cs → packed_by kd spec cs ≡ Ok out → Varies kd spec.may_be_missing spec.width cs
+kind_varies : (kd : Kind) (spec : FieldSpec) (cs : List Content) (out : List Bool) → HasWidth kd spec.width → AllKind kd spec.may_be_missing spec.width cs → packed_by kd spec cs ≡ Ok out → Varies kd spec.may_be_missing spec.width cs
 kind_varies kind.Character spec cs out hw h e = text_varies (nat_le (least_k has_octets cs) 63) spec.may_be_missing spec.width cs out hw.0 (all_texts spec.may_be_missing spec.width cs h) refl e
 kind_varies kind.Coded spec cs out hw h e =
     let are = all_coded spec.may_be_missing spec.width cs h in (spec.width, hw.0, hw.1, (are, λ low q. numbers_have spec.may_be_missing spec.width low cs are))
@@ -114,7 +114,7 @@ kind_varies kind.Numeric spec cs out hw h e =
 
 -- ---- the item
 
-module _ (n : ℕ) (spec : Asked) (good : IsSpec spec) where
+module _ (n : ℕ) (spec : FieldSpec) (good : IsSpec spec) where
   kinds_of : (r : Role) → spec.role ≡ r → ((x : Content) → FitsRole r spec x → FitsKind spec.kind spec.may_be_missing spec.width x) → (cs : List Content) → AllFit spec cs → AllKind spec.kind spec.may_be_missing spec.width cs
   kinds_of r er f [] h = tt
   kinds_of r er f (c ∷ cs) h = (f c (subst (λ r. FitsRole r spec c) er h.0), kinds_of r er f cs h.1)
@@ -147,6 +147,6 @@ module _ (n : ℕ) (spec : Asked) (good : IsSpec spec) where
       ap (λ bits. packed_field n spec (bits ++ more)) is ∙ p.1.again more
 
 -- and with the least k
-pub fitting_least_k : (n : ℕ) (spec : Asked) (contents : List Content) (out : List Bool) → 1 ≤ n → IsSpec spec → AllFit spec contents → length contents ≡ n → packing spec contents ≡ Ok out → HasLeastK n spec contents
+pub fitting_least_k : (n : ℕ) (spec : FieldSpec) (contents : List Content) (out : List Bool) → 1 ≤ n → IsSpec spec → AllFit spec contents → length contents ≡ n → packing spec contents ≡ Ok out → HasLeastK n spec contents
 fitting_least_k n spec [] out some good fits count e = absurd (omega (arith, some, count))
 fitting_least_k n spec (c ∷ cs) out some good fits count e = least_k_packed n spec (c ∷ cs) (out ++ []) [] some good (fitting_again n spec good c cs out [] fits count e)

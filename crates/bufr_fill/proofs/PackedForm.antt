@@ -3,22 +3,22 @@
 use Rattle.std.proofs.Common.{◌≡◌, ◌⊎◌, inl, inr, ℕ, zero, suc, ◌+◌, ◌*◌, ◌<◌, ◌≤◌, max, Bool, List, [], ◌∷◌, ◌++◌, length, drop, Result, Ok, Err, refl, sym, ◌∙◌, ap, subst, arith, append_assoc}
 use Rattle.std.specs.Prelude.{slice_get, if◌then◌else◌}
 use Rattle.bufr_walk.specs.declared.spec.Taken.{Taken}
-use Rattle.bufr_walk.specs.Asked.{Asked, IsSpec}
+use Rattle.bufr_walk.specs.FieldSpec.{FieldSpec, IsSpec}
 use Rattle.bufr_walk.specs.Calls.{content_at}
-use Rattle.bufr_walk.specs.Content.{Content, missing, told}
+use Rattle.bufr_walk.specs.Content.{Content, missing, answer_of}
 use Rattle.bufr_walk.specs.Course.{Course, take_next, at_end}
 use Rattle.bufr_walk.specs.PackedField.{packed_field}
 use Rattle.bufr_walk.specs.PlainField.{FieldFault, data_end, increment, unequal_factor}
-use Rattle.bufr_walk.specs.Reading.{most_values, Item, plain, packed, after, ReadsAll, ReadsSubsets}
+use Rattle.bufr_walk.specs.Reading.{max_values, Item, plain, packed, after, ReadsPass, ReadsSubsets}
 use Rattle.bufr_fill.specs.Draft.{Draft}
-use Rattle.bufr_fill.specs.Encoding.{Cell, Across, across, cells_at, rows, longest, first_line, contents_here, packing_fault, packed_to, are_many, pack_across, packed_filler, packed_data, ◌>>=◌}
+use Rattle.bufr_fill.specs.Encoding.{RowCell, ItemRow, item_row, cells_at, rows, longest, first_line, contents_here, packing_fault, packed_to, are_many, pack_across, packed_filler, packed_data, ◌>>=◌}
 use Rattle.bufr_fill.specs.Entries.{Subset}
 use Rattle.bufr_fill.specs.Fault.{FaultAt, at_line, too_many_values}
 use Rattle.bufr_fill.specs.Filling.{fill, fill_one, fill_none, filled, and_behind}
 use Rattle.bufr_fill.specs.Fits.{Fits, AllFit}
 use Rattle.bufr_fill.specs.OtherForm.{subsets_from, IsUnlike, IsTogetherOrNot}
 use Rattle.bufr_fill.specs.Packing.{packing}
-use Rattle.bufr_fill.specs.WrittenAgain.{IsDumped, AreDrafts, AreDumped, items_of}
+use Rattle.bufr_fill.specs.WrittenAgain.{IsDumped, AreDrafts, AreDumped, items_of_subset}
 use Rattle.bufr_fill.proofs.WrittenLists.{AllSpecs, EachSpecs, IsCellOf, AreCellsOf}
 use Rattle.bufr_fill.proofs.PackedFits.{fitting_again}
 use Rattle.bufr_fill.proofs.PackedTrip.{all_here, past}
@@ -60,26 +60,26 @@ DumpedAt p (r ∷ rs) [] = ⊥
 DumpedAt p (r ∷ rs) (s ∷ ss) = AreDrafts IsDumped r (drop p s.items) × DumpedAt p rs ss
 
 -- each has an item of this field
-abbrev IsHeaded : Asked → List (Item Content) → Type 0
+abbrev IsHeaded : FieldSpec → List (Item Content) → Type 0
 IsHeaded spec [] = ⊥
 IsHeaded spec (i ∷ items) = (i.spec ≡ spec) × Fits spec i.content
 
-abbrev AreHeaded : Asked → List (List (Item Content)) → Type 0
+abbrev AreHeaded : FieldSpec → List (List (Item Content)) → Type 0
 AreHeaded spec [] = Unit {0}
 AreHeaded spec (r ∷ rs) = IsHeaded spec r × AreHeaded spec rs
 
-one_headed : (course : Course) (spec : Asked) (r : List (Item Content)) → (course []).next ≡ take_next spec → Follows course r → IsHeaded spec r
+one_headed : (course : Course) (spec : FieldSpec) (r : List (Item Content)) → (course []).next ≡ take_next spec → Follows course r → IsHeaded spec r
 one_headed course spec [] e h = let x : take_next spec ≡ at_end = sym e ∙ h in absurd cc
 one_headed course spec (i ∷ items) e h = let same = asked_same i.spec spec (sym h.0 ∙ e) in (same, subst (λ s. Fits s i.content) same h.2)
   where
-    asked_same : (a b : Asked) → take_next a ≡ take_next b → a ≡ b
+    asked_same : (a b : FieldSpec) → take_next a ≡ take_next b → a ≡ b
     asked_same a b e = cc
 
-headed : (course : Course) (spec : Asked) (rs : List (List (Item Content))) → (course []).next ≡ take_next spec → AllFollow course rs → AreHeaded spec rs
+headed : (course : Course) (spec : FieldSpec) (rs : List (List (Item Content))) → (course []).next ≡ take_next spec → AllFollow course rs → AreHeaded spec rs
 headed course spec [] e h = tt
 headed course spec (r ∷ rs) e h = (one_headed course spec r e h.0, headed course spec rs e h.1)
 
-all_fit : (spec : Asked) (rs : List (List (Item Content))) → AreHeaded spec rs → AllFit spec (firsts rs)
+all_fit : (spec : FieldSpec) (rs : List (List (Item Content))) → AreHeaded spec rs → AllFit spec (firsts rs)
 all_fit spec [] h = tt
 all_fit spec ([] ∷ rs) h = absurd h.0
 all_fit spec ((i ∷ items) ∷ rs) h = (h.0.1, all_fit spec rs h.1)
@@ -92,12 +92,12 @@ length-tails : (rs : List (List (Item Content))) → length (tails rs) ≡ lengt
 length-tails [] = refl
 length-tails (r ∷ rs) = ap suc (length-tails rs)
 
-total_tails : (spec : Asked) (rs : List (List (Item Content))) → AreHeaded spec rs → total rs ≡ length rs + total (tails rs)
+total_tails : (spec : FieldSpec) (rs : List (List (Item Content))) → AreHeaded spec rs → total rs ≡ length rs + total (tails rs)
 total_tails spec [] h = refl
 total_tails spec ([] ∷ rs) h = absurd h.0
 total_tails spec ((i ∷ items) ∷ rs) h = omega (arith, total_tails spec rs h.1)
 
-longest_tails : (spec : Asked) (r : List (Item Content)) (rs : List (List (Item Content))) → AreHeaded spec (r ∷ rs) → longest_left (r ∷ rs) ≡ suc (longest_left (tails (r ∷ rs)))
+longest_tails : (spec : FieldSpec) (r : List (Item Content)) (rs : List (List (Item Content))) → AreHeaded spec (r ∷ rs) → longest_left (r ∷ rs) ≡ suc (longest_left (tails (r ∷ rs)))
 longest_tails spec [] rs h = absurd h.0
 longest_tails spec (i ∷ items) [] h = omega arith
 longest_tails spec (i ∷ items) (q ∷ rs) h = omega (arith, longest_tails spec q rs h.1)
@@ -116,14 +116,14 @@ draft_next zero (d ∷ ds) i items h = h.1
 draft_next (suc p) [] i items h = absurd h
 draft_next (suc p) (d ∷ ds) i items h = draft_next p ds i items h
 
-cells_there : (spec : Asked) (p : ℕ) (rs : List (List (Item Content))) (ss : List Subset) → AreHeaded spec rs → DumpedAt p rs ss → AreCellsOf spec (firsts rs) (cells_at p ss)
+cells_there : (spec : FieldSpec) (p : ℕ) (rs : List (List (Item Content))) (ss : List Subset) → AreHeaded spec rs → DumpedAt p rs ss → AreCellsOf spec (firsts rs) (cells_at p ss)
 cells_there spec p [] [] h d = tt
 cells_there spec p [] (s ∷ ss) h d = absurd d
 cells_there spec p (r ∷ rs) [] h d = absurd d
 cells_there spec p ([] ∷ rs) (s ∷ ss) h d = absurd h.0
 cells_there spec p ((i ∷ items) ∷ rs) (s ∷ ss) h d = (subst (λ a. IsCellOf a i.content (slice_get s.items p)) h.0.0 (cell_there p s.items i items d.0), cells_there spec p rs ss h.1 d.1)
 
-dumped_next : (spec : Asked) (p : ℕ) (rs : List (List (Item Content))) (ss : List Subset) → AreHeaded spec rs → DumpedAt p rs ss → DumpedAt (suc p) (tails rs) ss
+dumped_next : (spec : FieldSpec) (p : ℕ) (rs : List (List (Item Content))) (ss : List Subset) → AreHeaded spec rs → DumpedAt p rs ss → DumpedAt (suc p) (tails rs) ss
 dumped_next spec p [] [] h d = tt
 dumped_next spec p [] (s ∷ ss) h d = absurd d
 dumped_next spec p (r ∷ rs) [] h d = absurd d
@@ -137,36 +137,36 @@ length-dumped p (r ∷ rs) [] d = absurd d
 length-dumped p (r ∷ rs) (s ∷ ss) d = ap suc (length-dumped p rs ss d.1)
 
 -- the item of all subsets is packed, or its contents cannot be
-across_gives : (spec : Asked) → IsSpec spec → (p : ℕ) (rs : List (List (Item Content))) (ss : List Subset) → AreHeaded spec rs → DumpedAt p rs ss → (p + 1) * length rs ≤ most_values
-    → pack_across spec (across p ss) ≡ packed_to (firsts rs) (cells_at p ss) (packing spec (firsts rs))
+across_gives : (spec : FieldSpec) → IsSpec spec → (p : ℕ) (rs : List (List (Item Content))) (ss : List Subset) → AreHeaded spec rs → DumpedAt p rs ss → (p + 1) * length rs ≤ max_values
+    → pack_across spec (item_row p ss) ≡ packed_to (firsts rs) (cells_at p ss) (packing spec (firsts rs))
 across_gives spec good p rs ss h d few =
     let cells = cells_at p ss in
-    let within : (p + 1) * length cells ≤ most_values = subst (λ n. (p + 1) * n ≤ most_values) (sym (length-dumped p rs ss d)) few in
-    ap (λ b. if b then Err (at_line (first_line cells) (too_many_values spec.fxy)) else (contents_here spec cells >>= λ xs. packed_to xs cells (packing spec xs))) (past most_values ((p + 1) * length cells) within)
+    let within : (p + 1) * length cells ≤ max_values = subst (λ n. (p + 1) * n ≤ max_values) (sym (length-dumped p rs ss d)) few in
+    ap (λ b. if b then Err (at_line (first_line cells) (too_many_values spec.fxy)) else (contents_here spec cells >>= λ xs. packed_to xs cells (packing spec xs))) (past max_values ((p + 1) * length cells) within)
     ∙ ap (λ r. r >>= λ xs. packed_to xs cells (packing spec xs)) (all_here spec good (firsts rs) cells (all_fit spec rs h) (cells_there spec p rs ss h d))
 
 -- ---- the course goes on the same for all
 
-abbrev AllTell : Asked → Taken → List Content → Type 0
+abbrev AllTell : FieldSpec → Taken → List Content → Type 0
 AllTell spec t [] = Unit {0}
-AllTell spec t (c ∷ cs) = (told spec c ≡ t) × AllTell spec t cs
+AllTell spec t (c ∷ cs) = (answer_of spec c ≡ t) × AllTell spec t cs
 
-tell_from : (spec : Asked) (t : Taken) (cs : List Content) → ((j : ℕ) → j < length cs → told spec (content_at j cs) ≡ t) → AllTell spec t cs
+tell_from : (spec : FieldSpec) (t : Taken) (cs : List Content) → ((j : ℕ) → j < length cs → answer_of spec (content_at j cs) ≡ t) → AllTell spec t cs
 tell_from spec t [] h = tt
 tell_from spec t (c ∷ cs) h = (h 0 (omega arith), tell_from spec t cs (λ j l. h (suc j) (omega (arith, l))))
 
-follow_next : (course : Course) (spec : Asked) (t : Taken) (rs : List (List (Item Content))) → AreHeaded spec rs → AllTell spec t (firsts rs) → AllFollow course rs → AllFollow (λ told. course (t ∷ told)) (tails rs)
+follow_next : (course : Course) (spec : FieldSpec) (t : Taken) (rs : List (List (Item Content))) → AreHeaded spec rs → AllTell spec t (firsts rs) → AllFollow course rs → AllFollow (λ answer_of. course (t ∷ answer_of)) (tails rs)
 follow_next course spec t [] h a f = tt
 follow_next course spec t ([] ∷ rs) h a f = absurd h.0
 follow_next course spec t ((i ∷ items) ∷ rs) h a f =
-    let same : told i.spec i.content ≡ t = ap (λ s. told s i.content) h.0.0 ∙ a.0 in
-    (subst (λ (t : Taken). Follows (λ told. course (t ∷ told)) items) same f.0.3, follow_next course spec t rs h.1 a.1 f.1)
+    let same : answer_of i.spec i.content ≡ t = ap (λ s. answer_of s i.content) h.0.0 ∙ a.0 in
+    (subst (λ (t : Taken). Follows (λ answer_of. course (t ∷ answer_of)) items) same f.0.3, follow_next course spec t rs h.1 a.1 f.1)
 
 -- ---- the items of all subsets are those of each
 
 abbrev AreParts : ℕ → List (Item (List Content)) → List (List (Item Content)) → Type 0
 AreParts j items [] = Unit {0}
-AreParts j items (r ∷ rs) = (items_of j items ≡ r) × AreParts (suc j) items rs
+AreParts j items (r ∷ rs) = (items_of_subset j items ≡ r) × AreParts (suc j) items rs
 
 parts_subsets : (j : ℕ) (items : List (Item (List Content))) (rs : List (List (Item Content))) → AreParts j items rs → subsets_from (length rs) j items ≡ rs
 parts_subsets j items [] h = refl
@@ -183,55 +183,55 @@ no_parts course j [] e f = (tt, refl)
 no_parts course j ([] ∷ rs) e f = let rest = no_parts course (suc j) rs e f.1 in ((refl, rest.0), omega (arith, rest.1))
 no_parts course j ((i ∷ items) ∷ rs) e f = let x : take_next i.spec ≡ at_end = sym f.0.0 ∙ e in absurd cc
 
-more_parts : (j : ℕ) (spec : Asked) (cs : List Content) (items : List (Item (List Content))) (rs : List (List (Item Content))) → drop j cs ≡ firsts rs → AreHeaded spec rs → AreParts j items (tails rs) → AreParts j (record { spec = spec; content = cs } ∷ items) rs
+more_parts : (j : ℕ) (spec : FieldSpec) (cs : List Content) (items : List (Item (List Content))) (rs : List (List (Item Content))) → drop j cs ≡ firsts rs → AreHeaded spec rs → AreParts j items (tails rs) → AreParts j (record { spec = spec; content = cs } ∷ items) rs
 more_parts j spec cs items [] e h a = tt
 more_parts j spec cs items ([] ∷ rs) e h a = absurd h.0
 more_parts j spec cs items ((i ∷ r) ∷ rs) e h a =
     let at = at_drop j cs i.content (firsts rs) e in
-    let same : items_of j (record { spec = spec; content = cs } ∷ items) ≡ i ∷ r = λ k. record { spec = sym h.0.0 k; content = at.0 k } ∷ a.0 k in
+    let same : items_of_subset j (record { spec = spec; content = cs } ∷ items) ≡ i ∷ r = λ k. record { spec = sym h.0.0 k; content = at.0 k } ∷ a.0 k in
     (same, more_parts (suc j) spec cs items rs at.1 h.1 a.1)
 
 -- ---- row after row
 
-record IsTogether (n : ℕ) (course : Course) (rests : List (List (Item Content))) (drafts : List Across) (end_line : ℕ) (many : Bool) : Type 0 where
+record IsTogether (n : ℕ) (course : Course) (rests : List (List (Item Content))) (drafts : List ItemRow) (end_line : ℕ) (many : Bool) : Type 0 where
   items : List (Item (List Content))
   parts : AreParts 0 items rests
   out : List Bool
   fills : fill (packed_filler end_line many) course drafts ≡ Ok out
-  again : (more : List Bool) → ReadsAll (packed n) course items (out ++ more) more
+  again : (more : List Bool) → ReadsPass (packed n) course items (out ++ more) more
   few : length items * n ≤ total rests
 
-record IsNot (course : Course) (drafts : List Across) (end_line : ℕ) (many : Bool) : Type 0 where
+record IsNot (course : Course) (drafts : List ItemRow) (end_line : ℕ) (many : Bool) : Type 0 where
   why : FaultAt
   is : fill (packed_filler end_line many) course drafts ≡ Err why
   unlike : IsUnlike why.fault
 
-abbrev Either : (n : ℕ) → Course → List (List (Item Content)) → List Across → (end_line : ℕ) → (many : Bool) → Type 0
+abbrev Either : (n : ℕ) → Course → List (List (Item Content)) → List ItemRow → (end_line : ℕ) → (many : Bool) → Type 0
 Either n course rests drafts end_line many = IsTogether n course rests drafts end_line many ⊎ IsNot course drafts end_line many
 
 module _ (end_line : ℕ) (many : Bool) where
-  fill_first : (course : Course) (spec : Asked) (a : Across) (more : List Across) (r : Result (List Bool) FieldFault) (cs : List Content) → (course []).next ≡ take_next spec → pack_across spec a ≡ packed_to cs a.cells r
-      → fill (packed_filler end_line many) course (a ∷ more) ≡ filled (packed_filler end_line many) spec (packed_to cs a.cells r) (λ t. fill (packed_filler end_line many) (λ told. course (t ∷ told)) more)
+  fill_first : (course : Course) (spec : FieldSpec) (a : ItemRow) (more : List ItemRow) (r : Result (List Bool) FieldFault) (cs : List Content) → (course []).next ≡ take_next spec → pack_across spec a ≡ packed_to cs a.cells r
+      → fill (packed_filler end_line many) course (a ∷ more) ≡ filled (packed_filler end_line many) spec (packed_to cs a.cells r) (λ t. fill (packed_filler end_line many) (λ answer_of. course (t ∷ answer_of)) more)
   fill_first course spec a more r cs next gives =
       let filler = packed_filler end_line many in
-      ap (λ n. fill_one filler n a (λ t. fill filler (λ told. course (t ∷ told)) more)) next
-      ∙ ap (λ x. filled filler spec x (λ t. fill filler (λ told. course (t ∷ told)) more)) gives
+      ap (λ n. fill_one filler n a (λ t. fill filler (λ answer_of. course (t ∷ answer_of)) more)) next
+      ∙ ap (λ x. filled filler spec x (λ t. fill filler (λ answer_of. course (t ∷ answer_of)) more)) gives
 
-  fault_unlike : (cs : List Content) (cells : List Cell) (why : FieldFault) → IsUnlike (packing_fault cs cells why).fault
+  fault_unlike : (cs : List Content) (cells : List RowCell) (why : FieldFault) → IsUnlike (packing_fault cs cells why).fault
   fault_unlike cs cells data_end = tt
   fault_unlike cs cells increment = tt
   fault_unlike cs cells unequal_factor = tt
 
   -- the first row, and those behind it
-  onto : (n : ℕ) (course : Course) (spec : Asked) (c : Content) (cs : List Content) (rs : List (List (Item Content))) (a : Across) (more : List Across) → IsSpec spec → (course []).next ≡ take_next spec → AreHeaded spec rs → firsts rs ≡ c ∷ cs → length rs ≡ n
+  onto : (n : ℕ) (course : Course) (spec : FieldSpec) (c : Content) (cs : List Content) (rs : List (List (Item Content))) (a : ItemRow) (more : List ItemRow) → IsSpec spec → (course []).next ≡ take_next spec → AreHeaded spec rs → firsts rs ≡ c ∷ cs → length rs ≡ n
       → (r : Result (List Bool) FieldFault) → packing spec (c ∷ cs) ≡ r → pack_across spec a ≡ packed_to (c ∷ cs) a.cells r
-      → ((out : List Bool) → packing spec (c ∷ cs) ≡ Ok out → Either n (λ told_so. course (told spec c ∷ told_so)) (tails rs) more end_line many)
+      → ((out : List Bool) → packing spec (c ∷ cs) ≡ Ok out → Either n (λ told_so. course (answer_of spec c ∷ told_so)) (tails rs) more end_line many)
       → Either n course rs (a ∷ more) end_line many
   onto n course spec c cs rs a more good next h f count (Err why) p gives rest =
       inr (record { why = packing_fault (c ∷ cs) a.cells why; is = fill_first course spec a more (Err why) (c ∷ cs) next gives; unlike = fault_unlike (c ∷ cs) a.cells why })
   onto n course spec c cs rs a more good next h f count (Ok w) p gives rest = by (rest w p)
     where
-      by : Either n (λ told_so. course (told spec c ∷ told_so)) (tails rs) more end_line many → Either n course rs (a ∷ more) end_line many
+      by : Either n (λ told_so. course (answer_of spec c ∷ told_so)) (tails rs) more end_line many → Either n course rs (a ∷ more) end_line many
       by (inr x) = inr (record {
         why = x.why;
         is = fill_first course spec a more (Ok w) (c ∷ cs) next gives ∙ ap (and_behind (packed_filler end_line many) w) x.is;
@@ -258,7 +258,7 @@ module _ (end_line : ℕ) (many : Bool) where
           })
 
   -- all rows from a place on
-  from_place : (course : Course) (r : List (Item Content)) (rs : List (List (Item Content))) (ss : List Subset) (p : ℕ) → AllFollow course (r ∷ rs) → DumpedAt p (r ∷ rs) ss → p * suc (length rs) + total (r ∷ rs) ≤ most_values
+  from_place : (course : Course) (r : List (Item Content)) (rs : List (List (Item Content))) (ss : List Subset) (p : ℕ) → AllFollow course (r ∷ rs) → DumpedAt p (r ∷ rs) ss → p * suc (length rs) + total (r ∷ rs) ≤ max_values
       → Either (suc (length rs)) course (r ∷ rs) (rows (longest_left (r ∷ rs)) p ss) end_line many
   from_place course [] rs ss p f d few =
       let none = no_parts course 0 ([] ∷ rs) f.0 f in
@@ -280,22 +280,22 @@ module _ (end_line : ℕ) (many : Bool) where
       let more = rows left (p + 1) ss in
       let one : p * n + n ≡ (p + 1) * n = grind arith in
       let tot : total all ≡ n + total (tails all) = total_tails spec all h in
-      let within : (p + 1) * n ≤ most_values = omega (arith, few, one, tot) in
+      let within : (p + 1) * n ≤ max_values = omega (arith, few, one, tot) in
       let gives = across_gives spec f.0.1 p all ss h d within in
       let forth : suc p ≡ p + 1 = omega arith in
       subst (λ k. Either n course all (rows k p ss) end_line many) (sym (longest_tails spec (i ∷ items) rs h))
-      (onto n course spec i.content cs all (across p ss) more f.0.1 f.0.0 h refl refl (packing spec (i.content ∷ cs)) refl gives (λ w q.
-      let tells = tell_from spec (told spec i.content) cs (λ j l. packed_alike spec i.content cs w (suc j) q (omega (arith, l))) in
+      (onto n course spec i.content cs all (item_row p ss) more f.0.1 f.0.0 h refl refl (packing spec (i.content ∷ cs)) refl gives (λ w q.
+      let tells = tell_from spec (answer_of spec i.content) cs (λ j l. packed_alike spec i.content cs w (suc j) q (omega (arith, l))) in
       let d' = subst (λ k. DumpedAt k (tails all) ss) forth (dumped_next spec p all ss h d) in
-      let f' = follow_next course spec (told spec i.content) all h (refl, tells) f in
+      let f' = follow_next course spec (answer_of spec i.content) all h (refl, tells) f in
       let same : length (tails rs) ≡ length rs = length-tails rs in
-      subst (λ k. Either (suc k) (λ told_so. course (told spec i.content ∷ told_so)) (tails all) more end_line many) same
-      (from_place (λ told_so. course (told spec i.content ∷ told_so)) items (tails rs) ss (p + 1) f' d' (
+      subst (λ k. Either (suc k) (λ told_so. course (answer_of spec i.content ∷ told_so)) (tails all) more end_line many) same
+      (from_place (λ told_so. course (answer_of spec i.content ∷ told_so)) items (tails rs) ss (p + 1) f' d' (
       let e : (p + 1) * suc (length (tails rs)) ≡ (p + 1) * n = ap (λ k. (p + 1) * suc k) same in omega (arith, few, one, tot, e)))))
 
 -- ---- from a reading
 
-follows_plain : (course : Course) (items : List (Item Content)) (bits behind : List Bool) → AllSpecs items → ReadsAll plain course items bits behind → Follows course items × (length items + length behind ≤ length bits)
+follows_plain : (course : Course) (items : List (Item Content)) (bits behind : List Bool) → AllSpecs items → ReadsPass plain course items bits behind → Follows course items × (length items + length behind ≤ length bits)
 follows_plain course [] bits behind specs r = (r.1, omega (arith, ap length r.0))
 follows_plain course (i ∷ items) bits behind specs r =
     let rest = follows_plain (after plain course i) items r.0.0 behind specs.1 (r.0.3, r.1) in
@@ -324,7 +324,7 @@ dumped_at (items ∷ subsets) (s ∷ ss) h =
     ((h.0, rest.0), omega (arith, rest.1, lengths items s.items h.0))
 
 -- data that were read subset after subset are written together, where their contents can be
-pub together : (course : Course) (subsets : List (List (Item Content))) (drafts : List Subset) (bits behind : List Bool) → length bits ≤ most_values → EachSpecs subsets → AreDumped subsets drafts → ReadsSubsets course subsets bits behind → IsTogetherOrNot course subsets drafts
+pub together : (course : Course) (subsets : List (List (Item Content))) (drafts : List Subset) (bits behind : List Bool) → length bits ≤ max_values → EachSpecs subsets → AreDumped subsets drafts → ReadsSubsets course subsets bits behind → IsTogetherOrNot course subsets drafts
 together course [] [] bits behind few specs dumped r = inl (record { items = []; same = refl; out = []; is = refl; again = λ more. (refl, refl) })
 together course [] (s ∷ ss) bits behind few specs dumped r = absurd dumped
 together course (items ∷ subsets) [] bits behind few specs dumped r = absurd dumped

@@ -5,7 +5,7 @@ use Rattle.std.specs.List.{list_all, flat_map}
 use Rattle.std.proofs.lemmas.List.{take_at, drop_at, drop-drop, length-append, length-replicate, length-take, length-take-le, length-drop, length-map}
 use Rattle.std.proofs.lemmas.Bool.Decides.{nat_tests}
 use Rattle.std.proofs.Math.Nat.{mul-le-mul_left}
-use Rattle.bufr_bits.specs.Bits.{bits_in, number_of, all_set}
+use Rattle.bufr_bits.specs.Bits.{bits_in, number_of, are_all_ones}
 use Rattle.bufr_bits.proofs.BitLemmas.{number_of-below}
 use Rattle.bufr_bits.proofs.PushLemmas.{length-bits_in}
 use Rattle.bufr_bits.proofs.ScaledLemmas.{and_first, and_second}
@@ -13,11 +13,11 @@ use Rattle.bufr_tables.specs.declared.kind.Kind.{Kind}
 use Rattle.bufr_tables.specs.declared.kind.Kind.TheVariants as kind
 use Rattle.bufr_walk.specs.declared.spec.Role.{Role}
 use Rattle.bufr_walk.specs.declared.spec.Role.TheVariants as role
-use Rattle.bufr_walk.specs.Asked.{Asked, IsSpec, HasWidth}
+use Rattle.bufr_walk.specs.FieldSpec.{FieldSpec, IsSpec, HasWidth}
 use Rattle.bufr_walk.specs.Content.{Content, number, text, missing, reference, content_in, bits_for}
-use Rattle.bufr_walk.specs.PlainField.{FieldFault, data_end, increment, unequal_factor, Found, found}
-use Rattle.bufr_walk.specs.PackedField.{increments, all_increased, padded_text, step_of, numbers_of, texts_of, varied_by, same_count, all_same, if_equal, varied, contents_of, with_behind, item_by, packed_field}
-use Rattle.bufr_fill.specs.Packing.{top, same, are_same, lowest, has_bits, has_octets, least_k, increment_bits, octet_bits, packed_bits, numbers_over, packed_by, packed_unlike, packing}
+use Rattle.bufr_walk.specs.PlainField.{FieldFault, data_end, increment, unequal_factor, FieldRead, found}
+use Rattle.bufr_walk.specs.PackedField.{increments, all_increased, padded_text, increment_bits_of, numbers_of, texts_of, varied_by, same_count, all_same, if_equal, varied, contents_of, with_behind, item_by, packed_field}
+use Rattle.bufr_fill.specs.Packing.{raw_limit, same, are_same, lowest, has_bits, has_octets, least_k, increment_bits, octet_bits, packed_bits, numbers_over, packed_by, packed_unlike, packing}
 use Rattle.bufr_fill.specs.Fits.{FitsNumber, FitsText, FitsKind, FitsRole, Fits, AllFit}
 use Rattle.bufr_fill.proofs.FieldBits.{number_again, number_back, top_below}
 use Rattle.bufr_fill.proofs.LeastLemmas.{first_least, first_passes, first_from_start, content_same, are_same_copies, AreNumbers, AreOver, none_over, lowest_over, lowest_fits, under_lowest}
@@ -36,28 +36,28 @@ same_ok a b e = cc
 
 -- ---- what stands in bits that were read
 
-pub record IsUnpacked (n : ℕ) (spec : Asked) (bits : List Bool) (cs : List Content) (mid : List Bool) (k : ℕ) : Type 0 where
+pub record IsUnpacked (n : ℕ) (spec : FieldSpec) (bits : List Bool) (cs : List Content) (mid : List Bool) (k : ℕ) : Type 0 where
   pub small : k ≤ 63
   pub base : length (take spec.width bits) ≡ spec.width
-  pub enough : n * step_of spec.role spec.kind k ≤ length (drop (spec.width + 6) bits)
-  pub contents : contents_of spec k (take spec.width bits) (increments n (step_of spec.role spec.kind k) (drop (spec.width + 6) bits)) ≡ Ok cs
-  pub used : spec.width + 6 + n * step_of spec.role spec.kind k + length mid ≡ length bits
+  pub enough : n * increment_bits_of spec.role spec.kind k ≤ length (drop (spec.width + 6) bits)
+  pub contents : contents_of spec k (take spec.width bits) (increments n (increment_bits_of spec.role spec.kind k) (drop (spec.width + 6) bits)) ≡ Ok cs
+  pub used : spec.width + 6 + n * increment_bits_of spec.role spec.kind k + length mid ≡ length bits
 
-module _ (n : ℕ) (spec : Asked) where
+module _ (n : ℕ) (spec : FieldSpec) where
   with_rest : (r : Result (List Content) FieldFault) (rest : List Bool) (cs : List Content) (mid : List Bool) → with_behind r rest ≡ Ok (found cs mid) → (r ≡ Ok cs) × (rest ≡ mid)
   with_rest (Err why) rest cs mid e = cc
   with_rest (Ok x) rest cs mid e =
       let f = same_ok _ _ e in
-      (ap (λ (y : Found (List Content)). Ok y.content) f, ap (λ (y : Found (List Content)). y.behind) f)
+      (ap (λ (y : FieldRead (List Content)). Ok y.content) f, ap (λ (y : FieldRead (List Content)). y.behind) f)
 
-  by_ends : (a b : Bool) (bits : List Bool) (cs : List Content) (mid : List Bool) (k : ℕ) → k ≤ 63 → nat_lt (length bits) (spec.width + 6) ≡ a → nat_lt (length (drop (spec.width + 6) bits)) (n * step_of spec.role spec.kind k) ≡ b
-      → (if a then Err data_end else if b then Err data_end else with_behind (contents_of spec k (take spec.width bits) (increments n (step_of spec.role spec.kind k) (drop (spec.width + 6) bits))) (drop (n * step_of spec.role spec.kind k) (drop (spec.width + 6) bits))) ≡ Ok (found cs mid)
+  by_ends : (a b : Bool) (bits : List Bool) (cs : List Content) (mid : List Bool) (k : ℕ) → k ≤ 63 → nat_lt (length bits) (spec.width + 6) ≡ a → nat_lt (length (drop (spec.width + 6) bits)) (n * increment_bits_of spec.role spec.kind k) ≡ b
+      → (if a then Err data_end else if b then Err data_end else with_behind (contents_of spec k (take spec.width bits) (increments n (increment_bits_of spec.role spec.kind k) (drop (spec.width + 6) bits))) (drop (n * increment_bits_of spec.role spec.kind k) (drop (spec.width + 6) bits))) ≡ Ok (found cs mid)
       → IsUnpacked n spec bits cs mid k
   by_ends true b bits cs mid k small p q e = cc
   by_ends false true bits cs mid k small p q e = cc
   by_ends false false bits cs mid k small p q e =
       let behind = drop (spec.width + 6) bits in
-      let step = step_of spec.role spec.kind k in
+      let step = increment_bits_of spec.role spec.kind k in
       let f = with_rest (contents_of spec k (take spec.width bits) (increments n step behind)) (drop (n * step) behind) cs mid e in
       let long : spec.width + 6 ≤ length bits = at_most (length bits) (spec.width + 6) p in
       let enough : n * step ≤ length behind = at_most (length behind) (n * step) q in
@@ -78,15 +78,15 @@ module _ (n : ℕ) (spec : Asked) where
   pub unpacked : (bits : List Bool) (cs : List Content) (mid : List Bool) → packed_field n spec bits ≡ Ok (found cs mid) → IsUnpacked n spec bits cs mid (number_of (take 6 (drop spec.width bits)))
   unpacked bits cs mid e =
       let k = number_of (take 6 (drop spec.width bits)) in
-      by_ends (nat_lt (length bits) (spec.width + 6)) (nat_lt (length (drop (spec.width + 6) bits)) (n * step_of spec.role spec.kind k)) bits cs mid k (k_small (drop spec.width bits)) refl refl e
+      by_ends (nat_lt (length bits) (spec.width + 6)) (nat_lt (length (drop (spec.width + 6) bits)) (n * increment_bits_of spec.role spec.kind k)) bits cs mid k (k_small (drop spec.width bits)) refl refl e
 
   -- ---- bits that are packed are read by their parts
-  pub packed_reads : (base : List Bool) (k : ℕ) (pieces more : List Bool) (cs : List Content) → length base ≡ spec.width → k ≤ 63 → length pieces ≡ n * step_of spec.role spec.kind k
-      → contents_of spec k base (increments n (step_of spec.role spec.kind k) (pieces ++ more)) ≡ Ok cs
+  pub packed_reads : (base : List Bool) (k : ℕ) (pieces more : List Bool) (cs : List Content) → length base ≡ spec.width → k ≤ 63 → length pieces ≡ n * increment_bits_of spec.role spec.kind k
+      → contents_of spec k base (increments n (increment_bits_of spec.role spec.kind k) (pieces ++ more)) ≡ Ok cs
       → packed_field n spec (packed_bits base k pieces ++ more) ≡ Ok (found cs more)
   packed_reads base k pieces more cs lb small lp e =
       let w = spec.width in
-      let step = step_of spec.role spec.kind k in
+      let step = increment_bits_of spec.role spec.kind k in
       let all = packed_bits base k pieces ++ more in
       let turned : all ≡ base ++ (bits_in k 6 ++ (pieces ++ more)) = append_assoc base (bits_in k 6 ++ pieces) more ∙ ap (λ x. base ++ x) (append_assoc (bits_in k 6) pieces more) in
       let first : take w all ≡ base = ap (take w) turned ∙ take_at base (bits_in k 6 ++ (pieces ++ more)) w lb in
@@ -128,21 +128,21 @@ missing_has : {X : Type 0} (m : Bool) (low k : ℕ) (is : List X) → list_all (
 missing_has m low k [] = refl
 missing_has m low k (i ∷ is) = missing_has m low k is
 
-module _ (spec : Asked) (k : ℕ) where
-  numbers_varied : (b : Bool) (base : List Bool) (is : List (List Bool)) (cs : List Content) → AllLong k is → (all_set base && spec.may_be_missing) ≡ b
+module _ (spec : FieldSpec) (k : ℕ) where
+  numbers_varied : (b : Bool) (base : List Bool) (is : List (List Bool)) (cs : List Content) → AllLong k is → (are_all_ones base && spec.may_be_missing) ≡ b
       → (if b then Ok (map (λ i. missing) is) else all_increased spec.may_be_missing spec.width (number_of base) k is) ≡ Ok cs
       → (AreNumbers spec.may_be_missing spec.width cs × ((low : ℕ) → lowest cs ≡ Some low → list_all (has_bits spec.may_be_missing low k) cs ≡ true)) × (length cs ≡ length is)
   numbers_varied true base is cs long p e =
       let f : map (λ i. missing) is ≡ cs = same_ok _ _ e in (
         (
-          subst (AreNumbers spec.may_be_missing spec.width) f (missing_numbers spec.may_be_missing spec.width is (and_second (all_set base) spec.may_be_missing p)),
+          subst (AreNumbers spec.may_be_missing spec.width) f (missing_numbers spec.may_be_missing spec.width is (and_second (are_all_ones base) spec.may_be_missing p)),
           λ low q. subst (λ xs. list_all (has_bits spec.may_be_missing low k) xs ≡ true) f (missing_has spec.may_be_missing low k is),
         ),
         ap length (sym f) ∙ length-map is (λ i. missing),
       )
   numbers_varied false base is cs long p e =
       let r = numbers_read spec.may_be_missing spec.width (number_of base) k is cs long e in
-      ((r.fits, λ low q. all_over spec.may_be_missing (number_of base) low k cs (under_lowest cs (number_of base) low r.over q) r.short), r.count)
+      ((r.fits, λ low q. all_over spec.may_be_missing (number_of base) low k cs (under_lowest cs (number_of base) low r.increment_over q) r.short), r.count)
 
   texts_varied : (b : Bool) (is : List (List Bool)) (cs : List Content) → AllLong (8 * k) is → nat_lt (spec.width / 8) k ≡ b
       → (if b then Err increment else Ok (map (padded_text (spec.width / 8) k) is)) ≡ Ok cs
@@ -159,10 +159,10 @@ module _ (spec : Asked) (k : ℕ) where
         ap length (sym f) ∙ length-map is (padded_text (spec.width / 8) k),
       )
 
-  by_kind : (kd : Kind) (base : List Bool) (is : List (List Bool)) (cs : List Content) → AllLong (step_by kd k) is → varied_by kd spec k base is ≡ Ok cs → IsVaried kd spec.may_be_missing spec.width k cs × (length cs ≡ length is)
-  by_kind kind.Character base is cs long e = texts_varied (nat_lt (spec.width / 8) k) is cs long refl e
-  by_kind kind.Coded base is cs long e = numbers_varied (all_set base && spec.may_be_missing) base is cs long refl e
-  by_kind kind.Numeric base is cs long e = numbers_varied (all_set base && spec.may_be_missing) base is cs long refl e
+  spec_by_kind : (kd : Kind) (base : List Bool) (is : List (List Bool)) (cs : List Content) → AllLong (step_by kd k) is → varied_by kd spec k base is ≡ Ok cs → IsVaried kd spec.may_be_missing spec.width k cs × (length cs ≡ length is)
+  spec_by_kind kind.Character base is cs long e = texts_varied (nat_lt (spec.width / 8) k) is cs long refl e
+  spec_by_kind kind.Coded base is cs long e = numbers_varied (are_all_ones base && spec.may_be_missing) base is cs long refl e
+  spec_by_kind kind.Numeric base is cs long e = numbers_varied (are_all_ones base && spec.may_be_missing) base is cs long refl e
 
 -- ---- contents that differ are written
 
@@ -176,12 +176,12 @@ none_has m low k (reference v ∷ cs) e = none_has m low k cs e
 le_test : (a b : ℕ) → a ≤ b → nat_le a b ≡ true
 le_test a b h = grind (arith, nat_tests)
 
-pos_top : (m : Bool) (w : ℕ) → 1 ≤ w → 0 < top m w
+pos_top : (m : Bool) (w : ℕ) → 1 ≤ w → 0 < raw_limit m w
 pos_top true w h = let p : 2 ^ 1 ≤ 2 ^ w = pow_mono h in omega arith
 pos_top false w h = let p : 2 ^ 1 ≤ 2 ^ w = pow_mono h in omega arith
 
 -- what stands for contents that differ, by kind
-pub record IsWritten (kd : Kind) (spec : Asked) (cs : List Content) (most : ℕ) : Type 0 where
+pub record IsWritten (kd : Kind) (spec : FieldSpec) (cs : List Content) (most : ℕ) : Type 0 where
   pub base : List Bool
   pub k : ℕ
   pub pieces : List Bool
@@ -193,7 +193,7 @@ pub record IsWritten (kd : Kind) (spec : Asked) (cs : List Content) (most : ℕ)
   pub size : length pieces ≡ length cs * step_by kd k
   pub back : (more : List Bool) → varied_by kd spec k base (increments (length cs) (step_by kd k) (pieces ++ more)) ≡ Ok cs
 
-module _ (spec : Asked) (cs : List Content) (most : ℕ) (some : 1 ≤ most) (small : most ≤ 63) where
+module _ (spec : FieldSpec) (cs : List Content) (most : ℕ) (some : 1 ≤ most) (small : most ≤ 63) where
   -- the least k passes
   module _ (passes : ℕ → Content → Bool) (pass : list_all (passes most) cs ≡ true) where
     least_some : 1 ≤ least_k passes cs
@@ -206,10 +206,10 @@ module _ (spec : Asked) (cs : List Content) (most : ℕ) (some : 1 ≤ most) (sm
     least_passes = first_passes (λ k. list_all (passes k) cs) 63 1 most some (omega arith) pass
 
   -- numbers over a base that none is under
-  numbers_written : (base : ℕ) → base < top spec.may_be_missing spec.width → AreNumbers spec.may_be_missing spec.width cs → AreOver base cs → (pass : list_all (has_bits spec.may_be_missing base most) cs ≡ true)
+  numbers_written : (base : ℕ) → base < raw_limit spec.may_be_missing spec.width → AreNumbers spec.may_be_missing spec.width cs → AreOver base cs → (pass : list_all (has_bits spec.may_be_missing base most) cs ≡ true)
       → (k : ℕ) → k ≡ least_k (has_bits spec.may_be_missing base) cs → (more : List Bool)
       → numbers_of spec k (bits_in base spec.width) (increments (length cs) k (flat_map (increment_bits base k) cs ++ more)) ≡ Ok cs
-  numbers_written base fits are over pass k e more =
+  numbers_written base fits are increment_over pass k e more =
       let m = spec.may_be_missing in
       let w = spec.width in
       let f = increment_bits base k in
@@ -217,11 +217,11 @@ module _ (spec : Asked) (cs : List Content) (most : ℕ) (some : 1 ≤ most) (sm
       ap (λ is. numbers_of spec k (bits_in base w) is) (pieces_found f k cs more (increments_long m w base k cs))
       ∙ ap (λ b. if b then Ok (map (λ i. missing) (map f cs)) else all_increased m w (number_of (bits_in base w)) k (map f cs)) (number_back w m base fits)
       ∙ ap (λ b. all_increased m w b k (map f cs)) (number_again base w (top_below m w base fits))
-      ∙ numbers_back m w base k cs are over passed
+      ∙ numbers_back m w base k cs are increment_over passed
 
-  number_item : (base : ℕ) → base < top spec.may_be_missing spec.width → AreNumbers spec.may_be_missing spec.width cs → AreOver base cs → (pass : list_all (has_bits spec.may_be_missing base most) cs ≡ true)
+  number_item : (base : ℕ) → base < raw_limit spec.may_be_missing spec.width → AreNumbers spec.may_be_missing spec.width cs → AreOver base cs → (pass : list_all (has_bits spec.may_be_missing base most) cs ≡ true)
       → unwrap_or (lowest cs) 0 ≡ base → IsWritten kind.Numeric spec cs most
-  number_item base fits are over pass e =
+  number_item base fits are increment_over pass e =
       let m = spec.may_be_missing in
       let k = least_k (has_bits m base) cs in
       record {
@@ -234,7 +234,7 @@ module _ (spec : Asked) (cs : List Content) (most : ℕ) (some : 1 ≤ most) (sm
         small = omega (arith, least_most (has_bits m base) pass);
         least = least_most (has_bits m base) pass;
         size = pieces_length (increment_bits base k) k cs (increments_long m spec.width base k cs);
-        back = λ more. numbers_written base fits are over pass k refl more;
+        back = λ more. numbers_written base fits are increment_over pass k refl more;
       }
     where
       numbers_at : ℕ → Result (List Bool) FieldFault
@@ -283,26 +283,26 @@ module _ (spec : Asked) (cs : List Content) (most : ℕ) (some : 1 ≤ most) (sm
 -- ---- the whole item
 
 -- contents are packed so that they are read again, in at most so many bits
-pub record PacksWithin (n : ℕ) (spec : Asked) (cs : List Content) (most : ℕ) : Type 0 where
+pub record PacksWithin (n : ℕ) (spec : FieldSpec) (cs : List Content) (most : ℕ) : Type 0 where
   pub out : List Bool
   pub is : packing spec cs ≡ Ok out
   pub again : (more : List Bool) → packed_field n spec (out ++ more) ≡ Ok (found cs more)
   pub short : length out ≤ most
   pub fits : AllFit spec cs
 
-copies_fit : {X : Type 0} (spec : Asked) (c : Content) (is : List X) → Fits spec c → AllFit spec (map (λ i. c) is)
+copies_fit : {X : Type 0} (spec : FieldSpec) (c : Content) (is : List X) → Fits spec c → AllFit spec (map (λ i. c) is)
 copies_fit spec c [] h = tt
 copies_fit spec c (i ∷ is) h = (h, copies_fit spec c is h)
 
-numbers_fit : (spec : Asked) (m : Bool) (w : ℕ) (cs : List Content) → ((c : Content) → FitsNumber m w c → Fits spec c) → AreNumbers m w cs → AllFit spec cs
+numbers_fit : (spec : FieldSpec) (m : Bool) (w : ℕ) (cs : List Content) → ((c : Content) → FitsNumber m w c → Fits spec c) → AreNumbers m w cs → AllFit spec cs
 numbers_fit spec m w [] h f = tt
 numbers_fit spec m w (c ∷ cs) h f = (h c f.0, numbers_fit spec m w cs h f.1)
 
-texts_all_fit : (spec : Asked) (count : ℕ) (cs : List Content) → ((c : Content) → FitsText count c → Fits spec c) → AreTexts count cs → AllFit spec cs
+texts_all_fit : (spec : FieldSpec) (count : ℕ) (cs : List Content) → ((c : Content) → FitsText count c → Fits spec c) → AreTexts count cs → AllFit spec cs
 texts_all_fit spec count [] h f = tt
 texts_all_fit spec count (c ∷ cs) h f = (h c f.0, texts_all_fit spec count cs h f.1)
 
-varied_fit : (spec : Asked) (kd : Kind) (m : Bool) (w k : ℕ) (cs : List Content) → ((c : Content) → FitsKind kd m w c → Fits spec c) → IsVaried kd m w k cs → AllFit spec cs
+varied_fit : (spec : FieldSpec) (kd : Kind) (m : Bool) (w k : ℕ) (cs : List Content) → ((c : Content) → FitsKind kd m w c → Fits spec c) → IsVaried kd m w k cs → AllFit spec cs
 varied_fit spec kind.Character m w k cs h v = texts_all_fit spec (w / 8) cs h v.0
 varied_fit spec kind.Coded m w k cs h v = numbers_fit spec m w cs h v.0
 varied_fit spec kind.Numeric m w k cs h v = numbers_fit spec m w cs h v.0
@@ -318,7 +318,7 @@ equal_copies c [] (y ∷ ys) h = absurd (omega (arith, h))
 equal_copies c (x ∷ xs) [] h = absurd (omega (arith, h))
 equal_copies c (x ∷ xs) (y ∷ ys) h = let e : length xs ≡ length ys = omega (arith, h) in ap (λ zs. c ∷ zs) (equal_copies c xs ys e)
 
-step_none : (r : Role) (kd : Kind) → step_of r kd 0 ≡ 0
+step_none : (r : Role) (kd : Kind) → increment_bits_of r kd 0 ≡ 0
 step_none role.Element kind.Character = refl
 step_none role.Element kind.Coded = refl
 step_none role.Element kind.Numeric = refl
@@ -355,13 +355,13 @@ if_equal_gives (Ok xs) cs e = by_test (all_same xs) refl e
 zero_or_some : (k : ℕ) (b : Bool) → (k == 0) ≡ b → b ≡ false → 1 ≤ k
 zero_or_some k b p q = grind (arith, nat_tests)
 
-module _ (n : ℕ) (spec : Asked) (good : IsSpec spec) where
+module _ (n : ℕ) (spec : FieldSpec) (good : IsSpec spec) where
   -- contents that are all the same
   pub uniform : (c : Content) (cs : List Content) (most : ℕ) → Fits spec c → are_same c cs ≡ true → length (c ∷ cs) ≡ n → spec.width + 6 ≤ most → PacksWithin n spec (c ∷ cs) most
   uniform c cs most fits same_all count room =
       let base = bits_for spec.width c in
       let lb : length base ≡ spec.width = content_length spec good c fits in
-      let step = step_of spec.role spec.kind 0 in
+      let step = increment_bits_of spec.role spec.kind 0 in
       let none : n * step ≡ 0 = ap (λ s. n * s) (step_none spec.role spec.kind) ∙ omega arith in
       record {
         out = packed_bits base 0 [];
@@ -377,20 +377,20 @@ module _ (n : ℕ) (spec : Asked) (good : IsSpec spec) where
       }
 
   -- contents that differ, of an element
-  pub differing : (r : Role) → spec.role ≡ r → ((k : ℕ) → step_of r spec.kind k ≡ step_by spec.kind k) → ((k : ℕ) (base : List Bool) (is : List (List Bool)) → varied r spec k base is ≡ varied_by spec.kind spec k base is) → ((xs : List Content) → packed_unlike r spec xs ≡ packed_by spec.kind spec xs)
+  pub differing : (r : Role) → spec.role ≡ r → ((k : ℕ) → increment_bits_of r spec.kind k ≡ step_by spec.kind k) → ((k : ℕ) (base : List Bool) (is : List (List Bool)) → varied r spec k base is ≡ varied_by spec.kind spec k base is) → ((xs : List Content) → packed_unlike r spec xs ≡ packed_by spec.kind spec xs)
       → ((x : Content) → FitsKind spec.kind spec.may_be_missing spec.width x → Fits spec x) → (c : Content) (cs : List Content) (k most : ℕ) → 1 ≤ k → k ≤ 63 → IsVaried spec.kind spec.may_be_missing spec.width k (c ∷ cs) → are_same c cs ≡ false → length (c ∷ cs) ≡ n → spec.width + 6 + n * step_by spec.kind k ≤ most → PacksWithin n spec (c ∷ cs) most
   differing r er steps variations packings fit c cs k most some small varies unlike count room =
       let w = item_written spec (c ∷ cs) k some small spec.kind good.width varies in
-      let step_is : step_of spec.role spec.kind w.k ≡ step_by spec.kind w.k = ap (λ q. step_of q spec.kind w.k) er ∙ steps w.k in
+      let step_is : increment_bits_of spec.role spec.kind w.k ≡ step_by spec.kind w.k = ap (λ q. increment_bits_of q spec.kind w.k) er ∙ steps w.k in
       let size : length w.pieces ≡ n * step_by spec.kind w.k = w.size ∙ ap (λ l. l * step_by spec.kind w.k) count in
       let no_zero : (w.k == 0) ≡ false = not_zero w.k w.some in
       record {
         out = packed_bits w.base w.k w.pieces;
         is = ap (λ b. if b then Ok (packed_bits (bits_for spec.width c) 0 []) else packed_unlike spec.role spec (c ∷ cs)) unlike ∙ ap (λ q. packed_unlike q spec (c ∷ cs)) er ∙ packings (c ∷ cs) ∙ w.is;
         again = λ more. packed_reads n spec w.base w.k w.pieces more (c ∷ cs) w.long w.small (size ∙ ap (λ s. n * s) (sym step_is))
-            (ap (λ b. if b then Ok (map (λ i. content_in spec w.base) (increments n (step_of spec.role spec.kind w.k) (w.pieces ++ more))) else varied spec.role spec w.k w.base (increments n (step_of spec.role spec.kind w.k) (w.pieces ++ more))) no_zero
-            ∙ ap (λ q. varied q spec w.k w.base (increments n (step_of spec.role spec.kind w.k) (w.pieces ++ more))) er
-            ∙ variations w.k w.base (increments n (step_of spec.role spec.kind w.k) (w.pieces ++ more))
+            (ap (λ b. if b then Ok (map (λ i. content_in spec w.base) (increments n (increment_bits_of spec.role spec.kind w.k) (w.pieces ++ more))) else varied spec.role spec w.k w.base (increments n (increment_bits_of spec.role spec.kind w.k) (w.pieces ++ more))) no_zero
+            ∙ ap (λ q. varied q spec w.k w.base (increments n (increment_bits_of spec.role spec.kind w.k) (w.pieces ++ more))) er
+            ∙ variations w.k w.base (increments n (increment_bits_of spec.role spec.kind w.k) (w.pieces ++ more))
             ∙ ap (λ s. varied_by spec.kind spec w.k w.base (increments n s (w.pieces ++ more))) step_is
             ∙ ap (λ j. varied_by spec.kind spec w.k w.base (increments j (step_by spec.kind w.k) (w.pieces ++ more))) (sym count)
             ∙ w.back more);
@@ -413,7 +413,7 @@ module _ (n : ℕ) (spec : Asked) (good : IsSpec spec) where
   first_fits_kind kind.Coded k c cs v = v.0.0
   first_fits_kind kind.Numeric k c cs v = v.0.0
 
-  pub step_element : (r : Role) (kd : Kind) (k : ℕ) → r ≢ role.Reference → step_of r kd k ≡ step_by kd k
+  pub step_element : (r : Role) (kd : Kind) (k : ℕ) → r ≢ role.Reference → increment_bits_of r kd k ≡ step_by kd k
   step_element role.Element kind.Character k h = refl
   step_element role.Element kind.Coded k h = refl
   step_element role.Element kind.Numeric k h = refl
@@ -426,33 +426,33 @@ module _ (n : ℕ) (spec : Asked) (good : IsSpec spec) where
   step_element role.Reference kd k h = absurd (h refl)
 
   -- either all the same, or not
-  of_element : (r : Role) → spec.role ≡ r → ((k : ℕ) → step_of r spec.kind k ≡ step_by spec.kind k) → ((k : ℕ) (base : List Bool) (is : List (List Bool)) → varied r spec k base is ≡ varied_by spec.kind spec k base is) → ((xs : List Content) → packed_unlike r spec xs ≡ packed_by spec.kind spec xs)
+  of_element : (r : Role) → spec.role ≡ r → ((k : ℕ) → increment_bits_of r spec.kind k ≡ step_by spec.kind k) → ((k : ℕ) (base : List Bool) (is : List (List Bool)) → varied r spec k base is ≡ varied_by spec.kind spec k base is) → ((xs : List Content) → packed_unlike r spec xs ≡ packed_by spec.kind spec xs)
       → ((x : Content) → FitsKind spec.kind spec.may_be_missing spec.width x → Fits spec x) → (c : Content) (cs : List Content) (k most : ℕ) (b : Bool) → are_same c cs ≡ b → Fits spec c → 1 ≤ k → k ≤ 63 → IsVaried spec.kind spec.may_be_missing spec.width k (c ∷ cs) → length (c ∷ cs) ≡ n → spec.width + 6 + n * step_by spec.kind k ≤ most → PacksWithin n spec (c ∷ cs) most
   of_element r er steps variations packings fit c cs k most true e fits some small varies count room = uniform c cs most fits e count (omega (arith, room))
   of_element r er steps variations packings fit c cs k most false e fits some small varies count room = differing r er steps variations packings fit c cs k most some small varies e count room
 
   -- what was read with k above 0, for each role
-  by_role : (r : Role) → spec.role ≡ r → (c : Content) (cs : List Content) (k most : ℕ) (base : List Bool) (is : List (List Bool)) → 1 ≤ k → k ≤ 63 → AllLong (step_of r spec.kind k) is → length is ≡ n → varied r spec k base is ≡ Ok (c ∷ cs) → spec.width + 6 + n * step_of r spec.kind k ≤ most → PacksWithin n spec (c ∷ cs) most
+  by_role : (r : Role) → spec.role ≡ r → (c : Content) (cs : List Content) (k most : ℕ) (base : List Bool) (is : List (List Bool)) → 1 ≤ k → k ≤ 63 → AllLong (increment_bits_of r spec.kind k) is → length is ≡ n → varied r spec k base is ≡ Ok (c ∷ cs) → spec.width + 6 + n * increment_bits_of r spec.kind k ≤ most → PacksWithin n spec (c ∷ cs) most
   by_role role.Reference er c cs k most base is some small long count e room = cc
   by_role role.Element er c cs k most base is some small long count e room =
-      let st : step_of role.Element spec.kind k ≡ step_by spec.kind k = step_element role.Element spec.kind k (λ q. cc) in
-      let v = by_kind spec k spec.kind base is (c ∷ cs) (subst (λ j. AllLong j is) st long) e in
+      let st : increment_bits_of role.Element spec.kind k ≡ step_by spec.kind k = step_element role.Element spec.kind k (λ q. cc) in
+      let v = spec_by_kind spec k spec.kind base is (c ∷ cs) (subst (λ j. AllLong j is) st long) e in
       of_element role.Element er (λ j. step_element role.Element spec.kind j (λ q. cc)) (λ j b i. refl) (λ xs. refl) (λ x f. subst (λ r. FitsRole r spec x) (sym er) f) c cs k most (are_same c cs) refl
       (subst (λ r. FitsRole r spec c) (sym er) (first_fits_kind spec.kind k c cs v.0)) some small v.0 (v.1 ∙ count) (subst (λ j. spec.width + 6 + n * j ≤ most) st room)
   by_role role.Inserted er c cs k most base is some small long count e room =
-      let st : step_of role.Inserted spec.kind k ≡ step_by spec.kind k = step_element role.Inserted spec.kind k (λ q. cc) in
-      let v = by_kind spec k spec.kind base is (c ∷ cs) (subst (λ j. AllLong j is) st long) e in
+      let st : increment_bits_of role.Inserted spec.kind k ≡ step_by spec.kind k = step_element role.Inserted spec.kind k (λ q. cc) in
+      let v = spec_by_kind spec k spec.kind base is (c ∷ cs) (subst (λ j. AllLong j is) st long) e in
       of_element role.Inserted er (λ j. step_element role.Inserted spec.kind j (λ q. cc)) (λ j b i. refl) (λ xs. refl) (λ x f. subst (λ r. FitsRole r spec x) (sym er) f) c cs k most (are_same c cs) refl
       (subst (λ r. FitsRole r spec c) (sym er) (first_fits_kind spec.kind k c cs v.0)) some small v.0 (v.1 ∙ count) (subst (λ j. spec.width + 6 + n * j ≤ most) st room)
   by_role role.Factor er c cs k most base is some small long count e room =
-      let st : step_of role.Factor spec.kind k ≡ step_by spec.kind k = step_element role.Factor spec.kind k (λ q. cc) in
+      let st : increment_bits_of role.Factor spec.kind k ≡ step_by spec.kind k = step_element role.Factor spec.kind k (λ q. cc) in
       let q = if_equal_gives (varied_by spec.kind spec k base is) (c ∷ cs) e in
-      let v = by_kind spec k spec.kind base is (c ∷ cs) (subst (λ j. AllLong j is) st long) q.0 in
+      let v = spec_by_kind spec k spec.kind base is (c ∷ cs) (subst (λ j. AllLong j is) st long) q.0 in
       uniform c cs most (subst (λ r. FitsRole r spec c) (sym er) (first_fits_kind spec.kind k c cs v.0)) (same_counts c cs q.1) (v.1 ∙ count) (omega (arith, room))
 
   -- what was read, with k 0 or above
-  by_k : (b : Bool) (k : ℕ) → (k == 0) ≡ b → (c : Content) (cs : List Content) (most : ℕ) (base : List Bool) (is : List (List Bool)) → length base ≡ spec.width → k ≤ 63 → AllLong (step_of spec.role spec.kind k) is → length is ≡ n
-      → (if b then Ok (map (λ i. content_in spec base) is) else varied spec.role spec k base is) ≡ Ok (c ∷ cs) → spec.width + 6 + n * step_of spec.role spec.kind k ≤ most → PacksWithin n spec (c ∷ cs) most
+  by_k : (b : Bool) (k : ℕ) → (k == 0) ≡ b → (c : Content) (cs : List Content) (most : ℕ) (base : List Bool) (is : List (List Bool)) → length base ≡ spec.width → k ≤ 63 → AllLong (increment_bits_of spec.role spec.kind k) is → length is ≡ n
+      → (if b then Ok (map (λ i. content_in spec base) is) else varied spec.role spec k base is) ≡ Ok (c ∷ cs) → spec.width + 6 + n * increment_bits_of spec.role spec.kind k ≤ most → PacksWithin n spec (c ∷ cs) most
   by_k true k p c cs most base [] lb small long count e room = absurd cc
   by_k true k p c cs most base (i ∷ is) lb small long count e room =
       let f : content_in spec base ∷ map (λ i. content_in spec base) is ≡ c ∷ cs = same_ok _ _ e in
@@ -465,7 +465,7 @@ module _ (n : ℕ) (spec : Asked) (good : IsSpec spec) where
   packed_again c cs bits mid e =
       let k = number_of (take 6 (drop spec.width bits)) in
       let u = unpacked n spec bits (c ∷ cs) mid e in
-      let step = step_of spec.role spec.kind k in
+      let step = increment_bits_of spec.role spec.kind k in
       let is = increments_all n step (drop (spec.width + 6) bits) u.enough in (
         spec.width + 6 + n * step,
         omega (arith, u.used),
@@ -473,14 +473,14 @@ module _ (n : ℕ) (spec : Asked) (good : IsSpec spec) where
       )
 
   -- an item holds a content for each subset
-  role_count : (r : Role) (k : ℕ) (base : List Bool) (is : List (List Bool)) (cs : List Content) → AllLong (step_of r spec.kind k) is → varied r spec k base is ≡ Ok cs → length cs ≡ length is
+  role_count : (r : Role) (k : ℕ) (base : List Bool) (is : List (List Bool)) (cs : List Content) → AllLong (increment_bits_of r spec.kind k) is → varied r spec k base is ≡ Ok cs → length cs ≡ length is
   role_count role.Reference k base is cs long e = cc
-  role_count role.Element k base is cs long e = (by_kind spec k spec.kind base is cs (subst (λ j. AllLong j is) (step_element role.Element spec.kind k (λ q. cc)) long) e).1
-  role_count role.Inserted k base is cs long e = (by_kind spec k spec.kind base is cs (subst (λ j. AllLong j is) (step_element role.Inserted spec.kind k (λ q. cc)) long) e).1
+  role_count role.Element k base is cs long e = (spec_by_kind spec k spec.kind base is cs (subst (λ j. AllLong j is) (step_element role.Element spec.kind k (λ q. cc)) long) e).1
+  role_count role.Inserted k base is cs long e = (spec_by_kind spec k spec.kind base is cs (subst (λ j. AllLong j is) (step_element role.Inserted spec.kind k (λ q. cc)) long) e).1
   role_count role.Factor k base is cs long e =
-      (by_kind spec k spec.kind base is cs (subst (λ j. AllLong j is) (step_element role.Factor spec.kind k (λ q. cc)) long) (if_equal_gives (varied_by spec.kind spec k base is) cs e).0).1
+      (spec_by_kind spec k spec.kind base is cs (subst (λ j. AllLong j is) (step_element role.Factor spec.kind k (λ q. cc)) long) (if_equal_gives (varied_by spec.kind spec k base is) cs e).0).1
 
-  count_by : (b : Bool) (k : ℕ) (base : List Bool) (is : List (List Bool)) (cs : List Content) → AllLong (step_of spec.role spec.kind k) is → (if b then Ok (map (λ i. content_in spec base) is) else varied spec.role spec k base is) ≡ Ok cs → length cs ≡ length is
+  count_by : (b : Bool) (k : ℕ) (base : List Bool) (is : List (List Bool)) (cs : List Content) → AllLong (increment_bits_of spec.role spec.kind k) is → (if b then Ok (map (λ i. content_in spec base) is) else varied spec.role spec k base is) ≡ Ok cs → length cs ≡ length is
   count_by true k base is cs long e = ap length (sym (same_ok _ _ e)) ∙ length-map is (λ i. content_in spec base)
   count_by false k base is cs long e = role_count spec.role k base is cs long e
 
@@ -488,6 +488,6 @@ module _ (n : ℕ) (spec : Asked) (good : IsSpec spec) where
   packed_count cs bits mid e =
       let k = number_of (take 6 (drop spec.width bits)) in
       let u = unpacked n spec bits cs mid e in
-      let step = step_of spec.role spec.kind k in
+      let step = increment_bits_of spec.role spec.kind k in
       let is = increments_all n step (drop (spec.width + 6) bits) u.enough in
       count_by (k == 0) k (take spec.width bits) (increments n step (drop (spec.width + 6) bits)) cs is.0 u.contents ∙ is.1

@@ -6,26 +6,26 @@ use Rattle.std.proofs.lemmas.List.{append_assoc}
 use Rattle.std.proofs.lemmas.Option.{none-some, slice_get-get_or}
 use Rattle.std.proofs.lemmas.Bool.Decides.{nat_tests}
 use Rattle.bufr_fill.specs.Draft.{Draft}
-use Rattle.bufr_fill.specs.Entries.{Entry, Holds, Ends, Subset, subset, onto_first, subsets_of}
-use Rattle.bufr_fill.specs.Encoding.{Cell, cells_at}
-use Rattle.bufr_fill.specs.Gathered.{begin_of, entry_by, cell_entry}
+use Rattle.bufr_fill.specs.Entries.{DraftEntry, Holds, Ends, Subset, subset, prepend_to_subset, subsets_of}
+use Rattle.bufr_fill.specs.Encoding.{RowCell, cells_at}
+use Rattle.bufr_fill.specs.PackedRows.{begin_of, entry_or_end, cell_entry}
 use Rattle.bufr_fill.specs.Kept.{is_end}
 use Rattle.bufr_fill.specs.PackedOut.{ends_of}
 
 -- the first subset among entries
-pub record Cut (from : ℕ) (xs : List Entry) (e : ℕ) (rest : List ℕ) : Type 0 where
+pub record Cut (from : ℕ) (xs : List DraftEntry) (e : ℕ) (rest : List ℕ) : Type 0 where
   pub items : List Draft
   pub line : ℕ
   pub place : e ≡ from + length items
   pub subsets : subsets_of xs ≡ subset items line ∷ subsets_of (drop (suc (length items)) xs)
   pub rest_is : rest ≡ ends_of (suc e) (drop (suc (length items)) xs)
   pub within : length items < length xs
-  pub there : (j : ℕ) → slice_get xs (min (length items) j) ≡ Some (entry_by (slice_get items j) line)
+  pub there : (j : ℕ) → slice_get xs (min (length items) j) ≡ Some (entry_or_end (slice_get items j) line)
 
 next : (a : ℕ) → a + 1 ≡ suc a
 next a = omega arith
 
-pub cut : (from : ℕ) (xs : List Entry) (e : ℕ) (rest : List ℕ) → ends_of from xs ≡ e ∷ rest → Cut from xs e rest
+pub cut : (from : ℕ) (xs : List DraftEntry) (e : ℕ) (rest : List ℕ) → ends_of from xs ≡ e ∷ rest → Cut from xs e rest
 cut from [] e rest h = absurd cc
 cut from (Ends line ∷ more) e rest h =
     let at : from ≡ e = cc in
@@ -48,19 +48,19 @@ cut from (Holds d ∷ more) e rest h =
       items = d ∷ c.items;
       line = c.line;
       place = omega (arith, c.place);
-      subsets = ap (onto_first d) c.subsets;
+      subsets = ap (prepend_to_subset d) c.subsets;
       rest_is = c.rest_is;
       within = omega (arith, c.within);
       there = λ j. at c.items c.line c.there j;
     }
   where
-    at : (items : List Draft) (line : ℕ) → ((j : ℕ) → slice_get more (min (length items) j) ≡ Some (entry_by (slice_get items j) line)) → (j : ℕ)
-        → slice_get (Holds d ∷ more) (min (suc (length items)) j) ≡ Some (entry_by (slice_get (d ∷ items) j) line)
+    at : (items : List Draft) (line : ℕ) → ((j : ℕ) → slice_get more (min (length items) j) ≡ Some (entry_or_end (slice_get items j) line)) → (j : ℕ)
+        → slice_get (Holds d ∷ more) (min (suc (length items)) j) ≡ Some (entry_or_end (slice_get (d ∷ items) j) line)
     at items line g zero = let m : min (suc (length items)) 0 ≡ 0 = omega arith in ap (slice_get (Holds d ∷ more)) m
     at items line g (suc j) = let m : min (suc (length items)) (suc j) ≡ suc (min (length items) j) = omega arith in ap (slice_get (Holds d ∷ more)) m ∙ g j
 
 -- nor behind them
-pub ends_before : (from : ℕ) (xs : List Entry) (s e : ℕ) → slice_get (ends_of from xs) s ≡ Some e → e < from + length xs
+pub ends_before : (from : ℕ) (xs : List DraftEntry) (s e : ℕ) → slice_get (ends_of from xs) s ≡ Some e → e < from + length xs
 ends_before from [] s e h = absurd cc
 ends_before from (Holds d ∷ more) s e h = omega (arith, ends_before (from + 1) more s e h)
 ends_before from (Ends line ∷ more) zero e h = let at : from ≡ e = cc in omega (arith, at)
@@ -86,38 +86,38 @@ begin_more ends s d some h =
     let e : s ≡ suc (s - 1) = omega arith in
     ap (begin_of 0 ends) e ∙ begin_behind 0 ends (s - 1) d (omega (arith, h)) ∙ sym (next (get_or ends (s - 1) d))
 
-pub length-subsets : (from : ℕ) (xs : List Entry) → length (subsets_of xs) ≡ length (ends_of from xs)
+pub length-subsets : (from : ℕ) (xs : List DraftEntry) → length (subsets_of xs) ≡ length (ends_of from xs)
 length-subsets from [] = refl
 length-subsets from (Ends line ∷ more) = ap suc (length-subsets (from + 1) more)
 length-subsets from (Holds d ∷ more) = length-onto d (subsets_of more) ∙ length-subsets (from + 1) more
   where
-    length-onto : (d : Draft) (ss : List Subset) → length (onto_first d ss) ≡ length ss
+    length-onto : (d : Draft) (ss : List Subset) → length (prepend_to_subset d ss) ≡ length ss
     length-onto d [] = refl
     length-onto d (s ∷ ss) = refl
 
 -- the entry of a subset at a place
-pub record Stands (place s from : ℕ) (xs : List Entry) (ends : List ℕ) (e : ℕ) (c : Cell) : Type 0 where
+pub record Stands (place s from : ℕ) (xs : List DraftEntry) (ends : List ℕ) (e : ℕ) (c : RowCell) : Type 0 where
   pub begins : from ≤ begin_of from ends s
   pub ends_at : from ≤ e
   pub there : slice_get xs (min e (begin_of from ends s + place) - from) ≡ Some (cell_entry c)
 
-module _ (place : ℕ) (e : ℕ) (c : Cell) where
-  some_same : (a b : Cell) → ◌≡◌ {A = Option Cell} (Some a) (Some b) → a ≡ b
+module _ (place : ℕ) (e : ℕ) (c : RowCell) where
+  some_same : (a b : RowCell) → ◌≡◌ {A = Option RowCell} (Some a) (Some b) → a ≡ b
   some_same a b e = cc
 
-  at_first : (from : ℕ) (xs : List Entry) (x : ℕ) (rest : List ℕ) → Cut from xs x rest → Some x ≡ Some e → slice_get (cells_at place (subsets_of xs)) 0 ≡ Some c → Stands place 0 from xs (x ∷ rest) e c
+  at_first : (from : ℕ) (xs : List DraftEntry) (x : ℕ) (rest : List ℕ) → Cut from xs x rest → Some x ≡ Some e → slice_get (cells_at place (subsets_of xs)) 0 ≡ Some c → Stands place 0 from xs (x ∷ rest) e c
   at_first from xs x rest k p q =
       let same : x ≡ e = cc in
-      let cell : ◌≡◌ {A = Option Cell} (Some (record { draft = slice_get k.items place; end_line = k.line })) (Some c) = sym (ap (λ ss. slice_get (cells_at place ss) 0) k.subsets) ∙ q in
+      let cell : ◌≡◌ {A = Option RowCell} (Some (record { draft = slice_get k.items place; end_line = k.line })) (Some c) = sym (ap (λ ss. slice_get (cells_at place ss) 0) k.subsets) ∙ q in
       let is : record { draft = slice_get k.items place; end_line = k.line } ≡ c = some_same (record { draft = slice_get k.items place; end_line = k.line }) c cell in
       let m : min e (from + place) - from ≡ min (length k.items) place = omega (arith, same, k.place) in
       record {
         begins = omega arith;
         ends_at = omega (arith, same, k.place);
-        there = ap (slice_get xs) m ∙ k.there place ∙ ap (λ (z : Cell). Some (cell_entry z)) is;
+        there = ap (slice_get xs) m ∙ k.there place ∙ ap (λ (z : RowCell). Some (cell_entry z)) is;
       }
 
-  further : (from : ℕ) (xs : List Entry) (s x : ℕ) (rest : List ℕ) (k : Cut from xs x rest) → Stands place s (suc x) (drop (suc (length k.items)) xs) rest e c → Stands place (suc s) from xs (x ∷ rest) e c
+  further : (from : ℕ) (xs : List DraftEntry) (s x : ℕ) (rest : List ℕ) (k : Cut from xs x rest) → Stands place s (suc x) (drop (suc (length k.items)) xs) rest e c → Stands place (suc s) from xs (x ∷ rest) e c
   further from xs s x rest k r =
       let m : suc (length k.items) + (min e (begin_of (suc x) rest s + place) - suc x) ≡ min e (begin_of (suc x) rest s + place) - from = omega (arith, k.place, r.begins, r.ends_at) in
       record {
@@ -126,7 +126,7 @@ module _ (place : ℕ) (e : ℕ) (c : Cell) where
         there = ap (slice_get xs) (sym m) ∙ sym (slice_get-drop (suc (length k.items)) xs (min e (begin_of (suc x) rest s + place) - suc x)) ∙ r.there;
       }
 
-  stands_at : (s from : ℕ) (xs : List Entry) (ends : List ℕ) → ends_of from xs ≡ ends → slice_get ends s ≡ Some e → slice_get (cells_at place (subsets_of xs)) s ≡ Some c → Stands place s from xs ends e c
+  stands_at : (s from : ℕ) (xs : List DraftEntry) (ends : List ℕ) → ends_of from xs ≡ ends → slice_get ends s ≡ Some e → slice_get (cells_at place (subsets_of xs)) s ≡ Some c → Stands place s from xs ends e c
   stands_at s from xs [] p q r = absurd cc
   stands_at zero from xs (x ∷ rest) p q r = at_first from xs x rest (cut from xs x rest p) q r
   stands_at (suc s) from xs (x ∷ rest) p q r =
@@ -134,13 +134,13 @@ module _ (place : ℕ) (e : ℕ) (c : Cell) where
       further from xs s x rest k (stands_at s (suc x) (drop (suc (length k.items)) xs) rest (sym k.rest_is) q (sym (ap (λ ss. slice_get (cells_at place ss) (suc s)) k.subsets) ∙ r))
 
 -- what the code reads of it
-pub entry_there : (place s : ℕ) (xs : List Entry) (e : ℕ) (c : Cell) → slice_get (ends_of 0 xs) s ≡ Some e → slice_get (cells_at place (subsets_of xs)) s ≡ Some c → slice_get xs (min e (begin_of 0 (ends_of 0 xs) s + place)) ≡ Some (cell_entry c)
+pub entry_there : (place s : ℕ) (xs : List DraftEntry) (e : ℕ) (c : RowCell) → slice_get (ends_of 0 xs) s ≡ Some e → slice_get (cells_at place (subsets_of xs)) s ≡ Some c → slice_get xs (min e (begin_of 0 (ends_of 0 xs) s + place)) ≡ Some (cell_entry c)
 entry_there place s xs e c h g =
     let m : min e (begin_of 0 (ends_of 0 xs) s + place) - 0 ≡ min e (begin_of 0 (ends_of 0 xs) s + place) = omega arith in
     sym (ap (slice_get xs) m) ∙ (stands_at place e c s 0 xs (ends_of 0 xs) refl h g).there
 
 -- the ends lie within the entries
-pub end_small : (from : ℕ) (xs : List Entry) (s : ℕ) (z : ℕ) → s < length (ends_of from xs) → get_or (ends_of from xs) s z < from + length xs
+pub end_small : (from : ℕ) (xs : List DraftEntry) (s : ℕ) (z : ℕ) → s < length (ends_of from xs) → get_or (ends_of from xs) s z < from + length xs
 end_small from [] s z h = absurd (omega (arith, h))
 end_small from (Holds d ∷ more) s z h = omega (arith, end_small (from + 1) more s z h)
 end_small from (Ends line ∷ more) zero z h = omega arith
@@ -158,7 +158,7 @@ none_there (y ∷ xs) zero h = absurd (none-some y h)
 none_there (y ∷ xs) (suc s) h = omega (arith, none_there xs s h)
 
 -- with no end there is no subset
-pub none_end : (xs : List Entry) → ends_of 0 xs ≡ [] → subsets_of xs ≡ []
+pub none_end : (xs : List DraftEntry) → ends_of 0 xs ≡ [] → subsets_of xs ≡ []
 none_end xs e = by (subsets_of xs) (length-subsets 0 xs ∙ ap length e)
   where
     by : (ss : List Subset) → length ss ≡ 0 → ss ≡ []
@@ -169,25 +169,25 @@ pub length-cells : (place : ℕ) (ss : List Subset) → length (cells_at place s
 length-cells place [] = refl
 length-cells place (s ∷ ss) = ap suc (length-cells place ss)
 
-pub count_cells : (place : ℕ) (xs : List Entry) (ends : List ℕ) → ends ≡ ends_of 0 xs → length (cells_at place (subsets_of xs)) ≡ length ends
+pub count_cells : (place : ℕ) (xs : List DraftEntry) (ends : List ℕ) → ends ≡ ends_of 0 xs → length (cells_at place (subsets_of xs)) ≡ length ends
 count_cells place xs ends e = length-cells place (subsets_of xs) ∙ length-subsets 0 xs ∙ ap length (sym e)
 
-pub end_within : (xs : List Entry) (ends : List ℕ) (s : ℕ) → ends ≡ ends_of 0 xs → s < length ends → get_or ends s 0 < length xs
+pub end_within : (xs : List DraftEntry) (ends : List ℕ) (s : ℕ) → ends ≡ ends_of 0 xs → s < length ends → get_or ends s 0 < length xs
 end_within xs ends s e h = omega (arith, ap (λ l. get_or l s 0) e, end_small 0 xs s 0 (omega (arith, h, ap length e)))
 
 -- the entry that the code finds
-pub found_entry : (place s : ℕ) (xs : List Entry) (ends : List ℕ) (z : ℕ) (begin : ℕ) (e : Entry) → ends ≡ ends_of 0 xs → s < length ends → begin ≡ begin_of 0 ends s → slice_get xs (min (get_or ends s z) (begin + place)) ≡ Some e
-    → (c : Cell) → slice_get (cells_at place (subsets_of xs)) s ≡ Some c → e ≡ cell_entry c
+pub found_entry : (place s : ℕ) (xs : List DraftEntry) (ends : List ℕ) (z : ℕ) (begin : ℕ) (e : DraftEntry) → ends ≡ ends_of 0 xs → s < length ends → begin ≡ begin_of 0 ends s → slice_get xs (min (get_or ends s z) (begin + place)) ≡ Some e
+    → (c : RowCell) → slice_get (cells_at place (subsets_of xs)) s ≡ Some c → e ≡ cell_entry c
 found_entry place s xs ends z begin e is h b found c cell =
     let q : slice_get (ends_of 0 xs) s ≡ Some (get_or ends s z) = ap (λ l. slice_get l s) (sym is) ∙ get_there ends s z h in
     let r = entry_there place s xs (get_or ends s z) c q cell in
     let m : begin_of 0 (ends_of 0 xs) s ≡ begin = ap (λ l. begin_of 0 l s) (sym is) ∙ sym b in
     same_entry e (cell_entry c) (sym found ∙ ap (λ n. slice_get xs (min (get_or ends s z) (n + place))) (sym m) ∙ r)
   where
-    same_entry : (a b : Entry) → ◌≡◌ {A = Option Entry} (Some a) (Some b) → a ≡ b
+    same_entry : (a b : DraftEntry) → ◌≡◌ {A = Option DraftEntry} (Some a) (Some b) → a ≡ b
     same_entry a b q = cc
 
-pub ends_few : (from : ℕ) (xs : List Entry) → length (ends_of from xs) ≤ length xs
+pub ends_few : (from : ℕ) (xs : List DraftEntry) → length (ends_of from xs) ≤ length xs
 ends_few from [] = omega arith
 ends_few from (Holds d ∷ more) = omega (arith, ends_few (from + 1) more)
 ends_few from (Ends line ∷ more) = omega (arith, ends_few (from + 1) more)
@@ -209,25 +209,25 @@ false-true : false ≡ true → ⊥
 false-true e = cc
 
 -- one entry more was looked at
-next_of : (xs : List Entry) (place : ℕ) → place < length xs → drop place xs ≡ get_or xs place (Ends 0) ∷ drop (place + 1) xs
+next_of : (xs : List DraftEntry) (place : ℕ) → place < length xs → drop place xs ≡ get_or xs place (Ends 0) ∷ drop (place + 1) xs
 next_of xs place h = drop-cons xs place (Ends 0) h ∙ ap (λ j. get_or xs place (Ends 0) ∷ drop j xs) (sym (add-one place))
 
-pub ends_here : (xs : List Entry) (ends new : List ℕ) (place : ℕ) (b : Bool) → place < length xs → Some b ≡ option_map is_end (slice_get xs place) → b ≡ true → new ≡ ends ++ place ∷ []
+pub ends_here : (xs : List DraftEntry) (ends new : List ℕ) (place : ℕ) (b : Bool) → place < length xs → Some b ≡ option_map is_end (slice_get xs place) → b ≡ true → new ≡ ends ++ place ∷ []
     → ends ++ ends_of place (drop place xs) ≡ ends_of 0 xs → new ++ ends_of (place + 1) (drop (place + 1) xs) ≡ ends_of 0 xs
 ends_here xs ends new place b within is so grown before =
     by (get_or xs place (Ends 0)) (is ∙ ap (option_map is_end) (slice_get-get_or xs place (Ends 0) within)) (next_of xs place within)
   where
-    by : (e : Entry) → Some b ≡ Some (is_end e) → drop place xs ≡ e ∷ drop (place + 1) xs → new ++ ends_of (place + 1) (drop (place + 1) xs) ≡ ends_of 0 xs
+    by : (e : DraftEntry) → Some b ≡ Some (is_end e) → drop place xs ≡ e ∷ drop (place + 1) xs → new ++ ends_of (place + 1) (drop (place + 1) xs) ≡ ends_of 0 xs
     by (Holds d) odd at = absurd (true-false (sym so ∙ some-same odd))
     by (Ends line) so at =
         ap (λ l. l ++ ends_of (place + 1) (drop (place + 1) xs)) grown ∙ append_assoc ends (place ∷ []) (ends_of (place + 1) (drop (place + 1) xs))
         ∙ ap (λ l. ends ++ ends_of place l) (sym at) ∙ before
 
-pub ends_behind : (xs : List Entry) (ends new : List ℕ) (place : ℕ) (b : Bool) → place < length xs → Some b ≡ option_map is_end (slice_get xs place) → b ≡ false → new ≡ ends
+pub ends_behind : (xs : List DraftEntry) (ends new : List ℕ) (place : ℕ) (b : Bool) → place < length xs → Some b ≡ option_map is_end (slice_get xs place) → b ≡ false → new ≡ ends
     → ends ++ ends_of place (drop place xs) ≡ ends_of 0 xs → new ++ ends_of (place + 1) (drop (place + 1) xs) ≡ ends_of 0 xs
 ends_behind xs ends new place b within is so same before =
     by (get_or xs place (Ends 0)) (is ∙ ap (option_map is_end) (slice_get-get_or xs place (Ends 0) within)) (next_of xs place within)
   where
-    by : (e : Entry) → Some b ≡ Some (is_end e) → drop place xs ≡ e ∷ drop (place + 1) xs → new ++ ends_of (place + 1) (drop (place + 1) xs) ≡ ends_of 0 xs
+    by : (e : DraftEntry) → Some b ≡ Some (is_end e) → drop place xs ≡ e ∷ drop (place + 1) xs → new ++ ends_of (place + 1) (drop (place + 1) xs) ≡ ends_of 0 xs
     by (Holds d) was at = ap (λ l. l ++ ends_of (place + 1) (drop (place + 1) xs)) same ∙ ap (λ l. ends ++ ends_of place l) (sym at) ∙ before
     by (Ends line) odd at = absurd (false-true (sym so ∙ some-same odd))

@@ -3,11 +3,11 @@ use Rattle.std.proofs.Common.{◌≡◌, Bool, [], ◌∷◌, Err, refl}
 use Rattle.std.specs.Prelude.{codes}
 use Rattle.bufr_bits.specs.Bits.{bits_of, bits_in}
 use Rattle.bufr_bits.specs.DecimalValue.{decimal_value_of}
-use Rattle.bufr_walk.specs.declared.spec.Refusal.TheVariants as refusal
+use Rattle.bufr_walk.specs.declared.spec.TurnRefusal.TheVariants as refusal
 use Rattle.bufr_fill.specs.Draft.{draft, text_form, missing_form, reference_token}
 use Rattle.bufr_fill.specs.Entries.{subset, subsets_of, Holds, Ends}
 use Rattle.bufr_fill.specs.Fault.{at_line, wrong_descriptor, wrong_number, out_of_range, missing_forbidden, text_long, item_too_many, walk_refused}
-use Rattle.bufr_fill.proofs.ExampleTables.{temperature, latitude, figure, four_letters, delayed_blocks, redefined, width_of_none, numbered, plain_bits, ok_bits}
+use Rattle.bufr_fill.proofs.ExampleTables.{temperature, latitude, coded_spec, four_letters, delayed_blocks, redefined, width_of_none, numbered, plain_bits, ok_bits}
 
 -- the greatest number that is not missing
 temperature_written : plain_bits temperature (subset (numbered 24 3173 (codes "655.34") ∷ []) 25 ∷ []) ≡ ok_bits (255 ∷ 254 ∷ []) 16
@@ -54,12 +54,12 @@ unfolding plain_bits latitude decimal_value_of
 under_the_reference = refl
 
 -- all ones is a number of class 31, and nothing there is missing
-figure_of_all_ones : plain_bits figure (subset (numbered 24 7957 (codes "63") ∷ []) 25 ∷ []) ≡ ok_bits (252 ∷ []) 6
-unfolding plain_bits ok_bits figure decimal_value_of bits_in
+figure_of_all_ones : plain_bits coded_spec (subset (numbered 24 7957 (codes "63") ∷ []) 25 ∷ []) ≡ ok_bits (252 ∷ []) 6
+unfolding plain_bits ok_bits coded_spec decimal_value_of bits_in
 figure_of_all_ones = refl
 
-figure_missing : plain_bits figure (subset (draft 24 7957 missing_form ∷ []) 25 ∷ []) ≡ Err (at_line 24 missing_forbidden)
-unfolding plain_bits figure
+figure_missing : plain_bits coded_spec (subset (draft 24 7957 missing_form ∷ []) 25 ∷ []) ≡ Err (at_line 24 missing_forbidden)
+unfolding plain_bits coded_spec
 figure_missing = refl
 
 factor_missing : plain_bits delayed_blocks (subset (draft 24 7937 missing_form ∷ []) 25 ∷ []) ≡ Err (at_line 24 missing_forbidden)

@@ -6,13 +6,13 @@ use Rattle.bufr_bits.proofs.ScaledLemmas.{and_first, and_second}
 use Rattle.bufr_walk.specs.declared.spec.Role.{Role}
 use Rattle.bufr_walk.specs.declared.spec.Role.TheVariants as role
 use Rattle.bufr_walk.specs.declared.spec.Taken.{Taken}
-use Rattle.bufr_walk.specs.Asked.{Asked, IsSpec}
+use Rattle.bufr_walk.specs.FieldSpec.{FieldSpec, IsSpec}
 use Rattle.bufr_walk.specs.Calls.{content_at}
-use Rattle.bufr_walk.specs.Content.{Content, bits_for, told_by_role, told}
+use Rattle.bufr_walk.specs.Content.{Content, bits_for, told_by_role, answer_of}
 use Rattle.bufr_walk.specs.Course.{Course, take_next, at_end}
 use Rattle.bufr_walk.specs.PackedField.{packed_field, told_first}
 use Rattle.bufr_walk.specs.PlainField.{FieldFault, found, plain_field}
-use Rattle.bufr_walk.specs.Reading.{Item, plain, packed, after, ReadsAll, ReadsSubsets, IsPackedReading}
+use Rattle.bufr_walk.specs.Reading.{Item, plain, packed, after, ReadsPass, ReadsSubsets, IsPackedReading}
 use Rattle.bufr_fill.specs.Draft.{Draft}
 use Rattle.bufr_fill.specs.DraftContent.{content_of, plainly, plain_filler}
 use Rattle.bufr_fill.specs.Encoding.{plain_data, ◌>>=◌}
@@ -21,7 +21,7 @@ use Rattle.bufr_fill.specs.Filling.{fill, fill_one, fill_none, filled, and_behin
 use Rattle.bufr_fill.specs.Fits.{Fits, AllFit}
 use Rattle.bufr_fill.specs.OtherForm.{subsets_from, IsWrittenApart}
 use Rattle.bufr_fill.specs.Packing.{same, are_same, packed_bits, packed_unlike, packing}
-use Rattle.bufr_fill.specs.WrittenAgain.{IsDumped, AreDrafts, AreDumped, AreDumpedFrom, items_of}
+use Rattle.bufr_fill.specs.WrittenAgain.{IsDumped, AreDrafts, AreDumped, AreDumpedFrom, items_of_subset}
 use Rattle.bufr_fill.proofs.WrittenLists.{AllSpecs}
 use Rattle.bufr_fill.proofs.DraftLaws.{draft_again}
 use Rattle.bufr_fill.proofs.LeastLemmas.{content_same}
@@ -38,15 +38,15 @@ Follows course (i ∷ items) = ((course []).next ≡ take_next i.spec) × IsSpec
 pub record IsPlainSubset (end_line : ℕ) (course : Course) (items : List (Item Content)) (ds : List Draft) : Type 0 where
   pub out : List Bool
   pub fills : fill (plain_filler end_line) course ds ≡ Ok out
-  pub again : (more : List Bool) → ReadsAll plain course items (out ++ more) more
+  pub again : (more : List Bool) → ReadsPass plain course items (out ++ more) more
 
 -- the bits of the first item, and those of the rest
 join : (end_line : ℕ) (course : Course) (i : Item Content) (d : Draft) (ds : List Draft) (w out : List Bool) → (course []).next ≡ take_next i.spec → content_of i.spec d ≡ Ok i.content → bits_for i.spec.width i.content ≡ w
     → fill (plain_filler end_line) (after plain course i) ds ≡ Ok out → fill (plain_filler end_line) course (d ∷ ds) ≡ Ok (w ++ out)
 join end_line course i d ds w out next fills bits rest =
     let filler = plain_filler end_line in
-    ap (λ n. fill_one filler n d (λ t. fill filler (λ told. course (t ∷ told)) ds)) next
-    ∙ ap (λ r. filled filler i.spec (plainly d.line i.spec r) (λ t. fill filler (λ told. course (t ∷ told)) ds)) fills
+    ap (λ n. fill_one filler n d (λ t. fill filler (λ answer_of. course (t ∷ answer_of)) ds)) next
+    ∙ ap (λ r. filled filler i.spec (plainly d.line i.spec r) (λ t. fill filler (λ answer_of. course (t ∷ answer_of)) ds)) fills
     ∙ ap (λ b. and_behind filler b (fill filler (after plain course i) ds)) bits
     ∙ ap (and_behind filler w) rest
 
@@ -99,7 +99,7 @@ plain_subsets course (items ∷ subsets) (s ∷ ss) h dumped =
       is = ap (λ r. r >>= λ x. plain_data course ss >>= λ y. Ok (x ++ y)) first.fills ∙ ap (λ r. r >>= λ y. Ok (first.out ++ y)) rest.is;
       again = λ more. (
         rest.out ++ more,
-        subst (λ bits. ReadsAll plain course items bits (rest.out ++ more)) (sym (append_assoc first.out rest.out more)) (first.again (rest.out ++ more)),
+        subst (λ bits. ReadsPass plain course items bits (rest.out ++ more)) (sym (append_assoc first.out rest.out more)) (first.again (rest.out ++ more)),
         rest.again more,
       );
     }
@@ -112,10 +112,10 @@ same_at c [] j e h = absurd (omega (arith, h))
 same_at c (d ∷ cs) zero e h = sym (content_same c d (and_first (same c d) (are_same c cs) e))
 same_at c (d ∷ cs) (suc j) e h = same_at c cs j (and_second (same c d) (are_same c cs) e) (omega (arith, h))
 
-abbrev packed_or : Bool → Role → Asked → Content → List Content → Result (List Bool) FieldFault
+abbrev packed_or : Bool → Role → FieldSpec → Content → List Content → Result (List Bool) FieldFault
 packed_or b r spec c cs = if b then Ok (packed_bits (bits_for spec.width c) 0 []) else packed_unlike r spec (c ∷ cs)
 
-alike : (b : Bool) (r : Role) (spec : Asked) (c : Content) (cs : List Content) (out : List Bool) (j : ℕ) → are_same c cs ≡ b → packed_or b r spec c cs ≡ Ok out → j < length cs → told_by_role r (content_at j cs) ≡ told_by_role r c
+alike : (b : Bool) (r : Role) (spec : FieldSpec) (c : Content) (cs : List Content) (out : List Bool) (j : ℕ) → are_same c cs ≡ b → packed_or b r spec c cs ≡ Ok out → j < length cs → told_by_role r (content_at j cs) ≡ told_by_role r c
 alike b role.Element spec c cs out j q e h = refl
 alike b role.Inserted spec c cs out j q e h = refl
 alike true role.Factor spec c cs out j q e h = ap (told_by_role role.Factor) (same_at c cs j q h)
@@ -123,21 +123,21 @@ alike true role.Reference spec c cs out j q e h = ap (told_by_role role.Referenc
 alike false role.Factor spec c cs out j q e h = absurd cc
 alike false role.Reference spec c cs out j q e h = absurd cc
 
-pub packed_alike : (spec : Asked) (c : Content) (cs : List Content) (out : List Bool) (j : ℕ) → packing spec (c ∷ cs) ≡ Ok out → j < length (c ∷ cs) → told spec (content_at j (c ∷ cs)) ≡ told spec c
+pub packed_alike : (spec : FieldSpec) (c : Content) (cs : List Content) (out : List Bool) (j : ℕ) → packing spec (c ∷ cs) ≡ Ok out → j < length (c ∷ cs) → answer_of spec (content_at j (c ∷ cs)) ≡ answer_of spec c
 packed_alike spec c cs out zero e h = refl
 packed_alike spec c cs out (suc j) e h = alike (are_same c cs) spec.role spec c cs out j refl e (omega (arith, h))
 
-fit_at : (spec : Asked) (cs : List Content) (j : ℕ) → AllFit spec cs → j < length cs → Fits spec (content_at j cs)
+fit_at : (spec : FieldSpec) (cs : List Content) (j : ℕ) → AllFit spec cs → j < length cs → Fits spec (content_at j cs)
 fit_at spec [] j f h = absurd (omega (arith, h))
 fit_at spec (c ∷ cs) zero f h = f.0
 fit_at spec (c ∷ cs) (suc j) f h = fit_at spec cs j f.1 (omega (arith, h))
 
 -- what is known of one subset's content of an item that was read
-record IsOneOf (spec : Asked) (cs : List Content) (j : ℕ) : Type 0 where
+record IsOneOf (spec : FieldSpec) (cs : List Content) (j : ℕ) : Type 0 where
   fits : Fits spec (content_at j cs)
-  tells : told spec (content_at j cs) ≡ told_first spec cs
+  tells : answer_of spec (content_at j cs) ≡ told_first spec cs
 
-one_of : (n : ℕ) (spec : Asked) (cs : List Content) (j : ℕ) (bits mid : List Bool) → IsSpec spec → j < n → packed_field n spec bits ≡ Ok (found cs mid) → IsOneOf spec cs j
+one_of : (n : ℕ) (spec : FieldSpec) (cs : List Content) (j : ℕ) (bits mid : List Bool) → IsSpec spec → j < n → packed_field n spec bits ≡ Ok (found cs mid) → IsOneOf spec cs j
 one_of n spec [] j bits mid good h e = absurd (omega (arith, h, packed_count n spec good [] bits mid e))
 one_of n spec (c ∷ cs) j bits mid good h e =
     let p = packed_again n spec good c cs bits mid e in
@@ -145,14 +145,14 @@ one_of n spec (c ∷ cs) j bits mid good h e =
     record { fits = fit_at spec (c ∷ cs) j p.2.fits within; tells = packed_alike spec c cs p.2.out j p.2.is within }
 
 -- the items of one subset follow one another
-follows_packed : (n j : ℕ) (course : Course) (items : List (Item (List Content))) (bits behind : List Bool) → j < n → AllSpecs items → ReadsAll (packed n) course items bits behind → Follows course (items_of j items)
+follows_packed : (n j : ℕ) (course : Course) (items : List (Item (List Content))) (bits behind : List Bool) → j < n → AllSpecs items → ReadsPass (packed n) course items bits behind → Follows course (items_of_subset j items)
 follows_packed n j course [] bits behind h specs r = r.1
 follows_packed n j course (i ∷ items) bits behind h specs r =
     let one = one_of n i.spec i.content j bits r.0.0 specs.0 h r.0.2 in
     let rest = follows_packed n j (after (packed n) course i) items r.0.0 behind h specs.1 (r.0.3, r.1) in
-    (r.0.1, specs.0, one.fits, subst (λ (t : Taken). Follows (λ told. course (t ∷ told)) (items_of j items)) (sym one.tells) rest)
+    (r.0.1, specs.0, one.fits, subst (λ (t : Taken). Follows (λ answer_of. course (t ∷ answer_of)) (items_of_subset j items)) (sym one.tells) rest)
 
-all_follow : (n j left : ℕ) (course : Course) (items : List (Item (List Content))) (bits behind : List Bool) → j + left ≤ n → AllSpecs items → ReadsAll (packed n) course items bits behind → AllFollow course (subsets_from left j items)
+all_follow : (n j left : ℕ) (course : Course) (items : List (Item (List Content))) (bits behind : List Bool) → j + left ≤ n → AllSpecs items → ReadsPass (packed n) course items bits behind → AllFollow course (subsets_from left j items)
 all_follow n j zero course items bits behind h specs r = tt
 all_follow n j (suc left) course items bits behind h specs r =
     (follows_packed n j course items bits behind (omega (arith, h)) specs r, all_follow n (suc j) left course items bits behind (omega (arith, h)) specs r)

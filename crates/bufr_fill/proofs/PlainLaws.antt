@@ -9,14 +9,14 @@ use Rattle.bufr_tables.specs.declared.kind.Kind.{Kind}
 use Rattle.bufr_tables.specs.declared.kind.Kind.TheVariants as kind
 use Rattle.bufr_walk.specs.declared.spec.Role.{Role}
 use Rattle.bufr_walk.specs.declared.spec.Role.TheVariants as role
-use Rattle.bufr_walk.specs.Asked.{Asked, IsSpec, HasWidth}
+use Rattle.bufr_walk.specs.FieldSpec.{FieldSpec, IsSpec, HasWidth}
 use Rattle.bufr_walk.specs.Content.{Content, number, text, missing, reference, content_by, content_in, bits_for}
-use Rattle.bufr_walk.specs.PlainField.{FieldFault, data_end, Found, found, plain_field}
+use Rattle.bufr_walk.specs.PlainField.{FieldFault, data_end, FieldRead, found, plain_field}
 use Rattle.bufr_walk.specs.Reading.{Item, plain}
 use Rattle.bufr_fill.specs.Fits.{FitsRole, Fits}
 use Rattle.bufr_fill.specs.WrittenAgain.{IsDumped}
 use Rattle.bufr_fill.specs.Draft.{Draft}
-use Rattle.bufr_fill.specs.DraftContent.{content_of, form_of, plainly, plain_filler}
+use Rattle.bufr_fill.specs.DraftContent.{content_of, draft_value_of, plainly, plain_filler}
 use Rattle.bufr_fill.proofs.RoundTrip.{IsRewritten}
 use Rattle.bufr_fill.proofs.DraftLaws.{draft_again}
 use Rattle.bufr_fill.proofs.FieldBits.{kind_back, kind_length, kind_fits, signed_back, signed_below}
@@ -26,7 +26,7 @@ width_least kind.Character w h = omega (arith, h.0)
 width_least kind.Coded w h = h.0
 width_least kind.Numeric w h = h.0
 
-module _ (spec : Asked) (good : IsSpec spec) where
+module _ (spec : FieldSpec) (good : IsSpec spec) where
   role_back : (r : Role) (c : Content) → FitsRole r spec c → content_by r spec (bits_for spec.width c) ≡ c
   role_back role.Element c h = kind_back spec.width spec.kind spec.may_be_missing c good.width good.missing h
   role_back role.Inserted c h = kind_back spec.width spec.kind spec.may_be_missing c good.width good.missing h
@@ -75,7 +75,7 @@ module _ (spec : Asked) (good : IsSpec spec) where
       ∙ ap (λ x. Ok (found (content_in spec bits) x)) (drop_at bits more spec.width l)
       ∙ ap (λ x. Ok (found x more)) (content_back c h)
 
-  same_found : {C : Type 0} (a b : Found C) → ◌≡◌ {A = Result (Found C) FieldFault} (Ok a) (Ok b) → a ≡ b
+  same_found : {C : Type 0} (a b : FieldRead C) → ◌≡◌ {A = Result (FieldRead C) FieldFault} (Ok a) (Ok b) → a ≡ b
   same_found a b e = cc
 
   by_end : (b : Bool) (bits mid : List Bool) (c : Content) → b ≡ nat_lt (length bits) spec.width → (if b then Err data_end else Ok (found (content_in spec (take spec.width bits)) (drop spec.width bits))) ≡ Ok (found c mid) → Fits spec c × (spec.width + length mid ≤ length bits)
@@ -84,15 +84,15 @@ module _ (spec : Asked) (good : IsSpec spec) where
       let f = same_found _ _ e in
       let at : spec.width ≤ length bits = grind (arith, nat_tests) in
       let l : length (take spec.width bits) ≡ spec.width = length-take-le spec.width bits at in (
-        subst (λ x. Fits spec x) (ap (λ (x : Found Content). x.content) f) (content_fits (take spec.width bits) l),
-        omega (arith, at, length-drop spec.width bits, ap (λ (x : Found Content). length x.behind) f),
+        subst (λ x. Fits spec x) (ap (λ (x : FieldRead Content). x.content) f) (content_fits (take spec.width bits) l),
+        omega (arith, at, length-drop spec.width bits, ap (λ (x : FieldRead Content). length x.behind) f),
       )
 
   -- what was read fits, and its bits were there
   pub plain_read : (bits mid : List Bool) (c : Content) → plain_field spec bits ≡ Ok (found c mid) → Fits spec c × (spec.width + length mid ≤ length bits)
   plain_read bits mid c e = by_end (nat_lt (length bits) spec.width) bits mid c refl e
 
-pub same_draft : (spec : Asked) (c : Content) (d : Draft) → (d.fxy ≡ spec.fxy) × (d.form ≡ form_of spec c) → d ≡ record { line = d.line; fxy = spec.fxy; form = form_of spec c }
+pub same_draft : (spec : FieldSpec) (c : Content) (d : Draft) → (d.fxy ≡ spec.fxy) × (d.form ≡ draft_value_of spec c) → d ≡ record { line = d.line; fxy = spec.fxy; form = draft_value_of spec c }
 same_draft spec c d h = λ j. record { line = d.line; fxy = h.0 j; form = h.1 j }
 
 -- the field law of data that are not compressed

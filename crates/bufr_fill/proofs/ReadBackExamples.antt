@@ -8,7 +8,7 @@ use Rattle.bufr_tables.specs.declared.kind.Kind.{Kind}
 use Rattle.bufr_tables.specs.declared.kind.Kind.TheVariants as kind
 use Rattle.bufr_walk.specs.declared.spec.Role.{Role}
 use Rattle.bufr_walk.specs.declared.spec.Role.TheVariants as role
-use Rattle.bufr_walk.specs.Asked.{Asked}
+use Rattle.bufr_walk.specs.FieldSpec.{FieldSpec}
 use Rattle.bufr_walk.specs.Content.{Content, number, text, missing, reference}
 use Rattle.bufr_walk.specs.Reading.{Item}
 use Rattle.bufr_fill.specs.Alike.{AllAlike}
@@ -21,22 +21,22 @@ use Rattle.bufr_fill.specs.ReadBack.{HasOctets, AllHaveOctets, IsSaid, AreSaid, 
 
 -- fields: a number in 7 bits, one of two places in 16, a text of four octets, and a reference in 10
 -- bits
-abbrev asked_as : Role → Kind → (width : ℕ) → (scale : ℤ) → Asked
+abbrev asked_as : Role → Kind → (width : ℕ) → (scale : ℤ) → FieldSpec
 asked_as r k w s = record { fxy = 257; role = r; kind = k; width = w; scale = s; reference = pos 0; may_be_missing = true; listed = true }
 
-abbrev block : Asked
+abbrev block : FieldSpec
 block = asked_as role.Element kind.Numeric 7 (pos 0)
 
-abbrev temperature : Asked
+abbrev temperature : FieldSpec
 temperature = asked_as role.Element kind.Numeric 16 (pos 2)
 
-abbrev letters : Asked
+abbrev letters : FieldSpec
 letters = asked_as role.Element kind.Character 32 (pos 0)
 
-abbrev redefining : Asked
+abbrev redefining : FieldSpec
 redefining = asked_as role.Reference kind.Numeric 10 (pos 0)
 
-abbrev item : Asked → Content → Item Content
+abbrev item : FieldSpec → Content → Item Content
 item spec content = record { spec = spec; content = content }
 
 -- ---- what an item says

@@ -1,44 +1,44 @@
 -- What was read is written so that it is read again, in no more bits.
 use Rattle.std.proofs.Common.{◌≡◌, ◌+◌, ◌≤◌, Bool, List, [], ◌∷◌, ◌++◌, length, Ok, refl, sym, ◌∙◌, ap, subst, arith, append_assoc}
 use Rattle.std.proofs.lemmas.List.{length-append}
-use Rattle.bufr_walk.specs.Asked.{Asked, IsSpec}
+use Rattle.bufr_walk.specs.FieldSpec.{FieldSpec, IsSpec}
 use Rattle.bufr_walk.specs.Course.{Course, Next, take_next, at_end}
 use Rattle.bufr_walk.specs.PlainField.{found}
-use Rattle.bufr_walk.specs.Reading.{Item, Form, Reads, ReadsAll, after}
+use Rattle.bufr_walk.specs.Reading.{Item, DataCoding, ReadsItems, ReadsPass, after}
 use Rattle.bufr_fill.specs.WrittenAgain.{AreDrafts}
 use Rattle.bufr_fill.proofs.WrittenLists.{AllSpecs}
-use Rattle.bufr_fill.specs.Filling.{written, Filler, fill, fill_one, fill_none, filled, and_behind}
+use Rattle.bufr_fill.specs.Filling.{written_item, Filler, fill, fill_one, fill_none, filled, and_behind}
 
 -- one item that was read is written so that it is read again, in no more bits
-pub record IsRewritten {C D E : Type 0} (form : Form C) (filler : Filler D C E) (i : Item C) (d : D) (bits mid : List Bool) : Type 0 where
+pub record IsRewritten {C D E : Type 0} (form : DataCoding C) (filler : Filler D C E) (i : Item C) (d : D) (bits mid : List Bool) : Type 0 where
   pub out : List Bool
-  pub fills : filler.fills i.spec d ≡ Ok (written i.content out)
+  pub fills : filler.fills i.spec d ≡ Ok (written_item i.content out)
   pub again : (more : List Bool) → form.field i.spec (out ++ more) ≡ Ok (found i.content more)
   pub short : length out + length mid ≤ length bits
 
 -- the same of all items
-pub record AreRewritten {C D E : Type 0} (form : Form C) (filler : Filler D C E) (course : Course) (items : List (Item C)) (ds : List D) (bits behind : List Bool) : Type 0 where
+pub record AreRewritten {C D E : Type 0} (form : DataCoding C) (filler : Filler D C E) (course : Course) (items : List (Item C)) (ds : List D) (bits behind : List Bool) : Type 0 where
   pub out : List Bool
   pub fills : fill filler course ds ≡ Ok out
-  pub again : (more : List Bool) → Reads form course items (out ++ more) more
+  pub again : (more : List Bool) → ReadsItems form course items (out ++ more) more
   pub short : length out + length behind ≤ length bits
 
-module _ {C D E : Type 0} (form : Form C) (filler : Filler D C E) (same_told : (spec : Asked) (c : C) → filler.tells spec c ≡ form.tells spec c) where
+module _ {C D E : Type 0} (form : DataCoding C) (filler : Filler D C E) (same_told : (spec : FieldSpec) (c : C) → filler.tells spec c ≡ form.tells spec c) where
   -- the bits of the first item, and those of the rest
-  pub join : (course : Course) (i : Item C) (d : D) (ds : List D) (w out : List Bool) → (course []).next ≡ take_next i.spec → filler.fills i.spec d ≡ Ok (written i.content w) → fill filler (after form course i) ds ≡ Ok out → fill filler course (d ∷ ds) ≡ Ok (w ++ out)
+  pub join : (course : Course) (i : Item C) (d : D) (ds : List D) (w out : List Bool) → (course []).next ≡ take_next i.spec → filler.fills i.spec d ≡ Ok (written_item i.content w) → fill filler (after form course i) ds ≡ Ok out → fill filler course (d ∷ ds) ≡ Ok (w ++ out)
   join course i d ds w out next fills rest =
       ap (λ n. fill_one filler n d (λ t. fill filler (λ told. course (t ∷ told)) ds)) next
       ∙ ap (λ r. filled filler i.spec r (λ t. fill filler (λ told. course (t ∷ told)) ds)) fills
       ∙ ap (λ t. and_behind filler w (fill filler (λ told. course (t ∷ told)) ds)) (same_told i.spec i.content)
       ∙ ap (and_behind filler w) rest
 
-module _ {C D E : Type 0} (form : Form C) (filler : Filler D C E) (of_item : Item C → D → Type 0)
-    (same_told : (spec : Asked) (c : C) → filler.tells spec c ≡ form.tells spec c)
+module _ {C D E : Type 0} (form : DataCoding C) (filler : Filler D C E) (of_item : Item C → D → Type 0)
+    (same_told : (spec : FieldSpec) (c : C) → filler.tells spec c ≡ form.tells spec c)
     (one : (i : Item C) (d : D) (bits mid : List Bool) → IsSpec i.spec → of_item i d → form.field i.spec bits ≡ Ok (found i.content mid) → IsRewritten form filler i d bits mid) where
   fill_end : (n : Next) → n ≡ at_end → fill_none filler n ≡ Ok []
   fill_end n e = ap (fill_none filler) e
 
-  pub rewritten : (course : Course) (items : List (Item C)) (ds : List D) (bits behind : List Bool) → AllSpecs items → AreDrafts of_item items ds → ReadsAll form course items bits behind → AreRewritten form filler course items ds bits behind
+  pub rewritten : (course : Course) (items : List (Item C)) (ds : List D) (bits behind : List Bool) → AllSpecs items → AreDrafts of_item items ds → ReadsPass form course items bits behind → AreRewritten form filler course items ds bits behind
   rewritten course [] [] bits behind specs drafts h = record {
     out = [];
     fills = fill_end (course []).next h.1;

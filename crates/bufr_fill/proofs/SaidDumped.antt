@@ -12,7 +12,7 @@ use Rattle.bufr_fill.specs.DraftContent.{content_of}
 use Rattle.bufr_fill.specs.Entries.{Subset}
 use Rattle.bufr_fill.specs.OtherForm.{subsets_from}
 use Rattle.bufr_fill.specs.ReadBack.{IsSaid, AreSaid, AreSaidFrom}
-use Rattle.bufr_fill.specs.WrittenAgain.{IsDumped, AreDrafts, AreDumped, AreDumpedFrom, items_of}
+use Rattle.bufr_fill.specs.WrittenAgain.{IsDumped, AreDrafts, AreDumped, AreDumpedFrom, items_of_subset}
 use Rattle.bufr_fill.proofs.DraftLaws.{draft_again}
 use Rattle.bufr_fill.proofs.GoodReads.{template_good, plain_specs}
 use Rattle.bufr_fill.proofs.PackedForm.{all_plain}
@@ -36,7 +36,7 @@ subsets_said course (items ∷ subsets) (s ∷ ss) f h = (items_said course item
 pub together_said : (course : Course) (n j : ℕ) (items : List (Item (List Content))) (ss : List Subset) → length ss ≡ n → AllFollow course (subsets_from n j items) → AreDumpedFrom j items ss → AreSaidFrom j items ss
 together_said course n j items [] e f h = tt
 together_said course zero j items (s ∷ ss) e f h = absurd (omega (arith, e))
-together_said course (suc n) j items (s ∷ ss) e f h = (items_said course (items_of j items) s.items f.0 h.0, together_said course n (suc j) items ss (omega (arith, e)) f.1 h.1)
+together_said course (suc n) j items (s ∷ ss) e f h = (items_said course (items_of_subset j items) s.items f.0 h.0, together_said course n (suc j) items ss (omega (arith, e)) f.1 h.1)
 
 -- what the drafts of compressed data say, subset by subset
 pub said_from : (n j : ℕ) (items : List (Item (List Content))) (ss : List Subset) → length ss ≡ n → AreSaidFrom j items ss → AreSaid (subsets_from n j items) ss

@@ -6,22 +6,22 @@ use Rattle.bufr_tables.specs.Legal.{IsLegal}
 use Rattle.bufr_tables.specs.Records.{Record}
 use Rattle.bufr_tables.specs.TableB.{Row, AreRows}
 use Rattle.bufr_tables.specs.Tree.{Tree}
-use Rattle.bufr_walk.specs.Asked.{Asked, IsSpec}
+use Rattle.bufr_walk.specs.FieldSpec.{FieldSpec, IsSpec}
 use Rattle.bufr_walk.specs.Calls.{content_at}
 use Rattle.bufr_walk.specs.Content.{Content, bits_for}
 use Rattle.bufr_walk.specs.Course.{Course, next_item}
 use Rattle.bufr_walk.specs.PackedField.{packed_field}
 use Rattle.bufr_walk.specs.PlainField.{FieldFault, found, plain_field}
-use Rattle.bufr_walk.specs.Reading.{most_values, Item, Form, plain, packed, ReadsAll, ReadsSubsets, IsPackedReading, after}
+use Rattle.bufr_walk.specs.Reading.{max_values, Item, DataCoding, plain, packed, ReadsPass, ReadsSubsets, IsPackedReading, after}
 use Rattle.bufr_fill.specs.Draft.{Draft}
 use Rattle.bufr_fill.specs.DraftContent.{plainly, plain_filler}
-use Rattle.bufr_fill.specs.Encoding.{Across, cells_at, rows, longest, placed, content_here, contents_here, packed_to, are_many, pack_across, packed_filler, plain_data, packed_data, first_line, ◌>>=◌}
+use Rattle.bufr_fill.specs.Encoding.{ItemRow, cells_at, rows, longest, at_line_if_fault, content_here, contents_here, packed_to, are_many, pack_across, packed_filler, plain_data, packed_data, first_line, ◌>>=◌}
 use Rattle.bufr_fill.specs.Entries.{Subset}
 use Rattle.bufr_fill.specs.Fault.{at_line, too_many_values}
-use Rattle.bufr_fill.specs.Filling.{written, Filler, fill, fill_none}
+use Rattle.bufr_fill.specs.Filling.{written_item, Filler, fill, fill_none}
 use Rattle.bufr_fill.specs.Packing.{packing}
 use Rattle.bufr_fill.specs.ReadBack.{IsSaid, AreSaid, AreSaidFrom}
-use Rattle.bufr_fill.specs.WrittenAgain.{AreDrafts, items_of}
+use Rattle.bufr_fill.specs.WrittenAgain.{AreDrafts, items_of_subset}
 use Rattle.bufr_fill.proofs.WrittenLists.{AllSpecs, EachSpecs, HaveContents}
 use Rattle.bufr_fill.proofs.Across.{drop-items_of, content_more, content_none, length-cells, drop_next, drafts_length, length-items_of}
 use Rattle.bufr_fill.proofs.GoodReads.{template_good, plain_specs}
@@ -33,10 +33,10 @@ use Rattle.bufr_fill.proofs.WholeLaws.{have_contents, reads_specs}
 
 -- ---- one item after another
 
-module _ {C D E : Type 0} (form : Form C) (filler : Filler D C E) (of_item : Item C → D → Type 0) (laid : Item C → List Bool)
-    (same_told : (spec : Asked) (c : C) → filler.tells spec c ≡ form.tells spec c)
-    (one : (i : Item C) (d : D) (bits mid : List Bool) → IsSpec i.spec → of_item i d → form.field i.spec bits ≡ Ok (found i.content mid) → filler.fills i.spec d ≡ Ok (written i.content (laid i))) where
-  all_laid : (course : Course) (items : List (Item C)) (ds : List D) (bits behind : List Bool) → AllSpecs items → AreDrafts of_item items ds → ReadsAll form course items bits behind → fill filler course ds ≡ Ok (flat_map laid items)
+module _ {C D E : Type 0} (form : DataCoding C) (filler : Filler D C E) (of_item : Item C → D → Type 0) (laid : Item C → List Bool)
+    (same_told : (spec : FieldSpec) (c : C) → filler.tells spec c ≡ form.tells spec c)
+    (one : (i : Item C) (d : D) (bits mid : List Bool) → IsSpec i.spec → of_item i d → form.field i.spec bits ≡ Ok (found i.content mid) → filler.fills i.spec d ≡ Ok (written_item i.content (laid i))) where
+  all_laid : (course : Course) (items : List (Item C)) (ds : List D) (bits behind : List Bool) → AllSpecs items → AreDrafts of_item items ds → ReadsPass form course items bits behind → fill filler course ds ≡ Ok (flat_map laid items)
   all_laid course [] [] bits behind specs said h = ap (fill_none filler) h.1
   all_laid course [] (d ∷ ds) bits behind specs said h = absurd said
   all_laid course (i ∷ items) [] bits behind specs said h = absurd said
@@ -48,7 +48,7 @@ module _ {C D E : Type 0} (form : Form C) (filler : Filler D C E) (of_item : Ite
 abbrev plainly_laid : Item Content → List Bool
 plainly_laid i = bits_for i.spec.width i.content
 
-plain_one : (end_line : ℕ) (i : Item Content) (d : Draft) (bits mid : List Bool) → IsSpec i.spec → IsSaid i d → plain_field i.spec bits ≡ Ok (found i.content mid) → (plain_filler end_line).fills i.spec d ≡ Ok (written i.content (plainly_laid i))
+plain_one : (end_line : ℕ) (i : Item Content) (d : Draft) (bits mid : List Bool) → IsSpec i.spec → IsSaid i d → plain_field i.spec bits ≡ Ok (found i.content mid) → (plain_filler end_line).fills i.spec d ≡ Ok (written_item i.content (plainly_laid i))
 plain_one end_line i d bits mid good said e = ap (plainly d.line i.spec) said
 
 plain_laid : (course : Course) (subsets : List (List (Item Content))) (drafts : List Subset) (bits behind : List Bool) → EachSpecs subsets → AreSaid subsets drafts → ReadsSubsets course subsets bits behind → plain_data course drafts ≡ Ok (flat_map (flat_map plainly_laid) subsets)
@@ -81,25 +81,25 @@ said_at end_line [] [] zero i rest h e = absurd cc
 said_at end_line [] [] (suc p) i rest h e = absurd cc
 said_at end_line [] (d ∷ ds) p i rest h e = absurd h
 said_at end_line (x ∷ items) [] p i rest h e = absurd h
-said_at end_line (x ∷ items) (d ∷ ds) zero i rest h e = let is : x ≡ i = cc in subst (λ (y : Item Content). content_here y.spec (Some d) end_line ≡ Ok y.content) is (ap (placed d.line) h.0)
+said_at end_line (x ∷ items) (d ∷ ds) zero i rest h e = let is : x ≡ i = cc in subst (λ (y : Item Content). content_here y.spec (Some d) end_line ≡ Ok y.content) is (ap (at_line_if_fault d.line) h.0)
 said_at end_line (x ∷ items) (d ∷ ds) (suc p) i rest h e = said_at end_line items ds p i rest h.1 e
 
 -- the cells at a place say the contents of the item there
 contents_said : (items : List (Item (List Content))) (p : ℕ) (i : Item (List Content)) (rest : List (Item (List Content))) (j : ℕ) (ss : List Subset) → drop p items ≡ i ∷ rest → j + length ss ≡ length i.content → AreSaidFrom j items ss → contents_here i.spec (cells_at p ss) ≡ Ok (drop j i.content)
 contents_said items p i rest j [] e n h = ap Ok (sym (content_none j i.content (omega (arith, n))))
 contents_said items p i rest j (s ∷ ss) e n h =
-    let here : drop p (items_of j items) ≡ record { spec = i.spec; content = content_at j i.content } ∷ items_of j rest = drop-items_of j p items ∙ ap (items_of j) e in
-    ap (λ r. r >>= λ first. contents_here i.spec (cells_at p ss) >>= λ more. Ok (first ∷ more)) (said_at s.end_line (items_of j items) s.items p (record { spec = i.spec; content = content_at j i.content }) (items_of j rest) h.0 here)
+    let here : drop p (items_of_subset j items) ≡ record { spec = i.spec; content = content_at j i.content } ∷ items_of_subset j rest = drop-items_of j p items ∙ ap (items_of_subset j) e in
+    ap (λ r. r >>= λ first. contents_here i.spec (cells_at p ss) >>= λ more. Ok (first ∷ more)) (said_at s.end_line (items_of_subset j items) s.items p (record { spec = i.spec; content = content_at j i.content }) (items_of_subset j rest) h.0 here)
     ∙ ap (λ r. r >>= λ more. Ok (content_at j i.content ∷ more)) (contents_said items p i rest (suc j) ss e (omega (arith, n)) h.1)
     ∙ ap Ok (sym (content_more j i.content (omega (arith, n))))
 
 -- an item of all subsets, as the cells of a row say it
-record IsSaidRow (n : ℕ) (i : Item (List Content)) (a : Across) : Type 0 where
+record IsSaidRow (n : ℕ) (i : Item (List Content)) (a : ItemRow) : Type 0 where
   contents : contents_here i.spec a.cells ≡ Ok i.content
   total : length a.cells ≡ n
-  few : (a.place + 1) * n ≤ most_values
+  few : (a.place + 1) * n ≤ max_values
 
-rows_said : (n : ℕ) (items : List (Item (List Content))) (ss : List Subset) (rest : List (Item (List Content))) (p : ℕ) → length ss ≡ n → HaveContents n rest → AreSaidFrom 0 items ss → drop p items ≡ rest → (p + length rest) * n ≤ most_values → AreDrafts (IsSaidRow n) rest (rows (length rest) p ss)
+rows_said : (n : ℕ) (items : List (Item (List Content))) (ss : List Subset) (rest : List (Item (List Content))) (p : ℕ) → length ss ≡ n → HaveContents n rest → AreSaidFrom 0 items ss → drop p items ≡ rest → (p + length rest) * n ≤ max_values → AreDrafts (IsSaidRow n) rest (rows (length rest) p ss)
 rows_said n items ss [] p count have h e few = tt
 rows_said n items ss (i ∷ rest) p count have h e few = (
   record {
@@ -107,30 +107,30 @@ rows_said n items ss (i ∷ rest) p count have h e few = (
     total = length-cells p ss ∙ count;
     few = let m : (p + 1) * n ≤ (p + length (i ∷ rest)) * n = mul-le-mul_right n (omega arith) in omega (arith, m, few);
   },
-  rows_said n items ss rest (p + 1) count have.1 h (drop_next items p i rest e) (let q : p + 1 + length rest ≡ p + length (i ∷ rest) = omega arith in subst (λ k. k * n ≤ most_values) (sym q) few),
+  rows_said n items ss rest (p + 1) count have.1 h (drop_next items p i rest e) (let q : p + 1 + length rest ≡ p + length (i ∷ rest) = omega arith in subst (λ k. k * n ≤ max_values) (sym q) few),
 )
 
 longest_said : (j : ℕ) (items : List (Item (List Content))) (ss : List Subset) → AreSaidFrom j items ss → longest ss ≤ length items
 longest_said j items [] h = omega arith
-longest_said j items (s ∷ ss) h = omega (arith, drafts_length IsSaid (items_of j items) s.items h.0, length-items_of j items, longest_said (suc j) items ss h.1)
+longest_said j items (s ∷ ss) h = omega (arith, drafts_length IsSaid (items_of_subset j items) s.items h.0, length-items_of j items, longest_said (suc j) items ss h.1)
 
-all_rows_said : (n : ℕ) (items : List (Item (List Content))) (s : Subset) (ss : List Subset) → length (s ∷ ss) ≡ n → HaveContents n items → AreSaidFrom 0 items (s ∷ ss) → length items * n ≤ most_values → AreDrafts (IsSaidRow n) items (rows (longest (s ∷ ss)) 0 (s ∷ ss))
+all_rows_said : (n : ℕ) (items : List (Item (List Content))) (s : Subset) (ss : List Subset) → length (s ∷ ss) ≡ n → HaveContents n items → AreSaidFrom 0 items (s ∷ ss) → length items * n ≤ max_values → AreDrafts (IsSaidRow n) items (rows (longest (s ∷ ss)) 0 (s ∷ ss))
 all_rows_said n items s ss count have h few =
-    let l : longest (s ∷ ss) ≡ length items = omega (arith, drafts_length IsSaid (items_of 0 items) s.items h.0, length-items_of 0 items, longest_said 1 items ss h.1) in
+    let l : longest (s ∷ ss) ≡ length items = omega (arith, drafts_length IsSaid (items_of_subset 0 items) s.items h.0, length-items_of 0 items, longest_said 1 items ss h.1) in
     subst (λ k. AreDrafts (IsSaidRow n) items (rows k 0 (s ∷ ss))) (sym l) (rows_said n items (s ∷ ss) items 0 count have h refl (omega (arith, few)))
 
-row_written : (n : ℕ) → 1 ≤ n → (i : Item (List Content)) (a : Across) (bits mid : List Bool) → IsSpec i.spec → IsSaidRow n i a → packed_field n i.spec bits ≡ Ok (found i.content mid) → pack_across i.spec a ≡ Ok (written i.content (packed_laid i))
+row_written : (n : ℕ) → 1 ≤ n → (i : Item (List Content)) (a : ItemRow) (bits mid : List Bool) → IsSpec i.spec → IsSaidRow n i a → packed_field n i.spec bits ≡ Ok (found i.content mid) → pack_across i.spec a ≡ Ok (written_item i.content (packed_laid i))
 row_written n some i a bits mid good row e =
-    let within : (a.place + 1) * length a.cells ≤ most_values = subst (λ m. (a.place + 1) * m ≤ most_values) (sym row.total) row.few in
-    ap (λ b. if b then Err (at_line (first_line a.cells) (too_many_values i.spec.fxy)) else (contents_here i.spec a.cells >>= λ xs. packed_to xs a.cells (packing i.spec xs))) (past most_values ((a.place + 1) * length a.cells) within)
+    let within : (a.place + 1) * length a.cells ≤ max_values = subst (λ m. (a.place + 1) * m ≤ max_values) (sym row.total) row.few in
+    ap (λ b. if b then Err (at_line (first_line a.cells) (too_many_values i.spec.fxy)) else (contents_here i.spec a.cells >>= λ xs. packed_to xs a.cells (packing i.spec xs))) (past max_values ((a.place + 1) * length a.cells) within)
     ∙ ap (λ r. r >>= λ xs. packed_to xs a.cells (packing i.spec xs)) row.contents
     ∙ by i.content e
   where
-    by : (cs : List Content) → packed_field n i.spec bits ≡ Ok (found cs mid) → packed_to cs a.cells (packing i.spec cs) ≡ Ok (written cs (bits_or_none (packing i.spec cs)))
+    by : (cs : List Content) → packed_field n i.spec bits ≡ Ok (found cs mid) → packed_to cs a.cells (packing i.spec cs) ≡ Ok (written_item cs (bits_or_none (packing i.spec cs)))
     by [] q = absurd (omega (arith, some, packed_count n i.spec good [] bits mid q))
     by (c ∷ cs) q =
         let p = packed_again n i.spec good c cs bits mid q in
-        ap (packed_to (c ∷ cs) a.cells) p.2.is ∙ ap (λ r. Ok (written (c ∷ cs) (bits_or_none r))) (sym p.2.is)
+        ap (packed_to (c ∷ cs) a.cells) p.2.is ∙ ap (λ r. Ok (written_item (c ∷ cs) (bits_or_none r))) (sym p.2.is)
 
 all_packed_laid : (n : ℕ) (course : Course) (items : List (Item (List Content))) (drafts : List Subset) (bits behind : List Bool) → length drafts ≡ n → AllSpecs items → AreSaidFrom 0 items drafts → IsPackedReading n course items bits behind → packed_data course drafts ≡ Ok (flat_map packed_laid items)
 all_packed_laid zero course items [] bits behind count specs said h = ap (λ xs. Ok (flat_map packed_laid xs)) (sym h.0)

@@ -1,26 +1,26 @@
 -- Where no reference is minus zero, a plain field is written with the bits that were read.
 use Rattle.std.proofs.Common.{◌≡◌, ℕ, zero, suc, ◌-◌, ◌/◌, ◌%◌, ◌^◌, ◌≤◌, ◌&&◌, Bool, true, false, List, [], ◌∷◌, length, replicate, refl, sym, ◌∙◌, ap, arith, pos, neg_ℤ, nat_abs}
 use Rattle.std.specs.Prelude.{◌==◌, if◌then◌else◌}
-use Rattle.bufr_bits.specs.Bits.{bits_in, number_of, all_set}
+use Rattle.bufr_bits.specs.Bits.{bits_in, number_of, are_all_ones}
 use Rattle.bufr_bits.proofs.ScaledLemmas.{and_first, and_second}
 use Rattle.bufr_tables.specs.declared.kind.Kind.{Kind}
 use Rattle.bufr_tables.specs.declared.kind.Kind.TheVariants as kind
 use Rattle.bufr_walk.specs.declared.spec.Role.{Role}
 use Rattle.bufr_walk.specs.declared.spec.Role.TheVariants as role
-use Rattle.bufr_walk.specs.Asked.{Asked, IsSpec, HasWidth}
+use Rattle.bufr_walk.specs.FieldSpec.{FieldSpec, IsSpec, HasWidth}
 use Rattle.bufr_walk.specs.Content.{missing, signed_by, said_by, content_by, content_in, sign_bit, bits_for}
 use Rattle.bufr_fill.specs.MinusZero.{IsMinusZero}
 use Rattle.bufr_fill.proofs.FieldBits.{bits_again, octet_bits_again}
 
-ones_are : (bits : List Bool) → all_set bits ≡ true → replicate (length bits) true ≡ bits
+ones_are : (bits : List Bool) → are_all_ones bits ≡ true → replicate (length bits) true ≡ bits
 ones_are [] h = refl
-ones_are (b ∷ bits) h = ap (λ x. x ∷ replicate (length bits) true) (sym (and_first b (all_set bits) h)) ∙ ap (λ xs. b ∷ xs) (ones_are bits (and_second b (all_set bits) h))
+ones_are (b ∷ bits) h = ap (λ x. x ∷ replicate (length bits) true) (sym (and_first b (are_all_ones bits) h)) ∙ ap (λ xs. b ∷ xs) (ones_are bits (and_second b (are_all_ones bits) h))
 
 number_same : (w : ℕ) (bits : List Bool) → length bits ≡ w → bits_in (number_of bits) w ≡ bits
 number_same w bits e = ap (bits_in (number_of bits)) (sym e) ∙ bits_again bits
 
-kind_same : (b m : Bool) (k : Kind) (w : ℕ) (bits : List Bool) → length bits ≡ w → HasWidth k w → (all_set bits && m) ≡ b → bits_for w (if b then missing else said_by k w bits) ≡ bits
-kind_same true m k w bits l h e = ap (λ n. replicate n true) (sym l) ∙ ones_are bits (and_first (all_set bits) m e)
+kind_same : (b m : Bool) (k : Kind) (w : ℕ) (bits : List Bool) → length bits ≡ w → HasWidth k w → (are_all_ones bits && m) ≡ b → bits_for w (if b then missing else said_by k w bits) ≡ bits
+kind_same true m k w bits l h e = ap (λ n. replicate n true) (sym l) ∙ ones_are bits (and_first (are_all_ones bits) m e)
 kind_same false m kind.Character w bits l h e = octet_bits_again (w / 8) bits (omega (arith, l, h.2))
 kind_same false m kind.Coded w bits l h e = number_same w bits l
 kind_same false m kind.Numeric w bits l h e = number_same w bits l
@@ -55,11 +55,11 @@ least kind.Character w h = omega (arith, h.0)
 least kind.Coded w h = h.0
 least kind.Numeric w h = h.0
 
-role_same : (r : Role) (spec : Asked) → IsSpec spec → (bits : List Bool) → length bits ≡ spec.width → (IsMinusZero r bits → ⊥) → bits_for spec.width (content_by r spec bits) ≡ bits
-role_same role.Element spec good bits l h = kind_same (all_set bits && spec.may_be_missing) spec.may_be_missing spec.kind spec.width bits l good.width refl
-role_same role.Inserted spec good bits l h = kind_same (all_set bits && spec.may_be_missing) spec.may_be_missing spec.kind spec.width bits l good.width refl
-role_same role.Factor spec good bits l h = kind_same (all_set bits && spec.may_be_missing) spec.may_be_missing spec.kind spec.width bits l good.width refl
+role_same : (r : Role) (spec : FieldSpec) → IsSpec spec → (bits : List Bool) → length bits ≡ spec.width → (IsMinusZero r bits → ⊥) → bits_for spec.width (content_by r spec bits) ≡ bits
+role_same role.Element spec good bits l h = kind_same (are_all_ones bits && spec.may_be_missing) spec.may_be_missing spec.kind spec.width bits l good.width refl
+role_same role.Inserted spec good bits l h = kind_same (are_all_ones bits && spec.may_be_missing) spec.may_be_missing spec.kind spec.width bits l good.width refl
+role_same role.Factor spec good bits l h = kind_same (are_all_ones bits && spec.may_be_missing) spec.may_be_missing spec.kind spec.width bits l good.width refl
 role_same role.Reference spec good bits l h = signed_same bits spec.width l (least spec.kind spec.width good.width) h
 
-pub same_bits : (spec : Asked) → IsSpec spec → (bits : List Bool) → length bits ≡ spec.width → (IsMinusZero spec.role bits → ⊥) → bits_for spec.width (content_in spec bits) ≡ bits
+pub same_bits : (spec : FieldSpec) → IsSpec spec → (bits : List Bool) → length bits ≡ spec.width → (IsMinusZero spec.role bits → ⊥) → bits_for spec.width (content_in spec bits) ≡ bits
 same_bits spec good bits l h = role_same spec.role spec good bits l h

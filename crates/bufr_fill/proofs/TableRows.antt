@@ -5,7 +5,7 @@ use Rattle.std.specs.Prelude.{if◌then◌else◌, unsigned_abs, nat_le, nat_lt}
 use Rattle.std.proofs.lemmas.Bool.Decides.{nat_tests}
 use Rattle.std.proofs.lemmas.Option.{option_and_then_some}
 use Rattle.bufr_tables.specs.Kind.{kind_of}
-use Rattle.bufr_tables.specs.Number.{i64_of, fits_i64, fitting, integer_of}
+use Rattle.bufr_tables.specs.Number.{i64_of, fits_i64, if_i64, integer_of}
 use Rattle.bufr_tables.specs.Records.{Record, field_of}
 use Rattle.bufr_tables.specs.Steps.{only_if}
 use Rattle.bufr_tables.specs.declared.kind.Kind.{Kind}
@@ -26,8 +26,8 @@ within : (z : ℤ) → fits_i64 z ≡ true → unsigned_abs z ≤ 2 ^ 63
 within (pos n) h = omega (arith, lt_from n (2 ^ 63) h)
 within (negsuc n) h = omega (arith, lt_from n (2 ^ 63) h)
 
-fitted : (z r : ℤ) → fitting z ≡ Some r → unsigned_abs r ≤ 2 ^ 63
-unfolding fitting
+fitted : (z r : ℤ) → if_i64 z ≡ Some r → unsigned_abs r ≤ 2 ^ 63
+unfolding if_i64
 fitted z r is = by (fits_i64 z) refl is
   where
     by : (b : Bool) → fits_i64 z ≡ b → (if b then Some z else None) ≡ Some r → unsigned_abs r ≤ 2 ^ 63

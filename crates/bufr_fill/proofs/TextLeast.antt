@@ -6,13 +6,13 @@ use Rattle.std.proofs.lemmas.Bool.Decides.{nat_tests}
 use Rattle.bufr_tables.specs.declared.kind.Kind.{Kind}
 use Rattle.bufr_tables.specs.declared.kind.Kind.TheVariants as kind
 use Rattle.bufr_tables.specs.TableB.{is_character}
-use Rattle.bufr_fill.specs.declared.draw.Drawn.{Drawn}
-use Rattle.bufr_fill.specs.declared.draw.Drawn.TheVariants as drawn
-use Rattle.bufr_walk.specs.Asked.{Asked}
+use Rattle.bufr_fill.specs.declared.field_value.FieldContent.{FieldContent}
+use Rattle.bufr_fill.specs.declared.field_value.FieldContent.TheVariants as drawn
+use Rattle.bufr_walk.specs.FieldSpec.{FieldSpec}
 use Rattle.bufr_walk.specs.Content.{Content}
 use Rattle.bufr_walk.specs.PlainField.{increment}
-use Rattle.bufr_fill.specs.Drawn.{spaced, HasRoom}
-use Rattle.bufr_fill.specs.Gathered.{AllDrawn, contents_drawn}
+use Rattle.bufr_fill.specs.FieldContent.{spaced, HasRoom}
+use Rattle.bufr_fill.specs.PackedRows.{AllDrawn, contents_drawn}
 use Rattle.bufr_fill.specs.Packing.{same_octets, gives_again, has_octets, first_from, least_k, octet_bits, packed_bits, packed_texts, packed_by}
 use Rattle.bufr_fill.specs.Packs.{trimmed, need, most_need}
 use Rattle.bufr_fill.proofs.NumberSteps.{first_same}
@@ -233,7 +233,7 @@ need_room count os h = by (full (take (trimmed os) os)) refl
     by true e = less (omega (arith, trimmed_within os, h.0)) (λ q. none q e)
     by false e = omega (arith, trimmed_within os, h.0)
 
-pub most_room : (spec : Asked) (ds : List Drawn) → 1 ≤ spec.width / 8 → AllDrawn spec ds → most_need ds ≤ spec.width / 8
+pub most_room : (spec : FieldSpec) (ds : List FieldContent) → 1 ≤ spec.width / 8 → AllDrawn spec ds → most_need ds ≤ spec.width / 8
 most_room spec [] some all = some
 most_room spec (drawn.Number n ∷ ds) some all = omega (arith, some, most_room spec ds some all.1)
 most_room spec (drawn.Text t ∷ ds) some all = omega (arith, need_room (spec.width / 8) t.now all.0.2, most_room spec ds some all.1)
@@ -252,7 +252,7 @@ max_le a b k = by (nat_le a k) (nat_le b k) refl refl
 one_le : (s k : ℕ) → 1 ≤ k → nat_le s k ≡ nat_le (max 1 s) k
 one_le s k h = sym (max_le 1 s k ∙ ap (λ b. b && nat_le s k) (le_test 1 k h))
 
-texts_pass : (spec : Asked) (ds : List Drawn) (k : ℕ) → 1 ≤ k → AllDrawn spec ds → list_all (has_octets k) (contents_drawn (spec.width / 8) ds) ≡ nat_le (most_need ds) k
+texts_pass : (spec : FieldSpec) (ds : List FieldContent) (k : ℕ) → 1 ≤ k → AllDrawn spec ds → list_all (has_octets k) (contents_drawn (spec.width / 8) ds) ≡ nat_le (most_need ds) k
 texts_pass spec [] k h all = sym (le_test 1 k h)
 texts_pass spec (drawn.Number n ∷ ds) k h all = texts_pass spec ds k h all.1 ∙ one_le (most_need ds) k h
 texts_pass spec (drawn.Text t ∷ ds) k h all =
@@ -272,11 +272,11 @@ first_at m (suc fuel) from h = by (nat_le m from) refl (λ g. first_at m fuel (f
 least_of : (p q : ℕ → Bool) (fuel m : ℕ) → ((k : ℕ) → 1 ≤ k → p k ≡ q k) → (first_from q fuel 1 ≡ min m (1 + fuel)) → first_from p fuel 1 ≡ min m (1 + fuel)
 least_of p q fuel m h e = first_same p q fuel 1 h ∙ e
 
-pub texts_least : (spec : Asked) (ds : List Drawn) → 1 ≤ most_need ds → AllDrawn spec ds → least_k has_octets (contents_drawn (spec.width / 8) ds) ≡ min (most_need ds) 64
+pub texts_least : (spec : FieldSpec) (ds : List FieldContent) → 1 ≤ most_need ds → AllDrawn spec ds → least_k has_octets (contents_drawn (spec.width / 8) ds) ≡ min (most_need ds) 64
 texts_least spec ds some all =
     least_of (λ k. list_all (has_octets k) (contents_drawn (spec.width / 8) ds)) (λ k. nat_le (most_need ds) k) 63 (most_need ds) (λ k h. texts_pass spec ds k h all) (first_at (most_need ds) 63 1 some)
 
-kind_texts : (kd : Kind) (spec : Asked) (cs : List Content) → is_character kd ≡ true → packed_by kd spec cs ≡ packed_texts spec.width (least_k has_octets cs) cs
+kind_texts : (kd : Kind) (spec : FieldSpec) (cs : List Content) → is_character kd ≡ true → packed_by kd spec cs ≡ packed_texts spec.width (least_k has_octets cs) cs
 kind_texts kind.Character spec cs h = refl
 kind_texts kind.Coded spec cs h = absurd cc
 kind_texts kind.Numeric spec cs h = absurd cc
@@ -284,14 +284,14 @@ kind_texts kind.Numeric spec cs h = absurd cc
 texts_by : (w k : ℕ) (cs : List Content) (b : Bool) → nat_le k 63 ≡ b → packed_texts w k cs ≡ (if b then Ok (packed_bits (replicate w false) k (flat_map (octet_bits k) cs)) else Err increment)
 texts_by w k cs b e = ap (λ t. if t then Ok (packed_bits (replicate w false) k (flat_map (octet_bits k) cs)) else Err increment) e
 
-pub texts_packed : (spec : Asked) (ds : List Drawn) (k : ℕ) → is_character spec.kind ≡ true → 1 ≤ most_need ds → AllDrawn spec ds → k ≡ most_need ds → k ≤ 63
+pub texts_packed : (spec : FieldSpec) (ds : List FieldContent) (k : ℕ) → is_character spec.kind ≡ true → 1 ≤ most_need ds → AllDrawn spec ds → k ≡ most_need ds → k ≤ 63
     → packed_by spec.kind spec (contents_drawn (spec.width / 8) ds) ≡ Ok (packed_bits (replicate spec.width false) k (flat_map (octet_bits k) (contents_drawn (spec.width / 8) ds)))
 texts_packed spec ds k char some all is few =
     let least : least_k has_octets (contents_drawn (spec.width / 8) ds) ≡ k = texts_least spec ds some all ∙ (let q : min (most_need ds) 64 ≡ k = omega (arith, is, few) in q) in
     kind_texts spec.kind spec (contents_drawn (spec.width / 8) ds) char ∙ ap (λ n. packed_texts spec.width n (contents_drawn (spec.width / 8) ds)) least
     ∙ texts_by spec.width k (contents_drawn (spec.width / 8) ds) true (le_test k 63 few)
 
-pub texts_apart : (spec : Asked) (ds : List Drawn) (k : ℕ) → is_character spec.kind ≡ true → 1 ≤ most_need ds → AllDrawn spec ds → k ≡ most_need ds → 63 < k → packed_by spec.kind spec (contents_drawn (spec.width / 8) ds) ≡ Err increment
+pub texts_apart : (spec : FieldSpec) (ds : List FieldContent) (k : ℕ) → is_character spec.kind ≡ true → 1 ≤ most_need ds → AllDrawn spec ds → k ≡ most_need ds → 63 < k → packed_by spec.kind spec (contents_drawn (spec.width / 8) ds) ≡ Err increment
 texts_apart spec ds k char some all is many =
     let least : least_k has_octets (contents_drawn (spec.width / 8) ds) ≡ 64 = texts_least spec ds some all ∙ (let q : min (most_need ds) 64 ≡ 64 = omega (arith, is, many) in q) in
     kind_texts spec.kind spec (contents_drawn (spec.width / 8) ds) char ∙ ap (λ n. packed_texts spec.width n (contents_drawn (spec.width / 8) ds)) least

@@ -2,7 +2,7 @@
 use Rattle.std.proofs.Common.{◌≡◌, ℕ, zero, suc, ◌+◌, ◌-◌, ◌<◌, ◌≤◌, ◌&&◌, Bool, true, false, List, [], ◌∷◌, ◌++◌, length, take, drop, get_or, replicate, refl, sym, ◌∙◌, ap, arith}
 use Rattle.std.specs.Prelude.{◌==◌, if◌then◌else◌}
 use Rattle.std.proofs.lemmas.Bool.Decides.{nat_tests}
-use Rattle.bufr_fill.specs.Drawn.{spaced}
+use Rattle.bufr_fill.specs.FieldContent.{spaced}
 use Rattle.bufr_fill.specs.Packing.{same_octets}
 use Rattle.bufr_fill.specs.Packs.{trimmed, octet_in}
 

@@ -2,21 +2,21 @@
 use Rattle.std.proofs.Common.{◌≡◌, Bool, List, [], ◌∷◌, ◌++◌, Result, Ok, Err, refl, sym, ◌∙◌, ap, append_assoc}
 use Rattle.std.proofs.lemmas.List.{append-nil}
 use Rattle.bufr_walk.specs.declared.spec.Taken.{Taken}
-use Rattle.bufr_walk.specs.Asked.{Asked}
+use Rattle.bufr_walk.specs.FieldSpec.{FieldSpec}
 use Rattle.bufr_walk.specs.Course.{Course, take_next}
 use Rattle.bufr_fill.specs.Filling.{Filler, fill, fill_one, fill_none, filled, and_behind}
 use Rattle.bufr_fill.proofs.Filled.{HasFilled, IsUnfilled}
-use Rattle.bufr_walk.specs.Taking.{Turn, Takes, course_after}
-use Rattle.bufr_walk.specs.Walked.{told_by}
+use Rattle.bufr_walk.specs.Taking.{TakenField, Takes, course_after}
+use Rattle.bufr_walk.specs.Walked.{answers_of}
 
 -- what comes after the items of a walk
-pub after_told : (course : Course) (items : List Turn) → course_after course items [] ≡ course (told_by items)
+pub after_told : (course : Course) (items : List TakenField) → course_after course items [] ≡ course (answers_of items)
 after_told course [] = refl
 after_told course (i ∷ items) = after_told (λ told. course (i.taken ∷ told)) items
 
-module _ {D C E S : Type 0} (filler : Filler D C E) (left : S → List D) (out : S → List Bool) (takes : S → Asked → Taken → S → Type 0)
-    (fills : (s : S) (spec : Asked) (t : Taken) (s' : S) → takes s spec t s' → HasFilled filler (left s) (out s) spec t (left s') (out s')) where
-  one : (course : Course) (s : S) (spec : Asked) (t : Taken) (mid : S) → (course []).next ≡ take_next spec → (h : HasFilled filler (left s) (out s) spec t (left mid) (out mid)) → fill filler course (left s) ≡ and_behind filler h.item.bits (fill filler (λ told. course (t ∷ told)) (left mid))
+module _ {D C E S : Type 0} (filler : Filler D C E) (left : S → List D) (out : S → List Bool) (takes : S → FieldSpec → Taken → S → Type 0)
+    (fills : (s : S) (spec : FieldSpec) (t : Taken) (s' : S) → takes s spec t s' → HasFilled filler (left s) (out s) spec t (left s') (out s')) where
+  one : (course : Course) (s : S) (spec : FieldSpec) (t : Taken) (mid : S) → (course []).next ≡ take_next spec → (h : HasFilled filler (left s) (out s) spec t (left mid) (out mid)) → fill filler course (left s) ≡ and_behind filler h.item.bits (fill filler (λ told. course (t ∷ told)) (left mid))
   one course s spec t mid next h =
       ap (fill filler course) h.here
       ∙ ap (λ n. fill_one filler n h.draft (λ x. fill filler (λ told. course (x ∷ told)) (left mid))) next
@@ -33,7 +33,7 @@ module _ {D C E S : Type 0} (filler : Filler D C E) (left : S → List D) (out :
 
   -- what the definition makes of the drafts is what the walk wrote, and what the definition makes
   -- of those that are left
-  pub walk_fills : (course : Course) (s : S) (items : List Turn) (s' : S) → Takes takes course s items s' → (bits : List Bool) × (out s' ≡ out s ++ bits) × (fill filler course (left s) ≡ and_behind filler bits (fill filler (course_after course items) (left s')))
+  pub walk_fills : (course : Course) (s : S) (items : List TakenField) (s' : S) → Takes takes course s items s' → (bits : List Bool) × (out s' ≡ out s ++ bits) × (fill filler course (left s) ≡ and_behind filler bits (fill filler (course_after course items) (left s')))
   walk_fills course s [] s' h = ([], ap out h ∙ sym (append-nil (out s)), none (fill filler course (left s)) ∙ ap (λ x. and_behind filler [] (fill filler course (left x))) (sym h))
   walk_fills course s (i ∷ items) s' h =
       let f = fills s i.spec i.taken h.0 h.2 in
@@ -44,7 +44,7 @@ module _ {D C E S : Type 0} (filler : Filler D C E) (left : S → List D) (out :
       )
 
   -- a field that could not be filled is the definition's fault
-  pub unfilled : (course : Course) (ds : List D) (spec : Asked) (e : E) → (course []).next ≡ take_next spec → IsUnfilled filler ds spec e → fill filler course ds ≡ Err e
+  pub unfilled : (course : Course) (ds : List D) (spec : FieldSpec) (e : E) → (course []).next ≡ take_next spec → IsUnfilled filler ds spec e → fill filler course ds ≡ Err e
   unfilled course [] spec e next h = ap (fill_none filler) next ∙ ap Err (sym h)
   unfilled course (d ∷ ds) spec e next h =
       ap (λ n. fill_one filler n d (λ t. fill filler (λ told. course (t ∷ told)) ds)) next

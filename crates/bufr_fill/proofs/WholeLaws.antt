@@ -3,7 +3,7 @@ use Rattle.std.proofs.Common.{◌≡◌, ℕ, zero, suc, Bool, List, [], ◌∷�
 use Rattle.std.proofs.lemmas.List.{length-append}
 use Rattle.bufr_walk.specs.Course.{Course, next_item}
 use Rattle.bufr_walk.specs.Content.{Content}
-use Rattle.bufr_walk.specs.Reading.{Item, plain, packed, ReadsSubsets, Reads, after, IsPackedReading}
+use Rattle.bufr_walk.specs.Reading.{Item, plain, packed, ReadsSubsets, ReadsItems, after, IsPackedReading}
 use Rattle.bufr_fill.specs.DraftContent.{plain_filler}
 use Rattle.bufr_fill.specs.Entries.{Subset}
 use Rattle.bufr_fill.specs.Encoding.{rows, longest, plain_data, packed_filler, are_many, ◌>>=◌}
@@ -33,13 +33,13 @@ plain_again course (items ∷ subsets) (s ∷ ss) bits behind specs dumped h =
       is = ap (λ r. r >>= λ x. plain_data course ss >>= λ y. Ok (x ++ y)) first.fills ∙ ap (λ r. r >>= λ y. Ok (first.out ++ y)) rest.is;
       again = λ more. (
         rest.out ++ more,
-        (subst (λ bits'. Reads plain course items bits' (rest.out ++ more)) (sym (append_assoc first.out rest.out more)) (first.again (rest.out ++ more)), h.1.1),
+        (subst (λ bits'. ReadsItems plain course items bits' (rest.out ++ more)) (sym (append_assoc first.out rest.out more)) (first.again (rest.out ++ more)), h.1.1),
         rest.again more,
       );
       short = omega (arith, first.short, rest.short, length-append first.out rest.out);
     }
 
-pub have_contents : (n : ℕ) (course : Course) (items : List (Item (List Content))) (bits behind : List Bool) → AllSpecs items → Reads (packed n) course items bits behind → HaveContents n items
+pub have_contents : (n : ℕ) (course : Course) (items : List (Item (List Content))) (bits behind : List Bool) → AllSpecs items → ReadsItems (packed n) course items bits behind → HaveContents n items
 have_contents n course [] bits behind specs h = tt
 have_contents n course (i ∷ items) bits behind specs h = (packed_count n i.spec specs.0 i.content bits h.0 h.2, have_contents n (after (packed n) course i) items h.0 behind specs.1 h.3)
 

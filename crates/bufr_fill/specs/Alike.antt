@@ -1,14 +1,14 @@
 -- Drafts that say the same, however they are spelled. (a choice of this project)
 -- Cited by public contracts.
 use Rattle.std.specs.Prelude.{◌≡◌, List, [], ◌∷◌}
-use Rattle.bufr_walk.specs.Asked.{Asked}
+use Rattle.bufr_walk.specs.FieldSpec.{FieldSpec}
 use Rattle.bufr_fill.specs.Draft.{Draft}
 use Rattle.bufr_fill.specs.DraftContent.{content_of}
 use Rattle.bufr_fill.specs.Entries.{Subset}
 
 -- at each field they are the same content, or the same fault
 abbrev pub IsAlike : Draft → Draft → Type 0
-IsAlike a b = (spec : Asked) → content_of spec a ≡ content_of spec b
+IsAlike a b = (spec : FieldSpec) → content_of spec a ≡ content_of spec b
 
 abbrev pub AreAlike : List Draft → List Draft → Type 0
 AreAlike [] [] = Unit {0}

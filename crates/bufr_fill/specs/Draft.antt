@@ -3,17 +3,17 @@
 use Rattle.std.specs.Prelude.{ℕ, List}
 
 -- what stands behind the descriptor of an item
-pub data Form : Type 0 where
-  number_token : (digits : List ℕ) → Form
-  text_form : (octets : List ℕ) → Form
-  missing_form : Form
-  reference_token : (digits : List ℕ) → Form
+pub data DraftValue : Type 0 where
+  number_token : (digits : List ℕ) → DraftValue
+  text_form : (octets : List ℕ) → DraftValue
+  missing_form : DraftValue
+  reference_token : (digits : List ℕ) → DraftValue
 
 -- an item, and the number of its line
 pub record Draft : Type 0 where
   pub line : ℕ
   pub fxy : ℕ
-  pub form : Form
+  pub form : DraftValue
 
-abbrev pub draft : (line fxy : ℕ) → Form → Draft
+abbrev pub draft : (line fxy : ℕ) → DraftValue → Draft
 draft line fxy form = record { line = line; fxy = fxy; form = form }

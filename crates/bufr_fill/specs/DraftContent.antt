@@ -8,14 +8,14 @@ use Rattle.bufr_bits.specs.DecimalValue.{decimal_value_of}
 use Rattle.bufr_bits.specs.declared.decimal.NumberFault.{NumberFault}
 use Rattle.bufr_bits.specs.declared.decimal.NumberFault.TheVariants.{Syntax, Inexact, Large}
 use Rattle.bufr_tables.specs.TableB.{is_character}
-use Rattle.bufr_walk.specs.Asked.{Asked, is_reference}
-use Rattle.bufr_walk.specs.Content.{Content, number, text, missing, reference, bits_for, told}
-use Rattle.bufr_fill.specs.Draft.{Form, number_token, text_form, missing_form, reference_token, Draft}
-use Rattle.bufr_fill.specs.Fault.{Fault, wrong_descriptor, wrong_number, out_of_range, text_long, missing_forbidden, item_too_many, walk_refused, no_count, FaultAt, at_line}
-use Rattle.bufr_fill.specs.Packing.{top}
-use Rattle.bufr_fill.specs.Filling.{Written, written, Filler}
+use Rattle.bufr_walk.specs.FieldSpec.{FieldSpec, is_reference}
+use Rattle.bufr_walk.specs.Content.{Content, number, text, missing, reference, bits_for, answer_of}
+use Rattle.bufr_fill.specs.Draft.{DraftValue, number_token, text_form, missing_form, reference_token, Draft}
+use Rattle.bufr_fill.specs.Fault.{DraftFaultKind, wrong_descriptor, wrong_number, out_of_range, text_long, missing_forbidden, item_too_many, walk_refused, no_count, FaultAt, at_line}
+use Rattle.bufr_fill.specs.Packing.{raw_limit}
+use Rattle.bufr_fill.specs.Filling.{WrittenItem, written_item, Filler}
 
-abbrev pub is_marked : Form → Bool
+abbrev pub is_marked : DraftValue → Bool
 is_marked (number_token digits) = false
 is_marked (text_form octets) = false
 is_marked missing_form = false
@@ -23,40 +23,40 @@ is_marked (reference_token digits) = true
 
 -- a decimal that is none, or not whole at its scale, is no number; one past the greatest is out of
 -- range
-abbrev pub number_fault : NumberFault → Fault
+abbrev pub number_fault : NumberFault → DraftFaultKind
 number_fault Syntax = wrong_number
 number_fault Inexact = wrong_number
 number_fault Large = out_of_range
 
 -- a number that fits its bits and does not read as missing
-abbrev pub raw_within : Bool → ℕ → ℤ → Result Content Fault
+abbrev pub raw_within : Bool → ℕ → ℤ → Result Content DraftFaultKind
 raw_within m width (pos raw) =
-    if nat_lt raw (top m width) then Ok (number raw) else Err out_of_range
+    if nat_lt raw (raw_limit m width) then Ok (number raw) else Err out_of_range
 raw_within m width (negsuc n) = Err out_of_range
 
 -- the number in the bits is the value without the reference (FM 94: Regulation 94.5, Table B)
-abbrev pub raw_of : Asked → Result ℤ NumberFault → Result Content Fault
+abbrev pub raw_of : FieldSpec → Result ℤ NumberFault → Result Content DraftFaultKind
 raw_of spec (Ok value) = raw_within spec.may_be_missing spec.width (value -ℤ spec.reference)
 raw_of spec (Err why) = Err (number_fault why)
 
 -- a reference whose magnitude fits the bits behind its sign
-abbrev pub reference_of : Asked → Result ℤ NumberFault → Result Content Fault
+abbrev pub reference_of : FieldSpec → Result ℤ NumberFault → Result Content DraftFaultKind
 reference_of spec (Ok value) =
     if nat_lt (nat_abs value) (2 ^ (spec.width - 1)) then Ok (reference value) else Err out_of_range
 reference_of spec (Err why) = Err (number_fault why)
 
 -- a text with spaces up to its length, which does not read as missing
-abbrev pub text_within : ℕ → List ℕ → Result Content Fault
+abbrev pub text_within : ℕ → List ℕ → Result Content DraftFaultKind
 text_within count octets =
     if nat_lt count (length octets) then Err text_long
     else let whole = octets ++ replicate (count - length octets) 32 in
     if list_all (λ octet. octet == 255) whole then Err out_of_range else Ok (text whole)
 
-abbrev pub missing_of : Bool → Result Content Fault
+abbrev pub missing_of : Bool → Result Content DraftFaultKind
 missing_of m = if m then Ok missing else Err missing_forbidden
 
 -- a form as content of a field; one of another kind is no number
-abbrev pub content_by_form : Form → Asked → Result Content Fault
+abbrev pub content_by_form : DraftValue → FieldSpec → Result Content DraftFaultKind
 content_by_form (number_token digits) spec =
     if is_character spec.kind then Err wrong_number
     else raw_of spec (decimal_value_of digits spec.scale)
@@ -66,36 +66,38 @@ content_by_form missing_form spec = missing_of spec.may_be_missing
 content_by_form (reference_token digits) spec = reference_of spec (decimal_value_of digits (pos 0))
 
 -- an item is that of a field
-abbrev pub is_of : Asked → Draft → Bool
+abbrev pub is_of : FieldSpec → Draft → Bool
 is_of spec d =
     (d.fxy == spec.fxy)
     && (if is_reference spec.role then is_marked d.form else not (is_marked d.form))
 
-abbrev pub wrong_for : Asked → Fault
+abbrev pub wrong_for : FieldSpec → DraftFaultKind
 wrong_for spec = wrong_descriptor spec.fxy (is_reference spec.role)
 
 -- what an item is as the content of a field: another field's item first, then another kind, then
 -- what does not fit
-abbrev pub content_of : Asked → Draft → Result Content Fault
+abbrev pub content_of : FieldSpec → Draft → Result Content DraftFaultKind
 content_of spec d = if is_of spec d then content_by_form d.form spec else Err (wrong_for spec)
 
 -- the form of a content, as a dump writes it
-abbrev pub form_of : Asked → Content → Form
-form_of spec (number raw) = number_token (decimal_text_of (pos raw +ℤ spec.reference) spec.scale)
-form_of spec (text octets) = text_form octets
-form_of spec missing = missing_form
-form_of spec (reference value) = reference_token (decimal_text_of value (pos 0))
+abbrev pub draft_value_of : FieldSpec → Content → DraftValue
+draft_value_of spec (number raw) = number_token
+    (decimal_text_of (pos raw +ℤ spec.reference) spec.scale)
+draft_value_of spec (text octets) = text_form octets
+draft_value_of spec missing = missing_form
+draft_value_of spec (reference value) = reference_token (decimal_text_of value (pos 0))
 
 -- a content and its bits, in data that are not compressed
-abbrev pub plainly : ℕ → Asked → Result Content Fault → Result (Written Content) FaultAt
-plainly line spec (Ok c) = Ok (written c (bits_for spec.width c))
+abbrev pub plainly : ℕ → FieldSpec → Result Content DraftFaultKind
+    → Result (WrittenItem Content) FaultAt
+plainly line spec (Ok c) = Ok (written_item c (bits_for spec.width c))
 plainly line spec (Err why) = Err (at_line line why)
 
 -- items of one subset, whose end stands on a line
 abbrev pub plain_filler : (end_line : ℕ) → Filler Draft Content FaultAt
 plain_filler end_line = record {
   fills = λ spec d. plainly d.line spec (content_of spec d);
-  tells = told;
+  tells = answer_of;
   none_left = λ spec. at_line end_line (wrong_for spec);
   left_over = λ d. at_line d.line item_too_many;
   refused_at = λ d why. at_line d.line (walk_refused why);

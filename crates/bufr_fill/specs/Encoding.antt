@@ -2,17 +2,17 @@
 -- (WMO-No. 306, Volume I.2, FM 94: section 4; the order of the faults is a choice of this project).
 -- Cited by public contracts.
 use Rattle.std.specs.Prelude.{ℕ, zero, suc, ◌+◌, ◌*◌, nat_lt, max, Bool, if◌then◌else◌, List, [], ◌∷◌, ◌++◌, length, slice_get, Option, Some, None, Result, Ok, Err}
-use Rattle.bufr_walk.specs.Asked.{Asked}
+use Rattle.bufr_walk.specs.FieldSpec.{FieldSpec}
 use Rattle.bufr_walk.specs.Course.{Course}
 use Rattle.bufr_walk.specs.Content.{Content}
-use Rattle.bufr_walk.specs.Reading.{most_values}
+use Rattle.bufr_walk.specs.Reading.{max_values}
 use Rattle.bufr_walk.specs.PlainField.{FieldFault, unequal_factor}
 use Rattle.bufr_walk.specs.PackedField.{told_first}
 use Rattle.bufr_fill.specs.Packing.{packing, same}
-use Rattle.bufr_fill.specs.Filling.{Written, written, Filler, fill}
+use Rattle.bufr_fill.specs.Filling.{WrittenItem, written_item, Filler, fill}
 use Rattle.bufr_fill.specs.Draft.{Draft}
 use Rattle.bufr_fill.specs.Entries.{Subset}
-use Rattle.bufr_fill.specs.Fault.{Fault, FaultAt, at_line, unequal_factors, uneven_increment, item_too_many, walk_refused, too_many_values, no_count}
+use Rattle.bufr_fill.specs.Fault.{DraftFaultKind, FaultAt, at_line, unequal_factors, uneven_increment, item_too_many, walk_refused, too_many_values, no_count}
 use Rattle.bufr_fill.specs.DraftContent.{content_of, wrong_for, plain_filler}
 
 -- one step after another, up to the first fault
@@ -32,65 +32,65 @@ plain_data course (s ∷ subsets) = do
 -- ---- compressed data
 
 -- what a subset gives at one place: its item, or the line that ends it
-pub record Cell : Type 0 where
+pub record RowCell : Type 0 where
   pub draft : Option Draft
   pub end_line : ℕ
 
 -- what all subsets give at one place, counted from 0
-pub record Across : Type 0 where
+pub record ItemRow : Type 0 where
   pub place : ℕ
-  pub cells : List Cell
+  pub cells : List RowCell
 
 abbrev pub line_in : Option Draft → ℕ → ℕ
 line_in None end_line = end_line
 line_in (Some d) end_line = d.line
 
-abbrev pub line_of : Cell → ℕ
-line_of c = line_in c.draft c.end_line
+abbrev pub cell_line : RowCell → ℕ
+cell_line c = line_in c.draft c.end_line
 
-abbrev pub cells_at : ℕ → List Subset → List Cell
+abbrev pub cells_at : ℕ → List Subset → List RowCell
 cells_at place [] = []
 cells_at place (s ∷ subsets) =
     record { draft = slice_get s.items place; end_line = s.end_line } ∷ cells_at place subsets
 
-abbrev pub across : ℕ → List Subset → Across
-across place subsets = record { place = place; cells = cells_at place subsets }
+abbrev pub item_row : ℕ → List Subset → ItemRow
+item_row place subsets = record { place = place; cells = cells_at place subsets }
 
 -- so many places, from one on
-abbrev pub rows : (count from : ℕ) → List Subset → List Across
+abbrev pub rows : (count from : ℕ) → List Subset → List ItemRow
 rows zero from subsets = []
-rows (suc n) from subsets = across from subsets ∷ rows n (from + 1) subsets
+rows (suc n) from subsets = item_row from subsets ∷ rows n (from + 1) subsets
 
 -- the items of the longest subset
 abbrev pub longest : List Subset → ℕ
 longest [] = 0
 longest (s ∷ subsets) = max (length s.items) (longest subsets)
 
-abbrev pub first_line : List Cell → ℕ
+abbrev pub first_line : List RowCell → ℕ
 first_line [] = 0
-first_line (c ∷ cs) = line_of c
+first_line (c ∷ cs) = cell_line c
 
 -- the line of the first item that is there
 abbrev pub there_or : Option Draft → ℕ → ℕ
 there_or None other = other
 there_or (Some d) other = d.line
 
-abbrev pub first_there : List Cell → ℕ
+abbrev pub first_there : List RowCell → ℕ
 first_there [] = 0
 first_there (c ∷ cs) = there_or c.draft (first_there cs)
 
 -- a content, or what is at fault with it and on which line
-abbrev pub placed : ℕ → Result Content Fault → Result Content FaultAt
-placed line (Ok c) = Ok c
-placed line (Err why) = Err (at_line line why)
+abbrev pub at_line_if_fault : ℕ → Result Content DraftFaultKind → Result Content FaultAt
+at_line_if_fault line (Ok c) = Ok c
+at_line_if_fault line (Err why) = Err (at_line line why)
 
 -- one subset's content
-abbrev pub content_here : Asked → Option Draft → (end_line : ℕ) → Result Content FaultAt
+abbrev pub content_here : FieldSpec → Option Draft → (end_line : ℕ) → Result Content FaultAt
 content_here spec None end_line = Err (at_line end_line (wrong_for spec))
-content_here spec (Some d) end_line = placed d.line (content_of spec d)
+content_here spec (Some d) end_line = at_line_if_fault d.line (content_of spec d)
 
 -- the contents of all subsets, in turn
-abbrev pub contents_here : Asked → List Cell → Result (List Content) FaultAt
+abbrev pub contents_here : FieldSpec → List RowCell → Result (List Content) FaultAt
 contents_here spec [] = Ok []
 contents_here spec (c ∷ cs) = do
   first ← content_here spec c.draft c.end_line
@@ -98,43 +98,44 @@ contents_here spec (c ∷ cs) = do
   Ok (first ∷ rest)
 
 -- the line of the first subset whose content is not the first one's
-abbrev pub first_unlike : Content → List Content → List Cell → ℕ
+abbrev pub first_unlike : Content → List Content → List RowCell → ℕ
 first_unlike c [] cells = 0
 first_unlike c (d ∷ ds) [] = 0
-first_unlike c (d ∷ ds) (cell ∷ cells) = if same c d then first_unlike c ds cells else line_of cell
+first_unlike c (d ∷ ds) (cell ∷ cells) = if same c d then first_unlike c ds cells
+    else cell_line cell
 
-abbrev pub unlike_line : List Content → List Cell → ℕ
+abbrev pub unlike_line : List Content → List RowCell → ℕ
 unlike_line [] cells = 0
 unlike_line (c ∷ cs) cells = first_unlike c (c ∷ cs) cells
 
-abbrev pub packing_fault : List Content → List Cell → FieldFault → FaultAt
+abbrev pub packing_fault : List Content → List RowCell → FieldFault → FaultAt
 packing_fault cs cells unequal_factor = at_line (unlike_line cs cells) unequal_factors
 packing_fault cs cells _ = at_line (first_line cells) uneven_increment
 
-abbrev pub packed_to : List Content → List Cell → Result (List Bool) FieldFault
-    → Result (Written (List Content)) FaultAt
-packed_to cs cells (Ok bits) = Ok (written cs bits)
+abbrev pub packed_to : List Content → List RowCell → Result (List Bool) FieldFault
+    → Result (WrittenItem (List Content)) FaultAt
+packed_to cs cells (Ok bits) = Ok (written_item cs bits)
 packed_to cs cells (Err why) = Err (packing_fault cs cells why)
 
 -- whether there are too many values with the item at a place
 abbrev pub are_many : (place subsets : ℕ) → Bool
-are_many place subsets = nat_lt most_values ((place + 1) * subsets)
+are_many place subsets = nat_lt max_values ((place + 1) * subsets)
 
 -- one item of all subsets
-abbrev pub pack_across : Asked → Across → Result (Written (List Content)) FaultAt
+abbrev pub pack_across : FieldSpec → ItemRow → Result (WrittenItem (List Content)) FaultAt
 pack_across spec a =
     if are_many a.place (length a.cells)
     then Err (at_line (first_line a.cells) (too_many_values spec.fxy))
     else (contents_here spec a.cells >>= λ cs. packed_to cs a.cells (packing spec cs))
 
 -- no subset has an item left: the first one's end is told, and too many values go before
-abbrev pub none_across : (end_line : ℕ) (many : Bool) → Asked → FaultAt
+abbrev pub none_across : (end_line : ℕ) (many : Bool) → FieldSpec → FaultAt
 none_across end_line many spec =
     if many then at_line end_line (too_many_values spec.fxy) else at_line end_line (wrong_for spec)
 
 -- rows of items, where the first subset ends on a line; there may be too many values with an item
 -- behind the last row
-abbrev pub packed_filler : (end_line : ℕ) (many : Bool) → Filler Across (List Content) FaultAt
+abbrev pub packed_filler : (end_line : ℕ) (many : Bool) → Filler ItemRow (List Content) FaultAt
 packed_filler end_line many = record {
   fills = pack_across;
   tells = told_first;

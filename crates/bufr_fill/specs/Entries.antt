@@ -6,9 +6,9 @@ use Rattle.bufr_fill.specs.Draft.{Draft}
 
 -- an item, or the end of a subset, each with its line: a subset ends on the line that begins the
 -- next one, or on `end`
-pub data Entry : Type 0 where
-  Holds : (item : Draft) → Entry
-  Ends : (line : ℕ) → Entry
+pub data DraftEntry : Type 0 where
+  Holds : (item : Draft) → DraftEntry
+  Ends : (line : ℕ) → DraftEntry
 
 -- the items of one subset, and the line that ends it
 pub record Subset : Type 0 where
@@ -19,12 +19,12 @@ abbrev pub subset : List Draft → ℕ → Subset
 subset items end_line = record { items = items; end_line = end_line }
 
 -- an item in front of the first subset; items that no line ends belong to none
-abbrev pub onto_first : Draft → List Subset → List Subset
-onto_first item [] = []
-onto_first item (s ∷ subsets) = subset (item ∷ s.items) s.end_line ∷ subsets
+abbrev pub prepend_to_subset : Draft → List Subset → List Subset
+prepend_to_subset item [] = []
+prepend_to_subset item (s ∷ subsets) = subset (item ∷ s.items) s.end_line ∷ subsets
 
 -- the subsets that entries spell
-abbrev pub subsets_of : List Entry → List Subset
+abbrev pub subsets_of : List DraftEntry → List Subset
 subsets_of [] = []
-subsets_of (Holds item ∷ more) = onto_first item (subsets_of more)
+subsets_of (Holds item ∷ more) = prepend_to_subset item (subsets_of more)
 subsets_of (Ends line ∷ more) = subset [] line ∷ subsets_of more

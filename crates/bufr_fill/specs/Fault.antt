@@ -1,29 +1,29 @@
 -- What is at fault with the items of a dump text. (a choice of this project)
 -- Cited by public contracts.
 use Rattle.std.specs.Prelude.{ℕ, Bool}
-use Rattle.bufr_walk.specs.declared.spec.Refusal.{Refusal}
+use Rattle.bufr_walk.specs.declared.spec.TurnRefusal.{TurnRefusal}
 
-pub data Fault : Type 0 where
+pub data DraftFaultKind : Type 0 where
   -- another descriptor, or a reference mark where none should be or none where one should, or no
   -- item
-  wrong_descriptor : (expected : ℕ) (marked : Bool) → Fault
-  wrong_number : Fault
-  out_of_range : Fault
-  text_long : Fault
-  missing_forbidden : Fault
-  unequal_factors : Fault
-  uneven_increment : Fault
+  wrong_descriptor : (expected : ℕ) (marked : Bool) → DraftFaultKind
+  wrong_number : DraftFaultKind
+  out_of_range : DraftFaultKind
+  text_long : DraftFaultKind
+  missing_forbidden : DraftFaultKind
+  unequal_factors : DraftFaultKind
+  uneven_increment : DraftFaultKind
   -- an item where the subset is to end
-  item_too_many : Fault
-  walk_refused : (why : Refusal) → Fault
-  too_many_values : (fxy : ℕ) → Fault
+  item_too_many : DraftFaultKind
+  walk_refused : (why : TurnRefusal) → DraftFaultKind
+  too_many_values : (fxy : ℕ) → DraftFaultKind
   -- a factor told no count, which no draft of a factor does
-  no_count : Fault
+  no_count : DraftFaultKind
 
 -- a fault, and its line
 pub record FaultAt : Type 0 where
   pub line : ℕ
-  pub fault : Fault
+  pub fault : DraftFaultKind
 
-abbrev pub at_line : ℕ → Fault → FaultAt
+abbrev pub at_line : ℕ → DraftFaultKind → FaultAt
 at_line line fault = record { line = line; fault = fault }

@@ -1,28 +1,28 @@
 -- What an encoder makes of items that are given one after another. (a choice of this project)
 -- Cited by public contracts.
 use Rattle.std.specs.Prelude.{Bool, List, [], ◌∷◌, ◌++◌, Result, Ok, Err}
-use Rattle.bufr_walk.specs.declared.spec.Refusal.{Refusal}
+use Rattle.bufr_walk.specs.declared.spec.TurnRefusal.{TurnRefusal}
 use Rattle.bufr_walk.specs.declared.spec.Taken.{Taken}
-use Rattle.bufr_walk.specs.Asked.{Asked}
+use Rattle.bufr_walk.specs.FieldSpec.{FieldSpec}
 use Rattle.bufr_walk.specs.Course.{Course, Next, take_next, at_end, astray, refused}
 
 -- what an item is written as: its content, and the bits
-pub record Written (C : Type 0) : Type 0 where
+pub record WrittenItem (C : Type 0) : Type 0 where
   pub content : C
   pub bits : List Bool
 
-abbrev pub written : {C : Type 0} → C → List Bool → Written C
-written content bits = record { content = content; bits = bits }
+abbrev pub written_item : {C : Type 0} → C → List Bool → WrittenItem C
+written_item content bits = record { content = content; bits = bits }
 
 -- how drafts D become contents C with their bits, and what is at fault with the faults E: with a
 -- draft at its field, where there is none, with one too many, and where the walk is refused
 pub record Filler (D C E : Type 0) : Type 0 where
-  pub fills : Asked → D → Result (Written C) E
-  pub tells : Asked → C → Taken
-  pub none_left : Asked → E
+  pub fills : FieldSpec → D → Result (WrittenItem C) E
+  pub tells : FieldSpec → C → Taken
+  pub none_left : FieldSpec → E
   pub left_over : D → E
-  pub refused_at : D → Refusal → E
-  pub refused_at_end : Refusal → E
+  pub refused_at : D → TurnRefusal → E
+  pub refused_at_end : TurnRefusal → E
   pub lost : E
 
 module _ {D C E : Type 0} (filler : Filler D C E) where
@@ -32,7 +32,7 @@ module _ {D C E : Type 0} (filler : Filler D C E) where
   and_behind bits (Ok behind) = Ok (bits ++ behind)
 
   -- one item that was filled, and the rest
-  abbrev pub filled : Asked → Result (Written C) E → (Taken → Result (List Bool) E)
+  abbrev pub filled : FieldSpec → Result (WrittenItem C) E → (Taken → Result (List Bool) E)
       → Result (List Bool) E
   filled spec (Err why) rest = Err why
   filled spec (Ok w) rest = and_behind w.bits (rest (filler.tells spec w.content))

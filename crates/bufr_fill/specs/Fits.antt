@@ -6,9 +6,9 @@ use Rattle.bufr_tables.specs.declared.kind.Kind.{Kind}
 use Rattle.bufr_tables.specs.declared.kind.Kind.TheVariants as kind
 use Rattle.bufr_walk.specs.declared.spec.Role.{Role}
 use Rattle.bufr_walk.specs.declared.spec.Role.TheVariants as role
-use Rattle.bufr_walk.specs.Asked.{Asked}
+use Rattle.bufr_walk.specs.FieldSpec.{FieldSpec}
 use Rattle.bufr_walk.specs.Content.{Content, number, text, missing, reference}
-use Rattle.bufr_fill.specs.Packing.{top}
+use Rattle.bufr_fill.specs.Packing.{raw_limit}
 
 -- each is an octet
 abbrev pub AreOctets : List ℕ → Type 0
@@ -17,7 +17,7 @@ AreOctets (x ∷ xs) = (x < 256) × AreOctets xs
 
 -- a number that its bits can write, and that does not read as missing
 abbrev pub FitsNumber : Bool → ℕ → Content → Type 0
-FitsNumber m width (number raw) = raw < top m width
+FitsNumber m width (number raw) = raw < raw_limit m width
 FitsNumber m width missing = m ≡ true
 FitsNumber m width _ = ⊥
 
@@ -37,14 +37,14 @@ FitsKind kind.Character m width c = FitsText (width / 8) c
 FitsKind kind.Coded m width c = FitsNumber m width c
 FitsKind kind.Numeric m width c = FitsNumber m width c
 
-abbrev pub FitsRole : Role → Asked → Content → Type 0
+abbrev pub FitsRole : Role → FieldSpec → Content → Type 0
 FitsRole role.Reference spec c = FitsReference spec.width c
 FitsRole _ spec c = FitsKind spec.kind spec.may_be_missing spec.width c
 
 -- a content that the field can have
-abbrev pub Fits : Asked → Content → Type 0
+abbrev pub Fits : FieldSpec → Content → Type 0
 Fits spec c = FitsRole spec.role spec c
 
-abbrev pub AllFit : Asked → List Content → Type 0
+abbrev pub AllFit : FieldSpec → List Content → Type 0
 AllFit spec [] = Unit {0}
 AllFit spec (c ∷ cs) = Fits spec c × AllFit spec cs

@@ -1,16 +1,16 @@
 -- The items that the code hands over, as the definitions name them.
 -- Cited by public contracts.
-use Rattle.bufr_fill.specs.declared.draft.Form.{Form}
-use Rattle.bufr_fill.specs.declared.draft.Form.TheVariants as form
+use Rattle.bufr_fill.specs.declared.draft.DraftValue.{DraftValue}
+use Rattle.bufr_fill.specs.declared.draft.DraftValue.TheVariants as form
 use Rattle.bufr_fill.specs.declared.draft.DraftItem.{DraftItem}
 use Rattle.bufr_fill.specs.Draft.{Draft, draft, number_token, text_form, missing_form, reference_token}
 use Rattle.bufr_fill.specs.Draft as drafts
-use Rattle.bufr_fill.specs.declared.draft.Entry.{Entry}
-use Rattle.bufr_fill.specs.declared.draft.Entry.TheVariants as entry
+use Rattle.bufr_fill.specs.declared.draft.DraftEntry.{DraftEntry}
+use Rattle.bufr_fill.specs.declared.draft.DraftEntry.TheVariants as entry
 use Rattle.bufr_fill.specs.Entries.{Holds, Ends}
 use Rattle.bufr_fill.specs.Entries as entries
 
-abbrev pub form_in : Form → drafts.Form
+abbrev pub form_in : DraftValue → drafts.DraftValue
 form_in (form.Number digits) = number_token digits.now
 form_in (form.Text octets) = text_form octets.now
 form_in form.Missing = missing_form
@@ -19,6 +19,6 @@ form_in (form.Reference digits) = reference_token digits.now
 abbrev pub draft_in : DraftItem → Draft
 draft_in item = draft item.line item.fxy (form_in item.form)
 
-abbrev pub entry_in : Entry → entries.Entry
+abbrev pub entry_in : DraftEntry → entries.DraftEntry
 entry_in (entry.Item item) = Holds (draft_in item)
 entry_in (entry.End line) = Ends line

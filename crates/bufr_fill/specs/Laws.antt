@@ -6,7 +6,7 @@ use Rattle.bufr_tables.specs.Records.{Record}
 use Rattle.bufr_tables.specs.TableB.{Row, AreRows}
 use Rattle.bufr_tables.specs.Tree.{Tree}
 use Rattle.bufr_walk.specs.Course.{Course, next_item}
-use Rattle.bufr_walk.specs.Taking.{Turn, course_after}
+use Rattle.bufr_walk.specs.Taking.{TakenField, course_after}
 use Rattle.bufr_fill.specs.Filling.{Filler, fill, and_behind}
 
 -- a law holds of what comes next, by each Table B that can be read and each template of legal nodes
@@ -16,9 +16,10 @@ OfTemplates law =
     → IsLegal template → law (next_item table template)
 
 -- a walk wrote what the definition makes of the drafts, up to those that it left
-abbrev pub WritesSo : {D C E : Type 0} → Filler D C E → Course → List Turn → (old new : List Bool)
+abbrev pub WritesDrafts : {D C E : Type 0} → Filler D C E → Course → List TakenField
+    → (old new : List Bool)
     → (drafts left : List D) → Type 0
-WritesSo filler course items old new drafts left =
+WritesDrafts filler course items old new drafts left =
     (bits : List Bool) × (new ≡ old ++ bits)
     × (fill filler course drafts
     ≡ and_behind filler bits (fill filler (course_after course items) left))

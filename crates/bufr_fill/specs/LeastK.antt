@@ -3,19 +3,19 @@
 -- Cited by public contracts.
 use Rattle.std.specs.Prelude.{◌≡◌, ℕ, ◌+◌, ◌≤◌, Bool, List, ◌++◌, length, take, drop, Ok}
 use Rattle.bufr_bits.specs.Bits.{number_of}
-use Rattle.bufr_walk.specs.Asked.{Asked}
+use Rattle.bufr_walk.specs.FieldSpec.{FieldSpec}
 use Rattle.bufr_walk.specs.Content.{Content}
 use Rattle.bufr_walk.specs.PlainField.{found}
 use Rattle.bufr_walk.specs.PackedField.{packed_field}
 use Rattle.bufr_fill.specs.Packing.{packing}
 
 -- the k of an item: the number of the six bits behind its base
-abbrev pub k_of : Asked → List Bool → ℕ
+abbrev pub k_of : FieldSpec → List Bool → ℕ
 k_of spec bits = number_of (take 6 (drop spec.width bits))
 
 -- the contents of an item for n subsets are packed in bits from which they are read again; and
 -- whatever bits they are read from, these have no lesser k, and are no fewer
-pub record HasLeastK (n : ℕ) (spec : Asked) (contents : List Content) : Type 0 where
+pub record HasLeastK (n : ℕ) (spec : FieldSpec) (contents : List Content) : Type 0 where
   pub out : List Bool
   pub is : packing spec contents ≡ Ok out
   pub again : (more : List Bool) → packed_field n spec (out ++ more) ≡ Ok (found contents more)

@@ -9,7 +9,7 @@ pub mod Kept
 -- what is at fault with an item, and its line
 pub mod Fault
 -- the faults that the code tells, as definitions, and their numbers
-pub mod Told
+pub mod DraftFaults
 -- what drafts, each at the field that comes next, are written as
 pub mod Filling
 -- how the contents of one item are packed, with the least base and the least k
@@ -35,13 +35,13 @@ pub mod Normal
 -- data that were read in one form and are written in the other
 pub mod OtherForm
 -- what is drawn from an item, as the content of a field
-pub mod Drawn
+pub mod FieldContent
 -- the writer of data that are not compressed
 pub mod PlainOut
 -- the writer of compressed data
 pub mod PackedOut
 -- what all subsets give at one place, as the code looks at it
-pub mod Gathered
+pub mod PackedRows
 -- how the code finds the least k of an item, and what it writes
 pub mod Packs
 -- what the laws on writing have in common

@@ -4,8 +4,8 @@ use Rattle.std.specs.Prelude.{ℕ, ◌-◌, ◌/◌, List, ◌++◌, length, rep
 use Rattle.bufr_bits.specs.DecimalText.{decimal_text_of}
 use Rattle.bufr_bits.specs.DecimalValue.{decimal_value_of}
 use Rattle.bufr_bits.specs.declared.decimal.NumberFault.{NumberFault}
-use Rattle.bufr_walk.specs.Asked.{Asked}
-use Rattle.bufr_fill.specs.Draft.{Form, number_token, text_form, missing_form, reference_token}
+use Rattle.bufr_walk.specs.FieldSpec.{FieldSpec}
+use Rattle.bufr_fill.specs.Draft.{DraftValue, number_token, text_form, missing_form, reference_token}
 
 -- the text of a decimal that was read at a scale; what is none stays
 abbrev pub decimal_again : List ℕ → ℤ → Result ℤ NumberFault → List ℕ
@@ -13,7 +13,7 @@ decimal_again digits scale (Ok value) = decimal_text_of value scale
 decimal_again digits scale (Err why) = digits
 
 -- a number by its value at the field's scale, a text with spaces up to the field's octets
-abbrev pub normal_form : Asked → Form → Form
+abbrev pub normal_form : FieldSpec → DraftValue → DraftValue
 normal_form spec (number_token digits) =
     number_token (decimal_again digits spec.scale (decimal_value_of digits spec.scale))
 normal_form spec (text_form octets) =

@@ -7,18 +7,18 @@ use Rattle.bufr_walk.specs.Course.{Course}
 use Rattle.bufr_walk.specs.Reading.{Item, IsPackedReading, IsPlainReading}
 use Rattle.bufr_fill.specs.Entries.{Subset}
 use Rattle.bufr_fill.specs.Encoding.{plain_data, packed_data}
-use Rattle.bufr_fill.specs.Fault.{Fault, unequal_factors, uneven_increment, FaultAt}
-use Rattle.bufr_fill.specs.WrittenAgain.{items_of}
+use Rattle.bufr_fill.specs.Fault.{DraftFaultKind, unequal_factors, uneven_increment, FaultAt}
+use Rattle.bufr_fill.specs.WrittenAgain.{items_of_subset}
 
 -- so many subsets of compressed data, from one on, counted from 0, each with items of its own
 abbrev pub subsets_from : (left subset : ℕ) → List (Item (List Content))
     → List (List (Item Content))
 subsets_from zero j items = []
-subsets_from (suc left) j items = items_of j items ∷ subsets_from left (suc j) items
+subsets_from (suc left) j items = items_of_subset j items ∷ subsets_from left (suc j) items
 
 -- a fault of contents that compressed data cannot hold: factors that differ, or contents that no
 -- increments tell apart
-abbrev pub IsUnlike : Fault → Type 0
+abbrev pub IsUnlike : DraftFaultKind → Type 0
 IsUnlike unequal_factors = Unit {0}
 IsUnlike uneven_increment = Unit {0}
 IsUnlike _ = ⊥

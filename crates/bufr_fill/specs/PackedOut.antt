@@ -4,100 +4,103 @@
 use Rattle.std.specs.Prelude.{ℕ, ◌≡◌, ◌≤◌, ◌<◌, ◌+◌, ◌-◌, ◌*◌, ◌^◌, Bool, List, [], ◌∷◌, ◌++◌, length, Option, Some, None, Result, Ok, Err}
 use Rattle.bufr_walk.specs.declared.spec.Taken.{Taken}
 use Rattle.bufr_fill.specs.declared.fault.DraftFault.{DraftFault}
-use Rattle.bufr_walk.specs.Asked.{Asked}
+use Rattle.bufr_walk.specs.FieldSpec.{FieldSpec}
 use Rattle.bufr_walk.specs.Content.{Content}
 use Rattle.bufr_walk.specs.Course.{Next, take_next, at_end, astray, refused}
 use Rattle.bufr_walk.specs.PackedField.{told_first}
-use Rattle.bufr_walk.specs.Reading.{most_values}
+use Rattle.bufr_walk.specs.Reading.{max_values}
 use Rattle.bufr_fill.specs.Draft.{Draft}
-use Rattle.bufr_fill.specs.Entries.{Entry, Holds, Ends, Subset}
+use Rattle.bufr_fill.specs.Entries.{DraftEntry, Holds, Ends, Subset}
 use Rattle.bufr_fill.specs.Fault.{FaultAt, at_line, item_too_many, walk_refused}
-use Rattle.bufr_fill.specs.Filling.{written}
-use Rattle.bufr_fill.specs.Encoding.{Cell, Across, rows, longest, across, cells_at, first_line, pack_across}
-use Rattle.bufr_fill.specs.PlainOut.{WhereTold}
-use Rattle.bufr_fill.specs.Told.{told_fault}
+use Rattle.bufr_fill.specs.Filling.{written_item}
+use Rattle.bufr_fill.specs.Encoding.{RowCell, ItemRow, rows, longest, item_row, cells_at, first_line, pack_across}
+use Rattle.bufr_fill.specs.PlainOut.{IfDraftFault}
+use Rattle.bufr_fill.specs.DraftFaults.{draft_fault}
 
 -- the subsets, how many items of each were taken, and the bits that were written
-pub record PackedPen : Type 0 where
+pub record PackedOutModel : Type 0 where
   pub subsets : List Subset
   pub place : ℕ
   pub bits : List Bool
 
 -- nothing was written yet
-abbrev pub packed_start : List Subset → PackedPen
-packed_start subsets = record { subsets = subsets; place = 0; bits = [] }
+abbrev pub new_packed_out : List Subset → PackedOutModel
+new_packed_out subsets = record { subsets = subsets; place = 0; bits = [] }
 
 -- a writer for these subsets, where there are any
-abbrev pub StartsSo : List Subset → Option PackedPen → Type 0
-StartsSo subsets None = subsets ≡ []
-StartsSo subsets (Some s) = s ≡ packed_start subsets
+abbrev pub StartsPackedOut : List Subset → Option PackedOutModel → Type 0
+StartsPackedOut subsets None = subsets ≡ []
+StartsPackedOut subsets (Some s) = s ≡ new_packed_out subsets
 
 -- the places of the ends among entries, the first of which has a number
-abbrev pub ends_of : (from : ℕ) → List Entry → List ℕ
+abbrev pub ends_of : (from : ℕ) → List DraftEntry → List ℕ
 ends_of from [] = []
 ends_of from (Holds d ∷ more) = ends_of (from + 1) more
 ends_of from (Ends line ∷ more) = from ∷ ends_of (from + 1) more
 
 -- what the writer keeps: where the subsets end, and room for what is written
-pub record IsPackedOut (entries : List Entry) (ends : List ℕ) (place bits : ℕ) : Type 0 where
+pub record IsPackedOut (entries : List DraftEntry) (ends : List ℕ) (place bits : ℕ) : Type 0 where
   pub few : length entries ≤ 2 ^ 45
   pub ends_are : ends ≡ ends_of 0 entries
   pub some : 1 ≤ length ends
   pub room : bits ≤ 2550 * (place * length ends)
-  pub values : place * length ends ≤ most_values
+  pub values : place * length ends ≤ max_values
 
 -- the item of all subsets at one place was written behind what stood there
-pub record IsPutAcross (old new : List Bool) (spec : Asked) (a : Across) (t : Taken) : Type 0 where
+pub record IsPutAcross (old new : List Bool) (spec : FieldSpec) (a : ItemRow)
+    (t : Taken) : Type 0 where
   pub contents : List Content
   pub item : List Bool
-  pub is : pack_across spec a ≡ Ok (written contents item)
+  pub is : pack_across spec a ≡ Ok (written_item contents item)
   pub tells : t ≡ told_first spec contents
   pub bits : new ≡ old ++ item
   pub forth : length old < length new
 
 -- the next item of all subsets was written
-pub record IsPacked (s : PackedPen) (spec : Asked) (t : Taken) (s' : PackedPen) : Type 0 where
-  pub put : IsPutAcross s.bits s'.bits spec (across s.place s.subsets) t
+pub record IsPacked (s : PackedOutModel) (spec : FieldSpec) (t : Taken)
+    (s' : PackedOutModel) : Type 0 where
+  pub put : IsPutAcross s.bits s'.bits spec (item_row s.place s.subsets) t
   pub place : s'.place ≡ s.place + 1
   pub subsets : s'.subsets ≡ s.subsets
 
 -- the fault of the next item of all subsets
-abbrev pub IsFaultAcross : Asked → PackedPen → FaultAt → Type 0
-IsFaultAcross spec s f = pack_across spec (across s.place s.subsets) ≡ Err f
+abbrev pub IsFaultAcross : FieldSpec → PackedOutModel → FaultAt → Type 0
+IsFaultAcross spec s f = pack_across spec (item_row s.place s.subsets) ≡ Err f
 
 -- one call: the next item of all subsets was packed, or it is at fault, or memory ran out; then
 -- nothing is changed
-abbrev pub PackedFills : PackedPen → Asked → Result Taken DraftFault → PackedPen → Type 0
+abbrev pub PackedFills : PackedOutModel → FieldSpec → Result Taken DraftFault → PackedOutModel
+    → Type 0
 PackedFills s spec (Ok t) s' = IsPacked s spec t s'
-PackedFills s spec (Err e) s' = WhereTold (told_fault e) (IsFaultAcross spec s) × (s' ≡ s)
+PackedFills s spec (Err e) s' = IfDraftFault (draft_fault e) (IsFaultAcross spec s) × (s' ≡ s)
 
 -- whether all subsets end at a place, or the first item that is left over
 abbrev pub and_end : Option Draft → Result (Unit {0}) FaultAt → Result (Unit {0}) FaultAt
 and_end None rest = rest
 and_end (Some d) rest = Err (at_line d.line item_too_many)
 
-abbrev pub all_end : List Cell → Result (Unit {0}) FaultAt
-all_end [] = Ok tt
-all_end (c ∷ cells) = and_end c.draft (all_end cells)
+abbrev pub all_at_end : List RowCell → Result (Unit {0}) FaultAt
+all_at_end [] = Ok tt
+all_at_end (c ∷ cells) = and_end c.draft (all_at_end cells)
 
 -- that a call told so
-abbrev pub EndsSo : (place : ℕ) → List Subset → Result (Unit {0}) DraftFault → Type 0
-EndsSo place subsets (Ok _) = all_end (cells_at place subsets) ≡ Ok tt
-EndsSo place subsets (Err e) =
-    (f : FaultAt) × (told_fault e ≡ Some f) × (all_end (cells_at place subsets) ≡ Err f)
+abbrev pub EndsAllSubsets : (place : ℕ) → List Subset → Result (Unit {0}) DraftFault → Type 0
+EndsAllSubsets place subsets (Ok _) = all_at_end (cells_at place subsets) ≡ Ok tt
+EndsAllSubsets place subsets (Err e) =
+    (f : FaultAt) × (draft_fault e ≡ Some f) × (all_at_end (cells_at place subsets) ≡ Err f)
 
 -- the line of the first subset's next item, or of its end
 abbrev pub first_line_at : (place : ℕ) → List Subset → ℕ
 first_line_at place subsets = first_line (cells_at place subsets)
 
 -- what all subsets give at the places that are left
-abbrev pub rows_left : PackedPen → List Across
+abbrev pub rows_left : PackedOutModel → List ItemRow
 rows_left s = rows (longest s.subsets - s.place) s.place s.subsets
 
 -- the fault where the writer stands, by what comes next: that of the item, that of the walk on the
 -- next item's line, or an item that is left over
-abbrev pub IsFaultHere : Next → PackedPen → FaultAt → Type 0
+abbrev pub IsFaultHere : Next → PackedOutModel → FaultAt → Type 0
 IsFaultHere (take_next spec) s f = IsFaultAcross spec s f
 IsFaultHere (refused why) s f = f ≡ at_line (first_line_at s.place s.subsets) (walk_refused why)
-IsFaultHere at_end s f = all_end (cells_at s.place s.subsets) ≡ Err f
+IsFaultHere at_end s f = all_at_end (cells_at s.place s.subsets) ≡ Err f
 IsFaultHere astray s f = ⊥

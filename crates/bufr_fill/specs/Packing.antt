@@ -9,14 +9,14 @@ use Rattle.bufr_tables.specs.declared.kind.Kind.{Kind}
 use Rattle.bufr_tables.specs.declared.kind.Kind.TheVariants as kind
 use Rattle.bufr_walk.specs.declared.spec.Role.{Role}
 use Rattle.bufr_walk.specs.declared.spec.Role.TheVariants as role
-use Rattle.bufr_walk.specs.Asked.{Asked}
+use Rattle.bufr_walk.specs.FieldSpec.{FieldSpec}
 use Rattle.bufr_walk.specs.Content.{Content, number, text, missing, reference, bits_for, sign_bit}
 use Rattle.bufr_walk.specs.PlainField.{FieldFault, increment, unequal_factor}
 use Rattle.bufr_walk.specs.PackedField.{ones}
 
 -- the numbers that so many bits can write, but for all ones where that is missing: those below this
-abbrev pub top : (may_be_missing : Bool) (width : ℕ) → ℕ
-top m width = if m then ones width else 2 ^ width
+abbrev pub raw_limit : (may_be_missing : Bool) (width : ℕ) → ℕ
+raw_limit m width = if m then ones width else 2 ^ width
 
 abbrev pub same_octets : List ℕ → List ℕ → Bool
 same_octets [] [] = true
@@ -52,7 +52,7 @@ lowest (_ ∷ cs) = lowest cs
 
 -- whether a content's increment over a base has k bits, not all of them ones where that is missing
 abbrev pub has_bits : Bool → (base k : ℕ) → Content → Bool
-has_bits m base k (number n) = nat_lt (n - base) (top m k)
+has_bits m base k (number n) = nat_lt (n - base) (raw_limit m k)
 has_bits m base k _ = true
 
 -- whether k octets of a text, and spaces behind them, give it again, and not as missing
@@ -102,18 +102,18 @@ packed_texts width k cs =
     if nat_le k 63
     then Ok (packed_bits (replicate width false) k (flat_map (octet_bits k) cs)) else Err increment
 
-abbrev pub packed_by : Kind → Asked → List Content → Result (List Bool) FieldFault
+abbrev pub packed_by : Kind → FieldSpec → List Content → Result (List Bool) FieldFault
 packed_by kind.Character spec cs = packed_texts spec.width (least_k has_octets cs) cs
 packed_by _ spec cs = Ok (numbers_over spec.may_be_missing spec.width (unwrap_or (lowest cs) 0) cs)
 
 -- contents that differ: counts and references may not
-abbrev pub packed_unlike : Role → Asked → List Content → Result (List Bool) FieldFault
+abbrev pub packed_unlike : Role → FieldSpec → List Content → Result (List Bool) FieldFault
 packed_unlike role.Factor spec cs = Err unequal_factor
 packed_unlike role.Reference spec cs = Err increment
 packed_unlike _ spec cs = packed_by spec.kind spec cs
 
 -- the contents of one item for all subsets, where they can be packed
-abbrev pub packing : Asked → List Content → Result (List Bool) FieldFault
+abbrev pub packing : FieldSpec → List Content → Result (List Bool) FieldFault
 packing spec [] = Ok []
 packing spec (c ∷ cs) =
     if are_same c cs then Ok (packed_bits (bits_for spec.width c) 0 [])

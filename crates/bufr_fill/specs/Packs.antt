@@ -2,27 +2,27 @@
 -- Cited by private steps only.
 use Rattle.std.specs.Prelude.{ℕ, zero, suc, ◌≡◌, ◌≤◌, ◌<◌, ◌-◌, ◌^◌, ◌==◌, ◌&&◌, nat_lt, max, Bool, if◌then◌else◌, List, [], ◌∷◌, ◌++◌, length, take, Option, Some, None, Result, Ok, Err}
 use Rattle.std.specs.List.{list_all}
-use Rattle.bufr_fill.specs.declared.packing.Unpacked.{Unpacked}
-use Rattle.bufr_fill.specs.declared.packing.Unpacked.TheVariants as unpacked
-use Rattle.bufr_fill.specs.declared.draw.Drawn.{Drawn}
-use Rattle.bufr_fill.specs.declared.draw.Drawn.TheVariants as drawn
-use Rattle.bufr_fill.specs.Packing.{top, smaller, first_from}
+use Rattle.bufr_fill.specs.declared.packing.PackingFault.{PackingFault}
+use Rattle.bufr_fill.specs.declared.packing.PackingFault.TheVariants as unpacked
+use Rattle.bufr_fill.specs.declared.field_value.FieldContent.{FieldContent}
+use Rattle.bufr_fill.specs.declared.field_value.FieldContent.TheVariants as drawn
+use Rattle.bufr_fill.specs.Packing.{raw_limit, smaller, first_from}
 use Rattle.bufr_walk.specs.declared.spec.Taken.{Taken}
 use Rattle.bufr_fill.specs.declared.fault.DraftFault.{DraftFault}
-use Rattle.bufr_walk.specs.Asked.{Asked}
-use Rattle.bufr_fill.specs.Encoding.{Across, pack_across}
+use Rattle.bufr_walk.specs.FieldSpec.{FieldSpec}
+use Rattle.bufr_fill.specs.Encoding.{ItemRow, pack_across}
 use Rattle.bufr_fill.specs.Fault.{FaultAt}
 use Rattle.bufr_fill.specs.PackedOut.{IsPutAcross}
-use Rattle.bufr_fill.specs.Told.{told_fault}
+use Rattle.bufr_fill.specs.DraftFaults.{draft_fault}
 use Rattle.bufr_walk.specs.PlainField.{FieldFault, increment, unequal_factor}
 
 -- an increment over a base
-abbrev pub over_of : (base : ℕ) → Drawn → ℕ
+abbrev pub over_of : (base : ℕ) → FieldContent → ℕ
 over_of base (drawn.Number n) = n - base
 over_of base _ = 0
 
 -- the greatest increment over a base
-abbrev pub spread : (base : ℕ) → List Drawn → ℕ
+abbrev pub spread : (base : ℕ) → List FieldContent → ℕ
 spread base [] = 0
 spread base (d ∷ ds) = max (over_of base d) (spread base ds)
 
@@ -31,13 +31,13 @@ abbrev pub lesser : Option ℕ → Option ℕ → Option ℕ
 lesser None o = o
 lesser (Some n) o = Some (smaller n o)
 
-abbrev pub number_in : Drawn → Option ℕ
+abbrev pub number_in : FieldContent → Option ℕ
 number_in (drawn.Number n) = Some n
 number_in _ = None
 
 -- the least k from some k on, under 64, whose bits write an increment
 unfoldable pub least_from : (may_be_missing : Bool) (spread from : ℕ) → ℕ
-least_from m spread from = first_from (λ k. nat_lt spread (top m k)) (64 - from) from
+least_from m spread from = first_from (λ k. nat_lt spread (raw_limit m k)) (64 - from) from
 
 -- the octets of a text without the spaces at its end
 abbrev pub trimmed : List ℕ → ℕ
@@ -50,11 +50,11 @@ abbrev pub need : List ℕ → ℕ
 need os =
     if list_all (λ octet. octet == 255) (take (trimmed os) os) then suc (trimmed os) else trimmed os
 
-abbrev pub need_of : Drawn → ℕ
+abbrev pub need_of : FieldContent → ℕ
 need_of (drawn.Text octets) = need octets.now
 need_of _ = 1
 
-abbrev pub most_need : List Drawn → ℕ
+abbrev pub most_need : List FieldContent → ℕ
 most_need [] = 1
 most_need (d ∷ ds) = max (need_of d) (most_need ds)
 
@@ -65,42 +65,42 @@ octet_in (o ∷ os) zero = o
 octet_in (o ∷ os) (suc i) = octet_in os i
 
 -- what stood there stands, and more may stand behind it
-abbrev pub Grows : (old new : List Bool) → Type 0
-Grows old new = (more : List Bool) × (new ≡ old ++ more)
+abbrev pub ExtendsBits : (old new : List Bool) → Type 0
+ExtendsBits old new = (more : List Bool) × (new ≡ old ++ more)
 
 -- an item was packed in at most so many bits, or it cannot be; want of memory may leave some of its
 -- bits behind the earlier ones
-abbrev pub PackedSo : (old new : List Bool) → (expected : Result (List Bool) FieldFault)
-    → (most : ℕ) → Result (Unit {0}) Unpacked → Type 0
-PackedSo old new expected most (Ok _) =
+abbrev pub PacksItem : (old new : List Bool) → (expected : Result (List Bool) FieldFault)
+    → (most : ℕ) → Result (Unit {0}) PackingFault → Type 0
+PacksItem old new expected most (Ok _) =
     (bits : List Bool) × (expected ≡ Ok bits) × (new ≡ old ++ bits) × (length bits ≤ most)
     × (length old < length new)
-PackedSo old new expected most (Err unpacked.Unequal) =
+PacksItem old new expected most (Err unpacked.Unequal) =
     (expected ≡ Err unequal_factor) × (new ≡ old)
-PackedSo old new expected most (Err unpacked.Uneven) = (expected ≡ Err increment) × (new ≡ old)
-PackedSo old new expected most (Err unpacked.Memory) = Grows old new
+PacksItem old new expected most (Err unpacked.Uneven) = (expected ≡ Err increment) × (new ≡ old)
+PacksItem old new expected most (Err unpacked.Memory) = ExtendsBits old new
 
 -- an increment over a base that so many bits can write
-abbrev pub IsShort : (base k : ℕ) → Drawn → Type 0
-IsShort base k (drawn.Number raw) = raw - base < 2 ^ k
-IsShort base k _ = Unit {0}
+abbrev pub FitsIncrement : (base k : ℕ) → FieldContent → Type 0
+FitsIncrement base k (drawn.Number raw) = raw - base < 2 ^ k
+FitsIncrement base k _ = Unit {0}
 
-abbrev pub AreShort : (base k : ℕ) → List Drawn → Type 0
+abbrev pub AreShort : (base k : ℕ) → List FieldContent → Type 0
 AreShort base k [] = Unit {0}
-AreShort base k (d ∷ ds) = IsShort base k d × AreShort base k ds
+AreShort base k (d ∷ ds) = FitsIncrement base k d × AreShort base k ds
 
 -- the item of all subsets at a place was written, in at most so many bits, or it is at fault, or
 -- memory ran out
-abbrev pub PutFault : Option FaultAt → (old new : List Bool) → Asked → Across → Type 0
-PutFault None old new spec a = Grows old new
+abbrev pub PutFault : Option FaultAt → (old new : List Bool) → FieldSpec → ItemRow → Type 0
+PutFault None old new spec a = ExtendsBits old new
 PutFault (Some f) old new spec a = (pack_across spec a ≡ Err f) × (new ≡ old)
 
-pub record IsPutWithin (old new : List Bool) (spec : Asked) (a : Across) (most : ℕ)
+pub record IsPutWithin (old new : List Bool) (spec : FieldSpec) (a : ItemRow) (most : ℕ)
     (t : Taken) : Type 0 where
   pub put : IsPutAcross old new spec a t
   pub few : length put.item ≤ most
 
-abbrev pub PutAcross : (old new : List Bool) → Asked → Across → (most : ℕ)
+abbrev pub PutAcross : (old new : List Bool) → FieldSpec → ItemRow → (most : ℕ)
     → Result Taken DraftFault → Type 0
 PutAcross old new spec a most (Ok t) = IsPutWithin old new spec a most t
-PutAcross old new spec a most (Err e) = PutFault (told_fault e) old new spec a
+PutAcross old new spec a most (Err e) = PutFault (draft_fault e) old new spec a

@@ -4,22 +4,22 @@
 use Rattle.std.specs.Prelude.{ℕ, ◌≡◌, ◌≤◌, ◌<◌, ◌*◌, ◌^◌, Bool, List, [], ◌∷◌, ◌++◌, length, Option, Some, None, Result, Ok, Err}
 use Rattle.bufr_walk.specs.declared.spec.Taken.{Taken}
 use Rattle.bufr_fill.specs.declared.fault.DraftFault.{DraftFault}
-use Rattle.bufr_walk.specs.Asked.{Asked}
-use Rattle.bufr_walk.specs.Content.{Content, told, bits_for}
+use Rattle.bufr_walk.specs.FieldSpec.{FieldSpec}
+use Rattle.bufr_walk.specs.Content.{Content, answer_of, bits_for}
 use Rattle.bufr_walk.specs.Course.{Next, take_next, at_end, astray, refused}
 use Rattle.bufr_fill.specs.Draft.{Draft}
-use Rattle.bufr_fill.specs.Entries.{Entry, Holds, Ends}
-use Rattle.bufr_fill.specs.Fault.{Fault, FaultAt, at_line, item_too_many, walk_refused}
+use Rattle.bufr_fill.specs.Entries.{DraftEntry, Holds, Ends}
+use Rattle.bufr_fill.specs.Fault.{DraftFaultKind, FaultAt, at_line, item_too_many, walk_refused}
 use Rattle.bufr_fill.specs.DraftContent.{content_of, wrong_for}
-use Rattle.bufr_fill.specs.Told.{told_fault}
+use Rattle.bufr_fill.specs.DraftFaults.{draft_fault}
 
 -- the entries that are left, and the bits that were written
-pub record Pen : Type 0 where
-  pub left : List Entry
+pub record PlainOutModel : Type 0 where
+  pub left : List DraftEntry
   pub bits : List Bool
 
-abbrev pub pen : List Entry → List Bool → Pen
-pen left bits = record { left = left; bits = bits }
+abbrev pub plain_out_model : List DraftEntry → List Bool → PlainOutModel
+plain_out_model left bits = record { left = left; bits = bits }
 
 -- what the writer keeps: so many entries of so many were taken, each for at most 2,040 bits
 pub record IsPlainOut (place count bits : ℕ) : Type 0 where
@@ -28,67 +28,68 @@ pub record IsPlainOut (place count bits : ℕ) : Type 0 where
   pub room : bits ≤ 2040 * place
 
 -- the next item is that of the field, and was written
-pub record IsFilled (s : Pen) (spec : Asked) (t : Taken) (s' : Pen) : Type 0 where
+pub record IsFilled (s : PlainOutModel) (spec : FieldSpec) (t : Taken)
+    (s' : PlainOutModel) : Type 0 where
   pub draft : Draft
   pub content : Content
   pub here : s.left ≡ Holds draft ∷ s'.left
   pub is : content_of spec draft ≡ Ok content
-  pub tells : t ≡ told spec content
+  pub tells : t ≡ answer_of spec content
   pub bits : s'.bits ≡ s.bits ++ bits_for spec.width content
   pub forth : length s.bits < length s'.bits
 
 -- the fault of the next item, or of the line that ends the subset; behind the last subset there is
 -- no line
-abbrev pub IsFaultOf : Asked → List Entry → FaultAt → Type 0
+abbrev pub IsFaultOf : FieldSpec → List DraftEntry → FaultAt → Type 0
 IsFaultOf spec [] f = f ≡ at_line 0 (wrong_for spec)
 IsFaultOf spec (Ends line ∷ more) f = f ≡ at_line line (wrong_for spec)
 IsFaultOf spec (Holds d ∷ more) f =
-    (why : Fault) × (content_of spec d ≡ Err why) × (f ≡ at_line d.line why)
+    (why : DraftFaultKind) × (content_of spec d ≡ Err why) × (f ≡ at_line d.line why)
 
 -- where a fault of the text is told, it is so; want of memory is none
-abbrev pub WhereTold : Option FaultAt → (FaultAt → Type 0) → Type 0
-WhereTold None p = Unit {0}
-WhereTold (Some f) p = p f
+abbrev pub IfDraftFault : Option FaultAt → (FaultAt → Type 0) → Type 0
+IfDraftFault None p = Unit {0}
+IfDraftFault (Some f) p = p f
 
 -- one call: the next item was written, or it is at fault, or memory ran out; then nothing is
 -- changed
-abbrev pub PlainFills : Pen → Asked → Result Taken DraftFault → Pen → Type 0
+abbrev pub PlainFills : PlainOutModel → FieldSpec → Result Taken DraftFault → PlainOutModel → Type 0
 PlainFills s spec (Ok t) s' = IsFilled s spec t s'
-PlainFills s spec (Err e) s' = WhereTold (told_fault e) (IsFaultOf spec s.left) × (s' ≡ s)
+PlainFills s spec (Err e) s' = IfDraftFault (draft_fault e) (IsFaultOf spec s.left) × (s' ≡ s)
 
 -- the line of the next entry, 0 behind the last
-abbrev pub line_at : List Entry → ℕ
+abbrev pub line_at : List DraftEntry → ℕ
 line_at [] = 0
 line_at (Holds d ∷ more) = d.line
 line_at (Ends line ∷ more) = line
 
 -- what is left behind the end of a subset, where it is next
-abbrev pub behind_end : List Entry → Result (List Entry) FaultAt
+abbrev pub behind_end : List DraftEntry → Result (List DraftEntry) FaultAt
 behind_end [] = Err (at_line 0 item_too_many)
 behind_end (Holds d ∷ more) = Err (at_line d.line item_too_many)
 behind_end (Ends line ∷ more) = Ok more
 
 -- the end of a subset was passed, or an item is next
-abbrev pub PassesEnd : Pen → Result (Unit {0}) DraftFault → Pen → Type 0
-PassesEnd s (Ok _) s' = (behind_end s.left ≡ Ok s'.left) × (s'.bits ≡ s.bits)
-PassesEnd s (Err e) s' =
-    ((f : FaultAt) × (told_fault e ≡ Some f) × (behind_end s.left ≡ Err f)) × (s' ≡ s)
+abbrev pub EndsSubset : PlainOutModel → Result (Unit {0}) DraftFault → PlainOutModel → Type 0
+EndsSubset s (Ok _) s' = (behind_end s.left ≡ Ok s'.left) × (s'.bits ≡ s.bits)
+EndsSubset s (Err e) s' =
+    ((f : FaultAt) × (draft_fault e ≡ Some f) × (behind_end s.left ≡ Err f)) × (s' ≡ s)
 
 -- the fault at the next entry, by what comes next: that of the item, that of the walk on the
 -- entry's line, or an item that is left over
-abbrev pub IsFaultNext : Next → List Entry → FaultAt → Type 0
+abbrev pub IsFaultNext : Next → List DraftEntry → FaultAt → Type 0
 IsFaultNext (take_next spec) left f = IsFaultOf spec left f
 IsFaultNext (refused why) left f = f ≡ at_line (line_at left) (walk_refused why)
 IsFaultNext at_end left f = (1 ≤ length left) × (behind_end left ≡ Err f)
 IsFaultNext astray left f = ⊥
 
 -- the items of the next subset, and the line that ends it; behind the last there is none
-abbrev pub items_left : List Entry → List Draft
+abbrev pub items_left : List DraftEntry → List Draft
 items_left [] = []
 items_left (Holds d ∷ more) = d ∷ items_left more
 items_left (Ends line ∷ more) = []
 
-abbrev pub end_left : List Entry → ℕ
+abbrev pub end_left : List DraftEntry → ℕ
 end_left [] = 0
 end_left (Holds d ∷ more) = end_left more
 end_left (Ends line ∷ more) = line

@@ -5,14 +5,14 @@ use Rattle.std.specs.List.{AllByRecursion}
 use Rattle.bufr_walk.specs.Content.{Content}
 use Rattle.bufr_walk.specs.Course.{Course}
 use Rattle.bufr_walk.specs.Reading.{Item, ReadsSubsets, IsPackedReading}
-use Rattle.bufr_fill.specs.Draft.{Form, number_token, text_form, missing_form, reference_token, Draft}
+use Rattle.bufr_fill.specs.Draft.{DraftValue, number_token, text_form, missing_form, reference_token, Draft}
 use Rattle.bufr_fill.specs.DraftContent.{content_of}
 use Rattle.bufr_fill.specs.Entries.{Subset}
 use Rattle.bufr_fill.specs.Fits.{AreOctets}
-use Rattle.bufr_fill.specs.WrittenAgain.{AreDrafts, items_of}
+use Rattle.bufr_fill.specs.WrittenAgain.{AreDrafts, items_of_subset}
 
 -- a text is of octets
-abbrev pub HasOctets : Form → Type 0
+abbrev pub HasOctets : DraftValue → Type 0
 HasOctets (number_token digits) = Unit {0}
 HasOctets (text_form octets) = AreOctets octets
 HasOctets missing_form = Unit {0}
@@ -39,7 +39,7 @@ AreSaid (items ∷ subsets) (s ∷ ss) = AreDrafts IsSaid items s.items × AreSa
 abbrev pub AreSaidFrom : (subset : ℕ) → List (Item (List Content)) → List Subset → Type 0
 AreSaidFrom j items [] = Unit {0}
 AreSaidFrom j items (s ∷ ss) =
-    AreDrafts IsSaid (items_of j items) s.items × AreSaidFrom (suc j) items ss
+    AreDrafts IsSaid (items_of_subset j items) s.items × AreSaidFrom (suc j) items ss
 
 -- bits are read as what the drafts say, whatever is behind them
 pub record IsReadBack (course : Course) (drafts : List Subset) (bits : List Bool) : Type 0 where

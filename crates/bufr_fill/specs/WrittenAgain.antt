@@ -7,13 +7,13 @@ use Rattle.bufr_walk.specs.Calls.{content_at}
 use Rattle.bufr_walk.specs.Content.{Content}
 use Rattle.bufr_walk.specs.Reading.{Item, IsPackedReading, ReadsSubsets}
 use Rattle.bufr_fill.specs.Draft.{Draft}
-use Rattle.bufr_fill.specs.DraftContent.{form_of}
+use Rattle.bufr_fill.specs.DraftContent.{draft_value_of}
 use Rattle.bufr_fill.specs.Entries.{Subset}
 use Rattle.bufr_fill.specs.Encoding.{plain_data, packed_data}
 
 -- a draft is the one that a dump writes for an item, on some line
 abbrev pub IsDumped : Item Content → Draft → Type 0
-IsDumped i d = (d.fxy ≡ i.spec.fxy) × (d.form ≡ form_of i.spec i.content)
+IsDumped i d = (d.fxy ≡ i.spec.fxy) × (d.form ≡ draft_value_of i.spec i.content)
 
 -- the drafts are those of the items, one by one
 abbrev pub AreDrafts : {C D : Type 0} → (Item C → D → Type 0) → List (Item C) → List D → Type 0
@@ -46,13 +46,13 @@ pub record IsPackedAgain (n : ℕ) (course : Course) (items : List (Item (List C
   pub short : length out + length behind ≤ length bits
 
 -- the items of one subset of compressed data
-abbrev pub items_of : (subset : ℕ) → List (Item (List Content)) → List (Item Content)
-items_of j [] = []
-items_of j (i ∷ items) =
-    record { spec = i.spec; content = content_at j i.content } ∷ items_of j items
+abbrev pub items_of_subset : (subset : ℕ) → List (Item (List Content)) → List (Item Content)
+items_of_subset j [] = []
+items_of_subset j (i ∷ items) =
+    record { spec = i.spec; content = content_at j i.content } ∷ items_of_subset j items
 
 -- the subsets, from one on, are those of the dump of compressed data
 abbrev pub AreDumpedFrom : (subset : ℕ) → List (Item (List Content)) → List Subset → Type 0
 AreDumpedFrom j items [] = Unit {0}
 AreDumpedFrom j items (s ∷ ss) =
-    AreDrafts IsDumped (items_of j items) s.items × AreDumpedFrom (suc j) items ss
+    AreDrafts IsDumped (items_of_subset j items) s.items × AreDumpedFrom (suc j) items ss

@@ -3,7 +3,7 @@ use bufr_tables::Fxy;
 
 /// What stands behind the descriptor of an item.
 #[derive(Clone, Copy, Debug, PartialEq, Eq)]
-pub enum Form<'a> {
+pub enum DraftValue<'a> {
     /// The octets of a number; whether they are a decimal is not looked at yet.
     Number(&'a [u8]),
     /// The octets of a text, without quotes and escapes.
@@ -22,12 +22,12 @@ pub struct DraftItem<'a> {
     /// Its descriptor.
     pub fxy: Fxy,
     /// What stands behind the descriptor.
-    pub form: Form<'a>,
+    pub form: DraftValue<'a>,
 }
 
 /// An item of a subset, or the end of the subset.
 #[derive(Clone, Copy, Debug, PartialEq, Eq)]
-pub enum Entry<'a> {
+pub enum DraftEntry<'a> {
     /// An item.
     Item(DraftItem<'a>),
     /// The number of the line that ends the subset: that of the next `subset`, or of `end`.

@@ -1,18 +1,18 @@
 //! The entries of a document, kept in one block.
 ghost use Rattle.std.specs.Prelude.{◌≡◌, ℕ, List, length, option_map, slice_get};
 ghost use Rattle.bufr_fill.specs.Draft.{draft};
-ghost use Rattle.bufr_fill.specs.Entries.{Entry, Holds};
+ghost use Rattle.bufr_fill.specs.Entries.{DraftEntry, Holds};
 ghost use Rattle.bufr_fill.specs.Given.{entry_in, form_in};
-ghost use Rattle.bufr_fill.specs.Kept.{entry_by, entry_found, entry_kept, IsInside};
+ghost use Rattle.bufr_fill.specs.Kept.{entry_by, entry_found, entry_kept, IsEntryInside};
 
-use crate::draft::{DraftItem, Entry, Form};
+use crate::draft::{DraftEntry, DraftItem, DraftValue};
 use bufr_tables::Fxy;
 use std::alloc::{AllocError, Global};
 use std::marker::Model;
 
 /// What a line has: an item of this form, or the end of a subset.
 #[derive(Clone, Copy)]
-enum Kind {
+enum EntryKind {
     Number,
     Text,
     Missing,
@@ -22,73 +22,73 @@ enum Kind {
 
 /// An entry as it is kept: its octets go from `start` to `end` of one block.
 #[derive(Clone, Copy)]
-struct Kept {
+struct StoredEntry {
     line: u64,
     start: usize,
     end: usize,
     fxy: Fxy,
-    kind: Kind,
+    kind: EntryKind,
 }
 
 /// The kind of a form, and the octets in it.
 #[inline(always)]
-fn parts_of<'a>(form: Form<'a>) -> (Kind, &'a [u8])
+fn parts_of<'a>(form: DraftValue<'a>) -> (EntryKind, &'a [u8])
     ensures { (line fxy : ℕ) → entry_by result.0 line fxy result.1.now
         ≡ Holds (draft line fxy (form_in form.entry)) }
 {
     match form {
-        Form::Number(octets) => (Kind::Number, octets),
-        Form::Text(octets) => (Kind::Text, octets),
-        Form::Missing => (Kind::Missing, &[]),
-        Form::Reference(octets) => (Kind::Reference, octets),
+        DraftValue::Number(octets) => (EntryKind::Number, octets),
+        DraftValue::Text(octets) => (EntryKind::Text, octets),
+        DraftValue::Missing => (EntryKind::Missing, &[]),
+        DraftValue::Reference(octets) => (EntryKind::Reference, octets),
     }
 }
 
 /// An item of this form.
 #[inline(always)]
-fn item<'a>(line: u64, fxy: Fxy, form: Form<'a>) -> Entry<'a>
+fn item<'a>(line: u64, fxy: Fxy, form: DraftValue<'a>) -> DraftEntry<'a>
     ensures { entry_in result ≡ Holds (draft line fxy (form_in form.entry)) }
 {
-    Entry::Item(DraftItem { line, fxy, form })
+    DraftEntry::Item(DraftItem { line, fxy, form })
 }
 
 /// An entry as it was found among the others, with its octets.
 #[derive(Clone, Copy)]
-pub(crate) struct Found<'a> {
+pub(crate) struct EntryRef<'a> {
     octets: &'a [u8],
     line: u64,
     word: u16,
-    kind: Kind,
+    kind: EntryKind,
 }
 
-impl<'a> Found<'a> {
+impl<'a> EntryRef<'a> {
     ghost use Rattle.std.specs.Prelude.{◌≡◌};
     ghost use Rattle.bufr_fill.specs.Given.{entry_in};
     ghost use Rattle.bufr_fill.specs.Kept.{entry_found};
 
     /// The entry.
     #[inline(always)]
-    pub(crate) fn entry(self) -> Entry<'a>
+    pub(crate) fn entry(self) -> DraftEntry<'a>
         ensures { entry_in result ≡ entry_found self.entry }
     {
         let fxy = Fxy::from_word(self.word);
         match self.kind {
-            Kind::Number => item(self.line, fxy, Form::Number(self.octets)),
-            Kind::Text => item(self.line, fxy, Form::Text(self.octets)),
-            Kind::Missing => item(self.line, fxy, Form::Missing),
-            Kind::Reference => item(self.line, fxy, Form::Reference(self.octets)),
-            Kind::End => Entry::End(self.line),
+            EntryKind::Number => item(self.line, fxy, DraftValue::Number(self.octets)),
+            EntryKind::Text => item(self.line, fxy, DraftValue::Text(self.octets)),
+            EntryKind::Missing => item(self.line, fxy, DraftValue::Missing),
+            EntryKind::Reference => item(self.line, fxy, DraftValue::Reference(self.octets)),
+            EntryKind::End => DraftEntry::End(self.line),
         }
     }
 }
 
 /// The entry that is kept, with its octets in this block.
 #[inline(always)]
-fn found_in<'a>(octets: &'a [u8], kept: Kept) -> Found<'a>
-    requires { IsInside (length octets.now) kept }
+fn found_in<'a>(octets: &'a [u8], kept: StoredEntry) -> EntryRef<'a>
+    requires { IsEntryInside (length octets.now) kept }
     ensures { entry_found result ≡ entry_kept octets.now kept }
 {
-    Found {
+    EntryRef {
         octets: &octets[kept.start..kept.end],
         line: kept.line,
         word: kept.fxy.word(),
@@ -103,23 +103,23 @@ fn found_in<'a>(octets: &'a [u8], kept: Kept) -> Found<'a>
 ///
 /// ```
 /// let mut entries = Entries::new(alloc);
-/// entries.push_item(9, Fxy::from_word(257), Form::Number(b"10"))?;
+/// entries.push_item(9, Fxy::from_word(257), DraftValue::Number(b"10"))?;
 /// entries.push_end(10)?;
-/// assert_eq!(rt; entries.get(1), Some(Entry::End(10)));
+/// assert_eq!(rt; entries.get(1), Some(DraftEntry::End(10)));
 /// ```
 #[derive(Drop)]
 pub struct Entries {
     /// Tokens and texts, one after another.
     octets: Vec<u8>,
-    kept: Vec<Kept>,
+    kept: Vec<StoredEntry>,
 }
 
 impl Model for Entries {
     ghost use Rattle.std.specs.Prelude.{List, length};
-    ghost use Rattle.bufr_fill.specs.Entries.{Entry};
+    ghost use Rattle.bufr_fill.specs.Entries.{DraftEntry};
     ghost use Rattle.bufr_fill.specs.Kept.{entries_kept, AreInside};
 
-    ghost Value = { List Entry };
+    ghost Value = { List DraftEntry };
 
     ghost view = { λ e. entries_kept e.octets.items e.kept.items };
 
@@ -157,7 +157,7 @@ impl Entries {
     ///
     /// [`AllocError`] where the list could not grow; the entries are the same then.
     #[inline(always)]
-    pub fn push_item(&mut self, line: u64, fxy: Fxy, form: Form<'_>) -> Result<(), AllocError>
+    pub fn push_item(&mut self, line: u64, fxy: Fxy, form: DraftValue<'_>) -> Result<(), AllocError>
         ensures item { OnOk result
             (self.new ≡ self.old ++ Holds (draft line fxy (form_in form.entry)) ∷ []) }
         ensures same { OnErr result (self.new ≡ self.old) }
@@ -166,7 +166,7 @@ impl Entries {
         let start = self.octets.len();
         self.octets.extend_from_slice(octets)?;
         let end = self.octets.len();
-        self.kept.push(Kept {
+        self.kept.push(StoredEntry {
             line,
             start,
             end,
@@ -186,12 +186,12 @@ impl Entries {
         ensures same { OnErr result (self.new ≡ self.old) }
     {
         let end = self.octets.len();
-        self.kept.push(Kept {
+        self.kept.push(StoredEntry {
             line,
             start: end,
             end,
             fxy: Fxy::from_word(0),
-            kind: Kind::End,
+            kind: EntryKind::End,
         })?;
         Ok(())
     }
@@ -205,7 +205,7 @@ impl Entries {
 
     /// The entry at a place, from 0, or `None` behind the last.
     #[inline(always)]
-    pub fn get(&self, place: usize) -> Option<Entry<'_>>
+    pub fn get(&self, place: usize) -> Option<DraftEntry<'_>>
         ensures { option_map entry_in result ≡ slice_get self.now place }
     {
         Some(self.find(place)?.entry())
@@ -214,7 +214,7 @@ impl Entries {
     /// The entry at a place, from 0, with its octets, or `None` behind the last. They are not
     /// looked at.
     #[inline(always)]
-    pub(crate) fn find(&self, place: usize) -> Option<Found<'_>>
+    pub(crate) fn find(&self, place: usize) -> Option<EntryRef<'_>>
         ensures { option_map entry_found result ≡ slice_get self.now place }
     {
         if place < self.kept.len() {
@@ -229,6 +229,6 @@ impl Entries {
         requires { place < length self.now }
         ensures { Some result ≡ option_map is_end (slice_get self.now place) }
     {
-        matches!(self.kept[place].kind, Kind::End)
+        matches!(self.kept[place].kind, EntryKind::End)
     }
 }

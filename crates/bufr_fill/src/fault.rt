@@ -51,11 +51,11 @@ pub enum DraftFault {
 
 impl DraftFault {
     ghost use Rattle.std.specs.Prelude.{◌≡◌};
-    ghost use Rattle.bufr_fill.specs.Told.{number_of_fault};
+    ghost use Rattle.bufr_fill.specs.DraftFaults.{number_of_draft_fault};
 
     /// Its number: 51 to 55, 58, 59, 35 for too many values, and 73 for want of memory.
     pub fn number(self) -> u8
-        ensures { result ≡ number_of_fault self }
+        ensures { result ≡ number_of_draft_fault self }
     {
         match self {
             DraftFault::WrongDescriptor(_, _) => 51,
@@ -84,11 +84,11 @@ pub(crate) enum Wrong {
 impl Wrong {
     ghost use Rattle.std.specs.Prelude.{◌≡◌, Some};
     ghost use Rattle.bufr_fill.specs.Fault.{at_line};
-    ghost use Rattle.bufr_fill.specs.Told.{told_fault, fault_of};
+    ghost use Rattle.bufr_fill.specs.DraftFaults.{draft_fault, item_fault_of};
 
     /// The fault on a line.
     pub(crate) fn at(self, line: u64) -> DraftFault
-        ensures { told_fault result ≡ Some (at_line line (fault_of self)) }
+        ensures { draft_fault result ≡ Some (at_line line (item_fault_of self)) }
     {
         match self {
             Wrong::Descriptor(expected) => DraftFault::WrongDescriptor(line, expected),

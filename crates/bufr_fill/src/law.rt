@@ -2,28 +2,28 @@
 //! are written to bits from which the same is read, and no more bits than were read, each item of
 //! compressed data with the least `k`.
 ghost use Rattle.std.specs.Prelude.{◌≡◌, ◌≤◌, ℕ, List, [], Bool, length, Ok, Err};
-ghost use Rattle.bufr_walk.specs.Asked.{Asked, IsSpec};
+ghost use Rattle.bufr_walk.specs.FieldSpec.{FieldSpec, IsSpec};
 ghost use Rattle.bufr_walk.specs.Content.{Content};
 ghost use Rattle.bufr_walk.specs.Course.{Course, at_end};
 ghost use Rattle.bufr_walk.specs.PackedField.{packed_field};
 ghost use Rattle.bufr_walk.specs.PlainField.{found};
-ghost use Rattle.bufr_walk.specs.Reading.{most_values, Item, ReadsSubsets, IsPackedReading};
-ghost use Rattle.bufr_walk.specs.Taking.{Turn, Takes};
-ghost use Rattle.bufr_walk.specs.Walked.{oks, told_by};
+ghost use Rattle.bufr_walk.specs.Reading.{max_values, Item, ReadsSubsets, IsPackedReading};
+ghost use Rattle.bufr_walk.specs.Taking.{TakenField, Takes};
+ghost use Rattle.bufr_walk.specs.Walked.{oks, answers_of};
 ghost use Rattle.bufr_fill.specs.Alike.{AllAlike};
 ghost use Rattle.bufr_fill.specs.DraftContent.{plain_filler};
-ghost use Rattle.bufr_fill.specs.Entries.{Entry, Subset};
+ghost use Rattle.bufr_fill.specs.Entries.{DraftEntry, Subset};
 ghost use Rattle.bufr_fill.specs.Fault.{FaultAt};
 ghost use Rattle.bufr_fill.specs.Filling.{fill};
 ghost use Rattle.bufr_fill.specs.Encoding.{cells_at, packed_filler, packed_data, plain_data};
-ghost use Rattle.bufr_fill.specs.Laws.{OfTemplates, WritesSo};
+ghost use Rattle.bufr_fill.specs.Laws.{OfTemplates, WritesDrafts};
 ghost use Rattle.bufr_fill.specs.LeastK.{HasLeastK};
 ghost use Rattle.bufr_fill.specs.Fits.{AllFit};
 ghost use Rattle.bufr_fill.specs.Packing.{packing};
 ghost use Rattle.bufr_fill.specs.ReadBack.{AllHaveOctets, AreSaid, AreSaidFrom, IsReadBack, IsPackedReadBack};
-ghost use Rattle.bufr_fill.specs.PackedOut.{PackedPen, packed_start, PackedFills, all_end, rows_left, IsFaultHere};
+ghost use Rattle.bufr_fill.specs.PackedOut.{PackedOutModel, new_packed_out, PackedFills, all_at_end, rows_left, IsFaultHere};
 ghost use Rattle.bufr_fill.specs.OtherForm.{IsWrittenApart, IsTogetherOrNot};
-ghost use Rattle.bufr_fill.specs.PlainOut.{Pen, PlainFills, IsFaultNext, items_left, end_left};
+ghost use Rattle.bufr_fill.specs.PlainOut.{PlainOutModel, PlainFills, IsFaultNext, items_left, end_left};
 ghost use Rattle.bufr_fill.specs.WrittenAgain.{AreDumped, AreDumpedFrom, IsWrittenAgain, IsPackedAgain};
 
 /// What was read of data that are not compressed is written again, from the items of its dump, to
@@ -50,7 +50,7 @@ pub fn packed_data_round_trip()
 /// read (WMO-No. 306, Volume I.2, FM 94: section 4, compression; that the `k` is the least is a
 /// choice of this project).
 pub fn items_are_packed_with_the_least_k()
-    ensures { (n : ℕ) (spec : Asked) (contents : List Content) (bits behind : List Bool)
+    ensures { (n : ℕ) (spec : FieldSpec) (contents : List Content) (bits behind : List Bool)
         → 1 ≤ n → IsSpec spec
         → packed_field n spec bits ≡ Ok (found contents behind) → HasLeastK n spec contents }
 {}
@@ -58,7 +58,7 @@ pub fn items_are_packed_with_the_least_k()
 /// Contents that fit their field, and that are packed, are packed with the least `k` of all from
 /// which they can be read, whatever they come from.
 pub fn fitting_items_are_packed_with_the_least_k()
-    ensures { (n : ℕ) (spec : Asked) (contents : List Content) (out : List Bool) → 1 ≤ n
+    ensures { (n : ℕ) (spec : FieldSpec) (contents : List Content) (out : List Bool) → 1 ≤ n
         → IsSpec spec → AllFit spec contents → length contents ≡ n
         → packing spec contents ≡ Ok out → HasLeastK n spec contents }
 {}
@@ -126,7 +126,7 @@ pub fn compressed_data_are_written_apart()
 /// 4, compression).
 pub fn plain_data_are_written_together()
     ensures { OfTemplates (λ course. (subsets : List (List (Item Content))) (drafts : List Subset)
-        (bits behind : List Bool) → length bits ≤ most_values
+        (bits behind : List Bool) → length bits ≤ max_values
         → AreDumped subsets drafts → ReadsSubsets course subsets bits behind
         → IsTogetherOrNot course subsets drafts) }
 {}
@@ -135,9 +135,10 @@ pub fn plain_data_are_written_together()
 /// are left.
 #[tactic(auto, using(crate::proofs::PlainWalks::walk_of_items))]
 pub fn plain_walk_writes_as_defined()
-    ensures { (end : ℕ) (course : Course) (s : Pen) (items : List Turn) (s' : Pen)
+    ensures { (end : ℕ) (course : Course) (s : PlainOutModel) (items : List TakenField)
+        (s' : PlainOutModel)
         → Takes (oks PlainFills) course s items s'
-        → WritesSo (plain_filler end) course items s.bits s'.bits (items_left s.left)
+        → WritesDrafts (plain_filler end) course items s.bits s'.bits (items_left s.left)
         (items_left s'.left) }
 {}
 
@@ -145,7 +146,8 @@ pub fn plain_walk_writes_as_defined()
 /// that of a width or a turn on the next entry's line, or an item that is left over.
 #[tactic(auto, using(crate::proofs::PlainWalks::fault_as_defined))]
 pub fn plain_fault_is_as_defined()
-    ensures { (course : Course) (left : List Entry) (f : FaultAt) → IsFaultNext (course []).next
+    ensures { (course : Course) (left : List DraftEntry) (f : FaultAt)
+        → IsFaultNext (course []).next
         left f → fill (plain_filler (end_left left)) course (items_left left) ≡ Err f }
 {}
 
@@ -153,9 +155,10 @@ pub fn plain_fault_is_as_defined()
 /// are left.
 #[tactic(auto, using(crate::proofs::PackedWalks::walk_of_rows))]
 pub fn packed_walk_writes_as_defined()
-    ensures { (end : ℕ) (many : Bool) (course : Course) (s : PackedPen) (items : List Turn)
-        (s' : PackedPen) → Takes (oks PackedFills) course s items s'
-        → WritesSo (packed_filler end many) course items s.bits s'.bits
+    ensures { (end : ℕ) (many : Bool) (course : Course) (s : PackedOutModel)
+        (items : List TakenField)
+        (s' : PackedOutModel) → Takes (oks PackedFills) course s items s'
+        → WritesDrafts (packed_filler end many) course items s.bits s'.bits
         (rows_left s) (rows_left s') }
 {}
 
@@ -164,19 +167,21 @@ pub fn packed_walk_writes_as_defined()
 /// is left over.
 #[tactic(auto, using(crate::proofs::PackedFaults::fault_as_defined))]
 pub fn packed_fault_is_as_defined()
-    ensures { (course : Course) (subsets : List Subset) (items : List Turn) (s : PackedPen)
+    ensures { (course : Course) (subsets : List Subset) (items : List TakenField)
+        (s : PackedOutModel)
         (f : FaultAt) → 1 ≤ length subsets
-        → Takes (oks PackedFills) course (packed_start subsets) items s
-        → IsFaultHere (course (told_by items)).next s f → packed_data course subsets ≡ Err f }
+        → Takes (oks PackedFills) course (new_packed_out subsets) items s
+        → IsFaultHere (course (answers_of items)).next s f → packed_data course subsets ≡ Err f }
 {}
 
 /// Where such a walk ends and no item is left over, the bits that were written are the data of all
 /// subsets.
 #[tactic(auto, using(crate::proofs::PackedFaults::written_as_defined))]
 pub fn packed_data_are_written_as_defined()
-    ensures { (course : Course) (subsets : List Subset) (items : List Turn) (s : PackedPen)
+    ensures { (course : Course) (subsets : List Subset) (items : List TakenField)
+        (s : PackedOutModel)
         → 1 ≤ length subsets
-        → Takes (oks PackedFills) course (packed_start subsets) items s
-        → (course (told_by items)).next ≡ at_end
-        → all_end (cells_at s.place s.subsets) ≡ Ok tt → packed_data course subsets ≡ Ok s.bits }
+        → Takes (oks PackedFills) course (new_packed_out subsets) items s
+        → (course (answers_of items)).next ≡ at_end
+        → all_at_end (cells_at s.place s.subsets) ≡ Ok tt → packed_data course subsets ≡ Ok s.bits }
 {}

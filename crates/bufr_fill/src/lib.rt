@@ -6,17 +6,17 @@
 #![tactic(auto)]
 
 mod draft;
-mod draw;
 mod entries;
 mod fault;
-mod gather;
+mod field_value;
 pub mod law;
 mod packed_out;
+mod packed_rows;
 mod packing;
 mod plain_out;
 mod put;
 
-pub use draft::{DraftItem, Entry, Form};
+pub use draft::{DraftEntry, DraftItem, DraftValue};
 pub use entries::Entries;
 pub use fault::{DraftFault, Expected};
 pub use packed_out::PackedOut;

@@ -1,21 +1,21 @@
 //! Items of a dump text written as compressed data.
 ghost use Rattle.std.specs.Prelude.{◌≡◌, ◌≤◌, ◌<◌, ◌+◌, ◌*◌, ◌/◌, ◌^◌, IfOk, Ok, length};
-ghost use Rattle.bufr_walk.specs.Asked.{IsFor};
-ghost use Rattle.bufr_walk.specs.Reading.{most_values};
-ghost use Rattle.bufr_fill.specs.Encoding.{across, cells_at, contents_here};
+ghost use Rattle.bufr_walk.specs.FieldSpec.{IsFor};
+ghost use Rattle.bufr_walk.specs.Reading.{max_values};
+ghost use Rattle.bufr_fill.specs.Encoding.{item_row, cells_at, contents_here};
 ghost use Rattle.bufr_fill.specs.Entries.{subsets_of};
-ghost use Rattle.bufr_fill.specs.Gathered.{AllDrawn, contents_drawn};
+ghost use Rattle.bufr_fill.specs.PackedRows.{AllDrawn, contents_drawn};
 ghost use Rattle.bufr_fill.specs.Packs.{PutAcross};
 ghost use Rattle.bufr_fill.specs.PackedOut.{ends_of};
 
-use crate::draw::Drawn;
-use crate::entries::{Entries, Found};
+use crate::entries::{Entries, EntryRef};
 use crate::fault::DraftFault;
-use crate::gather::{all_end, first_line, gather, unlike_line};
-use crate::packing::{Unpacked, pack};
+use crate::field_value::FieldContent;
+use crate::packed_rows::{all_at_end, first_line, read_row, unlike_line};
+use crate::packing::{PackingFault, pack};
 use crate::put::taken_of;
 use bufr_bits::BitWriter;
-use bufr_walk::{Fields, MOST_VALUES, Spec, Taken};
+use bufr_walk::{Fields, MAX_VALUES, Spec, Taken};
 use std::alloc::{AllocError, Global};
 use std::marker::Model;
 
@@ -33,17 +33,17 @@ pub struct PackedOut<'s> {
     place: usize,
     /// The entries of the item that is packed, and what they give. Each item uses their memory
     /// again.
-    found: Vec<Found<'s>>,
-    drawn: Vec<Drawn<'s>>,
+    found: Vec<EntryRef<'s>>,
+    drawn: Vec<FieldContent<'s>>,
     out: BitWriter,
 }
 
 impl<'s> Model for PackedOut<'s> {
     ghost use Rattle.std.specs.Prelude.{length};
     ghost use Rattle.bufr_fill.specs.Entries.{subsets_of};
-    ghost use Rattle.bufr_fill.specs.PackedOut.{PackedPen, IsPackedOut};
+    ghost use Rattle.bufr_fill.specs.PackedOut.{PackedOutModel, IsPackedOut};
 
-    ghost Value = { PackedPen };
+    ghost Value = { PackedOutModel };
 
     ghost view = { λ s. record {
       subsets = subsets_of s.entries.now;
@@ -74,13 +74,13 @@ fn put_drawn(
     ends: &[usize],
     place: usize,
     spec: &Spec,
-    drawn: &[Drawn<'_>],
+    drawn: &[FieldContent<'_>],
     out: &mut BitWriter,
 ) -> Result<Taken, DraftFault>
     requires ends { ends.now ≡ ends_of 0 entries.now }
     requires few { length entries.now ≤ 2 ^ 45 }
     requires some { 0 < length ends.now }
-    requires values { (place + 1) * length ends.now ≤ most_values }
+    requires values { (place + 1) * length ends.now ≤ max_values }
     requires near { place ≤ 2 ^ 45 }
     requires given { contents_here spec.now (cells_at place (subsets_of entries.now))
         ≡ Ok (contents_drawn (spec.now.width / 8) drawn.now) }
@@ -88,17 +88,17 @@ fn put_drawn(
     requires many { length drawn.now ≡ length ends.now }
     requires room { length out.old + (2046 + 504 * length ends.now) + 2040 ≤ 2 ^ 63 }
     ensures put { PutAcross out.old out.new spec.now
-        (across place (subsets_of entries.now))
+        (item_row place (subsets_of entries.now))
         (2046 + 504 * length ends.now) result }
     ensures shape { IfOk result (λ t. IsFor spec.now t) }
 {
     match pack(out, drawn, spec) {
         Ok(()) => Ok(taken_of(drawn[0], spec)),
-        Err(Unpacked::Unequal) => Err(DraftFault::UnequalFactor(unlike_line(
+        Err(PackingFault::Unequal) => Err(DraftFault::UnequalFactor(unlike_line(
             entries, ends, place, spec, drawn,
         ))),
-        Err(Unpacked::Uneven) => Err(DraftFault::Increment(first_line(entries, ends, place))),
-        Err(Unpacked::Memory) => Err(DraftFault::Memory),
+        Err(PackingFault::Uneven) => Err(DraftFault::Increment(first_line(entries, ends, place))),
+        Err(PackingFault::Memory) => Err(DraftFault::Memory),
     }
 }
 
@@ -108,27 +108,27 @@ fn pack_next<'a>(
     ends: &[usize],
     place: usize,
     spec: &Spec,
-    found: &mut Vec<Found<'a>>,
-    drawn: &mut Vec<Drawn<'a>>,
+    found: &mut Vec<EntryRef<'a>>,
+    drawn: &mut Vec<FieldContent<'a>>,
     out: &mut BitWriter,
 ) -> Result<Taken, DraftFault>
     requires ends { ends.now ≡ ends_of 0 entries.now }
     requires few { length entries.now ≤ 2 ^ 45 }
     requires some { 0 < length ends.now }
-    requires values { place * length ends.now ≤ most_values }
+    requires values { place * length ends.now ≤ max_values }
     requires near { place ≤ 2 ^ 45 }
     requires room { length out.old + (2046 + 504 * length ends.now) + 2040 ≤ 2 ^ 63 }
     ensures put { PutAcross out.old out.new spec.now
-        (across place (subsets_of entries.now))
+        (item_row place (subsets_of entries.now))
         (2046 + 504 * length ends.now) result }
     ensures shape { IfOk result (λ t. IsFor spec.now t) }
-    ensures values { IfOk result (λ t. (place + 1) * length ends.now ≤ most_values) }
+    ensures values { IfOk result (λ t. (place + 1) * length ends.now ≤ max_values) }
 {
-    if (place as u64 + 1) * ends.len() as u64 > MOST_VALUES {
+    if (place as u64 + 1) * ends.len() as u64 > MAX_VALUES {
         let line = first_line(entries, ends, place);
         return Err(DraftFault::TooManyValues(line, spec.fxy()));
     }
-    match gather(entries, ends, place, spec, found, drawn) {
+    match read_row(entries, ends, place, spec, found, drawn) {
         Ok(()) => put_drawn(entries, ends, place, spec, drawn, out),
         Err(why) => Err(why),
     }
@@ -138,7 +138,7 @@ impl<'s> PackedOut<'s> {
     ghost use Rattle.std.specs.Prelude.{◌≡◌, ◌≤◌, ◌<◌, ◌+◌, ◌/◌, ◌^◌, ◌++◌, length, vec_len, IfOk};
     ghost use Rattle.bufr_bits.specs.Bits.{bits_of, padding};
     ghost use Rattle.bufr_fill.specs.Entries.{subsets_of};
-    ghost use Rattle.bufr_fill.specs.PackedOut.{StartsSo, first_line_at, EndsSo};
+    ghost use Rattle.bufr_fill.specs.PackedOut.{StartsPackedOut, first_line_at, EndsAllSubsets};
 
     /// The items of all subsets and the lines that end them, at most 2^45 together; `None` where
     /// there is no subset, since no bit is written then.
@@ -148,7 +148,7 @@ impl<'s> PackedOut<'s> {
     /// [`AllocError`] where the places of the subsets could not be kept.
     pub fn new(alloc: Global, entries: &'s Entries) -> Result<Option<PackedOut<'s>>, AllocError>
         requires few { length entries.now ≤ 2 ^ 45 }
-        ensures { IfOk result (λ out. StartsSo (subsets_of entries.now) out) }
+        ensures { IfOk result (λ out. StartsPackedOut (subsets_of entries.now) out) }
     {
         let ends = ends_in(alloc, entries)?;
         if ends.is_empty() {
@@ -178,9 +178,9 @@ impl<'s> PackedOut<'s> {
     ///
     /// [`DraftFault::WrongDescriptor`] with the first subset that has an item more.
     pub fn end(&self) -> Result<(), DraftFault>
-        ensures { EndsSo self.now.place self.now.subsets result }
+        ensures { EndsAllSubsets self.now.place self.now.subsets result }
     {
-        all_end(self.entries, &self.ends, self.place)
+        all_at_end(self.entries, &self.ends, self.place)
     }
 
     /// The octets of the bits of whole items, with zero bits to the next octet. It takes no memory.

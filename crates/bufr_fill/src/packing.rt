@@ -3,21 +3,21 @@ ghost use Rattle.std.specs.Prelude.{ℕ, ◌≡◌, ◌≤◌, ◌<◌, ◌+◌,
 ghost use Rattle.std.specs.List.{list_all, flat_map};
 ghost use Rattle.bufr_bits.specs.Bits.{bits_in, bits_of};
 ghost use Rattle.bufr_tables.specs.TableB.{is_character};
-ghost use Rattle.bufr_walk.specs.Asked.{is_reference};
-ghost use Rattle.bufr_fill.specs.Drawn.{content_drawn, spaced, IsDrawn};
-ghost use Rattle.bufr_fill.specs.Gathered.{AllDrawn, contents_drawn};
-ghost use Rattle.bufr_fill.specs.Packing.{top, same, same_octets, are_same, lowest, first_from, least_k, has_bits, has_octets, increment_bits, octet_bits, packed_bits, numbers_over, packed_numbers, packed_texts, packed_by, packed_unlike, packing};
-ghost use Rattle.bufr_fill.specs.Packs.{over_of, spread, lesser, number_in, trimmed, need, need_of, most_need, octet_in, Grows, PackedSo, IsShort, AreShort, least_from};
+ghost use Rattle.bufr_walk.specs.FieldSpec.{is_reference};
+ghost use Rattle.bufr_fill.specs.FieldContent.{content_drawn, spaced, IsDrawn};
+ghost use Rattle.bufr_fill.specs.PackedRows.{AllDrawn, contents_drawn};
+ghost use Rattle.bufr_fill.specs.Packing.{raw_limit, same, same_octets, are_same, lowest, first_from, least_k, has_bits, has_octets, increment_bits, octet_bits, packed_bits, numbers_over, packed_numbers, packed_texts, packed_by, packed_unlike, packing};
+ghost use Rattle.bufr_fill.specs.Packs.{over_of, spread, lesser, number_in, trimmed, need, need_of, most_need, octet_in, ExtendsBits, PacksItem, FitsIncrement, AreShort, least_from};
 ghost use Rattle.bufr_walk.specs.Content.{bits_for};
 
-use crate::draw::{Drawn, are_full, top_of};
+use crate::field_value::{FieldContent, is_all_255, raw_limit};
 use crate::put::{push_drawn, push_full, with_spaces};
 use bufr_bits::BitWriter;
 use bufr_walk::{Role, Spec};
 use std::alloc::AllocError;
 
 /// Why an item cannot be packed.
-pub(crate) enum Unpacked {
+pub(crate) enum PackingFault {
     /// Its counts differ.
     Unequal,
     /// Its references differ, or its texts only behind octet 63.
@@ -26,14 +26,14 @@ pub(crate) enum Unpacked {
     Memory,
 }
 
-impl From<AllocError> for Unpacked {
+impl From<AllocError> for PackingFault {
     ghost use Rattle.std.specs.Prelude.{◌≡◌};
-    ghost use Rattle.bufr_fill.specs.declared.packing.Unpacked.TheVariants as unpacked;
+    ghost use Rattle.bufr_fill.specs.declared.packing.PackingFault.TheVariants as unpacked;
 
     ghost from_gives = { λ w e. e ≡ unpacked.Memory };
 
-    fn from(_: AllocError) -> Unpacked {
-        Unpacked::Memory
+    fn from(_: AllocError) -> PackingFault {
+        PackingFault::Memory
     }
 }
 
@@ -64,7 +64,7 @@ fn same_text(one: &[u8], other: &[u8], count: usize) -> bool
 
 /// Whether two contents of a field are the same.
 #[tactic(auto, using(crate::proofs::PackSteps::same_references, crate::proofs::PackSteps::other_references))]
-pub(crate) fn is_same(one: Drawn<'_>, other: Drawn<'_>, spec: &Spec) -> bool
+pub(crate) fn is_same(one: FieldContent<'_>, other: FieldContent<'_>, spec: &Spec) -> bool
     requires one { IsDrawn spec.now one }
     requires other { IsDrawn spec.now other }
     ensures { result ≡ same (content_drawn (spec.now.width / 8) one.entry)
@@ -72,17 +72,17 @@ pub(crate) fn is_same(one: Drawn<'_>, other: Drawn<'_>, spec: &Spec) -> bool
 {
     let count = (spec.width() / 8) as usize;
     match (one, other) {
-        (Drawn::Number(a), Drawn::Number(b)) => a == b,
-        (Drawn::Text(a), Drawn::Text(b)) => same_text(a, b, count),
-        (Drawn::Missing, Drawn::Missing) => true,
-        (Drawn::Reference(a), Drawn::Reference(b)) => a == b,
+        (FieldContent::Number(a), FieldContent::Number(b)) => a == b,
+        (FieldContent::Text(a), FieldContent::Text(b)) => same_text(a, b, count),
+        (FieldContent::Missing, FieldContent::Missing) => true,
+        (FieldContent::Reference(a), FieldContent::Reference(b)) => a == b,
         _ => false,
     }
 }
 
 /// Whether all are the same as one.
 #[tactic(auto, using(crate::proofs::PackSteps::drawn_at, crate::proofs::PackSteps::alike_more, crate::proofs::PackSteps::alike_not, crate::proofs::PackSteps::alike_done))]
-fn are_alike(first: Drawn<'_>, drawn: &[Drawn<'_>], spec: &Spec) -> bool
+fn are_alike(first: FieldContent<'_>, drawn: &[FieldContent<'_>], spec: &Spec) -> bool
     requires first { IsDrawn spec.now first }
     requires drawn { AllDrawn spec.now drawn.now }
     ensures { result ≡ are_same (content_drawn (spec.now.width / 8) first.entry)
@@ -97,48 +97,48 @@ fn are_alike(first: Drawn<'_>, drawn: &[Drawn<'_>], spec: &Spec) -> bool
 }
 
 /// The lesser of a number that may be there and what was drawn, where that is a number.
-fn lesser_of(found: Option<u64>, drawn: Drawn<'_>) -> Option<u64>
+fn min_number(found: Option<u64>, drawn: FieldContent<'_>) -> Option<u64>
     ensures { result ≡ lesser found (number_in drawn.entry) }
 {
     match (found, drawn) {
-        (Some(least), Drawn::Number(raw)) => Some(least.min(raw)),
-        (None, Drawn::Number(raw)) => Some(raw),
+        (Some(least), FieldContent::Number(raw)) => Some(least.min(raw)),
+        (None, FieldContent::Number(raw)) => Some(raw),
         (found, _) => found,
     }
 }
 
 /// The least number, of those that are there.
 #[tactic(auto, using(crate::proofs::PackSteps::lowest_more, crate::proofs::PackSteps::lowest_done))]
-fn lowest_of(drawn: &[Drawn<'_>]) -> Option<u64>
+fn lowest_of(drawn: &[FieldContent<'_>]) -> Option<u64>
     ensures { (count : ℕ) → result ≡ lowest (contents_drawn count drawn.now) }
 {
     let mut found: Option<u64> = None;
     for d in drawn {
-        found = lesser_of(found, *d);
+        found = min_number(found, *d);
     }
     found
 }
 
 /// The increment over a base.
-fn over(drawn: Drawn<'_>, base: u64) -> u64
+fn increment_over(drawn: FieldContent<'_>, base: u64) -> u64
     ensures { result ≡ over_of base drawn.entry }
 {
     match drawn {
-        Drawn::Number(raw) => raw.saturating_sub(base),
-        Drawn::Text(_) => 0,
-        Drawn::Missing => 0,
-        Drawn::Reference(_) => 0,
+        FieldContent::Number(raw) => raw.saturating_sub(base),
+        FieldContent::Text(_) => 0,
+        FieldContent::Missing => 0,
+        FieldContent::Reference(_) => 0,
     }
 }
 
 /// The greatest increment over a base.
 #[tactic(auto, using(crate::proofs::PackSteps::spread_more, crate::proofs::PackSteps::spread_done))]
-fn spread_of(drawn: &[Drawn<'_>], base: u64) -> u64
+fn max_increment(drawn: &[FieldContent<'_>], base: u64) -> u64
     ensures { result ≡ spread base drawn.now }
 {
     let mut most: u64 = 0;
     for d in drawn {
-        most = over(*d, base).max(most);
+        most = increment_over(*d, base).max(most);
     }
     most
 }
@@ -150,7 +150,7 @@ fn least_bits(spread: u64, may_be_missing: bool) -> u32
     ensures { result ≡ least_from may_be_missing spread 1 }
 {
     for k in 1..64u32 {
-        if spread < top_of(may_be_missing, k) {
+        if spread < raw_limit(may_be_missing, k) {
             return k;
         }
     }
@@ -159,18 +159,18 @@ fn least_bits(spread: u64, may_be_missing: bool) -> u32
 
 /// The number of the bits that write an increment.
 #[tactic(auto, using(crate::proofs::DrawnLemmas::ones_bits))]
-fn increment_of(drawn: Drawn<'_>, base: u64, k: u32) -> u64
+fn increment_of(drawn: FieldContent<'_>, base: u64, k: u32) -> u64
     requires narrow { k ≤ 63 }
-    requires short { IsShort base k drawn }
+    requires short { FitsIncrement base k drawn }
     ensures bits { (count : ℕ)
         → bits_in result k ≡ increment_bits base k (content_drawn count drawn.entry) }
     ensures below { result < 2 ^ k }
 {
     match drawn {
-        Drawn::Number(raw) => raw.saturating_sub(base),
-        Drawn::Text(_) => (1u64 << k) - 1,
-        Drawn::Missing => (1u64 << k) - 1,
-        Drawn::Reference(_) => (1u64 << k) - 1,
+        FieldContent::Number(raw) => raw.saturating_sub(base),
+        FieldContent::Text(_) => (1u64 << k) - 1,
+        FieldContent::Missing => (1u64 << k) - 1,
+        FieldContent::Reference(_) => (1u64 << k) - 1,
     }
 }
 
@@ -178,7 +178,7 @@ fn increment_of(drawn: Drawn<'_>, base: u64, k: u32) -> u64
 #[tactic(auto, using(crate::proofs::PackSteps::short_at, crate::proofs::PackSteps::flat_done))]
 fn push_increments(
     out: &mut BitWriter,
-    drawn: &[Drawn<'_>],
+    drawn: &[FieldContent<'_>],
     base: u64,
     k: u32,
 ) -> Result<(), AllocError>
@@ -189,7 +189,7 @@ fn push_increments(
         (out.new ≡ out.old ++ flat_map (increment_bits base k) (contents_drawn count drawn.now)) }
     ensures most { OnOk result (length out.new ≤ length out.old + 63 * length drawn.now) }
     ensures least { OnOk result (length out.old ≤ length out.new) }
-    ensures grown { Grows out.old out.new }
+    ensures grown { ExtendsBits out.old out.new }
 {
     for d in drawn {
         out.push(increment_of(*d, base, k), k)?;
@@ -198,17 +198,21 @@ fn push_increments(
 }
 
 /// Writes numbers that differ: the least of them, `k`, and the increments over it.
-fn pack_numbers(out: &mut BitWriter, drawn: &[Drawn<'_>], spec: &Spec) -> Result<(), Unpacked>
+fn pack_numbers(
+    out: &mut BitWriter,
+    drawn: &[FieldContent<'_>],
+    spec: &Spec,
+) -> Result<(), PackingFault>
     requires number { is_character spec.now.kind ≡ false }
     requires element { is_reference spec.now.role ≡ false }
     requires drawn { AllDrawn spec.now drawn.now }
     requires room { length out.old + (69 + 63 * length drawn.now) ≤ 2 ^ 63 }
-    ensures { PackedSo out.old out.new (packed_by spec.now.kind spec.now
+    ensures { PacksItem out.old out.new (packed_by spec.now.kind spec.now
         (contents_drawn (spec.now.width / 8) drawn.now)) (69 + 63 * length drawn.now) result }
 {
     let may_be_missing = spec.may_be_missing();
     let base = lowest_of(drawn).unwrap_or(0);
-    let k = least_bits(spread_of(drawn, base), may_be_missing);
+    let k = least_bits(max_increment(drawn, base), may_be_missing);
     out.push(base, spec.width())?;
     out.push(u64::from(k), 6)?;
     push_increments(out, drawn, base, k)?;
@@ -235,7 +239,7 @@ fn text_need(octets: &[u8]) -> usize
     ensures { result ≡ need octets.now }
 {
     let len = trimmed_len(octets);
-    if are_full(&octets[..len]) {
+    if is_all_255(&octets[..len]) {
         len + 1
     } else {
         len
@@ -244,23 +248,23 @@ fn text_need(octets: &[u8]) -> usize
 
 /// How many octets tell what was drawn, where that is a text.
 #[tactic(auto, using(crate::proofs::PackSteps::eighth_most))]
-fn drawn_need(drawn: Drawn<'_>, spec: &Spec) -> usize
+fn drawn_need(drawn: FieldContent<'_>, spec: &Spec) -> usize
     requires { IsDrawn spec.now drawn }
     ensures value { result ≡ need_of drawn.entry }
 {
     // For the proof alone: a text has at most 255 octets.
     let _width = spec.width();
     match drawn {
-        Drawn::Text(octets) => text_need(octets),
-        Drawn::Number(_) => 1,
-        Drawn::Missing => 1,
-        Drawn::Reference(_) => 1,
+        FieldContent::Text(octets) => text_need(octets),
+        FieldContent::Number(_) => 1,
+        FieldContent::Missing => 1,
+        FieldContent::Reference(_) => 1,
     }
 }
 
 /// How many octets tell all texts.
 #[tactic(auto, using(crate::proofs::PackSteps::need_more, crate::proofs::PackSteps::need_done, crate::proofs::PackSteps::drawn_at))]
-fn octets_needed(drawn: &[Drawn<'_>], spec: &Spec) -> usize
+fn octets_needed(drawn: &[FieldContent<'_>], spec: &Spec) -> usize
     requires { AllDrawn spec.now drawn.now }
     ensures { result ≡ most_need drawn.now }
 {
@@ -275,7 +279,7 @@ fn octets_needed(drawn: &[Drawn<'_>], spec: &Spec) -> usize
 #[tactic(auto, using(crate::proofs::PackSteps::eighth_most))]
 fn push_front(
     out: &mut BitWriter,
-    drawn: Drawn<'_>,
+    drawn: FieldContent<'_>,
     k: usize,
     spec: &Spec,
 ) -> Result<(), AllocError>
@@ -285,22 +289,22 @@ fn push_front(
     ensures bits { OnOk result
         (out.new ≡ out.old ++ octet_bits k (content_drawn (spec.now.width / 8) drawn.entry)) }
     ensures len { OnOk result (length out.new ≡ length out.old + 8 * k) }
-    ensures grown { Grows out.old out.new }
+    ensures grown { ExtendsBits out.old out.new }
 {
     // For the proof alone: a text has at most 255 octets.
     let _width = spec.width();
     match drawn {
-        Drawn::Text(octets) => out.push_octets(&with_spaces(octets)[..k]),
-        Drawn::Number(_) => push_full(out, k),
-        Drawn::Missing => push_full(out, k),
-        Drawn::Reference(_) => push_full(out, k),
+        FieldContent::Text(octets) => out.push_octets(&with_spaces(octets)[..k]),
+        FieldContent::Number(_) => push_full(out, k),
+        FieldContent::Missing => push_full(out, k),
+        FieldContent::Reference(_) => push_full(out, k),
     }
 }
 
 /// Writes the first `k` octets of each text.
 fn push_fronts(
     out: &mut BitWriter,
-    drawn: &[Drawn<'_>],
+    drawn: &[FieldContent<'_>],
     k: usize,
     spec: &Spec,
 ) -> Result<(), AllocError>
@@ -312,7 +316,7 @@ fn push_fronts(
         ≡ out.old ++ flat_map (octet_bits k) (contents_drawn (spec.now.width / 8) drawn.now)) }
     ensures most { OnOk result (length out.new ≤ length out.old + 504 * length drawn.now) }
     ensures least { OnOk result (length out.old ≤ length out.new) }
-    ensures grown { Grows out.old out.new }
+    ensures grown { ExtendsBits out.old out.new }
 {
     for d in drawn {
         push_front(out, *d, k, spec)?;
@@ -327,26 +331,30 @@ fn push_zeros(out: &mut BitWriter, spec: &Spec) -> Result<(), AllocError>
     requires room { length out.old + 2040 ≤ 2 ^ 63 }
     ensures bits { OnOk result (out.new ≡ out.old ++ replicate spec.now.width false) }
     ensures len { OnOk result (length out.new ≡ length out.old + spec.now.width) }
-    ensures grown { Grows out.old out.new }
+    ensures grown { ExtendsBits out.old out.new }
 {
     let zeros = [0u8; 255];
     out.push_octets(&zeros[..(spec.width() / 8) as usize])
 }
 
 /// Writes texts that differ: zero bits, `k`, and the first `k` octets of each.
-fn pack_texts(out: &mut BitWriter, drawn: &[Drawn<'_>], spec: &Spec) -> Result<(), Unpacked>
+fn pack_texts(
+    out: &mut BitWriter,
+    drawn: &[FieldContent<'_>],
+    spec: &Spec,
+) -> Result<(), PackingFault>
     requires text { is_character spec.now.kind ≡ true }
     requires element { is_reference spec.now.role ≡ false }
     requires drawn { AllDrawn spec.now drawn.now }
     requires room { length out.old + (2046 + 504 * length drawn.now) + 2040 ≤ 2 ^ 63 }
-    ensures { PackedSo out.old out.new (packed_by spec.now.kind spec.now
+    ensures { PacksItem out.old out.new (packed_by spec.now.kind spec.now
         (contents_drawn (spec.now.width / 8) drawn.now)) (2046 + 504 * length drawn.now) result }
 {
     // For the proof alone: a text has at most 255 octets.
     let _width = spec.width();
     let k = octets_needed(drawn, spec);
     if k > 63 {
-        return Err(Unpacked::Uneven);
+        return Err(PackingFault::Uneven);
     }
     push_zeros(out, spec)?;
     out.push(k as u64, 6)?;
@@ -355,7 +363,7 @@ fn pack_texts(out: &mut BitWriter, drawn: &[Drawn<'_>], spec: &Spec) -> Result<(
 }
 
 /// Writes contents that are all alike: the first of them, and no increments.
-fn pack_alike(out: &mut BitWriter, first: Drawn<'_>, spec: &Spec) -> Result<(), AllocError>
+fn pack_alike(out: &mut BitWriter, first: FieldContent<'_>, spec: &Spec) -> Result<(), AllocError>
     requires first { IsDrawn spec.now first }
     requires room { length out.old + 2046 + 2040 ≤ 2 ^ 63 }
     ensures bits { OnOk result (out.new ≡ out.old
@@ -363,7 +371,7 @@ fn pack_alike(out: &mut BitWriter, first: Drawn<'_>, spec: &Spec) -> Result<(), 
         ++ (bits_in 0 6 ++ []))) }
     ensures some { OnOk result (length out.old < length out.new) }
     ensures most { OnOk result (length out.new ≤ length out.old + 2046) }
-    ensures grown { Grows out.old out.new }
+    ensures grown { ExtendsBits out.old out.new }
 {
     push_drawn(out, first, spec)?;
     out.push(0, 6)?;
@@ -371,15 +379,19 @@ fn pack_alike(out: &mut BitWriter, first: Drawn<'_>, spec: &Spec) -> Result<(), 
 }
 
 /// Writes contents that are not all alike.
-fn pack_unlike(out: &mut BitWriter, drawn: &[Drawn<'_>], spec: &Spec) -> Result<(), Unpacked>
+fn pack_unlike(
+    out: &mut BitWriter,
+    drawn: &[FieldContent<'_>],
+    spec: &Spec,
+) -> Result<(), PackingFault>
     requires drawn { AllDrawn spec.now drawn.now }
     requires room { length out.old + (2046 + 504 * length drawn.now) + 2040 ≤ 2 ^ 63 }
-    ensures { PackedSo out.old out.new (packed_unlike spec.now.role spec.now
+    ensures { PacksItem out.old out.new (packed_unlike spec.now.role spec.now
         (contents_drawn (spec.now.width / 8) drawn.now)) (2046 + 504 * length drawn.now) result }
 {
     match spec.role() {
-        Role::Factor => Err(Unpacked::Unequal),
-        Role::Reference => Err(Unpacked::Uneven),
+        Role::Factor => Err(PackingFault::Unequal),
+        Role::Reference => Err(PackingFault::Uneven),
         Role::Element | Role::Inserted => {
             if spec.is_text() {
                 pack_texts(out, drawn, spec)
@@ -393,11 +405,15 @@ fn pack_unlike(out: &mut BitWriter, drawn: &[Drawn<'_>], spec: &Spec) -> Result<
 /// Writes the contents of an item for all subsets: the least base and the least `k` from which they
 /// are read again.
 #[tactic(auto, using(crate::proofs::PackSteps::drawn_at))]
-pub(crate) fn pack(out: &mut BitWriter, drawn: &[Drawn<'_>], spec: &Spec) -> Result<(), Unpacked>
+pub(crate) fn pack(
+    out: &mut BitWriter,
+    drawn: &[FieldContent<'_>],
+    spec: &Spec,
+) -> Result<(), PackingFault>
     requires some { 1 ≤ length drawn.now }
     requires drawn { AllDrawn spec.now drawn.now }
     requires room { length out.old + (2046 + 504 * length drawn.now) + 2040 ≤ 2 ^ 63 }
-    ensures { PackedSo out.old out.new (packing spec.now
+    ensures { PacksItem out.old out.new (packing spec.now
         (contents_drawn (spec.now.width / 8) drawn.now)) (2046 + 504 * length drawn.now) result }
 {
     if are_alike(drawn[0], drawn, spec) {

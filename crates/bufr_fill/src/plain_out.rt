@@ -1,10 +1,10 @@
 //! Items of a dump text written as data that are not compressed.
 ghost use Rattle.std.specs.Prelude.{◌≡◌, ◌≤◌, ◌+◌, ◌^◌, length};
 
-use crate::draft::Entry;
-use crate::draw::{Drawn, draw, wrong_item};
+use crate::draft::DraftEntry;
 use crate::entries::Entries;
 use crate::fault::{DraftFault, Expected, Wrong};
+use crate::field_value::{FieldContent, field_content, wrong_item};
 use crate::put::{push_drawn, taken_of};
 use bufr_bits::BitWriter;
 use bufr_walk::{Fields, Spec, Taken};
@@ -30,11 +30,11 @@ pub struct PlainOut<'s> {
 
 impl<'s> Model for PlainOut<'s> {
     ghost use Rattle.std.specs.Prelude.{length, drop};
-    ghost use Rattle.bufr_fill.specs.PlainOut.{Pen, pen, IsPlainOut};
+    ghost use Rattle.bufr_fill.specs.PlainOut.{PlainOutModel, plain_out_model, IsPlainOut};
 
-    ghost Value = { Pen };
+    ghost Value = { PlainOutModel };
 
-    ghost view = { λ s. pen (drop s.place s.entries.now) s.out };
+    ghost view = { λ s. plain_out_model (drop s.place s.entries.now) s.out };
 
     ghost invariant = { λ s. IsPlainOut s.place (length s.entries.now) (length s.out) };
 }
@@ -42,13 +42,13 @@ impl<'s> Model for PlainOut<'s> {
 impl<'s> PlainOut<'s> {
     ghost use Rattle.std.specs.Prelude.{◌≡◌, ◌≤◌, ◌+◌, ◌/◌, ◌^◌, ◌++◌, [], length, vec_len, MatchResult};
     ghost use Rattle.bufr_bits.specs.Bits.{bits_of, padding};
-    ghost use Rattle.bufr_fill.specs.PlainOut.{pen, line_at, PassesEnd};
+    ghost use Rattle.bufr_fill.specs.PlainOut.{plain_out_model, line_at, EndsSubset};
 
     /// The items of all subsets and the lines that end them, at most 2^45 together. It takes no
     /// memory.
     pub fn new(alloc: Global, entries: &'s Entries) -> PlainOut<'s>
         requires { length entries.now ≤ 2 ^ 45 }
-        ensures { result ≡ pen entries.now [] }
+        ensures { result ≡ plain_out_model entries.now [] }
     {
         PlainOut {
             entries,
@@ -63,8 +63,8 @@ impl<'s> PlainOut<'s> {
         ensures { result ≡ line_at self.now.left }
     {
         match self.entries.get(self.place) {
-            Some(Entry::Item(item)) => item.line,
-            Some(Entry::End(line)) => line,
+            Some(DraftEntry::Item(item)) => item.line,
+            Some(DraftEntry::End(line)) => line,
             None => 0,
         }
     }
@@ -75,15 +75,15 @@ impl<'s> PlainOut<'s> {
     ///
     /// [`DraftFault::WrongDescriptor`] where the subset has an item more; nothing is changed then.
     pub fn end_subset(&mut self) -> Result<(), DraftFault>
-        ensures { PassesEnd self.old result self.new }
+        ensures { EndsSubset self.old result self.new }
     {
         let wrong = Wrong::Descriptor(Expected::EndOfSubset);
         match self.entries.get(self.place) {
-            Some(Entry::End(_)) => {
+            Some(DraftEntry::End(_)) => {
                 self.place += 1;
                 Ok(())
             }
-            Some(Entry::Item(item)) => Err(wrong.at(item.line)),
+            Some(DraftEntry::Item(item)) => Err(wrong.at(item.line)),
             None => Err(wrong.at(0)),
         }
     }
@@ -121,11 +121,11 @@ impl<'s> Fields for PlainOut<'s> {
     #[inline(always)]
     fn take(&mut self, spec: &Spec) -> Result<Taken, DraftFault> {
         let item = match self.entries.get(self.place) {
-            Some(Entry::Item(item)) => item,
-            Some(Entry::End(line)) => return Err(wrong_item(spec).at(line)),
+            Some(DraftEntry::Item(item)) => item,
+            Some(DraftEntry::End(line)) => return Err(wrong_item(spec).at(line)),
             None => return Err(wrong_item(spec).at(0)),
         };
-        let drawn = match draw(&item, spec) {
+        let drawn = match field_content(&item, spec) {
             Ok(drawn) => drawn,
             Err(why) => return Err(why.at(item.line)),
         };

@@ -2,11 +2,11 @@
 ghost use Rattle.std.specs.Prelude.{◌≡◌, ◌≤◌, ◌<◌, ◌+◌, ◌-◌, ◌*◌, ◌/◌, ◌^◌, ◌++◌, ◌∷◌, ℕ, true, false, length, replicate, unsigned_abs, OnOk, OnErr};
 ghost use Rattle.bufr_bits.specs.Bits.{bits_of, bits_in};
 ghost use Rattle.bufr_tables.specs.TableB.{is_character};
-ghost use Rattle.bufr_walk.specs.Asked.{IsFor};
-ghost use Rattle.bufr_walk.specs.Content.{sign_bit, bits_for, told, count_in, reference_in};
-ghost use Rattle.bufr_fill.specs.Drawn.{spaced, content_drawn, IsDrawn};
+ghost use Rattle.bufr_walk.specs.FieldSpec.{IsFor};
+ghost use Rattle.bufr_walk.specs.Content.{sign_bit, bits_for, answer_of, count_in, reference_in};
+ghost use Rattle.bufr_fill.specs.FieldContent.{spaced, content_drawn, IsDrawn};
 
-use crate::draw::Drawn;
+use crate::field_value::FieldContent;
 use bufr_bits::BitWriter;
 use bufr_walk::{Role, Spec, Taken};
 use std::alloc::AllocError;
@@ -88,7 +88,7 @@ fn push_missing(out: &mut BitWriter, spec: &Spec) -> Result<(), AllocError>
 #[tactic(auto, using(crate::proofs::DrawLemmas::drawn_narrow))]
 pub(crate) fn push_drawn(
     out: &mut BitWriter,
-    drawn: Drawn<'_>,
+    drawn: FieldContent<'_>,
     spec: &Spec,
 ) -> Result<(), AllocError>
     requires drawn { IsDrawn spec.now drawn }
@@ -101,38 +101,38 @@ pub(crate) fn push_drawn(
 {
     let width = spec.width();
     match drawn {
-        Drawn::Number(raw) => out.push(raw, width),
-        Drawn::Text(octets) => push_text(out, octets, (width / 8) as usize),
-        Drawn::Missing => push_missing(out, spec),
-        Drawn::Reference(value) => out.push(signed_bits(value, width), width),
+        FieldContent::Number(raw) => out.push(raw, width),
+        FieldContent::Text(octets) => push_text(out, octets, (width / 8) as usize),
+        FieldContent::Missing => push_missing(out, spec),
+        FieldContent::Reference(value) => out.push(signed_bits(value, width), width),
     }
 }
 
 /// The count that a factor's content is.
-fn count_of(drawn: Drawn<'_>) -> u64
+fn count_of(drawn: FieldContent<'_>) -> u64
     ensures { (count : ℕ) → result ≡ count_in (content_drawn count drawn.entry) }
 {
     match drawn {
-        Drawn::Number(raw) => raw,
-        Drawn::Text(_) | Drawn::Missing | Drawn::Reference(_) => 0,
+        FieldContent::Number(raw) => raw,
+        FieldContent::Text(_) | FieldContent::Missing | FieldContent::Reference(_) => 0,
     }
 }
 
 /// The reference that a content is.
-fn reference_in(drawn: Drawn<'_>) -> i64
+fn reference_in(drawn: FieldContent<'_>) -> i64
     ensures { (count : ℕ) → result ≡ reference_in (content_drawn count drawn.entry) }
 {
     match drawn {
-        Drawn::Reference(value) => value,
-        Drawn::Number(_) | Drawn::Text(_) | Drawn::Missing => 0,
+        FieldContent::Reference(value) => value,
+        FieldContent::Number(_) | FieldContent::Text(_) | FieldContent::Missing => 0,
     }
 }
 
 /// What a field tells the walk.
 #[inline(always)]
 #[tactic(auto, using(crate::proofs::DrawLemmas::told_count, crate::proofs::DrawLemmas::told_reference, crate::proofs::DrawLemmas::told_element, crate::proofs::DrawLemmas::told_inserted))]
-pub(crate) fn taken_of(drawn: Drawn<'_>, spec: &Spec) -> Taken
-    ensures tells { result ≡ told spec.now (content_drawn (spec.now.width / 8) drawn.entry) }
+pub(crate) fn taken_of(drawn: FieldContent<'_>, spec: &Spec) -> Taken
+    ensures tells { result ≡ answer_of spec.now (content_drawn (spec.now.width / 8) drawn.entry) }
     ensures shape { IsFor spec.now result }
 {
     match spec.role() {

@@ -7,10 +7,10 @@ use Rattle.std.proofs.lemmas.Bool.{true≢false, cases_Bool}
 use Rattle.std.proofs.lemmas.List.{take-append-drop, get_or-take, get_or-drop}
 use Rattle.bufr_frame.specs.declared.fault.SectionFault.{SectionFault}
 use Rattle.bufr_frame.specs.declared.fault.SectionFault.TheVariants.{SectionShort, SectionPast, SectionsEnd, Edition3Long}
-use Rattle.bufr_frame.specs.Octets.{three, two, words, three_octets, two_octets, octets_of_words}
-use Rattle.bufr_frame.specs.Section1.{Flags, is_edition, slots_of, slots_3, slots_4, first_least, octets_of_slots, octets_in, value_in, head_in, said}
-use Rattle.bufr_frame.specs.Sections.{Sections, sections_of, section_end, parts, edition_of, slots_in, has_section2, head_of, is_long_edition_3, is_padded, met, ◌>>=◌}
-use Rattle.bufr_frame.specs.Layout.{parts_in, message_size, message_octets, section0_octets, section1_octets, section2_octets, section2_size, section3_octets, section4_octets, head_octets, data_flags, even_size, evened, longer, most_octets}
+use Rattle.bufr_frame.specs.Octets.{u24_at, u16_at, words, three_octets, two_octets, octets_of_words}
+use Rattle.bufr_frame.specs.Section1.{Flags, is_edition, slots_of, slots_3, slots_4, first_least, octets_of_slots, slot_octets, slot_value, head_in, head_value}
+use Rattle.bufr_frame.specs.Sections.{Sections, sections_of, section_end, parts, edition_of, slots_in, has_section2, head_of, is_long_edition_3, is_padded, parts_if_end_matches, ◌>>=◌}
+use Rattle.bufr_frame.specs.Layout.{parts_in, message_size, message_octets, section0_octets, section1_octets, section2_octets, section2_size, section3_octets, section4_octets, head_octets, data_flags, even_size, with_even_length, max_extra_octets, max_octets}
 use Rattle.bufr_frame.proofs.LayoutLemmas.{length-octets_of_words, even-3}
 use Rattle.bufr_frame.proofs.WordLemmas.{length-words}
 use Rattle.std.proofs.lemmas.List.Elements.{All-take, All-drop}
@@ -29,17 +29,17 @@ passed-all false false false e1 e2 e3 n q is = (refl, refl, refl, (cc))
 -- a section that ends inside the message
 pub record EndsAt (m : List ℕ) (least p q : ℕ) : Type 0 where
   pub least_long : p + least ≤ q
-  pub long : q ≡ p + three m p
+  pub long : q ≡ p + u24_at m p
   pub three_long : p + 3 ≤ length m - 4
   pub within : q ≤ length m - 4
 
 section-ended : (m : List ℕ) (k least p q : ℕ) → section_end m k least p ≡ Ok q → EndsAt m least p q
 unfolding section_end
 section-ended m k least p q is =
-    let all = passed-all (nat_lt (length m - 4) (p + 3)) (nat_lt (three m p) least) (nat_lt (length m - 4) (p + three m p)) (SectionPast k) (SectionShort k) (SectionPast k) (p + three m p) q is in
+    let all = passed-all (nat_lt (length m - 4) (p + 3)) (nat_lt (u24_at m p) least) (nat_lt (length m - 4) (p + u24_at m p)) (SectionPast k) (SectionShort k) (SectionPast k) (p + u24_at m p) q is in
     let a : p + 3 ≤ length m - 4 = grind (arith, nat_tests, all.0) in
-    let b : least ≤ three m p = grind (arith, nat_tests, all.1) in
-    let c : p + three m p ≤ length m - 4 = grind (arith, nat_tests, all.2) in
+    let b : least ≤ u24_at m p = grind (arith, nat_tests, all.1) in
+    let c : p + u24_at m p ≤ length m - 4 = grind (arith, nat_tests, all.2) in
     record { least_long = omega (arith, b, all.3); long = sym all.3; three_long = a; within = omega (arith, c, all.3) }
 
 then-ok : {A B : Type 0} (r : Result A SectionFault) (f : A → Result B SectionFault) (y : B) → (r >>= f) ≡ Ok y → (x : A) × (r ≡ Ok x) × (f x ≡ Ok y)
@@ -50,7 +50,7 @@ unless-ok : {B : Type 0} (b : Bool) (e : SectionFault) (r : Result B SectionFaul
 unless-ok true e r y is = (refl, is)
 unless-ok false e r y is = cc
 
-met-ok : (m : List ℕ) (p1 p2 p3 p4 : ℕ) (y : Sections) → met m p1 p2 p3 p4 ≡ Ok y → (p4 ≡ length m - 4) × (is_long_edition_3 m p2 p3 p4 ≡ false) × (parts m p1 p2 p3 p4 ≡ y)
+met-ok : (m : List ℕ) (p1 p2 p3 p4 : ℕ) (y : Sections) → parts_if_end_matches m p1 p2 p3 p4 ≡ Ok y → (p4 ≡ length m - 4) × (is_long_edition_3 m p2 p3 p4 ≡ false) × (parts m p1 p2 p3 p4 ≡ y)
 met-ok m p1 p2 p3 p4 y is = by (p4 == (length m - 4)) (is_long_edition_3 m p2 p3 p4) refl refl is
   where
     by : (a b : Bool) → (p4 == (length m - 4)) ≡ a → is_long_edition_3 m p2 p3 p4 ≡ b → (if not a then Err SectionsEnd else if b then Err Edition3Long else Ok (parts m p1 p2 p3 p4)) ≡ Ok y
@@ -159,19 +159,19 @@ sizes-3 m s e is =
     omega (arith, all, odd, e.third.least_long, e.fourth.least_long, e.fourth.three_long, e.last)
 
 -- a message written again is no longer, but for what makes its sections even
-pub no-longer : (m : List ℕ) (s : Sections) → sections_of m ≡ Ok s → message_size s.head.edition (parts_in s) ≤ length m + longer s.head.edition
+pub no-longer : (m : List ℕ) (s : Sections) → sections_of m ≡ Ok s → message_size s.head.edition (parts_in s) ≤ length m + max_extra_octets s.head.edition
 no-longer m s is =
     let e = sections-ended m s is in
-    let P : Sections → Type 0 = λ x. message_size x.head.edition (parts_in x) ≤ length m + longer x.head.edition in
+    let P : Sections → Type 0 = λ x. message_size x.head.edition (parts_in x) ≤ length m + max_extra_octets x.head.edition in
     subst P (sym e.is) (edition-cases (edition_of m) e.edition
-    (λ is. let l : longer (edition_of m) ≡ 2 = ap longer is in omega (arith, sizes-3 m s e is, l))
+    (λ is. let l : max_extra_octets (edition_of m) ≡ 2 = ap max_extra_octets is in omega (arith, sizes-3 m s e is, l))
     (λ is. omega (arith, sizes-4 m s e is)))
 
 -- nor is it too long
-no-odd : (m : List ℕ) (p2 p3 p4 : ℕ) → edition_of m ≡ 3 → is_long_edition_3 m p2 p3 p4 ≡ false → length m ≤ most_octets → length m + (p3 - p2) % 2 + (p4 - p3) % 2 ≤ most_octets
+no-odd : (m : List ℕ) (p2 p3 p4 : ℕ) → edition_of m ≡ 3 → is_long_edition_3 m p2 p3 p4 ≡ false → length m ≤ max_octets → length m + (p3 - p2) % 2 + (p4 - p3) % 2 ≤ max_octets
 no-odd m p2 p3 p4 is short few = by (nat_lt 16777213 (length m)) ((p3 - p2) % 2 == 1) ((p4 - p3) % 2 == 1) refl refl refl (sym (ap (λ n. nat_lt 16777213 (length m) && (is_padded n (p3 - p2) || is_padded n (p4 - p3))) is) ∙ short)
   where
-    by : (a b c : Bool) → nat_lt 16777213 (length m) ≡ a → ((p3 - p2) % 2 == 1) ≡ b → ((p4 - p3) % 2 == 1) ≡ c → (a && (b || c)) ≡ false → length m + (p3 - p2) % 2 + (p4 - p3) % 2 ≤ most_octets
+    by : (a b c : Bool) → nat_lt 16777213 (length m) ≡ a → ((p3 - p2) % 2 == 1) ≡ b → ((p4 - p3) % 2 == 1) ≡ c → (a && (b || c)) ≡ false → length m + (p3 - p2) % 2 + (p4 - p3) % 2 ≤ max_octets
     by false b c f g h none = let l : length m ≤ 16777213 = grind (arith, nat_tests, f) in omega (arith, l)
     by true true c f g h none = absurd (cc)
     by true false true f g h none = absurd (cc)
@@ -180,10 +180,10 @@ no-odd m p2 p3 p4 is short few = by (nat_lt 16777213 (length m)) ((p3 - p2) % 2 
         let y : (p4 - p3) % 2 ≢ 1 = grind (arith, nat_tests, h) in
         omega (arith, x, y, few)
 
-pub not-too-long : (m : List ℕ) (s : Sections) → sections_of m ≡ Ok s → length m ≤ most_octets → message_size s.head.edition (parts_in s) ≤ most_octets
+pub not-too-long : (m : List ℕ) (s : Sections) → sections_of m ≡ Ok s → length m ≤ max_octets → message_size s.head.edition (parts_in s) ≤ max_octets
 not-too-long m s is few =
     let e = sections-ended m s is in
-    let P : Sections → Type 0 = λ x. message_size x.head.edition (parts_in x) ≤ most_octets in
+    let P : Sections → Type 0 = λ x. message_size x.head.edition (parts_in x) ≤ max_octets in
     subst P (sym e.is) (edition-cases (edition_of m) e.edition
     (λ is. omega (arith, sizes-3 m s e is, no-odd m e.p2 e.p3 e.p4 is e.short few))
     (λ is. omega (arith, sizes-4 m s e is, few)))
@@ -286,23 +286,23 @@ seven-at m p =
 
 module _ (m : List ℕ) (small : All (λ octet. octet < 256) m) where
   -- the octets of a length
-  length-back : (p n : ℕ) → p + 3 ≤ length m → n ≡ three m p → three_octets n ≡ get_or m p 0 ∷ get_or m (p + 1) 0 ∷ get_or m (p + 2) 0 ∷ []
+  length-back : (p n : ℕ) → p + 3 ≤ length m → n ≡ u24_at m p → three_octets n ≡ get_or m p 0 ∷ get_or m (p + 1) 0 ∷ get_or m (p + 2) 0 ∷ []
   length-back p n within is =
       ap three_octets is ∙ three-back (get_or m p 0) (get_or m (p + 1) 0) (get_or m (p + 2) 0) (small p 0 (omega arith)) (small (p + 1) 0 (omega arith)) (small (p + 2) 0 (omega arith))
 
-  word-back : (p : ℕ) → p + 2 ≤ length m → two_octets (two m p) ≡ get_or m p 0 ∷ get_or m (p + 1) 0 ∷ []
+  word-back : (p : ℕ) → p + 2 ≤ length m → two_octets (u16_at m p) ≡ get_or m p 0 ∷ get_or m (p + 1) 0 ∷ []
   word-back p within = two-back (get_or m p 0) (get_or m (p + 1) 0) (small (p + 1) 0 (omega arith))
 
   -- a section that is only its length, a reserved octet and its octets
-  content-back : (p q : ℕ) → p + 4 ≤ q → q ≤ length m → q ≡ p + three m p → get_or m (p + 3) 0 ≡ 0 → section4_octets (slice_range m (p + 4) q) ≡ slice_range m p q
+  content-back : (p q : ℕ) → p + 4 ≤ q → q ≤ length m → q ≡ p + u24_at m p → get_or m (p + 3) 0 ≡ 0 → section4_octets (slice_range m (p + 4) q) ≡ slice_range m p q
   content-back p q fits within long reserved =
       let x = slice_range m (p + 4) q in
-      let n : 4 + length x ≡ three m p = omega (arith, slice-long m (p + 4) q within, long) in
+      let n : 4 + length x ≡ u24_at m p = omega (arith, slice-long m (p + 4) q within, long) in
       ap (λ l. l ++ 0 ∷ x) (length-back p (4 + length x) (omega arith) n)
       ∙ ap (λ r. get_or m p 0 ∷ get_or m (p + 1) 0 ∷ get_or m (p + 2) 0 ∷ r ∷ x) (sym reserved)
       ∙ ap (λ l. l ++ x) (sym (four-at m p)) ∙ sym (slice-begins 4 m p q fits within)
 
-  second-back : (b : Bool) (p q : ℕ) → q ≤ length m → (b ≡ true → (p + 4 ≤ q) × (q ≡ p + three m p) × (get_or m (p + 3) 0 ≡ 0)) → (b ≡ false → q ≡ p)
+  second-back : (b : Bool) (p q : ℕ) → q ≤ length m → (b ≡ true → (p + 4 ≤ q) × (q ≡ p + u24_at m p) × (get_or m (p + 3) 0 ≡ 0)) → (b ≡ false → q ≡ p)
       → section2_octets (if b then Some (slice_range m (p + 4) q) else None) ≡ slice_range m p q
   second-back true p q within there absent = let t = there refl in content-back p q t.0 within t.1 t.2
   second-back false p q within there absent = let z : q - p ≡ 0 = omega (arith, absent refl) in ap (λ k. take k (drop p m)) (sym z)
@@ -316,7 +316,7 @@ module _ (m : List ℕ) (small : All (λ octet. octet < 256) m) where
   laid centre subcentre year flag = get_or m 11 0 ∷ centre ++ subcentre ++ get_or m 16 0 ∷ flag ∷ get_or m 18 0 ∷ get_or m 19 0 ∷ get_or m 20 0 ∷ get_or m 21 0 ∷ get_or m 22 0 ∷ year
       ++ get_or m 25 0 ∷ get_or m 26 0 ∷ get_or m 27 0 ∷ get_or m 28 0 ∷ get_or m 29 0 ∷ []
 
-  head-laid : (edition : ℕ) (b : Bool) → octets_in slots_4 (said (head_in edition slots_4 m 11) b) ≡ laid (two_octets (two m 12)) (two_octets (two m 14)) (two_octets (two m 23)) (if b then 128 else 0)
+  head-laid : (edition : ℕ) (b : Bool) → slot_octets slots_4 (head_value (head_in edition slots_4 m 11) b) ≡ laid (two_octets (u16_at m 12)) (two_octets (u16_at m 14)) (two_octets (u16_at m 23)) (if b then 128 else 0)
   unfolding laid
   head-laid edition b = refl
 
@@ -324,16 +324,16 @@ module _ (m : List ℕ) (small : All (λ octet. octet < 256) m) where
   unfolding laid octets_from
   octets-laid = refl
 
-  head-back-4 : (edition : ℕ) (b : Bool) → 30 ≤ length m → nat_le 128 (get_or m 17 0) ≡ b → get_or m 17 0 % 128 ≡ 0 → octets_in slots_4 (said (head_in edition slots_4 m 11) b) ≡ octets_from 19 11 m
+  head-back-4 : (edition : ℕ) (b : Bool) → 30 ≤ length m → nat_le 128 (get_or m 17 0) ≡ b → get_or m 17 0 % 128 ≡ 0 → slot_octets slots_4 (head_value (head_in edition slots_4 m 11) b) ≡ octets_from 19 11 m
   head-back-4 edition b long is reserved =
       let c = word-back 12 (omega arith) in
       let s = word-back 14 (omega arith) in
       let y = word-back 23 (omega arith) in
       let f : (if b then 128 else 0) ≡ get_or m 17 0 = flag-back b (get_or m 17 0) is (small 17 0 (omega arith)) reserved in
-      head-laid edition b ∙ (let e : laid (two_octets (two m 12)) (two_octets (two m 14)) (two_octets (two m 23)) (if b then 128 else 0)
+      head-laid edition b ∙ (let e : laid (two_octets (u16_at m 12)) (two_octets (u16_at m 14)) (two_octets (u16_at m 23)) (if b then 128 else 0)
       ≡ laid (get_or m 12 0 ∷ get_or m 13 0 ∷ []) (get_or m 14 0 ∷ get_or m 15 0 ∷ []) (get_or m 23 0 ∷ get_or m 24 0 ∷ []) (get_or m 17 0) =
-      ap (λ l. laid l (two_octets (two m 14)) (two_octets (two m 23)) (if b then 128 else 0)) c
-      ∙ ap (λ l. laid (get_or m 12 0 ∷ get_or m 13 0 ∷ []) l (two_octets (two m 23)) (if b then 128 else 0)) s
+      ap (λ l. laid l (two_octets (u16_at m 14)) (two_octets (u16_at m 23)) (if b then 128 else 0)) c
+      ∙ ap (λ l. laid (get_or m 12 0 ∷ get_or m 13 0 ∷ []) l (two_octets (u16_at m 23)) (if b then 128 else 0)) s
       ∙ ap (λ l. laid (get_or m 12 0 ∷ get_or m 13 0 ∷ []) (get_or m 14 0 ∷ get_or m 15 0 ∷ []) l (if b then 128 else 0)) y
       ∙ ap (laid (get_or m 12 0 ∷ get_or m 13 0 ∷ []) (get_or m 14 0 ∷ get_or m 15 0 ∷ []) (get_or m 23 0 ∷ get_or m 24 0 ∷ [])) f
       in e) ∙ sym octets-laid
@@ -342,7 +342,7 @@ module _ (m : List ℕ) (small : All (λ octet. octet < 256) m) where
   laid-3 flag = get_or m 11 0 ∷ get_or m 12 0 ∷ get_or m 13 0 ∷ get_or m 14 0 ∷ flag ∷ get_or m 16 0 ∷ get_or m 17 0 ∷ get_or m 18 0 ∷ get_or m 19 0 ∷ get_or m 20 0
       ∷ get_or m 21 0 ∷ get_or m 22 0 ∷ get_or m 23 0 ∷ get_or m 24 0 ∷ []
 
-  head-laid-3 : (edition : ℕ) (b : Bool) → octets_in slots_3 (said (head_in edition slots_3 m 11) b) ≡ laid-3 (if b then 128 else 0)
+  head-laid-3 : (edition : ℕ) (b : Bool) → slot_octets slots_3 (head_value (head_in edition slots_3 m 11) b) ≡ laid-3 (if b then 128 else 0)
   unfolding laid-3
   head-laid-3 edition b = refl
 
@@ -350,26 +350,26 @@ module _ (m : List ℕ) (small : All (λ octet. octet < 256) m) where
   unfolding laid-3 octets_from
   octets-laid-3 = refl
 
-  head-back-3 : (edition : ℕ) (b : Bool) → 25 ≤ length m → nat_le 128 (get_or m 15 0) ≡ b → get_or m 15 0 % 128 ≡ 0 → octets_in slots_3 (said (head_in edition slots_3 m 11) b) ≡ octets_from 14 11 m
+  head-back-3 : (edition : ℕ) (b : Bool) → 25 ≤ length m → nat_le 128 (get_or m 15 0) ≡ b → get_or m 15 0 % 128 ≡ 0 → slot_octets slots_3 (head_value (head_in edition slots_3 m 11) b) ≡ octets_from 14 11 m
   head-back-3 edition b long is reserved =
       head-laid-3 edition b ∙ ap laid-3 (flag-back b (get_or m 15 0) is (small 15 0 (omega arith)) reserved) ∙ sym octets-laid-3
 
-  head-back : (b : Bool) → is_edition (edition_of m) ≡ true → 8 + first_least (edition_of m) ≤ length m → has_section2 m ≡ b → value_in (slots_in m) m 11 Flags % 128 ≡ 0
+  head-back : (b : Bool) → is_edition (edition_of m) ≡ true → 8 + first_least (edition_of m) ≤ length m → has_section2 m ≡ b → slot_value (slots_in m) m 11 Flags % 128 ≡ 0
       → head_octets (head_of m) b ≡ octets_from (octets_of_slots (slots_in m)) 11 m
   head-back b known long is reserved =
-      let P : ℕ → Type 0 = λ n. 8 + first_least n ≤ length m → nat_le 128 (value_in (slots_of n) m 11 Flags) ≡ b → value_in (slots_of n) m 11 Flags % 128 ≡ 0
-      → octets_in (slots_of n) (said (head_in (edition_of m) (slots_of n) m 11) b) ≡ octets_from (octets_of_slots (slots_of n)) 11 m in
+      let P : ℕ → Type 0 = λ n. 8 + first_least n ≤ length m → nat_le 128 (slot_value (slots_of n) m 11 Flags) ≡ b → slot_value (slots_of n) m 11 Flags % 128 ≡ 0
+      → slot_octets (slots_of n) (head_value (head_in (edition_of m) (slots_of n) m 11) b) ≡ octets_from (octets_of_slots (slots_of n)) 11 m in
       edition-cases (edition_of m) known
       (λ e. subst P (sym e) (head-back-3 (edition_of m) b) long is reserved)
       (λ e. subst P (sym e) (head-back-4 (edition_of m) b) long is reserved)
 
-  first-back : (b : Bool) (p : ℕ) → is_edition (edition_of m) ≡ true → 8 + first_least (edition_of m) ≤ p → p ≤ length m → p ≡ 8 + three m 8 → has_section2 m ≡ b → value_in (slots_in m) m 11 Flags % 128 ≡ 0
+  first-back : (b : Bool) (p : ℕ) → is_edition (edition_of m) ≡ true → 8 + first_least (edition_of m) ≤ p → p ≤ length m → p ≡ 8 + u24_at m 8 → has_section2 m ≡ b → slot_value (slots_in m) m 11 Flags % 128 ≡ 0
       → section1_octets (head_of m) (slice_range m (8 + first_least (edition_of m)) p) b ≡ slice_range m 8 p
   first-back b p known fits within long is reserved =
       let k = octets_of_slots (slots_in m) in
       let from = 8 + first_least (edition_of m) in
       let x = slice_range m from p in
-      let n : first_least (edition_of m) + length x ≡ three m 8 = omega (arith, slice-long m from p within, long) in
+      let n : first_least (edition_of m) + length x ≡ u24_at m 8 = omega (arith, slice-long m from p within, long) in
       let width : from - 11 ≡ k = omega arith in
       let part : slice_range m 11 from ≡ octets_from k 11 m = ap (λ j. take j (drop 11 m)) width ∙ slice-octets k 11 m (omega arith) in
       ap (λ l. l ++ head_octets (head_of m) b ++ x) (length-back 8 (first_least (edition_of m) + length x) (omega arith) n ∙ sym (three-at m 8))
@@ -381,14 +381,14 @@ module _ (m : List ℕ) (small : All (λ octet. octet < 256) m) where
       ∙ sym (slice-parts m 8 11 p (omega arith) (omega arith))
 
   -- the octets of the descriptors, in edition 3 with the one left over
-  content-words : (p q : ℕ) → is_edition (edition_of m) ≡ true → p + 7 ≤ q → q ≤ length m → q ≡ p + three m p → (edition_of m ≡ 4 → three m p % 2 ≡ 1) → (edition_of m ≡ 3 → three m p % 2 ≡ 0)
-      → (edition_of m ≡ 3 → get_or m (q - 1) 0 ≡ 0) → evened (edition_of m) 7 (octets_of_words (words (slice_range m (p + 7) q))) ≡ slice_range m (p + 7) q
+  content-words : (p q : ℕ) → is_edition (edition_of m) ≡ true → p + 7 ≤ q → q ≤ length m → q ≡ p + u24_at m p → (edition_of m ≡ 4 → u24_at m p % 2 ≡ 1) → (edition_of m ≡ 3 → u24_at m p % 2 ≡ 0)
+      → (edition_of m ≡ 3 → get_or m (q - 1) 0 ≡ 0) → with_even_length (edition_of m) 7 (octets_of_words (words (slice_range m (p + 7) q))) ≡ slice_range m (p + 7) q
   content-words p q known fits within long odd even left_over =
       let x = slice_range m (p + 7) q in
       let lx = slice-long m (p + 7) q within in
       let small_x : All (λ octet. octet < 256) x = All-take (λ octet. octet < 256) (q - (p + 7)) (drop (p + 7) m) (All-drop (λ octet. octet < 256) (p + 7) m small) in
       let w = octets_of_words (words x) in
-      let P : ℕ → Type 0 = λ n. evened n 7 w ≡ x in
+      let P : ℕ → Type 0 = λ n. with_even_length n 7 w ≡ x in
       edition-cases (edition_of m) known
       (λ e.
       let odd_x : length x % 2 ≡ 1 = omega (arith, lx, long, even e, fits) in
@@ -408,22 +408,22 @@ module _ (m : List ℕ) (small : All (λ octet. octet < 256) m) where
           let k : a + i ≡ b - 1 = omega (arith, some) in
           ap (λ n. get_or (slice_range m a b) n 0) l ∙ get_or-take (b - a) (drop a m) i 0 (omega (arith, some)) ∙ get_or-drop a m i 0 ∙ ap (λ n. get_or m n 0) k
 
-  third-back : (content : List ℕ) (p q : ℕ) → p + 7 ≤ q → q ≤ length m → q ≡ p + three m p → content ≡ slice_range m (p + 7) q → get_or m (p + 3) 0 ≡ 0 → get_or m (p + 6) 0 % 64 ≡ 0
-      → section3_octets content (two m (p + 4)) (data_flags (nat_le 128 (get_or m (p + 6) 0)) (nat_le 64 (get_or m (p + 6) 0 % 128))) ≡ slice_range m p q
+  third-back : (content : List ℕ) (p q : ℕ) → p + 7 ≤ q → q ≤ length m → q ≡ p + u24_at m p → content ≡ slice_range m (p + 7) q → get_or m (p + 3) 0 ≡ 0 → get_or m (p + 6) 0 % 64 ≡ 0
+      → section3_octets content (u16_at m (p + 4)) (data_flags (nat_le 128 (get_or m (p + 6) 0)) (nat_le 64 (get_or m (p + 6) 0 % 128))) ≡ slice_range m p q
   third-back content p q fits within long is reserved flags =
       let x = slice_range m (p + 7) q in
       let lx = slice-long m (p + 7) q within in
-      let n : 7 + length content ≡ three m p = omega (arith, lx, long, ap length is) in
+      let n : 7 + length content ≡ u24_at m p = omega (arith, lx, long, ap length is) in
       let f = flags-back (nat_le 128 (get_or m (p + 6) 0)) (nat_le 64 (get_or m (p + 6) 0 % 128)) (get_or m (p + 6) 0) refl refl (small (p + 6) 0 (omega arith)) flags in
-      ap (λ l. l ++ 0 ∷ two_octets (two m (p + 4)) ++ data_flags (nat_le 128 (get_or m (p + 6) 0)) (nat_le 64 (get_or m (p + 6) 0 % 128)) ∷ content) (length-back p (7 + length content) (omega arith) n)
-      ∙ ap (λ r. get_or m p 0 ∷ get_or m (p + 1) 0 ∷ get_or m (p + 2) 0 ∷ r ∷ two_octets (two m (p + 4)) ++ data_flags (nat_le 128 (get_or m (p + 6) 0)) (nat_le 64 (get_or m (p + 6) 0 % 128)) ∷ content) (sym reserved)
+      ap (λ l. l ++ 0 ∷ two_octets (u16_at m (p + 4)) ++ data_flags (nat_le 128 (get_or m (p + 6) 0)) (nat_le 64 (get_or m (p + 6) 0 % 128)) ∷ content) (length-back p (7 + length content) (omega arith) n)
+      ∙ ap (λ r. get_or m p 0 ∷ get_or m (p + 1) 0 ∷ get_or m (p + 2) 0 ∷ r ∷ two_octets (u16_at m (p + 4)) ++ data_flags (nat_le 128 (get_or m (p + 6) 0)) (nat_le 64 (get_or m (p + 6) 0 % 128)) ∷ content) (sym reserved)
       ∙ ap (λ l. get_or m p 0 ∷ get_or m (p + 1) 0 ∷ get_or m (p + 2) 0 ∷ get_or m (p + 3) 0 ∷ l ++ data_flags (nat_le 128 (get_or m (p + 6) 0)) (nat_le 64 (get_or m (p + 6) 0 % 128)) ∷ content) (word-back (p + 4) (omega arith))
       ∙ ap (λ r. get_or m p 0 ∷ get_or m (p + 1) 0 ∷ get_or m (p + 2) 0 ∷ get_or m (p + 3) 0 ∷ get_or m (p + 4) 0 ∷ get_or m (p + 4 + 1) 0 ∷ r ∷ content) f
       ∙ ap (λ l. get_or m p 0 ∷ get_or m (p + 1) 0 ∷ get_or m (p + 2) 0 ∷ get_or m (p + 3) 0 ∷ get_or m (p + 4) 0 ∷ get_or m (p + 4 + 1) 0 ∷ get_or m (p + 6) 0 ∷ l) is
       ∙ ap (λ l. l ++ x) (sym (seven-at m p)) ∙ sym (slice-begins 7 m p q fits within)
 
 -- the first eight octets
-front-back : (m : List ℕ) → All (λ octet. octet < 256) m → 8 ≤ length m → take 4 m ≡ codes "BUFR" → (n : ℕ) → n ≡ three m 4 → section0_octets n (get_or m 7 0) ≡ take 8 m
+front-back : (m : List ℕ) → All (λ octet. octet < 256) m → 8 ≤ length m → take 4 m ≡ codes "BUFR" → (n : ℕ) → n ≡ u24_at m 4 → section0_octets n (get_or m 7 0) ≡ take 8 m
 front-back m small long word n is =
     let four : take 4 (drop 4 m) ≡ octets_from 4 4 m = slice-octets 4 4 m (omega arith) in
     ap (λ l. codes "BUFR" ++ l ++ get_or m 7 0 ∷ []) (length-back m small 4 n (omega arith) is)
@@ -434,15 +434,15 @@ module _ (m : List ℕ) (s : Sections) (e : Ended m s) where
   begins2 : e.p1 ≡ section2_begins m
   begins2 = e.first.long
 
-  begins : (b : Bool) → has_section2 m ≡ b → e.p2 ≡ (if b then section2_begins m + three m (section2_begins m) else section2_begins m)
-  begins true is = (e.second is).long ∙ ap (λ p. p + three m p) begins2
-  begins false is = e.no_second is ∙ begins2
+  starts_with_bufr : (b : Bool) → has_section2 m ≡ b → e.p2 ≡ (if b then section2_begins m + u24_at m (section2_begins m) else section2_begins m)
+  starts_with_bufr true is = (e.second is).long ∙ ap (λ p. p + u24_at m p) begins2
+  starts_with_bufr false is = e.no_second is ∙ begins2
 
   begins3 : e.p2 ≡ section3_begins m
-  begins3 = begins (has_section2 m) refl
+  begins3 = starts_with_bufr (has_section2 m) refl
 
   begins4 : e.p3 ≡ section4_begins m
-  begins4 = e.third.long ∙ ap (λ p. p + three m p) begins3
+  begins4 = e.third.long ∙ ap (λ p. p + u24_at m p) begins3
 
 -- a plain message, written again, has the same octets
 module _ (m : List ℕ) (plain : IsPlain m) (s : Sections) (e : Ended m s) where
@@ -463,29 +463,29 @@ module _ (m : List ℕ) (plain : IsPlain m) (s : Sections) (e : Ended m s) where
       let second : e.p1 ≤ e.p2 = elim (cases_Bool (has_section2 m)) [ inl there ↦ omega (arith, (e.second there).least_long) | inr absent ↦ omega (arith, e.no_second absent) ] in
       (omega (arith, e.first.least_long), second, e.third.least_long, e.fourth.least_long, omega (arith, e.fourth.three_long, e.last))
 
-  size : message_size (edition_of m) (parts_in (parts m e.p1 e.p2 e.p3 e.p4)) ≡ three m 4
+  size : message_size (edition_of m) (parts_in (parts m e.p1 e.p2 e.p3 e.p4)) ≡ u24_at m 4
   size =
       edition-cases (edition_of m) known
       (λ is.
-      let P : ℕ → Type 0 = λ p. three m p % 2 ≡ 0 in
-      let even3 : three m e.p2 % 2 ≡ 0 = subst P (sym at3) (plain.even3 is) in
-      let even4 : three m e.p3 % 2 ≡ 0 = subst P (sym at4) (plain.even4 is) in
+      let P : ℕ → Type 0 = λ p. u24_at m p % 2 ≡ 0 in
+      let even3 : u24_at m e.p2 % 2 ≡ 0 = subst P (sym at3) (plain.even3 is) in
+      let even4 : u24_at m e.p3 % 2 ≡ 0 = subst P (sym at4) (plain.even4 is) in
       omega (arith, even3, even4, e.third.long, e.fourth.long, sizes-3 m s e is, plain.size))
       (λ is.
-      let P : ℕ → Type 0 = λ p. three m p % 2 ≡ 1 in
-      let odd : three m e.p2 % 2 ≡ 1 = subst P (sym at3) (plain.whole is) in
+      let P : ℕ → Type 0 = λ p. u24_at m p % 2 ≡ 1 in
+      let odd : u24_at m e.p2 % 2 ≡ 1 = subst P (sym at3) (plain.whole is) in
       let even : (e.p3 - (e.p2 + 7)) % 2 ≡ 0 = omega (arith, odd, e.third.long, e.third.least_long) in
       omega (arith, even, sizes-4 m s e is, plain.size))
 
   -- section 4 is even in edition 3
-  payload : evened (edition_of m) 4 (slice_range m (e.p3 + 4) e.p4) ≡ slice_range m (e.p3 + 4) e.p4
+  payload : with_even_length (edition_of m) 4 (slice_range m (e.p3 + 4) e.p4) ≡ slice_range m (e.p3 + 4) e.p4
   payload =
       let x = slice_range m (e.p3 + 4) e.p4 in
-      let P : ℕ → Type 0 = λ n. evened n 4 x ≡ x in
+      let P : ℕ → Type 0 = λ n. with_even_length n 4 x ≡ x in
       edition-cases (edition_of m) known
       (λ is.
-      let Q : ℕ → Type 0 = λ p. three m p % 2 ≡ 0 in
-      let even4 : three m e.p3 % 2 ≡ 0 = subst Q (sym at4) (plain.even4 is) in
+      let Q : ℕ → Type 0 = λ p. u24_at m p % 2 ≡ 0 in
+      let even4 : u24_at m e.p3 % 2 ≡ 0 = subst Q (sym at4) (plain.even4 is) in
       let n : (4 + length x) % 2 ≡ 0 = omega (arith, even4, e.fourth.long, slice-long m (e.p3 + 4) e.p4 (omega (arith, order)), order) in
       subst P (sym is) (ap (λ k. if k == 1 then x ++ 0 ∷ [] else x) n))
       (λ is. subst P (sym is) refl)
@@ -499,19 +499,19 @@ module _ (m : List ℕ) (plain : IsPlain m) (s : Sections) (e : Ended m s) where
       let R : ℕ → Type 0 = λ p. get_or m (p + 3) 0 ≡ 0 in
       let F : ℕ → Type 0 = λ p. get_or m (p + 6) 0 % 64 ≡ 0 in
       let L : ℕ → Type 0 = λ p. get_or m (p - 1) 0 ≡ 0 in
-      let odd : edition_of m ≡ 4 → three m e.p2 % 2 ≡ 1 = λ is. subst (λ p. three m p % 2 ≡ 1) (sym at3) (plain.whole is) in
-      let even : edition_of m ≡ 3 → three m e.p2 % 2 ≡ 0 = λ is. subst (λ p. three m p % 2 ≡ 0) (sym at3) (plain.even3 is) in
+      let odd : edition_of m ≡ 4 → u24_at m e.p2 % 2 ≡ 1 = λ is. subst (λ p. u24_at m p % 2 ≡ 1) (sym at3) (plain.whole is) in
+      let even : edition_of m ≡ 3 → u24_at m e.p2 % 2 ≡ 0 = λ is. subst (λ p. u24_at m p % 2 ≡ 0) (sym at3) (plain.even3 is) in
       let s0 = front-back m small (omega (arith, o)) plain.word (message_size (edition_of m) (parts_in (parts m e.p1 e.p2 e.p3 e.p4))) size in
       let s1 = first-back m small b e.p1 known (omega (arith, e.first.least_long)) (omega (arith, o)) e.first.long refl plain.flags in
       let s2 = second-back m small b e.p1 e.p2 (omega (arith, o)) (λ there. ((e.second there).least_long, (e.second there).long, subst R (sym place2) (plain.section2 there))) e.no_second in
-      let c3 = evened (edition_of m) 7 (octets_of_words w) in
+      let c3 = with_even_length (edition_of m) 7 (octets_of_words w) in
       let content = content-words m small e.p2 e.p3 known o.2 (omega (arith, o)) e.third.long odd even (λ is. subst L (sym at4) (plain.left_over is)) in
       let s3 = third-back m small c3 e.p2 e.p3 o.2 (omega (arith, o)) e.third.long content (subst R (sym at3) plain.section3) (subst F (sym at3) plain.data_flags) in
       let s4 = ap section4_octets payload ∙ content-back m small e.p3 e.p4 o.3 (omega (arith, o)) e.fourth.long (subst R (sym at4) plain.section4) in
       let end : drop e.p4 m ≡ codes "7777" = ap (λ n. drop n m) e.last ∙ plain.end in
       let h = some-back m small b (slice_range m (e.p1 + 4) e.p2) in
-      let t3 = section3_octets c3 (two m (e.p2 + 4)) (data_flags (nat_le 128 (get_or m (e.p2 + 6) 0)) (nat_le 64 (get_or m (e.p2 + 6) 0 % 128))) in
-      let t4 = section4_octets (evened (edition_of m) 4 (slice_range m (e.p3 + 4) e.p4)) in
+      let t3 = section3_octets c3 (u16_at m (e.p2 + 4)) (data_flags (nat_le 128 (get_or m (e.p2 + 6) 0)) (nat_le 64 (get_or m (e.p2 + 6) 0 % 128))) in
+      let t4 = section4_octets (with_even_length (edition_of m) 4 (slice_range m (e.p3 + 4) e.p4)) in
       let t2 = section2_octets (if b then Some (slice_range m (e.p1 + 4) e.p2) else None) in
       let t1 : Bool → List ℕ = λ x. section1_octets (head_of m) (slice_range m (8 + first_least (edition_of m)) e.p1) x in
       let back : t1 (is_some (if b then Some (slice_range m (e.p1 + 4) e.p2) else None)) ++ (t2 ++ (t3 ++ (t4 ++ codes "7777"))) ≡ drop 8 m =
@@ -529,11 +529,11 @@ module _ (m : List ℕ) (plain : IsPlain m) (s : Sections) (e : Ended m s) where
       ∙ ap (λ l. take 8 m ++ l) back ∙ take-append-drop 8 m
 
 -- where sections 3 and 4 are even, it is no longer in edition 3 either
-pub least-when-even : (m : List ℕ) (s : Sections) → sections_of m ≡ Ok s → edition_of m ≡ 3 → three m (section3_begins m) % 2 ≡ 0 → three m (section4_begins m) % 2 ≡ 0 → message_size s.head.edition (parts_in s) ≤ length m
+pub least-when-even : (m : List ℕ) (s : Sections) → sections_of m ≡ Ok s → edition_of m ≡ 3 → u24_at m (section3_begins m) % 2 ≡ 0 → u24_at m (section4_begins m) % 2 ≡ 0 → message_size s.head.edition (parts_in s) ≤ length m
 least-when-even m s is edition even3 even4 =
     let e = sections-ended m s is in
-    let third : three m e.p2 % 2 ≡ 0 = ap (λ p. three m p % 2) (begins3 m s e) ∙ even3 in
-    let fourth : three m e.p3 % 2 ≡ 0 = ap (λ p. three m p % 2) (begins4 m s e) ∙ even4 in
+    let third : u24_at m e.p2 % 2 ≡ 0 = ap (λ p. u24_at m p % 2) (begins3 m s e) ∙ even3 in
+    let fourth : u24_at m e.p3 % 2 ≡ 0 = ap (λ p. u24_at m p % 2) (begins4 m s e) ∙ even4 in
     let P : Sections → Type 0 = λ x. message_size x.head.edition (parts_in x) ≤ length m in
     subst P (sym e.is) (omega (arith, third, fourth, e.third.long, e.fourth.long, sizes-3 m s e edition))
 

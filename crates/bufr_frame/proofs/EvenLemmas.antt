@@ -4,7 +4,7 @@ use Rattle.std.specs.Prelude.{if◌then◌else◌, is_some, codes}
 use Rattle.std.proofs.lemmas.Bool.Decides.{nat_tests}
 use Rattle.bufr_bits.specs.Bits.{bits_of, bits_of_octet}
 use Rattle.bufr_frame.specs.declared.head.Head.{Head}
-use Rattle.bufr_frame.specs.Layout.{even_size, evened, padded, size_from, message_octets, parts_of, section0_octets, section1_octets, section2_octets, section2_size, section3_octets, section4_octets, data_flags}
+use Rattle.bufr_frame.specs.Layout.{even_size, with_even_length, with_pad_octet, size_from, message_octets, parts_of, section0_octets, section1_octets, section2_octets, section2_size, section3_octets, section4_octets, data_flags}
 use Rattle.bufr_frame.specs.Octets.{octets_of_words}
 use Rattle.bufr_frame.specs.Section1.{first_least}
 use Rattle.bufr_frame.specs.Sections.{is_padded}
@@ -39,21 +39,21 @@ size-least edition local1 section2 descriptors n k most h g = omega (arith, even
 -- ---- octets
 
 -- made even once, it stays
-pub evened-twice : (edition front : ℕ) (octets : List ℕ) → evened edition front (evened edition front octets) ≡ evened edition front octets
+pub evened-twice : (edition front : ℕ) (octets : List ℕ) → with_even_length edition front (with_even_length edition front octets) ≡ with_even_length edition front octets
 evened-twice edition front octets =
-    ap (λ b. padded b (evened edition front octets)) (ap (is_padded edition) (length-evened edition front octets) ∙ even-stays edition (front + length octets))
+    ap (λ b. with_pad_octet b (with_even_length edition front octets)) (ap (is_padded edition) (length-evened edition front octets) ∙ even-stays edition (front + length octets))
 
 even-twice : (edition n : ℕ) → even_size edition (even_size edition n) ≡ even_size edition n
 even-twice edition n = ap (λ b. if b then even_size edition n + 1 else even_size edition n) (even-stays edition n)
 
 -- a payload that is even already is laid out as the payload that it was made from
 pub laid-even : (h : Head) (local1 : List ℕ) (section2 : Option (List ℕ)) (descriptors : List ℕ) (subsets : ℕ) (observed compressed : Bool) (payload : List ℕ)
-    → message_octets h (parts_of local1 section2 descriptors subsets observed compressed (evened h.edition 4 payload)) ≡ message_octets h (parts_of local1 section2 descriptors subsets observed compressed payload)
+    → message_octets h (parts_of local1 section2 descriptors subsets observed compressed (with_even_length h.edition 4 payload)) ≡ message_octets h (parts_of local1 section2 descriptors subsets observed compressed payload)
 laid-even h local1 section2 descriptors subsets observed compressed payload =
-    let long : even_size h.edition (4 + length (evened h.edition 4 payload)) ≡ even_size h.edition (4 + length payload) =
+    let long : even_size h.edition (4 + length (with_even_length h.edition 4 payload)) ≡ even_size h.edition (4 + length payload) =
     ap (even_size h.edition) (length-evened h.edition 4 payload) ∙ even-twice h.edition (4 + length payload) in
     λ j. section0_octets (8 + (first_least h.edition + length local1) + section2_size section2 + even_size h.edition (7 + 2 * length descriptors) + long j + 4) h.edition
-    ++ (section1_octets h local1 (is_some section2) ++ (section2_octets section2 ++ (section3_octets (evened h.edition 7 (octets_of_words descriptors)) subsets (data_flags observed compressed)
+    ++ (section1_octets h local1 (is_some section2) ++ (section2_octets section2 ++ (section3_octets (with_even_length h.edition 7 (octets_of_words descriptors)) subsets (data_flags observed compressed)
     ++ (section4_octets (evened-twice h.edition 4 payload j) ++ codes "7777"))))
 
 bits-append : (xs ys : List ℕ) → bits_of (xs ++ ys) ≡ bits_of xs ++ bits_of ys
@@ -62,9 +62,9 @@ bits-append [] ys = refl
 bits-append (x ∷ xs) ys = ap (λ (b : List Bool). bits_of_octet x ++ b) (bits-append xs ys) ∙ sym (append_assoc (bits_of_octet x) (bits_of xs) (bits_of ys))
 
 -- the bits of a payload are in front
-bits-by : (b : Bool) (octets : List ℕ) → (tail : List Bool) × (bits_of (padded b octets) ≡ bits_of octets ++ tail)
+bits-by : (b : Bool) (octets : List ℕ) → (tail : List Bool) × (bits_of (with_pad_octet b octets) ≡ bits_of octets ++ tail)
 bits-by true octets = (bits_of (0 ∷ []), bits-append octets (0 ∷ []))
 bits-by false octets = ([], sym (append-nil (bits_of octets)))
 
-pub evened-bits : (edition front : ℕ) (octets : List ℕ) → (tail : List Bool) × (bits_of (evened edition front octets) ≡ bits_of octets ++ tail)
+pub evened-bits : (edition front : ℕ) (octets : List ℕ) → (tail : List Bool) × (bits_of (with_even_length edition front octets) ≡ bits_of octets ++ tail)
 evened-bits edition front octets = bits-by (is_padded edition (front + length octets)) octets

@@ -1,9 +1,9 @@
 -- The definitions computed on worked examples.
 use Rattle.std.proofs.Common.{◌≡◌, ℕ, zero, suc, Bool, true, false, List, [], ◌∷◌, ◌++◌, refl, take, length, codes, Option, Some, None, Ok, Err}
 use Rattle.std.specs.Prelude.{slice_set, ◌==◌, ◌&&◌, ◌+◌}
-use Rattle.bufr_frame.specs.Scan.{Happening, Framed, Strayed, scan, scan_from, open_scan}
+use Rattle.bufr_frame.specs.Scan.{StreamEvent, FrameAt, StrayAt, scan, scan_from, open_scan}
 use Rattle.bufr_frame.specs.Sections.{sections_of, section_end, Sections}
-use Rattle.bufr_frame.specs.Layout.{Parts, parts_of, parts_in, message_octets, is_writable}
+use Rattle.bufr_frame.specs.Layout.{MessageParts, parts_of, parts_in, message_octets, is_writable}
 use Rattle.bufr_frame.specs.Longest.{longest_of, first_event}
 use Rattle.bufr_frame.specs.declared.head.Head.{Head}
 use Rattle.bufr_frame.specs.declared.fault.Cause.TheVariants.{Cut, ShortLength, NoEnd}
@@ -51,7 +51,7 @@ sections_of_edition_3 payload size = record { head = head_of_edition_3; local1 =
 abbrev the_head : Head
 the_head = record { edition = 4; master = 0; centre = 98; subcentre = 0; update = 0; category = 0; subcategory = 0; local_subcategory = 0; master_version = 14; local_version = 0; year = 2024; month = 1; day = 2; hour = 3; minute = 4; second = 5 }
 
-abbrev the_parts : List ℕ → Option (List ℕ) → Parts
+abbrev the_parts : List ℕ → Option (List ℕ) → MessageParts
 the_parts local1 section2 = parts_of local1 section2 (257 ∷ []) 1 true false (0x14 ∷ [])
 
 abbrev the_sections : List ℕ → Option (List ℕ) → ℕ → Sections
@@ -157,35 +157,35 @@ fourth-past = refl
 
 -- the events: one message, two, a message without its end, a stray word in front, short and cut
 -- lengths
-one-event : scan one_block_number ≡ Framed 0 one_block_number ∷ []
+one-event : scan one_block_number ≡ FrameAt 0 one_block_number ∷ []
 unfolding scan_from
 one-event = refl
 
-two-events : scan (one_block_number ++ one_block_number) ≡ Framed 0 one_block_number ∷ Framed 48 one_block_number ∷ []
+two-events : scan (one_block_number ++ one_block_number) ≡ FrameAt 0 one_block_number ∷ FrameAt 48 one_block_number ∷ []
 unfolding scan_from
 two-events = refl
 
-no-end : scan (slice_set one_block_number 47 54) ≡ Strayed 0 NoEnd ∷ []
+no-end : scan (slice_set one_block_number 47 54) ≡ StrayAt 0 NoEnd ∷ []
 unfolding scan_from
 no-end = refl
 
-stray-in-front : scan (codes "BUFR" ++ 0 ∷ 0 ∷ 64 ∷ 4 ∷ one_block_number ++ 0 ∷ 0 ∷ 0 ∷ 0 ∷ 0 ∷ 0 ∷ 0 ∷ 0 ∷ []) ≡ Strayed 0 NoEnd ∷ Framed 8 one_block_number ∷ []
+stray-in-front : scan (codes "BUFR" ++ 0 ∷ 0 ∷ 64 ∷ 4 ∷ one_block_number ++ 0 ∷ 0 ∷ 0 ∷ 0 ∷ 0 ∷ 0 ∷ 0 ∷ 0 ∷ []) ≡ StrayAt 0 NoEnd ∷ FrameAt 8 one_block_number ∷ []
 unfolding scan_from
 stray-in-front = refl
 
-short-length : scan (codes "BUFR" ++ 0 ∷ 0 ∷ 11 ∷ 4 ∷ codes "abcd") ≡ Strayed 0 ShortLength ∷ []
+short-length : scan (codes "BUFR" ++ 0 ∷ 0 ∷ 11 ∷ 4 ∷ codes "abcd") ≡ StrayAt 0 ShortLength ∷ []
 unfolding scan_from
 short-length = refl
 
-cut-before-short : scan (codes "BUFR" ++ 0 ∷ 0 ∷ 11 ∷ 4 ∷ codes "ab") ≡ Strayed 0 Cut ∷ []
+cut-before-short : scan (codes "BUFR" ++ 0 ∷ 0 ∷ 11 ∷ 4 ∷ codes "ab") ≡ StrayAt 0 Cut ∷ []
 unfolding scan_from
 cut-before-short = refl
 
-cut-at-47 : scan (take 47 one_block_number) ≡ Strayed 0 Cut ∷ []
+cut-at-47 : scan (take 47 one_block_number) ≡ StrayAt 0 Cut ∷ []
 unfolding scan_from
 cut-at-47 = refl
 
-cut-at-4 : scan (take 4 one_block_number) ≡ Strayed 0 Cut ∷ []
+cut-at-4 : scan (take 4 one_block_number) ≡ StrayAt 0 Cut ∷ []
 unfolding scan_from
 cut-at-4 = refl
 
@@ -193,7 +193,7 @@ cut-at-3 : scan (take 3 one_block_number) ≡ []
 unfolding scan_from
 cut-at-3 = refl
 
-open-before-the-cut : open_scan (one_block_number ++ take 47 one_block_number) ≡ Framed 0 one_block_number ∷ []
+open-before-the-cut : open_scan (one_block_number ++ take 47 one_block_number) ≡ FrameAt 0 one_block_number ∷ []
 unfolding scan_from
 open-before-the-cut = refl
 
@@ -202,9 +202,9 @@ abbrev words_only : ℕ → List ℕ
 words_only zero = []
 words_only (suc n) = codes "BUFR" ++ words_only n
 
-abbrev are_cut : ℕ → List Happening → Bool
+abbrev are_cut : ℕ → List StreamEvent → Bool
 are_cut at [] = true
-are_cut at (Strayed offset Cut ∷ more) = (offset == at) && are_cut (at + 4) more
+are_cut at (StrayAt offset Cut ∷ more) = (offset == at) && are_cut (at + 4) more
 are_cut at (event ∷ more) = false
 
 words-only : length (scan (words_only 1024)) ≡ 1024
@@ -220,13 +220,13 @@ abbrev stating_64 : ℕ → List ℕ
 stating_64 zero = []
 stating_64 (suc n) = codes "BUFR" ++ 0 ∷ 0 ∷ 64 ∷ 4 ∷ stating_64 n
 
-abbrev no_ends : (at n : ℕ) → List Happening → List Happening
+abbrev no_ends : (at n : ℕ) → List StreamEvent → List StreamEvent
 no_ends at zero more = more
-no_ends at (suc n) more = Strayed at NoEnd ∷ no_ends (at + 8) n more
+no_ends at (suc n) more = StrayAt at NoEnd ∷ no_ends (at + 8) n more
 
-abbrev cuts : (at n : ℕ) → List Happening
+abbrev cuts : (at n : ℕ) → List StreamEvent
 cuts at zero = []
-cuts at (suc n) = Strayed at Cut ∷ cuts (at + 8) n
+cuts at (suc n) = StrayAt at Cut ∷ cuts (at + 8) n
 
 stating-events : scan (stating_64 16) ≡ no_ends 0 9 (cuts 72 7)
 unfolding scan_from
@@ -241,11 +241,11 @@ unfolding scan_from
 stating-longest = refl
 
 -- a run cut in two: the events of the first 58 octets, and what goes on behind them
-open-at-a-fault : open_scan (one_block_number ++ take 10 one_block_number) ≡ Framed 0 one_block_number ∷ []
+open-at-a-fault : open_scan (one_block_number ++ take 10 one_block_number) ≡ FrameAt 0 one_block_number ∷ []
 unfolding scan_from
 open-at-a-fault = refl
 
-goes-on : scan (one_block_number ++ one_block_number) ≡ Framed 0 one_block_number ∷ scan_from 0 48 one_block_number
+goes-on : scan (one_block_number ++ one_block_number) ≡ FrameAt 0 one_block_number ∷ scan_from 0 48 one_block_number
 unfolding scan_from
 goes-on = refl
 
@@ -255,7 +255,7 @@ longest-of-one : longest_of 0 one_block_number (scan one_block_number) ≡ 48
 unfolding scan_from
 longest-of-one = refl
 
-longest-with-the-open-word : longest_of 0 (one_block_number ++ codes "BUFR" ++ 0 ∷ 1 ∷ 0 ∷ 4 ∷ []) (Framed 0 one_block_number ∷ first_event (scan_from 0 48 (codes "BUFR" ++ 0 ∷ 1 ∷ 0 ∷ 4 ∷ []))) ≡ 256
+longest-with-the-open-word : longest_of 0 (one_block_number ++ codes "BUFR" ++ 0 ∷ 1 ∷ 0 ∷ 4 ∷ []) (FrameAt 0 one_block_number ∷ first_event (scan_from 0 48 (codes "BUFR" ++ 0 ∷ 1 ∷ 0 ∷ 4 ∷ []))) ≡ 256
 unfolding scan_from
 longest-with-the-open-word = refl
 
@@ -265,7 +265,7 @@ longest-of-a-bare-word = refl
 
 -- the stray words of the worked streams, and lengths under 12
 stray-behind-messages : scan (codes "BUFR" ++ 0 ∷ 0 ∷ 64 ∷ 4 ∷ one_block_number ++ codes "xyBUF" ++ one_block_number ++ codes "BUFR" ++ 0 ∷ 0 ∷ 11 ∷ 4 ∷ codes "abcBUFR")
-    ≡ Strayed 0 NoEnd ∷ Framed 8 one_block_number ∷ Framed 61 one_block_number ∷ Strayed 109 ShortLength ∷ Strayed 120 Cut ∷ []
+    ≡ StrayAt 0 NoEnd ∷ FrameAt 8 one_block_number ∷ FrameAt 61 one_block_number ∷ StrayAt 109 ShortLength ∷ StrayAt 120 Cut ∷ []
 unfolding scan_from
 stray-behind-messages = refl
 

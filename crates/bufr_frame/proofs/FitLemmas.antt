@@ -5,7 +5,7 @@ use Rattle.std.specs.List.{AllByRecursion}
 use Rattle.std.proofs.lemmas.Bool.Decides.{nat_tests}
 use Rattle.bufr_frame.specs.declared.head.Head.{Head}
 use Rattle.bufr_frame.specs.Layout.{IsFitting, is_writable, fits_3, head_octets}
-use Rattle.bufr_frame.specs.Section1.{Field, Master, Centre, Subcentre, Update, Flags, Category, Subcategory, LocalSubcategory, MasterVersion, LocalVersion, Year, Month, Day, Hour, Minute, Second, Slot, Single, Double, is_for, width, read_slot, most, most_in, slots_of, slots_3, slots_4, is_edition, said, value_in, head_in, octets_in}
+use Rattle.bufr_frame.specs.Section1.{Field, Master, Centre, Subcentre, Update, Flags, Category, Subcategory, LocalSubcategory, MasterVersion, LocalVersion, Year, Month, Day, Hour, Minute, Second, Slot, Single, Double, is_for, width, read_slot, most, most_in, slots_of, slots_3, slots_4, is_edition, head_value, slot_value, head_in, slot_octets}
 use Rattle.bufr_frame.specs.Sections.{Sections, sections_of, head_of, edition_of, slots_in}
 use Rattle.bufr_frame.proofs.AgainLemmas.{sections-ended, edition-cases}
 
@@ -27,7 +27,7 @@ writable-3 h e c s y l z =
 
 pub fitting-writable : (h : Head) → IsFitting h → is_writable h ≡ true
 fitting-writable h fits =
-    let bound : (field : Field) → h.edition ≡ 3 → said h false field ≤ most_in slots_3 field = λ field is. subst (λ n. said h false field ≤ most_in (slots_of n) field) is (fits.fits field) in
+    let bound : (field : Field) → h.edition ≡ 3 → head_value h false field ≤ most_in slots_3 field = λ field is. subst (λ n. head_value h false field ≤ most_in (slots_of n) field) is (fits.fits field) in
     edition-cases h.edition fits.edition
     (λ is. writable-3 h is (bound Centre is) (bound Subcentre is) (bound Year is) (bound LocalSubcategory is) (bound Second is))
     (λ is. writable-4 h is)
@@ -42,12 +42,12 @@ pick : (b : Bool) (x y u v : ℕ) → x ≤ u → y ≤ v → (if b then x else 
 pick true x y u v h k = h
 pick false x y u v h k = k
 
-value-fits : (slots : List Slot) (m : List ℕ) (p : ℕ) (field : Field) → ((i : ℕ) → slice_index m i < 256) → value_in slots m p field ≤ most_in slots field
+value-fits : (slots : List Slot) (m : List ℕ) (p : ℕ) (field : Field) → ((i : ℕ) → slice_index m i < 256) → slot_value slots m p field ≤ most_in slots field
 value-fits [] m p field small = omega arith
 value-fits (slot ∷ more) m p field small =
-    pick (is_for field slot) (read_slot m p slot) (value_in more m (p + width slot) field) (most slot) (most_in more field) (slot-most m p slot small) (value-fits more m (p + width slot) field small)
+    pick (is_for field slot) (read_slot m p slot) (slot_value more m (p + width slot) field) (most slot) (most_in more field) (slot-most m p slot small) (value-fits more m (p + width slot) field small)
 
-head-fits : (edition : ℕ) (slots : List Slot) (m : List ℕ) (p : ℕ) → ((i : ℕ) → slice_index m i < 256) → (field : Field) → said (head_in edition slots m p) false field ≤ most_in slots field
+head-fits : (edition : ℕ) (slots : List Slot) (m : List ℕ) (p : ℕ) → ((i : ℕ) → slice_index m i < 256) → (field : Field) → head_value (head_in edition slots m p) false field ≤ most_in slots field
 head-fits edition slots m p small Master = value-fits slots m p Master small
 head-fits edition slots m p small Centre = value-fits slots m p Centre small
 head-fits edition slots m p small Subcentre = value-fits slots m p Subcentre small
@@ -86,7 +86,7 @@ low w = omega arith
 one : (n : ℕ) → n ≤ 255 → n < 256
 one n h = omega (arith, h)
 
-head-3 : (h : Head) (b : Bool) → ((field : Field) → said h false field ≤ most_in slots_3 field) → AllByRecursion (λ octet. octet < 256) (octets_in slots_3 (said h b))
+head-3 : (h : Head) (b : Bool) → ((field : Field) → head_value h false field ≤ most_in slots_3 field) → AllByRecursion (λ octet. octet < 256) (slot_octets slots_3 (head_value h b))
 head-3 h b fits = (
   one h.master (fits Master),
   (
@@ -110,7 +110,7 @@ head-3 h b fits = (
   ),
 )
 
-head-4 : (h : Head) (b : Bool) → ((field : Field) → said h false field ≤ most_in slots_4 field) → AllByRecursion (λ octet. octet < 256) (octets_in slots_4 (said h b))
+head-4 : (h : Head) (b : Bool) → ((field : Field) → head_value h false field ≤ most_in slots_4 field) → AllByRecursion (λ octet. octet < 256) (slot_octets slots_4 (head_value h b))
 head-4 h b fits = (
   one h.master (fits Master),
   (
@@ -157,5 +157,5 @@ head-4 h b fits = (
 
 pub head-small : (h : Head) (b : Bool) → IsFitting h → AllByRecursion (λ octet. octet < 256) (head_octets h b)
 head-small h b g =
-    let P : ℕ → Type 0 = λ n. ((field : Field) → said h false field ≤ most_in (slots_of n) field) → AllByRecursion (λ octet. octet < 256) (octets_in (slots_of n) (said h b)) in
+    let P : ℕ → Type 0 = λ n. ((field : Field) → head_value h false field ≤ most_in (slots_of n) field) → AllByRecursion (λ octet. octet < 256) (slot_octets (slots_of n) (head_value h b)) in
     edition-cases h.edition g.edition (λ e. subst P (sym e) (head-3 h b) g.fits) (λ e. subst P (sym e) (head-4 h b) g.fits)

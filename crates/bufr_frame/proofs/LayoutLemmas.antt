@@ -4,10 +4,10 @@ use Rattle.std.proofs.Math.Seq.{get_or-append_right, take-length}
 use Rattle.std.proofs.lemmas.List.{drop_at, take-append-le}
 use Rattle.std.specs.Prelude.{if◌then◌else◌, nat_lt, nat_le, is_some, slice_range, ◌&&◌, ◌||◌}
 use Rattle.std.proofs.lemmas.Bool.Decides.{nat_tests}
-use Rattle.bufr_frame.specs.Octets.{three, two, words, three_octets, two_octets, octets_of_words}
-use Rattle.bufr_frame.specs.Section1.{Slot, Field, Flags, Single, Double, slots_of, is_edition, first_least, octets_of_slots, octets_in, value_in, said, head_in}
+use Rattle.bufr_frame.specs.Octets.{u24_at, u16_at, words, three_octets, two_octets, octets_of_words}
+use Rattle.bufr_frame.specs.Section1.{Slot, Field, Flags, Single, Double, slots_of, is_edition, first_least, octets_of_slots, slot_octets, slot_value, head_value, head_in}
 use Rattle.bufr_frame.specs.Sections.{sections_of, section_end, parts, edition_of, has_section2, head_of, Sections, is_long_edition_3, is_padded}
-use Rattle.bufr_frame.specs.Layout.{Parts, message_octets, message_size, section0_octets, section1_octets, section2_octets, section2_size, section3_octets, section4_octets, data_flags, sections_from, head_octets, even_size, evened, padded, is_writable}
+use Rattle.bufr_frame.specs.Layout.{MessageParts, message_octets, message_size, section0_octets, section1_octets, section2_octets, section2_size, section3_octets, section4_octets, data_flags, sections_from, head_octets, even_size, with_even_length, with_pad_octet, is_writable}
 use Rattle.bufr_frame.specs.declared.head.Head.{Head}
 use Rattle.bufr_frame.proofs.SectionLemmas.{sections-are}
 
@@ -38,15 +38,15 @@ words-if : (b : Bool) (ws : List ℕ) → words (if b then octets_of_words ws ++
 words-if true ws = words-left-over ws
 words-if false ws = words-octets ws
 
-pub words-evened : (edition front : ℕ) (ws : List ℕ) → words (evened edition front (octets_of_words ws)) ≡ ws
+pub words-evened : (edition front : ℕ) (ws : List ℕ) → words (with_even_length edition front (octets_of_words ws)) ≡ ws
 words-evened edition front ws = words-if (is_padded edition (front + length (octets_of_words ws))) ws
 
 -- how many octets it has
-length-padded : (b : Bool) (front : ℕ) (octets : List ℕ) → front + length (padded b octets) ≡ (if b then front + length octets + 1 else front + length octets)
+length-padded : (b : Bool) (front : ℕ) (octets : List ℕ) → front + length (with_pad_octet b octets) ≡ (if b then front + length octets + 1 else front + length octets)
 length-padded true front octets = omega (arith, length-append octets (0 ∷ []))
 length-padded false front octets = refl
 
-pub length-evened : (edition front : ℕ) (octets : List ℕ) → front + length (evened edition front octets) ≡ even_size edition (front + length octets)
+pub length-evened : (edition front : ℕ) (octets : List ℕ) → front + length (with_even_length edition front octets) ≡ even_size edition (front + length octets)
 length-evened edition front octets = length-padded (is_padded edition (front + length octets)) front octets
 
 -- in edition 3 what is left over of a division by 2 is put behind
@@ -70,7 +70,7 @@ even-stays edition n = by (edition == 3) (n % 2 == 1) refl
         ap (λ k. k == 1) even
 
 -- section 1: its octets are those of its slots
-length-octets_in : (slots : List Slot) (says : Field → ℕ) → length (octets_in slots says) ≡ octets_of_slots slots
+length-octets_in : (slots : List Slot) (says : Field → ℕ) → length (slot_octets slots says) ≡ octets_of_slots slots
 length-octets_in [] says = refl
 length-octets_in (Single field ∷ more) says = omega (arith, length-octets_in more says)
 length-octets_in (Double field ∷ more) says = omega (arith, length-octets_in more says)
@@ -96,7 +96,7 @@ section-at m front rest k least p n is at least_n three_n within =
     let c : get_or m (p + 2) 0 ≡ n % 256 = ap (λ l. get_or l (p + 2) 0) is ∙ index-behind front (three_octets n ++ rest) p 2 at in
     let z : p + 0 ≡ p = omega arith in
     let a' : get_or m p 0 ≡ n / 65536 = ap (λ i. get_or m i 0) (sym z) ∙ a in
-    let t : three m p ≡ n = rw (a', b, c) (three-number n) in
+    let t : u24_at m p ≡ n = rw (a', b, c) (three-number n) in
     let e : nat_lt (length m - 4) (p + 3) ≡ false = grind (arith, nat_tests) in
     let f : nat_lt n least ≡ false = grind (arith, nat_tests) in
     let g : nat_lt (length m - 4) (p + n) ≡ false = grind (arith, nat_tests) in
@@ -129,14 +129,14 @@ none-fits n is = grind (arith, nat_tests, is)
 -- a head that can be written is of edition 4, or of edition 3 and then says nothing of what that
 -- lacks
 pub by-edition : {P : Type 0} (h : Head) → is_writable h ≡ true → (h.edition ≡ 4 → P) → (h.edition ≡ 3 → h.local_subcategory ≡ 0 → h.second ≡ 0 → P) → P
-by-edition h is four three =
+by-edition h is four u24_at =
     or-by (h.edition == 4) _ is (λ e. four (equal h.edition 4 e)) (λ rest.
     let a = and-both (h.edition == 3) _ rest in
     let b = and-both (nat_le h.centre 255) _ a.1 in
     let c = and-both (nat_le h.subcentre 255) _ b.1 in
     let d = and-both (nat_le h.year 255) _ c.1 in
     let e = and-both (nat_le h.local_subcategory 0) _ d.1 in
-    three (equal h.edition 3 a.0) (none-fits h.local_subcategory e.0) (none-fits h.second e.1))
+    u24_at (equal h.edition 3 a.0) (none-fits h.local_subcategory e.0) (none-fits h.second e.1))
 
 pub writable-edition : (h : Head) → is_writable h ≡ true → is_edition h.edition ≡ true
 writable-edition h is = by-edition h is (λ e. ap is_edition e) (λ e l s. ap is_edition e)
@@ -174,11 +174,11 @@ second-part m front rest (Some octets) p q is at to has =
 -- section 1 read back, by the slots that it was written by
 module _ (h : Head) (optional : Bool) (size n : ℕ) (local1 rest : List ℕ) where
   abbrev with_slots : List Slot → List ℕ
-  with_slots slots = section0_octets size h.edition ++ ((three_octets n ++ octets_in slots (said h optional) ++ local1) ++ rest)
+  with_slots slots = section0_octets size h.edition ++ ((three_octets n ++ slot_octets slots (head_value h optional) ++ local1) ++ rest)
 
-  flags-back : (is_writable h ≡ true) → value_in (slots_of h.edition) (with_slots (slots_of h.edition)) 11 Flags ≡ (if optional then 128 else 0)
+  flags-back : (is_writable h ≡ true) → slot_value (slots_of h.edition) (with_slots (slots_of h.edition)) 11 Flags ≡ (if optional then 128 else 0)
   flags-back is =
-      let P : ℕ → Type 0 = λ e. value_in (slots_of e) (with_slots (slots_of e)) 11 Flags ≡ (if optional then 128 else 0) in
+      let P : ℕ → Type 0 = λ e. slot_value (slots_of e) (with_slots (slots_of e)) 11 Flags ≡ (if optional then 128 else 0) in
       by-edition h is (λ e. subst P (sym e) refl) (λ e l s. subst P (sym e) refl)
 
   head-same : (c s y : ℕ) → c ≡ h.centre → s ≡ h.subcentre → y ≡ h.year → (record h { centre = c; subcentre = s; year = y }) ≡ h
@@ -213,21 +213,21 @@ make-same : (h h' : Head) (l l' : List ℕ) (o o' : Option (List ℕ)) (d d' : L
 make-same h h' l l' o o' d d' n n' b b' c c' p p' s s' e1 e2 e3 e4 e5 e6 e7 e8 e9 = cc
 
 parts-make : (m : List ℕ) (p1 p2 p3 p4 : ℕ) → parts m p1 p2 p3 p4 ≡ make (head_of m) (slice_range m (8 + first_least (edition_of m)) p1) (if has_section2 m then Some (slice_range m (p1 + 4) p2) else None)
-    (words (slice_range m (p2 + 7) p3)) (two m (p2 + 4)) (nat_le 128 (get_or m (p2 + 6) 0)) (nat_le 64 (get_or m (p2 + 6) 0 % 128)) (slice_range m (p3 + 4) p4) (length m)
+    (words (slice_range m (p2 + 7) p3)) (u16_at m (p2 + 4)) (nat_le 128 (get_or m (p2 + 6) 0)) (nat_le 64 (get_or m (p2 + 6) 0 % 128)) (slice_range m (p3 + 4) p4) (length m)
 unfolding make
 parts-make m p1 p2 p3 p4 = refl
 
-made-sections : (h : Head) (p : Parts) → make h p.local1 p.section2 p.descriptors p.subsets p.observed p.compressed (evened h.edition 4 p.payload) (message_size h.edition p) ≡ sections_from h p
+made-sections : (h : Head) (p : MessageParts) → make h p.local1 p.section2 p.descriptors p.subsets p.observed p.compressed (with_even_length h.edition 4 p.payload) (message_size h.edition p) ≡ sections_from h p
 unfolding make
 made-sections h p = refl
 
 -- sections that are even are not too long
 not-long : (long third fourth : Bool) → third ≡ false → fourth ≡ false → (long && (third || fourth)) ≡ false
-not-long false third fourth three four = refl
-not-long true third fourth three four = rw (three, four) refl
+not-long false third fourth u24_at four = refl
+not-long true third fourth u24_at four = rw (u24_at, four) refl
 
 -- a message of these parts has these sections
-pub read-back : (h : Head) (p : Parts) → is_writable h ≡ true → sections_of (message_octets h p) ≡ Ok (sections_from h p)
+pub read-back : (h : Head) (p : MessageParts) → is_writable h ≡ true → sections_of (message_octets h p) ≡ Ok (sections_from h p)
 read-back h p writable =
     let m = message_octets h p in
     let edition = h.edition in
@@ -235,8 +235,8 @@ read-back h p writable =
     let s1 = section1_octets h p.local1 (is_some p.section2) in
     let s2 = section2_octets p.section2 in
     let flags = data_flags p.observed p.compressed in
-    let c3 = evened edition 7 (octets_of_words p.descriptors) in
-    let c4 = evened edition 4 p.payload in
+    let c3 = with_even_length edition 7 (octets_of_words p.descriptors) in
+    let c4 = with_even_length edition 4 p.payload in
     let s3 = section3_octets c3 p.subsets flags in
     let s4 = section4_octets c4 in
     let end = codes "7777" in
@@ -248,7 +248,7 @@ read-back h p writable =
     let at4 : m ≡ f4 ++ (s4 ++ end) = at3 ∙ sym (append_assoc f3 s3 (s4 ++ end)) in
     let least = first_least edition in
     let ho = head_octets h (is_some p.section2) in
-    let lh : length ho ≡ octets_of_slots (slots_of edition) = length-octets_in (slots_of edition) (said h (is_some p.section2)) in
+    let lh : length ho ≡ octets_of_slots (slots_of edition) = length-octets_in (slots_of edition) (head_value h (is_some p.section2)) in
     let n1 = least + length p.local1 in
     let n2 = section2_size p.section2 in
     let n3 = 7 + length c3 in
@@ -291,7 +291,7 @@ read-back h p writable =
     ap (λ l. slice_range l (p2 + 7) p3) same3 ∙ range-behind (f3 ++ head3) c3 (s4 ++ end) (p2 + 7) p3 (omega (arith, length-append f3 head3, k3)) (omega arith) in
     let behind3 : (k : ℕ) → get_or m (p2 + k) 0 ≡ get_or (s3 ++ (s4 ++ end)) k 0 = λ k. ap (λ l. get_or l (p2 + k) 0) at3 ∙ index-behind f3 (s3 ++ (s4 ++ end)) p2 k k3 in
     let five : p2 + 4 + 1 ≡ p2 + 5 = omega arith in
-    let subsets : two m (p2 + 4) ≡ p.subsets = rw (five, behind3 4, behind3 5) (two-number p.subsets) in
+    let subsets : u16_at m (p2 + 4) ≡ p.subsets = rw (five, behind3 4, behind3 5) (two-number p.subsets) in
     let head4 = three_octets n4 ++ 0 ∷ [] in
     let same4 : m ≡ (f4 ++ head4) ++ (c4 ++ end) = at4 ∙ sym (append_assoc f4 head4 (c4 ++ end)) in
     let payload : slice_range m (p3 + 4) p4 ≡ c4 =
@@ -299,7 +299,7 @@ read-back h p writable =
     let size : length m ≡ message_size edition p = omega (arith, lm, size3, size4) in
     sections-are m p1 p2 p3 p4 known e1 e2 e3 e4 last short
     ∙ ap Ok (parts-make m p1 p2 p3 p4
-    ∙ make-same (head_of m) h (slice_range m (8 + least) p1) p.local1 _ p.section2 (words (slice_range m (p2 + 7) p3)) p.descriptors (two m (p2 + 4)) p.subsets _ p.observed _ p.compressed (slice_range m (p3 + 4) p4) c4 (length m) (message_size edition p)
+    ∙ make-same (head_of m) h (slice_range m (8 + least) p1) p.local1 _ p.section2 (words (slice_range m (p2 + 7) p3)) p.descriptors (u16_at m (p2 + 4)) p.subsets _ p.observed _ p.compressed (slice_range m (p3 + 4) p4) c4 (length m) (message_size edition p)
     (head-back h (is_some p.section2) (message_size edition p) n1 p.local1 (s2 ++ (s3 ++ (s4 ++ end))) writable) local1 (second-part m f2 (s3 ++ (s4 ++ end)) p.section2 p1 p2 at2 k2 refl has)
     (ap words descriptors ∙ words-evened edition 7 p.descriptors) subsets (ap (nat_le 128) (behind3 6) ∙ observed-test p.observed p.compressed)
     (ap (λ n. nat_le 64 (n % 128)) (behind3 6) ∙ compressed-test p.observed p.compressed) payload size

@@ -3,14 +3,14 @@ use Rattle.std.proofs.Common.{inl, inr, ◌⊎◌, ◌≡◌, ℕ, ◌+◌, ◌-
 use Rattle.std.specs.Prelude.{◌≢◌, max, nat_lt}
 use Rattle.std.proofs.lemmas.Bool.{cases_lt}
 use Rattle.std.proofs.lemmas.Bool.Decides.{nat_tests}
-use Rattle.bufr_frame.specs.declared.search.Verdict.{Verdict}
-use Rattle.bufr_frame.specs.declared.search.Verdict.TheVariants.{Nothing, Stray, Frame}
+use Rattle.bufr_frame.specs.declared.search.Candidate.{Candidate}
+use Rattle.bufr_frame.specs.declared.search.Candidate.TheVariants.{Nothing, Stray, Frame}
 use Rattle.bufr_frame.specs.declared.fault.Cause.TheVariants.{Cut}
-use Rattle.bufr_frame.specs.Scan.{scan_from, stated, happening, taken}
+use Rattle.bufr_frame.specs.Scan.{scan_from, stated_length, stream_event, candidate_len}
 use Rattle.bufr_frame.specs.Longest.{length_here, longest_of, first_event}
-use Rattle.bufr_frame.specs.Sights.{IsWord, OpenSo, FoundSo, Raised}
-use Rattle.bufr_frame.specs.Finding.{State, Follows, SeesSo}
-use Rattle.bufr_frame.specs.Passing.{event_by}
+use Rattle.bufr_frame.specs.Search.{StartsWithBufr, IsIncomplete, IsNextEvent, Raised}
+use Rattle.bufr_frame.specs.FinderCalls.{FinderModel, Follows, RaisesLongest}
+use Rattle.bufr_frame.specs.FinderSteps.{event_by}
 use Rattle.bufr_frame.proofs.ScanLemmas.{drop-twice, scan_from-here, scan_from-found}
 use Rattle.bufr_frame.proofs.LookLemmas.{stands-front, stated-front, length-eight, cut-here, four-long}
 
@@ -18,11 +18,11 @@ max-none : (n : ℕ) → max n 0 ≡ n
 max-none n = omega arith
 
 -- the length at a place, where the greatest length grows by it
-pub raise : (a b place size : ℕ) (rest : List ℕ) → Raised a b rest → (IsWord rest → place ≡ 0) → size ≡ length_here (drop place rest) → max b size ≡ max a size
+pub raise : (a b place size : ℕ) (rest : List ℕ) → Raised a b rest → (StartsWithBufr rest → place ≡ 0) → size ≡ length_here (drop place rest) → max b size ≡ max a size
 raise a b place size rest (inl same) first is = ap (λ n. max n size) same
 raise a b place size rest (inr (word, long, grown)) first is =
     let P : ℕ → Type 0 = λ p. size ≡ length_here (drop p rest) in
-    let size_is : size ≡ stated rest = subst P (first word) is ∙ length-eight rest long in
+    let size_is : size ≡ stated_length rest = subst P (first word) is ∙ length-eight rest long in
     omega (arith, grown, size_is)
 
 -- it stays so when octets come behind
@@ -38,7 +38,7 @@ short-here : (m : List ℕ) → length m < 8 → length_here m ≡ 0
 short-here m short = let a : nat_lt (length m) 8 ≡ true = grind (arith, nat_tests) in rw a refl
 
 -- and when the finder goes on to the place that is open
-pub raised-open : (a b place size : ℕ) (rest : List ℕ) → Raised a b rest → OpenSo rest place size → size ≡ length_here (drop place rest) → Raised a (max b size) (drop place rest)
+pub raised-open : (a b place size : ℕ) (rest : List ℕ) → Raised a b rest → IsIncomplete rest place size → size ≡ length_here (drop place rest) → Raised a (max b size) (drop place rest)
 raised-open a b place size rest before open' is =
     let m = drop place rest in
     let grown : max b size ≡ max a size = raise a b place size rest before open'.first is in
@@ -51,7 +51,7 @@ raised-open a b place size rest before open' is =
     ]
 
 -- one event's length
-longest-event : (at : ℕ) (s : List ℕ) (x : State) (offset len : ℕ) (here : Verdict) → here ≢ Nothing → longest_of at s (event_by x offset len here) ≡ length_here (drop (offset - at) s)
+longest-event : (at : ℕ) (s : List ℕ) (x : FinderModel) (offset len : ℕ) (here : Candidate) → here ≢ Nothing → longest_of at s (event_by x offset len here) ≡ length_here (drop (offset - at) s)
 longest-event at s x offset len Nothing some = absurd (some refl)
 longest-event at s x offset len (Stray cause) some = max-none (length_here (drop (offset - at) s))
 longest-event at s x offset len Frame some = max-none (length_here (drop (offset - at) s))
@@ -63,14 +63,14 @@ place-in at at' place offset s rest follows is =
     ap (λ n. drop n s) e ∙ sym (drop-twice place follows.passed s) ∙ ap (drop place) (sym follows.left)
 
 -- an event is passed
-pub found-sees : (old s s' : State) (bs : List ℕ) (offset len place size : ℕ) (here : Verdict) → Follows old.at (old.rest ++ bs) s.at s.rest → Raised old.longest s.longest s.rest
-    → FoundSo s.ended s.rest place here → size ≡ length_here (drop place s.rest) → offset ≡ s.at + place → s'.longest ≡ max s.longest size → SeesSo old s' bs (event_by s' offset len here)
+pub found-sees : (old s s' : FinderModel) (bs : List ℕ) (offset len place size : ℕ) (here : Candidate) → Follows old.at (old.rest ++ bs) s.at s.rest → Raised old.longest s.longest s.rest
+    → IsNextEvent s.ended s.rest place here → size ≡ length_here (drop place s.rest) → offset ≡ s.at + place → s'.longest ≡ max s.longest size → RaisesLongest old s' bs (event_by s' offset len here)
 found-sees old s s' bs offset len place size here follows raised found is at grown =
     grown ∙ raise old.longest s.longest place size s.rest raised found.first is
     ∙ ap (max old.longest) (is ∙ ap length_here (sym (place-in old.at s.at place offset (old.rest ++ bs) s.rest follows at)) ∙ sym (longest-event old.at (old.rest ++ bs) s' offset len here found.some))
 
 -- the first event that is left is not certain
-first-open : (at old_at size : ℕ) (m s : List ℕ) → drop (at - old_at) s ≡ m → ((length m < 4) ⊎ IsWord m) → size ≡ length_here m → length m < max 8 size
+first-open : (at old_at size : ℕ) (m s : List ℕ) → drop (at - old_at) s ≡ m → ((length m < 4) ⊎ StartsWithBufr m) → size ≡ length_here m → length m < max 8 size
     → longest_of old_at s (first_event (scan_from 0 at m)) ≡ size
 first-open at old_at size m s there (inl short) is few =
     let none : scan_from 0 at m ≡ [] = scan_from-found m None (λ j _ _ occurs. absurd (omega (arith, occurs.fits))) at in
@@ -78,16 +78,16 @@ first-open at old_at size m s there (inl short) is few =
 first-open at old_at size m s there (inr word) is few =
     let cut = cut-here m size word is few in
     let some : 0 < length m = omega (arith, four-long m word) in
-    let P : Verdict → Type 0 = λ v. 0 < taken m v in
-    let Q : Verdict → Type 0 = λ v. longest_of old_at s (first_event (happening at m v ++ scan_from 0 (at + taken m v) (drop (taken m v) m))) ≡ size in
-    let goes : 0 < taken m (Stray Cut) = omega arith in
+    let P : Candidate → Type 0 = λ v. 0 < candidate_len m v in
+    let Q : Candidate → Type 0 = λ v. longest_of old_at s (first_event (stream_event at m v ++ scan_from 0 (at + candidate_len m v) (drop (candidate_len m v) m))) ≡ size in
+    let goes : 0 < candidate_len m (Stray Cut) = omega arith in
     ap (λ l. longest_of old_at s (first_event l)) (scan_from-here at m some (subst P (sym cut) goes))
     ∙ subst Q (sym cut) (max-none (length_here (drop (at - old_at) s)) ∙ ap length_here there ∙ sym is)
 
 -- the finder stops where the first event that is left is not certain
-pub open-sees : (old s s' : State) (bs : List ℕ) (place size : ℕ) → Follows old.at (old.rest ++ bs) s.at s.rest → Raised old.longest s.longest s.rest
-    → OpenSo s.rest place size → size ≡ length_here (drop place s.rest) → s'.at ≡ s.at + place → s'.rest ≡ drop place s.rest → s'.longest ≡ max s.longest size
-    → SeesSo old s' bs (first_event (scan_from 0 s'.at s'.rest))
+pub open-sees : (old s s' : FinderModel) (bs : List ℕ) (place size : ℕ) → Follows old.at (old.rest ++ bs) s.at s.rest → Raised old.longest s.longest s.rest
+    → IsIncomplete s.rest place size → size ≡ length_here (drop place s.rest) → s'.at ≡ s.at + place → s'.rest ≡ drop place s.rest → s'.longest ≡ max s.longest size
+    → RaisesLongest old s' bs (first_event (scan_from 0 s'.at s'.rest))
 open-sees old s s' bs place size follows raised open' is at left grown =
     let m = drop place s.rest in
     let L : List ℕ → Type 0 = λ l. longest_of old.at (old.rest ++ bs) (first_event (scan_from 0 s'.at l)) ≡ size in

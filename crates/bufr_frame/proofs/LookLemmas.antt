@@ -10,37 +10,37 @@ use Rattle.std.proofs.lemmas.List.Folds.{list_all-append}
 use Rattle.memchr.specs.Find.{OccursAt, FindsNeedle, Nowhere}
 use Rattle.memchr.proofs.lemmas.MatchLemmas.{OccursAt-part, OccursAt-from_part}
 use Rattle.std.proofs.lemmas.Bool.{true≢false, cases_Bool, cases_lt, and_parts}
-use Rattle.bufr_frame.specs.declared.search.Verdict.{Verdict}
-use Rattle.bufr_frame.specs.declared.search.Verdict.TheVariants.{Nothing, Stray, Frame}
+use Rattle.bufr_frame.specs.declared.search.Candidate.{Candidate}
+use Rattle.bufr_frame.specs.declared.search.Candidate.TheVariants.{Nothing, Stray, Frame}
 use Rattle.bufr_frame.specs.declared.fault.Cause.TheVariants.{Cut, ShortLength, NoEnd}
-use Rattle.bufr_frame.specs.Scan.{Happening, scan, open_scan, scan_from, verdict, stands, stated, happening, taken, is_decided}
-use Rattle.bufr_frame.specs.Look.{Advances, NoneDecided}
-use Rattle.bufr_frame.specs.Sights.{IsWord, FoundSo, OpenSo, EndSo}
+use Rattle.bufr_frame.specs.Scan.{StreamEvent, scan, open_scan, scan_from, classify, has_word_at, stated_length, stream_event, candidate_len, is_decided}
+use Rattle.bufr_frame.specs.Lookahead.{Advances, NoEventCertain}
+use Rattle.bufr_frame.specs.Search.{StartsWithBufr, IsNextEvent, IsIncomplete, HasNoFurtherEvent}
 use Rattle.bufr_frame.specs.Longest.{length_here}
 use Rattle.bufr_frame.proofs.ScanLemmas.{scan_from-nothing, verdict-nothing, scan_from-here, scan_from-past, verdict-elsewhere, verdict-there, scan_from-found, scan_from-front, drop-twice}
 
-pub stands-front : (text : List ℕ) (p : ℕ) (m t : List ℕ) → p + 4 ≤ length m → stands text p (m ++ t) ≡ stands text p m
+pub stands-front : (text : List ℕ) (p : ℕ) (m t : List ℕ) → p + 4 ≤ length m → has_word_at text p (m ++ t) ≡ has_word_at text p m
 stands-front text p m t long =
     ap (λ l. bytes_eq (take 4 l) text) (drop-append-le p m t (omega arith))
     ∙ ap (λ l. bytes_eq l text) (take-append-le 4 (drop p m) t (omega (arith, length-drop {A = ℕ})))
 
-pub stated-front : (m t : List ℕ) → 8 ≤ length m → stated (m ++ t) ≡ stated m
+pub stated-front : (m t : List ℕ) → 8 ≤ length m → stated_length (m ++ t) ≡ stated_length m
 stated-front m t long =
     ap (λ n. 65536 * n + 256 * get_or (m ++ t) 5 0 + get_or (m ++ t) 6 0) (get_or_append_left m t 0 4 (omega arith))
     ∙ ap (λ n. 65536 * get_or m 4 0 + 256 * n + get_or (m ++ t) 6 0) (get_or_append_left m t 0 5 (omega arith))
     ∙ ap (λ n. 65536 * get_or m 4 0 + 256 * get_or m 5 0 + n) (get_or_append_left m t 0 6 (omega arith))
 
 -- what is certain stays so
-verdict-front : (m t : List ℕ) → 8 ≤ length m → stated m ≤ length m → verdict (m ++ t) ≡ verdict m
+verdict-front : (m t : List ℕ) → 8 ≤ length m → stated_length m ≤ length m → classify (m ++ t) ≡ classify m
 verdict-front m t long whole =
-    let a : stands (codes "BUFR") 0 (m ++ t) ≡ stands (codes "BUFR") 0 m = stands-front (codes "BUFR") 0 m t (omega arith) in
-    let l : stated (m ++ t) ≡ stated m = stated-front m t long in
+    let a : has_word_at (codes "BUFR") 0 (m ++ t) ≡ has_word_at (codes "BUFR") 0 m = stands-front (codes "BUFR") 0 m t (omega arith) in
+    let l : stated_length (m ++ t) ≡ stated_length m = stated-front m t long in
     let b : nat_lt (length (m ++ t)) 8 ≡ nat_lt (length m) 8 = grind (arith, nat_tests, length-append m t) in
-    let c : nat_lt (length (m ++ t)) (stated m) ≡ nat_lt (length m) (stated m) = grind (arith, nat_tests, length-append m t) in
-    let d : stands (codes "7777") (stated m - 4) (m ++ t) ≡ stands (codes "7777") (stated m - 4) m = stands-front (codes "7777") (stated m - 4) m t (omega arith) in
+    let c : nat_lt (length (m ++ t)) (stated_length m) ≡ nat_lt (length m) (stated_length m) = grind (arith, nat_tests, length-append m t) in
+    let d : has_word_at (codes "7777") (stated_length m - 4) (m ++ t) ≡ has_word_at (codes "7777") (stated_length m - 4) m = stands-front (codes "7777") (stated_length m - 4) m t (omega arith) in
     cc
 
-nothing-front : (m t : List ℕ) (j : ℕ) → j + 4 ≤ length m → (OccursAt m (codes "BUFR") j → ⊥) → verdict (drop j (m ++ t)) ≡ Nothing
+nothing-front : (m t : List ℕ) (j : ℕ) → j + 4 ≤ length m → (OccursAt m (codes "BUFR") j → ⊥) → classify (drop j (m ++ t)) ≡ Nothing
 nothing-front m t j long absent =
     verdict-elsewhere (m ++ t) j (λ occurs. absent (record {
       fits = long;
@@ -54,11 +54,11 @@ past-front k m t long within absent at =
     scan_from-past k at (m ++ t) (omega (arith, length-append m t)) (λ j below. nothing-front m t j (long j below) (absent j below))
     ∙ ap (scan_from 0 (at + k)) (drop-append-le k m t within)
 
-chain : (a b c d : Bool) → Verdict
+chain : (a b c d : Bool) → Candidate
 chain a b c d = if a then Stray Cut else if b then Stray Cut else if c then Stray ShortLength else if d then Stray NoEnd else Frame
 
-chain-bounds : (a b c d : Bool) (m : List ℕ) → 4 ≤ length m → (b ≡ false → stated m ≤ length m) → (c ≡ false → 12 ≤ stated m)
-    → (4 ≤ taken m (chain a b c d)) × (taken m (chain a b c d) ≤ length m)
+chain-bounds : (a b c d : Bool) (m : List ℕ) → 4 ≤ length m → (b ≡ false → stated_length m ≤ length m) → (c ≡ false → 12 ≤ stated_length m)
+    → (4 ≤ candidate_len m (chain a b c d)) × (candidate_len m (chain a b c d) ≤ length m)
 unfolding chain
 chain-bounds true b c d m four whole least = (omega arith, four)
 chain-bounds false true c d m four whole least = (omega arith, four)
@@ -66,7 +66,7 @@ chain-bounds false false true d m four whole least = (omega arith, four)
 chain-bounds false false false true m four whole least = (omega arith, four)
 chain-bounds false false false false m four whole least = (omega (arith, least refl), whole refl)
 
-chain-decided : (c d : Bool) (at : ℕ) (m : List ℕ) → list_all is_decided (happening at m (chain false false c d)) ≡ true
+chain-decided : (c d : Bool) (at : ℕ) (m : List ℕ) → list_all is_decided (stream_event at m (chain false false c d)) ≡ true
 unfolding chain
 chain-decided true d at m = refl
 chain-decided false true at m = refl
@@ -81,18 +81,18 @@ unfolding chain
 chain-cut-second true c d = refl
 chain-cut-second false c d = refl
 
-is-chain : (m : List ℕ) → stands (codes "BUFR") 0 m ≡ true → verdict m ≡ chain (nat_lt (length m) 8) (nat_lt (length m) (stated m)) (nat_lt (stated m) 12) (not (stands (codes "7777") (stated m - 4) m))
+is-chain : (m : List ℕ) → has_word_at (codes "BUFR") 0 m ≡ true → classify m ≡ chain (nat_lt (length m) 8) (nat_lt (length m) (stated_length m)) (nat_lt (stated_length m) 12) (not (has_word_at (codes "7777") (stated_length m - 4) m))
 unfolding chain
 is-chain m here = rw here refl
 
-pub four-long : (m : List ℕ) → stands (codes "BUFR") 0 m ≡ true → 4 ≤ length m
+pub four-long : (m : List ℕ) → has_word_at (codes "BUFR") 0 m ≡ true → 4 ≤ length m
 four-long m here =
     let same : take 4 m ≡ codes "BUFR" = (bytes_eq-Decides (take 4 m) (codes "BUFR")).0 here in
     omega (arith, length-take {A = ℕ}, ap length same)
 
-pub taken-bounds : (m : List ℕ) → stands (codes "BUFR") 0 m ≡ true → (4 ≤ taken m (verdict m)) × (taken m (verdict m) ≤ length m)
+pub taken-bounds : (m : List ℕ) → has_word_at (codes "BUFR") 0 m ≡ true → (4 ≤ candidate_len m (classify m)) × (candidate_len m (classify m) ≤ length m)
 taken-bounds m here =
-    let P : Verdict → Type 0 = λ v. (4 ≤ taken m v) × (taken m v ≤ length m) in
+    let P : Candidate → Type 0 = λ v. (4 ≤ candidate_len m v) × (candidate_len m v ≤ length m) in
     subst P (sym (is-chain m here)) (chain-bounds _ _ _ _ m (four-long m here) (λ whole. grind (arith, nat_tests, whole)) (λ least. grind (arith, nat_tests, least)))
 
 chain-frame : (a b c d : Bool) → chain a b c d ≡ Frame → c ≡ false
@@ -103,47 +103,47 @@ chain-frame false false true d is = cc
 chain-frame false false false d is = refl
 
 -- a message has at least 12 octets
-frame-long : (m : List ℕ) → stands (codes "BUFR") 0 m ≡ true → verdict m ≡ Frame → 12 ≤ stated m
+frame-long : (m : List ℕ) → has_word_at (codes "BUFR") 0 m ≡ true → classify m ≡ Frame → 12 ≤ stated_length m
 frame-long m here is =
-    let least : nat_lt (stated m) 12 ≡ false = chain-frame _ _ _ _ (sym (is-chain m here) ∙ is) in
+    let least : nat_lt (stated_length m) 12 ≡ false = chain-frame _ _ _ _ (sym (is-chain m here) ∙ is) in
     grind (arith, nat_tests, least)
 
-pub certain : (m : List ℕ) (at : ℕ) → stands (codes "BUFR") 0 m ≡ true → 8 ≤ length m → stated m ≤ length m → list_all is_decided (happening at m (verdict m)) ≡ true
+pub certain : (m : List ℕ) (at : ℕ) → has_word_at (codes "BUFR") 0 m ≡ true → 8 ≤ length m → stated_length m ≤ length m → list_all is_decided (stream_event at m (classify m)) ≡ true
 certain m at here long whole =
     let a : nat_lt (length m) 8 ≡ false = grind (arith, nat_tests) in
-    let b : nat_lt (length m) (stated m) ≡ false = grind (arith, nat_tests) in
+    let b : nat_lt (length m) (stated_length m) ≡ false = grind (arith, nat_tests) in
     rw (is-chain m here, a, b) (chain-decided _ _ at m)
 
-happening-front : (at : ℕ) (m t : List ℕ) (v : Verdict) → 8 ≤ length m → stated m ≤ length m → happening at (m ++ t) v ≡ happening at m v
+happening-front : (at : ℕ) (m t : List ℕ) (v : Candidate) → 8 ≤ length m → stated_length m ≤ length m → stream_event at (m ++ t) v ≡ stream_event at m v
 happening-front at m t Nothing long whole = refl
 happening-front at m t (Stray cause) long whole = refl
-happening-front at m t Frame long whole = rw (stated-front m t long, take-append-le (stated m) m t whole) refl
+happening-front at m t Frame long whole = rw (stated-front m t long, take-append-le (stated_length m) m t whole) refl
 
-taken-front : (m t : List ℕ) (v : Verdict) → 8 ≤ length m → taken (m ++ t) v ≡ taken m v
+taken-front : (m t : List ℕ) (v : Candidate) → 8 ≤ length m → candidate_len (m ++ t) v ≡ candidate_len m v
 taken-front m t Nothing long = refl
 taken-front m t (Stray cause) long = refl
 taken-front m t Frame long = stated-front m t long
 
 -- the event at the front, whatever comes behind
-pub found-front : (m t : List ℕ) (at : ℕ) → stands (codes "BUFR") 0 m ≡ true → 8 ≤ length m → stated m ≤ length m
-    → scan_from 0 at (m ++ t) ≡ happening at m (verdict m) ++ scan_from 0 (at + taken m (verdict m)) (drop (taken m (verdict m)) m ++ t)
+pub found-front : (m t : List ℕ) (at : ℕ) → has_word_at (codes "BUFR") 0 m ≡ true → 8 ≤ length m → stated_length m ≤ length m
+    → scan_from 0 at (m ++ t) ≡ stream_event at m (classify m) ++ scan_from 0 (at + candidate_len m (classify m)) (drop (candidate_len m (classify m)) m ++ t)
 found-front m t at here long whole =
     let bounds = taken-bounds m here in
-    let v : verdict (m ++ t) ≡ verdict m = verdict-front m t long whole in
-    let k : taken (m ++ t) (verdict (m ++ t)) ≡ taken m (verdict m) = ap (taken (m ++ t)) v ∙ taken-front m t (verdict m) long in
-    let h : happening at (m ++ t) (verdict (m ++ t)) ≡ happening at m (verdict m) = ap (happening at (m ++ t)) v ∙ happening-front at m t (verdict m) long whole in
+    let v : classify (m ++ t) ≡ classify m = verdict-front m t long whole in
+    let k : candidate_len (m ++ t) (classify (m ++ t)) ≡ candidate_len m (classify m) = ap (candidate_len (m ++ t)) v ∙ taken-front m t (classify m) long in
+    let h : stream_event at (m ++ t) (classify (m ++ t)) ≡ stream_event at m (classify m) = ap (stream_event at (m ++ t)) v ∙ happening-front at m t (classify m) long whole in
     let P : ℕ → Type 0 = λ n. 0 < n in
     scan_from-here at (m ++ t) (omega (arith, length-append m t)) (subst P (sym k) (omega (arith, bounds.0)))
-    ∙ ap (λ e. e ++ scan_from 0 (at + taken (m ++ t) (verdict (m ++ t))) (drop (taken (m ++ t) (verdict (m ++ t))) (m ++ t))) h
-    ∙ ap (λ n. happening at m (verdict m) ++ scan_from 0 (at + n) (drop n (m ++ t))) k
-    ∙ ap (λ l. happening at m (verdict m) ++ scan_from 0 (at + taken m (verdict m)) l) (drop-append-le (taken m (verdict m)) m t bounds.1)
+    ∙ ap (λ e. e ++ scan_from 0 (at + candidate_len (m ++ t) (classify (m ++ t))) (drop (candidate_len (m ++ t) (classify (m ++ t))) (m ++ t))) h
+    ∙ ap (λ n. stream_event at m (classify m) ++ scan_from 0 (at + n) (drop n (m ++ t))) k
+    ∙ ap (λ l. stream_event at m (classify m) ++ scan_from 0 (at + candidate_len m (classify m)) l) (drop-append-le (candidate_len m (classify m)) m t bounds.1)
 
-pub stands-there : (s : List ℕ) (j : ℕ) → OccursAt s (codes "BUFR") j → stands (codes "BUFR") 0 (drop j s) ≡ true
+pub stands-there : (s : List ℕ) (j : ℕ) → OccursAt s (codes "BUFR") j → has_word_at (codes "BUFR") 0 (drop j s) ≡ true
 stands-there s j occurs = (bytes_eq-Decides (take 4 (drop j s)) (codes "BUFR")).1 (OccursAt-part s (codes "BUFR") j occurs)
 
 -- `BUFR` does not stand at a place, as a comparison tells it
-pub absent-there : (s m : List ℕ) (place : ℕ) (b : Bool) → m ≡ drop place s → b ≡ stands (codes "BUFR") 0 m → b ≡ false → OccursAt s (codes "BUFR") place → ⊥
-absent-there s m place b is so differs occurs = true≢false (sym (so ∙ ap (stands (codes "BUFR") 0) is ∙ stands-there s place occurs) ∙ differs)
+pub absent-there : (s m : List ℕ) (place : ℕ) (b : Bool) → m ≡ drop place s → b ≡ has_word_at (codes "BUFR") 0 m → b ≡ false → OccursAt s (codes "BUFR") place → ⊥
+absent-there s m place b is so differs occurs = true≢false (sym (so ∙ ap (has_word_at (codes "BUFR") 0) is ∙ stands-there s place occurs) ∙ differs)
 
 -- nor at the places before it
 pub nowhere-more : (s : List ℕ) (place : ℕ) → Nowhere (OccursAt s (codes "BUFR")) 0 place → (OccursAt s (codes "BUFR") place → ⊥) → Nowhere (OccursAt s (codes "BUFR")) 0 (place + 1)
@@ -190,21 +190,21 @@ to-first s place found t at =
     past-front place s t (λ j below. omega (arith, found.1.fits)) (omega (arith, found.1.fits)) (λ j below. found.0.before j (omega arith) below) at
 
 -- the word at the front, as a search tells it
-pub word-occurs : (s : List ℕ) → IsWord s → OccursAt s (codes "BUFR") 0
+pub word-occurs : (s : List ℕ) → StartsWithBufr s → OccursAt s (codes "BUFR") 0
 word-occurs s here =
     let same : take 4 (drop 0 s) ≡ codes "BUFR" = (bytes_eq-Decides (take 4 (drop 0 s)) (codes "BUFR")).0 here in
     OccursAt-from_part s (codes "BUFR") 0 (omega (arith, length-take {A = ℕ}, length-drop {A = ℕ}, ap length same)) same
 
 -- the first place of the word is the front, where it stands there
-first-front : (s : List ℕ) (place : ℕ) → FindsNeedle s (codes "BUFR") 0 (Some place) → IsWord s → place ≡ 0
+first-front : (s : List ℕ) (place : ℕ) → FindsNeedle s (codes "BUFR") 0 (Some place) → StartsWithBufr s → place ≡ 0
 first-front s zero found here = refl
 first-front s (suc k) found here = absurd (found.0.before 0 (omega arith) (omega arith) (word-occurs s here))
 
 pub found-so : (ended : Bool) (s : List ℕ) (place : ℕ) → FindsNeedle s (codes "BUFR") 0 (Some place)
-    → 8 ≤ length (drop place s) → stated (drop place s) ≤ length (drop place s) → FoundSo ended s place (verdict (drop place s))
+    → 8 ≤ length (drop place s) → stated_length (drop place s) ≤ length (drop place s) → IsNextEvent ended s place (classify (drop place s))
 found-so ended s place found long whole =
     let m = drop place s in
-    let k = taken m (verdict m) in
+    let k = candidate_len m (classify m) in
     let here = stands-there s place found.1 in
     let bounds = taken-bounds m here in
     record {
@@ -216,16 +216,16 @@ found-so ended s place found long whole =
       first = first-front s place found;
       advances = λ at. record {
         whole = λ t _. to-first s place found t at ∙ found-front m t (at + place) here long whole
-            ∙ ap (λ l. happening (at + place) m (verdict m) ++ scan_from 0 (at + place + k) (l ++ t)) (drop-twice k place s);
+            ∙ ap (λ l. stream_event (at + place) m (classify m) ++ scan_from 0 (at + place + k) (l ++ t)) (drop-twice k place s);
         decided = λ _. certain m (at + place) here long whole;
       };
     }
 
 -- behind the end nothing comes
-pub found-so-end : (s : List ℕ) (place : ℕ) → FindsNeedle s (codes "BUFR") 0 (Some place) → FoundSo true s place (verdict (drop place s))
+pub found-so-end : (s : List ℕ) (place : ℕ) → FindsNeedle s (codes "BUFR") 0 (Some place) → IsNextEvent true s place (classify (drop place s))
 found-so-end s place found =
     let m = drop place s in
-    let k = taken m (verdict m) in
+    let k = candidate_len m (classify m) in
     let here = stands-there s place found.1 in
     let bounds = taken-bounds m here in
     record {
@@ -238,39 +238,39 @@ found-so-end s place found =
       advances = λ at. record {
         whole = λ t none.
             let e : t ≡ [] = none refl in
-            let P : List ℕ → Type 0 = λ t'. scan_from 0 at (s ++ t') ≡ happening (at + place) m (verdict m) ++ scan_from 0 (at + place + k) (drop (place + k) s ++ t') in
+            let P : List ℕ → Type 0 = λ t'. scan_from 0 at (s ++ t') ≡ stream_event (at + place) m (classify m) ++ scan_from 0 (at + place + k) (drop (place + k) s ++ t') in
             subst P (sym e) (rw (append-nil, append-nil) (scan_from-found s (Some place) found at ∙ scan_from-front s (at + place) place k (omega (arith, found.1.fits)) refl (omega (arith, bounds.0))));
         decided = λ going. absurd (true≢false going);
       };
     }
 
-none-cut : (at : ℕ) (m : List ℕ) → 0 < length m → verdict m ≡ Stray Cut → NoneDecided at m
+none-cut : (at : ℕ) (m : List ℕ) → 0 < length m → classify m ≡ Stray Cut → NoEventCertain at m
 none-cut at m some cut =
-    let P : Verdict → Type 0 = λ v. 0 < taken m v in
-    let Q : Verdict → Type 0 = λ v. take_while is_decided (happening at m v ++ scan_from 0 (at + taken m v) (drop (taken m v) m)) ≡ [] in
-    let goes : 0 < taken m (Stray Cut) = omega arith in
+    let P : Candidate → Type 0 = λ v. 0 < candidate_len m v in
+    let Q : Candidate → Type 0 = λ v. take_while is_decided (stream_event at m v ++ scan_from 0 (at + candidate_len m v) (drop (candidate_len m v) m)) ≡ [] in
+    let goes : 0 < candidate_len m (Stray Cut) = omega arith in
     ap (take_while is_decided) (scan_from-here at m some (subst P (sym cut) goes)) ∙ subst Q (sym cut) refl
 
-pub cut-so : (m : List ℕ) → stands (codes "BUFR") 0 m ≡ true → ((length m < 8) ⊎ (length m < stated m)) → verdict m ≡ Stray Cut
+pub cut-so : (m : List ℕ) → has_word_at (codes "BUFR") 0 m ≡ true → ((length m < 8) ⊎ (length m < stated_length m)) → classify m ≡ Stray Cut
 cut-so m here (inl short) =
     let a : nat_lt (length m) 8 ≡ true = grind (arith, nat_tests) in
     rw (is-chain m here, a) (chain-cut _ _ _)
 cut-so m here (inr short) =
-    let a : nat_lt (length m) (stated m) ≡ true = grind (arith, nat_tests) in
+    let a : nat_lt (length m) (stated_length m) ≡ true = grind (arith, nat_tests) in
     rw (is-chain m here, a) (chain-cut-second _ _ _)
 
-pub length-eight : (m : List ℕ) → 8 ≤ length m → length_here m ≡ stated m
+pub length-eight : (m : List ℕ) → 8 ≤ length m → length_here m ≡ stated_length m
 length-eight m long = let a : nat_lt (length m) 8 ≡ false = grind (arith, nat_tests) in rw a refl
 
 -- the word with too few octets behind it
-pub cut-here : (m : List ℕ) (size : ℕ) → IsWord m → size ≡ length_here m → length m < max 8 size → verdict m ≡ Stray Cut
+pub cut-here : (m : List ℕ) (size : ℕ) → StartsWithBufr m → size ≡ length_here m → length m < max 8 size → classify m ≡ Stray Cut
 cut-here m size here is few = elim (cases_lt (length m) 8) [
   | inl short ↦ cut-so m here (inl short)
-  | inr long ↦ cut-so m here (inr (let e : size ≡ stated m = is ∙ length-eight m long in omega arith))
+  | inr long ↦ cut-so m here (inr (let e : size ≡ stated_length m = is ∙ length-eight m long in omega arith))
 ]
 
 -- more octets are needed behind the first `BUFR`
-pub open-so : (s : List ℕ) (place size : ℕ) → FindsNeedle s (codes "BUFR") 0 (Some place) → size ≡ length_here (drop place s) → length (drop place s) < max 8 size → OpenSo s place size
+pub open-so : (s : List ℕ) (place size : ℕ) → FindsNeedle s (codes "BUFR") 0 (Some place) → size ≡ length_here (drop place s) → length (drop place s) < max 8 size → IsIncomplete s place size
 open-so s place size found is few =
     let m = drop place s in
     let here = stands-there s place found.1 in
@@ -284,7 +284,7 @@ open-so s place size found is few =
     }
 
 -- no `BUFR` stands there yet, but the last three octets may begin one
-pub none-so : (s : List ℕ) → FindsNeedle s (codes "BUFR") 0 None → OpenSo s (length s - min (length s) 3) 0
+pub none-so : (s : List ℕ) → FindsNeedle s (codes "BUFR") 0 None → IsIncomplete s (length s - min (length s) 3) 0
 none-so s found =
     let k = length s - min (length s) 3 in
     let moved : (t : List ℕ) (at : ℕ) → scan_from 0 at (s ++ t) ≡ scan_from 0 (at + k) (drop k s ++ t) = λ t at. past-front k s t (λ j below. omega arith) (omega arith) (λ j below. found j (omega arith) (omega arith)) at in
@@ -306,47 +306,47 @@ none-stated s =
     let a : nat_lt (length m) 8 ≡ true = grind (arith, nat_tests) in
     rw a refl
 
-pub end-so : (s : List ℕ) → FindsNeedle s (codes "BUFR") 0 None → EndSo s
+pub end-so : (s : List ℕ) → FindsNeedle s (codes "BUFR") 0 None → HasNoFurtherEvent s
 end-so s found = record {
   scan = scan_from-found s None found;
   word = λ here. found 0 (omega arith) (omega (arith, four-long s here)) (word-occurs s here);
 }
 
 -- as the code reads them
-pub found-at-end : (ended : Bool) (s m : List ℕ) (place : ℕ) (v : Verdict) → FindsNeedle s (codes "BUFR") 0 (Some place) → ended ≡ true
-    → m ≡ drop place s → v ≡ verdict m → FoundSo ended s place v
+pub found-at-end : (ended : Bool) (s m : List ℕ) (place : ℕ) (v : Candidate) → FindsNeedle s (codes "BUFR") 0 (Some place) → ended ≡ true
+    → m ≡ drop place s → v ≡ classify m → IsNextEvent ended s place v
 found-at-end ended s m place v found end is here =
-    let E : Bool → Type 0 = λ e. FoundSo e s place v in
-    let V : Verdict → Type 0 = λ v'. FoundSo true s place v' in
-    subst E (sym end) (subst V (sym (here ∙ ap verdict is)) (found-so-end s place found))
+    let E : Bool → Type 0 = λ e. IsNextEvent e s place v in
+    let V : Candidate → Type 0 = λ v'. IsNextEvent true s place v' in
+    subst E (sym end) (subst V (sym (here ∙ ap classify is)) (found-so-end s place found))
 
-pub found-whole : (ended : Bool) (s m : List ℕ) (place size : ℕ) (v : Verdict) → FindsNeedle s (codes "BUFR") 0 (Some place)
-    → size ≡ length_here m → 8 ≤ length m → size ≤ length m → m ≡ drop place s → v ≡ verdict m → FoundSo ended s place v
+pub found-whole : (ended : Bool) (s m : List ℕ) (place size : ℕ) (v : Candidate) → FindsNeedle s (codes "BUFR") 0 (Some place)
+    → size ≡ length_here m → 8 ≤ length m → size ≤ length m → m ≡ drop place s → v ≡ classify m → IsNextEvent ended s place v
 found-whole ended s m place size v found states long whole is here =
-    let V : Verdict → Type 0 = λ v'. FoundSo ended s place v' in
+    let V : Candidate → Type 0 = λ v'. IsNextEvent ended s place v' in
     let L : List ℕ → Type 0 = λ l. 8 ≤ length l in
-    let W : List ℕ → Type 0 = λ l. stated l ≤ length l in
-    let size_is : size ≡ stated m = states ∙ length-eight m long in
+    let W : List ℕ → Type 0 = λ l. stated_length l ≤ length l in
+    let size_is : size ≡ stated_length m = states ∙ length-eight m long in
     let Z : ℕ → Type 0 = λ z. z ≤ length m in
-    subst V (sym (here ∙ ap verdict is)) (found-so ended s place found (subst L is long) (subst W is (subst Z size_is whole)))
+    subst V (sym (here ∙ ap classify is)) (found-so ended s place found (subst L is long) (subst W is (subst Z size_is whole)))
 
 -- what is certain of a stream, and where it stands then
 pub record Certain (at : ℕ) (s : List ℕ) : Type 0 where
-  pub events : List Happening
+  pub events : List StreamEvent
   pub at' : ℕ
   pub rest : List ℕ
   pub advances : Advances false at s events at' rest
-  pub none : NoneDecided at' rest
+  pub none : NoEventCertain at' rest
 
 -- fewer than four octets hold no `BUFR`
-short-none : (at : ℕ) (s : List ℕ) → length s < 4 → NoneDecided at s
+short-none : (at : ℕ) (s : List ℕ) → length s < 4 → NoEventCertain at s
 short-none at s short = ap (take_while is_decided) (scan_from-found s None (λ j _ _ occurs. absurd (omega (arith, occurs.fits))) at)
 
-stays : (at : ℕ) (s : List ℕ) → NoneDecided at s → Certain at s
+stays : (at : ℕ) (s : List ℕ) → NoEventCertain at s → Certain at s
 stays at s none = record { events = []; at' = at; rest = s; advances = record { whole = λ t _. refl; decided = λ _. refl }; none = none }
 
 -- events, and then what is certain of the rest
-after : (at at1 : ℕ) (s s1 : List ℕ) (es : List Happening) → Advances false at s es at1 s1 → Certain at1 s1 → Certain at s
+after : (at at1 : ℕ) (s s1 : List ℕ) (es : List StreamEvent) → Advances false at s es at1 s1 → Certain at1 s1 → Certain at s
 after at at1 s s1 es one c = record {
   events = es ++ c.events;
   at' = c.at';
@@ -364,25 +364,25 @@ certain-within (suc n) at [] within = stays at [] (short-none at [] (omega arith
 certain-within (suc n) at (x ∷ m) within =
     elim (cases_lt (length (x ∷ m)) 4) [
       | inl short ↦ stays at (x ∷ m) (short-none at (x ∷ m) short)
-      | inr long ↦ elim (cases_Bool (stands (codes "BUFR") 0 (x ∷ m))) [
+      | inr long ↦ elim (cases_Bool (has_word_at (codes "BUFR") 0 (x ∷ m))) [
         | inr absent ↦ after at (at + 1) (x ∷ m) m [] (record {
           whole = λ t _. scan_from-nothing at x (m ++ t) (verdict-nothing (x ∷ (m ++ t)) (stands-front (codes "BUFR") 0 (x ∷ m) t long ∙ absent));
           decided = λ _. refl;
         }) (certain-within n (at + 1) m (omega arith))
         | inl here ↦ elim (cases_lt (length (x ∷ m)) 8) [
           | inl short ↦ stays at (x ∷ m) (none-cut at (x ∷ m) (omega arith) (cut-so (x ∷ m) here (inl short)))
-          | inr eight ↦ elim (cases_lt (length (x ∷ m)) (stated (x ∷ m))) [
+          | inr eight ↦ elim (cases_lt (length (x ∷ m)) (stated_length (x ∷ m))) [
             | inl short ↦ stays at (x ∷ m) (none-cut at (x ∷ m) (omega arith) (cut-so (x ∷ m) here (inr short)))
-            | inr whole ↦ after at (at + taken (x ∷ m) (verdict (x ∷ m))) (x ∷ m) (drop (taken (x ∷ m) (verdict (x ∷ m))) (x ∷ m)) (happening at (x ∷ m) (verdict (x ∷ m))) (record {
+            | inr whole ↦ after at (at + candidate_len (x ∷ m) (classify (x ∷ m))) (x ∷ m) (drop (candidate_len (x ∷ m) (classify (x ∷ m))) (x ∷ m)) (stream_event at (x ∷ m) (classify (x ∷ m))) (record {
               whole = λ t _. found-front (x ∷ m) t at here eight whole;
               decided = λ _. certain (x ∷ m) at here eight whole;
-            }) (certain-within n (at + taken (x ∷ m) (verdict (x ∷ m))) (drop (taken (x ∷ m) (verdict (x ∷ m))) (x ∷ m)) (omega (arith, length-drop (taken (x ∷ m) (verdict (x ∷ m))) (x ∷ m), (taken-bounds (x ∷ m) here).0)))
+            }) (certain-within n (at + candidate_len (x ∷ m) (classify (x ∷ m))) (drop (candidate_len (x ∷ m) (classify (x ∷ m))) (x ∷ m)) (omega (arith, length-drop (candidate_len (x ∷ m) (classify (x ∷ m))) (x ∷ m), (taken-bounds (x ∷ m) here).0)))
           ]
         ]
       ]
     ]
 
-pub take_while-all : (xs ys : List Happening) → list_all is_decided xs ≡ true → take_while is_decided (xs ++ ys) ≡ xs ++ take_while is_decided ys
+pub take_while-all : (xs ys : List StreamEvent) → list_all is_decided xs ≡ true → take_while is_decided (xs ++ ys) ≡ xs ++ take_while is_decided ys
 take_while-all [] ys all = refl
 take_while-all (x ∷ xs) ys all =
     let both : (is_decided x ≡ true) × (list_all is_decided xs ≡ true) = and_parts (is_decided x) (list_all is_decided xs) all in
@@ -390,7 +390,7 @@ take_while-all (x ∷ xs) ys all =
     rw (both.0, one) (ap (λ l. x ∷ l) (take_while-all xs ys both.1))
 
 -- what was certain stays the front, whatever comes behind
-pub open-front : (s t : List ℕ) → (more : List Happening) × (scan (s ++ t) ≡ open_scan s ++ more)
+pub open-front : (s t : List ℕ) → (more : List StreamEvent) × (scan (s ++ t) ≡ open_scan s ++ more)
 open-front s t =
     let c = certain-within (length s) 0 s (omega arith) in
     let whole : scan s ≡ c.events ++ scan_from 0 c.at' c.rest = ap (scan_from 0 0) (sym (append-nil s)) ∙ c.advances.whole [] (λ _. refl) ∙ ap (λ l. c.events ++ scan_from 0 c.at' l) (append-nil c.rest) in

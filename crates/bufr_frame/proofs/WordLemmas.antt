@@ -1,8 +1,8 @@
 -- The words of octets, one by one.
 use Rattle.std.proofs.Common.{◌≡◌, ℕ, zero, suc, ◌+◌, ◌*◌, ◌/◌, ◌<◌, ◌≤◌, List, [], ◌∷◌, length, refl, ◌∙◌, ap, sym, arith, Some, None, slice_get}
-use Rattle.bufr_frame.specs.Octets.{two, words}
+use Rattle.bufr_frame.specs.Octets.{u16_at, words}
 
-two-behind : (a b i : ℕ) (m : List ℕ) → two (a ∷ b ∷ m) (2 * suc i) ≡ two m (2 * i)
+two-behind : (a b i : ℕ) (m : List ℕ) → u16_at (a ∷ b ∷ m) (2 * suc i) ≡ u16_at m (2 * i)
 two-behind a b i m = let e : 2 * suc i ≡ suc (suc (2 * i)) = omega arith in
     let f : suc (suc (2 * i)) + 1 ≡ suc (suc (2 * i + 1)) = omega arith in
     rw (e, f) refl
@@ -15,7 +15,7 @@ words-none (a ∷ b ∷ m) zero past = absurd (omega arith)
 words-none (a ∷ b ∷ m) (suc i) past = words-none m i (omega arith)
 
 -- word i is written by two octets
-pub words-some : (m : List ℕ) (i : ℕ) → 2 * i + 2 ≤ length m → slice_get (words m) i ≡ Some (two m (2 * i))
+pub words-some : (m : List ℕ) (i : ℕ) → 2 * i + 2 ≤ length m → slice_get (words m) i ≡ Some (u16_at m (2 * i))
 words-some [] i within = absurd (omega arith)
 words-some (a ∷ []) i within = absurd (omega arith)
 words-some (a ∷ b ∷ m) zero within = refl

@@ -2,14 +2,14 @@
 use Rattle.std.proofs.Common.{◌≡◌, ◌∙◌, ℕ, ◌+◌, ◌*◌, Bool, true, false, List, [], ◌∷◌, ◌++◌, length, ap, sym, refl, Option, Some, None, Ok, Err, append_assoc}
 use Rattle.std.specs.Prelude.{Result, OnOk, is_ok, is_some, option_map, if◌then◌else◌}
 use Rattle.bufr_frame.specs.Octets.{three_octets, two_octets, octets_of_words}
-use Rattle.bufr_frame.specs.Layout.{even_size, evened, padded, section3_octets}
+use Rattle.bufr_frame.specs.Layout.{even_size, with_even_length, with_pad_octet, section3_octets}
 use Rattle.bufr_frame.specs.Sections.{is_padded}
 use Rattle.bufr_frame.proofs.LayoutLemmas.{length-evened, length-octets_of_words}
 
 -- three parts, the last of which may be refused
-pub three-parts : {X E : Type 0} (r : Result X E) (old a b c one two new : List ℕ) → one ≡ old ++ a → two ≡ one ++ b → new ≡ (if is_ok r then two ++ c else two) → OnOk r (new ≡ old ++ (a ++ (b ++ c)))
-three-parts (Ok x) old a b c one two new p q r = r ∙ ap (λ l. l ++ c) (q ∙ ap (λ l. l ++ b) p ∙ append_assoc old a b) ∙ append_assoc old (a ++ b) c ∙ ap (λ l. old ++ l) (append_assoc a b c)
-three-parts (Err e) old a b c one two new p q r = tt
+pub three-parts : {X E : Type 0} (r : Result X E) (old a b c one u16_at new : List ℕ) → one ≡ old ++ a → u16_at ≡ one ++ b → new ≡ (if is_ok r then u16_at ++ c else u16_at) → OnOk r (new ≡ old ++ (a ++ (b ++ c)))
+three-parts (Ok x) old a b c one u16_at new p q r = r ∙ ap (λ l. l ++ c) (q ∙ ap (λ l. l ++ b) p ∙ append_assoc old a b) ∙ append_assoc old (a ++ b) c ∙ ap (λ l. old ++ l) (append_assoc a b c)
+three-parts (Err e) old a b c one u16_at new p q r = tt
 
 -- six parts
 pub six-parts : (a b c d e f u v w x y z : List ℕ) → u ≡ a → v ≡ u ++ b → w ≡ v ++ c → x ≡ w ++ d → y ≡ x ++ e → z ≡ y ++ f → z ≡ a ++ (b ++ (c ++ (d ++ (e ++ f))))
@@ -25,24 +25,24 @@ is_some-map f (Some x) = refl
 is_some-map f None = refl
 
 -- what is padded behind a front
-padded-behind : (b : Bool) (front octets : List ℕ) → padded b (front ++ octets) ≡ front ++ padded b octets
+padded-behind : (b : Bool) (front octets : List ℕ) → with_pad_octet b (front ++ octets) ≡ front ++ with_pad_octet b octets
 padded-behind true front octets = append_assoc front octets (0 ∷ [])
 padded-behind false front octets = refl
 
 -- section 3
-pub third : {X E : Type 0} (r : Result X E) (edition : ℕ) (words : List ℕ) (subsets flags n : ℕ) (b : Bool) (old one two new : List ℕ)
+pub third : {X E : Type 0} (r : Result X E) (edition : ℕ) (words : List ℕ) (subsets flags n : ℕ) (b : Bool) (old one u16_at new : List ℕ)
     → n ≡ even_size edition (7 + 2 * length words) → b ≡ is_padded edition (7 + 2 * length words)
-    → one ≡ old ++ three_octets n → two ≡ (one ++ (0 ∷ two_octets subsets ++ flags ∷ [])) ++ octets_of_words words
-    → OnOk r (new ≡ padded b two) → OnOk r (new ≡ old ++ section3_octets (evened edition 7 (octets_of_words words)) subsets flags)
-third (Err e) edition words subsets flags n b old one two new size is p q last = tt
-third (Ok x) edition words subsets flags n b old one two new size is p q last =
+    → one ≡ old ++ three_octets n → u16_at ≡ (one ++ (0 ∷ two_octets subsets ++ flags ∷ [])) ++ octets_of_words words
+    → OnOk r (new ≡ with_pad_octet b u16_at) → OnOk r (new ≡ old ++ section3_octets (with_even_length edition 7 (octets_of_words words)) subsets flags)
+third (Err e) edition words subsets flags n b old one u16_at new size is p q last = tt
+third (Ok x) edition words subsets flags n b old one u16_at new size is p q last =
     let w = octets_of_words words in
     let f = 0 ∷ two_octets subsets ++ flags ∷ [] in
-    let c = evened edition 7 w in
+    let c = with_even_length edition 7 w in
     let long : n ≡ 7 + length c = size ∙ ap (λ k. even_size edition (7 + k)) (sym (length-octets_of_words words)) ∙ sym (length-evened edition 7 w) in
-    let front : two ≡ ((old ++ three_octets n) ++ f) ++ w = q ∙ ap (λ l. (l ++ f) ++ w) p in
-    let content : padded b w ≡ c = ap (λ k. padded k w) (is ∙ ap (λ k. is_padded edition (7 + k)) (sym (length-octets_of_words words))) in
-    let whole : padded b two ≡ ((old ++ three_octets n) ++ f) ++ c =
-    ap (padded b) front ∙ padded-behind b ((old ++ three_octets n) ++ f) w ∙ ap (λ l. ((old ++ three_octets n) ++ f) ++ l) content in
+    let front : u16_at ≡ ((old ++ three_octets n) ++ f) ++ w = q ∙ ap (λ l. (l ++ f) ++ w) p in
+    let content : with_pad_octet b w ≡ c = ap (λ k. with_pad_octet k w) (is ∙ ap (λ k. is_padded edition (7 + k)) (sym (length-octets_of_words words))) in
+    let whole : with_pad_octet b u16_at ≡ ((old ++ three_octets n) ++ f) ++ c =
+    ap (with_pad_octet b) front ∙ padded-behind b ((old ++ three_octets n) ++ f) w ∙ ap (λ l. ((old ++ three_octets n) ++ f) ++ l) content in
     let apart : ((old ++ three_octets n) ++ f) ++ c ≡ old ++ (three_octets n ++ (f ++ c)) = append_assoc (old ++ three_octets n) f c ∙ append_assoc old (three_octets n) (f ++ c) in
     last ∙ whole ∙ apart ∙ ap (λ k. old ++ (three_octets k ++ (f ++ c))) long

@@ -1,15 +1,15 @@
 -- What an event of the code says.
 -- Cited by public contracts.
 use Rattle.std.specs.Prelude.{List, [], ◌∷◌, ◌≤◌, length}
-use Rattle.bufr_frame.specs.Scan.{Happening, Framed, Strayed}
+use Rattle.bufr_frame.specs.Scan.{StreamEvent, FrameAt, StrayAt}
 use Rattle.bufr_frame.specs.declared.finder.Event.{Event}
 use Rattle.bufr_frame.specs.declared.finder.Event.TheVariants.{Frame, Stray, Done}
 
 -- what happened in the stream
-abbrev pub told : Event → List Happening
-told (Frame offset octets) = Framed offset octets.now ∷ []
-told (Stray offset cause) = Strayed offset cause ∷ []
-told Done = []
+abbrev pub events_of : Event → List StreamEvent
+events_of (Frame offset octets) = FrameAt offset octets.now ∷ []
+events_of (Stray offset cause) = StrayAt offset cause ∷ []
+events_of Done = []
 
 -- not the end; a message has at least 12 octets
 abbrev pub IsEvent : Event → Type 0

@@ -2,7 +2,7 @@
 -- Cited by public contracts.
 use Rattle.std.specs.Prelude.{◌≡◌, ◌<◌, ℕ, List, [], ◌++◌, length, Option, Result, Ok, Err, MatchResult}
 use Rattle.std.specs.Io.KnownBytes.{Consumes, IsAtEnd}
-use Rattle.bufr_frame.specs.Runs.{most_reads}
+use Rattle.bufr_frame.specs.Runs.{max_reads}
 use Rattle.bufr_frame.specs.declared.fault.RunFault.{RunFault}
 use Rattle.bufr_frame.specs.declared.fault.RunFault.TheVariants.{Read, Write, InputTooLong, Memory}
 
@@ -21,8 +21,8 @@ abbrev pub InputEnds : {X : Type 0} → (left : Option (List ℕ)) → (reads : 
 InputEnds left reads (Ok x) = IsAtEnd left
 InputEnds left reads (Err Read) = Unit {0}
 InputEnds left reads (Err Write) = ⊥
-InputEnds left reads (Err InputTooLong) = reads ≡ most_reads
-InputEnds left reads (Err Memory) = reads < most_reads
+InputEnds left reads (Err InputTooLong) = reads ≡ max_reads
+InputEnds left reads (Err Memory) = reads < max_reads
 
 -- Reads to the end: their octets stand behind those that were held, and the end was reached unless
 -- there is a fault.

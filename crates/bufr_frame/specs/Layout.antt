@@ -4,12 +4,12 @@
 -- octets and bits are zero, a choice of this project.
 use Rattle.std.specs.Prelude.{◌≡◌, ℕ, ◌≤◌, ◌+◌, ◌*◌, ◌==◌, nat_le, ◌&&◌, ◌||◌, Bool, true, false, List, [], ◌∷◌, ◌++◌, Option, Some, None, length, codes, is_some, if◌then◌else◌}
 use Rattle.bufr_frame.specs.Octets.{three_octets, two_octets, octets_of_words}
-use Rattle.bufr_frame.specs.Section1.{Field, is_edition, Centre, Subcentre, Year, LocalSubcategory, Second, slots_of, slots_3, first_least, most_in, octets_in, said}
+use Rattle.bufr_frame.specs.Section1.{Field, is_edition, Centre, Subcentre, Year, LocalSubcategory, Second, slots_of, slots_3, first_least, most_in, slot_octets, head_value}
 use Rattle.bufr_frame.specs.Sections.{Sections, is_padded}
 use Rattle.bufr_frame.specs.declared.head.Head.{Head}
 
 -- what is written besides the head
-pub record Parts : Type 0 where
+pub record MessageParts : Type 0 where
   pub local1 : List ℕ
   pub section2 : Option (List ℕ)
   pub descriptors : List ℕ
@@ -19,7 +19,7 @@ pub record Parts : Type 0 where
   pub payload : List ℕ
 
 abbrev pub parts_of : List ℕ → Option (List ℕ) → List ℕ → ℕ
-    → (observed compressed : Bool) → List ℕ → Parts
+    → (observed compressed : Bool) → List ℕ → MessageParts
 parts_of local1 section2 descriptors subsets observed compressed payload =
     record {
       local1 = local1;
@@ -41,12 +41,13 @@ abbrev pub even_size : (edition size : ℕ) → ℕ
 even_size edition size = if is_padded edition size then size + 1 else size
 
 -- octets with a zero octet behind them, where they are padded
-abbrev pub padded : (pads : Bool) → List ℕ → List ℕ
-padded pads octets = if pads then octets ++ 0 ∷ [] else octets
+abbrev pub with_pad_octet : (pads : Bool) → List ℕ → List ℕ
+with_pad_octet pads octets = if pads then octets ++ 0 ∷ [] else octets
 
 -- what stands in a section 3 or 4 behind its first octets, `front` of them
-abbrev pub evened : (edition front : ℕ) → List ℕ → List ℕ
-evened edition front octets = padded (is_padded edition (front + length octets)) octets
+abbrev pub with_even_length : (edition front : ℕ) → List ℕ → List ℕ
+with_even_length edition front octets = with_pad_octet (is_padded edition (front + length octets))
+    octets
 
 -- the octets of a message: 8 of section 0, those of section 1 with local use, those of section 2, 7
 -- or more of section 3, 4 or more of section 4, 4 of section 5
@@ -56,18 +57,18 @@ size_from edition local1 section2 descriptors payload =
     + even_size edition (7 + 2 * descriptors) + even_size edition (4 + payload) + 4
 
 -- the octets of a message of these parts
-abbrev pub message_size : (edition : ℕ) → Parts → ℕ
+abbrev pub message_size : (edition : ℕ) → MessageParts → ℕ
 message_size edition p =
     size_from edition (length p.local1) p.section2 (length p.descriptors) (length p.payload)
 
 -- the most octets that a message has, since three octets state its length
-abbrev pub most_octets : ℕ
-most_octets = 16777215
+abbrev pub max_octets : ℕ
+max_octets = 16777215
 
 -- how many octets more a message may have when it is written again: in edition 3 one for section 3
 -- and one for section 4
-abbrev pub longer : (edition : ℕ) → ℕ
-longer edition = if edition == 3 then 2 else 0
+abbrev pub max_extra_octets : (edition : ℕ) → ℕ
+max_extra_octets edition = if edition == 3 then 2 else 0
 
 -- `BUFR`, the length of the message, the edition
 abbrev pub section0_octets : (size edition : ℕ) → List ℕ
@@ -75,7 +76,7 @@ section0_octets size edition = codes "BUFR" ++ three_octets size ++ edition ∷ 
 
 -- the value of a field fits the octets that edition 3 has for it
 abbrev pub fits_3 : Head → Field → Bool
-fits_3 h field = nat_le (said h false field) (most_in slots_3 field)
+fits_3 h field = nat_le (head_value h false field) (most_in slots_3 field)
 
 -- a head that can be written: in edition 3 centre, sub-centre and year have one octet, and local
 -- sub-category and second none
@@ -88,11 +89,11 @@ is_writable h =
 -- has for it.
 pub record IsFitting (h : Head) : Type 0 where
   pub edition : is_edition h.edition ≡ true
-  pub fits : (field : Field) → said h false field ≤ most_in (slots_of h.edition) field
+  pub fits : (field : Field) → head_value h false field ≤ most_in (slots_of h.edition) field
 
 -- section 1 behind its length and before its local use
 abbrev pub head_octets : Head → (optional : Bool) → List ℕ
-head_octets h optional = octets_in (slots_of h.edition) (said h optional)
+head_octets h optional = slot_octets (slots_of h.edition) (head_value h optional)
 
 abbrev pub section1_octets : Head → List ℕ → (optional : Bool) → List ℕ
 section1_octets h local1 optional =
@@ -117,17 +118,17 @@ section3_octets content subsets flags =
     three_octets (7 + length content) ++ 0 ∷ two_octets subsets ++ flags ∷ content
 
 -- the octets of a message, section by section
-abbrev pub message_octets : Head → Parts → List ℕ
+abbrev pub message_octets : Head → MessageParts → List ℕ
 message_octets h p =
     section0_octets (message_size h.edition p) h.edition
     ++ (section1_octets h p.local1 (is_some p.section2)
-    ++ (section2_octets p.section2 ++ (section3_octets (evened h.edition 7
+    ++ (section2_octets p.section2 ++ (section3_octets (with_even_length h.edition 7
     (octets_of_words p.descriptors)) p.subsets (data_flags p.observed p.compressed)
-    ++ (section4_octets (evened h.edition 4 p.payload) ++ codes "7777"))))
+    ++ (section4_octets (with_even_length h.edition 4 p.payload) ++ codes "7777"))))
 
 -- the sections that a message of these parts has; in edition 3 the payload may be followed by the
 -- octet that makes section 4 even
-abbrev pub sections_from : Head → Parts → Sections
+abbrev pub sections_from : Head → MessageParts → Sections
 sections_from h p = record {
   head = h;
   local1 = p.local1;
@@ -136,10 +137,10 @@ sections_from h p = record {
   subsets = p.subsets;
   observed = p.observed;
   compressed = p.compressed;
-  payload = evened h.edition 4 p.payload;
+  payload = with_even_length h.edition 4 p.payload;
   size = message_size h.edition p;
 }
 
 -- the parts from which a message of these sections is written
-abbrev pub parts_in : Sections → Parts
+abbrev pub parts_in : Sections → MessageParts
 parts_in s = parts_of s.local1 s.section2 s.descriptors s.subsets s.observed s.compressed s.payload

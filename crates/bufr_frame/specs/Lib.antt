@@ -6,9 +6,9 @@ pub mod Editions
 -- what an event of the code says
 pub mod Events
 -- what a finder stands for, and what a call of it does
-pub mod Finding
+pub mod FinderCalls
 -- how a finder keeps the octets that it holds
-pub mod Held
+pub mod FinderInvariant
 -- what reading an input to its end gives
 pub mod Input
 -- how a message is laid out, and which heads can be written
@@ -16,7 +16,7 @@ pub mod Layout
 -- the greatest length that was stated
 pub mod Longest
 -- how a scan goes on behind its first events
-pub mod Look
+pub mod Lookahead
 -- what a call of `Finder::next` answers
 pub mod Next
 -- the numbers of the faults
@@ -24,7 +24,7 @@ pub mod Numbers
 -- numbers and words in octets
 pub mod Octets
 -- what the steps of a finder do, one by one
-pub mod Passing
+pub mod FinderSteps
 -- messages that are written as `write_message` writes them
 pub mod Plain
 -- what a call that reads leaves of its reader's counts
@@ -36,6 +36,6 @@ pub mod Section1
 -- the sections of a message, or the first fault; which sections are padded
 pub mod Sections
 -- what octets show behind which more may come
-pub mod Sights
+pub mod Search
 -- what an iterator of words has left
 pub mod Words

@@ -1,24 +1,24 @@
 -- The greatest length that was stated. (a choice of this project)
 -- Cited by public contracts.
 use Rattle.std.specs.Prelude.{ℕ, ◌-◌, max, nat_lt, List, [], ◌∷◌, length, drop, if◌then◌else◌}
-use Rattle.bufr_frame.specs.Scan.{Happening, Framed, Strayed, stated}
+use Rattle.bufr_frame.specs.Scan.{StreamEvent, FrameAt, StrayAt, stated_length}
 
 -- the length that is stated at the front, where eight octets are there
 abbrev pub length_here : List ℕ → ℕ
-length_here m = if nat_lt (length m) 8 then 0 else stated m
+length_here m = if nat_lt (length m) 8 then 0 else stated_length m
 
 -- where `BUFR` stands
-abbrev pub offset_of : Happening → ℕ
-offset_of (Framed offset octets) = offset
-offset_of (Strayed offset cause) = offset
+abbrev pub offset_of : StreamEvent → ℕ
+offset_of (FrameAt offset octets) = offset
+offset_of (StrayAt offset cause) = offset
 
 -- the greatest length that is stated at these events of s, whose first octet is at offset `at`
-abbrev pub longest_of : (at : ℕ) → List ℕ → List Happening → ℕ
+abbrev pub longest_of : (at : ℕ) → List ℕ → List StreamEvent → ℕ
 longest_of at s [] = 0
 longest_of at s (event ∷ more) =
     max (length_here (drop (offset_of event - at) s)) (longest_of at s more)
 
 -- the first event, where there is one
-abbrev pub first_event : List Happening → List Happening
+abbrev pub first_event : List StreamEvent → List StreamEvent
 first_event [] = []
 first_event (event ∷ more) = event ∷ []

@@ -3,12 +3,12 @@
 use Rattle.std.specs.Prelude.{ℕ, ◌+◌, ◌*◌, ◌/◌, ◌%◌, List, [], ◌∷◌, slice_index}
 
 -- the number that three octets from place p write
-abbrev pub three : List ℕ → ℕ → ℕ
-three m p = 65536 * slice_index m p + 256 * slice_index m (p + 1) + slice_index m (p + 2)
+abbrev pub u24_at : List ℕ → ℕ → ℕ
+u24_at m p = 65536 * slice_index m p + 256 * slice_index m (p + 1) + slice_index m (p + 2)
 
 -- the number that two octets from place p write
-abbrev pub two : List ℕ → ℕ → ℕ
-two m p = 256 * slice_index m p + slice_index m (p + 1)
+abbrev pub u16_at : List ℕ → ℕ → ℕ
+u16_at m p = 256 * slice_index m p + slice_index m (p + 1)
 
 -- the whole words of two octets; an octet left over is ignored, a choice of this project
 abbrev pub words : List ℕ → List ℕ

@@ -15,12 +15,12 @@ read_failures_after count (Err InputTooLong) = count
 read_failures_after count (Err Memory) = count
 
 -- the most reads that are made of one input
-abbrev pub most_reads : ℕ
-most_reads = 2 ^ 32
+abbrev pub max_reads : ℕ
+max_reads = 2 ^ 32
 
 -- at most 2^32 reads were made; an input is too long only after all of them, and memory is wanted
 -- only before
 abbrev pub MakesReads : {X : Type 0} → (reads reads' : ℕ) → Result X RunFault → Type 0
 MakesReads reads reads' result =
-    (n : ℕ) × (n ≤ most_reads) × (reads' ≡ counted reads n)
-    × (result ≡ Err InputTooLong → n ≡ most_reads) × (result ≡ Err Memory → n < most_reads)
+    (n : ℕ) × (n ≤ max_reads) × (reads' ≡ counted reads n)
+    × (result ≡ Err InputTooLong → n ≡ max_reads) × (result ≡ Err Memory → n < max_reads)

@@ -4,7 +4,7 @@
 -- The rest stands on these two tables: where a value is read, what is written, and which values
 -- fit.
 use Rattle.std.specs.Prelude.{ℕ, ◌+◌, ◌==◌, ◌||◌, Bool, List, [], ◌∷◌, ◌++◌, slice_index, if◌then◌else◌}
-use Rattle.bufr_frame.specs.Octets.{two, two_octets}
+use Rattle.bufr_frame.specs.Octets.{u16_at, two_octets}
 use Rattle.bufr_frame.specs.declared.head.Head.{Head}
 
 -- what section 1 says behind its length
@@ -75,13 +75,13 @@ order Minute = 14
 order Second = 15
 
 -- whose octets they are
-abbrev pub field_of : Slot → Field
-field_of (Single field) = field
-field_of (Double field) = field
+abbrev pub slot_field : Slot → Field
+slot_field (Single field) = field
+slot_field (Double field) = field
 
 -- whether a slot is for a field
 abbrev pub is_for : Field → Slot → Bool
-is_for field slot = order field == order (field_of slot)
+is_for field slot = order field == order (slot_field slot)
 
 -- how many octets it has
 abbrev pub width : Slot → ℕ
@@ -96,7 +96,7 @@ most (Double field) = 65535
 -- the number that stands at place p, and the octets that write a number
 abbrev pub read_slot : List ℕ → (p : ℕ) → Slot → ℕ
 read_slot m p (Single field) = slice_index m p
-read_slot m p (Double field) = two m p
+read_slot m p (Double field) = u16_at m p
 
 abbrev pub write_slot : Slot → ℕ → List ℕ
 write_slot (Single field) n = n ∷ []
@@ -112,57 +112,58 @@ abbrev pub first_least : (edition : ℕ) → ℕ
 first_least edition = 3 + octets_of_slots (slots_of edition)
 
 -- the value of a field, where the first slot begins at place p; 0 where the edition lacks it
-abbrev pub value_in : List Slot → List ℕ → (p : ℕ) → Field → ℕ
-value_in [] m p field = 0
-value_in (slot ∷ more) m p field =
-    if is_for field slot then read_slot m p slot else value_in more m (p + width slot) field
+abbrev pub slot_value : List Slot → List ℕ → (p : ℕ) → Field → ℕ
+slot_value [] m p field = 0
+slot_value (slot ∷ more) m p field =
+    if is_for field slot then read_slot m p slot else slot_value more m (p + width slot) field
 
 -- the greatest value of a field; 0 where the edition lacks it
 abbrev pub most_in : List Slot → Field → ℕ
 most_in [] field = 0
 most_in (slot ∷ more) field = if is_for field slot then most slot else most_in more field
 
--- the octets of the slots, where `said` has the values
-abbrev pub octets_in : List Slot → (said : Field → ℕ) → List ℕ
-octets_in [] said = []
-octets_in (slot ∷ more) said = write_slot slot (said (field_of slot)) ++ octets_in more said
+-- the octets of the slots, where `head_value` has the values
+abbrev pub slot_octets : List Slot → (head_value : Field → ℕ) → List ℕ
+slot_octets [] head_value = []
+slot_octets (slot ∷ more) head_value = write_slot slot (head_value (slot_field slot))
+    ++ slot_octets more head_value
 
 -- what a head says; bit 1 of the flags: there is a section 2
-abbrev pub said : Head → (optional : Bool) → Field → ℕ
-said h optional Master = h.master
-said h optional Centre = h.centre
-said h optional Subcentre = h.subcentre
-said h optional Update = h.update
-said h optional Flags = if optional then 128 else 0
-said h optional Category = h.category
-said h optional Subcategory = h.subcategory
-said h optional LocalSubcategory = h.local_subcategory
-said h optional MasterVersion = h.master_version
-said h optional LocalVersion = h.local_version
-said h optional Year = h.year
-said h optional Month = h.month
-said h optional Day = h.day
-said h optional Hour = h.hour
-said h optional Minute = h.minute
-said h optional Second = h.second
+abbrev pub head_value : Head → (optional : Bool) → Field → ℕ
+head_value h optional Master = h.master
+head_value h optional Centre = h.centre
+head_value h optional Subcentre = h.subcentre
+head_value h optional Update = h.update
+head_value h optional Flags = if optional then 128 else 0
+head_value h optional Category = h.category
+head_value h optional Subcategory = h.subcategory
+head_value h optional LocalSubcategory = h.local_subcategory
+head_value h optional MasterVersion = h.master_version
+head_value h optional LocalVersion = h.local_version
+head_value h optional Year = h.year
+head_value h optional Month = h.month
+head_value h optional Day = h.day
+head_value h optional Hour = h.hour
+head_value h optional Minute = h.minute
+head_value h optional Second = h.second
 
 -- a head as it stands in slots, the first of which begins at place p
 abbrev pub head_in : (edition : ℕ) → List Slot → List ℕ → (p : ℕ) → Head
 head_in edition slots m p = record {
   edition = edition;
-  master = value_in slots m p Master;
-  centre = value_in slots m p Centre;
-  subcentre = value_in slots m p Subcentre;
-  update = value_in slots m p Update;
-  category = value_in slots m p Category;
-  subcategory = value_in slots m p Subcategory;
-  local_subcategory = value_in slots m p LocalSubcategory;
-  master_version = value_in slots m p MasterVersion;
-  local_version = value_in slots m p LocalVersion;
-  year = value_in slots m p Year;
-  month = value_in slots m p Month;
-  day = value_in slots m p Day;
-  hour = value_in slots m p Hour;
-  minute = value_in slots m p Minute;
-  second = value_in slots m p Second;
+  master = slot_value slots m p Master;
+  centre = slot_value slots m p Centre;
+  subcentre = slot_value slots m p Subcentre;
+  update = slot_value slots m p Update;
+  category = slot_value slots m p Category;
+  subcategory = slot_value slots m p Subcategory;
+  local_subcategory = slot_value slots m p LocalSubcategory;
+  master_version = slot_value slots m p MasterVersion;
+  local_version = slot_value slots m p LocalVersion;
+  year = slot_value slots m p Year;
+  month = slot_value slots m p Month;
+  day = slot_value slots m p Day;
+  hour = slot_value slots m p Hour;
+  minute = slot_value slots m p Minute;
+  second = slot_value slots m p Second;
 }

@@ -4,8 +4,8 @@
 -- that bits behind the data stay in the payload, are choices of this project; so is that sections
 -- of an odd number of octets are read in edition 3.
 use Rattle.std.specs.Prelude.{◌≡◌, ℕ, ◌+◌, ◌-◌, ◌%◌, ◌==◌, ◌&&◌, ◌||◌, Bool, not, nat_lt, nat_le, List, Option, Some, None, Result, Ok, Err, length, slice_index, slice_range, if◌then◌else◌}
-use Rattle.bufr_frame.specs.Octets.{three, two, words}
-use Rattle.bufr_frame.specs.Section1.{Slot, Flags, slots_of, is_edition, first_least, value_in, head_in}
+use Rattle.bufr_frame.specs.Octets.{u24_at, u16_at, words}
+use Rattle.bufr_frame.specs.Section1.{Slot, Flags, slots_of, is_edition, first_least, slot_value, head_in}
 use Rattle.bufr_frame.specs.declared.head.Head.{Head}
 use Rattle.bufr_frame.specs.declared.fault.SectionFault.{SectionFault}
 use Rattle.bufr_frame.specs.declared.fault.SectionFault.TheVariants.{Edition, SectionShort, SectionPast, SectionsEnd, Edition3Long}
@@ -38,9 +38,9 @@ abbrev pub ◌>>=◌ : {A B : Type 0} → Result A SectionFault → (A → Resul
 unfoldable pub section_end : List ℕ → (k least p : ℕ) → Result ℕ SectionFault
 section_end m k least p =
     if nat_lt (length m - 4) (p + 3) then Err (SectionPast k)
-    else if nat_lt (three m p) least then Err (SectionShort k)
-    else if nat_lt (length m - 4) (p + three m p) then Err (SectionPast k)
-    else Ok (p + three m p)
+    else if nat_lt (u24_at m p) least then Err (SectionShort k)
+    else if nat_lt (length m - 4) (p + u24_at m p) then Err (SectionPast k)
+    else Ok (p + u24_at m p)
 
 -- what octet 8 of section 0 says
 abbrev pub edition_of : List ℕ → ℕ
@@ -57,7 +57,7 @@ slots_in m = slots_of (edition_of m)
 
 -- bit 1 of the flags of section 1: there is a section 2
 abbrev pub has_section2 : List ℕ → Bool
-has_section2 m = nat_le 128 (value_in (slots_in m) m 11 Flags)
+has_section2 m = nat_le 128 (slot_value (slots_in m) m 11 Flags)
 
 -- what octet 8 of section 0 and section 1 behind its length say
 abbrev pub head_of : List ℕ → Head
@@ -70,7 +70,7 @@ parts m p1 p2 p3 p4 = record {
   local1 = slice_range m (8 + first_least (edition_of m)) p1;
   section2 = if has_section2 m then Some (slice_range m (p1 + 4) p2) else None;
   descriptors = words (slice_range m (p2 + 7) p3);
-  subsets = two m (p2 + 4);
+  subsets = u16_at m (p2 + 4);
   observed = nat_le 128 (slice_index m (p2 + 6));
   compressed = nat_le 64 (slice_index m (p2 + 6) % 128);
   payload = slice_range m (p3 + 4) p4;
@@ -85,8 +85,8 @@ is_long_edition_3 m p2 p3 p4 =
     && (is_padded (edition_of m) (p3 - p2) || is_padded (edition_of m) (p4 - p3))
 
 -- the parts, where section 4 ends at the last four octets
-abbrev pub met : List ℕ → (p1 p2 p3 p4 : ℕ) → Result Sections SectionFault
-met m p1 p2 p3 p4 =
+abbrev pub parts_if_end_matches : List ℕ → (p1 p2 p3 p4 : ℕ) → Result Sections SectionFault
+parts_if_end_matches m p1 p2 p3 p4 =
     if not (p4 == (length m - 4)) then Err SectionsEnd
     else if is_long_edition_3 m p2 p3 p4 then Err Edition3Long
     else Ok (parts m p1 p2 p3 p4)
@@ -99,9 +99,10 @@ sections_of m = if not (is_edition (edition_of m)) then Err (Edition (edition_of
   p2 ← (if has_section2 m then section_end m 2 4 p1 else Ok p1)
   p3 ← section_end m 3 7 p2
   p4 ← section_end m 4 4 p3
-  met m p1 p2 p3 p4
+  parts_if_end_matches m p1 p2 p3 p4
 
 -- what a function answers, seen by view, is what is stated
-abbrev pub Gives : {X Y : Type 0} → (X → Y) → Result X SectionFault → Result Y SectionFault → Type 0
-Gives view (Ok x) stated = stated ≡ Ok (view x)
-Gives view (Err e) stated = stated ≡ Err e
+abbrev pub ReturnsView : {X Y : Type 0} → (X → Y) → Result X SectionFault → Result Y SectionFault
+    → Type 0
+ReturnsView view (Ok x) stated_length = stated_length ≡ Ok (view x)
+ReturnsView view (Err e) stated_length = stated_length ≡ Err e

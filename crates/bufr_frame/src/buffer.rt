@@ -45,7 +45,7 @@ pub(crate) fn make_room(
 }
 
 /// Reads once into the octets of `buf` from the place `from` to the place `to`.
-fn read_at<R: Source>(r: &mut R, buf: &mut [u8], from: usize, to: usize) -> Result<usize, Failed>
+fn read_range<R: Source>(r: &mut R, buf: &mut [u8], from: usize, to: usize) -> Result<usize, Failed>
     requires order { from < to }
     requires within { to ≤ length buf.old }
     ensures front { take from buf.new ≡ take from buf.old }
@@ -70,14 +70,14 @@ fn read_at<R: Source>(r: &mut R, buf: &mut [u8], from: usize, to: usize) -> Resu
 /// ```
 /// let mut buffer = Vec::from_array(rt.alloc(), [b'a', 0, 0, 0])?;
 /// let mut r = Device::new(b"bcde".as_slice());
-/// assert_eq!(rt; read_behind(&mut r, &mut buffer, 1, 3), Ok(2));
+/// assert_eq!(rt; read_after(&mut r, &mut buffer, 1, 3), Ok(2));
 /// assert_eq!(rt; buffer.as_slice(), b"abc\0".as_slice());
 /// ```
 ///
 /// # Errors
 ///
 /// [`RunFault::Read`] where the read failed; no octet was read then.
-pub fn read_behind<R: Source>(
+pub fn read_after<R: Source>(
     r: &mut R,
     buffer: &mut Vec<u8>,
     filled: usize,
@@ -93,7 +93,7 @@ pub fn read_behind<R: Source>(
     ensures failed { R.failures r.new ≡ read_failures_after (R.failures r.old) result }
     ensures made { R.reads r.new ≡ counted (R.reads r.old) 1 }
 {
-    match read_at(r, buffer.as_mut_slice(), filled, to) {
+    match read_range(r, buffer.as_mut_slice(), filled, to) {
         Ok(n) => Ok(n),
         Err(_) => Err(RunFault::Read),
     }

@@ -1,5 +1,4 @@
 //! The two editions that are read and written.
-ghost use Rattle.bufr_frame.specs.Editions.{IsNumbered};
 
 /// An edition of FM 94. What differs between them is matched on it, so that one more edition is
 /// missed nowhere.
@@ -12,10 +11,13 @@ pub(crate) enum Edition {
 }
 
 impl Edition {
+    ghost use Rattle.std.specs.Prelude.{IsTrue};
     ghost use Rattle.bufr_frame.specs.Editions.{IsNumbered};
+    ghost use Rattle.bufr_frame.specs.Section1.{is_edition};
 
-    /// The edition of this number, octet 8 of section 0; edition 4 for a number of neither.
+    /// The edition of this number, octet 8 of section 0.
     pub(crate) fn of(number: u8) -> Edition
+        requires { IsTrue (is_edition number) }
         ensures { IsNumbered result number }
     {
         if number == 3 {

@@ -1,12 +1,12 @@
 //! Where the sections of a message end.
 ghost use Rattle.std.specs.Prelude.{◌≡◌, ◌≤◌, ◌<◌, ◌+◌, ◌-◌, ◌^◌, ℕ, length, Ok, IfOk, IsTrue, if◌then◌else◌};
-ghost use Rattle.bufr_frame.specs.Section1.{Flags, first_least, is_edition, value_in};
-ghost use Rattle.bufr_frame.specs.Sections.{edition_of, slots_in, section_end, sections_of, parts, Gives, has_section2, is_long_edition_3};
+ghost use Rattle.bufr_frame.specs.Section1.{Flags, first_least, is_edition, slot_value};
+ghost use Rattle.bufr_frame.specs.Sections.{edition_of, slots_in, section_end, sections_of, parts, ReturnsView, has_section2, is_long_edition_3};
 
 use crate::edition::Edition;
 use crate::fault::SectionFault;
 use crate::least::{SECTION_0, SECTION_2, SECTION_3, SECTION_4, SECTION_5, is_padded, section_1};
-use crate::octets::three_at;
+use crate::octets::u24_from;
 
 /// The places behind the last octets of sections 1 to 4, from 0. A section 2 that is not there
 /// ends where section 1 does.
@@ -36,7 +36,7 @@ fn section_end_at(m: &[u8], k: u8, least: usize, p: usize) -> Result<usize, Sect
     if end < p + 3 {
         return Err(SectionFault::SectionPast(k));
     }
-    let len = three_at(m, p);
+    let len = u24_from(m, p);
     if len < least {
         return Err(SectionFault::SectionShort(k));
     }
@@ -48,8 +48,9 @@ fn section_end_at(m: &[u8], k: u8, least: usize, p: usize) -> Result<usize, Sect
 
 /// The flags of section 1.
 fn flags_at(m: &[u8]) -> u8
-    requires { 18 ≤ length m.now }
-    ensures { result ≡ value_in (slots_in m.now) m.now 11 Flags }
+    requires known { IsTrue (is_edition (edition_of m.now)) }
+    requires long { 18 ≤ length m.now }
+    ensures { result ≡ slot_value (slots_in m.now) m.now 11 Flags }
 {
     match Edition::of(m[7]) {
         Edition::Third => m[15],
@@ -59,7 +60,8 @@ fn flags_at(m: &[u8]) -> u8
 
 /// Whether there is a section 2.
 pub(crate) fn has_second(m: &[u8]) -> bool
-    requires { 18 ≤ length m.now }
+    requires known { IsTrue (is_edition (edition_of m.now)) }
+    requires long { 18 ≤ length m.now }
     ensures { result ≡ has_section2 m.now }
 {
     flags_at(m) >= 128
@@ -67,6 +69,7 @@ pub(crate) fn has_second(m: &[u8]) -> bool
 
 /// Where section 2 ends, if there is one, or else section 1.
 fn second_end(m: &[u8], first: usize) -> Result<usize, SectionFault>
+    requires known { IsTrue (is_edition (edition_of m.now)) }
     requires long { 18 ≤ length m.now }
     requires near { first < 2 ^ 31 }
     ensures value { result ≡ (if has_section2 m.now
@@ -89,6 +92,7 @@ const MOST_ODD: usize = 16_777_213;
 
 /// Whether a message, whose sections end there, is too long for its sections 3 and 4 to be padded.
 fn is_long(m: &[u8], second: usize, third: usize, fourth: usize) -> bool
+    requires known { IsTrue (is_edition (edition_of m.now)) }
     requires long { 8 ≤ length m.now }
     requires third { second ≤ third }
     requires fourth { third ≤ fourth }
@@ -108,8 +112,9 @@ fn is_known(edition: u8) -> bool
 #[tactic(auto, unfolding(crate::specs::Sections::sections_of))]
 pub(crate) fn ends_of(m: &[u8]) -> Result<Ends, SectionFault>
     requires long { 12 ≤ length m.now }
-    ensures value { Gives (λ e. parts m.now e.first e.second e.third e.fourth) result
+    ensures value { ReturnsView (λ e. parts m.now e.first e.second e.third e.fourth) result
         (sections_of m.now) }
+    ensures known { IfOk result (λ _. IsTrue (is_edition (edition_of m.now))) }
     ensures within { IfOk result (λ e. e.fourth ≤ length m.now - 4) }
     ensures first { IfOk result (λ e. 8 + first_least (edition_of m.now) ≤ e.first) }
     ensures section2 { IfOk result (λ e. IsTrue (has_section2 m.now) → e.first + 4 ≤ e.second) }

@@ -1,16 +1,16 @@
 //! The messages of a stream.
 
-use crate::buffer::{make_room, read_behind};
+use crate::buffer::{make_room, read_after};
 use crate::fault::{Cause, RunFault};
-use crate::input::MOST_READS;
-use crate::search::{Found, Sight, Verdict, look, stated_len};
+use crate::input::MAX_READS;
+use crate::search::{Candidate, NextEvent, SearchResult, find_event, stated_len};
 use bufr_bits::Source;
 use memchr::memmem;
 use std::alloc::Global;
 use std::marker::Model;
 
 /// How many octets may be held while no greater length is stated.
-const LEAST_HELD: usize = 4096;
+const MIN_HELD: usize = 4096;
 
 /// What comes next in a stream. Offsets are in octets, from 0.
 #[derive(Clone, Copy, Debug)]
@@ -25,9 +25,9 @@ pub enum Event<'a> {
 
 /// An event that was passed, and how many octets it took.
 #[derive(Clone, Copy)]
-struct Passed {
+struct PassedEvent {
     offset: u64,
-    here: Verdict,
+    here: Candidate,
     len: usize,
 }
 
@@ -82,9 +82,9 @@ pub struct Finder {
 
 impl Model for Finder {
     ghost use Rattle.std.specs.Prelude.{◌+◌, slice_range, vec_capacity};
-    ghost use Rattle.bufr_frame.specs.Finding.{State, ended_in, fault_in};
+    ghost use Rattle.bufr_frame.specs.FinderCalls.{FinderModel, ended_in, fault_in};
 
-    ghost Value = { State };
+    ghost Value = { FinderModel };
 
     ghost view = { λ f. record {
       before = slice_range f.buffer.items f.start f.place;
@@ -97,9 +97,9 @@ impl Model for Finder {
       room = vec_capacity f.buffer;
     } };
 
-    ghost use Rattle.bufr_frame.specs.Held.{IsHeld};
+    ghost use Rattle.bufr_frame.specs.FinderInvariant.{IsFinder};
 
-    ghost invariant = { IsHeld };
+    ghost invariant = { IsFinder };
 }
 
 impl Finder {
@@ -108,19 +108,19 @@ impl Finder {
     ghost use Rattle.std.specs.Io.BufRead.{Rests};
     ghost use Rattle.bufr_bits.specs.Counts.{counted};
     ghost use Rattle.bufr_frame.specs.contracts.finder.Finder.{the_row};
-    ghost use Rattle.bufr_frame.specs.Scan.{taken, scan_from};
-    ghost use Rattle.bufr_frame.specs.Events.{told, IsEvent};
-    ghost use Rattle.bufr_frame.specs.Look.{Advances};
-    ghost use Rattle.bufr_frame.specs.Sights.{LooksSo, FoundSo};
+    ghost use Rattle.bufr_frame.specs.Scan.{candidate_len, scan_from};
+    ghost use Rattle.bufr_frame.specs.Events.{events_of, IsEvent};
+    ghost use Rattle.bufr_frame.specs.Lookahead.{Advances};
+    ghost use Rattle.bufr_frame.specs.Search.{IsSearchResult, IsNextEvent};
     ghost use Rattle.bufr_frame.specs.Longest.{length_here};
-    ghost use Rattle.bufr_frame.specs.Runs.{read_failures_after, most_reads};
-    ghost use Rattle.bufr_frame.specs.Finding.{State, held, Follows, ReadsOn, CountsReads, IsDone, WaitsSo, fresh};
-    ghost use Rattle.bufr_frame.specs.Passing.{OutcomeSo, PassedSo, ReadSo, KeepsRun, events_by, seen_by, passed_events, gone_to};
-    ghost use Rattle.bufr_frame.specs.Next.{NextSo, AgainSo, told_by};
+    ghost use Rattle.bufr_frame.specs.Runs.{read_failures_after, max_reads};
+    ghost use Rattle.bufr_frame.specs.FinderCalls.{FinderModel, held, Follows, ReadsOn, CountsReads, HasNoMoreEvents, ReadsOnlyIfUndecided, new_finder};
+    ghost use Rattle.bufr_frame.specs.FinderSteps.{AdvancesFinder, PassesEvent, ReadsMore, KeepsRun, events_by, seen_by, passed_events, gone_to};
+    ghost use Rattle.bufr_frame.specs.Next.{ReturnsNextEvent, RepeatsFault, events_returned};
 
     /// A finder that has read nothing.
     pub fn new(alloc: Global) -> Finder
-        ensures { result ≡ fresh }
+        ensures { result ≡ new_finder }
     {
         Finder {
             word: memmem::Finder::new(b"BUFR"),
@@ -154,26 +154,27 @@ impl Finder {
     }
 
     /// What the octets that are left show.
-    fn look(&self) -> Sight
-        ensures looks { LooksSo self.now.ended self.now.rest result }
+    fn find_event(&self) -> SearchResult
+        ensures looks { IsSearchResult self.now.ended self.now.rest result }
         ensures near { self.now.at < 2 ^ 63 }
         ensures bound { held self.now ≤ max 4096 self.now.longest }
     {
-        look(
+        find_event(
             &self.word,
             &self.buffer[self.place..self.filled],
             matches!(self.phase, Phase::Ended),
         )
     }
 
-    /// Passes the first `n` octets that are left. `stated` is a length that was stated, or 0.
-    fn go_to(&mut self, n: usize, stated: usize)
+    /// Passes the first `n` octets that are left. `stated_length` is a length that was stated, or
+    /// 0.
+    fn advance_to(&mut self, n: usize, stated_length: usize)
         requires within { n ≤ length self.old.rest }
-        requires most { stated < 2 ^ 24 }
-        ensures { self.new ≡ gone_to self.old n stated }
+        requires most { stated_length < 2 ^ 24 }
+        ensures { self.new ≡ gone_to self.old n stated_length }
     {
         self.place += n;
-        self.longest = self.longest.max(stated);
+        self.longest = self.longest.max(stated_length);
     }
 
     /// The offset of the first octet that is left.
@@ -185,41 +186,41 @@ impl Finder {
     }
 
     /// How many octets the event takes that stands first.
-    fn event_len(&self, here: Verdict) -> usize
-        requires whole { here ≡ Verdict.Frame → 8 ≤ length self.now.rest }
-        requires some { here ≢ Verdict.Nothing }
-        ensures { result ≡ taken self.now.rest here }
+    fn event_len(&self, here: Candidate) -> usize
+        requires whole { here ≡ Candidate.Frame → 8 ≤ length self.now.rest }
+        requires some { here ≢ Candidate.Nothing }
+        ensures { result ≡ candidate_len self.now.rest here }
     {
         match here {
-            Verdict::Nothing => unreachable!(),
-            Verdict::Stray(_) => 4,
-            Verdict::Frame => stated_len(&self.buffer[self.place..self.filled]),
+            Candidate::Nothing => unreachable!(),
+            Candidate::Stray(_) => 4,
+            Candidate::Frame => stated_len(&self.buffer[self.place..self.filled]),
         }
     }
 
     /// Passes an event.
-    fn pass_event(&mut self, found: Found) -> Passed
+    fn take_event(&mut self, found: NextEvent) -> PassedEvent
         requires sound { self.old.fault ≡ None }
-        requires found { FoundSo self.old.ended self.old.rest found.place found.here }
-        requires stated { found.stated < 2 ^ 24 }
+        requires found { IsNextEvent self.old.ended self.old.rest found.place found.here }
+        requires stated_length { found.stated_length < 2 ^ 24 }
         ensures advances { Advances self.new.ended self.old.at self.old.rest
             (passed_events self.new result) self.new.at self.new.rest }
         ensures follows { Follows self.old.at self.old.rest self.new.at self.new.rest }
         ensures same { KeepsRun self.old self.new }
-        ensures passed { PassedSo self.old self.new result }
-        ensures longest { self.new.longest ≡ max self.old.longest found.stated }
+        ensures passed { PassesEvent self.old self.new result }
+        ensures longest { self.new.longest ≡ max self.old.longest found.stated_length }
         ensures offset { result.offset ≡ self.old.at + found.place }
         ensures here { result.here ≡ found.here }
         ensures near { self.new.at < 2 ^ 63 }
         ensures bound { held self.new ≤ max 4096 self.new.longest }
     {
-        self.go_to(found.place, found.stated);
+        self.advance_to(found.place, found.stated_length);
         let offset = self.offset();
         let len = self.event_len(found.here);
-        self.go_to(len, 0);
+        self.advance_to(len, 0);
         // the struct's model is known only where one of its fields is used
         let _ = &self.buffer;
-        Passed {
+        PassedEvent {
             offset,
             here: found.here,
             len,
@@ -229,17 +230,17 @@ impl Finder {
     /// Reads once, behind the octets that are left. Those that were passed are let go.
     fn read_more<R: Source>(&mut self, r: &mut R) -> Result<(), RunFault>
         requires room { length self.old.rest < max 4096 self.old.longest }
-        requires few { self.old.reads < most_reads }
+        requires few { self.old.reads < max_reads }
         requires going { self.old.ended ≡ false }
         requires sound { self.old.fault ≡ None }
         ensures read { (bs : List ℕ)
-            × ReadSo (R.left r.old) (R.left r.new) self.old self.new result bs }
+            × ReadsMore (R.left r.old) (R.left r.new) self.old self.new result bs }
         ensures bound { held self.new ≤ max 4096 self.new.longest }
         ensures failed { R.failures r.new ≡ read_failures_after (R.failures r.old) result }
         ensures made { R.reads r.new ≡ counted (R.reads r.old) (self.new.reads - self.old.reads) }
     {
         self.start = self.place;
-        let limit = self.longest.max(LEAST_HELD);
+        let limit = self.longest.max(MIN_HELD);
         let slid = make_room(&mut self.buffer, self.start, self.filled, limit)?;
         self.base += slid as u64;
         self.start -= slid;
@@ -247,7 +248,7 @@ impl Finder {
         self.filled -= slid;
         self.reads += 1;
         let most = self.buffer.len().min(self.start + limit);
-        let n = read_behind(r, &mut self.buffer, self.filled, most)?;
+        let n = read_after(r, &mut self.buffer, self.filled, most)?;
         self.filled += n;
         if n == 0 {
             self.phase = Phase::Ended;
@@ -268,12 +269,12 @@ impl Finder {
     }
 
     /// Goes on behind the next event, where there is one.
-    fn advance<R: Source>(&mut self, r: &mut R) -> Result<Option<Passed>, RunFault>
+    fn advance<R: Source>(&mut self, r: &mut R) -> Result<Option<PassedEvent>, RunFault>
         ensures steps { ReadsOn (R.left r.old) (R.left r.new) self.old self.new
             (events_by self.new result) (seen_by self.new result) }
         ensures counts { CountsReads (R.reads r.old) (R.reads r.new) self.old self.new }
-        ensures waits { WaitsSo self.old self.new }
-        ensures outcome { OutcomeSo self.old self.new result }
+        ensures waits { ReadsOnlyIfUndecided self.old self.new }
+        ensures outcome { AdvancesFinder self.old self.new result }
         ensures failed { self.old.fault ≡ None
             → R.failures r.new ≡ read_failures_after (R.failures r.old) result }
         ensures again { IfSome self.old.fault (λ fault. result ≡ Err fault) }
@@ -286,12 +287,12 @@ impl Finder {
             return Err(fault);
         }
         loop {
-            match self.look() {
-                Sight::End => return Ok(None),
-                Sight::Decided(found) => return Ok(Some(self.pass_event(found))),
-                Sight::Open(wanted) => {
-                    self.go_to(wanted.place, wanted.stated);
-                    if self.reads == MOST_READS {
+            match self.find_event() {
+                SearchResult::End => return Ok(None),
+                SearchResult::Found(found) => return Ok(Some(self.take_event(found))),
+                SearchResult::NeedsMore(wanted) => {
+                    self.advance_to(wanted.place, wanted.stated_length);
+                    if self.reads == MAX_READS {
                         return Err(self.stop(RunFault::InputTooLong));
                     }
                     if let Err(fault) = self.read_more(r) {
@@ -311,17 +312,17 @@ impl Finder {
     }
 
     /// The event that was passed.
-    fn event(&self, passed: Passed) -> Event<'_>
+    fn event(&self, passed: PassedEvent) -> Event<'_>
         requires within { passed.len ≤ length self.now.before }
-        requires some { passed.here ≢ Verdict.Nothing }
-        requires frame { passed.here ≡ Verdict.Frame → 12 ≤ passed.len }
-        ensures told { told result ≡ passed_events self.now passed }
+        requires some { passed.here ≢ Candidate.Nothing }
+        requires frame { passed.here ≡ Candidate.Frame → 12 ≤ passed.len }
+        ensures events_of { events_of result ≡ passed_events self.now passed }
         ensures event { IsEvent result }
     {
         match passed.here {
-            Verdict::Nothing => unreachable!(),
-            Verdict::Stray(cause) => Event::Stray(passed.offset, cause),
-            Verdict::Frame => Event::Frame(passed.offset, self.last(passed.len)),
+            Candidate::Nothing => unreachable!(),
+            Candidate::Stray(cause) => Event::Stray(passed.offset, cause),
+            Candidate::Frame => Event::Frame(passed.offset, self.last(passed.len)),
         }
     }
 
@@ -337,9 +338,10 @@ impl Finder {
     pub fn next<R: Source>(&mut self, r: &mut R) -> Result<Event<'_>, RunFault>
         ensures failed { self.old.fault ≡ None
             → R.failures r.new ≡ read_failures_after (R.failures r.old) result }
-        ensures again { AgainSo self.old result }
+        ensures again { RepeatsFault self.old result }
         ensures same { IfSome self.old.fault (λ _. r.new ≡ r.old) }
-        ensures* next { sem 𝓛 (Rests the_row self.entry (λ new. NextSo (R.left r.old) (R.left r.new)
+        ensures* next { sem 𝓛 (Rests the_row self.entry
+            (λ new. ReturnsNextEvent (R.left r.old) (R.left r.new)
             (R.reads r.old) (R.reads r.new) self.old new result)) }
     {
         match self.advance(r)? {

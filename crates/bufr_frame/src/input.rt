@@ -2,15 +2,15 @@
 ghost use Rattle.std.specs.Prelude.{◌≡◌, ◌≤◌, ◌<◌, ◌+◌, ◌-◌, ℕ, List, ◌++◌, take, length, Ok, IfOk, IfErr, vec_len};
 ghost use Rattle.std.specs.Io.KnownBytes.{Consumes, IsAtEnd};
 ghost use Rattle.bufr_bits.specs.Counts.{counted};
-ghost use Rattle.bufr_frame.specs.Runs.{read_failures_after, most_reads};
+ghost use Rattle.bufr_frame.specs.Runs.{read_failures_after, max_reads};
 ghost use Rattle.bufr_frame.specs.Input.{ReadsOnce, ReadsInput};
 
-use crate::buffer::read_behind;
+use crate::buffer::read_after;
 use crate::fault::RunFault;
 use bufr_bits::Source;
 
 /// The most reads that are made of one input, 2^32; the next one is not made.
-pub const MOST_READS: u64 = 1 << 32;
+pub const MAX_READS: u64 = 1 << 32;
 
 /// How many octets one read asks for.
 const CHUNK: usize = 65536;
@@ -35,7 +35,7 @@ fn read_once<R: Source>(r: &mut R, octets: &mut Vec<u8>, held: usize) -> Result<
     ensures failed { R.failures r.new ≡ read_failures_after (R.failures r.old) result }
     ensures made { R.reads r.new ≡ counted (R.reads r.old) 1 }
 {
-    match read_behind(r, octets, held, held + CHUNK) {
+    match read_after(r, octets, held, held + CHUNK) {
         Ok(n) => {
             octets.truncate(held + n);
             Ok(n)
@@ -60,14 +60,14 @@ pub fn read_to_end<R: Source>(
     octets: &mut Vec<u8>,
     reads: &mut u64,
 ) -> Result<(), RunFault>
-    requires { reads.old ≤ most_reads }
+    requires { reads.old ≤ max_reads }
     ensures read { (bs : List ℕ) × ReadsInput (R.left r.old) (R.left r.new) octets.old.items
         octets.new.items reads.new result bs }
     ensures failed { R.failures r.new ≡ read_failures_after (R.failures r.old) result }
     ensures made { R.reads r.new ≡ counted (R.reads r.old) (reads.new - reads.old) }
-    ensures within { (reads.old ≤ reads.new) × (reads.new ≤ most_reads) }
+    ensures within { (reads.old ≤ reads.new) × (reads.new ≤ max_reads) }
 {
-    while *reads < MOST_READS {
+    while *reads < MAX_READS {
         let held = make_room_behind(octets)?;
         *reads += 1;
         if read_once(r, octets, held)? == 0 {

@@ -1,12 +1,12 @@
 //! Laws on what calls say together: the events of a stream, and messages written again.
 ghost use Rattle.std.specs.Prelude.{◌≡◌, List, [], ◌+◌, ◌++◌, ℕ, Option, Result, Ok, ◌<◌, ◌≤◌, ◌%◌, Bool, length, slice_index, true, false};
-ghost use Rattle.bufr_frame.specs.Scan.{Happening, scan, scan_from, open_scan};
-ghost use Rattle.bufr_frame.specs.Look.{Advances, NoneDecided};
+ghost use Rattle.bufr_frame.specs.Scan.{StreamEvent, scan, scan_from, open_scan};
+ghost use Rattle.bufr_frame.specs.Lookahead.{Advances, NoEventCertain};
 ghost use Rattle.bufr_frame.specs.Longest.{longest_of, first_event};
-ghost use Rattle.bufr_frame.specs.Finding.{State, fresh, StepSo, SeesSo, IsDone};
-ghost use Rattle.bufr_frame.specs.Next.{NextSo, HoldsSo};
-ghost use Rattle.bufr_frame.specs.Layout.{IsFitting, evened, is_writable, longer, message_octets, message_size, most_octets, parts_in, parts_of, size_from};
-ghost use Rattle.bufr_frame.specs.Octets.{three};
+ghost use Rattle.bufr_frame.specs.FinderCalls.{FinderModel, new_finder, ReadsAndPasses, RaisesLongest, HasNoMoreEvents};
+ghost use Rattle.bufr_frame.specs.Next.{ReturnsNextEvent, HoldsUnread};
+ghost use Rattle.bufr_frame.specs.Layout.{IsFitting, with_even_length, is_writable, max_extra_octets, message_octets, message_size, max_octets, parts_in, parts_of, size_from};
+ghost use Rattle.bufr_frame.specs.Octets.{u24_at};
 ghost use Rattle.bufr_frame.specs.Plain.{IsPlain, section3_begins, section4_begins};
 ghost use Rattle.bufr_frame.specs.Sections.{Sections, edition_of, sections_of};
 ghost use Rattle.bufr_frame.specs.declared.fault.RunFault.{RunFault};
@@ -16,52 +16,53 @@ ghost use Rattle.bufr_frame.specs.declared.head.Head.{Head};
 /// The events that are certain while the end is not known stay the first ones, whatever comes
 /// behind.
 pub fn open_scan_is_front()
-    ensures { (s t : List ℕ) → (more : List Happening) × (scan (s ++ t) ≡ open_scan s ++ more) }
+    ensures { (s t : List ℕ) → (more : List StreamEvent) × (scan (s ++ t) ≡ open_scan s ++ more) }
 {}
 
 /// The events that calls of a finder gave are those of the whole stream, where the end was reached
 /// and what is left holds none.
 pub fn events_to_the_end_are_the_scan()
-    ensures { (s rest : List ℕ) (events : List Happening) (at : ℕ)
+    ensures { (s rest : List ℕ) (events : List StreamEvent) (at : ℕ)
         → Advances true 0 s events at rest → scan_from 0 at rest ≡ [] → scan s ≡ events }
 {}
 
 /// The events that calls of a finder gave while the end was not known are the first that are
 /// certain.
 pub fn events_before_the_end_are_certain()
-    ensures { (s rest : List ℕ) (events : List Happening) (at : ℕ) → Advances false 0 s events at
-        rest → (more : List Happening) × (open_scan s ≡ events ++ more) }
+    ensures { (s rest : List ℕ) (events : List StreamEvent) (at : ℕ) → Advances false 0 s events at
+        rest → (more : List StreamEvent) × (open_scan s ≡ events ++ more) }
 {}
 
 /// The events that calls of a finder gave are all that are certain, where nothing that is left is.
 pub fn events_at_a_fault_are_the_open_scan()
-    ensures { (s rest : List ℕ) (events : List Happening) (at : ℕ)
-        → Advances false 0 s events at rest → NoneDecided at rest → open_scan s ≡ events }
+    ensures { (s rest : List ℕ) (events : List StreamEvent) (at : ℕ)
+        → Advances false 0 s events at rest → NoEventCertain at rest → open_scan s ≡ events }
 {}
 
 /// The octets that were read from an event's place on are held.
 pub fn octets_from_an_event_on_are_held()
-    ensures { (left left' : Option (List ℕ)) (reads reads' : ℕ) (old new : State)
+    ensures { (left left' : Option (List ℕ)) (reads reads' : ℕ) (old new : FinderModel)
         (result : Result Event RunFault)
-        → (next : NextSo left left' reads reads' old new result)
-        → HoldsSo (old.at + length (old.rest ++ next.steps.0)) new result }
+        → (next : ReturnsNextEvent left left' reads reads' old new result)
+        → HoldsUnread (old.at + length (old.rest ++ next.steps.0)) new result }
 {}
 
 /// The greatest length after a call is that of all events given so far.
 pub fn longest_is_that_of_the_events()
-    ensures { (left mid left' : Option (List ℕ)) (s s' : State) (bs bs' : List ℕ)
-        (events es : List Happening)
-        → StepSo left mid fresh s bs events → s.longest ≡ longest_of 0 bs events
-        → StepSo mid left' s s' bs' es → SeesSo s s' bs' es
+    ensures { (left mid left' : Option (List ℕ)) (s s' : FinderModel) (bs bs' : List ℕ)
+        (events es : List StreamEvent)
+        → ReadsAndPasses left mid new_finder s bs events → s.longest ≡ longest_of 0 bs events
+        → ReadsAndPasses mid left' s s' bs' es → RaisesLongest s s' bs' es
         → s'.longest ≡ longest_of 0 (bs ++ bs') (events ++ es) }
 {}
 
 /// After a fault the first event that is left counts too.
 pub fn longest_at_a_fault_counts_the_open_word()
-    ensures { (left mid left' : Option (List ℕ)) (s s' : State) (bs bs' : List ℕ)
-        (events : List Happening)
-        → StepSo left mid fresh s bs events → s.longest ≡ longest_of 0 bs events
-        → StepSo mid left' s s' bs' [] → SeesSo s s' bs' (first_event (scan_from 0 s'.at s'.rest))
+    ensures { (left mid left' : Option (List ℕ)) (s s' : FinderModel) (bs bs' : List ℕ)
+        (events : List StreamEvent)
+        → ReadsAndPasses left mid new_finder s bs events → s.longest ≡ longest_of 0 bs events
+        → ReadsAndPasses mid left' s s' bs' [] → RaisesLongest s s' bs'
+        (first_event (scan_from 0 s'.at s'.rest))
         → s'.longest
         ≡ longest_of 0 (bs ++ bs') (events ++ first_event (scan_from 0 s'.at s'.rest)) }
 {}
@@ -69,17 +70,17 @@ pub fn longest_at_a_fault_counts_the_open_word()
 /// Steps of a finder, one after another, are a step: what several calls read and told follows from
 /// what each did.
 pub fn steps_compose()
-    ensures { (left mid left' : Option (List ℕ)) (old s s' : State) (bs bs' : List ℕ)
-        (events es : List Happening)
-        → StepSo left mid old s bs events → StepSo mid left' s s' bs' es
-        → StepSo left left' old s' (bs ++ bs') (events ++ es) }
+    ensures { (left mid left' : Option (List ℕ)) (old s s' : FinderModel) (bs bs' : List ℕ)
+        (events es : List StreamEvent)
+        → ReadsAndPasses left mid old s bs events → ReadsAndPasses mid left' s s' bs' es
+        → ReadsAndPasses left left' old s' (bs ++ bs') (events ++ es) }
 {}
 
 /// After the end was told it is told again, and nothing is read.
 pub fn done_comes_again()
-    ensures { (left left' : Option (List ℕ)) (reads reads' : ℕ) (old new : State)
+    ensures { (left left' : Option (List ℕ)) (reads reads' : ℕ) (old new : FinderModel)
         (result : Result Event RunFault)
-        → NextSo left left' reads reads' old new result → IsDone old
+        → ReturnsNextEvent left left' reads reads' old new result → HasNoMoreEvents old
         → (result ≡ Ok Event.Done) × (new.reads ≡ old.reads) }
 {}
 
@@ -87,7 +88,7 @@ pub fn done_comes_again()
 /// edition 3 up to two octets make sections 3 and 4 even.
 pub fn written_again_is_no_longer()
     ensures { (m : List ℕ) (s : Sections) → sections_of m ≡ Ok s
-        → message_size s.head.edition (parts_in s) ≤ length m + longer s.head.edition }
+        → message_size s.head.edition (parts_in s) ≤ length m + max_extra_octets s.head.edition }
 {}
 
 /// Where a message of edition 3 has even sections 3 and 4, a message that is written from its parts
@@ -95,14 +96,14 @@ pub fn written_again_is_no_longer()
 /// sections 3 and 4 are even.
 pub fn even_sections_are_written_no_longer()
     ensures { (m : List ℕ) (s : Sections) → sections_of m ≡ Ok s → edition_of m ≡ 3
-        → three m (section3_begins m) % 2 ≡ 0 → three m (section4_begins m) % 2 ≡ 0
+        → u24_at m (section3_begins m) % 2 ≡ 0 → u24_at m (section4_begins m) % 2 ≡ 0
         → message_size s.head.edition (parts_in s) ≤ length m }
 {}
 
 /// A message that is written from the parts of another one is not too long.
 pub fn written_again_is_not_too_long()
-    ensures { (m : List ℕ) (s : Sections) → sections_of m ≡ Ok s → length m ≤ most_octets
-        → message_size s.head.edition (parts_in s) ≤ most_octets }
+    ensures { (m : List ℕ) (s : Sections) → sections_of m ≡ Ok s → length m ≤ max_octets
+        → message_size s.head.edition (parts_in s) ≤ max_octets }
 {}
 
 /// A message whose reserved octets and bits are zero, and in whose section 3 no octet is left over,
@@ -124,7 +125,7 @@ pub fn even_payloads_are_laid_out_alike()
     ensures { (h : Head) (local1 : List ℕ) (section2 : Option (List ℕ)) (descriptors : List ℕ)
         (subsets : ℕ) (observed compressed : Bool) (payload : List ℕ)
         → message_octets h (parts_of local1 section2 descriptors subsets observed compressed
-        (evened h.edition 4 payload))
+        (with_even_length h.edition 4 payload))
         ≡ message_octets h
         (parts_of local1 section2 descriptors subsets observed compressed payload) }
 {}

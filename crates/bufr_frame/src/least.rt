@@ -1,8 +1,8 @@
 //! How many octets the sections have at least, and which are padded. (WMO-No. 306, Volume I.2,
 //! FM 94)
-ghost use Rattle.std.specs.Prelude.{◌≡◌, ◌<◌, ◌-◌, ◌^◌};
+ghost use Rattle.std.specs.Prelude.{◌≡◌, ◌<◌, ◌-◌, ◌^◌, IsTrue};
 ghost use Rattle.bufr_frame.specs.Layout.{even_size};
-ghost use Rattle.bufr_frame.specs.Section1.{first_least};
+ghost use Rattle.bufr_frame.specs.Section1.{first_least, is_edition};
 ghost use Rattle.bufr_frame.specs.Sections.{is_padded};
 
 use crate::edition::Edition;
@@ -12,6 +12,7 @@ pub(crate) const SECTION_0: usize = 8;
 
 /// Section 1 of an edition, without octets for local use.
 pub(crate) fn section_1(edition: u8) -> usize
+    requires { IsTrue (is_edition edition) }
     ensures { result ≡ first_least edition }
 {
     match Edition::of(edition) {
@@ -34,6 +35,7 @@ pub(crate) const SECTION_5: usize = 4;
 
 /// Whether a section 3 or 4 of so many octets is written with a zero octet more.
 pub(crate) fn is_padded(edition: u8, len: usize) -> bool
+    requires { IsTrue (is_edition edition) }
     ensures { result ≡ is_padded edition len }
 {
     match Edition::of(edition) {
@@ -44,7 +46,8 @@ pub(crate) fn is_padded(edition: u8, len: usize) -> bool
 
 /// The octets of a section 3 or 4 of so many, with the zero octet more where it is padded.
 pub(crate) fn even_len(edition: u8, len: usize) -> usize
-    requires { len < 2 ^ 64 - 1 }
+    requires known { IsTrue (is_edition edition) }
+    requires room { len < 2 ^ 64 - 1 }
     ensures { result ≡ even_size edition len }
 {
     if is_padded(edition, len) {

@@ -1,7 +1,7 @@
 //! Frames of FM 94 BUFR: finds the messages of a stream, takes a message apart into its sections,
 //! and writes one from its parts.
 //!
-//! A run of `bufr_run` asks [`Finder::next`] for one event after another and [`Message::parse`] for
+//! A run of `bufr_cli` asks [`Finder::next`] for one event after another and [`Message::parse`] for
 //! the sections of a frame; `bufr_text` and `bufr_walk` read what these say. `bufr_text` calls
 //! [`write_message`] for a document that is encoded. [`read_to_end`] is for the tables. The tests
 //! `streams`, `reads_a_message` and `parts_written_again` show each.
@@ -22,11 +22,11 @@ mod search;
 mod words;
 mod write;
 
-pub use buffer::read_behind;
+pub use buffer::read_after;
 pub use fault::{Cause, RunFault, SectionFault, WriteFault};
 pub use finder::{Event, Finder};
 pub use head::Head;
-pub use input::{MOST_READS, read_to_end};
+pub use input::{MAX_READS, read_to_end};
 pub use message::Message;
 pub use words::Words;
 pub use write::write_message;

@@ -1,7 +1,7 @@
 //! A message taken apart into its sections.
 ghost use Rattle.std.specs.Prelude.{◌≡◌, ◌≤◌, ◌+◌, length, IsTrue, Some, None, slice_range, if◌then◌else◌};
 ghost use Rattle.std.specs.Option.{option_map};
-ghost use Rattle.bufr_frame.specs.Section1.{first_least, head_in, slots_3, slots_4};
+ghost use Rattle.bufr_frame.specs.Section1.{first_least, head_in, is_edition, slots_3, slots_4};
 ghost use Rattle.bufr_frame.specs.Sections.{edition_of, head_of, has_section2};
 
 use crate::edition::Edition;
@@ -115,6 +115,7 @@ fn head_4(m: &[u8]) -> Head
 
 /// What octet 8 of section 0 and section 1 behind its length say.
 fn head_at(m: &[u8]) -> Head
+    requires known { IsTrue (is_edition (edition_of m.now)) }
     requires long { 8 ≤ length m.now }
     requires first { 8 + first_least (edition_of m.now) ≤ length m.now }
     ensures { result ≡ head_of m.now }
@@ -127,6 +128,7 @@ fn head_at(m: &[u8]) -> Head
 
 /// The octets of section 2 from its octet 5 on, where it is there.
 fn section2_of(m: &[u8], first: usize, second: usize) -> Option<&[u8]>
+    requires known { IsTrue (is_edition (edition_of m.now)) }
     requires long { 18 ≤ length m.now }
     requires within { second ≤ length m.now }
     requires section2 { IsTrue (has_section2 m.now) → first + 4 ≤ second }
@@ -169,6 +171,7 @@ impl<'a> Message<'a> {
 
     /// The message whose sections end there.
     fn between(octets: &'a [u8], ends: Ends) -> Message<'a>
+        requires known { IsTrue (is_edition (edition_of octets.now)) }
         requires within { ends.fourth ≤ length octets.now }
         requires first { 8 + first_least (edition_of octets.now) ≤ ends.first }
         requires section2 { IsTrue (has_section2 octets.now) → ends.first + 4 ≤ ends.second }

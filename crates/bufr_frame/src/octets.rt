@@ -1,6 +1,6 @@
 //! Numbers in octets, the most significant octet first. (WMO-No. 306, Volume I.2, FM 94)
 ghost use Rattle.std.specs.Prelude.{◌≡◌, ◌≤◌, ◌<◌, ◌+◌, ◌*◌, ◌/◌, ◌%◌, ◌^◌, length};
-ghost use Rattle.bufr_frame.specs.Octets.{two, three, three_octets};
+ghost use Rattle.bufr_frame.specs.Octets.{u16_at, u24_at, three_octets};
 
 /// The number that two octets write.
 pub(crate) fn word_of(high: u8, low: u8) -> u16
@@ -12,15 +12,15 @@ pub(crate) fn word_of(high: u8, low: u8) -> u16
 /// The number that the two octets from `p` write.
 pub(crate) fn two_at(m: &[u8], p: usize) -> u16
     requires { p + 2 ≤ length m.now }
-    ensures { result ≡ two m.now p }
+    ensures { result ≡ u16_at m.now p }
 {
     word_of(m[p], m[p + 1])
 }
 
 /// The number that the three octets from `p` write.
-pub(crate) fn three_at(m: &[u8], p: usize) -> usize
+pub(crate) fn u24_from(m: &[u8], p: usize) -> usize
     requires { p + 3 ≤ length m.now }
-    ensures value { result ≡ three m.now p }
+    ensures value { result ≡ u24_at m.now p }
     ensures most { result < 2 ^ 24 }
 {
     65536 * (m[p] as usize) + 256 * (m[p + 1] as usize) + m[p + 2] as usize

@@ -1,13 +1,13 @@
 //! The search for the next place where `BUFR` stands.
 ghost use Rattle.std.specs.Prelude.{◌≡◌, ◌≢◌, ◌≤◌, ◌<◌, ◌+◌, ◌-◌, ◌^◌, ℕ, List, [], ◌∷◌, ◌++◌, length, take, drop, min, codes, IfOk, IfSome, MatchOption, vec_len, Some, None};
 ghost use Rattle.memchr.specs.Find.{FindsNeedle, IsFirst, OccursAt};
-ghost use Rattle.bufr_frame.specs.Scan.{verdict, stated, stands};
-ghost use Rattle.bufr_frame.specs.Sights.{LooksSo};
+ghost use Rattle.bufr_frame.specs.Scan.{classify, stated_length, has_word_at};
+ghost use Rattle.bufr_frame.specs.Search.{IsSearchResult};
 ghost use Rattle.bufr_frame.specs.Longest.{length_here};
 
 use crate::fault::Cause;
 use crate::least::{SECTION_0, SECTION_5};
-use crate::octets::three_at;
+use crate::octets::u24_from;
 use memchr::memmem;
 
 /// Where octets 5 to 7 of a message stand, which state its length.
@@ -18,7 +18,7 @@ const NEAR: usize = 16;
 
 /// What is at the front of the octets that are left.
 #[derive(Clone, Copy)]
-pub(crate) enum Verdict {
+pub(crate) enum Candidate {
     /// `BUFR` does not stand there.
     Nothing,
     /// `BUFR` stands there, and no message begins with it.
@@ -29,31 +29,31 @@ pub(crate) enum Verdict {
 
 /// The next event of some octets, which is certain.
 #[derive(Clone, Copy)]
-pub(crate) struct Found {
+pub(crate) struct NextEvent {
     /// The place where `BUFR` stands, from 0.
     pub(crate) place: usize,
     /// What is there.
-    pub(crate) here: Verdict,
+    pub(crate) here: Candidate,
     /// The length that is stated there, 0 where its octets are not there.
-    pub(crate) stated: usize,
+    pub(crate) stated_length: usize,
 }
 
 /// A place before which no event is; more octets are needed to tell what is there.
 #[derive(Clone, Copy)]
-pub(crate) struct Wanted {
+pub(crate) struct Incomplete {
     /// The place, from 0.
     pub(crate) place: usize,
     /// The length that is stated there, 0 where none is.
-    pub(crate) stated: usize,
+    pub(crate) stated_length: usize,
 }
 
 /// What the octets at hand show.
 #[derive(Clone, Copy)]
-pub(crate) enum Sight {
+pub(crate) enum SearchResult {
     /// An event.
-    Decided(Found),
+    Found(NextEvent),
     /// More octets are needed to tell.
-    Open(Wanted),
+    NeedsMore(Incomplete),
     /// No event any more.
     End,
 }
@@ -69,10 +69,10 @@ pub(crate) fn behind(s: &[u8], place: usize) -> &[u8]
 /// The length that octets 5 to 7 state.
 pub(crate) fn stated_len(m: &[u8]) -> usize
     requires { 8 ≤ length m.now }
-    ensures value { result ≡ stated m.now }
+    ensures value { result ≡ stated_length m.now }
     ensures most { result < 2 ^ 24 }
 {
-    three_at(m, LENGTH)
+    u24_from(m, LENGTH)
 }
 
 /// The length that octets 5 to 7 state, or 0 where there are not eight octets.
@@ -88,33 +88,33 @@ pub(crate) fn len_here(m: &[u8]) -> usize
 }
 
 /// Whether `BUFR` stands at the front.
-fn begins(m: &[u8]) -> bool
-    ensures { result ≡ stands (codes "BUFR") 0 m.now }
+fn starts_with_bufr(m: &[u8]) -> bool
+    ensures { result ≡ has_word_at (codes "BUFR") 0 m.now }
 {
     m.starts_with(b"BUFR")
 }
 
 /// What is at the front of `m`, behind which nothing comes: the first case that holds counts.
-pub(crate) fn judge(m: &[u8]) -> Verdict
-    ensures { result ≡ verdict m.now }
+pub(crate) fn classify(m: &[u8]) -> Candidate
+    ensures { result ≡ classify m.now }
 {
-    if !begins(m) {
-        return Verdict::Nothing;
+    if !starts_with_bufr(m) {
+        return Candidate::Nothing;
     }
     if m.len() < SECTION_0 {
-        return Verdict::Stray(Cause::Cut);
+        return Candidate::Stray(Cause::Cut);
     }
     let len = stated_len(m);
     if m.len() < len {
-        return Verdict::Stray(Cause::Cut);
+        return Candidate::Stray(Cause::Cut);
     }
     if len < SECTION_0 + SECTION_5 {
-        return Verdict::Stray(Cause::ShortLength);
+        return Candidate::Stray(Cause::ShortLength);
     }
     if !m[len - SECTION_5..].starts_with(b"7777") {
-        return Verdict::Stray(Cause::NoEnd);
+        return Candidate::Stray(Cause::NoEnd);
     }
-    Verdict::Frame
+    Candidate::Frame
 }
 
 /// The first place where `BUFR` stands, among the nearest.
@@ -122,7 +122,7 @@ fn find_near(rest: &[u8]) -> Option<usize>
     ensures { IsFirst (OccursAt rest.now (codes "BUFR")) 0 (min (length rest.now) 16) result }
 {
     'places: for place in 0..rest.len().min(NEAR) {
-        if begins(behind(rest, place)) {
+        if starts_with_bufr(behind(rest, place)) {
             return Some(place);
         }
     }
@@ -145,46 +145,49 @@ fn find_word(word: &memmem::Finder<'_>, rest: &[u8]) -> Option<usize>
 
 /// What `rest` shows, behind which more octets may come unless the end was reached. `word` searches
 /// for `BUFR`.
-pub(crate) fn look(word: &memmem::Finder<'_>, rest: &[u8], ended: bool) -> Sight
+pub(crate) fn find_event(word: &memmem::Finder<'_>, rest: &[u8], ended: bool) -> SearchResult
     requires { word.now ≡ codes "BUFR" }
-    ensures { LooksSo ended rest.now result }
+    ensures { IsSearchResult ended rest.now result }
 {
     match find_word(word, rest) {
         None => {
             if ended {
-                Sight::End
+                SearchResult::End
             } else {
                 // the last three octets may begin a word
-                Sight::Open(Wanted {
+                SearchResult::NeedsMore(Incomplete {
                     place: rest.len() - rest.len().min(3),
-                    stated: 0,
+                    stated_length: 0,
                 })
             }
         }
-        Some(place) => look_at(rest, place, ended),
+        Some(place) => find_event_at(rest, place, ended),
     }
 }
 
 /// The same, where `BUFR` stands first at `place`.
-fn look_at(rest: &[u8], place: usize, ended: bool) -> Sight
+fn find_event_at(rest: &[u8], place: usize, ended: bool) -> SearchResult
     requires { FindsNeedle rest.now (codes "BUFR") 0 (Some place) }
-    ensures { LooksSo ended rest.now result }
+    ensures { IsSearchResult ended rest.now result }
 {
     let m = behind(rest, place);
-    let stated = len_here(m);
+    let stated_length = len_here(m);
     if ended {
-        return Sight::Decided(Found {
+        return SearchResult::Found(NextEvent {
             place,
-            here: judge(m),
-            stated,
+            here: classify(m),
+            stated_length,
         });
     }
-    if m.len() < stated.max(SECTION_0) {
-        return Sight::Open(Wanted { place, stated });
+    if m.len() < stated_length.max(SECTION_0) {
+        return SearchResult::NeedsMore(Incomplete {
+            place,
+            stated_length,
+        });
     }
-    Sight::Decided(Found {
+    SearchResult::Found(NextEvent {
         place,
-        here: judge(m),
-        stated,
+        here: classify(m),
+        stated_length,
     })
 }

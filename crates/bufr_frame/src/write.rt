@@ -3,8 +3,8 @@ ghost use Rattle.std.specs.Prelude.{◌≡◌, ◌≢◌, ◌≤◌, ◌<◌, �
 ghost use Rattle.std.specs.Option.{option_map};
 ghost use Rattle.bufr_frame.specs.Octets.{three_octets, two_octets, octets_of_words};
 ghost use Rattle.bufr_frame.specs.Sections.{sections_of};
-ghost use Rattle.bufr_frame.specs.Layout.{data_flags, even_size, evened, is_writable, message_octets, message_size, most_octets, padded, parts_of, sections_from, head_octets, section0_octets, section1_octets, section2_octets, section3_octets, section4_octets, section2_size, size_from};
-ghost use Rattle.bufr_frame.specs.Section1.{first_least, octets_in, said, slots_3, slots_4};
+ghost use Rattle.bufr_frame.specs.Layout.{data_flags, even_size, with_even_length, is_writable, message_octets, message_size, max_octets, with_pad_octet, parts_of, sections_from, head_octets, section0_octets, section1_octets, section2_octets, section3_octets, section4_octets, section2_size, size_from};
+ghost use Rattle.bufr_frame.specs.Section1.{first_least, is_edition, slot_octets, head_value, slots_3, slots_4};
 
 use crate::edition::Edition;
 use crate::fault::WriteFault;
@@ -16,7 +16,7 @@ use crate::octets::{high, low, three_octets_of};
 use std::alloc::{AllocError, Global};
 
 /// The most octets that a message has, since three octets state its length.
-const MOST_OCTETS: usize = 16_777_215;
+const MAX_OCTETS: usize = 16_777_215;
 
 /// How many octets the message has, where they are not too many.
 fn size_of(
@@ -26,8 +26,9 @@ fn size_of(
     descriptors: &[u16],
     payload: &[u8],
 ) -> Option<usize>
+    requires { IsTrue (is_edition edition) }
     ensures { SomeIff result (size_from edition (length local1.now) (option_map (λ s. s.now)
-        section2.entry) (length descriptors.now) (length payload.now) ≤ most_octets)
+        section2.entry) (length descriptors.now) (length payload.now) ≤ max_octets)
         (size_from edition (length local1.now) (option_map (λ s. s.now) section2.entry)
         (length descriptors.now) (length payload.now)) }
 {
@@ -42,7 +43,7 @@ fn size_of(
         .saturating_add(second)
         .saturating_add(third)
         .saturating_add(fourth);
-    if size > MOST_OCTETS { None } else { Some(size) }
+    if size > MAX_OCTETS { None } else { Some(size) }
 }
 
 /// Appends a number in three octets.
@@ -58,7 +59,7 @@ fn head_octets_3(head: &Head, optional: bool) -> [u8; 14]
     requires centre { head.now.centre ≤ 255 }
     requires subcentre { head.now.subcentre ≤ 255 }
     requires year { head.now.year ≤ 255 }
-    ensures { result ≡ octets_in slots_3 (said head.now optional) }
+    ensures { result ≡ slot_octets slots_3 (head_value head.now optional) }
 {
     [
         head.master,
@@ -80,7 +81,7 @@ fn head_octets_3(head: &Head, optional: bool) -> [u8; 14]
 
 /// Section 1 of edition 4 behind its length.
 fn head_octets_4(head: &Head, optional: bool) -> [u8; 19]
-    ensures { result ≡ octets_in slots_4 (said head.now optional) }
+    ensures { result ≡ slot_octets slots_4 (head_value head.now optional) }
 {
     [
         head.master,
@@ -135,7 +136,7 @@ fn push_section1(
 
 /// Appends the zero octet with which a section is padded, where it is.
 fn push_padding(octets: &mut Vec<u8>, pads: bool) -> Result<(), AllocError>
-    ensures { OnOk result (octets.new.items ≡ padded pads octets.old.items) }
+    ensures { OnOk result (octets.new.items ≡ with_pad_octet pads octets.old.items) }
 {
     if pads {
         octets.push(0)?;
@@ -145,9 +146,9 @@ fn push_padding(octets: &mut Vec<u8>, pads: bool) -> Result<(), AllocError>
 
 /// Appends a section 2 or 4: its length, a reserved octet, these octets, and its padding.
 fn push_plain(octets: &mut Vec<u8>, content: &[u8], pads: bool) -> Result<(), AllocError>
-    requires { 4 + length (padded pads content.now) < 2 ^ 24 }
+    requires { 4 + length (with_pad_octet pads content.now) < 2 ^ 24 }
     ensures { OnOk result
-        (octets.new.items ≡ octets.old.items ++ section4_octets (padded pads content.now)) }
+        (octets.new.items ≡ octets.old.items ++ section4_octets (with_pad_octet pads content.now)) }
 {
     let len = SECTION_4 + content.len();
     push_three(octets, if pads { len + 1 } else { len })?;
@@ -186,9 +187,11 @@ fn push_section3(
     subsets: u16,
     flags: u8,
 ) -> Result<(), AllocError>
-    requires { even_size edition (7 + 2 * length descriptors.now) < 2 ^ 24 }
+    requires known { IsTrue (is_edition edition) }
+    requires short { even_size edition (7 + 2 * length descriptors.now) < 2 ^ 24 }
     ensures { OnOk result (octets.new.items ≡ octets.old.items
-        ++ section3_octets (evened edition 7 (octets_of_words descriptors.now)) subsets flags) }
+        ++ section3_octets (with_even_length edition 7 (octets_of_words descriptors.now)) subsets
+        flags) }
 {
     let len = SECTION_3 + 2 * descriptors.len();
     push_three(octets, even_len(edition, len))?;
@@ -199,9 +202,11 @@ fn push_section3(
 
 /// Appends section 4.
 fn push_section4(octets: &mut Vec<u8>, edition: u8, payload: &[u8]) -> Result<(), AllocError>
-    requires { even_size edition (4 + length payload.now) < 2 ^ 24 }
+    requires known { IsTrue (is_edition edition) }
+    requires short { even_size edition (4 + length payload.now) < 2 ^ 24 }
     ensures { OnOk result
-        (octets.new.items ≡ octets.old.items ++ section4_octets (evened edition 4 payload.now)) }
+        (octets.new.items ≡ octets.old.items
+        ++ section4_octets (with_even_length edition 4 payload.now)) }
 {
     push_plain(
         octets,
@@ -271,7 +276,7 @@ pub fn write_message(
         (parts_of local1.now (option_map (λ s. s.now) section2.entry) descriptors.now subsets
         observed compressed payload.now))) }
     ensures too_long { (result ≡ Err WriteFault.TooLong) ↔
-        (most_octets < message_size head.now.edition
+        (max_octets < message_size head.now.edition
         (parts_of local1.now (option_map (λ s. s.now) section2.entry) descriptors.now subsets
         observed compressed payload.now)) }
 {

@@ -3,7 +3,7 @@ use Rattle.std.proofs.Common.{◌≡◌, ℕ, Bool, List, [], Result, Ok, Err, I
 use Rattle.bufr_tables.specs.declared.template.fault.TemplateFault.{TemplateFault}
 use Rattle.bufr_tables.specs.declared.template.fault.TemplateFault.TheVariants as fault
 use Rattle.bufr_tables.specs.Expansion.{Tables, level, tree_of}
-use Rattle.bufr_tables.specs.Leaves.{Says, leaves}
+use Rattle.bufr_tables.specs.Leaves.{ListsLeaves, leaves}
 use Rattle.bufr_tables.specs.Templates.{IsAnswer}
 use Rattle.bufr_tables.specs.Tree.{Tree}
 use Rattle.bufr_tables.proofs.LeavesLemmas.{tree_says}
@@ -16,7 +16,7 @@ nothing-answered tables = record { is_defined = refl; within = tt; told = λ e. 
 
 -- what a template says that is an answer
 pub record IsFineAnswer (tables : Tables) (list : List ℕ) (answer : Result Tree TemplateFault) : Type 0 where
-  pub says : IfOk answer (λ template. Says tables.members list (leaves template))
+  pub says : IfOk answer (λ template. ListsLeaves tables.members list (leaves template))
   pub fine : IfOk answer (IsFineWhole tables.known)
 
 pub answer_fine : (tables : Tables) (list : List ℕ) (answer : Result Tree TemplateFault) → tree_of tables list ≡ answer → IsFineAnswer tables list answer

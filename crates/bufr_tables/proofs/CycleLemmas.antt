@@ -8,7 +8,7 @@ use Rattle.std.specs.List.{find}
 use borrow.Author.Count.{below_more}
 use Rattle.bufr_tables.specs.Chain.{Chain, HasNoCycle, IsFirstCycle, Leads, ReachesItself, one, more}
 use Rattle.bufr_tables.specs.Cycle.{AreSeen, IsAbove, IsPassed, IsSearched, IsSet, IsVisited, NeverRises, NeverRisesFirst, rank_of, unset}
-use Rattle.bufr_tables.specs.TableD.{Sequence, fxys_of, listed, members_of}
+use Rattle.bufr_tables.specs.TableD.{Sequence, fxys_of, members_or_none, members_of}
 
 -- chains one after another
 pub chain-append : {table : List Sequence} {a b c : ℕ} → Chain table a b → Chain table b c → Chain table a c
@@ -41,27 +41,27 @@ unset-set (flag ∷ flags) (suc x) inside is = omega (arith, unset-set flags x (
 -- a member that is a sequence has a place among the members
 pub record Listed (table : List Sequence) (from to : ℕ) : Type 0 where
   pub place : ℕ
-  pub inside : place < length (listed table from)
-  pub at : slice_index (listed table from) place ≡ to
+  pub inside : place < length (members_or_none table from)
+  pub at : slice_index (members_or_none table from) place ≡ to
   pub sequence : IsSome (members_of table to)
 
 pub listed-leads : (table : List Sequence) (from to : ℕ) → Leads table from to → Listed table from to
 listed-leads table from to l =
-    let same : listed table from ≡ l.members = rw l.has refl in
+    let same : members_or_none table from ≡ l.members = rw l.has refl in
     let (k, inside, at) = l.member in
     record { place = k; inside = rw same inside; at = rw same (get_or_default l.members k 0 to inside ∙ at); sequence = l.sequence }
 
-pub leads-listed : (table : List Sequence) (from k : ℕ) → k < length (listed table from) → IsSome (members_of table (slice_index (listed table from) k))
-    → Leads table from (slice_index (listed table from) k)
+pub leads-listed : (table : List Sequence) (from k : ℕ) → k < length (members_or_none table from) → IsSome (members_of table (slice_index (members_or_none table from) k))
+    → Leads table from (slice_index (members_or_none table from) k)
 leads-listed table from k inside sequence = by (members_of table from) refl
   where
-    by : (o : Option (List ℕ)) → members_of table from ≡ o → Leads table from (slice_index (listed table from) k)
+    by : (o : Option (List ℕ)) → members_of table from ≡ o → Leads table from (slice_index (members_or_none table from) k)
     by None e = absurd (empty (rw e at inside))
       where
         empty : k < length {A = ℕ} [] → ⊥
         empty h = omega arith
     by (Some members) e =
-        let same : listed table from ≡ members = rw e refl in
+        let same : members_or_none table from ≡ members = rw e refl in
         record { members = members; has = e; member = rw same (Contains-get_or members k 0 (rw same at inside)); sequence = sequence }
 
 -- ranks that never rise along a chain
@@ -88,8 +88,8 @@ module _ (table : List Sequence) (fxy : ℕ) (old : List Bool) (queue : List ℕ
   module _ (i : ℕ) (new : List Bool) (longer : List ℕ) (was : IsVisited table fxy i old queue new longer) where
     -- a member was seen, where it is a sequence
     abbrev pub SeenAt : List Bool → ℕ → Type 0
-    SeenAt flags k = k < length (listed table fxy) → IsSome (members_of table (slice_index (listed table fxy) k))
-        → IsSet flags (slice_index (listed table fxy) k)
+    SeenAt flags k = k < length (members_or_none table fxy) → IsSome (members_of table (slice_index (members_or_none table fxy) k))
+        → IsSet flags (slice_index (members_or_none table fxy) k)
 
     -- a member that is no sequence or was seen
     pub visited-pass : SeenAt new i → IsVisited table fxy (i + 1) old queue new longer
@@ -105,7 +105,7 @@ module _ (table : List Sequence) (fxy : ℕ) (old : List Bool) (queue : List ℕ
     }
 
     -- another, which is put behind the queue
-    pub visited-push : (x : ℕ) → x ≡ slice_index (listed table fxy) i → i < length (listed table fxy) → IsSome (members_of table x) → get_or new x false ≡ false → x < length new
+    pub visited-push : (x : ℕ) → x ≡ slice_index (members_or_none table fxy) i → i < length (members_or_none table fxy) → IsSome (members_of table x) → get_or new x false ≡ false → x < length new
         → IsVisited table fxy (i + 1) old queue (set new x true) (longer ++ x ∷ [])
     visited-push x at inside sequence unseen small = record {
       more = was.more ++ x ∷ [];
@@ -131,7 +131,7 @@ module _ (table : List Sequence) (fxy : ℕ) (old : List Bool) (queue : List ℕ
             wider to (inr has) = inr (Contains-append_left was.more (x ∷ []) to has)
 
   -- all members of a sequence
-  pub visited-all : (new : List Bool) (longer : List ℕ) → IsVisited table fxy (length (listed table fxy)) old queue new longer → AreSeen table new fxy
+  pub visited-all : (new : List Bool) (longer : List ℕ) → IsVisited table fxy (length (members_or_none table fxy)) old queue new longer → AreSeen table new fxy
   visited-all new longer v to l =
       let at = listed-leads table fxy to l in
       rw at.at at (v.seen at.place at.inside at.inside (rw at.at at.sequence))
@@ -142,7 +142,7 @@ seen-kept table old new fxy kept seen to l = kept to (seen to l)
 -- the search from a sequence
 module _ (table : List Sequence) (start : ℕ) where
   pub searched-start : (none seen : List Bool) (queue : List ℕ) → length none ≡ 65536 → ((to : ℕ) → IsSet none to → ⊥)
-      → IsVisited table start (length (listed table start)) none [] seen queue → IsSearched table start seen queue 0
+      → IsVisited table start (length (members_or_none table start)) none [] seen queue → IsSearched table start seen queue 0
   searched-start none seen queue size empty v = record {
     flags = v.flags ∙ size;
     inside = omega arith;
@@ -157,7 +157,7 @@ module _ (table : List Sequence) (start : ℕ) where
       queued to (inr has) = rw v.queued has
 
   module _ (old new : List Bool) (queue longer : List ℕ) (next : ℕ) (was : IsSearched table start old queue next) (below : next < length queue)
-      (v : IsVisited table (slice_index queue next) (length (listed table (slice_index queue next))) old queue new longer) where
+      (v : IsVisited table (slice_index queue next) (length (members_or_none table (slice_index queue next))) old queue new longer) where
     next-chain : (to : ℕ) → Contains queue to ⊎ Contains v.more to → Chain table start to
     next-chain to (inl has) = was.chains to has
     next-chain to (inr has) = chain-append (was.chains (slice_index queue next) (Contains-get_or queue next 0 below)) (one (v.leads to has))

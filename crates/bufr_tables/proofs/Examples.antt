@@ -6,8 +6,8 @@ use Rattle.csv.specs.Reading.{records_from, strip_bom}
 use Rattle.csv.specs.Records.{field_at}
 use Rattle.bufr_tables.specs.Chain.{IsFirstCycle, Leads, one, more}
 use Rattle.bufr_tables.specs.Fxy.{fxy_of, fxy_text}
-use Rattle.bufr_tables.specs.Kind.{begins_with, is_words, kind_of, names_table}
-use Rattle.bufr_tables.specs.Number.{fitting, i64_of, integer_of, natural_of}
+use Rattle.bufr_tables.specs.Kind.{begins_with, is_words, kind_of, is_code_table}
+use Rattle.bufr_tables.specs.Number.{if_i64, i64_of, integer_of, natural_of}
 use Rattle.bufr_tables.specs.Records.{records_of}
 use Rattle.bufr_tables.specs.Table.{table_from, table_of}
 use Rattle.bufr_tables.specs.TableB as b
@@ -17,7 +17,7 @@ use Rattle.bufr_tables.specs.declared.kind.Kind.TheVariants.{Character, Coded, N
 
 -- what the examples compute through
 unfoldable on_literals : ⊤
-unfolding next_record records_from strip_bom field_at begins_with is_words kind_of names_table fitting i64_of integer_of natural_of table_from table_of b.element_of b.plain_of b.scale_of b.width_of b.row_of b.with_record d.sequence_of d.member_of d.added d.with_record
+unfolding next_record records_from strip_bom field_at begins_with is_words kind_of is_code_table if_i64 i64_of integer_of natural_of table_from table_of b.element_of b.plain_of b.scale_of b.width_of b.row_of b.with_record_b d.sequence_of d.member_of d.added d.with_record_d
 on_literals = tt
 
 -- descriptors
@@ -119,11 +119,11 @@ second-run : d.table_d_of (records_of (header_d ++ codes "300001,300002\n300002,
 unfolding on_literals
 second-run = refl
 
-row-65536 : d.with_record 65537 [] (codes "300001" ∷ codes "001001" ∷ []) ≡ Ok (record { fxy = 0xC001; members = 0x0101 ∷ [] } ∷ [])
+row-65536 : d.with_record_d 65537 [] (codes "300001" ∷ codes "001001" ∷ []) ≡ Ok (record { fxy = 0xC001; members = 0x0101 ∷ [] } ∷ [])
 unfolding on_literals
 row-65536 = refl
 
-row-65537 : d.with_record 65538 [] (codes "300001" ∷ codes "001001" ∷ []) ≡ Err TableSize
+row-65537 : d.with_record_d 65538 [] (codes "300001" ∷ codes "001001" ∷ []) ≡ Err TableSize
 unfolding on_literals
 row-65537 = refl
 

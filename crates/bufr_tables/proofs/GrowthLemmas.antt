@@ -7,9 +7,9 @@ use Rattle.bufr_tables.specs.declared.template.cell.Cell.TheVariants as cell
 use Rattle.bufr_tables.specs.declared.template.passes.Passes.{Passes}
 use Rattle.bufr_tables.specs.declared.template.passes.Passes.TheVariants as passes
 use Rattle.bufr_tables.specs.Tree.{Tree, bare, join, size, depth, consumes}
-use Rattle.bufr_tables.specs.Cells.{lay}
+use Rattle.bufr_tables.specs.Cells.{cells_of}
 use Rattle.bufr_tables.specs.Passes.{own_places, group_of, first_cell, factor_cells}
-use Rattle.bufr_tables.specs.Growth.{Growth, growth, places_of, grow, begun, ended}
+use Rattle.bufr_tables.specs.Growth.{BuilderModel, growth, places_so_far, push_tree, with_open_group, with_closed_group}
 use Rattle.bufr_tables.proofs.TreeLemmas.{depth-join, consumes-join, or_assoc}
 use Rattle.bufr_tables.proofs.Laying.{length-lay, lay-tail, lay-join}
 
@@ -24,52 +24,52 @@ or_true : (a : Bool) → true ≡ (a || true)
 or_true true = refl
 or_true false = refl
 
-pub length-grow : (g : Growth) (t : Tree) → length (grow g t).cells ≡ length g.cells + size t
-length-grow g t = omega (arith, length-append g.cells (lay t (length g.cells) []), length-lay t (length g.cells) [])
+pub length-grow : (g : BuilderModel) (t : Tree) → length (push_tree g t).cells ≡ length g.cells + size t
+length-grow g t = omega (arith, length-append g.cells (cells_of t (length g.cells) []), length-lay t (length g.cells) [])
 
-pub places_of-grow : (g : Growth) (t : Tree) → places_of (grow g t) ≡ places_of g + size t
+pub places_of-grow : (g : BuilderModel) (t : Tree) → places_so_far (push_tree g t) ≡ places_so_far g + size t
 places_of-grow g t = omega (arith, length-grow g t)
 
-pub grow-bare : (g : Growth) → g.groups ≤ g.deep → g ≡ grow g bare
+pub grow-bare : (g : BuilderModel) → g.groups ≤ g.deep → g ≡ push_tree g bare
 grow-bare g h = same_growth g.cells (g.cells ++ []) g.groups g.groups g.deep (max g.deep (g.groups + 0)) g.full (g.full || false) (sym (append-nil g.cells)) refl (omega arith) (or_false g.full)
 
-pub grow-grow : (g : Growth) (a b : Tree) → grow (grow g a) b ≡ grow g (join a b)
+pub grow-grow : (g : BuilderModel) (a b : Tree) → push_tree (push_tree g a) b ≡ push_tree g (join a b)
 grow-grow g a b =
     let at : ℕ = length g.cells in
-    same_growth (grow (grow g a) b).cells (grow g (join a b)).cells g.groups g.groups (grow (grow g a) b).deep (grow g (join a b)).deep (grow (grow g a) b).full (grow g (join a b)).full
-    (append_assoc g.cells (lay a at []) (lay b (length (grow g a).cells) [])
-    ∙ ap (λ k. g.cells ++ (lay a at [] ++ lay b k [])) (length-grow g a)
-    ∙ ap (λ l. g.cells ++ l) (sym (lay-tail a at (lay b (at + size a) [])) ∙ sym (lay-join a b at [])))
+    same_growth (push_tree (push_tree g a) b).cells (push_tree g (join a b)).cells g.groups g.groups (push_tree (push_tree g a) b).deep (push_tree g (join a b)).deep (push_tree (push_tree g a) b).full (push_tree g (join a b)).full
+    (append_assoc g.cells (cells_of a at []) (cells_of b (length (push_tree g a).cells) [])
+    ∙ ap (λ k. g.cells ++ (cells_of a at [] ++ cells_of b k [])) (length-grow g a)
+    ∙ ap (λ l. g.cells ++ l) (sym (lay-tail a at (cells_of b (at + size a) [])) ∙ sym (lay-join a b at [])))
     refl
     (omega (arith, depth-join a b))
     (sym (or_assoc g.full (consumes a) (consumes b)) ∙ ap (λ c. g.full || c) (sym (consumes-join a b)))
 
 -- the cells of a group, from those that stand when its body is laid out
 group_cells : (cells : List Cell) (p : Passes) (body : Tree) (place : ℕ) → place ≡ length cells
-    → set (((cells ++ first_cell p 0 ∷ factor_cells p) ++ lay body (length (cells ++ first_cell p 0 ∷ factor_cells p)) []) ++ cell.PassEnd ∷ []) place (first_cell p (length cells + own_places p + size body))
-    ≡ cells ++ lay (group_of p body) (length cells) []
+    → set (((cells ++ first_cell p 0 ∷ factor_cells p) ++ cells_of body (length (cells ++ first_cell p 0 ∷ factor_cells p)) []) ++ cell.PassEnd ∷ []) place (first_cell p (length cells + own_places p + size body))
+    ≡ cells ++ cells_of (group_of p body) (length cells) []
 group_cells cells (passes.Fixed count) body place e =
     let at : ℕ = length cells in
     let here : length (cells ++ cell.Fixed count 0 ∷ []) ≡ at + 1 = omega (arith, length-append cells (cell.Fixed count 0 ∷ [])) in
-    ap (λ k. set (((cells ++ cell.Fixed count 0 ∷ []) ++ lay body k []) ++ cell.PassEnd ∷ []) place (cell.Fixed count (at + 2 + size body))) here
-    ∙ ap (λ l. set l place (cell.Fixed count (at + 2 + size body))) (append_assoc (cells ++ cell.Fixed count 0 ∷ []) (lay body (at + 1) []) (cell.PassEnd ∷ []) ∙ append_assoc cells (cell.Fixed count 0 ∷ []) (lay body (at + 1) [] ++ cell.PassEnd ∷ []))
-    ∙ ap (λ k. set (cells ++ cell.Fixed count 0 ∷ (lay body (at + 1) [] ++ cell.PassEnd ∷ [])) k (cell.Fixed count (at + 2 + size body))) e
-    ∙ set-append_seam cells (cell.Fixed count 0) (lay body (at + 1) [] ++ cell.PassEnd ∷ []) (cell.Fixed count (at + 2 + size body))
+    ap (λ k. set (((cells ++ cell.Fixed count 0 ∷ []) ++ cells_of body k []) ++ cell.PassEnd ∷ []) place (cell.Fixed count (at + 2 + size body))) here
+    ∙ ap (λ l. set l place (cell.Fixed count (at + 2 + size body))) (append_assoc (cells ++ cell.Fixed count 0 ∷ []) (cells_of body (at + 1) []) (cell.PassEnd ∷ []) ∙ append_assoc cells (cell.Fixed count 0 ∷ []) (cells_of body (at + 1) [] ++ cell.PassEnd ∷ []))
+    ∙ ap (λ k. set (cells ++ cell.Fixed count 0 ∷ (cells_of body (at + 1) [] ++ cell.PassEnd ∷ [])) k (cell.Fixed count (at + 2 + size body))) e
+    ∙ set-append_seam cells (cell.Fixed count 0) (cells_of body (at + 1) [] ++ cell.PassEnd ∷ []) (cell.Fixed count (at + 2 + size body))
     ∙ ap (λ l. cells ++ cell.Fixed count (at + 2 + size body) ∷ l) (sym (lay-tail body (at + 1) (cell.PassEnd ∷ [])))
 group_cells cells (passes.Delayed factor) body place e =
     let at : ℕ = length cells in
     let here : length (cells ++ cell.Delayed 0 ∷ cell.Factor factor ∷ []) ≡ at + 2 = omega (arith, length-append cells (cell.Delayed 0 ∷ cell.Factor factor ∷ [])) in
-    ap (λ k. set (((cells ++ cell.Delayed 0 ∷ cell.Factor factor ∷ []) ++ lay body k []) ++ cell.PassEnd ∷ []) place (cell.Delayed (at + 3 + size body))) here
-    ∙ ap (λ l. set l place (cell.Delayed (at + 3 + size body))) (append_assoc (cells ++ cell.Delayed 0 ∷ cell.Factor factor ∷ []) (lay body (at + 2) []) (cell.PassEnd ∷ []) ∙ append_assoc cells (cell.Delayed 0 ∷ cell.Factor factor ∷ []) (lay body (at + 2) [] ++ cell.PassEnd ∷ []))
-    ∙ ap (λ k. set (cells ++ cell.Delayed 0 ∷ cell.Factor factor ∷ (lay body (at + 2) [] ++ cell.PassEnd ∷ [])) k (cell.Delayed (at + 3 + size body))) e
-    ∙ set-append_seam cells (cell.Delayed 0) (cell.Factor factor ∷ (lay body (at + 2) [] ++ cell.PassEnd ∷ [])) (cell.Delayed (at + 3 + size body))
+    ap (λ k. set (((cells ++ cell.Delayed 0 ∷ cell.Factor factor ∷ []) ++ cells_of body k []) ++ cell.PassEnd ∷ []) place (cell.Delayed (at + 3 + size body))) here
+    ∙ ap (λ l. set l place (cell.Delayed (at + 3 + size body))) (append_assoc (cells ++ cell.Delayed 0 ∷ cell.Factor factor ∷ []) (cells_of body (at + 2) []) (cell.PassEnd ∷ []) ∙ append_assoc cells (cell.Delayed 0 ∷ cell.Factor factor ∷ []) (cells_of body (at + 2) [] ++ cell.PassEnd ∷ []))
+    ∙ ap (λ k. set (cells ++ cell.Delayed 0 ∷ cell.Factor factor ∷ (cells_of body (at + 2) [] ++ cell.PassEnd ∷ [])) k (cell.Delayed (at + 3 + size body))) e
+    ∙ set-append_seam cells (cell.Delayed 0) (cell.Factor factor ∷ (cells_of body (at + 2) [] ++ cell.PassEnd ∷ [])) (cell.Delayed (at + 3 + size body))
     ∙ ap (λ l. cells ++ cell.Delayed (at + 3 + size body) ∷ cell.Factor factor ∷ l) (sym (lay-tail body (at + 2) (cell.PassEnd ∷ [])))
 
-pub length-begun : (g : Growth) (p : Passes) → length (begun g p).cells + 1 ≡ length g.cells + own_places p
+pub length-begun : (g : BuilderModel) (p : Passes) → length (with_open_group g p).cells + 1 ≡ length g.cells + own_places p
 length-begun g (passes.Fixed count) = omega (arith, length-append g.cells (cell.Fixed count 0 ∷ []))
 length-begun g (passes.Delayed factor) = omega (arith, length-append g.cells (cell.Delayed 0 ∷ cell.Factor factor ∷ []))
 
-pub places_of-begun : (g : Growth) (p : Passes) → places_of (begun g p) ≡ places_of g + own_places p
+pub places_of-begun : (g : BuilderModel) (p : Passes) → places_so_far (with_open_group g p) ≡ places_so_far g + own_places p
 places_of-begun g p = omega (arith, length-begun g p)
 
 group_depth : (p : Passes) (body : Tree) → depth (group_of p body) ≡ 1 + depth body
@@ -81,10 +81,10 @@ group_consumes (passes.Fixed count) body h = sym h ∙ or_false (consumes body)
 group_consumes (passes.Delayed factor) body h = refl
 
 -- a group that was begun, given a body that takes bits, and ended
-pub ended-begun : (g : Growth) (p : Passes) (body : Tree) (place : ℕ) → place ≡ length g.cells → consumes body ≡ true → ended (grow (begun g p) body) place p ≡ grow g (group_of p body)
+pub ended-begun : (g : BuilderModel) (p : Passes) (body : Tree) (place : ℕ) → place ≡ length g.cells → consumes body ≡ true → with_closed_group (push_tree (with_open_group g p) body) place p ≡ push_tree g (group_of p body)
 ended-begun g p body place e full =
-    same_growth (ended (grow (begun g p) body) place p).cells (grow g (group_of p body)).cells (ended (grow (begun g p) body) place p).groups g.groups (ended (grow (begun g p) body) place p).deep (grow g (group_of p body)).deep (ended (grow (begun g p) body) place p).full (grow g (group_of p body)).full
-    (ap (λ k. set ((grow (begun g p) body).cells ++ cell.PassEnd ∷ []) place (first_cell p k)) (let n : length (grow (begun g p) body).cells + 1 ≡ length g.cells + own_places p + size body = omega (arith, length-grow (begun g p) body, length-begun g p) in n)
+    same_growth (with_closed_group (push_tree (with_open_group g p) body) place p).cells (push_tree g (group_of p body)).cells (with_closed_group (push_tree (with_open_group g p) body) place p).groups g.groups (with_closed_group (push_tree (with_open_group g p) body) place p).deep (push_tree g (group_of p body)).deep (with_closed_group (push_tree (with_open_group g p) body) place p).full (push_tree g (group_of p body)).full
+    (ap (λ k. set ((push_tree (with_open_group g p) body).cells ++ cell.PassEnd ∷ []) place (first_cell p k)) (let n : length (push_tree (with_open_group g p) body).cells + 1 ≡ length g.cells + own_places p + size body = omega (arith, length-grow (with_open_group g p) body, length-begun g p) in n)
     ∙ group_cells g.cells p body place e)
     (omega arith)
     (omega (arith, group_depth p body))

@@ -6,9 +6,9 @@ use Rattle.std.proofs.lemmas.Bool.{eqb-true}
 use Rattle.std.proofs.lemmas.List.{take-append-le, drop-append-le, length-drop, map-append}
 use Rattle.bufr_tables.specs.Directory.{place_of}
 use Rattle.bufr_tables.proofs.DirectoryLemmas.{find-absent, find-found, find-passes, place-absent}
-use Rattle.bufr_tables.specs.Entry.{row_with}
+use Rattle.bufr_tables.specs.Entry.{row_of_entry}
 use Rattle.bufr_tables.specs.Fxy.{f_of, key_of}
-use Rattle.bufr_tables.specs.Kept.{Grows, IsInside, IsStored, row_kept, rows_kept}
+use Rattle.bufr_tables.specs.Kept.{ExtendsBlock, IsRowInside, IsStored, row_kept, rows_kept}
 use Rattle.bufr_tables.specs.TableB.{Row, entry_of}
 use Rattle.bufr_tables.specs.declared.table_b.Entry.{Entry}
 use Rattle.bufr_tables.specs.declared.table_b.Stored.{Stored}
@@ -46,7 +46,7 @@ pub range-append : (xs ys : List ℕ) (i j : ℕ) → i ≤ j → j ≤ length x
 range-append xs ys i j before inside =
     rw (drop-append-le i xs ys (omega arith), take-append-le (j - i) (drop i xs) ys (omega (arith, length-drop i xs))) refl
 
-pub rows_kept-append : (octets more : List ℕ) (stored : List Stored) → AllByRecursion (IsInside (length octets)) stored → rows_kept (octets ++ more) stored ≡ rows_kept octets stored
+pub rows_kept-append : (octets more : List ℕ) (stored : List Stored) → AllByRecursion (IsRowInside (length octets)) stored → rows_kept (octets ++ more) stored ≡ rows_kept octets stored
 rows_kept-append octets more [] inside = refl
 rows_kept-append octets more (s ∷ stored) inside =
     let name = range-append octets more s.start s.middle inside.0.0 (omega (arith, inside.0.1, inside.0.2)) in
@@ -54,7 +54,7 @@ rows_kept-append octets more (s ∷ stored) inside =
     let rest = rows_kept-append octets more stored inside.1 in
     cc
 
-pub inside-more : (n m : ℕ) (stored : List Stored) → n ≤ m → AllByRecursion (IsInside n) stored → AllByRecursion (IsInside m) stored
+pub inside-more : (n m : ℕ) (stored : List Stored) → n ≤ m → AllByRecursion (IsRowInside n) stored → AllByRecursion (IsRowInside m) stored
 inside-more n m [] more inside = tt
 inside-more n m (s ∷ stored) more inside = ((inside.0.0, inside.0.1, omega (arith, inside.0.2)), inside-more n m stored more inside.1)
 
@@ -78,18 +78,18 @@ entry-not_element octets stored fxy elements other = entry-other octets stored f
 
 -- the row that is found is that of the element at its place
 pub entry-row : (octets : List ℕ) (stored : List Stored) (fxy place : ℕ) (s : Stored) (entry : Entry) → place_of (fxys_of stored) fxy ≡ Some place
-    → s ≡ get_or stored place s → row_with s.fxy entry ≡ row_kept octets s → Some (row_with fxy entry) ≡ entry_of (rows_kept octets stored) fxy
+    → s ≡ get_or stored place s → row_of_entry s.fxy entry ≡ row_kept octets s → Some (row_of_entry fxy entry) ≡ entry_of (rows_kept octets stored) fxy
 entry-row octets stored fxy place s entry found at is =
     let row : entry_of (rows_kept octets stored) fxy ≡ Some (row_kept octets s) = rw (← at) at (entry-found octets stored fxy place s found) in
     let same : s.fxy ≡ fxy = entry-fxy (rows_kept octets stored) fxy (row_kept octets s) row in
     rw (row, ← is, same) refl
 
 -- the rows with one more element
-pub rows_kept-push : (old new : List ℕ) (stored : List Stored) (s : Stored) (fxy : ℕ) (entry : Entry) → AllByRecursion (IsInside (length old)) stored → Grows old new
-    → IsStored new fxy entry s → rows_kept new (stored ++ s ∷ []) ≡ rows_kept old stored ++ row_with fxy entry ∷ []
+pub rows_kept-push : (old new : List ℕ) (stored : List Stored) (s : Stored) (fxy : ℕ) (entry : Entry) → AllByRecursion (IsRowInside (length old)) stored → ExtendsBlock old new
+    → IsStored new fxy entry s → rows_kept new (stored ++ s ∷ []) ≡ rows_kept old stored ++ row_of_entry fxy entry ∷ []
 rows_kept-push old new stored s fxy entry inside grows is =
     map-append (row_kept new) stored (s ∷ [])
-    ∙ rw (is.row, grows.1) (ap (λ (rows : List Row). rows ++ row_with fxy entry ∷ []) (rows_kept-append old grows.0 stored inside))
+    ∙ rw (is.row, grows.1) (ap (λ (rows : List Row). rows ++ row_of_entry fxy entry ∷ []) (rows_kept-append old grows.0 stored inside))
 
-pub inside-grown : (old new : List ℕ) (stored : List Stored) → AllByRecursion (IsInside (length old)) stored → Grows old new → AllByRecursion (IsInside (length new)) stored
+pub inside-grown : (old new : List ℕ) (stored : List Stored) → AllByRecursion (IsRowInside (length old)) stored → ExtendsBlock old new → AllByRecursion (IsRowInside (length new)) stored
 inside-grown old new stored inside grows = inside-more (length old) (length new) stored (rw grows.1 (omega (arith, length-append old grows.0))) inside

@@ -4,70 +4,70 @@ use Rattle.bufr_tables.specs.declared.template.cell.Cell.{Cell}
 use Rattle.bufr_tables.specs.declared.template.cell.Cell.TheVariants as cell
 use Rattle.bufr_tables.specs.Tree.{Tree, bare, element, operator, fixed, delayed, join, size, places}
 use Rattle.bufr_tables.specs.TreeCode.{first_tree}
-use Rattle.bufr_tables.specs.Cells.{lay, factor_first, placed, read_cells, raised, IsLaid, IsKept}
+use Rattle.bufr_tables.specs.Cells.{cells_of, factor_first, prepend_cell, read_cells, trees_of_cells, AreCellsOf, IsTemplate}
 use Rattle.bufr_tables.proofs.TreeLemmas.{join-bare}
 
-read_lay : (t : Tree) (at : ℕ) (tail : List Cell) (x : Tree) (xs : List Tree) → read_cells tail ≡ x ∷ xs → read_cells (lay t at tail) ≡ join t x ∷ xs
+read_lay : (t : Tree) (at : ℕ) (tail : List Cell) (x : Tree) (xs : List Tree) → read_cells tail ≡ x ∷ xs → read_cells (cells_of t at tail) ≡ join t x ∷ xs
 read_lay bare at tail x xs h = h
-read_lay (element fxy more) at tail x xs h = ap (placed (cell.Element fxy) (factor_first (lay more (at + 1) tail))) (read_lay more (at + 1) tail x xs h)
-read_lay (operator fxy more) at tail x xs h = ap (placed (cell.Operator fxy) (factor_first (lay more (at + 1) tail))) (read_lay more (at + 1) tail x xs h)
+read_lay (element fxy more) at tail x xs h = ap (prepend_cell (cell.Element fxy) (factor_first (cells_of more (at + 1) tail))) (read_lay more (at + 1) tail x xs h)
+read_lay (operator fxy more) at tail x xs h = ap (prepend_cell (cell.Operator fxy) (factor_first (cells_of more (at + 1) tail))) (read_lay more (at + 1) tail x xs h)
 read_lay (fixed n body more) at tail x xs h =
-    let behind : List Cell = cell.PassEnd ∷ lay more (at + 2 + size body) tail in
-    ap (placed (cell.Fixed n (at + 2 + size body)) (factor_first (lay body (at + 1) behind))) (read_lay body (at + 1) behind bare (join more x ∷ xs) (ap (λ ts. bare ∷ ts) (read_lay more (at + 2 + size body) tail x xs h)))
+    let behind : List Cell = cell.PassEnd ∷ cells_of more (at + 2 + size body) tail in
+    ap (prepend_cell (cell.Fixed n (at + 2 + size body)) (factor_first (cells_of body (at + 1) behind))) (read_lay body (at + 1) behind bare (join more x ∷ xs) (ap (λ ts. bare ∷ ts) (read_lay more (at + 2 + size body) tail x xs h)))
     ∙ ap (λ b. fixed n b (join more x) ∷ xs) (join-bare body)
 read_lay (delayed fxy body more) at tail x xs h =
-    let behind : List Cell = cell.PassEnd ∷ lay more (at + 3 + size body) tail in
-    ap (placed (cell.Delayed (at + 3 + size body)) fxy) (read_lay body (at + 2) behind bare (join more x ∷ xs) (ap (λ ts. bare ∷ ts) (read_lay more (at + 3 + size body) tail x xs h)))
+    let behind : List Cell = cell.PassEnd ∷ cells_of more (at + 3 + size body) tail in
+    ap (prepend_cell (cell.Delayed (at + 3 + size body)) fxy) (read_lay body (at + 2) behind bare (join more x ∷ xs) (ap (λ ts. bare ∷ ts) (read_lay more (at + 3 + size body) tail x xs h)))
     ∙ ap (λ b. delayed fxy b (join more x) ∷ xs) (join-bare body)
 
-pub raised_lay : (t : Tree) → raised (lay t 0 (cell.Finish ∷ [])) ≡ t
+pub raised_lay : (t : Tree) → trees_of_cells (cells_of t 0 (cell.Finish ∷ [])) ≡ t
 raised_lay t = ap first_tree (read_lay t 0 (cell.Finish ∷ []) bare [] refl) ∙ join-bare t
 
-pub raised_laid : (cells : List Cell) (t : Tree) → IsLaid cells t → raised cells ≡ t
-raised_laid cells t h = ap raised h.laid ∙ raised_lay t
+pub raised_laid : (cells : List Cell) (t : Tree) → AreCellsOf cells t → trees_of_cells cells ≡ t
+raised_laid cells t h = ap trees_of_cells h.laid ∙ raised_lay t
 
-pub kept_raised : (cells : List Cell) (depth_told : ℕ) (t : Tree) → IsKept cells depth_told t → IsKept cells depth_told (raised cells)
-kept_raised cells depth_told t h = subst (IsKept cells depth_told) (sym (raised_laid cells t h.is_laid)) h
+pub kept_raised : (cells : List Cell) (depth_told : ℕ) (t : Tree) → IsTemplate cells depth_told t → IsTemplate cells depth_told (trees_of_cells cells)
+kept_raised cells depth_told t h = subst (IsTemplate cells depth_told) (sym (raised_laid cells t h.is_laid)) h
 
-pub length-lay : (t : Tree) (at : ℕ) (tail : List Cell) → length (lay t at tail) ≡ size t + length tail
+pub length-lay : (t : Tree) (at : ℕ) (tail : List Cell) → length (cells_of t at tail) ≡ size t + length tail
 length-lay bare at tail = omega arith
 length-lay (element fxy more) at tail = omega (arith, length-lay more (at + 1) tail)
 length-lay (operator fxy more) at tail = omega (arith, length-lay more (at + 1) tail)
 length-lay (fixed n body more) at tail =
-    omega (arith, length-lay body (at + 1) (cell.PassEnd ∷ lay more (at + 2 + size body) tail), length-lay more (at + 2 + size body) tail)
+    omega (arith, length-lay body (at + 1) (cell.PassEnd ∷ cells_of more (at + 2 + size body) tail), length-lay more (at + 2 + size body) tail)
 length-lay (delayed fxy body more) at tail =
-    omega (arith, length-lay body (at + 2) (cell.PassEnd ∷ lay more (at + 3 + size body) tail), length-lay more (at + 3 + size body) tail)
+    omega (arith, length-lay body (at + 2) (cell.PassEnd ∷ cells_of more (at + 3 + size body) tail), length-lay more (at + 3 + size body) tail)
 
-pub length-laid : (cells : List Cell) (t : Tree) → IsLaid cells t → length cells ≡ places t
+pub length-laid : (cells : List Cell) (t : Tree) → AreCellsOf cells t → length cells ≡ places t
 length-laid cells t h = omega (arith, ap length h.laid, length-lay t 0 (cell.Finish ∷ []))
 
-pub length-kept : (cells : List Cell) (depth_told : ℕ) (t : Tree) → IsKept cells depth_told t → length cells ≡ places t
+pub length-kept : (cells : List Cell) (depth_told : ℕ) (t : Tree) → IsTemplate cells depth_told t → length cells ≡ places t
 length-kept cells depth_told t h = length-laid cells t h.is_laid
 
 -- a body, then the rest, then the tail
-lay_group : (body : Tree) (at : ℕ) (rest tail behind : List Cell) → ((t : List Cell) → lay body at t ≡ lay body at [] ++ t) → behind ≡ rest ++ tail → lay body at (cell.PassEnd ∷ behind) ≡ lay body at (cell.PassEnd ∷ rest) ++ tail
+lay_group : (body : Tree) (at : ℕ) (rest tail behind : List Cell) → ((t : List Cell) → cells_of body at t ≡ cells_of body at [] ++ t) → behind ≡ rest ++ tail → cells_of body at (cell.PassEnd ∷ behind) ≡ cells_of body at (cell.PassEnd ∷ rest) ++ tail
 lay_group body at rest tail behind h e =
-    h (cell.PassEnd ∷ behind) ∙ ap (λ l. lay body at [] ++ (cell.PassEnd ∷ l)) e ∙ sym (append_assoc (lay body at []) (cell.PassEnd ∷ rest) tail)
+    h (cell.PassEnd ∷ behind) ∙ ap (λ l. cells_of body at [] ++ (cell.PassEnd ∷ l)) e ∙ sym (append_assoc (cells_of body at []) (cell.PassEnd ∷ rest) tail)
     ∙ ap (λ l. l ++ tail) (sym (h (cell.PassEnd ∷ rest)))
 
-pub lay-tail : (t : Tree) (at : ℕ) (tail : List Cell) → lay t at tail ≡ lay t at [] ++ tail
+pub lay-tail : (t : Tree) (at : ℕ) (tail : List Cell) → cells_of t at tail ≡ cells_of t at [] ++ tail
 lay-tail bare at tail = refl
 lay-tail (element fxy more) at tail = ap (λ l. cell.Element fxy ∷ l) (lay-tail more (at + 1) tail)
 lay-tail (operator fxy more) at tail = ap (λ l. cell.Operator fxy ∷ l) (lay-tail more (at + 1) tail)
 lay-tail (fixed n body more) at tail =
     ap (λ l. cell.Fixed n (at + 2 + size body) ∷ l)
-    (lay_group body (at + 1) (lay more (at + 2 + size body) []) tail (lay more (at + 2 + size body) tail) (lay-tail body (at + 1)) (lay-tail more (at + 2 + size body) tail))
+    (lay_group body (at + 1) (cells_of more (at + 2 + size body) []) tail (cells_of more (at + 2 + size body) tail) (lay-tail body (at + 1)) (lay-tail more (at + 2 + size body) tail))
 lay-tail (delayed fxy body more) at tail =
     ap (λ l. cell.Delayed (at + 3 + size body) ∷ cell.Factor fxy ∷ l)
-    (lay_group body (at + 2) (lay more (at + 3 + size body) []) tail (lay more (at + 3 + size body) tail) (lay-tail body (at + 2)) (lay-tail more (at + 3 + size body) tail))
+    (lay_group body (at + 2) (cells_of more (at + 3 + size body) []) tail (cells_of more (at + 3 + size body) tail) (lay-tail body (at + 2)) (lay-tail more (at + 3 + size body) tail))
 
-pub lay-join : (a b : Tree) (at : ℕ) (tail : List Cell) → lay (join a b) at tail ≡ lay a at (lay b (at + size a) tail)
-lay-join bare b at tail = ap (λ k. lay b k tail) (omega arith)
-lay-join (element fxy more) b at tail = ap (λ l. cell.Element fxy ∷ l) (lay-join more b (at + 1) tail ∙ ap (λ k. lay more (at + 1) (lay b k tail)) (omega arith))
-lay-join (operator fxy more) b at tail = ap (λ l. cell.Operator fxy ∷ l) (lay-join more b (at + 1) tail ∙ ap (λ k. lay more (at + 1) (lay b k tail)) (omega arith))
+pub lay-join : (a b : Tree) (at : ℕ) (tail : List Cell) → cells_of (join a b) at tail ≡ cells_of a at (cells_of b (at + size a) tail)
+lay-join bare b at tail = ap (λ k. cells_of b k tail) (omega arith)
+lay-join (element fxy more) b at tail = ap (λ l. cell.Element fxy ∷ l) (lay-join more b (at + 1) tail ∙ ap (λ k. cells_of more (at + 1) (cells_of b k tail)) (omega arith))
+lay-join (operator fxy more) b at tail = ap (λ l. cell.Operator fxy ∷ l) (lay-join more b (at + 1) tail ∙ ap (λ k. cells_of more (at + 1) (cells_of b k tail)) (omega arith))
 lay-join (fixed n body more) b at tail =
-    ap (λ l. cell.Fixed n (at + 2 + size body) ∷ lay body (at + 1) (cell.PassEnd ∷ l))
-    (lay-join more b (at + 2 + size body) tail ∙ ap (λ k. lay more (at + 2 + size body) (lay b k tail)) (omega arith))
+    ap (λ l. cell.Fixed n (at + 2 + size body) ∷ cells_of body (at + 1) (cell.PassEnd ∷ l))
+    (lay-join more b (at + 2 + size body) tail ∙ ap (λ k. cells_of more (at + 2 + size body) (cells_of b k tail)) (omega arith))
 lay-join (delayed fxy body more) b at tail =
-    ap (λ l. cell.Delayed (at + 3 + size body) ∷ cell.Factor fxy ∷ lay body (at + 2) (cell.PassEnd ∷ l))
-    (lay-join more b (at + 3 + size body) tail ∙ ap (λ k. lay more (at + 3 + size body) (lay b k tail)) (omega arith))
+    ap (λ l. cell.Delayed (at + 3 + size body) ∷ cell.Factor fxy ∷ cells_of body (at + 2) (cell.PassEnd ∷ l))
+    (lay-join more b (at + 3 + size body) tail ∙ ap (λ k. cells_of more (at + 3 + size body) (cells_of b k tail)) (omega arith))

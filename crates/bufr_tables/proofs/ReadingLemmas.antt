@@ -152,7 +152,7 @@ stripped-count (a ∷ b ∷ c ∷ rest) m h = by (is_bom a b c)
 
 -- behind the start of a text the reader reads from its buffer
 pending-is : (reader : Reader (Bor (List ℕ))) → reader.bom_checked ≡ true → text_left reader ≡ pending_of (Some reader.rdr.now) reader
-pending-is reader begun = rw begun refl
+pending-is reader with_open_group = rw with_open_group refl
 
 -- what a read does that found a record
 module _ (old new : RecordReader) (was : IsBetween old) (read : ReadRecord (λ s. Some s.now) old.reader new.reader true (record_given new)) where

@@ -8,21 +8,21 @@ use Rattle.bufr_tables.specs.Number.{i64_of}
 use Rattle.bufr_tables.specs.Records.{Record, field_of}
 use Rattle.bufr_tables.specs.Steps.{only_if}
 use Rattle.bufr_tables.specs.declared.kind.Kind.{Kind}
-use Rattle.bufr_tables.specs.Entry.{row_with}
+use Rattle.bufr_tables.specs.Entry.{row_of_entry}
 use Rattle.bufr_tables.specs.declared.table_b.Entry.{Entry}
-use Rattle.bufr_tables.specs.Kept.{Grows, IsInside, rows_kept}
+use Rattle.bufr_tables.specs.Kept.{ExtendsBlock, IsRowInside, rows_kept}
 use Rattle.bufr_tables.specs.declared.table_b.Stored.{Stored}
 use Rattle.bufr_tables.proofs.KeptLemmas.{rows_kept-append}
-use Rattle.bufr_tables.specs.TableB.{IsRow, Row, allows_scale, allows_width, element_of, entry_of, is_plain, natural_part, plain_of, row_of, scale_of, width_of}
+use Rattle.bufr_tables.specs.TableB.{IsRow, Row, allows_scale, allows_width, element_of, entry_of, is_name, natural_part, plain_of, row_of, scale_of, width_of}
 
 -- a test that was passed, and the value behind it
 passed : {A P : Type 0} (test : Bool) (x y : A) → only_if test x ≡ Some y → (test ≡ true → x ≡ y → P) → P
 passed true x y is go = go refl (cc is)
 passed false x y is go = absurd (cc is)
 
-name-plain : (text name : List ℕ) → plain_of text ≡ Some name → is_plain name ≡ true
+name-plain : (text name : List ℕ) → plain_of text ≡ Some name → is_name name ≡ true
 unfolding plain_of
-name-plain text name is = passed _ text name is (λ test same. subst (λ t. is_plain t ≡ true) same test)
+name-plain text name is = passed _ text name is (λ test same. subst (λ t. is_name t ≡ true) same test)
 
 scale-allowed : (text : List ℕ) (scale : ℤ) → scale_of text ≡ Some scale → allows_scale scale ≡ true
 unfolding scale_of
@@ -55,9 +55,9 @@ row-limits r row is =
       factor = test;
     }))))))))
 
-pub written-limits : (r : Record) (o : Option (ℕ × Entry)) → option_map (λ p. row_with p.0 p.1) o ≡ row_of r → IfSome o (λ p. IsRow (row_with p.0 p.1))
+pub written-limits : (r : Record) (o : Option (ℕ × Entry)) → option_map (λ p. row_of_entry p.0 p.1) o ≡ row_of r → IfSome o (λ p. IsRow (row_of_entry p.0 p.1))
 written-limits r None is = tt
-written-limits r (Some p) is = row-limits r (row_with p.0 p.1) (sym is)
+written-limits r (Some p) is = row-limits r (row_of_entry p.0 p.1) (sym is)
 
 -- one row more within the limits
 pub rows-push : (rows : List Row) (row : Row) → AllByRecursion IsRow rows → IsRow row → AllByRecursion IsRow (rows ++ row ∷ [])
@@ -65,7 +65,7 @@ rows-push [] row all here = (here, tt)
 rows-push (first ∷ rows) row all here = (all.0, rows-push rows row all.1 here)
 
 -- octets behind the block leave the rows within the limits
-pub limits-grown : (old new : List ℕ) (stored : List Stored) → AllByRecursion (IsInside (length old)) stored → Grows old new → AllByRecursion IsRow (rows_kept old stored) → AllByRecursion IsRow (rows_kept new stored)
+pub limits-grown : (old new : List ℕ) (stored : List Stored) → AllByRecursion (IsRowInside (length old)) stored → ExtendsBlock old new → AllByRecursion IsRow (rows_kept old stored) → AllByRecursion IsRow (rows_kept new stored)
 limits-grown old new stored inside grows all = rw (grows.1, rows_kept-append old grows.0 stored inside) all
 
 -- the row that is found is one of them

@@ -8,7 +8,7 @@ use Rattle.bufr_tables.proofs.DirectoryLemmas.{distinct-added, distinct-none, pl
 use Rattle.bufr_tables.specs.Records.{Record}
 use Rattle.bufr_tables.specs.Steps.{and_then}
 use Rattle.bufr_tables.specs.Table.{has_fields, table_from, table_of}
-use Rattle.bufr_tables.specs.TableD.{AreSequences, Member, Sequence, added, begins_again, extended, fxys_of, header, is_last, listed, member_of, members_in, members_of, table_d_of, with_member, with_record}
+use Rattle.bufr_tables.specs.TableD.{AreSequences, Member, Sequence, added, begins_again, extended, fxys_of, columns_d, is_last, members_or_none, member_of, members_in, members_of, table_d_of, with_member, with_record_d}
 use Rattle.bufr_tables.specs.declared.fault.TableFault.{TableFault}
 use Rattle.bufr_tables.specs.declared.fault.TableFault.TheVariants.{Csv, Duplicate, Header, TableSize}
 
@@ -36,7 +36,7 @@ lacks s table fxy absent = by (s.fxy == fxy) refl absent
 
 -- a sequence behind a table that lacks it
 begun-listed : (table : List Sequence) (new : Sequence) (fxy : ℕ) → members_of table new.fxy ≡ None
-    → listed (table ++ new ∷ []) fxy ≡ listed table fxy ++ only new.fxy new.members fxy
+    → members_or_none (table ++ new ∷ []) fxy ≡ members_or_none table fxy ++ only new.fxy new.members fxy
 begun-listed [] new fxy absent = by (new.fxy == fxy)
   where
     by : (b : Bool) → unwrap_or (option_map (λ (q : Sequence). q.members) (cond b (Some new) None)) [] ≡ [] ++ (if b then new.members else [])
@@ -46,7 +46,7 @@ begun-listed (s ∷ table) new fxy absent =
     let parts = lacks s table new.fxy absent in
     by (s.fxy == fxy) refl parts.first (begun-listed table new fxy parts.rest)
   where
-    by : (b : Bool) → (s.fxy == fxy) ≡ b → (s.fxy == new.fxy) ≡ false → listed (table ++ new ∷ []) fxy ≡ listed table fxy ++ only new.fxy new.members fxy
+    by : (b : Bool) → (s.fxy == fxy) ≡ b → (s.fxy == new.fxy) ≡ false → members_or_none (table ++ new ∷ []) fxy ≡ members_or_none table fxy ++ only new.fxy new.members fxy
         → unwrap_or (option_map (λ (q : Sequence). q.members) (cond b (Some s) (find (λ q. q.fxy == fxy) (table ++ new ∷ [])))) []
         ≡ unwrap_or (option_map (λ (q : Sequence). q.members) (cond b (Some s) (find (λ q. q.fxy == fxy) table))) [] ++ only new.fxy new.members fxy
     by true e other on =
@@ -62,7 +62,7 @@ last-differs (s ∷ t ∷ table) fxy sequence last apart = last-differs (t ∷ t
 
 -- one member more of the last sequence
 extended-listed : (table : List Sequence) (sequence member fxy : ℕ) → is_last table sequence ≡ true → IsDistinct nat_eq (fxys_of table)
-    → listed (extended table member) fxy ≡ listed table fxy ++ only sequence (member ∷ []) fxy
+    → members_or_none (extended table member) fxy ≡ members_or_none table fxy ++ only sequence (member ∷ []) fxy
 unfolding IsDistinct
 extended-listed [] sequence member fxy last distinct = cc last
 extended-listed (s ∷ []) sequence member fxy last distinct = rw (← eqb-true s.fxy sequence last) (by (s.fxy == fxy))
@@ -75,7 +75,7 @@ extended-listed (s ∷ t ∷ table) sequence member fxy last distinct =
     by (s.fxy == fxy) refl (last-differs (t ∷ table) s.fxy sequence last distinct.0) (extended-listed (t ∷ table) sequence member fxy last distinct.1)
   where
     by : (b : Bool) → (s.fxy == fxy) ≡ b → (s.fxy == sequence) ≡ false
-        → listed (extended (t ∷ table) member) fxy ≡ listed (t ∷ table) fxy ++ only sequence (member ∷ []) fxy
+        → members_or_none (extended (t ∷ table) member) fxy ≡ members_or_none (t ∷ table) fxy ++ only sequence (member ∷ []) fxy
         → unwrap_or (option_map (λ (q : Sequence). q.members) (cond b (Some s) (find (λ q. q.fxy == fxy) (extended (t ∷ table) member)))) []
         ≡ unwrap_or (option_map (λ (q : Sequence). q.members) (cond b (Some s) (find (λ q. q.fxy == fxy) (t ∷ table)))) [] ++ only sequence (member ∷ []) fxy
     by true e other on =
@@ -90,7 +90,7 @@ extended-fxys (s ∷ t ∷ table) member = ap (λ (ks : List ℕ). s.fxy ∷ ks)
 
 -- a row that begins no second run
 record Added (table : List Sequence) (row : Member) : Type 0 where
-  members : (fxy : ℕ) → listed (added table row) fxy ≡ listed table fxy ++ only row.sequence (row.fxy ∷ []) fxy
+  members : (fxy : ℕ) → members_or_none (added table row) fxy ≡ members_or_none table fxy ++ only row.sequence (row.fxy ∷ []) fxy
   distinct : IsDistinct nat_eq (fxys_of (added table row))
 
 same-keys : (fxy : ℕ) (table : List Sequence) → AllByRecursion (λ s. (s.fxy == fxy) ≡ (s.fxy == fxy)) table
@@ -131,8 +131,8 @@ record AddsRow (table : List Sequence) (r : Record) (longer : List Sequence) : T
 same_Ok : (x y : List Sequence) → ◌≡◌ {A = Result (List Sequence) TableFault} (Ok x) (Ok y) → x ≡ y
 same_Ok x y e = cc e
 
-record-adds : (n : ℕ) (table : List Sequence) (r : Record) (longer : List Sequence) → with_record n table r ≡ Ok longer → AddsRow table r longer
-unfolding with_record
+record-adds : (n : ℕ) (table : List Sequence) (r : Record) (longer : List Sequence) → with_record_d n table r ≡ Ok longer → AddsRow table r longer
+unfolding with_record_d
 record-adds n table r longer is = by (length r == 2) (member_of r) refl is
   where
     found : (row : Member) (again large : Bool) → begins_again table row ≡ again → member_of r ≡ Some row
@@ -150,7 +150,7 @@ record-adds n table r longer is = by (length r == 2) (member_of r) refl is
 record AddRows (before : List Sequence) (rs : List Record) (table : List Sequence) : Type 0 where
   rows : List Member
   written : map member_of rs ≡ map Some rows
-  members : (fxy : ℕ) → listed table fxy ≡ listed before fxy ++ members_in rows fxy
+  members : (fxy : ℕ) → members_or_none table fxy ≡ members_or_none before fxy ++ members_in rows fxy
 
 only-more : (row : Member) (rows : List Member) (fxy : ℕ) → only row.sequence (row.fxy ∷ []) fxy ++ members_in rows fxy ≡ members_in (row ∷ rows) fxy
 only-more row rows fxy = by (row.sequence == fxy)
@@ -159,15 +159,15 @@ only-more row rows fxy = by (row.sequence == fxy)
     by true = refl
     by false = refl
 
-rows-add : (n : ℕ) (before : List Sequence) (rs : List Record) (table : List Sequence) → table_from with_record n before rs ≡ Ok table → IsDistinct nat_eq (fxys_of before) → AddRows before rs table
+rows-add : (n : ℕ) (before : List Sequence) (rs : List Record) (table : List Sequence) → table_from with_record_d n before rs ≡ Ok table → IsDistinct nat_eq (fxys_of before) → AddRows before rs table
 unfolding table_from
 rows-add n before [] table is distinct =
     let same : before ≡ table = same_Ok _ _ is in
-    record { rows = []; written = refl; members = λ fxy. rw (← same) (sym (append-nil (listed before fxy))) }
-rows-add n before (r ∷ rs) table is distinct = by (with_record n before r) refl is (λ longer. rows-add (n + 1) longer rs table)
+    record { rows = []; written = refl; members = λ fxy. rw (← same) (sym (append-nil (members_or_none before fxy))) }
+rows-add n before (r ∷ rs) table is distinct = by (with_record_d n before r) refl is (λ longer. rows-add (n + 1) longer rs table)
   where
-    by : (o : Result (List Sequence) TableFault) → with_record n before r ≡ o → and_then o (λ longer. table_from with_record (n + 1) longer rs) ≡ Ok table
-        → ((longer : List Sequence) → table_from with_record (n + 1) longer rs ≡ Ok table → IsDistinct nat_eq (fxys_of longer) → AddRows longer rs table)
+    by : (o : Result (List Sequence) TableFault) → with_record_d n before r ≡ o → and_then o (λ longer. table_from with_record_d (n + 1) longer rs) ≡ Ok table
+        → ((longer : List Sequence) → table_from with_record_d (n + 1) longer rs ≡ Ok table → IsDistinct nat_eq (fxys_of longer) → AddRows longer rs table)
         → AddRows before (r ∷ rs) table
     by (Err fault) e is on = cc is
     by (Ok longer) e is on =
@@ -180,18 +180,18 @@ rows-add n before (r ∷ rs) table is distinct = by (with_record n before r) ref
           written = rw adds.written (ap (λ (os : List (Option Member)). Some adds.row ∷ os) rest.written);
           members = λ fxy.
               rest.members fxy
-              ∙ ap (λ (q : List Sequence). listed q fxy ++ members_in rest.rows fxy) adds.added'
+              ∙ ap (λ (q : List Sequence). members_or_none q fxy ++ members_in rest.rows fxy) adds.added'
               ∙ ap (λ (ms : List ℕ). ms ++ members_in rest.rows fxy) (more.members fxy)
-              ∙ append_assoc (listed before fxy) (only adds.row.sequence (adds.row.fxy ∷ []) fxy) (members_in rest.rows fxy)
-              ∙ ap (λ (ms : List ℕ). listed before fxy ++ ms) (only-more adds.row rest.rows fxy);
+              ∙ append_assoc (members_or_none before fxy) (only adds.row.sequence (adds.row.fxy ∷ []) fxy) (members_in rest.rows fxy)
+              ∙ ap (λ (ms : List ℕ). members_or_none before fxy ++ ms) (only-more adds.row rest.rows fxy);
         }
 
 pub sequences-law : (records : List Record) (table : List Sequence) → table_d_of records ≡ Ok table → AreSequences records table
 unfolding table_of
 sequences-law [] table is = cc is
-sequences-law (first ∷ rest) table is = by (has_fields header first) refl is
+sequences-law (first ∷ rest) table is = by (has_fields columns_d first) refl is
   where
-    by : (b : Bool) → has_fields header first ≡ b → (if b then table_from with_record 2 [] rest else Err Header) ≡ Ok table → AreSequences (first ∷ rest) table
+    by : (b : Bool) → has_fields columns_d first ≡ b → (if b then table_from with_record_d 2 [] rest else Err Header) ≡ Ok table → AreSequences (first ∷ rest) table
     by false e is = cc is
     by true e is =
         let add = rows-add 2 [] rest table is distinct-none in

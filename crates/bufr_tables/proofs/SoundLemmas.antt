@@ -7,10 +7,10 @@ use Rattle.bufr_tables.specs.declared.template.fault.TemplateFault.TheVariants a
 use Rattle.bufr_tables.specs.Fxy.{f_of, x_of, y_of}
 use Rattle.bufr_tables.specs.Operators.{is_legal_operator, gives_width}
 use Rattle.bufr_tables.specs.Tree.{Tree, bare, element, operator, fixed, delayed, join, size, depth, consumes}
-use Rattle.bufr_tables.specs.Expansion.{Tables, Expansion, Part, part, ◌>>=◌, unless, with_places, is_factor, begins_with_element, element_part, operator_part, body_of, fixed_part, delayed_part, group_by, group_part, sequence_part, part_by, part_of, level, inner_of, tree_of, first_of, most_open}
+use Rattle.bufr_tables.specs.Expansion.{Tables, Expansion, ExpandedPart, part, ◌>>=◌, unless, with_places, is_factor, begins_with_element, element_part, operator_part, body_of, fixed_part, delayed_part, group_by, group_part, sequence_part, part_by, part_of, level, inner_of, tree_of, first_of, max_open}
 use Rattle.bufr_tables.specs.Known.{IsKnownAfter, IsKnown}
 use Rattle.bufr_tables.specs.Legal.{IsLegal, is_element_first}
-use Rattle.bufr_tables.specs.Sound.{GroupsConsume, IsSound}
+use Rattle.bufr_tables.specs.Sound.{EveryGroupConsumes, IsSound}
 use Rattle.bufr_tables.proofs.TreeLemmas.{depth-join}
 use Rattle.bufr_tables.proofs.PartLemmas.{part-element}
 
@@ -35,7 +35,7 @@ tested false why then last h = absurd cc
 
 -- what holds of a tree, with room for so many groups round a node
 pub record IsFine (known : ℕ → Bool) (room : ℕ) (given : Bool) (tree : Tree) : Type 0 where
-  pub groups : GroupsConsume tree
+  pub groups : EveryGroupConsumes tree
   pub is_known : IsKnownAfter known given tree
   pub legal : IsLegal tree
   pub shallow : depth tree ≤ room
@@ -62,7 +62,7 @@ known-join known given (operator fxy rest) b h more = known-join known (gives_wi
 known-join known given (fixed count body rest) b h more = (h.0, known-join known false rest b h.1 more)
 known-join known given (delayed factor body rest) b h more = (h.0, (h.1.0, known-join known false rest b h.1.1 more))
 
-groups-join : (a b : Tree) → GroupsConsume a → GroupsConsume b → GroupsConsume (join a b)
+groups-join : (a b : Tree) → EveryGroupConsumes a → EveryGroupConsumes b → EveryGroupConsumes (join a b)
 groups-join bare b h more = more
 groups-join (element fxy rest) b h more = groups-join rest b h more
 groups-join (operator fxy rest) b h more = groups-join rest b h more
@@ -102,17 +102,17 @@ no_width d f e h = ap (λ b. b && x_of d == 6) (ne_eqb (f_of d) 2 (λ two. h (e 
 fine_plainly : (known : ℕ → Bool) (room : ℕ) (given : Bool) (rest : Tree) → given ≡ false → IsFine known room given rest → IsFine known room false rest
 fine_plainly known room given rest e = subst (λ g. IsFine known room g rest) e
 
-pub part_is : (a b : Part) → ◌≡◌ {A = Result Part TemplateFault} (Ok a) (Ok b) → a ≡ b
+pub part_is : (a b : ExpandedPart) → ◌≡◌ {A = Result ExpandedPart TemplateFault} (Ok a) (Ok b) → a ≡ b
 part_is a b h = cc
 
 -- an element, and the rest behind it
-element_joins : (tables : Tables) (room : ℕ) (given : Bool) (places d : ℕ) (first : Part) (rest : Tree) → f_of d ≡ 0 → element_part tables given places d ≡ Ok first → IsFine tables.known room (gives_width d) rest → IsFine tables.known room given (join first.tree rest)
+element_joins : (tables : Tables) (room : ℕ) (given : Bool) (places d : ℕ) (first : ExpandedPart) (rest : Tree) → f_of d ≡ 0 → element_part tables given places d ≡ Ok first → IsFine tables.known room (gives_width d) rest → IsFine tables.known room given (join first.tree rest)
 element_joins tables room given places d first rest f h fine =
     let known = tested (given || tables.known d) (fault.UnknownElement d) (with_places places 1 d >>= λ _. Ok (part (element d bare) 0)) first h in
     let sized = tested (nat_le (places + 1) 65535) (fault.TemplateSize d) (Ok (part (element d bare) 0)) first known.then_is in
     let e = part_is (part (element d bare) 0) first sized.then_is in
     let plain = fine_plainly tables.known room (gives_width d) rest (no_width d 0 (sym f) (omega arith)) fine in
-    subst (λ (p : Part). IsFine tables.known room given (join p.tree rest)) e
+    subst (λ (p : ExpandedPart). IsFine tables.known room given (join p.tree rest)) e
     (record { groups = plain.groups; is_known = (known.met, plain.is_known); legal = (f, plain.legal); shallow = plain.shallow })
 
 or_met : (gives begins : Bool) → (not gives || begins) ≡ true → gives ≡ true → begins ≡ true
@@ -120,14 +120,14 @@ or_met true begins h e = h
 or_met false begins h e = absurd cc
 
 -- an operator, and the rest behind it
-operator_joins : (known : ℕ → Bool) (room : ℕ) (given : Bool) (places d : ℕ) (after : List ℕ) (first : Part) (rest : Tree) → f_of d ≡ 2 → operator_part places d after ≡ Ok first → (begins_with_element after ≡ true → first.taken ≡ 0 → is_element_first rest ≡ true) → IsFine known room (gives_width d) rest → IsFine known room given (join first.tree rest)
+operator_joins : (known : ℕ → Bool) (room : ℕ) (given : Bool) (places d : ℕ) (after : List ℕ) (first : ExpandedPart) (rest : Tree) → f_of d ≡ 2 → operator_part places d after ≡ Ok first → (begins_with_element after ≡ true → first.taken ≡ 0 → is_element_first rest ≡ true) → IsFine known room (gives_width d) rest → IsFine known room given (join first.tree rest)
 operator_joins known room given places d after first rest f h begins fine =
     let legal = tested (is_legal_operator d) (fault.Operator d) (unless (not (gives_width d) || begins_with_element after) (fault.LocalShape d) >>= λ _. with_places places 1 d >>= λ _. Ok (part (operator d bare) 0)) first h in
     let shaped = tested (not (gives_width d) || begins_with_element after) (fault.LocalShape d) (with_places places 1 d >>= λ _. Ok (part (operator d bare) 0)) first legal.then_is in
     let sized = tested (nat_le (places + 1) 65535) (fault.TemplateSize d) (Ok (part (operator d bare) 0)) first shaped.then_is in
     let e = part_is (part (operator d bare) 0) first sized.then_is in
-    let begin : gives_width d ≡ true → is_element_first rest ≡ true = λ gives. begins (or_met (gives_width d) (begins_with_element after) shaped.met gives) (ap (λ (p : Part). p.taken) (sym e)) in
-    subst (λ (p : Part). IsFine known room given (join p.tree rest)) e
+    let begin : gives_width d ≡ true → is_element_first rest ≡ true = λ gives. begins (or_met (gives_width d) (begins_with_element after) shaped.met gives) (ap (λ (p : ExpandedPart). p.taken) (sym e)) in
+    subst (λ (p : ExpandedPart). IsFine known room given (join p.tree rest)) e
     (record { groups = fine.groups; is_known = fine.is_known; legal = (f, (legal.met, (begin, fine.legal))); shallow = fine.shallow })
 
 -- the body of a group
@@ -157,52 +157,52 @@ body_fine known room (Some expand) fine places own d after body h =
     })
 
 -- a group of a fixed count, and the rest behind it
-fixed_joins : (known : ℕ → Bool) (room : ℕ) (inner : Option Expansion) → IsInnerFine known room inner → (given : Bool) (places d : ℕ) (after : List ℕ) (first : Part) (rest : Tree) → 0 < y_of d → fixed_part inner places d after ≡ Ok first → IsFine known room false rest → IsFine known room given (join first.tree rest)
+fixed_joins : (known : ℕ → Bool) (room : ℕ) (inner : Option Expansion) → IsInnerFine known room inner → (given : Bool) (places d : ℕ) (after : List ℕ) (first : ExpandedPart) (rest : Tree) → 0 < y_of d → fixed_part inner places d after ≡ Ok first → IsFine known room false rest → IsFine known room given (join first.tree rest)
 fixed_joins known room inner fine given places d after first rest y h plain =
     let two = steps (body_of inner places 2 d after) (λ body. Ok (part (fixed (y_of d) body bare) (x_of d))) first h in
     let body = body_fine known room inner fine places 2 d after two.middle two.first_is in
     let e = part_is (part (fixed (y_of d) two.middle bare) (x_of d)) first two.then_is in
-    subst (λ (p : Part). IsFine known room given (join p.tree rest)) e
+    subst (λ (p : ExpandedPart). IsFine known room given (join p.tree rest)) e
     (record { groups = (y, (body.full, (body.fine.groups, plain.groups))); is_known = (body.fine.is_known, plain.is_known); legal = (body.fine.legal, plain.legal); shallow = omega (arith, body.deeper, plain.shallow) })
 
 -- a delayed group, and the rest behind it
-delayed_joins : (tables : Tables) (room : ℕ) (inner : Option Expansion) → IsInnerFine tables.known room inner → (given : Bool) (places d : ℕ) (after : List ℕ) (first : Part) (rest : Tree) → delayed_part tables inner places d after ≡ Ok first → IsFine tables.known room false rest → IsFine tables.known room given (join first.tree rest)
+delayed_joins : (tables : Tables) (room : ℕ) (inner : Option Expansion) → IsInnerFine tables.known room inner → (given : Bool) (places d : ℕ) (after : List ℕ) (first : ExpandedPart) (rest : Tree) → delayed_part tables inner places d after ≡ Ok first → IsFine tables.known room false rest → IsFine tables.known room given (join first.tree rest)
 delayed_joins tables room inner fine given places d [] first rest h plain = absurd cc
 delayed_joins tables room inner fine given places d (factor ∷ after) first rest h plain =
-    let k : Tree → Result Part TemplateFault = λ body. Ok (part (delayed factor body bare) (1 + x_of d)) in
+    let k : Tree → Result ExpandedPart TemplateFault = λ body. Ok (part (delayed factor body bare) (1 + x_of d)) in
     let factored = tested (is_factor factor) (fault.NoFactor d) (unless (tables.known factor) (fault.UnknownElement factor) >>= λ _. body_of inner places 3 d after >>= k) first h in
     let known = tested (tables.known factor) (fault.UnknownElement factor) (body_of inner places 3 d after >>= k) first factored.then_is in
     let two = steps (body_of inner places 3 d after) k first known.then_is in
     let body = body_fine tables.known room inner fine places 3 d after two.middle two.first_is in
     let e = part_is (part (delayed factor two.middle bare) (1 + x_of d)) first two.then_is in
-    subst (λ (p : Part). IsFine tables.known room given (join p.tree rest)) e
+    subst (λ (p : ExpandedPart). IsFine tables.known room given (join p.tree rest)) e
     (record { groups = (body.full, (body.fine.groups, plain.groups)); is_known = (known.met, (body.fine.is_known, plain.is_known)); legal = (factored.met, (body.fine.legal, plain.legal)); shallow = omega (arith, body.deeper, plain.shallow) })
 
-group_by_joins : (y : ℕ) (tables : Tables) (room : ℕ) (inner : Option Expansion) → IsInnerFine tables.known room inner → (given : Bool) (places d : ℕ) (after : List ℕ) (first : Part) (rest : Tree) → y ≡ y_of d → group_by y tables inner places d after ≡ Ok first → IsFine tables.known room false rest → IsFine tables.known room given (join first.tree rest)
+group_by_joins : (y : ℕ) (tables : Tables) (room : ℕ) (inner : Option Expansion) → IsInnerFine tables.known room inner → (given : Bool) (places d : ℕ) (after : List ℕ) (first : ExpandedPart) (rest : Tree) → y ≡ y_of d → group_by y tables inner places d after ≡ Ok first → IsFine tables.known room false rest → IsFine tables.known room given (join first.tree rest)
 group_by_joins zero tables room inner fine given places d after first rest e h plain = delayed_joins tables room inner fine given places d after first rest h plain
 group_by_joins (suc count) tables room inner fine given places d after first rest e h plain = fixed_joins tables.known room inner fine given places d after first rest (subst (λ n. 0 < n) e (omega arith)) h plain
 
 -- a group, and the rest behind it
-group_joins : (tables : Tables) (room : ℕ) (inner : Option Expansion) → IsInnerFine tables.known room inner → (given : Bool) (places d : ℕ) (after : List ℕ) (first : Part) (rest : Tree) → group_part tables inner places d after ≡ Ok first → IsFine tables.known room false rest → IsFine tables.known room given (join first.tree rest)
+group_joins : (tables : Tables) (room : ℕ) (inner : Option Expansion) → IsInnerFine tables.known room inner → (given : Bool) (places d : ℕ) (after : List ℕ) (first : ExpandedPart) (rest : Tree) → group_part tables inner places d after ≡ Ok first → IsFine tables.known room false rest → IsFine tables.known room given (join first.tree rest)
 group_joins tables room inner fine given places d after first rest h plain =
     let shaped = tested (nat_lt 0 (x_of d)) (fault.GroupShape d) (group_by (y_of d) tables inner places d after) first h in
     group_by_joins (y_of d) tables room inner fine given places d after first rest refl shaped.then_is plain
 
 -- a sequence, and the rest behind it
-sequence_joins : (tables : Tables) (room : ℕ) (inner : Option Expansion) → IsInnerFine tables.known room inner → (given : Bool) (places d : ℕ) (first : Part) (rest : Tree) → sequence_part tables inner places d ≡ Ok first → IsFine tables.known room false rest → IsFine tables.known room given (join first.tree rest)
+sequence_joins : (tables : Tables) (room : ℕ) (inner : Option Expansion) → IsInnerFine tables.known room inner → (given : Bool) (places d : ℕ) (first : ExpandedPart) (rest : Tree) → sequence_part tables inner places d ≡ Ok first → IsFine tables.known room false rest → IsFine tables.known room given (join first.tree rest)
 sequence_joins tables room None fine given places d first rest h plain =
     let two = steps (ok_or (tables.members d) (fault.UnknownSequence d)) (λ members. Err (fault.Depth d)) first h in
     absurd (let t = two.then_is in cc)
 sequence_joins tables room (Some expand) fine given places d first rest h plain =
-    let k : Tree → Result Part TemplateFault = λ tree. Ok (part tree 0) in
-    let listed = steps (ok_or (tables.members d) (fault.UnknownSequence d)) (λ members. expand places members >>= k) first h in
-    let two = steps (expand places listed.middle) k first listed.then_is in
+    let k : Tree → Result ExpandedPart TemplateFault = λ tree. Ok (part tree 0) in
+    let members_or_none = steps (ok_or (tables.members d) (fault.UnknownSequence d)) (λ members. expand places members >>= k) first h in
+    let two = steps (expand places members_or_none.middle) k first members_or_none.then_is in
     let e = part_is (part two.middle 0) first two.then_is in
-    let inside = fine.2 places listed.middle two.middle two.first_is in
+    let inside = fine.2 places members_or_none.middle two.middle two.first_is in
     let own : IsFine tables.known room given two.middle = record { groups = inside.groups; is_known = known_given tables.known given two.middle inside.is_known; legal = inside.legal; shallow = omega (arith, inside.shallow, fine.1) } in
-    subst (λ (p : Part). IsFine tables.known room given (join p.tree rest)) e (fine-join tables.known room given two.middle rest own plain)
+    subst (λ (p : ExpandedPart). IsFine tables.known room given (join p.tree rest)) e (fine-join tables.known room given two.middle rest own plain)
 
-part_by_joins : (f : ℕ) (tables : Tables) (room : ℕ) (inner : Option Expansion) → IsInnerFine tables.known room inner → (given : Bool) (places d : ℕ) (after : List ℕ) (first : Part) (rest : Tree) → f ≡ f_of d → part_by f tables inner given places d after ≡ Ok first → (begins_with_element after ≡ true → first.taken ≡ 0 → is_element_first rest ≡ true) → IsFine tables.known room (gives_width d) rest → IsFine tables.known room given (join first.tree rest)
+part_by_joins : (f : ℕ) (tables : Tables) (room : ℕ) (inner : Option Expansion) → IsInnerFine tables.known room inner → (given : Bool) (places d : ℕ) (after : List ℕ) (first : ExpandedPart) (rest : Tree) → f ≡ f_of d → part_by f tables inner given places d after ≡ Ok first → (begins_with_element after ≡ true → first.taken ≡ 0 → is_element_first rest ≡ true) → IsFine tables.known room (gives_width d) rest → IsFine tables.known room given (join first.tree rest)
 part_by_joins zero tables room inner fine given places d after first rest e h begins more = element_joins tables room given places d first rest (sym e) h more
 part_by_joins (suc zero) tables room inner fine given places d after first rest e h begins more = group_joins tables room inner fine given places d after first rest h (fine_plainly tables.known room (gives_width d) rest (no_width d 1 e (omega arith)) more)
 part_by_joins (suc (suc zero)) tables room inner fine given places d after first rest e h begins more = operator_joins tables.known room given places d after first rest (sym e) h begins more
@@ -213,7 +213,7 @@ level_begins : (tables : Tables) (inner : Option Expansion) (given : Bool) (plac
 unfolding level
 level_begins tables inner given places [] rest b h = absurd cc
 level_begins tables inner given places (d ∷ after) rest b h =
-    let k : Part → Result Tree TemplateFault = λ first. level tables inner (gives_width d) first.taken (places + size first.tree) after >>= λ rest. Ok (join first.tree rest) in
+    let k : ExpandedPart → Result Tree TemplateFault = λ first. level tables inner (gives_width d) first.taken (places + size first.tree) after >>= λ rest. Ok (join first.tree rest) in
     let one = steps (part_of tables inner given places d after) k rest h in
     let two = steps (level tables inner (gives_width d) one.middle.taken (places + size one.middle.tree) after) (λ rest. Ok (join one.middle.tree rest)) rest one.then_is in
     let here = part-element tables inner given places d after (f_of d) refl (eqb-true (f_of d) 0 b) ∙ one.first_is in
@@ -221,7 +221,7 @@ level_begins tables inner given places (d ∷ after) rest b h =
     let sized = tested (nat_le (places + 1) 65535) (fault.TemplateSize d) (Ok (part (element d bare) 0)) one.middle known.then_is in
     let e = part_is (part (element d bare) 0) one.middle sized.then_is in
     let t = tree_is (join one.middle.tree two.middle) rest two.then_is in
-    ap is_element_first (sym t) ∙ ap (λ (p : Part). is_element_first (join p.tree two.middle)) (sym e)
+    ap is_element_first (sym t) ∙ ap (λ (p : ExpandedPart). is_element_first (join p.tree two.middle)) (sym e)
 
 -- what a list gives is fine
 level_fine : (tables : Tables) (room : ℕ) (inner : Option Expansion) → IsInnerFine tables.known room inner → (given : Bool) (skip places : ℕ) (list : List ℕ) (tree : Tree) → level tables inner given skip places list ≡ Ok tree → IsFine tables.known room given tree
@@ -229,7 +229,7 @@ unfolding level part_of
 level_fine tables room inner fine given skip places [] tree h = subst (IsFine tables.known room given) (tree_is bare tree h) (fine-bare tables.known room given)
 level_fine tables room inner fine given (suc skip) places (d ∷ after) tree h = level_fine tables room inner fine given skip places after tree h
 level_fine tables room inner fine given zero places (d ∷ after) tree h =
-    let k : Part → Result Tree TemplateFault = λ first. level tables inner (gives_width d) first.taken (places + size first.tree) after >>= λ rest. Ok (join first.tree rest) in
+    let k : ExpandedPart → Result Tree TemplateFault = λ first. level tables inner (gives_width d) first.taken (places + size first.tree) after >>= λ rest. Ok (join first.tree rest) in
     let one = steps (part_of tables inner given places d after) k tree h in
     let two = steps (level tables inner (gives_width d) one.middle.taken (places + size one.middle.tree) after) (λ rest. Ok (join one.middle.tree rest)) tree one.then_is in
     let more = level_fine tables room inner fine (gives_width d) one.middle.taken (places + size one.middle.tree) after two.middle two.first_is in
@@ -254,8 +254,8 @@ pub tree_fine : (tables : Tables) (list : List ℕ) (tree : Tree) → tree_of ta
 unfolding tree_of
 tree_fine tables list tree h =
     let k : Tree → Result Tree TemplateFault = λ tree. unless (consumes tree) (fault.EmptyGroup (first_of list)) >>= λ _. Ok tree in
-    let one = steps (level tables (inner_of tables most_open) false 0 1 list) k tree h in
+    let one = steps (level tables (inner_of tables max_open) false 0 1 list) k tree h in
     let full = tested (consumes one.middle) (fault.EmptyGroup (first_of list)) (Ok one.middle) tree one.then_is in
-    let fine = level_fine tables most_open (inner_of tables most_open) (inner_fine tables most_open) false 0 1 list one.middle one.first_is in
+    let fine = level_fine tables max_open (inner_of tables max_open) (inner_fine tables max_open) false 0 1 list one.middle one.first_is in
     subst (IsFineWhole tables.known) (tree_is one.middle tree full.then_is)
     (record { sound = (fine.groups, full.met); is_known = fine.is_known; legal = fine.legal; shallow = fine.shallow })

@@ -7,7 +7,7 @@ use Rattle.bufr_tables.proofs.DirectoryLemmas.{distinct-added, distinct-none, pl
 use Rattle.bufr_tables.specs.Records.{Record}
 use Rattle.bufr_tables.specs.Steps.{and_then}
 use Rattle.bufr_tables.specs.Table.{has_fields, table_from, table_of}
-use Rattle.bufr_tables.specs.TableB.{AreRows, Row, entry_of, header, row_of, table_b_of, with_record, with_row}
+use Rattle.bufr_tables.specs.TableB.{AreRows, Row, entry_of, columns_b, row_of, table_b_of, with_record_b, with_row}
 use Rattle.bufr_tables.specs.declared.fault.TableFault.{TableFault}
 use Rattle.bufr_tables.specs.declared.fault.TableFault.TheVariants.{Csv, Duplicate, Header}
 
@@ -21,8 +21,8 @@ pub record AddsRow (rows : List Row) (r : Record) (longer : List Row) : Type 0 w
   pub added : longer ≡ rows ++ row ∷ []
   pub absent : entry_of rows row.fxy ≡ None
 
-record-adds : (n : ℕ) (rows : List Row) (r : Record) (longer : List Row) → with_record n rows r ≡ Ok longer → AddsRow rows r longer
-unfolding with_record
+record-adds : (n : ℕ) (rows : List Row) (r : Record) (longer : List Row) → with_record_b n rows r ≡ Ok longer → AddsRow rows r longer
+unfolding with_record_b
 record-adds n rows r longer is = by (length r == 6) (row_of r) refl is
   where
     found : (row : Row) (o : Option Row) → entry_of rows row.fxy ≡ o → row_of r ≡ Some row → (if is_some o then Err (Duplicate row.fxy) else Ok (rows ++ row ∷ [])) ≡ Ok longer → AddsRow rows r longer
@@ -45,15 +45,15 @@ pub record AddRows (rows : List Row) (rs : List Record) (table : List Row) : Typ
   pub written : map row_of rs ≡ map Some more
   pub distinct : IsDistinct nat_eq (map (λ row. row.fxy) table)
 
-rows-add : (n : ℕ) (rows : List Row) (rs : List Record) (table : List Row) → table_from with_record n rows rs ≡ Ok table → IsDistinct nat_eq (map (λ row. row.fxy) rows) → AddRows rows rs table
+rows-add : (n : ℕ) (rows : List Row) (rs : List Record) (table : List Row) → table_from with_record_b n rows rs ≡ Ok table → IsDistinct nat_eq (map (λ row. row.fxy) rows) → AddRows rows rs table
 unfolding table_from
 rows-add n rows [] table is distinct =
     let same : rows ≡ table = same_Ok _ _ is in
     record { more = []; longer = sym same ∙ sym (append-nil rows); written = refl; distinct = rw (← same) distinct }
-rows-add n rows (r ∷ rs) table is distinct = by (with_record n rows r) refl is (λ longer. rows-add (n + 1) longer rs table)
+rows-add n rows (r ∷ rs) table is distinct = by (with_record_b n rows r) refl is (λ longer. rows-add (n + 1) longer rs table)
   where
-    by : (o : Result (List Row) TableFault) → with_record n rows r ≡ o → and_then o (λ longer. table_from with_record (n + 1) longer rs) ≡ Ok table
-        → ((longer : List Row) → table_from with_record (n + 1) longer rs ≡ Ok table → IsDistinct nat_eq (map (λ row. row.fxy) longer) → AddRows longer rs table)
+    by : (o : Result (List Row) TableFault) → with_record_b n rows r ≡ o → and_then o (λ longer. table_from with_record_b (n + 1) longer rs) ≡ Ok table
+        → ((longer : List Row) → table_from with_record_b (n + 1) longer rs ≡ Ok table → IsDistinct nat_eq (map (λ row. row.fxy) longer) → AddRows longer rs table)
         → AddRows rows (r ∷ rs) table
     by (Err fault) e is on = cc is
     by (Ok longer) e is on =
@@ -71,9 +71,9 @@ rows-add n rows (r ∷ rs) table is distinct = by (with_record n rows r) refl is
 pub rows-law : (records : List Record) (table : List Row) → table_b_of records ≡ Ok table → AreRows records table
 unfolding table_of
 rows-law [] table is = cc is
-rows-law (first ∷ rest) table is = by (has_fields header first) refl is
+rows-law (first ∷ rest) table is = by (has_fields columns_b first) refl is
   where
-    by : (b : Bool) → has_fields header first ≡ b → (if b then table_from with_record 2 [] rest else Err Header) ≡ Ok table → AreRows (first ∷ rest) table
+    by : (b : Bool) → has_fields columns_b first ≡ b → (if b then table_from with_record_b 2 [] rest else Err Header) ≡ Ok table → AreRows (first ∷ rest) table
     by false e is = cc is
     by true e is =
         let add = rows-add 2 [] rest table is distinct-none in

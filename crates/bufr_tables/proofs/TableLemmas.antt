@@ -4,26 +4,26 @@ use Rattle.std.specs.Prelude.{◌&&◌, not}
 use Rattle.std.specs.Str.{bytes_eq}
 use Rattle.csv.specs.Records.{field_at}
 use Rattle.bufr_tables.specs.Records.{Record, field_of}
-use Rattle.bufr_tables.specs.Reading.{GivesNext, IsOpened, record_given, records_left, texts_of}
+use Rattle.bufr_tables.specs.Reading.{GivesNext, IsOpened, record_given, records_left, field_texts}
 use Rattle.bufr_tables.specs.Table.{has_fields, has_header, table_from, table_of}
 use Rattle.bufr_tables.specs.declared.fault.TableFault.{TableFault}
 use Rattle.bufr_tables.specs.declared.fault.TableFault.TheVariants.{Header}
 use Rattle.bufr_tables.specs.declared.records.RecordReader.{RecordReader}
 
 -- records of other lengths
-pub other-length : (names : List (Bor (List ℕ))) (r : Record) → (length r ≡ length names → ⊥) → has_fields (texts_of names) r ≡ false
+pub other-length : (names : List (Bor (List ℕ))) (r : Record) → (length r ≡ length names → ⊥) → has_fields (field_texts names) r ≡ false
 other-length [] [] other = absurd (other refl)
 other-length [] (field ∷ fields) other = refl
 other-length (name ∷ names) [] other = refl
 other-length (name ∷ names) (field ∷ fields) other = by (bytes_eq field name.now) (other-length names fields (λ same. other (omega (arith, same))))
   where
-    by : (b : Bool) → has_fields (texts_of names) fields ≡ false → (b && has_fields (texts_of names) fields) ≡ false
+    by : (b : Bool) → has_fields (field_texts names) fields ≡ false → (b && has_fields (field_texts names) fields) ≡ false
     by true e = e
     by false e = refl
 
 -- the fields from one place on
 fields-at : (names : List (Bor (List ℕ))) (r : Record) (place : ℕ) (d : Bor (List ℕ)) → length r ≡ length names → place < length names
-    → has_fields (drop place (texts_of names)) (drop place r) ≡ (bytes_eq (field_of r place) (get_or names place d).now && has_fields (drop (suc place) (texts_of names)) (drop (suc place) r))
+    → has_fields (drop place (field_texts names)) (drop place r) ≡ (bytes_eq (field_of r place) (get_or names place d).now && has_fields (drop (suc place) (field_texts names)) (drop (suc place) r))
 unfolding field_at
 fields-at [] r place d same inside = absurd (omega arith)
 fields-at (name ∷ names) [] place d same inside = absurd (omega arith)
@@ -33,18 +33,18 @@ fields-at (name ∷ names) (field ∷ fields) (suc place) d same inside = fields
 -- one field, told apart from its name or not
 module _ (names : List (Bor (List ℕ))) (r : Record) (place : ℕ) (d : Bor (List ℕ)) (field : List ℕ) (differs : Bool) (same : length r ≡ length names) (inside : place < length names)
     (is : field ≡ field_of r place) (told : differs ≡ not (bytes_eq field (get_or names place d).now))
-    (so_far : has_fields (texts_of names) r ≡ has_fields (drop place (texts_of names)) (drop place r)) where
-  pub fields-other : differs ≡ true → false ≡ has_fields (texts_of names) r
+    (so_far : has_fields (field_texts names) r ≡ has_fields (drop place (field_texts names)) (drop place r)) where
+  pub fields-other : differs ≡ true → false ≡ has_fields (field_texts names) r
   fields-other apart = by (bytes_eq field (get_or names place d).now) refl (sym told ∙ apart)
     where
-      by : (b : Bool) → bytes_eq field (get_or names place d).now ≡ b → not b ≡ true → false ≡ has_fields (texts_of names) r
+      by : (b : Bool) → bytes_eq field (get_or names place d).now ≡ b → not b ≡ true → false ≡ has_fields (field_texts names) r
       by true e is_not = cc is_not
       by false e is_not = sym (so_far ∙ fields-at names r place d same inside ∙ rw (← is, e) refl)
 
-  pub fields-more : differs ≡ false → has_fields (texts_of names) r ≡ has_fields (drop (place + 1) (texts_of names)) (drop (place + 1) r)
+  pub fields-more : differs ≡ false → has_fields (field_texts names) r ≡ has_fields (drop (place + 1) (field_texts names)) (drop (place + 1) r)
   fields-more alike = rw add-one (by (bytes_eq field (get_or names place d).now) refl (sym told ∙ alike))
     where
-      by : (b : Bool) → bytes_eq field (get_or names place d).now ≡ b → not b ≡ false → has_fields (texts_of names) r ≡ has_fields (drop (suc place) (texts_of names)) (drop (suc place) r)
+      by : (b : Bool) → bytes_eq field (get_or names place d).now ≡ b → not b ≡ false → has_fields (field_texts names) r ≡ has_fields (drop (suc place) (field_texts names)) (drop (suc place) r)
       by true e is_not = so_far ∙ fields-at names r place d same inside ∙ rw (← is, e) refl
       by false e is_not = cc is_not
 

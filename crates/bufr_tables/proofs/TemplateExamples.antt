@@ -5,7 +5,7 @@ use Rattle.bufr_tables.specs.declared.template.fault.TemplateFault.TheVariants a
 use Rattle.bufr_tables.specs.declared.template.cell.Cell.{Cell}
 use Rattle.bufr_tables.specs.declared.template.cell.Cell.TheVariants as cell
 use Rattle.bufr_tables.specs.Fxy.{f_of, y_of}
-use Rattle.bufr_tables.specs.Cells.{lay, raised}
+use Rattle.bufr_tables.specs.Cells.{cells_of, trees_of_cells}
 use Rattle.bufr_tables.specs.Tree.{Tree, bare, element, operator, fixed, delayed, places, depth}
 use Rattle.bufr_tables.specs.Expansion.{Tables, tree_of, inner_of, level, part_of, ◌>>=◌}
 
@@ -35,7 +35,7 @@ measured tree = tree >>= λ t. Ok (places t, depth t)
 
 -- the cells
 laid : Result Tree TemplateFault → Result (List Cell) TemplateFault
-laid tree = tree >>= λ t. Ok (lay t 0 (cell.Finish ∷ []))
+laid tree = tree >>= λ t. Ok (cells_of t 0 (cell.Finish ∷ []))
 
 -- so many replications, each of one pass over all that is left of so many descriptors, and an
 -- element
@@ -152,7 +152,7 @@ delayed_twice_is_laid : laid (given (fxy 1 1 0 ∷ fxy 0 31 1 ∷ fxy 0 1 1 ∷ 
 unfolding given laid
 delayed_twice_is_laid = refl
 
-delayed_twice_is_raised : raised (cell.Delayed 4 ∷ cell.Factor (fxy 0 31 1) ∷ cell.Element (fxy 0 1 1) ∷ cell.PassEnd ∷ cell.Finish ∷ []) ≡ delayed (fxy 0 31 1) (element (fxy 0 1 1) bare) bare
+delayed_twice_is_raised : trees_of_cells (cell.Delayed 4 ∷ cell.Factor (fxy 0 31 1) ∷ cell.Element (fxy 0 1 1) ∷ cell.PassEnd ∷ cell.Finish ∷ []) ≡ delayed (fxy 0 31 1) (element (fxy 0 1 1) bare) bare
 delayed_twice_is_raised = refl
 
 delayed_in_delayed_is_laid : laid (given (fxy 1 3 0 ∷ fxy 0 31 1 ∷ fxy 1 1 0 ∷ fxy 0 31 1 ∷ fxy 0 1 1 ∷ [])) ≡ Ok (cell.Delayed 7 ∷ cell.Factor (fxy 0 31 1) ∷ cell.Delayed 6 ∷ cell.Factor (fxy 0 31 1) ∷ cell.Element (fxy 0 1 1) ∷ cell.PassEnd ∷ cell.PassEnd ∷ cell.Finish ∷ [])

@@ -5,9 +5,9 @@ use Rattle.bufr_tables.specs.declared.template.cell.Cell.TheVariants as cell
 use Rattle.bufr_tables.specs.declared.template.fault.TemplateFault.{TemplateFault}
 use Rattle.bufr_tables.specs.declared.template.fault.TemplateFault.TheVariants as fault
 use Rattle.bufr_tables.specs.Tree.{Tree, depth, consumes}
-use Rattle.bufr_tables.specs.Cells.{lay, raised, IsLaid, IsKept}
-use Rattle.bufr_tables.specs.Expansion.{Tables, ◌>>=◌, unless, level, inner_of, first_of, tree_of, most_open}
-use Rattle.bufr_tables.specs.Growth.{Growth, growth, places_of, grow, PutsTree, Refuses}
+use Rattle.bufr_tables.specs.Cells.{cells_of, trees_of_cells, AreCellsOf, IsTemplate}
+use Rattle.bufr_tables.specs.Expansion.{Tables, ◌>>=◌, unless, level, inner_of, first_of, tree_of, max_open}
+use Rattle.bufr_tables.specs.Growth.{BuilderModel, growth, places_so_far, push_tree, PushesTree, IsFaultOrMemory}
 use Rattle.bufr_tables.proofs.SoundLemmas.{tree_fine}
 use Rattle.bufr_tables.proofs.Laying.{lay-tail, length-lay, raised_laid, kept_raised}
 use Rattle.bufr_tables.proofs.GrowthLemmas.{same_growth}
@@ -17,47 +17,47 @@ after_list : List ℕ → Result Tree TemplateFault → Result Tree TemplateFaul
 after_list list expanded = expanded >>= λ tree. unless (consumes tree) (fault.EmptyGroup (first_of list)) >>= λ _. Ok tree
 
 -- the list, as the code begins it
-same_start : (tables : Tables) (list : List ℕ) (start : Growth) → start ≡ growth [] 0 0 false → level tables (inner_of tables most_open) false 0 1 list ≡ level tables (inner_of tables most_open) false 0 (places_of start) list
-same_start tables list start e = ap (λ (g : Growth). level tables (inner_of tables most_open) false 0 (places_of g) list) (sym e)
+same_start : (tables : Tables) (list : List ℕ) (start : BuilderModel) → start ≡ growth [] 0 0 false → level tables (inner_of tables max_open) false 0 1 list ≡ level tables (inner_of tables max_open) false 0 (places_so_far start) list
+same_start tables list start e = ap (λ (g : BuilderModel). level tables (inner_of tables max_open) false 0 (places_so_far g) list) (sym e)
 
-pub whole-fault : (tables : Tables) (list : List ℕ) (start : Growth) (why : TemplateFault) → start ≡ growth [] 0 0 false → Refuses (level tables (inner_of tables most_open) false 0 (places_of start) list) why → Refuses (tree_of tables list) why
+pub whole-fault : (tables : Tables) (list : List ℕ) (start : BuilderModel) (why : TemplateFault) → start ≡ growth [] 0 0 false → IsFaultOrMemory (level tables (inner_of tables max_open) false 0 (places_so_far start) list) why → IsFaultOrMemory (tree_of tables list) why
 unfolding tree_of after_list
 whole-fault tables list start why e refuses other = ap (after_list list) (same_start tables list start e ∙ refuses other)
 
 -- what stands behind no cells
-put_tree : (start new : Growth) (tree : Tree) → start ≡ growth [] 0 0 false → new ≡ grow start tree → new ≡ growth (lay tree 0 []) 0 (depth tree) (consumes tree)
+put_tree : (start new : BuilderModel) (tree : Tree) → start ≡ growth [] 0 0 false → new ≡ push_tree start tree → new ≡ growth (cells_of tree 0 []) 0 (depth tree) (consumes tree)
 put_tree start new tree es e =
-    e ∙ ap (λ (g : Growth). grow g tree) es
-    ∙ same_growth (lay tree 0 []) (lay tree 0 []) 0 0 (max 0 (0 + depth tree)) (depth tree) (consumes tree) (consumes tree) refl refl (omega arith) refl
+    e ∙ ap (λ (g : BuilderModel). push_tree g tree) es
+    ∙ same_growth (cells_of tree 0 []) (cells_of tree 0 []) 0 0 (max 0 (0 + depth tree)) (depth tree) (consumes tree) (consumes tree) refl refl (omega arith) refl
 
-pub whole-empty : (tables : Tables) (list : List ℕ) (start new : Growth) (first : ℕ) → start ≡ growth [] 0 0 false → PutsTree start (level tables (inner_of tables most_open) false 0 (places_of start) list) new → new.full ≡ false → first ≡ first_of list → tree_of tables list ≡ Err (fault.EmptyGroup first)
+pub whole-empty : (tables : Tables) (list : List ℕ) (start new : BuilderModel) (first : ℕ) → start ≡ growth [] 0 0 false → PushesTree start (level tables (inner_of tables max_open) false 0 (places_so_far start) list) new → new.full ≡ false → first ≡ first_of list → tree_of tables list ≡ Err (fault.EmptyGroup first)
 unfolding tree_of after_list
 whole-empty tables list start new first es puts empty ef =
     ap (after_list list) (same_start tables list start es ∙ puts.is_defined)
-    ∙ ap (λ b. unless b (fault.EmptyGroup (first_of list)) >>= λ _. Ok puts.tree) (ap (λ (g : Growth). g.full) (sym (put_tree start new puts.tree es puts.is_put)) ∙ empty)
+    ∙ ap (λ b. unless b (fault.EmptyGroup (first_of list)) >>= λ _. Ok puts.tree) (ap (λ (g : BuilderModel). g.full) (sym (put_tree start new puts.tree es puts.is_put)) ∙ empty)
     ∙ ap (λ d. Err (fault.EmptyGroup d)) (sym ef)
 
 -- a tree is defined, and its cells have been laid out
-pub record IsWhole (tables : Tables) (list : List ℕ) (new : Growth) : Type 0 where
+pub record IsWhole (tables : Tables) (list : List ℕ) (new : BuilderModel) : Type 0 where
   pub tree : Tree
   pub is_defined : tree_of tables list ≡ Ok tree
-  pub cells_are : new.cells ≡ lay tree 0 []
+  pub cells_are : new.cells ≡ cells_of tree 0 []
   pub groups_are : new.groups ≡ 0
   pub depth_is : new.deep ≡ depth tree
 
-pub whole-ok : (tables : Tables) (list : List ℕ) (start new : Growth) → start ≡ growth [] 0 0 false → PutsTree start (level tables (inner_of tables most_open) false 0 (places_of start) list) new → new.full ≡ true → IsWhole tables list new
+pub whole-ok : (tables : Tables) (list : List ℕ) (start new : BuilderModel) → start ≡ growth [] 0 0 false → PushesTree start (level tables (inner_of tables max_open) false 0 (places_so_far start) list) new → new.full ≡ true → IsWhole tables list new
 unfolding tree_of after_list
 whole-ok tables list start new es puts full =
     let tree_is = put_tree start new puts.tree es puts.is_put in
     record {
       tree = puts.tree;
-      is_defined = ap (after_list list) (same_start tables list start es ∙ puts.is_defined) ∙ ap (λ b. unless b (fault.EmptyGroup (first_of list)) >>= λ _. Ok puts.tree) (ap (λ (g : Growth). g.full) (sym tree_is) ∙ full);
-      cells_are = ap (λ (g : Growth). g.cells) tree_is;
-      groups_are = ap (λ (g : Growth). g.groups) tree_is;
-      depth_is = ap (λ (g : Growth). g.deep) tree_is;
+      is_defined = ap (after_list list) (same_start tables list start es ∙ puts.is_defined) ∙ ap (λ b. unless b (fault.EmptyGroup (first_of list)) >>= λ _. Ok puts.tree) (ap (λ (g : BuilderModel). g.full) (sym tree_is) ∙ full);
+      cells_are = ap (λ (g : BuilderModel). g.cells) tree_is;
+      groups_are = ap (λ (g : BuilderModel). g.groups) tree_is;
+      depth_is = ap (λ (g : BuilderModel). g.deep) tree_is;
     }
 
-whole-laid : (tables : Tables) (list : List ℕ) (new : Growth) (cells : List Cell) (whole : IsWhole tables list new) → cells ≡ new.cells ++ cell.Finish ∷ [] → length new.cells + new.groups < 65535 → IsLaid cells whole.tree
+whole-laid : (tables : Tables) (list : List ℕ) (new : BuilderModel) (cells : List Cell) (whole : IsWhole tables list new) → cells ≡ new.cells ++ cell.Finish ∷ [] → length new.cells + new.groups < 65535 → AreCellsOf cells whole.tree
 whole-laid tables list new cells whole e within =
     let fine = tree_fine tables list whole.tree whole.is_defined in
     record {
@@ -70,11 +70,11 @@ whole-laid tables list new cells whole e within =
 
 -- the cells of a template have been built
 pub record IsBuilt (tables : Tables) (list : List ℕ) (cells : List Cell) (depth_told : ℕ) : Type 0 where
-  pub is_kept : IsKept cells depth_told (raised cells)
-  pub is_defined : tree_of tables list ≡ Ok (raised cells)
+  pub is_kept : IsTemplate cells depth_told (trees_of_cells cells)
+  pub is_defined : tree_of tables list ≡ Ok (trees_of_cells cells)
 
 -- with the end of the template behind the cells
-pub whole-built : (tables : Tables) (list : List ℕ) (new : Growth) (cells : List Cell) → IsWhole tables list new → cells ≡ new.cells ++ cell.Finish ∷ [] → length new.cells + new.groups < 65535 → IsBuilt tables list cells new.deep
+pub whole-built : (tables : Tables) (list : List ℕ) (new : BuilderModel) (cells : List Cell) → IsWhole tables list new → cells ≡ new.cells ++ cell.Finish ∷ [] → length new.cells + new.groups < 65535 → IsBuilt tables list cells new.deep
 whole-built tables list new cells whole e within =
     let laid = whole-laid tables list new cells whole e within in
     record {

@@ -9,16 +9,16 @@ use Rattle.bufr_tables.specs.Legal.{IsLegal}
 use Rattle.bufr_tables.specs.Sound.{IsSound}
 
 -- the cells of a tree from a place on, and then the tail
-abbrev pub lay : Tree → ℕ → List Cell → List Cell
-lay bare at tail = tail
-lay (element fxy more) at tail = cell.Element fxy ∷ lay more (at + 1) tail
-lay (operator fxy more) at tail = cell.Operator fxy ∷ lay more (at + 1) tail
-lay (fixed n body more) at tail =
+abbrev pub cells_of : Tree → ℕ → List Cell → List Cell
+cells_of bare at tail = tail
+cells_of (element fxy more) at tail = cell.Element fxy ∷ cells_of more (at + 1) tail
+cells_of (operator fxy more) at tail = cell.Operator fxy ∷ cells_of more (at + 1) tail
+cells_of (fixed n body more) at tail =
     cell.Fixed n (at + 2 + size body)
-    ∷ lay body (at + 1) (cell.PassEnd ∷ lay more (at + 2 + size body) tail)
-lay (delayed fxy body more) at tail =
+    ∷ cells_of body (at + 1) (cell.PassEnd ∷ cells_of more (at + 2 + size body) tail)
+cells_of (delayed fxy body more) at tail =
     cell.Delayed (at + 3 + size body) ∷ cell.Factor fxy
-    ∷ lay body (at + 2) (cell.PassEnd ∷ lay more (at + 3 + size body) tail)
+    ∷ cells_of body (at + 2) (cell.PassEnd ∷ cells_of more (at + 3 + size body) tail)
 
 -- the factor that stands first
 abbrev pub factor_first : List Cell → ℕ
@@ -32,33 +32,33 @@ factor_first (cell.PassEnd ∷ cells) = 0
 factor_first (cell.Finish ∷ cells) = 0
 
 -- a cell, and the factor behind it, put before the trees that were read behind it
-abbrev pub placed : Cell → ℕ → List Tree → List Tree
-placed cell.Finish factor trees = bare ∷ []
-placed cell.PassEnd factor trees = bare ∷ trees
-placed (cell.Element fxy) factor (rest ∷ trees) = element fxy rest ∷ trees
-placed (cell.Operator fxy) factor (rest ∷ trees) = operator fxy rest ∷ trees
-placed (cell.Fixed count after) factor (body ∷ rest ∷ trees) = fixed count body rest ∷ trees
-placed (cell.Delayed after) factor (body ∷ rest ∷ trees) = delayed factor body rest ∷ trees
-placed _ factor trees = trees
+abbrev pub prepend_cell : Cell → ℕ → List Tree → List Tree
+prepend_cell cell.Finish factor trees = bare ∷ []
+prepend_cell cell.PassEnd factor trees = bare ∷ trees
+prepend_cell (cell.Element fxy) factor (rest ∷ trees) = element fxy rest ∷ trees
+prepend_cell (cell.Operator fxy) factor (rest ∷ trees) = operator fxy rest ∷ trees
+prepend_cell (cell.Fixed count after) factor (body ∷ rest ∷ trees) = fixed count body rest ∷ trees
+prepend_cell (cell.Delayed after) factor (body ∷ rest ∷ trees) = delayed factor body rest ∷ trees
+prepend_cell _ factor trees = trees
 
 -- the trees that cells lay out, the innermost list first
 abbrev pub read_cells : List Cell → List Tree
 read_cells [] = []
-read_cells (c ∷ cells) = placed c (factor_first cells) (read_cells cells)
+read_cells (c ∷ cells) = prepend_cell c (factor_first cells) (read_cells cells)
 
 -- the tree that cells lay out
-abbrev pub raised : List Cell → Tree
-raised cells = first_tree (read_cells cells)
+abbrev pub trees_of_cells : List Cell → Tree
+trees_of_cells cells = first_tree (read_cells cells)
 
 -- cells are the layout of a tree as a walk relies on it
-pub record IsLaid (cells : List Cell) (tree : Tree) : Type 0 where
-  pub laid : cells ≡ lay tree 0 (cell.Finish ∷ [])
+pub record AreCellsOf (cells : List Cell) (tree : Tree) : Type 0 where
+  pub laid : cells ≡ cells_of tree 0 (cell.Finish ∷ [])
   pub within : places tree ≤ 65535
   pub shallow : depth tree ≤ 32
   pub sound : IsSound tree
   pub legal : IsLegal tree
 
 -- that, with the depth that is kept beside the cells
-pub record IsKept (cells : List Cell) (depth_told : ℕ) (tree : Tree) : Type 0 where
-  pub is_laid : IsLaid cells tree
+pub record IsTemplate (cells : List Cell) (depth_told : ℕ) (tree : Tree) : Type 0 where
+  pub is_laid : AreCellsOf cells tree
   pub depth_is : depth_told ≡ depth tree

@@ -39,13 +39,13 @@ pub record IsFirstCycle (table : List Sequence) (fxy : ℕ) : Type 0 where
 
 -- what a read of Table D answers: the table, where it has no cycle, or the first fault; a cycle
 -- comes after all others
-abbrev pub Reads : List Record → Result (List Sequence) TableFault → Type 0
-Reads records (Ok table) = (table_d_of records ≡ Ok table) × HasNoCycle table
-Reads records (Err (Cycle fxy)) =
+abbrev pub ReadsTableD : List Record → Result (List Sequence) TableFault → Type 0
+ReadsTableD records (Ok table) = (table_d_of records ≡ Ok table) × HasNoCycle table
+ReadsTableD records (Err (Cycle fxy)) =
     (table : List Sequence) × (table_d_of records ≡ Ok table) × IsFirstCycle table fxy
-Reads records (Err Header) = table_d_of records ≡ Err Header
-Reads records (Err (Row n)) = table_d_of records ≡ Err (Row n)
-Reads records (Err (Duplicate fxy)) = table_d_of records ≡ Err (Duplicate fxy)
-Reads records (Err TableSize) = table_d_of records ≡ Err TableSize
-Reads records (Err Csv) = table_d_of records ≡ Err Csv
-Reads records (Err Memory) = ⊤
+ReadsTableD records (Err Header) = table_d_of records ≡ Err Header
+ReadsTableD records (Err (Row n)) = table_d_of records ≡ Err (Row n)
+ReadsTableD records (Err (Duplicate fxy)) = table_d_of records ≡ Err (Duplicate fxy)
+ReadsTableD records (Err TableSize) = table_d_of records ≡ Err TableSize
+ReadsTableD records (Err Csv) = table_d_of records ≡ Err Csv
+ReadsTableD records (Err Memory) = ⊤

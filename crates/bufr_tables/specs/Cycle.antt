@@ -4,7 +4,7 @@
 use Rattle.std.specs.Prelude.{◌≡◌, ℕ, ◌+◌, ◌<◌, ◌≤◌, ◌++◌, ◌⊎◌, Bool, true, false, if◌then◌else◌, List, [], ◌∷◌, length, slice_index, slice_index_or, IsSome, Contains}
 use Rattle.bufr_tables.specs.Chain.{Chain, Leads, ReachesItself}
 use Rattle.bufr_tables.specs.Fxy.{key_of}
-use Rattle.bufr_tables.specs.TableD.{Sequence, fxys_of, listed, members_of}
+use Rattle.bufr_tables.specs.TableD.{Sequence, fxys_of, members_or_none, members_of}
 
 -- the rank of a sequence, which stands at its X and Y
 abbrev pub rank_of : List ℕ → ℕ → ℕ
@@ -20,9 +20,10 @@ NeverRises table ranks = (fxy : ℕ) → IsAbove table ranks fxy (rank_of ranks 
 
 -- the same of the first members of a sequence, so many, and of the first sequences of the file
 abbrev pub IsAboveFirst : List Sequence → List ℕ → ℕ → ℕ → ℕ → Type 0
-IsAboveFirst table ranks fxy rank count = (k : ℕ) → k < count → k < length (listed table fxy)
-    → IsSome (members_of table (slice_index (listed table fxy) k))
-    → rank_of ranks (slice_index (listed table fxy) k) ≤ rank
+IsAboveFirst table ranks fxy rank count = (k : ℕ) → k < count → k
+    < length (members_or_none table fxy)
+    → IsSome (members_of table (slice_index (members_or_none table fxy) k))
+    → rank_of ranks (slice_index (members_or_none table fxy) k) ≤ rank
 
 abbrev pub NeverRisesFirst : List Sequence → List ℕ → ℕ → Type 0
 NeverRisesFirst table ranks count = (k : ℕ) → k < count → k < length table
@@ -49,9 +50,9 @@ pub record IsVisited (table : List Sequence) (fxy count : ℕ) (old : List Bool)
   pub kept : (to : ℕ) → IsSet old to → IsSet new to
   pub news : (to : ℕ) → IsSet new to → IsSet old to ⊎ Contains more to
   pub balance : unset new + length more ≡ unset old
-  pub seen : (k : ℕ) → k < count → k < length (listed table fxy)
-      → IsSome (members_of table (slice_index (listed table fxy) k))
-      → IsSet new (slice_index (listed table fxy) k)
+  pub seen : (k : ℕ) → k < count → k < length (members_or_none table fxy)
+      → IsSome (members_of table (slice_index (members_or_none table fxy) k))
+      → IsSet new (slice_index (members_or_none table fxy) k)
 
 -- each member of a sequence that is a sequence was seen
 abbrev pub AreSeen : List Sequence → List Bool → ℕ → Type 0

@@ -2,7 +2,7 @@
 -- Cited by private steps only.
 use Rattle.std.specs.Prelude.{◌≡◌, ℕ, suc, ◌+◌, ◌<◌, ◌≤◌, ◌==◌, nat_eq, if◌then◌else◌, List, [], ◌∷◌, length, slice_index, vec_capacity, Option, Some, None, option_map}
 use Rattle.std.specs.List.{AllByRecursion, IsDistinct}
-use Rattle.bufr_tables.specs.declared.directory.Directory.TheInside.{Inside}
+use Rattle.bufr_tables.specs.declared.index.FxyIndex.TheInside.{Inside}
 
 -- the first place where a number stands in a list, counted from 0
 abbrev pub place_of : List ℕ → ℕ → Option ℕ

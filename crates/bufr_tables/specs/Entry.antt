@@ -4,8 +4,8 @@ use Rattle.std.specs.Prelude.{ℕ}
 use Rattle.bufr_tables.specs.TableB.{Row}
 use Rattle.bufr_tables.specs.declared.table_b.Entry.{Entry}
 
-abbrev pub row_with : ℕ → Entry → Row
-row_with fxy e =
+abbrev pub row_of_entry : ℕ → Entry → Row
+row_of_entry fxy e =
     record {
       fxy = fxy;
       name = e.name.now;

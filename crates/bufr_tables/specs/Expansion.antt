@@ -16,12 +16,12 @@ pub record Tables : Type 0 where
   pub members : ℕ → Option (List ℕ)
 
 -- the most places that a template may take
-abbrev pub most_places : ℕ
-most_places = 65535
+abbrev pub max_places : ℕ
+max_places = 65535
 
 -- the most groups and sequences that may be open together
-abbrev pub most_open : ℕ
-most_open = 32
+abbrev pub max_open : ℕ
+max_open = 32
 
 -- one step after another, up to the first fault
 infixl 10 ◌>>=◌
@@ -37,18 +37,18 @@ unless false why = Err why
 
 -- a fault, where so many places more are too many
 abbrev pub with_places : (places more d : ℕ) → Result (Unit {0}) TemplateFault
-with_places places more d = unless (nat_le (places + more) most_places) (fault.TemplateSize d)
+with_places places more d = unless (nat_le (places + more) max_places) (fault.TemplateSize d)
 
 -- what a list of descriptors stands for behind so many places
 abbrev pub Expansion : Type 0
 Expansion = (places : ℕ) → List ℕ → Result Tree TemplateFault
 
 -- what one descriptor stands for, and how many of those behind it it takes
-pub record Part : Type 0 where
+pub record ExpandedPart : Type 0 where
   pub tree : Tree
   pub taken : ℕ
 
-abbrev pub part : Tree → ℕ → Part
+abbrev pub part : Tree → ℕ → ExpandedPart
 part tree taken = record { tree = tree; taken = taken }
 
 -- how one more group or sequence is expanded, where there is room for it
@@ -62,14 +62,14 @@ begins_with_element [] = false
 begins_with_element (d ∷ after) = f_of d == 0
 
 -- an element: known to Table B, or of a width that the operator before it gives
-abbrev pub element_part : Tables → Bool → ℕ → ℕ → Result Part TemplateFault
+abbrev pub element_part : Tables → Bool → ℕ → ℕ → Result ExpandedPart TemplateFault
 element_part tables width_given places d = do
   _ ← unless (width_given || tables.known d) (fault.UnknownElement d)
   _ ← with_places places 1 d
   Ok (part (element d bare) 0)
 
 -- an operator; one that gives a width stands before an element
-abbrev pub operator_part : ℕ → ℕ → List ℕ → Result Part TemplateFault
+abbrev pub operator_part : ℕ → ℕ → List ℕ → Result ExpandedPart TemplateFault
 operator_part places d after = do
   _ ← unless (is_legal_operator d) (fault.Operator d)
   _ ← unless (not (gives_width d) || begins_with_element after) (fault.LocalShape d)
@@ -88,13 +88,14 @@ body_of inner places own d after = do
   Ok body
 
 -- a group of Y passes
-abbrev pub fixed_part : Option Expansion → ℕ → ℕ → List ℕ → Result Part TemplateFault
+abbrev pub fixed_part : Option Expansion → ℕ → ℕ → List ℕ → Result ExpandedPart TemplateFault
 fixed_part inner places d after = do
   body ← body_of inner places 2 d after
   Ok (part (fixed (y_of d) body bare) (x_of d))
 
 -- a group of as many passes as its factor tells, which stands before the X descriptors
-abbrev pub delayed_part : Tables → Option Expansion → ℕ → ℕ → List ℕ → Result Part TemplateFault
+abbrev pub delayed_part : Tables → Option Expansion → ℕ → ℕ → List ℕ
+    → Result ExpandedPart TemplateFault
 delayed_part tables inner places d [] = Err (fault.NoFactor d)
 delayed_part tables inner places d (factor ∷ after) = do
   _ ← unless (is_factor factor) (fault.NoFactor d)
@@ -103,18 +104,20 @@ delayed_part tables inner places d (factor ∷ after) = do
   Ok (part (delayed factor body bare) (1 + x_of d))
 
 -- a group, by its Y
-abbrev pub group_by : ℕ → Tables → Option Expansion → ℕ → ℕ → List ℕ → Result Part TemplateFault
+abbrev pub group_by : ℕ → Tables → Option Expansion → ℕ → ℕ → List ℕ
+    → Result ExpandedPart TemplateFault
 group_by zero tables inner places d after = delayed_part tables inner places d after
 group_by (suc count) tables inner places d after = fixed_part inner places d after
 
 -- a replication
-abbrev pub group_part : Tables → Option Expansion → ℕ → ℕ → List ℕ → Result Part TemplateFault
+abbrev pub group_part : Tables → Option Expansion → ℕ → ℕ → List ℕ
+    → Result ExpandedPart TemplateFault
 group_part tables inner places d after = do
   _ ← unless (nat_lt 0 (x_of d)) (fault.GroupShape d)
   group_by (y_of d) tables inner places d after
 
 -- a sequence: its members stand in its place
-abbrev pub sequence_part : Tables → Option Expansion → ℕ → ℕ → Result Part TemplateFault
+abbrev pub sequence_part : Tables → Option Expansion → ℕ → ℕ → Result ExpandedPart TemplateFault
 sequence_part tables inner places d = do
   members ← ok_or (tables.members d) (fault.UnknownSequence d)
   expand ← opened inner d
@@ -123,14 +126,14 @@ sequence_part tables inner places d = do
 
 -- one descriptor, by its F
 abbrev pub part_by : ℕ → Tables → Option Expansion → Bool → ℕ → ℕ → List ℕ
-    → Result Part TemplateFault
+    → Result ExpandedPart TemplateFault
 part_by zero tables inner width_given places d after = element_part tables width_given places d
 part_by (suc zero) tables inner width_given places d after = group_part tables inner places d after
 part_by (suc (suc zero)) tables inner width_given places d after = operator_part places d after
 part_by _ tables inner width_given places d after = sequence_part tables inner places d
 
 unfoldable pub part_of : Tables → Option Expansion → Bool → ℕ → ℕ → List ℕ
-    → Result Part TemplateFault
+    → Result ExpandedPart TemplateFault
 part_of tables inner width_given places d after =
     part_by (f_of d) tables inner width_given places d after
 
@@ -157,6 +160,6 @@ first_of (d ∷ after) = d
 -- a whole list: the end of the template is its first place, and some node takes bits
 unfoldable pub tree_of : Tables → List ℕ → Result Tree TemplateFault
 tree_of tables list = do
-  tree ← level tables (inner_of tables most_open) false 0 1 list
+  tree ← level tables (inner_of tables max_open) false 0 1 list
   _ ← unless (consumes tree) (fault.EmptyGroup (first_of list))
   Ok tree

@@ -1,7 +1,7 @@
 -- What cells in the making stand for.
 -- Cited by private steps only.
-use Rattle.bufr_tables.specs.declared.template.growing.Growing.{Growing}
-use Rattle.bufr_tables.specs.Growth.{Growth, growth}
+use Rattle.bufr_tables.specs.declared.template.growing.TemplateBuilder.{TemplateBuilder}
+use Rattle.bufr_tables.specs.Growth.{BuilderModel, growth}
 
-abbrev pub growth_of : Growing → Growth
-growth_of g = growth g.cells.items g.open_groups g.depth g.consumes
+abbrev pub builder_model : TemplateBuilder → BuilderModel
+builder_model g = growth g.cells.items g.open_groups g.depth g.consumes

@@ -5,7 +5,7 @@ use Rattle.std.specs.Prelude.{◌≡◌, ℕ, ◌≤◌, ◌<◌, List, ◌++◌
 use Rattle.std.specs.List.{AllByRecursion}
 use Rattle.std.specs.Prelude.{slice_range}
 use Rattle.bufr_tables.specs.TableB.{Row, IsRow}
-use Rattle.bufr_tables.specs.Entry.{row_with}
+use Rattle.bufr_tables.specs.Entry.{row_of_entry}
 use Rattle.bufr_tables.specs.declared.table_b.Entry.{Entry}
 use Rattle.bufr_tables.specs.declared.table_b.Stored.{Stored}
 use Rattle.bufr_tables.specs.declared.table_b.TableB.TheInside.{Inside}
@@ -28,26 +28,26 @@ abbrev pub rows_kept : List ℕ → List Stored → List Row
 rows_kept octets stored = map (row_kept octets) stored
 
 -- the places of an element are in order and inside the block
-abbrev pub IsInside : ℕ → Stored → Type 0
-IsInside size s = (s.start ≤ s.middle) × (s.middle ≤ s.end) × (s.end ≤ size)
+abbrev pub IsRowInside : ℕ → Stored → Type 0
+IsRowInside size s = (s.start ≤ s.middle) × (s.middle ≤ s.end) × (s.end ≤ size)
 
 -- a block of octets has more of them behind those that it had
-abbrev pub Grows : List ℕ → List ℕ → Type 0
-Grows old new = (more : List ℕ) × (new ≡ old ++ more)
+abbrev pub ExtendsBlock : List ℕ → List ℕ → Type 0
+ExtendsBlock old new = (more : List ℕ) × (new ≡ old ++ more)
 
 -- an element is kept in the block as its entry says
 pub record IsStored (octets : List ℕ) (fxy : ℕ) (entry : Entry) (s : Stored) : Type 0 where
-  pub row : row_kept octets s ≡ row_with fxy entry
-  pub inside : IsInside (length octets) s
+  pub row : row_kept octets s ≡ row_of_entry fxy entry
+  pub inside : IsRowInside (length octets) s
   pub descriptor : s.fxy ≡ fxy
 
 -- every element is kept inside the block and within the limits, and the directory has their
 -- descriptors
-pub record IsKept (a : Inside) : Type 0 where
-  pub inside : AllByRecursion (IsInside (length a.octets.items)) a.stored.items
+pub record IsTableB (a : Inside) : Type 0 where
+  pub inside : AllByRecursion (IsRowInside (length a.octets.items)) a.stored.items
   pub elements : AllByRecursion (λ s. s.fxy < 16384) a.stored.items
-  pub listed : a.directory ≡ map (λ s. s.fxy) a.stored.items
+  pub members_or_none : a.directory ≡ map (λ s. s.fxy) a.stored.items
   pub limits : AllByRecursion IsRow (rows_kept a.octets.items a.stored.items)
 
-abbrev pub table_kept : Inside → List Row
-table_kept a = rows_kept a.octets.items a.stored.items
+abbrev pub table_b_rows : Inside → List Row
+table_b_rows a = rows_kept a.octets.items a.stored.items

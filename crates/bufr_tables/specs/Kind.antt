@@ -15,13 +15,13 @@ unfoldable pub begins_with : List ℕ → List ℕ → Bool
 begins_with text words = is_words (take (length words) text) words
 
 -- a unit that names a table of figures
-unfoldable pub names_table : List ℕ → Bool
-names_table unit =
+unfoldable pub is_code_table : List ℕ → Bool
+is_code_table unit =
     begins_with unit (codes "Code table") || begins_with unit (codes "Common code table")
     || begins_with unit (codes "Flag table")
 
 -- `CCITT IA5` is text; tables of figures are coded; every other unit is a quantity
 unfoldable pub kind_of : List ℕ → Kind
 kind_of unit =
-    if is_words unit (codes "CCITT IA5") then Character else if names_table unit
+    if is_words unit (codes "CCITT IA5") then Character else if is_code_table unit
     then Coded else Numeric

@@ -15,12 +15,12 @@ leaves (delayed factor body rest) = factor ∷ (leaves body ++ leaves rest)
 
 -- a list says its elements and operators, in order; a sequence says what its members say, and a
 -- replication nothing of its own
-pub data Says (members : ℕ → Option (List ℕ)) : List ℕ → List ℕ → Type 0 where
-  says_nothing : Says members [] []
+pub data ListsLeaves (members : ℕ → Option (List ℕ)) : List ℕ → List ℕ → Type 0 where
+  says_nothing : ListsLeaves members [] []
   says_itself : (d : ℕ) (after said : List ℕ) → (f_of d ≡ 0) ⊎ (f_of d ≡ 2)
-      → Says members after said → Says members (d ∷ after) (d ∷ said)
-  says_replication : (d : ℕ) (after said : List ℕ) → f_of d ≡ 1 → Says members after said
-      → Says members (d ∷ after) said
+      → ListsLeaves members after said → ListsLeaves members (d ∷ after) (d ∷ said)
+  says_replication : (d : ℕ) (after said : List ℕ) → f_of d ≡ 1 → ListsLeaves members after said
+      → ListsLeaves members (d ∷ after) said
   says_sequence : (d : ℕ) (inner after inside said : List ℕ) → 3 ≤ f_of d → members d ≡ Some inner
-      → Says members inner inside → Says members after said
-      → Says members (d ∷ after) (inside ++ said)
+      → ListsLeaves members inner inside → ListsLeaves members after said
+      → ListsLeaves members (d ∷ after) (inside ++ said)

@@ -6,9 +6,9 @@ use Rattle.std.specs.Char.{is_ascii_digit}
 use Rattle.std.specs.List.{list_all}
 
 -- the number that digits write, behind a number that was written before them
-abbrev pub number_behind : ℕ → List ℕ → ℕ
-number_behind n [] = n
-number_behind n (digit ∷ digits) = number_behind (10 * n + (digit - 48)) digits
+abbrev pub number_after_digits : ℕ → List ℕ → ℕ
+number_after_digits n [] = n
+number_after_digits n (digit ∷ digits) = number_after_digits (10 * n + (digit - 48)) digits
 
 -- one or more digits
 abbrev pub are_digits : List ℕ → Bool
@@ -16,7 +16,7 @@ are_digits text = nat_lt 0 (length text) && list_all is_ascii_digit text
 
 -- the number that digits write, where they are digits
 unfoldable pub natural_of : List ℕ → Option ℕ
-natural_of digits = if are_digits digits then Some (number_behind 0 digits) else None
+natural_of digits = if are_digits digits then Some (number_after_digits 0 digits) else None
 
 abbrev pub negated : ℕ → ℤ
 negated n = neg_ℤ (pos n)
@@ -33,9 +33,9 @@ fits_i64 (pos n) = nat_lt n (2 ^ 63)
 fits_i64 (negsuc n) = nat_lt n (2 ^ 63)
 
 -- the number, where 64 bits hold it
-unfoldable pub fitting : ℤ → Option ℤ
-fitting z = if fits_i64 z then Some z else None
+unfoldable pub if_i64 : ℤ → Option ℤ
+if_i64 z = if fits_i64 z then Some z else None
 
 -- the number that a text writes, where 64 bits hold it
 unfoldable pub i64_of : List ℕ → Option ℤ
-i64_of text = option_and_then fitting (integer_of text)
+i64_of text = option_and_then if_i64 (integer_of text)

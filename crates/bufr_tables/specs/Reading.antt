@@ -62,5 +62,5 @@ pub record IsOpened (names : List (List ℕ)) (records : List Record)
   pub rest : records_left r ≡ drop 1 records
 
 -- texts behind references
-abbrev pub texts_of : List (Bor (List ℕ)) → List (List ℕ)
-texts_of texts = map (λ text. text.now) texts
+abbrev pub field_texts : List (Bor (List ℕ)) → List (List ℕ)
+field_texts texts = map (λ text. text.now) texts

@@ -19,12 +19,12 @@ and_then (Ok x) f = f x
 and_then (Err fault) f = Err fault
 
 -- a call answers what is expected, or memory ran out
-abbrev pub Gives : {A : Type 0} → Result A TableFault → Result A TableFault → Type 0
-Gives expected (Ok x) = expected ≡ Ok x
-Gives expected (Err Header) = expected ≡ Err Header
-Gives expected (Err (Row n)) = expected ≡ Err (Row n)
-Gives expected (Err (Duplicate fxy)) = expected ≡ Err (Duplicate fxy)
-Gives expected (Err (Cycle fxy)) = expected ≡ Err (Cycle fxy)
-Gives expected (Err TableSize) = expected ≡ Err TableSize
-Gives expected (Err Csv) = expected ≡ Err Csv
-Gives expected (Err Memory) = ⊤
+abbrev pub ReturnsUnlessMemory : {A : Type 0} → Result A TableFault → Result A TableFault → Type 0
+ReturnsUnlessMemory expected (Ok x) = expected ≡ Ok x
+ReturnsUnlessMemory expected (Err Header) = expected ≡ Err Header
+ReturnsUnlessMemory expected (Err (Row n)) = expected ≡ Err (Row n)
+ReturnsUnlessMemory expected (Err (Duplicate fxy)) = expected ≡ Err (Duplicate fxy)
+ReturnsUnlessMemory expected (Err (Cycle fxy)) = expected ≡ Err (Cycle fxy)
+ReturnsUnlessMemory expected (Err TableSize) = expected ≡ Err TableSize
+ReturnsUnlessMemory expected (Err Csv) = expected ≡ Err Csv
+ReturnsUnlessMemory expected (Err Memory) = ⊤

@@ -27,8 +27,8 @@ pub record Row : Type 0 where
   pub width : ℕ
 
 -- the fields of the header
-abbrev pub header : List (List ℕ)
-header =
+abbrev pub columns_b : List (List ℕ)
+columns_b =
     codes "fxy" ∷ codes "name" ∷ codes "unit" ∷ codes "scale" ∷ codes "reference"
     ∷ codes "width" ∷ []
 
@@ -41,11 +41,11 @@ abbrev pub is_printed : ℕ → Bool
 is_printed octet = nat_le 32 octet && not (octet == 127)
 
 -- a name or a unit: at most 512 octets, and none of them a control character of ASCII
-abbrev pub is_plain : List ℕ → Bool
-is_plain text = nat_le (length text) 512 && list_all is_printed text
+abbrev pub is_name : List ℕ → Bool
+is_name text = nat_le (length text) 512 && list_all is_printed text
 
 unfoldable pub plain_of : List ℕ → Option (List ℕ)
-plain_of text = only_if (is_plain text) text
+plain_of text = only_if (is_name text) text
 
 -- a scale, from -127 to 127
 abbrev pub allows_scale : ℤ → Bool
@@ -84,9 +84,9 @@ is_character Numeric = false
 abbrev pub is_zero : ℤ → Bool
 is_zero z = unsigned_abs z == 0
 
-abbrev pub fits_factor : Option ℕ → Row → Bool
-fits_factor None row = true
-fits_factor (Some width) row =
+abbrev pub is_valid_factor : Option ℕ → Row → Bool
+is_valid_factor None row = true
+is_valid_factor (Some width) row =
     (row.width == width) && is_zero row.scale && is_zero row.reference
     && not (is_character row.kind)
 
@@ -109,17 +109,17 @@ row_of r = do
         reference = reference;
         width = width;
       }
-  only_if (fits_factor (factor_width fxy) row) row
+  only_if (is_valid_factor (factor_width fxy) row) row
 
 -- the limits of each row of a table: a plain name and unit, the kind that the unit says, a scale
 -- and a width that such an element may have, and for a factor of delayed replications its own width
 pub record IsRow (row : Row) : Type 0 where
-  pub name : is_plain row.name ≡ true
-  pub unit : is_plain row.unit ≡ true
+  pub name : is_name row.name ≡ true
+  pub unit : is_name row.unit ≡ true
   pub kind : row.kind ≡ kind_of row.unit
   pub scale : allows_scale row.scale ≡ true
   pub width : allows_width row.kind row.width ≡ true
-  pub factor : fits_factor (factor_width row.fxy) row ≡ true
+  pub factor : is_valid_factor (factor_width row.fxy) row ≡ true
 
 -- the element of a descriptor
 abbrev pub entry_of : List Row → ℕ → Option Row
@@ -131,12 +131,12 @@ with_row n rows None = Err (RowFault n)
 with_row n rows (Some row) =
     if is_some (entry_of rows row.fxy) then Err (Duplicate row.fxy) else Ok (rows ++ row ∷ [])
 
-unfoldable pub with_record : ℕ → List Row → Record → Result (List Row) TableFault
-with_record n rows r = if length r == 6 then with_row n rows (row_of r) else Err Csv
+unfoldable pub with_record_b : ℕ → List Row → Record → Result (List Row) TableFault
+with_record_b n rows r = if length r == 6 then with_row n rows (row_of r) else Err Csv
 
 -- the table of these records, or the first fault
 abbrev pub table_b_of : List Record → Result (List Row) TableFault
-table_b_of records = table_of header with_record [] records
+table_b_of records = table_of columns_b with_record_b [] records
 
 -- the rows of a table are those that the records under the header write, in order, and no
 -- descriptor is there twice
@@ -144,6 +144,6 @@ pub record AreRows (records : List Record) (table : List Row) : Type 0 where
   pub first : Record
   pub rest : List Record
   pub stands : records ≡ first ∷ rest
-  pub named : has_fields header first ≡ true
+  pub named : has_fields columns_b first ≡ true
   pub rows : map row_of rest ≡ map Some table
   pub distinct : IsDistinct nat_eq (map (λ row. row.fxy) table)

@@ -22,8 +22,8 @@ pub record Member : Type 0 where
   pub fxy : ℕ
 
 -- the fields of the header
-abbrev pub header : List (List ℕ)
-header = codes "fxy" ∷ codes "member" ∷ []
+abbrev pub columns_d : List (List ℕ)
+columns_d = codes "fxy" ∷ codes "member" ∷ []
 
 -- the descriptor of a sequence
 unfoldable pub sequence_of : List ℕ → Option ℕ
@@ -45,8 +45,8 @@ abbrev pub members_of : List Sequence → ℕ → Option (List ℕ)
 members_of table fxy = option_map (λ s. s.members) (find (λ s. s.fxy == fxy) table)
 
 -- the members of a sequence, or none where the table lacks it
-abbrev pub listed : List Sequence → ℕ → List ℕ
-listed table fxy = unwrap_or (members_of table fxy) []
+abbrev pub members_or_none : List Sequence → ℕ → List ℕ
+members_or_none table fxy = unwrap_or (members_of table fxy) []
 
 -- the last sequence has this descriptor
 abbrev pub is_last : List Sequence → ℕ → Bool
@@ -78,12 +78,12 @@ with_member n table (Some row) =
     if begins_again table row then Err (Duplicate row.sequence)
     else if nat_le 65536 (n - 2) then Err TableSize else Ok (added table row)
 
-unfoldable pub with_record : ℕ → List Sequence → Record → Result (List Sequence) TableFault
-with_record n table r = if length r == 2 then with_member n table (member_of r) else Err Csv
+unfoldable pub with_record_d : ℕ → List Sequence → Record → Result (List Sequence) TableFault
+with_record_d n table r = if length r == 2 then with_member n table (member_of r) else Err Csv
 
 -- the table of these records, or the first fault
 abbrev pub table_d_of : List Record → Result (List Sequence) TableFault
-table_d_of records = table_of header with_record [] records
+table_d_of records = table_of columns_d with_record_d [] records
 
 -- the members that rows give a sequence, in order
 abbrev pub members_in : List Member → ℕ → List ℕ
@@ -96,7 +96,7 @@ pub record AreSequences (records : List Record) (table : List Sequence) : Type 0
   pub first : Record
   pub rest : List Record
   pub stands : records ≡ first ∷ rest
-  pub named : has_fields header first ≡ true
+  pub named : has_fields columns_d first ≡ true
   pub rows : List Member
   pub written : map member_of rest ≡ map Some rows
-  pub members : (fxy : ℕ) → listed table fxy ≡ members_in rows fxy
+  pub members : (fxy : ℕ) → members_or_none table fxy ≡ members_in rows fxy

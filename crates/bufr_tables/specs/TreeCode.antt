@@ -8,12 +8,14 @@ use Rattle.bufr_tables.specs.Tree.{Tree, bare, element, operator, fixed, delayed
 
 -- a tree in front of what is written already: each node as its kind and its number, a body before
 -- the rest
-abbrev pub written : Tree → List (ℕ × ℕ) → List (ℕ × ℕ)
-written bare more = (0, 0) ∷ more
-written (element fxy rest) more = (1, fxy) ∷ written rest more
-written (operator fxy rest) more = (2, fxy) ∷ written rest more
-written (fixed count body rest) more = (3, count) ∷ written body (written rest more)
-written (delayed factor body rest) more = (4, factor) ∷ written body (written rest more)
+abbrev pub tree_code_onto : Tree → List (ℕ × ℕ) → List (ℕ × ℕ)
+tree_code_onto bare more = (0, 0) ∷ more
+tree_code_onto (element fxy rest) more = (1, fxy) ∷ tree_code_onto rest more
+tree_code_onto (operator fxy rest) more = (2, fxy) ∷ tree_code_onto rest more
+tree_code_onto (fixed count body rest) more = (3, count)
+    ∷ tree_code_onto body (tree_code_onto rest more)
+tree_code_onto (delayed factor body rest) more = (4, factor)
+    ∷ tree_code_onto body (tree_code_onto rest more)
 
 -- one kind and number, put on the trees that were read behind it
 abbrev pub put : ℕ → ℕ → List Tree → List Tree
@@ -29,16 +31,19 @@ abbrev pub read : List (ℕ × ℕ) → List Tree
 read [] = []
 read (node ∷ nodes) = put node.0 node.1 (read nodes)
 
-pub read-written : (tree : Tree) (more : List (ℕ × ℕ)) → read (written tree more) ≡ tree ∷ read more
+pub read-written : (tree : Tree) (more : List (ℕ × ℕ)) → read (tree_code_onto tree more) ≡ tree
+    ∷ read more
 read-written bare more = refl
 read-written (element fxy rest) more = ap (put 1 fxy) (read-written rest more)
 read-written (operator fxy rest) more = ap (put 2 fxy) (read-written rest more)
 read-written (fixed count body rest) more =
     ap (put 3 count)
-    (read-written body (written rest more) ∙ ap (λ trees. body ∷ trees) (read-written rest more))
+    (read-written body (tree_code_onto rest more) ∙ ap (λ trees. body ∷ trees)
+    (read-written rest more))
 read-written (delayed factor body rest) more =
     ap (put 4 factor)
-    (read-written body (written rest more) ∙ ap (λ trees. body ∷ trees) (read-written rest more))
+    (read-written body (tree_code_onto rest more) ∙ ap (λ trees. body ∷ trees)
+    (read-written rest more))
 
 abbrev pub first_tree : List Tree → Tree
 first_tree [] = bare
@@ -46,5 +51,5 @@ first_tree (tree ∷ trees) = tree
 
 abbrev pub tree_code : Coded Tree
 tree_code =
-    code_by (List (ℕ × ℕ)) (coded_list (coded× coded_ℕ coded_ℕ)) (λ tree. written tree [])
+    code_by (List (ℕ × ℕ)) (coded_list (coded× coded_ℕ coded_ℕ)) (λ tree. tree_code_onto tree [])
     (λ nodes. first_tree (read nodes)) (λ tree. ap first_tree (read-written tree []))

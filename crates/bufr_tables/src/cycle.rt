@@ -7,7 +7,7 @@
 ghost use Rattle.std.specs.Prelude.{◌≡◌, ◌≤◌, ◌<◌, length, slice_index, IfOk, OnOk, IsTrue, MatchOption, ◌↔◌};
 ghost use Rattle.bufr_tables.specs.Chain.{HasNoCycle, IsFirstCycle, ReachesItself};
 ghost use Rattle.bufr_tables.specs.Cycle.{IsAbove, IsVisited, NeverRises, rank_of};
-ghost use Rattle.bufr_tables.specs.TableD.{listed};
+ghost use Rattle.bufr_tables.specs.TableD.{members_or_none};
 
 use crate::fxy::Fxy;
 use crate::ranks::ranks_of;
@@ -63,7 +63,7 @@ fn highest(table: &TableD, sequence: Fxy, ranks: &[u32]) -> u32
     ensures { IsAbove table.now ranks.now sequence result }
 {
     let mut most = 0;
-    for member in table.listed(sequence) {
+    for member in table.members_or_none(sequence) {
         if table.is_sequence(*member) {
             let rank = ranks[member.key()];
             most = most.max(rank);
@@ -98,10 +98,11 @@ fn visit(
 ) -> Result<(), AllocError>
     requires { length seen.old ≡ 65536 }
     ensures { OnOk result
-        (IsVisited table.now sequence (length (listed table.now sequence)) seen.old queue.old.items
+        (IsVisited table.now sequence (length (members_or_none table.now sequence)) seen.old
+        queue.old.items
         seen.new queue.new.items) }
 {
-    for member in table.listed(sequence) {
+    for member in table.members_or_none(sequence) {
         let word = usize::from(member.word());
         if table.is_sequence(*member) && !seen[word] {
             queue.push(*member)?;

@@ -1,6 +1,6 @@
 //! What the unit of an element says of its values.
 ghost use Rattle.std.specs.Prelude.{◌≡◌};
-ghost use Rattle.bufr_tables.specs.Kind.{begins_with, is_words, kind_of, names_table};
+ghost use Rattle.bufr_tables.specs.Kind.{begins_with, is_words, kind_of, is_code_table};
 
 /// What the values of an element are, by its unit.
 #[derive(Clone, Copy, Debug, PartialEq, Eq)]
@@ -19,9 +19,9 @@ impl Kind {
     pub(crate) fn of(unit: &[u8]) -> Kind
         ensures { result ≡ kind_of unit.now }
     {
-        if is_same(unit, b"CCITT IA5") {
+        if eq_ignore_case(unit, b"CCITT IA5") {
             Kind::Character
-        } else if names_table(unit) {
+        } else if is_code_table(unit) {
             Kind::Coded
         } else {
             Kind::Numeric
@@ -30,9 +30,9 @@ impl Kind {
 }
 
 /// Whether a unit names a table of figures.
-#[tactic(auto, unfolding(crate::specs::Kind::names_table))]
-fn names_table(unit: &[u8]) -> bool
-    ensures { result ≡ names_table unit.now }
+#[tactic(auto, unfolding(crate::specs::Kind::is_code_table))]
+fn is_code_table(unit: &[u8]) -> bool
+    ensures { result ≡ is_code_table unit.now }
 {
     starts_with(unit, b"Code table")
         || starts_with(unit, b"Common code table")
@@ -41,7 +41,7 @@ fn names_table(unit: &[u8]) -> bool
 
 /// Whether a text is these words, whatever their case.
 #[tactic(auto, unfolding(crate::specs::Kind::is_words))]
-fn is_same(text: &[u8], words: &[u8]) -> bool
+fn eq_ignore_case(text: &[u8], words: &[u8]) -> bool
     ensures { result ≡ is_words text.now words.now }
 {
     text.eq_ignore_ascii_case(words)
@@ -55,5 +55,5 @@ fn starts_with(text: &[u8], words: &[u8]) -> bool
     if text.len() < words.len() {
         return false;
     }
-    is_same(&text[..words.len()], words)
+    eq_ignore_case(&text[..words.len()], words)
 }

@@ -1,6 +1,6 @@
 //! Whole numbers, as the tables write them.
 ghost use Rattle.std.specs.Prelude.{◌≡◌, ◌-◌, ◌^◌, ◌<◌, ◌≤◌, drop, length, min, option_map, pos, slice_index, ◌==◌};
-ghost use Rattle.bufr_tables.specs.Number.{fitting, i64_of, natural_of, negated};
+ghost use Rattle.bufr_tables.specs.Number.{if_i64, i64_of, natural_of, negated};
 
 use crate::fxy::are_digits;
 
@@ -10,7 +10,7 @@ pub(crate) fn integer(text: &[u8]) -> Option<i64>
     ensures { result ≡ i64_of text.now }
 {
     if is_negative(text) {
-        negative(magnitude(behind_first(text))?)
+        negative(magnitude(without_first(text))?)
     } else {
         positive(magnitude(text)?)
     }
@@ -24,7 +24,7 @@ fn is_negative(text: &[u8]) -> bool
 }
 
 /// The octets behind the first.
-fn behind_first(text: &[u8]) -> &[u8]
+fn without_first(text: &[u8]) -> &[u8]
     requires { 0 < length text.now }
     ensures { result.now ≡ drop 1 text.now }
 {
@@ -32,9 +32,9 @@ fn behind_first(text: &[u8]) -> &[u8]
 }
 
 /// The number of this size, where an `i64` holds it.
-#[tactic(auto, unfolding(crate::specs::Number::fitting))]
+#[tactic(auto, unfolding(crate::specs::Number::if_i64))]
 fn positive(size: u64) -> Option<i64>
-    ensures { result ≡ fitting (pos size) }
+    ensures { result ≡ if_i64 (pos size) }
 {
     if size >= 1 << 63 {
         return None;
@@ -43,9 +43,9 @@ fn positive(size: u64) -> Option<i64>
 }
 
 /// The number below zero of this size, where an `i64` holds it.
-#[tactic(auto, unfolding(crate::specs::Number::fitting))]
+#[tactic(auto, unfolding(crate::specs::Number::if_i64))]
 fn negative(size: u64) -> Option<i64>
-    ensures { result ≡ fitting (negated size) }
+    ensures { result ≡ if_i64 (negated size) }
 {
     if size == 0 {
         return Some(0);

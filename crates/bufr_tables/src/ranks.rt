@@ -6,8 +6,8 @@
 //! right but speed: who uses them checks what is needed.
 ghost use Rattle.std.specs.Prelude.{◌≡◌, ◌<◌, length, vec_len, IfOk};
 
-use crate::directory::KEYS;
 use crate::fxy::Fxy;
+use crate::index::KEYS;
 use crate::sequences::TableD;
 use std::alloc::{AllocError, Global};
 
@@ -44,7 +44,7 @@ struct Ranking {
     path: Vec<Fxy>,
     /// The sequences that were begun and have no rank.
     open: Vec<Fxy>,
-    begun: u32,
+    with_open_group: u32,
     ranked: u32,
     ghost numbers_size: { vec_len numbers ≡ 16384 },
     ghost least_size: { vec_len least ≡ 16384 },
@@ -61,7 +61,7 @@ impl Ranking {
             ranks: vec![in alloc; 0u32; KEYS]?,
             path: Vec::new(alloc),
             open: Vec::new(alloc),
-            begun: 0,
+            with_open_group: 0,
             ranked: 0,
         })
     }
@@ -72,9 +72,9 @@ impl Ranking {
         if self.numbers[key] == 0 {
             self.path.push(sequence)?;
             self.open.push(sequence)?;
-            self.begun = self.begun.saturating_add(1);
-            self.numbers[key] = self.begun;
-            self.least[key] = self.begun;
+            self.with_open_group = self.with_open_group.saturating_add(1);
+            self.numbers[key] = self.with_open_group;
+            self.least[key] = self.with_open_group;
         }
         Ok(())
     }
@@ -86,7 +86,7 @@ impl Ranking {
         };
         let key = sequence.key();
         let looked = self.looked[key];
-        match table.listed(sequence).get(looked) {
+        match table.members_or_none(sequence).get(looked) {
             Some(member) => {
                 self.looked[key] = looked.saturating_add(1);
                 self.look(table, key, *member)?;

@@ -1,6 +1,6 @@
 //! The records of a table's text, one after another.
 ghost use Rattle.std.specs.Prelude.{◌≡◌, ◌≢◌, IfOk, IfErr, List, ℕ, false};
-ghost use Rattle.bufr_tables.specs.Reading.{GivesNext, IsBetween, IsOpened, record_given, records_left, texts_of};
+ghost use Rattle.bufr_tables.specs.Reading.{GivesNext, IsBetween, IsOpened, record_given, records_left, field_texts};
 ghost use Rattle.bufr_tables.specs.Records.{field_of, records_of};
 ghost use Rattle.bufr_tables.specs.declared.fault.TableFault.TheVariants.{Header, Memory};
 ghost use Rattle.csv.specs.Records.{fields_of};
@@ -42,10 +42,10 @@ impl<'a> RecordReader<'a> {
         text: &'a [u8],
         header: &[&[u8]],
     ) -> Result<RecordReader<'a>, TableFault>
-        ensures ok { IfOk result (IsOpened (texts_of header.now) (records_of text.now)) }
+        ensures ok { IfOk result (IsOpened (field_texts header.now) (records_of text.now)) }
         ensures err { IfErr result
             (λ e. e ≢ Memory
-            → (e ≡ Header) × (has_header (texts_of header.now) (records_of text.now) ≡ false)) }
+            → (e ≡ Header) × (has_header (field_texts header.now) (records_of text.now) ≡ false)) }
     {
         let mut records = RecordReader::new(alloc, text);
         if !records.advance()? || !has_fields(records.record(), header) {
@@ -98,7 +98,7 @@ pub(crate) fn field(fields: &ByteRecord, place: usize) -> &[u8]
 
 /// Whether a record has these fields, and no other.
 fn has_fields(fields: &ByteRecord, names: &[&[u8]]) -> bool
-    ensures { result ≡ has_fields (texts_of names.now) (fields_of fields.now) }
+    ensures { result ≡ has_fields (field_texts names.now) (fields_of fields.now) }
 {
     if fields.len() != names.len() {
         return false;

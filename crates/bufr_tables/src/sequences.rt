@@ -4,12 +4,12 @@ ghost use Rattle.csv.specs.Records.{fields_of};
 ghost use Rattle.bufr_tables.specs.declared.fault.TableFault.TheVariants.{Memory};
 ghost use Rattle.bufr_tables.specs.MemberRow.{member_with};
 ghost use Rattle.bufr_tables.specs.Records.{records_of};
-ghost use Rattle.bufr_tables.specs.Steps.{Gives};
-ghost use Rattle.bufr_tables.specs.TableD.{extended, fxys_of, is_last, listed, member_of, members_of, sequence_of, table_d_of, with_record};
+ghost use Rattle.bufr_tables.specs.Steps.{ReturnsUnlessMemory};
+ghost use Rattle.bufr_tables.specs.TableD.{extended, fxys_of, is_last, members_or_none, member_of, members_of, sequence_of, table_d_of, with_record_d};
 
-use crate::directory::Directory;
 use crate::fault::TableFault;
 use crate::fxy::Fxy;
+use crate::index::FxyIndex;
 use crate::records::{RecordReader, field};
 use csv::ByteRecord;
 use std::alloc::{AllocError, Global};
@@ -48,7 +48,7 @@ fn row(fields: &ByteRecord) -> Option<(Fxy, Fxy)>
 
 /// The members of a sequence, from `start` to `end` of all members.
 #[derive(Clone, Copy)]
-struct Run {
+struct MemberRange {
     fxy: Fxy,
     start: usize,
     end: usize,
@@ -68,9 +68,9 @@ struct Run {
 pub struct TableD {
     /// The members of all sequences, one after another.
     members: Vec<Fxy>,
-    runs: Vec<Run>,
+    runs: Vec<MemberRange>,
     /// X and Y of the sequences of `runs`.
-    directory: Directory,
+    directory: FxyIndex,
 }
 
 impl Model for TableD {
@@ -79,23 +79,23 @@ impl Model for TableD {
 
     ghost Value = { List Sequence };
 
-    ghost use Rattle.bufr_tables.specs.Runs.{IsKept, table_kept};
+    ghost use Rattle.bufr_tables.specs.Runs.{IsTableD, table_d_rows};
 
-    ghost view = { table_kept };
+    ghost view = { table_d_rows };
 
-    ghost invariant = { IsKept };
+    ghost invariant = { IsTableD };
 }
 
 impl TableD {
     /// Reads the rows, whatever sequences reach themselves.
     pub(crate) fn read_rows(alloc: Global, text: &[u8]) -> Result<TableD, TableFault>
-        ensures { Gives (table_d_of (records_of text.now)) result }
+        ensures { ReturnsUnlessMemory (table_d_of (records_of text.now)) result }
     {
         let mut records = RecordReader::open(alloc, text, &HEADER)?;
         let mut table = TableD {
             members: Vec::new(alloc),
             runs: Vec::new(alloc),
-            directory: Directory::new(alloc)?,
+            directory: FxyIndex::new(alloc)?,
         };
         while records.advance()? {
             table.add(records.number(), records.record())?;
@@ -117,8 +117,8 @@ impl TableD {
     }
 
     /// The members of a sequence in order, or none where the table lacks it.
-    pub(crate) fn listed(&self, fxy: Fxy) -> &[Fxy]
-        ensures { result.now ≡ listed self.now fxy }
+    pub(crate) fn members_or_none(&self, fxy: Fxy) -> &[Fxy]
+        ensures { result.now ≡ members_or_none self.now fxy }
     {
         self.members(fxy).unwrap_or(&[])
     }
@@ -153,12 +153,12 @@ impl TableD {
     }
 
     /// Adds the row of record `number`.
-    #[tactic(auto, unfolding(crate::specs::TableD::with_record, crate::specs::TableD::added))]
+    #[tactic(auto, unfolding(crate::specs::TableD::with_record_d, crate::specs::TableD::added))]
     fn add(&mut self, number: u64, fields: &ByteRecord) -> Result<(), TableFault>
         ensures ok { OnOk result
-            (with_record number self.old (fields_of fields.now) ≡ Ok self.new) }
+            (with_record_d number self.old (fields_of fields.now) ≡ Ok self.new) }
         ensures err { IfErr result
-            (λ e. (e ≢ Memory) → with_record number self.old (fields_of fields.now) ≡ Err e) }
+            (λ e. (e ≢ Memory) → with_record_d number self.old (fields_of fields.now) ≡ Err e) }
     {
         if fields.len() != 2 {
             return Err(TableFault::Csv);
@@ -214,7 +214,7 @@ impl TableD {
         let start = self.members.len();
         self.members.push(member)?;
         self.runs
-            .push(Run {
+            .push(MemberRange {
                 fxy: sequence,
                 start,
                 end: start + 1,

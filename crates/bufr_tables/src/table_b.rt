@@ -3,15 +3,15 @@ ghost use Rattle.std.specs.Prelude.{◌≡◌, ◌≢◌, ◌<◌, [], ◌∷◌
 ghost use Rattle.std.specs.List.{list_all};
 ghost use Rattle.csv.specs.Records.{fields_of};
 ghost use Rattle.bufr_tables.specs.declared.fault.TableFault.TheVariants.{Memory};
-ghost use Rattle.bufr_tables.specs.Entry.{row_with};
-ghost use Rattle.bufr_tables.specs.Kept.{Grows, IsInside, IsStored, row_kept};
+ghost use Rattle.bufr_tables.specs.Entry.{row_of_entry};
+ghost use Rattle.bufr_tables.specs.Kept.{ExtendsBlock, IsRowInside, IsStored, row_kept};
 ghost use Rattle.bufr_tables.specs.Records.{records_of};
-ghost use Rattle.bufr_tables.specs.Steps.{Gives};
-ghost use Rattle.bufr_tables.specs.TableB.{AreRows, IsRow, Row, element_of, entry_of, fits_factor, factor_width, is_printed, plain_of, row_of, scale_of, table_b_of, width_of, with_record};
+ghost use Rattle.bufr_tables.specs.Steps.{ReturnsUnlessMemory};
+ghost use Rattle.bufr_tables.specs.TableB.{AreRows, IsRow, Row, element_of, entry_of, is_valid_factor, factor_width, is_printed, plain_of, row_of, scale_of, table_b_of, width_of, with_record_b};
 
-use crate::directory::Directory;
 use crate::fault::TableFault;
 use crate::fxy::Fxy;
+use crate::index::FxyIndex;
 use crate::kind::Kind;
 use crate::number::integer;
 use crate::records::{RecordReader, field};
@@ -61,14 +61,14 @@ fn read_element(text: &[u8]) -> Option<Fxy>
 fn read_plain(text: &[u8]) -> Option<&[u8]>
     ensures { option_map (λ s. s.now) result ≡ plain_of text.now }
 {
-    if text.len() > 512 || !are_printed(text) {
+    if text.len() > 512 || !is_printable_text(text) {
         return None;
     }
     Some(text)
 }
 
 /// Whether no octet is a control character of ASCII.
-fn are_printed(text: &[u8]) -> bool
+fn is_printable_text(text: &[u8]) -> bool
     ensures { result ≡ list_all is_printed text.now }
 {
     text.iter().all(|octet| is_printed(*octet))
@@ -128,8 +128,8 @@ fn factor_width(fxy: Fxy) -> Option<u32>
 }
 
 /// Whether a factor of delayed replications may have this entry; another element may have any.
-fn fits_factor(fxy: Fxy, entry: &Entry) -> bool
-    ensures { result ≡ fits_factor (factor_width fxy) (row_with fxy entry.now) }
+fn is_valid_factor(fxy: Fxy, entry: &Entry) -> bool
+    ensures { result ≡ is_valid_factor (factor_width fxy) (row_of_entry fxy entry.now) }
 {
     let Some(width) = factor_width(fxy) else {
         return true;
@@ -142,8 +142,8 @@ fn fits_factor(fxy: Fxy, entry: &Entry) -> bool
 
 /// The element that a record writes, where it writes one.
 #[tactic(auto, unfolding(crate::specs::TableB::row_of))]
-fn written(fields: &ByteRecord) -> Option<(Fxy, Entry<'_>)>
-    ensures value { option_map (λ p. row_with p.0 p.1) result ≡ row_of (fields_of fields.now) }
+fn parse_row(fields: &ByteRecord) -> Option<(Fxy, Entry<'_>)>
+    ensures value { option_map (λ p. row_of_entry p.0 p.1) result ≡ row_of (fields_of fields.now) }
     ensures element { IfSome result (λ p. p.0 < 16384) }
 {
     let fxy = read_element(field(fields, 0))?;
@@ -161,7 +161,7 @@ fn written(fields: &ByteRecord) -> Option<(Fxy, Entry<'_>)>
         reference,
         width,
     };
-    if !fits_factor(fxy, &entry) {
+    if !is_valid_factor(fxy, &entry) {
         return None;
     }
     Some((fxy, entry))
@@ -169,11 +169,11 @@ fn written(fields: &ByteRecord) -> Option<(Fxy, Entry<'_>)>
 
 /// The same element, which is within the limits of a row.
 fn row(fields: &ByteRecord) -> Option<(Fxy, Entry<'_>)>
-    ensures value { option_map (λ p. row_with p.0 p.1) result ≡ row_of (fields_of fields.now) }
+    ensures value { option_map (λ p. row_of_entry p.0 p.1) result ≡ row_of (fields_of fields.now) }
     ensures element { IfSome result (λ p. p.0 < 16384) }
-    ensures limits { IfSome result (λ p. IsRow (row_with p.0 p.1)) }
+    ensures limits { IfSome result (λ p. IsRow (row_of_entry p.0 p.1)) }
 {
-    written(fields)
+    parse_row(fields)
 }
 
 /// An element as the table keeps it: its name goes from `start` to `middle`, and its unit on to
@@ -206,7 +206,7 @@ pub struct TableB {
     octets: Vec<u8>,
     stored: Vec<Stored>,
     /// The descriptors of `stored`.
-    directory: Directory,
+    directory: FxyIndex,
 }
 
 impl Model for TableB {
@@ -215,11 +215,11 @@ impl Model for TableB {
 
     ghost Value = { List Row };
 
-    ghost use Rattle.bufr_tables.specs.Kept.{IsKept, table_kept};
+    ghost use Rattle.bufr_tables.specs.Kept.{IsTableB, table_b_rows};
 
-    ghost view = { table_kept };
+    ghost view = { table_b_rows };
 
-    ghost invariant = { IsKept };
+    ghost invariant = { IsTableB };
 }
 
 impl TableB {
@@ -237,14 +237,14 @@ impl TableB {
     /// [`TableFault::Row`] or [`TableFault::Duplicate`], in this order; [`TableFault::Memory`]
     /// where memory ran out.
     pub fn read(alloc: Global, text: &[u8]) -> Result<TableB, TableFault>
-        ensures read { Gives (table_b_of (records_of text.now)) result }
+        ensures read { ReturnsUnlessMemory (table_b_of (records_of text.now)) result }
         ensures rows { IfOk result (AreRows (records_of text.now)) }
     {
         let mut records = RecordReader::open(alloc, text, &HEADER)?;
         let mut table = TableB {
             octets: Vec::new(alloc),
             stored: Vec::new(alloc),
-            directory: Directory::new(alloc)?,
+            directory: FxyIndex::new(alloc)?,
         };
         while records.advance()? {
             table.add(records.number(), records.record())?;
@@ -253,9 +253,10 @@ impl TableB {
     }
 
     /// What the table says of an element, if it has it, within the limits that [`Entry`] states.
+    #[inline(always)]
     pub fn get(&self, fxy: Fxy) -> Option<Entry<'_>>
-        ensures value { option_map (row_with fxy) result ≡ entry_of self.now fxy }
-        ensures limits { IfSome result (λ e. IsRow (row_with fxy e)) }
+        ensures value { option_map (row_of_entry fxy) result ≡ entry_of self.now fxy }
+        ensures limits { IfSome result (λ e. IsRow (row_of_entry fxy e)) }
     {
         let directory = &self.directory;
         if fxy.f() != 0 {
@@ -268,12 +269,12 @@ impl TableB {
     }
 
     /// Adds the element of record `number`.
-    #[tactic(auto, unfolding(crate::specs::TableB::with_record))]
+    #[tactic(auto, unfolding(crate::specs::TableB::with_record_b))]
     fn add(&mut self, number: u64, fields: &ByteRecord) -> Result<(), TableFault>
         ensures ok { OnOk result
-            (with_record number self.old (fields_of fields.now) ≡ Ok self.new) }
+            (with_record_b number self.old (fields_of fields.now) ≡ Ok self.new) }
         ensures err { IfErr result
-            (λ e. (e ≢ Memory) → with_record number self.old (fields_of fields.now) ≡ Err e) }
+            (λ e. (e ≢ Memory) → with_record_b number self.old (fields_of fields.now) ≡ Err e) }
     {
         if fields.len() != 6 {
             return Err(TableFault::Csv);
@@ -292,8 +293,8 @@ impl TableB {
     fn push(&mut self, fxy: Fxy, entry: &Entry) -> Result<(), AllocError>
         requires element { fxy < 16384 }
         requires absent { entry_of self.old fxy ≡ None }
-        requires limits { IsRow (row_with fxy entry.now) }
-        ensures ok { OnOk result (self.new ≡ self.old ++ row_with fxy entry.now ∷ []) }
+        requires limits { IsRow (row_of_entry fxy entry.now) }
+        ensures ok { OnOk result (self.new ≡ self.old ++ row_of_entry fxy entry.now ∷ []) }
     {
         let stored = store(&mut self.octets, fxy, entry)?;
         self.stored.push(stored)?;
@@ -304,7 +305,7 @@ impl TableB {
 
 /// Puts the name and the unit of an entry behind a block of octets.
 fn store(octets: &mut Vec<u8>, fxy: Fxy, entry: &Entry) -> Result<Stored, AllocError>
-    ensures grows { Grows octets.old.items octets.new.items }
+    ensures grows { ExtendsBlock octets.old.items octets.new.items }
     ensures ok { IfOk result (λ s. IsStored octets.new.items fxy entry.now s) }
 {
     let start = octets.len();
@@ -325,9 +326,10 @@ fn store(octets: &mut Vec<u8>, fxy: Fxy, entry: &Entry) -> Result<Stored, AllocE
 }
 
 /// The entry of an element that is kept in this block of octets.
+#[inline(always)]
 fn entry_kept<'a>(octets: &'a [u8], stored: &Stored) -> Entry<'a>
-    requires { IsInside (length octets.now) stored.now }
-    ensures { row_with stored.now.fxy result ≡ row_kept octets.now stored.now }
+    requires { IsRowInside (length octets.now) stored.now }
+    ensures { row_of_entry stored.now.fxy result ≡ row_kept octets.now stored.now }
 {
     Entry {
         name: &octets[stored.start..stored.middle],

@@ -7,7 +7,7 @@ use std::alloc::Global;
 
 impl TableD {
     ghost use Rattle.std.specs.Prelude.{IfOk};
-    ghost use Rattle.bufr_tables.specs.Chain.{Reads};
+    ghost use Rattle.bufr_tables.specs.Chain.{ReadsTableD};
     ghost use Rattle.bufr_tables.specs.Records.{records_of};
     ghost use Rattle.bufr_tables.specs.TableD.{AreSequences};
 
@@ -23,7 +23,7 @@ impl TableD {
     /// [`TableFault::Row`], [`TableFault::Duplicate`] or [`TableFault::TableSize`], in this order;
     /// after all records [`TableFault::Cycle`]; [`TableFault::Memory`] where memory ran out.
     pub fn read(alloc: Global, text: &[u8]) -> Result<TableD, TableFault>
-        ensures read { Reads (records_of text.now) result }
+        ensures read { ReadsTableD (records_of text.now) result }
         ensures rows { IfOk result (AreSequences (records_of text.now)) }
     {
         let table = TableD::read_rows(alloc, text)?;

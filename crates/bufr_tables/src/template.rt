@@ -4,8 +4,8 @@ ghost use Rattle.std.specs.Prelude.{◌≡◌, ◌≢◌, ◌≤◌, length, Ok,
 ghost use Rattle.bufr_tables.specs.TableB.{entry_of};
 ghost use Rattle.bufr_tables.specs.TableD.{members_of};
 ghost use Rattle.bufr_tables.specs.Tree.{places as places_of, depth as depth_of};
-ghost use Rattle.bufr_tables.specs.Leaves.{leaves, Says};
-ghost use Rattle.bufr_tables.specs.Cells.{IsLaid};
+ghost use Rattle.bufr_tables.specs.Leaves.{leaves, ListsLeaves};
+ghost use Rattle.bufr_tables.specs.Cells.{AreCellsOf};
 ghost use Rattle.bufr_tables.specs.Known.{IsKnown};
 ghost use Rattle.bufr_tables.specs.Legal.{IsLegal};
 ghost use Rattle.bufr_tables.specs.Sound.{IsSound};
@@ -25,13 +25,13 @@ use crate::table_b::TableB;
 pub use cell::Cell;
 use expander::Expander;
 pub use fault::TemplateFault;
-use growing::{Growing, push_cell};
+use growing::{TemplateBuilder, push_cell};
 use shapes::first_of;
 use std::alloc::Global;
 use std::marker::Model;
 
 /// The most groups and sequences that may be open together.
-const MOST_OPEN: u32 = 32;
+const MAX_OPEN: u32 = 32;
 
 /// A template: the tree of elements, operators and groups that a list of descriptors stands for,
 /// sequences replaced by their members (WMO-No. 306, Volume I.2, FM 94: section 3, Table D), laid
@@ -53,11 +53,11 @@ impl Model for Template {
 
     ghost coded = { tree_code };
 
-    ghost use Rattle.bufr_tables.specs.Cells.{raised, IsKept};
+    ghost use Rattle.bufr_tables.specs.Cells.{trees_of_cells, IsTemplate};
 
-    ghost view = { λ a. raised a.cells.items };
+    ghost view = { λ a. trees_of_cells a.cells.items };
 
-    ghost invariant = { λ a. IsKept a.cells.items a.depth (raised a.cells.items) };
+    ghost invariant = { λ a. IsTemplate a.cells.items a.depth (trees_of_cells a.cells.items) };
 }
 
 impl Template {
@@ -111,7 +111,7 @@ impl Template {
 
         // No element, operator or factor of the list is lost, added or moved.
         ensures leaves { IfOk result
-            (λ template. Says (members_of table_d.now) descriptors.now (leaves template)) }
+            (λ template. ListsLeaves (members_of table_d.now) descriptors.now (leaves template)) }
 
         // What the walk over a template relies on.
         ensures known { IfOk result
@@ -122,12 +122,12 @@ impl Template {
         ensures shallow { IfOk result (λ template. depth_of template ≤ 32) }
     {
         let expander = Expander { table_b, table_d };
-        let mut growing = Growing::with_room(alloc, descriptors.len())?;
-        expander.list(descriptors, MOST_OPEN, &mut growing)?;
+        let mut growing = TemplateBuilder::with_room(alloc, descriptors.len())?;
+        expander.list(descriptors, MAX_OPEN, &mut growing)?;
         if !growing.consumes {
             return Err(TemplateFault::EmptyGroup(first_of(descriptors)));
         }
-        let Growing {
+        let TemplateBuilder {
             mut cells,
             open_groups: _,
             depth,
@@ -159,7 +159,7 @@ impl Template {
     /// group are [`Cell::Fixed`], or [`Cell::Delayed`] and [`Cell::Factor`], then those of its
     /// body, then [`Cell::PassEnd`]; the last cell is [`Cell::Finish`]. Takes no memory.
     pub fn cells(&self) -> &[Cell]
-        ensures laid { IsLaid result.now self.now }
+        ensures laid { AreCellsOf result.now self.now }
         ensures count { length result.now ≡ places_of self.now }
     {
         self.cells.as_slice()

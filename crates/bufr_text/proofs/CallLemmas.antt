@@ -4,25 +4,25 @@ use Rattle.std.specs.Prelude.{Option, Ok}
 use Rattle.std.proofs.KnownBytes.{Consumes-nil, Consumes-trans}
 use Rattle.std.proofs.lemmas.Bool.{true≢false}
 use Rattle.std.proofs.lemmas.List.{nil_from_length}
-use Rattle.bufr_text.specs.Documents.{Place, Told, spelled, spelled_openly, lines_of, split_of}
-use Rattle.bufr_text.specs.Dump.{text_of}
-use Rattle.bufr_text.specs.Reading.{has_no_feed, Stand, GoesOn, Passes, PassesEnd}
-use Rattle.bufr_text.specs.Reader.{State, stand, behind, IsMissingFeed, CallSo, ClosesSo}
-use Rattle.bufr_text.specs.Filling.{Tells, ReadSo}
+use Rattle.bufr_text.specs.Documents.{ParserState, ParseResult, parse_lines, parse_open_lines, lines_of, split_of}
+use Rattle.bufr_text.specs.Dump.{text_of_lines}
+use Rattle.bufr_text.specs.Reading.{has_no_feed, ReaderPosition, ContinuesParse, TakesWholeLines, TakesEndLine}
+use Rattle.bufr_text.specs.Reader.{ReaderModel, stand, position_after, IsMissingFeed, ReadsLines, EndsAtEndLine}
+use Rattle.bufr_text.specs.Filling.{ParsesHeldLines, ReadsMoreText}
 use Rattle.bufr_text.proofs.ReadingLemmas.{goes-further, stays, line-held, one-line}
 use Rattle.bufr_text.proofs.TakingLemmas.{text-append, all-append, passes-none}
 
 -- lines after lines
-pub passes-then : (at at' at'' : ℕ) (held rest rest' : List ℕ) → Passes at held at' rest → Passes at' rest at'' rest' → Passes at held at'' rest'
+pub passes-then : (at at' at'' : ℕ) (held rest rest' : List ℕ) → TakesWholeLines at held at' rest → TakesWholeLines at' rest at'' rest' → TakesWholeLines at held at'' rest'
 passes-then at at' at'' held rest rest' p q = record {
   lines = p.lines ++ q.lines;
   single = all-append (λ line. has_no_feed line ≡ true) p.lines q.lines p.single q.single;
   counted = omega (arith, p.counted, q.counted, length-append p.lines q.lines);
-  octets = p.octets ∙ ap (λ (t : List ℕ). text_of p.lines ++ t) q.octets ∙ sym (append_assoc (text_of p.lines) (text_of q.lines) rest') ∙ ap (λ (t : List ℕ). t ++ rest') (sym (text-append p.lines q.lines));
+  octets = p.octets ∙ ap (λ (t : List ℕ). text_of_lines p.lines ++ t) q.octets ∙ sym (append_assoc (text_of_lines p.lines) (text_of_lines q.lines) rest') ∙ ap (λ (t : List ℕ). t ++ rest') (sym (text-append p.lines q.lines));
 }
 
 -- lines, and then an `end` line
-passes-end : (at at' at'' : ℕ) (held rest rest' : List ℕ) → Passes at held at' rest → PassesEnd at' rest at'' rest' → PassesEnd at held at'' rest'
+passes-end : (at at' at'' : ℕ) (held rest rest' : List ℕ) → TakesWholeLines at held at' rest → TakesEndLine at' rest at'' rest' → TakesEndLine at held at'' rest'
 passes-end at at' at'' held rest rest' p q = record {
   line = q.line;
   last = q.last;
@@ -32,32 +32,32 @@ passes-end at at' at'' held rest rest' p q = record {
   counted = q.counted;
 }
 
-pub closes-then : (left left' : Option (List ℕ)) (old s s' : State) (told : List Told) (bs : List ℕ) → CallSo left left' old s told bs → PassesEnd s.at s.held s'.at s'.held → s'.ended ≡ s.ended → ClosesSo old s' bs
+pub closes-then : (left left' : Option (List ℕ)) (old s s' : ReaderModel) (told : List ParseResult) (bs : List ℕ) → ReadsLines left left' old s told bs → TakesEndLine s.at s.held s'.at s'.held → s'.ended ≡ s.ended → EndsAtEndLine old s' bs
 closes-then left left' old s s' told bs call end ended =
     let feed = call.lines.0 in
     let M : Bool → Type 0 = λ e. IsMissingFeed old.ended e feed in
     (feed, subst M (sym ended) call.lines.1, passes-end old.at s.at s'.at ((old.held ++ bs) ++ feed) s.held s'.held call.lines.2 end)
 
-pub passes-more : (at at' : ℕ) (held rest more : List ℕ) → Passes at held at' rest → Passes at (held ++ more) at' (rest ++ more)
+pub passes-more : (at at' : ℕ) (held rest more : List ℕ) → TakesWholeLines at held at' rest → TakesWholeLines at (held ++ more) at' (rest ++ more)
 passes-more at at' held rest more p = record {
   lines = p.lines;
   single = p.single;
   counted = p.counted;
-  octets = ap (λ (t : List ℕ). t ++ more) p.octets ∙ append_assoc (text_of p.lines) rest more;
+  octets = ap (λ (t : List ℕ). t ++ more) p.octets ∙ append_assoc (text_of_lines p.lines) rest more;
 }
 
 -- more octets are held at both
-goes-more : (a b : Stand) (x : List Told) (bs : List ℕ) (e : Bool) → GoesOn a b x → (b.ended ≡ true → (e ≡ true) × (bs ≡ []))
-    → GoesOn (record a { held = a.held ++ bs }) (record b { held = b.held ++ bs; ended = e }) x
+goes-more : (a b : ReaderPosition) (x : List ParseResult) (bs : List ℕ) (e : Bool) → ContinuesParse a b x → (b.ended ≡ true → (e ≡ true) × (bs ≡ []))
+    → ContinuesParse (record a { held = a.held ++ bs }) (record b { held = b.held ++ bs; ended = e }) x
 goes-more a b x bs e f kept = record {
   whole = λ t none.
-      ap (λ (z : List ℕ). spelled a.at a.place (lines_of z)) (append_assoc a.held bs t)
+      ap (λ (z : List ℕ). parse_lines a.at a.place (lines_of z)) (append_assoc a.held bs t)
       ∙ f.whole (bs ++ t) (λ ended. ap (λ (z : List ℕ). z ++ t) (kept ended).1 ∙ none (kept ended).0)
-      ∙ ap (λ (z : List ℕ). x ++ spelled b.at b.place (lines_of z)) (sym (append_assoc b.held bs t));
+      ∙ ap (λ (z : List ℕ). x ++ parse_lines b.at b.place (lines_of z)) (sym (append_assoc b.held bs t));
   openly = λ unended t.
-      ap (λ (z : List ℕ). spelled_openly a.at a.place (split_of z).whole (split_of z).rest) (append_assoc a.held bs t)
+      ap (λ (z : List ℕ). parse_open_lines a.at a.place (split_of z).whole (split_of z).rest) (append_assoc a.held bs t)
       ∙ f.openly (still b.ended (λ ended. true≢false (sym (kept ended).0 ∙ unended))) (bs ++ t)
-      ∙ ap (λ (z : List ℕ). x ++ spelled_openly b.at b.place (split_of z).whole (split_of z).rest) (sym (append_assoc b.held bs t));
+      ∙ ap (λ (z : List ℕ). x ++ parse_open_lines b.at b.place (split_of z).whole (split_of z).rest) (sym (append_assoc b.held bs t));
 }
   where
     still : (b : Bool) → (b ≡ true → ⊥) → b ≡ false
@@ -65,24 +65,24 @@ goes-more a b x bs e f kept = record {
     still false h = refl
 
 -- the line feeds that two parts of a call lack
-module _ (left mid left' : Option (List ℕ)) (old s s' : State) (told told' : List Told) (bs bs' : List ℕ) (one : CallSo left mid old s told bs) (two : CallSo mid left' s s' told' bs') where
+module _ (left mid left' : Option (List ℕ)) (old s s' : ReaderModel) (told told' : List ParseResult) (bs bs' : List ℕ) (one : ReadsLines left mid old s told bs) (two : ReadsLines mid left' s s' told' bs') where
   whole : old.held ++ (bs ++ bs') ≡ (old.held ++ bs) ++ bs'
   whole = sym (append_assoc old.held bs bs')
 
-  goes : GoesOn (behind old (bs ++ bs')) (stand s') (told ++ told')
+  goes : ContinuesParse (position_after old (bs ++ bs')) (stand s') (told ++ told')
   goes =
-      let G : List ℕ → Type 0 = λ h. GoesOn (record { at = old.at; place = old.place; held = h; ended = old.ended }) (stand s') (told ++ told') in
+      let G : List ℕ → Type 0 = λ h. ContinuesParse (record { at = old.at; place = old.place; held = h; ended = old.ended }) (stand s') (told ++ told') in
       subst G (sym whole)
-      (goes-further (record { at = old.at; place = old.place; held = (old.held ++ bs) ++ bs'; ended = old.ended }) (behind s bs') (stand s') told told' (λ e. (two.kept e).0)
-      (goes-more (behind old bs) (stand s) told bs' s.ended one.goes (λ e. (e, (two.kept e).1))) two.goes)
+      (goes-further (record { at = old.at; place = old.place; held = (old.held ++ bs) ++ bs'; ended = old.ended }) (position_after s bs') (stand s') told told' (λ e. (two.kept e).0)
+      (goes-more (position_after old bs) (stand s) told bs' s.ended one.goes (λ e. (e, (two.kept e).1))) two.goes)
 
   -- the end was not reached before, or nothing more came
-  lines-open : one.lines.0 ≡ [] → (feed : List ℕ) × IsMissingFeed old.ended s'.ended feed × Passes old.at ((old.held ++ (bs ++ bs')) ++ feed) s'.at s'.held
+  lines-open : one.lines.0 ≡ [] → (feed : List ℕ) × IsMissingFeed old.ended s'.ended feed × TakesWholeLines old.at ((old.held ++ (bs ++ bs')) ++ feed) s'.at s'.held
   lines-open none =
-      let P : List ℕ → Type 0 = λ f. Passes old.at ((old.held ++ bs) ++ f) s.at s.held in
-      let Q : List ℕ → Type 0 = λ h. Passes old.at h s.at s.held in
-      let R : List ℕ → Type 0 = λ h. Passes old.at (h ++ two.lines.0) s'.at s'.held in
-      let first : Passes old.at (old.held ++ bs) s.at s.held = subst Q (append-nil (old.held ++ bs)) (subst P none one.lines.2) in
+      let P : List ℕ → Type 0 = λ f. TakesWholeLines old.at ((old.held ++ bs) ++ f) s.at s.held in
+      let Q : List ℕ → Type 0 = λ h. TakesWholeLines old.at h s.at s.held in
+      let R : List ℕ → Type 0 = λ h. TakesWholeLines old.at (h ++ two.lines.0) s'.at s'.held in
+      let first : TakesWholeLines old.at (old.held ++ bs) s.at s.held = subst Q (append-nil (old.held ++ bs)) (subst P none one.lines.2) in
       let more = passes-more old.at s.at ((old.held ++ bs) ++ bs') (s.held ++ bs') two.lines.0 (passes-more old.at s.at (old.held ++ bs) s.held bs' first) in
       (two.lines.0, missing two.lines.1, subst R (sym whole) (passes-then old.at s.at s'.at (((old.held ++ bs) ++ bs') ++ two.lines.0) ((s.held ++ bs') ++ two.lines.0) s'.held more two.lines.2))
     where
@@ -94,20 +94,20 @@ module _ (left mid left' : Option (List ℕ)) (old s s' : State) (told told' : L
       missing (inl e) = inl e
       missing (inr (a, b, e)) = inr (kept-open old.ended refl a, b, e)
 
-  lines-ended : (old.ended ≡ false) × (s.ended ≡ true) × (one.lines.0 ≡ 10 ∷ []) → (feed : List ℕ) × IsMissingFeed old.ended s'.ended feed × Passes old.at ((old.held ++ (bs ++ bs')) ++ feed) s'.at s'.held
+  lines-ended : (old.ended ≡ false) × (s.ended ≡ true) × (one.lines.0 ≡ 10 ∷ []) → (feed : List ℕ) × IsMissingFeed old.ended s'.ended feed × TakesWholeLines old.at ((old.held ++ (bs ++ bs')) ++ feed) s'.at s'.held
   lines-ended (a, b, e) =
       let nothing = (two.kept b).1 in
-      let P : List ℕ → Type 0 = λ h. Passes old.at (h ++ one.lines.0) s.at s.held in
-      let S : List ℕ → Type 0 = λ h. Passes s.at h s'.at s'.held in
-      let first : Passes old.at ((old.held ++ (bs ++ bs')) ++ one.lines.0) s.at s.held = subst P (sym (whole ∙ ap (λ (z : List ℕ). (old.held ++ bs) ++ z) nothing ∙ append-nil (old.held ++ bs))) one.lines.2 in
-      let second : Passes s.at s.held s'.at s'.held = subst S (ap (λ (z : List ℕ). (s.held ++ z) ++ two.lines.0) nothing ∙ ap (λ (z : List ℕ). z ++ two.lines.0) (append-nil s.held) ∙ ap (λ (z : List ℕ). s.held ++ z) (none two.lines.1) ∙ append-nil s.held) two.lines.2 in
+      let P : List ℕ → Type 0 = λ h. TakesWholeLines old.at (h ++ one.lines.0) s.at s.held in
+      let S : List ℕ → Type 0 = λ h. TakesWholeLines s.at h s'.at s'.held in
+      let first : TakesWholeLines old.at ((old.held ++ (bs ++ bs')) ++ one.lines.0) s.at s.held = subst P (sym (whole ∙ ap (λ (z : List ℕ). (old.held ++ bs) ++ z) nothing ∙ append-nil (old.held ++ bs))) one.lines.2 in
+      let second : TakesWholeLines s.at s.held s'.at s'.held = subst S (ap (λ (z : List ℕ). (s.held ++ z) ++ two.lines.0) nothing ∙ ap (λ (z : List ℕ). z ++ two.lines.0) (append-nil s.held) ∙ ap (λ (z : List ℕ). s.held ++ z) (none two.lines.1) ∙ append-nil s.held) two.lines.2 in
       (one.lines.0, inr (a, (two.kept b).0, e), passes-then old.at s.at s'.at ((old.held ++ (bs ++ bs')) ++ one.lines.0) s.held s'.held first second)
     where
       none : IsMissingFeed s.ended s'.ended two.lines.0 → two.lines.0 ≡ []
       none (inl e) = e
       none (inr (c, d, e)) = absurd (true≢false (sym b ∙ c))
 
-  lines : IsMissingFeed old.ended s.ended one.lines.0 → (feed : List ℕ) × IsMissingFeed old.ended s'.ended feed × Passes old.at ((old.held ++ (bs ++ bs')) ++ feed) s'.at s'.held
+  lines : IsMissingFeed old.ended s.ended one.lines.0 → (feed : List ℕ) × IsMissingFeed old.ended s'.ended feed × TakesWholeLines old.at ((old.held ++ (bs ++ bs')) ++ feed) s'.at s'.held
   lines (inl e) = lines-open e
   lines (inr both) = lines-ended both
 
@@ -126,7 +126,7 @@ module _ (left mid left' : Option (List ℕ)) (old s s' : State) (told told' : L
             length-append s.held bs',
             length-append (s.held ++ bs') two.lines.0,
             ap length two.lines.2.octets,
-            length-append (text_of two.lines.2.lines) s'.held,
+            length-append (text_of_lines two.lines.2.lines) s'.held,
           ))
 
   fed : (feed : IsMissingFeed old.ended s.ended one.lines.0) → old.ended ≡ false → s'.ended ≡ true → (lines feed).0 ≡ [] → s'.held ≡ []
@@ -137,7 +137,7 @@ module _ (left mid left' : Option (List ℕ)) (old s s' : State) (told told' : L
       some-feed : ◌≡◌ {A = List ℕ} (10 ∷ []) [] → ⊥
       some-feed h = omega (arith, ap length h)
 
-  pub call-then : CallSo left left' old s' (told ++ told') (bs ++ bs')
+  pub call-then : ReadsLines left left' old s' (told ++ told') (bs ++ bs')
   call-then = record {
     read = Consumes-trans left mid left' bs bs' one.read two.read;
     order = omega (arith, one.order, two.order);
@@ -152,10 +152,10 @@ module _ (left mid left' : Option (List ℕ)) (old s s' : State) (told told' : L
     fed = fed one.lines.1;
   }
 
-pub call-none : (left : Option (List ℕ)) (s : State) → CallSo left left s s [] []
+pub call-none : (left : Option (List ℕ)) (s : ReaderModel) → ReadsLines left left s s [] []
 call-none left s =
-    let G : List ℕ → Type 0 = λ h. GoesOn (record { at = s.at; place = s.place; held = h; ended = s.ended }) (stand s) [] in
-    let P : List ℕ → Type 0 = λ h. Passes s.at h s.at s.held in
+    let G : List ℕ → Type 0 = λ h. ContinuesParse (record { at = s.at; place = s.place; held = h; ended = s.ended }) (stand s) [] in
+    let P : List ℕ → Type 0 = λ h. TakesWholeLines s.at h s.at s.held in
     record {
       read = Consumes-nil left;
       order = omega arith;
@@ -168,10 +168,10 @@ call-none left s =
     }
 
 -- lines that are taken
-pub takes-call : (left : Option (List ℕ)) (s s' : State) (told : List Told) → Tells s s' told → s'.ended ≡ s.ended → s'.reads ≡ s.reads → CallSo left left s s' told []
+pub takes-call : (left : Option (List ℕ)) (s s' : ReaderModel) (told : List ParseResult) → ParsesHeldLines s s' told → s'.ended ≡ s.ended → s'.reads ≡ s.reads → ReadsLines left left s s' told []
 takes-call left s s' told tells ended reads =
-    let G : List ℕ → Type 0 = λ h. GoesOn (record { at = s.at; place = s.place; held = h; ended = s.ended }) (stand s') told in
-    let P : List ℕ → Type 0 = λ h. Passes s.at h s'.at s'.held in
+    let G : List ℕ → Type 0 = λ h. ContinuesParse (record { at = s.at; place = s.place; held = h; ended = s.ended }) (stand s') told in
+    let P : List ℕ → Type 0 = λ h. TakesWholeLines s.at h s'.at s'.held in
     record {
       read = Consumes-nil left;
       order = omega (arith, reads);
@@ -183,9 +183,9 @@ takes-call left s s' told tells ended reads =
       fed = λ before e _. absurd (true≢false (sym e ∙ ended ∙ before));
     }
 
-module _ (left left' : Option (List ℕ)) (s s' : State) (bs : List ℕ) (read : ReadSo left left' s s' (Ok tt) bs) (open' : s.ended ≡ false) (clean : has_no_feed s.held ≡ true) where
-  same-stand : (h : List ℕ) (t : List ℕ) → spelled s.at s.place (lines_of (h ++ t)) ≡ spelled s'.at s'.place (lines_of (h ++ t))
-  same-stand h t = ap (λ (k : ℕ). spelled k s.place (lines_of (h ++ t))) (sym read.at) ∙ ap (λ (p : Place). spelled s'.at p (lines_of (h ++ t))) (sym read.place)
+module _ (left left' : Option (List ℕ)) (s s' : ReaderModel) (bs : List ℕ) (read : ReadsMoreText left left' s s' (Ok tt) bs) (open' : s.ended ≡ false) (clean : has_no_feed s.held ≡ true) where
+  same-stand : (h : List ℕ) (t : List ℕ) → parse_lines s.at s.place (lines_of (h ++ t)) ≡ parse_lines s'.at s'.place (lines_of (h ++ t))
+  same-stand h t = ap (λ (k : ℕ). parse_lines k s.place (lines_of (h ++ t))) (sym read.at) ∙ ap (λ (p : ParserState). parse_lines s'.at p (lines_of (h ++ t))) (sym read.place)
 
   -- the line feed that the last line lacks makes no difference
   held-lines : (t : List ℕ) → (s'.ended ≡ true → t ≡ []) → ((read.feed ≡ []) ⊎ ((s'.ended ≡ true) × (read.feed ≡ 10 ∷ []) × (0 < length s.held))) → lines_of ((s.held ++ bs) ++ t) ≡ lines_of (((s.held ++ bs) ++ read.feed) ++ t)
@@ -207,20 +207,20 @@ module _ (left left' : Option (List ℕ)) (s s' : State) (bs : List ℕ) (read :
   feed-missing (inl e) = inl e
   feed-missing (inr (ended, e, some)) = inr (open', ended, e)
 
-  pub read-call : CallSo left left' s s' [] bs
+  pub read-call : ReadsLines left left' s s' [] bs
   read-call =
-      let P : List ℕ → Type 0 = λ h. Passes s.at h s'.at s'.held in
-      let A : ℕ → Type 0 = λ k. Passes s.at s'.held k s'.held in
+      let P : List ℕ → Type 0 = λ h. TakesWholeLines s.at h s'.at s'.held in
+      let A : ℕ → Type 0 = λ k. TakesWholeLines s.at s'.held k s'.held in
       record {
         read = read.read;
         order = omega (arith, read.ends.0);
         few = omega (arith, read.few, read.ends.0);
         goes = record {
-          whole = λ t none. ap (spelled s.at s.place) (held-lines t none read.missing) ∙ ap (λ (z : List ℕ). spelled s.at s.place (lines_of (z ++ t))) (sym read.held) ∙ same-stand s'.held t;
+          whole = λ t none. ap (parse_lines s.at s.place) (held-lines t none read.missing) ∙ ap (λ (z : List ℕ). parse_lines s.at s.place (lines_of (z ++ t))) (sym read.held) ∙ same-stand s'.held t;
           openly = λ unended t.
-              ap (λ (z : List ℕ). spelled_openly s.at s.place (split_of (z ++ t)).whole (split_of (z ++ t)).rest) (no-feed-open unended read.missing)
-              ∙ ap (λ (k : ℕ). spelled_openly k s.place (split_of (s'.held ++ t)).whole (split_of (s'.held ++ t)).rest) (sym read.at)
-              ∙ ap (λ (p : Place). spelled_openly s'.at p (split_of (s'.held ++ t)).whole (split_of (s'.held ++ t)).rest) (sym read.place);
+              ap (λ (z : List ℕ). parse_open_lines s.at s.place (split_of (z ++ t)).whole (split_of (z ++ t)).rest) (no-feed-open unended read.missing)
+              ∙ ap (λ (k : ℕ). parse_open_lines k s.place (split_of (s'.held ++ t)).whole (split_of (s'.held ++ t)).rest) (sym read.at)
+              ∙ ap (λ (p : ParserState). parse_open_lines s'.at p (split_of (s'.held ++ t)).whole (split_of (s'.held ++ t)).rest) (sym read.place);
         };
         lines = (read.feed, feed-missing read.missing, subst P read.held (subst A (sym read.at) (passes-none s.at s'.held)));
         kept = λ e. absurd (true≢false (sym e ∙ open'));

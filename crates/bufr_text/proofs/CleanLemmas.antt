@@ -12,13 +12,13 @@ use Rattle.bufr_tables.specs.TableB.{is_printed}
 use Rattle.bufr_bits.specs.DecimalText.{decimal_text_of}
 use Rattle.bufr_bits.proofs.DecimalLemmas.{own}
 use Rattle.bufr_bits.proofs.ScaledLemmas.{and_first, and_second}
-use Rattle.bufr_fill.specs.Draft.{Form, number_token, text_form, missing_form, reference_token}
-use Rattle.bufr_text.specs.Grammar.{hex_digit, hex_pair, hex_text, descriptors_text, is_plain, escaped, quoted, is_number_octet}
+use Rattle.bufr_fill.specs.Draft.{DraftValue, number_token, text_form, missing_form, reference_token}
+use Rattle.bufr_text.specs.Grammar.{hex_digit, hex_pair, hex_text, descriptors_text, is_unescaped, escaped, quoted, is_number_octet}
 use Rattle.bufr_text.specs.Line.{Line, Opens, Header, Local1, Section2, Descriptors, Begins, Item, Closes, Key, keys, key_in, value_read, line_of}
-use Rattle.bufr_text.specs.Dump.{Value, IsNumber, IsText, IsMissing, IsReference, Comment, form_of, form_text, comment_text, item_text, header_line, local1_line, section2_line, descriptors_line, subset_line}
+use Rattle.bufr_text.specs.Dump.{DumpValue, IsNumber, IsText, IsMissing, IsReference, Comment, dump_value_of, form_text, comment_text, item_text, header_line, local1_line, section2_line, descriptors_line, subset_line}
 use Rattle.bufr_text.specs.Writing.{joined}
 use Rattle.bufr_text.specs.Dump as dump
-use Rattle.bufr_text.specs.Given.{IsOctet, IsWord, IsValue, IsName, IsComment, IsItem}
+use Rattle.bufr_text.specs.Bounds.{IsOctet, IsDescriptorWord, IsValue, IsName, IsComment, IsItem}
 use Rattle.bufr_text.proofs.TokenLemmas.{IsToken, both, number-token}
 use Rattle.bufr_text.proofs.LineLemmas.{local1-says, section2-says, descriptors-says, subset-says, message-says, end-says, header-says, value-number, value-text, value-missing, item-of, comment-passed, comment-stops, reference-value, reference-of}
 
@@ -89,21 +89,21 @@ descriptors-clean [] = record { clean = refl; short = omega arith }
 descriptors-clean (w ∷ ws) = one-more 32 (fxy_text w ++ descriptors_text ws) (6 + 7 * length ws) (7 * suc (length ws)) (omega arith) (joined-two (fxy_text w) (descriptors_text ws) 6 (7 * length ws) (6 + 7 * length ws) (fxy-clean w) (descriptors-clean ws) (omega arith)) (omega arith)
 
 -- texts
-plain-clean : (c : ℕ) → is_plain c ≡ true → IsClean (c ∷ []) 4
+plain-clean : (c : ℕ) → is_unescaped c ≡ true → IsClean (c ∷ []) 4
 plain-clean c h = record { clean = both _ _ (grind (arith, nat_tests, h)) refl; short = omega arith }
 
 marks-clean : (c : ℕ) (m : Bool) → ((c == 34) || (c == 92)) ≡ m → IsClean (if m then 92 ∷ c ∷ [] else 92 ∷ 120 ∷ hex_pair c) 4
 marks-clean c true e = record { clean = both _ _ (grind (arith, nat_tests, e)) refl; short = omega arith }
 marks-clean c false e = record { clean = rw (hex-above (c / 16), hex-above (c % 16)) refl; short = omega arith }
 
-escaped-by : (c : ℕ) (p : Bool) → is_plain c ≡ p → IsClean (if p then c ∷ [] else if (c == 34) || (c == 92) then 92 ∷ c ∷ [] else 92 ∷ 120 ∷ hex_pair c) 4
+escaped-by : (c : ℕ) (p : Bool) → is_unescaped c ≡ p → IsClean (if p then c ∷ [] else if (c == 34) || (c == 92) then 92 ∷ c ∷ [] else 92 ∷ 120 ∷ hex_pair c) 4
 escaped-by c true e = plain-clean c e
 escaped-by c false e = marks-clean c ((c == 34) || (c == 92)) refl
 
 quoted-clean : (xs : List ℕ) → IsClean (quoted xs) (4 * length xs + 1)
 unfolding quoted
 quoted-clean [] = record { clean = refl; short = omega arith }
-quoted-clean (c ∷ xs) = joined-two (escaped c) (quoted xs) 4 (4 * length xs + 1) (4 * suc (length xs) + 1) (escaped-by c (is_plain c) refl) (quoted-clean xs) (omega arith)
+quoted-clean (c ∷ xs) = joined-two (escaped c) (quoted xs) 4 (4 * length xs + 1) (4 * suc (length xs) + 1) (escaped-by c (is_unescaped c) refl) (quoted-clean xs) (omega arith)
 
 -- comments
 literal : (text : List ℕ) (most : ℕ) → list_all is_above text ≡ true → length text ≤ most → IsClean text most
@@ -133,7 +133,7 @@ local1-line xs all some few = line-from (local1_line xs) (Local1 xs) 71 (local1-
 pub section2-line : (xs : List ℕ) → AllByRecursion IsOctet xs → 0 < length xs → length xs ≤ 32 → IsLineOf (section2_line xs) (Section2 xs)
 section2-line xs all some few = line-from (section2_line xs) (Section2 xs) 73 (section2-says xs all some few) (joined-two (codes "section2 ") (hex_text xs) 9 (2 * length xs) 73 (literal (codes "section2 ") 9 refl (omega arith)) (hex-clean xs) (omega arith)) (omega arith)
 
-pub descriptors-line : (ws : List ℕ) → AllByRecursion IsWord ws → 0 < length ws → length ws ≤ 8 → IsLineOf (descriptors_line ws) (Descriptors ws)
+pub descriptors-line : (ws : List ℕ) → AllByRecursion IsDescriptorWord ws → 0 < length ws → length ws ≤ 8 → IsLineOf (descriptors_line ws) (Descriptors ws)
 descriptors-line ws all some few = line-from (descriptors_line ws) (Descriptors ws) 67 (descriptors-says ws all some few) (joined-two (codes "descriptors") (descriptors_text ws) 11 (7 * length ws) 67 (literal (codes "descriptors") 11 refl (omega arith)) (descriptors-clean ws) (omega arith)) (omega arith)
 
 pub subset-line : (n : ℕ) → n < 65536 → IsLineOf (subset_line n) (Begins n)
@@ -168,13 +168,13 @@ header-line k v h n =
     (joined-two (key_in keys k).name (32 ∷ decimal v) 16 6 22 name (one-more 32 (decimal v) 5 6 (omega arith) (decimal-clean v 5 (omega arith) (omega arith) (omega arith)) (omega arith)) (omega arith)) (omega arith)
 
 -- items
-form-line : (fxy : ℕ) (text : List ℕ) (form : Form) (comment : Option Comment) (most : ℕ) → fxy < 65536 → IsComment comment → value_read (text ++ comment_text comment) ≡ Some (form, comment_text comment) → IsClean text most → most ≤ 2000
+form-line : (fxy : ℕ) (text : List ℕ) (form : DraftValue) (comment : Option Comment) (most : ℕ) → fxy < 65536 → IsComment comment → value_read (text ++ comment_text comment) ≡ Some (form, comment_text comment) → IsClean text most → most ≤ 2000
     → IsLineOf ((fxy_text fxy ++ 32 ∷ text) ++ comment_text comment) (Item fxy form)
 form-line fxy text form comment most word given read c h =
     line-from ((fxy_text fxy ++ 32 ∷ text) ++ comment_text comment) (Item fxy form) 3047 (item-of fxy (text ++ comment_text comment) (comment_text comment) form word read (comment-passed comment))
     (joined-two (fxy_text fxy ++ 32 ∷ text) (comment_text comment) 2007 1040 3047 (joined-two (fxy_text fxy) (32 ∷ text) 6 2001 2007 (fxy-clean fxy) (one-more 32 text most 2001 (omega arith) c (omega arith)) (omega arith)) (comment-clean comment given) (omega arith)) (omega arith)
 
-by-value : (fxy : ℕ) (comment : Option Comment) (value : Value) → fxy < 65536 → IsComment comment → IsValue value → IsLineOf (form_text fxy (form_of value) ++ comment_text comment) (Item fxy (form_of value))
+by-value : (fxy : ℕ) (comment : Option Comment) (value : DumpValue) → fxy < 65536 → IsComment comment → IsValue value → IsLineOf (form_text fxy (dump_value_of value) ++ comment_text comment) (Item fxy (dump_value_of value))
 by-value fxy comment (IsNumber v scale) word c (small, few) =
     let token = number-token v scale small few in
     form-line fxy (decimal_text_of v scale) (number_token (decimal_text_of v scale)) comment 400 word c (value-number (decimal_text_of v scale) (comment_text comment) 400 token (comment-stops comment)) (token-clean (decimal_text_of v scale) 400 token) (omega arith)
@@ -189,5 +189,5 @@ by-value fxy comment (IsReference v) word c small =
     (reference-of fxy (text ++ comment_text comment) (comment_text comment) (reference_token text) word (reference-value text (comment_text comment) 400 token (comment-stops comment)) (comment-passed comment))
     (joined-two (codes "R " ++ fxy_text fxy ++ 32 ∷ text) (comment_text comment) 409 1040 1449 (joined-two (codes "R " ++ fxy_text fxy) (32 ∷ text) 8 401 409 (joined-two (codes "R ") (fxy_text fxy) 2 6 8 (literal (codes "R ") 2 refl (omega arith)) (fxy-clean fxy) (omega arith)) (one-more 32 text 400 401 (omega arith) (token-clean text 400 token) (omega arith)) (omega arith)) (comment-clean comment c) (omega arith)) (omega arith)
 
-pub item-line : (item : dump.Item) → IsItem item → IsLineOf (item_text item) (Item item.fxy (form_of item.value))
+pub item-line : (item : dump.DumpItem) → IsItem item → IsLineOf (item_text item) (Item item.fxy (dump_value_of item.value))
 item-line item given = by-value item.fxy item.comment item.value given.word given.comment given.value

@@ -11,15 +11,15 @@ use Rattle.bufr_frame.specs.Sections.{Sections, sections_of, section_end}
 use Rattle.bufr_frame.specs.declared.fault.SectionFault.{SectionFault}
 use Rattle.bufr_walk.specs.declared.spec.Role.{Role}
 use Rattle.bufr_walk.specs.declared.spec.Role.TheVariants as role
-use Rattle.bufr_walk.specs.Asked.{Asked}
+use Rattle.bufr_walk.specs.FieldSpec.{FieldSpec}
 use Rattle.bufr_walk.specs.Calls.{view_of}
 use Rattle.bufr_walk.specs.Content.{Content, number, text, missing, reference}
 use Rattle.bufr_walk.specs.Outcome.{read_by, data_in}
 use Rattle.bufr_walk.specs.Reading.{Item, Values, apart, together}
 use Rattle.bufr_text.specs.Grammar.{runs_behind, runs_of, hex_text, descriptors_text, quoted}
 use Rattle.bufr_text.specs.Line.{keys}
-use Rattle.bufr_text.specs.Dump.{header_lines, local1_line, descriptors_line, subset_lines, dump_text_of, item_text, text_of}
-use Rattle.bufr_text.specs.DumpItems.{item_of, items_of}
+use Rattle.bufr_text.specs.Dump.{header_lines, local1_line, descriptors_line, subset_lines, dump_text_of, item_text, text_of_lines}
+use Rattle.bufr_text.specs.DumpItems.{dump_item_of, dump_items_of}
 
 unfoldable listed : (fxy : ℕ) → (name unit : List ℕ) → Kind → (width : ℕ) → Row
 listed fxy name unit k width = record { fxy = fxy; name = name; unit = unit; kind = k; scale = pos 0; reference = pos 0; width = width }
@@ -37,13 +37,13 @@ table =
     ∷ []
 
 -- what is asked of a number at a scale with a reference, and whether it is read by its row
-abbrev asked : (fxy : ℕ) → Role → Kind → (scale base : ℤ) → Bool → Asked
+abbrev asked : (fxy : ℕ) → Role → Kind → (scale base : ℤ) → Bool → FieldSpec
 asked fxy r k scale base listed = record { fxy = fxy; role = r; kind = k; width = 16; scale = scale; reference = base; may_be_missing = true; listed = listed }
 
 -- the line of an item
-unfoldable line : Asked → Content → List ℕ
+unfoldable line : FieldSpec → Content → List ℕ
 unfolding table
-line spec content = item_text (item_of (view_of table spec content))
+line spec content = item_text (dump_item_of (view_of table spec content))
 
 block : line (asked 257 role.Element kind.Numeric (pos 0) (pos 0) true) (number 10) ≡ codes "001001 10  # WMO BLOCK NUMBER [Numeric]"
 unfolding line digits decimal_text_of unsigned_text
@@ -76,9 +76,9 @@ power_of_ten : line (asked 3173 role.Element kind.Numeric (negsuc 1) (pos 0) tru
 unfolding line digits decimal_text_of unsigned_text
 power_of_ten = refl
 
-figure : line (asked 5123 role.Element kind.Coded (pos 0) (pos 0) true) (number 5) ≡ codes "020003 5  # PRESENT WEATHER [Code table]"
+coded_spec : line (asked 5123 role.Element kind.Coded (pos 0) (pos 0) true) (number 5) ≡ codes "020003 5  # PRESENT WEATHER [Code table]"
 unfolding line digits decimal_text_of unsigned_text
-figure = refl
+coded_spec = refl
 
 -- a missing item has its comment too
 missing_temperature : line (asked 3173 role.Element kind.Numeric (pos 2) (pos 0) true) (missing) ≡ codes "012101 MISSING  # AIR TEMPERATURE [K]"
@@ -110,14 +110,14 @@ edges_of_the_printed = refl
 
 -- the dump text of octets with these values
 abbrev text_in : Result Sections SectionFault → Values → List ℕ
-text_in (Ok s) values = dump_text_of s (items_of (read_by table bare (data_in s.compressed s.subsets s.payload) 0 0) values)
+text_in (Ok s) values = dump_text_of s (dump_items_of (read_by table bare (data_in s.compressed s.subsets s.payload) 0 0) values)
 text_in (Err why) values = []
 
 unfoldable dumped : List ℕ → Values → List ℕ
 unfolding table sections_of section_end
 dumped octets values = text_in (sections_of octets) values
 
-item : {C : Type 0} → Asked → C → Item C
+item : {C : Type 0} → FieldSpec → C → Item C
 item spec content = record { spec = spec; content = content }
 
 block_number : Item Content
@@ -174,7 +174,7 @@ unfolding dumped table keys header_lines subset_lines runs_behind hex_text descr
 no_subsets = refl
 
 -- 33 octets and nine descriptors take two lines each
-two_lines : text_of (map local1_line (runs_of 32 (replicate 33 171)) ++ map descriptors_line (runs_of 8 (replicate 9 257)))
+two_lines : text_of_lines (map local1_line (runs_of 32 (replicate 33 171)) ++ map descriptors_line (runs_of 8 (replicate 9 257)))
     ≡ codes "local1 ABABABABABABABABABABABABABABABABABABABABABABABABABABABABABABABAB\nlocal1 AB\ndescriptors 001001 001001 001001 001001 001001 001001 001001 001001\ndescriptors 001001\n"
 unfolding runs_behind hex_text descriptors_text
 two_lines = refl

@@ -8,13 +8,13 @@ use Rattle.std.proofs.lemmas.List.{take_all, drop_all}
 use Rattle.bufr_frame.specs.declared.fault.RunFault.{RunFault}
 use Rattle.bufr_frame.specs.declared.fault.RunFault.TheVariants.{Read, Write, InputTooLong, Memory}
 use Rattle.bufr_text.specs.Grammar.{runs_behind, runs_of}
-use Rattle.bufr_text.specs.Dump.{text_of}
-use Rattle.bufr_text.specs.DumpWritten.{WritesFront, CountsFaults}
-use Rattle.bufr_text.specs.Writing.{Writes, GrowsByFront}
+use Rattle.bufr_text.specs.Dump.{text_of_lines}
+use Rattle.bufr_text.specs.DumpWritten.{WritesPrefix, CountsFaults}
+use Rattle.bufr_text.specs.Writing.{Writes, GrowsByPrefix}
 use Rattle.bufr_text.proofs.WritingLemmas.{WrittenSoFar}
 
 -- a front of a text is one of a longer text
-pub front-longer : (a b : Option (List ℕ)) (s t : List ℕ) → GrowsByFront a b s → GrowsByFront a b (s ++ t)
+pub front-longer : (a b : Option (List ℕ)) (s t : List ℕ) → GrowsByPrefix a b s → GrowsByPrefix a b (s ++ t)
 front-longer a b s t first = record {
   front = first.front;
   back = first.back ++ t;
@@ -23,7 +23,7 @@ front-longer a b s t first = record {
 }
 
 -- a text was written, and then a front of another one
-pub front-behind : (a b c : Option (List ℕ)) (s t : List ℕ) → Appends a b s → GrowsByFront b c t → GrowsByFront a c (s ++ t)
+pub front-behind : (a b c : Option (List ℕ)) (s t : List ℕ) → Appends a b s → GrowsByPrefix b c t → GrowsByPrefix a c (s ++ t)
 front-behind a b c s t first second = record {
   front = s ++ second.front;
   back = second.back;
@@ -32,22 +32,22 @@ front-behind a b c s t first second = record {
 }
 
 -- nothing was written
-pub front-none : (a : Option (List ℕ)) (text : List ℕ) → GrowsByFront a a text
+pub front-none : (a : Option (List ℕ)) (text : List ℕ) → GrowsByPrefix a a text
 front-none a text = record { front = []; back = text; parts = refl; gains = Appends-nil a }
 
 -- the first was written, and then the second
-pub WritesFront-then : {X : Type 0} (a b c : Option (List ℕ)) (s t : List ℕ) (r : Result X RunFault) → Appends a b s → WritesFront b c t r → WritesFront a c (s ++ t) r
+pub WritesFront-then : {X : Type 0} (a b c : Option (List ℕ)) (s t : List ℕ) (r : Result X RunFault) → Appends a b s → WritesPrefix b c t r → WritesPrefix a c (s ++ t) r
 WritesFront-then a b c s t (Ok x) first second = Appends-trans a b c s t first second
 WritesFront-then a b c s t (Err f) first second = front-behind a b c s t first second
 
 -- the first was not written whole
-pub WritesFront-stop : {X Y : Type 0} (a b : Option (List ℕ)) (s t : List ℕ) (first : Result X RunFault) (r : Result Y RunFault) (f g : RunFault) → first ≡ Err f → r ≡ Err g → WritesFront a b s first → WritesFront a b (s ++ t) r
+pub WritesFront-stop : {X Y : Type 0} (a b : Option (List ℕ)) (s t : List ℕ) (first : Result X RunFault) (r : Result Y RunFault) (f g : RunFault) → first ≡ Err f → r ≡ Err g → WritesPrefix a b s first → WritesPrefix a b (s ++ t) r
 WritesFront-stop a b s t first r f g is same writes =
     let here = rw is at writes in
     rw same (front-longer a b s t here)
 
 -- a write that failed is all that can be wrong
-pub WritesFront-writes : {X : Type 0} (a b : Option (List ℕ)) (text : List ℕ) (r : Result X RunFault) → Writes a b text r → WritesFront a b text r
+pub WritesFront-writes : {X : Type 0} (a b : Option (List ℕ)) (text : List ℕ) (r : Result X RunFault) → Writes a b text r → WritesPrefix a b text r
 WritesFront-writes a b text (Ok x) writes = writes
 WritesFront-writes a b text (Err f) writes = writes.1
 
@@ -78,10 +78,10 @@ module _ (a b c : Option (List ℕ)) (whole rest here more : List ℕ) (before :
   }
 
   -- it was not written whole
-  pub so-far-stop : {X Y : Type 0} (first : Result X RunFault) (r : Result Y RunFault) (f g : RunFault) → first ≡ Err f → r ≡ Err g → WritesFront b c here first → WritesFront a c whole r
+  pub so-far-stop : {X Y : Type 0} (first : Result X RunFault) (r : Result Y RunFault) (f g : RunFault) → first ≡ Err f → r ≡ Err g → WritesPrefix b c here first → WritesPrefix a c whole r
   so-far-stop first r f g is same writes =
       let fails = rw is at writes in
-      let P : List ℕ → Type 0 = λ t. GrowsByFront a c t in
+      let P : List ℕ → Type 0 = λ t. GrowsByPrefix a c t in
       rw same (subst P (sym so-far-whole) (front-behind a b c before.front (here ++ more) before.gains (front-longer b c here more fails)))
 
 -- nothing is left
@@ -105,10 +105,10 @@ runs-next less (x ∷ xs) some =
     rw e (ap (λ (l : List (List ℕ)). take (suc less) (x ∷ xs) ∷ l) (runs-skip less less xs))
 
 -- the lines of runs: the first and the others
-pub lines-next : (f : List ℕ → List ℕ) (less : ℕ) (xs : List ℕ) → 0 < length xs → text_of (map f (runs_of (suc less) xs)) ≡ (f (take (suc less) xs) ++ 10 ∷ []) ++ text_of (map f (runs_of (suc less) (drop (suc less) xs)))
-lines-next f less xs some = ap (λ (l : List (List ℕ)). text_of (map f l)) (runs-next less xs some)
+pub lines-next : (f : List ℕ → List ℕ) (less : ℕ) (xs : List ℕ) → 0 < length xs → text_of_lines (map f (runs_of (suc less) xs)) ≡ (f (take (suc less) xs) ++ 10 ∷ []) ++ text_of_lines (map f (runs_of (suc less) (drop (suc less) xs)))
+lines-next f less xs some = ap (λ (l : List (List ℕ)). text_of_lines (map f l)) (runs-next less xs some)
 
-pub lines-none : (f : List ℕ → List ℕ) (most : ℕ) (xs : List ℕ) → length xs ≤ 0 → text_of (map f (runs_of most xs)) ≡ []
+pub lines-none : (f : List ℕ → List ℕ) (most : ℕ) (xs : List ℕ) → length xs ≤ 0 → text_of_lines (map f (runs_of most xs)) ≡ []
 unfolding runs_behind
 lines-none f most [] none = refl
 lines-none f most (x ∷ xs) none = absurd (omega (arith, none))
@@ -128,15 +128,15 @@ cut-run n m xs is = by (cases_lt (length xs) n)
 
 -- the lines of octets behind a word: the first and the others
 pub octet-lines-next : (f : List ℕ → List ℕ) (less m : ℕ) (rest run behind : List ℕ) → 0 < length rest → m ≡ min (length rest) (suc less) → run ≡ take m rest → behind ≡ drop m rest
-    → text_of (map f (runs_of (suc less) rest)) ≡ (f run ++ 10 ∷ []) ++ text_of (map f (runs_of (suc less) behind))
+    → text_of_lines (map f (runs_of (suc less) rest)) ≡ (f run ++ 10 ∷ []) ++ text_of_lines (map f (runs_of (suc less) behind))
 octet-lines-next f less m rest run behind some is front back =
     let cut = cut-run (suc less) m rest is in
     lines-next f less rest some
-    ∙ ap (λ l. (f l ++ 10 ∷ []) ++ text_of (map f (runs_of (suc less) (drop (suc less) rest)))) (sym (front ∙ cut.0))
-    ∙ ap (λ l. (f run ++ 10 ∷ []) ++ text_of (map f (runs_of (suc less) l))) (sym (back ∙ cut.1))
+    ∙ ap (λ l. (f l ++ 10 ∷ []) ++ text_of_lines (map f (runs_of (suc less) (drop (suc less) rest)))) (sym (front ∙ cut.0))
+    ∙ ap (λ l. (f run ++ 10 ∷ []) ++ text_of_lines (map f (runs_of (suc less) l))) (sym (back ∙ cut.1))
 
 -- nothing was written before memory ran out
-pub WritesFront-none : {X : Type 0} (a : Option (List ℕ)) (text : List ℕ) (r : Result X RunFault) (f : RunFault) → r ≡ Err f → WritesFront a a text r
+pub WritesFront-none : {X : Type 0} (a : Option (List ℕ)) (text : List ℕ) (r : Result X RunFault) (f : RunFault) → r ≡ Err f → WritesPrefix a a text r
 WritesFront-none a text r f is = rw is (front-none a text)
 
 -- whether anything is left

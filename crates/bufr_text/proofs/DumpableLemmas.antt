@@ -9,10 +9,10 @@ use Rattle.bufr_bits.specs.Bits.{bits_of}
 use Rattle.bufr_tables.specs.declared.kind.Kind.{Kind}
 use Rattle.bufr_tables.specs.declared.kind.Kind.TheVariants as kind
 use Rattle.bufr_tables.specs.Legal.{IsLegal}
-use Rattle.bufr_tables.specs.TableB.{Row, entry_of, is_plain, is_printed}
+use Rattle.bufr_tables.specs.TableB.{Row, entry_of, is_name, is_printed}
 use Rattle.bufr_tables.specs.TableD.{Sequence}
 use Rattle.bufr_tables.specs.Tree.{Tree}
-use Rattle.bufr_frame.specs.Octets.{two, words}
+use Rattle.bufr_frame.specs.Octets.{u16_at, words}
 use Rattle.bufr_frame.specs.Sections.{Sections, sections_of, parts, edition_of, head_of, has_section2}
 use Rattle.bufr_frame.specs.Layout.{IsFitting}
 use Rattle.bufr_frame.specs.Section1.{first_least}
@@ -20,23 +20,23 @@ use Rattle.bufr_frame.proofs.AgainLemmas.{sections-ended}
 use Rattle.bufr_frame.proofs.FitLemmas.{heads-fit}
 use Rattle.bufr_walk.specs.declared.spec.Role.{Role}
 use Rattle.bufr_walk.specs.declared.spec.Role.TheVariants as role
-use Rattle.bufr_walk.specs.Asked.{Asked, IsSpec, HasWidth, HasRole}
+use Rattle.bufr_walk.specs.FieldSpec.{FieldSpec, IsSpec, HasWidth, HasRole}
 use Rattle.bufr_walk.specs.Calls.{view_of, content_at}
 use Rattle.bufr_walk.specs.Content.{Content, number, text, missing, reference, shown}
 use Rattle.bufr_walk.specs.Course.{Course, next_item}
 use Rattle.bufr_walk.specs.Outcome.{data_of}
 use Rattle.bufr_walk.specs.PackedField.{packed_field}
 use Rattle.bufr_walk.specs.PlainField.{found}
-use Rattle.bufr_walk.specs.Reading.{Item, plain, packed, Reads, ReadsSubsets, IsPackedReading, IsReading, Values, apart, together, tells_of, after}
+use Rattle.bufr_walk.specs.Reading.{Item, plain, packed, ReadsItems, ReadsSubsets, IsPackedReading, IsReading, Values, apart, together, tells_of, after}
 use Rattle.bufr_fill.specs.Fits.{AreOctets, FitsKind, FitsRole, Fits, AllFit}
 use Rattle.bufr_fill.proofs.WrittenLists.{AllSpecs, EachSpecs}
 use Rattle.bufr_fill.proofs.FieldBits.{top_below}
 use Rattle.bufr_fill.proofs.GoodReads.{template_good, plain_specs, packed_specs}
 use Rattle.bufr_fill.proofs.PackedLaws.{packed_again}
 use Rattle.bufr_fill.proofs.PlainLaws.{plain_read}
-use Rattle.bufr_text.specs.DumpItems.{value_of, comment_of, item_of, items_apart, items_together, subsets_together}
-use Rattle.bufr_text.specs.RoundTrip.{IsAccepted, items_in}
-use Rattle.bufr_text.specs.Given.{IsOctet, IsWord, IsScale, IsValue, IsName, IsComment, IsItem, IsDumpable}
+use Rattle.bufr_text.specs.DumpItems.{value_of, comment_of, dump_item_of, items_apart, compressed_dump_items, compressed_dump_subsets}
+use Rattle.bufr_text.specs.RoundTrip.{IsAccepted, dump_items_in}
+use Rattle.bufr_text.specs.Bounds.{IsOctet, IsDescriptorWord, IsScale, IsValue, IsName, IsComment, IsItem, IsDumpable}
 use Rattle.bufr_text.proofs.RowsLemmas.{IsRead, found-read, good-rows}
 use Rattle.bufr_text.proofs.SpecWords.{HasWord, IsWordCourse, next_word}
 
@@ -47,7 +47,7 @@ octet_at [] i h = omega arith
 octet_at (c ∷ m) zero h = h.0
 octet_at (c ∷ m) (suc i) h = octet_at m i h.1
 
-word_at : (m : List ℕ) (i : ℕ) → AllByRecursion IsOctet m → two m i < 65536
+word_at : (m : List ℕ) (i : ℕ) → AllByRecursion IsOctet m → u16_at m i < 65536
 word_at m i h = omega (arith, octet_at m i h, octet_at m (i + 1) h)
 
 all_take : (n : ℕ) (m : List ℕ) → AllByRecursion IsOctet m → AllByRecursion IsOctet (take n m)
@@ -63,7 +63,7 @@ all_drop (suc n) (c ∷ m) h = all_drop n m h.1
 all_range : (m : List ℕ) (i j : ℕ) → AllByRecursion IsOctet m → AllByRecursion IsOctet (slice_range m i j)
 all_range m i j h = all_take (j - i) (drop i m) (all_drop i m h)
 
-all_words : (m : List ℕ) → AllByRecursion IsOctet m → AllByRecursion IsWord (words m)
+all_words : (m : List ℕ) → AllByRecursion IsOctet m → AllByRecursion IsDescriptorWord (words m)
 all_words [] h = tt
 all_words (a ∷ []) h = tt
 all_words (a ∷ b ∷ more) h = (omega (arith, h.0, h.1.0), all_words more h.1.1)
@@ -73,7 +73,7 @@ pub record AreGiven (s : Sections) : Type 0 where
   pub head : IsFitting s.head
   pub local1 : AllByRecursion IsOctet s.local1
   pub section2 : AllByRecursion IsOctet (unwrap_or s.section2 [])
-  pub descriptors : AllByRecursion IsWord s.descriptors
+  pub descriptors : AllByRecursion IsDescriptorWord s.descriptors
   pub few : s.subsets < 65536
 
 optional_octets : (b : Bool) (octets : List ℕ) → AllByRecursion IsOctet octets → AllByRecursion IsOctet (unwrap_or (if b then Some octets else None) [])
@@ -110,7 +110,7 @@ pub octets_are : (octets : List ℕ) → AreOctets octets → AllByRecursion IsO
 octets_are [] h = tt
 octets_are (c ∷ octets) h = (h.0, octets_are octets h.1)
 
-module _ (spec : Asked) (good : IsSpec spec) where
+module _ (spec : FieldSpec) (good : IsSpec spec) where
   number_value : (raw : ℕ) → spec.width ≤ 63 → raw < 2 ^ spec.width → IsValue (value_of (shown spec (number raw)))
   number_value raw narrow h = let p : 2 ^ spec.width ≤ 2 ^ 63 = pow_mono narrow in (sum_fits raw spec.reference (omega (arith, h, p)) good.reference, scale_fits spec.scale good.scale)
 
@@ -158,7 +158,7 @@ module _ (spec : Asked) (good : IsSpec spec) where
   value_at zero (c ∷ cs) h = value_fits c h.0
   value_at (suc j) (c ∷ cs) h = value_at j cs h.1
 
-name_fits : (name : List ℕ) → is_plain name ≡ true → IsName name
+name_fits : (name : List ℕ) → is_name name ≡ true → IsName name
 name_fits name h = record { printed = and_second (nat_le (length name) 512) (list_all is_printed name) h; short = le_from (length name) (and_first (nat_le (length name) 512) (list_all is_printed name) h) }
   where
     le_from : (a : ℕ) → nat_le a 512 ≡ true → a ≤ 512
@@ -173,12 +173,12 @@ module _ (table : List Row) (all : AllByRecursion IsRead table) where
       by None e = tt
       by (Some row) e = let r = found-read table fxy row all e in (name_fits row.name r.listed.name, name_fits row.unit r.listed.unit)
 
-  item_fits : (spec : Asked) (c : Content) → HasWord spec → IsValue (value_of (shown spec c)) → IsItem (item_of (view_of table spec c))
+  item_fits : (spec : FieldSpec) (c : Content) → HasWord spec → IsValue (value_of (shown spec c)) → IsItem (dump_item_of (view_of table spec c))
   item_fits spec c w v = record { word = w; value = v; comment = comment_fits spec.listed spec.fxy }
 
   -- ---- the items of subsets
 
-  items_fit : (course : Course) (items : List (Item Content)) (bits behind : List Bool) → IsWordCourse course → AllSpecs items → Reads plain course items bits behind → AllByRecursion IsItem (items_apart table items)
+  items_fit : (course : Course) (items : List (Item Content)) (bits behind : List Bool) → IsWordCourse course → AllSpecs items → ReadsItems plain course items bits behind → AllByRecursion IsItem (items_apart table items)
   items_fit course [] bits behind good specs h = tt
   items_fit course (i ∷ items) bits behind good specs h = (
     item_fits i.spec i.content (good [] i.spec h.1) (value_fits i.spec specs.0 i.content (plain_read i.spec specs.0 bits h.0 i.content h.2).0),
@@ -189,37 +189,37 @@ module _ (table : List Row) (all : AllByRecursion IsRead table) where
   subsets_fit course [] bits behind good specs h = tt
   subsets_fit course (items ∷ subsets) bits behind good specs h = (items_fit course items bits h.0 good specs.0 h.1.0, subsets_fit course subsets h.0 behind good specs.1 h.2)
 
-  packed_fits : (n : ℕ) (spec : Asked) (cs : List Content) (bits mid : List Bool) → IsSpec spec → packed_field n spec bits ≡ Ok (found cs mid) → AllFit spec cs
+  packed_fits : (n : ℕ) (spec : FieldSpec) (cs : List Content) (bits mid : List Bool) → IsSpec spec → packed_field n spec bits ≡ Ok (found cs mid) → AllFit spec cs
   packed_fits n spec [] bits mid good e = tt
   packed_fits n spec (c ∷ cs) bits mid good e = (packed_again n spec good c cs bits mid e).2.fits
 
-  packed_items_fit : (n j : ℕ) (course : Course) (items : List (Item (List Content))) (bits behind : List Bool) → IsWordCourse course → AllSpecs items → Reads (packed n) course items bits behind → AllByRecursion IsItem (items_together table j items)
+  packed_items_fit : (n j : ℕ) (course : Course) (items : List (Item (List Content))) (bits behind : List Bool) → IsWordCourse course → AllSpecs items → ReadsItems (packed n) course items bits behind → AllByRecursion IsItem (compressed_dump_items table j items)
   packed_items_fit n j course [] bits behind good specs h = tt
   packed_items_fit n j course (i ∷ items) bits behind good specs h = (
     item_fits i.spec (content_at j i.content) (good [] i.spec h.1) (value_at i.spec specs.0 j i.content (packed_fits n i.spec i.content bits h.0 specs.0 h.2)),
     packed_items_fit n j (after (packed n) course i) items h.0 behind (λ told spec e. good (tells_of (packed n) i ∷ told) spec e) specs.1 h.3,
   )
 
-  together_fit : (left j : ℕ) (items : List (Item (List Content))) → ((j : ℕ) → AllByRecursion IsItem (items_together table j items)) → AllByRecursion (λ items. AllByRecursion IsItem items) (subsets_together table left j items)
+  together_fit : (left j : ℕ) (items : List (Item (List Content))) → ((j : ℕ) → AllByRecursion IsItem (compressed_dump_items table j items)) → AllByRecursion (λ items. AllByRecursion IsItem items) (compressed_dump_subsets table left j items)
   together_fit zero j items h = tt
   together_fit (suc left) j items h = (h j, together_fit left (j + 1) items h)
 
-  pub packed_fit : (n : ℕ) (course : Course) (items : List (Item (List Content))) (bits behind : List Bool) → IsWordCourse course → ((n : ℕ) → Reads (packed n) course items bits behind → AllSpecs items) → IsPackedReading n course items bits behind → AllByRecursion (λ items. AllByRecursion IsItem items) (subsets_together table n 0 items)
+  pub packed_fit : (n : ℕ) (course : Course) (items : List (Item (List Content))) (bits behind : List Bool) → IsWordCourse course → ((n : ℕ) → ReadsItems (packed n) course items bits behind → AllSpecs items) → IsPackedReading n course items bits behind → AllByRecursion (λ items. AllByRecursion IsItem items) (compressed_dump_subsets table n 0 items)
   packed_fit zero course items bits behind good specs h = tt
   packed_fit (suc n) course items bits behind good specs h = together_fit (suc n) 0 items (λ j. packed_items_fit (suc n) j course items bits behind good (specs (suc n) h.0.0) h.0.0)
 
-together_count : (table : List Row) (left j : ℕ) (items : List (Item (List Content))) → length (subsets_together table left j items) ≡ left
+together_count : (table : List Row) (left j : ℕ) (items : List (Item (List Content))) → length (compressed_dump_subsets table left j items) ≡ left
 together_count table zero j items = refl
 together_count table (suc left) j items = ap suc (together_count table left (j + 1) items)
 
 -- ---- the message
 
-counted : (table : List Row) (template : Tree) (s : Sections) (values : Values) (used : ℕ) → IsReading (next_item table template) (data_of s) values used → length (items_in table template s values) ≡ s.subsets
+counted : (table : List Row) (template : Tree) (s : Sections) (values : Values) (used : ℕ) → IsReading (next_item table template) (data_of s) values used → length (dump_items_in table template s values) ≡ s.subsets
 counted table template s (apart subsets) used h = length-map subsets (items_apart table) ∙ h.2.1
 counted table template s (together items) used h = together_count table s.subsets 0 items
 
 all_fit : (table : List Row) (template : Tree) (s : Sections) (values : Values) (used : ℕ) → AllByRecursion IsRead table → IsLegal template → IsReading (next_item table template) (data_of s) values used
-    → AllByRecursion (λ items. AllByRecursion IsItem items) (items_in table template s values)
+    → AllByRecursion (λ items. AllByRecursion IsItem items) (dump_items_in table template s values)
 all_fit table template s (apart subsets) used all legal h =
     let course = next_item table template in
     let bits = bits_of s.payload in
@@ -230,7 +230,7 @@ all_fit table template s (together items) used all legal h =
     packed_fit table all s.subsets course items bits (drop used bits) (next_word table template all legal) (λ n r. packed_specs n course items bits (drop used bits) (template_good table template (good-rows table all) legal) r) h.2
 
 pub dumpable : (table : List Row) (sequences : List Sequence) (m : List ℕ) (s : Sections) (template : Tree) (values : Values) (used : ℕ) → AllByRecursion IsRead table → IsLegal template
-    → IsAccepted table sequences m s template values used → IsDumpable s (items_in table template s values)
+    → IsAccepted table sequences m s template values used → IsDumpable s (dump_items_in table template s values)
 dumpable table sequences m s template values used all legal a =
     let given = sections_given m s a.octets a.sections in
     record {

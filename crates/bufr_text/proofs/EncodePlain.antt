@@ -5,24 +5,24 @@ use Rattle.std.proofs.lemmas.List.{append-nil}
 use Rattle.bufr_walk.specs.declared.stop.WalkStop.{WalkStop}
 use Rattle.bufr_walk.specs.declared.stop.WalkStop.TheVariants as stops
 use Rattle.bufr_walk.specs.Course.{Course, Next, take_next, at_end, astray, refused}
-use Rattle.bufr_walk.specs.Taking.{Turn, Takes, course_after}
-use Rattle.bufr_walk.specs.Walked.{oks, told_by, StopsAt, Walked}
+use Rattle.bufr_walk.specs.Taking.{TakenField, Takes, course_after}
+use Rattle.bufr_walk.specs.Walked.{oks, answers_of, StopsWalk, Walked}
 use Rattle.bufr_fill.specs.declared.fault.DraftFault.{DraftFault}
 use Rattle.bufr_fill.specs.Draft.{Draft}
 use Rattle.bufr_fill.specs.DraftContent.{plainly, plain_filler}
 use Rattle.bufr_fill.specs.Encoding.{plain_data, ◌>>=◌}
-use Rattle.bufr_fill.specs.Entries.{Entry, Holds, Ends, Subset, subset, onto_first, subsets_of}
+use Rattle.bufr_fill.specs.Entries.{DraftEntry, Holds, Ends, Subset, subset, prepend_to_subset, subsets_of}
 use Rattle.bufr_fill.specs.Fault.{FaultAt, at_line, walk_refused}
 use Rattle.bufr_fill.specs.Filling.{fill, fill_none, and_behind}
-use Rattle.bufr_fill.specs.PlainOut.{Pen, PlainFills, WhereTold, IsFaultOf, IsFaultNext, behind_end, line_at, items_left, end_left}
-use Rattle.bufr_fill.specs.Told.{told_fault}
+use Rattle.bufr_fill.specs.PlainOut.{PlainOutModel, PlainFills, IfDraftFault, IsFaultOf, IsFaultNext, behind_end, line_at, items_left, end_left}
+use Rattle.bufr_fill.specs.DraftFaults.{draft_fault}
 use Rattle.bufr_fill.proofs.PlainWalks.{fills, walk_of_items, fault_as_defined}
 use Rattle.bufr_fill.proofs.WalkFills.{after_told}
 use Rattle.bufr_text.specs.declared.encode_fault.DocumentFault.{DocumentFault}
 use Rattle.bufr_text.specs.Encoding.{RefusedAt, told_of_items}
-use Rattle.bufr_text.specs.EncodingFault.{RefusesSo, told_of_draft, told_refusal}
+use Rattle.bufr_text.specs.EncodingFault.{IsDocumentRefusal, told_of_draft, told_refusal}
 use Rattle.bufr_text.specs.DataWritten.{told_stop, left_behind, fill_next, count_next, turns_next, IsSubset, IsNoSubset, AreOctetsOf, IsData, IsNoData}
-use Rattle.bufr_text.specs.EncodingCost.{count_filled, count_plain, turns_filled, turns_plain, and_more, MakesSo}
+use Rattle.bufr_text.specs.EncodingCost.{count_filled, count_plain, turns_filled, turns_plain, count_after, CountsSteps}
 use Rattle.bufr_walk.specs.Ticks.{ticked}
 use Rattle.bufr_walk.proofs.PlainSubsets.{ticked_more}
 use Rattle.bufr_text.proofs.EncodingCostLemmas.{walk_counts, all_counted, refuses_so, told_refused}
@@ -41,17 +41,17 @@ mul_most n a b h =
 -- ---- one subset
 
 -- a walk stays in its subset
-record Keeps (s s' : Pen) : Type 0 where
+record Keeps (s s' : PlainOutModel) : Type 0 where
   behind : left_behind s'.left ≡ left_behind s.left
   end : end_left s'.left ≡ end_left s.left
   count : length (subsets_of s'.left) ≡ length (subsets_of s.left)
 
-onto_same : (d : Draft) (ss : List Subset) → length (onto_first d ss) ≡ length ss
+onto_same : (d : Draft) (ss : List Subset) → length (prepend_to_subset d ss) ≡ length ss
 onto_same d [] = refl
 onto_same d (s ∷ ss) = refl
 
-keeps : (course : Course) (s : Pen) (items : List Turn) (s' : Pen) → Takes (oks PlainFills) course s items s' → Keeps s s'
-keeps course s [] s' h = record { behind = ap (λ (p : Pen). left_behind p.left) h; end = ap (λ (p : Pen). end_left p.left) h; count = ap (λ (p : Pen). length (subsets_of p.left)) h }
+keeps : (course : Course) (s : PlainOutModel) (items : List TakenField) (s' : PlainOutModel) → Takes (oks PlainFills) course s items s' → Keeps s s'
+keeps course s [] s' h = record { behind = ap (λ (p : PlainOutModel). left_behind p.left) h; end = ap (λ (p : PlainOutModel). end_left p.left) h; count = ap (λ (p : PlainOutModel). length (subsets_of p.left)) h }
 keeps course s (i ∷ items) s' h =
     let k = keeps (λ told. course (i.taken ∷ told)) h.0 items s' h.3 in
     record {
@@ -60,15 +60,15 @@ keeps course s (i ∷ items) s' h =
       count = k.count ∙ sym (ap (λ x. length (subsets_of x)) h.2.here ∙ onto_same h.2.draft (subsets_of h.0.left));
     }
 
-counts : (end : ℕ) (course : Course) (s : Pen) (items : List Turn) (s' : Pen) → Takes (oks PlainFills) course s items s' → length s'.bits ≤ length s.bits + count_filled (plain_filler end) course (items_left s.left)
-counts end course s items s' h = omega (arith, walk_counts (plain_filler end) (λ (p : Pen). items_left p.left) (λ (p : Pen). p.bits) (oks PlainFills) (fills end) course s items s' h)
+counts : (end : ℕ) (course : Course) (s : PlainOutModel) (items : List TakenField) (s' : PlainOutModel) → Takes (oks PlainFills) course s items s' → length s'.bits ≤ length s.bits + count_filled (plain_filler end) course (items_left s.left)
+counts end course s items s' h = omega (arith, walk_counts (plain_filler end) (λ (p : PlainOutModel). items_left p.left) (λ (p : PlainOutModel). p.bits) (oks PlainFills) (fills end) course s items s' h)
 
 -- the turns of the next subset are those that a walk comes to
-turns_left : (course : Course) (s : Pen) (items : List Turn) (mid : Pen) → Takes (oks PlainFills) course s items mid → turns_next course s.left ≡ turns_filled (plain_filler (end_left s.left)) (course_after course items) (items_left mid.left)
-turns_left course s items mid h = walk_turns (plain_filler (end_left s.left)) (λ (p : Pen). items_left p.left) (λ (p : Pen). p.bits) (oks PlainFills) (fills (end_left s.left)) course s items mid h
+turns_left : (course : Course) (s : PlainOutModel) (items : List TakenField) (mid : PlainOutModel) → Takes (oks PlainFills) course s items mid → turns_next course s.left ≡ turns_filled (plain_filler (end_left s.left)) (course_after course items) (items_left mid.left)
+turns_left course s items mid h = walk_turns (plain_filler (end_left s.left)) (λ (p : PlainOutModel). items_left p.left) (λ (p : PlainOutModel). p.bits) (oks PlainFills) (fills (end_left s.left)) course s items mid h
 
 -- nothing is taken at a fault
-fault_is_last : (end : ℕ) (next : Next) (left : List Entry) (f : FaultAt) → IsFaultNext next left f → IsLast (plain_filler end) next (items_left left)
+fault_is_last : (end : ℕ) (next : Next) (left : List DraftEntry) (f : FaultAt) → IsFaultNext next left f → IsLast (plain_filler end) next (items_left left)
 fault_is_last end (take_next spec) [] f h = tt
 fault_is_last end (take_next spec) (Ends line ∷ more) f h = tt
 fault_is_last end (take_next spec) (Holds d ∷ more) f h = (at_line d.line h.0, ap (plainly d.line spec) h.1)
@@ -77,17 +77,17 @@ fault_is_last end (refused r) left f h = tt
 fault_is_last end astray left f h = tt
 
 -- a walk to the end makes all turns of its subset
-all_turns : (course : Course) (s : Pen) (c : ℕ) (mid : Pen) (c' : ℕ) → Walked PlainFills course s c (Ok tt) mid c' → c' ≡ ticked c (turns_next course s.left)
+all_turns : (course : Course) (s : PlainOutModel) (c : ℕ) (mid : PlainOutModel) (c' : ℕ) → Walked PlainFills course s c (Ok tt) mid c' → c' ≡ ticked c (turns_next course s.left)
 all_turns course s c mid c' w =
     w.3 ∙ ap (ticked c) (last_turns (plain_filler (end_left s.left)) course w.0 (items_left mid.left) at_end (turns_next course s.left) (turns_left course s w.0 mid w.1) w.2 tt)
 
 -- at the end of the template
-at_end_none : (end : ℕ) (course : Course) (left more : List Entry) → (course []).next ≡ at_end → behind_end left ≡ Ok more → (fill (plain_filler end) course (items_left left) ≡ Ok []) × (left_behind left ≡ more)
+at_end_none : (end : ℕ) (course : Course) (left more : List DraftEntry) → (course []).next ≡ at_end → behind_end left ≡ Ok more → (fill (plain_filler end) course (items_left left) ≡ Ok []) × (left_behind left ≡ more)
 at_end_none end course [] more h e = absurd cc e
 at_end_none end course (Holds d ∷ left) more h e = absurd cc e
 at_end_none end course (Ends line ∷ left) more h e = (ap (fill_none (plain_filler end)) h, cc)
 
-some_left : (left : List Entry) → 1 ≤ length (subsets_of left) → 1 ≤ length left
+some_left : (left : List DraftEntry) → 1 ≤ length (subsets_of left) → 1 ≤ length left
 some_left [] h = absurd (omega (arith, h))
 some_left (e ∷ left) h = omega arith
 
@@ -95,7 +95,7 @@ prefixed : (end : ℕ) (bits : List Bool) (r : Result (List Bool) FaultAt) (f : 
 prefixed end bits r f h = ap (and_behind (plain_filler end) bits) h
 
 -- the subset was written
-pub subset_written : (n : ℕ) (course : Course) (s : Pen) (c : ℕ) (mid : Pen) (c' : ℕ) (s' : Pen) → Walked PlainFills course s c (Ok tt) mid c' → behind_end mid.left ≡ Ok s'.left → s'.bits ≡ mid.bits → c' ≤ c + n * (length mid.bits - length s.bits)
+pub subset_written : (n : ℕ) (course : Course) (s : PlainOutModel) (c : ℕ) (mid : PlainOutModel) (c' : ℕ) (s' : PlainOutModel) → Walked PlainFills course s c (Ok tt) mid c' → behind_end mid.left ≡ Ok s'.left → s'.bits ≡ mid.bits → c' ≤ c + n * (length mid.bits - length s.bits)
     → IsSubset n course s c s' c'
 subset_written n course s c mid c' s' w passed same few =
     let end = end_left s.left in
@@ -114,7 +114,7 @@ subset_written n course s c mid c' s' w passed same few =
     }
 
 -- the fault where a walk stopped is that of its subset
-refused_later : (course : Course) (s mid : Pen) (items : List Turn) (f : FaultAt) → Takes (oks PlainFills) course s items mid → IsFaultNext (course (told_by items)).next mid.left f → fill_next course s.left ≡ Err f
+refused_later : (course : Course) (s mid : PlainOutModel) (items : List TakenField) (f : FaultAt) → Takes (oks PlainFills) course s items mid → IsFaultNext (course (answers_of items)).next mid.left f → fill_next course s.left ≡ Err f
 refused_later course s mid items f h x =
     let k = keeps course s items mid h in
     let filled = walk_of_items (end_left s.left) course s items mid h in
@@ -122,15 +122,15 @@ refused_later course s mid items f h x =
     filled.2 ∙ prefixed (end_left s.left) filled.0 _ f (ap (λ n. fill (plain_filler n) (course_after course items) (items_left mid.left)) (sym k.end) ∙ is)
 
 -- an item is left over
-pub subset_over : (n : ℕ) (course : Course) (s : Pen) (c : ℕ) (mid : Pen) (c' : ℕ) (e : DraftFault) (why : DocumentFault) → Walked PlainFills course s c (Ok tt) mid c' → 1 ≤ length (subsets_of s.left)
-    → (f : FaultAt) × (told_fault e ≡ Some f) × (behind_end mid.left ≡ Err f) → told_refusal why ≡ option_map told_of_draft (told_fault e) → c' ≤ c + n * (length mid.bits - length s.bits)
+pub subset_over : (n : ℕ) (course : Course) (s : PlainOutModel) (c : ℕ) (mid : PlainOutModel) (c' : ℕ) (e : DraftFault) (why : DocumentFault) → Walked PlainFills course s c (Ok tt) mid c' → 1 ≤ length (subsets_of s.left)
+    → (f : FaultAt) × (draft_fault e ≡ Some f) × (behind_end mid.left ≡ Err f) → told_refusal why ≡ option_map told_of_draft (draft_fault e) → c' ≤ c + n * (length mid.bits - length s.bits)
     → IsNoSubset n course s c why c'
 subset_over n course s c mid c' e why w some fault told few =
     let k = keeps course s w.0 mid w.1 in
     let is = refused_later course s mid w.0 fault.0 w.1 (subst (λ n. IsFaultNext n mid.left fault.0) (sym w.2) (some_left mid.left (omega (arith, some, k.count)), fault.2)) in
     let count = counts (end_left s.left) course s w.0 mid w.1 in
     record {
-      refuses = refuses_so (told_fault e) (told_refusal why) (fill_next course s.left) told (λ f h. is ∙ ap Err (same fault.0 f (sym fault.1 ∙ h)));
+      refuses = refuses_so (draft_fault e) (told_refusal why) (fill_next course s.left) told (λ f h. is ∙ ap Err (same fault.0 f (sym fault.1 ∙ h)));
       made = all_made (told_refusal why) c (turns_next course s.left) c' (all_turns course s c mid c' w);
       few = omega (arith, few, mul_most n (length mid.bits - length s.bits) (count_next course s.left + 1) (omega (arith, count)));
     }
@@ -139,10 +139,10 @@ subset_over n course s c mid c' e why w some fault told few =
     same a b e = cc
 
 -- what stopped a walk is the fault at the next entry
-told_next : (line : ℕ) (next : Next) (mid : Pen) (stop : WalkStop DraftFault) (s' : Pen) (f : FaultAt) → StopsAt PlainFills next mid stop s' → line ≡ line_at s'.left → told_stop line stop ≡ Some f → IsFaultNext next mid.left f
-told_next line (take_next spec) mid (stops.Field e) s' f h l t = by (told_fault e) h.0 t
+told_next : (line : ℕ) (next : Next) (mid : PlainOutModel) (stop : WalkStop DraftFault) (s' : PlainOutModel) (f : FaultAt) → StopsWalk PlainFills next mid stop s' → line ≡ line_at s'.left → told_stop line stop ≡ Some f → IsFaultNext next mid.left f
+told_next line (take_next spec) mid (stops.Field e) s' f h l t = by (draft_fault e) h.0 t
   where
-    by : (o : Option FaultAt) → WhereTold o (IsFaultOf spec mid.left) → o ≡ Some f → IsFaultOf spec mid.left f
+    by : (o : Option FaultAt) → IfDraftFault o (IsFaultOf spec mid.left) → o ≡ Some f → IsFaultOf spec mid.left f
     by None h t = absurd cc t
     by (Some g) h t = let same : g ≡ f = cc in subst (IsFaultOf spec mid.left) same h
 told_next line (take_next spec) mid stops.Memory s' f h l t = absurd cc t
@@ -151,10 +151,10 @@ told_next line (take_next spec) mid (stops.Defining fxy) s' f h l t = absurd h
 told_next line at_end mid stop s' f h l t = absurd h
 told_next line astray mid stop s' f h l t = absurd h
 told_next line (refused r) mid stop s' f h l t =
-    sym (told_refused line r f (ap (told_stop line) (sym h.0) ∙ t)) ∙ ap (λ n. at_line n (walk_refused r)) (l ∙ ap (λ (p : Pen). line_at p.left) h.1)
+    sym (told_refused line r f (ap (told_stop line) (sym h.0) ∙ t)) ∙ ap (λ n. at_line n (walk_refused r)) (l ∙ ap (λ (p : PlainOutModel). line_at p.left) h.1)
 
 -- and nothing more was written
-still : (next : Next) (mid : Pen) (stop : WalkStop DraftFault) (s' : Pen) → StopsAt PlainFills next mid stop s' → s' ≡ mid
+still : (next : Next) (mid : PlainOutModel) (stop : WalkStop DraftFault) (s' : PlainOutModel) → StopsWalk PlainFills next mid stop s' → s' ≡ mid
 still (take_next spec) mid (stops.Field e) s' h = h.1
 still (take_next spec) mid stops.Memory s' h = h.1
 still (take_next spec) mid (stops.Width fxy) s' h = absurd h
@@ -164,11 +164,11 @@ still astray mid stop s' h = absurd h
 still (refused r) mid stop s' h = h.1
 
 -- the walk stopped
-pub subset_stopped : (n : ℕ) (course : Course) (s : Pen) (c : ℕ) (s' : Pen) (c' line : ℕ) (stop : WalkStop DraftFault) (why : DocumentFault) → AddsTurns course → Walked PlainFills course s c (Err stop) s' c' → line ≡ line_at s'.left
+pub subset_stopped : (n : ℕ) (course : Course) (s : PlainOutModel) (c : ℕ) (s' : PlainOutModel) (c' line : ℕ) (stop : WalkStop DraftFault) (why : DocumentFault) → AddsTurns course → Walked PlainFills course s c (Err stop) s' c' → line ≡ line_at s'.left
     → told_refusal why ≡ option_map told_of_draft (told_stop line stop) → c' ≤ c + n * (length s'.bits - length s.bits + 1)
     → IsNoSubset n course s c why c'
 subset_stopped n course s c s' c' line stop why g w at told few =
-    let next = (course (told_by w.0)).next in
+    let next = (course (answers_of w.0)).next in
     let filler = plain_filler (end_left s.left) in
     let all = turns_next course s.left in
     let left = turns_left course s w.0 w.1 w.2 in
@@ -176,9 +176,9 @@ subset_stopped n course s c s' c' line stop why g w at told few =
     record {
       refuses = refuses_so (told_stop line stop) (told_refusal why) (fill_next course s.left) told (λ f t. refused_later course s w.1 w.0 f w.2 (told_next line next w.1 stop s' f w.3 at t));
       made = makes_so (told_stop line stop) (told_refusal why) c all c' told
-          (omega (arith, w.4, ticked_at_most c (course (told_by w.0)).turns all (some_turns filler course w.0 (items_left w.1.left) all g left)))
+          (omega (arith, w.4, ticked_at_most c (course (answers_of w.0)).turns all (some_turns filler course w.0 (items_left w.1.left) all g left)))
           (λ f t. w.4 ∙ ap (ticked c) (last_turns filler course w.0 (items_left w.1.left) next all left refl (fault_is_last (end_left s.left) next w.1.left f (told_next line next w.1 stop s' f w.3 at t))));
-      few = omega (arith, few, mul_most n (length s'.bits - length s.bits + 1) (count_next course s.left + 1) (omega (arith, count, ap (λ (p : Pen). length p.bits) (still next w.1 stop s' w.3))));
+      few = omega (arith, few, mul_most n (length s'.bits - length s.bits + 1) (count_next course s.left + 1) (omega (arith, count, ap (λ (p : PlainOutModel). length p.bits) (still next w.1 stop s' w.3))));
     }
 
 -- ---- all subsets
@@ -187,7 +187,7 @@ pub put_before : List Bool → Result (List Bool) FaultAt → Result (List Bool)
 put_before bits (Ok more) = Ok (bits ++ more)
 put_before bits (Err why) = Err why
 
-pub record PlainSoFar (places : ℕ) (course : Course) (all : List Subset) (done : ℕ) (left : List Entry) (bits : List Bool) (steps : ℕ) : Type 0 where
+pub record PlainSoFar (places : ℕ) (course : Course) (all : List Subset) (done : ℕ) (left : List DraftEntry) (bits : List Bool) (steps : ℕ) : Type 0 where
   pub is : plain_data course all ≡ put_before bits (plain_data course (subsets_of left))
   pub count : count_plain course all ≡ length bits + count_plain course (subsets_of left)
   pub made : ℕ
@@ -196,12 +196,12 @@ pub record PlainSoFar (places : ℕ) (course : Course) (all : List Subset) (done
   pub few : steps ≤ places * length bits
   pub rest : done + length (subsets_of left) ≡ length all
 
-cut : (left : List Entry) → 1 ≤ length (subsets_of left) → subsets_of left ≡ subset (items_left left) (end_left left) ∷ subsets_of (left_behind left)
+cut : (left : List DraftEntry) → 1 ≤ length (subsets_of left) → subsets_of left ≡ subset (items_left left) (end_left left) ∷ subsets_of (left_behind left)
 cut [] h = absurd (omega (arith, h))
 cut (Ends line ∷ more) h = refl
-cut (Holds d ∷ more) h = ap (onto_first d) (cut more (omega (arith, h, onto_same d (subsets_of more))))
+cut (Holds d ∷ more) h = ap (prepend_to_subset d) (cut more (omega (arith, h, onto_same d (subsets_of more))))
 
-pub none_written : (n : ℕ) (course : Course) (all : List Entry) (s : Pen) (steps : ℕ) → s.left ≡ all → s.bits ≡ [] → steps ≡ 0 → PlainSoFar n course (subsets_of all) 0 s.left s.bits steps
+pub none_written : (n : ℕ) (course : Course) (all : List DraftEntry) (s : PlainOutModel) (steps : ℕ) → s.left ≡ all → s.bits ≡ [] → steps ≡ 0 → PlainSoFar n course (subsets_of all) 0 s.left s.bits steps
 unfolding put_before
 none_written n course all s steps e b z = record {
   is = same (plain_data course (subsets_of all)) ∙ ap (λ l. put_before [] (plain_data course (subsets_of l))) (sym e) ∙ ap (λ b. put_before b (plain_data course (subsets_of s.left))) (sym b);
@@ -217,7 +217,7 @@ none_written n course all s steps e b z = record {
     same (Ok bits) = refl
     same (Err why) = refl
 
-pub one_more : (n : ℕ) (course : Course) (all : List Subset) (done : ℕ) (s : Pen) (steps : ℕ) (s' : Pen) (steps' : ℕ) → PlainSoFar n course all done s.left s.bits steps → 1 ≤ length (subsets_of s.left) → IsSubset n course s steps s' steps'
+pub one_more : (n : ℕ) (course : Course) (all : List Subset) (done : ℕ) (s : PlainOutModel) (steps : ℕ) (s' : PlainOutModel) (steps' : ℕ) → PlainSoFar n course all done s.left s.bits steps → 1 ≤ length (subsets_of s.left) → IsSubset n course s steps s' steps'
     → PlainSoFar n course all (done + 1) s'.left s'.bits steps'
 unfolding put_before
 one_more n course all done s steps s' steps' h some p =
@@ -233,7 +233,7 @@ one_more n course all done s steps s' steps' h some p =
           ∙ ap (λ x. put_before s'.bits (plain_data course x)) behind;
       count =
           let a = ap (count_plain course) c in
-          let b = ap (λ r. and_more r (count_plain course (subsets_of (left_behind s.left)))) p.is in
+          let b = ap (λ r. count_after r (count_plain course (subsets_of (left_behind s.left)))) p.is in
           let d = all_counted (plain_filler (end_left s.left)) course (items_left s.left) p.bits p.is in
           let e = ap (count_plain course) behind in
           omega (arith, h.count, a, b, d, e, long);
@@ -241,7 +241,7 @@ one_more n course all done s steps s' steps' h some p =
       ticks = p.made ∙ ap (λ x. ticked x (turns_next course s.left)) h.ticks ∙ ticked_more h.made (turns_next course s.left);
       turns =
           let a = ap (turns_plain course) c in
-          let b = ap (λ r. and_more r (turns_plain course (subsets_of (left_behind s.left)))) p.is in
+          let b = ap (λ r. count_after r (turns_plain course (subsets_of (left_behind s.left)))) p.is in
           let e = ap (turns_plain course) behind in
           omega (arith, h.turns, a, b, e);
       few = omega (arith, h.few, p.few, split n (length s.bits) (length p.bits), ap (λ x. n * x) long);
@@ -259,7 +259,7 @@ one_more n course all done s steps s' steps' h some p =
         by (Ok x) = refl
         by (Err why) = refl
 
-pub all_written : (n : ℕ) (course : Course) (all : List Subset) (done : ℕ) (s : Pen) (steps : ℕ) (octets : List ℕ) → PlainSoFar n course all done s.left s.bits steps → done ≡ length all → AreOctetsOf octets s.bits → IsData n false course all octets steps
+pub all_written : (n : ℕ) (course : Course) (all : List Subset) (done : ℕ) (s : PlainOutModel) (steps : ℕ) (octets : List ℕ) → PlainSoFar n course all done s.left s.bits steps → done ≡ length all → AreOctetsOf octets s.bits → IsData n false course all octets steps
 unfolding put_before
 all_written n course all done s steps octets h e o =
     let none = empty (subsets_of s.left) (omega (arith, h.rest, e)) in
@@ -275,7 +275,7 @@ all_written n course all done s steps octets h e o =
     empty [] h = refl
     empty (s ∷ ss) h = absurd (omega (arith, h))
 
-pub stopped : (n : ℕ) (course : Course) (all : List Subset) (done : ℕ) (s : Pen) (steps : ℕ) (why : DocumentFault) (steps' : ℕ) → PlainSoFar n course all done s.left s.bits steps → 1 ≤ length (subsets_of s.left) → IsNoSubset n course s steps why steps'
+pub stopped : (n : ℕ) (course : Course) (all : List Subset) (done : ℕ) (s : PlainOutModel) (steps : ℕ) (why : DocumentFault) (steps' : ℕ) → PlainSoFar n course all done s.left s.bits steps → 1 ≤ length (subsets_of s.left) → IsNoSubset n course s steps why steps'
     → IsNoData n false course all why steps'
 unfolding put_before
 stopped n course all done s steps why steps' h some p =
@@ -292,15 +292,15 @@ stopped n course all done s steps why steps' h some p =
     later (Err g) f t e =
         ap told_of_items (h.is ∙ ap (λ x. put_before s.bits (plain_data course x)) (cut s.left some) ∙ ap (λ x. put_before s.bits (x >>= λ first. plain_data course (subsets_of (left_behind s.left)) >>= λ rest. Ok (first ++ rest))) e) ∙ t
 
-    by : (o : Option RefusedAt) → RefusesSo o (told_of_items (fill_next course s.left)) → RefusesSo o (told_of_items (plain_data course all))
+    by : (o : Option RefusedAt) → IsDocumentRefusal o (told_of_items (fill_next course s.left)) → IsDocumentRefusal o (told_of_items (plain_data course all))
     by None h = tt
     by (Some f) h = later (fill_next course s.left) f h refl
 
-    none_more : (r : Result (List Bool) FaultAt) (f : RefusedAt) (more : ℕ) → told_of_items r ≡ Err f → and_more r more ≡ 0
+    none_more : (r : Result (List Bool) FaultAt) (f : RefusedAt) (more : ℕ) → told_of_items r ≡ Err f → count_after r more ≡ 0
     none_more (Ok bits) f more t = absurd cc t
     none_more (Err g) f more t = refl
 
-    made_so : (o : Option RefusedAt) → RefusesSo o (told_of_items (fill_next course s.left)) → MakesSo o steps (turns_next course s.left) steps' → MakesSo o 0 (turns_plain course all) steps'
+    made_so : (o : Option RefusedAt) → IsDocumentRefusal o (told_of_items (fill_next course s.left)) → CountsSteps o steps (turns_next course s.left) steps' → CountsSteps o 0 (turns_plain course all) steps'
     made_so None r m =
         let e : ticked steps (turns_next course s.left) ≡ ticked 0 (h.made + turns_next course s.left) = ap (λ x. ticked x (turns_next course s.left)) h.ticks ∙ ticked_more h.made (turns_next course s.left) in
         omega (arith, m, e, ticked_at_most 0 (h.made + turns_next course s.left) (turns_plain course all) (omega (arith, h.turns, ap (turns_plain course) (cut s.left some))))

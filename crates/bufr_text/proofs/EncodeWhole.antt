@@ -12,8 +12,8 @@ use Rattle.bufr_text.specs.declared.form.Form.{Form}
 use Rattle.bufr_text.specs.Document.{Document}
 use Rattle.bufr_text.specs.Encoding.{RefusedAt, ◌>>=◌, told_of_template, told_of_items, data_bits, octets_of_bits, compressed_as, parts_as, message_of, encoding_in}
 use Rattle.bufr_text.specs.DataWritten.{AreOctetsOf, IsData}
-use Rattle.bufr_text.specs.EncodingFault.{RefusesSo}
-use Rattle.bufr_text.specs.Header.{head_in}
+use Rattle.bufr_text.specs.EncodingFault.{IsDocumentRefusal}
+use Rattle.bufr_text.specs.Header.{head_from_values}
 
 pub if_ok_so : {A B : Type 0} {P Q : A → Type 0} (r : Result A B) → IfOk r P → ((x : A) → P x → Q x) → IfOk r Q
 if_ok_so (Ok x) h f = f x h
@@ -27,32 +27,32 @@ module _ (form : Form) (table : List Row) (sequences : List Sequence) (d : Docum
   -- a message that is written is the definition's
   pub as_written : (template : Tree) (bits : List Bool) (payload : List ℕ) → tree_of (tables_of table sequences) d.descriptors ≡ Ok template
       → data_bits (compressed_as form d) (next_item table template) (subsets_of d.entries) ≡ Ok bits → payload ≡ octets_of_bits bits
-      → encoding_in form table sequences d ≡ message_of d.line (head_in d) (parts_as (compressed_as form d) d payload)
+      → encoding_in form table sequences d ≡ message_of d.line (head_from_values d) (parts_as (compressed_as form d) d payload)
   unfolding encoding_in
   as_written template bits payload e f p =
-      ap (λ r. told_of_template d.line r >>= λ t. told_of_items (data_bits (compressed_as form d) (next_item table t) (subsets_of d.entries)) >>= λ b. message_of d.line (head_in d) (parts_as (compressed_as form d) d (octets_of_bits b))) e
-      ∙ ap (λ r. told_of_items r >>= λ b. message_of d.line (head_in d) (parts_as (compressed_as form d) d (octets_of_bits b))) f
-      ∙ ap (λ o. message_of d.line (head_in d) (parts_as (compressed_as form d) d o)) (sym p)
+      ap (λ r. told_of_template d.line r >>= λ t. told_of_items (data_bits (compressed_as form d) (next_item table t) (subsets_of d.entries)) >>= λ b. message_of d.line (head_from_values d) (parts_as (compressed_as form d) d (octets_of_bits b))) e
+      ∙ ap (λ r. told_of_items r >>= λ b. message_of d.line (head_from_values d) (parts_as (compressed_as form d) d (octets_of_bits b))) f
+      ∙ ap (λ o. message_of d.line (head_from_values d) (parts_as (compressed_as form d) d o)) (sym p)
 
   pub whole : (n : ℕ) (template : Tree) (payload octets : List ℕ) (steps : ℕ) → tree_of (tables_of table sequences) d.descriptors ≡ Ok template
       → (h : IsData n (compressed_as form d) (next_item table template) (subsets_of d.entries) payload steps) → ((bits : List Bool) → AreOctetsOf payload bits → payload ≡ octets_of_bits bits)
-      → message_of d.line (head_in d) (parts_as (compressed_as form d) d payload) ≡ Ok octets → encoding_in form table sequences d ≡ Ok octets
+      → message_of d.line (head_from_values d) (parts_as (compressed_as form d) d payload) ≡ Ok octets → encoding_in form table sequences d ≡ Ok octets
   whole n template payload octets steps e h p m = as_written template h.out payload e h.is (p h.out h.octets_are) ∙ m
 
   pub not_whole : (n : ℕ) (template : Tree) (payload : List ℕ) (steps : ℕ) (o : Option RefusedAt) → tree_of (tables_of table sequences) d.descriptors ≡ Ok template
       → (h : IsData n (compressed_as form d) (next_item table template) (subsets_of d.entries) payload steps) → ((bits : List Bool) → AreOctetsOf payload bits → payload ≡ octets_of_bits bits)
-      → RefusesSo o (message_of d.line (head_in d) (parts_as (compressed_as form d) d payload)) → RefusesSo o (encoding_in form table sequences d)
-  not_whole n template payload steps o e h p m = subst (λ r. RefusesSo o r) (sym (as_written template h.out payload e h.is (p h.out h.octets_are))) m
+      → IsDocumentRefusal o (message_of d.line (head_from_values d) (parts_as (compressed_as form d) d payload)) → IsDocumentRefusal o (encoding_in form table sequences d)
+  not_whole n template payload steps o e h p m = subst (λ r. IsDocumentRefusal o r) (sym (as_written template h.out payload e h.is (p h.out h.octets_are))) m
 
   pub no_data : (template : Tree) (o : Option RefusedAt) → tree_of (tables_of table sequences) d.descriptors ≡ Ok template
-      → RefusesSo o (told_of_items (data_bits (compressed_as form d) (next_item table template) (subsets_of d.entries))) → RefusesSo o (encoding_in form table sequences d)
+      → IsDocumentRefusal o (told_of_items (data_bits (compressed_as form d) (next_item table template) (subsets_of d.entries))) → IsDocumentRefusal o (encoding_in form table sequences d)
   unfolding encoding_in
   no_data template None e h = tt
   no_data template (Some f) e h =
-      ap (λ r. told_of_template d.line r >>= λ t. told_of_items (data_bits (compressed_as form d) (next_item table t) (subsets_of d.entries)) >>= λ b. message_of d.line (head_in d) (parts_as (compressed_as form d) d (octets_of_bits b))) e
-      ∙ ap (λ r. r >>= λ b. message_of d.line (head_in d) (parts_as (compressed_as form d) d (octets_of_bits b))) h
+      ap (λ r. told_of_template d.line r >>= λ t. told_of_items (data_bits (compressed_as form d) (next_item table t) (subsets_of d.entries)) >>= λ b. message_of d.line (head_from_values d) (parts_as (compressed_as form d) d (octets_of_bits b))) e
+      ∙ ap (λ r. r >>= λ b. message_of d.line (head_from_values d) (parts_as (compressed_as form d) d (octets_of_bits b))) h
 
-  pub no_template : (o : Option RefusedAt) → RefusesSo o (told_of_template d.line (tree_of (tables_of table sequences) d.descriptors)) → RefusesSo o (encoding_in form table sequences d)
+  pub no_template : (o : Option RefusedAt) → IsDocumentRefusal o (told_of_template d.line (tree_of (tables_of table sequences) d.descriptors)) → IsDocumentRefusal o (encoding_in form table sequences d)
   unfolding encoding_in
   no_template None h = tt
-  no_template (Some f) h = ap (λ r. r >>= λ t. told_of_items (data_bits (compressed_as form d) (next_item table t) (subsets_of d.entries)) >>= λ b. message_of d.line (head_in d) (parts_as (compressed_as form d) d (octets_of_bits b))) h
+  no_template (Some f) h = ap (λ r. r >>= λ t. told_of_items (data_bits (compressed_as form d) (next_item table t) (subsets_of d.entries)) >>= λ b. message_of d.line (head_from_values d) (parts_as (compressed_as form d) d (octets_of_bits b))) h

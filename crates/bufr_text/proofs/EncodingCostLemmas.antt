@@ -1,16 +1,16 @@
 -- A walk that writes counts as the definition does.
 use Rattle.std.proofs.Common.{◌≡◌, ◌+◌, ℕ, suc, Bool, List, [], ◌∷◌, ◌++◌, length, length-append, Option, Some, None, Result, Ok, Err, refl, sym, ◌∙◌, ap, subst, arith}
-use Rattle.bufr_walk.specs.declared.spec.Refusal.TheVariants as refusal
+use Rattle.bufr_walk.specs.declared.spec.TurnRefusal.TheVariants as refusal
 use Rattle.bufr_walk.specs.declared.spec.Taken.{Taken}
-use Rattle.bufr_walk.specs.Asked.{Asked}
+use Rattle.bufr_walk.specs.FieldSpec.{FieldSpec}
 use Rattle.bufr_walk.specs.Course.{Course, Next, take_next, at_end, astray, refused}
 use Rattle.bufr_walk.specs.Stop.{stop_by}
-use Rattle.bufr_walk.specs.Taking.{Turn, Takes, course_after}
+use Rattle.bufr_walk.specs.Taking.{TakenField, Takes, course_after}
 use Rattle.bufr_fill.specs.Fault.{FaultAt, at_line, walk_refused}
-use Rattle.bufr_fill.specs.Filling.{Written, Filler, fill, fill_one, fill_none, filled, and_behind}
+use Rattle.bufr_fill.specs.Filling.{WrittenItem, Filler, fill, fill_one, fill_none, filled, and_behind}
 use Rattle.bufr_fill.proofs.Filled.{HasFilled}
 use Rattle.bufr_text.specs.Encoding.{RefusedAt, told_of_items}
-use Rattle.bufr_text.specs.EncodingFault.{RefusesSo, told_of_draft}
+use Rattle.bufr_text.specs.EncodingFault.{IsDocumentRefusal, told_of_draft}
 use Rattle.bufr_text.specs.DataWritten.{told_stop}
 use Rattle.bufr_text.specs.EncodingCost.{counted_one, counted_at, count_filled}
 use Rattle.std.specs.Option.{option_map}
@@ -21,15 +21,15 @@ use Rattle.bufr_fill.specs.Fits.{AreOctets}
 use Rattle.bufr_fill.proofs.FieldBits.{octets_again}
 use Rattle.bufr_text.specs.Encoding.{octets_of_bits, message_of, refused_at, too_long}
 use Rattle.bufr_frame.specs.declared.head.Head.{Head}
-use Rattle.bufr_frame.specs.Layout.{Parts, message_octets, message_size, most_octets}
+use Rattle.bufr_frame.specs.Layout.{MessageParts, message_octets, message_size, max_octets}
 use Rattle.std.specs.Prelude.{nat_lt, if◌then◌else◌}
 use Rattle.std.proofs.lemmas.Bool.Decides.{nat_tests}
 use Rattle.std.proofs.Common.{true, false}
 use Rattle.bufr_text.specs.DataWritten.{AreOctetsOf}
 
-module _ {D C E S : Type 0} (filler : Filler D C E) (left : S → List D) (out : S → List Bool) (takes : S → Asked → Taken → S → Type 0)
-    (fills : (s : S) (spec : Asked) (t : Taken) (s' : S) → takes s spec t s' → HasFilled filler (left s) (out s) spec t (left s') (out s')) where
-  one : (course : Course) (s : S) (spec : Asked) (t : Taken) (mid : S) → (course []).next ≡ take_next spec → (h : HasFilled filler (left s) (out s) spec t (left mid) (out mid)) → count_filled filler course (left s) ≡ length h.item.bits + count_filled filler (λ told. course (t ∷ told)) (left mid)
+module _ {D C E S : Type 0} (filler : Filler D C E) (left : S → List D) (out : S → List Bool) (takes : S → FieldSpec → Taken → S → Type 0)
+    (fills : (s : S) (spec : FieldSpec) (t : Taken) (s' : S) → takes s spec t s' → HasFilled filler (left s) (out s) spec t (left s') (out s')) where
+  one : (course : Course) (s : S) (spec : FieldSpec) (t : Taken) (mid : S) → (course []).next ≡ take_next spec → (h : HasFilled filler (left s) (out s) spec t (left mid) (out mid)) → count_filled filler course (left s) ≡ length h.item.bits + count_filled filler (λ told. course (t ∷ told)) (left mid)
   one course s spec t mid next h =
       ap (count_filled filler course) h.here
       ∙ ap (λ n. counted_at filler n h.draft (λ x. count_filled filler (λ told. course (x ∷ told)) (left mid))) next
@@ -37,7 +37,7 @@ module _ {D C E S : Type 0} (filler : Filler D C E) (left : S → List D) (out :
       ∙ ap (λ x. length h.item.bits + count_filled filler (λ told. course (x ∷ told)) (left mid)) (sym h.tells)
 
   -- the bits that a walk wrote, and those that are left, are those of all
-  pub walk_counts : (course : Course) (s : S) (items : List Turn) (s' : S) → Takes takes course s items s' → length (out s') + count_filled filler (course_after course items) (left s') ≡ length (out s) + count_filled filler course (left s)
+  pub walk_counts : (course : Course) (s : S) (items : List TakenField) (s' : S) → Takes takes course s items s' → length (out s') + count_filled filler (course_after course items) (left s') ≡ length (out s) + count_filled filler course (left s)
   walk_counts course s [] s' h = ap (λ x. length (out x) + count_filled filler course (left x)) h
   walk_counts course s (i ∷ items) s' h =
       let f = fills s i.spec i.taken h.0 h.2 in
@@ -68,7 +68,7 @@ module _ {D C E : Type 0} (filler : Filler D C E) where
       behind item (Ok b) n g e = let same : item ++ b ≡ bits = cc in omega (arith, g b refl, length-append item b, ap length same)
       behind item (Err why) n g e = absurd cc e
 
-      one : (spec : Asked) (r : Result (Written C) E) → filled filler spec r rest ≡ Ok bits → ((t : Taken) (b : List Bool) → rest t ≡ Ok b → count t ≡ length b) → counted_one filler r filler.tells spec count ≡ length bits
+      one : (spec : FieldSpec) (r : Result (WrittenItem C) E) → filled filler spec r rest ≡ Ok bits → ((t : Taken) (b : List Bool) → rest t ≡ Ok b → count t ≡ length b) → counted_one filler r filler.tells spec count ≡ length bits
       one spec (Ok w) e g = behind w.bits (rest (filler.tells spec w.content)) (count (filler.tells spec w.content)) (g (filler.tells spec w.content)) e
       one spec (Err why) e g = absurd cc e
 
@@ -79,9 +79,9 @@ module _ {D C E : Type 0} (filler : Filler D C E) where
       by (refused why) h g = absurd cc h
 
 -- a fault that is told is the definition's
-pub refuses_so : (o : Option FaultAt) (told : Option RefusedAt) (r : Result (List Bool) FaultAt) → told ≡ option_map told_of_draft o → ((f : FaultAt) → o ≡ Some f → r ≡ Err f) → RefusesSo told (told_of_items r)
-refuses_so None told r e h = subst (λ t. RefusesSo t (told_of_items r)) (sym e) tt
-refuses_so (Some f) told r e h = subst (λ t. RefusesSo t (told_of_items r)) (sym e) (ap told_of_items (h f refl))
+pub refuses_so : (o : Option FaultAt) (told : Option RefusedAt) (r : Result (List Bool) FaultAt) → told ≡ option_map told_of_draft o → ((f : FaultAt) → o ≡ Some f → r ≡ Err f) → IsDocumentRefusal told (told_of_items r)
+refuses_so None told r e h = subst (λ t. IsDocumentRefusal t (told_of_items r)) (sym e) tt
+refuses_so (Some f) told r e h = subst (λ t. IsDocumentRefusal t (told_of_items r)) (sym e) (ap told_of_items (h f refl))
 
 -- the refusal of a walk, as it is told
 pub told_refused : (line : ℕ) (r : refusal.the_data) (f : FaultAt) → told_stop line (stop_by r) ≡ Some f → at_line line (walk_refused r) ≡ f
@@ -98,9 +98,9 @@ octets_are_bits xs bits small h =
     all (x ∷ xs) g = (g 0, all xs (λ k. g (suc k)))
 
 -- a message that is not too long is made
-pub message-made : (line : ℕ) (head : Head) (parts : Parts) (octets : List ℕ) → (most_octets < message_size head.edition parts → ⊥) → octets ≡ message_octets head parts → message_of line head parts ≡ Ok octets
-message-made line head parts octets short is = by (nat_lt most_octets (message_size head.edition parts)) refl
+pub message-made : (line : ℕ) (head : Head) (parts : MessageParts) (octets : List ℕ) → (max_octets < message_size head.edition parts → ⊥) → octets ≡ message_octets head parts → message_of line head parts ≡ Ok octets
+message-made line head parts octets short is = by (nat_lt max_octets (message_size head.edition parts)) refl
   where
-    by : (b : Bool) → nat_lt most_octets (message_size head.edition parts) ≡ b → (if b then Err (refused_at line too_long) else Ok (message_octets head parts)) ≡ Ok octets
-    by true e = let long : most_octets < message_size head.edition parts = grind (arith, nat_tests, e) in absurd (short long)
+    by : (b : Bool) → nat_lt max_octets (message_size head.edition parts) ≡ b → (if b then Err (refused_at line too_long) else Ok (message_octets head parts)) ≡ Ok octets
+    by true e = let long : max_octets < message_size head.edition parts = grind (arith, nat_tests, e) in absurd (short long)
     by false e = ap Ok (sym is)

@@ -8,10 +8,10 @@ use Rattle.bufr_tables.specs.declared.template.fault.TemplateFault.TheVariants a
 use Rattle.bufr_tables.specs.Expansion.{part_of, level, inner_of, tree_of}
 use Rattle.bufr_tables.specs.TableB.{Row}
 use Rattle.bufr_walk.specs.Course.{next_item}
-use Rattle.bufr_walk.specs.declared.spec.Refusal.TheVariants as walk
+use Rattle.bufr_walk.specs.declared.spec.TurnRefusal.TheVariants as walk
 use Rattle.bufr_fill.specs.Draft.{draft, number_token, text_form, missing_form}
 use Rattle.bufr_fill.specs.Fault.{wrong_descriptor, wrong_number, out_of_range, text_long, missing_forbidden, unequal_factors, uneven_increment, item_too_many, walk_refused}
-use Rattle.bufr_fill.specs.Entries.{Entry, Holds, Ends}
+use Rattle.bufr_fill.specs.Entries.{DraftEntry, Holds, Ends}
 use Rattle.bufr_text.specs.Document.{Document}
 use Rattle.bufr_text.specs.Encoding.{RefusedAt, refused_at, by_template, by_item, encoding_in, encoding_of}
 
@@ -23,7 +23,7 @@ unfoldable pub table : List Row
 table = listed 0x0101 kind.Numeric (pos 0) (pos 0) 7 ∷ listed 0x010F kind.Character (pos 0) (pos 0) 160 ∷ listed 0x0C65 kind.Numeric (pos 2) (pos 0) 16 ∷ listed 0x1F01 kind.Numeric (pos 0) (pos 0) 8 ∷ []
 
 -- a document at line 1 without local use, whose data are observed
-unfoldable pub document : (compressed subsets : ℕ) → List ℕ → List Entry → Document
+unfoldable pub document : (compressed subsets : ℕ) → List ℕ → List DraftEntry → Document
 document compressed subsets descriptors entries = record {
   line = 1;
   header = 4 ∷ 0 ∷ 98 ∷ 0 ∷ 0 ∷ 0 ∷ 0 ∷ 0 ∷ 14 ∷ 0 ∷ 2024 ∷ 1 ∷ 2 ∷ 3 ∷ 4 ∷ 5 ∷ 1 ∷ compressed ∷ 0 ∷ subsets ∷ [];
@@ -33,13 +33,13 @@ document compressed subsets descriptors entries = record {
   entries = entries;
 }
 
-unfoldable pub number : (line fxy : ℕ) → List ℕ → Entry
+unfoldable pub number : (line fxy : ℕ) → List ℕ → DraftEntry
 number line fxy digits = Holds (draft line fxy (number_token digits))
 
-unfoldable pub missing : (line fxy : ℕ) → Entry
+unfoldable pub missing : (line fxy : ℕ) → DraftEntry
 missing line fxy = Holds (draft line fxy missing_form)
 
-text : (line fxy : ℕ) → List ℕ → Entry
+text : (line fxy : ℕ) → List ℕ → DraftEntry
 text line fxy octets = Holds (draft line fxy (text_form octets))
 
 encoded : Document → Result (List ℕ) RefusedAt

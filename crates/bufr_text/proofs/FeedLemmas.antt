@@ -5,7 +5,7 @@ use Rattle.std.proofs.lemmas.Bool.{true≢false}
 use Rattle.std.proofs.lemmas.Bool.Decides.{nat_tests}
 use Rattle.memchr.specs.Find.{IsFirstByte, is_byte}
 use Rattle.bufr_text.specs.Reading.{has_no_feed}
-use Rattle.bufr_text.specs.Taking.{FeedAt}
+use Rattle.bufr_text.specs.TakingLines.{FeedAt}
 
 both : (a b : Bool) → a ≡ true → b ≡ true → (a && b) ≡ true
 both a b h k = rw (h, k) refl

@@ -12,8 +12,8 @@ use Rattle.bufr_walk.specs.Reading.{Values}
 use Rattle.bufr_fill.proofs.Limits.{AreGoodRows}
 use Rattle.bufr_text.specs.declared.form.Form.{Form}
 use Rattle.bufr_text.specs.Canonical.{IsCanonical}
-use Rattle.bufr_text.specs.Dump.{Item, document_of, dump_text_of}
-use Rattle.bufr_text.specs.RoundTrip.{IsAccepted, items_in}
+use Rattle.bufr_text.specs.Dump.{DumpItem, document_of, dump_text_of}
+use Rattle.bufr_text.specs.RoundTrip.{IsAccepted, dump_items_in}
 use Rattle.bufr_text.specs.Encoding.{encoding_in, encoding_of}
 use Rattle.bufr_text.specs.Form.{compressed_by, form_of_flag}
 use Rattle.bufr_text.specs.InForm.{HasReadingIn}
@@ -31,7 +31,7 @@ formed_accepted form table sequences m s template values used octets a h = recor
 
 -- its dump text is that of the message with the flag of the form
 pub formed_text : (form : Form) (table : List Row) (s : Sections) (template : Tree) (values : Values) (octets : List ℕ) → (again : HasReadingIn form table s template values octets)
-    → dump_text_of again.sections (items_in table template again.sections again.found) ≡ dump_text_of (record s { compressed = compressed_by form s.compressed }) (items_in table template s values)
+    → dump_text_of again.sections (dump_items_in table template again.sections again.found) ≡ dump_text_of (record s { compressed = compressed_by form s.compressed }) (dump_items_in table template s values)
 formed_text form table s template values octets again =
     let same = again.same in
     ap (dump_text_of again.sections) again.items
@@ -45,10 +45,10 @@ formed_text form table s template values octets again =
       compressed = same.compressed j;
       payload = s.payload;
       size = s.size;
-    }) (items_in table template s values))
+    }) (dump_items_in table template s values))
 
 -- in the form that is asked for, a document is encoded alike whatever it says of its form
-in_the_form : (table : List Row) (sequences : List Sequence) (at : ℕ) (s : Sections) (said flag : Bool) (items : List (List Item))
+in_the_form : (table : List Row) (sequences : List Sequence) (at : ℕ) (s : Sections) (said flag : Bool) (items : List (List DumpItem))
     → encoding_in (form_of_flag flag) table sequences (document_of at (record s { compressed = said }) items) ≡ encoding_of table sequences (document_of at (record s { compressed = flag }) items)
 unfolding encoding_in
 in_the_form table sequences at s said true items = refl
@@ -56,10 +56,10 @@ in_the_form table sequences at s said false items = refl
 
 pub canonical_back : (form : Form) (table : List Row) (sequences : List Sequence) (m : List ℕ) (s : Sections) (template : Tree) (values : Values) (used at : ℕ) (octets : List ℕ) → AreGoodRows table → IsLegal template
     → IsAccepted table sequences m s template values used → IsCanonical m s values used → (again : HasReadingIn form table s template values octets)
-    → encoding_in (form_of_flag s.compressed) table sequences (document_of at again.sections (items_in table template again.sections again.found)) ≡ Ok m
+    → encoding_in (form_of_flag s.compressed) table sequences (document_of at again.sections (dump_items_in table template again.sections again.found)) ≡ Ok m
 canonical_back form table sequences m s template values used at octets rows legal a canonical again =
     let own = form_of_flag s.compressed in
-    let items = items_in table template s values in
+    let items = dump_items_in table template s values in
     let same = again.same in
     ap (λ xs. encoding_in own table sequences (document_of at again.sections xs)) again.items
     ∙ (λ j. encoding_in own table sequences (document_of at (record {

@@ -6,15 +6,15 @@ use Rattle.std.specs.Str.{bytes_eq}
 use Rattle.std.proofs.lemmas.Bool.Decides.{nat_tests}
 use Rattle.std.proofs.lemmas.List.{take_at, drop_at}
 use Rattle.bufr_frame.specs.declared.head.Head.{Head}
-use Rattle.bufr_frame.specs.Layout.{Parts, IsFitting, even_size, evened, message_octets, message_size, size_from, most_octets, section0_octets, section1_octets, section2_octets, section3_octets, section4_octets, data_flags, head_octets}
+use Rattle.bufr_frame.specs.Layout.{MessageParts, IsFitting, even_size, with_even_length, message_octets, message_size, size_from, max_octets, section0_octets, section1_octets, section2_octets, section3_octets, section4_octets, data_flags, head_octets}
 use Rattle.bufr_frame.specs.Octets.{three_octets, octets_of_words}
-use Rattle.bufr_frame.specs.Scan.{Framed, stands, stated, verdict, happening, taken, scan_from}
+use Rattle.bufr_frame.specs.Scan.{FrameAt, has_word_at, stated_length, classify, stream_event, candidate_len, scan_from}
 use Rattle.bufr_frame.specs.Section1.{first_least}
 use Rattle.bufr_frame.proofs.AgainLemmas.{edition-cases}
 use Rattle.bufr_frame.proofs.FitLemmas.{head-small}
 use Rattle.bufr_frame.proofs.LayoutLemmas.{three-number, length-evened, length-octets_of_words}
 use Rattle.bufr_frame.proofs.ScanLemmas.{scan_from-here}
-use Rattle.bufr_text.specs.Given.{IsOctet, IsWord}
+use Rattle.bufr_text.specs.Bounds.{IsOctet, IsDescriptorWord}
 
 -- ---- octets
 
@@ -31,7 +31,7 @@ high_small w h = omega (arith, h)
 low_small : (w : ℕ) → w % 256 < 256
 low_small w = omega arith
 
-words_small : (ws : List ℕ) → AllByRecursion IsWord ws → AllByRecursion IsOctet (octets_of_words ws)
+words_small : (ws : List ℕ) → AllByRecursion IsDescriptorWord ws → AllByRecursion IsOctet (octets_of_words ws)
 words_small [] h = tt
 words_small (w ∷ ws) h = (high_small w h.0, (low_small w, words_small ws h.1))
 
@@ -41,7 +41,7 @@ flags_small true false = omega arith
 flags_small false true = omega arith
 flags_small false false = omega arith
 
-evened_small : (edition front : ℕ) (octets : List ℕ) → AllByRecursion IsOctet octets → AllByRecursion IsOctet (evened edition front octets)
+evened_small : (edition front : ℕ) (octets : List ℕ) → AllByRecursion IsOctet octets → AllByRecursion IsOctet (with_even_length edition front octets)
 evened_small edition front octets g = by ((edition == 3) && ((front + length octets) % 2 == 1))
   where
     by : (b : Bool) → AllByRecursion IsOctet (if b then octets ++ 0 ∷ [] else octets)
@@ -55,22 +55,22 @@ section2_small : (section2 : Option (List ℕ)) (n : ℕ) → n < 2 ^ 24 → len
 section2_small None n few h g = tt
 section2_small (Some octets) n few h g = plain_small octets (omega (arith, few, h)) g
 
-section2_least : (edition : ℕ) (p : Parts) → length (section2_octets p.section2) ≤ message_size edition p
+section2_least : (edition : ℕ) (p : MessageParts) → length (section2_octets p.section2) ≤ message_size edition p
 section2_least edition p = by p.section2 (length p.local1) (length p.descriptors) (length p.payload)
   where
     by : (o : Option (List ℕ)) (a b c : ℕ) → length (section2_octets o) ≤ size_from edition a o b c
     by None a b c = omega arith
     by (Some octets) a b c = omega arith
 
-pub octets_small : (h : Head) (p : Parts) → IsFitting h → AllByRecursion IsOctet p.local1 → AllByRecursion IsOctet (unwrap_or p.section2 []) → AllByRecursion IsWord p.descriptors → p.subsets < 65536 → AllByRecursion IsOctet p.payload → message_size h.edition p ≤ most_octets
+pub octets_small : (h : Head) (p : MessageParts) → IsFitting h → AllByRecursion IsOctet p.local1 → AllByRecursion IsOctet (unwrap_or p.section2 []) → AllByRecursion IsDescriptorWord p.descriptors → p.subsets < 65536 → AllByRecursion IsOctet p.payload → message_size h.edition p ≤ max_octets
     → AllByRecursion IsOctet (message_octets h p)
 octets_small h p head local1 section2 descriptors subsets payload few =
     let e = h.edition in
     let n = message_size e p in
     let least = first_least e in
     let words = octets_of_words p.descriptors in
-    let third = evened e 7 words in
-    let fourth = evened e 4 p.payload in
+    let third = with_even_length e 7 words in
+    let fourth = with_even_length e 4 p.payload in
     let s0 = section0_octets n e in
     let s1 = section1_octets h p.local1 (is_some p.section2) in
     let s2 = section2_octets p.section2 in
@@ -103,7 +103,7 @@ octets_small h p head local1 section2 descriptors subsets payload few =
 least_message : List ℕ
 least_message = codes "BUFR" ++ 0 ∷ 0 ∷ 12 ∷ 4 ∷ codes "7777"
 
-verdict_frame : (m : List ℕ) → stands (codes "BUFR") 0 m ≡ true → nat_lt (length m) 8 ≡ false → nat_lt (length m) (stated m) ≡ false → nat_lt (stated m) 12 ≡ false → stands (codes "7777") (stated m - 4) m ≡ true → verdict m ≡ verdict least_message
+verdict_frame : (m : List ℕ) → has_word_at (codes "BUFR") 0 m ≡ true → nat_lt (length m) 8 ≡ false → nat_lt (length m) (stated_length m) ≡ false → nat_lt (stated_length m) 12 ≡ false → has_word_at (codes "7777") (stated_length m - 4) m ≡ true → classify m ≡ classify least_message
 unfolding least_message
 verdict_frame m a b c d e = rw (a, b, c, d, e) refl
 
@@ -111,50 +111,50 @@ at_least : (a b : ℕ) → b ≤ a → nat_lt a b ≡ false
 at_least a b h = grind (arith, nat_tests)
 
 -- what is behind a message that states its length n
-module _ (m t : List ℕ) (n : ℕ) (is : stated (m ++ t) ≡ n) (long : length m ≡ n) where
-  taken_whole : take (stated (m ++ t)) (m ++ t) ≡ m
+module _ (m t : List ℕ) (n : ℕ) (is : stated_length (m ++ t) ≡ n) (long : length m ≡ n) where
+  taken_whole : take (stated_length (m ++ t)) (m ++ t) ≡ m
   taken_whole = ap (λ k. take k (m ++ t)) is ∙ take_at m t n long
 
-  left_whole : drop (stated (m ++ t)) (m ++ t) ≡ t
+  left_whole : drop (stated_length (m ++ t)) (m ++ t) ≡ t
   left_whole = ap (λ k. drop k (m ++ t)) is ∙ drop_at m t n long
 
-  framed_by : (at : ℕ) → 12 ≤ n → verdict (m ++ t) ≡ verdict least_message → scan_from 0 at (m ++ t) ≡ Framed at m ∷ scan_from 0 (at + length m) t
+  framed_by : (at : ℕ) → 12 ≤ n → classify (m ++ t) ≡ classify least_message → scan_from 0 at (m ++ t) ≡ FrameAt at m ∷ scan_from 0 (at + length m) t
   unfolding least_message
   framed_by at least frame =
       let some : 0 < length (m ++ t) = omega (arith, length-append m t, long, least) in
-      let moves : 0 < taken (m ++ t) (verdict (m ++ t)) = subst (λ v. 0 < taken (m ++ t) v) (sym frame) (omega (arith, is, least)) in
-      let size : stated (m ++ t) ≡ length m = is ∙ sym long in
+      let moves : 0 < candidate_len (m ++ t) (classify (m ++ t)) = subst (λ v. 0 < candidate_len (m ++ t) v) (sym frame) (omega (arith, is, least)) in
+      let size : stated_length (m ++ t) ≡ length m = is ∙ sym long in
       scan_from-here at (m ++ t) some moves
-      ∙ ap (λ v. happening at (m ++ t) v ++ scan_from 0 (at + taken (m ++ t) v) (drop (taken (m ++ t) v) (m ++ t))) frame
-      ∙ ap (λ x. Framed at x ∷ scan_from 0 (at + stated (m ++ t)) (drop (stated (m ++ t)) (m ++ t))) taken_whole
-      ∙ ap (λ x. Framed at m ∷ scan_from 0 (at + stated (m ++ t)) x) left_whole
-      ∙ ap (λ k. Framed at m ∷ scan_from 0 (at + k) t) size
+      ∙ ap (λ v. stream_event at (m ++ t) v ++ scan_from 0 (at + candidate_len (m ++ t) v) (drop (candidate_len (m ++ t) v) (m ++ t))) frame
+      ∙ ap (λ x. FrameAt at x ∷ scan_from 0 (at + stated_length (m ++ t)) (drop (stated_length (m ++ t)) (m ++ t))) taken_whole
+      ∙ ap (λ x. FrameAt at m ∷ scan_from 0 (at + stated_length (m ++ t)) x) left_whole
+      ∙ ap (λ k. FrameAt at m ∷ scan_from 0 (at + k) t) size
 
-ends_with : (front t : List ℕ) (k : ℕ) → length front ≡ k → stands (codes "7777") k ((front ++ codes "7777") ++ t) ≡ true
+ends_with : (front t : List ℕ) (k : ℕ) → length front ≡ k → has_word_at (codes "7777") k ((front ++ codes "7777") ++ t) ≡ true
 ends_with front t k e =
     ap (λ x. bytes_eq (take 4 (drop k x)) (codes "7777")) (append_assoc front (codes "7777") t)
     ∙ ap (λ x. bytes_eq (take 4 x) (codes "7777")) (drop_at front (codes "7777" ++ t) k e)
 
-pub framed : (h : Head) (p : Parts) (at : ℕ) (t : List ℕ) → length (message_octets h p) ≡ message_size h.edition p → scan_from 0 at (message_octets h p ++ t) ≡ Framed at (message_octets h p) ∷ scan_from 0 (at + length (message_octets h p)) t
+pub framed : (h : Head) (p : MessageParts) (at : ℕ) (t : List ℕ) → length (message_octets h p) ≡ message_size h.edition p → scan_from 0 at (message_octets h p ++ t) ≡ FrameAt at (message_octets h p) ∷ scan_from 0 (at + length (message_octets h p)) t
 framed h p at t long =
     let n = message_size h.edition p in
     let m = message_octets h p in
     let s0 = section0_octets n h.edition in
     let s1 = section1_octets h p.local1 (is_some p.section2) in
     let s2 = section2_octets p.section2 in
-    let s3 = section3_octets (evened h.edition 7 (octets_of_words p.descriptors)) p.subsets (data_flags p.observed p.compressed) in
-    let s4 = section4_octets (evened h.edition 4 p.payload) in
+    let s3 = section3_octets (with_even_length h.edition 7 (octets_of_words p.descriptors)) p.subsets (data_flags p.observed p.compressed) in
+    let s4 = section4_octets (with_even_length h.edition 4 p.payload) in
     let end = codes "7777" in
     let front = s0 ++ (s1 ++ (s2 ++ (s3 ++ s4))) in
     let split : m ≡ front ++ end =
     ap (λ x. s0 ++ (s1 ++ (s2 ++ x))) (sym (append_assoc s3 s4 end)) ∙ ap (λ x. s0 ++ (s1 ++ x)) (sym (append_assoc s2 (s3 ++ s4) end))
     ∙ ap (λ x. s0 ++ x) (sym (append_assoc s1 (s2 ++ (s3 ++ s4)) end)) ∙ sym (append_assoc s0 (s1 ++ (s2 ++ (s3 ++ s4))) end) in
-    let is : stated (m ++ t) ≡ n = three-number n in
+    let is : stated_length (m ++ t) ≡ n = three-number n in
     let least : 12 ≤ n = omega arith in
     let at_end : length front ≡ n - 4 = omega (arith, long, ap length split, length-append front end) in
     let whole : length (m ++ t) ≡ n + length t = length-append m t ∙ ap (λ k. k + length t) long in
-    let last : stands end (stated (m ++ t) - 4) (m ++ t) ≡ true = ap (λ k. stands end (k - 4) (m ++ t)) is ∙ ap (λ x. stands end (n - 4) (x ++ t)) split ∙ ends_with front t (n - 4) at_end in
+    let last : has_word_at end (stated_length (m ++ t) - 4) (m ++ t) ≡ true = ap (λ k. has_word_at end (k - 4) (m ++ t)) is ∙ ap (λ x. has_word_at end (n - 4) (x ++ t)) split ∙ ends_with front t (n - 4) at_end in
     framed_by m t n is long at (omega (arith, least)) (verdict_frame (m ++ t) refl
     (at_least (length (m ++ t)) 8 (omega (arith, whole, least)))
-    (at_least (length (m ++ t)) (stated (m ++ t)) (omega (arith, whole, is)))
-    (at_least (stated (m ++ t)) 12 (omega (arith, is, least))) last)
+    (at_least (length (m ++ t)) (stated_length (m ++ t)) (omega (arith, whole, is)))
+    (at_least (stated_length (m ++ t)) 12 (omega (arith, is, least))) last)

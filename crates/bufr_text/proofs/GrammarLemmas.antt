@@ -9,8 +9,8 @@ use Rattle.std.proofs.lemmas.Fmt.{decimal_is_IsNumeral_wide}
 use Rattle.bufr_tables.specs.Fxy.{fxy_text}
 use Rattle.bufr_bits.proofs.DecimalLemmas.{own}
 use Rattle.bufr_bits.proofs.ScaledLemmas.{and_first, and_second}
-use Rattle.bufr_text.specs.Grammar.{front, behind, hex_digit, upper_value, either_value, pair_value, hex_pair, hex_text, hex_read, fxy_read, descriptors_text, descriptors_read, number_read, is_plain, escaped, quoted, octet_onto, quoted_read}
-use Rattle.bufr_text.specs.Given.{IsOctet, IsWord}
+use Rattle.bufr_text.specs.Grammar.{prefix_while, suffix_while, hex_digit, upper_value, either_value, pair_value, hex_pair, hex_text, hex_read, fxy_read, descriptors_text, descriptors_read, number_read, is_unescaped, escaped, quoted, octet_onto, quoted_read}
+use Rattle.bufr_text.specs.Bounds.{IsOctet, IsDescriptorWord}
 use Rattle.bufr_text.proofs.FxyLemmas.{fxy_back}
 
 -- a text at which a run of passing elements stops
@@ -18,23 +18,23 @@ abbrev pub stops : (ℕ → Bool) → List ℕ → Bool
 stops test [] = true
 stops test (c ∷ more) = not (test c)
 
-front-stop : (test : ℕ → Bool) (text : List ℕ) → stops test text ≡ true → front test text ≡ []
-unfolding front
+front-stop : (test : ℕ → Bool) (text : List ℕ) → stops test text ≡ true → prefix_while test text ≡ []
+unfolding prefix_while
 front-stop test [] h = refl
 front-stop test (c ∷ more) h = let e : test c ≡ false = grind (arith, h) in rw e refl
 
-behind-stop : (test : ℕ → Bool) (text : List ℕ) → stops test text ≡ true → behind test text ≡ text
-unfolding behind
+behind-stop : (test : ℕ → Bool) (text : List ℕ) → stops test text ≡ true → suffix_while test text ≡ text
+unfolding suffix_while
 behind-stop test [] h = refl
 behind-stop test (c ∷ more) h = let e : test c ≡ false = grind (arith, h) in rw e refl
 
-pub front-of : (test : ℕ → Bool) (a b : List ℕ) → list_all test a ≡ true → stops test b ≡ true → front test (a ++ b) ≡ a
-unfolding front
+pub front-of : (test : ℕ → Bool) (a b : List ℕ) → list_all test a ≡ true → stops test b ≡ true → prefix_while test (a ++ b) ≡ a
+unfolding prefix_while
 front-of test [] b h s = front-stop test b s
 front-of test (c ∷ a) b h s = rw (and_first (test c) (list_all test a) h) (ap (λ (t : List ℕ). c ∷ t) (front-of test a b (and_second (test c) (list_all test a) h) s))
 
-pub behind-of : (test : ℕ → Bool) (a b : List ℕ) → list_all test a ≡ true → stops test b ≡ true → behind test (a ++ b) ≡ b
-unfolding behind
+pub behind-of : (test : ℕ → Bool) (a b : List ℕ) → list_all test a ≡ true → stops test b ≡ true → suffix_while test (a ++ b) ≡ b
+unfolding suffix_while
 behind-of test [] b h s = behind-stop test b s
 behind-of test (c ∷ a) b h s = rw (and_first (test c) (list_all test a) h) (behind-of test a b (and_second (test c) (list_all test a) h) s)
 
@@ -64,7 +64,7 @@ pub fxy_read_back : (w : ℕ) (rest : List ℕ) → w < 65536 → fxy_read (fxy_
 unfolding fxy_read
 fxy_read_back w rest h = ap (option_map (λ fxy. (fxy, rest))) (fxy_back w h)
 
-pub descriptors_back : (ws : List ℕ) → AllByRecursion IsWord ws → descriptors_read (descriptors_text ws) ≡ Some ws
+pub descriptors_back : (ws : List ℕ) → AllByRecursion IsDescriptorWord ws → descriptors_read (descriptors_text ws) ≡ Some ws
 unfolding descriptors_read descriptors_text
 descriptors_back [] all = refl
 descriptors_back (w ∷ ws) (word, all) = rw (fxy_back w word, descriptors_back ws all) refl
@@ -85,7 +85,7 @@ is_quote c h = grind (arith, nat_tests)
 is_backslash : (c : ℕ) → (c == 92) ≡ true → c ≡ 92
 is_backslash c h = grind (arith, nat_tests)
 
-read-plain : (c : ℕ) (rest : List ℕ) → is_plain c ≡ true → quoted_read 0 (c ∷ rest) ≡ octet_onto c (quoted_read 0 rest)
+read-plain : (c : ℕ) (rest : List ℕ) → is_unescaped c ≡ true → quoted_read 0 (c ∷ rest) ≡ octet_onto c (quoted_read 0 rest)
 unfolding quoted_read
 read-plain c rest h =
     let no_quote : (c == 34) ≡ false = grind (arith, nat_tests, h) in
@@ -103,7 +103,7 @@ by-marks c rest true b q e h = rw (is_quote c q) refl
 by-marks c rest false true q e h = rw (is_backslash c e) refl
 by-marks c rest false false q e h = read-hex c rest h
 
-by-plain : (c : ℕ) (rest : List ℕ) (p : Bool) → is_plain c ≡ p → c < 256
+by-plain : (c : ℕ) (rest : List ℕ) (p : Bool) → is_unescaped c ≡ p → c < 256
     → quoted_read 0 ((if p then c ∷ [] else if (c == 34) || (c == 92) then 92 ∷ c ∷ [] else 92 ∷ 120 ∷ hex_pair c) ++ rest) ≡ octet_onto c (quoted_read 0 rest)
 by-plain c rest true e h = read-plain c rest e
 by-plain c rest false e h = by-marks c rest (c == 34) (c == 92) refl refl h
@@ -113,7 +113,7 @@ unfolding quoted_read
 close rest = refl
 
 quoted-escaped : (c : ℕ) (rest : List ℕ) → c < 256 → quoted_read 0 (escaped c ++ rest) ≡ octet_onto c (quoted_read 0 rest)
-quoted-escaped c rest h = by-plain c rest (is_plain c) refl h
+quoted-escaped c rest h = by-plain c rest (is_unescaped c) refl h
 
 pub quoted_back : (xs rest : List ℕ) → AllByRecursion IsOctet xs → quoted_read 0 (quoted xs ++ rest) ≡ Some (xs, rest)
 unfolding quoted

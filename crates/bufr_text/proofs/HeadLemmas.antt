@@ -8,8 +8,8 @@ use Rattle.bufr_text.specs.Line.{keys, key_in}
 use Rattle.bufr_frame.specs.declared.fault.RunFault.{RunFault}
 use Rattle.std.specs.Io.KnownBytes.{Appends}
 use Rattle.std.proofs.lemmas.Grind.{flat_map-append}
-use Rattle.bufr_text.specs.Dump.{bit, header_of, header_lines, local1_line, section2_line, descriptors_line, head_lines, text_of}
-use Rattle.bufr_text.specs.DumpWritten.{WritesFront}
+use Rattle.bufr_text.specs.Dump.{bit, header_of, header_lines, local1_line, section2_line, descriptors_line, head_lines, text_of_lines}
+use Rattle.bufr_text.specs.DumpWritten.{WritesPrefix}
 use Rattle.bufr_text.specs.Grammar.{runs_behind, runs_of}
 use Rattle.bufr_text.specs.Laid.{category_texts, counts_texts, date_texts, origin_texts}
 use Rattle.bufr_text.specs.Writing.{flag, joined_onto}
@@ -23,18 +23,18 @@ unfoldable header_text : (key : ℕ) → List ℕ → List ℕ
 header_text key [] = []
 header_text key (value ∷ more) = (key_in keys key).name ++ (32 ∷ (decimal value ++ 10 ∷ header_text (key + 1) more))
 
-header-text : (key : ℕ) (values : List ℕ) → text_of (header_lines key values) ≡ header_text key values
+header-text : (key : ℕ) (values : List ℕ) → text_of_lines (header_lines key values) ≡ header_text key values
 unfolding header_lines header_text
 header-text key [] = refl
 header-text key (value ∷ more) =
-    line-on (key_in keys key).name (decimal value) (text_of (header_lines (key + 1) more))
+    line-on (key_in keys key).name (decimal value) (text_of_lines (header_lines (key + 1) more))
     ∙ ap (λ l. (key_in keys key).name ++ (32 ∷ (decimal value ++ 10 ∷ l))) (header-text (key + 1) more)
 
 -- the first lines
 abbrev origin_text : Head → List ℕ
 origin_text h = joined_onto (origin_texts h) (joined_onto (category_texts h) [])
 
-origin-is : (s : Sections) (h : Head) → h ≡ s.head → origin_text h ≡ text_of (codes "message" ∷ header_lines 0 (take 10 (header_of s)))
+origin-is : (s : Sections) (h : Head) → h ≡ s.head → origin_text h ≡ text_of_lines (codes "message" ∷ header_lines 0 (take 10 (header_of s)))
 unfolding keys header_text
 origin-is s h same =
     ap origin_text same
@@ -42,7 +42,7 @@ origin-is s h same =
 
 -- the first lines, laid from their end
 pub origin-laid : (s : Sections) (h : Head) (line two one rest : List ℕ) → h ≡ s.head → line ≡ two → two ≡ joined_onto (origin_texts h) one → one ≡ joined_onto (category_texts h) rest → rest ≡ []
-    → line ≡ text_of (codes "message" ∷ header_lines 0 (take 10 (header_of s)))
+    → line ≡ text_of_lines (codes "message" ∷ header_lines 0 (take 10 (header_of s)))
 origin-laid s h line two one rest head whole origin category none =
     whole ∙ origin ∙ ap (joined_onto (origin_texts h)) (category ∙ ap (joined_onto (category_texts h)) none) ∙ origin-is s h head
 
@@ -59,7 +59,7 @@ is_some-map f None = refl
 abbrev date_text : Head → (observed compressed optional : List ℕ) → (subsets : ℕ) → List ℕ
 date_text h observed compressed optional subsets = joined_onto (date_texts h) (joined_onto (counts_texts observed compressed optional subsets) [])
 
-date-is : (s : Sections) → date_text s.head (flag s.observed) (flag s.compressed) (flag (is_some s.section2)) s.subsets ≡ text_of (header_lines 10 (drop 10 (header_of s)))
+date-is : (s : Sections) → date_text s.head (flag s.observed) (flag s.compressed) (flag (is_some s.section2)) s.subsets ≡ text_of_lines (header_lines 10 (drop 10 (header_of s)))
 unfolding keys header_text
 date-is s =
     ap (λ x. date_text s.head x (flag s.compressed) (flag (is_some s.section2)) s.subsets) (flag-is s.observed)
@@ -82,39 +82,39 @@ counts-are f s observed compressed optional section2 subsets behind first second
 -- the last lines, laid from their end
 pub date-laid : (s : Sections) (h : Head) (line two one rest : List ℕ) → h ≡ s.head → line ≡ two → two ≡ joined_onto (date_texts h) one
     → one ≡ joined_onto (counts_texts (flag s.observed) (flag s.compressed) (flag (is_some s.section2)) s.subsets) rest → rest ≡ []
-    → line ≡ text_of (header_lines 10 (drop 10 (header_of s)))
+    → line ≡ text_of_lines (header_lines 10 (drop 10 (header_of s)))
 date-laid s h line two one rest head whole date counts none =
     let C = counts_texts (flag s.observed) (flag s.compressed) (flag (is_some s.section2)) s.subsets in
     whole ∙ date ∙ ap (joined_onto (date_texts h)) (counts ∙ ap (joined_onto C) none) ∙ ap (λ x. joined_onto (date_texts x) (joined_onto C [])) head ∙ date-is s
 
-text-append : (xs ys : List (List ℕ)) → text_of (xs ++ ys) ≡ text_of xs ++ text_of ys
+text-append : (xs ys : List (List ℕ)) → text_of_lines (xs ++ ys) ≡ text_of_lines xs ++ text_of_lines ys
 text-append xs ys = flat_map-append (λ line. line ++ 10 ∷ []) xs ys
 
 -- no section 2, no lines
-pub no-section2 : {X : Type 0} (f : X → List ℕ) (o : Option X) (section2 : Option (List ℕ)) → option_map f o ≡ section2 → o ≡ None → text_of (map section2_line (runs_of 32 (unwrap_or section2 []))) ≡ []
+pub no-section2 : {X : Type 0} (f : X → List ℕ) (o : Option X) (section2 : Option (List ℕ)) → option_map f o ≡ section2 → o ≡ None → text_of_lines (map section2_line (runs_of 32 (unwrap_or section2 []))) ≡ []
 unfolding runs_behind
 no-section2 f o section2 is none =
     let there : section2 ≡ None = sym is ∙ ap (option_map f) none in
-    ap (λ s. text_of (map section2_line (runs_of 32 (unwrap_or s [])))) there
+    ap (λ s. text_of_lines (map section2_line (runs_of 32 (unwrap_or s [])))) there
 
 -- The texts that stand before the subsets, one after another.
 module _ (s : Sections) where
   abbrev pub origin : List ℕ
-  origin = text_of (codes "message" ∷ header_lines 0 (take 10 (header_of s)))
+  origin = text_of_lines (codes "message" ∷ header_lines 0 (take 10 (header_of s)))
 
   abbrev pub date : List ℕ
-  date = text_of (header_lines 10 (drop 10 (header_of s)))
+  date = text_of_lines (header_lines 10 (drop 10 (header_of s)))
 
   abbrev pub local1 : List ℕ
-  local1 = text_of (map local1_line (runs_of 32 s.local1))
+  local1 = text_of_lines (map local1_line (runs_of 32 s.local1))
 
   abbrev pub section2 : List ℕ
-  section2 = text_of (map section2_line (runs_of 32 (unwrap_or s.section2 [])))
+  section2 = text_of_lines (map section2_line (runs_of 32 (unwrap_or s.section2 [])))
 
   abbrev pub descriptors : List ℕ
-  descriptors = text_of (map descriptors_line (runs_of 8 s.descriptors))
+  descriptors = text_of_lines (map descriptors_line (runs_of 8 s.descriptors))
 
-  head-text : origin ++ (date ++ (local1 ++ (section2 ++ descriptors))) ≡ text_of (head_lines s)
+  head-text : origin ++ (date ++ (local1 ++ (section2 ++ descriptors))) ≡ text_of_lines (head_lines s)
   unfolding header_lines
   head-text =
       let here : List (List ℕ) = codes "message" ∷ header_lines 0 (take 10 (header_of s)) in
@@ -128,32 +128,32 @@ module _ (s : Sections) where
       ∙ sym (text-append here (there ++ (first ++ (second ++ third))))
 
   module _ {X : Type 0} (a : Option (List ℕ)) (r : Result X RunFault) where
-    whole : (z : Option (List ℕ)) → WritesFront a z (origin ++ (date ++ (local1 ++ (section2 ++ descriptors)))) r → WritesFront a z (text_of (head_lines s)) r
-    whole z writes = let P : List ℕ → Type 0 = λ t. WritesFront a z t r in subst P head-text writes
+    whole : (z : Option (List ℕ)) → WritesPrefix a z (origin ++ (date ++ (local1 ++ (section2 ++ descriptors)))) r → WritesPrefix a z (text_of_lines (head_lines s)) r
+    whole z writes = let P : List ℕ → Type 0 = λ t. WritesPrefix a z t r in subst P head-text writes
 
-    pub stop-origin : {Y : Type 0} (b : Option (List ℕ)) (first : Result Y RunFault) (f g : RunFault) → first ≡ Err f → r ≡ Err g → WritesFront a b origin first → WritesFront a b (text_of (head_lines s)) r
+    pub stop-origin : {Y : Type 0} (b : Option (List ℕ)) (first : Result Y RunFault) (f g : RunFault) → first ≡ Err f → r ≡ Err g → WritesPrefix a b origin first → WritesPrefix a b (text_of_lines (head_lines s)) r
     stop-origin b first f g is same writes = whole b (WritesFront-stop a b origin (date ++ (local1 ++ (section2 ++ descriptors))) first r f g is same writes)
 
-    pub stop-date : {Y : Type 0} (b c : Option (List ℕ)) (first : Result Y RunFault) (f g : RunFault) → Appends a b origin → first ≡ Err f → r ≡ Err g → WritesFront b c date first → WritesFront a c (text_of (head_lines s)) r
+    pub stop-date : {Y : Type 0} (b c : Option (List ℕ)) (first : Result Y RunFault) (f g : RunFault) → Appends a b origin → first ≡ Err f → r ≡ Err g → WritesPrefix b c date first → WritesPrefix a c (text_of_lines (head_lines s)) r
     stop-date b c first f g one is same writes =
         whole c (WritesFront-then a b c origin (date ++ (local1 ++ (section2 ++ descriptors))) r one
         (WritesFront-stop b c date (local1 ++ (section2 ++ descriptors)) first r f g is same writes))
 
-    pub stop-local1 : {Y : Type 0} (b c d : Option (List ℕ)) (first : Result Y RunFault) (f g : RunFault) → Appends a b origin → Appends b c date → first ≡ Err f → r ≡ Err g → WritesFront c d local1 first → WritesFront a d (text_of (head_lines s)) r
+    pub stop-local1 : {Y : Type 0} (b c d : Option (List ℕ)) (first : Result Y RunFault) (f g : RunFault) → Appends a b origin → Appends b c date → first ≡ Err f → r ≡ Err g → WritesPrefix c d local1 first → WritesPrefix a d (text_of_lines (head_lines s)) r
     stop-local1 b c d first f g one two is same writes =
         whole d (WritesFront-then a b d origin (date ++ (local1 ++ (section2 ++ descriptors))) r one
         (WritesFront-then b c d date (local1 ++ (section2 ++ descriptors)) r two
         (WritesFront-stop c d local1 (section2 ++ descriptors) first r f g is same writes)))
 
-    pub stop-section2 : {Y : Type 0} (b c d e : Option (List ℕ)) (first : Result Y RunFault) (f g : RunFault) → Appends a b origin → Appends b c date → Appends c d local1 → first ≡ Err f → r ≡ Err g → WritesFront d e section2 first
-        → WritesFront a e (text_of (head_lines s)) r
+    pub stop-section2 : {Y : Type 0} (b c d e : Option (List ℕ)) (first : Result Y RunFault) (f g : RunFault) → Appends a b origin → Appends b c date → Appends c d local1 → first ≡ Err f → r ≡ Err g → WritesPrefix d e section2 first
+        → WritesPrefix a e (text_of_lines (head_lines s)) r
     stop-section2 b c d e first f g one two three is same writes =
         whole e (WritesFront-then a b e origin (date ++ (local1 ++ (section2 ++ descriptors))) r one
         (WritesFront-then b c e date (local1 ++ (section2 ++ descriptors)) r two
         (WritesFront-then c d e local1 (section2 ++ descriptors) r three
         (WritesFront-stop d e section2 descriptors first r f g is same writes))))
 
-    pub head-end : (b c d e z : Option (List ℕ)) → Appends a b origin → Appends b c date → Appends c d local1 → Appends d e section2 → WritesFront e z descriptors r → WritesFront a z (text_of (head_lines s)) r
+    pub head-end : (b c d e z : Option (List ℕ)) → Appends a b origin → Appends b c date → Appends c d local1 → Appends d e section2 → WritesPrefix e z descriptors r → WritesPrefix a z (text_of_lines (head_lines s)) r
     head-end b c d e z one two three four writes =
         whole z (WritesFront-then a b z origin (date ++ (local1 ++ (section2 ++ descriptors))) r one
         (WritesFront-then b c z date (local1 ++ (section2 ++ descriptors)) r two

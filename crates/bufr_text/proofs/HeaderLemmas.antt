@@ -8,14 +8,14 @@ use Rattle.bufr_bits.proofs.ScaledLemmas.{and_first, and_second}
 use Rattle.bufr_frame.specs.Layout.{IsFitting}
 use Rattle.bufr_frame.specs.Section1.{Field, Master, Centre, Subcentre, Update, Flags, Category, Subcategory, LocalSubcategory, MasterVersion, LocalVersion, Year, Month, Day, Hour, Minute, Second, is_edition, most_in, slots_of, slots_3, slots_4}
 use Rattle.bufr_frame.specs.Section1 as section1
-use Rattle.bufr_fill.specs.Entries.{Entry, Holds, Ends, subsets_of}
+use Rattle.bufr_fill.specs.Entries.{DraftEntry, Holds, Ends, subsets_of}
 use Rattle.bufr_text.specs.Document.{Document, edition_in, optional_in, subsets_in}
 use Rattle.bufr_text.specs.Line.{Line, Passed, Opens, Header, Local1, Section2, Descriptors, Begins, Item, Closes, Wrong, keys, leasts, mosts}
-use Rattle.bufr_text.specs.Documents.{Place, Between, Heading, Laying, Filling, Stopped, Turn, Goes, Gives, Faults, NotAllowed, SubsetCount, HeaderRange, in_range, heading, laying, filling, beginning, closing, with_value, with_local1, with_section2, with_entry, turn}
-use Rattle.bufr_text.specs.Header.{are_in_range, head_in, IsHeaded}
-use Rattle.bufr_text.specs.Given.{IsOctet, IsWord}
+use Rattle.bufr_text.specs.Documents.{ParserState, Between, Heading, Laying, Filling, Stopped, LineEffect, WalkGoes, Gives, Faults, NotAllowed, SubsetCount, HeaderRange, in_range, heading, laying, filling, beginning, closing, with_value, with_local1, with_section2, with_entry, turn}
+use Rattle.bufr_text.specs.Header.{are_in_range, head_from_values, IsHeaded}
+use Rattle.bufr_text.specs.Bounds.{IsOctet, IsDescriptorWord}
 use Rattle.bufr_text.specs.Proper.{AreEnded}
-use Rattle.bufr_text.specs.Step.{IsBare, IsLaid, EntryHasOctets, HasSubsets, Stands, StandsAfter}
+use Rattle.bufr_text.specs.Step.{IsBare, HasLineGroups, EntryHasOctets, HasSubsets, IsParserState, StandsAfter}
 use Rattle.bufr_text.proofs.ProperLemmas.{all-more, item-ends-none, end-ends-one, ends-last, drafts-octets, laid-bare}
 use Rattle.bufr_text.proofs.SoundLemmas.{IsSound}
 use Rattle.bufr_fill.specs.Draft.{draft}
@@ -93,11 +93,11 @@ known n h =
         let four : n ≡ 4 = omega (arith, other, c, e) in
         grind (arith, nat_tests, four)
 
-pub headed-fits : (d : Document) → IsHeaded d → IsFitting (head_in d)
+pub headed-fits : (d : Document) → IsHeaded d → IsFitting (head_from_values d)
 unfolding keys
 headed-fits d h = record { edition = known (edition_in d) (value-least (edition_in d) d.header (omega (arith, h.whole)) h.ranges); fits = fits d h }
   where
-    fits : (d : Document) → IsHeaded d → (field : Field) → section1.said (head_in d) false field ≤ most_in (slots_of (edition_in d)) field
+    fits : (d : Document) → IsHeaded d → (field : Field) → section1.head_value (head_from_values d) false field ≤ most_in (slots_of (edition_in d)) field
     fits d h Master = header-most d 1 h
     fits d h Centre = header-most d 2 h
     fits d h Subcentre = header-most d 3 h
@@ -136,14 +136,14 @@ ranges-again (x ∷ xs) v h g =
     let same : length (x ∷ xs) ≡ 0 + length (x ∷ xs) = omega arith in
     ranges-more x 0 (x ∷ xs) v h (ap (λ (n : ℕ). in_range x n v) (sym same) ∙ g)
 
-pub later : (at : ℕ) (place : Place) → Stands at place → Stands (at + 1) place
+pub later : (at : ℕ) (place : ParserState) → IsParserState at place → IsParserState (at + 1) place
 later at Between s = tt
 later at (Heading d) s = (s.0, s.1, omega (arith, s.2), s.3)
 later at (Laying part d) s = (s.0, omega (arith, s.1), s.2, s.3)
 later at (Filling subset d) s = (s.0, omega (arith, s.1), s.2, s.3, s.4)
 later at Stopped s = tt
 
-if-so : (at : ℕ) (b : Bool) (x y : Turn) → (b ≡ true → StandsAfter at x) → (b ≡ false → StandsAfter at y) → StandsAfter at (if b then x else y)
+if-so : (at : ℕ) (b : Bool) (x y : LineEffect) → (b ≡ true → StandsAfter at x) → (b ≡ false → StandsAfter at y) → StandsAfter at (if b then x else y)
 if-so at true x y p q = p refl
 if-so at false x y p q = q refl
 
@@ -162,7 +162,7 @@ still-bare : (d : Document) (value : ℕ) → IsBare d → IsBare (with_value d 
 still-bare d value bare = record { local1 = bare.local1; section2 = bare.section2; descriptors = bare.descriptors; entries = bare.entries }
 
 value-so : (at key value : ℕ) (d : Document) (b : Bool) → (key == 19) ≡ b → length d.header < 20 → are_in_range (edition_in d) 0 d.header ≡ true → length d.entries < at → key ≡ length d.header → in_range (edition_in d) key value ≡ true → IsBare d
-    → Stands (at + 1) (if b then Laying 0 (with_value d value) else Heading (with_value d value))
+    → IsParserState (at + 1) (if b then Laying 0 (with_value d value) else Heading (with_value d value))
 value-so at key value d true last few ranges lines same fits bare =
     let is : key ≡ 19 = grind (arith, nat_tests, last) in
     (record { whole = omega (arith, length-append d.header (value ∷ []), is, same); ranges = ranges-again d.header value ranges (ap (λ (n : ℕ). in_range (edition_in d) n value) (sym same) ∙ fits) }, omega (arith, lines), laid-bare (with_value d value) (still-bare d value bare), bare.entries)
@@ -172,8 +172,8 @@ value-so at key value d false last few ranges lines same fits bare =
 
 heading-so : (at key value : ℕ) (d : Document) → length d.header < 20 → are_in_range (edition_in d) 0 d.header ≡ true → length d.entries < at → IsBare d → StandsAfter at (heading d (Header key value))
 heading-so at key value d few ranges lines bare =
-    let taken : Turn = Goes (if key == 19 then Laying 0 (with_value d value) else Heading (with_value d value)) in
-    let ranged : Turn = if not (in_range (edition_in d) key value) then Faults HeaderRange else taken in
+    let taken : LineEffect = WalkGoes (if key == 19 then Laying 0 (with_value d value) else Heading (with_value d value)) in
+    let ranged : LineEffect = if not (in_range (edition_in d) key value) then Faults HeaderRange else taken in
     if-so at (not (key == length d.header)) (Faults NotAllowed) ranged (λ e. tt) (λ e.
     if-so at (not (in_range (edition_in d) key value)) (Faults HeaderRange) taken (λ f. tt) (λ f.
     value-so at key value d (key == 19) refl few ranges lines (same-key key (length d.header) e) (not-false (in_range (edition_in d) key value) f) bare))
@@ -184,15 +184,15 @@ subset-few a b n h = let le : nat_le a n ≡ true = and_second (a == b) (nat_le 
 same-number : (a b n : ℕ) → ((a == b) && nat_le a n) ≡ true → a ≡ b
 same-number a b n h = let is : (a == b) ≡ true = and_first (a == b) (nat_le a n) h in grind (arith, nat_tests, is)
 
-beginning-so : (at read subset : ℕ) (d : Document) → IsHeaded d → length d.entries < at + 1 → IsLaid d → HasSubsets read d → StandsAfter at (beginning read d subset)
+beginning-so : (at read subset : ℕ) (d : Document) → IsHeaded d → length d.entries < at + 1 → HasLineGroups d → HasSubsets read d → StandsAfter at (beginning read d subset)
 beginning-so at read subset d h lines laid has =
-    if-so at ((subset == read + 1) && nat_le subset (subsets_in d)) (Goes (Filling subset d)) (Faults SubsetCount)
+    if-so at ((subset == read + 1) && nat_le subset (subsets_in d)) (WalkGoes (Filling subset d)) (Faults SubsetCount)
     (λ e. (h, lines, omega (arith, subset-few subset (read + 1) (subsets_in d) e, subsets-few d h), laid, (read, same-number subset (read + 1) (subsets_in d) e, has))) (λ e. tt)
 
 equal : (a b : ℕ) → (a == b) ≡ true → a ≡ b
 equal a b e = grind (arith, nat_tests, e)
 
-closing-so : (at read : ℕ) (d : Document) → IsHeaded d → length d.entries ≤ at → IsLaid d → HasSubsets read d → AreEnded d.entries → StandsAfter at (closing read d)
+closing-so : (at read : ℕ) (d : Document) → IsHeaded d → length d.entries ≤ at → HasLineGroups d → HasSubsets read d → AreEnded d.entries → StandsAfter at (closing read d)
 closing-so at read d h lines laid has closed =
     if-so at (read == subsets_in d) (Gives d) (Faults SubsetCount) (λ e. (
       record {
@@ -210,24 +210,24 @@ closing-so at read d h lines laid has closed =
 
 -- no entries, no subsets
 none-ended : (d : Document) → d.entries ≡ [] → HasSubsets 0 d
-none-ended d none = record { texts = subst (λ (l : List Entry). AllByRecursion EntryHasOctets l) (sym none) tt; counted = ap (λ (l : List Entry). length (subsets_of l)) none }
+none-ended d none = record { texts = subst (λ (l : List DraftEntry). AllByRecursion EntryHasOctets l) (sym none) tt; counted = ap (λ (l : List DraftEntry). length (subsets_of l)) none }
 
-none-last : (es : List Entry) → es ≡ [] → AreEnded es
-none-last es none = subst (λ (l : List Entry). AreEnded l) (sym none) tt
+none-last : (es : List DraftEntry) → es ≡ [] → AreEnded es
+none-last es none = subst (λ (l : List DraftEntry). AreEnded l) (sym none) tt
 
-laying-so : (at part : ℕ) (d : Document) (line : Line) → IsSound line → IsHeaded d → length d.entries < at → IsLaid d → d.entries ≡ [] → StandsAfter at (laying part d line)
+laying-so : (at part : ℕ) (d : Document) (line : Line) → IsSound line → IsHeaded d → length d.entries < at → HasLineGroups d → d.entries ≡ [] → StandsAfter at (laying part d line)
 laying-so at part d Passed sound h lines laid none = tt
 laying-so at part d Opens sound h lines laid none = tt
 laying-so at part d (Header key value) sound h lines laid none = tt
 laying-so at part d (Local1 octets) sound h lines laid none =
-    if-so at (part == 0) (Goes (Laying 0 (with_local1 d octets))) (Faults NotAllowed) (λ e. (
+    if-so at (part == 0) (WalkGoes (Laying 0 (with_local1 d octets))) (Faults NotAllowed) (λ e. (
       record { whole = h.whole; ranges = h.ranges },
       omega (arith, lines),
       record { local1 = all-more IsOctet d.local1 octets laid.local1 sound; section2 = laid.section2; no_section2 = laid.no_section2; descriptors = laid.descriptors },
       none,
     )) (λ e. tt)
 laying-so at part d (Section2 octets) sound h lines laid none =
-    if-so at (nat_le part 1 && (optional_in d == 1)) (Goes (Laying 1 (with_section2 d octets))) (Faults NotAllowed) (λ e. (
+    if-so at (nat_le part 1 && (optional_in d == 1)) (WalkGoes (Laying 1 (with_section2 d octets))) (Faults NotAllowed) (λ e. (
       record { whole = h.whole; ranges = h.ranges },
       omega (arith, lines),
       record { local1 = laid.local1; section2 = all-more IsOctet d.section2 octets laid.section2 sound; no_section2 = λ other. absurd (true≢false (sym (and_second (nat_le part 1) (optional_in d == 1) e) ∙ other)); descriptors = laid.descriptors },
@@ -236,7 +236,7 @@ laying-so at part d (Section2 octets) sound h lines laid none =
 laying-so at part d (Descriptors words) sound h lines laid none = (
   record { whole = h.whole; ranges = h.ranges },
   omega (arith, lines),
-  record { local1 = laid.local1; section2 = laid.section2; no_section2 = laid.no_section2; descriptors = all-more IsWord d.descriptors words laid.descriptors sound },
+  record { local1 = laid.local1; section2 = laid.section2; no_section2 = laid.no_section2; descriptors = all-more IsDescriptorWord d.descriptors words laid.descriptors sound },
   none,
 )
 laying-so at part d (Begins subset) sound h lines laid none = beginning-so at 0 subset d h (omega (arith, lines)) laid (none-ended d none)
@@ -244,14 +244,14 @@ laying-so at part d (Item fxy form) sound h lines laid none = tt
 laying-so at part d Closes sound h lines laid none = closing-so at 0 d h (omega (arith, lines)) laid (none-ended d none) (none-last d.entries none)
 laying-so at part d Wrong sound h lines laid none = tt
 
-one-entry : (d : Document) (entry : Entry) → length (with_entry d entry).entries ≡ length d.entries + 1
+one-entry : (d : Document) (entry : DraftEntry) → length (with_entry d entry).entries ≡ length d.entries + 1
 one-entry d entry = omega (arith, length-append d.entries (entry ∷ []))
 
 -- one more entry leaves the other parts
-still-headed : (d : Document) (entry : Entry) → IsHeaded d → IsHeaded (with_entry d entry)
+still-headed : (d : Document) (entry : DraftEntry) → IsHeaded d → IsHeaded (with_entry d entry)
 still-headed d entry h = record { whole = h.whole; ranges = h.ranges }
 
-still-laid : (d : Document) (entry : Entry) → IsLaid d → IsLaid (with_entry d entry)
+still-laid : (d : Document) (entry : DraftEntry) → HasLineGroups d → HasLineGroups (with_entry d entry)
 still-laid d entry laid = record { local1 = laid.local1; section2 = laid.section2; no_section2 = laid.no_section2; descriptors = laid.descriptors }
 
 one-more : (at ended : ℕ) (d : Document) → HasSubsets ended d → HasSubsets (ended + 1) (with_entry d (Ends at))
@@ -263,7 +263,7 @@ one-more at ended d has = record {
 by-number : (subset ended : ℕ) (d : Document) → subset ≡ ended + 1 → HasSubsets (ended + 1) d → HasSubsets subset d
 by-number subset ended d is has = subst (λ (n : ℕ). HasSubsets n d) (sym is) has
 
-filling-so : (at subset : ℕ) (d : Document) (line : Line) → IsSound line → IsHeaded d → length d.entries < at → subset < 65536 → IsLaid d → ((ended : ℕ) × (subset ≡ ended + 1) × HasSubsets ended d) → StandsAfter at (filling at subset d line)
+filling-so : (at subset : ℕ) (d : Document) (line : Line) → IsSound line → IsHeaded d → length d.entries < at → subset < 65536 → HasLineGroups d → ((ended : ℕ) × (subset ≡ ended + 1) × HasSubsets ended d) → StandsAfter at (filling at subset d line)
 filling-so at subset d Passed sound h lines few laid has = tt
 filling-so at subset d Opens sound h lines few laid has = tt
 filling-so at subset d (Header key value) sound h lines few laid has = tt
@@ -291,7 +291,7 @@ filling-so at subset d Closes sound h lines few laid (ended, is, has) =
 filling-so at subset d Wrong sound h lines few laid has = tt
 
 -- what holds of a place holds of the place behind the line
-pub turn-stands : (at : ℕ) (place : Place) (line : Line) → 0 < at → IsSound line → Stands at place → StandsAfter at (turn at place line)
+pub turn-stands : (at : ℕ) (place : ParserState) (line : Line) → 0 < at → IsSound line → IsParserState at place → StandsAfter at (turn at place line)
 unfolding turn
 turn-stands at Between Passed some sound s = tt
 turn-stands at Between Opens some sound s = (omega arith, refl, omega arith, record { local1 = refl; section2 = refl; descriptors = refl; entries = refl })

@@ -8,7 +8,7 @@ use Rattle.std.proofs.lemmas.Grind.{common_steps}
 use Rattle.std.proofs.lemmas.List.{drop_all}
 use Rattle.bufr_bits.proofs.ScaledLemmas.{and_first, and_second}
 use Rattle.bufr_tables.specs.Fxy.{fxy_of}
-use Rattle.bufr_text.specs.Grammar.{front, behind, behind_space, behind_word, fxy_read, is_number_octet, is_hashed, is_passed_behind}
+use Rattle.bufr_text.specs.Grammar.{prefix_while, suffix_while, without_space, without_prefix, fxy_read, is_number_octet, is_hashed, is_passed_behind}
 use Rattle.bufr_text.specs.Unquoting.{IsTokenTo}
 use Rattle.bufr_fill.specs.Draft.{number_token, reference_token}
 use Rattle.bufr_text.specs.Line.{value_read, text_value, number_value, missing_value}
@@ -36,8 +36,8 @@ fxy-few (a ∷ b ∷ c ∷ d ∷ e ∷ []) h = refl
 pub ruleset by_six = (fxy-six, fxy-few)
 
 -- words
-pub word-there : (word text : List ℕ) → bytes_eq (take (length word) text) word ≡ true → behind_word word text ≡ Some (drop (length word) text)
-unfolding behind_word
+pub word-there : (word text : List ℕ) → bytes_eq (take (length word) text) word ≡ true → without_prefix word text ≡ Some (drop (length word) text)
+unfolding without_prefix
 word-there [] text h = refl
 word-there (w ∷ word) [] h = absurd cc
 word-there (w ∷ word) (c ∷ text) h =
@@ -51,12 +51,12 @@ absent-by : (b : Bool) (rest : Option (List ℕ)) → (b ≡ true → rest ≡ N
 absent-by true rest none = none refl
 absent-by false rest none = refl
 
-pub word-absent : (word text : List ℕ) → bytes_eq (take (length word) text) word ≡ false → behind_word word text ≡ None
-unfolding behind_word
+pub word-absent : (word text : List ℕ) → bytes_eq (take (length word) text) word ≡ false → without_prefix word text ≡ None
+unfolding without_prefix
 word-absent [] text h = absurd cc
 word-absent (w ∷ word) [] h = refl
 word-absent (w ∷ word) (c ∷ text) h =
-    absent-by (c == w) (behind_word word text) (λ e. word-absent word text (first-else (c == w) (bytes_eq (take (length word) text) word) h e))
+    absent-by (c == w) (without_prefix word text) (λ e. word-absent word text (first-else (c == w) (bytes_eq (take (length word) text) word) h e))
 
 -- tokens
 one-on : (text : List ℕ) (at : ℕ) → at < length text → drop at text ≡ slice_index text at ∷ drop (at + 1) text
@@ -66,31 +66,31 @@ one-taken : (text : List ℕ) (at : ℕ) → at < length text → take (at + 1) 
 one-taken text at h = grind (arith, common_steps)
 
 pub token-on : (text : List ℕ) (at : ℕ) → IsTokenTo text at → at < length text → is_number_octet (slice_index text at) ≡ true → IsTokenTo text (at + 1)
-unfolding front behind
+unfolding prefix_while suffix_while
 token-on text at is h e = record {
   within = omega arith;
-  ahead = is.ahead ∙ ap (λ (t : List ℕ). take at text ++ front is_number_octet t) (one-on text at h)
-      ∙ rw e (sym (append_assoc (take at text) (slice_index text at ∷ []) (front is_number_octet (drop (at + 1) text)))) ∙ ap (λ (t : List ℕ). t ++ front is_number_octet (drop (at + 1) text)) (sym (one-taken text at h));
-  behind = is.behind ∙ ap (behind is_number_octet) (one-on text at h) ∙ rw e refl;
+  ahead = is.ahead ∙ ap (λ (t : List ℕ). take at text ++ prefix_while is_number_octet t) (one-on text at h)
+      ∙ rw e (sym (append_assoc (take at text) (slice_index text at ∷ []) (prefix_while is_number_octet (drop (at + 1) text)))) ∙ ap (λ (t : List ℕ). t ++ prefix_while is_number_octet (drop (at + 1) text)) (sym (one-taken text at h));
+  suffix_while = is.suffix_while ∙ ap (suffix_while is_number_octet) (one-on text at h) ∙ rw e refl;
 }
 
-stop-first : (c : ℕ) (more : List ℕ) → is_number_octet c ≡ false → (front is_number_octet (c ∷ more) ≡ []) × (behind is_number_octet (c ∷ more) ≡ c ∷ more)
-unfolding front behind
+stop-first : (c : ℕ) (more : List ℕ) → is_number_octet c ≡ false → (prefix_while is_number_octet (c ∷ more) ≡ []) × (suffix_while is_number_octet (c ∷ more) ≡ c ∷ more)
+unfolding prefix_while suffix_while
 stop-first c more e = (rw e refl, rw e refl)
 
-pub token-stop : (text : List ℕ) (at : ℕ) → IsTokenTo text at → at < length text → is_number_octet (slice_index text at) ≡ false → (take at text ≡ front is_number_octet text) × (drop at text ≡ behind is_number_octet text)
+pub token-stop : (text : List ℕ) (at : ℕ) → IsTokenTo text at → at < length text → is_number_octet (slice_index text at) ≡ false → (take at text ≡ prefix_while is_number_octet text) × (drop at text ≡ suffix_while is_number_octet text)
 token-stop text at is h e =
     let stop = stop-first (slice_index text at) (drop (at + 1) text) e in (
-      sym (is.ahead ∙ ap (λ (t : List ℕ). take at text ++ t) (ap (front is_number_octet) (one-on text at h) ∙ stop.0) ∙ append-nil (take at text)),
-      sym (is.behind ∙ ap (behind is_number_octet) (one-on text at h) ∙ stop.1 ∙ sym (one-on text at h)),
+      sym (is.ahead ∙ ap (λ (t : List ℕ). take at text ++ t) (ap (prefix_while is_number_octet) (one-on text at h) ∙ stop.0) ∙ append-nil (take at text)),
+      sym (is.suffix_while ∙ ap (suffix_while is_number_octet) (one-on text at h) ∙ stop.1 ∙ sym (one-on text at h)),
     )
 
-pub token-end : (text : List ℕ) (at : ℕ) → IsTokenTo text at → length text ≤ at → (take at text ≡ front is_number_octet text) × (drop at text ≡ behind is_number_octet text)
-unfolding front behind
+pub token-end : (text : List ℕ) (at : ℕ) → IsTokenTo text at → length text ≤ at → (take at text ≡ prefix_while is_number_octet text) × (drop at text ≡ suffix_while is_number_octet text)
+unfolding prefix_while suffix_while
 token-end text at is h =
     let none = drop_all at text h in (
-      sym (is.ahead ∙ ap (λ (t : List ℕ). take at text ++ front is_number_octet t) none ∙ append-nil (take at text)),
-      none ∙ sym (is.behind ∙ ap (behind is_number_octet) none),
+      sym (is.ahead ∙ ap (λ (t : List ℕ). take at text ++ prefix_while is_number_octet t) none ∙ append-nil (take at text)),
+      none ∙ sym (is.suffix_while ∙ ap (suffix_while is_number_octet) none),
     )
 
 -- values
@@ -99,7 +99,7 @@ unfolding value_read
 value-quote [] e = absurd (omega arith)
 value-quote (c ∷ more) e = let q : (c == 34) ≡ true = grind (arith, nat_tests, e) in rw q refl
 
-pub value-token : (text : List ℕ) → is_number_octet (slice_index text 0) ≡ true → value_read text ≡ Some (number_token (front is_number_octet text), behind is_number_octet text)
+pub value-token : (text : List ℕ) → is_number_octet (slice_index text 0) ≡ true → value_read text ≡ Some (number_token (prefix_while is_number_octet text), suffix_while is_number_octet text)
 unfolding value_read
 value-token [] e = absurd cc
 value-token (c ∷ more) e =
@@ -107,29 +107,29 @@ value-token (c ∷ more) e =
     rw (q, e) refl
 
 pub value-word : (text : List ℕ) → (slice_index text 0 ≡ 34 → ⊥) → is_number_octet (slice_index text 0) ≡ false → value_read text ≡ missing_value text
-unfolding value_read behind_word
+unfolding value_read without_prefix
 value-word [] q e = refl
 value-word (c ∷ more) q e =
     let n : (c == 34) ≡ false = grind (arith, nat_tests, q) in
     rw (n, e) refl
 
-pub word-is : (word text : List ℕ) (r : Option (Bor (List ℕ))) → MatchOption r (bytes_eq (take (length word) text) word ≡ false) (λ x. (bytes_eq (take (length word) text) word ≡ true) × (x.now ≡ drop (length word) text) × (length x.now + length word ≡ length text)) → option_map (λ s. s.now) r ≡ behind_word word text
+pub word-is : (word text : List ℕ) (r : Option (Bor (List ℕ))) → MatchOption r (bytes_eq (take (length word) text) word ≡ false) (λ x. (bytes_eq (take (length word) text) word ≡ true) × (x.now ≡ drop (length word) text) × (length x.now + length word ≡ length text)) → option_map (λ s. s.now) r ≡ without_prefix word text
 word-is word text None h = sym (word-absent word text h)
 word-is word text (Some x) h = ap Some h.1 ∙ sym (word-there word text h.0)
 
 -- one space
-pub space-none : (text : List ℕ) → length text ≡ 0 → behind_space text ≡ None
-unfolding behind_word
+pub space-none : (text : List ℕ) → length text ≡ 0 → without_space text ≡ None
+unfolding without_prefix
 space-none [] h = refl
 space-none (c ∷ more) h = absurd (omega (arith, h))
 
-pub space-there : (text : List ℕ) → slice_index text 0 ≡ 32 → behind_space text ≡ Some (drop 1 text)
-unfolding behind_word
+pub space-there : (text : List ℕ) → slice_index text 0 ≡ 32 → without_space text ≡ Some (drop 1 text)
+unfolding without_prefix
 space-there [] e = absurd (omega arith)
 space-there (c ∷ more) e = let q : (c == 32) ≡ true = grind (arith, nat_tests, e) in rw q refl
 
-pub space-absent : (text : List ℕ) → (slice_index text 0 ≡ 32 → ⊥) → behind_space text ≡ None
-unfolding behind_word
+pub space-absent : (text : List ℕ) → (slice_index text 0 ≡ 32 → ⊥) → without_space text ≡ None
+unfolding without_prefix
 space-absent [] e = refl
 space-absent (c ∷ more) e = let q : (c == 32) ≡ false = grind (arith, nat_tests, e) in rw q refl
 
@@ -171,7 +171,7 @@ passed-none (c ∷ more) e = absurd (omega arith)
 pub ruleset hash_steps = (hashed-space, hashed-other, hashed-end, passed-space, passed-other, passed-none)
 
 -- references
-pub reference-some : (text : List ℕ) → is_number_octet (slice_index text 0) ≡ true → number_value reference_token text ≡ Some (reference_token (front is_number_octet text), behind is_number_octet text)
+pub reference-some : (text : List ℕ) → is_number_octet (slice_index text 0) ≡ true → number_value reference_token text ≡ Some (reference_token (prefix_while is_number_octet text), suffix_while is_number_octet text)
 reference-some [] e = absurd cc
 reference-some (c ∷ more) e = rw e refl
 

@@ -6,10 +6,10 @@ use Rattle.std.proofs.Math.Seq.{take-append_seam, drop-append_seam}
 use Rattle.bufr_bits.specs.DecimalText.{pointed}
 use Rattle.std.specs.Prelude.{decimal, replicate}
 use Rattle.std.proofs.lemmas.Fmt.{decimal_digit, decimal_step, decimal_nonempty}
-use Rattle.bufr_text.specs.Writing.{padded}
+use Rattle.bufr_text.specs.Writing.{zero_padded}
 
 -- no zero stands in front of two digits or more
-pub padded_long : (n : ℕ) → 10 ≤ n → n < 2 ^ 64 → padded 2 n ≡ decimal n
+pub padded_long : (n : ℕ) → 10 ≤ n → n < 2 ^ 64 → zero_padded 2 n ≡ decimal n
 padded_long n long fits =
     let some = decimal_nonempty (n / 10) (omega arith) in
     let size : length (decimal n) ≡ length (decimal (n / 10)) + 1 = ap length (decimal_step n long fits) ∙ length-append _ _ in
@@ -17,7 +17,7 @@ padded_long n long fits =
     ap (λ k. replicate k 48 ++ decimal n) none
 
 -- two digits
-pub padded_pair : (n : ℕ) → n < 100 → padded 2 n ≡ (48 + n / 10) ∷ (48 + n % 10) ∷ []
+pub padded_pair : (n : ℕ) → n < 100 → zero_padded 2 n ≡ (48 + n / 10) ∷ (48 + n % 10) ∷ []
 padded_pair n few = elim (eq-zero-or-pos (n - 9)) [
   | inl z ↦
       let one : n < 10 = omega (arith, z) in
@@ -33,7 +33,7 @@ zeros_more : (count : ℕ) → replicate {A = ℕ} count 48 ++ 48 ∷ [] ≡ rep
 zeros_more zero = refl
 zeros_more (suc count) = ap (λ (t : List ℕ). 48 ∷ t) (zeros_more count)
 
-step_long : (m n : ℕ) → 10 ≤ n → n < 2 ^ 64 → padded (m + 1) n ≡ padded m (n / 10) ++ (48 + n % 10) ∷ []
+step_long : (m n : ℕ) → 10 ≤ n → n < 2 ^ 64 → zero_padded (m + 1) n ≡ zero_padded m (n / 10) ++ (48 + n % 10) ∷ []
 step_long m n long fits =
     let step = decimal_step n long fits in
     let size : length (decimal n) ≡ length (decimal (n / 10)) + 1 = ap length step ∙ length-append _ _ in
@@ -42,7 +42,7 @@ step_long m n long fits =
     ∙ ap (λ t. replicate (m - length (decimal (n / 10))) 48 ++ t) step
     ∙ sym (append_assoc (replicate (m - length (decimal (n / 10))) 48) (decimal (n / 10)) ((48 + n % 10) ∷ []))
 
-step_short : (k n : ℕ) → n < 10 → padded (suc k + 1) n ≡ padded (suc k) (n / 10) ++ (48 + n % 10) ∷ []
+step_short : (k n : ℕ) → n < 10 → zero_padded (suc k + 1) n ≡ zero_padded (suc k) (n / 10) ++ (48 + n % 10) ∷ []
 step_short k n few =
     let none : n / 10 ≡ 0 = omega arith in
     let same : n % 10 ≡ n = omega arith in
@@ -53,16 +53,16 @@ step_short k n few =
     ∙ ap (λ t. t ++ (48 + n) ∷ []) (sym (zeros_more k))
     ∙ ap (λ j. (replicate j 48 ++ 48 ∷ []) ++ (48 + n) ∷ []) (sym fewer)
     ∙ ap (λ d. (replicate (suc k - length d) 48 ++ d) ++ (48 + n) ∷ []) (sym (decimal_digit 0 (omega arith)))
-    ∙ ap (λ j. padded (suc k) j ++ (48 + n) ∷ []) (sym none)
-    ∙ ap (λ j. padded (suc k) (n / 10) ++ (48 + j) ∷ []) (sym same)
+    ∙ ap (λ j. zero_padded (suc k) j ++ (48 + n) ∷ []) (sym none)
+    ∙ ap (λ j. zero_padded (suc k) (n / 10) ++ (48 + j) ∷ []) (sym same)
 
 -- the last digit of two or more
-padded_step : (m n : ℕ) → 1 ≤ m → n < 2 ^ 64 → padded (m + 1) n ≡ padded m (n / 10) ++ (48 + n % 10) ∷ []
+padded_step : (m n : ℕ) → 1 ≤ m → n < 2 ^ 64 → zero_padded (m + 1) n ≡ zero_padded m (n / 10) ++ (48 + n % 10) ∷ []
 padded_step zero n some fits = absurd (omega arith)
 padded_step (suc k) n some fits = elim (cases_lt n 10) [ inl few ↦ step_short k n few | inr long ↦ step_long (suc k) n long fits ]
 
 -- one digit asks for no zero
-padded_one : (n : ℕ) → n < 2 ^ 64 → padded 1 n ≡ decimal n
+padded_one : (n : ℕ) → n < 2 ^ 64 → zero_padded 1 n ≡ decimal n
 padded_one n fits =
     let some = decimal_nonempty n fits in
     let none : 1 - length (decimal n) ≡ 0 = omega (arith, some) in
@@ -70,23 +70,23 @@ padded_one n fits =
 
 -- with one more of the last digits laid
 pub fraction_more : (places place left : ℕ) (laid line all : List ℕ) → place < places → left < 2 ^ 64 → laid ≡ (48 + left % 10) ∷ line
-    → padded (places + 1 - place) left ++ line ≡ all → padded (places + 1 - (place + 1)) (left / 10) ++ laid ≡ all
+    → zero_padded (places + 1 - place) left ++ line ≡ all → zero_padded (places + 1 - (place + 1)) (left / 10) ++ laid ≡ all
 fraction_more places place left laid line all below fits is so =
     let m = places - place in
     let now : places + 1 - (place + 1) ≡ m = omega arith in
     let before : places + 1 - place ≡ m + 1 = omega arith in
-    ap (λ k. padded k (left / 10) ++ laid) now
-    ∙ ap (λ t. padded m (left / 10) ++ t) is
-    ∙ sym (append_assoc (padded m (left / 10)) ((48 + left % 10) ∷ []) line)
+    ap (λ k. zero_padded k (left / 10) ++ laid) now
+    ∙ ap (λ t. zero_padded m (left / 10) ++ t) is
+    ∙ sym (append_assoc (zero_padded m (left / 10)) ((48 + left % 10) ∷ []) line)
     ∙ ap (λ t. t ++ line) (sym (padded_step m left (omega arith) fits))
-    ∙ ap (λ k. padded k left ++ line) (sym before)
+    ∙ ap (λ k. zero_padded k left ++ line) (sym before)
     ∙ so
 
 -- and with all of them
-pub fraction_done : (places place left : ℕ) (line all : List ℕ) → place ≡ places → left < 2 ^ 64 → padded (places + 1 - place) left ++ line ≡ all → decimal left ++ line ≡ all
+pub fraction_done : (places place left : ℕ) (line all : List ℕ) → place ≡ places → left < 2 ^ 64 → zero_padded (places + 1 - place) left ++ line ≡ all → decimal left ++ line ≡ all
 fraction_done places place left line all last fits so =
     let one : places + 1 - place ≡ 1 = omega arith in
-    ap (λ t. t ++ line) (sym (padded_one left fits)) ∙ ap (λ k. padded k left ++ line) (sym one) ∙ so
+    ap (λ t. t ++ line) (sym (padded_one left fits)) ∙ ap (λ k. zero_padded k left ++ line) (sym one) ∙ so
 
 -- a point before the last of some octets
 point_before : (whole line octets behind : List ℕ) (places : ℕ) → whole ++ line ≡ octets ++ behind → length line ≡ places + length behind
@@ -102,6 +102,6 @@ point_before whole line octets behind places same long =
 
 -- a number with a point before its last digits
 pub point_laid : (n whole places : ℕ) (laid pointed_line line behind : List ℕ) → laid ≡ decimal whole ++ pointed_line → pointed_line ≡ 46 ∷ line
-    → decimal whole ++ line ≡ padded (places + 1) n ++ behind → length line ≡ places + length behind → laid ≡ pointed places (decimal n) ++ behind
+    → decimal whole ++ line ≡ zero_padded (places + 1) n ++ behind → length line ≡ places + length behind → laid ≡ pointed places (decimal n) ++ behind
 point_laid n whole places laid pointed_line line behind is point so long =
-    is ∙ ap (λ t. decimal whole ++ t) point ∙ point_before (decimal whole) line (padded (places + 1) n) behind places so long
+    is ∙ ap (λ t. decimal whole ++ t) point ∙ point_before (decimal whole) line (zero_padded (places + 1) n) behind places so long

@@ -6,11 +6,11 @@ use Rattle.std.specs.List.{list_all, AllByRecursion}
 use Rattle.std.proofs.lemmas.Bool.Decides.{nat_tests}
 use Rattle.bufr_tables.specs.Fxy.{fxy_text, f_of}
 use Rattle.bufr_bits.proofs.ScaledLemmas.{and_first}
-use Rattle.bufr_fill.specs.Draft.{Form, number_token, text_form, missing_form, reference_token}
-use Rattle.bufr_text.specs.Grammar.{front, behind, behind_word, number_read, descriptors_text, quoted, is_number_octet, is_hashed, is_passed_behind}
+use Rattle.bufr_fill.specs.Draft.{DraftValue, number_token, text_form, missing_form, reference_token}
+use Rattle.bufr_text.specs.Grammar.{prefix_while, suffix_while, without_prefix, number_read, descriptors_text, quoted, is_number_octet, is_hashed, is_passed_behind}
 use Rattle.bufr_text.specs.Line.{Opens, Header, Local1, Section2, Descriptors, Begins, Item, Closes, key_in, keys, made, place_from, number_value, value_read, worded, line_of}
 use Rattle.bufr_text.specs.Dump.{header_line, local1_line, section2_line, descriptors_line, subset_line, comment_text, Comment}
-use Rattle.bufr_text.specs.Given.{IsOctet, IsWord}
+use Rattle.bufr_text.specs.Bounds.{IsOctet, IsDescriptorWord}
 use Rattle.bufr_text.proofs.GrammarLemmas.{stops, front-of, behind-of, hex_back, fxy_read_back, descriptors_back, number_back, quoted_back}
 use Rattle.bufr_text.proofs.TokenLemmas.{IsToken}
 
@@ -18,34 +18,34 @@ in_bounds : (xs : List ℕ) (most : ℕ) → 0 < length xs → length xs ≤ mos
 in_bounds xs most some few = grind (arith, nat_tests)
 
 pub local1-says : (xs : List ℕ) → AllByRecursion IsOctet xs → 0 < length xs → length xs ≤ 32 → line_of (local1_line xs) ≡ Local1 xs
-unfolding line_of worded front behind behind_word
+unfolding line_of worded prefix_while suffix_while without_prefix
 local1-says xs all some few = rw (hex_back xs all, in_bounds xs 32 some few) refl
 
 pub section2-says : (xs : List ℕ) → AllByRecursion IsOctet xs → 0 < length xs → length xs ≤ 32 → line_of (section2_line xs) ≡ Section2 xs
-unfolding line_of worded front behind behind_word
+unfolding line_of worded prefix_while suffix_while without_prefix
 section2-says xs all some few = rw (hex_back xs all, in_bounds xs 32 some few) refl
 
 -- the text behind the word of a line of descriptors is empty or begins with a space
-pub descriptors-says : (ws : List ℕ) → AllByRecursion IsWord ws → 0 < length ws → length ws ≤ 8 → line_of (descriptors_line ws) ≡ Descriptors ws
-unfolding line_of worded front behind behind_word descriptors_text
+pub descriptors-says : (ws : List ℕ) → AllByRecursion IsDescriptorWord ws → 0 < length ws → length ws ≤ 8 → line_of (descriptors_line ws) ≡ Descriptors ws
+unfolding line_of worded prefix_while suffix_while without_prefix descriptors_text
 descriptors-says [] all some few = absurd (omega arith)
 descriptors-says (w ∷ ws) all some few = rw (descriptors_back (w ∷ ws) all, in_bounds (w ∷ ws) 8 some few) refl
 
 pub subset-says : (n : ℕ) → n < 65536 → line_of (subset_line n) ≡ Begins n
-unfolding line_of worded front behind behind_word
+unfolding line_of worded prefix_while suffix_while without_prefix
 subset-says n h = rw (number_back n h) refl
 
 pub message-says : line_of (codes "message") ≡ Opens
-unfolding line_of worded front behind
+unfolding line_of worded prefix_while suffix_while
 message-says = refl
 
 pub end-says : line_of (codes "end") ≡ Closes
-unfolding line_of worded front behind
+unfolding line_of worded prefix_while suffix_while
 end-says = refl
 
 -- header lines
 pub key-says : (k : ℕ) (rest : List ℕ) → k < 20 → line_of ((key_in keys k).name ++ 32 ∷ rest) ≡ made (Header k) (number_read rest)
-unfolding line_of worded front behind behind_word place_from keys
+unfolding line_of worded prefix_while suffix_while without_prefix place_from keys
 key-says zero rest h = refl
 key-says (suc zero) rest h = refl
 key-says (suc (suc zero)) rest h = refl
@@ -71,18 +71,18 @@ key-says (suc (suc (suc (suc (suc (suc (suc (suc (suc (suc (suc (suc (suc (suc (
 pub header-says : (k v : ℕ) → k < 20 → v < 65536 → line_of (header_line k v) ≡ Header k v
 header-says k v h n = key-says k (decimal v) h ∙ ap (made (Header k)) (number_back v n)
 
-behind_is : (word text rest : List ℕ) → behind_word word text ≡ Some rest → text ≡ word ++ rest
-unfolding behind_word
+behind_is : (word text rest : List ℕ) → without_prefix word text ≡ Some rest → text ≡ word ++ rest
+unfolding without_prefix
 behind_is [] text rest h = cc
 behind_is (w ∷ word) [] rest h = absurd cc h
 behind_is (w ∷ word) (c ∷ text) rest h = by (c == w) refl h (behind_is word text rest)
   where
-    by : (b : Bool) → (c == w) ≡ b → (if b then behind_word word text else None) ≡ Some rest → (behind_word word text ≡ Some rest → text ≡ word ++ rest) → c ∷ text ≡ w ∷ (word ++ rest)
+    by : (b : Bool) → (c == w) ≡ b → (if b then without_prefix word text else None) ≡ Some rest → (without_prefix word text ≡ Some rest → text ≡ word ++ rest) → c ∷ text ≡ w ∷ (word ++ rest)
     by true is h more = let same : c ≡ w = grind (arith, nat_tests, is) in let there : text ≡ word ++ rest = more h in cc
     by false is h more = absurd cc h
 
 -- what stands behind a key and a space is its value
-pub value_there : (k : ℕ) (word line rest : List ℕ) (r : Option ℕ) → k < 20 → word ≡ (key_in keys k).name ++ 32 ∷ [] → Some rest ≡ behind_word word line → r ≡ number_read rest
+pub value_there : (k : ℕ) (word line rest : List ℕ) (r : Option ℕ) → k < 20 → word ≡ (key_in keys k).name ++ 32 ∷ [] → Some rest ≡ without_prefix word line → r ≡ number_read rest
     → IfSome r (λ v. line_of line ≡ Header k v)
 value_there k word line rest None few is there read = tt
 value_there k word line rest (Some v) few is there read =
@@ -104,7 +104,7 @@ unfolding value_read
 value-text octets rest all = rw (quoted_back octets rest all) refl
 
 pub value-missing : (rest : List ℕ) → value_read (codes "MISSING" ++ rest) ≡ Some (missing_form, rest)
-unfolding value_read behind_word
+unfolding value_read without_prefix
 value-missing rest = refl
 
 first-digit : (w : ℕ) → w < 65536 → is_ascii_digit (48 + f_of w) ≡ true
@@ -113,8 +113,8 @@ first-digit w h = grind (arith, nat_tests)
 no-hash : (w : ℕ) → w < 65536 → (48 + f_of w == 35) ≡ false
 no-hash w h = grind (arith, nat_tests)
 
-pub item-of : (fxy : ℕ) (text rest : List ℕ) (form : Form) → fxy < 65536 → value_read text ≡ Some (form, rest) → is_passed_behind rest ≡ true → line_of (fxy_text fxy ++ 32 ∷ text) ≡ Item fxy form
-unfolding line_of behind_word
+pub item-of : (fxy : ℕ) (text rest : List ℕ) (form : DraftValue) → fxy < 65536 → value_read text ≡ Some (form, rest) → is_passed_behind rest ≡ true → line_of (fxy_text fxy ++ 32 ∷ text) ≡ Item fxy form
+unfolding line_of without_prefix
 item-of fxy text rest form h read passed = rw (no-hash fxy h, first-digit fxy h, fxy_read_back fxy (32 ∷ text) h, read, passed) refl
 
 pub comment-passed : (comment : Option Comment) → is_passed_behind (comment_text comment) ≡ true
@@ -132,6 +132,6 @@ reference-value (c ∷ more) rest most token s =
     let one : is_number_octet c ≡ true = and_first (is_number_octet c) (list_all is_number_octet more) token.octets in
     rw (one, front-of is_number_octet (c ∷ more) rest token.octets s, behind-of is_number_octet (c ∷ more) rest token.octets s) refl
 
-pub reference-of : (fxy : ℕ) (text rest : List ℕ) (form : Form) → fxy < 65536 → number_value reference_token text ≡ Some (form, rest) → is_passed_behind rest ≡ true → line_of (codes "R " ++ fxy_text fxy ++ 32 ∷ text) ≡ Item fxy form
-unfolding line_of worded front behind behind_word
+pub reference-of : (fxy : ℕ) (text rest : List ℕ) (form : DraftValue) → fxy < 65536 → number_value reference_token text ≡ Some (form, rest) → is_passed_behind rest ≡ true → line_of (codes "R " ++ fxy_text fxy ++ 32 ∷ text) ≡ Item fxy form
+unfolding line_of worded prefix_while suffix_while without_prefix
 reference-of fxy text rest form h read passed = rw (fxy_read_back fxy (32 ∷ text) h, read, passed) refl

@@ -3,7 +3,7 @@ use Rattle.std.proofs.Common.{◌≡◌, ℕ, List, Option, Some, None, Result, 
 use Rattle.bufr_text.specs.declared.encode_fault.DocumentFault.{DocumentFault}
 use Rattle.bufr_text.specs.declared.encode_fault.DocumentFault.TheVariants as fault
 use Rattle.bufr_text.specs.Encoding.{RefusedAt}
-use Rattle.bufr_text.specs.EncodingFault.{RefusesSo, told_refusal}
+use Rattle.bufr_text.specs.EncodingFault.{IsDocumentRefusal, told_refusal}
 
 -- a fault that tells no refusal is want of memory
 is_memory : (why : DocumentFault) → told_refusal why ≡ None → why ≡ fault.Memory
@@ -20,9 +20,9 @@ is_memory (fault.Walk line why) h = absurd cc h
 is_memory fault.Memory h = refl
 
 -- what is encoded is refused for nothing else
-pub memory_alone : (why : DocumentFault) (defined : Result (List ℕ) RefusedAt) (octets : List ℕ) → defined ≡ Ok octets → RefusesSo (told_refusal why) defined → why ≡ fault.Memory
+pub memory_alone : (why : DocumentFault) (defined : Result (List ℕ) RefusedAt) (octets : List ℕ) → defined ≡ Ok octets → IsDocumentRefusal (told_refusal why) defined → why ≡ fault.Memory
 memory_alone why defined octets is h = is_memory why (none (told_refusal why) h)
   where
-    none : (o : Option RefusedAt) → RefusesSo o defined → o ≡ None
+    none : (o : Option RefusedAt) → IsDocumentRefusal o defined → o ≡ None
     none None h = refl
     none (Some f) h = absurd cc

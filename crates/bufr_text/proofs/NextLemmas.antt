@@ -6,15 +6,15 @@ use Rattle.std.proofs.KnownBytes.{Consumes-trans}
 use Rattle.std.proofs.lemmas.Bool.{true≢false}
 use Rattle.bufr_bits.specs.Counts.{counted}
 use Rattle.bufr_bits.proofs.CountLemmas.{counted-counted, counted-none}
-use Rattle.bufr_frame.specs.Runs.{most_reads}
+use Rattle.bufr_frame.specs.Runs.{max_reads}
 use Rattle.bufr_frame.specs.declared.fault.RunFault.TheVariants.{Read, Write, InputTooLong, Memory}
 use Rattle.bufr_text.specs.Document.{Document}
-use Rattle.bufr_text.specs.Documents.{Place, Told, Spelled, Refused, NotAllowed, spelled, spelled_openly, lines_of, split_of, documents_of, open_documents_of}
-use Rattle.bufr_text.specs.Dump.{text_of}
+use Rattle.bufr_text.specs.Documents.{ParserState, ParseResult, Complete, Refused, NotAllowed, parse_lines, parse_open_lines, lines_of, split_of, documents_of, open_documents_of}
+use Rattle.bufr_text.specs.Dump.{text_of_lines}
 use Rattle.bufr_text.specs.Proper.{IsProper}
-use Rattle.bufr_text.specs.Reading.{has_no_feed, GoesOn, Passes, spells, spells_openly}
-use Rattle.bufr_text.specs.Reader.{State, fresh, stand, IsMissingFeed, IsDone, KeepsSo, CallSo, WaitsSo, NextSo, IsOpen, CountsReads}
-use Rattle.bufr_text.specs.Filling.{Tells, WentSo, EndSo, FillSo, stopped}
+use Rattle.bufr_text.specs.Reading.{has_no_feed, ContinuesParse, TakesWholeLines, parse, parse_open}
+use Rattle.bufr_text.specs.Reader.{ReaderModel, new_reader, stand, IsMissingFeed, HasNoMoreLines, KeepsUnread, ReadsLines, ReadsOnlyIfNoLine, ReturnsNextDocument, HasNoWholeLine, CountsTextReads}
+use Rattle.bufr_text.specs.Filling.{ParsesHeldLines, TakesHeldLines, HandlesEnd, FillsBuffer, stopped}
 use Rattle.bufr_text.specs.declared.fault.ReadFault.{ReadFault}
 use Rattle.bufr_text.specs.declared.fault.ReadFault.TheVariants.{Line, SubsetCount, HeaderRange, Run}
 use Rattle.bufr_text.proofs.ReadingLemmas.{nothing-yet}
@@ -24,10 +24,10 @@ use Rattle.bufr_text.proofs.UnfedLemmas.{call-keeps, keeps-same}
 use Rattle.bufr_text.proofs.CallLemmas.{call-then, closes-then, takes-call, read-call}
 
 -- the reads of a turn
-pub counts-none : (a : ℕ) (s : State) → s.reads ≤ most_reads → CountsReads a a s s
+pub counts-none : (a : ℕ) (s : ReaderModel) → s.reads ≤ max_reads → CountsTextReads a a s s
 counts-none a s most = record { made = (let e : s.reads - s.reads ≡ 0 = omega arith in rw e (sym (counted-none a))); order = omega arith; most = most }
 
-pub counts-then : (a b c : ℕ) (old s s' : State) → CountsReads a b old s → CountsReads b c s s' → CountsReads a c old s'
+pub counts-then : (a b c : ℕ) (old s s' : ReaderModel) → CountsTextReads a b old s → CountsTextReads b c s s' → CountsTextReads a c old s'
 counts-then a b c old s s' one two = record {
   made = two.made ∙ ap (λ n. counted n (s'.reads - s.reads)) one.made ∙ counted-counted a (s.reads - old.reads) (s'.reads - s.reads)
       ∙ (let e : s.reads - old.reads + (s'.reads - s.reads) ≡ s'.reads - old.reads = omega (arith, one.order, two.order) in ap (counted a) e);
@@ -35,43 +35,43 @@ counts-then a b c old s s' one two = record {
   most = two.most;
 }
 
-pub counts-same : (a b : ℕ) (old s s' : State) → CountsReads a b old s → s'.reads ≡ s.reads → CountsReads a b old s'
+pub counts-same : (a b : ℕ) (old s s' : ReaderModel) → CountsTextReads a b old s → s'.reads ≡ s.reads → CountsTextReads a b old s'
 counts-same a b old s s' before same = record { made = before.made ∙ ap (λ n. counted a (n - old.reads)) (sym same); order = omega (arith, before.order, same); most = omega (arith, before.most, same) }
 
-pub waits-same : (left : Option (List ℕ)) (old s s' : State) (bs bs' : List ℕ) → ((s.reads ≡ old.reads) ⊎ WaitsSo left old s.reads bs) → s'.reads ≡ s.reads → bs ≡ bs' → (s'.reads ≡ old.reads) ⊎ WaitsSo left old s'.reads bs'
+pub waits-same : (left : Option (List ℕ)) (old s s' : ReaderModel) (bs bs' : List ℕ) → ((s.reads ≡ old.reads) ⊎ ReadsOnlyIfNoLine left old s.reads bs) → s'.reads ≡ s.reads → bs ≡ bs' → (s'.reads ≡ old.reads) ⊎ ReadsOnlyIfNoLine left old s'.reads bs'
 waits-same left old s s' bs bs' (inl e) same is = inl (same ∙ e)
-waits-same left old s s' bs bs' (inr w) same is = inr (let W : List ℕ → Type 0 = λ l. WaitsSo left old s'.reads l in let R : ℕ → Type 0 = λ n. WaitsSo left old n bs in subst W is (subst R (sym same) w))
+waits-same left old s s' bs bs' (inr w) same is = inr (let W : List ℕ → Type 0 = λ l. ReadsOnlyIfNoLine left old s'.reads l in let R : ℕ → Type 0 = λ n. ReadsOnlyIfNoLine left old n bs in subst W is (subst R (sym same) w))
 
-pub call-takes : (left mid : Option (List ℕ)) (old s s' : State) (bs : List ℕ) (told : List Told) → CallSo left mid old s [] bs → Tells s s' told → s'.ended ≡ s.ended → s'.reads ≡ s.reads → CallSo left mid old s' told bs
+pub call-takes : (left mid : Option (List ℕ)) (old s s' : ReaderModel) (bs : List ℕ) (told : List ParseResult) → ReadsLines left mid old s [] bs → ParsesHeldLines s s' told → s'.ended ≡ s.ended → s'.reads ≡ s.reads → ReadsLines left mid old s' told bs
 call-takes left mid old s s' bs told call tells ended reads =
-    let C : List ℕ → Type 0 = λ l. CallSo left mid old s' told l in
+    let C : List ℕ → Type 0 = λ l. ReadsLines left mid old s' told l in
     subst C (append-nil bs) (call-then left mid mid old s s' [] told bs [] call (takes-call mid s s' told tells ended reads))
 
 -- where the end was reached before, what is held was held before
-held-before : (left mid : Option (List ℕ)) (old s : State) (bs : List ℕ) (told : List Told) → CallSo left mid old s told bs → old.ended ≡ true → 0 < length s.held → 0 < length old.held
+held-before : (left mid : Option (List ℕ)) (old s : ReaderModel) (bs : List ℕ) (told : List ParseResult) → ReadsLines left mid old s told bs → old.ended ≡ true → 0 < length s.held → 0 < length old.held
 held-before left mid old s bs told call e some = by-feed call.lines.1
   where
     by-feed : IsMissingFeed old.ended s.ended call.lines.0 → 0 < length old.held
     by-feed (inl none) =
-        omega (arith, some, ap length call.lines.2.octets, length-append (text_of call.lines.2.lines) s.held, length-append (old.held ++ bs) call.lines.0, length-append old.held bs, ap length none, ap length (call.kept e).1)
+        omega (arith, some, ap length call.lines.2.octets, length-append (text_of_lines call.lines.2.lines) s.held, length-append (old.held ++ bs) call.lines.0, length-append old.held bs, ap length none, ap length (call.kept e).1)
     by-feed (inr (open', ended, feed)) = absurd (true≢false (sym e ∙ open'))
 
-module _ (left mid : Option (List ℕ)) (old s s' : State) (bs : List ℕ) (call : CallSo left mid old s [] bs) (waits : (s.reads ≡ old.reads) ⊎ WaitsSo left old s.reads bs) (ended : s'.ended ≡ s.ended) (reads : s'.reads ≡ s.reads) where
+module _ (left mid : Option (List ℕ)) (old s s' : ReaderModel) (bs : List ℕ) (call : ReadsLines left mid old s [] bs) (waits : (s.reads ≡ old.reads) ⊎ ReadsOnlyIfNoLine left old s.reads bs) (ended : s'.ended ≡ s.ended) (reads : s'.reads ≡ s.reads) where
   -- a document
-  pub went-document : (d : Document) → WentSo s s' (Ok (Some d)) → NextSo left mid old s' (Ok (Some d))
+  pub went-document : (d : Document) → TakesHeldLines s s' (Ok (Some d)) → ReturnsNextDocument left mid old s' (Ok (Some d))
   went-document d went = record {
     octets = bs;
-    keeps = call-keeps left mid old s' (Spelled d ∷ []) bs (call-takes left mid old s s' bs (Spelled d ∷ []) call went.0 ended reads);
-    reads = (call-takes left mid old s s' bs (Spelled d ∷ []) call went.0 ended reads, closes-then left mid old s s' [] bs call went.2 ended);
+    keeps = call-keeps left mid old s' (Complete d ∷ []) bs (call-takes left mid old s s' bs (Complete d ∷ []) call went.0 ended reads);
+    reads = (call-takes left mid old s s' bs (Complete d ∷ []) call went.0 ended reads, closes-then left mid old s s' [] bs call went.2 ended);
     waits = waits-same left old s s' bs bs waits reads refl;
     ends = went.1;
   }
 
-  went-keeps : (told : List Told) → Tells s s' told → KeepsSo old s' bs
+  went-keeps : (told : List ParseResult) → ParsesHeldLines s s' told → KeepsUnread old s' bs
   went-keeps told tells = call-keeps left mid old s' told bs (call-takes left mid old s s' bs told call tells ended reads)
 
   -- a line that is refused, or want of memory
-  pub went-fault : (f : ReadFault) → WentSo s s' (Err f) → NextSo left mid old s' (Err f)
+  pub went-fault : (f : ReadFault) → TakesHeldLines s s' (Err f) → ReturnsNextDocument left mid old s' (Err f)
   went-fault (Line line) went = record { octets = bs; reads = call-takes left mid old s s' bs _ call went.0 ended reads; keeps = went-keeps _ went.0; waits = waits-same left old s s' bs bs waits reads refl; ends = went.1 }
   went-fault (SubsetCount line) went = record { octets = bs; reads = call-takes left mid old s s' bs _ call went.0 ended reads; keeps = went-keeps _ went.0; waits = waits-same left old s s' bs bs waits reads refl; ends = went.1 }
   went-fault (HeaderRange line) went = record { octets = bs; reads = call-takes left mid old s s' bs _ call went.0 ended reads; keeps = went-keeps _ went.0; waits = waits-same left old s s' bs bs waits reads refl; ends = went.1 }
@@ -81,10 +81,10 @@ module _ (left mid : Option (List ℕ)) (old s s' : State) (bs : List ℕ) (call
   went-fault (Run Memory) went = record { octets = bs; keeps = keeps-same old s s' bs (call-keeps left mid old s [] bs call) went.2 ended; reads = (call.read, omega (arith, call.few, reads), λ e. held-before left mid old s bs [] call e (some-held s.held went.1), inr (record { mid = went.3.mid; taken = call-takes left mid old s went.3.mid bs [] call went.3.taken went.3.ended went.3.reads; next = went.3.next })); waits = waits-same left old s s' bs bs waits reads refl; ends = (went.0, inl (ap has_no_feed went.2 ∙ went.1)) }
 
 -- the end
-module _ (left mid : Option (List ℕ)) (old s s' : State) (bs : List ℕ) (call : CallSo left mid old s [] bs) (waits : (s.reads ≡ old.reads) ⊎ WaitsSo left old s.reads bs) (sound : s.fault ≡ None) (ended : s.ended ≡ true) where
-  pub end-next : (result : Result (Option Document) ReadFault) → EndSo s s' result → NextSo left mid old s' result
+module _ (left mid : Option (List ℕ)) (old s s' : ReaderModel) (bs : List ℕ) (call : ReadsLines left mid old s [] bs) (waits : (s.reads ≡ old.reads) ⊎ ReadsOnlyIfNoLine left old s.reads bs) (sound : s.fault ≡ None) (ended : s.ended ≡ true) where
+  pub end-next : (result : Result (Option Document) ReadFault) → HandlesEnd s s' result → ReturnsNextDocument left mid old s' result
   end-next (Ok None) so =
-      let C : State → Type 0 = λ x. CallSo left mid old x [] bs in record {
+      let C : ReaderModel → Type 0 = λ x. ReadsLines left mid old x [] bs in record {
         octets = bs;
         reads = subst C (sym so.0) call;
         keeps = keeps-same old s s' bs (call-keeps left mid old s [] bs call) (ap (λ x. x.held) so.0) (ap (λ x. x.ended) so.0);
@@ -98,31 +98,31 @@ module _ (left mid : Option (List ℕ)) (old s s' : State) (bs : List ℕ) (call
   end-next (Err (Run f)) so = absurd so
 
 -- the end tells no document
-pub end-proper : (s s' : State) (result : Result (Option Document) ReadFault) → EndSo s s' result → IfOk result (λ found. IfSome found (λ document. IsProper document))
+pub end-proper : (s s' : ReaderModel) (result : Result (Option Document) ReadFault) → HandlesEnd s s' result → IfOk result (λ found. IfSome found (λ document. IsProper document))
 end-proper s s' (Ok None) so = tt
 end-proper s s' (Ok (Some d)) so = absurd so
 end-proper s s' (Err f) so = tt
 
 -- nothing is told, and nothing but the fault and the reads is new
-quiet-tells : (s s' : State) → s'.at ≡ s.at → s'.place ≡ s.place → s'.held ≡ s.held → s'.ended ≡ s.ended → Tells s s' []
+quiet-tells : (s s' : ReaderModel) → s'.at ≡ s.at → s'.place ≡ s.place → s'.held ≡ s.held → s'.ended ≡ s.ended → ParsesHeldLines s s' []
 quiet-tells s s' at place held ended =
-    let A : ℕ → Type 0 = λ k. Passes s.at s.held k s'.held in
-    let H : List ℕ → Type 0 = λ h. Passes s.at s.held s.at h in record {
+    let A : ℕ → Type 0 = λ k. TakesWholeLines s.at s.held k s'.held in
+    let H : List ℕ → Type 0 = λ h. TakesWholeLines s.at s.held s.at h in record {
       goes = record {
-        whole = λ t none. ap (λ (k : ℕ). spelled k s.place (lines_of (s.held ++ t))) (sym at) ∙ ap (λ (p : Place). spelled s'.at p (lines_of (s.held ++ t))) (sym place) ∙ ap (λ (h : List ℕ). spelled s'.at s'.place (lines_of (h ++ t))) (sym held);
+        whole = λ t none. ap (λ (k : ℕ). parse_lines k s.place (lines_of (s.held ++ t))) (sym at) ∙ ap (λ (p : ParserState). parse_lines s'.at p (lines_of (s.held ++ t))) (sym place) ∙ ap (λ (h : List ℕ). parse_lines s'.at s'.place (lines_of (h ++ t))) (sym held);
         openly = λ unended t.
-            ap (λ (k : ℕ). spelled_openly k s.place (split_of (s.held ++ t)).whole (split_of (s.held ++ t)).rest) (sym at)
-            ∙ ap (λ (p : Place). spelled_openly s'.at p (split_of (s.held ++ t)).whole (split_of (s.held ++ t)).rest) (sym place)
-            ∙ ap (λ (h : List ℕ). spelled_openly s'.at s'.place (split_of (h ++ t)).whole (split_of (h ++ t)).rest) (sym held);
+            ap (λ (k : ℕ). parse_open_lines k s.place (split_of (s.held ++ t)).whole (split_of (s.held ++ t)).rest) (sym at)
+            ∙ ap (λ (p : ParserState). parse_open_lines s'.at p (split_of (s.held ++ t)).whole (split_of (s.held ++ t)).rest) (sym place)
+            ∙ ap (λ (h : List ℕ). parse_open_lines s'.at s'.place (split_of (h ++ t)).whole (split_of (h ++ t)).rest) (sym held);
       };
       passes = subst A (sym at) (subst H (sym held) (passes-none s.at s.held));
     }
 
 -- no octets come, and the end is not reached
-open-call : (left left' : Option (List ℕ)) (s s' : State) (told : List Told) (bs : List ℕ) → bs ≡ [] → Consumes left left' bs → Tells s s' told → s.ended ≡ false → s'.ended ≡ false → s.reads ≤ s'.reads → CallSo left left' s s' told bs
+open-call : (left left' : Option (List ℕ)) (s s' : ReaderModel) (told : List ParseResult) (bs : List ℕ) → bs ≡ [] → Consumes left left' bs → ParsesHeldLines s s' told → s.ended ≡ false → s'.ended ≡ false → s.reads ≤ s'.reads → ReadsLines left left' s s' told bs
 open-call left left' s s' told bs none read tells before after order =
-    let G : List ℕ → Type 0 = λ h. GoesOn (record { at = s.at; place = s.place; held = h; ended = s.ended }) (stand s') told in
-    let P : List ℕ → Type 0 = λ h. Passes s.at h s'.at s'.held in
+    let G : List ℕ → Type 0 = λ h. ContinuesParse (record { at = s.at; place = s.place; held = h; ended = s.ended }) (stand s') told in
+    let P : List ℕ → Type 0 = λ h. TakesWholeLines s.at h s'.at s'.held in
     let same : s.held ++ bs ≡ s.held = ap (λ (l : List ℕ). s.held ++ l) none ∙ append-nil s.held in record {
       read = read;
       order = order;
@@ -135,8 +135,8 @@ open-call left left' s s' told bs none read tells before after order =
     }
 
 -- a read, behind what was read so far in a call
-module _ (left mid left' : Option (List ℕ)) (old s s' : State) (bs bs' : List ℕ) (call : CallSo left mid old s [] bs) (waits : (s.reads ≡ old.reads) ⊎ WaitsSo left old s.reads bs) (open' : s.ended ≡ false) (clean : has_no_feed s.held ≡ true) where
-  waited : (reads : ℕ) → reads ≡ s.reads + 1 → length s.held ≤ 4096 → length bs' ≤ 4096 → WaitsSo left old reads (bs ++ bs')
+module _ (left mid left' : Option (List ℕ)) (old s s' : ReaderModel) (bs bs' : List ℕ) (call : ReadsLines left mid old s [] bs) (waits : (s.reads ≡ old.reads) ⊎ ReadsOnlyIfNoLine left old s.reads bs) (open' : s.ended ≡ false) (clean : has_no_feed s.held ≡ true) where
+  waited : (reads : ℕ) → reads ≡ s.reads + 1 → length s.held ≤ 4096 → length bs' ≤ 4096 → ReadsOnlyIfNoLine left old reads (bs ++ bs')
   waited reads made short few = record {
     before = bs;
     last = bs';
@@ -152,32 +152,32 @@ module _ (left mid left' : Option (List ℕ)) (old s s' : State) (bs bs' : List 
     made = made;
   }
 
-  pub fill-call : FillSo mid left' s s' (Ok tt) bs' → CallSo left left' old s' [] (bs ++ bs')
+  pub fill-call : FillsBuffer mid left' s s' (Ok tt) bs' → ReadsLines left left' old s' [] (bs ++ bs')
   fill-call so = call-then left mid left' old s s' [] [] bs bs' call (read-call mid left' s s' bs' so.0 open' clean)
 
-  pub fill-waits : FillSo mid left' s s' (Ok tt) bs' → (s'.reads ≡ old.reads) ⊎ WaitsSo left old s'.reads (bs ++ bs')
+  pub fill-waits : FillsBuffer mid left' s s' (Ok tt) bs' → (s'.reads ≡ old.reads) ⊎ ReadsOnlyIfNoLine left old s'.reads (bs ++ bs')
   fill-waits so = inr (waited s'.reads so.0.ends.0 so.1 so.0.few)
 
-  no-feed : (x : State) (feed : List ℕ) → x.ended ≡ false → ((feed ≡ []) ⊎ ((x.ended ≡ true) × (feed ≡ 10 ∷ []) × (0 < length s.held))) → feed ≡ []
+  no-feed : (x : ReaderModel) (feed : List ℕ) → x.ended ≡ false → ((feed ≡ []) ⊎ ((x.ended ≡ true) × (feed ≡ 10 ∷ []) × (0 < length s.held))) → feed ≡ []
   no-feed x feed unended (inl e) = e
   no-feed x feed unended (inr (ended, e, some)) = absurd (true≢false (sym ended ∙ unended))
 
-  same-held : (x : State) (feed : List ℕ) → bs' ≡ [] → feed ≡ [] → x.held ≡ (s.held ++ bs') ++ feed → x.held ≡ s.held
+  same-held : (x : ReaderModel) (feed : List ℕ) → bs' ≡ [] → feed ≡ [] → x.held ≡ (s.held ++ bs') ++ feed → x.held ≡ s.held
   same-held x feed none nofeed is = is ∙ ap (λ (l : List ℕ). (s.held ++ bs') ++ l) nofeed ∙ append-nil (s.held ++ bs') ∙ ap (λ (l : List ℕ). s.held ++ l) none ∙ append-nil s.held
 
   nothing : bs' ≡ [] → bs ≡ bs ++ bs'
   nothing none = sym (ap (λ (l : List ℕ). bs ++ l) none ∙ append-nil bs)
 
-  still-open : (x : State) → x.ended ≡ false → x.held ≡ s.held → length s.held ≤ 4096 → IsOpen x
+  still-open : (x : ReaderModel) → x.ended ≡ false → x.held ≡ s.held → length s.held ≤ 4096 → HasNoWholeLine x
   still-open x ended held short =
       let clean' = ap has_no_feed held ∙ clean in
       (ended, nothing-yet x.at x.place x.held x.ended clean' (omega (arith, ap length held, short)), clean')
 
-  quiet-call : (x : State) → bs' ≡ [] → Consumes mid left' bs' → x.at ≡ s.at → x.place ≡ s.place → x.held ≡ s.held → x.ended ≡ false → s.reads ≤ x.reads → CallSo left left' old x [] (bs ++ bs')
+  quiet-call : (x : ReaderModel) → bs' ≡ [] → Consumes mid left' bs' → x.at ≡ s.at → x.place ≡ s.place → x.held ≡ s.held → x.ended ≡ false → s.reads ≤ x.reads → ReadsLines left left' old x [] (bs ++ bs')
   quiet-call x none read at place held ended order =
       call-then left mid left' old s x [] [] bs bs' call (open-call mid left' s x [] bs' none read (quiet-tells s x at place held (ended ∙ sym open')) open' ended order)
 
-  pub fill-fault : (f : ReadFault) → FillSo mid left' s s' (Err f) bs' → NextSo left left' old s' (Err f)
+  pub fill-fault : (f : ReadFault) → FillsBuffer mid left' s s' (Err f) bs' → ReturnsNextDocument left left' old s' (Err f)
   fill-fault (Line line) so =
       let unended : s'.ended ≡ false = so.4 ∙ open' in
       let whole = call-then left mid left' old s s' [] (Refused line NotAllowed ∷ []) bs bs' call (open-call mid left' s s' (Refused line NotAllowed ∷ []) bs' so.1 so.0 so.2 open' unended (omega (arith, so.5))) in record {
@@ -190,7 +190,7 @@ module _ (left mid left' : Option (List ℕ)) (old s s' : State) (bs bs' : List 
   fill-fault (SubsetCount line) so = absurd so
   fill-fault (HeaderRange line) so = absurd so
   fill-fault (Run Read) (x, read, is, short) =
-      let N : State → Type 0 = λ n. NextSo left left' old n (Err (Run Read)) in
+      let N : ReaderModel → Type 0 = λ n. ReturnsNextDocument left left' old n (Err (Run Read)) in
       let held = same-held x read.feed read.ends.1 (no-feed x read.feed read.ends.2 read.missing) read.held in
       let whole = quiet-call (stopped x (Run Read)) read.ends.1 read.read read.at read.place held read.ends.2 (omega (arith, read.ends.0)) in
       subst N (sym is) (record {
@@ -202,7 +202,7 @@ module _ (left mid left' : Option (List ℕ)) (old s s' : State) (bs bs' : List 
       })
   fill-fault (Run Write) so = absurd so
   fill-fault (Run InputTooLong) (read, none, is, short, most) =
-      let N : State → Type 0 = λ n. NextSo left left' old n (Err (Run InputTooLong)) in
+      let N : ReaderModel → Type 0 = λ n. ReturnsNextDocument left left' old n (Err (Run InputTooLong)) in
       subst N (sym is) (record {
         octets = bs ++ bs';
         reads = quiet-call (stopped s (Run InputTooLong)) none read refl refl refl open' (omega arith);
@@ -211,7 +211,7 @@ module _ (left mid left' : Option (List ℕ)) (old s s' : State) (bs bs' : List 
         ends = (refl, still-open (stopped s (Run InputTooLong)) open' refl short, most);
       })
   fill-fault (Run Memory) (x, read, is, short) =
-      let N : State → Type 0 = λ n. NextSo left left' old n (Err (Run Memory)) in
+      let N : ReaderModel → Type 0 = λ n. ReturnsNextDocument left left' old n (Err (Run Memory)) in
       subst N (sym is) (record {
         octets = bs ++ bs';
         reads = (Consumes-trans left mid left' bs bs' call.read read.read, omega (arith, call.few, ap length read.ends.1, length-append bs bs', read.ends.0), λ e. absurd (true≢false (sym (call.kept e).0 ∙ open')), inl read.ends.3);
@@ -226,21 +226,21 @@ none-unless None not = refl
 none-unless (Some a) not = absurd (not a refl)
 
 -- after the end was told it is told again
-none-told : (left : Option (List ℕ)) (old new : State) (told : List Told) (bs : List ℕ) (left' : Option (List ℕ)) → CallSo left left' old new told bs → IsDone old → told ≡ []
+none-told : (left : Option (List ℕ)) (old new : ReaderModel) (told : List ParseResult) (bs : List ℕ) (left' : Option (List ℕ)) → ReadsLines left left' old new told bs → HasNoMoreLines old → told ≡ []
 none-told left old new told bs left' call (ended, held, none) =
     let kept = call.kept ended in
-    let H : List ℕ → Type 0 = λ h. spelled old.at old.place (lines_of (h ++ [])) ≡ told ++ spells (stand new) [] in
+    let H : List ℕ → Type 0 = λ h. parse_lines old.at old.place (lines_of (h ++ [])) ≡ told ++ parse (stand new) [] in
     let before : old.held ++ bs ≡ old.held = ap (λ (l : List ℕ). old.held ++ l) kept.1 ∙ append-nil old.held in
-    front-none told (spells (stand new) []) (sym (subst H before (call.goes.whole [] (λ e. refl))) ∙ none)
+    front-none told (parse (stand new) []) (sym (subst H before (call.goes.whole [] (λ e. refl))) ∙ none)
   where
-    front-none : (xs ys : List Told) → xs ++ ys ≡ [] → xs ≡ []
+    front-none : (xs ys : List ParseResult) → xs ++ ys ≡ [] → xs ≡ []
     front-none [] ys e = refl
     front-none (x ∷ xs) ys e = absurd (omega (arith, ap length e))
 
-some-none : (x : Told) → x ∷ [] ≡ [] → ⊥
+some-none : (x : ParseResult) → x ∷ [] ≡ [] → ⊥
 some-none x e = omega (arith, ap length e)
 
-pub done-again : (left left' : Option (List ℕ)) (old new : State) (result : Result (Option Document) ReadFault) → NextSo left left' old new result → IsDone old → (result ≡ Ok None) × (new.reads ≡ old.reads)
+pub done-again : (left left' : Option (List ℕ)) (old new : ReaderModel) (result : Result (Option Document) ReadFault) → ReturnsNextDocument left left' old new result → HasNoMoreLines old → (result ≡ Ok None) × (new.reads ≡ old.reads)
 done-again left left' old new (Ok None) next done = (refl, (next.reads.kept done.0).2)
 done-again left left' old new (Ok (Some d)) next done = absurd (some-none _ (none-told left old new _ next.octets left' next.reads.0 done))
 done-again left left' old new (Err (Line line)) next done = absurd (some-none _ (none-told left old new _ next.octets left' next.reads done))
@@ -252,14 +252,14 @@ done-again left left' old new (Err (Run InputTooLong)) next done = absurd (true�
 done-again left left' old new (Err (Run Memory)) next done = absurd (omega (arith, next.reads.2 done.0, ap length done.1))
 
 -- the documents that calls told from the beginning
-pub told-first : (left left' : Option (List ℕ)) (s : State) (told : List Told) (bs t : List ℕ) → CallSo left left' fresh s told bs → (s.ended ≡ true → t ≡ []) → documents_of (bs ++ t) ≡ told ++ spells (stand s) t
+pub told-first : (left left' : Option (List ℕ)) (s : ReaderModel) (told : List ParseResult) (bs t : List ℕ) → ReadsLines left left' new_reader s told bs → (s.ended ≡ true → t ≡ []) → documents_of (bs ++ t) ≡ told ++ parse (stand s) t
 told-first left left' s told bs t call none = call.goes.whole t none
 
-pub told-first-openly : (left left' : Option (List ℕ)) (s : State) (told : List Told) (bs t : List ℕ) → CallSo left left' fresh s told bs → s.ended ≡ false → open_documents_of (bs ++ t) ≡ told ++ spells_openly (stand s) t
+pub told-first-openly : (left left' : Option (List ℕ)) (s : ReaderModel) (told : List ParseResult) (bs t : List ℕ) → ReadsLines left left' new_reader s told bs → s.ended ≡ false → open_documents_of (bs ++ t) ≡ told ++ parse_open (stand s) t
 told-first-openly left left' s told bs t call unended = call.goes.openly unended t
 
-pub told-at-end : (left left' : Option (List ℕ)) (s : State) (told : List Told) (bs : List ℕ) → CallSo left left' fresh s told bs → IsDone s → documents_of bs ≡ told
-told-at-end left left' s told bs call done = ap documents_of (sym (append-nil bs)) ∙ call.goes.whole [] (λ e. refl) ∙ ap (λ (l : List Told). told ++ l) done.2 ∙ append-nil told
+pub told-at-end : (left left' : Option (List ℕ)) (s : ReaderModel) (told : List ParseResult) (bs : List ℕ) → ReadsLines left left' new_reader s told bs → HasNoMoreLines s → documents_of bs ≡ told
+told-at-end left left' s told bs call done = ap documents_of (sym (append-nil bs)) ∙ call.goes.whole [] (λ e. refl) ∙ ap (λ (l : List ParseResult). told ++ l) done.2 ∙ append-nil told
 
-pub told-at-fault : (left left' : Option (List ℕ)) (s : State) (told : List Told) (bs : List ℕ) → CallSo left left' fresh s told bs → IsOpen s → open_documents_of bs ≡ told
-told-at-fault left left' s told bs call open' = ap open_documents_of (sym (append-nil bs)) ∙ call.goes.openly open'.0 [] ∙ ap (λ (l : List Told). told ++ l) open'.1 ∙ append-nil told
+pub told-at-fault : (left left' : Option (List ℕ)) (s : ReaderModel) (told : List ParseResult) (bs : List ℕ) → ReadsLines left left' new_reader s told bs → HasNoWholeLine s → open_documents_of bs ≡ told
+told-at-fault left left' s told bs call open' = ap open_documents_of (sym (append-nil bs)) ∙ call.goes.openly open'.0 [] ∙ ap (λ (l : List ParseResult). told ++ l) open'.1 ∙ append-nil told

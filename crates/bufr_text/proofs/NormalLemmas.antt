@@ -12,8 +12,8 @@ use Rattle.bufr_tables.specs.TableD.{Sequence}
 use Rattle.bufr_tables.specs.TemplateTables.{tables_of}
 use Rattle.bufr_tables.proofs.SoundLemmas.{tree_fine}
 use Rattle.bufr_frame.specs.declared.head.Head.{Head}
-use Rattle.bufr_frame.specs.Layout.{Parts, parts_of, message_octets, message_size, most_octets}
-use Rattle.bufr_walk.specs.Asked.{Asked}
+use Rattle.bufr_frame.specs.Layout.{MessageParts, parts_of, message_octets, message_size, max_octets}
+use Rattle.bufr_walk.specs.FieldSpec.{FieldSpec}
 use Rattle.bufr_walk.specs.Calls.{view_of}
 use Rattle.bufr_walk.specs.Content.{Content}
 use Rattle.bufr_walk.specs.Course.{Course, next_item}
@@ -34,16 +34,16 @@ use Rattle.bufr_fill.proofs.SaidWritten.{plain_said_alike, packed_said_alike}
 use Rattle.bufr_text.specs.declared.form.Form.{Form}
 use Rattle.bufr_text.specs.declared.form.Form.TheVariants.{AsWritten, Plain, Compressed}
 use Rattle.bufr_text.specs.Document.{Document, optional_in}
-use Rattle.bufr_text.specs.Documents.{Spelled, documents_of}
-use Rattle.bufr_text.specs.Dump.{Item, bit, header_lines, local1_line, section2_line, descriptors_line, head_lines, form_text, comment_text, item_text, subset_line, subset_lines, text_of, dump_text_of, subset_entries, lines_before, document_of}
-use Rattle.bufr_text.specs.DumpItems.{item_of, items_apart, subsets_together}
-use Rattle.bufr_text.specs.RoundTrip.{items_in}
-use Rattle.bufr_text.specs.Encoding.{RefusedAt, too_long, refused_at, ◌>>=◌, told_of_template, told_of_items, data_bits, octets_of_bits, parts_as, parts_in, compressed_as, message_of, encoding_in, encoding_of}
+use Rattle.bufr_text.specs.Documents.{Complete, documents_of}
+use Rattle.bufr_text.specs.Dump.{DumpItem, bit, header_lines, local1_line, section2_line, descriptors_line, head_lines, form_text, comment_text, item_text, subset_line, subset_lines, text_of_lines, dump_text_of, subset_entries, lines_before, document_of}
+use Rattle.bufr_text.specs.DumpItems.{dump_item_of, items_apart, compressed_dump_subsets}
+use Rattle.bufr_text.specs.RoundTrip.{dump_items_in}
+use Rattle.bufr_text.specs.Encoding.{RefusedAt, too_long, refused_at, ◌>>=◌, told_of_template, told_of_items, data_bits, octets_of_bits, parts_as, parts_of_document, compressed_as, message_of, encoding_in, encoding_of}
 use Rattle.bufr_text.specs.Grammar.{runs_of}
-use Rattle.bufr_text.specs.Header.{IsHeaded, head_in, observed_in, compressed_in, section2_in}
+use Rattle.bufr_text.specs.Header.{IsHeaded, head_from_values, observed_in, compressed_in, section2_in}
 use Rattle.bufr_text.specs.InForm.{each_subset}
 use Rattle.bufr_text.specs.Line.{keys}
-use Rattle.bufr_text.specs.Normal.{header_as, normal_head, comment_at, normal_line, told_of, line_and, normal_items, normal_subsets, normal}
+use Rattle.bufr_text.specs.Normal.{header_as, normal_head, comment_at, normal_line, draft_answer, line_and, normal_items, normal_subsets, normal}
 use Rattle.bufr_text.specs.Proper.{IsProper}
 use Rattle.bufr_text.specs.ReadBack.{AreValuesOf, IsReadAs}
 use Rattle.bufr_text.proofs.DumpableLemmas.{dumpable}
@@ -56,7 +56,7 @@ use Rattle.bufr_text.proofs.RowsLemmas.{rows-read}
 
 -- ---- the items
 
-line_is : (table : List Row) (spec : Asked) (d : Draft) (c : Content) → content_of spec d ≡ Ok c → normal_line table spec d ≡ item_text (item_of (view_of table spec c))
+line_is : (table : List Row) (spec : FieldSpec) (d : Draft) (c : Content) → content_of spec d ≡ Ok c → normal_line table spec d ≡ item_text (dump_item_of (view_of table spec c))
 line_is table spec d c said =
     ap (λ f. form_text f (normal_form spec d.form) ++ comment_text (comment_at table spec)) (said_fxy spec d c said)
     ∙ ap (λ f. form_text spec.fxy f ++ comment_text (comment_at table spec)) (normal_dumped spec d c said ∙ sym (same_form spec c))
@@ -67,9 +67,9 @@ items_are table course [] (d ∷ ds) f said = absurd said
 items_are table course (i ∷ items) [] f said = absurd said
 items_are table course (i ∷ items) (d ∷ ds) f said =
     ap (λ n. line_and table n d (λ t. normal_items table (λ told. course (t ∷ told)) ds)) f.0
-    ∙ ap (λ r. normal_line table i.spec d ∷ normal_items table (λ told. course (told_of i.spec r ∷ told)) ds) said.0
+    ∙ ap (λ r. normal_line table i.spec d ∷ normal_items table (λ told. course (draft_answer i.spec r ∷ told)) ds) said.0
     ∙ ap (λ x. x ∷ normal_items table (after plain course i) ds) (line_is table i.spec d i.content said.0)
-    ∙ ap (λ xs. item_text (item_of (view_of table i.spec i.content)) ∷ xs) (items_are table (after plain course i) items ds f.3 said.1)
+    ∙ ap (λ xs. item_text (dump_item_of (view_of table i.spec i.content)) ∷ xs) (items_are table (after plain course i) items ds f.3 said.1)
 
 pub subsets_are : (table : List Row) (course : Course) (n : ℕ) (subsets : List (List (reading.Item Content))) (drafts : List Subset) → AllFollow course subsets → AreSaid subsets drafts → normal_subsets table course n drafts ≡ subset_lines n (map (items_apart table) subsets)
 unfolding subset_lines
@@ -180,8 +180,8 @@ module _ (form : Form) (records : List Record) (table : List Row) (sequences : L
   abbrev bits : List Bool
   bits = bits_of h.sections.payload
 
-  abbrev shown_items : List (List Item)
-  shown_items = items_in table h.template h.sections h.values
+  abbrev shown_items : List (List DumpItem)
+  shown_items = dump_items_in table h.template h.sections h.values
 
   -- each subset of a reading follows the template, and says what the drafts say
   follow : (values : Values) (used : ℕ) → IsReading course (data_of h.sections) values used → AllFollow course (each_subset h.sections.subsets values)
@@ -199,8 +199,8 @@ module _ (form : Form) (records : List Record) (table : List Row) (sequences : L
 
   pub dump_is_normal : IsProper d → dump_text_of h.sections shown_items ≡ normal form table h.template d
   dump_is_normal proper =
-      ap (λ hs. text_of (hs ++ (subset_lines 1 shown_items ++ codes "end" ∷ []))) (head_is form d proper table sequences octets h)
-      ∙ ap (λ ls. text_of (normal_head form d ++ (ls ++ codes "end" ∷ []))) (lines_of_items (subsets_of d.entries) (proper.counted ∙ sym h.subsets) h.said)
+      ap (λ hs. text_of_lines (hs ++ (subset_lines 1 shown_items ++ codes "end" ∷ []))) (head_is form d proper table sequences octets h)
+      ∙ ap (λ ls. text_of_lines (normal_head form d ++ (ls ++ codes "end" ∷ []))) (lines_of_items (subsets_of d.entries) (proper.counted ∙ sym h.subsets) h.said)
 
   -- ---- the document of the dump
 
@@ -220,7 +220,7 @@ module _ (form : Form) (records : List Record) (table : List Row) (sequences : L
     by_flag : (b c : Bool) (xs ys : List Subset) → b ≡ c → data_bits c course xs ≡ data_bits c course ys → data_bits b course xs ≡ data_bits b course ys
     by_flag b c xs ys e g = subst (λ x. data_bits x course xs ≡ data_bits x course ys) (sym e) g
 
-    are_again : (values : Values) (used place : ℕ) → IsReading course (data_of h.sections) values used → AreAgain values (subsets_of (subset_entries place (items_in table h.template h.sections values)))
+    are_again : (values : Values) (used place : ℕ) → IsReading course (data_of h.sections) values used → AreAgain values (subsets_of (subset_entries place (dump_items_in table h.template h.sections values)))
     are_again (apart subsets) used place read =
         let drafts = subsets_of (subset_entries place (map (items_apart table) subsets)) in
         let dumped = all_apart table place subsets in
@@ -231,7 +231,7 @@ module _ (form : Form) (records : List Record) (table : List Row) (sequences : L
           alike = λ others count is. by_flag h.sections.compressed false others drafts read.0 (plain_said_alike records table h.template subsets others drafts bits (drop used bits) rows legal read.2.0 is said);
         }
     are_again (together items) used place read =
-        let drafts = subsets_of (subset_entries place (subsets_together table h.sections.subsets 0 items)) in
+        let drafts = subsets_of (subset_entries place (compressed_dump_subsets table h.sections.subsets 0 items)) in
         let dumped = all_together table place h.sections.subsets 0 items in
         let said = together_said course h.sections.subsets 0 items drafts dumped.1 (packed_follows records table h.template rows legal h.sections.subsets items bits (drop used bits) read.2) dumped.0 in
         record {
@@ -245,25 +245,25 @@ module _ (form : Form) (records : List Record) (table : List Row) (sequences : L
 
     -- its text is its own in one spelling
     pub normal_again : normal AsWritten table h.template again ≡ dump_text_of h.sections shown_items
-    normal_again = sym (ap (λ ls. text_of (head_lines h.sections ++ (ls ++ codes "end" ∷ []))) (lines_of_items drafts_again drafts_are.count drafts_are.said))
+    normal_again = sym (ap (λ ls. text_of_lines (head_lines h.sections ++ (ls ++ codes "end" ∷ []))) (lines_of_items drafts_again drafts_are.count drafts_are.said))
 
     -- what is made of the bits of the data
-    abbrev message_with : (line : ℕ) → Head → (List ℕ → Parts) → Result (List Bool) FaultAt → Result (List ℕ) RefusedAt
+    abbrev message_with : (line : ℕ) → Head → (List ℕ → MessageParts) → Result (List Bool) FaultAt → Result (List ℕ) RefusedAt
     message_with line head parts r = told_of_items r >>= λ b. message_of line head (parts (octets_of_bits b))
 
     -- the line stands in a refusal alone
-    other_line : (line : ℕ) (head : Head) (parts : List ℕ → Parts) (r : Result (List Bool) FaultAt) → message_with line head parts r ≡ Ok octets → message_with at head parts r ≡ Ok octets
+    other_line : (line : ℕ) (head : Head) (parts : List ℕ → MessageParts) (r : Result (List Bool) FaultAt) → message_with line head parts r ≡ Ok octets → message_with at head parts r ≡ Ok octets
     other_line line head parts (Err why) e = absurd cc
-    other_line line head parts (Ok b) e = by (nat_lt most_octets (message_size head.edition (parts (octets_of_bits b)))) e
+    other_line line head parts (Ok b) e = by (nat_lt max_octets (message_size head.edition (parts (octets_of_bits b)))) e
       where
         by : (x : Bool) → (if x then Err (refused_at line too_long) else Ok (message_octets head (parts (octets_of_bits b)))) ≡ Ok octets → (if x then Err (refused_at at too_long) else Ok (message_octets head (parts (octets_of_bits b)))) ≡ Ok octets
         by true q = absurd cc
         by false q = q
 
-    abbrev parts_said : List ℕ → Parts
+    abbrev parts_said : List ℕ → MessageParts
     parts_said = parts_as (compressed_as form d) d
 
-    parts_are : (payload : List ℕ) → parts_in again payload ≡ parts_said payload
+    parts_are : (payload : List ℕ) → parts_of_document again payload ≡ parts_said payload
     unfolding parts_with
     parts_are payload = parts_back at h.sections shown_items payload ∙ (λ j. parts_of (h.local1 j) (h.section2 j) (h.descriptors j) (h.subsets j) (h.observed j) (h.compressed j) payload)
 
@@ -274,24 +274,24 @@ module _ (form : Form) (records : List Record) (table : List Row) (sequences : L
         ∙ drafts_are.alike (subsets_of d.entries) (proper.counted ∙ sym h.subsets) h.said
         ∙ ap (λ b. data_bits b course drafts_again) (sym (bit_back h.sections.compressed))
 
-    encoded_from : encoding_in form table sequences d ≡ message_with d.line (head_in d) parts_said (data_bits (compressed_as form d) course (subsets_of d.entries))
+    encoded_from : encoding_in form table sequences d ≡ message_with d.line (head_from_values d) parts_said (data_bits (compressed_as form d) course (subsets_of d.entries))
     unfolding encoding_in
     encoded_from =
-        ap (λ r. told_of_template d.line r >>= λ t. message_with d.line (head_in d) parts_said (data_bits (compressed_as form d) (next_item table t) (subsets_of d.entries)))
+        ap (λ r. told_of_template d.line r >>= λ t. message_with d.line (head_from_values d) parts_said (data_bits (compressed_as form d) (next_item table t) (subsets_of d.entries)))
         (ap (tree_of (tables_of table sequences)) (sym h.descriptors) ∙ h.accepted.expands)
 
-    again_from : encoding_of table sequences again ≡ message_with at h.sections.head (parts_in again) (data_bits (compressed_in again) course drafts_again)
+    again_from : encoding_of table sequences again ≡ message_with at h.sections.head (parts_of_document again) (data_bits (compressed_in again) course drafts_again)
     unfolding encoding_in
-    again_from = ap (λ r. told_of_template at r >>= λ t. message_with at h.sections.head (parts_in again) (data_bits (compressed_in again) (next_item table t) drafts_again)) h.accepted.expands
+    again_from = ap (λ r. told_of_template at r >>= λ t. message_with at h.sections.head (parts_of_document again) (data_bits (compressed_in again) (next_item table t) drafts_again)) h.accepted.expands
 
     -- and it is encoded to the same octets
     pub encoded_again_same : IsProper d → encoding_in form table sequences d ≡ Ok octets → encoding_of table sequences again ≡ Ok octets
     encoded_again_same proper e =
         again_from
         ∙ (λ j. message_with at (h.head j) (λ payload. parts_are payload j) (sym (data_are proper) j))
-        ∙ other_line d.line (head_in d) parts_said (data_bits (compressed_as form d) course (subsets_of d.entries)) (sym encoded_from ∙ e)
+        ∙ other_line d.line (head_from_values d) parts_said (data_bits (compressed_as form d) course (subsets_of d.entries)) (sym encoded_from ∙ e)
 
-  pub one_document_again : IsProper d → documents_of (normal form table h.template d) ≡ Spelled (document_of 1 h.sections shown_items) ∷ []
+  pub one_document_again : IsProper d → documents_of (normal form table h.template d) ≡ Complete (document_of 1 h.sections shown_items) ∷ []
   one_document_again proper =
       ap documents_of (sym (dump_is_normal proper))
       ∙ one-document h.sections shown_items (dumpable table sequences octets h.sections h.template h.values h.used (rows-read records table rows) legal h.accepted)

@@ -1,7 +1,7 @@
 -- What is told while the end is not known is the first of what is told of the whole.
 use Rattle.std.proofs.Common.{◌≡◌, ℕ, ◌+◌, ◌<◌, ◌==◌, ◌&&◌, nat_lt, not, Bool, true, false, List, [], ◌∷◌, ◌++◌, length, refl, sym, ap, ◌∙◌, arith, append_assoc}
 use Rattle.std.proofs.lemmas.Bool.Decides.{nat_tests}
-use Rattle.bufr_text.specs.Documents.{Place, Between, Heading, Laying, Filling, Stopped, Told, turn, said, spelled, place_after, told_at, lines_of, onto_first, split_of, onto_split, spelled_openly, documents_of, open_documents_of}
+use Rattle.bufr_text.specs.Documents.{ParserState, Between, Heading, Laying, Filling, Stopped, ParseResult, turn, line_within_limit, parse_lines, place_after, told_at, lines_of, prepend_to_line, split_of, onto_split, parse_open_lines, documents_of, open_documents_of}
 use Rattle.bufr_text.specs.Reading.{has_no_feed}
 use Rattle.bufr_text.proofs.ReadingLemmas.{refuses-long, stopped-tells-openly, wrong-faults, Reads}
 
@@ -10,9 +10,9 @@ split-octet : (c : ℕ) (s t : List ℕ) (b : Bool) → (c == 10) ≡ b → line
     → lines_of (c ∷ (s ++ t)) ≡ (split_of (c ∷ s)).whole ++ lines_of ((split_of (c ∷ s)).rest ++ t)
 unfolding lines_of split_of
 split-octet c s t true h e = rw h (ap (λ (z : List (List ℕ)). [] ∷ z) e)
-split-octet c s t false h e = rw h (ap (onto_first c) e ∙ by-whole (split_of s).whole (split_of s).rest)
+split-octet c s t false h e = rw h (ap (prepend_to_line c) e ∙ by-whole (split_of s).whole (split_of s).rest)
   where
-    by-whole : (whole : List (List ℕ)) (rest : List ℕ) → onto_first c (whole ++ lines_of (rest ++ t)) ≡ (onto_split c whole rest).whole ++ lines_of ((onto_split c whole rest).rest ++ t)
+    by-whole : (whole : List (List ℕ)) (rest : List ℕ) → prepend_to_line c (whole ++ lines_of (rest ++ t)) ≡ (onto_split c whole rest).whole ++ lines_of ((onto_split c whole rest).rest ++ t)
     by-whole [] rest = rw h refl
     by-whole (line ∷ whole) rest = refl
 
@@ -38,35 +38,35 @@ unfolding split_of
 rest-clean [] = refl
 rest-clean (c ∷ s) = rest-octet c s (c == 10) refl (rest-clean s)
 
-abbrev IsFront : List Told → List Told → Type 0
-IsFront told all = (more : List Told) × (all ≡ told ++ more)
+abbrev IsFront : List ParseResult → List ParseResult → Type 0
+IsFront told all = (more : List ParseResult) × (all ≡ told ++ more)
 
-front-more : (x told all : List Told) → IsFront told all → IsFront (x ++ told) (x ++ all)
-front-more x told all (more, e) = (more, ap (λ (z : List Told). x ++ z) e ∙ sym (append_assoc x told more))
+front-more : (x told all : List ParseResult) → IsFront told all → IsFront (x ++ told) (x ++ all)
+front-more x told all (more, e) = (more, ap (λ (z : List ParseResult). x ++ z) e ∙ sym (append_assoc x told more))
 
 -- a rest that is short tells nothing yet, one that is long is refused either way
-rest-front : (at : ℕ) (place : Place) (rest t : List ℕ) (b : Bool) → nat_lt 4096 (length rest) ≡ b → Reads place → has_no_feed rest ≡ true → IsFront (spelled_openly at place [] rest) (spelled at place (lines_of (rest ++ t)))
-unfolding spelled_openly
+rest-front : (at : ℕ) (place : ParserState) (rest t : List ℕ) (b : Bool) → nat_lt 4096 (length rest) ≡ b → Reads place → has_no_feed rest ≡ true → IsFront (parse_open_lines at place [] rest) (parse_lines at place (lines_of (rest ++ t)))
+unfolding parse_open_lines
 rest-front at place rest t true h r clean =
     let long : 4096 < length rest = grind (arith, nat_tests, h) in
-    (spelled at Stopped (lines_of (rest ++ t)), rw (h, wrong-faults at place r) ((refuses-long at place rest false r clean long).whole t (λ e. absurd cc)))
-rest-front at place rest t false h r clean = (spelled at place (lines_of (rest ++ t)), rw h refl)
+    (parse_lines at Stopped (lines_of (rest ++ t)), rw (h, wrong-faults at place r) ((refuses-long at place rest false r clean long).whole t (λ e. absurd cc)))
+rest-front at place rest t false h r clean = (parse_lines at place (lines_of (rest ++ t)), rw h refl)
 
-any-front : (at : ℕ) (place : Place) (rest t : List ℕ) → has_no_feed rest ≡ true → IsFront (spelled_openly at place [] rest) (spelled at place (lines_of (rest ++ t)))
+any-front : (at : ℕ) (place : ParserState) (rest t : List ℕ) → has_no_feed rest ≡ true → IsFront (parse_open_lines at place [] rest) (parse_lines at place (lines_of (rest ++ t)))
 any-front at Between rest t clean = rest-front at Between rest t (nat_lt 4096 (length rest)) refl tt clean
 any-front at (Heading d) rest t clean = rest-front at (Heading d) rest t (nat_lt 4096 (length rest)) refl tt clean
 any-front at (Laying part d) rest t clean = rest-front at (Laying part d) rest t (nat_lt 4096 (length rest)) refl tt clean
 any-front at (Filling subset d) rest t clean = rest-front at (Filling subset d) rest t (nat_lt 4096 (length rest)) refl tt clean
-any-front at Stopped rest t clean = (spelled at Stopped (lines_of (rest ++ t)), ap (λ (z : List Told). z ++ spelled at Stopped (lines_of (rest ++ t))) (sym (stopped-tells-openly at [] rest)))
+any-front at Stopped rest t clean = (parse_lines at Stopped (lines_of (rest ++ t)), ap (λ (z : List ParseResult). z ++ parse_lines at Stopped (lines_of (rest ++ t))) (sym (stopped-tells-openly at [] rest)))
 
-lines-front : (lines : List (List ℕ)) (at : ℕ) (place : Place) (rest t : List ℕ) → has_no_feed rest ≡ true → IsFront (spelled_openly at place lines rest) (spelled at place (lines ++ lines_of (rest ++ t)))
-unfolding spelled spelled_openly
+lines-front : (lines : List (List ℕ)) (at : ℕ) (place : ParserState) (rest t : List ℕ) → has_no_feed rest ≡ true → IsFront (parse_open_lines at place lines rest) (parse_lines at place (lines ++ lines_of (rest ++ t)))
+unfolding parse_lines parse_open_lines
 lines-front [] at place rest t clean = any-front at place rest t clean
 lines-front (line ∷ lines) at place rest t clean =
-    front-more (told_at at (turn at place (said line))) _ _ (lines-front lines (at + 1) (place_after (turn at place (said line))) rest t clean)
+    front-more (told_at at (turn at place (line_within_limit line))) _ _ (lines-front lines (at + 1) (place_after (turn at place (line_within_limit line))) rest t clean)
 
 -- the documents that are told while the end is not known stay the first ones, whatever comes behind
 pub open-front : (s t : List ℕ) → IsFront (open_documents_of s) (documents_of (s ++ t))
 open-front s t =
     let (more, e) = lines-front (split_of s).whole 1 Between (split_of s).rest t (rest-clean s) in
-    (more, ap (spelled 1 Between) (lines-split s t) ∙ e)
+    (more, ap (parse_lines 1 Between) (lines-split s t) ∙ e)

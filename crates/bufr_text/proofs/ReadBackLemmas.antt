@@ -13,7 +13,7 @@ use Rattle.bufr_tables.specs.TableD.{Sequence}
 use Rattle.bufr_tables.specs.TemplateTables.{tables_of}
 use Rattle.bufr_tables.specs.Tree.{Tree}
 use Rattle.bufr_tables.proofs.SoundLemmas.{tree_fine}
-use Rattle.bufr_frame.specs.Layout.{evened, message_octets, message_size, most_octets, sections_from}
+use Rattle.bufr_frame.specs.Layout.{with_even_length, message_octets, message_size, max_octets, sections_from}
 use Rattle.bufr_frame.proofs.EvenLemmas.{evened-bits}
 use Rattle.bufr_frame.proofs.FitLemmas.{fitting-writable}
 use Rattle.bufr_frame.proofs.LayoutLemmas.{read-back}
@@ -28,8 +28,8 @@ use Rattle.bufr_fill.proofs.FieldBits.{octets_in-are}
 use Rattle.bufr_text.specs.declared.form.Form.{Form}
 use Rattle.bufr_text.specs.Document.{Document, optional_in}
 use Rattle.bufr_text.specs.Encoding.{too_long, refused_at, ◌>>=◌, told_of_template, told_of_items, data_bits, octets_of_bits, parts_as, compressed_as, message_of, encoding_in}
-use Rattle.bufr_text.specs.Given.{IsOctet}
-use Rattle.bufr_text.specs.Header.{head_in}
+use Rattle.bufr_text.specs.Bounds.{IsOctet}
+use Rattle.bufr_text.specs.Header.{head_from_values}
 use Rattle.bufr_text.specs.Proper.{IsProper}
 use Rattle.bufr_text.specs.ReadBack.{AreValuesOf, IsReadAs}
 use Rattle.bufr_text.proofs.DumpableLemmas.{octets_are}
@@ -71,9 +71,9 @@ module _ (form : Form) (records : List Record) (table : List Row) (sequences : L
   data_in template = data_bits (compressed_as form d) (next_item table template) (subsets_of d.entries)
 
   made : (template : Tree) (bits : List Bool) → tree_of (tables_of table sequences) d.descriptors ≡ Ok template → data_in template ≡ Ok bits
-      → message_size (head_in d).edition (parts_as (compressed_as form d) d (octets_of_bits bits)) ≤ most_octets → IsReadAs form table sequences d (message_octets (head_in d) (parts_as (compressed_as form d) d (octets_of_bits bits)))
+      → message_size (head_from_values d).edition (parts_as (compressed_as form d) d (octets_of_bits bits)) ≤ max_octets → IsReadAs form table sequences d (message_octets (head_from_values d) (parts_as (compressed_as form d) d (octets_of_bits bits)))
   made template bits expands fills few =
-      let head = head_in d in
+      let head = head_from_values d in
       let payload = octets_of_bits bits in
       let parts = parts_as (compressed_as form d) d payload in
       let legal = (tree_fine (tables_of table sequences) d.descriptors template expands).legal in
@@ -83,7 +83,7 @@ module _ (form : Form) (records : List Record) (table : List Row) (sequences : L
       let back = read-back head parts (fitting-writable head fits) in
       let long : length message ≡ message_size head.edition parts = sym (size_is message (sections_from head parts) back) in
       let padded_bits = evened-bits head.edition 4 payload in
-      let written : bits_of (evened head.edition 4 payload) ≡ bits ++ (padding (length bits) ++ padded_bits.0) = padded_bits.1 ∙ ap (λ (b : List Bool). b ++ padded_bits.0) (payload_bits bits) ∙ append_assoc bits (padding (length bits)) padded_bits.0 in
+      let written : bits_of (with_even_length head.edition 4 payload) ≡ bits ++ (padding (length bits) ++ padded_bits.0) = padded_bits.1 ∙ ap (λ (b : List Bool). b ++ padded_bits.0) (payload_bits bits) ∙ append_assoc bits (padding (length bits)) padded_bits.0 in
       record {
         sections = sections_from head parts;
         template = template;
@@ -94,7 +94,7 @@ module _ (form : Form) (records : List Record) (table : List Row) (sequences : L
           few = omega (arith, few, long);
           sections = back;
           expands = expands;
-          read = subst (λ n. IsReading (next_item table template) (record { compressed = compressed_as form d; subsets = n; bits = bits_of (evened head.edition 4 payload) }) f.values (length bits)) proper.counted (f.read (evened head.edition 4 payload) (padding (length bits) ++ padded_bits.0) written);
+          read = subst (λ n. IsReading (next_item table template) (record { compressed = compressed_as form d; subsets = n; bits = bits_of (with_even_length head.edition 4 payload) }) f.values (length bits)) proper.counted (f.read (with_even_length head.edition 4 payload) (padding (length bits) ++ padded_bits.0) written);
         };
         framed = λ at behind. framed head parts at behind long;
         head = refl;
@@ -110,20 +110,20 @@ module _ (form : Form) (records : List Record) (table : List Row) (sequences : L
   at_most : (a b : ℕ) → nat_lt a b ≡ false → b ≤ a
   at_most a b h = grind (arith, nat_tests)
 
-  by_size : (template : Tree) (bits : List Bool) → tree_of (tables_of table sequences) d.descriptors ≡ Ok template → data_in template ≡ Ok bits → (b : Bool) → nat_lt most_octets (message_size (head_in d).edition (parts_as (compressed_as form d) d (octets_of_bits bits))) ≡ b
-      → (if b then Err (refused_at d.line too_long) else Ok (message_octets (head_in d) (parts_as (compressed_as form d) d (octets_of_bits bits)))) ≡ Ok octets → IsReadAs form table sequences d octets
+  by_size : (template : Tree) (bits : List Bool) → tree_of (tables_of table sequences) d.descriptors ≡ Ok template → data_in template ≡ Ok bits → (b : Bool) → nat_lt max_octets (message_size (head_from_values d).edition (parts_as (compressed_as form d) d (octets_of_bits bits))) ≡ b
+      → (if b then Err (refused_at d.line too_long) else Ok (message_octets (head_from_values d) (parts_as (compressed_as form d) d (octets_of_bits bits)))) ≡ Ok octets → IsReadAs form table sequences d octets
   by_size template bits expands fills true p e = absurd cc
   by_size template bits expands fills false p e =
-      subst (IsReadAs form table sequences d) (same_ok (message_octets (head_in d) (parts_as (compressed_as form d) d (octets_of_bits bits))) octets e)
-      (made template bits expands fills (at_most most_octets (message_size (head_in d).edition (parts_as (compressed_as form d) d (octets_of_bits bits))) p))
+      subst (IsReadAs form table sequences d) (same_ok (message_octets (head_from_values d) (parts_as (compressed_as form d) d (octets_of_bits bits))) octets e)
+      (made template bits expands fills (at_most max_octets (message_size (head_from_values d).edition (parts_as (compressed_as form d) d (octets_of_bits bits))) p))
 
   by_bits : (template : Tree) → tree_of (tables_of table sequences) d.descriptors ≡ Ok template → (r : Result (List Bool) FaultAt) → data_in template ≡ r
-      → (told_of_items r >>= λ b. message_of d.line (head_in d) (parts_as (compressed_as form d) d (octets_of_bits b))) ≡ Ok octets → IsReadAs form table sequences d octets
+      → (told_of_items r >>= λ b. message_of d.line (head_from_values d) (parts_as (compressed_as form d) d (octets_of_bits b))) ≡ Ok octets → IsReadAs form table sequences d octets
   by_bits template expands (Err why) p e = absurd cc
-  by_bits template expands (Ok bits) p e = by_size template bits expands p (nat_lt most_octets (message_size (head_in d).edition (parts_as (compressed_as form d) d (octets_of_bits bits)))) refl e
+  by_bits template expands (Ok bits) p e = by_size template bits expands p (nat_lt max_octets (message_size (head_from_values d).edition (parts_as (compressed_as form d) d (octets_of_bits bits)))) refl e
 
   by_template : (r : Result Tree TemplateFault) → tree_of (tables_of table sequences) d.descriptors ≡ r
-      → (told_of_template d.line r >>= λ t. told_of_items (data_in t) >>= λ b. message_of d.line (head_in d) (parts_as (compressed_as form d) d (octets_of_bits b))) ≡ Ok octets → IsReadAs form table sequences d octets
+      → (told_of_template d.line r >>= λ t. told_of_items (data_in t) >>= λ b. message_of d.line (head_from_values d) (parts_as (compressed_as form d) d (octets_of_bits b))) ≡ Ok octets → IsReadAs form table sequences d octets
   by_template (Err why) p e = absurd cc
   by_template (Ok template) p e = by_bits template p (data_in template) refl e
 

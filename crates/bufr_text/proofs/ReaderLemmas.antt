@@ -6,17 +6,17 @@ use Rattle.std.proofs.lemmas.List.{take_all, take_at, drop-append-le}
 use Rattle.bufr_frame.proofs.BufferLemmas.{part-front, part-drop, part-length, rest-read}
 use Rattle.bufr_text.specs.Document as spec
 use Rattle.bufr_text.specs.Documents as documents
-use Rattle.bufr_text.specs.Documents.{Between, Heading, Laying, Filling, Stopped, Told, Refused, NotAllowed, spelled, lines_of, told_at_end}
-use Rattle.bufr_text.specs.Reading.{has_no_feed, GoesOn, Passes, PassesEnd, spells}
-use Rattle.bufr_text.specs.Reader.{State, stand}
-use Rattle.bufr_text.specs.Filling.{place_now, ends_by_feed, ProgressSo, Tells, WantsHere, WentSo, fault_at, stopped}
-use Rattle.bufr_text.specs.Step.{place_with, fault_of, Stands}
-use Rattle.bufr_text.specs.Taking.{told_of, place_behind, TakesSo, WantsAt}
+use Rattle.bufr_text.specs.Documents.{Between, Heading, Laying, Filling, Stopped, ParseResult, Refused, NotAllowed, parse_lines, lines_of, told_at_end}
+use Rattle.bufr_text.specs.Reading.{has_no_feed, ContinuesParse, TakesWholeLines, TakesEndLine, parse}
+use Rattle.bufr_text.specs.Reader.{ReaderModel, stand}
+use Rattle.bufr_text.specs.Filling.{place_now, ends_by_feed, IsProgress, ParsesHeldLines, WantsHere, TakesHeldLines, read_fault_at, stopped}
+use Rattle.bufr_text.specs.Step.{place_with, line_fault_of, IsParserState}
+use Rattle.bufr_text.specs.TakingLines.{step_results, place_behind, TakesLines, WantsAt}
 use Rattle.bufr_text.specs.declared.progress.Progress.{Progress}
-use Rattle.bufr_text.specs.declared.progress.TakingEnd.{TakingEnd}
-use Rattle.bufr_text.specs.declared.progress.TakingEnd.TheVariants as taken
-use Rattle.bufr_text.specs.declared.step.Place.{Place}
-use Rattle.bufr_text.specs.declared.step.Place.TheVariants as place
+use Rattle.bufr_text.specs.declared.progress.TakeResult.{TakeResult}
+use Rattle.bufr_text.specs.declared.progress.TakeResult.TheVariants as taken
+use Rattle.bufr_text.specs.declared.step.ParserState.{ParserState}
+use Rattle.bufr_text.specs.declared.step.ParserState.TheVariants as place
 use Rattle.bufr_text.specs.declared.step.LineRefusal.{LineRefusal}
 use Rattle.bufr_text.specs.declared.step.LineRefusal.TheVariants as refusal
 use Rattle.bufr_text.specs.declared.fault.ReadFault.{ReadFault}
@@ -41,22 +41,22 @@ place-sound None progress e = refl
 place-sound (Some f) progress e = absurd cc
 
 -- a reader that stops
-abbrev pub state : (at : ℕ) → documents.Place → List ℕ → Bool → Option ReadFault → ℕ → State
+abbrev pub state : (at : ℕ) → documents.ParserState → List ℕ → Bool → Option ReadFault → ℕ → ReaderModel
 state at place held ended fault reads = record { at = at; place = place; held = held; ended = ended; fault = fault; reads = reads }
 
 -- what lines tell that were taken
-pub takes-tells : (old new : Progress) (f f' : Option ReadFault) (items held : List ℕ) (start filled len : ℕ) (ended : Bool) (reads : ℕ) (step : TakingEnd) (p : documents.Place)
-    → TakesSo old new held len step → f ≡ None → held ≡ slice_range items start filled → filled ≤ length items → p ≡ place_behind step new
-    → Tells (state old.at (place_now f old) (slice_range items start filled) ended f reads) (state new.at p (slice_range items (start + len) filled) ended f' reads) (told_of step new.parts)
+pub takes-tells : (old new : Progress) (f f' : Option ReadFault) (items held : List ℕ) (start filled len : ℕ) (ended : Bool) (reads : ℕ) (step : TakeResult) (p : documents.ParserState)
+    → TakesLines old new held len step → f ≡ None → held ≡ slice_range items start filled → filled ≤ length items → p ≡ place_behind step new
+    → ParsesHeldLines (state old.at (place_now f old) (slice_range items start filled) ended f reads) (state new.at p (slice_range items (start + len) filled) ended f' reads) (step_results step new.parts)
 takes-tells old new f f' items held start filled len ended reads step p takes none is within place =
     let long : length held ≡ filled - start = ap length is ∙ part-length items start filled within in
     let rest : drop len held ≡ slice_range items (start + len) filled = ap (drop len) is ∙ part-drop items start filled len (omega (arith, takes.within, long)) in
-    let A : documents.Place → Type 0 = λ q. GoesOn (record { at = old.at; place = q; held = slice_range items start filled; ended = ended }) (record { at = new.at; place = p; held = slice_range items (start + len) filled; ended = ended }) (told_of step new.parts) in
-    let B : documents.Place → Type 0 = λ q. GoesOn (record { at = old.at; place = place_with old.place old.parts; held = slice_range items start filled; ended = ended }) (record { at = new.at; place = q; held = slice_range items (start + len) filled; ended = ended }) (told_of step new.parts) in
-    let C : List ℕ → Type 0 = λ h. GoesOn (record { at = old.at; place = place_with old.place old.parts; held = h; ended = ended }) (record { at = new.at; place = place_behind step new; held = slice_range items (start + len) filled; ended = ended }) (told_of step new.parts) in
-    let D : List ℕ → Type 0 = λ h. GoesOn (record { at = old.at; place = place_with old.place old.parts; held = held; ended = ended }) (record { at = new.at; place = place_behind step new; held = h; ended = ended }) (told_of step new.parts) in
-    let E : List ℕ → Type 0 = λ h. Passes old.at h new.at (slice_range items (start + len) filled) in
-    let F : List ℕ → Type 0 = λ h. Passes old.at held new.at h in
+    let A : documents.ParserState → Type 0 = λ q. ContinuesParse (record { at = old.at; place = q; held = slice_range items start filled; ended = ended }) (record { at = new.at; place = p; held = slice_range items (start + len) filled; ended = ended }) (step_results step new.parts) in
+    let B : documents.ParserState → Type 0 = λ q. ContinuesParse (record { at = old.at; place = place_with old.place old.parts; held = slice_range items start filled; ended = ended }) (record { at = new.at; place = q; held = slice_range items (start + len) filled; ended = ended }) (step_results step new.parts) in
+    let C : List ℕ → Type 0 = λ h. ContinuesParse (record { at = old.at; place = place_with old.place old.parts; held = h; ended = ended }) (record { at = new.at; place = place_behind step new; held = slice_range items (start + len) filled; ended = ended }) (step_results step new.parts) in
+    let D : List ℕ → Type 0 = λ h. ContinuesParse (record { at = old.at; place = place_with old.place old.parts; held = held; ended = ended }) (record { at = new.at; place = place_behind step new; held = h; ended = ended }) (step_results step new.parts) in
+    let E : List ℕ → Type 0 = λ h. TakesWholeLines old.at h new.at (slice_range items (start + len) filled) in
+    let F : List ℕ → Type 0 = λ h. TakesWholeLines old.at held new.at h in
     record {
       goes = subst A (sym (place-sound f old none)) (subst B (sym place) (subst C is (subst D rest (takes.goes ended))));
       passes = subst E is (subst F rest takes.passes);
@@ -68,9 +68,9 @@ pub wants-here : (old : Progress) (f : Option ReadFault) (items held : List ℕ)
 wants-here old f items held start filled ended reads w none is =
     let n = w.progress in
     let place = place_with n.place n.parts in
-    let A : documents.Place → Type 0 = λ q. GoesOn (record { at = old.at; place = q; held = slice_range items start filled; ended = ended }) (record { at = n.at; place = place; held = drop w.place held; ended = ended }) [] in
-    let C : List ℕ → Type 0 = λ h. GoesOn (record { at = old.at; place = place_with old.place old.parts; held = h; ended = ended }) (record { at = n.at; place = place; held = drop w.place held; ended = ended }) [] in
-    let E : List ℕ → Type 0 = λ h. Passes old.at h n.at (drop w.place held) in
+    let A : documents.ParserState → Type 0 = λ q. ContinuesParse (record { at = old.at; place = q; held = slice_range items start filled; ended = ended }) (record { at = n.at; place = place; held = drop w.place held; ended = ended }) [] in
+    let C : List ℕ → Type 0 = λ h. ContinuesParse (record { at = old.at; place = place_with old.place old.parts; held = h; ended = ended }) (record { at = n.at; place = place; held = drop w.place held; ended = ended }) [] in
+    let E : List ℕ → Type 0 = λ h. TakesWholeLines old.at h n.at (drop w.place held) in
     record {
       mid = state n.at place (drop w.place held) ended None reads;
       taken = record {
@@ -83,21 +83,21 @@ wants-here old f items held start filled ended reads w none is =
     }
 
 -- the `end` line of a document that they tell
-pub takes-end : (old new : Progress) (items held : List ℕ) (start filled len : ℕ) → TakesSo old new held len taken.Gives → held ≡ slice_range items start filled → filled ≤ length items → PassesEnd old.at (slice_range items start filled) new.at (slice_range items (start + len) filled)
+pub takes-end : (old new : Progress) (items held : List ℕ) (start filled len : ℕ) → TakesLines old new held len taken.Gives → held ≡ slice_range items start filled → filled ≤ length items → TakesEndLine old.at (slice_range items start filled) new.at (slice_range items (start + len) filled)
 takes-end old new items held start filled len takes is within =
     let long : length held ≡ filled - start = ap length is ∙ part-length items start filled within in
     let rest : drop len held ≡ slice_range items (start + len) filled = ap (drop len) is ∙ part-drop items start filled len (omega (arith, takes.within, long)) in
-    let E : List ℕ → Type 0 = λ h. PassesEnd old.at h new.at (slice_range items (start + len) filled) in
-    let F : List ℕ → Type 0 = λ h. PassesEnd old.at held new.at h in
+    let E : List ℕ → Type 0 = λ h. TakesEndLine old.at h new.at (slice_range items (start + len) filled) in
+    let F : List ℕ → Type 0 = λ h. TakesEndLine old.at held new.at h in
     subst E is (subst F rest (takes.closes refl))
 
-pub rest-clean : (old new : Progress) (items held : List ℕ) (start filled len : ℕ) → TakesSo old new held len taken.More → held ≡ slice_range items start filled → filled ≤ length items → has_no_feed (slice_range items (start + len) filled) ≡ true
+pub rest-clean : (old new : Progress) (items held : List ℕ) (start filled len : ℕ) → TakesLines old new held len taken.More → held ≡ slice_range items start filled → filled ≤ length items → has_no_feed (slice_range items (start + len) filled) ≡ true
 rest-clean old new items held start filled len takes is within =
     let long : length held ≡ filled - start = ap length is ∙ part-length items start filled within in
     let rest : drop len held ≡ slice_range items (start + len) filled = ap (drop len) is ∙ part-drop items start filled len (omega (arith, takes.within, long)) in
     ap has_no_feed (sym rest) ∙ takes.all refl
 
-pub taken-within : (old new : Progress) (items held : List ℕ) (start filled len : ℕ) (step : TakingEnd) → TakesSo old new held len step → held ≡ slice_range items start filled → filled ≤ length items → start ≤ filled → start + len ≤ filled
+pub taken-within : (old new : Progress) (items held : List ℕ) (start filled len : ℕ) (step : TakeResult) → TakesLines old new held len step → held ≡ slice_range items start filled → filled ≤ length items → start ≤ filled → start + len ≤ filled
 taken-within old new items held start filled len step takes is within order =
     let long : length held ≡ filled - start = ap length is ∙ part-length items start filled within in
     omega (arith, takes.within, long, order)
@@ -107,16 +107,16 @@ taken-ends items start filled len within e =
     ap ends_by_feed (sym (part-drop items start filled len (omega (arith, within)))) ∙ ends-drop len (slice_range items start filled) e
 
 -- the progress of a reader that goes on
-pub progress-more : (old new : Progress) (held : List ℕ) (start filled len reads : ℕ) → TakesSo old new held len taken.More → ProgressSo old (filled - start) reads → start + len ≤ filled → ProgressSo new (filled - (start + len)) reads
+pub progress-more : (old new : Progress) (held : List ℕ) (start filled len reads : ℕ) → TakesLines old new held len taken.More → IsProgress old (filled - start) reads → start + len ≤ filled → IsProgress new (filled - (start + len)) reads
 progress-more old new held start filled len reads takes is within = record {
   stands = takes.stands;
   some = omega (arith, is.some, takes.passes.counted);
   near = omega (arith, is.near, takes.near, within);
 }
 
-pub progress-between : (old new d : Progress) (held : List ℕ) (start filled len reads : ℕ) (step : TakingEnd) → TakesSo old new held len step → ProgressSo old (filled - start) reads → start + len ≤ filled → d.at ≡ new.at → d.place ≡ place.Between → ProgressSo d (filled - (start + len)) reads
+pub progress-between : (old new d : Progress) (held : List ℕ) (start filled len reads : ℕ) (step : TakeResult) → TakesLines old new held len step → IsProgress old (filled - start) reads → start + len ≤ filled → d.at ≡ new.at → d.place ≡ place.Between → IsProgress d (filled - (start + len)) reads
 progress-between old new d held start filled len reads step takes is within same between =
-    let S : Place → Type 0 = λ p. Stands d.at (place_with p d.parts) in
+    let S : ParserState → Type 0 = λ p. IsParserState d.at (place_with p d.parts) in
     record {
       stands = subst S (sym between) tt;
       some = omega (arith, is.some, takes.passes.counted, same);
@@ -124,48 +124,48 @@ progress-between old new d held start filled len reads step takes is within same
     }
 
 -- the end
-pub told-inside : (p : Place) (d : spec.Document) (at : ℕ) → (p ≡ place.Between → ⊥) → told_at_end at (place_with p d) ≡ Refused at NotAllowed ∷ []
+pub told-inside : (p : ParserState) (d : spec.Document) (at : ℕ) → (p ≡ place.Between → ⊥) → told_at_end at (place_with p d) ≡ Refused at NotAllowed ∷ []
 told-inside place.Between d at not = absurd (not refl)
 told-inside place.Heading d at not = refl
 told-inside (place.Laying part) d at not = refl
 told-inside (place.Filling subset) d at not = refl
 
-pub none-held : (s : State) → s.ended ≡ true → (s.ended ≡ true → ends_by_feed s.held ≡ true) → has_no_feed s.held ≡ true → s.held ≡ []
+pub none-held : (s : ReaderModel) → s.ended ≡ true → (s.ended ≡ true → ends_by_feed s.held ≡ true) → has_no_feed s.held ≡ true → s.held ≡ []
 none-held s ended ends clean = ends-none s.held (ends ended) clean
 
-pub done-between : (s : State) → s.place ≡ Between → s.held ≡ [] → spells (stand s) [] ≡ []
-unfolding spelled lines_of
+pub done-between : (s : ReaderModel) → s.place ≡ Between → s.held ≡ [] → parse (stand s) [] ≡ []
+unfolding parse_lines lines_of
 done-between s place held =
-    ap (λ (z : List ℕ). spelled s.at s.place (lines_of (z ++ []))) held ∙ ap (λ (p : documents.Place). spelled s.at p []) place
+    ap (λ (z : List ℕ). parse_lines s.at s.place (lines_of (z ++ []))) held ∙ ap (λ (p : documents.ParserState). parse_lines s.at p []) place
 
-pub end-tells : (s : State) → s.ended ≡ true → s.held ≡ [] → told_at_end s.at s.place ≡ Refused s.at NotAllowed ∷ [] → Tells s (stopped s (fault.Line s.at)) (Refused s.at NotAllowed ∷ [])
+pub end-tells : (s : ReaderModel) → s.ended ≡ true → s.held ≡ [] → told_at_end s.at s.place ≡ Refused s.at NotAllowed ∷ [] → ParsesHeldLines s (stopped s (fault.Line s.at)) (Refused s.at NotAllowed ∷ [])
 end-tells s ended held told =
-    let A : Bool → Type 0 = λ e. GoesOn (record { at = s.at; place = s.place; held = s.held; ended = e }) (record { at = s.at; place = Stopped; held = s.held; ended = e }) (Refused s.at NotAllowed ∷ []) in
-    let B : List ℕ → Type 0 = λ h. GoesOn (record { at = s.at; place = s.place; held = h; ended = true }) (record { at = s.at; place = Stopped; held = h; ended = true }) (Refused s.at NotAllowed ∷ []) in
-    let C : List Told → Type 0 = λ t. GoesOn (record { at = s.at; place = s.place; held = []; ended = true }) (record { at = s.at; place = Stopped; held = []; ended = true }) t in
+    let A : Bool → Type 0 = λ e. ContinuesParse (record { at = s.at; place = s.place; held = s.held; ended = e }) (record { at = s.at; place = Stopped; held = s.held; ended = e }) (Refused s.at NotAllowed ∷ []) in
+    let B : List ℕ → Type 0 = λ h. ContinuesParse (record { at = s.at; place = s.place; held = h; ended = true }) (record { at = s.at; place = Stopped; held = h; ended = true }) (Refused s.at NotAllowed ∷ []) in
+    let C : List ParseResult → Type 0 = λ t. ContinuesParse (record { at = s.at; place = s.place; held = []; ended = true }) (record { at = s.at; place = Stopped; held = []; ended = true }) t in
     record { goes = subst A (sym ended) (subst B (sym held) (subst C told (ends-inside s.at s.place))); passes = passes-none s.at s.held }
 
 -- a line that is too long
-pub reads-place : (p : Place) (d : spec.Document) → Reads (place_with p d)
+pub reads-place : (p : ParserState) (d : spec.Document) → Reads (place_with p d)
 reads-place place.Between d = tt
 reads-place place.Heading d = tt
 reads-place (place.Laying part) d = tt
 reads-place (place.Filling subset) d = tt
 
-pub long-tells : (s : State) → Reads s.place → has_no_feed s.held ≡ true → 4096 < length s.held → Tells s (stopped s (fault.Line s.at)) (Refused s.at NotAllowed ∷ [])
+pub long-tells : (s : ReaderModel) → Reads s.place → has_no_feed s.held ≡ true → 4096 < length s.held → ParsesHeldLines s (stopped s (fault.Line s.at)) (Refused s.at NotAllowed ∷ [])
 long-tells s reads clean long = record { goes = refuses-long s.at s.place s.held s.ended reads clean long; passes = passes-none s.at s.held }
 
 -- a line that is refused
-by-fault : (now : State) (at line : ℕ) (progress : Progress) (held : List ℕ) (ended : Bool) (reads : ℕ) (refusal : LineRefusal) → ((f : Option ReadFault) → Tells now (state at Stopped held ended f reads) (Refused line (fault_of refusal) ∷ []))
-    → WentSo now (state at (place_now (Some (fault_at line refusal)) progress) held ended (Some (fault_at line refusal)) reads) (Err (fault_at line refusal))
+by-fault : (now : ReaderModel) (at line : ℕ) (progress : Progress) (held : List ℕ) (ended : Bool) (reads : ℕ) (refusal : LineRefusal) → ((f : Option ReadFault) → ParsesHeldLines now (state at Stopped held ended f reads) (Refused line (line_fault_of refusal) ∷ []))
+    → TakesHeldLines now (state at (place_now (Some (read_fault_at line refusal)) progress) held ended (Some (read_fault_at line refusal)) reads) (Err (read_fault_at line refusal))
 by-fault now at line progress held ended reads refusal.NotAllowed tells = (tells (Some (fault.Line line)), refl)
 by-fault now at line progress held ended reads refusal.SubsetCount tells = (tells (Some (fault.SubsetCount line)), refl)
 by-fault now at line progress held ended reads refusal.HeaderRange tells = (tells (Some (fault.HeaderRange line)), refl)
 
-pub refuses-went : (now : State) (at line : ℕ) (progress : Progress) (held : List ℕ) (ended : Bool) (reads : ℕ) (refusal : LineRefusal) (f : ReadFault) → f ≡ fault_at line refusal → ((f : Option ReadFault) → Tells now (state at Stopped held ended f reads) (Refused line (fault_of refusal) ∷ []))
-    → WentSo now (state at (place_now (Some f) progress) held ended (Some f) reads) (Err f)
+pub refuses-went : (now : ReaderModel) (at line : ℕ) (progress : Progress) (held : List ℕ) (ended : Bool) (reads : ℕ) (refusal : LineRefusal) (f : ReadFault) → f ≡ read_fault_at line refusal → ((f : Option ReadFault) → ParsesHeldLines now (state at Stopped held ended f reads) (Refused line (line_fault_of refusal) ∷ []))
+    → TakesHeldLines now (state at (place_now (Some f) progress) held ended (Some f) reads) (Err f)
 refuses-went now at line progress held ended reads refusal f is tells =
-    let W : ReadFault → Type 0 = λ f. WentSo now (state at (place_now (Some f) progress) held ended (Some f) reads) (Err f) in
+    let W : ReadFault → Type 0 = λ f. TakesHeldLines now (state at (place_now (Some f) progress) held ended (Some f) reads) (Err f) in
     subst W (sym is) (by-fault now at line progress held ended reads refusal tells)
 
 -- a buffer that grew
@@ -188,7 +188,7 @@ pub some-read : (items items1 items2 rest bs : List ℕ) (place filled slid n : 
 some-read items items1 items2 rest bs place filled slid n is less order within kept held count =
     rest-read items items1 items2 rest bs place filled slid n is less order within kept held count ∙ sym (append-nil (rest ++ bs))
 
-pub progress-read : (d : Progress) (held held' reads : ℕ) → ProgressSo d held reads → held' ≤ held + 4096 → ProgressSo d held' (reads + 1)
+pub progress-read : (d : Progress) (held held' reads : ℕ) → IsProgress d held reads → held' ≤ held + 4096 → IsProgress d held' (reads + 1)
 progress-read d held held' reads is few = record { stands = is.stands; some = is.some; near = omega (arith, is.near, few) }
 
 -- the room is made once, before the first read

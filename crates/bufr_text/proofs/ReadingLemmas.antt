@@ -3,11 +3,11 @@ use Rattle.std.proofs.Common.{◌≡◌, ℕ, ◌+◌, ◌<◌, ◌≤◌, ◌==
 use Rattle.std.proofs.lemmas.Bool.Decides.{nat_tests}
 use Rattle.bufr_bits.proofs.ScaledLemmas.{and_first, and_second}
 use Rattle.bufr_text.specs.Line.{Line, Passed, Opens, Header, Local1, Section2, Descriptors, Begins, Item, Closes, Wrong}
-use Rattle.bufr_text.specs.Documents.{Place, Between, Heading, Laying, Filling, Stopped, Goes, Faults, Told, Refused, NotAllowed, turn, said, spelled, place_after, told_at, told_at_end, lines_of, onto_first, Split, onto_split, octet_onto_split, split_of, spelled_openly}
-use Rattle.bufr_text.specs.Reading.{has_no_feed, Stand, spells, spells_openly, GoesOn}
+use Rattle.bufr_text.specs.Documents.{ParserState, Between, Heading, Laying, Filling, Stopped, WalkGoes, Faults, ParseResult, Refused, NotAllowed, turn, line_within_limit, parse_lines, place_after, told_at, told_at_end, lines_of, prepend_to_line, Split, onto_split, octet_onto_split, split_of, parse_open_lines}
+use Rattle.bufr_text.specs.Reading.{has_no_feed, ReaderPosition, parse, parse_open, ContinuesParse}
 
 -- behind a fault nothing is told
-stays-stopped : (at : ℕ) (meaning : Line) → turn at Stopped meaning ≡ Goes Stopped
+stays-stopped : (at : ℕ) (meaning : Line) → turn at Stopped meaning ≡ WalkGoes Stopped
 unfolding turn
 stays-stopped at Passed = refl
 stays-stopped at Opens = refl
@@ -20,19 +20,19 @@ stays-stopped at (Item fxy form) = refl
 stays-stopped at Closes = refl
 stays-stopped at Wrong = refl
 
-pub stopped-tells : (at : ℕ) (lines : List (List ℕ)) → spelled at Stopped lines ≡ []
-unfolding spelled
+pub stopped-tells : (at : ℕ) (lines : List (List ℕ)) → parse_lines at Stopped lines ≡ []
+unfolding parse_lines
 stopped-tells at [] = refl
-stopped-tells at (line ∷ lines) = rw (stays-stopped at (said line)) (stopped-tells (at + 1) lines)
+stopped-tells at (line ∷ lines) = rw (stays-stopped at (line_within_limit line)) (stopped-tells (at + 1) lines)
 
-pub stopped-tells-openly : (at : ℕ) (lines : List (List ℕ)) (rest : List ℕ) → spelled_openly at Stopped lines rest ≡ []
-unfolding spelled_openly
+pub stopped-tells-openly : (at : ℕ) (lines : List (List ℕ)) (rest : List ℕ) → parse_open_lines at Stopped lines rest ≡ []
+unfolding parse_open_lines
 stopped-tells-openly at [] rest = by-length (nat_lt 4096 (length rest))
   where
     by-length : (b : Bool) → (if b then told_at at (turn at Stopped Wrong) else []) ≡ []
     by-length true = ap (told_at at) (stays-stopped at Wrong)
     by-length false = refl
-stopped-tells-openly at (line ∷ lines) rest = rw (stays-stopped at (said line)) (stopped-tells-openly (at + 1) lines rest)
+stopped-tells-openly at (line ∷ lines) rest = rw (stays-stopped at (line_within_limit line)) (stopped-tells-openly (at + 1) lines rest)
 
 -- a line that is held whole
 no-feed-first : (c : ℕ) → not (c == 10) ≡ true → (c == 10) ≡ false
@@ -54,15 +54,15 @@ line-split [] t h = refl
 line-split (c ∷ line) t h =
     split-octet c (line ++ 10 ∷ t) (record { whole = line ∷ (split_of t).whole; rest = (split_of t).rest }) (no-feed-first c (and_first (not (c == 10)) (has_no_feed line) h)) (line-split line t (and_second (not (c == 10)) (has_no_feed line) h))
 
-abbrev openly-from : ℕ → Place → Split → List Told
-openly-from at place s = spelled_openly at place s.whole s.rest
+abbrev openly-from : ℕ → ParserState → Split → List ParseResult
+openly-from at place s = parse_open_lines at place s.whole s.rest
 
-pub takes-line : (at : ℕ) (place : Place) (line rest : List ℕ) (ended : Bool) → has_no_feed line ≡ true
-    → let here = turn at place (said line) in
-    GoesOn (record { at = at; place = place; held = line ++ 10 ∷ rest; ended = ended }) (record { at = at + 1; place = place_after here; held = rest; ended = ended }) (told_at at here)
-unfolding spelled spelled_openly
+pub takes-line : (at : ℕ) (place : ParserState) (line rest : List ℕ) (ended : Bool) → has_no_feed line ≡ true
+    → let here = turn at place (line_within_limit line) in
+    ContinuesParse (record { at = at; place = place; held = line ++ 10 ∷ rest; ended = ended }) (record { at = at + 1; place = place_after here; held = rest; ended = ended }) (told_at at here)
+unfolding parse_lines parse_open_lines
 takes-line at place line rest ended h = record {
-  whole = λ t none. ap (spelled at place) (ap lines_of (append_assoc line (10 ∷ rest) t) ∙ line-held line (rest ++ t) h);
+  whole = λ t none. ap (parse_lines at place) (ap lines_of (append_assoc line (10 ∷ rest) t) ∙ line-held line (rest ++ t) h);
   openly = λ unended t. ap (openly-from at place) (ap split_of (append_assoc line (10 ∷ rest) t) ∙ line-split line (rest ++ t) h);
 }
 
@@ -71,21 +71,21 @@ still-open true c kept unended = sym (kept refl) ∙ unended
 still-open false c kept unended = refl
 
 -- what was told is followed by what is told next
-pub goes-further : (a b c : Stand) (x y : List Told) → (b.ended ≡ true → c.ended ≡ true) → GoesOn a b x → GoesOn b c y → GoesOn a c (x ++ y)
+pub goes-further : (a b c : ReaderPosition) (x y : List ParseResult) → (b.ended ≡ true → c.ended ≡ true) → ContinuesParse a b x → ContinuesParse b c y → ContinuesParse a c (x ++ y)
 goes-further a b c x y kept f g = record {
-  whole = λ t none. f.whole t (λ e. none (kept e)) ∙ ap (λ (z : List Told). x ++ z) (g.whole t none) ∙ sym (append_assoc x y (spells c t));
-  openly = λ unended t. f.openly (still-open b.ended c.ended kept unended) t ∙ ap (λ (z : List Told). x ++ z) (g.openly unended t) ∙ sym (append_assoc x y (spells_openly c t));
+  whole = λ t none. f.whole t (λ e. none (kept e)) ∙ ap (λ (z : List ParseResult). x ++ z) (g.whole t none) ∙ sym (append_assoc x y (parse c t));
+  openly = λ unended t. f.openly (still-open b.ended c.ended kept unended) t ∙ ap (λ (z : List ParseResult). x ++ z) (g.openly unended t) ∙ sym (append_assoc x y (parse_open c t));
 }
 
-pub stays : (a : Stand) → GoesOn a a []
+pub stays : (a : ReaderPosition) → ContinuesParse a a []
 stays a = record { whole = λ t none. refl; openly = λ unended t. refl }
 
 -- a line that is too long is refused before its end is seen
-onto-some : (c : ℕ) (ls : List (List ℕ)) → (more : List ℕ) × (rest : List (List ℕ)) × (onto_first c ls ≡ (c ∷ more) ∷ rest)
+onto-some : (c : ℕ) (ls : List (List ℕ)) → (more : List ℕ) × (rest : List (List ℕ)) × (prepend_to_line c ls ≡ (c ∷ more) ∷ rest)
 onto-some c [] = ([], [], refl)
 onto-some c (line ∷ ls) = (line, ls, refl)
 
-onto-line : (c : ℕ) (t : List ℕ) → (c == 10) ≡ false → lines_of (c ∷ t) ≡ onto_first c (lines_of t)
+onto-line : (c : ℕ) (t : List ℕ) → (c == 10) ≡ false → lines_of (c ∷ t) ≡ prepend_to_line c (lines_of t)
 unfolding lines_of
 onto-line c t h = rw h refl
 
@@ -96,17 +96,17 @@ long-first (c ∷ []) t h some =
     (more, rest, onto-line c t (no-feed-first c (and_first (not (c == 10)) true h)) ∙ e)
 long-first (c ∷ d ∷ held) t h some =
     let (more, rest, e) = long-first (d ∷ held) t (and_second (not (c == 10)) (has_no_feed (d ∷ held)) h) (omega arith) in
-    (more, rest, onto-line c ((d ∷ held) ++ t) (no-feed-first c (and_first (not (c == 10)) (has_no_feed (d ∷ held)) h)) ∙ ap (onto_first c) e)
+    (more, rest, onto-line c ((d ∷ held) ++ t) (no-feed-first c (and_first (not (c == 10)) (has_no_feed (d ∷ held)) h)) ∙ ap (prepend_to_line c) e)
 
 -- the reading has met no fault
-abbrev pub Reads : Place → Type 0
+abbrev pub Reads : ParserState → Type 0
 Reads Between = Unit {0}
 Reads (Heading d) = Unit {0}
 Reads (Laying part d) = Unit {0}
 Reads (Filling subset d) = Unit {0}
 Reads Stopped = ⊥
 
-pub wrong-faults : (at : ℕ) (place : Place) → Reads place → turn at place Wrong ≡ Faults NotAllowed
+pub wrong-faults : (at : ℕ) (place : ParserState) → Reads place → turn at place Wrong ≡ Faults NotAllowed
 unfolding turn
 wrong-faults at Between r = refl
 wrong-faults at (Heading d) r = refl
@@ -139,32 +139,32 @@ long-split (c ∷ d ∷ held) t h some =
     let rest = long-split (d ∷ held) t (and_second (not (c == 10)) (has_no_feed (d ∷ held)) h) (omega arith) in
     subst (LongSplit (c ∷ d ∷ held)) (sym (split-octet c ((d ∷ held) ++ t) (split_of ((d ∷ held) ++ t)) (no-feed-first c (and_first (not (c == 10)) (has_no_feed (d ∷ held)) h)) refl)) (long-onto c (d ∷ held) (split_of ((d ∷ held) ++ t)) rest)
 
-openly-long : (at : ℕ) (place : Place) (held : List ℕ) (s : Split) → Reads place → 4096 < length held → LongSplit held s → openly-from at place s ≡ Refused at NotAllowed ∷ []
-unfolding LongSplit spelled_openly
+openly-long : (at : ℕ) (place : ParserState) (held : List ℕ) (s : Split) → Reads place → 4096 < length held → LongSplit held s → openly-from at place s ≡ Refused at NotAllowed ∷ []
+unfolding LongSplit parse_open_lines
 openly-long at place held s r long (more, rest, lines, inl e) =
     let over : nat_lt 4096 (length (held ++ more)) ≡ true = grind (arith, nat_tests, length-append held more, long) in
-    ap (openly-from at place) e ∙ rw (over, wrong-faults at place r) (ap (λ (z : List Told). Refused at NotAllowed ∷ z) (stopped-tells-openly (at + 1) lines rest))
+    ap (openly-from at place) e ∙ rw (over, wrong-faults at place r) (ap (λ (z : List ParseResult). Refused at NotAllowed ∷ z) (stopped-tells-openly (at + 1) lines rest))
 openly-long at place held s r long (more, rest, lines, inr e) =
     let over : nat_lt 4096 (length (held ++ more)) ≡ true = grind (arith, nat_tests, length-append held more, long) in
     ap (openly-from at place) e ∙ rw (over, wrong-faults at place r) refl
 
-refuses-openly : (at : ℕ) (place : Place) (held t : List ℕ) → Reads place → has_no_feed held ≡ true → 4096 < length held
+refuses-openly : (at : ℕ) (place : ParserState) (held t : List ℕ) → Reads place → has_no_feed held ≡ true → 4096 < length held
     → openly-from at place (split_of (held ++ t)) ≡ Refused at NotAllowed ∷ openly-from at Stopped (split_of (held ++ t))
 refuses-openly at place held t r h long =
     openly-long at place held (split_of (held ++ t)) r long (long-split held t h (omega (arith, long)))
-    ∙ ap (λ (z : List Told). Refused at NotAllowed ∷ z) (sym (stopped-tells-openly at (split_of (held ++ t)).whole (split_of (held ++ t)).rest))
+    ∙ ap (λ (z : List ParseResult). Refused at NotAllowed ∷ z) (sym (stopped-tells-openly at (split_of (held ++ t)).whole (split_of (held ++ t)).rest))
 
-pub refuses-long : (at : ℕ) (place : Place) (held : List ℕ) (ended : Bool) → Reads place → has_no_feed held ≡ true → 4096 < length held
-    → GoesOn (record { at = at; place = place; held = held; ended = ended }) (record { at = at; place = Stopped; held = held; ended = ended }) (Refused at NotAllowed ∷ [])
-unfolding spelled
+pub refuses-long : (at : ℕ) (place : ParserState) (held : List ℕ) (ended : Bool) → Reads place → has_no_feed held ≡ true → 4096 < length held
+    → ContinuesParse (record { at = at; place = place; held = held; ended = ended }) (record { at = at; place = Stopped; held = held; ended = ended }) (Refused at NotAllowed ∷ [])
+unfolding parse_lines
 refuses-long at place held ended r h long = record {
   openly = λ unended t. refuses-openly at place held t r h long;
   whole = λ t none.
       let (more, rest, e) = long-first held t h (omega (arith, long)) in
       let over : nat_lt 4096 (length (held ++ more)) ≡ true = grind (arith, nat_tests, length-append held more, long) in
-      ap (spelled at place) e
-      ∙ rw (over, wrong-faults at place r) (ap (λ (z : List Told). Refused at NotAllowed ∷ z) (stopped-tells (at + 1) rest))
-      ∙ ap (λ (z : List Told). Refused at NotAllowed ∷ z) (sym (stopped-tells at (lines_of (held ++ t))));
+      ap (parse_lines at place) e
+      ∙ rw (over, wrong-faults at place r) (ap (λ (z : List ParseResult). Refused at NotAllowed ∷ z) (stopped-tells (at + 1) rest))
+      ∙ ap (λ (z : List ParseResult). Refused at NotAllowed ∷ z) (sym (stopped-tells at (lines_of (held ++ t))));
 }
 
 cc-no : true ≡ false → ⊥
@@ -176,17 +176,17 @@ unfolding lines_of
 one-line [] h some = absurd (omega arith)
 one-line (c ∷ []) h some = rw (no-feed-first c (and_first (not (c == 10)) true h)) refl
 one-line (c ∷ d ∷ held) h some =
-    rw (no-feed-first c (and_first (not (c == 10)) (has_no_feed (d ∷ held)) h)) (ap (onto_first c) (one-line (d ∷ held) (and_second (not (c == 10)) (has_no_feed (d ∷ held)) h) (omega arith)))
+    rw (no-feed-first c (and_first (not (c == 10)) (has_no_feed (d ∷ held)) h)) (ap (prepend_to_line c) (one-line (d ∷ held) (and_second (not (c == 10)) (has_no_feed (d ∷ held)) h) (omega arith)))
 
-pub ends-inside : (at : ℕ) (place : Place)
-    → GoesOn (record { at = at; place = place; held = []; ended = true }) (record { at = at; place = Stopped; held = []; ended = true }) (told_at_end at place)
-unfolding spelled lines_of
+pub ends-inside : (at : ℕ) (place : ParserState)
+    → ContinuesParse (record { at = at; place = place; held = []; ended = true }) (record { at = at; place = Stopped; held = []; ended = true }) (told_at_end at place)
+unfolding parse_lines lines_of
 ends-inside at place = record {
   openly = λ unended t. absurd (cc-no unended);
   whole = λ t none.
-      ap (λ (z : List ℕ). spelled at place (lines_of z)) (none refl)
+      ap (λ (z : List ℕ). parse_lines at place (lines_of z)) (none refl)
       ∙ sym (append-nil (told_at_end at place))
-      ∙ ap (λ (z : List Told). told_at_end at place ++ z) (sym (stopped-tells at (lines_of t)));
+      ∙ ap (λ (z : List ParseResult). told_at_end at place ++ z) (sym (stopped-tells at (lines_of t)));
 }
 
 -- where no whole line is held and the rest is short, nothing is told before the end is known
@@ -195,8 +195,8 @@ unfolding split_of
 rest-alone [] h = refl
 rest-alone (c ∷ held) h = split-octet c held (record { whole = []; rest = held }) (no-feed-first c (and_first (not (c == 10)) (has_no_feed held) h)) (rest-alone held (and_second (not (c == 10)) (has_no_feed held) h))
 
-pub nothing-yet : (at : ℕ) (place : Place) (held : List ℕ) (ended : Bool) → has_no_feed held ≡ true → length held ≤ 4096 → spells_openly (record { at = at; place = place; held = held; ended = ended }) [] ≡ []
-unfolding spelled_openly
+pub nothing-yet : (at : ℕ) (place : ParserState) (held : List ℕ) (ended : Bool) → has_no_feed held ≡ true → length held ≤ 4096 → parse_open (record { at = at; place = place; held = held; ended = ended }) [] ≡ []
+unfolding parse_open_lines
 nothing-yet at place held ended h few =
     let short : nat_lt 4096 (length held) ≡ false = grind (arith, nat_tests, few) in
     ap (λ (z : List ℕ). openly-from at place (split_of z)) (append-nil held) ∙ ap (openly-from at place) (rest-alone held h) ∙ rw short refl

@@ -11,7 +11,7 @@ use Rattle.bufr_tables.specs.TableD.{Sequence}
 use Rattle.bufr_tables.specs.TemplateTables.{tables_of}
 use Rattle.bufr_tables.specs.Tree.{Tree}
 use Rattle.bufr_tables.specs.Legal.{IsLegal}
-use Rattle.bufr_frame.specs.Layout.{Parts, evened, longer, parts_of, message_octets, message_size, most_octets, sections_from}
+use Rattle.bufr_frame.specs.Layout.{MessageParts, with_even_length, max_extra_octets, parts_of, message_octets, message_size, max_octets, sections_from}
 use Rattle.bufr_frame.specs.Layout as layout
 use Rattle.bufr_frame.specs.Sections.{Sections, sections_of}
 use Rattle.bufr_frame.proofs.LayoutLemmas.{read-back}
@@ -19,7 +19,7 @@ use Rattle.bufr_frame.proofs.AgainLemmas.{sections-ended, no-longer, not-too-lon
 use Rattle.bufr_frame.proofs.EvenLemmas.{evened-bits, size-least}
 use Rattle.bufr_frame.proofs.FitLemmas.{fitting-writable}
 use Rattle.bufr_walk.specs.Content.{Content, number, text, missing, reference, shown}
-use Rattle.bufr_walk.specs.Asked.{Asked}
+use Rattle.bufr_walk.specs.FieldSpec.{FieldSpec}
 use Rattle.bufr_walk.specs.Calls.{content_at}
 use Rattle.bufr_walk.specs.Course.{Course, next_item}
 use Rattle.bufr_walk.specs.Outcome.{data_of}
@@ -27,7 +27,7 @@ use Rattle.bufr_walk.specs.Reading.{Values, apart, together, IsReading, ReadsSub
 use Rattle.bufr_walk.specs.Reading as reading
 use Rattle.bufr_fill.specs.Draft.{Draft, draft}
 use Rattle.bufr_fill.specs.DraftContent as fill
-use Rattle.bufr_fill.specs.Entries.{Entry, Ends, Subset, subset, onto_first, subsets_of}
+use Rattle.bufr_fill.specs.Entries.{DraftEntry, Ends, Subset, subset, prepend_to_subset, subsets_of}
 use Rattle.bufr_fill.proofs.Limits.{AreGoodRows}
 use Rattle.bufr_fill.specs.WrittenAgain.{IsDumped, AreDrafts, AreDumped, AreDumpedFrom}
 use Rattle.bufr_fill.specs.WrittenAgain as again
@@ -35,21 +35,21 @@ use Rattle.bufr_fill.proofs.FieldBits.{octet_bits_again, octets_in-are, length-o
 use Rattle.bufr_fill.proofs.WholeLaws.{plain_template_again, packed_template_again}
 use Rattle.bufr_text.specs.declared.form.Form.TheVariants.{AsWritten}
 use Rattle.bufr_text.specs.Document.{Document}
-use Rattle.bufr_text.specs.Dump.{Item, bit, form_of, item_entries, subset_entries, document_of, dump_text_of, lines_before}
-use Rattle.bufr_text.specs.DumpItems.{value_of, items_apart, items_together, subsets_together}
-use Rattle.bufr_text.specs.Encoding.{too_long, refused_at, ◌>>=◌, told_of_template, told_of_items, data_bits, octets_of_bits, parts_in, message_of, encoding_in, encoding_of}
-use Rattle.bufr_text.specs.RoundTrip.{IsAccepted, items_in, SaySame, HasSameReading, IsEncodedAgain}
-use Rattle.bufr_text.specs.Header.{head_in, compressed_in}
+use Rattle.bufr_text.specs.Dump.{DumpItem, bit, dump_value_of, item_entries, subset_entries, document_of, dump_text_of, lines_before}
+use Rattle.bufr_text.specs.DumpItems.{value_of, items_apart, compressed_dump_items, compressed_dump_subsets}
+use Rattle.bufr_text.specs.Encoding.{too_long, refused_at, ◌>>=◌, told_of_template, told_of_items, data_bits, octets_of_bits, parts_of_document, message_of, encoding_in, encoding_of}
+use Rattle.bufr_text.specs.RoundTrip.{IsAccepted, dump_items_in, SaySame, HasSameReading, IsEncodedAgain}
+use Rattle.bufr_text.specs.Header.{head_from_values, compressed_in}
 use Rattle.bufr_text.proofs.DumpableLemmas.{octets_are, sections_given}
 use Rattle.bufr_text.proofs.FramedLemmas.{octets_small, framed}
 
 -- ---- the text
 
-pub items_same : (table : List Row) (template : Tree) (a b : Sections) (values : Values) → b.subsets ≡ a.subsets → items_in table template b values ≡ items_in table template a values
+pub items_same : (table : List Row) (template : Tree) (a b : Sections) (values : Values) → b.subsets ≡ a.subsets → dump_items_in table template b values ≡ dump_items_in table template a values
 items_same table template a b (apart subsets) e = refl
-items_same table template a b (together items) e = ap (λ n. subsets_together table n 0 items) e
+items_same table template a b (together items) e = ap (λ n. compressed_dump_subsets table n 0 items) e
 
-text_same : (a b : Sections) (items items' : List (List Item)) → SaySame AsWritten a b → items' ≡ items → dump_text_of b items' ≡ dump_text_of a items
+text_same : (a b : Sections) (items items' : List (List DumpItem)) → SaySame AsWritten a b → items' ≡ items → dump_text_of b items' ≡ dump_text_of a items
 text_same a b items items' same e = λ j. dump_text_of (record {
   head = same.head j;
   local1 = same.local1 j;
@@ -63,21 +63,21 @@ text_same a b items items' same e = λ j. dump_text_of (record {
 }) (e j)
 
 pub same_text : (table : List Row) (m : List ℕ) (s : Sections) (template : Tree) (values : Values) (octets : List ℕ) → (h : HasSameReading table m s template values octets)
-    → dump_text_of h.sections (items_in table template h.sections values) ≡ dump_text_of s (items_in table template s values)
-same_text table m s template values octets h = text_same s h.sections (items_in table template s values) (items_in table template h.sections values) h.same (items_same table template s h.sections values h.same.subsets)
+    → dump_text_of h.sections (dump_items_in table template h.sections values) ≡ dump_text_of s (dump_items_in table template s values)
+same_text table m s template values octets h = text_same s h.sections (dump_items_in table template s values) (dump_items_in table template h.sections values) h.same (items_same table template s h.sections values h.same.subsets)
 
 -- ---- the drafts of a dump
 
-abbrev drafts_from : (at : ℕ) → List Item → List Draft
+abbrev drafts_from : (at : ℕ) → List DumpItem → List Draft
 drafts_from at [] = []
-drafts_from at (item ∷ more) = draft at item.fxy (form_of item.value) ∷ drafts_from (at + 1) more
+drafts_from at (item ∷ more) = draft at item.fxy (dump_value_of item.value) ∷ drafts_from (at + 1) more
 
-items_drafted : (at line : ℕ) (items : List Item) (more : List Entry) → subsets_of (item_entries at items ++ (Ends line ∷ more)) ≡ subset (drafts_from at items) line ∷ subsets_of more
+items_drafted : (at line : ℕ) (items : List DumpItem) (more : List DraftEntry) → subsets_of (item_entries at items ++ (Ends line ∷ more)) ≡ subset (drafts_from at items) line ∷ subsets_of more
 unfolding item_entries
 items_drafted at line [] more = refl
-items_drafted at line (item ∷ items) more = ap (onto_first (draft at item.fxy (form_of item.value))) (items_drafted (at + 1) line items more)
+items_drafted at line (item ∷ items) more = ap (prepend_to_subset (draft at item.fxy (dump_value_of item.value))) (items_drafted (at + 1) line items more)
 
-pub same_form : (spec : Asked) (c : Content) → form_of (value_of (shown spec c)) ≡ fill.form_of spec c
+pub same_form : (spec : FieldSpec) (c : Content) → dump_value_of (value_of (shown spec c)) ≡ fill.draft_value_of spec c
 same_form spec (number raw) = refl
 same_form spec (text octets) = refl
 same_form spec missing = refl
@@ -87,7 +87,7 @@ apart_drafted : (table : List Row) (at : ℕ) (items : List (reading.Item Conten
 apart_drafted table at [] = tt
 apart_drafted table at (i ∷ items) = ((refl, same_form i.spec i.content), apart_drafted table (at + 1) items)
 
-together_drafted : (table : List Row) (at j : ℕ) (items : List (reading.Item (List Content))) → AreDrafts IsDumped (again.items_of j items) (drafts_from at (items_together table j items))
+together_drafted : (table : List Row) (at j : ℕ) (items : List (reading.Item (List Content))) → AreDrafts IsDumped (again.items_of_subset j items) (drafts_from at (compressed_dump_items table j items))
 together_drafted table at j [] = tt
 together_drafted table at j (i ∷ items) = ((refl, same_form i.spec (content_at j i.content)), together_drafted table (at + 1) j items)
 
@@ -99,16 +99,16 @@ all_apart table at (items ∷ subsets) =
     let line = at + 1 + length here in
     subst (AreDumped (items ∷ subsets)) (sym (items_drafted (at + 1) line here (subset_entries line (map (items_apart table) subsets)))) (apart_drafted table (at + 1) items, all_apart table line subsets)
 
-pub all_together : (table : List Row) (at n j : ℕ) (items : List (reading.Item (List Content))) → AreDumpedFrom j items (subsets_of (subset_entries at (subsets_together table n j items))) × (length (subsets_of (subset_entries at (subsets_together table n j items))) ≡ n)
+pub all_together : (table : List Row) (at n j : ℕ) (items : List (reading.Item (List Content))) → AreDumpedFrom j items (subsets_of (subset_entries at (compressed_dump_subsets table n j items))) × (length (subsets_of (subset_entries at (compressed_dump_subsets table n j items))) ≡ n)
 unfolding subset_entries
 all_together table at zero j items = (tt, refl)
 all_together table at (suc n) j items =
-    let here = items_together table j items in
+    let here = compressed_dump_items table j items in
     let line = at + 1 + length here in
     let rest = all_together table line n (j + 1) items in
     let next : j + 1 ≡ suc j = omega arith in
-    let is = sym (items_drafted (at + 1) line here (subset_entries line (subsets_together table n (j + 1) items))) in (
-      subst (AreDumpedFrom j items) is (together_drafted table (at + 1) j items, subst (λ k. AreDumpedFrom k items (subsets_of (subset_entries line (subsets_together table n (j + 1) items)))) next rest.0),
+    let is = sym (items_drafted (at + 1) line here (subset_entries line (compressed_dump_subsets table n (j + 1) items))) in (
+      subst (AreDumpedFrom j items) is (together_drafted table (at + 1) j items, subst (λ k. AreDumpedFrom k items (subsets_of (subset_entries line (compressed_dump_subsets table n (j + 1) items)))) next rest.0),
       subst (λ (ds : List Subset). length ds ≡ suc n) is (ap suc rest.1),
     )
 
@@ -129,12 +129,12 @@ within a b h = grind (arith, nat_tests)
 
 pub encoded_to : (table : List Row) (sequences : List Sequence) (d : Document) (template : Tree) (bits : List Bool)
     → tree_of (tables_of table sequences) d.descriptors ≡ Ok template → data_bits (compressed_in d) (next_item table template) (subsets_of d.entries) ≡ Ok bits
-    → message_size (head_in d).edition (parts_in d (octets_of_bits bits)) ≤ most_octets → encoding_of table sequences d ≡ Ok (message_octets (head_in d) (parts_in d (octets_of_bits bits)))
+    → message_size (head_from_values d).edition (parts_of_document d (octets_of_bits bits)) ≤ max_octets → encoding_of table sequences d ≡ Ok (message_octets (head_from_values d) (parts_of_document d (octets_of_bits bits)))
 unfolding encoding_in
 encoded_to table sequences d template bits expands filled few =
-    ap (λ r. told_of_template d.line r >>= λ t. told_of_items (data_bits (compressed_in d) (next_item table t) (subsets_of d.entries)) >>= λ b. message_of d.line (head_in d) (parts_in d (octets_of_bits b))) expands
-    ∙ ap (λ r. told_of_items r >>= λ b. message_of d.line (head_in d) (parts_in d (octets_of_bits b))) filled
-    ∙ ap (λ b. if b then Err (refused_at d.line too_long) else Ok (message_octets (head_in d) (parts_in d (octets_of_bits bits)))) (within (message_size (head_in d).edition (parts_in d (octets_of_bits bits))) most_octets few)
+    ap (λ r. told_of_template d.line r >>= λ t. told_of_items (data_bits (compressed_in d) (next_item table t) (subsets_of d.entries)) >>= λ b. message_of d.line (head_from_values d) (parts_of_document d (octets_of_bits b))) expands
+    ∙ ap (λ r. told_of_items r >>= λ b. message_of d.line (head_from_values d) (parts_of_document d (octets_of_bits b))) filled
+    ∙ ap (λ b. if b then Err (refused_at d.line too_long) else Ok (message_octets (head_from_values d) (parts_of_document d (octets_of_bits bits)))) (within (message_size (head_from_values d).edition (parts_of_document d (octets_of_bits bits))) max_octets few)
 
 -- what the document of a message says
 pub bit_back : (b : Bool) → (bit b == 1) ≡ b
@@ -145,10 +145,10 @@ pub section2_back : (section2 : Option (List ℕ)) → (if bit (is_some section2
 section2_back None = refl
 section2_back (Some octets) = refl
 
-unfoldable pub parts_with : Sections → List ℕ → Parts
+unfoldable pub parts_with : Sections → List ℕ → MessageParts
 parts_with s payload = parts_of s.local1 s.section2 s.descriptors s.subsets s.observed s.compressed payload
 
-pub parts_back : (at : ℕ) (s : Sections) (items : List (List Item)) (payload : List ℕ) → parts_in (document_of at s items) payload ≡ parts_with s payload
+pub parts_back : (at : ℕ) (s : Sections) (items : List (List DumpItem)) (payload : List ℕ) → parts_of_document (document_of at s items) payload ≡ parts_with s payload
 unfolding parts_with
 parts_back at s items payload = λ j. parts_of s.local1 (section2_back s.section2 j) s.descriptors s.subsets (bit_back s.observed j) (bit_back s.compressed j) payload
 
@@ -160,7 +160,7 @@ pub size_is : (m : List ℕ) (s : Sections) → sections_of m ≡ Ok s → s.siz
 size_is m s e = ap (λ (x : Sections). x.size) (sections-ended m s e).is
 
 -- the bits that are written for a message's values, and their reading
-record IsFilled (table : List Row) (template : Tree) (s : Sections) (values : Values) (entries : List Entry) : Type 0 where
+record IsFilled (table : List Row) (template : Tree) (s : Sections) (values : Values) (entries : List DraftEntry) : Type 0 where
   out : List Bool
   fills : data_bits s.compressed (next_item table template) (subsets_of entries) ≡ Ok out
   short : length out ≤ length (bits_of s.payload)
@@ -176,7 +176,7 @@ pub fills_as : (b c : Bool) (course : Course) (drafts : List Subset) (out : List
 fills_as b c course drafts out e h = ap (λ x. data_bits x course drafts) e ∙ h
 
 filled : (table : List Row) (template : Tree) (s : Sections) (values : Values) (used at : ℕ) → AreGoodRows table → IsLegal template
-    → IsReading (next_item table template) (data_of s) values used → IsFilled table template s values (subset_entries at (items_in table template s values))
+    → IsReading (next_item table template) (data_of s) values used → IsFilled table template s values (subset_entries at (dump_items_in table template s values))
 filled table template s (apart subsets) used at rows legal read =
     let course = next_item table template in
     let entries = subset_entries at (map (items_apart table) subsets) in
@@ -197,7 +197,7 @@ filled table template s (apart subsets) used at rows legal read =
     }
 filled table template s (together items) used at rows legal read =
     let course = next_item table template in
-    let entries = subset_entries at (subsets_together table s.subsets 0 items) in
+    let entries = subset_entries at (compressed_dump_subsets table s.subsets 0 items) in
     let dumped = all_together table at s.subsets 0 items in
     let w = packed_template_again s.subsets table template items (subsets_of entries) (bits_of s.payload) (drop used (bits_of s.payload)) rows legal dumped.1 dumped.0 read.2 in
     record {
@@ -215,10 +215,10 @@ filled table template s (together items) used at rows legal read =
 -- ---- the message
 
 pub encoded_again : (table : List Row) (sequences : List Sequence) (m : List ℕ) (s : Sections) (template : Tree) (values : Values) (used at : ℕ) → AreGoodRows table → IsLegal template
-    → IsAccepted table sequences m s template values used → IsEncodedAgain table sequences m s template values (document_of at s (items_in table template s values))
+    → IsAccepted table sequences m s template values used → IsEncodedAgain table sequences m s template values (document_of at s (dump_items_in table template s values))
 unfolding parts_with
 encoded_again table sequences m s template values used at rows legal a =
-    let items = items_in table template s values in
+    let items = dump_items_in table template s values in
     let d = document_of at s items in
     let f = filled table template s values used (at + lines_before s) rows legal a.read in
     let payload = octets_of_bits f.out in
@@ -226,19 +226,19 @@ encoded_again table sequences m s template values used at rows legal a =
     let same = parts_back at s items payload in
     let edition = s.head.edition in
     let short = payload_short f.out s.payload f.short in
-    let least : message_size edition parts ≤ length m + longer edition = size_least s payload (length m + longer edition) short (no-longer m s a.sections) in
-    let most : message_size edition parts ≤ most_octets = size_least s payload most_octets short (not-too-long m s a.sections a.few) in
-    let few : message_size edition (parts_in d payload) ≤ most_octets = subst (λ (p : Parts). message_size edition p ≤ most_octets) (sym same) most in
+    let least : message_size edition parts ≤ length m + max_extra_octets edition = size_least s payload (length m + max_extra_octets edition) short (no-longer m s a.sections) in
+    let most : message_size edition parts ≤ max_octets = size_least s payload max_octets short (not-too-long m s a.sections a.few) in
+    let few : message_size edition (parts_of_document d payload) ≤ max_octets = subst (λ (p : MessageParts). message_size edition p ≤ max_octets) (sym same) most in
     let fills : data_bits (compressed_in d) (next_item table template) (subsets_of d.entries) ≡ Ok f.out = fills_as (compressed_in d) s.compressed (next_item table template) (subsets_of d.entries) f.out (bit_back s.compressed) f.fills in
     let octets = message_octets s.head parts in
     let given = sections_given m s a.octets a.sections in
     let back = read-back s.head parts (fitting-writable s.head given.head) in
     let long : length octets ≡ message_size edition parts = sym (size_is octets (sections_from s.head parts) back) in
     let padded_bits = evened-bits edition 4 payload in
-    let written : bits_of (evened edition 4 payload) ≡ f.out ++ (padding (length f.out) ++ padded_bits.0) = padded_bits.1 ∙ ap (λ (b : List Bool). b ++ padded_bits.0) (payload_bits f.out) ∙ append_assoc f.out (padding (length f.out)) padded_bits.0 in
+    let written : bits_of (with_even_length edition 4 payload) ≡ f.out ++ (padding (length f.out) ++ padded_bits.0) = padded_bits.1 ∙ ap (λ (b : List Bool). b ++ padded_bits.0) (payload_bits f.out) ∙ append_assoc f.out (padding (length f.out)) padded_bits.0 in
     record {
       octets = octets;
-      is = encoded_to table sequences d template f.out a.expands fills few ∙ ap (λ (p : Parts). Ok (message_octets s.head p)) same;
+      is = encoded_to table sequences d template f.out a.expands fills few ∙ ap (λ (p : MessageParts). Ok (message_octets s.head p)) same;
       same = record {
         no_longer = omega (arith, least, long);
         few = omega (arith, most, long);
@@ -248,7 +248,7 @@ encoded_again table sequences m s template values used at rows legal a =
         are = back;
         same = record { head = refl; local1 = refl; section2 = refl; descriptors = refl; subsets = refl; observed = refl; compressed = refl };
         used = length f.out;
-        read = f.read (evened edition 4 payload) (padding (length f.out) ++ padded_bits.0) written;
+        read = f.read (with_even_length edition 4 payload) (padding (length f.out) ++ padded_bits.0) written;
       };
     }
 

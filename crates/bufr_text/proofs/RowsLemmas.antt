@@ -7,10 +7,10 @@ use Rattle.std.proofs.lemmas.Option.{option_and_then_some}
 use Rattle.bufr_tables.specs.declared.kind.Kind.{Kind}
 use Rattle.bufr_tables.specs.Fxy.{fxy_of}
 use Rattle.bufr_tables.specs.Kind.{kind_of}
-use Rattle.bufr_tables.specs.Number.{i64_of, integer_of, fitting, fits_i64}
+use Rattle.bufr_tables.specs.Number.{i64_of, integer_of, if_i64, fits_i64}
 use Rattle.bufr_tables.specs.Records.{Record, field_of}
 use Rattle.bufr_tables.specs.Steps.{only_if}
-use Rattle.bufr_tables.specs.TableB.{IsRow, Row, AreRows, allows_scale, allows_width, element_of, entry_of, is_plain, natural_part, plain_of, row_of, scale_of, width_of}
+use Rattle.bufr_tables.specs.TableB.{IsRow, Row, AreRows, allows_scale, allows_width, element_of, entry_of, is_name, natural_part, plain_of, row_of, scale_of, width_of}
 use Rattle.bufr_fill.proofs.Limits as limits
 use Rattle.bufr_fill.proofs.Limits.{AreGoodRows}
 
@@ -25,9 +25,9 @@ passed : {A P : Type 0} (test : Bool) (x y : A) → only_if test x ≡ Some y �
 passed true x y is go = go refl (cc is)
 passed false x y is go = absurd (cc is)
 
-name-plain : (text name : List ℕ) → plain_of text ≡ Some name → is_plain name ≡ true
+name-plain : (text name : List ℕ) → plain_of text ≡ Some name → is_name name ≡ true
 unfolding plain_of
-name-plain text name is = passed _ text name is (λ test same. subst (λ t. is_plain t ≡ true) same test)
+name-plain text name is = passed _ text name is (λ test same. subst (λ t. is_name t ≡ true) same test)
 
 scale-allowed : (text : List ℕ) (scale : ℤ) → scale_of text ≡ Some scale → allows_scale scale ≡ true
 unfolding scale_of
@@ -48,8 +48,8 @@ i64-magnitude : (z : ℤ) → fits_i64 z ≡ true → unsigned_abs z ≤ 2 ^ 63
 i64-magnitude (pos n) h = omega (arith, below n (2 ^ 63) h)
 i64-magnitude (negsuc n) h = omega (arith, below n (2 ^ 63) h)
 
-fitted : (z reference : ℤ) → fitting z ≡ Some reference → unsigned_abs reference ≤ 2 ^ 63
-unfolding fitting
+fitted : (z reference : ℤ) → if_i64 z ≡ Some reference → unsigned_abs reference ≤ 2 ^ 63
+unfolding if_i64
 fitted z reference is = by (fits_i64 z) refl is
   where
     same : (a b : ℤ) → ◌≡◌ {A = Option ℤ} (Some a) (Some b) → a ≡ b

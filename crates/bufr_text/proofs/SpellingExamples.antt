@@ -3,10 +3,10 @@ use Rattle.std.proofs.Common.{◌≡◌, ℕ, ◌+◌, List, [], ◌∷◌, ◌+
 use Rattle.bufr_fill.specs.Draft.{number_token}
 use Rattle.bufr_fill.specs.Entries.{Ends}
 use Rattle.bufr_text.specs.Document.{Document}
-use Rattle.bufr_text.specs.Grammar.{front, behind, behind_word, fxy_read, is_hashed}
+use Rattle.bufr_text.specs.Grammar.{prefix_while, suffix_while, without_prefix, fxy_read, is_hashed}
 use Rattle.bufr_text.specs.Line.{Opens, Header, Descriptors, Begins, Item, Closes, Wrong, keys, place_from, value_read, worded, line_of}
 use Rattle.bufr_text.specs.Proper.{AreEnded, IsProper}
-use Rattle.bufr_text.specs.Spelling.{Heard, heard, heard_from, SubsetHeard, subsets_heard, entries_heard, IsDocument}
+use Rattle.bufr_text.specs.Spelling.{NumberedLine, numbered_line, numbered_lines, SubsetHeard, subsets_heard, entries_heard, IsDocument}
 use Rattle.bufr_text.proofs.EncodingExamples.{document, number}
 
 -- ---- documents that lines can spell
@@ -49,9 +49,9 @@ no_section2 h = some-none 1 [] (h.no_section2 refl)
 -- ---- lines that are heard
 
 -- comments and empty lines are counted, and passed over
-passed_over : heard_from 21 (codes "# x" ∷ [] ∷ codes "subset 1" ∷ codes "001001 10  # x" ∷ codes "end" ∷ codes "x" ∷ [])
-    ≡ heard 23 (Begins 1) ∷ heard 24 (Item 257 (number_token (codes "10"))) ∷ heard 25 Closes ∷ heard 26 Wrong ∷ []
-unfolding heard_from line_of worded front behind behind_word fxy_read value_read is_hashed place_from keys
+passed_over : numbered_lines 21 (codes "# x" ∷ [] ∷ codes "subset 1" ∷ codes "001001 10  # x" ∷ codes "end" ∷ codes "x" ∷ [])
+    ≡ numbered_line 23 (Begins 1) ∷ numbered_line 24 (Item 257 (number_token (codes "10"))) ∷ numbered_line 25 Closes ∷ numbered_line 26 Wrong ∷ []
+unfolding numbered_lines line_of worded prefix_while suffix_while without_prefix fxy_read value_read is_hashed place_from keys
 passed_over = refl
 
 abbrev subset_at : (at : ℕ) → SubsetHeard
@@ -64,27 +64,27 @@ two_ends = refl
 
 -- subsets are numbered from one on
 two_subsets : subsets_heard 1 (subset_at 23 ∷ subset_at 25 ∷ [])
-    ≡ heard 23 (Begins 1) ∷ heard 24 (Item 257 (number_token (codes "10"))) ∷ heard 25 (Begins 2) ∷ heard 26 (Item 257 (number_token (codes "10"))) ∷ []
+    ≡ numbered_line 23 (Begins 1) ∷ numbered_line 24 (Item 257 (number_token (codes "10"))) ∷ numbered_line 25 (Begins 2) ∷ numbered_line 26 (Item 257 (number_token (codes "10"))) ∷ []
 two_subsets = refl
 
 -- ---- the lines of a document
 
-abbrev header_heard : List Heard
+abbrev header_heard : List NumberedLine
 header_heard =
-    heard 2 (Header 0 4) ∷ heard 3 (Header 1 0) ∷ heard 4 (Header 2 98) ∷ heard 5 (Header 3 0) ∷ heard 6 (Header 4 0)
-    ∷ heard 7 (Header 5 0) ∷ heard 8 (Header 6 0) ∷ heard 9 (Header 7 0) ∷ heard 10 (Header 8 14) ∷ heard 11 (Header 9 0)
-    ∷ heard 12 (Header 10 2024) ∷ heard 13 (Header 11 1) ∷ heard 14 (Header 12 2) ∷ heard 15 (Header 13 3) ∷ heard 16 (Header 14 4)
-    ∷ heard 17 (Header 15 5) ∷ heard 18 (Header 16 1) ∷ heard 19 (Header 17 0) ∷ heard 20 (Header 18 0) ∷ heard 21 (Header 19 1) ∷ []
+    numbered_line 2 (Header 0 4) ∷ numbered_line 3 (Header 1 0) ∷ numbered_line 4 (Header 2 98) ∷ numbered_line 5 (Header 3 0) ∷ numbered_line 6 (Header 4 0)
+    ∷ numbered_line 7 (Header 5 0) ∷ numbered_line 8 (Header 6 0) ∷ numbered_line 9 (Header 7 0) ∷ numbered_line 10 (Header 8 14) ∷ numbered_line 11 (Header 9 0)
+    ∷ numbered_line 12 (Header 10 2024) ∷ numbered_line 13 (Header 11 1) ∷ numbered_line 14 (Header 12 2) ∷ numbered_line 15 (Header 13 3) ∷ numbered_line 16 (Header 14 4)
+    ∷ numbered_line 17 (Header 15 5) ∷ numbered_line 18 (Header 16 1) ∷ numbered_line 19 (Header 17 0) ∷ numbered_line 20 (Header 18 0) ∷ numbered_line 21 (Header 19 1) ∷ []
 
 one_document : IsDocument (document 0 1 (257 ∷ []) (number 24 257 (codes "10") ∷ Ends 25 ∷ []))
-    (heard 1 Opens ∷ header_heard ++ heard 22 (Descriptors (257 ∷ [])) ∷ heard 23 (Begins 1) ∷ heard 24 (Item 257 (number_token (codes "10"))) ∷ heard 25 Closes ∷ [])
+    (numbered_line 1 Opens ∷ header_heard ++ numbered_line 22 (Descriptors (257 ∷ [])) ∷ numbered_line 23 (Begins 1) ∷ numbered_line 24 (Item 257 (number_token (codes "10"))) ∷ numbered_line 25 Closes ∷ [])
 unfolding document number
 one_document = record {
   header = header_heard;
   local1 = [];
   section2 = [];
   descriptors = (257 ∷ []) ∷ [];
-  laid = heard 22 (Descriptors (257 ∷ [])) ∷ [];
+  laid = numbered_line 22 (Descriptors (257 ∷ [])) ∷ [];
   subsets = subset_at 23 ∷ [];
   end = 25;
   are = refl;

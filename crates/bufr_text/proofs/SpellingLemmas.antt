@@ -4,23 +4,23 @@ use Rattle.std.specs.List.{concat}
 use Rattle.std.proofs.lemmas.Bool.Decides.{nat_tests}
 use Rattle.std.proofs.lemmas.List.{map-append}
 use Rattle.bufr_bits.proofs.ScaledLemmas.{and_first, and_second}
-use Rattle.bufr_fill.specs.Draft.{Form, draft}
-use Rattle.bufr_fill.specs.Entries.{Entry, Holds, Ends}
+use Rattle.bufr_fill.specs.Draft.{DraftValue, draft}
+use Rattle.bufr_fill.specs.Entries.{DraftEntry, Holds, Ends}
 use Rattle.bufr_text.specs.Document.{Document, edition_in, optional_in, subsets_in}
-use Rattle.bufr_text.specs.Documents.{Place, Between, Heading, Laying, Filling, Stopped, Turn, Goes, Gives, Faults, NotAllowed, SubsetCount, HeaderRange, in_range, heading, beginning, closing, with_value, with_local1, with_section2, with_descriptors, with_entry, turn, said, spelled, place_after, told_at, told_at_end, lines_of, documents_of}
+use Rattle.bufr_text.specs.Documents.{ParserState, Between, Heading, Laying, Filling, Stopped, LineEffect, WalkGoes, Gives, Faults, NotAllowed, SubsetCount, HeaderRange, in_range, heading, beginning, closing, with_value, with_local1, with_section2, with_descriptors, with_entry, turn, line_within_limit, parse_lines, place_after, told_at, told_at_end, lines_of, documents_of}
 use Rattle.bufr_text.specs.Line.{Line, Passed, Opens, Header, Local1, Section2, Descriptors, Begins, Item, Closes, Wrong}
-use Rattle.bufr_text.specs.Spelling.{Heard, heard, onto_heard, heard_from, header_says, Element, SubsetHeard, subsets_heard, first_at, entries_heard, IsDocument, AreTold}
+use Rattle.bufr_text.specs.Spelling.{NumberedLine, numbered_line, onto_heard, numbered_lines, header_says, Element, SubsetHeard, subsets_heard, first_at, entries_heard, IsDocument, AreTold}
 use Rattle.bufr_text.specs.Step.{IsBare}
 use Rattle.bufr_text.proofs.ReadingLemmas.{stopped-tells}
 
-abbrev says : List Heard → List Line
+abbrev says : List NumberedLine → List Line
 says lines = map (λ l. l.says) lines
 
 -- one line that is not passed over
-abbrev one : ℕ → Line → List Heard
+abbrev one : ℕ → Line → List NumberedLine
 one at line = onto_heard at line []
 
-onto-one : (at : ℕ) (line : Line) (more : List Heard) → onto_heard at line more ≡ one at line ++ more
+onto-one : (at : ℕ) (line : Line) (more : List NumberedLine) → onto_heard at line more ≡ one at line ++ more
 onto-one at Passed more = refl
 onto-one at Opens more = refl
 onto-one at (Header key value) more = refl
@@ -43,14 +43,14 @@ concat-more : (xs : List (List ℕ)) (x : List ℕ) → concat (xs ++ x ∷ []) 
 concat-more [] x = append-nil x
 concat-more (y ∷ xs) x = ap (λ (t : List ℕ). y ++ t) (concat-more xs x) ∙ sym (append_assoc y (concat xs) x)
 
-abbrev element : (at fxy : ℕ) → Form → Element
+abbrev element : (at fxy : ℕ) → DraftValue → Element
 element at fxy form = record { at = at; fxy = fxy; form = form }
 
 -- the line of an item, and its entry
-abbrev item_line : Element → Heard
-item_line i = heard i.at (Item i.fxy i.form)
+abbrev item_line : Element → NumberedLine
+item_line i = numbered_line i.at (Item i.fxy i.form)
 
-abbrev item_entry : Element → Entry
+abbrev item_entry : Element → DraftEntry
 item_entry i = Holds (draft i.at i.fxy i.form)
 
 abbrev with_item : SubsetHeard → Element → SubsetHeard
@@ -61,17 +61,17 @@ bare_subset at = record { at = at; items = [] }
 
 item-more : (k : ℕ) (done : List SubsetHeard) (last : SubsetHeard) (i : Element) → subsets_heard k (done ++ with_item last i ∷ []) ≡ subsets_heard k (done ++ last ∷ []) ++ item_line i ∷ []
 item-more k [] last i =
-    ap (λ (t : List Heard). heard last.at (Begins k) ∷ t) (append-nil (map item_line (last.items ++ i ∷ [])) ∙ map-append item_line last.items (i ∷ []) ∙ ap (λ (t : List Heard). t ++ item_line i ∷ []) (sym (append-nil (map item_line last.items))))
+    ap (λ (t : List NumberedLine). numbered_line last.at (Begins k) ∷ t) (append-nil (map item_line (last.items ++ i ∷ [])) ∙ map-append item_line last.items (i ∷ []) ∙ ap (λ (t : List NumberedLine). t ++ item_line i ∷ []) (sym (append-nil (map item_line last.items))))
 item-more k (part ∷ done) last i =
-    ap (λ (t : List Heard). heard part.at (Begins k) ∷ t) (ap (λ (t : List Heard). map item_line part.items ++ t) (item-more (k + 1) done last i)
+    ap (λ (t : List NumberedLine). numbered_line part.at (Begins k) ∷ t) (ap (λ (t : List NumberedLine). map item_line part.items ++ t) (item-more (k + 1) done last i)
     ∙ sym (append_assoc (map item_line part.items) (subsets_heard (k + 1) (done ++ last ∷ [])) (item_line i ∷ [])))
 
-part-more : (k : ℕ) (done : List SubsetHeard) (at : ℕ) → subsets_heard k (done ++ bare_subset at ∷ []) ≡ subsets_heard k done ++ heard at (Begins (k + length done)) ∷ []
-part-more k [] at = let e : k ≡ k + 0 = omega arith in ap (λ (n : ℕ). heard at (Begins n) ∷ []) e
+part-more : (k : ℕ) (done : List SubsetHeard) (at : ℕ) → subsets_heard k (done ++ bare_subset at ∷ []) ≡ subsets_heard k done ++ numbered_line at (Begins (k + length done)) ∷ []
+part-more k [] at = let e : k ≡ k + 0 = omega arith in ap (λ (n : ℕ). numbered_line at (Begins n) ∷ []) e
 part-more k (part ∷ done) at =
     let e : k + 1 + length done ≡ k + length (part ∷ done) = omega arith in
-    ap (λ (t : List Heard). heard part.at (Begins k) ∷ t) (ap (λ (t : List Heard). map item_line part.items ++ t) (part-more (k + 1) done at ∙ ap (λ (n : ℕ). subsets_heard (k + 1) done ++ heard at (Begins n) ∷ []) e)
-    ∙ sym (append_assoc (map item_line part.items) (subsets_heard (k + 1) done) (heard at (Begins (k + length (part ∷ done))) ∷ [])))
+    ap (λ (t : List NumberedLine). numbered_line part.at (Begins k) ∷ t) (ap (λ (t : List NumberedLine). map item_line part.items ++ t) (part-more (k + 1) done at ∙ ap (λ (n : ℕ). subsets_heard (k + 1) done ++ numbered_line at (Begins n) ∷ []) e)
+    ∙ sym (append_assoc (map item_line part.items) (subsets_heard (k + 1) done) (numbered_line at (Begins (k + length (part ∷ done))) ∷ [])))
 
 first-more : (done : List SubsetHeard) (last : SubsetHeard) (end : ℕ) → first_at (done ++ last ∷ []) end ≡ first_at done last.at
 first-more [] last end = refl
@@ -85,18 +85,18 @@ entries-more (part ∷ done) last end =
     let rest = entries_heard done last.at in
     let items = map item_entry last.items in
     ap (λ (n : ℕ). here ++ Ends n ∷ entries_heard (done ++ last ∷ []) end) (first-more done last end)
-    ∙ ap (λ (t : List Entry). here ++ Ends f ∷ t) (entries-more done last end)
+    ∙ ap (λ (t : List DraftEntry). here ++ Ends f ∷ t) (entries-more done last end)
     ∙ sym (append_assoc here (Ends f ∷ rest ++ items) (Ends end ∷ []))
-    ∙ ap (λ (t : List Entry). t ++ Ends end ∷ []) (sym (append_assoc here (Ends f ∷ rest) items))
+    ∙ ap (λ (t : List DraftEntry). t ++ Ends end ∷ []) (sym (append_assoc here (Ends f ∷ rest) items))
 
 -- The lines before the subsets, as far as they were read.
-record IsBegun (d : Document) (own : List Heard) : Type 0 where
-  header : List Heard
-  laid : List Heard
+record IsBegun (d : Document) (own : List NumberedLine) : Type 0 where
+  header : List NumberedLine
+  laid : List NumberedLine
   local1 : List (List ℕ)
   section2 : List (List ℕ)
   descriptors : List (List ℕ)
-  are : own ≡ (heard d.line Opens ∷ header) ++ laid
+  are : own ≡ (numbered_line d.line Opens ∷ header) ++ laid
   in_order : says header ≡ header_says 0 d.header
   parts : says laid ≡ map Local1 local1 ++ (map Section2 section2 ++ map Descriptors descriptors)
   local1_is : d.local1 ≡ concat local1
@@ -105,23 +105,23 @@ record IsBegun (d : Document) (own : List Heard) : Type 0 where
   flagged : (section2 ≡ []) ⊎ (optional_in d ≡ 1)
 
 -- `message` and header lines
-record IsHeading (d : Document) (own : List Heard) : Type 0 where
-  header : List Heard
-  are : own ≡ heard d.line Opens ∷ header
+record IsHeading (d : Document) (own : List NumberedLine) : Type 0 where
+  header : List NumberedLine
+  are : own ≡ numbered_line d.line Opens ∷ header
   in_order : says header ≡ header_says 0 d.header
   bare : IsBare d
 
 -- the parts before the subsets stand in their order
-record IsLaying (part : ℕ) (d : Document) (own : List Heard) : Type 0 where
-  begun : IsBegun d own
-  before_section2 : part ≡ 0 → begun.section2 ≡ []
-  before_descriptors : part ≤ 1 → begun.descriptors ≡ []
+record IsLaying (part : ℕ) (d : Document) (own : List NumberedLine) : Type 0 where
+  with_open_group : IsBegun d own
+  before_section2 : part ≡ 0 → with_open_group.section2 ≡ []
+  before_descriptors : part ≤ 1 → with_open_group.descriptors ≡ []
   none : d.entries ≡ []
 
 -- the subsets that were ended, and the one that is being read
-record IsFilling (subset : ℕ) (d : Document) (own : List Heard) : Type 0 where
-  front : List Heard
-  begun : IsBegun d front
+record IsFilling (subset : ℕ) (d : Document) (own : List NumberedLine) : Type 0 where
+  front : List NumberedLine
+  with_open_group : IsBegun d front
   done : List SubsetHeard
   last : SubsetHeard
   are : own ≡ front ++ subsets_heard 1 (done ++ last ∷ [])
@@ -129,19 +129,19 @@ record IsFilling (subset : ℕ) (d : Document) (own : List Heard) : Type 0 where
   entries : d.entries ≡ entries_heard done last.at ++ map item_entry last.items
 
 -- which lines stand before a place in a document
-abbrev IsOpen : Place → List Heard → Type 0
+abbrev IsOpen : ParserState → List NumberedLine → Type 0
 IsOpen Between own = own ≡ []
 IsOpen (Heading d) own = IsHeading d own
 IsOpen (Laying part d) own = IsLaying part d own
 IsOpen (Filling subset d) own = IsFilling subset d own
 IsOpen Stopped own = ⊥
 
-abbrev IsOpenBehind : Turn → List Heard → Type 0
-IsOpenBehind (Goes place) own = IsOpen place own
+abbrev IsOpenBehind : LineEffect → List NumberedLine → Type 0
+IsOpenBehind (WalkGoes place) own = IsOpen place own
 IsOpenBehind (Gives d) own = IsDocument d own
 IsOpenBehind (Faults fault) own = Unit {0}
 
-if-open : (own : List Heard) (b : Bool) (x y : Turn) → (b ≡ true → IsOpenBehind x own) → (b ≡ false → IsOpenBehind y own) → IsOpenBehind (if b then x else y) own
+if-open : (own : List NumberedLine) (b : Bool) (x y : LineEffect) → (b ≡ true → IsOpenBehind x own) → (b ≡ false → IsOpenBehind y own) → IsOpenBehind (if b then x else y) own
 if-open own true x y p q = p refl
 if-open own false x y p q = q refl
 
@@ -153,34 +153,34 @@ not-false true e = refl
 not-false false e = absurd cc
 
 -- a line that is passed over
-passed : (place : Place) (own : List Heard) → IsOpen place own → IsOpen place (own ++ [])
-passed place own is = subst (λ (t : List Heard). IsOpen place t) (sym (append-nil own)) is
+passed : (place : ParserState) (own : List NumberedLine) → IsOpen place own → IsOpen place (own ++ [])
+passed place own is = subst (λ (t : List NumberedLine). IsOpen place t) (sym (append-nil own)) is
 
 -- a header line
-in-order : (d : Document) (at key value : ℕ) (header : List Heard) → key ≡ length d.header → says header ≡ header_says 0 d.header → says (header ++ heard at (Header key value) ∷ []) ≡ header_says 0 (d.header ++ value ∷ [])
+in-order : (d : Document) (at key value : ℕ) (header : List NumberedLine) → key ≡ length d.header → says header ≡ header_says 0 d.header → says (header ++ numbered_line at (Header key value) ∷ []) ≡ header_says 0 (d.header ++ value ∷ [])
 in-order d at key value header is order =
     let e : key ≡ 0 + length d.header = omega (arith, is) in
-    map-append (λ (l : Heard). l.says) header (heard at (Header key value) ∷ []) ∙ ap (λ (t : List Line). t ++ Header key value ∷ []) order
+    map-append (λ (l : NumberedLine). l.says) header (numbered_line at (Header key value) ∷ []) ∙ ap (λ (t : List Line). t ++ Header key value ∷ []) order
     ∙ ap (λ (k : ℕ). header_says 0 d.header ++ Header k value ∷ []) e ∙ sym (headers-more 0 d.header value)
 
-heading-open : (at key value : ℕ) (d : Document) (own : List Heard) → IsHeading d own → IsOpenBehind (heading d (Header key value)) (own ++ heard at (Header key value) ∷ [])
+heading-open : (at key value : ℕ) (d : Document) (own : List NumberedLine) → IsHeading d own → IsOpenBehind (heading d (Header key value)) (own ++ numbered_line at (Header key value) ∷ [])
 heading-open at key value d own is =
-    let here = own ++ heard at (Header key value) ∷ [] in
+    let here = own ++ numbered_line at (Header key value) ∷ [] in
     let next = with_value d value in
-    let taken : Turn = Goes (if key == 19 then Laying 0 next else Heading next) in
-    let ranged : Turn = if not (in_range (edition_in d) key value) then Faults HeaderRange else taken in
+    let taken : LineEffect = WalkGoes (if key == 19 then Laying 0 next else Heading next) in
+    let ranged : LineEffect = if not (in_range (edition_in d) key value) then Faults HeaderRange else taken in
     if-open here (not (key == length d.header)) (Faults NotAllowed) ranged (λ e. tt) (λ e.
     if-open here (not (in_range (edition_in d) key value)) (Faults HeaderRange) taken (λ f. tt) (λ f. by (key == 19) (equal key (length d.header) (not-false (key == length d.header) e))))
   where
-    by : (last : Bool) → key ≡ length d.header → IsOpen (if last then Laying 0 (with_value d value) else Heading (with_value d value)) (own ++ heard at (Header key value) ∷ [])
+    by : (last : Bool) → key ≡ length d.header → IsOpen (if last then Laying 0 (with_value d value) else Heading (with_value d value)) (own ++ numbered_line at (Header key value) ∷ [])
     by true same = record {
-      begun = record {
-        header = is.header ++ heard at (Header key value) ∷ [];
+      with_open_group = record {
+        header = is.header ++ numbered_line at (Header key value) ∷ [];
         laid = [];
         local1 = [];
         section2 = [];
         descriptors = [];
-        are = ap (λ (t : List Heard). t ++ heard at (Header key value) ∷ []) is.are ∙ sym (append-nil (heard d.line Opens ∷ is.header ++ heard at (Header key value) ∷ []));
+        are = ap (λ (t : List NumberedLine). t ++ numbered_line at (Header key value) ∷ []) is.are ∙ sym (append-nil (numbered_line d.line Opens ∷ is.header ++ numbered_line at (Header key value) ∷ []));
         in_order = in-order d at key value is.header same is.in_order;
         parts = refl;
         local1_is = is.bare.local1;
@@ -193,35 +193,35 @@ heading-open at key value d own is =
       none = is.bare.entries;
     }
     by false same = record {
-      header = is.header ++ heard at (Header key value) ∷ [];
-      are = ap (λ (t : List Heard). t ++ heard at (Header key value) ∷ []) is.are;
+      header = is.header ++ numbered_line at (Header key value) ∷ [];
+      are = ap (λ (t : List NumberedLine). t ++ numbered_line at (Header key value) ∷ []) is.are;
       in_order = in-order d at key value is.header same is.in_order;
       bare = record { local1 = is.bare.local1; section2 = is.bare.section2; descriptors = is.bare.descriptors; entries = is.bare.entries };
     }
 
 -- one more line of the parts before the subsets
-laid-more : (d : Document) (own : List Heard) (b : IsBegun d own) (x : Heard) → own ++ x ∷ [] ≡ (heard d.line Opens ∷ b.header) ++ (b.laid ++ x ∷ [])
-laid-more d own b x = ap (λ (t : List Heard). t ++ x ∷ []) b.are ∙ append_assoc (heard d.line Opens ∷ b.header) b.laid (x ∷ [])
+laid-more : (d : Document) (own : List NumberedLine) (b : IsBegun d own) (x : NumberedLine) → own ++ x ∷ [] ≡ (numbered_line d.line Opens ∷ b.header) ++ (b.laid ++ x ∷ [])
+laid-more d own b x = ap (λ (t : List NumberedLine). t ++ x ∷ []) b.are ∙ append_assoc (numbered_line d.line Opens ∷ b.header) b.laid (x ∷ [])
 
-says-more : (laid : List Heard) (x : Heard) (lines : List Line) → says laid ≡ lines → says (laid ++ x ∷ []) ≡ lines ++ x.says ∷ []
-says-more laid x lines is = map-append (λ (l : Heard). l.says) laid (x ∷ []) ∙ ap (λ (t : List Line). t ++ x.says ∷ []) is
+says-more : (laid : List NumberedLine) (x : NumberedLine) (lines : List Line) → says laid ≡ lines → says (laid ++ x ∷ []) ≡ lines ++ x.says ∷ []
+says-more laid x lines is = map-append (λ (l : NumberedLine). l.says) laid (x ∷ []) ∙ ap (λ (t : List Line). t ++ x.says ∷ []) is
 
-local1-open : (at : ℕ) (d : Document) (octets : List ℕ) (own : List Heard) → IsLaying 0 d own → IsLaying 0 (with_local1 d octets) (own ++ heard at (Local1 octets) ∷ [])
+local1-open : (at : ℕ) (d : Document) (octets : List ℕ) (own : List NumberedLine) → IsLaying 0 d own → IsLaying 0 (with_local1 d octets) (own ++ numbered_line at (Local1 octets) ∷ [])
 local1-open at d octets own is =
-    let b = is.begun in
+    let b = is.with_open_group in
     let none2 = is.before_section2 refl in
     let none3 = is.before_descriptors (omega arith) in
     let before : says b.laid ≡ map Local1 b.local1 = b.parts ∙ ap (λ (t : List (List ℕ)). map Local1 b.local1 ++ (map Section2 t ++ map Descriptors b.descriptors)) none2 ∙ ap (λ (t : List (List ℕ)). map Local1 b.local1 ++ map Descriptors t) none3 ∙ append-nil (map Local1 b.local1) in
     record {
-      begun = record {
+      with_open_group = record {
         header = b.header;
-        laid = b.laid ++ heard at (Local1 octets) ∷ [];
+        laid = b.laid ++ numbered_line at (Local1 octets) ∷ [];
         local1 = b.local1 ++ octets ∷ [];
         section2 = [];
         descriptors = [];
-        are = laid-more d own b (heard at (Local1 octets));
+        are = laid-more d own b (numbered_line at (Local1 octets));
         in_order = b.in_order;
-        parts = says-more b.laid (heard at (Local1 octets)) (map Local1 b.local1) before ∙ sym (map-append Local1 b.local1 (octets ∷ [])) ∙ sym (append-nil (map Local1 (b.local1 ++ octets ∷ [])));
+        parts = says-more b.laid (numbered_line at (Local1 octets)) (map Local1 b.local1) before ∙ sym (map-append Local1 b.local1 (octets ∷ [])) ∙ sym (append-nil (map Local1 (b.local1 ++ octets ∷ [])));
         local1_is = ap (λ (t : List ℕ). t ++ octets) b.local1_is ∙ sym (concat-more b.local1 octets);
         section2_is = b.section2_is ∙ ap (λ (t : List (List ℕ)). concat t) none2;
         descriptors_are = b.descriptors_are ∙ ap (λ (t : List (List ℕ)). concat t) none3;
@@ -232,22 +232,22 @@ local1-open at d octets own is =
       none = is.none;
     }
 
-section2-open : (at part : ℕ) (d : Document) (octets : List ℕ) (own : List Heard) → part ≤ 1 → optional_in d ≡ 1 → IsLaying part d own → IsLaying 1 (with_section2 d octets) (own ++ heard at (Section2 octets) ∷ [])
+section2-open : (at part : ℕ) (d : Document) (octets : List ℕ) (own : List NumberedLine) → part ≤ 1 → optional_in d ≡ 1 → IsLaying part d own → IsLaying 1 (with_section2 d octets) (own ++ numbered_line at (Section2 octets) ∷ [])
 section2-open at part d octets own early flag is =
-    let b = is.begun in
+    let b = is.with_open_group in
     let none3 = is.before_descriptors early in
     let first = map Local1 b.local1 in
     let before : says b.laid ≡ first ++ map Section2 b.section2 = b.parts ∙ ap (λ (t : List (List ℕ)). first ++ (map Section2 b.section2 ++ map Descriptors t)) none3 ∙ ap (λ (t : List Line). first ++ t) (append-nil (map Section2 b.section2)) in
     record {
-      begun = record {
+      with_open_group = record {
         header = b.header;
-        laid = b.laid ++ heard at (Section2 octets) ∷ [];
+        laid = b.laid ++ numbered_line at (Section2 octets) ∷ [];
         local1 = b.local1;
         section2 = b.section2 ++ octets ∷ [];
         descriptors = [];
-        are = laid-more d own b (heard at (Section2 octets));
+        are = laid-more d own b (numbered_line at (Section2 octets));
         in_order = b.in_order;
-        parts = says-more b.laid (heard at (Section2 octets)) (first ++ map Section2 b.section2) before ∙ append_assoc first (map Section2 b.section2) (Section2 octets ∷ [])
+        parts = says-more b.laid (numbered_line at (Section2 octets)) (first ++ map Section2 b.section2) before ∙ append_assoc first (map Section2 b.section2) (Section2 octets ∷ [])
             ∙ ap (λ (t : List Line). first ++ t) (sym (map-append Section2 b.section2 (octets ∷ [])) ∙ sym (append-nil (map Section2 (b.section2 ++ octets ∷ []))));
         local1_is = b.local1_is;
         section2_is = ap (λ (t : List ℕ). t ++ octets) b.section2_is ∙ sym (concat-more b.section2 octets);
@@ -259,21 +259,21 @@ section2-open at part d octets own early flag is =
       none = is.none;
     }
 
-descriptors-open : (at part : ℕ) (d : Document) (words : List ℕ) (own : List Heard) → IsLaying part d own → IsLaying 2 (with_descriptors d words) (own ++ heard at (Descriptors words) ∷ [])
+descriptors-open : (at part : ℕ) (d : Document) (words : List ℕ) (own : List NumberedLine) → IsLaying part d own → IsLaying 2 (with_descriptors d words) (own ++ numbered_line at (Descriptors words) ∷ [])
 descriptors-open at part d words own is =
-    let b = is.begun in
+    let b = is.with_open_group in
     let first = map Local1 b.local1 in
     let second = map Section2 b.section2 in
     record {
-      begun = record {
+      with_open_group = record {
         header = b.header;
-        laid = b.laid ++ heard at (Descriptors words) ∷ [];
+        laid = b.laid ++ numbered_line at (Descriptors words) ∷ [];
         local1 = b.local1;
         section2 = b.section2;
         descriptors = b.descriptors ++ words ∷ [];
-        are = laid-more d own b (heard at (Descriptors words));
+        are = laid-more d own b (numbered_line at (Descriptors words));
         in_order = b.in_order;
-        parts = says-more b.laid (heard at (Descriptors words)) (first ++ (second ++ map Descriptors b.descriptors)) b.parts ∙ append_assoc first (second ++ map Descriptors b.descriptors) (Descriptors words ∷ [])
+        parts = says-more b.laid (numbered_line at (Descriptors words)) (first ++ (second ++ map Descriptors b.descriptors)) b.parts ∙ append_assoc first (second ++ map Descriptors b.descriptors) (Descriptors words ∷ [])
             ∙ ap (λ (t : List Line). first ++ t) (append_assoc second (map Descriptors b.descriptors) (Descriptors words ∷ []) ∙ ap (λ (t : List Line). second ++ t) (sym (map-append Descriptors b.descriptors (words ∷ []))));
         local1_is = b.local1_is;
         section2_is = b.section2_is;
@@ -289,23 +289,23 @@ descriptors-open at part d words own is =
 is-next : (subset read most : ℕ) → ((subset == read + 1) && nat_le subset most) ≡ true → subset ≡ read + 1
 is-next subset read most e = equal subset (read + 1) (and_first (subset == read + 1) (nat_le subset most) e)
 
-first-open : (at part subset : ℕ) (d : Document) (own : List Heard) → IsLaying part d own → IsOpenBehind (beginning 0 d subset) (own ++ heard at (Begins subset) ∷ [])
+first-open : (at part subset : ℕ) (d : Document) (own : List NumberedLine) → IsLaying part d own → IsOpenBehind (beginning 0 d subset) (own ++ numbered_line at (Begins subset) ∷ [])
 first-open at part subset d own is =
-    if-open (own ++ heard at (Begins subset) ∷ []) ((subset == 0 + 1) && nat_le subset (subsets_in d)) (Goes (Filling subset d)) (Faults SubsetCount) (λ e.
+    if-open (own ++ numbered_line at (Begins subset) ∷ []) ((subset == 0 + 1) && nat_le subset (subsets_in d)) (WalkGoes (Filling subset d)) (Faults SubsetCount) (λ e.
     let number : subset ≡ 1 = is-next subset 0 (subsets_in d) e in record {
       front = own;
-      begun = is.begun;
+      with_open_group = is.with_open_group;
       done = [];
       last = bare_subset at;
-      are = ap (λ (n : ℕ). own ++ heard at (Begins n) ∷ []) number;
+      are = ap (λ (n : ℕ). own ++ numbered_line at (Begins n) ∷ []) number;
       counted = number;
       entries = is.none;
     }) (λ e. tt)
 
-none-open : (at part : ℕ) (d : Document) (own : List Heard) → IsLaying part d own → IsOpenBehind (closing 0 d) (own ++ heard at Closes ∷ [])
+none-open : (at part : ℕ) (d : Document) (own : List NumberedLine) → IsLaying part d own → IsOpenBehind (closing 0 d) (own ++ numbered_line at Closes ∷ [])
 none-open at part d own is =
-    let b = is.begun in
-    if-open (own ++ heard at Closes ∷ []) (0 == subsets_in d) (Gives d) (Faults SubsetCount) (λ e. record {
+    let b = is.with_open_group in
+    if-open (own ++ numbered_line at Closes ∷ []) (0 == subsets_in d) (Gives d) (Faults SubsetCount) (λ e. record {
       header = b.header;
       local1 = b.local1;
       section2 = b.section2;
@@ -313,7 +313,7 @@ none-open at part d own is =
       laid = b.laid;
       subsets = [];
       end = at;
-      are = laid-more d own b (heard at Closes);
+      are = laid-more d own b (numbered_line at Closes);
       in_order = b.in_order;
       parts = b.parts;
       local1_is = b.local1_is;
@@ -324,7 +324,7 @@ none-open at part d own is =
       entries = is.none;
     }) (λ e. tt)
 
-begun-still : (d : Document) (entry : Entry) (own : List Heard) → IsBegun d own → IsBegun (with_entry d entry) own
+begun-still : (d : Document) (entry : DraftEntry) (own : List NumberedLine) → IsBegun d own → IsBegun (with_entry d entry) own
 begun-still d entry own b = record {
   header = b.header;
   laid = b.laid;
@@ -341,41 +341,41 @@ begun-still d entry own b = record {
 }
 
 -- the entries of the subsets that are ended at a line
-ended-entries : (at subset : ℕ) (d : Document) (own : List Heard) (is : IsFilling subset d own) → d.entries ++ Ends at ∷ [] ≡ entries_heard (is.done ++ is.last ∷ []) at
-ended-entries at subset d own is = ap (λ (t : List Entry). t ++ Ends at ∷ []) is.entries ∙ sym (entries-more is.done is.last at)
+ended-entries : (at subset : ℕ) (d : Document) (own : List NumberedLine) (is : IsFilling subset d own) → d.entries ++ Ends at ∷ [] ≡ entries_heard (is.done ++ is.last ∷ []) at
+ended-entries at subset d own is = ap (λ (t : List DraftEntry). t ++ Ends at ∷ []) is.entries ∙ sym (entries-more is.done is.last at)
 
-next-open : (at subset next : ℕ) (d : Document) (own : List Heard) → IsFilling subset d own → IsOpenBehind (beginning subset (with_entry d (Ends at)) next) (own ++ heard at (Begins next) ∷ [])
+next-open : (at subset next : ℕ) (d : Document) (own : List NumberedLine) → IsFilling subset d own → IsOpenBehind (beginning subset (with_entry d (Ends at)) next) (own ++ numbered_line at (Begins next) ∷ [])
 next-open at subset next d own is =
     let parts = is.done ++ is.last ∷ [] in
-    if-open (own ++ heard at (Begins next) ∷ []) ((next == subset + 1) && nat_le next (subsets_in d)) (Goes (Filling next (with_entry d (Ends at)))) (Faults SubsetCount) (λ e.
+    if-open (own ++ numbered_line at (Begins next) ∷ []) ((next == subset + 1) && nat_le next (subsets_in d)) (WalkGoes (Filling next (with_entry d (Ends at)))) (Faults SubsetCount) (λ e.
     let number : next ≡ 1 + length parts = omega (arith, is-next next subset (subsets_in d) e, is.counted, length-append is.done (is.last ∷ [])) in record {
       front = is.front;
-      begun = begun-still d (Ends at) is.front is.begun;
+      with_open_group = begun-still d (Ends at) is.front is.with_open_group;
       done = parts;
       last = bare_subset at;
-      are = ap (λ (t : List Heard). t ++ heard at (Begins next) ∷ []) is.are ∙ append_assoc is.front (subsets_heard 1 parts) (heard at (Begins next) ∷ [])
-          ∙ ap (λ (t : List Heard). is.front ++ t) (ap (λ (n : ℕ). subsets_heard 1 parts ++ heard at (Begins n) ∷ []) number ∙ sym (part-more 1 parts at));
+      are = ap (λ (t : List NumberedLine). t ++ numbered_line at (Begins next) ∷ []) is.are ∙ append_assoc is.front (subsets_heard 1 parts) (numbered_line at (Begins next) ∷ [])
+          ∙ ap (λ (t : List NumberedLine). is.front ++ t) (ap (λ (n : ℕ). subsets_heard 1 parts ++ numbered_line at (Begins n) ∷ []) number ∙ sym (part-more 1 parts at));
       counted = omega (arith, number);
       entries = ended-entries at subset d own is ∙ sym (append-nil (entries_heard parts at));
     }) (λ e. tt)
 
-item-open : (at subset : ℕ) (d : Document) (own : List Heard) (i : Element) → i.at ≡ at → IsFilling subset d own → IsFilling subset (with_entry d (item_entry i)) (own ++ item_line i ∷ [])
+item-open : (at subset : ℕ) (d : Document) (own : List NumberedLine) (i : Element) → i.at ≡ at → IsFilling subset d own → IsFilling subset (with_entry d (item_entry i)) (own ++ item_line i ∷ [])
 item-open at subset d own i here is = record {
   front = is.front;
-  begun = begun-still d (item_entry i) is.front is.begun;
+  with_open_group = begun-still d (item_entry i) is.front is.with_open_group;
   done = is.done;
   last = with_item is.last i;
-  are = ap (λ (t : List Heard). t ++ item_line i ∷ []) is.are ∙ append_assoc is.front (subsets_heard 1 (is.done ++ is.last ∷ [])) (item_line i ∷ []) ∙ ap (λ (t : List Heard). is.front ++ t) (sym (item-more 1 is.done is.last i));
+  are = ap (λ (t : List NumberedLine). t ++ item_line i ∷ []) is.are ∙ append_assoc is.front (subsets_heard 1 (is.done ++ is.last ∷ [])) (item_line i ∷ []) ∙ ap (λ (t : List NumberedLine). is.front ++ t) (sym (item-more 1 is.done is.last i));
   counted = is.counted;
-  entries = ap (λ (t : List Entry). t ++ item_entry i ∷ []) is.entries ∙ append_assoc (entries_heard is.done is.last.at) (map item_entry is.last.items) (item_entry i ∷ [])
-      ∙ ap (λ (t : List Entry). entries_heard is.done is.last.at ++ t) (sym (map-append item_entry is.last.items (i ∷ [])));
+  entries = ap (λ (t : List DraftEntry). t ++ item_entry i ∷ []) is.entries ∙ append_assoc (entries_heard is.done is.last.at) (map item_entry is.last.items) (item_entry i ∷ [])
+      ∙ ap (λ (t : List DraftEntry). entries_heard is.done is.last.at ++ t) (sym (map-append item_entry is.last.items (i ∷ [])));
 }
 
-end-open : (at subset : ℕ) (d : Document) (own : List Heard) → IsFilling subset d own → IsOpenBehind (closing subset (with_entry d (Ends at))) (own ++ heard at Closes ∷ [])
+end-open : (at subset : ℕ) (d : Document) (own : List NumberedLine) → IsFilling subset d own → IsOpenBehind (closing subset (with_entry d (Ends at))) (own ++ numbered_line at Closes ∷ [])
 end-open at subset d own is =
-    let b = is.begun in
+    let b = is.with_open_group in
     let parts = is.done ++ is.last ∷ [] in
-    if-open (own ++ heard at Closes ∷ []) (subset == subsets_in d) (Gives (with_entry d (Ends at))) (Faults SubsetCount) (λ e. record {
+    if-open (own ++ numbered_line at Closes ∷ []) (subset == subsets_in d) (Gives (with_entry d (Ends at))) (Faults SubsetCount) (λ e. record {
       header = b.header;
       local1 = b.local1;
       section2 = b.section2;
@@ -383,9 +383,9 @@ end-open at subset d own is =
       laid = b.laid;
       subsets = parts;
       end = at;
-      are = ap (λ (t : List Heard). t ++ heard at Closes ∷ []) (is.are ∙ ap (λ (t : List Heard). t ++ subsets_heard 1 parts) b.are ∙ append_assoc (heard d.line Opens ∷ b.header) b.laid (subsets_heard 1 parts))
-          ∙ append_assoc (heard d.line Opens ∷ b.header) (b.laid ++ subsets_heard 1 parts) (heard at Closes ∷ [])
-          ∙ ap (λ (t : List Heard). (heard d.line Opens ∷ b.header) ++ t) (append_assoc b.laid (subsets_heard 1 parts) (heard at Closes ∷ []));
+      are = ap (λ (t : List NumberedLine). t ++ numbered_line at Closes ∷ []) (is.are ∙ ap (λ (t : List NumberedLine). t ++ subsets_heard 1 parts) b.are ∙ append_assoc (numbered_line d.line Opens ∷ b.header) b.laid (subsets_heard 1 parts))
+          ∙ append_assoc (numbered_line d.line Opens ∷ b.header) (b.laid ++ subsets_heard 1 parts) (numbered_line at Closes ∷ [])
+          ∙ ap (λ (t : List NumberedLine). (numbered_line d.line Opens ∷ b.header) ++ t) (append_assoc b.laid (subsets_heard 1 parts) (numbered_line at Closes ∷ []));
       in_order = b.in_order;
       parts = b.parts;
       local1_is = b.local1_is;
@@ -396,22 +396,22 @@ end-open at subset d own is =
       entries = ended-entries at subset d own is;
     }) (λ e. tt)
 
-by-part : (at part : ℕ) (d : Document) (octets : List ℕ) (own : List Heard) (b : Bool) → (part == 0) ≡ b → IsLaying part d own → IsOpenBehind (if b then Goes (Laying 0 (with_local1 d octets)) else Faults NotAllowed) (own ++ heard at (Local1 octets) ∷ [])
+by-part : (at part : ℕ) (d : Document) (octets : List ℕ) (own : List NumberedLine) (b : Bool) → (part == 0) ≡ b → IsLaying part d own → IsOpenBehind (if b then WalkGoes (Laying 0 (with_local1 d octets)) else Faults NotAllowed) (own ++ numbered_line at (Local1 octets) ∷ [])
 by-part at part d octets own true e is = local1-open at d octets own (subst (λ (n : ℕ). IsLaying n d own) (equal part 0 e) is)
 by-part at part d octets own false e is = tt
 
-by-flag : (at part : ℕ) (d : Document) (octets : List ℕ) (own : List Heard) → IsLaying part d own → IsOpenBehind (if nat_le part 1 && (optional_in d == 1) then Goes (Laying 1 (with_section2 d octets)) else Faults NotAllowed) (own ++ heard at (Section2 octets) ∷ [])
+by-flag : (at part : ℕ) (d : Document) (octets : List ℕ) (own : List NumberedLine) → IsLaying part d own → IsOpenBehind (if nat_le part 1 && (optional_in d == 1) then WalkGoes (Laying 1 (with_section2 d octets)) else Faults NotAllowed) (own ++ numbered_line at (Section2 octets) ∷ [])
 by-flag at part d octets own is =
-    if-open (own ++ heard at (Section2 octets) ∷ []) (nat_le part 1 && (optional_in d == 1)) (Goes (Laying 1 (with_section2 d octets))) (Faults NotAllowed) (λ e.
+    if-open (own ++ numbered_line at (Section2 octets) ∷ []) (nat_le part 1 && (optional_in d == 1)) (WalkGoes (Laying 1 (with_section2 d octets))) (Faults NotAllowed) (λ e.
     let early : nat_le part 1 ≡ true = and_first (nat_le part 1) (optional_in d == 1) e in
     let most : part ≤ 1 = grind (arith, nat_tests, early) in
     section2-open at part d octets own most (equal (optional_in d) 1 (and_second (nat_le part 1) (optional_in d == 1) e)) is) (λ e. tt)
 
 -- each line keeps it
-turn-opens : (at : ℕ) (place : Place) (line : Line) (own : List Heard) → IsOpen place own → IsOpenBehind (turn at place line) (own ++ one at line)
+turn-opens : (at : ℕ) (place : ParserState) (line : Line) (own : List NumberedLine) → IsOpen place own → IsOpenBehind (turn at place line) (own ++ one at line)
 unfolding turn
 turn-opens at Between Passed own is = passed Between own is
-turn-opens at Between Opens own is = record { header = []; are = ap (λ (t : List Heard). t ++ heard at Opens ∷ []) is; in_order = refl; bare = record { local1 = refl; section2 = refl; descriptors = refl; entries = refl } }
+turn-opens at Between Opens own is = record { header = []; are = ap (λ (t : List NumberedLine). t ++ numbered_line at Opens ∷ []) is; in_order = refl; bare = record { local1 = refl; section2 = refl; descriptors = refl; entries = refl } }
 turn-opens at Between (Header key value) own is = tt
 turn-opens at Between (Local1 octets) own is = tt
 turn-opens at Between (Section2 octets) own is = tt
@@ -452,28 +452,28 @@ turn-opens at (Filling subset d) Closes own is = end-open at subset d own is
 turn-opens at (Filling subset d) Wrong own is = tt
 turn-opens at Stopped line own is = absurd is
 
-on : (at : ℕ) (line : List ℕ) (more : List (List ℕ)) (own : List Heard) → (own ++ one at (said line)) ++ heard_from (at + 1) more ≡ own ++ heard_from at (line ∷ more)
-unfolding heard_from
-on at line more own = append_assoc own (one at (said line)) (heard_from (at + 1) more) ∙ ap (λ (t : List Heard). own ++ t) (sym (onto-one at (said line) (heard_from (at + 1) more)))
+on : (at : ℕ) (line : List ℕ) (more : List (List ℕ)) (own : List NumberedLine) → (own ++ one at (line_within_limit line)) ++ numbered_lines (at + 1) more ≡ own ++ numbered_lines at (line ∷ more)
+unfolding numbered_lines
+on at line more own = append_assoc own (one at (line_within_limit line)) (numbered_lines (at + 1) more) ∙ ap (λ (t : List NumberedLine). own ++ t) (sym (onto-one at (line_within_limit line) (numbered_lines (at + 1) more)))
 
-end-told : (at : ℕ) (place : Place) (own : List Heard) → IsOpen place own → AreTold (own ++ []) (told_at_end at place)
+end-told : (at : ℕ) (place : ParserState) (own : List NumberedLine) → IsOpen place own → AreTold (own ++ []) (told_at_end at place)
 end-told at Between own is = append-nil own ∙ is
 end-told at (Heading d) own is = refl
 end-told at (Laying part d) own is = refl
 end-told at (Filling subset d) own is = refl
 end-told at Stopped own is = absurd is
 
-told-on : (at : ℕ) (line : List ℕ) (more : List (List ℕ)) (own : List Heard) (here : Turn) → IsOpenBehind here (own ++ one at (said line))
-    → ((next : Place) (own' : List Heard) → IsOpen next own' → AreTold (own' ++ heard_from (at + 1) more) (spelled (at + 1) next more))
-    → AreTold (own ++ heard_from at (line ∷ more)) (told_at at here ++ spelled (at + 1) (place_after here) more)
-told-on at line more own (Goes next) opens rest = subst (λ (t : List Heard). AreTold t (spelled (at + 1) next more)) (on at line more own) (rest next (own ++ one at (said line)) opens)
-told-on at line more own (Gives d) is rest = (own ++ one at (said line), heard_from (at + 1) more, sym (on at line more own), is, rest Between [] refl)
+told-on : (at : ℕ) (line : List ℕ) (more : List (List ℕ)) (own : List NumberedLine) (here : LineEffect) → IsOpenBehind here (own ++ one at (line_within_limit line))
+    → ((next : ParserState) (own' : List NumberedLine) → IsOpen next own' → AreTold (own' ++ numbered_lines (at + 1) more) (parse_lines (at + 1) next more))
+    → AreTold (own ++ numbered_lines at (line ∷ more)) (told_at at here ++ parse_lines (at + 1) (place_after here) more)
+told-on at line more own (WalkGoes next) opens rest = subst (λ (t : List NumberedLine). AreTold t (parse_lines (at + 1) next more)) (on at line more own) (rest next (own ++ one at (line_within_limit line)) opens)
+told-on at line more own (Gives d) is rest = (own ++ one at (line_within_limit line), numbered_lines (at + 1) more, sym (on at line more own), is, rest Between [] refl)
 told-on at line more own (Faults fault) is rest = stopped-tells (at + 1) more
 
-lines-told : (at : ℕ) (place : Place) (lines : List (List ℕ)) (own : List Heard) → IsOpen place own → AreTold (own ++ heard_from at lines) (spelled at place lines)
-unfolding spelled heard_from
+lines-told : (at : ℕ) (place : ParserState) (lines : List (List ℕ)) (own : List NumberedLine) → IsOpen place own → AreTold (own ++ numbered_lines at lines) (parse_lines at place lines)
+unfolding parse_lines numbered_lines
 lines-told at place [] own is = end-told at place own is
-lines-told at place (line ∷ more) own is = told-on at line more own (turn at place (said line)) (turn-opens at place (said line) own is) (λ next own' opens. lines-told (at + 1) next more own' opens)
+lines-told at place (line ∷ more) own is = told-on at line more own (turn at place (line_within_limit line)) (turn-opens at place (line_within_limit line) own is) (λ next own' opens. lines-told (at + 1) next more own' opens)
 
-pub text-told : (text : List ℕ) → AreTold (heard_from 1 (lines_of text)) (documents_of text)
+pub text-told : (text : List ℕ) → AreTold (numbered_lines 1 (lines_of text)) (documents_of text)
 text-told text = lines-told 1 Between (lines_of text) [] refl

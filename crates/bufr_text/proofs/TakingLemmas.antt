@@ -4,15 +4,15 @@ use Rattle.std.specs.List.{AllByRecursion}
 use Rattle.std.proofs.lemmas.Grind.{common_steps}
 use Rattle.bufr_text.specs.Document as spec
 use Rattle.bufr_text.specs.Documents as documents
-use Rattle.bufr_text.specs.Documents.{said, place_after, told_at}
-use Rattle.bufr_text.specs.Dump.{text_of}
-use Rattle.bufr_text.specs.Reading.{has_no_feed, Stand, GoesOn, Passes}
-use Rattle.bufr_text.specs.Step.{place_with, fault_of, turned, Stands, StandsAfter}
-use Rattle.bufr_text.specs.Taking.{FeedAt, told_of, stand_of, stand_behind, TakesSo, IsTaking}
+use Rattle.bufr_text.specs.Documents.{line_within_limit, place_after, told_at}
+use Rattle.bufr_text.specs.Dump.{text_of_lines}
+use Rattle.bufr_text.specs.Reading.{has_no_feed, ReaderPosition, ContinuesParse, TakesWholeLines}
+use Rattle.bufr_text.specs.Step.{place_with, line_fault_of, turned, IsParserState, StandsAfter}
+use Rattle.bufr_text.specs.TakingLines.{FeedAt, step_results, stand_of, stand_behind, TakesLines, IsTaking}
 use Rattle.bufr_text.specs.declared.progress.Progress.{Progress}
-use Rattle.bufr_text.specs.declared.progress.TakingEnd.TheVariants as taken
-use Rattle.bufr_text.specs.declared.step.Turn.TheVariants as turn
-use Rattle.bufr_text.specs.declared.step.Place.{Place}
+use Rattle.bufr_text.specs.declared.progress.TakeResult.TheVariants as taken
+use Rattle.bufr_text.specs.declared.step.LineEffect.TheVariants as turn
+use Rattle.bufr_text.specs.declared.step.ParserState.{ParserState}
 use Rattle.bufr_text.specs.declared.step.LineRefusal.{LineRefusal}
 use Rattle.bufr_text.proofs.HeaderLemmas.{turn-stands}
 use Rattle.bufr_text.proofs.SoundLemmas.{said-sound}
@@ -23,100 +23,100 @@ drop-on : (a b : ℕ) (s : List ℕ) → drop a (drop b s) ≡ drop (b + a) s
 drop-on a b s = grind (arith, common_steps)
 
 -- a line is taken
-line-taken : (new : Progress) (held : List ℕ) (from n : ℕ) (t : documents.Turn) (ended : Bool) → FeedAt (drop from held) (Some n)
-    → t ≡ documents.turn new.at (place_with new.place new.parts) (said (take n (drop from held)))
-    → GoesOn (stand_of new (drop from held) ended) (record { at = new.at + 1; place = place_after t; held = drop (from + (n + 1)) held; ended = ended }) (told_at new.at t)
+line-taken : (new : Progress) (held : List ℕ) (from n : ℕ) (t : documents.LineEffect) (ended : Bool) → FeedAt (drop from held) (Some n)
+    → t ≡ documents.turn new.at (place_with new.place new.parts) (line_within_limit (take n (drop from held)))
+    → ContinuesParse (stand_of new (drop from held) ended) (record { at = new.at + 1; place = place_after t; held = drop (from + (n + 1)) held; ended = ended }) (told_at new.at t)
 line-taken new held from n t ended feed e =
     let place = place_with new.place new.parts in
     let line = take n (drop from held) in
-    let P : documents.Turn → List ℕ → List ℕ → Type 0 = λ t before behind. GoesOn (record { at = new.at; place = place; held = before; ended = ended }) (record { at = new.at + 1; place = place_after t; held = behind; ended = ended }) (told_at new.at t) in
+    let P : documents.LineEffect → List ℕ → List ℕ → Type 0 = λ t before behind. ContinuesParse (record { at = new.at; place = place; held = before; ended = ended }) (record { at = new.at + 1; place = place_after t; held = behind; ended = ended }) (told_at new.at t) in
     let here = takes-line new.at place line (drop (n + 1) (drop from held)) ended feed.1 in
     subst (λ (b : List ℕ). P t (drop from held) b) (drop-on (n + 1) from held)
     (subst (λ (b : List ℕ). P t b (drop (n + 1) (drop from held))) (sym feed.2)
-    (subst (λ (t : documents.Turn). P t (line ++ 10 ∷ drop (n + 1) (drop from held)) (drop (n + 1) (drop from held))) (sym e) here))
+    (subst (λ (t : documents.LineEffect). P t (line ++ 10 ∷ drop (n + 1) (drop from held)) (drop (n + 1) (drop from held))) (sym e) here))
 
 -- lines, and then more
-pub text-append : (a b : List (List ℕ)) → text_of (a ++ b) ≡ text_of a ++ text_of b
+pub text-append : (a b : List (List ℕ)) → text_of_lines (a ++ b) ≡ text_of_lines a ++ text_of_lines b
 text-append [] b = refl
-text-append (line ∷ a) b = ap (λ (t : List ℕ). (line ++ 10 ∷ []) ++ t) (text-append a b) ∙ sym (append_assoc (line ++ 10 ∷ []) (text_of a) (text_of b))
+text-append (line ∷ a) b = ap (λ (t : List ℕ). (line ++ 10 ∷ []) ++ t) (text-append a b) ∙ sym (append_assoc (line ++ 10 ∷ []) (text_of_lines a) (text_of_lines b))
 
 pub all-append : (P : List ℕ → Type 0) (a b : List (List ℕ)) → AllByRecursion P a → AllByRecursion P b → AllByRecursion P (a ++ b)
 all-append P [] b x y = y
 all-append P (line ∷ a) b x y = (x.0, all-append P a b x.1 y)
 
-pub passes-none : (at : ℕ) (held : List ℕ) → Passes at held at held
+pub passes-none : (at : ℕ) (held : List ℕ) → TakesWholeLines at held at held
 passes-none at held = record { lines = []; single = tt; counted = omega arith; octets = refl }
 
-pub passes-line : (at at' : ℕ) (held rest line more : List ℕ) → Passes at held at' rest → has_no_feed line ≡ true → rest ≡ line ++ 10 ∷ more → Passes at held (at' + 1) more
+pub passes-line : (at at' : ℕ) (held rest line more : List ℕ) → TakesWholeLines at held at' rest → has_no_feed line ≡ true → rest ≡ line ++ 10 ∷ more → TakesWholeLines at held (at' + 1) more
 passes-line at at' held rest line more p clean e = record {
   lines = p.lines ++ line ∷ [];
   single = all-append (λ line. has_no_feed line ≡ true) p.lines (line ∷ []) p.single (clean, tt);
   counted = omega (arith, p.counted, length-append p.lines (line ∷ []));
-  octets = p.octets ∙ ap (λ (t : List ℕ). text_of p.lines ++ t) e
-      ∙ ap (λ (t : List ℕ). text_of p.lines ++ t) (sym (append_assoc line (10 ∷ []) more))
-      ∙ sym (append_assoc (text_of p.lines) (line ++ 10 ∷ []) more)
-      ∙ ap (λ (t : List ℕ). t ++ more) (ap (λ (t : List ℕ). text_of p.lines ++ t) (one-line line) ∙ sym (text-append p.lines (line ∷ [])));
+  octets = p.octets ∙ ap (λ (t : List ℕ). text_of_lines p.lines ++ t) e
+      ∙ ap (λ (t : List ℕ). text_of_lines p.lines ++ t) (sym (append_assoc line (10 ∷ []) more))
+      ∙ sym (append_assoc (text_of_lines p.lines) (line ++ 10 ∷ []) more)
+      ∙ ap (λ (t : List ℕ). t ++ more) (ap (λ (t : List ℕ). text_of_lines p.lines ++ t) (one-line line) ∙ sym (text-append p.lines (line ∷ [])));
 }
   where
-    one-line : (line : List ℕ) → line ++ 10 ∷ [] ≡ text_of (line ∷ [])
+    one-line : (line : List ℕ) → line ++ 10 ∷ [] ≡ text_of_lines (line ∷ [])
     one-line line = sym (append-nil (line ++ 10 ∷ []))
 
-passes-feed : (at at' : ℕ) (held : List ℕ) (from n : ℕ) → Passes at held at' (drop from held) → FeedAt (drop from held) (Some n) → Passes at held (at' + 1) (drop (from + (n + 1)) held)
+passes-feed : (at at' : ℕ) (held : List ℕ) (from n : ℕ) → TakesWholeLines at held at' (drop from held) → FeedAt (drop from held) (Some n) → TakesWholeLines at held (at' + 1) (drop (from + (n + 1)) held)
 passes-feed at at' held from n p feed =
-    let P : List ℕ → Type 0 = λ t. Passes at held (at' + 1) t in
+    let P : List ℕ → Type 0 = λ t. TakesWholeLines at held (at' + 1) t in
     subst P (drop-on (n + 1) from held) (passes-line at at' held (drop from held) (take n (drop from held)) (drop (n + 1) (drop from held)) p feed.1 feed.2)
 
 -- what holds behind a turn
-stands-behind : (new : Progress) (t : documents.Turn) (line : List ℕ) → Stands new.at (place_with new.place new.parts) → 0 < new.at → t ≡ documents.turn new.at (place_with new.place new.parts) (said line) → StandsAfter new.at t
-stands-behind new t line s some e = subst (StandsAfter new.at) (sym e) (turn-stands new.at (place_with new.place new.parts) (said line) some (said-sound line) s)
+stands-behind : (new : Progress) (t : documents.LineEffect) (line : List ℕ) → IsParserState new.at (place_with new.place new.parts) → 0 < new.at → t ≡ documents.turn new.at (place_with new.place new.parts) (line_within_limit line) → StandsAfter new.at t
+stands-behind new t line s some e = subst (StandsAfter new.at) (sym e) (turn-stands new.at (place_with new.place new.parts) (line_within_limit line) some (said-sound line) s)
 
-further : (a b c : Stand) (x : List documents.Told) → b.ended ≡ c.ended → GoesOn a b [] → GoesOn b c x → GoesOn a c x
+further : (a b c : ReaderPosition) (x : List documents.ParseResult) → b.ended ≡ c.ended → ContinuesParse a b [] → ContinuesParse b c x → ContinuesParse a c x
 further a b c x same f g = goes-further a b c [] x (λ e. sym same ∙ e) f g
 
-pub taking-goes : (old new : Progress) (held : List ℕ) (from n : ℕ) (place : Place) (d : spec.Document) → IsTaking old new held from → FeedAt (drop from held) (Some n)
-    → turned (turn.Goes place) d ≡ documents.turn new.at (place_with new.place new.parts) (said (take n (drop from held)))
+pub taking-goes : (old new : Progress) (held : List ℕ) (from n : ℕ) (place : ParserState) (d : spec.Document) → IsTaking old new held from → FeedAt (drop from held) (Some n)
+    → turned (turn.WalkGoes place) d ≡ documents.turn new.at (place_with new.place new.parts) (line_within_limit (take n (drop from held)))
     → IsTaking old (record { place = place; at = new.at + 1; parts = d }) held (from + (n + 1))
 taking-goes old new held from n place d is feed e = record {
-  goes = λ ended. further (stand_of old held ended) (stand_of new (drop from held) ended) (stand_of (record { place = place; at = new.at + 1; parts = d }) (drop (from + (n + 1)) held) ended) [] refl (is.goes ended) (line-taken new held from n (turned (turn.Goes place) d) ended feed e);
+  goes = λ ended. further (stand_of old held ended) (stand_of new (drop from held) ended) (stand_of (record { place = place; at = new.at + 1; parts = d }) (drop (from + (n + 1)) held) ended) [] refl (is.goes ended) (line-taken new held from n (turned (turn.WalkGoes place) d) ended feed e);
   within = omega (arith, feed.0, length-drop from held);
-  stands = stands-behind new (turned (turn.Goes place) d) (take n (drop from held)) is.stands is.some e;
+  stands = stands-behind new (turned (turn.WalkGoes place) d) (take n (drop from held)) is.stands is.some e;
   some = omega arith;
   near = omega (arith, is.near);
   passes = passes-feed old.at new.at held from n is.passes feed;
 }
 
 pub taking-gives : (old new : Progress) (held : List ℕ) (from n : ℕ) (last : Progress) → IsTaking old new held from → FeedAt (drop from held) (Some n) → last.at ≡ new.at + 1
-    → turned turn.Gives last.parts ≡ documents.turn new.at (place_with new.place new.parts) (said (take n (drop from held)))
-    → TakesSo old last held (from + (n + 1)) taken.Gives
+    → turned turn.Gives last.parts ≡ documents.turn new.at (place_with new.place new.parts) (line_within_limit (take n (drop from held)))
+    → TakesLines old last held (from + (n + 1)) taken.Gives
 taking-gives old new held from n last is feed at e = record {
-  goes = λ ended. further (stand_of old held ended) (stand_of new (drop from held) ended) (stand_behind taken.Gives last (drop (from + (n + 1)) held) ended) (told_of taken.Gives last.parts) refl (is.goes ended)
-      (subst (λ (k : ℕ). GoesOn (stand_of new (drop from held) ended) (record { at = k; place = documents.Between; held = drop (from + (n + 1)) held; ended = ended }) (told_of taken.Gives last.parts)) (sym at) (line-taken new held from n (turned turn.Gives last.parts) ended feed e));
+  goes = λ ended. further (stand_of old held ended) (stand_of new (drop from held) ended) (stand_behind taken.Gives last (drop (from + (n + 1)) held) ended) (step_results taken.Gives last.parts) refl (is.goes ended)
+      (subst (λ (k : ℕ). ContinuesParse (stand_of new (drop from held) ended) (record { at = k; place = documents.Between; held = drop (from + (n + 1)) held; ended = ended }) (step_results taken.Gives last.parts)) (sym at) (line-taken new held from n (turned turn.Gives last.parts) ended feed e));
   all = λ more. absurd cc;
   within = omega (arith, feed.0, length-drop from held);
   near = omega (arith, is.near, at);
-  passes = subst (λ (k : ℕ). Passes old.at held k (drop (from + (n + 1)) held)) (sym at) (passes-feed old.at new.at held from n is.passes feed);
+  passes = subst (λ (k : ℕ). TakesWholeLines old.at held k (drop (from + (n + 1)) held)) (sym at) (passes-feed old.at new.at held from n is.passes feed);
   stands = (let after = stands-behind new (turned turn.Gives last.parts) (take n (drop from held)) is.stands is.some e in (after.0, omega (arith, after.1, at)));
   closes = λ gives. record {
     line = new.at;
     last = take n (drop from held);
-    front = (let P : List ℕ → Type 0 = λ t. Passes old.at held new.at (take n (drop from held) ++ 10 ∷ t) in let Q : List ℕ → Type 0 = λ t. Passes old.at held new.at t in subst P (drop-on (n + 1) from held) (subst Q feed.2 is.passes));
+    front = (let P : List ℕ → Type 0 = λ t. TakesWholeLines old.at held new.at (take n (drop from held) ++ 10 ∷ t) in let Q : List ℕ → Type 0 = λ t. TakesWholeLines old.at held new.at t in subst P (drop-on (n + 1) from held) (subst Q feed.2 is.passes));
     single = feed.1;
-    closes = gives-end new.at (place_with new.place new.parts) (said (take n (drop from held))) last.parts e;
+    closes = gives-end new.at (place_with new.place new.parts) (line_within_limit (take n (drop from held))) last.parts e;
     counted = at;
   };
 }
 
 pub taking-refuses : (old new : Progress) (held : List ℕ) (from n line : ℕ) (refusal : LineRefusal) (last : Progress) → IsTaking old new held from → FeedAt (drop from held) (Some n) → last.at ≡ new.at + 1 → line ≡ new.at
-    → turned (turn.Refuses refusal) last.parts ≡ documents.turn new.at (place_with new.place new.parts) (said (take n (drop from held)))
-    → TakesSo old last held (from + (n + 1)) (taken.Refuses line refusal)
+    → turned (turn.Refuses refusal) last.parts ≡ documents.turn new.at (place_with new.place new.parts) (line_within_limit (take n (drop from held)))
+    → TakesLines old last held (from + (n + 1)) (taken.Refuses line refusal)
 taking-refuses old new held from n line refusal last is feed at here e = record {
-  goes = λ ended. further (stand_of old held ended) (stand_of new (drop from held) ended) (stand_behind (taken.Refuses line refusal) last (drop (from + (n + 1)) held) ended) (told_of (taken.Refuses line refusal) last.parts) refl (is.goes ended)
-      (subst (λ (k : ℕ). GoesOn (stand_of new (drop from held) ended) (record { at = last.at; place = documents.Stopped; held = drop (from + (n + 1)) held; ended = ended }) (documents.Refused k (fault_of refusal) ∷ [])) (sym here)
-      (subst (λ (k : ℕ). GoesOn (stand_of new (drop from held) ended) (record { at = k; place = documents.Stopped; held = drop (from + (n + 1)) held; ended = ended }) (documents.Refused new.at (fault_of refusal) ∷ [])) (sym at) (line-taken new held from n (turned (turn.Refuses refusal) last.parts) ended feed e)));
+  goes = λ ended. further (stand_of old held ended) (stand_of new (drop from held) ended) (stand_behind (taken.Refuses line refusal) last (drop (from + (n + 1)) held) ended) (step_results (taken.Refuses line refusal) last.parts) refl (is.goes ended)
+      (subst (λ (k : ℕ). ContinuesParse (stand_of new (drop from held) ended) (record { at = last.at; place = documents.Stopped; held = drop (from + (n + 1)) held; ended = ended }) (documents.Refused k (line_fault_of refusal) ∷ [])) (sym here)
+      (subst (λ (k : ℕ). ContinuesParse (stand_of new (drop from held) ended) (record { at = k; place = documents.Stopped; held = drop (from + (n + 1)) held; ended = ended }) (documents.Refused new.at (line_fault_of refusal) ∷ [])) (sym at) (line-taken new held from n (turned (turn.Refuses refusal) last.parts) ended feed e)));
   all = λ more. absurd cc;
   within = omega (arith, feed.0, length-drop from held);
   near = omega (arith, is.near, at);
-  passes = subst (λ (k : ℕ). Passes old.at held k (drop (from + (n + 1)) held)) (sym at) (passes-feed old.at new.at held from n is.passes feed);
+  passes = subst (λ (k : ℕ). TakesWholeLines old.at held k (drop (from + (n + 1)) held)) (sym at) (passes-feed old.at new.at held from n is.passes feed);
   stands = tt;
   closes = λ gives. absurd cc;
 }

@@ -12,7 +12,7 @@ use Rattle.bufr_bits.proofs.DecimalLemmas.{own}
 use Rattle.bufr_bits.proofs.ScaledLemmas.{and_first, and_second, all_digits-take, all_digits-drop}
 use Rattle.bufr_bits.proofs.RoundLemmas.{zeros_digits}
 use Rattle.bufr_text.specs.Grammar.{is_number_octet}
-use Rattle.bufr_text.specs.Given.{IsScale}
+use Rattle.bufr_text.specs.Bounds.{IsScale}
 
 -- a token of at most so many octets
 pub record IsToken (token : List ℕ) (most : ℕ) : Type 0 where

@@ -4,7 +4,7 @@ use Rattle.bufr_bits.specs.Bits.{bits_in}
 use Rattle.bufr_bits.specs.DecimalValue.{decimal_value_of}
 use Rattle.bufr_tables.specs.Expansion.{part_of, level, inner_of, tree_of}
 use Rattle.bufr_walk.specs.Course.{next_item}
-use Rattle.bufr_fill.specs.Entries.{Entry, Ends}
+use Rattle.bufr_fill.specs.Entries.{DraftEntry, Ends}
 use Rattle.bufr_text.specs.Document.{Document}
 use Rattle.bufr_text.specs.declared.form.Form.TheVariants.{AsWritten}
 use Rattle.bufr_text.specs.EncodingCost.{turns_by}
@@ -13,10 +13,10 @@ use Rattle.bufr_text.proofs.EncodingExamples.{listed, table, document, number, m
 turns : Document → ℕ
 turns d = turns_by AsWritten table [] d
 
-block : (line : ℕ) → List ℕ → Entry
+block : (line : ℕ) → List ℕ → DraftEntry
 block line digits = number line 0x0101 digits
 
-factor : (line : ℕ) → List ℕ → Entry
+factor : (line : ℕ) → List ℕ → DraftEntry
 factor line digits = number line 0x1F01 digits
 
 -- an element and the end: fails where the end is no turn

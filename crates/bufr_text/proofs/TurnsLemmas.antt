@@ -4,24 +4,24 @@ use Rattle.std.specs.Prelude.{◌-◌, ◌^◌, if◌then◌else◌}
 use Rattle.std.specs.Option.{option_map}
 use Rattle.bufr_tables.specs.TableB.{Row}
 use Rattle.bufr_tables.specs.Tree.{Tree, bare, element, operator, fixed, delayed, is_inserted_text}
-use Rattle.bufr_walk.specs.declared.spec.Refusal.{Refusal}
+use Rattle.bufr_walk.specs.declared.spec.TurnRefusal.{TurnRefusal}
 use Rattle.bufr_walk.specs.declared.spec.Taken.{Taken}
 use Rattle.bufr_walk.specs.declared.spec.Taken.TheVariants as taken
-use Rattle.bufr_walk.specs.Asked.{Asked}
-use Rattle.bufr_walk.specs.Course.{Course, Next, take_next, at_end, astray, refused, Ahead, asked, operated, ahead, counts_of, next_item}
+use Rattle.bufr_walk.specs.FieldSpec.{FieldSpec}
+use Rattle.bufr_walk.specs.Course.{Course, Next, take_next, at_end, astray, refused, NextTurn, asked, operated, ahead, counts_of, next_item}
 use Rattle.bufr_walk.specs.Rules.{element_spec, factor_spec, inserted_spec}
-use Rattle.bufr_walk.specs.Settings.{Settings, begin, after_operator, after_field}
-use Rattle.bufr_walk.specs.Taking.{Turn, Takes, course_after}
+use Rattle.bufr_walk.specs.Operators.{OperatorModel, begin, after_operator, after_field}
+use Rattle.bufr_walk.specs.Taking.{TakenField, Takes, course_after}
 use Rattle.bufr_walk.specs.Ticks.{ticked}
 use Rattle.bufr_walk.specs.Turns.{Turns, finish, open_end, group, pass_end, factor_turn, element_turn, operator_turn, Rest, passes, unroll, turns_of}
-use Rattle.bufr_walk.specs.Walked.{told_by}
+use Rattle.bufr_walk.specs.Walked.{answers_of}
 use Rattle.bufr_fill.specs.Fault.{FaultAt}
-use Rattle.bufr_fill.specs.Filling.{Written, Filler}
+use Rattle.bufr_fill.specs.Filling.{WrittenItem, Filler}
 use Rattle.bufr_fill.proofs.Filled.{HasFilled}
 use Rattle.bufr_fill.proofs.WalkFills.{after_told}
 use Rattle.bufr_text.specs.Encoding.{RefusedAt}
 use Rattle.bufr_text.specs.EncodingFault.{told_of_draft}
-use Rattle.bufr_text.specs.EncodingCost.{turned_one, turned_at, turns_filled, MakesSo}
+use Rattle.bufr_text.specs.EncodingCost.{turned_one, turned_at, turns_filled, CountsSteps}
 
 -- ---- the more is told, the more turns there are
 
@@ -58,16 +58,16 @@ unroll_extends (delayed fxy body t) rest g (n ∷ counts) more = (
 )
 
 -- whatever comes, it takes a turn
-asked_some : (r : Result Asked Refusal) (go : Taken → List Taken → Ahead) (told : List Taken) → 1 ≤ (asked r go told).turns
+asked_some : (r : Result FieldSpec TurnRefusal) (go : Taken → List Taken → NextTurn) (told : List Taken) → 1 ≤ (asked r go told).turns
 asked_some (Err why) go told = omega arith
 asked_some (Ok spec) go [] = omega arith
 asked_some (Ok spec) go (t ∷ told) = omega arith
 
-operated_some : (r : Result Settings Refusal) (go : Settings → Ahead) → 1 ≤ (operated r go).turns
+operated_some : (r : Result OperatorModel TurnRefusal) (go : OperatorModel → NextTurn) → 1 ≤ (operated r go).turns
 operated_some (Err why) go = omega arith
 operated_some (Ok s) go = omega arith
 
-ahead_some : (table : List Row) (u : Turns) (s : Settings) (told : List Taken) → 1 ≤ (ahead table u s told).turns
+ahead_some : (table : List Row) (u : Turns) (s : OperatorModel) (told : List Taken) → 1 ≤ (ahead table u s told).turns
 ahead_some table finish s told = omega arith
 ahead_some table open_end s told = omega arith
 ahead_some table (group t) s told = omega arith
@@ -80,17 +80,17 @@ ahead_some table (operator_turn fxy t) s told = by (is_inserted_text fxy)
     by true = asked_some (inserted_spec s fxy) (λ x more. ahead table t (after_field s fxy x) more) told
     by false = operated_some (after_operator s fxy) (λ s'. ahead table t s' told)
 
-asked_grows : (r : Result Asked Refusal) (go go' : Taken → List Taken → Ahead) (told more : List Taken) → ((t : Taken) (l : List Taken) → (go t l).turns ≤ (go' t (l ++ more)).turns) → (asked r go told).turns ≤ (asked r go' (told ++ more)).turns
+asked_grows : (r : Result FieldSpec TurnRefusal) (go go' : Taken → List Taken → NextTurn) (told more : List Taken) → ((t : Taken) (l : List Taken) → (go t l).turns ≤ (go' t (l ++ more)).turns) → (asked r go told).turns ≤ (asked r go' (told ++ more)).turns
 asked_grows (Err why) go go' told more g = omega arith
 asked_grows (Ok spec) go go' [] [] g = omega arith
 asked_grows (Ok spec) go go' [] (m ∷ more) g = omega arith
 asked_grows (Ok spec) go go' (t ∷ told) more g = omega (arith, g t told)
 
-operated_grows : (r : Result Settings Refusal) (go go' : Settings → Ahead) → ((s : Settings) → (go s).turns ≤ (go' s).turns) → (operated r go).turns ≤ (operated r go').turns
+operated_grows : (r : Result OperatorModel TurnRefusal) (go go' : OperatorModel → NextTurn) → ((s : OperatorModel) → (go s).turns ≤ (go' s).turns) → (operated r go).turns ≤ (operated r go').turns
 operated_grows (Err why) go go' g = omega arith
 operated_grows (Ok s) go go' g = omega (arith, g s)
 
-ahead_grows : (table : List Row) (u u' : Turns) (s : Settings) (told more : List Taken) → Extends u u' → (ahead table u s told).turns ≤ (ahead table u' s (told ++ more)).turns
+ahead_grows : (table : List Row) (u u' : Turns) (s : OperatorModel) (told more : List Taken) → Extends u u' → (ahead table u s told).turns ≤ (ahead table u' s (told ++ more)).turns
 ahead_grows table finish u' s told more h = subst (λ x. 1 ≤ (ahead table x s (told ++ more)).turns) (sym h) (omega arith)
 ahead_grows table open_end u' s told more h = ahead_some table u' s (told ++ more)
 ahead_grows table (group t) u' s told more h =
@@ -108,7 +108,7 @@ ahead_grows table (operator_turn fxy t) u' s told more h =
     (by (is_inserted_text fxy) (λ x l. ahead_grows table t h.0 (after_field s fxy x) l more h.2) (λ s'. ahead_grows table t h.0 s' told more h.2))
   where
     by : (b : Bool) → ((x : Taken) (l : List Taken) → (ahead table t (after_field s fxy x) l).turns ≤ (ahead table h.0 (after_field s fxy x) (l ++ more)).turns)
-        → ((s' : Settings) → (ahead table t s' told).turns ≤ (ahead table h.0 s' (told ++ more)).turns)
+        → ((s' : OperatorModel) → (ahead table t s' told).turns ≤ (ahead table h.0 s' (told ++ more)).turns)
         → (if b then asked (inserted_spec s fxy) (λ x l. ahead table t (after_field s fxy x) l) told else operated (after_operator s fxy) (λ s'. ahead table t s' told)).turns
         ≤ (if b then asked (inserted_spec s fxy) (λ x l. ahead table h.0 (after_field s fxy x) l) (told ++ more) else operated (after_operator s fxy) (λ s'. ahead table h.0 s' (told ++ more))).turns
     by true f g = asked_grows (inserted_spec s fxy) (λ x l. ahead table t (after_field s fxy x) l) (λ x l. ahead table h.0 (after_field s fxy x) l) told more f
@@ -130,15 +130,15 @@ template_adds table template told more =
     ahead_grows table (turns_of template (counts_of told)) (turns_of template (counts_of (told ++ more))) begin told more
     (subst (λ c. Extends (turns_of template (counts_of told)) (turns_of template c)) (sym (counts_append told more)) (unroll_extends template (λ _. finish) (λ c m. refl) (counts_of told) (counts_of more)))
 
-adds_after : (course : Course) (items : List Turn) → AddsTurns course → AddsTurns (course_after course items)
+adds_after : (course : Course) (items : List TakenField) → AddsTurns course → AddsTurns (course_after course items)
 adds_after course [] g told more = g told more
 adds_after course (i ∷ items) g told more = adds_after (λ l. course (i.taken ∷ l)) items (λ l m. g (i.taken ∷ l) m) told more
 
 -- ---- the turns of a walk
 
-module _ {D C E S : Type 0} (filler : Filler D C E) (left : S → List D) (out : S → List Bool) (takes : S → Asked → Taken → S → Type 0)
-    (fills : (s : S) (spec : Asked) (t : Taken) (s' : S) → takes s spec t s' → HasFilled filler (left s) (out s) spec t (left s') (out s')) where
-  one : (course : Course) (s : S) (spec : Asked) (t : Taken) (mid : S) → (course []).next ≡ take_next spec → HasFilled filler (left s) (out s) spec t (left mid) (out mid) → turns_filled filler course (left s) ≡ turns_filled filler (λ told. course (t ∷ told)) (left mid)
+module _ {D C E S : Type 0} (filler : Filler D C E) (left : S → List D) (out : S → List Bool) (takes : S → FieldSpec → Taken → S → Type 0)
+    (fills : (s : S) (spec : FieldSpec) (t : Taken) (s' : S) → takes s spec t s' → HasFilled filler (left s) (out s) spec t (left s') (out s')) where
+  one : (course : Course) (s : S) (spec : FieldSpec) (t : Taken) (mid : S) → (course []).next ≡ take_next spec → HasFilled filler (left s) (out s) spec t (left mid) (out mid) → turns_filled filler course (left s) ≡ turns_filled filler (λ told. course (t ∷ told)) (left mid)
   one course s spec t mid next h =
       ap (turns_filled filler course) h.here
       ∙ ap (λ n. turned_at filler n (course []).turns h.draft (λ x. turns_filled filler (λ told. course (x ∷ told)) (left mid))) next
@@ -146,7 +146,7 @@ module _ {D C E S : Type 0} (filler : Filler D C E) (left : S → List D) (out :
       ∙ ap (λ x. turns_filled filler (λ told. course (x ∷ told)) (left mid)) (sym h.tells)
 
   -- the turns of all drafts are those of the drafts that a walk left, after its items
-  pub walk_turns : (course : Course) (s : S) (items : List Turn) (s' : S) → Takes takes course s items s' → turns_filled filler course (left s) ≡ turns_filled filler (course_after course items) (left s')
+  pub walk_turns : (course : Course) (s : S) (items : List TakenField) (s' : S) → Takes takes course s items s' → turns_filled filler course (left s) ≡ turns_filled filler (course_after course items) (left s')
   walk_turns course s [] s' h = ap (λ x. turns_filled filler course (left x)) (sym h)
   walk_turns course s (i ∷ items) s' h = one course s i.spec i.taken h.0 h.1 (fills s i.spec i.taken h.0 h.2) ∙ walk_turns (λ told. course (i.taken ∷ told)) h.0 items s' h.3
 
@@ -176,7 +176,7 @@ module _ {D C E : Type 0} (filler : Filler D C E) where
       rest : Taken → ℕ
       rest t = turns_filled filler (λ told. course (t ∷ told)) ds
 
-      one : (spec : Asked) (r : Result (Written C) E) → ((t : Taken) → (course []).turns ≤ rest t) → (course []).turns ≤ turned_one filler r spec (course []).turns rest
+      one : (spec : FieldSpec) (r : Result (WrittenItem C) E) → ((t : Taken) → (course []).turns ≤ rest t) → (course []).turns ≤ turned_one filler r spec (course []).turns rest
       one spec (Ok w) h = h (filler.tells spec w.content)
       one spec (Err why) h = omega arith
 
@@ -187,11 +187,11 @@ module _ {D C E : Type 0} (filler : Filler D C E) where
       by astray h = omega arith
 
   -- where a walk comes to the last turn, its turns are all
-  pub last_turns : (course : Course) (items : List Turn) (ds : List D) (n : Next) (all : ℕ) → all ≡ turns_filled filler (course_after course items) ds → (course (told_by items)).next ≡ n → IsLast n ds → (course (told_by items)).turns ≡ all
+  pub last_turns : (course : Course) (items : List TakenField) (ds : List D) (n : Next) (all : ℕ) → all ≡ turns_filled filler (course_after course items) ds → (course (answers_of items)).next ≡ n → IsLast n ds → (course (answers_of items)).turns ≡ all
   last_turns course items ds n all total next h =
       sym (total ∙ here (course_after course items) ds n (ap (λ a. a.next) (after_told course items) ∙ next) h ∙ ap (λ a. a.turns) (after_told course items))
 
-  pub some_turns : (course : Course) (items : List Turn) (ds : List D) (all : ℕ) → AddsTurns course → all ≡ turns_filled filler (course_after course items) ds → (course (told_by items)).turns ≤ all
+  pub some_turns : (course : Course) (items : List TakenField) (ds : List D) (all : ℕ) → AddsTurns course → all ≡ turns_filled filler (course_after course items) ds → (course (answers_of items)).turns ≤ all
   some_turns course items ds all g total =
       omega (arith, ap (λ a. a.turns) (after_told course items), at_least (course_after course items) ds (adds_after course items g), total)
 
@@ -204,11 +204,11 @@ ticked_at_most before turns all h = by (2 ^ 64 - 1)
     by most = omega (arith, h)
 
 -- all turns were made
-pub all_made : (o : Option RefusedAt) (before turns after : ℕ) → after ≡ ticked before turns → MakesSo o before turns after
+pub all_made : (o : Option RefusedAt) (before turns after : ℕ) → after ≡ ticked before turns → CountsSteps o before turns after
 all_made None before turns after h = omega (arith, h)
 all_made (Some f) before turns after h = h
 
 -- all turns were made where a fault is told
-pub makes_so : (o : Option FaultAt) (told : Option RefusedAt) (before turns after : ℕ) → told ≡ option_map told_of_draft o → after ≤ ticked before turns → ((f : FaultAt) → o ≡ Some f → after ≡ ticked before turns) → MakesSo told before turns after
-makes_so None told before turns after e few h = subst (λ t. MakesSo t before turns after) (sym e) few
-makes_so (Some f) told before turns after e few h = subst (λ t. MakesSo t before turns after) (sym e) (h f refl)
+pub makes_so : (o : Option FaultAt) (told : Option RefusedAt) (before turns after : ℕ) → told ≡ option_map told_of_draft o → after ≤ ticked before turns → ((f : FaultAt) → o ≡ Some f → after ≡ ticked before turns) → CountsSteps told before turns after
+makes_so None told before turns after e few h = subst (λ t. CountsSteps t before turns after) (sym e) few
+makes_so (Some f) told before turns after e few h = subst (λ t. CountsSteps t before turns after) (sym e) (h f refl)

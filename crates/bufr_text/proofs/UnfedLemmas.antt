@@ -3,9 +3,9 @@ use Rattle.std.proofs.Common.{inl, inr, ◌≡◌, ℕ, suc, ◌-◌, Bool, true
 use Rattle.std.specs.Prelude.{Option, if◌then◌else◌}
 use Rattle.std.proofs.lemmas.Bool.{true≢false}
 use Rattle.std.proofs.lemmas.List.{take_at}
-use Rattle.bufr_text.specs.Documents.{Told}
-use Rattle.bufr_text.specs.Dump.{text_of}
-use Rattle.bufr_text.specs.Reader.{State, KeepsSo, IsMissingFeed, CallSo}
+use Rattle.bufr_text.specs.Documents.{ParseResult}
+use Rattle.bufr_text.specs.Dump.{text_of_lines}
+use Rattle.bufr_text.specs.Reader.{ReaderModel, KeepsUnread, IsMissingFeed, ReadsLines}
 
 abbrev cut : List ℕ → List ℕ
 cut xs = take (length xs - 1) xs
@@ -39,10 +39,10 @@ keeps-by false true h bs feed t (k ∷ more) (inl none) kept fed same = absurd (
 keeps-by false true h bs feed t (k ∷ more) (inr (open', ended, e)) kept fed same =
     (t, sym (cut-back (h ++ bs)) ∙ ap (λ (z : List ℕ). cut ((h ++ bs) ++ z)) (sym e) ∙ ap (λ (z : List ℕ). cut z) same ∙ cut-front t k more)
 
-pub call-keeps : (left left' : Option (List ℕ)) (old new : State) (told : List Told) (bs : List ℕ) → CallSo left left' old new told bs → KeepsSo old new bs
+pub call-keeps : (left left' : Option (List ℕ)) (old new : ReaderModel) (told : List ParseResult) (bs : List ℕ) → ReadsLines left left' old new told bs → KeepsUnread old new bs
 call-keeps left left' old new told bs call =
-    keeps-by old.ended new.ended old.held bs call.lines.0 (text_of call.lines.2.lines) new.held call.lines.1 (λ e. ((call.kept e).0, (call.kept e).1)) call.fed call.lines.2.octets
+    keeps-by old.ended new.ended old.held bs call.lines.0 (text_of_lines call.lines.2.lines) new.held call.lines.1 (λ e. ((call.kept e).0, (call.kept e).1)) call.fed call.lines.2.octets
 
 -- the same is held
-pub keeps-same : (old s new : State) (bs : List ℕ) → KeepsSo old s bs → new.held ≡ s.held → new.ended ≡ s.ended → KeepsSo old new bs
+pub keeps-same : (old s new : ReaderModel) (bs : List ℕ) → KeepsUnread old s bs → new.held ≡ s.held → new.ended ≡ s.ended → KeepsUnread old new bs
 keeps-same old s new bs (taken, same) held ended = (taken, same ∙ ap (λ (z : List ℕ). taken ++ z) (ap (λ (b : Bool). if b then cut s.held else s.held) (sym ended) ∙ ap (λ (h : List ℕ). if new.ended then cut h else h) (sym held)))

@@ -5,7 +5,7 @@ use Rattle.std.proofs.lemmas.Bool.Decides.{nat_tests}
 use Rattle.memchr.specs.Find.{IsFirstByte, is_byte}
 use Rattle.std.specs.Str.{bytes_eq}
 use Rattle.std.specs.Char.{is_ascii_digit}
-use Rattle.bufr_text.specs.Grammar.{front, behind, behind_space, hex_read}
+use Rattle.bufr_text.specs.Grammar.{prefix_while, suffix_while, without_space, hex_read}
 use Rattle.bufr_text.specs.Line.{Passed, Local1, Section2, made, with_one_to, value_read, item_line, worded, line_of, is_no_space}
 
 no-space : (c : ℕ) → ((c == 32) ≡ true → ⊥) → is_no_space c ≡ true
@@ -18,16 +18,16 @@ no-space c h = by (c == 32) h
 a-space : (c : ℕ) → (c == 32) ≡ true → is_no_space c ≡ false
 a-space c h = ap not h
 
-pub word-whole : (line : List ℕ) → ((k : ℕ) → 0 ≤ k → k < length line → (slice_index line k == 32) ≡ true → ⊥) → (take (length line) line ≡ front is_no_space line) × (drop (length line) line ≡ behind is_no_space line)
-unfolding front behind
+pub word-whole : (line : List ℕ) → ((k : ℕ) → 0 ≤ k → k < length line → (slice_index line k == 32) ≡ true → ⊥) → (take (length line) line ≡ prefix_while is_no_space line) × (drop (length line) line ≡ suffix_while is_no_space line)
+unfolding prefix_while suffix_while
 word-whole [] none = (refl, refl)
 word-whole (c ∷ line) none =
     let here = no-space c (none 0 (omega arith) (omega arith)) in
     let rest = word-whole line (λ k low below. none (suc k) (omega arith) (omega arith)) in
     (rw here (ap (λ (t : List ℕ). c ∷ t) rest.0), rw here rest.1)
 
-pub word-to : (line : List ℕ) (n : ℕ) → n < length line → ((k : ℕ) → 0 ≤ k → k < n → (slice_index line k == 32) ≡ true → ⊥) → (slice_index line n == 32) ≡ true → (take n line ≡ front is_no_space line) × (drop n line ≡ behind is_no_space line)
-unfolding front behind
+pub word-to : (line : List ℕ) (n : ℕ) → n < length line → ((k : ℕ) → 0 ≤ k → k < n → (slice_index line k == 32) ≡ true → ⊥) → (slice_index line n == 32) ≡ true → (take n line ≡ prefix_while is_no_space line) × (drop n line ≡ suffix_while is_no_space line)
+unfolding prefix_while suffix_while
 word-to [] n h none e = absurd (omega arith)
 word-to (c ∷ line) zero h none e = (rw (a-space c e) refl, rw (a-space c e) refl)
 word-to (c ∷ line) (suc n) h none e =
@@ -36,8 +36,8 @@ word-to (c ∷ line) (suc n) h none e =
     (rw here (ap (λ (t : List ℕ). c ∷ t) rest.0), rw here rest.1)
 
 abbrev pub WordAt : List ℕ → Option ℕ → Type 0
-WordAt line None = (take (length line) line ≡ front is_no_space line) × (drop (length line) line ≡ behind is_no_space line)
-WordAt line (Some n) = (take n line ≡ front is_no_space line) × (drop n line ≡ behind is_no_space line)
+WordAt line None = (take (length line) line ≡ prefix_while is_no_space line) × (drop (length line) line ≡ suffix_while is_no_space line)
+WordAt line (Some n) = (take n line ≡ prefix_while is_no_space line) × (drop n line ≡ suffix_while is_no_space line)
 
 pub word-at : (line : List ℕ) (r : Option ℕ) → IsFirstByte (is_byte 32) line r → WordAt line r
 word-at line None h = word-whole line h
@@ -59,7 +59,7 @@ unfolding line_of
 line-item [] e d = absurd cc
 line-item (c ∷ line) e d = let q : (c == 35) ≡ false = grind (arith, nat_tests, e) in rw (q, d) refl
 
-pub line-word : (line : List ℕ) → 0 < length line → (slice_index line 0 ≡ 35 → ⊥) → is_ascii_digit (slice_index line 0) ≡ false → line_of line ≡ worded (front is_no_space line) (behind is_no_space line)
+pub line-word : (line : List ℕ) → 0 < length line → (slice_index line 0 ≡ 35 → ⊥) → is_ascii_digit (slice_index line 0) ≡ false → line_of line ≡ worded (prefix_while is_no_space line) (suffix_while is_no_space line)
 unfolding line_of
 line-word [] some e d = absurd (omega (arith, some))
 line-word (c ∷ line) some e d = let q : (c == 35) ≡ false = grind (arith, nat_tests, e) in rw (q, d) refl
@@ -67,10 +67,10 @@ line-word (c ∷ line) some e d = let q : (c == 35) ≡ false = grind (arith, na
 pub ruleset read_steps = (line-none, line-note, line-item, line-word)
 
 -- lines of octets
-pub local1-worded : (word rest : List ℕ) → bytes_eq word (codes "message") ≡ false → bytes_eq word (codes "local1") ≡ true → worded word rest ≡ made (λ text. made (with_one_to 32 Local1) (hex_read text)) (behind_space rest)
+pub local1-worded : (word rest : List ℕ) → bytes_eq word (codes "message") ≡ false → bytes_eq word (codes "local1") ≡ true → worded word rest ≡ made (λ text. made (with_one_to 32 Local1) (hex_read text)) (without_space rest)
 unfolding worded
 local1-worded word rest a b = rw (a, b) refl
 
-pub section2-worded : (word rest : List ℕ) → bytes_eq word (codes "message") ≡ false → bytes_eq word (codes "local1") ≡ false → bytes_eq word (codes "section2") ≡ true → worded word rest ≡ made (λ text. made (with_one_to 32 Section2) (hex_read text)) (behind_space rest)
+pub section2-worded : (word rest : List ℕ) → bytes_eq word (codes "message") ≡ false → bytes_eq word (codes "local1") ≡ false → bytes_eq word (codes "section2") ≡ true → worded word rest ≡ made (λ text. made (with_one_to 32 Section2) (hex_read text)) (without_space rest)
 unfolding worded
 section2-worded word rest a b d = rw (a, b, d) refl

@@ -5,7 +5,7 @@ use Rattle.std.specs.Io.KnownBytes.{Appends}
 use Rattle.std.proofs.KnownBytes.{Appends-trans}
 use Rattle.std.proofs.lemmas.List.{take-append-drop, take_more}
 use Rattle.bufr_frame.specs.declared.fault.RunFault.{RunFault}
-use Rattle.bufr_text.specs.Writing.{Writes, GrowsByFront, part_text}
+use Rattle.bufr_text.specs.Writing.{Writes, GrowsByPrefix, part_text}
 use Rattle.bufr_text.specs.declared.part.Part.{Part}
 use Rattle.std.proofs.Math.Seq.{drop-cons}
 use Rattle.std.proofs.lemmas.Grind.{flat_map-append}
@@ -24,7 +24,7 @@ module _ (a b c : Option (List ℕ)) (s t : List ℕ) where
     },
   )
 
-front-more : (a b : Option (List ℕ)) (s t : List ℕ) → GrowsByFront a b s → GrowsByFront a b (s ++ t)
+front-more : (a b : Option (List ℕ)) (s t : List ℕ) → GrowsByPrefix a b s → GrowsByPrefix a b (s ++ t)
 front-more a b s t first = record {
   front = first.front;
   back = first.back ++ t;
@@ -64,7 +64,7 @@ module _ (a b c : Option (List ℕ)) (parts : List Part) (i : ℕ) (d : Part) (w
   parts-stop {X = X} first r f writes is same =
       let here = rw is at writes in
       let t = part_text (get_or parts i d) in
-      let P : List ℕ → Type 0 = λ l. GrowsByFront a c l in
+      let P : List ℕ → Type 0 = λ l. GrowsByPrefix a c l in
       let fails : Result X RunFault = Err f in
       let grown = (Writes-then a b c (flat_map part_text (take i parts)) t fails before here).1 in
       rw same (here.0, subst P (sym text-at) (front-more a c (flat_map part_text (take i parts) ++ t) (flat_map part_text (drop (suc i) parts)) grown))

@@ -6,9 +6,10 @@ use Rattle.bufr_frame.specs.declared.fault.RunFault.TheVariants.{Memory}
 
 -- The octets stand some places nearer to the front, and room for 4,096 is behind them; or memory
 -- was refused to a buffer that had less room, and all is as it was.
-abbrev pub MakesRoom : (old new : List ℕ) → (len len' start filled : ℕ) → Result ℕ RunFault → Type 0
-MakesRoom old new len len' start filled (Ok slid) =
+abbrev pub MakesTextRoom : (old new : List ℕ) → (len len' start filled : ℕ) → Result ℕ RunFault
+    → Type 0
+MakesTextRoom old new len len' start filled (Ok slid) =
     (slid ≤ start) × (filled - slid ≤ 4096) × (len' ≡ 8192)
     × (slice_range new (start - slid) (filled - slid) ≡ slice_range old start filled)
-MakesRoom old new len len' start filled (Err fault) =
+MakesTextRoom old new len len' start filled (Err fault) =
     (fault ≡ Memory) × (new ≡ old) × (len' ≡ len) × (len < 8192)

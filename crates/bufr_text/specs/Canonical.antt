@@ -2,7 +2,7 @@
 -- Cited by public contracts.
 use Rattle.std.specs.Prelude.{◌≡◌, ℕ, Bool, List, [], ◌∷◌, ◌++◌, take, drop, flat_map, Ok}
 use Rattle.bufr_bits.specs.Bits.{bits_of}
-use Rattle.bufr_frame.specs.Layout.{evened}
+use Rattle.bufr_frame.specs.Layout.{with_even_length}
 use Rattle.bufr_frame.specs.Plain.{IsPlain}
 use Rattle.bufr_frame.specs.Sections.{Sections}
 use Rattle.bufr_walk.specs.Content.{Content}
@@ -34,5 +34,6 @@ AreWritten (together items) bits behind = ArePacked items bits behind
 -- with zero bits behind them; in edition 3 the least that make section 4 even
 pub record IsCanonical (m : List ℕ) (s : Sections) (values : Values) (used : ℕ) : Type 0 where
   pub plain : IsPlain m
-  pub least : s.payload ≡ evened s.head.edition 4 (octets_of_bits (take used (bits_of s.payload)))
+  pub least : s.payload ≡ with_even_length s.head.edition 4
+      (octets_of_bits (take used (bits_of s.payload)))
   pub bits : AreWritten values (bits_of s.payload) (drop used (bits_of s.payload))

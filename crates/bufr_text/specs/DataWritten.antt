@@ -3,28 +3,28 @@
 use Rattle.std.specs.Prelude.{Vec, ℕ, ◌≡◌, ◌≤◌, ◌+◌, ◌*◌, ◌/◌, Bool, List, [], ◌∷◌, ◌++◌, length, Option, Some, None, Result, Ok, Err}
 use Rattle.std.specs.Global.{Global}
 use Rattle.bufr_bits.specs.Bits.{bits_of, padding}
-use Rattle.bufr_walk.specs.declared.spec.Refusal.TheVariants as refusal
+use Rattle.bufr_walk.specs.declared.spec.TurnRefusal.TheVariants as refusal
 use Rattle.bufr_walk.specs.declared.stop.WalkStop.{WalkStop}
 use Rattle.bufr_walk.specs.declared.stop.WalkStop.TheVariants as stops
 use Rattle.bufr_walk.specs.Course.{Course}
 use Rattle.bufr_walk.specs.Ticks.{ticked}
 use Rattle.bufr_fill.specs.declared.fault.DraftFault.{DraftFault}
 use Rattle.bufr_fill.specs.DraftContent.{plain_filler}
-use Rattle.bufr_fill.specs.Entries.{Entry, Holds, Ends, Subset}
+use Rattle.bufr_fill.specs.Entries.{DraftEntry, Holds, Ends, Subset}
 use Rattle.bufr_fill.specs.Fault.{FaultAt, at_line, walk_refused}
 use Rattle.bufr_fill.specs.Filling.{fill}
-use Rattle.bufr_fill.specs.PlainOut.{Pen, items_left, end_left}
-use Rattle.bufr_fill.specs.Told.{told_fault}
+use Rattle.bufr_fill.specs.PlainOut.{PlainOutModel, items_left, end_left}
+use Rattle.bufr_fill.specs.DraftFaults.{draft_fault}
 use Rattle.bufr_text.specs.declared.encode_fault.DocumentFault.{DocumentFault}
 use Rattle.bufr_text.specs.Encoding.{data_bits, told_of_items}
-use Rattle.bufr_text.specs.EncodingFault.{RefusesSo, told_refusal}
-use Rattle.bufr_text.specs.EncodingCost.{count_filled, count_data, turns_filled, turns_data, MakesSo}
+use Rattle.bufr_text.specs.EncodingFault.{IsDocumentRefusal, told_refusal}
+use Rattle.bufr_text.specs.EncodingCost.{count_filled, count_data, turns_filled, turns_data, CountsSteps}
 
 -- the fault of a walk that stopped where the next entry stands on a line; want of memory is none
 abbrev pub told_stop : (line : ℕ) → WalkStop DraftFault → Option FaultAt
 told_stop line (stops.Width fxy) = Some (at_line line (walk_refused (refusal.Width fxy)))
 told_stop line (stops.Defining fxy) = Some (at_line line (walk_refused (refusal.Defining fxy)))
-told_stop line (stops.Field e) = told_fault e
+told_stop line (stops.Field e) = draft_fault e
 told_stop line stops.Memory = None
 
 -- ---- what the writing of data answers
@@ -45,37 +45,39 @@ pub record IsData (places : ℕ) (compressed : Bool) (course : Course) (subsets 
 
 pub record IsNoData (places : ℕ) (compressed : Bool) (course : Course) (subsets : List Subset)
     (why : DocumentFault) (steps : ℕ) : Type 0 where
-  pub refuses : RefusesSo (told_refusal why) (told_of_items (data_bits compressed course subsets))
-  pub made : MakesSo (told_refusal why) 0 (turns_data compressed course subsets) steps
+  pub refuses : IsDocumentRefusal (told_refusal why)
+      (told_of_items (data_bits compressed course subsets))
+  pub made : CountsSteps (told_refusal why) 0 (turns_data compressed course subsets) steps
   pub few : steps ≤ places * (count_data compressed course subsets + 1)
 
 -- what the writing of data answers, for a document
-abbrev pub DataSo : (places : ℕ) (compressed : Bool) → Course → List Subset
+abbrev pub WritesData : (places : ℕ) (compressed : Bool) → Course → List Subset
     → Result (Vec ℕ Global) DocumentFault → (steps : ℕ) → Type 0
-DataSo places compressed course subsets (Ok octets) steps =
+WritesData places compressed course subsets (Ok octets) steps =
     IsData places compressed course subsets octets.items steps
-DataSo places compressed course subsets (Err why) steps =
+WritesData places compressed course subsets (Err why) steps =
     IsNoData places compressed course subsets why steps
 
 -- ---- one subset
 
 -- what is left behind the end of the next subset
-abbrev pub left_behind : List Entry → List Entry
+abbrev pub left_behind : List DraftEntry → List DraftEntry
 left_behind [] = []
 left_behind (Holds d ∷ more) = left_behind more
 left_behind (Ends line ∷ more) = more
 
 -- what the definition makes of the next subset
-abbrev pub fill_next : Course → List Entry → Result (List Bool) FaultAt
+abbrev pub fill_next : Course → List DraftEntry → Result (List Bool) FaultAt
 fill_next course left = fill (plain_filler (end_left left)) course (items_left left)
 
-abbrev pub count_next : Course → List Entry → ℕ
+abbrev pub count_next : Course → List DraftEntry → ℕ
 count_next course left = count_filled (plain_filler (end_left left)) course (items_left left)
 
-abbrev pub turns_next : Course → List Entry → ℕ
+abbrev pub turns_next : Course → List DraftEntry → ℕ
 turns_next course left = turns_filled (plain_filler (end_left left)) course (items_left left)
 
-pub record IsSubset (places : ℕ) (course : Course) (s : Pen) (steps : ℕ) (s' : Pen)
+pub record IsSubset (places : ℕ) (course : Course) (s : PlainOutModel) (steps : ℕ)
+    (s' : PlainOutModel)
     (steps' : ℕ) : Type 0 where
   pub bits : List Bool
   pub is : fill_next course s.left ≡ Ok bits
@@ -84,14 +86,16 @@ pub record IsSubset (places : ℕ) (course : Course) (s : Pen) (steps : ℕ) (s'
   pub made : steps' ≡ ticked steps (turns_next course s.left)
   pub few : steps' ≤ steps + places * length bits
 
-pub record IsNoSubset (places : ℕ) (course : Course) (s : Pen) (steps : ℕ) (why : DocumentFault)
+pub record IsNoSubset (places : ℕ) (course : Course) (s : PlainOutModel) (steps : ℕ)
+    (why : DocumentFault)
     (steps' : ℕ) : Type 0 where
-  pub refuses : RefusesSo (told_refusal why) (told_of_items (fill_next course s.left))
-  pub made : MakesSo (told_refusal why) steps (turns_next course s.left) steps'
+  pub refuses : IsDocumentRefusal (told_refusal why) (told_of_items (fill_next course s.left))
+  pub made : CountsSteps (told_refusal why) steps (turns_next course s.left) steps'
   pub few : steps' ≤ steps + places * (count_next course s.left + 1)
 
 -- the next subset was written and its end passed, or it is refused
-abbrev pub SubsetSo : (places : ℕ) → Course → Pen → (steps : ℕ) → Result (Unit {0}) DocumentFault
-    → Pen → (steps' : ℕ) → Type 0
-SubsetSo places course s steps (Ok _) s' steps' = IsSubset places course s steps s' steps'
-SubsetSo places course s steps (Err why) s' steps' = IsNoSubset places course s steps why steps'
+abbrev pub WritesSubset : (places : ℕ) → Course → PlainOutModel → (steps : ℕ)
+    → Result (Unit {0}) DocumentFault
+    → PlainOutModel → (steps' : ℕ) → Type 0
+WritesSubset places course s steps (Ok _) s' steps' = IsSubset places course s steps s' steps'
+WritesSubset places course s steps (Err why) s' steps' = IsNoSubset places course s steps why steps'

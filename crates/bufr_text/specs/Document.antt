@@ -1,7 +1,7 @@
 -- A message as its text gives it; no value is looked at yet. (a choice of this project)
 -- Cited by public contracts.
 use Rattle.std.specs.Prelude.{ℕ, List, [], slice_index}
-use Rattle.bufr_fill.specs.Entries.{Entry}
+use Rattle.bufr_fill.specs.Entries.{DraftEntry}
 
 -- what a document says
 pub record Document : Type 0 where
@@ -13,7 +13,7 @@ pub record Document : Type 0 where
   pub section2 : List ℕ
   pub descriptors : List ℕ
   -- the items of the subsets, one subset after another, each with its end
-  pub entries : List Entry
+  pub entries : List DraftEntry
 
 -- a document of which its first line was read
 abbrev pub blank : (line : ℕ) → Document

@@ -3,36 +3,36 @@
 use Rattle.std.specs.Prelude.{ℕ, ◌+◌, ◌==◌, nat_le, nat_lt, Bool, true, false, not, ◌&&◌, if◌then◌else◌, List, [], ◌∷◌, ◌++◌, length, slice_index}
 use Rattle.bufr_fill.specs.Draft.{draft}
 use Rattle.bufr_frame.specs.Section1.{slots_of}
-use Rattle.bufr_fill.specs.Entries.{Entry, Holds, Ends}
+use Rattle.bufr_fill.specs.Entries.{DraftEntry, Holds, Ends}
 use Rattle.bufr_text.specs.Document.{Document, blank, edition_in, optional_in, subsets_in}
 use Rattle.bufr_text.specs.Line.{Line, Passed, Opens, Header, Local1, Section2, Descriptors, Begins, Item, Closes, Wrong, leasts, mosts, line_of}
 
 -- why a line is refused: no line that its place allows (50), too few or too many subsets (57), a
 -- header value past its range (61)
-pub data LineFault : Type 0 where
-  NotAllowed : LineFault
-  SubsetCount : LineFault
-  HeaderRange : LineFault
+pub data TextLineFault : Type 0 where
+  NotAllowed : TextLineFault
+  SubsetCount : TextLineFault
+  HeaderRange : TextLineFault
 
 -- where the reading stands: between documents, in the header, in the parts before the subsets (0
 -- local use, 1 section 2, 2 descriptors), in a subset of this number, or behind a fault
-pub data Place : Type 0 where
-  Between : Place
-  Heading : Document → Place
-  Laying : (part : ℕ) → Document → Place
-  Filling : (subset : ℕ) → Document → Place
-  Stopped : Place
+pub data ParserState : Type 0 where
+  Between : ParserState
+  Heading : Document → ParserState
+  Laying : (part : ℕ) → Document → ParserState
+  Filling : (subset : ℕ) → Document → ParserState
+  Stopped : ParserState
 
 -- what a line does: the reading goes on, a document is whole, or the line is refused
-pub data Turn : Type 0 where
-  Goes : Place → Turn
-  Gives : Document → Turn
-  Faults : LineFault → Turn
+pub data LineEffect : Type 0 where
+  WalkGoes : ParserState → LineEffect
+  Gives : Document → LineEffect
+  Faults : TextLineFault → LineEffect
 
 -- a document, or the fault that ends the reading, with its line
-pub data Told : Type 0 where
-  Spelled : Document → Told
-  Refused : (line : ℕ) (fault : LineFault) → Told
+pub data ParseResult : Type 0 where
+  Complete : Document → ParseResult
+  Refused : (line : ℕ) (fault : TextLineFault) → ParseResult
 
 -- the document with one more part
 abbrev pub with_value : Document → ℕ → Document
@@ -47,7 +47,7 @@ with_section2 d octets = record d { section2 = d.section2 ++ octets }
 abbrev pub with_descriptors : Document → List ℕ → Document
 with_descriptors d words = record d { descriptors = d.descriptors ++ words }
 
-abbrev pub with_entry : Document → Entry → Document
+abbrev pub with_entry : Document → DraftEntry → Document
 with_entry d entry = record d { entries = d.entries ++ entry ∷ [] }
 
 -- in the range of its key, which goes by the edition
@@ -57,60 +57,61 @@ in_range edition key value =
     && nat_le value (slice_index (mosts (slots_of edition)) key)
 
 -- a header line
-abbrev pub heading : Document → Line → Turn
+abbrev pub heading : Document → Line → LineEffect
 heading d (Header key value) =
     if not (key == length d.header) then Faults NotAllowed
     else if not (in_range (edition_in d) key value) then Faults HeaderRange
-    else Goes (if key == 19 then Laying 0 (with_value d value) else Heading (with_value d value))
+    else WalkGoes (if key == 19 then Laying 0 (with_value d value)
+    else Heading (with_value d value))
 heading d line = Faults NotAllowed
 
 -- `subset` and its number, where so many subsets were read
-abbrev pub beginning : (read : ℕ) → Document → (subset : ℕ) → Turn
+abbrev pub beginning : (read : ℕ) → Document → (subset : ℕ) → LineEffect
 beginning read d subset =
-    if (subset == read + 1) && nat_le subset (subsets_in d) then Goes (Filling subset d)
+    if (subset == read + 1) && nat_le subset (subsets_in d) then WalkGoes (Filling subset d)
     else Faults SubsetCount
 
 -- `end`
-abbrev pub closing : (read : ℕ) → Document → Turn
+abbrev pub closing : (read : ℕ) → Document → LineEffect
 closing read d = if read == subsets_in d then Gives d else Faults SubsetCount
 
 -- a line behind the header and before the first subset
-abbrev pub laying : (part : ℕ) → Document → Line → Turn
+abbrev pub laying : (part : ℕ) → Document → Line → LineEffect
 laying part d (Local1 octets) =
-    if part == 0 then Goes (Laying 0 (with_local1 d octets)) else Faults NotAllowed
+    if part == 0 then WalkGoes (Laying 0 (with_local1 d octets)) else Faults NotAllowed
 laying part d (Section2 octets) =
-    if nat_le part 1 && (optional_in d == 1) then Goes (Laying 1 (with_section2 d octets))
+    if nat_le part 1 && (optional_in d == 1) then WalkGoes (Laying 1 (with_section2 d octets))
     else Faults NotAllowed
-laying part d (Descriptors words) = Goes (Laying 2 (with_descriptors d words))
+laying part d (Descriptors words) = WalkGoes (Laying 2 (with_descriptors d words))
 laying part d (Begins subset) = beginning 0 d subset
 laying part d Closes = closing 0 d
 laying part d line = Faults NotAllowed
 
 -- a line in a subset
-abbrev pub filling : (at subset : ℕ) → Document → Line → Turn
+abbrev pub filling : (at subset : ℕ) → Document → Line → LineEffect
 filling at subset d (Item fxy form) =
-    Goes (Filling subset (with_entry d (Holds (draft at fxy form))))
+    WalkGoes (Filling subset (with_entry d (Holds (draft at fxy form))))
 filling at subset d (Begins next) = beginning subset (with_entry d (Ends at)) next
 filling at subset d Closes = closing subset (with_entry d (Ends at))
 filling at subset d line = Faults NotAllowed
 
 -- a line between documents
-abbrev pub opening : (at : ℕ) → Line → Turn
-opening at Opens = Goes (Heading (blank at))
+abbrev pub opening : (at : ℕ) → Line → LineEffect
+opening at Opens = WalkGoes (Heading (blank at))
 opening at line = Faults NotAllowed
 
 -- what a line does at a place
-unfoldable pub turn : (at : ℕ) → Place → Line → Turn
-turn at place Passed = Goes place
+unfoldable pub turn : (at : ℕ) → ParserState → Line → LineEffect
+turn at place Passed = WalkGoes place
 turn at Between line = opening at line
 turn at (Heading d) line = heading d line
 turn at (Laying part d) line = laying part d line
 turn at (Filling subset d) line = filling at subset d line
-turn at Stopped line = Goes Stopped
+turn at Stopped line = WalkGoes Stopped
 
 -- whether a line adds to the document that is being read: octets, descriptors, an item, or the end
 -- of a subset
-abbrev pub adds : Place → Line → Bool
+abbrev pub adds : ParserState → Line → Bool
 adds (Laying part d) (Local1 octets) = true
 adds (Laying part d) (Section2 octets) = true
 adds (Laying part d) (Descriptors words) = true
@@ -120,21 +121,21 @@ adds (Filling subset d) Closes = true
 adds place line = false
 
 -- a line has at most 4,096 octets
-abbrev pub said : List ℕ → Line
-said line = if nat_lt 4096 (length line) then Wrong else line_of line
+abbrev pub line_within_limit : List ℕ → Line
+line_within_limit line = if nat_lt 4096 (length line) then Wrong else line_of line
 
-abbrev pub place_after : Turn → Place
-place_after (Goes place) = place
+abbrev pub place_after : LineEffect → ParserState
+place_after (WalkGoes place) = place
 place_after (Gives d) = Between
 place_after (Faults fault) = Stopped
 
-abbrev pub told_at : (at : ℕ) → Turn → List Told
-told_at at (Goes place) = []
-told_at at (Gives d) = Spelled d ∷ []
+abbrev pub told_at : (at : ℕ) → LineEffect → List ParseResult
+told_at at (WalkGoes place) = []
+told_at at (Gives d) = Complete d ∷ []
 told_at at (Faults fault) = Refused at fault ∷ []
 
 -- the end of the text: inside a document it is a fault at the next line
-abbrev pub told_at_end : (at : ℕ) → Place → List Told
+abbrev pub told_at_end : (at : ℕ) → ParserState → List ParseResult
 told_at_end at Between = []
 told_at_end at (Heading d) = Refused at NotAllowed ∷ []
 told_at_end at (Laying part d) = Refused at NotAllowed ∷ []
@@ -142,34 +143,36 @@ told_at_end at (Filling subset d) = Refused at NotAllowed ∷ []
 told_at_end at Stopped = []
 
 -- the documents that lines spell, from a place on
-unfoldable pub spelled : (at : ℕ) → Place → List (List ℕ) → List Told
-spelled at place [] = told_at_end at place
-spelled at place (line ∷ more) =
+unfoldable pub parse_lines : (at : ℕ) → ParserState → List (List ℕ) → List ParseResult
+parse_lines at place [] = told_at_end at place
+parse_lines at place (line ∷ more) =
     let here =
-    turn at place (said line) in told_at at here ++ spelled (at + 1) (place_after here) more
+    turn at place (line_within_limit line) in told_at at here ++ parse_lines (at + 1)
+    (place_after here) more
 
 -- one more octet in front of the first line
-abbrev pub onto_first : ℕ → List (List ℕ) → List (List ℕ)
-onto_first c [] = (c ∷ []) ∷ []
-onto_first c (line ∷ more) = (c ∷ line) ∷ more
+abbrev pub prepend_to_line : ℕ → List (List ℕ) → List (List ℕ)
+prepend_to_line c [] = (c ∷ []) ∷ []
+prepend_to_line c (line ∷ more) = (c ∷ line) ∷ more
 
 -- the lines of a text, each without its line feed; the last may lack it
 unfoldable pub lines_of : List ℕ → List (List ℕ)
 lines_of [] = []
-lines_of (c ∷ more) = if c == 10 then [] ∷ lines_of more else onto_first c (lines_of more)
+lines_of (c ∷ more) = if c == 10 then [] ∷ lines_of more else prepend_to_line c (lines_of more)
 
 -- the documents of a text, up to its end or to the first line that is refused
-abbrev pub documents_of : List ℕ → List Told
-documents_of text = spelled 1 Between (lines_of text)
+abbrev pub documents_of : List ℕ → List ParseResult
+documents_of text = parse_lines 1 Between (lines_of text)
 
 -- the documents that lines spell, where more lines may come
-unfoldable pub spelled_openly : (at : ℕ) → Place → List (List ℕ) → (rest : List ℕ) → List Told
-spelled_openly at place [] rest =
+unfoldable pub parse_open_lines : (at : ℕ) → ParserState → List (List ℕ) → (rest : List ℕ)
+    → List ParseResult
+parse_open_lines at place [] rest =
     if nat_lt 4096 (length rest) then told_at at (turn at place Wrong) else []
-spelled_openly at place (line ∷ more) rest =
+parse_open_lines at place (line ∷ more) rest =
     let here =
-    turn at place (said line) in told_at at here
-    ++ spelled_openly (at + 1) (place_after here) more rest
+    turn at place (line_within_limit line) in told_at at here
+    ++ parse_open_lines (at + 1) (place_after here) more rest
 
 -- the lines of a text that end by a line feed, and what is behind the last of them
 pub record Split : Type 0 where
@@ -190,5 +193,5 @@ split_of [] = record { whole = []; rest = [] }
 split_of (c ∷ more) = octet_onto_split c (split_of more)
 
 -- the documents of a text whose end is not known
-abbrev pub open_documents_of : List ℕ → List Told
-open_documents_of text = spelled_openly 1 Between (split_of text).whole (split_of text).rest
+abbrev pub open_documents_of : List ℕ → List ParseResult
+open_documents_of text = parse_open_lines 1 Between (split_of text).whole (split_of text).rest

@@ -4,19 +4,19 @@ use Rattle.std.specs.Prelude.{ℕ, ◌+◌, Bool, if◌then◌else◌, List, [],
 use Rattle.bufr_bits.specs.DecimalText.{decimal_text_of}
 use Rattle.bufr_tables.specs.Fxy.{fxy_text}
 use Rattle.bufr_frame.specs.Sections.{Sections}
-use Rattle.bufr_fill.specs.Draft.{Form, draft, number_token, text_form, missing_form, reference_token}
-use Rattle.bufr_fill.specs.Entries.{Entry, Holds, Ends}
+use Rattle.bufr_fill.specs.Draft.{DraftValue, draft, number_token, text_form, missing_form, reference_token}
+use Rattle.bufr_fill.specs.Entries.{DraftEntry, Holds, Ends}
 use Rattle.bufr_text.specs.Document.{Document}
 use Rattle.bufr_text.specs.Grammar.{runs_of, hex_text, descriptors_text, quoted}
 use Rattle.bufr_text.specs.Line.{keys, key_in}
 pub use Rattle.bufr_text.specs.Writing.{joined}
 
 -- what was read for an item
-pub data Value : Type 0 where
-  IsNumber : (v scale : ℤ) → Value
-  IsText : (octets : List ℕ) → Value
-  IsMissing : Value
-  IsReference : (v : ℤ) → Value
+pub data DumpValue : Type 0 where
+  IsNumber : (v scale : ℤ) → DumpValue
+  IsText : (octets : List ℕ) → DumpValue
+  IsMissing : DumpValue
+  IsReference : (v : ℤ) → DumpValue
 
 -- the name and the unit of a comment
 pub record Comment : Type 0 where
@@ -24,10 +24,10 @@ pub record Comment : Type 0 where
   pub unit : List ℕ
 
 -- an item of a subset
-pub record Item : Type 0 where
+pub record DumpItem : Type 0 where
   pub fxy : ℕ
   pub comment : Option Comment
-  pub value : Value
+  pub value : DumpValue
 
 -- the values of the header lines
 abbrev pub bit : Bool → ℕ
@@ -60,11 +60,11 @@ abbrev pub descriptors_line : List ℕ → List ℕ
 descriptors_line words = codes "descriptors" ++ descriptors_text words
 
 -- what stands for a value in a document
-abbrev pub form_of : Value → Form
-form_of (IsNumber v scale) = number_token (decimal_text_of v scale)
-form_of (IsText octets) = text_form octets
-form_of IsMissing = missing_form
-form_of (IsReference v) = reference_token (decimal_text_of v (pos 0))
+abbrev pub dump_value_of : DumpValue → DraftValue
+dump_value_of (IsNumber v scale) = number_token (decimal_text_of v scale)
+dump_value_of (IsText octets) = text_form octets
+dump_value_of IsMissing = missing_form
+dump_value_of (IsReference v) = reference_token (decimal_text_of v (pos 0))
 
 -- two spaces, `# `, the name, the unit in brackets
 abbrev pub comment_text : Option Comment → List ℕ
@@ -73,20 +73,20 @@ comment_text (Some comment) =
     joined (codes "  # " ∷ comment.name ∷ codes " [" ∷ comment.unit ∷ codes "]" ∷ [])
 
 -- a descriptor and what stands for its value
-abbrev pub form_text : (fxy : ℕ) → Form → List ℕ
+abbrev pub form_text : (fxy : ℕ) → DraftValue → List ℕ
 form_text fxy (number_token token) = fxy_text fxy ++ 32 ∷ token
 form_text fxy (text_form octets) = fxy_text fxy ++ 32 ∷ 34 ∷ quoted octets
 form_text fxy missing_form = fxy_text fxy ++ 32 ∷ codes "MISSING"
 form_text fxy (reference_token token) = codes "R " ++ fxy_text fxy ++ 32 ∷ token
 
-abbrev pub item_text : Item → List ℕ
-item_text item = form_text item.fxy (form_of item.value) ++ comment_text item.comment
+abbrev pub item_text : DumpItem → List ℕ
+item_text item = form_text item.fxy (dump_value_of item.value) ++ comment_text item.comment
 
 abbrev pub subset_line : ℕ → List ℕ
 subset_line subset = codes "subset " ++ decimal subset
 
 -- the lines of the subsets from a number on
-unfoldable pub subset_lines : (subset : ℕ) → List (List Item) → List (List ℕ)
+unfoldable pub subset_lines : (subset : ℕ) → List (List DumpItem) → List (List ℕ)
 subset_lines subset [] = []
 subset_lines subset (items ∷ more) =
     subset_line subset ∷ (map item_text items ++ subset_lines (subset + 1) more)
@@ -100,25 +100,25 @@ head_lines s =
     ++ map descriptors_line (runs_of 8 s.descriptors))))
 
 -- the lines of a message
-abbrev pub dump_lines : Sections → List (List Item) → List (List ℕ)
+abbrev pub dump_lines : Sections → List (List DumpItem) → List (List ℕ)
 dump_lines s subsets = head_lines s ++ (subset_lines 1 subsets ++ codes "end" ∷ [])
 
 -- lines, each ended by a line feed
-abbrev pub text_of : List (List ℕ) → List ℕ
-text_of lines = flat_map (λ line. line ++ 10 ∷ []) lines
+abbrev pub text_of_lines : List (List ℕ) → List ℕ
+text_of_lines lines = flat_map (λ line. line ++ 10 ∷ []) lines
 
 -- the dump text of a message
-abbrev pub dump_text_of : Sections → List (List Item) → List ℕ
-dump_text_of s subsets = text_of (dump_lines s subsets)
+abbrev pub dump_text_of : Sections → List (List DumpItem) → List ℕ
+dump_text_of s subsets = text_of_lines (dump_lines s subsets)
 
 -- the entries of items whose first stands at a line
-unfoldable pub item_entries : (at : ℕ) → List Item → List Entry
+unfoldable pub item_entries : (at : ℕ) → List DumpItem → List DraftEntry
 item_entries at [] = []
 item_entries at (item ∷ more) =
-    Holds (draft at item.fxy (form_of item.value)) ∷ item_entries (at + 1) more
+    Holds (draft at item.fxy (dump_value_of item.value)) ∷ item_entries (at + 1) more
 
 -- the entries of subsets whose first begins at a line
-unfoldable pub subset_entries : (at : ℕ) → List (List Item) → List Entry
+unfoldable pub subset_entries : (at : ℕ) → List (List DumpItem) → List DraftEntry
 subset_entries at [] = []
 subset_entries at (items ∷ more) =
     item_entries (at + 1) items
@@ -131,7 +131,7 @@ lines_before s =
     + length (runs_of 8 s.descriptors)
 
 -- the document of a message whose dump text begins at a line
-abbrev pub document_of : (at : ℕ) → Sections → List (List Item) → Document
+abbrev pub document_of : (at : ℕ) → Sections → List (List DumpItem) → Document
 document_of at s subsets = record {
   line = at;
   header = header_of s;

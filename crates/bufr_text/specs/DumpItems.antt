@@ -7,10 +7,10 @@ use Rattle.bufr_walk.specs.Content.{Content, ShownValue, shown_number, shown_tex
 use Rattle.bufr_walk.specs.Outcome.{Read}
 use Rattle.bufr_walk.specs.Reading.{Values, apart, together}
 use Rattle.bufr_walk.specs.Reading as reading
-use Rattle.bufr_text.specs.Dump.{Value, IsNumber, IsText, IsMissing, IsReference, Comment, Item}
+use Rattle.bufr_text.specs.Dump.{DumpValue, IsNumber, IsText, IsMissing, IsReference, Comment, DumpItem}
 
 -- the value of an item that is shown
-abbrev pub value_of : ShownValue → Value
+abbrev pub value_of : ShownValue → DumpValue
 value_of (shown_number value scale) = IsNumber value scale
 value_of (shown_text octets) = IsText octets
 value_of shown_missing = IsMissing
@@ -21,27 +21,28 @@ abbrev pub comment_of : Row → Comment
 comment_of row = record { name = row.name; unit = row.unit }
 
 -- an item as it is shown: with a comment exactly where it was read by a row of Table B
-abbrev pub item_of : View → Item
-item_of v =
+abbrev pub dump_item_of : View → DumpItem
+dump_item_of v =
     record { fxy = v.fxy; comment = option_map comment_of v.entry; value = value_of v.value }
 
 -- the items of a subset that has bits of its own
-abbrev pub items_apart : List Row → List (reading.Item Content) → List Item
-items_apart table items = map (λ i. item_of (view_of table i.spec i.content)) items
+abbrev pub items_apart : List Row → List (reading.Item Content) → List DumpItem
+items_apart table items = map (λ i. dump_item_of (view_of table i.spec i.content)) items
 
 -- the items of one subset of compressed data, counted from 0
-abbrev pub items_together : List Row → (subset : ℕ) → List (reading.Item (List Content)) → List Item
-items_together table subset items =
-    map (λ i. item_of (view_of table i.spec (content_at subset i.content))) items
+abbrev pub compressed_dump_items : List Row → (subset : ℕ) → List (reading.Item (List Content))
+    → List DumpItem
+compressed_dump_items table subset items =
+    map (λ i. dump_item_of (view_of table i.spec (content_at subset i.content))) items
 
 -- the items of so many subsets of compressed data, from one on, counted from 0
-abbrev pub subsets_together : List Row → (left subset : ℕ)
-    → List (reading.Item (List Content)) → List (List Item)
-subsets_together table zero subset items = []
-subsets_together table (suc left) subset items =
-    items_together table subset items ∷ subsets_together table left (subset + 1) items
+abbrev pub compressed_dump_subsets : List Row → (left subset : ℕ)
+    → List (reading.Item (List Content)) → List (List DumpItem)
+compressed_dump_subsets table zero subset items = []
+compressed_dump_subsets table (suc left) subset items =
+    compressed_dump_items table subset items ∷ compressed_dump_subsets table left (subset + 1) items
 
 -- the items of each subset of a reading
-abbrev pub items_of : Read → Values → List (List Item)
-items_of r (apart subsets) = map (items_apart r.table) subsets
-items_of r (together items) = subsets_together r.table r.source.subsets 0 items
+abbrev pub dump_items_of : Read → Values → List (List DumpItem)
+dump_items_of r (apart subsets) = map (items_apart r.table) subsets
+dump_items_of r (together items) = compressed_dump_subsets r.table r.source.subsets 0 items

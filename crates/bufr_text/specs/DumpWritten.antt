@@ -11,9 +11,9 @@ use Rattle.bufr_walk.specs.Outcome as outcome
 use Rattle.bufr_walk.specs.Outcome.{course_of, data_of}
 use Rattle.bufr_walk.specs.Reading.{Values, IsReading}
 use Rattle.bufr_walk.specs.Ticks.{ticked}
-use Rattle.bufr_text.specs.Dump.{head_lines, subset_line, item_text, text_of}
-use Rattle.bufr_text.specs.DumpItems.{item_of}
-use Rattle.bufr_text.specs.Writing.{GrowsByFront, Stays, Fails}
+use Rattle.bufr_text.specs.Dump.{head_lines, subset_line, item_text, text_of_lines}
+use Rattle.bufr_text.specs.DumpItems.{dump_item_of}
+use Rattle.bufr_text.specs.Writing.{GrowsByPrefix, Stays, Fails}
 
 -- a reading is of a message: of its data, which it has items of
 pub record ReadsMessage (s : Sections) (r : outcome.Read) : Type 0 where
@@ -22,10 +22,10 @@ pub record ReadsMessage (s : Sections) (r : outcome.Read) : Type 0 where
   pub read : IsReading (course_of r) r.source values r.bits
 
 -- the text was written, or the front of it where the writer failed or memory ran out
-abbrev pub WritesFront : {X : Type 0} → (old new : Option (List ℕ)) → List ℕ
+abbrev pub WritesPrefix : {X : Type 0} → (old new : Option (List ℕ)) → List ℕ
     → Result X RunFault → Type 0
-WritesFront old new text (Ok x) = Appends old new text
-WritesFront old new text (Err fault) = GrowsByFront old new text
+WritesPrefix old new text (Ok x) = Appends old new text
+WritesPrefix old new text (Err fault) = GrowsByPrefix old new text
 
 -- a write fault comes only from a call that the writer counts; nothing else changes its counts, and
 -- there is no fault but that and want of memory
@@ -49,7 +49,7 @@ stretch turns text = record { turns = turns; text = text }
 -- the line of a call
 abbrev pub call_line : Call → List ℕ
 call_line (subset_call number) = subset_line number
-call_line (item_call v) = item_text (item_of v)
+call_line (item_call v) = item_text (dump_item_of v)
 
 abbrev pub call_stretch : Timed → Stretch
 call_stretch t = stretch t.turns (call_line t.call ++ 10 ∷ [])
@@ -58,7 +58,7 @@ call_stretch t = stretch t.turns (call_line t.call ++ 10 ∷ [])
 -- reading, and the last line
 abbrev pub stretches_of : Sections → outcome.Read → Values → List Stretch
 stretches_of s r values =
-    stretch 0 (text_of (head_lines s))
+    stretch 0 (text_of_lines (head_lines s))
     ∷ (map call_stretch (calls_of r values) ++ stretch (turns_shown r values) (codes "end\n") ∷ [])
 
 -- texts of stretches, one after another
@@ -67,14 +67,15 @@ stretches_text stretches = flat_map (λ p. p.text) stretches
 
 -- the writing stopped: the stretches before one were written whole, of that one a front, and the
 -- steps are the turns before it
-pub record StopsAt (old new : Option (List ℕ)) (stretches : List Stretch) (steps : ℕ) : Type 0 where
+pub record WritesUpTo (old new : Option (List ℕ)) (stretches : List Stretch)
+    (steps : ℕ) : Type 0 where
   pub given : List Stretch
   pub next : Stretch
   pub rest : List Stretch
   pub order : stretches ≡ given ++ (next ∷ rest)
   pub between : Option (List ℕ)
   pub whole : Appends old between (stretches_text given)
-  pub front : GrowsByFront between new next.text
+  pub front : GrowsByPrefix between new next.text
   pub made : steps ≡ ticked 0 next.turns
 
 -- all stretches were written in so many turns, or some first ones
@@ -82,4 +83,4 @@ abbrev pub WritesStretches : {X : Type 0} → (old new : Option (List ℕ)) → 
     → Result X RunFault → (steps : ℕ) → Type 0
 WritesStretches old new stretches turns (Ok x) steps =
     Appends old new (stretches_text stretches) × (steps ≡ ticked 0 turns)
-WritesStretches old new stretches turns (Err fault) steps = StopsAt old new stretches steps
+WritesStretches old new stretches turns (Err fault) steps = WritesUpTo old new stretches steps

@@ -9,32 +9,32 @@ use Rattle.bufr_tables.specs.TableD.{Sequence}
 use Rattle.bufr_tables.specs.TemplateTables.{tables_of}
 use Rattle.bufr_tables.specs.Tree.{Tree}
 use Rattle.bufr_frame.specs.declared.head.Head.{Head}
-use Rattle.bufr_frame.specs.Layout.{Parts, parts_of, message_octets, message_size, most_octets}
+use Rattle.bufr_frame.specs.Layout.{MessageParts, parts_of, message_octets, message_size, max_octets}
 use Rattle.bufr_walk.specs.Content.{octets_in}
 use Rattle.bufr_walk.specs.Course.{Course, next_item}
 use Rattle.bufr_fill.specs.Encoding.{plain_data, packed_data}
 use Rattle.bufr_fill.specs.Entries.{Subset, subsets_of}
-use Rattle.bufr_fill.specs.Fault.{Fault, FaultAt}
+use Rattle.bufr_fill.specs.Fault.{DraftFaultKind, FaultAt}
 use Rattle.bufr_text.specs.declared.form.Form.{Form}
 use Rattle.bufr_text.specs.declared.form.Form.TheVariants.{AsWritten}
 use Rattle.bufr_text.specs.Document.{Document, subsets_in}
 use Rattle.bufr_text.specs.Form.{compressed_by}
-use Rattle.bufr_text.specs.Header.{head_in, observed_in, compressed_in, section2_in}
+use Rattle.bufr_text.specs.Header.{head_from_values, observed_in, compressed_in, section2_in}
 
 -- why a document is refused: its descriptors make no template, an item (or where one should be, or
 -- the walk there) is at fault, or its message would be too long (that it is, and in which order, is
 -- a choice of this project)
-pub data Refusal : Type 0 where
-  by_template : (why : TemplateFault) → Refusal
-  by_item : (why : Fault) → Refusal
-  too_long : Refusal
+pub data DocumentRefusal : Type 0 where
+  by_template : (why : TemplateFault) → DocumentRefusal
+  by_item : (why : DraftFaultKind) → DocumentRefusal
+  too_long : DocumentRefusal
 
 -- a refusal, and its line
 pub record RefusedAt : Type 0 where
   pub line : ℕ
-  pub why : Refusal
+  pub why : DocumentRefusal
 
-abbrev pub refused_at : ℕ → Refusal → RefusedAt
+abbrev pub refused_at : ℕ → DocumentRefusal → RefusedAt
 refused_at line why = record { line = line; why = why }
 
 -- one step after another, up to the first refusal
@@ -63,22 +63,22 @@ abbrev pub octets_of_bits : List Bool → List ℕ
 octets_of_bits bits = octets_in ((length bits + 7) / 8) (bits ++ padding (length bits))
 
 -- what is written besides the head
-abbrev pub parts_as : (compressed : Bool) → Document → (payload : List ℕ) → Parts
+abbrev pub parts_as : (compressed : Bool) → Document → (payload : List ℕ) → MessageParts
 parts_as compressed d payload =
     parts_of d.local1 (section2_in d) d.descriptors (subsets_in d)
     (observed_in d) compressed payload
 
-abbrev pub parts_in : Document → (payload : List ℕ) → Parts
-parts_in d payload = parts_as (compressed_in d) d payload
+abbrev pub parts_of_document : Document → (payload : List ℕ) → MessageParts
+parts_of_document d payload = parts_as (compressed_in d) d payload
 
 -- whether the data of a document are compressed in a form
 abbrev pub compressed_as : Form → Document → Bool
 compressed_as form d = compressed_by form (compressed_in d)
 
 -- a message of these parts, where it is not too long
-abbrev pub message_of : (line : ℕ) → Head → Parts → Result (List ℕ) RefusedAt
+abbrev pub message_of : (line : ℕ) → Head → MessageParts → Result (List ℕ) RefusedAt
 message_of line head parts =
-    if nat_lt most_octets (message_size head.edition parts) then Err (refused_at line too_long)
+    if nat_lt max_octets (message_size head.edition parts) then Err (refused_at line too_long)
     else Ok (message_octets head parts)
 
 -- the octets of a document's message, or its first fault: the template goes before all, then the
@@ -88,7 +88,7 @@ encoding_in form table sequences d = do
   template ← told_of_template d.line (tree_of (tables_of table sequences) d.descriptors)
   bits ← told_of_items
       (data_bits (compressed_as form d) (next_item table template) (subsets_of d.entries))
-  message_of d.line (head_in d) (parts_as (compressed_as form d) d (octets_of_bits bits))
+  message_of d.line (head_from_values d) (parts_as (compressed_as form d) d (octets_of_bits bits))
 
 -- the same in the form that the document says
 abbrev pub encoding_of : List Row → List Sequence → Document → Result (List ℕ) RefusedAt

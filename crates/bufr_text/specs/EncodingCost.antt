@@ -8,14 +8,14 @@ use Rattle.bufr_tables.specs.TemplateTables.{tables_of}
 use Rattle.bufr_tables.specs.Expansion.{tree_of}
 use Rattle.bufr_tables.specs.Tree.{Tree, places}
 use Rattle.bufr_walk.specs.declared.spec.Taken.{Taken}
-use Rattle.bufr_walk.specs.Asked.{Asked}
+use Rattle.bufr_walk.specs.FieldSpec.{FieldSpec}
 use Rattle.bufr_walk.specs.Course.{Course, Next, take_next, at_end, astray, refused, next_item}
 use Rattle.bufr_walk.specs.Ticks.{ticked}
 use Rattle.bufr_fill.specs.DraftContent.{plain_filler}
 use Rattle.bufr_fill.specs.Encoding.{packed_filler, rows, longest, are_many}
 use Rattle.bufr_fill.specs.Entries.{Subset, subsets_of}
 use Rattle.bufr_fill.specs.Fault.{FaultAt}
-use Rattle.bufr_fill.specs.Filling.{Written, Filler, fill}
+use Rattle.bufr_fill.specs.Filling.{WrittenItem, Filler, fill}
 use Rattle.bufr_text.specs.declared.form.Form.{Form}
 use Rattle.bufr_text.specs.Document.{Document}
 use Rattle.bufr_text.specs.Encoding.{RefusedAt, compressed_as}
@@ -24,7 +24,8 @@ use Rattle.bufr_text.specs.Encoding.{RefusedAt, compressed_as}
 
 module _ {D C E : Type 0} (filler : Filler D C E) where
   -- the bits of an item that can be written, and of those behind it
-  abbrev pub counted_one : Result (Written C) E → (Asked → C → Taken) → Asked → (Taken → ℕ) → ℕ
+  abbrev pub counted_one : Result (WrittenItem C) E → (FieldSpec → C → Taken) → FieldSpec
+      → (Taken → ℕ) → ℕ
   counted_one (Err why) tells spec rest = 0
   counted_one (Ok w) tells spec rest = length w.bits + rest (tells spec w.content)
 
@@ -39,15 +40,15 @@ module _ {D C E : Type 0} (filler : Filler D C E) where
       counted_at (course []).next d (λ t. count_filled (λ told. course (t ∷ told)) ds)
 
 -- those behind one subset count where it is not refused
-abbrev pub and_more : Result (List Bool) FaultAt → (more : ℕ) → ℕ
-and_more (Ok bits) more = more
-and_more (Err why) more = 0
+abbrev pub count_after : Result (List Bool) FaultAt → (more : ℕ) → ℕ
+count_after (Ok bits) more = more
+count_after (Err why) more = 0
 
 abbrev pub count_plain : Course → List Subset → ℕ
 count_plain course [] = 0
 count_plain course (s ∷ subsets) =
     count_filled (plain_filler s.end_line) course s.items
-    + and_more (fill (plain_filler s.end_line) course s.items) (count_plain course subsets)
+    + count_after (fill (plain_filler s.end_line) course s.items) (count_plain course subsets)
 
 abbrev pub count_packed : Course → List Subset → ℕ
 count_packed course [] = 0
@@ -62,22 +63,22 @@ count_data true course subsets = count_packed course subsets
 count_data false course subsets = count_plain course subsets
 
 -- the places of a document's template, none where it has none
-abbrev pub places_of : Result Tree TemplateFault → ℕ
-places_of (Ok template) = places template
-places_of (Err why) = 0
+abbrev pub document_places : Result Tree TemplateFault → ℕ
+document_places (Ok template) = places template
+document_places (Err why) = 0
 
 abbrev pub places_by : List Row → List Sequence → Document → ℕ
-places_by table sequences d = places_of (tree_of (tables_of table sequences) d.descriptors)
+places_by table sequences d = document_places (tree_of (tables_of table sequences) d.descriptors)
 
-abbrev pub bits_for : Form → List Row → Document → Result Tree TemplateFault → ℕ
-bits_for form table d (Ok template) =
+abbrev pub bits_before_refusal : Form → List Row → Document → Result Tree TemplateFault → ℕ
+bits_before_refusal form table d (Ok template) =
     count_data (compressed_as form d) (next_item table template) (subsets_of d.entries)
-bits_for form table d (Err why) = 0
+bits_before_refusal form table d (Err why) = 0
 
 -- how many bits of its data go before its first refusal, all where there is none
 abbrev pub bits_by : Form → List Row → List Sequence → Document → ℕ
 bits_by form table sequences d =
-    bits_for form table d (tree_of (tables_of table sequences) d.descriptors)
+    bits_before_refusal form table d (tree_of (tables_of table sequences) d.descriptors)
 
 -- ---- the turns up to the first refusal, this one's included: those of the template, as the items
 -- unroll it (WMO-No. 306, Volume I.2, FM 94: section 3, replications; that they are counted is a
@@ -86,7 +87,7 @@ bits_by form table sequences d =
 module _ {D C E : Type 0} (filler : Filler D C E) where
   -- behind a draft that can be written there are more turns; one that is refused is the last of so
   -- many
-  abbrev pub turned_one : Result (Written C) E → Asked → (here : ℕ) → (Taken → ℕ) → ℕ
+  abbrev pub turned_one : Result (WrittenItem C) E → FieldSpec → (here : ℕ) → (Taken → ℕ) → ℕ
   turned_one (Err why) spec here more = here
   turned_one (Ok w) spec here more = more (filler.tells spec w.content)
 
@@ -109,7 +110,7 @@ abbrev pub turns_plain : Course → List Subset → ℕ
 turns_plain course [] = 0
 turns_plain course (s ∷ subsets) =
     turns_filled (plain_filler s.end_line) course s.items
-    + and_more (fill (plain_filler s.end_line) course s.items) (turns_plain course subsets)
+    + count_after (fill (plain_filler s.end_line) course s.items) (turns_plain course subsets)
 
 -- one pass for all subsets; without a subset there is none
 abbrev pub turns_packed : Course → List Subset → ℕ
@@ -136,6 +137,6 @@ turns_by form table sequences d =
 
 -- the steps behind so many turns, where the writing was refused; at want of memory they are perhaps
 -- not all made
-abbrev pub MakesSo : Option RefusedAt → (before turns after : ℕ) → Type 0
-MakesSo (Some f) before turns after = after ≡ ticked before turns
-MakesSo None before turns after = after ≤ ticked before turns
+abbrev pub CountsSteps : Option RefusedAt → (before turns after : ℕ) → Type 0
+CountsSteps (Some f) before turns after = after ≡ ticked before turns
+CountsSteps None before turns after = after ≤ ticked before turns

@@ -1,16 +1,16 @@
 -- The faults that an encoding answers, as the definitions name them. (a choice of this project)
 -- Cited by public contracts.
 use Rattle.std.specs.Prelude.{◌≡◌, ℕ, Option, Some, None, Result, Err}
-use Rattle.bufr_walk.specs.declared.spec.Refusal.TheVariants as refusal
-use Rattle.bufr_fill.specs.Fault.{Fault, FaultAt, wrong_number, out_of_range, text_long, missing_forbidden, unequal_factors, uneven_increment, walk_refused, too_many_values}
-use Rattle.bufr_fill.specs.Told.{other_than}
+use Rattle.bufr_walk.specs.declared.spec.TurnRefusal.TheVariants as refusal
+use Rattle.bufr_fill.specs.Fault.{DraftFaultKind, FaultAt, wrong_number, out_of_range, text_long, missing_forbidden, unequal_factors, uneven_increment, walk_refused, too_many_values}
+use Rattle.bufr_fill.specs.DraftFaults.{other_than}
 use Rattle.bufr_text.specs.Encoding.{RefusedAt, refused_at, by_template, by_item, too_long}
 use Rattle.bufr_text.specs.declared.encode_fault.DocumentFault.{DocumentFault}
 use Rattle.bufr_text.specs.declared.encode_fault.DocumentFault.TheVariants as fault
 use Rattle.bufr_text.specs.declared.encode_fault.WalkRefusal.{WalkRefusal}
 use Rattle.bufr_text.specs.declared.encode_fault.WalkRefusal.TheVariants as walk
 
-abbrev pub walk_told : WalkRefusal → Fault
+abbrev pub walk_told : WalkRefusal → DraftFaultKind
 walk_told (walk.Width fxy) = walk_refused (refusal.Width fxy)
 walk_told (walk.Defining fxy) = walk_refused (refusal.Defining fxy)
 walk_told (walk.TooManyValues fxy) = too_many_values fxy
@@ -53,6 +53,6 @@ number_of_document_fault (fault.Walk line why) = 62
 number_of_document_fault fault.Memory = 73
 
 -- a fault is the definition's refusal; want of memory is none
-abbrev pub RefusesSo : {A : Type 0} → Option RefusedAt → Result A RefusedAt → Type 0
-RefusesSo None defined = Unit {0}
-RefusesSo (Some f) defined = defined ≡ Err f
+abbrev pub IsDocumentRefusal : {A : Type 0} → Option RefusedAt → Result A RefusedAt → Type 0
+IsDocumentRefusal None defined = Unit {0}
+IsDocumentRefusal (Some f) defined = defined ≡ Err f

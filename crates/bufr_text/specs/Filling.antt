@@ -2,15 +2,15 @@
 -- Cited by private steps only.
 use Rattle.std.specs.Prelude.{◌≡◌, ◌⊎◌, ℕ, ◌+◌, ◌*◌, ◌<◌, ◌≤◌, ◌==◌, Bool, true, false, List, [], ◌∷◌, ◌++◌, length, Option, Some, None, Result, Ok, Err}
 use Rattle.std.specs.Io.KnownBytes.{Consumes, IsAtEnd}
-use Rattle.bufr_frame.specs.Runs.{most_reads}
+use Rattle.bufr_frame.specs.Runs.{max_reads}
 use Rattle.bufr_frame.specs.declared.fault.RunFault.{RunFault}
 use Rattle.bufr_frame.specs.declared.fault.RunFault.TheVariants.{Read, Write, InputTooLong, Memory}
 use Rattle.bufr_text.specs.Document.{Document}
 use Rattle.bufr_text.specs.Documents as documents
-use Rattle.bufr_text.specs.Documents.{Place, Between, Stopped, Told, Spelled, Refused}
-use Rattle.bufr_text.specs.Reading.{has_no_feed, GoesOn, Passes, PassesEnd, spells}
-use Rattle.bufr_text.specs.Reader.{State, stand, AddsNext}
-use Rattle.bufr_text.specs.Step.{place_with, Stands}
+use Rattle.bufr_text.specs.Documents.{ParserState, Between, Stopped, ParseResult, Complete, Refused}
+use Rattle.bufr_text.specs.Reading.{has_no_feed, ContinuesParse, TakesWholeLines, TakesEndLine, parse}
+use Rattle.bufr_text.specs.Reader.{ReaderModel, stand, AddsNext}
+use Rattle.bufr_text.specs.Step.{place_with, IsParserState}
 use Rattle.bufr_text.specs.declared.progress.Progress.{Progress}
 use Rattle.bufr_text.specs.declared.step.LineRefusal.{LineRefusal}
 use Rattle.bufr_text.specs.declared.step.LineRefusal.TheVariants as refusal
@@ -18,7 +18,7 @@ use Rattle.bufr_text.specs.declared.fault.ReadFault.{ReadFault}
 use Rattle.bufr_text.specs.declared.fault.ReadFault.TheVariants.{Line, SubsetCount, HeaderRange, Run}
 
 -- where a reader stands: behind a refused line nothing more is told
-abbrev pub place_now : Option ReadFault → Progress → Place
+abbrev pub place_now : Option ReadFault → Progress → ParserState
 place_now None progress = place_with progress.place progress.parts
 place_now (Some (Line line)) progress = Stopped
 place_now (Some (SubsetCount line)) progress = Stopped
@@ -32,58 +32,63 @@ ends_by_feed (c ∷ []) = c == 10
 ends_by_feed (c ∷ d ∷ more) = ends_by_feed (d ∷ more)
 
 -- The progress of a reader that goes on: each line had an octet at least.
-pub record ProgressSo (progress : Progress) (held reads : ℕ) : Type 0 where
-  pub stands : Stands progress.at (place_with progress.place progress.parts)
+pub record IsProgress (progress : Progress) (held reads : ℕ) : Type 0 where
+  pub stands : IsParserState progress.at (place_with progress.place progress.parts)
   pub some : 0 < progress.at
   pub near : progress.at + held ≤ 4096 * reads + 1
 
 -- Lines were taken and tell something.
-pub record Tells (old new : State) (told : List Told) : Type 0 where
-  pub goes : GoesOn (stand old) (stand new) told
-  pub passes : Passes old.at old.held new.at new.held
+pub record ParsesHeldLines (old new : ReaderModel) (told : List ParseResult) : Type 0 where
+  pub goes : ContinuesParse (stand old) (stand new) told
+  pub passes : TakesWholeLines old.at old.held new.at new.held
 
 -- Lines were taken and tell nothing, and the next one adds to the document.
-pub record WantsHere (old : State) : Type 0 where
-  pub mid : State
-  pub taken : Tells old mid []
+pub record WantsHere (old : ReaderModel) : Type 0 where
+  pub mid : ReaderModel
+  pub taken : ParsesHeldLines old mid []
   pub ended : mid.ended ≡ old.ended
   pub reads : mid.reads ≡ old.reads
   pub next : AddsNext mid
 
 -- what the lines come to that were held
-abbrev pub WentSo : State → State → Result (Option Document) ReadFault → Type 0
-WentSo old new (Ok None) = Tells old new [] × (new.fault ≡ None) × (has_no_feed new.held ≡ true)
-WentSo old new (Ok (Some document)) =
-    Tells old new (Spelled document ∷ []) × (new.fault ≡ None)
-    × PassesEnd old.at old.held new.at new.held
-WentSo old new (Err (Line line)) =
-    Tells old new (Refused line documents.NotAllowed ∷ []) × (new.fault ≡ Some (Line line))
-WentSo old new (Err (SubsetCount line)) =
-    Tells old new (Refused line documents.SubsetCount ∷ []) × (new.fault ≡ Some (SubsetCount line))
-WentSo old new (Err (HeaderRange line)) =
-    Tells old new (Refused line documents.HeaderRange ∷ []) × (new.fault ≡ Some (HeaderRange line))
-WentSo old new (Err (Run Memory)) =
+abbrev pub TakesHeldLines : ReaderModel → ReaderModel → Result (Option Document) ReadFault → Type 0
+TakesHeldLines old new (Ok None) = ParsesHeldLines old new [] × (new.fault ≡ None)
+    × (has_no_feed new.held ≡ true)
+TakesHeldLines old new (Ok (Some document)) =
+    ParsesHeldLines old new (Complete document ∷ []) × (new.fault ≡ None)
+    × TakesEndLine old.at old.held new.at new.held
+TakesHeldLines old new (Err (Line line)) =
+    ParsesHeldLines old new (Refused line documents.NotAllowed ∷ [])
+    × (new.fault ≡ Some (Line line))
+TakesHeldLines old new (Err (SubsetCount line)) =
+    ParsesHeldLines old new (Refused line documents.SubsetCount ∷ [])
+    × (new.fault ≡ Some (SubsetCount line))
+TakesHeldLines old new (Err (HeaderRange line)) =
+    ParsesHeldLines old new (Refused line documents.HeaderRange ∷ [])
+    × (new.fault ≡ Some (HeaderRange line))
+TakesHeldLines old new (Err (Run Memory)) =
     (new.fault ≡ Some (Run Memory)) × (has_no_feed old.held ≡ false)
     × (new.held ≡ old.held) × WantsHere old
-WentSo old new (Err (Run Read)) = ⊥
-WentSo old new (Err (Run Write)) = ⊥
-WentSo old new (Err (Run InputTooLong)) = ⊥
+TakesHeldLines old new (Err (Run Read)) = ⊥
+TakesHeldLines old new (Err (Run Write)) = ⊥
+TakesHeldLines old new (Err (Run InputTooLong)) = ⊥
 
 -- how a read ends: octets came, or the end was reached, or it failed, or memory was refused before
 -- the first one
-abbrev pub ReadEnds : (left' : Option (List ℕ)) → State → State → List ℕ
+abbrev pub ReadEndsText : (left' : Option (List ℕ)) → ReaderModel → ReaderModel → List ℕ
     → Result (Unit {0}) RunFault → Type 0
-ReadEnds left' old new bs (Ok u) =
+ReadEndsText left' old new bs (Ok u) =
     (new.reads ≡ old.reads + 1) × (new.ended ≡ true → (bs ≡ []) × IsAtEnd left')
-ReadEnds left' old new bs (Err Read) = (new.reads ≡ old.reads + 1) × (bs ≡ []) × (new.ended ≡ false)
-ReadEnds left' old new bs (Err Write) = ⊥
-ReadEnds left' old new bs (Err InputTooLong) = ⊥
-ReadEnds left' old new bs (Err Memory) =
+ReadEndsText left' old new bs (Err Read) = (new.reads ≡ old.reads + 1) × (bs ≡ [])
+    × (new.ended ≡ false)
+ReadEndsText left' old new bs (Err Write) = ⊥
+ReadEndsText left' old new bs (Err InputTooLong) = ⊥
+ReadEndsText left' old new bs (Err Memory) =
     (new.reads ≡ old.reads) × (bs ≡ []) × (new.ended ≡ false) × (new.reads ≡ 0)
 
 -- One read: octets come behind those that are held, or the end was reached, which ends the last
 -- line.
-pub record ReadSo (left left' : Option (List ℕ)) (old new : State)
+pub record ReadsMoreText (left left' : Option (List ℕ)) (old new : ReaderModel)
     (result : Result (Unit {0}) RunFault) (bs : List ℕ) : Type 0 where
   pub read : Consumes left left' bs
   pub few : length bs ≤ 4096
@@ -94,48 +99,52 @@ pub record ReadSo (left left' : Option (List ℕ)) (old new : State)
   pub at : new.at ≡ old.at
   pub place : new.place ≡ old.place
   pub fault : new.fault ≡ None
-  pub ends : ReadEnds left' old new bs result
+  pub ends : ReadEndsText left' old new bs result
 
 -- the fault of a refused line
-abbrev pub fault_at : (line : ℕ) → LineRefusal → ReadFault
-fault_at line refusal.NotAllowed = Line line
-fault_at line refusal.SubsetCount = SubsetCount line
-fault_at line refusal.HeaderRange = HeaderRange line
+abbrev pub read_fault_at : (line : ℕ) → LineRefusal → ReadFault
+read_fault_at line refusal.NotAllowed = Line line
+read_fault_at line refusal.SubsetCount = SubsetCount line
+read_fault_at line refusal.HeaderRange = HeaderRange line
 
 -- a reader that a fault stopped
-abbrev pub stopped : State → ReadFault → State
+abbrev pub stopped : ReaderModel → ReadFault → ReaderModel
 stopped s (Line line) = record s { fault = Some (Line line); place = Stopped }
 stopped s (SubsetCount line) = record s { fault = Some (SubsetCount line); place = Stopped }
 stopped s (HeaderRange line) = record s { fault = Some (HeaderRange line); place = Stopped }
 stopped s (Run fault) = record s { fault = Some (Run fault) }
 
 -- what the end comes to, where no line is held
-abbrev pub EndSo : State → State → Result (Option Document) ReadFault → Type 0
-EndSo old new (Ok None) = (new ≡ old) × (new.held ≡ []) × (spells (stand new) [] ≡ [])
-EndSo old new (Ok (Some document)) = ⊥
-EndSo old new (Err (Line line)) =
-    Tells old new (Refused line documents.NotAllowed ∷ []) × (new.fault ≡ Some (Line line))
+abbrev pub HandlesEnd : ReaderModel → ReaderModel → Result (Option Document) ReadFault → Type 0
+HandlesEnd old new (Ok None) = (new ≡ old) × (new.held ≡ []) × (parse (stand new) [] ≡ [])
+HandlesEnd old new (Ok (Some document)) = ⊥
+HandlesEnd old new (Err (Line line)) =
+    ParsesHeldLines old new (Refused line documents.NotAllowed ∷ [])
+    × (new.fault ≡ Some (Line line))
     × (new.ended ≡ old.ended) × (new.reads ≡ old.reads)
-EndSo old new (Err (SubsetCount line)) = ⊥
-EndSo old new (Err (HeaderRange line)) = ⊥
-EndSo old new (Err (Run fault)) = ⊥
+HandlesEnd old new (Err (SubsetCount line)) = ⊥
+HandlesEnd old new (Err (HeaderRange line)) = ⊥
+HandlesEnd old new (Err (Run fault)) = ⊥
 
 -- a read, or why none is made
-abbrev pub FillSo : (left left' : Option (List ℕ)) → State → State
+abbrev pub FillsBuffer : (left left' : Option (List ℕ)) → ReaderModel → ReaderModel
     → Result (Unit {0}) ReadFault → List ℕ → Type 0
-FillSo left left' old new (Ok u) bs = ReadSo left left' old new (Ok u) bs × (length old.held ≤ 4096)
-FillSo left left' old new (Err (Line line)) bs =
-    Consumes left left' bs × (bs ≡ []) × Tells old new (Refused line documents.NotAllowed ∷ [])
-    × (new.fault ≡ Some (Line line)) × (new.ended ≡ old.ended) × (new.reads ≡ old.reads)
-FillSo left left' old new (Err (SubsetCount line)) bs = ⊥
-FillSo left left' old new (Err (HeaderRange line)) bs = ⊥
-FillSo left left' old new (Err (Run Read)) bs =
-    (s : State) × ReadSo left left' old s (Err Read) bs × (new ≡ stopped s (Run Read))
+FillsBuffer left left' old new (Ok u) bs = ReadsMoreText left left' old new (Ok u) bs
     × (length old.held ≤ 4096)
-FillSo left left' old new (Err (Run Write)) bs = ⊥
-FillSo left left' old new (Err (Run InputTooLong)) bs =
+FillsBuffer left left' old new (Err (Line line)) bs =
+    Consumes left left' bs × (bs ≡ []) × ParsesHeldLines old new
+    (Refused line documents.NotAllowed ∷ [])
+    × (new.fault ≡ Some (Line line)) × (new.ended ≡ old.ended) × (new.reads ≡ old.reads)
+FillsBuffer left left' old new (Err (SubsetCount line)) bs = ⊥
+FillsBuffer left left' old new (Err (HeaderRange line)) bs = ⊥
+FillsBuffer left left' old new (Err (Run Read)) bs =
+    (s : ReaderModel) × ReadsMoreText left left' old s (Err Read) bs × (new ≡ stopped s (Run Read))
+    × (length old.held ≤ 4096)
+FillsBuffer left left' old new (Err (Run Write)) bs = ⊥
+FillsBuffer left left' old new (Err (Run InputTooLong)) bs =
     Consumes left left' bs × (bs ≡ []) × (new ≡ stopped old (Run InputTooLong))
-    × (length old.held ≤ 4096) × (old.reads ≡ most_reads)
-FillSo left left' old new (Err (Run Memory)) bs =
-    (s : State) × ReadSo left left' old s (Err Memory) bs × (new ≡ stopped s (Run Memory))
+    × (length old.held ≤ 4096) × (old.reads ≡ max_reads)
+FillsBuffer left left' old new (Err (Run Memory)) bs =
+    (s : ReaderModel) × ReadsMoreText left left' old s (Err Memory) bs
+    × (new ≡ stopped s (Run Memory))
     × (length old.held ≤ 4096)

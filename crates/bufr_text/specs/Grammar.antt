@@ -7,23 +7,23 @@ use Rattle.std.specs.Str.Parse.{digits_value}
 use Rattle.bufr_tables.specs.Fxy.{fxy_of, fxy_text}
 
 -- the elements in front that pass a test, and what is behind them
-unfoldable pub front : (ℕ → Bool) → List ℕ → List ℕ
-front test [] = []
-front test (c ∷ more) = if test c then c ∷ front test more else []
+unfoldable pub prefix_while : (ℕ → Bool) → List ℕ → List ℕ
+prefix_while test [] = []
+prefix_while test (c ∷ more) = if test c then c ∷ prefix_while test more else []
 
-unfoldable pub behind : (ℕ → Bool) → List ℕ → List ℕ
-behind test [] = []
-behind test (c ∷ more) = if test c then behind test more else c ∷ more
+unfoldable pub suffix_while : (ℕ → Bool) → List ℕ → List ℕ
+suffix_while test [] = []
+suffix_while test (c ∷ more) = if test c then suffix_while test more else c ∷ more
 
 -- what is behind a word that stands in front
-unfoldable pub behind_word : (word text : List ℕ) → Option (List ℕ)
-behind_word [] text = Some text
-behind_word (w ∷ word) [] = None
-behind_word (w ∷ word) (c ∷ text) = if c == w then behind_word word text else None
+unfoldable pub without_prefix : (word text : List ℕ) → Option (List ℕ)
+without_prefix [] text = Some text
+without_prefix (w ∷ word) [] = None
+without_prefix (w ∷ word) (c ∷ text) = if c == w then without_prefix word text else None
 
 -- what is behind one space
-abbrev pub behind_space : List ℕ → Option (List ℕ)
-behind_space text = behind_word (32 ∷ []) text
+abbrev pub without_space : List ℕ → Option (List ℕ)
+without_space text = without_prefix (32 ∷ []) text
 
 -- a list in runs of at most so many; the elements that a run has taken are skipped
 unfoldable pub runs_behind : (skip most : ℕ) → List ℕ → List (List ℕ)
@@ -101,13 +101,13 @@ number_read text =
     then Some (min (digits_value 10 text) 65536) else None
 
 -- an octet that stands for itself in a text
-abbrev pub is_plain : ℕ → Bool
-is_plain c = nat_le 32 c && nat_le c 126 && not (c == 34) && not (c == 92)
+abbrev pub is_unescaped : ℕ → Bool
+is_unescaped c = nat_le 32 c && nat_le c 126 && not (c == 34) && not (c == 92)
 
 -- an octet in a text: a quote and a backslash behind a backslash, what cannot be printed as `\xHH`
 abbrev pub escaped : ℕ → List ℕ
 escaped octet =
-    if is_plain octet then octet ∷ []
+    if is_unescaped octet then octet ∷ []
     else if (octet == 34) || (octet == 92) then 92 ∷ octet ∷ []
     else 92 ∷ 120 ∷ hex_pair octet
 
@@ -118,29 +118,30 @@ quoted (octet ∷ more) = escaped octet ++ quoted more
 
 -- what stands in front of a text that goes on: its end, an octet and how many octets write it, or
 -- nothing that a text can hold
-pub data Quoting : Type 0 where
-  Closed : Quoting
-  Says : (octet written : ℕ) → Quoting
-  Nothing : Quoting
+pub data QuotedToken : Type 0 where
+  Closed : QuotedToken
+  ListsLeaves : (octet written : ℕ) → QuotedToken
+  Nothing : QuotedToken
 
-abbrev pub says_pair : Option ℕ → Quoting
-says_pair (Some octet) = Says octet 4
+abbrev pub says_pair : Option ℕ → QuotedToken
+says_pair (Some octet) = ListsLeaves octet 4
 says_pair None = Nothing
 
 -- what begins with a backslash; past the end of the text stands 0, which no case allows
-abbrev pub escape_of : List ℕ → Quoting
+abbrev pub escape_of : List ℕ → QuotedToken
 escape_of text =
-    if (slice_index text 1 == 34) || (slice_index text 1 == 92) then Says (slice_index text 1) 2
+    if (slice_index text 1 == 34) || (slice_index text 1 == 92)
+    then ListsLeaves (slice_index text 1) 2
     else if slice_index text 1 == 120 then says_pair
     (pair_value (upper_value (slice_index text 2)) (upper_value (slice_index text 3)))
     else Nothing
 
 -- what stands in front of a text
-abbrev pub quoting_of : List ℕ → Quoting
+abbrev pub quoting_of : List ℕ → QuotedToken
 quoting_of text =
     if slice_index text 0 == 34 then Closed
     else if slice_index text 0 == 92 then escape_of text
-    else if is_plain (slice_index text 0) then Says (slice_index text 0) 1
+    else if is_unescaped (slice_index text 0) then ListsLeaves (slice_index text 0) 1
     else Nothing
 
 -- a text that was read, and what is behind its closing quote
@@ -148,10 +149,10 @@ abbrev pub octet_onto : ℕ → Option (List ℕ × List ℕ) → Option (List �
 octet_onto octet None = None
 octet_onto octet (Some read) = Some (octet ∷ read.0, read.1)
 
-abbrev pub quoted_on : Quoting → (closed : List ℕ) → (more : ℕ → Option (List ℕ × List ℕ))
+abbrev pub quoted_on : QuotedToken → (closed : List ℕ) → (more : ℕ → Option (List ℕ × List ℕ))
     → Option (List ℕ × List ℕ)
 quoted_on Closed closed more = Some ([], closed)
-quoted_on (Says octet written) closed more = octet_onto octet (more (written - 1))
+quoted_on (ListsLeaves octet written) closed more = octet_onto octet (more (written - 1))
 quoted_on Nothing closed more = None
 
 -- the octets of a text and what is behind its closing quote; octets that were looked at already are

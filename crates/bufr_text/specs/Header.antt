@@ -6,36 +6,36 @@ use Rattle.bufr_text.specs.Document.{Document, edition_in, optional_in}
 use Rattle.bufr_text.specs.Documents.{in_range}
 
 -- the value of a key, by its place
-abbrev pub value_in : Document → (key : ℕ) → ℕ
-value_in d key = slice_index d.header key
+abbrev pub key_value : Document → (key : ℕ) → ℕ
+key_value d key = slice_index d.header key
 
 -- section 1, and the edition
-abbrev pub head_in : Document → Head
-head_in d = record {
-  edition = value_in d 0;
-  master = value_in d 1;
-  centre = value_in d 2;
-  subcentre = value_in d 3;
-  update = value_in d 4;
-  category = value_in d 5;
-  subcategory = value_in d 6;
-  local_subcategory = value_in d 7;
-  master_version = value_in d 8;
-  local_version = value_in d 9;
-  year = value_in d 10;
-  month = value_in d 11;
-  day = value_in d 12;
-  hour = value_in d 13;
-  minute = value_in d 14;
-  second = value_in d 15;
+abbrev pub head_from_values : Document → Head
+head_from_values d = record {
+  edition = key_value d 0;
+  master = key_value d 1;
+  centre = key_value d 2;
+  subcentre = key_value d 3;
+  update = key_value d 4;
+  category = key_value d 5;
+  subcategory = key_value d 6;
+  local_subcategory = key_value d 7;
+  master_version = key_value d 8;
+  local_version = key_value d 9;
+  year = key_value d 10;
+  month = key_value d 11;
+  day = key_value d 12;
+  hour = key_value d 13;
+  minute = key_value d 14;
+  second = key_value d 15;
 }
 
 -- the two flags of section 3
 abbrev pub observed_in : Document → Bool
-observed_in d = value_in d 16 == 1
+observed_in d = key_value d 16 == 1
 
 abbrev pub compressed_in : Document → Bool
-compressed_in d = value_in d 17 == 1
+compressed_in d = key_value d 17 == 1
 
 -- section 2, where there is one
 abbrev pub section2_in : Document → Option (List ℕ)

@@ -5,8 +5,8 @@ use Rattle.std.specs.Global.{Global}
 use Rattle.std.specs.List.{AllByRecursion}
 use Rattle.bufr_tables.specs.TableB.{Row}
 use Rattle.bufr_tables.specs.Tree.{Tree}
-use Rattle.bufr_frame.specs.Layout.{most_octets}
-use Rattle.bufr_frame.specs.Scan.{Framed, scan_from}
+use Rattle.bufr_frame.specs.Layout.{max_octets}
+use Rattle.bufr_frame.specs.Scan.{FrameAt, scan_from}
 use Rattle.bufr_frame.specs.Sections.{Sections, sections_of}
 use Rattle.bufr_walk.specs.Content.{Content}
 use Rattle.bufr_walk.specs.Course.{next_item}
@@ -16,10 +16,10 @@ use Rattle.bufr_fill.specs.OtherForm.{subsets_from, IsUnlike}
 use Rattle.bufr_text.specs.declared.encode_fault.DocumentFault.{DocumentFault}
 use Rattle.bufr_text.specs.declared.form.Form.{Form}
 use Rattle.bufr_text.specs.declared.form.Form.TheVariants as form
-use Rattle.bufr_text.specs.RoundTrip.{SaySame, items_in}
-use Rattle.bufr_text.specs.Encoding.{Refusal, by_template, by_item, too_long, RefusedAt}
+use Rattle.bufr_text.specs.RoundTrip.{SaySame, dump_items_in}
+use Rattle.bufr_text.specs.Encoding.{DocumentRefusal, by_template, by_item, too_long, RefusedAt}
 use Rattle.bufr_text.specs.EncodingFault.{told_refusal}
-use Rattle.bufr_text.specs.Given.{IsOctet}
+use Rattle.bufr_text.specs.Bounds.{IsOctet}
 
 -- the items of each subset, whatever the form in which they were read
 abbrev pub each_subset : (subsets : ℕ) → Values → List (List (Item Content))
@@ -30,11 +30,11 @@ each_subset n (together items) = subsets_from n 0 items
 -- flag of compression
 pub record HasReadingIn (form : Form) (table : List Row) (s : Sections) (template : Tree)
     (values : Values) (written : List ℕ) : Type 0 where
-  pub few : length written ≤ most_octets
+  pub few : length written ≤ max_octets
   pub octets : AllByRecursion IsOctet written
   -- in a stream it is one message, whatever is behind it
   pub framed : (at : ℕ) (behind : List ℕ) → scan_from 0 at (written ++ behind)
-      ≡ Framed at written ∷ scan_from 0 (at + length written) behind
+      ≡ FrameAt at written ∷ scan_from 0 (at + length written) behind
   pub sections : Sections
   pub are : sections_of written ≡ Ok sections
   pub same : SaySame form s sections
@@ -44,12 +44,12 @@ pub record HasReadingIn (form : Form) (table : List Row) (s : Sections) (templat
   -- each subset has the same items: what was asked of the data, and what was found
   pub each : each_subset s.subsets found ≡ each_subset s.subsets values
   -- so its dump text has the same items
-  pub items : items_in table template sections found ≡ items_in table template s values
+  pub items : dump_items_in table template sections found ≡ dump_items_in table template s values
 
 -- what the document of an accepted message may be refused for in a form: in the one that it has,
 -- nothing; else the length, and in compressed data factors that differ and contents that no
 -- increments tell apart
-abbrev pub IsForForm : Form → Refusal → Type 0
+abbrev pub IsForForm : Form → DocumentRefusal → Type 0
 IsForForm form.AsWritten why = ⊥
 IsForForm form.Plain (by_template why) = ⊥
 IsForForm form.Plain (by_item fault) = ⊥
@@ -71,8 +71,8 @@ IsFaultIn form why =
     (refused : RefusedAt) → told_refusal why ≡ Some refused → IsForForm form refused.why
 
 -- what is answered for the document of a message in a form
-abbrev pub FormSo : Form → List Row → Sections → Tree → Values
+abbrev pub EncodesForm : Form → List Row → Sections → Tree → Values
     → Result (Vec ℕ Global) DocumentFault → Type 0
-FormSo form table s template values (Ok octets) =
+EncodesForm form table s template values (Ok octets) =
     HasReadingIn form table s template values octets.items
-FormSo form table s template values (Err why) = IsFaultIn form why
+EncodesForm form table s template values (Err why) = IsFaultIn form why

@@ -10,7 +10,7 @@ pub mod Dump
 -- the items that a reading gives to a dump text
 pub mod DumpItems
 -- what sections and a reading give of the parts of a dump text: their bounds
-pub mod Given
+pub mod Bounds
 -- the faults of a dump text, and their numbers
 pub mod Faults
 -- ---- how texts are written
@@ -51,7 +51,7 @@ pub mod Kept
 -- private: what a line does at a place, as the code has it, and what holds of each place
 pub mod Step
 -- private: what taking the lines that are held comes to
-pub mod Taking
+pub mod TakingLines
 -- ---- how a reader goes on
 -- private: the buffer of a reader, which slides over its input
 pub mod Buffer

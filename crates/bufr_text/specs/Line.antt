@@ -4,8 +4,8 @@ use Rattle.std.specs.Prelude.{ℕ, zero, suc, ◌+◌, ◌==◌, nat_le, nat_lt,
 use Rattle.std.specs.Char.{is_ascii_digit}
 use Rattle.std.specs.Str.{bytes_eq}
 use Rattle.bufr_frame.specs.Section1.{Field, Master, Centre, Subcentre, Update, Category, Subcategory, LocalSubcategory, MasterVersion, LocalVersion, Year, Month, Day, Hour, Minute, Second, Slot, most_in}
-use Rattle.bufr_fill.specs.Draft.{Form, number_token, text_form, missing_form, reference_token}
-use Rattle.bufr_text.specs.Grammar.{front, behind, behind_word, behind_space, hex_read, fxy_read, descriptors_read, number_read, quoted_read, is_number_octet, is_passed_behind}
+use Rattle.bufr_fill.specs.Draft.{DraftValue, number_token, text_form, missing_form, reference_token}
+use Rattle.bufr_text.specs.Grammar.{prefix_while, suffix_while, without_prefix, without_space, hex_read, fxy_read, descriptors_read, number_read, quoted_read, is_number_octet, is_passed_behind}
 
 -- what a line says; `Header` has the place of its key, `Wrong` is no line of a document
 pub data Line : Type 0 where
@@ -16,7 +16,7 @@ pub data Line : Type 0 where
   Section2 : (octets : List ℕ) → Line
   Descriptors : (words : List ℕ) → Line
   Begins : (subset : ℕ) → Line
-  Item : (fxy : ℕ) (form : Form) → Line
+  Item : (fxy : ℕ) (form : DraftValue) → Line
   Closes : Line
   Wrong : Line
 
@@ -93,23 +93,27 @@ with_one_to most line xs =
     if nat_lt 0 (length xs) && nat_le (length xs) most then line xs else Wrong
 
 -- nothing but a comment is behind a value
-abbrev pub item_with : (fxy : ℕ) → Form × List ℕ → Line
-item_with fxy (form, rest) = if is_passed_behind rest then Item fxy form else Wrong
+abbrev pub item_if_comment : (fxy : ℕ) → DraftValue × List ℕ → Line
+item_if_comment fxy (form, rest) = if is_passed_behind rest then Item fxy form else Wrong
 
 -- a value in front, and what is behind it
-abbrev pub text_value : List ℕ → Option (Form × List ℕ)
+abbrev pub text_value : List ℕ → Option (DraftValue × List ℕ)
 text_value text = option_map (λ read. (text_form (read.0), read.1)) (quoted_read 0 text)
 
-abbrev pub number_value : (List ℕ → Form) → List ℕ → Option (Form × List ℕ)
+abbrev pub number_value : (List ℕ → DraftValue) → List ℕ → Option (DraftValue × List ℕ)
 number_value form [] = None
 number_value form (c ∷ more) =
     if is_number_octet c
-    then Some (form (front is_number_octet (c ∷ more)), behind is_number_octet (c ∷ more)) else None
+    then Some (
+      form (prefix_while is_number_octet (c ∷ more)),
+      suffix_while is_number_octet
+          (c ∷ more),
+    ) else None
 
-abbrev pub missing_value : List ℕ → Option (Form × List ℕ)
-missing_value text = option_map (λ rest. (missing_form, rest)) (behind_word (codes "MISSING") text)
+abbrev pub missing_value : List ℕ → Option (DraftValue × List ℕ)
+missing_value text = option_map (λ rest. (missing_form, rest)) (without_prefix (codes "MISSING") text)
 
-unfoldable pub value_read : List ℕ → Option (Form × List ℕ)
+unfoldable pub value_read : List ℕ → Option (DraftValue × List ℕ)
 value_read [] = None
 value_read (c ∷ more) =
     if c == 34 then text_value more
@@ -117,10 +121,10 @@ value_read (c ∷ more) =
     else missing_value (c ∷ more)
 
 -- a descriptor, one space and a value
-abbrev pub valued : (List ℕ → Option (Form × List ℕ)) → ℕ × List ℕ → Line
-valued read (fxy, rest) = made (λ text. made (item_with fxy) (read text)) (behind_space rest)
+abbrev pub valued : (List ℕ → Option (DraftValue × List ℕ)) → ℕ × List ℕ → Line
+valued read (fxy, rest) = made (λ text. made (item_if_comment fxy) (read text)) (without_space rest)
 
-abbrev pub item_line : (List ℕ → Option (Form × List ℕ)) → List ℕ → Line
+abbrev pub item_line : (List ℕ → Option (DraftValue × List ℕ)) → List ℕ → Line
 item_line read text = made (valued read) (fxy_read text)
 
 -- a line by its first word, and what is behind that word
@@ -128,17 +132,17 @@ unfoldable pub worded : (word rest : List ℕ) → Line
 worded word rest =
     if bytes_eq word (codes "message") then (if length rest == 0 then Opens else Wrong)
     else if bytes_eq word (codes "local1")
-    then made (λ text. made (with_one_to 32 Local1) (hex_read text)) (behind_space rest)
+    then made (λ text. made (with_one_to 32 Local1) (hex_read text)) (without_space rest)
     else if bytes_eq word (codes "section2")
-    then made (λ text. made (with_one_to 32 Section2) (hex_read text)) (behind_space rest)
+    then made (λ text. made (with_one_to 32 Section2) (hex_read text)) (without_space rest)
     else if bytes_eq word (codes "descriptors")
     then made (with_one_to 8 Descriptors) (descriptors_read rest)
     else if bytes_eq word (codes "subset")
-    then made (λ text. made Begins (number_read text)) (behind_space rest)
+    then made (λ text. made Begins (number_read text)) (without_space rest)
     else if bytes_eq word (codes "R")
-    then made (item_line (number_value reference_token)) (behind_space rest)
+    then made (item_line (number_value reference_token)) (without_space rest)
     else if bytes_eq word (codes "end") then (if length rest == 0 then Closes else Wrong)
-    else made (λ place. made (λ text. made (Header place) (number_read text)) (behind_space rest))
+    else made (λ place. made (λ text. made (Header place) (number_read text)) (without_space rest))
     (place_from 0 word keys)
 
 abbrev pub is_no_space : ℕ → Bool
@@ -150,4 +154,4 @@ line_of [] = Passed
 line_of (c ∷ more) =
     if c == 35 then Passed
     else if is_ascii_digit c then item_line value_read (c ∷ more)
-    else worded (front is_no_space (c ∷ more)) (behind is_no_space (c ∷ more))
+    else worded (prefix_while is_no_space (c ∷ more)) (suffix_while is_no_space (c ∷ more))

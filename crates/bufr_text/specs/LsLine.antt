@@ -3,7 +3,7 @@
 use Rattle.std.specs.Prelude.{ℕ, Bool, List, [], ◌∷◌, ◌++◌, codes, decimal, length, is_some}
 use Rattle.bufr_frame.specs.Sections.{Sections}
 use Rattle.bufr_frame.specs.declared.head.Head.{Head}
-use Rattle.bufr_text.specs.Writing.{joined, padded, flag}
+use Rattle.bufr_text.specs.Writing.{joined, zero_padded, flag}
 
 -- where the message stands, and where it comes from
 abbrev pub origin_texts : (offset size : ℕ) → Head → List (List ℕ)
@@ -26,8 +26,8 @@ tables_texts h =
 -- the time that section 1 says
 abbrev pub time_texts : Head → List (List ℕ)
 time_texts h =
-    codes " time=" ∷ padded 4 h.year ∷ codes "-" ∷ padded 2 h.month ∷ codes "-" ∷ padded 2 h.day ∷
-    codes "T" ∷ padded 2 h.hour ∷ codes ":" ∷ padded 2 h.minute ∷ codes ":" ∷ padded 2 h.second ∷ []
+    codes " time=" ∷ zero_padded 4 h.year ∷ codes "-" ∷ zero_padded 2 h.month ∷ codes "-" ∷ zero_padded 2 h.day ∷
+    codes "T" ∷ zero_padded 2 h.hour ∷ codes ":" ∷ zero_padded 2 h.minute ∷ codes ":" ∷ zero_padded 2 h.second ∷ []
 
 -- how many subsets and descriptors it has, and its flags
 abbrev pub counts_texts : (subsets : ℕ) (observed compressed optional : Bool)

@@ -5,18 +5,18 @@ use Rattle.bufr_tables.specs.TableB.{Row, entry_of}
 use Rattle.bufr_tables.specs.Tree.{Tree}
 use Rattle.bufr_walk.specs.declared.spec.Taken.{Taken}
 use Rattle.bufr_walk.specs.declared.spec.Taken.TheVariants as taken
-use Rattle.bufr_walk.specs.Asked.{Asked}
-use Rattle.bufr_walk.specs.Content.{Content, told}
+use Rattle.bufr_walk.specs.FieldSpec.{FieldSpec}
+use Rattle.bufr_walk.specs.Content.{Content, answer_of}
 use Rattle.bufr_walk.specs.Course.{Course, Next, take_next, at_end, astray, refused, next_item}
 use Rattle.bufr_fill.specs.Draft.{Draft}
 use Rattle.bufr_fill.specs.DraftContent.{content_of}
 use Rattle.bufr_fill.specs.Entries.{Subset, subsets_of}
-use Rattle.bufr_fill.specs.Fault.{Fault}
+use Rattle.bufr_fill.specs.Fault.{DraftFaultKind}
 use Rattle.bufr_fill.specs.Normal.{normal_form}
 use Rattle.bufr_text.specs.declared.form.Form.{Form}
 use Rattle.bufr_text.specs.declared.form.Form.TheVariants.{AsWritten, Plain, Compressed}
 use Rattle.bufr_text.specs.Document.{Document}
-use Rattle.bufr_text.specs.Dump.{Comment, header_lines, local1_line, section2_line, descriptors_line, form_text, comment_text, subset_line, text_of}
+use Rattle.bufr_text.specs.Dump.{Comment, header_lines, local1_line, section2_line, descriptors_line, form_text, comment_text, subset_line, text_of_lines}
 use Rattle.bufr_text.specs.DumpItems.{comment_of}
 use Rattle.bufr_text.specs.Grammar.{runs_of}
 
@@ -37,25 +37,25 @@ normal_head form d =
     ++ map descriptors_line (runs_of 8 d.descriptors))))
 
 -- the comment of a field: name and unit of the row of Table B by which it is read
-abbrev pub comment_at : List Row → Asked → Option Comment
+abbrev pub comment_at : List Row → FieldSpec → Option Comment
 comment_at table spec =
     option_map comment_of (if spec.listed then entry_of table spec.fxy else None)
 
 -- the line of an item at its field: its descriptor, the one spelling of what stands behind it, and
 -- the comment
-abbrev pub normal_line : List Row → Asked → Draft → List ℕ
+abbrev pub normal_line : List Row → FieldSpec → Draft → List ℕ
 normal_line table spec d =
     form_text d.fxy (normal_form spec d.form) ++ comment_text (comment_at table spec)
 
 -- what an item tells those behind it; one that is no content of its field tells nothing
-abbrev pub told_of : Asked → Result Content Fault → Taken
-told_of spec (Ok c) = told spec c
-told_of spec (Err why) = taken.Plain
+abbrev pub draft_answer : FieldSpec → Result Content DraftFaultKind → Taken
+draft_answer spec (Ok c) = answer_of spec c
+draft_answer spec (Err why) = taken.Plain
 
 -- the line of an item, and the rest
 abbrev pub line_and : List Row → Next → Draft → (Taken → List (List ℕ)) → List (List ℕ)
 line_and table (take_next spec) d rest =
-    normal_line table spec d ∷ rest (told_of spec (content_of spec d))
+    normal_line table spec d ∷ rest (draft_answer spec (content_of spec d))
 line_and table at_end d rest = []
 line_and table astray d rest = []
 line_and table (refused why) d rest = []
@@ -64,7 +64,8 @@ line_and table (refused why) d rest = []
 abbrev pub normal_items : List Row → Course → List Draft → List (List ℕ)
 normal_items table course [] = []
 normal_items table course (d ∷ ds) =
-    line_and table (course []).next d (λ t. normal_items table (λ told. course (t ∷ told)) ds)
+    line_and table (course []).next d
+    (λ t. normal_items table (λ answer_of. course (t ∷ answer_of)) ds)
 
 -- the lines of the subsets from a number on
 abbrev pub normal_subsets : List Row → Course → (subset : ℕ) → List Subset → List (List ℕ)
@@ -76,5 +77,5 @@ normal_subsets table course n (s ∷ more) =
 -- lines of octets and descriptors end are gone
 abbrev pub normal : Form → List Row → Tree → Document → List ℕ
 normal form table template d =
-    text_of (normal_head form d ++ (normal_subsets table (next_item table template) 1
+    text_of_lines (normal_head form d ++ (normal_subsets table (next_item table template) 1
     (subsets_of d.entries) ++ codes "end" ∷ []))

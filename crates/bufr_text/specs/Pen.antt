@@ -6,10 +6,10 @@ use Rattle.bufr_frame.specs.declared.fault.RunFault.TheVariants.{Memory}
 use Rattle.bufr_walk.specs.declared.fault.ShowFault.{ShowFault}
 use Rattle.bufr_walk.specs.declared.fault.ShowFault.TheVariants as show
 use Rattle.bufr_walk.specs.Calls.{Call}
-use Rattle.bufr_text.specs.DumpWritten.{WritesFront, CountsFaults, call_line}
+use Rattle.bufr_text.specs.DumpWritten.{WritesPrefix, CountsFaults, call_line}
 
 -- what a writer took and counted, and by which names it and the line are held
-pub record Pen : Type 0 where
+pub record SinkModel : Type 0 where
   pub taken : Option (List ℕ)
   pub failures : ℕ
   pub empty : ℕ
@@ -17,8 +17,8 @@ pub record Pen : Type 0 where
   pub line : ℕ
   pub writer : ℕ
 
-abbrev pub pen : Option (List ℕ) → (failures empty flushes line writer : ℕ) → Pen
-pen taken failures empty flushes line writer =
+abbrev pub sink_model : Option (List ℕ) → (failures empty flushes line writer : ℕ) → SinkModel
+sink_model taken failures empty flushes line writer =
     record {
       taken = taken;
       failures = failures;
@@ -29,16 +29,16 @@ pen taken failures empty flushes line writer =
     }
 
 -- a text was written, or a front of it
-pub record Inks {X : Type 0} (p : Pen) (text : List ℕ) (r : Result X RunFault)
-    (p' : Pen) : Type 0 where
-  pub writes : WritesFront p.taken p'.taken text r
+pub record Inks {X : Type 0} (p : SinkModel) (text : List ℕ) (r : Result X RunFault)
+    (p' : SinkModel) : Type 0 where
+  pub writes : WritesPrefix p.taken p'.taken text r
   pub counts : CountsFaults p.failures p'.failures p.empty p'.empty r
   pub flushes : p'.flushes ≡ p.flushes
   pub line : p'.line ≡ p.line
   pub writer : p'.writer ≡ p.writer
 
 -- the line of a call was written, or a front of it
-abbrev pub InksCall : {X : Type 0} → Pen → Call → Result X RunFault → Pen → Type 0
+abbrev pub InksCall : {X : Type 0} → SinkModel → Call → Result X RunFault → SinkModel → Type 0
 InksCall p call r p' = Inks p (call_line call ++ 10 ∷ []) r p'
 
 -- the fault of a run that a showing ends with

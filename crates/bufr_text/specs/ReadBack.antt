@@ -4,7 +4,7 @@ use Rattle.std.specs.Prelude.{◌≡◌, ℕ, ◌+◌, List, ◌∷◌, ◌++◌
 use Rattle.bufr_tables.specs.TableB.{Row}
 use Rattle.bufr_tables.specs.TableD.{Sequence}
 use Rattle.bufr_tables.specs.Tree.{Tree}
-use Rattle.bufr_frame.specs.Scan.{Framed, scan_from}
+use Rattle.bufr_frame.specs.Scan.{FrameAt, scan_from}
 use Rattle.bufr_frame.specs.Sections.{Sections}
 use Rattle.bufr_walk.specs.Reading.{Values, apart, together}
 use Rattle.bufr_fill.specs.Entries.{Subset, subsets_of}
@@ -13,7 +13,7 @@ use Rattle.bufr_text.specs.declared.form.Form.{Form}
 use Rattle.bufr_text.specs.Document.{Document, subsets_in}
 use Rattle.bufr_text.specs.RoundTrip.{IsAccepted}
 use Rattle.bufr_text.specs.Encoding.{compressed_as}
-use Rattle.bufr_text.specs.Header.{head_in, observed_in, section2_in}
+use Rattle.bufr_text.specs.Header.{head_from_values, observed_in, section2_in}
 
 -- the values are what the drafts say
 abbrev pub AreValuesOf : Values → List Subset → Type 0
@@ -31,8 +31,8 @@ pub record IsReadAs (form : Form) (table : List Row) (sequences : List Sequence)
   pub accepted : IsAccepted table sequences octets sections template values used
   -- in a stream it is one message, whatever is behind it
   pub framed : (at : ℕ) (behind : List ℕ) → scan_from 0 at (octets ++ behind)
-      ≡ Framed at octets ∷ scan_from 0 (at + length octets) behind
-  pub head : sections.head ≡ head_in d
+      ≡ FrameAt at octets ∷ scan_from 0 (at + length octets) behind
+  pub head : sections.head ≡ head_from_values d
   pub local1 : sections.local1 ≡ d.local1
   pub section2 : sections.section2 ≡ section2_in d
   pub descriptors : sections.descriptors ≡ d.descriptors

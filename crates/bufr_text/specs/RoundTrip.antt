@@ -7,8 +7,8 @@ use Rattle.bufr_tables.specs.TableB.{Row}
 use Rattle.bufr_tables.specs.TableD.{Sequence}
 use Rattle.bufr_tables.specs.TemplateTables.{tables_of}
 use Rattle.bufr_tables.specs.Tree.{Tree}
-use Rattle.bufr_frame.specs.Layout.{longer, most_octets}
-use Rattle.bufr_frame.specs.Scan.{Framed, scan_from}
+use Rattle.bufr_frame.specs.Layout.{max_extra_octets, max_octets}
+use Rattle.bufr_frame.specs.Scan.{FrameAt, scan_from}
 use Rattle.bufr_frame.specs.Sections.{Sections, sections_of}
 use Rattle.bufr_walk.specs.Course.{next_item}
 use Rattle.bufr_walk.specs.Outcome.{read_by, data_of}
@@ -16,10 +16,10 @@ use Rattle.bufr_walk.specs.Reading.{Values, IsReading}
 use Rattle.bufr_text.specs.declared.form.Form.{Form}
 use Rattle.bufr_text.specs.declared.form.Form.TheVariants.{AsWritten}
 use Rattle.bufr_text.specs.Document.{Document}
-use Rattle.bufr_text.specs.Dump.{Item}
-use Rattle.bufr_text.specs.DumpItems.{items_of}
+use Rattle.bufr_text.specs.Dump.{DumpItem}
+use Rattle.bufr_text.specs.DumpItems.{dump_items_of}
 use Rattle.bufr_text.specs.Form.{compressed_by}
-use Rattle.bufr_text.specs.Given.{IsOctet}
+use Rattle.bufr_text.specs.Bounds.{IsOctet}
 use Rattle.bufr_text.specs.Encoding.{encoding_of}
 
 -- a message that is accepted by these tables: it has sections, its descriptors a template, and its
@@ -27,14 +27,15 @@ use Rattle.bufr_text.specs.Encoding.{encoding_of}
 pub record IsAccepted (table : List Row) (sequences : List Sequence) (m : List ℕ) (s : Sections)
     (template : Tree) (values : Values) (used : ℕ) : Type 0 where
   pub octets : AllByRecursion IsOctet m
-  pub few : length m ≤ most_octets
+  pub few : length m ≤ max_octets
   pub sections : sections_of m ≡ Ok s
   pub expands : tree_of (tables_of table sequences) s.descriptors ≡ Ok template
   pub read : IsReading (next_item table template) (data_of s) values used
 
 -- the items of each subset, as the dump text of the message gives them
-abbrev pub items_in : List Row → Tree → Sections → Values → List (List Item)
-items_in table template s values = items_of (read_by table template (data_of s) 0 0) values
+abbrev pub dump_items_in : List Row → Tree → Sections → Values → List (List DumpItem)
+dump_items_in table template s values = dump_items_of (read_by table template (data_of s) 0 0)
+    values
 
 -- the sections of two messages say the same, but for their lengths, the bits of the data, and the
 -- flag of compression, which is that of a form
@@ -51,12 +52,12 @@ pub record SaySame (form : Form) (a b : Sections) : Type 0 where
 -- that in edition 3 up to two octets make sections 3 and 4 even
 pub record HasSameReading (table : List Row) (m : List ℕ) (s : Sections) (template : Tree)
     (values : Values) (written : List ℕ) : Type 0 where
-  pub no_longer : length written ≤ length m + longer s.head.edition
-  pub few : length written ≤ most_octets
+  pub no_longer : length written ≤ length m + max_extra_octets s.head.edition
+  pub few : length written ≤ max_octets
   pub octets : AllByRecursion IsOctet written
   -- in a stream it is one message, whatever is behind it
   pub framed : (at : ℕ) (behind : List ℕ) → scan_from 0 at (written ++ behind)
-      ≡ Framed at written ∷ scan_from 0 (at + length written) behind
+      ≡ FrameAt at written ∷ scan_from 0 (at + length written) behind
   pub sections : Sections
   pub are : sections_of written ≡ Ok sections
   pub same : SaySame AsWritten s sections

@@ -3,27 +3,27 @@
 use Rattle.std.specs.Prelude.{◌≡◌, ◌<◌, ◌≤◌, ◌+◌, ◌==◌, ℕ, true, false, [], length}
 use Rattle.std.specs.List.{AllByRecursion}
 use Rattle.bufr_fill.specs.ReadBack.{HasOctets}
-use Rattle.bufr_fill.specs.Entries.{Entry, Holds, Ends, subsets_of}
+use Rattle.bufr_fill.specs.Entries.{DraftEntry, Holds, Ends, subsets_of}
 use Rattle.bufr_text.specs.Document as spec
 use Rattle.bufr_text.specs.Line as line
 use Rattle.bufr_text.specs.Documents as documents
 use Rattle.bufr_text.specs.Header.{are_in_range, IsHeaded}
-use Rattle.bufr_text.specs.Given.{IsOctet, IsWord}
+use Rattle.bufr_text.specs.Bounds.{IsOctet, IsDescriptorWord}
 use Rattle.bufr_text.specs.Kept.{form_by}
 use Rattle.bufr_text.specs.Proper.{IsProper}
-use Rattle.bufr_text.specs.declared.step.Said.{Said}
-use Rattle.bufr_text.specs.declared.step.Said.TheVariants as said
-use Rattle.bufr_text.specs.declared.step.Laid.{Laid}
-use Rattle.bufr_text.specs.declared.step.Laid.TheVariants as laid
-use Rattle.bufr_text.specs.declared.step.Place.{Place}
-use Rattle.bufr_text.specs.declared.step.Place.TheVariants as place
+use Rattle.bufr_text.specs.declared.step.ParsedLine.{ParsedLine}
+use Rattle.bufr_text.specs.declared.step.ParsedLine.TheVariants as said
+use Rattle.bufr_text.specs.declared.step.LineGroup.{LineGroup}
+use Rattle.bufr_text.specs.declared.step.LineGroup.TheVariants as laid
+use Rattle.bufr_text.specs.declared.step.ParserState.{ParserState}
+use Rattle.bufr_text.specs.declared.step.ParserState.TheVariants as place
 use Rattle.bufr_text.specs.declared.step.LineRefusal.{LineRefusal}
 use Rattle.bufr_text.specs.declared.step.LineRefusal.TheVariants as refusal
-use Rattle.bufr_text.specs.declared.step.Turn.{Turn}
-use Rattle.bufr_text.specs.declared.step.Turn.TheVariants as turn
+use Rattle.bufr_text.specs.declared.step.LineEffect.{LineEffect}
+use Rattle.bufr_text.specs.declared.step.LineEffect.TheVariants as turn
 
 -- what a line that was read says
-abbrev pub meaning : Said → line.Line
+abbrev pub meaning : ParsedLine → line.Line
 meaning said.Passed = line.Passed
 meaning said.Opens = line.Opens
 meaning (said.Header key value) = line.Header key value
@@ -36,28 +36,28 @@ meaning said.Closes = line.Closes
 meaning said.Wrong = line.Wrong
 
 -- how far the parts before the subsets have come
-abbrev pub part_number : Laid → ℕ
+abbrev pub part_number : LineGroup → ℕ
 part_number laid.Local1 = 0
 part_number laid.Section2 = 1
 part_number laid.Descriptors = 2
 
 -- where the reading stands, with the document as far as it was read
-abbrev pub place_with : Place → spec.Document → documents.Place
+abbrev pub place_with : ParserState → spec.Document → documents.ParserState
 place_with place.Between d = documents.Between
 place_with place.Heading d = documents.Heading d
 place_with (place.Laying part) d = documents.Laying (part_number part) d
 place_with (place.Filling subset) d = documents.Filling subset d
 
-abbrev pub fault_of : LineRefusal → documents.LineFault
-fault_of refusal.NotAllowed = documents.NotAllowed
-fault_of refusal.SubsetCount = documents.SubsetCount
-fault_of refusal.HeaderRange = documents.HeaderRange
+abbrev pub line_fault_of : LineRefusal → documents.TextLineFault
+line_fault_of refusal.NotAllowed = documents.NotAllowed
+line_fault_of refusal.SubsetCount = documents.SubsetCount
+line_fault_of refusal.HeaderRange = documents.HeaderRange
 
 -- what a turn does, with the document behind it
-abbrev pub turned : Turn → spec.Document → documents.Turn
-turned (turn.Goes place) d = documents.Goes (place_with place d)
+abbrev pub turned : LineEffect → spec.Document → documents.LineEffect
+turned (turn.WalkGoes place) d = documents.WalkGoes (place_with place d)
 turned turn.Gives d = documents.Gives d
-turned (turn.Refuses refusal) d = documents.Faults (fault_of refusal)
+turned (turn.Refuses refusal) d = documents.Faults (line_fault_of refusal)
 
 -- Nothing was read behind the header.
 pub record IsBare (d : spec.Document) : Type 0 where
@@ -68,14 +68,14 @@ pub record IsBare (d : spec.Document) : Type 0 where
 
 -- The parts before the subsets are octets and descriptors, and there are no octets of a section 2
 -- that is absent.
-pub record IsLaid (d : spec.Document) : Type 0 where
+pub record HasLineGroups (d : spec.Document) : Type 0 where
   pub local1 : AllByRecursion IsOctet d.local1
   pub section2 : AllByRecursion IsOctet d.section2
   pub no_section2 : (spec.optional_in d == 1) ≡ false → d.section2 ≡ []
-  pub descriptors : AllByRecursion IsWord d.descriptors
+  pub descriptors : AllByRecursion IsDescriptorWord d.descriptors
 
 -- the text of an item is of octets
-abbrev pub EntryHasOctets : Entry → Type 0
+abbrev pub EntryHasOctets : DraftEntry → Type 0
 EntryHasOctets (Holds item) = HasOctets item.form
 EntryHasOctets (Ends line) = Unit {0}
 
@@ -87,20 +87,20 @@ pub record HasSubsets (ended : ℕ) (d : spec.Document) : Type 0 where
 -- What holds of a place where the line of this number is next: the header is not whole in the
 -- header and whole behind it, the number of a subset is small and one more than those that were
 -- ended, and each entry has a line.
-abbrev pub Stands : (at : ℕ) → documents.Place → Type 0
-Stands at documents.Between = Unit {0}
-Stands at (documents.Heading d) =
+abbrev pub IsParserState : (at : ℕ) → documents.ParserState → Type 0
+IsParserState at documents.Between = Unit {0}
+IsParserState at (documents.Heading d) =
     (length d.header < 20) × (are_in_range (spec.edition_in d) 0 d.header ≡ true)
     × (length d.entries < at) × IsBare d
-Stands at (documents.Laying part d) =
-    IsHeaded d × (length d.entries < at) × IsLaid d × (d.entries ≡ [])
-Stands at (documents.Filling subset d) =
-    IsHeaded d × (length d.entries < at) × (subset < 65536) × IsLaid d
+IsParserState at (documents.Laying part d) =
+    IsHeaded d × (length d.entries < at) × HasLineGroups d × (d.entries ≡ [])
+IsParserState at (documents.Filling subset d) =
+    IsHeaded d × (length d.entries < at) × (subset < 65536) × HasLineGroups d
     × ((ended : ℕ) × (subset ≡ ended + 1) × HasSubsets ended d)
-Stands at documents.Stopped = Unit {0}
+IsParserState at documents.Stopped = Unit {0}
 
 -- the same behind a turn at a line
-abbrev pub StandsAfter : (at : ℕ) → documents.Turn → Type 0
-StandsAfter at (documents.Goes place) = Stands (at + 1) place
+abbrev pub StandsAfter : (at : ℕ) → documents.LineEffect → Type 0
+StandsAfter at (documents.WalkGoes place) = IsParserState (at + 1) place
 StandsAfter at (documents.Gives d) = IsProper d × (length d.entries ≤ at)
 StandsAfter at (documents.Faults fault) = Unit {0}

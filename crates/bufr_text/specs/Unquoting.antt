@@ -5,13 +5,13 @@ use Rattle.std.specs.Char.{is_ascii_digit}
 use Rattle.std.specs.Str.Parse.{digits_value}
 use Rattle.std.specs.Prelude.{◌≡◌, true, min, ℕ, ◌≤◌, List, ◌++◌, length, take, drop, Option, None, Some}
 use Rattle.bufr_text.specs.Grammar as grammar
-use Rattle.bufr_text.specs.Grammar.{quoted_read, front, behind, is_number_octet}
-use Rattle.bufr_text.specs.declared.quoted.Quoting.{Quoting}
-use Rattle.bufr_text.specs.declared.quoted.Quoting.TheVariants as quoting
+use Rattle.bufr_text.specs.Grammar.{quoted_read, prefix_while, suffix_while, is_number_octet}
+use Rattle.bufr_text.specs.declared.quoted.QuotedToken.{QuotedToken}
+use Rattle.bufr_text.specs.declared.quoted.QuotedToken.TheVariants as quoting
 
-abbrev pub quoting_said : Quoting → grammar.Quoting
+abbrev pub quoting_said : QuotedToken → grammar.QuotedToken
 quoting_said quoting.Closed = grammar.Closed
-quoting_said (quoting.Says octet written) = grammar.Says octet written
+quoting_said (quoting.ListsLeaves octet written) = grammar.ListsLeaves octet written
 quoting_said quoting.Nothing = grammar.Nothing
 
 -- octets that were read in front of what is read on
@@ -37,8 +37,9 @@ pub record IsUnquoting (text out : List ℕ) (count at : ℕ) : Type 0 where
 -- the octets of a token that were passed stand in front
 pub record IsTokenTo (text : List ℕ) (at : ℕ) : Type 0 where
   pub within : at ≤ length text
-  pub ahead : front is_number_octet text ≡ take at text ++ front is_number_octet (drop at text)
-  pub behind : behind is_number_octet text ≡ behind is_number_octet (drop at text)
+  pub ahead : prefix_while is_number_octet text ≡ take at text ++ prefix_while is_number_octet
+      (drop at text)
+  pub suffix_while : suffix_while is_number_octet text ≡ suffix_while is_number_octet (drop at text)
 
 -- the digits that were passed write a number
 pub record IsNumberTo (text : List ℕ) (at n : ℕ) : Type 0 where

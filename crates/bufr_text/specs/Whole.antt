@@ -3,7 +3,7 @@
 use Rattle.std.specs.Prelude.{◌≤◌, List, length}
 use Rattle.std.specs.List.{AllByRecursion}
 use Rattle.bufr_text.specs.Document.{Document}
-use Rattle.bufr_text.specs.Documents.{Told, Spelled, Refused}
+use Rattle.bufr_text.specs.Documents.{ParseResult, Complete, Refused}
 use Rattle.bufr_text.specs.Header.{most_entries}
 use Rattle.bufr_text.specs.Proper.{IsProper}
 
@@ -13,10 +13,10 @@ pub record IsWhole (d : Document) : Type 0 where
   pub few : length d.entries ≤ most_entries
 
 -- what is told is a proper document, or that a line is refused
-abbrev pub IsProperlyTold : Told → Type 0
-IsProperlyTold (Spelled d) = IsProper d
+abbrev pub IsProperlyTold : ParseResult → Type 0
+IsProperlyTold (Complete d) = IsProper d
 IsProperlyTold (Refused line fault) = Unit {0}
 
 -- all documents that are told are proper
-abbrev pub AreProper : List Told → Type 0
+abbrev pub AreProper : List ParseResult → Type 0
 AreProper told = AllByRecursion IsProperlyTold told

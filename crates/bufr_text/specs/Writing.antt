@@ -9,7 +9,7 @@ use Rattle.bufr_text.specs.declared.part.Part.{Part}
 use Rattle.bufr_text.specs.declared.part.Part.TheVariants.{Text, Decimal}
 
 -- known octets grow by the front of a text
-pub record GrowsByFront (old new : Option (List ℕ)) (text : List ℕ) : Type 0 where
+pub record GrowsByPrefix (old new : Option (List ℕ)) (text : List ℕ) : Type 0 where
   pub front : List ℕ
   pub back : List ℕ
   pub parts : text ≡ front ++ back
@@ -19,7 +19,7 @@ pub record GrowsByFront (old new : Option (List ℕ)) (text : List ℕ) : Type 0
 abbrev pub Writes : {X : Type 0} → Option (List ℕ) → Option (List ℕ) → List ℕ
     → Result X RunFault → Type 0
 Writes old new text (Ok x) = Appends old new text
-Writes old new text (Err fault) = (fault ≡ Write) × GrowsByFront old new text
+Writes old new text (Err fault) = (fault ≡ Write) × GrowsByPrefix old new text
 
 -- no call of the writer failed or took nothing
 abbrev pub Stays : (failures failures' empty empty' : ℕ) → Type 0
@@ -38,8 +38,8 @@ CountsWrites failures failures' empty empty' (Ok x) = Stays failures failures' e
 CountsWrites failures failures' empty empty' (Err fault) = Fails failures failures' empty empty'
 
 -- decimal digits, at least so many, zeros in front
-abbrev pub padded : (least n : ℕ) → List ℕ
-padded least n = replicate (least - length (decimal n)) 48 ++ decimal n
+abbrev pub zero_padded : (least n : ℕ) → List ℕ
+zero_padded least n = replicate (least - length (decimal n)) 48 ++ decimal n
 
 -- 1 or 0
 abbrev pub flag : Bool → List ℕ

@@ -3,16 +3,16 @@
 //! Its room is twice the octets of a line. So it slides only when half of it is used up, and moves
 //! less than a line.
 ghost use Rattle.std.specs.Prelude.{◌≡◌, ◌≤◌, ◌<◌, ◌+◌, ◌-◌, [], ◌∷◌, ◌++◌, take, slice_range, IfOk, IfErr, vec_len};
-ghost use Rattle.bufr_text.specs.Buffer.{MakesRoom};
+ghost use Rattle.bufr_text.specs.Buffer.{MakesTextRoom};
 
-use crate::line::MOST_LINE;
+use crate::line::MAX_LINE;
 use bufr_frame::RunFault;
 
 /// How many octets one read asks for.
-pub(crate) const CHUNK: usize = MOST_LINE;
+pub(crate) const CHUNK: usize = MAX_LINE;
 
 /// The room of a buffer.
-pub(crate) const ROOM: usize = 2 * MOST_LINE;
+pub(crate) const ROOM: usize = 2 * MAX_LINE;
 
 /// Gives a buffer its room, where it has none yet.
 fn grow(buffer: &mut Vec<u8>) -> Result<(), RunFault>
@@ -55,7 +55,8 @@ pub(crate) fn make_room(
     requires within { filled ≤ vec_len buffer.old }
     requires few { filled - start ≤ 4096 }
     requires most { vec_len buffer.old ≤ 8192 }
-    ensures { MakesRoom buffer.old.items buffer.new.items (vec_len buffer.old) (vec_len buffer.new)
+    ensures { MakesTextRoom buffer.old.items buffer.new.items (vec_len buffer.old)
+        (vec_len buffer.new)
         start filled result }
 {
     grow(buffer)?;
@@ -67,7 +68,7 @@ pub(crate) fn make_room(
 }
 
 /// Puts a line feed to a place.
-pub(crate) fn put_feed(buffer: &mut Vec<u8>, at: usize)
+pub(crate) fn push_line_feed(buffer: &mut Vec<u8>, at: usize)
     requires { at < vec_len buffer.old }
     ensures items { take (at + 1) buffer.new.items ≡ take at buffer.old.items ++ 10 ∷ [] }
     ensures len { vec_len buffer.new ≡ vec_len buffer.old }

@@ -3,7 +3,7 @@ ghost use Rattle.std.specs.Prelude.{◌≡◌, ℕ, ◌+◌, ◌*◌, ◌<◌, �
 ghost use Rattle.bufr_text.specs.Grammar.{fxy_read, descriptors_read};
 ghost use Rattle.bufr_text.specs.Describing.{Describes};
 
-use crate::slice::{ahead, behind, octet_at};
+use crate::slice::{ahead, octet_at, suffix};
 use bufr_tables::Fxy;
 
 /// How many octets a descriptor takes in a line, with the space before it.
@@ -22,7 +22,7 @@ pub(crate) fn fxy_front<'a>(text: &'a [u8]) -> Option<(u16, &'a [u8])>
         return None;
     }
     let fxy = Fxy::read(ahead(text, 6))?;
-    Some((fxy.word(), behind(text, 6)))
+    Some((fxy.word(), suffix(text, 6)))
 }
 
 /// Puts descriptors, each behind one space, to the front of `out`; answers how many they are, 1 to
@@ -39,14 +39,14 @@ pub(crate) fn describe(text: &[u8], out: &mut [u16]) -> Option<usize>
     }
     let mut count = 0;
     while SPACED * count < text.len() {
-        let next = behind(text, SPACED * count);
+        let next = suffix(text, SPACED * count);
         if next.len() < SPACED {
             return None;
         }
         if octet_at(next, 0) != b' ' {
             return None;
         }
-        let fxy = Fxy::read(ahead(behind(next, 1), 6))?;
+        let fxy = Fxy::read(ahead(suffix(next, 1), 6))?;
         out[count] = fxy.word();
         count += 1;
     }

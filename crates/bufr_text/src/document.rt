@@ -8,12 +8,12 @@ ghost use Rattle.bufr_fill.specs.Given.{entry_in, form_in};
 ghost use Rattle.bufr_text.specs.Document as spec;
 ghost use Rattle.bufr_text.specs.Document.{subsets_in};
 ghost use Rattle.bufr_text.specs.Documents.{with_value, with_local1, with_section2, with_descriptors, with_entry};
-ghost use Rattle.bufr_text.specs.Header.{head_in, observed_in, compressed_in, section2_in, most_entries};
+ghost use Rattle.bufr_text.specs.Header.{head_from_values, observed_in, compressed_in, section2_in, most_entries};
 ghost use Rattle.bufr_text.specs.Whole.{IsWhole};
 ghost use Rattle.bufr_text.specs.Kept.{form_by};
 ghost use Rattle.bufr_text.specs.Line.{mosts};
 
-use bufr_fill::{Entries, Entry, Form};
+use bufr_fill::{DraftEntry, DraftValue, Entries};
 use bufr_frame::Head;
 use bufr_tables::Fxy;
 use std::alloc::{AllocError, Global};
@@ -24,7 +24,7 @@ const KEYS: usize = 20;
 
 /// What stands for a value.
 #[derive(Clone, Copy)]
-pub(crate) enum FormKind {
+pub(crate) enum ValueKind {
     Number,
     Text,
     Missing,
@@ -32,20 +32,20 @@ pub(crate) enum FormKind {
 }
 
 /// What octets stand for.
-fn form_kept(kind: FormKind, octets: &[u8]) -> Form<'_>
+fn form_kept(kind: ValueKind, octets: &[u8]) -> DraftValue<'_>
     ensures { form_in result ≡ form_by kind octets.now }
 {
     match kind {
-        FormKind::Number => Form::Number(octets),
-        FormKind::Text => Form::Text(octets),
-        FormKind::Missing => Form::Missing,
-        FormKind::Reference => Form::Reference(octets),
+        ValueKind::Number => DraftValue::Number(octets),
+        ValueKind::Text => DraftValue::Text(octets),
+        ValueKind::Missing => DraftValue::Missing,
+        ValueKind::Reference => DraftValue::Reference(octets),
     }
 }
 
 /// The parts of a document, as far as they were read.
 #[derive(Drop)]
-pub(crate) struct Parts {
+pub(crate) struct DocumentParts {
     line: u64,
     header: [u16; KEYS],
     /// How many values of the header were read.
@@ -56,24 +56,24 @@ pub(crate) struct Parts {
     entries: Entries,
 }
 
-impl Model for Parts {
+impl Model for DocumentParts {
     ghost use Rattle.bufr_text.specs.Document as spec;
 
     ghost Value = { spec.Document };
 
-    ghost use Rattle.bufr_text.specs.Kept.{IsKept, document_kept};
+    ghost use Rattle.bufr_text.specs.Kept.{IsHeaderInside, document_kept};
 
     ghost view = { document_kept };
 
-    ghost invariant = { IsKept };
+    ghost invariant = { IsHeaderInside };
 }
 
-impl Parts {
+impl DocumentParts {
     /// A document of which its first line was read.
-    pub(crate) fn blank(alloc: Global, line: u64) -> Parts
+    pub(crate) fn blank(alloc: Global, line: u64) -> DocumentParts
         ensures { result ≡ spec.blank line }
     {
-        Parts {
+        DocumentParts {
             line,
             header: [0; KEYS],
             known: 0,
@@ -154,7 +154,7 @@ impl Parts {
         &mut self,
         line: u64,
         fxy: u16,
-        kind: FormKind,
+        kind: ValueKind,
         octets: &[u8],
     ) -> Result<(), AllocError>
         ensures { OnOk result
@@ -214,7 +214,7 @@ impl Parts {
 /// It is made by [`crate::DumpReader`] alone. A clause sees it as what its lines say.
 #[derive(Drop)]
 pub struct Document {
-    parts: Parts,
+    parts: DocumentParts,
 }
 
 impl Model for Document {
@@ -230,7 +230,7 @@ impl Model for Document {
 
 impl Document {
     /// The document whose parts were all read.
-    pub(crate) fn whole(parts: Parts) -> Document
+    pub(crate) fn whole(parts: DocumentParts) -> Document
         requires { IsWhole parts }
         ensures { result ≡ parts }
     {
@@ -238,7 +238,7 @@ impl Document {
     }
 
     /// Its parts.
-    pub(crate) fn into_parts(self) -> Parts
+    pub(crate) fn into_parts(self) -> DocumentParts
         ensures { result ≡ self }
     {
         self.parts
@@ -263,7 +263,7 @@ impl Document {
     /// The edition, which is 3 or 4, and what section 1 says; it can be written.
     #[tactic(auto, unfolding(crate::specs::Line::keys))]
     pub fn head(&self) -> Head
-        ensures value { result ≡ head_in self.now }
+        ensures value { result ≡ head_from_values self.now }
         ensures writable { IsTrue (is_writable result) }
     {
         Head {
@@ -341,7 +341,7 @@ impl Document {
     }
 
     /// The entry at a place, from 0. Each subset's items stand before its end.
-    pub fn entry(&self, place: usize) -> Entry<'_>
+    pub fn entry(&self, place: usize) -> DraftEntry<'_>
         requires { place < length self.now.entries }
         ensures { entry_in result ≡ slice_index_or self.now.entries place (entry_in result) }
     {

@@ -1,13 +1,13 @@
 //! The documents of an input.
 
-use crate::buffer::{CHUNK, make_room, put_feed};
-use crate::document::{Document, Parts};
+use crate::buffer::{CHUNK, make_room, push_line_feed};
+use crate::document::{Document, DocumentParts};
 use crate::fault::ReadFault;
-use crate::line::MOST_LINE;
-use crate::progress::{Progress, TakingEnd, take_lines, take_parts};
-use crate::step::{LineRefusal, Place};
+use crate::line::MAX_LINE;
+use crate::progress::{Progress, TakeResult, take_lines, take_parts};
+use crate::step::{LineRefusal, ParserState};
 use bufr_bits::Source;
-use bufr_frame::{MOST_READS, RunFault, read_behind};
+use bufr_frame::{MAX_READS, RunFault, read_after};
 use std::alloc::Global;
 use std::marker::Model;
 
@@ -32,7 +32,7 @@ pub struct DumpReader {
     start: usize,
     filled: usize,
     /// Where the octets of a line are put that it writes by digits or in quotes.
-    scratch: [u8; MOST_LINE],
+    scratch: [u8; MAX_LINE],
     /// How far the lines have come that were taken.
     progress: Progress,
     /// Whether the end was reached. The last line ends by a line feed then.
@@ -45,11 +45,11 @@ pub struct DumpReader {
 
 impl Model for DumpReader {
     ghost use Rattle.std.specs.Prelude.{◌≡◌, ◌<◌, ◌≤◌, ◌-◌, None, true, vec_len, slice_range};
-    ghost use Rattle.bufr_frame.specs.Runs.{most_reads};
-    ghost use Rattle.bufr_text.specs.Reader.{State};
-    ghost use Rattle.bufr_text.specs.Filling.{place_now, ends_by_feed, ProgressSo};
+    ghost use Rattle.bufr_frame.specs.Runs.{max_reads};
+    ghost use Rattle.bufr_text.specs.Reader.{ReaderModel};
+    ghost use Rattle.bufr_text.specs.Filling.{place_now, ends_by_feed, IsProgress};
 
-    ghost Value = { State };
+    ghost Value = { ReaderModel };
 
     ghost view = { λ f. record {
       at = f.progress.at;
@@ -62,19 +62,19 @@ impl Model for DumpReader {
 
     ghost invariant = { λ f. (f.start ≤ f.filled) × (f.filled ≤ vec_len f.buffer)
         × (vec_len f.buffer ≤ 8192)
-        × (f.reads ≤ most_reads)
+        × (f.reads ≤ max_reads)
         × (f.ended ≡ true → ends_by_feed (slice_range f.buffer.items f.start f.filled) ≡ true)
-        × (f.fault ≡ None → ProgressSo f.progress (f.filled - f.start) f.reads)
+        × (f.fault ≡ None → IsProgress f.progress (f.filled - f.start) f.reads)
         × (0 < f.reads → vec_len f.buffer ≡ 8192) };
 }
 
 impl LineRefusal {
     ghost use Rattle.std.specs.Prelude.{◌≡◌};
-    ghost use Rattle.bufr_text.specs.Filling.{fault_at};
+    ghost use Rattle.bufr_text.specs.Filling.{read_fault_at};
 
     /// The fault of this line.
     fn at(self, line: u64) -> ReadFault
-        ensures { result ≡ fault_at line self }
+        ensures { result ≡ read_fault_at line self }
     {
         match self {
             LineRefusal::NotAllowed => ReadFault::Line(line),
@@ -87,26 +87,26 @@ impl LineRefusal {
 impl DumpReader {
     ghost use Rattle.std.specs.Prelude.{◌≡◌, ◌≤◌, ◌<◌, ◌-◌, ℕ, List, None, Some, Err, true, false, length, IfSome, IfOk};
     ghost use Rattle.bufr_bits.specs.Counts.{counted};
-    ghost use Rattle.bufr_frame.specs.Runs.{read_failures_after, most_reads};
+    ghost use Rattle.bufr_frame.specs.Runs.{read_failures_after, max_reads};
     ghost use Rattle.bufr_text.specs.Proper.{IsProper};
     ghost use Rattle.bufr_text.specs.Reading.{has_no_feed};
-    ghost use Rattle.bufr_text.specs.Reader.{State, fresh, unfed, NextSo, CountsReads, failures_by};
-    ghost use Rattle.bufr_text.specs.Filling.{WentSo, EndSo, FillSo, ReadSo, stopped};
+    ghost use Rattle.bufr_text.specs.Reader.{ReaderModel, new_reader, unfed, ReturnsNextDocument, CountsTextReads, failures_by};
+    ghost use Rattle.bufr_text.specs.Filling.{TakesHeldLines, HandlesEnd, FillsBuffer, ReadsMoreText, stopped};
 
     /// A reader that has read nothing. It takes no memory.
     pub fn new(alloc: Global) -> DumpReader
-        ensures { result ≡ fresh }
+        ensures { result ≡ new_reader }
     {
         DumpReader {
             alloc,
             buffer: Vec::new(alloc),
             start: 0,
             filled: 0,
-            scratch: [0; MOST_LINE],
+            scratch: [0; MAX_LINE],
             progress: Progress {
-                place: Place::Between,
+                place: ParserState::Between,
                 at: 1,
-                parts: Parts::blank(alloc, 0),
+                parts: DocumentParts::blank(alloc, 0),
             },
             ended: false,
             fault: None,
@@ -120,7 +120,7 @@ impl DumpReader {
     pub fn reuse(&mut self, document: Document)
         ensures { self.new ≡ self.old }
     {
-        if let Place::Between = self.progress.place {
+        if let ParserState::Between = self.progress.place {
             self.progress.parts = document.into_parts();
         }
     }
@@ -153,7 +153,7 @@ impl DumpReader {
     /// Takes the lines that are held, up to the end of a document.
     fn take_held(&mut self) -> Result<Option<Document>, ReadFault>
         requires sound { self.old.fault ≡ None }
-        ensures went { WentSo self.old self.new result }
+        ensures went { TakesHeldLines self.old self.new result }
         ensures proper { IfOk result (λ found. IfSome found (λ document. IsProper document)) }
         ensures bound { length self.new.held ≤ 8192 }
         ensures ended { self.new.ended ≡ self.old.ended }
@@ -167,12 +167,12 @@ impl DumpReader {
         };
         self.start += len;
         match taken {
-            TakingEnd::More => Ok(None),
-            TakingEnd::Gives => {
+            TakeResult::More => Ok(None),
+            TakeResult::Gives => {
                 let parts = take_parts(self.alloc, &mut self.progress);
                 Ok(Some(Document::whole(parts)))
             }
-            TakingEnd::Refuses(line, refusal) => {
+            TakeResult::Refuses(line, refusal) => {
                 let fault = refusal.at(line);
                 self.fault = Some(fault);
                 Err(fault)
@@ -185,11 +185,11 @@ impl DumpReader {
         requires sound { self.old.fault ≡ None }
         requires ended { self.old.ended ≡ true }
         requires none { has_no_feed self.old.held ≡ true }
-        ensures end { EndSo self.old self.new result }
+        ensures end { HandlesEnd self.old self.new result }
         ensures bound { length self.new.held ≤ 8192 }
     {
         match self.progress.place {
-            Place::Between => Ok(None),
+            ParserState::Between => Ok(None),
             _ => {
                 let fault = ReadFault::Line(self.progress.at);
                 Err(self.stop(fault))
@@ -202,9 +202,9 @@ impl DumpReader {
         requires sound { self.old.fault ≡ None }
         requires going { self.old.ended ≡ false }
         requires short { length self.old.held ≤ 4096 }
-        requires few { self.old.reads < most_reads }
+        requires few { self.old.reads < max_reads }
         ensures read { (bs : List ℕ)
-            × ReadSo (R.left r.old) (R.left r.new) self.old self.new result bs }
+            × ReadsMoreText (R.left r.old) (R.left r.new) self.old self.new result bs }
         ensures failed { R.failures r.new ≡ read_failures_after (R.failures r.old) result }
         ensures made { R.reads r.new ≡ counted (R.reads r.old) (self.new.reads - self.old.reads) }
     {
@@ -212,12 +212,12 @@ impl DumpReader {
         self.start -= slid;
         self.filled -= slid;
         self.reads += 1;
-        let n = read_behind(r, &mut self.buffer, self.filled, self.filled + CHUNK)?;
+        let n = read_after(r, &mut self.buffer, self.filled, self.filled + CHUNK)?;
         self.filled += n;
         if n == 0 {
             self.ended = true;
             if self.start < self.filled {
-                put_feed(&mut self.buffer, self.filled);
+                push_line_feed(&mut self.buffer, self.filled);
                 self.filled += 1;
             }
         }
@@ -230,16 +230,16 @@ impl DumpReader {
         requires going { self.old.ended ≡ false }
         requires none { has_no_feed self.old.held ≡ true }
         ensures read { (bs : List ℕ)
-            × FillSo (R.left r.old) (R.left r.new) self.old self.new result bs }
+            × FillsBuffer (R.left r.old) (R.left r.new) self.old self.new result bs }
         ensures failed { R.failures r.new ≡ failures_by (R.failures r.old) result }
-        ensures counts { CountsReads (R.reads r.old) (R.reads r.new) self.old self.new }
+        ensures counts { CountsTextReads (R.reads r.old) (R.reads r.new) self.old self.new }
         ensures bound { length self.new.held ≤ 8192 }
     {
-        if self.filled - self.start > MOST_LINE {
+        if self.filled - self.start > MAX_LINE {
             let fault = ReadFault::Line(self.progress.at);
             return Err(self.stop(fault));
         }
-        if self.reads == MOST_READS {
+        if self.reads == MAX_READS {
             return Err(self.stop(ReadFault::Run(RunFault::InputTooLong)));
         }
         match self.read_more(r) {
@@ -263,11 +263,11 @@ impl DumpReader {
     /// whole were given before. After a fault each call answers the same one, and reads nothing.
     pub fn next_document<R: Source>(&mut self, r: &mut R) -> Result<Option<Document>, ReadFault>
         ensures next { self.old.fault ≡ None
-            → NextSo (R.left r.old) (R.left r.new) self.old self.new result }
+            → ReturnsNextDocument (R.left r.old) (R.left r.new) self.old self.new result }
         ensures proper { IfOk result (λ found. IfSome found (λ document. IsProper document)) }
         ensures failed { self.old.fault ≡ None
             → R.failures r.new ≡ failures_by (R.failures r.old) result }
-        ensures counts { CountsReads (R.reads r.old) (R.reads r.new) self.old self.new }
+        ensures counts { CountsTextReads (R.reads r.old) (R.reads r.new) self.old self.new }
         ensures held { length self.new.held ≤ 8192 }
         ensures again { IfSome self.old.fault (λ fault. result ≡ Err fault) }
         ensures same { IfSome self.old.fault (λ _. r.new ≡ r.old) }

@@ -8,16 +8,16 @@ ghost use Rattle.bufr_tables.specs.TableB.{AreRows};
 ghost use Rattle.bufr_frame.specs.Sections.{Sections};
 ghost use Rattle.bufr_walk.specs.Reading.{Values};
 ghost use Rattle.bufr_text.specs.Dump.{document_of};
-ghost use Rattle.bufr_text.specs.RoundTrip.{IsAccepted, items_in};
-ghost use Rattle.bufr_text.specs.InForm.{FormSo};
+ghost use Rattle.bufr_text.specs.RoundTrip.{IsAccepted, dump_items_in};
+ghost use Rattle.bufr_text.specs.InForm.{EncodesForm};
 ghost use Rattle.bufr_walk.specs.Course.{next_item};
 ghost use Rattle.bufr_walk.specs.Ticks.{ticked};
 ghost use Rattle.bufr_fill.specs.Entries.{subsets_of};
 ghost use Rattle.bufr_text.specs.Encoding.{encoding_in, encoding_of, told_of_template, octets_of_bits, message_of, compressed_as, parts_as};
-ghost use Rattle.bufr_text.specs.EncodingFault.{RefusesSo, told_of_draft, told_refusal};
-ghost use Rattle.bufr_text.specs.DataWritten.{AreOctetsOf, DataSo, SubsetSo, told_stop};
-ghost use Rattle.bufr_text.specs.EncodingCost.{MakesSo, places_by, bits_by, turns_by};
-ghost use Rattle.bufr_text.specs.Header.{head_in, most_entries};
+ghost use Rattle.bufr_text.specs.EncodingFault.{IsDocumentRefusal, told_of_draft, told_refusal};
+ghost use Rattle.bufr_text.specs.DataWritten.{AreOctetsOf, WritesData, WritesSubset, told_stop};
+ghost use Rattle.bufr_text.specs.EncodingCost.{CountsSteps, places_by, bits_by, turns_by};
+ghost use Rattle.bufr_text.specs.Header.{head_from_values, most_entries};
 ghost use Rattle.bufr_text.specs.declared.form.Form.TheVariants.{AsWritten};
 
 use crate::document::Document;
@@ -25,8 +25,8 @@ use crate::encode_fault::{DocumentFault, WalkRefusal, of_draft};
 use crate::form::Form;
 use bufr_fill::{DraftFault, Entries, PackedOut, PlainOut};
 use bufr_frame::{WriteFault, write_message};
-use bufr_tables::{Fxy, TableB, TableD, Template, TemplateFault, Templates};
-use bufr_walk::{Steps, WalkStop, walk};
+use bufr_tables::{Fxy, TableB, TableD, Template, TemplateFault};
+use bufr_walk::{SpecCache, Steps, TemplateCache, WalkStop, walk_by};
 use std::alloc::{AllocError, Global};
 
 /// The fault of a walk that stopped, where the next entry stands on a line.
@@ -52,26 +52,29 @@ fn descriptors_of(alloc: Global, words: &[u16]) -> Result<Vec<Fxy>, AllocError>
     Ok(descriptors)
 }
 
-/// Has the template of a document kept, for the next one may have the same descriptors.
-fn turn_to(
+/// Selects the template of a document.
+fn select(
     alloc: Global,
     document: &Document,
-    templates: &mut Templates<'_>,
+    templates: &mut TemplateCache<'_>,
 ) -> Result<(), AllocError>
     ensures table_b { templates.new.table_b ≡ templates.old.table_b }
     ensures table_d { templates.new.table_d ≡ templates.old.table_d }
     ensures list { OnOk result (templates.new.list ≡ document.now.descriptors) }
 {
     let descriptors = descriptors_of(alloc, document.descriptors())?;
-    templates.turn_to(&descriptors)
+    templates.select(&descriptors)
 }
 
-/// The template that is kept, for the document of this line.
-fn template_of<'t>(line: u64, templates: &'t Templates<'_>) -> Result<&'t Template, DocumentFault>
+/// The template that is selected, for the document of this line.
+fn template_of<'t>(
+    line: u64,
+    templates: &'t TemplateCache<'_>,
+) -> Result<&'t Template, DocumentFault>
     ensures tree { IfOk result (λ template.
         tree_of (tables_of templates.now.table_b templates.now.table_d) templates.now.list
         ≡ Ok template.now) }
-    ensures fault { IfErr result (λ why. RefusesSo (told_refusal why) (told_of_template line
+    ensures fault { IfErr result (λ why. IsDocumentRefusal (told_refusal why) (told_of_template line
         (tree_of (tables_of templates.now.table_b templates.now.table_d) templates.now.list))) }
     ensures memory { IfErr result
         (λ why. (line : ℕ) → why ≢ DocumentFault.Template line TemplateFault.Memory) }
@@ -87,14 +90,17 @@ fn write_subset(
     alloc: Global,
     template: &Template,
     table: &TableB,
+    cache: &mut SpecCache<'_>,
     out: &mut PlainOut<'_>,
     steps: &mut Steps,
 ) -> Result<(), DocumentFault>
-    requires { 1 ≤ length (subsets_of out.old.left) }
-    ensures { SubsetSo (places template.now) (next_item table.now template.now) out.old steps.old
-        result out.new steps.new }
+    requires some { 1 ≤ length (subsets_of out.old.left) }
+    requires cached { cache.old ≡ table.now }
+    ensures same { cache.new ≡ cache.old }
+    ensures written { WritesSubset (places template.now) (next_item table.now template.now) out.old
+        steps.old result out.new steps.new }
 {
-    match walk(alloc, template, table, out, steps) {
+    match walk_by(alloc, template, table, cache, out, steps) {
         Ok(()) => match out.end_subset() {
             Ok(()) => Ok(()),
             Err(why) => Err(of_draft(why)),
@@ -110,17 +116,20 @@ fn write_plain(
     subsets: u16,
     template: &Template,
     table: &TableB,
+    cache: &mut SpecCache<'_>,
     steps: &mut Steps,
 ) -> Result<Vec<u8>, DocumentFault>
     requires none { steps.old ≡ 0 }
     requires few { length entries.now ≤ 2 ^ 45 }
     requires many { length (subsets_of entries.now) ≡ subsets }
-    ensures { DataSo (places template.now) false (next_item table.now template.now)
+    requires cached { cache.old ≡ table.now }
+    ensures same { cache.new ≡ cache.old }
+    ensures written { WritesData (places template.now) false (next_item table.now template.now)
         (subsets_of entries.now) result steps.new }
 {
     let mut out = PlainOut::new(alloc, entries);
     'subsets: for done in 0..subsets {
-        write_subset(alloc, template, table, &mut out, steps)?;
+        write_subset(alloc, template, table, cache, &mut out, steps)?;
     }
     Ok(out.into_octets())
 }
@@ -131,18 +140,21 @@ fn write_packed(
     entries: &Entries,
     template: &Template,
     table: &TableB,
+    cache: &mut SpecCache<'_>,
     steps: &mut Steps,
 ) -> Result<Vec<u8>, DocumentFault>
     requires none { steps.old ≡ 0 }
     requires few { length entries.now ≤ 2 ^ 45 }
-    ensures { DataSo (places template.now) true (next_item table.now template.now)
+    requires cached { cache.old ≡ table.now }
+    ensures same { cache.new ≡ cache.old }
+    ensures written { WritesData (places template.now) true (next_item table.now template.now)
         (subsets_of entries.now) result steps.new }
 {
     let mut out = match PackedOut::new(alloc, entries)? {
         Some(out) => out,
         None => return Ok(Vec::new(alloc)),
     };
-    match walk(alloc, template, table, &mut out, steps) {
+    match walk_by(alloc, template, table, cache, &mut out, steps) {
         Ok(()) => match out.end() {
             Ok(()) => Ok(out.into_octets()),
             Err(why) => Err(of_draft(why)),
@@ -165,17 +177,28 @@ fn write_data(
     form: Form,
     template: &Template,
     table: &TableB,
+    cache: &mut SpecCache<'_>,
     steps: &mut Steps,
 ) -> Result<Vec<u8>, DocumentFault>
-    requires { steps.old ≡ 0 }
-    ensures { DataSo (places template.now) (compressed_as form document.now)
+    requires none { steps.old ≡ 0 }
+    requires cached { cache.old ≡ table.now }
+    ensures same { cache.new ≡ cache.old }
+    ensures written { WritesData (places template.now) (compressed_as form document.now)
         (next_item table.now template.now) (subsets_of document.now.entries) result steps.new }
 {
     let entries = document.items();
     if is_compressed(document, form) {
-        write_packed(alloc, entries, template, table, steps)
+        write_packed(alloc, entries, template, table, cache, steps)
     } else {
-        write_plain(alloc, entries, document.subsets(), template, table, steps)
+        write_plain(
+            alloc,
+            entries,
+            document.subsets(),
+            template,
+            table,
+            cache,
+            steps,
+        )
     }
 }
 
@@ -186,10 +209,11 @@ fn write_whole(
     form: Form,
     payload: &[u8],
 ) -> Result<Vec<u8>, DocumentFault>
-    ensures octets { IfOk result (λ octets. message_of document.now.line (head_in document.now)
+    ensures octets { IfOk result (λ octets. message_of document.now.line
+        (head_from_values document.now)
         (parts_as (compressed_as form document.now) document.now payload.now) ≡ Ok octets.items) }
-    ensures fault { IfErr result (λ why. RefusesSo (told_refusal why)
-        (message_of document.now.line (head_in document.now)
+    ensures fault { IfErr result (λ why. IsDocumentRefusal (told_refusal why)
+        (message_of document.now.line (head_from_values document.now)
         (parts_as (compressed_as form document.now) document.now payload.now))) }
     ensures payload { (bits : List Bool) → AreOctetsOf payload.now bits
         → payload.now ≡ octets_of_bits bits }
@@ -212,11 +236,48 @@ fn write_whole(
     }
 }
 
-/// The octets of a document's message in a form, by the tables of `templates`, which keeps the
-/// template of the last document: [`encode_form`], for documents that repeat their descriptors.
+/// The octets of a document's message in a form, by the template that was selected for it.
+fn encode_selected(
+    alloc: Global,
+    document: &Document,
+    form: Form,
+    templates: &TemplateCache<'_>,
+    cache: &mut SpecCache<'_>,
+    steps: &mut Steps,
+) -> Result<Vec<u8>, DocumentFault>
+    requires none { steps.old ≡ 0 }
+    requires list { templates.now.list ≡ document.now.descriptors }
+    requires cached { cache.old ≡ templates.now.table_b }
+    ensures same { cache.new ≡ cache.old }
+    ensures octets { IfOk result (λ octets.
+        encoding_in form templates.now.table_b templates.now.table_d document.now
+        ≡ Ok octets.items) }
+    ensures fault { IfErr result (λ why. IsDocumentRefusal (told_refusal why)
+        (encoding_in form templates.now.table_b templates.now.table_d document.now)) }
+    ensures memory { IfErr result
+        (λ why. (line : ℕ) → why ≢ DocumentFault.Template line TemplateFault.Memory) }
+    ensures made { OnOk result (steps.new
+        ≡ ticked 0 (turns_by form templates.now.table_b templates.now.table_d document.now)) }
+    ensures made_refused { IfErr result (λ why. CountsSteps (told_refusal why) 0
+        (turns_by form templates.now.table_b templates.now.table_d document.now) steps.new) }
+    ensures accepted { OnOk result (steps.new
+        ≤ places_by templates.now.table_b templates.now.table_d document.now
+        * bits_by form templates.now.table_b templates.now.table_d document.now) }
+    ensures refused { OnErr result (steps.new
+        ≤ places_by templates.now.table_b templates.now.table_d document.now
+        * (bits_by form templates.now.table_b templates.now.table_d document.now + 1)) }
+{
+    let template = template_of(document.line(), templates)?;
+    let table = templates.table_b();
+    let payload = write_data(alloc, document, form, template, table, cache, steps)?;
+    write_whole(alloc, document, form, &payload)
+}
+
+/// The octets of a document's message in a form, by the tables of `templates`, which keeps the last
+/// templates: [`encode_form`], for documents that repeat their descriptors.
 ///
 /// ```
-/// let mut templates = Templates::new(alloc, &table_b, &table_d);
+/// let mut templates = TemplateCache::new(alloc, &table_b, &table_d);
 /// while let Some(document) = reader.next_document(&mut r)? {
 ///     let octets = encode_by(alloc, &document, Form::Plain, &mut templates, &mut steps)?;
 /// }
@@ -229,7 +290,7 @@ pub fn encode_by(
     alloc: Global,
     document: &Document,
     form: Form,
-    templates: &mut Templates<'_>,
+    templates: &mut TemplateCache<'_>,
     steps: &mut Steps,
 ) -> Result<Vec<u8>, DocumentFault>
     ensures table_b { templates.new.table_b ≡ templates.old.table_b }
@@ -238,14 +299,14 @@ pub fn encode_by(
         encoding_in form templates.old.table_b templates.old.table_d document.now
         ≡ Ok octets.items) }
     // Want of memory is the only freedom.
-    ensures fault { IfErr result (λ why. RefusesSo (told_refusal why)
+    ensures fault { IfErr result (λ why. IsDocumentRefusal (told_refusal why)
         (encoding_in form templates.old.table_b templates.old.table_d document.now)) }
     // It has one name, `Memory`.
     ensures memory { IfErr result
         (λ why. (line : ℕ) → why ≢ DocumentFault.Template line TemplateFault.Memory) }
     ensures made { OnOk result (steps.new
         ≡ ticked 0 (turns_by form templates.old.table_b templates.old.table_d document.now)) }
-    ensures made_refused { IfErr result (λ why. MakesSo (told_refusal why) 0
+    ensures made_refused { IfErr result (λ why. CountsSteps (told_refusal why) 0
         (turns_by form templates.old.table_b templates.old.table_d document.now) steps.new) }
     ensures accepted { OnOk result (steps.new
         ≤ places_by templates.old.table_b templates.old.table_d document.now
@@ -255,10 +316,11 @@ pub fn encode_by(
         * (bits_by form templates.old.table_b templates.old.table_d document.now + 1)) }
 {
     *steps = Steps::new();
-    turn_to(alloc, document, templates)?;
-    let template = template_of(document.line(), templates)?;
-    let payload = write_data(alloc, document, form, template, templates.table_b(), steps)?;
-    write_whole(alloc, document, form, &payload)
+    select(alloc, document, templates)?;
+    let mut cache = templates.take_specs();
+    let outcome = encode_selected(alloc, document, form, templates, &mut cache, steps);
+    templates.put_specs(cache);
+    outcome
 }
 
 /// The octets of a document's message in a form, by the tables: its template first, then its items
@@ -302,13 +364,14 @@ pub fn encode_form(
         (λ octets. encoding_in form table_b.now table_d.now document.now ≡ Ok octets.items) }
     // Want of memory is the only freedom.
     ensures fault { IfErr result (λ why.
-        RefusesSo (told_refusal why) (encoding_in form table_b.now table_d.now document.now)) }
+        IsDocumentRefusal (told_refusal why)
+        (encoding_in form table_b.now table_d.now document.now)) }
     // It has one name, `Memory`.
     ensures memory { IfErr result
         (λ why. (line : ℕ) → why ≢ DocumentFault.Template line TemplateFault.Memory) }
     ensures made { OnOk result
         (steps.new ≡ ticked 0 (turns_by form table_b.now table_d.now document.now)) }
-    ensures made_refused { IfErr result (λ why. MakesSo (told_refusal why) 0
+    ensures made_refused { IfErr result (λ why. CountsSteps (told_refusal why) 0
         (turns_by form table_b.now table_d.now document.now) steps.new) }
     ensures accepted { OnOk result (steps.new ≤ places_by table_b.now table_d.now document.now
         * bits_by form table_b.now table_d.now document.now) }
@@ -319,10 +382,10 @@ pub fn encode_form(
     ensures again { (records : List Record) (m : List ℕ) (s : Sections) (template : Tree)
         (values : Values) (used at : ℕ)
         → AreRows records table_b.now → IsAccepted table_b.now table_d.now m s template values used
-        → document.now ≡ document_of at s (items_in table_b.now template s values)
-        → FormSo form table_b.now s template values result }
+        → document.now ≡ document_of at s (dump_items_in table_b.now template s values)
+        → EncodesForm form table_b.now s template values result }
 {
-    let mut templates = Templates::new(alloc, table_b, table_d);
+    let mut templates = TemplateCache::new(alloc, table_b, table_d);
     encode_by(alloc, document, form, &mut templates, steps)
 }
 
@@ -349,13 +412,14 @@ pub fn encode_document(
         (λ octets. encoding_of table_b.now table_d.now document.now ≡ Ok octets.items) }
     // Want of memory is the only freedom.
     ensures fault { IfErr result
-        (λ why. RefusesSo (told_refusal why) (encoding_of table_b.now table_d.now document.now)) }
+        (λ why. IsDocumentRefusal (told_refusal why)
+        (encoding_of table_b.now table_d.now document.now)) }
     // It has one name, `Memory`.
     ensures memory { IfErr result
         (λ why. (line : ℕ) → why ≢ DocumentFault.Template line TemplateFault.Memory) }
     ensures made { OnOk result
         (steps.new ≡ ticked 0 (turns_by AsWritten table_b.now table_d.now document.now)) }
-    ensures made_refused { IfErr result (λ why. MakesSo (told_refusal why) 0
+    ensures made_refused { IfErr result (λ why. CountsSteps (told_refusal why) 0
         (turns_by AsWritten table_b.now table_d.now document.now) steps.new) }
     ensures accepted { OnOk result (steps.new ≤ places_by table_b.now table_d.now document.now
         * bits_by AsWritten table_b.now table_d.now document.now) }

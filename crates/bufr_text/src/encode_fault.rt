@@ -1,6 +1,6 @@
 //! Why a document cannot be encoded (the numbers and their order are a choice of this project).
 ghost use Rattle.std.specs.Prelude.{◌≡◌, option_map};
-ghost use Rattle.bufr_fill.specs.Told.{told_fault};
+ghost use Rattle.bufr_fill.specs.DraftFaults.{draft_fault};
 ghost use Rattle.bufr_text.specs.EncodingFault.{number_of_document_fault, number_of_walk_refusal, told_of_draft, told_refusal};
 
 use bufr_fill::{DraftFault, Expected};
@@ -129,7 +129,7 @@ impl From<AllocError> for DocumentFault {
 
 /// What is wrong with an item, as a fault of its document.
 pub(crate) fn of_draft(fault: DraftFault) -> DocumentFault
-    ensures { told_refusal result ≡ option_map told_of_draft (told_fault fault) }
+    ensures { told_refusal result ≡ option_map told_of_draft (draft_fault fault) }
 {
     match fault {
         DraftFault::WrongDescriptor(line, expected) => {

@@ -9,12 +9,12 @@ ghost use Rattle.bufr_walk.specs.Reading.{Values};
 ghost use Rattle.bufr_text.specs.declared.encode_fault.DocumentFault.{DocumentFault};
 ghost use Rattle.bufr_text.specs.declared.encode_fault.DocumentFault.TheVariants.{Memory};
 ghost use Rattle.bufr_text.specs.Canonical.{IsCanonical};
-ghost use Rattle.bufr_text.specs.Documents.{Spelled, documents_of};
+ghost use Rattle.bufr_text.specs.Documents.{Complete, documents_of};
 ghost use Rattle.bufr_text.specs.Dump.{document_of, dump_text_of};
-ghost use Rattle.bufr_text.specs.RoundTrip.{HasSameReading, IsAccepted, IsEncodedAgain, items_in};
+ghost use Rattle.bufr_text.specs.RoundTrip.{HasSameReading, IsAccepted, IsEncodedAgain, dump_items_in};
 ghost use Rattle.bufr_text.specs.Encoding.{encoding_in, encoding_of};
-ghost use Rattle.bufr_text.specs.EncodingFault.{RefusesSo, told_refusal};
-ghost use Rattle.bufr_text.specs.Given.{IsDumpable};
+ghost use Rattle.bufr_text.specs.EncodingFault.{IsDocumentRefusal, told_refusal};
+ghost use Rattle.bufr_text.specs.Bounds.{IsDumpable};
 ghost use Rattle.bufr_text.specs.Form.{compressed_by, form_of_flag};
 ghost use Rattle.bufr_text.specs.InForm.{HasReadingIn, IsFaultIn, IsFormed};
 ghost use Rattle.bufr_text.specs.declared.form.Form.{Form};
@@ -24,7 +24,7 @@ pub fn accepted_messages_are_dumpable()
     ensures { (records : List Record) (table : List Row) (sequences : List Sequence) (m : List ℕ)
         (s : Sections) (template : Tree) (values : Values) (used : ℕ)
         → AreRows records table → IsAccepted table sequences m s template values used
-        → IsDumpable s (items_in table template s values) }
+        → IsDumpable s (dump_items_in table template s values) }
 {}
 
 /// The document of an accepted message's dump text is encoded, wherever it stands: to a message
@@ -35,7 +35,7 @@ pub fn dumped_messages_are_encoded_again()
         (s : Sections) (template : Tree) (values : Values) (used at : ℕ)
         → AreRows records table → IsAccepted table sequences m s template values used
         → IsEncodedAgain table sequences m s template values
-        (document_of at s (items_in table template s values)) }
+        (document_of at s (dump_items_in table template s values)) }
 {}
 
 /// A message with the same reading has the same dump text.
@@ -43,8 +43,8 @@ pub fn same_readings_have_the_same_dump_text()
     ensures { (table : List Row) (m : List ℕ) (s : Sections) (template : Tree)
         (values : Values) (octets : List ℕ)
         → (again : HasSameReading table m s template values octets)
-        → dump_text_of again.sections (items_in table template again.sections values)
-        ≡ dump_text_of s (items_in table template s values) }
+        → dump_text_of again.sections (dump_items_in table template again.sections values)
+        ≡ dump_text_of s (dump_items_in table template s values) }
 {}
 
 /// A message that was encoded again is accepted, with the same reading: it is one message of the
@@ -64,10 +64,10 @@ pub fn dump_texts_are_encoded_again()
     ensures { (records : List Record) (table : List Row) (sequences : List Sequence) (m : List ℕ)
         (s : Sections) (template : Tree) (values : Values) (used : ℕ)
         → AreRows records table → IsAccepted table sequences m s template values used
-        → (documents_of (dump_text_of s (items_in table template s values))
-        ≡ Spelled (document_of 1 s (items_in table template s values)) ∷ [])
+        → (documents_of (dump_text_of s (dump_items_in table template s values))
+        ≡ Complete (document_of 1 s (dump_items_in table template s values)) ∷ [])
         × IsEncodedAgain table sequences m s template values
-        (document_of 1 s (items_in table template s values)) }
+        (document_of 1 s (dump_items_in table template s values)) }
 {}
 
 /// The document of an accepted message's dump text is refused for want of memory alone: a fault
@@ -76,8 +76,8 @@ pub fn dumped_messages_are_refused_for_want_of_memory_alone()
     ensures { (records : List Record) (table : List Row) (sequences : List Sequence) (m : List ℕ)
         (s : Sections) (template : Tree) (values : Values) (used at : ℕ) (why : DocumentFault)
         → AreRows records table → IsAccepted table sequences m s template values used
-        → RefusesSo (told_refusal why)
-        (encoding_of table sequences (document_of at s (items_in table template s values)))
+        → IsDocumentRefusal (told_refusal why)
+        (encoding_of table sequences (document_of at s (dump_items_in table template s values)))
         → why ≡ Memory }
 {}
 
@@ -87,7 +87,8 @@ pub fn canonical_messages_are_encoded_to_themselves()
         (s : Sections) (template : Tree) (values : Values) (used at : ℕ)
         → AreRows records table → IsAccepted table sequences m s template values used
         → IsCanonical m s values used
-        → encoding_of table sequences (document_of at s (items_in table template s values)) ≡ Ok m }
+        → encoding_of table sequences (document_of at s (dump_items_in table template s values))
+        ≡ Ok m }
 {}
 
 /// The document of an accepted message's dump text is encoded in each form to a message with the
@@ -100,7 +101,8 @@ pub fn dumped_messages_are_encoded_in_each_form()
         (s : Sections) (template : Tree) (values : Values) (used at : ℕ) (form : Form)
         → AreRows records table → IsAccepted table sequences m s template values used
         → IsFormed form table s template values
-        (encoding_in form table sequences (document_of at s (items_in table template s values))) }
+        (encoding_in form table sequences
+        (document_of at s (dump_items_in table template s values))) }
 {}
 
 /// A fault that may be told of such an encoding is
@@ -113,8 +115,9 @@ pub fn dumped_messages_are_refused_for_their_form_alone()
         (s : Sections) (template : Tree) (values : Values) (used at : ℕ) (form : Form)
         (why : DocumentFault)
         → AreRows records table → IsAccepted table sequences m s template values used
-        → RefusesSo (told_refusal why)
-        (encoding_in form table sequences (document_of at s (items_in table template s values)))
+        → IsDocumentRefusal (told_refusal why)
+        (encoding_in form table sequences
+        (document_of at s (dump_items_in table template s values)))
         → IsFaultIn form why }
 {}
 
@@ -133,9 +136,9 @@ pub fn forms_change_the_flag_of_a_dump_text_alone()
     ensures { (form : Form) (table : List Row) (s : Sections) (template : Tree)
         (values : Values) (octets : List ℕ)
         → (again : HasReadingIn form table s template values octets)
-        → dump_text_of again.sections (items_in table template again.sections again.found)
+        → dump_text_of again.sections (dump_items_in table template again.sections again.found)
         ≡ dump_text_of (record s { compressed = compressed_by form s.compressed })
-        (items_in table template s values) }
+        (dump_items_in table template s values) }
 {}
 
 /// A canonical message that was encoded in another form comes back octet for octet: the document of
@@ -148,6 +151,6 @@ pub fn canonical_messages_come_back_from_each_form()
         → IsCanonical m s values used
         → (again : HasReadingIn form table s template values octets)
         → encoding_in (form_of_flag s.compressed) table sequences
-        (document_of at again.sections (items_in table template again.sections again.found))
+        (document_of at again.sections (dump_items_in table template again.sections again.found))
         ≡ Ok m }
 {}

@@ -1,8 +1,8 @@
 //! The lines of a dump text before its subsets.
 ghost use Rattle.std.specs.Prelude.{◌≡◌, ◌≤◌, ◌+◌, ◌++◌, [], ◌∷◌, OnOk, codes, drop, is_some, length, map, take, unwrap_or};
 ghost use Rattle.bufr_frame.specs.Words.{words_left};
-ghost use Rattle.bufr_text.specs.Dump.{descriptors_line, head_lines, header_lines, header_of, section2_line, text_of};
-ghost use Rattle.bufr_text.specs.DumpWritten.{CountsFaults, WritesFront};
+ghost use Rattle.bufr_text.specs.Dump.{descriptors_line, head_lines, header_lines, header_of, section2_line, text_of_lines};
+ghost use Rattle.bufr_text.specs.DumpWritten.{CountsFaults, WritesPrefix};
 ghost use Rattle.bufr_text.specs.Grammar.{hex_text, runs_of};
 ghost use Rattle.bufr_text.specs.Laid.{category_texts, counts_texts, date_texts, origin_texts};
 ghost use Rattle.bufr_text.specs.Writing.{flag, joined_onto};
@@ -11,7 +11,7 @@ use crate::key::KEYS;
 use crate::laid::{LINE, lay_flag, lay_named, lay_text};
 use crate::part::write_all;
 use crate::put::{make_descriptor_line, make_octet_line};
-use crate::slice::behind;
+use crate::slice::suffix;
 use bufr_bits::Sink;
 use bufr_frame::{Head, Message, RunFault, Words};
 
@@ -54,8 +54,8 @@ fn lay_category(head: &Head, line: &mut [u8], end: usize) -> usize
 
 /// Writes the line `message`, and those of the edition and of what section 1 says before the date.
 fn write_origin<W: Sink>(message: &Message<'_>, w: &mut W) -> Result<(), RunFault>
-    ensures writes { WritesFront (W.taken w.old) (W.taken w.new)
-        (text_of (codes "message" ∷ header_lines 0 (take 10 (header_of message.now)))) result }
+    ensures writes { WritesPrefix (W.taken w.old) (W.taken w.new)
+        (text_of_lines (codes "message" ∷ header_lines 0 (take 10 (header_of message.now)))) result }
     ensures counts { CountsFaults (W.failures w.old) (W.failures w.new) (W.empty_writes w.old)
         (W.empty_writes w.new) result }
     ensures flushes { W.flushes w.new ≡ W.flushes w.old }
@@ -64,7 +64,7 @@ fn write_origin<W: Sink>(message: &Message<'_>, w: &mut W) -> Result<(), RunFaul
     let mut line = [0; LINE];
     let end = lay_category(&head, &mut line, LINE);
     let start = lay_origin(&head, &mut line, end);
-    write_all(behind(&line, start), w)
+    write_all(suffix(&line, start), w)
 }
 
 /// Lays the lines of the flags and of the number of subsets.
@@ -107,8 +107,8 @@ fn lay_date(head: &Head, line: &mut [u8], end: usize) -> usize
 
 /// Writes the lines of the date, the flags and the number of subsets.
 fn write_date<W: Sink>(message: &Message<'_>, w: &mut W) -> Result<(), RunFault>
-    ensures writes { WritesFront (W.taken w.old) (W.taken w.new)
-        (text_of (header_lines 10 (drop 10 (header_of message.now)))) result }
+    ensures writes { WritesPrefix (W.taken w.old) (W.taken w.new)
+        (text_of_lines (header_lines 10 (drop 10 (header_of message.now)))) result }
     ensures counts { CountsFaults (W.failures w.old) (W.failures w.new) (W.empty_writes w.old)
         (W.empty_writes w.new) result }
     ensures flushes { W.flushes w.new ≡ W.flushes w.old }
@@ -117,7 +117,7 @@ fn write_date<W: Sink>(message: &Message<'_>, w: &mut W) -> Result<(), RunFault>
     let mut line = [0; LINE];
     let end = lay_counts(message, &mut line, LINE);
     let start = lay_date(&head, &mut line, end);
-    write_all(behind(&line, start), w)
+    write_all(suffix(&line, start), w)
 }
 
 /// Writes a line of octets behind its word.
@@ -127,7 +127,7 @@ fn write_octet_line<W: Sink>(
     line: &mut Vec<u8>,
     w: &mut W,
 ) -> Result<(), RunFault>
-    ensures writes { WritesFront (W.taken w.old) (W.taken w.new)
+    ensures writes { WritesPrefix (W.taken w.old) (W.taken w.new)
         ((word.now ++ hex_text octets.now) ++ 10 ∷ []) result }
     ensures counts { CountsFaults (W.failures w.old) (W.failures w.new) (W.empty_writes w.old)
         (W.empty_writes w.new) result }
@@ -144,8 +144,8 @@ fn write_octet_lines<W: Sink>(
     line: &mut Vec<u8>,
     w: &mut W,
 ) -> Result<(), RunFault>
-    ensures writes { WritesFront (W.taken w.old) (W.taken w.new)
-        (text_of (map (λ run. word.now ++ hex_text run) (runs_of 32 octets.now))) result }
+    ensures writes { WritesPrefix (W.taken w.old) (W.taken w.new)
+        (text_of_lines (map (λ run. word.now ++ hex_text run) (runs_of 32 octets.now))) result }
     ensures counts { CountsFaults (W.failures w.old) (W.failures w.new) (W.empty_writes w.old)
         (W.empty_writes w.new) result }
     ensures flushes { W.flushes w.new ≡ W.flushes w.old }
@@ -165,8 +165,9 @@ fn write_section2<W: Sink>(
     line: &mut Vec<u8>,
     w: &mut W,
 ) -> Result<(), RunFault>
-    ensures writes { WritesFront (W.taken w.old) (W.taken w.new)
-        (text_of (map section2_line (runs_of 32 (unwrap_or message.now.section2 [])))) result }
+    ensures writes { WritesPrefix (W.taken w.old) (W.taken w.new)
+        (text_of_lines (map section2_line (runs_of 32 (unwrap_or message.now.section2 []))))
+        result }
     ensures counts { CountsFaults (W.failures w.old) (W.failures w.new) (W.empty_writes w.old)
         (W.empty_writes w.new) result }
     ensures flushes { W.flushes w.new ≡ W.flushes w.old }
@@ -183,7 +184,7 @@ fn write_descriptor_line<W: Sink>(
     line: &mut Vec<u8>,
     w: &mut W,
 ) -> Result<(), RunFault>
-    ensures writes { WritesFront (W.taken w.old) (W.taken w.new)
+    ensures writes { WritesPrefix (W.taken w.old) (W.taken w.new)
         (descriptors_line (take 8 (words_left words.old)) ++ 10 ∷ []) result }
     ensures words { OnOk result (words_left words.new ≡ drop 8 (words_left words.old)) }
     ensures counts { CountsFaults (W.failures w.old) (W.failures w.new) (W.empty_writes w.old)
@@ -200,8 +201,8 @@ fn write_descriptor_lines<W: Sink>(
     line: &mut Vec<u8>,
     w: &mut W,
 ) -> Result<(), RunFault>
-    ensures writes { WritesFront (W.taken w.old) (W.taken w.new)
-        (text_of (map descriptors_line (runs_of 8 message.now.descriptors))) result }
+    ensures writes { WritesPrefix (W.taken w.old) (W.taken w.new)
+        (text_of_lines (map descriptors_line (runs_of 8 message.now.descriptors))) result }
     ensures counts { CountsFaults (W.failures w.old) (W.failures w.new) (W.empty_writes w.old)
         (W.empty_writes w.new) result }
     ensures flushes { W.flushes w.new ≡ W.flushes w.old }
@@ -219,8 +220,8 @@ pub(crate) fn write_head_lines<W: Sink>(
     line: &mut Vec<u8>,
     w: &mut W,
 ) -> Result<(), RunFault>
-    ensures writes { WritesFront (W.taken w.old) (W.taken w.new)
-        (text_of (head_lines message.now)) result }
+    ensures writes { WritesPrefix (W.taken w.old) (W.taken w.new)
+        (text_of_lines (head_lines message.now)) result }
     ensures counts { CountsFaults (W.failures w.old) (W.failures w.new) (W.empty_writes w.old)
         (W.empty_writes w.new) result }
     ensures flushes { W.flushes w.new ≡ W.flushes w.old }

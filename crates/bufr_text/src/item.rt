@@ -1,16 +1,16 @@
 //! Item lines.
 ghost use Rattle.std.specs.Prelude.{◌≡◌, ℕ, ◌+◌, ◌-◌, ◌<◌, ◌≤◌, List, length, drop, take, slice_index, option_map, IfSome, IsTrue};
 ghost use Rattle.bufr_fill.specs.Draft.{reference_token};
-ghost use Rattle.bufr_text.specs.Grammar.{front, behind, behind_word, fxy_read, is_number_octet, is_hashed, is_passed_behind};
+ghost use Rattle.bufr_text.specs.Grammar.{prefix_while, suffix_while, without_prefix, fxy_read, is_number_octet, is_hashed, is_passed_behind};
 ghost use Rattle.bufr_text.specs.Line.{made, value_read, item_line, number_value};
 ghost use Rattle.bufr_text.specs.Kept.{form_by};
 ghost use Rattle.bufr_text.specs.Step.{meaning};
 
 use crate::descriptors::fxy_front;
-use crate::document::FormKind;
-use crate::quoted::unquote;
-use crate::slice::{ahead, behind, behind_space, behind_word, octet_at};
-use crate::step::Said;
+use crate::document::ValueKind;
+use crate::quoted::decode_quoted;
+use crate::slice::{ahead, octet_at, suffix, without_prefix, without_space};
+use crate::step::ParsedLine;
 
 /// Whether an octet can stand in a number token.
 fn is_number_octet(octet: u8) -> bool
@@ -22,8 +22,8 @@ fn is_number_octet(octet: u8) -> bool
 /// How many octets of a number token stand in front.
 fn token(text: &[u8]) -> usize
     ensures within { result ≤ length text.now }
-    ensures ahead { take result text.now ≡ front is_number_octet text.now }
-    ensures behind { drop result text.now ≡ behind is_number_octet text.now }
+    ensures ahead { take result text.now ≡ prefix_while is_number_octet text.now }
+    ensures suffix_while { drop result text.now ≡ suffix_while is_number_octet text.now }
 {
     let mut at = 0;
     while at < text.len() && is_number_octet(text[at]) {
@@ -34,22 +34,22 @@ fn token(text: &[u8]) -> usize
 
 /// A value in front, and what is behind it; the octets of a text are put into `scratch`.
 #[tactic(auto, using(crate::proofs::ItemLemmas::value_steps))]
-fn value<'a>(text: &'a [u8], scratch: &'a mut [u8]) -> Option<(FormKind, &'a [u8], &'a [u8])>
+fn value<'a>(text: &'a [u8], scratch: &'a mut [u8]) -> Option<(ValueKind, &'a [u8], &'a [u8])>
     requires { length text.now ≤ length scratch.old }
     ensures { option_map (λ read. (form_by read.0 read.1.now, read.2.now)) result
         ≡ value_read text.now }
 {
     let first = octet_at(text, 0);
     if first == b'"' {
-        let text = behind(text, 1);
-        let (count, at) = unquote(text, scratch)?;
-        Some((FormKind::Text, ahead(scratch, count), behind(text, at)))
+        let text = suffix(text, 1);
+        let (count, at) = decode_quoted(text, scratch)?;
+        Some((ValueKind::Text, ahead(scratch, count), suffix(text, at)))
     } else if is_number_octet(first) {
         let count = token(text);
-        Some((FormKind::Number, ahead(text, count), behind(text, count)))
+        Some((ValueKind::Number, ahead(text, count), suffix(text, count)))
     } else {
-        let rest = behind_word(text, b"MISSING")?;
-        Some((FormKind::Missing, ahead(text, 0), rest))
+        let rest = without_prefix(text, b"MISSING")?;
+        Some((ValueKind::Missing, ahead(text, 0), rest))
     }
 }
 
@@ -75,35 +75,35 @@ fn is_passed_behind(text: &[u8]) -> bool
 }
 
 /// What an item line says that begins with a descriptor.
-pub(crate) fn item<'a>(text: &'a [u8], scratch: &'a mut [u8]) -> Option<Said<'a>>
+pub(crate) fn item<'a>(text: &'a [u8], scratch: &'a mut [u8]) -> Option<ParsedLine<'a>>
     requires { length text.now ≤ length scratch.old }
     ensures { made meaning result ≡ item_line value_read text.now }
 {
     let (fxy, rest) = fxy_front(text)?;
-    let (kind, octets, rest) = value(behind_space(rest)?, scratch)?;
+    let (kind, octets, rest) = value(without_space(rest)?, scratch)?;
     if !is_passed_behind(rest) {
         return None;
     }
-    Some(Said::Item { fxy, kind, octets })
+    Some(ParsedLine::Item { fxy, kind, octets })
 }
 
 /// What a line says of a redefined reference, behind `R` and a space.
 #[tactic(auto, using(crate::proofs::ItemLemmas::reference_steps))]
-pub(crate) fn reference<'a>(text: &'a [u8]) -> Option<Said<'a>>
+pub(crate) fn reference<'a>(text: &'a [u8]) -> Option<ParsedLine<'a>>
     ensures { made meaning result ≡ item_line (number_value reference_token) text.now }
 {
     let (fxy, rest) = fxy_front(text)?;
-    let rest = behind_space(rest)?;
+    let rest = without_space(rest)?;
     if !is_number_octet(octet_at(rest, 0)) {
         return None;
     }
     let count = token(rest);
-    if !is_passed_behind(behind(rest, count)) {
+    if !is_passed_behind(suffix(rest, count)) {
         return None;
     }
-    Some(Said::Item {
+    Some(ParsedLine::Item {
         fxy,
-        kind: FormKind::Reference,
+        kind: ValueKind::Reference,
         octets: ahead(rest, count),
     })
 }

@@ -1,18 +1,18 @@
 //! The line of an item of a dump text, laid from its end.
 ghost use Rattle.std.specs.Prelude.{◌≡◌, ◌≤◌, ◌<◌, ◌+◌, ◌*◌, ◌-◌, ◌++◌, ◌==◌, if◌then◌else◌, [], ◌∷◌, decimal, drop, false, length, option_map, unsigned_abs, IfOk, IfSome};
 ghost use Rattle.bufr_bits.specs.DecimalText.{decimal_text_of, pointed, unsigned_text};
-ghost use Rattle.bufr_tables.specs.Entry.{row_with};
+ghost use Rattle.bufr_tables.specs.Entry.{row_of_entry};
 ghost use Rattle.bufr_tables.specs.Fxy.{fxy_text};
 ghost use Rattle.bufr_walk.specs.ViewModel.{seen, seen_value};
-ghost use Rattle.bufr_text.specs.Dump.{comment_text, form_of, form_text, item_text};
-ghost use Rattle.bufr_text.specs.DumpItems.{comment_of, item_of, value_of};
-ghost use Rattle.bufr_text.specs.Grammar.{escaped, is_plain, quoted};
+ghost use Rattle.bufr_text.specs.Dump.{comment_text, dump_value_of, form_text, item_text};
+ghost use Rattle.bufr_text.specs.DumpItems.{comment_of, dump_item_of, value_of};
+ghost use Rattle.bufr_text.specs.Grammar.{escaped, is_unescaped, quoted};
 ghost use Rattle.bufr_text.specs.Laid.{most_comment, most_item, most_value};
-ghost use Rattle.bufr_text.specs.Writing.{padded};
+ghost use Rattle.bufr_text.specs.Writing.{zero_padded};
 
 use crate::laid::{lay_decimal, lay_text, lay_zeros};
 use crate::put::hex_digit;
-use crate::quoted::is_plain;
+use crate::quoted::is_unescaped;
 use bufr_tables::{Entry, Fxy};
 use bufr_walk::{ItemView, Value};
 use itoa::Buffer;
@@ -20,7 +20,7 @@ use std::alloc::AllocError;
 
 /// Lays an octet that does not stand for itself before `end`, and answers where it begins.
 fn lay_escape(octet: u8, line: &mut [u8], end: usize) -> usize
-    requires other { is_plain octet ≡ false }
+    requires other { is_unescaped octet ≡ false }
     requires room { 4 ≤ end }
     requires within { end ≤ length line.old }
     ensures most { end ≤ result + 4 }
@@ -43,7 +43,7 @@ fn lay_octet(octet: u8, line: &mut [u8], end: usize) -> usize
     ensures start { result ≤ end }
     ensures laid { drop result line.new ≡ escaped octet ++ drop end line.old }
 {
-    if is_plain(octet) {
+    if is_unescaped(octet) {
         return lay_text(&[octet], line, end);
     }
     lay_escape(octet, line, end)
@@ -101,7 +101,7 @@ fn lay_fraction(value: u64, places: usize, line: &mut [u8], end: usize) -> u64
     requires room { places ≤ end }
     requires within { end ≤ length line.old }
     ensures laid { decimal result ++ drop (end - places) line.new
-        ≡ padded (places + 1) value ++ drop end line.old }
+        ≡ zero_padded (places + 1) value ++ drop end line.old }
 {
     let mut left = value;
     'places: for place in 0..places {
@@ -221,7 +221,7 @@ fn lay_form(fxy: Fxy, value: Value<'_>, line: &mut [u8], end: usize) -> usize
     requires within { end ≤ length line.old }
     ensures start { result ≤ end }
     ensures laid { drop result line.new
-        ≡ form_text fxy (form_of (value_of (seen_value value.entry))) ++ drop end line.old }
+        ≡ form_text fxy (dump_value_of (value_of (seen_value value.entry))) ++ drop end line.old }
 {
     match value {
         Value::Number(number, scale) => lay_numeric(fxy, number, scale, line, end),
@@ -243,13 +243,14 @@ fn lay_form(fxy: Fxy, value: Value<'_>, line: &mut [u8], end: usize) -> usize
 
 /// Lays the name and the unit of the entry of Table B by which an item was read before `end`, and
 /// answers where they begin.
+#[inline(always)]
 fn lay_comment(fxy: Fxy, entry: Option<Entry<'_>>, line: &mut [u8], end: usize) -> usize
     requires room { most_comment entry ≤ end }
     requires within { end ≤ length line.old }
     ensures most { end ≤ result + most_comment entry.entry }
     ensures start { result ≤ end }
     ensures laid { drop result line.new ≡ comment_text
-        (option_map comment_of (option_map (row_with fxy) entry.entry)) ++ drop end line.old }
+        (option_map comment_of (option_map (row_of_entry fxy) entry.entry)) ++ drop end line.old }
 {
     let _ = fxy;
     let Some(entry) = entry else {
@@ -263,10 +264,11 @@ fn lay_comment(fxy: Fxy, entry: Option<Entry<'_>>, line: &mut [u8], end: usize) 
 }
 
 /// Lays the line of an item at the end of the octets, and answers where it begins.
+#[inline(always)]
 fn lay_item(item: &ItemView<'_>, line: &mut [u8]) -> usize
     requires room { most_item item.now ≤ length line.old }
     ensures start { result ≤ length line.old }
-    ensures laid { drop result line.new ≡ item_text (item_of (seen item.now)) ++ 10 ∷ [] }
+    ensures laid { drop result line.new ≡ item_text (dump_item_of (seen item.now)) ++ 10 ∷ [] }
 {
     let len = line.len();
     let end = lay_text(b"\n", line, len);
@@ -275,6 +277,7 @@ fn lay_item(item: &ItemView<'_>, line: &mut [u8]) -> usize
 }
 
 /// How many octets a descriptor and what stands for a value take at most.
+#[inline(always)]
 fn most_value(value: Value<'_>) -> Option<usize>
     ensures { IfSome result (λ most. most ≡ most_value value.entry) }
 {
@@ -287,6 +290,7 @@ fn most_value(value: Value<'_>) -> Option<usize>
 }
 
 /// How many octets a comment takes at most.
+#[inline(always)]
 fn most_comment(entry: Option<Entry<'_>>) -> Option<usize>
     ensures { IfSome result (λ most. most ≡ most_comment entry.entry) }
 {
@@ -301,6 +305,7 @@ fn most_comment(entry: Option<Entry<'_>>) -> Option<usize>
 }
 
 /// How many octets the line of an item takes at most; `None` where no memory has as many.
+#[inline(always)]
 fn most_item(item: &ItemView<'_>) -> Option<usize>
     ensures { IfSome result (λ most. most ≡ most_item item.now) }
 {
@@ -315,10 +320,11 @@ fn most_item(item: &ItemView<'_>) -> Option<usize>
 /// # Errors
 ///
 /// [`AllocError`] where there is no memory for as many octets.
+#[inline(always)]
 pub(crate) fn make_item_line(item: &ItemView<'_>, line: &mut Vec<u8>) -> Result<usize, AllocError>
     ensures start { IfOk result (λ start. start ≤ length line.new.items) }
     ensures laid { IfOk result
-        (λ start. drop start line.new.items ≡ item_text (item_of (seen item.now)) ++ 10 ∷ []) }
+        (λ start. drop start line.new.items ≡ item_text (dump_item_of (seen item.now)) ++ 10 ∷ []) }
 {
     let most = most_item(item).ok_or(AllocError)?;
     if line.len() < most {

@@ -1,29 +1,29 @@
 //! Laws about dump texts.
 ghost use Rattle.std.specs.Prelude.{◌≡◌, ℕ, ◌+◌, true, false, List, [], ◌∷◌, ◌++◌, length, Option, None, Result, Ok};
 ghost use Rattle.bufr_frame.specs.Sections.{Sections};
-ghost use Rattle.bufr_text.specs.Documents.{Between, Told, Spelled, documents_of, open_documents_of, lines_of, spelled};
-ghost use Rattle.bufr_text.specs.Dump.{Item, document_of, dump_lines, dump_text_of};
-ghost use Rattle.bufr_text.specs.Given.{IsDumpable};
+ghost use Rattle.bufr_text.specs.Documents.{Between, ParseResult, Complete, documents_of, open_documents_of, lines_of, parse_lines};
+ghost use Rattle.bufr_text.specs.Dump.{DumpItem, document_of, dump_lines, dump_text_of};
+ghost use Rattle.bufr_text.specs.Bounds.{IsDumpable};
 ghost use Rattle.bufr_text.specs.Document.{Document};
-ghost use Rattle.bufr_text.specs.Reading.{Passes, spells, spells_openly};
-ghost use Rattle.bufr_text.specs.Reader.{State, fresh, unfed, stand, IsMissingFeed, CallSo, NextSo, IsDone, IsOpen};
-ghost use Rattle.bufr_text.specs.Spelling.{AreTold, heard_from};
+ghost use Rattle.bufr_text.specs.Reading.{TakesWholeLines, parse, parse_open};
+ghost use Rattle.bufr_text.specs.Reader.{ReaderModel, new_reader, unfed, stand, IsMissingFeed, ReadsLines, ReturnsNextDocument, HasNoMoreLines, HasNoWholeLine};
+ghost use Rattle.bufr_text.specs.Spelling.{AreTold, numbered_lines};
 ghost use Rattle.bufr_text.specs.Whole.{AreProper};
 ghost use Rattle.bufr_text.specs.declared.fault.ReadFault.{ReadFault};
 
 /// The dump text of a message spells its document, and the reading goes on behind it.
 pub fn dump_text_spells_its_document()
-    ensures { (s : Sections) (subsets : List (List Item)) (at : ℕ) (t : List ℕ)
+    ensures { (s : Sections) (subsets : List (List DumpItem)) (at : ℕ) (t : List ℕ)
         → IsDumpable s subsets
-        → spelled at Between (lines_of (dump_text_of s subsets ++ t))
-        ≡ Spelled (document_of at s subsets)
-        ∷ spelled (at + length (dump_lines s subsets)) Between (lines_of t) }
+        → parse_lines at Between (lines_of (dump_text_of s subsets ++ t))
+        ≡ Complete (document_of at s subsets)
+        ∷ parse_lines (at + length (dump_lines s subsets)) Between (lines_of t) }
 {}
 
 /// The dump text of a message spells one document, and nothing else.
 pub fn dump_text_is_one_document()
-    ensures { (s : Sections) (subsets : List (List Item)) → IsDumpable s subsets
-        → documents_of (dump_text_of s subsets) ≡ Spelled (document_of 1 s subsets) ∷ [] }
+    ensures { (s : Sections) (subsets : List (List DumpItem)) → IsDumpable s subsets
+        → documents_of (dump_text_of s subsets) ≡ Complete (document_of 1 s subsets) ∷ [] }
 {}
 
 /// Each document of a text is proper: its header is whole, it has as many subsets as that says and
@@ -35,67 +35,75 @@ pub fn documents_are_proper()
 /// The lines of a text that are no comment and not empty are the lines of its documents, one
 /// document after another, up to the end or to the first line that is refused.
 pub fn lines_are_those_of_the_documents()
-    ensures { (text : List ℕ) → AreTold (heard_from 1 (lines_of text)) (documents_of text) }
+    ensures { (text : List ℕ) → AreTold (numbered_lines 1 (lines_of text)) (documents_of text) }
 {}
 
 /// The documents that are told while the end is not known stay the first ones, whatever comes
 /// behind.
 pub fn open_documents_are_front()
     ensures { (s t : List ℕ)
-        → (more : List Told) × (documents_of (s ++ t) ≡ open_documents_of s ++ more) }
+        → (more : List ParseResult) × (documents_of (s ++ t) ≡ open_documents_of s ++ more) }
 {}
 
 /// What calls of a reader told, one after another, is what they would tell as one call: it follows
 /// from what each did.
 pub fn calls_compose()
-    ensures { (left mid left' : Option (List ℕ)) (old s s' : State)
-        (told told' : List Told) (bs bs' : List ℕ)
-        → CallSo left mid old s told bs → CallSo mid left' s s' told' bs'
-        → CallSo left left' old s' (told ++ told') (bs ++ bs') }
+    ensures { (left mid left' : Option (List ℕ)) (old s s' : ReaderModel)
+        (told told' : List ParseResult) (bs bs' : List ℕ)
+        → ReadsLines left mid old s told bs → ReadsLines mid left' s s' told' bs'
+        → ReadsLines left left' old s' (told ++ told') (bs ++ bs') }
 {}
 
 /// What calls told from the beginning are the first documents of the octets read, whatever comes
 /// behind; behind the end nothing does.
 pub fn documents_told_are_the_first()
-    ensures { (left left' : Option (List ℕ)) (s : State) (told : List Told) (bs t : List ℕ)
-        → CallSo left left' fresh s told bs → (s.ended ≡ true → t ≡ [])
-        → documents_of (bs ++ t) ≡ told ++ spells (stand s) t }
+    ensures { (left left' : Option (List ℕ)) (s : ReaderModel) (told : List ParseResult)
+        (bs t : List ℕ)
+        → ReadsLines left left' new_reader s told bs → (s.ended ≡ true → t ≡ [])
+        → documents_of (bs ++ t) ≡ told ++ parse (stand s) t }
 {}
 
 /// What calls told from the beginning while the end is not known are the first open documents of
 /// the octets read, whatever comes behind.
 pub fn documents_told_are_the_first_open()
-    ensures { (left left' : Option (List ℕ)) (s : State) (told : List Told) (bs t : List ℕ)
-        → CallSo left left' fresh s told bs → s.ended ≡ false
-        → open_documents_of (bs ++ t) ≡ told ++ spells_openly (stand s) t }
+    ensures { (left left' : Option (List ℕ)) (s : ReaderModel) (told : List ParseResult)
+        (bs t : List ℕ)
+        → ReadsLines left left' new_reader s told bs → s.ended ≡ false
+        → open_documents_of (bs ++ t) ≡ told ++ parse_open (stand s) t }
 {}
 
 /// What calls told up to the end are the documents of the octets read.
 pub fn documents_told_are_the_documents()
-    ensures { (left left' : Option (List ℕ)) (s : State) (told : List Told) (bs : List ℕ)
-        → CallSo left left' fresh s told bs → IsDone s → documents_of bs ≡ told }
+    ensures { (left left' : Option (List ℕ)) (s : ReaderModel) (told : List ParseResult)
+        (bs : List ℕ)
+        → ReadsLines left left' new_reader s told bs → HasNoMoreLines s → documents_of bs ≡ told }
 {}
 
 /// What calls told up to a failed read, or up to the last read that is made, are the open documents
 /// of the octets read.
 pub fn documents_told_are_the_open_documents()
-    ensures { (left left' : Option (List ℕ)) (s : State) (told : List Told) (bs : List ℕ)
-        → CallSo left left' fresh s told bs → IsOpen s → open_documents_of bs ≡ told }
+    ensures { (left left' : Option (List ℕ)) (s : ReaderModel) (told : List ParseResult)
+        (bs : List ℕ)
+        → ReadsLines left left' new_reader s told bs → HasNoWholeLine s → open_documents_of bs
+        ≡ told }
 {}
 
 /// The octets that calls read are the lines that they took, and behind those exactly what is held:
 /// as many lines were taken as line numbers were passed. Where the end was reached, a last line
 /// that lacks its line feed was given one, which is none of the octets that are said to be held.
 pub fn octets_behind_the_lines_are_held()
-    ensures { (left left' : Option (List ℕ)) (s : State) (told : List Told) (bs : List ℕ)
-        → CallSo left left' fresh s told bs → (feed : List ℕ) × IsMissingFeed false s.ended feed
-        × Passes 1 (bs ++ feed) s.at s.held × ((taken : List ℕ) × (bs ≡ taken ++ unfed s)) }
+    ensures { (left left' : Option (List ℕ)) (s : ReaderModel) (told : List ParseResult)
+        (bs : List ℕ)
+        → ReadsLines left left' new_reader s told bs → (feed : List ℕ)
+        × IsMissingFeed false s.ended feed
+        × TakesWholeLines 1 (bs ++ feed) s.at s.held
+        × ((taken : List ℕ) × (bs ≡ taken ++ unfed s)) }
 {}
 
 /// After the end was told it is told again, and nothing is read.
 pub fn none_comes_again()
-    ensures { (left left' : Option (List ℕ)) (old new : State)
+    ensures { (left left' : Option (List ℕ)) (old new : ReaderModel)
         (result : Result (Option Document) ReadFault)
-        → NextSo left left' old new result → IsDone old
+        → ReturnsNextDocument left left' old new result → HasNoMoreLines old
         → (result ≡ Ok None) × (new.reads ≡ old.reads) }
 {}

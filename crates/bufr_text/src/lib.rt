@@ -30,9 +30,9 @@ pub mod readback_law;
 mod slice;
 mod step;
 
-pub use bufr_fill::Entry;
+pub use bufr_fill::DraftEntry;
 pub use document::Document;
-pub use dump::write_dump;
+pub use dump::{write_dump, write_dump_by};
 pub use dump_reader::DumpReader;
 pub use encode::{encode_by, encode_document, encode_form};
 pub use encode_fault::{DocumentFault, WalkRefusal};
@@ -41,4 +41,4 @@ pub use form::Form;
 pub use laid::{lay_decimal, lay_named, lay_text};
 pub use ls::write_ls;
 pub use part::{Part, write_all, write_parts};
-pub use slice::behind;
+pub use slice::suffix;

@@ -5,7 +5,7 @@ ghost use Rattle.bufr_text.specs.LsLine.{category_texts, counts_texts, ls_line, 
 
 use crate::laid::{LINE, lay_decimal, lay_flag, lay_named, lay_padded, lay_pair, lay_text};
 use crate::part::write_all;
-use crate::slice::behind;
+use crate::slice::suffix;
 use bufr_bits::Sink;
 use bufr_frame::{Head, Message, RunFault};
 
@@ -126,5 +126,5 @@ pub fn write_ls<W: Sink>(offset: u64, message: &Message<'_>, w: &mut W) -> Resul
     let end = lay_tables(&head, &mut line, end);
     let end = lay_category(&head, &mut line, end);
     let start = lay_origin(offset, message.length(), &head, &mut line, end);
-    write_all(behind(&line, start), w)
+    write_all(suffix(&line, start), w)
 }

@@ -3,7 +3,7 @@ ghost use Rattle.std.specs.Prelude.{◌≡◌, ◌≤◌, ◌++◌, IfSome, deci
 ghost use Rattle.bufr_text.specs.Writing.{Writes, CountsWrites, part_text};
 
 use crate::laid::{LINE, lay_decimal, lay_text};
-use crate::slice::behind;
+use crate::slice::suffix;
 use bufr_bits::Sink;
 use bufr_frame::RunFault;
 
@@ -34,7 +34,7 @@ pub fn write_all<W: Sink>(octets: &[u8], w: &mut W) -> Result<(), RunFault>
     while !rest.is_empty() {
         match w.write(rest) {
             Ok(0) => return Err(RunFault::Write),
-            Ok(n) => rest = behind(rest, n),
+            Ok(n) => rest = suffix(rest, n),
             Err(_) => return Err(RunFault::Write),
         }
     }
@@ -80,7 +80,7 @@ fn write_decimal<W: Sink>(value: u64, w: &mut W) -> Result<(), RunFault>
 {
     let mut line = [0; NUMBER];
     let start = lay_decimal(value, &mut line, NUMBER);
-    write_all(behind(&line, start), w)
+    write_all(suffix(&line, start), w)
 }
 
 /// Writes a part on its own.
@@ -123,7 +123,7 @@ pub fn write_parts<W: Sink>(parts: &[Part<'_>], w: &mut W) -> Result<(), RunFaul
 {
     let mut line = [0; LINE];
     match lay_parts(parts, &mut line) {
-        Some(start) => write_all(behind(&line, start), w),
+        Some(start) => write_all(suffix(&line, start), w),
         None => write_each(parts, w),
     }
 }

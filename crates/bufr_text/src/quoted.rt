@@ -1,17 +1,17 @@
 //! Texts in quotes, as octets.
 ghost use Rattle.std.specs.Prelude.{◌≡◌, ℕ, ◌+◌, ◌-◌, ◌<◌, ◌≤◌, List, length, drop, take, slice_index, IfSome};
-ghost use Rattle.bufr_text.specs.Grammar.{is_plain, upper_value, pair_value, escape_of, quoting_of};
+ghost use Rattle.bufr_text.specs.Grammar.{is_unescaped, upper_value, pair_value, escape_of, quoting_of};
 ghost use Rattle.bufr_text.specs.Unquoting.{quoting_said, Unquotes};
 
-use crate::slice::{behind, octet_at};
+use crate::slice::{octet_at, suffix};
 
 /// What stands in front of a text.
 #[derive(Clone, Copy)]
-pub(crate) enum Quoting {
+pub(crate) enum QuotedToken {
     /// The quote that ends it.
     Closed,
     /// An octet, and how many octets write it.
-    Says { octet: u8, written: usize },
+    ListsLeaves { octet: u8, written: usize },
     /// Nothing that a text can hold.
     Nothing,
 }
@@ -29,64 +29,64 @@ fn upper_value(octet: u8) -> Option<u8>
 }
 
 /// Whether an octet of a text stands for itself.
-pub(crate) fn is_plain(octet: u8) -> bool
-    ensures { result ≡ is_plain octet }
+pub(crate) fn is_unescaped(octet: u8) -> bool
+    ensures { result ≡ is_unescaped octet }
 {
     octet >= 32 && octet <= 126 && octet != b'"' && octet != b'\\'
 }
 
 /// What begins with a backslash.
-fn escape(text: &[u8]) -> Quoting
+fn escape(text: &[u8]) -> QuotedToken
     ensures { quoting_said result ≡ escape_of text.now }
 {
     let octet = octet_at(text, 1);
     if octet == b'"' || octet == b'\\' {
-        return Quoting::Says { octet, written: 2 };
+        return QuotedToken::ListsLeaves { octet, written: 2 };
     }
     if octet != b'x' {
-        return Quoting::Nothing;
+        return QuotedToken::Nothing;
     }
     let Some(high) = upper_value(octet_at(text, 2)) else {
-        return Quoting::Nothing;
+        return QuotedToken::Nothing;
     };
     let Some(low) = upper_value(octet_at(text, 3)) else {
-        return Quoting::Nothing;
+        return QuotedToken::Nothing;
     };
-    Quoting::Says {
+    QuotedToken::ListsLeaves {
         octet: 16 * high + low,
         written: 4,
     }
 }
 
 /// What stands in front of a text.
-fn first_part(text: &[u8]) -> Quoting
+fn first_part(text: &[u8]) -> QuotedToken
     ensures { quoting_said result ≡ quoting_of text.now }
 {
     match octet_at(text, 0) {
-        b'"' => Quoting::Closed,
+        b'"' => QuotedToken::Closed,
         b'\\' => escape(text),
-        octet if is_plain(octet) => Quoting::Says { octet, written: 1 },
-        _ => Quoting::Nothing,
+        octet if is_unescaped(octet) => QuotedToken::ListsLeaves { octet, written: 1 },
+        _ => QuotedToken::Nothing,
     }
 }
 
 /// Puts the octets of a text to the front of `out`; answers how many they are, and where the text
 /// goes on behind its closing quote.
-pub(crate) fn unquote(text: &[u8], out: &mut [u8]) -> Option<(usize, usize)>
+pub(crate) fn decode_quoted(text: &[u8], out: &mut [u8]) -> Option<(usize, usize)>
     requires { length text.now ≤ length out.old }
     ensures { Unquotes text.now out.new result }
 {
     let mut at = 0;
     let mut count = 0;
     while at < text.len() {
-        match first_part(behind(text, at)) {
-            Quoting::Closed => return Some((count, at + 1)),
-            Quoting::Says { octet, written } => {
+        match first_part(suffix(text, at)) {
+            QuotedToken::Closed => return Some((count, at + 1)),
+            QuotedToken::ListsLeaves { octet, written } => {
                 out[count] = octet;
                 count += 1;
                 at += written;
             }
-            Quoting::Nothing => return None,
+            QuotedToken::Nothing => return None,
         }
     }
     None

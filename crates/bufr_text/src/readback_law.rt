@@ -5,9 +5,9 @@ ghost use Rattle.bufr_tables.specs.Records.{Record};
 ghost use Rattle.bufr_tables.specs.TableB.{AreRows, Row};
 ghost use Rattle.bufr_tables.specs.TableD.{Sequence};
 ghost use Rattle.bufr_text.specs.Document.{Document};
-ghost use Rattle.bufr_text.specs.Documents.{Spelled, documents_of};
+ghost use Rattle.bufr_text.specs.Documents.{Complete, documents_of};
 ghost use Rattle.bufr_text.specs.Dump.{document_of, dump_text_of};
-ghost use Rattle.bufr_text.specs.RoundTrip.{items_in};
+ghost use Rattle.bufr_text.specs.RoundTrip.{dump_items_in};
 ghost use Rattle.bufr_text.specs.Encoding.{encoding_in, encoding_of};
 ghost use Rattle.bufr_text.specs.Normal.{normal};
 ghost use Rattle.bufr_text.specs.Proper.{IsProper};
@@ -31,7 +31,7 @@ pub fn normal_is_the_dump()
     ensures { (form : Form) (records : List Record) (table : List Row) (sequences : List Sequence)
         (d : Document) (octets : List ℕ)
         → AreRows records table → IsProper d → (read : IsReadAs form table sequences d octets)
-        → dump_text_of read.sections (items_in table read.template read.sections read.values)
+        → dump_text_of read.sections (dump_items_in table read.template read.sections read.values)
         ≡ normal form table read.template d }
 {}
 
@@ -42,10 +42,11 @@ pub fn normal_is_encoded_the_same()
         (d : Document) (octets : List ℕ)
         → AreRows records table → IsProper d → encoding_in form table sequences d ≡ Ok octets
         → (read : IsReadAs form table sequences d octets)
-        → (documents_of (normal form table read.template d) ≡ Spelled
-        (document_of 1 read.sections (items_in table read.template read.sections read.values)) ∷ [])
+        → (documents_of (normal form table read.template d) ≡ Complete
+        (document_of 1 read.sections (dump_items_in table read.template read.sections read.values))
+        ∷ [])
         × (encoding_of table sequences (document_of 1 read.sections
-        (items_in table read.template read.sections read.values)) ≡ Ok octets) }
+        (dump_items_in table read.template read.sections read.values)) ≡ Ok octets) }
 {}
 
 /// The text in that spelling is its own text in that spelling.
@@ -54,6 +55,6 @@ pub fn normal_of_normal()
         (d : Document) (octets : List ℕ)
         → AreRows records table → IsProper d → (read : IsReadAs form table sequences d octets)
         → normal AsWritten table read.template
-        (document_of 1 read.sections (items_in table read.template read.sections read.values))
+        (document_of 1 read.sections (dump_items_in table read.template read.sections read.values))
         ≡ normal form table read.template d }
 {}

@@ -3,15 +3,15 @@ ghost use Rattle.std.specs.Prelude.{◌≡◌, ◌<◌, length, true, IfOk, OnEr
 ghost use Rattle.bufr_text.specs.Document as spec;
 ghost use Rattle.bufr_text.specs.Line as line;
 ghost use Rattle.bufr_text.specs.Documents.{heading, laying, filling, beginning, closing, opening, turn, adds};
-ghost use Rattle.bufr_text.specs.Step.{meaning, part_number, place_with, turned, Stands};
+ghost use Rattle.bufr_text.specs.Step.{meaning, part_number, place_with, turned, IsParserState};
 
-use crate::document::{FormKind, Parts};
+use crate::document::{DocumentParts, ValueKind};
 use crate::key::in_range;
 use std::alloc::AllocError;
 
 /// What a line says. Octets of hexadecimal digits and of texts are those that they stand for.
 #[derive(Clone, Copy)]
-pub(crate) enum Said<'a> {
+pub(crate) enum ParsedLine<'a> {
     Passed,
     Opens,
     Header {
@@ -24,7 +24,7 @@ pub(crate) enum Said<'a> {
     Begins(u32),
     Item {
         fxy: u16,
-        kind: FormKind,
+        kind: ValueKind,
         octets: &'a [u8],
     },
     Closes,
@@ -33,13 +33,13 @@ pub(crate) enum Said<'a> {
 
 /// How far the parts before the subsets have come: they stand in this order.
 #[derive(Clone, Copy)]
-pub(crate) enum Laid {
+pub(crate) enum LineGroup {
     Local1,
     Section2,
     Descriptors,
 }
 
-impl Laid {
+impl LineGroup {
     ghost use Rattle.std.specs.Prelude.{◌≡◌};
     ghost use Rattle.bufr_text.specs.Step.{part_number};
 
@@ -48,20 +48,20 @@ impl Laid {
         ensures { result ≡ part_number self }
     {
         match self {
-            Laid::Local1 => 0,
-            Laid::Section2 => 1,
-            Laid::Descriptors => 2,
+            LineGroup::Local1 => 0,
+            LineGroup::Section2 => 1,
+            LineGroup::Descriptors => 2,
         }
     }
 }
 
 /// Where the reading stands.
 #[derive(Clone, Copy)]
-pub(crate) enum Place {
+pub(crate) enum ParserState {
     Between,
     Heading,
     /// Behind the header, before the first subset.
-    Laying(Laid),
+    Laying(LineGroup),
     /// In this subset.
     Filling(u32),
 }
@@ -76,144 +76,153 @@ pub(crate) enum LineRefusal {
 
 /// What a line does.
 #[derive(Clone, Copy)]
-pub(crate) enum Turn {
-    Goes(Place),
+pub(crate) enum LineEffect {
+    WalkGoes(ParserState),
     Gives,
     Refuses(LineRefusal),
 }
 
 /// A header line.
-fn heading(parts: &mut Parts, key: usize, value: u32) -> Turn
+fn heading(parts: &mut DocumentParts, key: usize, value: u32) -> LineEffect
     requires { length parts.old.header < 20 }
     ensures turns { turned result parts.new ≡ heading parts.old (line.Header key value) }
 {
     if key != parts.known() {
-        return Turn::Refuses(LineRefusal::NotAllowed);
+        return LineEffect::Refuses(LineRefusal::NotAllowed);
     }
     // The edition is the first value; its own range goes by none.
     if !in_range(parts.value(0), key, value) {
-        return Turn::Refuses(LineRefusal::HeaderRange);
+        return LineEffect::Refuses(LineRefusal::HeaderRange);
     }
     parts.push_value(value as u16);
     if key == 19 {
-        Turn::Goes(Place::Laying(Laid::Local1))
+        LineEffect::WalkGoes(ParserState::Laying(LineGroup::Local1))
     } else {
-        Turn::Goes(Place::Heading)
+        LineEffect::WalkGoes(ParserState::Heading)
     }
 }
 
 /// `subset` and its number, where so many subsets were read.
-fn beginning(parts: &Parts, read: u32, subset: u32) -> Turn
+fn beginning(parts: &DocumentParts, read: u32, subset: u32) -> LineEffect
     requires { read < 65536 }
     ensures turns { turned result parts.now ≡ beginning read parts.now subset }
 {
     if subset == read + 1 && subset <= u32::from(parts.value(19)) {
-        Turn::Goes(Place::Filling(subset))
+        LineEffect::WalkGoes(ParserState::Filling(subset))
     } else {
-        Turn::Refuses(LineRefusal::SubsetCount)
+        LineEffect::Refuses(LineRefusal::SubsetCount)
     }
 }
 
 /// `end`
-fn closing(parts: &Parts, read: u32) -> Turn
+fn closing(parts: &DocumentParts, read: u32) -> LineEffect
     ensures turns { turned result parts.now ≡ closing read parts.now }
 {
     if read == u32::from(parts.value(19)) {
-        Turn::Gives
+        LineEffect::Gives
     } else {
-        Turn::Refuses(LineRefusal::SubsetCount)
+        LineEffect::Refuses(LineRefusal::SubsetCount)
     }
 }
 
 /// A line behind the header and before the first subset.
-fn laying(parts: &mut Parts, part: Laid, said: Said<'_>) -> Result<Turn, AllocError>
+fn laying(
+    parts: &mut DocumentParts,
+    part: LineGroup,
+    said: ParsedLine<'_>,
+) -> Result<LineEffect, AllocError>
     ensures turns { IfOk result
         (λ t. turned t parts.new ≡ laying (part_number part) parts.old (meaning said.entry)) }
     ensures wants { OnErr result
-        (adds (place_with (Place.Laying part) parts.old) (meaning said.entry) ≡ true) }
+        (adds (place_with (ParserState.Laying part) parts.old) (meaning said.entry) ≡ true) }
 {
     let turn = match said {
-        Said::Local1(octets) if part.number() == 0 => {
+        ParsedLine::Local1(octets) if part.number() == 0 => {
             parts.extend_local1(octets)?;
-            Turn::Goes(Place::Laying(Laid::Local1))
+            LineEffect::WalkGoes(ParserState::Laying(LineGroup::Local1))
         }
-        Said::Section2(octets) if part.number() <= 1 && parts.value(18) == 1 => {
+        ParsedLine::Section2(octets) if part.number() <= 1 && parts.value(18) == 1 => {
             parts.extend_section2(octets)?;
-            Turn::Goes(Place::Laying(Laid::Section2))
+            LineEffect::WalkGoes(ParserState::Laying(LineGroup::Section2))
         }
-        Said::Descriptors(words) => {
+        ParsedLine::Descriptors(words) => {
             parts.extend_descriptors(words)?;
-            Turn::Goes(Place::Laying(Laid::Descriptors))
+            LineEffect::WalkGoes(ParserState::Laying(LineGroup::Descriptors))
         }
-        Said::Begins(subset) => beginning(parts, 0, subset),
-        Said::Closes => closing(parts, 0),
-        _ => Turn::Refuses(LineRefusal::NotAllowed),
+        ParsedLine::Begins(subset) => beginning(parts, 0, subset),
+        ParsedLine::Closes => closing(parts, 0),
+        _ => LineEffect::Refuses(LineRefusal::NotAllowed),
     };
     Ok(turn)
 }
 
 /// A line in a subset.
-fn filling(parts: &mut Parts, at: u64, subset: u32, said: Said<'_>) -> Result<Turn, AllocError>
+fn filling(
+    parts: &mut DocumentParts,
+    at: u64,
+    subset: u32,
+    said: ParsedLine<'_>,
+) -> Result<LineEffect, AllocError>
     requires { subset < 65536 }
     ensures turns { IfOk result
         (λ t. turned t parts.new ≡ filling at subset parts.old (meaning said.entry)) }
     ensures wants { OnErr result
-        (adds (place_with (Place.Filling subset) parts.old) (meaning said.entry) ≡ true) }
+        (adds (place_with (ParserState.Filling subset) parts.old) (meaning said.entry) ≡ true) }
 {
     let turn = match said {
-        Said::Item { fxy, kind, octets } => {
+        ParsedLine::Item { fxy, kind, octets } => {
             parts.push_item(at, fxy, kind, octets)?;
-            Turn::Goes(Place::Filling(subset))
+            LineEffect::WalkGoes(ParserState::Filling(subset))
         }
-        Said::Begins(next) => {
+        ParsedLine::Begins(next) => {
             parts.push_end(at)?;
             beginning(parts, subset, next)
         }
-        Said::Closes => {
+        ParsedLine::Closes => {
             parts.push_end(at)?;
             closing(parts, subset)
         }
-        _ => Turn::Refuses(LineRefusal::NotAllowed),
+        _ => LineEffect::Refuses(LineRefusal::NotAllowed),
     };
     Ok(turn)
 }
 
 /// A line between documents.
-fn opening(parts: &mut Parts, at: u64, said: Said<'_>) -> Turn
+fn opening(parts: &mut DocumentParts, at: u64, said: ParsedLine<'_>) -> LineEffect
     ensures turns { turned result parts.new ≡ opening at (meaning said.entry) }
 {
     match said {
-        Said::Opens => {
+        ParsedLine::Opens => {
             parts.begin(at);
-            Turn::Goes(Place::Heading)
+            LineEffect::WalkGoes(ParserState::Heading)
         }
-        _ => Turn::Refuses(LineRefusal::NotAllowed),
+        _ => LineEffect::Refuses(LineRefusal::NotAllowed),
     }
 }
 
 /// A line at a place.
 #[tactic(auto, unfolding(crate::specs::Documents::turn))]
 pub(crate) fn step(
-    place: Place,
-    parts: &mut Parts,
+    place: ParserState,
+    parts: &mut DocumentParts,
     at: u64,
-    said: Said<'_>,
-) -> Result<Turn, AllocError>
-    requires { Stands at (place_with place parts.old) }
+    said: ParsedLine<'_>,
+) -> Result<LineEffect, AllocError>
+    requires { IsParserState at (place_with place parts.old) }
     ensures turns { IfOk result
         (λ t. turned t parts.new ≡ turn at (place_with place parts.old) (meaning said.entry)) }
     ensures wants { OnErr result (adds (place_with place parts.old) (meaning said.entry) ≡ true) }
 {
-    if matches!(said, Said::Passed) {
-        return Ok(Turn::Goes(place));
+    if matches!(said, ParsedLine::Passed) {
+        return Ok(LineEffect::WalkGoes(place));
     }
     match place {
-        Place::Between => Ok(opening(parts, at, said)),
-        Place::Heading => match said {
-            Said::Header { key, value } => Ok(heading(parts, key, value)),
-            _ => Ok(Turn::Refuses(LineRefusal::NotAllowed)),
+        ParserState::Between => Ok(opening(parts, at, said)),
+        ParserState::Heading => match said {
+            ParsedLine::Header { key, value } => Ok(heading(parts, key, value)),
+            _ => Ok(LineEffect::Refuses(LineRefusal::NotAllowed)),
         },
-        Place::Laying(part) => laying(parts, part, said),
-        Place::Filling(subset) => filling(parts, at, subset, said),
+        ParserState::Laying(part) => laying(parts, part, said),
+        ParserState::Filling(subset) => filling(parts, at, subset, said),
     }
 }

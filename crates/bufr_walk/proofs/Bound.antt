@@ -4,43 +4,43 @@ use Rattle.std.specs.Prelude.{if◌then◌else◌}
 use Rattle.std.proofs.Math.Nat.{mul-le-mul_left}
 use Rattle.bufr_tables.specs.Tree.{Tree, bare, element, operator, fixed, delayed, size, places, consumes, is_inserted_text}
 use Rattle.bufr_tables.specs.TableB.{Row}
-use Rattle.bufr_tables.specs.Sound.{GroupsConsume, IsSound}
+use Rattle.bufr_tables.specs.Sound.{EveryGroupConsumes, IsSound}
 use Rattle.bufr_walk.specs.declared.spec.Taken.{Taken}
-use Rattle.bufr_walk.specs.declared.spec.Refusal.{Refusal}
-use Rattle.bufr_walk.specs.Asked.{Asked}
-use Rattle.bufr_walk.specs.Settings.{Settings, begin, after_operator, after_field}
+use Rattle.bufr_walk.specs.declared.spec.TurnRefusal.{TurnRefusal}
+use Rattle.bufr_walk.specs.FieldSpec.{FieldSpec}
+use Rattle.bufr_walk.specs.Operators.{OperatorModel, begin, after_operator, after_field}
 use Rattle.bufr_walk.specs.Rules.{element_spec, factor_spec, inserted_spec}
 use Rattle.bufr_walk.specs.Turns.{Turns, finish, operator_turn, Rest, unroll, passes, pass_end}
-use Rattle.bufr_walk.specs.Course.{Next, take_next, refused, at_end, astray, Ahead, ahead, asked, operated, stop, Course, next_item, counts_of}
-use Rattle.bufr_walk.specs.Taking.{Turn, Takes}
+use Rattle.bufr_walk.specs.Course.{Next, take_next, refused, at_end, astray, NextTurn, ahead, asked, operated, stop, Course, next_item, counts_of}
+use Rattle.bufr_walk.specs.Taking.{TakenField, Takes}
 use Rattle.bufr_walk.specs.declared.stop.WalkStop.{WalkStop}
 use Rattle.bufr_walk.specs.declared.stop.WalkStop.TheVariants as stops
-use Rattle.bufr_walk.specs.Walked.{oks, told_by, StopsAt, Walked}
+use Rattle.bufr_walk.specs.Walked.{oks, answers_of, StopsWalk, Walked}
 use Rattle.bufr_walk.specs.Ticks.{ticked}
 
 module _ (table : List Row) (n : ℕ) where
   -- each item pays for n turns, and what is behind for so many
   abbrev pub Bounded : ℕ → Rest → Type 0
-  Bounded a rest = (counts : List ℕ) (s : Settings) (items : List Taken) → (ahead table (rest counts) s items).turns ≤ a + n * length items
+  Bounded a rest = (counts : List ℕ) (s : OperatorModel) (items : List Taken) → (ahead table (rest counts) s items).turns ≤ a + n * length items
 
-  asked_turns : (r : Result Asked Refusal) (go : Taken → List Taken → Ahead) (items : List Taken) (a : ℕ) → ((t : Taken) (more : List Taken) → (go t more).turns ≤ a + n * length more) → (asked r go items).turns ≤ 1 + (a - n) + n * length items
+  asked_turns : (r : Result FieldSpec TurnRefusal) (go : Taken → List Taken → NextTurn) (items : List Taken) (a : ℕ) → ((t : Taken) (more : List Taken) → (go t more).turns ≤ a + n * length more) → (asked r go items).turns ≤ 1 + (a - n) + n * length items
   asked_turns (Err why) go items a h = omega arith
   asked_turns (Ok spec) go [] a h = omega arith
   asked_turns (Ok spec) go (t ∷ items) a h = omega (arith, h t items)
 
-  operated_turns : (r : Result Settings Refusal) (go : Settings → Ahead) (items : List Taken) (a : ℕ) → ((s : Settings) → (go s).turns ≤ a + n * length items) → (operated r go).turns ≤ 1 + a + n * length items
+  operated_turns : (r : Result OperatorModel TurnRefusal) (go : OperatorModel → NextTurn) (items : List Taken) (a : ℕ) → ((s : OperatorModel) → (go s).turns ≤ a + n * length items) → (operated r go).turns ≤ 1 + a + n * length items
   operated_turns (Err why) go items a h = omega arith
   operated_turns (Ok s) go items a h = omega (arith, h s)
 
   -- an operator, or a text that it asks for
-  operator_turns : (fxy : ℕ) (s : Settings) (next : Turns) (items : List Taken) (a : ℕ) → ((s' : Settings) (more : List Taken) → (ahead table next s' more).turns ≤ a + n * length more) → (ahead table (operator_turn fxy next) s items).turns ≤ 1 + a + n * length items
+  operator_turns : (fxy : ℕ) (s : OperatorModel) (next : Turns) (items : List Taken) (a : ℕ) → ((s' : OperatorModel) (more : List Taken) → (ahead table next s' more).turns ≤ a + n * length more) → (ahead table (operator_turn fxy next) s items).turns ≤ 1 + a + n * length items
   operator_turns fxy s next items a h = by (is_inserted_text fxy)
     where
       by : (b : Bool) → (if b then asked (inserted_spec s fxy) (λ t more. ahead table next (after_field s fxy t) more) items else operated (after_operator s fxy) (λ s'. ahead table next s' items)).turns ≤ 1 + a + n * length items
       by true = omega (arith, asked_turns (inserted_spec s fxy) (λ t more. ahead table next (after_field s fxy t) more) items a (λ t more. h (after_field s fxy t) more))
       by false = operated_turns (after_operator s fxy) (λ s'. ahead table next s' items) items a (λ s'. h s' items)
 
-  operator_pays : (fxy : ℕ) (behind : Bool) (s : Settings) (next : Turns) (items : List Taken) (a z : ℕ) → a - n ≤ z → ((s' : Settings) (more : List Taken) → (ahead table next s' more).turns ≤ a + n * length more) → (behind ≡ true → (s' : Settings) → (ahead table next s' items).turns ≤ z + n * length items) → (is_inserted_text fxy || behind) ≡ true
+  operator_pays : (fxy : ℕ) (behind : Bool) (s : OperatorModel) (next : Turns) (items : List Taken) (a z : ℕ) → a - n ≤ z → ((s' : OperatorModel) (more : List Taken) → (ahead table next s' more).turns ≤ a + n * length more) → (behind ≡ true → (s' : OperatorModel) → (ahead table next s' items).turns ≤ z + n * length items) → (is_inserted_text fxy || behind) ≡ true
       → (ahead table (operator_turn fxy next) s items).turns ≤ 1 + z + n * length items
   operator_pays fxy behind s next items a z near h g c = by (is_inserted_text fxy) c
     where
@@ -61,14 +61,14 @@ module _ (table : List Row) (n : ℕ) where
   passes_any body h pays zero a rest b = λ counts s items. omega (arith, b counts s items)
   passes_any body h pays (suc k) a rest b = λ counts s items. omega (arith, passes_some body h pays k a rest b counts s items)
 
-  delayed_turns : (fxy : ℕ) (body more : Tree) (rest : Rest) (a : ℕ) → ((c : ℕ) → Bounded (size body + (size more + a)) (passes c (unroll body) (unroll more rest))) → (counts : List ℕ) (s : Settings) (items : List Taken) → (ahead table (unroll (delayed fxy body more) rest counts) s items).turns ≤ 3 + size body + size more + (a - n) + n * length items
+  delayed_turns : (fxy : ℕ) (body more : Tree) (rest : Rest) (a : ℕ) → ((c : ℕ) → Bounded (size body + (size more + a)) (passes c (unroll body) (unroll more rest))) → (counts : List ℕ) (s : OperatorModel) (items : List Taken) → (ahead table (unroll (delayed fxy body more) rest counts) s items).turns ≤ 3 + size body + size more + (a - n) + n * length items
   delayed_turns fxy body more rest a h [] s items =
       omega (arith, asked_turns (factor_spec table s fxy) (λ t more_items. stop astray) items 1 (λ t more_items. omega arith))
   delayed_turns fxy body more rest a h (c ∷ counts) s items =
       omega (arith, asked_turns (factor_spec table s fxy) (λ t more_items. ahead table (passes c (unroll body) (unroll more rest) counts) (after_field s fxy t) more_items) items (size body + (size more + a)) (λ t more_items. h c counts (after_field s fxy t) more_items))
 
   mutual
-    pub bounded : (t : Tree) → size t < n → GroupsConsume t → (a : ℕ) (rest : Rest) → Bounded a rest → Bounded (size t + a) (unroll t rest)
+    pub bounded : (t : Tree) → size t < n → EveryGroupConsumes t → (a : ℕ) (rest : Rest) → Bounded a rest → Bounded (size t + a) (unroll t rest)
     bounded bare h g a rest b = λ counts s items. omega (arith, b counts s items)
     bounded (element fxy more) h g a rest b = λ counts s items.
         omega (arith, asked_turns (element_spec table s fxy) (λ t more_items. ahead table (unroll more rest counts) (after_field s fxy t) more_items) items (size more + a) (λ t more_items. bounded more (omega arith) g a rest b counts (after_field s fxy t) more_items))
@@ -79,7 +79,7 @@ module _ (table : List Row) (n : ℕ) where
     bounded (delayed fxy body more) h g a rest b = λ counts s items.
         omega (arith, delayed_turns fxy body more rest a (λ c. passes_any body (omega arith) (pays body (omega arith) g.1.0 g.0) c (size more + a) (unroll more rest) (bounded more (omega arith) g.1.1 a rest b)) counts s items)
 
-    pub pays : (t : Tree) → size t < n → GroupsConsume t → consumes t ≡ true → Pays t
+    pub pays : (t : Tree) → size t < n → EveryGroupConsumes t → consumes t ≡ true → Pays t
     pays bare h g c a rest b = cc
     pays (element fxy more) h g c a rest b = λ counts s items.
         omega (arith, asked_turns (element_spec table s fxy) (λ t more_items. ahead table (unroll more rest counts) (after_field s fxy t) more_items) items (size more + a) (λ t more_items. bounded more (omega arith) g a rest b counts (after_field s fxy t) more_items))
@@ -93,18 +93,18 @@ module _ (table : List Row) (n : ℕ) where
 
   -- the same where the walk comes to its end, with so much to spare
   abbrev pub Ends : ℕ → ℕ → Rest → Type 0
-  Ends d a rest = (counts : List ℕ) (s : Settings) (items : List Taken) → (ahead table (rest counts) s items).next ≡ at_end → (ahead table (rest counts) s items).turns + d ≤ a + n * length items
+  Ends d a rest = (counts : List ℕ) (s : OperatorModel) (items : List Taken) → (ahead table (rest counts) s items).next ≡ at_end → (ahead table (rest counts) s items).turns + d ≤ a + n * length items
 
-  asked_end : (r : Result Asked Refusal) (go : Taken → List Taken → Ahead) (items : List Taken) (d a : ℕ) → ((t : Taken) (more : List Taken) → (go t more).next ≡ at_end → (go t more).turns + d ≤ a + n * length more) → (asked r go items).next ≡ at_end → (asked r go items).turns + d + n ≤ 1 + a + n * length items
+  asked_end : (r : Result FieldSpec TurnRefusal) (go : Taken → List Taken → NextTurn) (items : List Taken) (d a : ℕ) → ((t : Taken) (more : List Taken) → (go t more).next ≡ at_end → (go t more).turns + d ≤ a + n * length more) → (asked r go items).next ≡ at_end → (asked r go items).turns + d + n ≤ 1 + a + n * length items
   asked_end (Err why) go items d a h e = cc
   asked_end (Ok spec) go [] d a h e = cc
   asked_end (Ok spec) go (t ∷ items) d a h e = omega (arith, h t items e)
 
-  operated_end : (r : Result Settings Refusal) (go : Settings → Ahead) (items : List Taken) (d a : ℕ) → ((s : Settings) → (go s).next ≡ at_end → (go s).turns + d ≤ a + n * length items) → (operated r go).next ≡ at_end → (operated r go).turns + d ≤ 1 + a + n * length items
+  operated_end : (r : Result OperatorModel TurnRefusal) (go : OperatorModel → NextTurn) (items : List Taken) (d a : ℕ) → ((s : OperatorModel) → (go s).next ≡ at_end → (go s).turns + d ≤ a + n * length items) → (operated r go).next ≡ at_end → (operated r go).turns + d ≤ 1 + a + n * length items
   operated_end (Err why) go items d a h e = cc
   operated_end (Ok s) go items d a h e = omega (arith, h s e)
 
-  operator_end : (fxy : ℕ) (s : Settings) (next : Turns) (items : List Taken) (d a : ℕ) → ((s' : Settings) (more : List Taken) → (ahead table next s' more).next ≡ at_end → (ahead table next s' more).turns + d ≤ a + n * length more) → (ahead table (operator_turn fxy next) s items).next ≡ at_end → (ahead table (operator_turn fxy next) s items).turns + d ≤ 1 + a + n * length items
+  operator_end : (fxy : ℕ) (s : OperatorModel) (next : Turns) (items : List Taken) (d a : ℕ) → ((s' : OperatorModel) (more : List Taken) → (ahead table next s' more).next ≡ at_end → (ahead table next s' more).turns + d ≤ a + n * length more) → (ahead table (operator_turn fxy next) s items).next ≡ at_end → (ahead table (operator_turn fxy next) s items).turns + d ≤ 1 + a + n * length items
   operator_end fxy s next items d a h e = by (is_inserted_text fxy) e
     where
       by : (b : Bool) → (if b then asked (inserted_spec s fxy) (λ t more. ahead table next (after_field s fxy t) more) items else operated (after_operator s fxy) (λ s'. ahead table next s' items)).next ≡ at_end
@@ -112,7 +112,7 @@ module _ (table : List Row) (n : ℕ) where
       by true q = omega (arith, asked_end (inserted_spec s fxy) (λ t more. ahead table next (after_field s fxy t) more) items d a (λ t more w. h (after_field s fxy t) more w) q)
       by false q = operated_end (after_operator s fxy) (λ s'. ahead table next s' items) items d a (λ s' w. h s' items w) q
 
-  operator_pays_end : (fxy : ℕ) (behind : Bool) (s : Settings) (next : Turns) (items : List Taken) (d a : ℕ) → ((s' : Settings) (more : List Taken) → (ahead table next s' more).next ≡ at_end → (ahead table next s' more).turns + d ≤ a + n * length more) → (behind ≡ true → (s' : Settings) → (ahead table next s' items).next ≡ at_end → (ahead table next s' items).turns + (n + d) ≤ a + n * length items)
+  operator_pays_end : (fxy : ℕ) (behind : Bool) (s : OperatorModel) (next : Turns) (items : List Taken) (d a : ℕ) → ((s' : OperatorModel) (more : List Taken) → (ahead table next s' more).next ≡ at_end → (ahead table next s' more).turns + d ≤ a + n * length more) → (behind ≡ true → (s' : OperatorModel) → (ahead table next s' items).next ≡ at_end → (ahead table next s' items).turns + (n + d) ≤ a + n * length items)
       → (is_inserted_text fxy || behind) ≡ true → (ahead table (operator_turn fxy next) s items).next ≡ at_end → (ahead table (operator_turn fxy next) s items).turns + (n + d) ≤ 1 + a + n * length items
   operator_pays_end fxy behind s next items d a h g c e = by (is_inserted_text fxy) c e
     where
@@ -140,7 +140,7 @@ module _ (table : List Row) (n : ℕ) where
       omega (arith, asked_end (factor_spec table s fxy) (λ t more_items. ahead table (passes c (unroll body) (unroll more rest) counts) (after_field s fxy t) more_items) items d (size body + (size more + a)) (λ t more_items w. h c counts (after_field s fxy t) more_items w) e)
 
   mutual
-    pub ended : (t : Tree) → size t < n → GroupsConsume t → (d a : ℕ) (rest : Rest) → Ends d a rest → Ends d (size t + a) (unroll t rest)
+    pub ended : (t : Tree) → size t < n → EveryGroupConsumes t → (d a : ℕ) (rest : Rest) → Ends d a rest → Ends d (size t + a) (unroll t rest)
     ended bare h g d a rest b = λ counts s items e. omega (arith, b counts s items e)
     ended (element fxy more) h g d a rest b = λ counts s items e.
         omega (arith, asked_end (element_spec table s fxy) (λ t more_items. ahead table (unroll more rest counts) (after_field s fxy t) more_items) items d (size more + a) (λ t more_items w. ended more (omega arith) g d a rest b counts (after_field s fxy t) more_items w) e)
@@ -151,7 +151,7 @@ module _ (table : List Row) (n : ℕ) where
     ended (delayed fxy body more) h g d a rest b = λ counts s items e.
         omega (arith, delayed_end fxy body more rest d a (λ c. any_end body (omega arith) (pays_end body (omega arith) g.1.0 g.0) c d (size more + a) (unroll more rest) (ended more (omega arith) g.1.1 d a rest b)) counts s items e)
 
-    pub pays_end : (t : Tree) → size t < n → GroupsConsume t → consumes t ≡ true → PaysAtEnd t
+    pub pays_end : (t : Tree) → size t < n → EveryGroupConsumes t → consumes t ≡ true → PaysAtEnd t
     pays_end bare h g c d a rest b = cc
     pays_end (element fxy more) h g c d a rest b = λ counts s items e.
         omega (arith, asked_end (element_spec table s fxy) (λ t more_items. ahead table (unroll more rest counts) (after_field s fxy t) more_items) items d (size more + a) (λ t more_items w. ended more (omega arith) g d a rest b counts (after_field s fxy t) more_items w) e)
@@ -173,7 +173,7 @@ pub turns_in_all : (table : List Row) (t : Tree) (told : List Taken) → IsSound
 unfolding next_item
 turns_in_all table t told g e = omega (arith, pays_end table (1 + size t) t (omega arith) g.0 g.1 0 1 (λ _. finish) (λ counts s items' w. omega arith) (counts_of told) begin told e)
 
-told_length : (items : List Turn) → length (told_by items) ≡ length items
+told_length : (items : List TakenField) → length (answers_of items) ≡ length items
 told_length [] = refl
 told_length (i ∷ items) = ap suc (told_length items)
 
@@ -183,15 +183,15 @@ by_bits n a b k u = mul-le-mul_left n (let h : k ≤ b - a = omega arith in h)
 ticks_at_most : (c t c' b : ℕ) → c' ≡ ticked c t → t ≤ b → c' ≤ c + b
 ticks_at_most c t c' b h u = omega arith
 
-module _ {S E : Type 0} (takes : S → Asked → Result Taken E → S → Type 0) (used : S → ℕ)
-    (advances : (s : S) (spec : Asked) (t : Taken) (s' : S) → takes s spec (Ok t) s' → used s < used s')
-    (refuses : (s : S) (spec : Asked) (e : E) (s' : S) → takes s spec (Err e) s' → used s' ≡ used s) where
+module _ {S E : Type 0} (takes : S → FieldSpec → Result Taken E → S → Type 0) (used : S → ℕ)
+    (advances : (s : S) (spec : FieldSpec) (t : Taken) (s' : S) → takes s spec (Ok t) s' → used s < used s')
+    (refuses : (s : S) (spec : FieldSpec) (e : E) (s' : S) → takes s spec (Err e) s' → used s' ≡ used s) where
   -- each item uses a bit
-  items_used : (n : Course) (s : S) (items : List Turn) (s' : S) → Takes (oks takes) n s items s' → used s + length items ≤ used s'
+  items_used : (n : Course) (s : S) (items : List TakenField) (s' : S) → Takes (oks takes) n s items s' → used s + length items ≤ used s'
   items_used n s [] s' w = omega (arith, ap used w)
   items_used n s (i ∷ items) s' w = omega (arith, advances s i.spec i.taken w.0 w.2, items_used (λ more. n (i.taken ∷ more)) w.0 items s' w.3)
 
-  stop_keeps : (next : Next) (s : S) (why : WalkStop E) (s' : S) → StopsAt takes next s why s' → used s ≤ used s'
+  stop_keeps : (next : Next) (s : S) (why : WalkStop E) (s' : S) → StopsWalk takes next s why s' → used s ≤ used s'
   stop_keeps (take_next spec) s (stops.Field e) s' h = omega (arith, refuses s spec e s' h)
   stop_keeps (take_next spec) s stops.Memory s' h = omega (arith, ap used h.1)
   stop_keeps (take_next spec) s (stops.Width fxy) s' h = absurd h
@@ -203,14 +203,14 @@ module _ {S E : Type 0} (takes : S → Asked → Result Taken E → S → Type 0
   pub steps_ok : (table : List Row) (t : Tree) (s : S) (c : ℕ) (s' : S) (c' : ℕ) → IsSound t → Walked takes (next_item table t) s c (Ok tt) s' c' → c' ≤ c + places t * (used s' - used s)
   steps_ok table t s c s' c' sound w =
       let paid : used s + length w.0 ≤ used s' = items_used (next_item table t) s w.0 s' w.1 in
-      let turns : (next_item table t (told_by w.0)).turns ≤ places t * length w.0 = subst (λ k. (next_item table t (told_by w.0)).turns ≤ places t * k) (told_length w.0) (turns_in_all table t (told_by w.0) sound w.2) in
+      let turns : (next_item table t (answers_of w.0)).turns ≤ places t * length w.0 = subst (λ k. (next_item table t (answers_of w.0)).turns ≤ places t * k) (told_length w.0) (turns_in_all table t (answers_of w.0) sound w.2) in
       let bits : places t * length w.0 ≤ places t * (used s' - used s) = by_bits (places t) (used s) (used s') (length w.0) paid in
-      ticks_at_most c (next_item table t (told_by w.0)).turns c' _ w.3 (omega (arith, turns, bits))
+      ticks_at_most c (next_item table t (answers_of w.0)).turns c' _ w.3 (omega (arith, turns, bits))
 
   pub steps_err : (table : List Row) (t : Tree) (s : S) (c : ℕ) (why : WalkStop E) (s' : S) (c' : ℕ) → IsSound t → Walked takes (next_item table t) s c (Err why) s' c' → c' ≤ c + places t * (used s' - used s + 1)
   steps_err table t s c why s' c' sound w =
-      let same : used w.1 ≤ used s' = stop_keeps (next_item table t (told_by w.0)).next w.1 why s' w.3 in
+      let same : used w.1 ≤ used s' = stop_keeps (next_item table t (answers_of w.0)).next w.1 why s' w.3 in
       let paid : used s + length w.0 ≤ used w.1 = items_used (next_item table t) s w.0 w.1 w.2 in
-      let turns : (next_item table t (told_by w.0)).turns ≤ places t * (length w.0 + 1) = subst (λ k. (next_item table t (told_by w.0)).turns ≤ places t * (k + 1)) (told_length w.0) (turns_before table t (told_by w.0) sound) in
+      let turns : (next_item table t (answers_of w.0)).turns ≤ places t * (length w.0 + 1) = subst (λ k. (next_item table t (answers_of w.0)).turns ≤ places t * (k + 1)) (told_length w.0) (turns_before table t (answers_of w.0) sound) in
       let bits : places t * (length w.0 + 1) ≤ places t * (used s' - used s + 1) = mul-le-mul_left (places t) (let h : length w.0 + 1 ≤ used s' - used s + 1 = omega (arith, same, paid) in h) in
-      ticks_at_most c (next_item table t (told_by w.0)).turns c' _ w.4 (omega (arith, turns, bits))
+      ticks_at_most c (next_item table t (answers_of w.0)).turns c' _ w.4 (omega (arith, turns, bits))

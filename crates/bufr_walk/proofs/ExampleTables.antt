@@ -7,13 +7,13 @@ use Rattle.bufr_tables.specs.declared.kind.Kind.{Kind}
 use Rattle.bufr_tables.specs.declared.kind.Kind.TheVariants as kind
 use Rattle.bufr_tables.specs.TableB.{Row}
 use Rattle.bufr_tables.specs.Tree.{Tree}
-use Rattle.bufr_walk.specs.declared.spec.Refusal.{Refusal}
+use Rattle.bufr_walk.specs.declared.spec.TurnRefusal.{TurnRefusal}
 use Rattle.bufr_walk.specs.declared.spec.Taken.{Taken}
-use Rattle.bufr_walk.specs.Asked.{Asked}
+use Rattle.bufr_walk.specs.FieldSpec.{FieldSpec}
 use Rattle.bufr_walk.specs.Course.{Course, Next, take_next, at_end, astray, refused, next_item}
 use Rattle.bufr_walk.specs.Content.{ShownValue, shown}
-use Rattle.bufr_walk.specs.PlainField.{FieldFault, Found}
-use Rattle.bufr_walk.specs.Reading.{Form, plain, packed}
+use Rattle.bufr_walk.specs.PlainField.{FieldFault, FieldRead}
+use Rattle.bufr_walk.specs.Reading.{DataCoding, plain, packed}
 
 -- the descriptor of F, X and Y
 unfoldable pub fxy : (f x y : ℕ) → ℕ
@@ -45,7 +45,7 @@ table =
 -- how a pass ended: with so many bits left, or at a fault of the walk or of a field
 pub data Ending : Type 0 where
   done : (left turns : ℕ) → Ending
-  walk_fault : (why : Refusal) (left turns : ℕ) → Ending
+  walk_fault : (why : TurnRefusal) (left turns : ℕ) → Ending
   field_fault : (fxy : ℕ) (why : FieldFault) (left turns : ℕ) → Ending
   unknown : Ending
 
@@ -54,20 +54,20 @@ pub record Pass (C : Type 0) : Type 0 where
   pub items : List (ℕ × C)
   pub ending : Ending
 
-begun : {C : Type 0} → ℕ × C → Pass C → Pass C
-begun i p = record { items = i ∷ p.items; ending = p.ending }
+with_open_group : {C : Type 0} → ℕ × C → Pass C → Pass C
+with_open_group i p = record { items = i ∷ p.items; ending = p.ending }
 
 ended : {C : Type 0} → Ending → Pass C
 ended e = record { items = []; ending = e }
 
-module _ {C V : Type 0} (form : Form C) (shows : Asked → C → V) (course : Course) where
-  field_pass : Asked → ℕ → ℕ → Result (Found C) FieldFault → (C → List Bool → Pass V) → Pass V
-  unfolding begun ended
+module _ {C V : Type 0} (form : DataCoding C) (shows : FieldSpec → C → V) (course : Course) where
+  field_pass : FieldSpec → ℕ → ℕ → Result (FieldRead C) FieldFault → (C → List Bool → Pass V) → Pass V
+  unfolding with_open_group ended
   field_pass spec left turns (Err why) go = ended (field_fault spec.fxy why left turns)
-  field_pass spec left turns (Ok f) go = begun (spec.fxy, shows spec f.content) (go f.content f.behind)
+  field_pass spec left turns (Ok f) go = with_open_group (spec.fxy, shows spec f.content) (go f.content f.behind)
 
-  next_pass : Next → ℕ → ℕ → (Asked → Pass V) → Pass V
-  unfolding begun ended
+  next_pass : Next → ℕ → ℕ → (FieldSpec → Pass V) → Pass V
+  unfolding with_open_group ended
   next_pass at_end left turns go = ended (done left turns)
   next_pass (refused why) left turns go = ended (walk_fault why left turns)
   next_pass (take_next spec) left turns go = go spec

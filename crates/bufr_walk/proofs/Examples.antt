@@ -3,9 +3,9 @@ use Rattle.std.proofs.Common.{◌≡◌, ℕ, zero, suc, true, List, [], ◌∷�
 use Rattle.bufr_bits.specs.Bits.{bits_of}
 use Rattle.bufr_tables.specs.declared.kind.Kind.TheVariants as kind
 use Rattle.bufr_tables.specs.Tree.{Tree, bare, element, operator, delayed}
-use Rattle.bufr_walk.specs.declared.spec.Refusal.TheVariants as refusal
+use Rattle.bufr_walk.specs.declared.spec.TurnRefusal.TheVariants as refusal
 use Rattle.bufr_walk.specs.declared.spec.Role.TheVariants as role
-use Rattle.bufr_walk.specs.Asked.{Asked}
+use Rattle.bufr_walk.specs.FieldSpec.{FieldSpec}
 use Rattle.bufr_walk.specs.Course.{next_item}
 use Rattle.bufr_walk.specs.Content.{Content, number, shown_number, shown_text, shown_missing, shown_reference}
 use Rattle.bufr_walk.specs.PlainField.{data_end, increment, unequal_factor}
@@ -135,7 +135,7 @@ widened_again : Tree
 unfolding fxy
 widened_again = element (fxy 0 12 101) (operator (fxy 2 1 132) bare)
 
-as_quantity : Asked
+as_quantity : FieldSpec
 as_quantity = record { fxy = 3173; role = role.Element; kind = kind.Numeric; width = 16; scale = pos 2; reference = pos 0; may_be_missing = true; listed = true }
 
 at_288_15 : Item Content

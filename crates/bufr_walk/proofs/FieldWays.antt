@@ -11,23 +11,23 @@ use Rattle.bufr_walk.specs.declared.spec.Taken.{Taken}
 use Rattle.bufr_walk.specs.declared.spec.Taken.TheVariants as taken
 use Rattle.bufr_walk.specs.declared.spec.Role.{Role}
 use Rattle.bufr_walk.specs.declared.spec.Role.TheVariants as role
-use Rattle.bufr_walk.specs.declared.spec.Refusal.{Refusal}
-use Rattle.bufr_walk.specs.declared.spec.Refusal.TheVariants as refusal
-use Rattle.bufr_walk.specs.Asked.{Asked, IsFor, IsForRole, is_reference}
-use Rattle.bufr_walk.specs.Settings.{Settings, after_field, after_operator, is_defining}
-use Rattle.bufr_walk.specs.Rules.{element_spec, factor_spec, inserted_spec, fitting, by_kind, defined_by, defined_field, quantity, figure, text_of, text_width, given_by, listed_by, unsigned_of, unsigned_field, untouched}
+use Rattle.bufr_walk.specs.declared.spec.TurnRefusal.{TurnRefusal}
+use Rattle.bufr_walk.specs.declared.spec.TurnRefusal.TheVariants as refusal
+use Rattle.bufr_walk.specs.FieldSpec.{FieldSpec, IsFor, IsForRole, is_reference}
+use Rattle.bufr_walk.specs.Operators.{OperatorModel, after_field, after_operator, is_defining}
+use Rattle.bufr_walk.specs.Rules.{element_spec, factor_spec, inserted_spec, if_valid_width, spec_by_kind, new_reference_spec, defined_field, numeric_spec, coded_spec, text_spec, text_width, local_width_spec, listed_by, unsigned_of, unsigned_field, untouched}
 use Rattle.bufr_walk.specs.Turns.{finish, open_end, operator_turn, Rest, unroll, passes, turns_of}
-use Rattle.bufr_walk.specs.Course.{Course, Ahead, asked, operated, ahead, counts_of, counted, later, stop, at_end, refused}
+use Rattle.bufr_walk.specs.Course.{Course, NextTurn, asked, operated, ahead, counts_of, counts_in, later, stop, at_end, refused}
 use Rattle.bufr_walk.specs.declared.stop.WalkStop.{WalkStop}
 use Rattle.bufr_walk.specs.declared.stop.WalkStop.TheVariants as stops
-use Rattle.bufr_walk.specs.Walked.{told_by, StopsAt, Walked}
-use Rattle.bufr_walk.specs.Ways.{course, Goes, Stops, Took, Came, StopsIn}
+use Rattle.bufr_walk.specs.Walked.{answers_of, StopsWalk, Walked}
+use Rattle.bufr_walk.specs.WalkProgress.{course, WalkGoes, Stops, TakesField, HasWalked, StopsIn}
 use Rattle.bufr_walk.specs.Stop.{stop_by}
 use Rattle.bufr_walk.specs.Ticks.{ticked}
 use Rattle.bufr_walk.proofs.WaysLemmas.{ticked_twice, later_twice, later_none, goes_turn}
 
 -- which roles tell a count
-no_count : (r : Role) (t : Taken) (counts : List ℕ) → (r ≡ role.Factor → ⊥) → IsForRole r t → counted t counts ≡ counts
+no_count : (r : Role) (t : Taken) (counts : List ℕ) → (r ≡ role.Factor → ⊥) → IsForRole r t → counts_in t counts ≡ counts
 no_count role.Factor t counts n h = absurd (n refl)
 no_count role.Element taken.Plain counts n h = refl
 no_count role.Element (taken.Count x) counts n h = absurd h
@@ -40,52 +40,52 @@ no_count role.Reference taken.Plain counts n h = absurd h
 no_count role.Reference (taken.Count x) counts n h = absurd h
 
 -- no element is a factor
-NoFactor : Asked → Type 0
+NoFactor : FieldSpec → Type 0
 NoFactor a = a.role ≡ role.Factor → ⊥
 
-fitted_role : (a spec : Asked) → fitting a ≡ Ok spec → a.role ≡ spec.role
+pub fitted_role : (a spec : FieldSpec) → if_valid_width a ≡ Ok spec → a.role ≡ spec.role
 fitted_role a spec e = by (nat_le 1 a.width && nat_le a.width 63) e
   where
-    by : (b : Bool) → ◌≡◌ {A = Result Asked Refusal} (if b then Ok a else Err (refusal.Width a.fxy)) (Ok spec) → a.role ≡ spec.role
+    by : (b : Bool) → ◌≡◌ {A = Result FieldSpec TurnRefusal} (if b then Ok a else Err (refusal.Width a.fxy)) (Ok spec) → a.role ≡ spec.role
     by true q = let is : a ≡ spec = cc in ap (λ x. x.role) is
     by false q = absurd cc
 
-kind_role : (k : Kind) (s : Settings) (row : Row) (spec : Asked) → by_kind k s row ≡ Ok spec → spec.role ≡ role.Factor → ⊥
-kind_role kind.Numeric s row spec e h = let q : role.Element ≡ role.Factor = fitted_role (quantity s row) spec e ∙ h in cc
-kind_role kind.Coded s row spec e h = let q : role.Element ≡ role.Factor = fitted_role (figure s row) spec e ∙ h in cc
-kind_role kind.Character s row spec e h = let is : text_of role.Element row.fxy (text_width s row.width) true ≡ spec = cc in let q : role.Element ≡ role.Factor = ap (λ x. x.role) is ∙ h in cc
+kind_role : (k : Kind) (s : OperatorModel) (row : Row) (spec : FieldSpec) → spec_by_kind k s row ≡ Ok spec → spec.role ≡ role.Factor → ⊥
+kind_role kind.Numeric s row spec e h = let q : role.Element ≡ role.Factor = fitted_role (numeric_spec s row) spec e ∙ h in cc
+kind_role kind.Coded s row spec e h = let q : role.Element ≡ role.Factor = fitted_role (coded_spec s row) spec e ∙ h in cc
+kind_role kind.Character s row spec e h = let is : text_spec role.Element row.fxy (text_width s row.width) true ≡ spec = cc in let q : role.Element ≡ role.Factor = ap (λ x. x.role) is ∙ h in cc
 
-defined_role : (k : Kind) (s : Settings) (fxy : ℕ) (spec : Asked) → defined_by k s fxy ≡ Ok spec → spec.role ≡ role.Factor → ⊥
+defined_role : (k : Kind) (s : OperatorModel) (fxy : ℕ) (spec : FieldSpec) → new_reference_spec k s fxy ≡ Ok spec → spec.role ≡ role.Factor → ⊥
 defined_role kind.Character s fxy spec e h = cc
 defined_role kind.Coded s fxy spec e h = let q : role.Reference ≡ role.Factor = fitted_role (defined_field s fxy) spec e ∙ h in cc
 defined_role kind.Numeric s fxy spec e h = let q : role.Reference ≡ role.Factor = fitted_role (defined_field s fxy) spec e ∙ h in cc
 
-pub element_role : (table : List Row) (s : Settings) (fxy : ℕ) (spec : Asked) → element_spec table s fxy ≡ Ok spec → spec.role ≡ role.Factor → ⊥
-element_role table s fxy spec e h = by_given (nat_lt 0 s.given) (entry_of table fxy) e
+pub element_role : (table : List Row) (s : OperatorModel) (fxy : ℕ) (spec : FieldSpec) → element_spec table s fxy ≡ Ok spec → spec.role ≡ role.Factor → ⊥
+element_role table s fxy spec e h = by_given (nat_lt 0 s.local_width) (entry_of table fxy) e
   where
-    by_width : (b : Bool) (row : Row) → (if b then by_kind row.kind (untouched s) row else unsigned_of fxy s.given) ≡ Ok spec → ⊥
+    by_width : (b : Bool) (row : Row) → (if b then spec_by_kind row.kind (untouched s) row else unsigned_of fxy s.local_width) ≡ Ok spec → ⊥
     by_width true row q = kind_role row.kind (untouched s) row spec q h
-    by_width false row q = let r : role.Element ≡ role.Factor = fitted_role (unsigned_field fxy s.given) spec q ∙ h in cc
+    by_width false row q = let r : role.Element ≡ role.Factor = fitted_role (unsigned_field fxy s.local_width) spec q ∙ h in cc
 
-    by_defining : (b : Bool) (row : Row) → (if b then defined_by row.kind s fxy else by_kind row.kind s row) ≡ Ok spec → ⊥
+    by_defining : (b : Bool) (row : Row) → (if b then new_reference_spec row.kind s fxy else spec_by_kind row.kind s row) ≡ Ok spec → ⊥
     by_defining true row q = defined_role row.kind s fxy spec q h
     by_defining false row q = kind_role row.kind s row spec q h
 
-    by_given : (b : Bool) (o : Option Row) → (if b then given_by o s fxy else listed_by o s fxy) ≡ Ok spec → ⊥
-    by_given true None q = let r : role.Element ≡ role.Factor = fitted_role (unsigned_field fxy s.given) spec q ∙ h in cc
+    by_given : (b : Bool) (o : Option Row) → (if b then local_width_spec o s fxy else listed_by o s fxy) ≡ Ok spec → ⊥
+    by_given true None q = let r : role.Element ≡ role.Factor = fitted_role (unsigned_field fxy s.local_width) spec q ∙ h in cc
     by_given false None q = cc
-    by_given true (Some row) q = by_width (row.width == s.given) row q
+    by_given true (Some row) q = by_width (row.width == s.local_width) row q
     by_given false (Some row) q = by_defining (is_defining s) row q
 
-pub inserted_role : (s : Settings) (fxy : ℕ) (spec : Asked) → inserted_spec s fxy ≡ Ok spec → spec.role ≡ role.Factor → ⊥
+pub inserted_role : (s : OperatorModel) (fxy : ℕ) (spec : FieldSpec) → inserted_spec s fxy ≡ Ok spec → spec.role ≡ role.Factor → ⊥
 inserted_role s fxy spec e h = by (is_defining s) e
   where
-    by : (b : Bool) → ◌≡◌ {A = Result Asked Refusal} (if b then Err (refusal.Defining fxy) else Ok (text_of role.Inserted fxy (8 * y_of fxy) false)) (Ok spec) → ⊥
+    by : (b : Bool) → ◌≡◌ {A = Result FieldSpec TurnRefusal} (if b then Err (refusal.Defining fxy) else Ok (text_spec role.Inserted fxy (8 * y_of fxy) false)) (Ok spec) → ⊥
     by true q = cc
-    by false q = let is : text_of role.Inserted fxy (8 * y_of fxy) false ≡ spec = cc in let r : role.Inserted ≡ role.Factor = ap (λ x. x.role) is ∙ h in cc
+    by false q = let is : text_spec role.Inserted fxy (8 * y_of fxy) false ≡ spec = cc in let r : role.Inserted ≡ role.Factor = ap (λ x. x.role) is ∙ h in cc
 
 -- a field that is no reference leaves the references
-pub no_reference : (r : Role) (s : Settings) (fxy : ℕ) (t : Taken) → is_reference r ≡ false → IsForRole r t → record s { given = 0 } ≡ after_field s fxy t
+pub no_reference : (r : Role) (s : OperatorModel) (fxy : ℕ) (t : Taken) → is_reference r ≡ false → IsForRole r t → record s { local_width = 0 } ≡ after_field s fxy t
 no_reference r s fxy taken.Plain e h = refl
 no_reference r s fxy (taken.Count n) e h = refl
 no_reference role.Element s fxy (taken.Reference x) e h = absurd h
@@ -93,19 +93,19 @@ no_reference role.Inserted s fxy (taken.Reference x) e h = absurd h
 no_reference role.Factor s fxy (taken.Reference x) e h = absurd h
 no_reference role.Reference s fxy (taken.Reference x) e h = absurd cc
 
-module _ {S E : Type 0} (takes : S → Asked → Result Taken E → S → Type 0) (table : List Row) where
-  took_ok : (r : Result Asked Refusal) (f : S) (t : Taken) (f' : S) → Took takes r f (Ok t) f' → (spec : Asked) × (r ≡ Ok spec) × takes f spec (Ok t) f' × IsFor spec t
+module _ {S E : Type 0} (takes : S → FieldSpec → Result Taken E → S → Type 0) (table : List Row) where
+  took_ok : (r : Result FieldSpec TurnRefusal) (f : S) (t : Taken) (f' : S) → TakesField takes r f (Ok t) f' → (spec : FieldSpec) × (r ≡ Ok spec) × takes f spec (Ok t) f' × IsFor spec t
   took_ok (Ok spec) f t f' h = (spec, refl, h.0, h.1)
   took_ok (Err why) f t f' h = absurd h
 
   -- turns that ask for a field that is no factor
-  pub came_field : (over left : Rest → Rest) (fxy : ℕ) (s : Settings) (f : S) (c : ℕ) (r : Result Asked Refusal) (t : Taken) (f' : S) (c' : ℕ)
+  pub came_field : (over left : Rest → Rest) (fxy : ℕ) (s : OperatorModel) (f : S) (c : ℕ) (r : Result FieldSpec TurnRefusal) (t : Taken) (f' : S) (c' : ℕ)
       → ((rest : Rest) (counts : List ℕ) (told : List Taken) → ahead table (over rest counts) s told ≡ asked r (λ u more. ahead table (left rest counts) (after_field s fxy u) more) told)
-      → ((spec : Asked) → r ≡ Ok spec → spec.role ≡ role.Factor → ⊥) → Took takes r f (Ok t) f' → c' ≡ ticked c 1 → Came takes table over left s f c (after_field s fxy t) f' c'
+      → ((spec : FieldSpec) → r ≡ Ok spec → spec.role ≡ role.Factor → ⊥) → TakesField takes r f (Ok t) f' → c' ≡ ticked c 1 → HasWalked takes table over left s f c (after_field s fxy t) f' c'
   came_field over left fxy s f c r t f' c' asks none took tick =
       let k = took_ok r f t f' took in
-      let spec : Asked = k.0 in
-      let plain : (counts : List ℕ) → counted t counts ≡ counts = λ counts. no_count spec.role t counts (none spec k.1) k.3 in
+      let spec : FieldSpec = k.0 in
+      let plain : (counts : List ℕ) → counts_in t counts ≡ counts = λ counts. no_count spec.role t counts (none spec k.1) k.3 in
       record {
         turns = 1;
         ticks = tick;
@@ -113,15 +113,15 @@ module _ {S E : Type 0} (takes : S → Asked → Result Taken E → S → Type 0
           items = record { spec = spec; taken = t } ∷ [];
           taken = (f', ap (λ a. a.next) (asks rest [] [] ∙ ap (λ q. asked q (λ u more. ahead table (left rest []) (after_field s fxy u) more) []) k.1), k.2, refl);
           leads = λ more.
-              asks rest (counted t (counts_of more)) (t ∷ more)
-              ∙ ap (λ q. asked q (λ u later_told. ahead table (left rest (counted t (counts_of more))) (after_field s fxy u) later_told) (t ∷ more)) k.1
+              asks rest (counts_in t (counts_of more)) (t ∷ more)
+              ∙ ap (λ q. asked q (λ u later_told. ahead table (left rest (counts_in t (counts_of more))) (after_field s fxy u) later_told) (t ∷ more)) k.1
               ∙ ap (λ counts. later 1 (ahead table (left rest counts) (after_field s fxy t) more)) (plain (counts_of more));
         };
       }
 
   -- the replication and the factor of a delayed group, whose count was taken
-  pub came_factor : (fxy : ℕ) (body more : Tree) (s : Settings) (f : S) (c : ℕ) (r : Result Asked Refusal) (n : ℕ) (f' : S) (c' : ℕ) → r ≡ factor_spec table s fxy → Took takes r f (Ok (taken.Count n)) f' → c' ≡ ticked (ticked c 1) 1
-      → (k : Rest → Rest) → Came takes table (λ rest. unroll (delayed fxy body more) (k rest)) (λ rest. passes n (unroll body) (unroll more (k rest))) s f c (after_field s fxy (taken.Count n)) f' c'
+  pub came_factor : (fxy : ℕ) (body more : Tree) (s : OperatorModel) (f : S) (c : ℕ) (r : Result FieldSpec TurnRefusal) (n : ℕ) (f' : S) (c' : ℕ) → r ≡ factor_spec table s fxy → TakesField takes r f (Ok (taken.Count n)) f' → c' ≡ ticked (ticked c 1) 1
+      → (k : Rest → Rest) → HasWalked takes table (λ rest. unroll (delayed fxy body more) (k rest)) (λ rest. passes n (unroll body) (unroll more (k rest))) s f c (after_field s fxy (taken.Count n)) f' c'
   came_factor fxy body more s f c r n f' c' is took tick k =
       let o = took_ok r f (taken.Count n) f' took in
       let e : factor_spec table s fxy ≡ Ok o.0 = sym is ∙ o.1 in
@@ -136,17 +136,17 @@ module _ {S E : Type 0} (takes : S → Asked → Result Taken E → S → Type 0
       }
 
   -- where a field is asked for and not taken, the walk stops there
-  stops_asked : (k : ℕ) (r : Result Asked Refusal) (go : Taken → List Taken → Ahead) (f : S) (why : WalkStop E) (f' : S) (n : Course) → n [] ≡ later k (asked r go []) → Took takes r f (Err why) f' → Stops takes n f (k + 1) why f'
-  stops_asked k (Ok spec) go f (stops.Field e) f' n h took = record { items = []; mid = f; taken = refl; stops = subst (λ x. StopsAt takes x f (stops.Field e) f') (sym (ap (λ x. x.next) h)) took; turns = ap (λ x. x.turns) h }
-  stops_asked k (Ok spec) go f stops.Memory f' n h took = record { items = []; mid = f; taken = refl; stops = subst (λ x. StopsAt takes x f stops.Memory f') (sym (ap (λ x. x.next) h)) took; turns = ap (λ x. x.turns) h }
+  stops_asked : (k : ℕ) (r : Result FieldSpec TurnRefusal) (go : Taken → List Taken → NextTurn) (f : S) (why : WalkStop E) (f' : S) (n : Course) → n [] ≡ later k (asked r go []) → TakesField takes r f (Err why) f' → Stops takes n f (k + 1) why f'
+  stops_asked k (Ok spec) go f (stops.Field e) f' n h took = record { items = []; mid = f; taken = refl; stops = subst (λ x. StopsWalk takes x f (stops.Field e) f') (sym (ap (λ x. x.next) h)) took; turns = ap (λ x. x.turns) h }
+  stops_asked k (Ok spec) go f stops.Memory f' n h took = record { items = []; mid = f; taken = refl; stops = subst (λ x. StopsWalk takes x f stops.Memory f') (sym (ap (λ x. x.next) h)) took; turns = ap (λ x. x.turns) h }
   stops_asked k (Ok spec) go f (stops.Width w) f' n h took = absurd took
   stops_asked k (Ok spec) go f (stops.Defining w) f' n h took = absurd took
-  stops_asked k (Err why) go f w f' n h took = record { items = []; mid = f; taken = refl; stops = subst (λ x. StopsAt takes x f w f') (sym (ap (λ x. x.next) h)) took; turns = ap (λ x. x.turns) h }
+  stops_asked k (Err why) go f w f' n h took = record { items = []; mid = f; taken = refl; stops = subst (λ x. StopsWalk takes x f w f') (sym (ap (λ x. x.next) h)) took; turns = ap (λ x. x.turns) h }
 
   -- a field that was not taken
-  pub stops_field : (over left : Rest → Rest) (fxy : ℕ) (s : Settings) (f : S) (c : ℕ) (r : Result Asked Refusal) (why : WalkStop E) (f' : S) (c' : ℕ)
+  pub stops_field : (over left : Rest → Rest) (fxy : ℕ) (s : OperatorModel) (f : S) (c : ℕ) (r : Result FieldSpec TurnRefusal) (why : WalkStop E) (f' : S) (c' : ℕ)
       → ((rest : Rest) (counts : List ℕ) (told : List Taken) → ahead table (over rest counts) s told ≡ asked r (λ u more. ahead table (left rest counts) (after_field s fxy u) more) told)
-      → Took takes r f (Err why) f' → c' ≡ ticked c 1 → StopsIn takes table over s f c why f' c'
+      → TakesField takes r f (Err why) f' → c' ≡ ticked c 1 → StopsIn takes table over s f c why f' c'
   stops_field over left fxy s f c r why f' c' asks took tick = record {
     turns = 1;
     ticks = tick;
@@ -154,51 +154,51 @@ module _ {S E : Type 0} (takes : S → Asked → Result Taken E → S → Type 0
   }
 
   -- a factor that was not taken
-  pub stops_factor : (fxy : ℕ) (body more : Tree) (s : Settings) (f : S) (c : ℕ) (r : Result Asked Refusal) (why : WalkStop E) (f' : S) (c' : ℕ) → r ≡ factor_spec table s fxy → Took takes r f (Err why) f' → c' ≡ ticked (ticked c 1) 1
+  pub stops_factor : (fxy : ℕ) (body more : Tree) (s : OperatorModel) (f : S) (c : ℕ) (r : Result FieldSpec TurnRefusal) (why : WalkStop E) (f' : S) (c' : ℕ) → r ≡ factor_spec table s fxy → TakesField takes r f (Err why) f' → c' ≡ ticked (ticked c 1) 1
       → (k : Rest → Rest) → StopsIn takes table (λ rest. unroll (delayed fxy body more) (k rest)) s f c why f' c'
   stops_factor fxy body more s f c r why f' c' is took tick k = record {
     turns = 2;
     ticks = tick ∙ ticked_twice c 1 1;
-    way = λ rest. stops_asked 1 (factor_spec table s fxy) (λ u told. ahead table open_end (after_field s fxy u) told) f why f' _ refl (subst (λ q. Took takes q f (Err why) f') is took);
+    way = λ rest. stops_asked 1 (factor_spec table s fxy) (λ u told. ahead table open_end (after_field s fxy u) told) f why f' _ refl (subst (λ q. TakesField takes q f (Err why) f') is took);
   }
 
   -- an operator that sets something
-  operator_is : (over left : Rest → Rest) (fxy : ℕ) (s : Settings) → is_inserted_text fxy ≡ false → ((rest : Rest) (counts : List ℕ) → over rest counts ≡ operator_turn fxy (left rest counts)) → (rest : Rest) (counts : List ℕ) (told : List Taken)
+  operator_is : (over left : Rest → Rest) (fxy : ℕ) (s : OperatorModel) → is_inserted_text fxy ≡ false → ((rest : Rest) (counts : List ℕ) → over rest counts ≡ operator_turn fxy (left rest counts)) → (rest : Rest) (counts : List ℕ) (told : List Taken)
       → ahead table (over rest counts) s told ≡ operated (after_operator s fxy) (λ s'. ahead table (left rest counts) s' told)
   operator_is over left fxy s x is rest counts told =
       ap (λ ts. ahead table ts s told) (is rest counts)
       ∙ ap (λ b. if b then asked (inserted_spec s fxy) (λ t more. ahead table (left rest counts) (after_field s fxy t) more) told else operated (after_operator s fxy) (λ s'. ahead table (left rest counts) s' told)) x
 
-  pub inserted_is : (over left : Rest → Rest) (fxy : ℕ) (s : Settings) → is_inserted_text fxy ≡ true → ((rest : Rest) (counts : List ℕ) → over rest counts ≡ operator_turn fxy (left rest counts)) → (rest : Rest) (counts : List ℕ) (told : List Taken)
+  pub inserted_is : (over left : Rest → Rest) (fxy : ℕ) (s : OperatorModel) → is_inserted_text fxy ≡ true → ((rest : Rest) (counts : List ℕ) → over rest counts ≡ operator_turn fxy (left rest counts)) → (rest : Rest) (counts : List ℕ) (told : List Taken)
       → ahead table (over rest counts) s told ≡ asked (inserted_spec s fxy) (λ t more. ahead table (left rest counts) (after_field s fxy t) more) told
   inserted_is over left fxy s x is rest counts told =
       ap (λ ts. ahead table ts s told) (is rest counts)
       ∙ ap (λ b. if b then asked (inserted_spec s fxy) (λ t more. ahead table (left rest counts) (after_field s fxy t) more) told else operated (after_operator s fxy) (λ s'. ahead table (left rest counts) s' told)) x
 
-  pub came_operator : (over left : Rest → Rest) (fxy : ℕ) (s s' : Settings) (f : S) (c c' : ℕ) → is_inserted_text fxy ≡ false → ((rest : Rest) (counts : List ℕ) → over rest counts ≡ operator_turn fxy (left rest counts)) → after_operator s fxy ≡ Ok s' → c' ≡ ticked c 1 → Came takes table over left s f c s' f c'
+  pub came_operator : (over left : Rest → Rest) (fxy : ℕ) (s s' : OperatorModel) (f : S) (c c' : ℕ) → is_inserted_text fxy ≡ false → ((rest : Rest) (counts : List ℕ) → over rest counts ≡ operator_turn fxy (left rest counts)) → after_operator s fxy ≡ Ok s' → c' ≡ ticked c 1 → HasWalked takes table over left s f c s' f c'
   came_operator over left fxy s s' f c c' x is e tick = record {
     turns = 1;
     ticks = tick;
     way = λ rest. goes_turn takes _ _ f (λ more. operator_is over left fxy s x is rest (counts_of more) more ∙ ap (λ r. operated r (λ s2. ahead table (left rest (counts_of more)) s2 more)) e);
   }
 
-  pub stops_operator : (over left : Rest → Rest) (fxy : ℕ) (s : Settings) (f : S) (c c' : ℕ) (why : Refusal) → is_inserted_text fxy ≡ false → ((rest : Rest) (counts : List ℕ) → over rest counts ≡ operator_turn fxy (left rest counts)) → after_operator s fxy ≡ Err why → c' ≡ ticked c 1 → StopsIn takes table over s f c (stop_by why) f c'
+  pub stops_operator : (over left : Rest → Rest) (fxy : ℕ) (s : OperatorModel) (f : S) (c c' : ℕ) (why : TurnRefusal) → is_inserted_text fxy ≡ false → ((rest : Rest) (counts : List ℕ) → over rest counts ≡ operator_turn fxy (left rest counts)) → after_operator s fxy ≡ Err why → c' ≡ ticked c 1 → StopsIn takes table over s f c (stop_by why) f c'
   stops_operator over left fxy s f c c' why x is e tick = record {
     turns = 1;
     ticks = tick;
     way = λ rest.
         let h : course table (over rest) s [] ≡ stop (refused why) = operator_is over left fxy s x is rest [] [] ∙ ap (λ r. operated r (λ s2. ahead table (left rest []) s2 [])) e in
-        record { items = []; mid = f; taken = refl; stops = subst (λ x. StopsAt takes x f (stop_by why) f) (sym (ap (λ x. x.next) h)) (refl, refl); turns = ap (λ x. x.turns) h };
+        record { items = []; mid = f; taken = refl; stops = subst (λ x. StopsWalk takes x f (stop_by why) f) (sym (ap (λ x. x.next) h)) (refl, refl); turns = ap (λ x. x.turns) h };
   }
 
   -- a whole walk, and its finish
-  pub whole : (template : Tree) (s s' : Settings) (f f' : S) (c c' c'' : ℕ) → Came takes table (unroll template) (λ rest. rest) s f c s' f' c' → c'' ≡ ticked c' 1 → Walked takes (course table (turns_of template) s) f c (Ok tt) f' c''
+  pub whole : (template : Tree) (s s' : OperatorModel) (f f' : S) (c c' c'' : ℕ) → HasWalked takes table (unroll template) (λ rest. rest) s f c s' f' c' → c'' ≡ ticked c' 1 → Walked takes (course table (turns_of template) s) f c (Ok tt) f' c''
   whole template s s' f f' c c' c'' w tick =
-      let way : Goes takes (course table (turns_of template) s) f w.turns (course table (λ _. finish) s') f' = w.way (λ _. finish) in
-      let last : course table (turns_of template) s (told_by way.items) ≡ later w.turns (stop at_end) = ap (λ told. course table (turns_of template) s told) (sym (append-nil (told_by way.items))) ∙ way.leads [] in
+      let way : WalkGoes takes (course table (turns_of template) s) f w.turns (course table (λ _. finish) s') f' = w.way (λ _. finish) in
+      let last : course table (turns_of template) s (answers_of way.items) ≡ later w.turns (stop at_end) = ap (λ told. course table (turns_of template) s told) (sym (append-nil (answers_of way.items))) ∙ way.leads [] in
       (way.items, way.taken, ap (λ x. x.next) last, tick ∙ ap (λ k. ticked k 1) w.ticks ∙ ticked_twice c w.turns 1 ∙ ap (ticked c) (sym (ap (λ x. x.turns) last)))
 
-  pub whole_stops : (template : Tree) (s : Settings) (f f' : S) (c c' : ℕ) (why : WalkStop E) → StopsIn takes table (unroll template) s f c why f' c' → Walked takes (course table (turns_of template) s) f c (Err why) f' c'
+  pub whole_stops : (template : Tree) (s : OperatorModel) (f f' : S) (c c' : ℕ) (why : WalkStop E) → StopsIn takes table (unroll template) s f c why f' c' → Walked takes (course table (turns_of template) s) f c (Err why) f' c'
   whole_stops template s f f' c c' why w =
       let way : Stops takes (course table (turns_of template) s) f w.turns why f' = w.way (λ _. finish) in
       (way.items, way.mid, way.taken, way.stops, w.ticks ∙ ap (ticked c) (sym way.turns))

@@ -6,12 +6,12 @@ use Rattle.bufr_tables.specs.Tree.{Tree, bare, element, operator, delayed}
 use Rattle.bufr_walk.specs.declared.spec.Role.TheVariants as role
 use Rattle.bufr_walk.specs.declared.spec.Taken.{Taken}
 use Rattle.bufr_walk.specs.declared.spec.Taken.TheVariants as taken
-use Rattle.bufr_walk.specs.Asked.{Asked}
+use Rattle.bufr_walk.specs.FieldSpec.{FieldSpec}
 use Rattle.bufr_walk.specs.Course.{take_next, next_item}
 use Rattle.bufr_walk.proofs.ExampleTables.{fxy, table}
 
 -- what a walk asks for, after what the items so far told
-abbrev asks : Tree → List Taken → Asked → Type 0
+abbrev asks : Tree → List Taken → FieldSpec → Type 0
 asks tree told spec = (next_item table tree told).next ≡ take_next spec
 
 -- A quantity and a figure of Table B may be commented and may be missing; the changes in force show

@@ -5,13 +5,13 @@ use Rattle.std.proofs.lemmas.Bool.Decides.{nat_tests}
 use Rattle.bufr_walk.specs.declared.fault.WalkFault.{WalkFault}
 use Rattle.bufr_walk.specs.Course.{Course, Next, take_next, at_end, astray, refused}
 use Rattle.bufr_walk.specs.Content.{Content}
-use Rattle.bufr_walk.specs.Fault.{fault_of}
+use Rattle.bufr_walk.specs.Fault.{walk_fault_of}
 use Rattle.bufr_walk.specs.Outcome.{IsStopped, IsRefused}
-use Rattle.bufr_walk.specs.Reading.{Item, Form, plain, packed, Reads, ReadsAll, ReadsSubsets, next_after, turns_after, turns_in, most_values, Data, Values, apart, together, IsPackedReading, IsReading}
+use Rattle.bufr_walk.specs.Reading.{Item, DataCoding, plain, packed, ReadsItems, ReadsPass, ReadsSubsets, next_after, turns_after, turns_in, max_values, Data, Values, apart, together, IsPackedReading, IsReading}
 use Rattle.bufr_walk.specs.Refusal.{Stop, stop_at, would_be_many, IsPlainRefused, IsPackedRefused}
 use Rattle.bufr_walk.proofs.OneOutcome.{Outcome, ended, stopped, stopped_by, outcome_of, HasOutcome, one_outcome}
 
-pub stop_ends : {C : Type 0} (form : Form C) (b : Bool) (next : Next) (left : List Bool) (stop : Stop) → stop_at form b next left ≡ Some stop → outcome_of form b next left ≡ Some (stopped stop)
+pub stop_ends : {C : Type 0} (form : DataCoding C) (b : Bool) (next : Next) (left : List Bool) (stop : Stop) → stop_at form b next left ≡ Some stop → outcome_of form b next left ≡ Some (stopped stop)
 stop_ends form b (take_next spec) left stop e = ap stopped_by e
 stop_ends form b (refused why) left stop e = ap stopped_by e
 stop_ends form true at_end left stop e = absurd cc
@@ -19,11 +19,11 @@ stop_ends form false at_end left stop e = absurd cc
 stop_ends form true astray left stop e = absurd cc
 stop_ends form false astray left stop e = absurd cc
 
-module _ {C : Type 0} (form : Form C) (many : ℕ → Bool) where
-  pub ends_so : (course : Course) (items : List (Item C)) (bits left : List Bool) → ReadsAll form course items bits left → ((j : ℕ) → j < length items → many (0 + j) ≡ false) → HasOutcome form many course 0 bits items left ended
+module _ {C : Type 0} (form : DataCoding C) (many : ℕ → Bool) where
+  pub ends_so : (course : Course) (items : List (Item C)) (bits left : List Bool) → ReadsPass form course items bits left → ((j : ℕ) → j < length items → many (0 + j) ≡ false) → HasOutcome form many course 0 bits items left ended
   ends_so course items bits left h few = record { reads = h.0; few = few; ends = ap (λ n. outcome_of form (many (0 + length items)) n left) h.1 }
 
-  pub stops_so : (course : Course) (items : List (Item C)) (bits left : List Bool) (next : Next) (stop : Stop) → Reads form course items bits left → ((j : ℕ) → j < length items → many (0 + j) ≡ false) → next ≡ next_after form course items → stop_at form (many (0 + length items)) next left ≡ Some stop → HasOutcome form many course 0 bits items left (stopped stop)
+  pub stops_so : (course : Course) (items : List (Item C)) (bits left : List Bool) (next : Next) (stop : Stop) → ReadsItems form course items bits left → ((j : ℕ) → j < length items → many (0 + j) ≡ false) → next ≡ next_after form course items → stop_at form (many (0 + length items)) next left ≡ Some stop → HasOutcome form many course 0 bits items left (stopped stop)
   stops_so course items bits left next stop h few is e =
       record { reads = h; few = few; ends = stop_ends form (many (0 + length items)) (next_after form course items) left stop (subst (λ n. stop_at form (many (0 + length items)) n left ≡ Some stop) is e) }
 
@@ -35,10 +35,10 @@ same_stop : (s t : Stop) → ◌≡◌ {A = Outcome} (stopped s) (stopped t) →
 same_stop s t e = cc
 
 module _ (course : Course) where
-  ends_plain : (items : List (Item Content)) (bits left : List Bool) → ReadsAll plain course items bits left → HasOutcome plain (λ n. false) course 0 bits items left ended
+  ends_plain : (items : List (Item Content)) (bits left : List Bool) → ReadsPass plain course items bits left → HasOutcome plain (λ n. false) course 0 bits items left ended
   ends_plain items bits left h = ends_so plain (λ n. false) course items bits left h (λ j lt. refl)
 
-  stops_plain : (items : List (Item Content)) (bits left : List Bool) (stop : Stop) → Reads plain course items bits left → stop_at plain false (next_after plain course items) left ≡ Some stop → HasOutcome plain (λ n. false) course 0 bits items left (stopped stop)
+  stops_plain : (items : List (Item Content)) (bits left : List Bool) (stop : Stop) → ReadsItems plain course items bits left → stop_at plain false (next_after plain course items) left ≡ Some stop → HasOutcome plain (λ n. false) course 0 bits items left (stopped stop)
   stops_plain items bits left stop h e = stops_so plain (λ n. false) course items bits left (next_after plain course items) stop h (λ j lt. refl) refl e
 
   pub plain_one : (xs ys : List (List (Item Content))) (bits l m : List Bool) → ReadsSubsets course xs bits l → ReadsSubsets course ys bits m → length xs ≡ length ys → (xs ≡ ys) × (l ≡ m)
@@ -51,33 +51,33 @@ module _ (course : Course) where
       (ap (λ z. z ∷ xs) o.0 ∙ ap (λ zs. y ∷ zs) r.0, r.1)
 
   pub plain_excludes : (xs done : List (List (Item Content))) (items : List (Item Content)) (bits l mid left : List Bool) (stop : Stop)
-      → ReadsSubsets course xs bits l → ReadsSubsets course done bits mid → Reads plain course items mid left → stop_at plain false (next_after plain course items) left ≡ Some stop → length done + 1 ≤ length xs → ⊥
+      → ReadsSubsets course xs bits l → ReadsSubsets course done bits mid → ReadsItems plain course items mid left → stop_at plain false (next_after plain course items) left ≡ Some stop → length done + 1 ≤ length xs → ⊥
   plain_excludes [] done items bits l mid left stop h w r e n = omega (arith, n)
   plain_excludes (x ∷ xs) [] items bits l mid left stop h w r e n =
-      not_both stop (one_outcome plain (λ n. false) course 0 bits x items h.0 left ended (stopped stop) (ends_plain x bits h.0 h.1) (stops_plain items bits left stop (subst (λ b. Reads plain course items b left) (sym w) r) e)).2
+      not_both stop (one_outcome plain (λ n. false) course 0 bits x items h.0 left ended (stopped stop) (ends_plain x bits h.0 h.1) (stops_plain items bits left stop (subst (λ b. ReadsItems plain course items b left) (sym w) r) e)).2
   plain_excludes (x ∷ xs) (d ∷ done) items bits l mid left stop h w r e n =
       let o = one_outcome plain (λ n. false) course 0 bits x d h.0 w.0 ended ended (ends_plain x bits h.0 h.1) (ends_plain d bits w.0 w.1) in
       plain_excludes xs done items h.0 l mid left stop h.2 (subst (λ b. ReadsSubsets course done b mid) (sym o.1) w.2) r e (omega (arith, n))
 
   pub stops_one : (done done' : List (List (Item Content))) (items items' : List (Item Content)) (bits mid mid' left left' : List Bool) (stop stop' : Stop)
-      → ReadsSubsets course done bits mid → ReadsSubsets course done' bits mid' → Reads plain course items mid left → Reads plain course items' mid' left'
+      → ReadsSubsets course done bits mid → ReadsSubsets course done' bits mid' → ReadsItems plain course items mid left → ReadsItems plain course items' mid' left'
       → stop_at plain false (next_after plain course items) left ≡ Some stop → stop_at plain false (next_after plain course items') left' ≡ Some stop'
       → (done ≡ done') × (items ≡ items') × (left ≡ left') × (stop ≡ stop')
   stops_one [] [] items items' bits mid mid' left left' stop stop' w v r q e f =
-      let o = one_outcome plain (λ n. false) course 0 bits items items' left left' (stopped stop) (stopped stop') (stops_plain items bits left stop (subst (λ b. Reads plain course items b left) (sym w) r) e) (stops_plain items' bits left' stop' (subst (λ b. Reads plain course items' b left') (sym v) q) f) in
+      let o = one_outcome plain (λ n. false) course 0 bits items items' left left' (stopped stop) (stopped stop') (stops_plain items bits left stop (subst (λ b. ReadsItems plain course items b left) (sym w) r) e) (stops_plain items' bits left' stop' (subst (λ b. ReadsItems plain course items' b left') (sym v) q) f) in
       (refl, o.0, o.1, same_stop stop stop' o.2)
   stops_one [] (d ∷ done') items items' bits mid mid' left left' stop stop' w v r q e f =
-      absurd (not_both stop (one_outcome plain (λ n. false) course 0 bits d items v.0 left ended (stopped stop) (ends_plain d bits v.0 v.1) (stops_plain items bits left stop (subst (λ b. Reads plain course items b left) (sym w) r) e)).2)
+      absurd (not_both stop (one_outcome plain (λ n. false) course 0 bits d items v.0 left ended (stopped stop) (ends_plain d bits v.0 v.1) (stops_plain items bits left stop (subst (λ b. ReadsItems plain course items b left) (sym w) r) e)).2)
   stops_one (d ∷ done) [] items items' bits mid mid' left left' stop stop' w v r q e f =
-      absurd (not_both stop' (one_outcome plain (λ n. false) course 0 bits d items' w.0 left' ended (stopped stop') (ends_plain d bits w.0 w.1) (stops_plain items' bits left' stop' (subst (λ b. Reads plain course items' b left') (sym v) q) f)).2)
+      absurd (not_both stop' (one_outcome plain (λ n. false) course 0 bits d items' w.0 left' ended (stopped stop') (ends_plain d bits w.0 w.1) (stops_plain items' bits left' stop' (subst (λ b. ReadsItems plain course items' b left') (sym v) q) f)).2)
   stops_one (d ∷ done) (c ∷ done') items items' bits mid mid' left left' stop stop' w v r q e f =
       let o = one_outcome plain (λ n. false) course 0 bits d c w.0 v.0 ended ended (ends_plain d bits w.0 w.1) (ends_plain c bits v.0 v.1) in
       let more = stops_one done done' items items' w.0 mid mid' left left' stop stop' w.2 (subst (λ b. ReadsSubsets course done' b mid') (sym o.1) v.2) r q e f in
       (ap (λ z. z ∷ done) o.0 ∙ ap (λ zs. c ∷ zs) more.0, more.1, more.2, more.3)
 
 -- so few items that none of them would be one too many
-few_values : (n items j : ℕ) → items * n ≤ most_values → j < items → would_be_many n (0 + j) ≡ false
-few_values n items j h lt = below most_values ((0 + j + 1) * n) (omega (arith, h, scaled (0 + j + 1) items n (omega (arith, lt))))
+few_values : (n items j : ℕ) → items * n ≤ max_values → j < items → would_be_many n (0 + j) ≡ false
+few_values n items j h lt = below max_values ((0 + j + 1) * n) (omega (arith, h, scaled (0 + j + 1) items n (omega (arith, lt))))
   where
     below : (a b : ℕ) → b ≤ a → nat_lt a b ≡ false
     below a b g = grind (arith, nat_tests)
@@ -89,10 +89,10 @@ from_zero : (a b : ℕ) → a ≡ b → a ≡ 0 + b
 from_zero a b e = omega arith
 
 module _ (n : ℕ) (course : Course) where
-  ends_packed : (items : List (Item (List Content))) (bits left : List Bool) → ReadsAll (packed n) course items bits left → length items * n ≤ most_values → HasOutcome (packed n) (would_be_many n) course 0 bits items left ended
+  ends_packed : (items : List (Item (List Content))) (bits left : List Bool) → ReadsPass (packed n) course items bits left → length items * n ≤ max_values → HasOutcome (packed n) (would_be_many n) course 0 bits items left ended
   ends_packed items bits left h few = ends_so (packed n) (would_be_many n) course items bits left h (λ j lt. few_values n (length items) j few lt)
 
-  stops_packed : (items : List (Item (List Content))) (bits left : List Bool) (count : ℕ) (next : Next) (stop : Stop) → Reads (packed n) course items bits left → length items * n ≤ most_values → count ≡ length items → next ≡ next_after (packed n) course items → stop_at (packed n) (would_be_many n count) next left ≡ Some stop → HasOutcome (packed n) (would_be_many n) course 0 bits items left (stopped stop)
+  stops_packed : (items : List (Item (List Content))) (bits left : List Bool) (count : ℕ) (next : Next) (stop : Stop) → ReadsItems (packed n) course items bits left → length items * n ≤ max_values → count ≡ length items → next ≡ next_after (packed n) course items → stop_at (packed n) (would_be_many n count) next left ≡ Some stop → HasOutcome (packed n) (would_be_many n) course 0 bits items left (stopped stop)
   stops_packed items bits left count next stop h few k is e =
       stops_so (packed n) (would_be_many n) course items bits left next stop h (λ j lt. few_values n (length items) j few lt) is (subst (λ c. stop_at (packed n) (would_be_many n c) next left ≡ Some stop) (from_zero count (length items) k) e)
 
@@ -155,7 +155,7 @@ one_stop true n course bits stop stop' subset subset' before before' turns turns
 pub one_refusal : (course : Course) (d : Data) (why why' : WalkFault) (turns turns' : ℕ) → IsRefused course d why turns → IsRefused course d why' turns' → (why ≡ why') × (turns ≡ turns')
 one_refusal course d why why' turns turns' h g =
     let o = one_stop d.compressed d.subsets course d.bits h.stop g.stop h.subset g.subset h.before g.before turns turns' h.stopped g.stopped in
-    (h.is ∙ ap (λ s. fault_of s h.subset h.before) o.0 ∙ ap (λ k. fault_of g.stop k h.before) o.1 ∙ ap (fault_of g.stop g.subset) o.2 ∙ sym g.is, o.3)
+    (h.is ∙ ap (λ s. walk_fault_of s h.subset h.before) o.0 ∙ ap (λ k. walk_fault_of g.stop k h.before) o.1 ∙ ap (walk_fault_of g.stop g.subset) o.2 ∙ sym g.is, o.3)
 
 pub not_read_and_refused : (course : Course) (d : Data) (v : Values) (used : ℕ) (why : WalkFault) (turns : ℕ) → IsReading course d v used → IsRefused course d why turns → ⊥
 not_read_and_refused course d v used why turns h g = by d.compressed v h refl g.stopped

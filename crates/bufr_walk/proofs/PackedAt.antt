@@ -1,30 +1,31 @@
 -- What one subset has of an item of compressed data.
-use Rattle.std.proofs.Common.{◌≡◌, ℕ, zero, suc, ◌+◌, ◌*◌, ◌^◌, ◌<◌, ◌≤◌, Bool, true, false, List, length, take, drop, map, Result, Ok, Err, refl, sym, ◌∙◌, ap, subst, arith}
+use Rattle.std.proofs.Common.{◌≡◌, ℕ, zero, suc, ◌+◌, ◌-◌, ◌*◌, ◌^◌, ◌<◌, ◌≤◌, ◌&&◌, ◌||◌, Bool, true, false, List, length, take, drop, map, Result, Ok, Err, refl, sym, ◌∙◌, ap, subst, arith}
 use Rattle.std.specs.Prelude.{◌==◌, ◌/◌, nat_lt, if◌then◌else◌}
 use Rattle.std.proofs.lemmas.List.{length-drop, length-take, drop-drop}
 use Rattle.std.proofs.Math.Nat.{mul-le-mul_right, pow-le-pow_right}
 use Rattle.std.proofs.lemmas.Bool.Decides.{nat_tests}
-use Rattle.bufr_bits.specs.Bits.{number_of}
-use Rattle.bufr_bits.proofs.BitLemmas.{number_of-below}
+use Rattle.bufr_bits.specs.Bits.{bits_of, bits_at, number_of, are_all_ones}
+use Rattle.bufr_bits.proofs.BitLemmas.{number_of-below, length-bits_at}
 use Rattle.bufr_bits.proofs.ScaledLemmas.{and_first, and_second}
 use Rattle.bufr_tables.specs.TableB.{is_character}
 use Rattle.bufr_tables.specs.declared.kind.Kind.{Kind}
 use Rattle.bufr_tables.specs.declared.kind.Kind.TheVariants as kind
 use Rattle.bufr_walk.specs.declared.spec.Role.{Role}
 use Rattle.bufr_walk.specs.declared.spec.Role.TheVariants as role
-use Rattle.bufr_walk.specs.declared.kept.KeptItem.{KeptItem}
-use Rattle.bufr_walk.specs.Asked.{Asked}
+use Rattle.bufr_walk.specs.declared.kept.IndexedItem.{IndexedItem}
+use Rattle.bufr_walk.specs.FieldSpec.{FieldSpec}
 use Rattle.bufr_walk.specs.Calls.{content_at}
 use Rattle.bufr_walk.specs.Content.{Content, content_in}
-use Rattle.bufr_walk.specs.PlainField.{FieldFault, Found, data_end, increment, unequal_factor}
-use Rattle.bufr_walk.specs.Kept.{content_kept}
-use Rattle.bufr_walk.specs.PackedField.{increments, step_of, padded_text, varied_by, if_equal, varied, contents_of, all_same, with_behind, item_by, packed_field}
+use Rattle.bufr_walk.specs.PlainField.{FieldFault, FieldRead, data_end, increment, unequal_factor}
+use Rattle.bufr_walk.specs.StoredItems.{content_kept}
+use Rattle.bufr_walk.specs.PackedField.{increments, increment_bits_of, padded_text, varied_by, if_equal, varied, contents_of, all_same, with_behind, item_by, packed_field}
 use Rattle.bufr_walk.specs.PackedBits.{holds_by, content_from, number_from, kind_step}
-use Rattle.bufr_walk.specs.PackedIn.{contents_found, was_found, stands_at}
+use Rattle.bufr_walk.specs.PackedIn.{contents_found, was_found, has_base, stands_at}
+use Rattle.bufr_walk.proofs.PlainLemmas.{bits_length, ones_by_number}
 use Rattle.bufr_walk.proofs.PackedContents.{varied_are, element_are, inserted_are, factor_are, wrong_reference, step_element, step_inserted, step_factor}
 
 -- an item that was found is found by its parts
-if_found : (b : Bool) (x : Result (Found (List Content)) FieldFault) → was_found (if b then Err data_end else x) ≡ true → (b ≡ false) × (was_found x ≡ true) × (contents_found (if b then Err data_end else x) ≡ contents_found x)
+if_found : (b : Bool) (x : Result (FieldRead (List Content)) FieldFault) → was_found (if b then Err data_end else x) ≡ true → (b ≡ false) × (was_found x ≡ true) × (contents_found (if b then Err data_end else x) ≡ contents_found x)
 if_found true x h = absurd cc
 if_found false x h = (refl, h, refl)
 
@@ -36,14 +37,14 @@ at_most : (a b : ℕ) → nat_lt a b ≡ false → b ≤ a
 at_most a b h = grind (arith, nat_tests)
 
 -- where an item stands, with its contents
-pub record IsAt (bits : List Bool) (at n : ℕ) (a : Asked) (k : ℕ) (cs : List Content) : Type 0 where
-  pub within : at + (a.width + 6 + n * step_of a.role a.kind k) ≤ length bits
-  pub are : contents_of a k (take a.width (drop at bits)) (increments n (step_of a.role a.kind k) (drop (at + (a.width + 6)) bits)) ≡ Ok cs
+pub record IsAt (bits : List Bool) (at n : ℕ) (a : FieldSpec) (k : ℕ) (cs : List Content) : Type 0 where
+  pub within : at + (a.width + 6 + n * increment_bits_of a.role a.kind k) ≤ length bits
+  pub are : contents_of a k (take a.width (drop at bits)) (increments n (increment_bits_of a.role a.kind k) (drop (at + (a.width + 6)) bits)) ≡ Ok cs
 
-pub parts : (bits : List Bool) (at n : ℕ) (a : Asked) (k : ℕ) → was_found (packed_field n a (drop at bits)) ≡ true → k ≡ number_of (take 6 (drop (at + a.width) bits)) → IsAt bits at n a k (contents_found (packed_field n a (drop at bits)))
+pub parts : (bits : List Bool) (at n : ℕ) (a : FieldSpec) (k : ℕ) → was_found (packed_field n a (drop at bits)) ≡ true → k ≡ number_of (take 6 (drop (at + a.width) bits)) → IsAt bits at n a k (contents_found (packed_field n a (drop at bits)))
 parts bits at n a k h is =
     let here = drop at bits in
-    let s = step_of a.role a.kind k in
+    let s = increment_bits_of a.role a.kind k in
     let back = drop (a.width + 6) here in
     let base = take a.width here in
     let read = number_of (take 6 (drop a.width here)) in
@@ -62,14 +63,25 @@ parts bits at n a k h is =
       are = subst (λ b. contents_of a k base (increments n s b) ≡ Ok cs) same (are ∙ ap Ok all);
     }
 
+same_number : (a b : ℕ) → (a == b) ≡ true → a ≡ b
+same_number a b h = grind (arith, nat_tests)
+
+kept_step : (bits : List Bool) (n : ℕ) (e : IndexedItem) → stands_at bits n e ≡ true → e.step ≡ number_of (take 6 (drop (e.at + e.spec.width) bits))
+kept_step bits n e h =
+    let step = e.step == number_of (take 6 (drop (e.at + e.spec.width) bits)) in
+    same_number e.step (number_of (take 6 (drop (e.at + e.spec.width) bits))) (and_first step (has_base bits e) (and_second (was_found (packed_field n e.spec (drop e.at bits))) (step && has_base bits e) h))
+
+-- the base of a kept item that is a number
+pub kept_base : (bits : List Bool) (n : ℕ) (e : IndexedItem) → stands_at bits n e ≡ true → is_character e.spec.kind ≡ false → e.base ≡ number_of (take e.spec.width (drop e.at bits))
+kept_base bits n e h k =
+    let step = e.step == number_of (take 6 (drop (e.at + e.spec.width) bits)) in
+    let has : has_base bits e ≡ true = and_second step (has_base bits e) (and_second (was_found (packed_field n e.spec (drop e.at bits))) (step && has_base bits e) h) in
+    same_number e.base (number_of (take e.spec.width (drop e.at bits))) (ap (λ b. b || (e.base == number_of (take e.spec.width (drop e.at bits)))) (sym k) ∙ has)
+
 -- the parts of a kept item
-pub kept_parts : (bits : List Bool) (n : ℕ) (e : KeptItem) → stands_at bits n e ≡ true → IsAt bits e.at n e.spec e.step (contents_found (packed_field n e.spec (drop e.at bits)))
+pub kept_parts : (bits : List Bool) (n : ℕ) (e : IndexedItem) → stands_at bits n e ≡ true → IsAt bits e.at n e.spec e.step (contents_found (packed_field n e.spec (drop e.at bits)))
 kept_parts bits n e h =
-    parts bits e.at n e.spec e.step (and_first (was_found (packed_field n e.spec (drop e.at bits))) (e.step == number_of (take 6 (drop (e.at + e.spec.width) bits))) h)
-    (same e.step (number_of (take 6 (drop (e.at + e.spec.width) bits))) (and_second (was_found (packed_field n e.spec (drop e.at bits))) (e.step == number_of (take 6 (drop (e.at + e.spec.width) bits))) h))
-  where
-    same : (a b : ℕ) → (a == b) ≡ true → a ≡ b
-    same a b h = grind (arith, nat_tests)
+    parts bits e.at n e.spec e.step (and_first (was_found (packed_field n e.spec (drop e.at bits))) ((e.step == number_of (take 6 (drop (e.at + e.spec.width) bits))) && has_base bits e) h) (kept_step bits n e h)
 
 -- one of what is made of increments
 pub at_map : (f : List Bool → Content) (n s j : ℕ) (bits : List Bool) → j < n → content_at j (map f (increments n s bits)) ≡ f (take s (drop (j * s) bits))
@@ -84,9 +96,9 @@ at_map f (suc n) s (suc j) bits h = at_map f n s j (drop s bits) (omega arith) �
     next s j = omega arith
 
 -- with no increments
-pub base_at : (a : Asked) (k n j : ℕ) (base behind : List Bool) (cs : List Content) → k ≡ 0 → j < n → contents_of a k base (increments n (step_of a.role a.kind k) behind) ≡ Ok cs → content_at j cs ≡ content_in a base
+pub base_at : (a : FieldSpec) (k n j : ℕ) (base behind : List Bool) (cs : List Content) → k ≡ 0 → j < n → contents_of a k base (increments n (increment_bits_of a.role a.kind k) behind) ≡ Ok cs → content_at j cs ≡ content_in a base
 base_at a k n j base behind cs e h are =
-    let s = step_of a.role a.kind k in
+    let s = increment_bits_of a.role a.kind k in
     let all : ◌≡◌ {A = Result (List Content) FieldFault} (Ok (map (λ i. content_in a base) (increments n s behind))) (Ok cs) = sym (ap (λ x. if x == 0 then Ok (map (λ i. content_in a base) (increments n s behind)) else varied a.role a x base (increments n s behind)) e) ∙ are in
     let same : map (λ i. content_in a base) (increments n s behind) ≡ cs = cc in
     ap (content_at j) (sym same) ∙ at_map (λ i. content_in a base) n s j behind h
@@ -104,7 +116,7 @@ equal_ok true xs cs h = by (all_same xs) h
 equal_ok false xs cs h = absurd cc
 
 -- with increments
-pub varied_contents : (a : Asked) (k n : ℕ) (base behind : List Bool) (cs : List Content) → 1 ≤ k → contents_of a k base (increments n (step_of a.role a.kind k) behind) ≡ Ok cs → map (content_from a.kind a k base) (increments n (kind_step a.kind k) behind) ≡ cs
+pub varied_contents : (a : FieldSpec) (k n : ℕ) (base behind : List Bool) (cs : List Content) → 1 ≤ k → contents_of a k base (increments n (increment_bits_of a.role a.kind k) behind) ≡ Ok cs → map (content_from a.kind a k base) (increments n (kind_step a.kind k) behind) ≡ cs
 varied_contents a k n base behind cs some are = by a.role refl
   where
     whole : varied_by a.kind a k base (increments n (kind_step a.kind k) behind) ≡ (if holds_by a.kind a k n base behind then Ok (map (content_from a.kind a k base) (increments n (kind_step a.kind k) behind)) else Err increment)
@@ -119,19 +131,19 @@ varied_contents a k n base behind cs some are = by a.role refl
         let no : ◌≡◌ {A = Result (List Content) FieldFault} (Err w.why) (Ok cs) = sym w.is ∙ are in
         absurd cc
 
-pub varied_at : (a : Asked) (k n j : ℕ) (base behind : List Bool) (cs : List Content) → 1 ≤ k → j < n → contents_of a k base (increments n (step_of a.role a.kind k) behind) ≡ Ok cs
+pub varied_at : (a : FieldSpec) (k n j : ℕ) (base behind : List Bool) (cs : List Content) → 1 ≤ k → j < n → contents_of a k base (increments n (increment_bits_of a.role a.kind k) behind) ≡ Ok cs
     → content_at j cs ≡ content_from a.kind a k base (take (kind_step a.kind k) (drop (j * kind_step a.kind k) behind))
 varied_at a k n j base behind cs some h are =
     ap (content_at j) (sym (varied_contents a k n base behind cs some are)) ∙ at_map (content_from a.kind a k base) n (kind_step a.kind k) j behind h
 
 -- the bits of one subset by role and kind; a redefined reference has none
-step_is : (a : Asked) (k n : ℕ) (base behind : List Bool) (cs : List Content) → 1 ≤ k → contents_of a k base (increments n (step_of a.role a.kind k) behind) ≡ Ok cs → step_of a.role a.kind k ≡ kind_step a.kind k
+step_is : (a : FieldSpec) (k n : ℕ) (base behind : List Bool) (cs : List Content) → 1 ≤ k → contents_of a k base (increments n (increment_bits_of a.role a.kind k) behind) ≡ Ok cs → increment_bits_of a.role a.kind k ≡ kind_step a.kind k
 step_is a k n base behind cs some are = by a.role refl
   where
-    by : (r : Role) → a.role ≡ r → step_of a.role a.kind k ≡ kind_step a.kind k
-    by role.Element q = ap (λ r. step_of r a.kind k) q ∙ step_element a.kind k
-    by role.Inserted q = ap (λ r. step_of r a.kind k) q ∙ step_inserted a.kind k
-    by role.Factor q = ap (λ r. step_of r a.kind k) q ∙ step_factor a.kind k
+    by : (r : Role) → a.role ≡ r → increment_bits_of a.role a.kind k ≡ kind_step a.kind k
+    by role.Element q = ap (λ r. increment_bits_of r a.kind k) q ∙ step_element a.kind k
+    by role.Inserted q = ap (λ r. increment_bits_of r a.kind k) q ∙ step_inserted a.kind k
+    by role.Factor q = ap (λ r. increment_bits_of r a.kind k) q ∙ step_factor a.kind k
     by role.Reference q =
         let w = wrong_reference a k n base behind a.fxy refl some q in
         let no : ◌≡◌ {A = Result (List Content) FieldFault} (Err w.why) (Ok cs) = sym w.is ∙ are in
@@ -141,45 +153,42 @@ step_is a k n base behind cs some are = by a.role refl
 pub reaches : (n j s : ℕ) → j < n → (j + 1) * s ≤ n * s
 reaches n j s h = mul-le-mul_right s (omega (arith, h))
 
-pub increment_within : (bits : List Bool) (n : ℕ) (e : KeptItem) (j : ℕ) → stands_at bits n e ≡ true → 1 ≤ e.step → j < n → e.at + (e.spec.width + 6) + (j + 1) * kind_step e.spec.kind e.step ≤ length bits
+pub increment_within : (bits : List Bool) (n : ℕ) (e : IndexedItem) (j : ℕ) → stands_at bits n e ≡ true → 1 ≤ e.step → j < n → e.at + (e.spec.width + 6) + (j + 1) * kind_step e.spec.kind e.step ≤ length bits
 increment_within bits n e j h some below =
     let p = kept_parts bits n e h in
     let s = kind_step e.spec.kind e.step in
-    let same : step_of e.spec.role e.spec.kind e.step ≡ s = step_is e.spec e.step n _ _ _ some p.are in
+    let same : increment_bits_of e.spec.role e.spec.kind e.step ≡ s = step_is e.spec e.step n _ _ _ some p.are in
     let far : (j + 1) * s ≤ n * s = reaches n j s below in
     let all : e.at + (e.spec.width + 6 + n * s) ≤ length bits = subst (λ x. e.at + (e.spec.width + 6 + n * x) ≤ length bits) same p.within in
     omega (arith, far, all)
 
-pub step_small : (bits : List Bool) (n : ℕ) (e : KeptItem) → stands_at bits n e ≡ true → e.step ≤ 63
+pub step_small : (bits : List Bool) (n : ℕ) (e : IndexedItem) → stands_at bits n e ≡ true → e.step ≤ 63
 step_small bits n e h =
     let six = take 6 (drop (e.at + e.spec.width) bits) in
-    let is : e.step ≡ number_of six = same e.step (number_of six) (and_second (was_found (packed_field n e.spec (drop e.at bits))) (e.step == number_of six) h) in
+    let is : e.step ≡ number_of six = kept_step bits n e h in
     let low : number_of six < 2 ^ length six = number_of-below six in
     let short : length six ≤ 6 = length-take-most 6 (drop (e.at + e.spec.width) bits) in
     let top : 2 ^ length six ≤ 2 ^ 6 = pow-le-pow_right {n = 2} (omega arith) short in
     omega (arith, is, low, top)
   where
-    same : (a b : ℕ) → (a == b) ≡ true → a ≡ b
-    same a b h = grind (arith, nat_tests)
-
     length-take-most : (n : ℕ) (xs : List Bool) → length (take n xs) ≤ n
     length-take-most n xs = omega (arith, length-take n xs)
 
 -- the content of one subset, by what stands there
-pub base_content : (bits : List Bool) (n : ℕ) (e : KeptItem) (j : ℕ) → stands_at bits n e ≡ true → e.step ≡ 0 → j < n → content_kept bits n e j ≡ content_in e.spec (take e.spec.width (drop e.at bits))
+pub base_content : (bits : List Bool) (n : ℕ) (e : IndexedItem) (j : ℕ) → stands_at bits n e ≡ true → e.step ≡ 0 → j < n → content_kept bits n e j ≡ content_in e.spec (take e.spec.width (drop e.at bits))
 base_content bits n e j h none below = let p = kept_parts bits n e h in base_at e.spec e.step n j _ _ _ none below p.are
 
-pub varied_content : (bits : List Bool) (n : ℕ) (e : KeptItem) (j : ℕ) → stands_at bits n e ≡ true → 1 ≤ e.step → j < n
+pub varied_content : (bits : List Bool) (n : ℕ) (e : IndexedItem) (j : ℕ) → stands_at bits n e ≡ true → 1 ≤ e.step → j < n
     → content_kept bits n e j ≡ content_from e.spec.kind e.spec e.step (take e.spec.width (drop e.at bits)) (take (kind_step e.spec.kind e.step) (drop (j * kind_step e.spec.kind e.step) (drop (e.at + (e.spec.width + 6)) bits)))
 varied_content bits n e j h some below = let p = kept_parts bits n e h in varied_at e.spec e.step n j _ _ _ some below p.are
 
 -- the same of numbers and of texts
-number_kind : (kd : Kind) (a : Asked) (k j : ℕ) (base behind : List Bool) → is_character kd ≡ false → content_from kd a k base (take (kind_step kd k) (drop (j * kind_step kd k) behind)) ≡ number_from a k base (take k (drop (j * k) behind))
+number_kind : (kd : Kind) (a : FieldSpec) (k j : ℕ) (base behind : List Bool) → is_character kd ≡ false → content_from kd a k base (take (kind_step kd k) (drop (j * kind_step kd k) behind)) ≡ number_from a k base (take k (drop (j * k) behind))
 number_kind kind.Character a k j base behind h = absurd cc
 number_kind kind.Coded a k j base behind h = refl
 number_kind kind.Numeric a k j base behind h = refl
 
-text_kind : (kd : Kind) (a : Asked) (k j : ℕ) (base behind : List Bool) → is_character kd ≡ true → content_from kd a k base (take (kind_step kd k) (drop (j * kind_step kd k) behind)) ≡ padded_text (a.width / 8) k (take (8 * k) (drop (j * (8 * k)) behind))
+text_kind : (kd : Kind) (a : FieldSpec) (k j : ℕ) (base behind : List Bool) → is_character kd ≡ true → content_from kd a k base (take (kind_step kd k) (drop (j * kind_step kd k) behind)) ≡ padded_text (a.width / 8) k (take (8 * k) (drop (j * (8 * k)) behind))
 text_kind kind.Character a k j base behind h = refl
 text_kind kind.Coded a k j base behind h = absurd cc
 text_kind kind.Numeric a k j base behind h = absurd cc
@@ -194,16 +203,31 @@ text_step kind.Character k h = refl
 text_step kind.Coded k h = absurd cc
 text_step kind.Numeric k h = absurd cc
 
-pub number_content : (bits : List Bool) (n : ℕ) (e : KeptItem) (j : ℕ) → stands_at bits n e ≡ true → 1 ≤ e.step → j < n → is_character e.spec.kind ≡ false
+pub number_content : (bits : List Bool) (n : ℕ) (e : IndexedItem) (j : ℕ) → stands_at bits n e ≡ true → 1 ≤ e.step → j < n → is_character e.spec.kind ≡ false
     → number_from e.spec e.step (take e.spec.width (drop e.at bits)) (take e.step (drop (j * e.step) (drop (e.at + (e.spec.width + 6)) bits))) ≡ content_kept bits n e j
 number_content bits n e j h some below c = sym (varied_content bits n e j h some below ∙ number_kind e.spec.kind e.spec e.step j _ _ c)
 
-pub number_within : (bits : List Bool) (n : ℕ) (e : KeptItem) (j : ℕ) → stands_at bits n e ≡ true → 1 ≤ e.step → j < n → is_character e.spec.kind ≡ false → e.at + (e.spec.width + 6) + (j + 1) * e.step ≤ length bits
+pub number_within : (bits : List Bool) (n : ℕ) (e : IndexedItem) (j : ℕ) → stands_at bits n e ≡ true → 1 ≤ e.step → j < n → is_character e.spec.kind ≡ false → e.at + (e.spec.width + 6) + (j + 1) * e.step ≤ length bits
 number_within bits n e j h some below c = subst (λ s. e.at + (e.spec.width + 6) + (j + 1) * s ≤ length bits) (number_step e.spec.kind e.step c) (increment_within bits n e j h some below)
 
-pub text_content : (bits : List Bool) (n : ℕ) (e : KeptItem) (j : ℕ) → stands_at bits n e ≡ true → 1 ≤ e.step → j < n → is_character e.spec.kind ≡ true
+pub text_content : (bits : List Bool) (n : ℕ) (e : IndexedItem) (j : ℕ) → stands_at bits n e ≡ true → 1 ≤ e.step → j < n → is_character e.spec.kind ≡ true
     → padded_text (e.spec.width / 8) e.step (take (8 * e.step) (drop (j * (8 * e.step)) (drop (e.at + (e.spec.width + 6)) bits))) ≡ content_kept bits n e j
 text_content bits n e j h some below c = sym (varied_content bits n e j h some below ∙ text_kind e.spec.kind e.spec e.step j _ _ c)
 
-pub text_within : (bits : List Bool) (n : ℕ) (e : KeptItem) (j : ℕ) → stands_at bits n e ≡ true → 1 ≤ e.step → j < n → is_character e.spec.kind ≡ true → e.at + (e.spec.width + 6) + (j + 1) * (8 * e.step) ≤ length bits
+pub text_within : (bits : List Bool) (n : ℕ) (e : IndexedItem) (j : ℕ) → stands_at bits n e ≡ true → 1 ≤ e.step → j < n → is_character e.spec.kind ≡ true → e.at + (e.spec.width + 6) + (j + 1) * (8 * e.step) ≤ length bits
 text_within bits n e j h some below c = subst (λ s. e.at + (e.spec.width + 6) + (j + 1) * s ≤ length bits) (text_step e.spec.kind e.step c) (increment_within bits n e j h some below)
+
+-- whether the base of a kept item is all ones, by its number
+pub kept_ones : (octets : List ℕ) (n : ℕ) (e : IndexedItem) → stands_at (bits_of octets) n e ≡ true → is_character e.spec.kind ≡ false → (e.base == 2 ^ e.spec.width - 1) ≡ are_all_ones (bits_at octets e.at e.spec.width)
+kept_ones octets n e h k =
+    let p = kept_parts (bits_of octets) n e h in
+    ones_by_number octets e.at e.spec.width e.base (omega (arith, p.within, bits_length octets)) (kept_base (bits_of octets) n e h k)
+
+-- and that number
+pub kept_number : (octets : List ℕ) (n : ℕ) (e : IndexedItem) → stands_at (bits_of octets) n e ≡ true → is_character e.spec.kind ≡ false → (e.base ≡ number_of (bits_at octets e.at e.spec.width)) × (e.base < 2 ^ e.spec.width)
+kept_number octets n e h k =
+    let is = kept_base (bits_of octets) n e h k in
+    let p = kept_parts (bits_of octets) n e h in
+    let low : number_of (bits_at octets e.at e.spec.width) < 2 ^ length (bits_at octets e.at e.spec.width) = number_of-below (bits_at octets e.at e.spec.width) in
+    let long : length (bits_at octets e.at e.spec.width) ≡ e.spec.width = length-bits_at octets e.at e.spec.width (omega (arith, p.within, bits_length octets)) in
+    (is, subst (λ w. e.base < 2 ^ w) long (subst (λ v. v < 2 ^ length (bits_at octets e.at e.spec.width)) (sym is) low))

@@ -6,9 +6,9 @@ use Rattle.std.proofs.lemmas.List.{append-nil, take_more_set, replicate-append-r
 use Rattle.bufr_bits.proofs.ScaledLemmas.{and_second}
 use Rattle.bufr_tables.specs.TableB.{Row}
 use Rattle.bufr_walk.specs.declared.fault.ShowFault.{ShowFault}
-use Rattle.bufr_walk.specs.declared.kept.KeptItem.{KeptItem}
-use Rattle.bufr_walk.specs.Calls.{Call, Timed, timed, items_together}
-use Rattle.bufr_walk.specs.Kept.{call_kept}
+use Rattle.bufr_walk.specs.declared.kept.IndexedItem.{IndexedItem}
+use Rattle.bufr_walk.specs.Calls.{Call, Timed, timed, compressed_item_calls}
+use Rattle.bufr_walk.specs.StoredItems.{call_kept}
 use Rattle.bufr_walk.specs.PackedIn.{items_at, stands_at}
 use Rattle.bufr_walk.specs.CallsInTurn.{Shows}
 
@@ -46,14 +46,14 @@ module _ {S E : Type 0} (sees : S → Call → Result (Unit {0}) E → S → Typ
   shows_before s s1 (t ∷ a) b e h = elim h as (λ _. Shows sees s (t ∷ a ++ b) 0 (Err e) s1 0) [ inl x ↦ inl x | inr y ↦ inr (y.0, y.1, shows_before y.0 s1 a b e y.2) ]
 
 -- the next of some items
-next_entry : (kept : List KeptItem) (i : ℕ) (k : KeptItem) → i < length kept → get_or kept i k ≡ k → drop i kept ≡ k ∷ drop (i + 1) kept
+next_entry : (kept : List IndexedItem) (i : ℕ) (k : IndexedItem) → i < length kept → get_or kept i k ≡ k → drop i kept ≡ k ∷ drop (i + 1) kept
 next_entry kept i k h e = drop-cons kept i k h ∙ ap (λ x. x ∷ drop (suc i) kept) e ∙ ap (λ j. k ∷ drop j kept) (sym (add-one i))
 
-pub next_call : (table : List Row) (bits : List Bool) (n j : ℕ) (kept : List KeptItem) (i : ℕ) (k : KeptItem) → i < length kept → k ≡ get_or kept i k
-    → items_together table j (items_at bits n (drop i kept)) ≡ timed 0 (call_kept table bits n k j) ∷ items_together table j (items_at bits n (drop (i + 1) kept))
-next_call table bits n j kept i k h e = ap (λ ks. items_together table j (items_at bits n ks)) (next_entry kept i k h (sym e))
+pub next_call : (table : List Row) (bits : List Bool) (n j : ℕ) (kept : List IndexedItem) (i : ℕ) (k : IndexedItem) → i < length kept → k ≡ get_or kept i k
+    → compressed_item_calls table j (items_at bits n (drop i kept)) ≡ timed 0 (call_kept table bits n k j) ∷ compressed_item_calls table j (items_at bits n (drop (i + 1) kept))
+next_call table bits n j kept i k h e = ap (λ ks. compressed_item_calls table j (items_at bits n ks)) (next_entry kept i k h (sym e))
 
-pub stand_behind : (bits : List Bool) (n : ℕ) (kept : List KeptItem) (i : ℕ) (k : KeptItem) → i < length kept → k ≡ get_or kept i k → list_all (stands_at bits n) (drop i kept) ≡ true → list_all (stands_at bits n) (drop (i + 1) kept) ≡ true
+pub stand_behind : (bits : List Bool) (n : ℕ) (kept : List IndexedItem) (i : ℕ) (k : IndexedItem) → i < length kept → k ≡ get_or kept i k → list_all (stands_at bits n) (drop i kept) ≡ true → list_all (stands_at bits n) (drop (i + 1) kept) ≡ true
 stand_behind bits n kept i k h e w = and_second (stands_at bits n k) (list_all (stands_at bits n) (drop (i + 1) kept)) (subst (λ ks. list_all (stands_at bits n) ks ≡ true) (next_entry kept i k h (sym e)) w)
 
 -- spaces behind a text

@@ -3,7 +3,7 @@ use Rattle.std.proofs.Common.{◌≡◌, ℕ, zero, suc, ◌+◌, ◌*◌, ◌�
 use Rattle.std.specs.Prelude.{◌==◌, ◌||◌, ◌/◌, nat_lt, if◌then◌else◌}
 use Rattle.std.specs.List.{list_all}
 use Rattle.std.proofs.lemmas.Bool.Decides.{nat_tests}
-use Rattle.bufr_bits.specs.Bits.{number_of, all_set}
+use Rattle.bufr_bits.specs.Bits.{number_of, are_all_ones}
 use Rattle.bufr_tables.specs.declared.kind.Kind.{Kind}
 use Rattle.bufr_tables.specs.declared.kind.Kind.TheVariants as kind
 use Rattle.bufr_walk.specs.declared.spec.Role.{Role}
@@ -11,10 +11,10 @@ use Rattle.bufr_walk.specs.declared.spec.Role.TheVariants as role
 use Rattle.bufr_walk.specs.declared.spec.Taken.{Taken}
 use Rattle.bufr_walk.specs.declared.spec.Taken.TheVariants as taken
 use Rattle.bufr_walk.specs.declared.packed_in.PackedFault.TheVariants as wrong
-use Rattle.bufr_walk.specs.Asked.{Asked, IsSpec, HasRole}
-use Rattle.bufr_walk.specs.Content.{Content, number, missing, content_in, told, told_by_role}
+use Rattle.bufr_walk.specs.FieldSpec.{FieldSpec, IsSpec, HasRole}
+use Rattle.bufr_walk.specs.Content.{Content, number, missing, content_in, answer_of, told_by_role}
 use Rattle.bufr_walk.specs.PlainField.{FieldFault, increment, unequal_factor}
-use Rattle.bufr_walk.specs.PackedField.{ones, and_more, increased, increments, all_increased, padded_text, step_of, numbers_of, varied_by, same_count, if_equal, varied, contents_of, told_first}
+use Rattle.bufr_walk.specs.PackedField.{ones, and_contents, increased, increments, all_increased, padded_text, increment_bits_of, numbers_of, varied_by, same_count, if_equal, varied, contents_of, told_first}
 use Rattle.bufr_walk.specs.PackedBits.{stays_within, all_within, all_equal, increased_to, numbers_hold, holds_by, number_from, content_from, kind_step, is_plain_role, IsTold, IsWrong}
 
 -- one increment that stays within the width
@@ -31,13 +31,13 @@ one_past false true c x h = refl
 one_past false false c x h = absurd cc
 
 -- one content before others, by the tests of both
-join_more : (p q b : Bool) (x : Content) (xs : List Content) (r : Result Content FieldFault) (rs : Result (List Content) FieldFault) → r ≡ (if p then Ok x else Err increment) → rs ≡ (if q then Ok xs else Err increment) → (p && q) ≡ b → and_more r rs ≡ (if b then Ok (x ∷ xs) else Err increment)
-join_more true true true x xs r rs e f h = ap (λ y. and_more y rs) e ∙ ap (and_more (Ok x)) f
+join_more : (p q b : Bool) (x : Content) (xs : List Content) (r : Result Content FieldFault) (rs : Result (List Content) FieldFault) → r ≡ (if p then Ok x else Err increment) → rs ≡ (if q then Ok xs else Err increment) → (p && q) ≡ b → and_contents r rs ≡ (if b then Ok (x ∷ xs) else Err increment)
+join_more true true true x xs r rs e f h = ap (λ y. and_contents y rs) e ∙ ap (and_contents (Ok x)) f
 join_more true true false x xs r rs e f h = absurd cc
 join_more true false true x xs r rs e f h = absurd cc
-join_more true false false x xs r rs e f h = ap (λ y. and_more y rs) e ∙ ap (and_more (Ok x)) f
+join_more true false false x xs r rs e f h = ap (λ y. and_contents y rs) e ∙ ap (and_contents (Ok x)) f
 join_more false q true x xs r rs e f h = absurd cc
-join_more false q false x xs r rs e f h = ap (λ y. and_more y rs) e
+join_more false q false x xs r rs e f h = ap (λ y. and_contents y rs) e
 
 one_by : (a b c p : Bool) (x : Content) → (a || not b) ≡ p → ◌≡◌ {A = Result Content FieldFault} (if a then Ok missing else if b then Err increment else if c then Ok missing else Ok x) (if p then Ok (if a then missing else if c then missing else x) else Err increment)
 one_by a b c true x h = one_within a b c x h
@@ -67,15 +67,15 @@ map_if : {X Y : Type 0} (a : Bool) (f g : X → Y) (xs : List X) → (if a then 
 map_if true f g xs = refl
 map_if false f g xs = refl
 
-numbers_are : (a : Asked) (k n : ℕ) (base behind : List Bool) (b : Bool) → numbers_hold a k n base behind ≡ b → numbers_of a k base (increments n k behind) ≡ (if b then Ok (map (number_from a k base) (increments n k behind)) else Err increment)
+numbers_are : (a : FieldSpec) (k n : ℕ) (base behind : List Bool) (b : Bool) → numbers_hold a k n base behind ≡ b → numbers_of a k base (increments n k behind) ≡ (if b then Ok (map (number_from a k base) (increments n k behind)) else Err increment)
 numbers_are a k n base behind b h =
     let is = increments n k behind in
     let m = a.may_be_missing in
     let w = a.width in
     let low = number_of base in
-    numbers_by (all_set base && m) (all_within m w low k n behind) (all_increased m w low k is) (map (λ i. missing) is) (map (λ i. increased_to m w low k (number_of i)) is) b h
+    numbers_by (are_all_ones base && m) (all_within m w low k n behind) (all_increased m w low k is) (map (λ i. missing) is) (map (λ i. increased_to m w low k (number_of i)) is) b h
     (increased_by m w low k is (all_within m w low k n behind) refl)
-    ∙ ap (λ cs. if b then Ok cs else Err increment) (map_if (all_set base && m) (λ i. missing) (λ i. increased_to m w low k (number_of i)) is)
+    ∙ ap (λ cs. if b then Ok cs else Err increment) (map_if (are_all_ones base && m) (λ i. missing) (λ i. increased_to m w low k (number_of i)) is)
 
 -- texts
 texts_by : (a b : Bool) (xs : List Content) → not a ≡ b → ◌≡◌ {A = Result (List Content) FieldFault} (if a then Err increment else Ok xs) (if b then Ok xs else Err increment)
@@ -85,7 +85,7 @@ texts_by false true xs h = refl
 texts_by false false xs h = absurd cc
 
 -- an item with increments, by its test
-pub varied_are : (kd : Kind) (a : Asked) (k n : ℕ) (base behind : List Bool) (b : Bool) → holds_by kd a k n base behind ≡ b → varied_by kd a k base (increments n (kind_step kd k) behind) ≡ (if b then Ok (map (content_from kd a k base) (increments n (kind_step kd k) behind)) else Err increment)
+pub varied_are : (kd : Kind) (a : FieldSpec) (k n : ℕ) (base behind : List Bool) (b : Bool) → holds_by kd a k n base behind ≡ b → varied_by kd a k base (increments n (kind_step kd k) behind) ≡ (if b then Ok (map (content_from kd a k base) (increments n (kind_step kd k) behind)) else Err increment)
 varied_are kind.Character a k n base behind b h = texts_by (nat_lt (a.width / 8) k) b (map (padded_text (a.width / 8) k) (increments n (8 * k) behind)) h
 varied_are kind.Coded a k n base behind b h = numbers_are a k n base behind b h
 varied_are kind.Numeric a k n base behind b h = numbers_are a k n base behind b h
@@ -93,90 +93,90 @@ varied_are kind.Numeric a k n base behind b h = numbers_are a k n base behind b 
 not_zero : (k : ℕ) → 1 ≤ k → (k == 0) ≡ false
 not_zero k h = grind (arith, nat_tests)
 
-pub step_element : (kd : Kind) (k : ℕ) → step_of role.Element kd k ≡ kind_step kd k
+pub step_element : (kd : Kind) (k : ℕ) → increment_bits_of role.Element kd k ≡ kind_step kd k
 step_element kind.Character k = refl
 step_element kind.Coded k = refl
 step_element kind.Numeric k = refl
 
-pub step_inserted : (kd : Kind) (k : ℕ) → step_of role.Inserted kd k ≡ kind_step kd k
+pub step_inserted : (kd : Kind) (k : ℕ) → increment_bits_of role.Inserted kd k ≡ kind_step kd k
 step_inserted kind.Character k = refl
 step_inserted kind.Coded k = refl
 step_inserted kind.Numeric k = refl
 
-pub step_factor : (kd : Kind) (k : ℕ) → step_of role.Factor kd k ≡ kind_step kd k
+pub step_factor : (kd : Kind) (k : ℕ) → increment_bits_of role.Factor kd k ≡ kind_step kd k
 step_factor kind.Character k = refl
 step_factor kind.Coded k = refl
 step_factor kind.Numeric k = refl
 
 -- the contents of an element with increments
-pub element_are : (a : Asked) (k n : ℕ) (base behind : List Bool) → 1 ≤ k → a.role ≡ role.Element → contents_of a k base (increments n (step_of a.role a.kind k) behind) ≡ varied_by a.kind a k base (increments n (kind_step a.kind k) behind)
+pub element_are : (a : FieldSpec) (k n : ℕ) (base behind : List Bool) → 1 ≤ k → a.role ≡ role.Element → contents_of a k base (increments n (increment_bits_of a.role a.kind k) behind) ≡ varied_by a.kind a k base (increments n (kind_step a.kind k) behind)
 element_are a k n base behind some e =
-    ap (λ b. if b then Ok (map (λ i. content_in a base) (increments n (step_of a.role a.kind k) behind)) else varied a.role a k base (increments n (step_of a.role a.kind k) behind)) (not_zero k some)
-    ∙ ap (λ r. varied r a k base (increments n (step_of r a.kind k) behind)) e ∙ ap (λ s. varied_by a.kind a k base (increments n s behind)) (step_element a.kind k)
+    ap (λ b. if b then Ok (map (λ i. content_in a base) (increments n (increment_bits_of a.role a.kind k) behind)) else varied a.role a k base (increments n (increment_bits_of a.role a.kind k) behind)) (not_zero k some)
+    ∙ ap (λ r. varied r a k base (increments n (increment_bits_of r a.kind k) behind)) e ∙ ap (λ s. varied_by a.kind a k base (increments n s behind)) (step_element a.kind k)
 
-pub inserted_are : (a : Asked) (k n : ℕ) (base behind : List Bool) → 1 ≤ k → a.role ≡ role.Inserted → contents_of a k base (increments n (step_of a.role a.kind k) behind) ≡ varied_by a.kind a k base (increments n (kind_step a.kind k) behind)
+pub inserted_are : (a : FieldSpec) (k n : ℕ) (base behind : List Bool) → 1 ≤ k → a.role ≡ role.Inserted → contents_of a k base (increments n (increment_bits_of a.role a.kind k) behind) ≡ varied_by a.kind a k base (increments n (kind_step a.kind k) behind)
 inserted_are a k n base behind some e =
-    ap (λ b. if b then Ok (map (λ i. content_in a base) (increments n (step_of a.role a.kind k) behind)) else varied a.role a k base (increments n (step_of a.role a.kind k) behind)) (not_zero k some)
-    ∙ ap (λ r. varied r a k base (increments n (step_of r a.kind k) behind)) e ∙ ap (λ s. varied_by a.kind a k base (increments n s behind)) (step_inserted a.kind k)
+    ap (λ b. if b then Ok (map (λ i. content_in a base) (increments n (increment_bits_of a.role a.kind k) behind)) else varied a.role a k base (increments n (increment_bits_of a.role a.kind k) behind)) (not_zero k some)
+    ∙ ap (λ r. varied r a k base (increments n (increment_bits_of r a.kind k) behind)) e ∙ ap (λ s. varied_by a.kind a k base (increments n s behind)) (step_inserted a.kind k)
 
-pub factor_are : (a : Asked) (k n : ℕ) (base behind : List Bool) → 1 ≤ k → a.role ≡ role.Factor → contents_of a k base (increments n (step_of a.role a.kind k) behind) ≡ if_equal (varied_by a.kind a k base (increments n (kind_step a.kind k) behind))
+pub factor_are : (a : FieldSpec) (k n : ℕ) (base behind : List Bool) → 1 ≤ k → a.role ≡ role.Factor → contents_of a k base (increments n (increment_bits_of a.role a.kind k) behind) ≡ if_equal (varied_by a.kind a k base (increments n (kind_step a.kind k) behind))
 factor_are a k n base behind some e =
-    ap (λ b. if b then Ok (map (λ i. content_in a base) (increments n (step_of a.role a.kind k) behind)) else varied a.role a k base (increments n (step_of a.role a.kind k) behind)) (not_zero k some)
-    ∙ ap (λ r. varied r a k base (increments n (step_of r a.kind k) behind)) e ∙ ap (λ s. if_equal (varied_by a.kind a k base (increments n s behind))) (step_factor a.kind k)
+    ap (λ b. if b then Ok (map (λ i. content_in a base) (increments n (increment_bits_of a.role a.kind k) behind)) else varied a.role a k base (increments n (increment_bits_of a.role a.kind k) behind)) (not_zero k some)
+    ∙ ap (λ r. varied r a k base (increments n (increment_bits_of r a.kind k) behind)) e ∙ ap (λ s. if_equal (varied_by a.kind a k base (increments n s behind))) (step_factor a.kind k)
 
 -- an element tells nothing
-plain_element : (a : Asked) (cs : List Content) → a.role ≡ role.Element → taken.Plain ≡ told_first a cs
+plain_element : (a : FieldSpec) (cs : List Content) → a.role ≡ role.Element → taken.Plain ≡ told_first a cs
 plain_element a [] e = refl
 plain_element a (c ∷ cs) e = ap (λ r. told_by_role r c) (sym e)
 
-plain_inserted : (a : Asked) (cs : List Content) → a.role ≡ role.Inserted → taken.Plain ≡ told_first a cs
+plain_inserted : (a : FieldSpec) (cs : List Content) → a.role ≡ role.Inserted → taken.Plain ≡ told_first a cs
 plain_inserted a [] e = refl
 plain_inserted a (c ∷ cs) e = ap (λ r. told_by_role r c) (sym e)
 
-pub told_element_varied : (a : Asked) (k n : ℕ) (base behind : List Bool) → 1 ≤ k → a.role ≡ role.Element → holds_by a.kind a k n base behind ≡ true → IsTold a k n base behind taken.Plain
+pub told_element_varied : (a : FieldSpec) (k n : ℕ) (base behind : List Bool) → 1 ≤ k → a.role ≡ role.Element → holds_by a.kind a k n base behind ≡ true → IsTold a k n base behind taken.Plain
 told_element_varied a k n base behind some e h = record {
   contents = map (content_from a.kind a k base) (increments n (kind_step a.kind k) behind);
   are = element_are a k n base behind some e ∙ varied_are a.kind a k n base behind true h;
   tells = plain_element a _ e;
 }
 
-pub told_inserted_varied : (a : Asked) (k n : ℕ) (base behind : List Bool) → 1 ≤ k → a.role ≡ role.Inserted → holds_by a.kind a k n base behind ≡ true → IsTold a k n base behind taken.Plain
+pub told_inserted_varied : (a : FieldSpec) (k n : ℕ) (base behind : List Bool) → 1 ≤ k → a.role ≡ role.Inserted → holds_by a.kind a k n base behind ≡ true → IsTold a k n base behind taken.Plain
 told_inserted_varied a k n base behind some e h = record {
   contents = map (content_from a.kind a k base) (increments n (kind_step a.kind k) behind);
   are = inserted_are a k n base behind some e ∙ varied_are a.kind a k n base behind true h;
   tells = plain_inserted a _ e;
 }
 
-pub wrong_element : (a : Asked) (k n : ℕ) (base behind : List Bool) (f : ℕ) → f ≡ a.fxy → 1 ≤ k → a.role ≡ role.Element → holds_by a.kind a k n base behind ≡ false → IsWrong a k n base behind (wrong.Increment f)
+pub wrong_element : (a : FieldSpec) (k n : ℕ) (base behind : List Bool) (f : ℕ) → f ≡ a.fxy → 1 ≤ k → a.role ≡ role.Element → holds_by a.kind a k n base behind ≡ false → IsWrong a k n base behind (wrong.Increment f)
 wrong_element a k n base behind f g some e h = record { why = increment; is = element_are a k n base behind some e ∙ varied_are a.kind a k n base behind false h; fault = ap wrong.Increment g }
 
-pub wrong_inserted : (a : Asked) (k n : ℕ) (base behind : List Bool) (f : ℕ) → f ≡ a.fxy → 1 ≤ k → a.role ≡ role.Inserted → holds_by a.kind a k n base behind ≡ false → IsWrong a k n base behind (wrong.Increment f)
+pub wrong_inserted : (a : FieldSpec) (k n : ℕ) (base behind : List Bool) (f : ℕ) → f ≡ a.fxy → 1 ≤ k → a.role ≡ role.Inserted → holds_by a.kind a k n base behind ≡ false → IsWrong a k n base behind (wrong.Increment f)
 wrong_inserted a k n base behind f g some e h = record { why = increment; is = inserted_are a k n base behind some e ∙ varied_are a.kind a k n base behind false h; fault = ap wrong.Increment g }
 
-pub wrong_factor : (a : Asked) (k n : ℕ) (base behind : List Bool) (f : ℕ) → f ≡ a.fxy → 1 ≤ k → a.role ≡ role.Factor → holds_by a.kind a k n base behind ≡ false → IsWrong a k n base behind (wrong.Increment f)
+pub wrong_factor : (a : FieldSpec) (k n : ℕ) (base behind : List Bool) (f : ℕ) → f ≡ a.fxy → 1 ≤ k → a.role ≡ role.Factor → holds_by a.kind a k n base behind ≡ false → IsWrong a k n base behind (wrong.Increment f)
 wrong_factor a k n base behind f g some e h = record { why = increment; is = factor_are a k n base behind some e ∙ ap if_equal (varied_are a.kind a k n base behind false h); fault = ap wrong.Increment g }
 
 -- a redefined reference has no increments
-pub wrong_reference : (a : Asked) (k n : ℕ) (base behind : List Bool) (f : ℕ) → f ≡ a.fxy → 1 ≤ k → a.role ≡ role.Reference → IsWrong a k n base behind (wrong.Increment f)
+pub wrong_reference : (a : FieldSpec) (k n : ℕ) (base behind : List Bool) (f : ℕ) → f ≡ a.fxy → 1 ≤ k → a.role ≡ role.Reference → IsWrong a k n base behind (wrong.Increment f)
 wrong_reference a k n base behind f g some e = record {
   why = increment;
   is =
-      ap (λ b. if b then Ok (map (λ i. content_in a base) (increments n (step_of a.role a.kind k) behind)) else varied a.role a k base (increments n (step_of a.role a.kind k) behind)) (not_zero k some)
-      ∙ ap (λ r. varied r a k base (increments n (step_of a.role a.kind k) behind)) e;
+      ap (λ b. if b then Ok (map (λ i. content_in a base) (increments n (increment_bits_of a.role a.kind k) behind)) else varied a.role a k base (increments n (increment_bits_of a.role a.kind k) behind)) (not_zero k some)
+      ∙ ap (λ r. varied r a k base (increments n (increment_bits_of a.role a.kind k) behind)) e;
   fault = ap wrong.Increment g;
 }
 
 -- with no increments all have the base
-pub told_base : (a : Asked) (k n : ℕ) (base behind : List Bool) (t : Taken) → k ≡ 0 → 1 ≤ n → t ≡ told a (content_in a base) → IsTold a k n base behind t
+pub told_base : (a : FieldSpec) (k n : ℕ) (base behind : List Bool) (t : Taken) → k ≡ 0 → 1 ≤ n → t ≡ answer_of a (content_in a base) → IsTold a k n base behind t
 told_base a k n base behind t e some h =
-    let is = increments n (step_of a.role a.kind k) behind in
+    let is = increments n (increment_bits_of a.role a.kind k) behind in
     record {
       contents = map (λ i. content_in a base) is;
       are = ap (λ x. if x == 0 then Ok (map (λ i. content_in a base) is) else varied a.role a x base is) e;
-      tells = h ∙ first n (step_of a.role a.kind k) some;
+      tells = h ∙ first n (increment_bits_of a.role a.kind k) some;
     }
   where
-    first : (n s : ℕ) → 1 ≤ n → told a (content_in a base) ≡ told_first a (map (λ i. content_in a base) (increments n s behind))
+    first : (n s : ℕ) → 1 ≤ n → answer_of a (content_in a base) ≡ told_first a (map (λ i. content_in a base) (increments n s behind))
     first zero s h = absurd (omega arith)
     first (suc n) s h = refl
 
@@ -193,11 +193,11 @@ self_equal : (n : ℕ) → (n == n) ≡ true
 self_equal n = grind (arith, nat_tests)
 
 -- factors are never missing
-factor_numbers : (a : Asked) (k n : ℕ) (base behind : List Bool) → a.kind ≡ kind.Numeric → a.may_be_missing ≡ false → map (content_from a.kind a k base) (increments n (kind_step a.kind k) behind) ≡ map (λ i. number (number_of base + number_of i)) (increments n k behind)
+factor_numbers : (a : FieldSpec) (k n : ℕ) (base behind : List Bool) → a.kind ≡ kind.Numeric → a.may_be_missing ≡ false → map (content_from a.kind a k base) (increments n (kind_step a.kind k) behind) ≡ map (λ i. number (number_of base + number_of i)) (increments n k behind)
 factor_numbers a k n base behind e f =
     ap (λ x. map (content_from x a k base) (increments n (kind_step x k) behind)) e
-    ∙ ap (λ m. map (λ i. if all_set base && m then missing else increased_to m a.width (number_of base) k (number_of i)) (increments n k behind)) f
-    ∙ plainly (all_set base)
+    ∙ ap (λ m. map (λ i. if are_all_ones base && m then missing else increased_to m a.width (number_of base) k (number_of i)) (increments n k behind)) f
+    ∙ plainly (are_all_ones base)
   where
     plainly : (b : Bool) → map (λ i. if b && false then missing else increased_to false a.width (number_of base) k (number_of i)) (increments n k behind) ≡ map (λ i. number (number_of base + number_of i)) (increments n k behind)
     plainly true = refl
@@ -213,25 +213,25 @@ equal_numbers base first (suc n) k behind b h e t =
     ap (λ x. if x then Ok (number (base + number_of i) ∷ cs) else Err unequal_factor)
     (ap (λ f. list_all (same_count (number (base + f))) cs) (sym e) ∙ same_numbers base first is ∙ sym (ap (λ x. x && list_all (λ j. number_of j == first) is) (ap (λ f. f == first) (sym e) ∙ self_equal first)) ∙ t)
 
-first_number : (base first n k : ℕ) (behind : List Bool) (a : Asked) → 1 ≤ n → first ≡ number_of (take k behind) → a.role ≡ role.Factor → taken.Count (base + first) ≡ told_first a (map (λ i. number (base + number_of i)) (increments n k behind))
+first_number : (base first n k : ℕ) (behind : List Bool) (a : FieldSpec) → 1 ≤ n → first ≡ number_of (take k behind) → a.role ≡ role.Factor → taken.Count (base + first) ≡ told_first a (map (λ i. number (base + number_of i)) (increments n k behind))
 first_number base first zero k behind a h e r = absurd (omega arith)
 first_number base first (suc n) k behind a h e r = ap (λ f. taken.Count (base + f)) e ∙ ap (λ x. told_by_role x (number (base + number_of (take k behind)))) (sym r)
 
-equal_are : (a : Asked) (k n : ℕ) (base behind : List Bool) (first : ℕ) (b : Bool) → 1 ≤ k → 1 ≤ n → IsSpec a → a.role ≡ role.Factor → holds_by a.kind a k n base behind ≡ true → first ≡ number_of (take k behind) → all_equal k n first behind ≡ b
-    → contents_of a k base (increments n (step_of a.role a.kind k) behind) ≡ (if b then Ok (map (λ i. number (number_of base + number_of i)) (increments n k behind)) else Err unequal_factor)
+equal_are : (a : FieldSpec) (k n : ℕ) (base behind : List Bool) (first : ℕ) (b : Bool) → 1 ≤ k → 1 ≤ n → IsSpec a → a.role ≡ role.Factor → holds_by a.kind a k n base behind ≡ true → first ≡ number_of (take k behind) → all_equal k n first behind ≡ b
+    → contents_of a k base (increments n (increment_bits_of a.role a.kind k) behind) ≡ (if b then Ok (map (λ i. number (number_of base + number_of i)) (increments n k behind)) else Err unequal_factor)
 equal_are a k n base behind first b some any spec e h f t =
     let r : HasRole role.Factor a.kind a.may_be_missing = subst (λ x. HasRole x a.kind a.may_be_missing) e spec.role in
     factor_are a k n base behind some e ∙ ap if_equal (varied_are a.kind a k n base behind true h)
     ∙ ap (λ cs. if_equal (Ok cs)) (factor_numbers a k n base behind r.0 r.1) ∙ equal_numbers (number_of base) first n k behind b any f t
 
-pub told_factor_varied : (a : Asked) (k n : ℕ) (base behind : List Bool) (low first : ℕ) → 1 ≤ k → 1 ≤ n → IsSpec a → a.role ≡ role.Factor → holds_by a.kind a k n base behind ≡ true → low ≡ number_of base → first ≡ number_of (take k behind) → all_equal k n first behind ≡ true → IsTold a k n base behind (taken.Count (low + first))
+pub told_factor_varied : (a : FieldSpec) (k n : ℕ) (base behind : List Bool) (low first : ℕ) → 1 ≤ k → 1 ≤ n → IsSpec a → a.role ≡ role.Factor → holds_by a.kind a k n base behind ≡ true → low ≡ number_of base → first ≡ number_of (take k behind) → all_equal k n first behind ≡ true → IsTold a k n base behind (taken.Count (low + first))
 told_factor_varied a k n base behind low first some any spec e h l f t = record {
   contents = map (λ i. number (number_of base + number_of i)) (increments n k behind);
   are = equal_are a k n base behind first true some any spec e h f t;
   tells = ap (λ x. taken.Count (x + first)) l ∙ first_number (number_of base) first n k behind a any f e;
 }
 
-pub wrong_unequal : (a : Asked) (k n : ℕ) (base behind : List Bool) (first f : ℕ) → f ≡ a.fxy → 1 ≤ k → 1 ≤ n → IsSpec a → a.role ≡ role.Factor → holds_by a.kind a k n base behind ≡ true → first ≡ number_of (take k behind) → all_equal k n first behind ≡ false → IsWrong a k n base behind (wrong.UnequalFactor f)
+pub wrong_unequal : (a : FieldSpec) (k n : ℕ) (base behind : List Bool) (first f : ℕ) → f ≡ a.fxy → 1 ≤ k → 1 ≤ n → IsSpec a → a.role ≡ role.Factor → holds_by a.kind a k n base behind ≡ true → first ≡ number_of (take k behind) → all_equal k n first behind ≡ false → IsWrong a k n base behind (wrong.UnequalFactor f)
 wrong_unequal a k n base behind first f g some any spec e h q t = record {
   why = unequal_factor;
   is = equal_are a k n base behind first false some any spec e h q t;
@@ -239,7 +239,7 @@ wrong_unequal a k n base behind first f g some any spec e h q t = record {
 }
 
 -- the same for each role that tells nothing
-pub told_varied : (a : Asked) (k n : ℕ) (base behind : List Bool) → 1 ≤ k → is_plain_role a.role ≡ true → holds_by a.kind a k n base behind ≡ true → IsTold a k n base behind taken.Plain
+pub told_varied : (a : FieldSpec) (k n : ℕ) (base behind : List Bool) → 1 ≤ k → is_plain_role a.role ≡ true → holds_by a.kind a k n base behind ≡ true → IsTold a k n base behind taken.Plain
 told_varied a k n base behind some e h = by a.role refl e
   where
     by : (r : Role) → a.role ≡ r → is_plain_role r ≡ true → IsTold a k n base behind taken.Plain
@@ -248,7 +248,7 @@ told_varied a k n base behind some e h = by a.role refl e
     by role.Factor q e = absurd cc
     by role.Reference q e = absurd cc
 
-pub wrong_varied : (a : Asked) (k n : ℕ) (base behind : List Bool) (f : ℕ) → f ≡ a.fxy → 1 ≤ k → is_plain_role a.role ≡ true → holds_by a.kind a k n base behind ≡ false → IsWrong a k n base behind (wrong.Increment f)
+pub wrong_varied : (a : FieldSpec) (k n : ℕ) (base behind : List Bool) (f : ℕ) → f ≡ a.fxy → 1 ≤ k → is_plain_role a.role ≡ true → holds_by a.kind a k n base behind ≡ false → IsWrong a k n base behind (wrong.Increment f)
 wrong_varied a k n base behind f g some e h = by a.role refl e
   where
     by : (r : Role) → a.role ≡ r → is_plain_role r ≡ true → IsWrong a k n base behind (wrong.Increment f)

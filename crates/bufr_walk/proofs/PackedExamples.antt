@@ -3,12 +3,12 @@ use Rattle.std.proofs.Common.{◌≡◌, ℕ, ◌*◌, ◌+◌, Bool, true, fals
 use Rattle.std.specs.Prelude.{nat_lt}
 use Rattle.bufr_bits.specs.Bits.{bits_of}
 use Rattle.bufr_tables.specs.Tree.{bare, element, operator, delayed}
-use Rattle.bufr_walk.specs.declared.spec.Refusal.TheVariants as refusal
+use Rattle.bufr_walk.specs.declared.spec.TurnRefusal.TheVariants as refusal
 use Rattle.bufr_walk.specs.declared.spec.Taken.TheVariants as taken
 use Rattle.bufr_walk.specs.Course.{Course, next_item}
 use Rattle.bufr_walk.specs.Content.{shown_number, shown_text, shown_missing, shown_reference}
 use Rattle.bufr_walk.specs.PlainField.{data_end, increment}
-use Rattle.bufr_walk.specs.Reading.{packed, turns_together, IsPackedReading, most_values}
+use Rattle.bufr_walk.specs.Reading.{packed, turns_together, IsPackedReading, max_values}
 use Rattle.bufr_walk.specs.Refusal.{Stop, walk_stop, too_many, field_stop, stop_at, IsPackedRefused}
 use Rattle.bufr_walk.proofs.ExampleTables.{fxy, table, done, walk_fault, field_fault, together, gives}
 
@@ -170,11 +170,11 @@ reference_of_all_ones_together = refl
 -- More than 134217728 values are too many, counted before an item is read and behind the faults of
 -- the walk: fails where the data end first, where a refused width or a text in a definition comes
 -- later, or where the bound is another.
-too_many_before_the_data_end : stop_at (packed 65535) (nat_lt most_values (2049 * 65535)) (next_item table (element (fxy 0 12 101) bare) []).next [] ≡ Some (too_many 3173)
+too_many_before_the_data_end : stop_at (packed 65535) (nat_lt max_values (2049 * 65535)) (next_item table (element (fxy 0 12 101) bare) []).next [] ≡ Some (too_many 3173)
 unfolding table next_item fxy
 too_many_before_the_data_end = refl
 
-not_yet_too_many : stop_at (packed 2) (nat_lt most_values (2048 * 65535)) (next_item table (element (fxy 0 12 101) bare) []).next [] ≡ Some (field_stop 3173 data_end)
+not_yet_too_many : stop_at (packed 2) (nat_lt max_values (2048 * 65535)) (next_item table (element (fxy 0 12 101) bare) []).next [] ≡ Some (field_stop 3173 data_end)
 unfolding table next_item fxy
 not_yet_too_many = refl
 
@@ -190,10 +190,10 @@ none_too_many_at_the_end : stop_at (packed 65535) true (next_item table (element
 unfolding table next_item fxy
 none_too_many_at_the_end = refl
 
-just_not_too_many : nat_lt most_values (4096 * 32768) ≡ false
+just_not_too_many : nat_lt max_values (4096 * 32768) ≡ false
 just_not_too_many = refl
 
-just_too_many : nat_lt most_values (4096 * 32768 + 1) ≡ true
+just_too_many : nat_lt max_values (4096 * 32768 + 1) ≡ true
 just_too_many = refl
 
 refused_as_too_many : IsPackedRefused 134217729 (next_item table (element (fxy 0 12 101) bare)) [] (too_many 3173) 0 1

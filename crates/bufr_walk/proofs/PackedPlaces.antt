@@ -4,12 +4,13 @@ use Rattle.std.specs.Prelude.{nat_lt, if◌then◌else◌}
 use Rattle.std.proofs.lemmas.List.{length-drop, drop-drop}
 use Rattle.std.proofs.lemmas.Bool.Decides.{nat_tests}
 use Rattle.bufr_bits.specs.Bits.{number_of}
-use Rattle.bufr_walk.specs.declared.packed_in.PackedItem.{PackedItem}
+use Rattle.bufr_tables.specs.TableB.{is_character}
+use Rattle.bufr_walk.specs.declared.packed_in.ItemBits.{ItemBits}
 use Rattle.bufr_walk.specs.declared.packed_in.PackedFault.{PackedFault}
 use Rattle.bufr_walk.specs.declared.packed_in.PackedFault.TheVariants as wrong
-use Rattle.bufr_walk.specs.Asked.{Asked}
+use Rattle.bufr_walk.specs.FieldSpec.{FieldSpec}
 use Rattle.bufr_walk.specs.PlainField.{data_end, found}
-use Rattle.bufr_walk.specs.PackedField.{increments, step_of, contents_of, with_behind, item_by, packed_field}
+use Rattle.bufr_walk.specs.PackedField.{increments, increment_bits_of, contents_of, with_behind, item_by, packed_field}
 use Rattle.bufr_walk.specs.PackedBits.{IsTold, IsWrong, IsSeen, IsUnseen}
 
 not_short : (a b : ℕ) → b ≤ a → nat_lt a b ≡ false
@@ -18,27 +19,27 @@ not_short a b h = grind (arith, nat_tests)
 is_short : (a b : ℕ) → a < b → nat_lt a b ≡ true
 is_short a b h = grind (arith, nat_tests)
 
-module _ (bits : List Bool) (at n : ℕ) (a : Asked) where
+module _ (bits : List Bool) (at n : ℕ) (a : FieldSpec) where
   -- the k that is read there
   k_here : (k : ℕ) → k ≡ number_of (take 6 (drop (at + a.width) bits)) → number_of (take 6 (drop a.width (drop at bits))) ≡ k
   k_here k is = ap (λ bs. number_of (take 6 bs)) (drop-drop a.width at bits) ∙ sym is
 
-  begun : (k : ℕ) → at + (a.width + 6) ≤ length bits → k ≡ number_of (take 6 (drop (at + a.width) bits)) → packed_field n a (drop at bits) ≡ item_by a n k (drop at bits)
-  begun k within is =
+  with_open_group : (k : ℕ) → at + (a.width + 6) ≤ length bits → k ≡ number_of (take 6 (drop (at + a.width) bits)) → packed_field n a (drop at bits) ≡ item_by a n k (drop at bits)
+  with_open_group k within is =
       ap (λ b. if b then Err data_end else item_by a n (number_of (take 6 (drop a.width (drop at bits)))) (drop at bits)) (not_short (length (drop at bits)) (a.width + 6) (omega (arith, length-drop at bits)))
       ∙ ap (λ x. item_by a n x (drop at bits)) (k_here k is)
 
   -- an item that is there whole
-  pub field_is : (k size : ℕ) → at + size ≤ length bits → k ≡ number_of (take 6 (drop (at + a.width) bits)) → size ≡ a.width + 6 + n * step_of a.role a.kind k
-      → packed_field n a (drop at bits) ≡ with_behind (contents_of a k (take a.width (drop at bits)) (increments n (step_of a.role a.kind k) (drop (at + (a.width + 6)) bits))) (drop (at + size) bits)
+  pub field_is : (k size : ℕ) → at + size ≤ length bits → k ≡ number_of (take 6 (drop (at + a.width) bits)) → size ≡ a.width + 6 + n * increment_bits_of a.role a.kind k
+      → packed_field n a (drop at bits) ≡ with_behind (contents_of a k (take a.width (drop at bits)) (increments n (increment_bits_of a.role a.kind k) (drop (at + (a.width + 6)) bits))) (drop (at + size) bits)
   field_is k size within is size_is =
-      let s = step_of a.role a.kind k in
+      let s = increment_bits_of a.role a.kind k in
       let here = drop at bits in
       let back = drop (a.width + 6) here in
       let same : back ≡ drop (at + (a.width + 6)) bits = drop-drop (a.width + 6) at bits in
       let long : n * s ≤ length back = omega (arith, ap length same, length-drop (at + (a.width + 6)) bits) in
       let ends : at + (a.width + 6) + n * s ≡ at + size = omega arith in
-      begun k (omega arith) is
+      with_open_group k (omega arith) is
       ∙ ap (λ b. if b then Err data_end else with_behind (contents_of a k (take a.width here) (increments n s back)) (drop (n * s) back)) (not_short (length back) (n * s) long)
       ∙ ap (λ bs. with_behind (contents_of a k (take a.width here) (increments n s bs)) (drop (n * s) bs)) same
       ∙ ap (λ bs. with_behind (contents_of a k (take a.width here) (increments n s (drop (at + (a.width + 6)) bits))) bs) (drop-drop (n * s) (at + (a.width + 6)) bits ∙ ap (λ j. drop j bits) ends)
@@ -51,30 +52,31 @@ module _ (bits : List Bool) (at n : ℕ) (a : Asked) where
     fault = ap wrong.DataEnd g;
   }
 
-  pub ends_behind : (k size f : ℕ) → f ≡ a.fxy → at + (a.width + 6) ≤ length bits → length bits < at + size → k ≡ number_of (take 6 (drop (at + a.width) bits)) → size ≡ a.width + 6 + n * step_of a.role a.kind k → IsUnseen bits at n a (wrong.DataEnd f)
+  pub ends_behind : (k size f : ℕ) → f ≡ a.fxy → at + (a.width + 6) ≤ length bits → length bits < at + size → k ≡ number_of (take 6 (drop (at + a.width) bits)) → size ≡ a.width + 6 + n * increment_bits_of a.role a.kind k → IsUnseen bits at n a (wrong.DataEnd f)
   ends_behind k size f g within short is size_is =
-      let s = step_of a.role a.kind k in
+      let s = increment_bits_of a.role a.kind k in
       let here = drop at bits in
       let back = drop (a.width + 6) here in
       let same : back ≡ drop (at + (a.width + 6)) bits = drop-drop (a.width + 6) at bits in
       let long : length back < n * s = omega (arith, ap length same, length-drop (at + (a.width + 6)) bits) in
       record {
         why = data_end;
-        field = begun k within is ∙ ap (λ b. if b then Err data_end else with_behind (contents_of a k (take a.width here) (increments n s back)) (drop (n * s) back)) (is_short (length back) (n * s) long);
+        field = with_open_group k within is ∙ ap (λ b. if b then Err data_end else with_behind (contents_of a k (take a.width here) (increments n s back)) (drop (n * s) back)) (is_short (length back) (n * s) long);
         fault = ap wrong.DataEnd g;
       }
 
-  pub seen_here : (seen : PackedItem) (size : ℕ) → 1 ≤ a.width → seen.end ≡ at + size → at + size ≤ length bits → seen.step ≡ number_of (take 6 (drop (at + a.width) bits)) → size ≡ a.width + 6 + n * step_of a.role a.kind seen.step → IsTold a seen.step n (take a.width (drop at bits)) (drop (at + (a.width + 6)) bits) seen.told → IsSeen bits at n a seen
-  seen_here seen size some end_is within is size_is told = record {
+  pub seen_here : (seen : ItemBits) (size : ℕ) → 1 ≤ a.width → seen.end ≡ at + size → at + size ≤ length bits → seen.step ≡ number_of (take 6 (drop (at + a.width) bits)) → size ≡ a.width + 6 + n * increment_bits_of a.role a.kind seen.step → IsTold a seen.step n (take a.width (drop at bits)) (drop (at + (a.width + 6)) bits) seen.told → (is_character a.kind ≡ false → seen.base ≡ number_of (take a.width (drop at bits))) → IsSeen bits at n a seen
+  seen_here seen size some end_is within is size_is told based = record {
     contents = told.contents;
     field = field_is seen.step size within is size_is ∙ ap (λ r. with_behind r (drop (at + size) bits)) told.are ∙ ap (λ j. Ok (found told.contents (drop j bits))) (sym end_is);
     tells = told.tells;
     step = is;
+    base = based;
     within = omega arith;
     least = omega arith;
   }
 
-  pub unseen_here : (k size : ℕ) (e : PackedFault) → at + size ≤ length bits → k ≡ number_of (take 6 (drop (at + a.width) bits)) → size ≡ a.width + 6 + n * step_of a.role a.kind k → IsWrong a k n (take a.width (drop at bits)) (drop (at + (a.width + 6)) bits) e → IsUnseen bits at n a e
+  pub unseen_here : (k size : ℕ) (e : PackedFault) → at + size ≤ length bits → k ≡ number_of (take 6 (drop (at + a.width) bits)) → size ≡ a.width + 6 + n * increment_bits_of a.role a.kind k → IsWrong a k n (take a.width (drop at bits)) (drop (at + (a.width + 6)) bits) e → IsUnseen bits at n a e
   unseen_here k size e within is size_is w = record {
     why = w.why;
     field = field_is k size within is size_is ∙ ap (λ r. with_behind r (drop (at + size) bits)) w.is;

@@ -6,14 +6,14 @@ use Rattle.bufr_walk.specs.declared.fault.WalkFault.{WalkFault}
 use Rattle.bufr_walk.specs.declared.fault.WalkFault.TheVariants as fault
 use Rattle.bufr_walk.specs.Content.{Content}
 use Rattle.bufr_walk.specs.Course.{Course, Next, take_next}
-use Rattle.bufr_walk.specs.Fault.{fault_of, bits_before}
-use Rattle.bufr_walk.specs.Kept.{IsReadAndPaid, items_in}
+use Rattle.bufr_walk.specs.Fault.{walk_fault_of, bits_before}
+use Rattle.bufr_walk.specs.StoredItems.{IsReadAndPaid, items_in}
 use Rattle.bufr_walk.specs.Outcome.{data_in, IsFault, IsRefused}
 use Rattle.bufr_walk.specs.Passes.{PassComes, PassReads, PassStops, SubsetsRead}
 use Rattle.bufr_walk.specs.PlainIn.{Cursor, rest_of}
-use Rattle.bufr_walk.specs.Reading.{Item, plain, ReadsAll, ReadsSubsets, turns_after, turns_in}
+use Rattle.bufr_walk.specs.Reading.{Item, plain, ReadsPass, ReadsSubsets, turns_after, turns_in}
 use Rattle.bufr_walk.specs.PlainField.{data_end, increment, unequal_factor}
-use Rattle.bufr_walk.specs.declared.spec.Refusal.TheVariants as refusal
+use Rattle.bufr_walk.specs.declared.spec.TurnRefusal.TheVariants as refusal
 use Rattle.bufr_walk.specs.Refusal.{Stop, walk_stop, too_many, field_stop, stop_at, ComesTo}
 use Rattle.bufr_walk.specs.Ticks.{ticked}
 
@@ -23,8 +23,8 @@ ticked_more a b = by a b (2 ^ 64 - 1)
     by : (a b most : ℕ) → max (max 0 (min (0 + a) most)) (min (max 0 (min (0 + a) most) + b) most) ≡ max 0 (min (0 + (a + b)) most)
     by a b most = omega arith
 
-pub reads_more : (course : Course) (xs : List (List (Item Content))) (x : List (Item Content)) (bits mid behind : List Bool) → ReadsSubsets course xs bits mid → ReadsAll plain course x mid behind → ReadsSubsets course (xs ++ x ∷ []) bits behind
-reads_more course [] x bits mid behind h r = (behind, subst (λ z. ReadsAll plain course x z behind) (sym h) r, refl)
+pub reads_more : (course : Course) (xs : List (List (Item Content))) (x : List (Item Content)) (bits mid behind : List Bool) → ReadsSubsets course xs bits mid → ReadsPass plain course x mid behind → ReadsSubsets course (xs ++ x ∷ []) bits behind
+reads_more course [] x bits mid behind h r = (behind, subst (λ z. ReadsPass plain course x z behind) (sym h) r, refl)
 reads_more course (y ∷ xs) x bits mid behind h r = (h.0, h.1, reads_more course xs x h.0 mid behind h.2 r)
 
 pub turns_more : (course : Course) (xs : List (List (Item Content))) (x : List (Item Content)) → turns_in course (xs ++ x ∷ []) ≡ turns_in course xs + turns_after plain course x
@@ -95,7 +95,7 @@ ticks_of n course bits i s s' c c' next h p = p.ticks ∙ ap (λ x. ticked x (tu
 here : (s : Cursor) (bits : List Bool) → s.bits ≡ bits → s.at ≤ length bits → s.at + length (rest_of s) ≡ length bits
 here s bits e h = omega (arith, length-drop s.at s.bits, ap length e, h)
 
-refused_so : (n : ℕ) (course : Course) (octets : List ℕ) (i total : ℕ) (s s' : Cursor) (c c' : ℕ) (next : Next) (stop : Stop) (why : WalkFault) (h : SubsetsRead n course (bits_of octets) i s c) (p : PassComes course s c next s' c') → i < total → s'.at ≤ length (bits_of octets) → stop_at plain false next (rest_of s') ≡ Some stop → why ≡ fault_of stop (i + 1) s'.at → (turns : ℕ) × IsRefused course (data_in false total octets) why turns × (c' ≡ ticked 0 turns)
+refused_so : (n : ℕ) (course : Course) (octets : List ℕ) (i total : ℕ) (s s' : Cursor) (c c' : ℕ) (next : Next) (stop : Stop) (why : WalkFault) (h : SubsetsRead n course (bits_of octets) i s c) (p : PassComes course s c next s' c') → i < total → s'.at ≤ length (bits_of octets) → stop_at plain false next (rest_of s') ≡ Some stop → why ≡ walk_fault_of stop (i + 1) s'.at → (turns : ℕ) × IsRefused course (data_in false total octets) why turns × (c' ≡ ticked 0 turns)
 refused_so n course octets i total s s' c c' next stop why h p more within stops is = (
   turns_in course h.subsets + turns_after plain course p.items,
   record {
@@ -144,7 +144,7 @@ few_stopped n course bits i s s' c c' subset why h p few within forth = most (bi
     most : (k : ℕ) → s'.at ≤ k → c' ≤ n * (k + 1)
     most k w = sums n s.at s'.at c c' k h.few few forth w
 
-    at_spot : (stop : Stop) → (bits_before (fault_of stop subset s'.at) (length bits)) ≡ s'.at
+    at_spot : (stop : Stop) → (bits_before (walk_fault_of stop subset s'.at) (length bits)) ≡ s'.at
     at_spot (walk_stop (refusal.Width f)) = refl
     at_spot (walk_stop (refusal.Defining f)) = refl
     at_spot (too_many f) = refl

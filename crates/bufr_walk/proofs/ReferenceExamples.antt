@@ -2,7 +2,7 @@
 -- defined, computed from the definitions.
 use Rattle.std.proofs.Common.{◌≡◌, [], ◌∷◌, pos, negsuc, refl}
 use Rattle.bufr_tables.specs.Tree.{bare, element, operator, fixed, delayed}
-use Rattle.bufr_walk.specs.declared.spec.Refusal.TheVariants as refusal
+use Rattle.bufr_walk.specs.declared.spec.TurnRefusal.TheVariants as refusal
 use Rattle.bufr_walk.specs.Content.{shown_number, shown_reference}
 use Rattle.bufr_walk.proofs.ExampleTables.{fxy, done, walk_fault, one, gives}
 

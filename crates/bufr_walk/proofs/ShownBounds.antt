@@ -5,14 +5,14 @@ use Rattle.bufr_tables.specs.Sound.{IsSound}
 use Rattle.bufr_tables.specs.TableB.{Row}
 use Rattle.bufr_tables.specs.Tree.{Tree, places}
 use Rattle.bufr_walk.specs.declared.fault.ShowFault.{ShowFault}
-use Rattle.bufr_walk.specs.declared.reading.Kept.{Kept}
+use Rattle.bufr_walk.specs.declared.reading.StoredItems.{StoredItems}
 use Rattle.bufr_walk.specs.declared.spec.Taken.{Taken}
-use Rattle.bufr_walk.specs.Calls.{Call, Timed, item_calls, subset_calls, items_together, subsets_together, calls_of, items_called, turns_shown}
+use Rattle.bufr_walk.specs.Calls.{Call, Timed, item_calls, subset_calls, compressed_item_calls, compressed_subset_calls, calls_of, items_called, turns_shown}
 use Rattle.bufr_walk.specs.Content.{Content}
 use Rattle.bufr_walk.specs.Course.{Course, next_item}
-use Rattle.bufr_walk.specs.Kept.{IsHeld, PaysBits, items_in}
+use Rattle.bufr_walk.specs.StoredItems.{IsStoredReading, PaysBits, items_in}
 use Rattle.bufr_walk.specs.Outcome.{Read, course_of}
-use Rattle.bufr_walk.specs.Reading.{Item, plain, tells_of, after, next_after, turns_after, turns_in, ReadsSubsets, Values, apart, together, IsReading, IsPackedReading, most_values}
+use Rattle.bufr_walk.specs.Reading.{Item, plain, tells_of, after, next_after, turns_after, turns_in, ReadsSubsets, Values, apart, together, IsReading, IsPackedReading, max_values}
 use Rattle.bufr_walk.specs.CallsInTurn.{Shows}
 use Rattle.bufr_walk.specs.Ticks.{ticked}
 use Rattle.bufr_walk.proofs.Bound.{turns_before, turns_in_all}
@@ -33,28 +33,28 @@ called_subsets table course before number (items ∷ subsets) =
     let behind : List Timed = subset_calls table course (before + turns_after plain course items) (number + 1) subsets in
     omega (arith, called_more (item_calls table before course items) behind, called_items table before course items, called_subsets table course (before + turns_after plain course items) (number + 1) subsets)
 
-called_together : (table : List Row) (j : ℕ) (items : List (Item (List Content))) → items_called (items_together table j items) ≡ length items
+called_together : (table : List Row) (j : ℕ) (items : List (Item (List Content))) → items_called (compressed_item_calls table j items) ≡ length items
 called_together table j [] = refl
 called_together table j (i ∷ items) = omega (arith, called_together table j items)
 
-called_all : (table : List Row) (n j : ℕ) (items : List (Item (List Content))) → items_called (subsets_together table n j items) ≡ length items * n
+called_all : (table : List Row) (n j : ℕ) (items : List (Item (List Content))) → items_called (compressed_subset_calls table n j items) ≡ length items * n
 called_all table zero j items = omega arith
 called_all table (suc n) j items =
-    let behind : List Timed = subsets_together table n (j + 1) items in
+    let behind : List Timed = compressed_subset_calls table n (j + 1) items in
     let more : length items * suc n ≡ length items + length items * n = grind arith in
-    omega (arith, more, called_more (items_together table j items) behind, called_together table j items, called_all table n (j + 1) items)
+    omega (arith, more, called_more (compressed_item_calls table j items) behind, called_together table j items, called_all table n (j + 1) items)
 
-packed_few : (table : List Row) (n used : ℕ) (course : Course) (items : List (Item (List Content))) (bits behind : List Bool) → IsPackedReading n course items bits behind → length items * n ≤ most_values
+packed_few : (table : List Row) (n used : ℕ) (course : Course) (items : List (Item (List Content))) (bits behind : List Bool) → IsPackedReading n course items bits behind → length items * n ≤ max_values
 packed_few table zero used course items bits behind h = omega arith
 packed_few table (suc n) used course items bits behind h = h.1
 
 -- the items of all calls
-pub few_items : (r : Read) (k : Kept) → IsHeld r k → (values : Values) → IsReading (course_of r) r.source values r.bits → items_called (calls_of r values) ≤ most_values
+pub few_items : (r : Read) (k : StoredItems) → IsStoredReading r k → (values : Values) → IsReading (course_of r) r.source values r.bits → items_called (calls_of r values) ≤ max_values
 few_items r k h values reading =
     let same = one_reading (course_of r) r.source h.values values r.bits r.bits h.reading reading in
-    subst (λ v. items_called (calls_of r v) ≤ most_values) same.0 (by h.values h.reading h.pays)
+    subst (λ v. items_called (calls_of r v) ≤ max_values) same.0 (by h.values h.reading h.pays)
   where
-    by : (values : Values) → IsReading (course_of r) r.source values r.bits → PaysBits values r.bits → items_called (calls_of r values) ≤ most_values
+    by : (values : Values) → IsReading (course_of r) r.source values r.bits → PaysBits values r.bits → items_called (calls_of r values) ≤ max_values
     by (apart subsets) g p = omega (arith, called_subsets r.table (course_of r) 0 1 subsets, p, h.short)
     by (together items) g p = omega (arith, called_all r.table r.source.subsets 0 items, packed_few r.table r.source.subsets 0 (course_of r) items r.source.bits (drop r.bits r.source.bits) g.2)
 
@@ -139,16 +139,16 @@ subsets_within most table template before paid number (items ∷ subsets) bits b
     zeroed : (l : ℕ) → l + 1 ≡ 0 + l + 1
     zeroed l = omega arith
 
-together_within : (most : ℕ) (table : List Row) (n j : ℕ) (items : List (Item (List Content))) → AllWithin most (subsets_together table n j items)
+together_within : (most : ℕ) (table : List Row) (n j : ℕ) (items : List (Item (List Content))) → AllWithin most (compressed_subset_calls table n j items)
 together_within most table zero j items = tt
-together_within most table (suc n) j items = (omega arith, within_more most (items_together table j items) (subsets_together table n (j + 1) items) (one items) (together_within most table n (j + 1) items))
+together_within most table (suc n) j items = (omega arith, within_more most (compressed_item_calls table j items) (compressed_subset_calls table n (j + 1) items) (one items) (together_within most table n (j + 1) items))
   where
-    one : (items : List (Item (List Content))) → AllWithin most (items_together table j items)
+    one : (items : List (Item (List Content))) → AllWithin most (compressed_item_calls table j items)
     one [] = tt
     one (i ∷ items) = (omega arith, one items)
 
 -- the steps of a showing
-pub steps_within : {S E : Type 0} (sees : S → Call → Result (Unit {0}) E → S → Type 0) (r : Read) (k : Kept) (s s' : S) (result : Result (Unit {0}) (ShowFault E)) (steps : ℕ) → IsSound r.template → IsHeld r k
+pub steps_within : {S E : Type 0} (sees : S → Call → Result (Unit {0}) E → S → Type 0) (r : Read) (k : StoredItems) (s s' : S) (result : Result (Unit {0}) (ShowFault E)) (steps : ℕ) → IsSound r.template → IsStoredReading r k
     → ((values : Values) → IsReading (course_of r) r.source values r.bits → Shows sees s (calls_of r values) (turns_shown r values) result s' steps) → steps ≤ places r.template * r.bits
 steps_within sees r k s s' result steps sound h shows = by h.values h.reading h.pays (shows h.values h.reading)
   where

@@ -11,9 +11,9 @@ use Rattle.bufr_tables.proofs.RowLemmas.{row-limits}
 use Rattle.bufr_walk.specs.declared.fault.WalkFault.{WalkFault}
 use Rattle.bufr_walk.specs.Content.{Content}
 use Rattle.bufr_walk.specs.Course.{Course, Next, take_next, at_end, astray, refused, next_item}
-use Rattle.bufr_walk.specs.Fault.{fault_of}
+use Rattle.bufr_walk.specs.Fault.{walk_fault_of}
 use Rattle.bufr_walk.specs.Outcome.{IsRefused}
-use Rattle.bufr_walk.specs.Reading.{Item, Form, plain, packed, Reads, ReadsAll, ReadsSubsets, next_after, turns_after, turns_in, most_values, Data, Values, apart, together, IsReading}
+use Rattle.bufr_walk.specs.Reading.{Item, DataCoding, plain, packed, ReadsItems, ReadsPass, ReadsSubsets, next_after, turns_after, turns_in, max_values, Data, Values, apart, together, IsReading}
 use Rattle.bufr_walk.specs.Refusal.{Stop, stop_at, would_be_many}
 use Rattle.bufr_walk.proofs.OneOutcome.{Outcome, ended, stopped, stopped_by, outcome_of}
 use Rattle.bufr_walk.proofs.SomePass.{SomeOutcome, some_outcome, plain_forth, packed_forth}
@@ -30,13 +30,13 @@ is_stop (Some s) stop e = ap Some (same s stop e)
     same : (a b : Stop) → ◌≡◌ {A = Option Outcome} (Some (stopped a)) (Some (stopped b)) → a ≡ b
     same a b e = cc
 
-end_of : {C : Type 0} (form : Form C) (b : Bool) (next : Next) (left : List Bool) → outcome_of form b next left ≡ Some ended → next ≡ at_end
+end_of : {C : Type 0} (form : DataCoding C) (b : Bool) (next : Next) (left : List Bool) → outcome_of form b next left ≡ Some ended → next ≡ at_end
 end_of form b (take_next spec) left e = absurd (no_end (stop_at form b (take_next spec) left) e)
 end_of form b (refused why) left e = absurd (no_end (stop_at form b (refused why) left) e)
 end_of form b at_end left e = refl
 end_of form b astray left e = absurd cc
 
-stop_of : {C : Type 0} (form : Form C) (b : Bool) (next : Next) (left : List Bool) (stop : Stop) → outcome_of form b next left ≡ Some (stopped stop) → stop_at form b next left ≡ Some stop
+stop_of : {C : Type 0} (form : DataCoding C) (b : Bool) (next : Next) (left : List Bool) (stop : Stop) → outcome_of form b next left ≡ Some (stopped stop) → stop_at form b next left ≡ Some stop
 stop_of form b (take_next spec) left stop e = is_stop (stop_at form b (take_next spec) left) stop e
 stop_of form b (refused why) left stop e = is_stop (stop_at form b (refused why) left) stop e
 stop_of form b at_end left stop e = absurd cc
@@ -58,7 +58,7 @@ record SomeRead (course : Course) (bits : List Bool) (n : ℕ) : Type 0 where
   pub used : ℕ
   pub within : used ≤ length bits
   pub whole : ReadsSubsets course done bits mid
-  pub reads : Reads plain course items mid (drop used bits)
+  pub reads : ReadsItems plain course items mid (drop used bits)
   pub stop : Stop
   pub stops : stop_at plain false (next_after plain course items) (drop used bits) ≡ Some stop
   pub count : length done + 1 ≤ n
@@ -67,7 +67,7 @@ drop_both : (a b : ℕ) (xs ys : List Bool) → ys ≡ drop a xs → drop b ys �
 drop_both a b xs ys e = ap (drop b) e ∙ drop-drop b a xs
 
 module _ (course : Course) where
-  one_all : (n : ℕ) (bits mid : List Bool) (items : List (Item Content)) (used : ℕ) → used ≤ length bits → mid ≡ drop used bits → ReadsAll plain course items bits mid → AllRead course mid n → AllRead course bits (suc n)
+  one_all : (n : ℕ) (bits mid : List Bool) (items : List (Item Content)) (used : ℕ) → used ≤ length bits → mid ≡ drop used bits → ReadsPass plain course items bits mid → AllRead course mid n → AllRead course bits (suc n)
   one_all n bits mid items used within e h r = record {
     subsets = items ∷ r.subsets;
     used = used + r.used;
@@ -76,7 +76,7 @@ module _ (course : Course) where
     count = ap suc r.count;
   }
 
-  one_some : (n : ℕ) (bits mid : List Bool) (items : List (Item Content)) (used : ℕ) → used ≤ length bits → mid ≡ drop used bits → ReadsAll plain course items bits mid → SomeRead course mid n → SomeRead course bits (suc n)
+  one_some : (n : ℕ) (bits mid : List Bool) (items : List (Item Content)) (used : ℕ) → used ≤ length bits → mid ≡ drop used bits → ReadsPass plain course items bits mid → SomeRead course mid n → SomeRead course bits (suc n)
   one_some n bits mid items used within e h r =
       let same : drop r.used mid ≡ drop (used + r.used) bits = drop_both used r.used bits mid e in
       record {
@@ -86,7 +86,7 @@ module _ (course : Course) where
         used = used + r.used;
         within = omega (arith, within, r.within, length-drop used bits, ap length e);
         whole = (mid, h, r.whole);
-        reads = subst (λ z. Reads plain course r.items r.mid z) same r.reads;
+        reads = subst (λ z. ReadsItems plain course r.items r.mid z) same r.reads;
         stop = r.stop;
         stops = subst (λ z. stop_at plain false (next_after plain course r.items) z ≡ Some r.stop) same r.stops;
         count = omega (arith, r.count);
@@ -100,10 +100,10 @@ module _ (course : Course) where
     where
       by : (o : SomeOutcome plain (λ k. false) course 0 bits) (end : Outcome) → o.outcome ≡ end → ((b : List Bool) → AllRead course b n ⊎ SomeRead course b n) → AllRead course bits (suc n) ⊎ SomeRead course bits (suc n)
       by o ended e go =
-          let whole : ReadsAll plain course o.items bits o.left = (o.has.reads, end_of plain false (next_after plain course o.items) o.left (o.has.ends ∙ ap Some e)) in
+          let whole : ReadsPass plain course o.items bits o.left = (o.has.reads, end_of plain false (next_after plain course o.items) o.left (o.has.ends ∙ ap Some e)) in
           more (go o.left) whole
         where
-          more : AllRead course o.left n ⊎ SomeRead course o.left n → ReadsAll plain course o.items bits o.left → AllRead course bits (suc n) ⊎ SomeRead course bits (suc n)
+          more : AllRead course o.left n ⊎ SomeRead course o.left n → ReadsPass plain course o.items bits o.left → AllRead course bits (suc n) ⊎ SomeRead course bits (suc n)
           more (inl r) h = inl (one_all n bits o.left o.items o.used o.within o.left_is h r)
           more (inr r) h = inr (one_some n bits o.left o.items o.used o.within o.left_is h r)
       by o (stopped s) e go = inr (record {
@@ -113,7 +113,7 @@ module _ (course : Course) where
         used = o.used;
         within = o.within;
         whole = refl;
-        reads = subst (λ z. Reads plain course o.items bits z) o.left_is o.has.reads;
+        reads = subst (λ z. ReadsItems plain course o.items bits z) o.left_is o.has.reads;
         stop = s;
         stops = subst (λ z. stop_at plain false (next_after plain course o.items) z ≡ Some s) o.left_is (stop_of plain false (next_after plain course o.items) o.left s (o.has.ends ∙ ap Some e));
         count = omega arith;
@@ -131,7 +131,7 @@ plain_decided course n bits sane = by (some_subsets course n bits sane)
     by : AllRead course bits n ⊎ SomeRead course bits n → Decided course (record { compressed = false; subsets = n; bits = bits })
     by (inl r) = inl (apart r.subsets, r.used, (refl, r.within, (r.whole, r.count)))
     by (inr r) = inr (
-      fault_of r.stop (length r.done + 1) r.used,
+      walk_fault_of r.stop (length r.done + 1) r.used,
       turns_in course r.done + turns_after plain course r.items,
       record {
         stop = r.stop;
@@ -148,15 +148,15 @@ plain_decided course n bits sane = by (some_subsets course n bits sane)
     )
 
 -- none of these items is one too many
-few_items : (n items : ℕ) → ((j : ℕ) → j < items → would_be_many n (0 + j) ≡ false) → items * n ≤ most_values
+few_items : (n items : ℕ) → ((j : ℕ) → j < items → would_be_many n (0 + j) ≡ false) → items * n ≤ max_values
 few_items n zero h = omega arith
 few_items n (suc k) h = at_most (h k (omega arith))
   where
     not_less : (a b : ℕ) → nat_lt a b ≡ false → b ≤ a
     not_less a b e = grind (arith, nat_tests)
 
-    at_most : would_be_many n (0 + k) ≡ false → suc k * n ≤ most_values
-    at_most e = subst (λ z. z * n ≤ most_values) (counted k) (not_less most_values ((0 + k + 1) * n) e)
+    at_most : would_be_many n (0 + k) ≡ false → suc k * n ≤ max_values
+    at_most e = subst (λ z. z * n ≤ max_values) (counted k) (not_less max_values ((0 + k + 1) * n) e)
       where
         counted : (a : ℕ) → 0 + a + 1 ≡ suc a
         counted a = omega arith
@@ -177,13 +177,13 @@ packed_decided course (suc n) bits sane =
         refl,
         o.within,
         (
-          (subst (λ z. Reads (packed (suc n)) course o.items bits z) o.left_is o.has.reads, end_of (packed (suc n)) (would_be_many (suc n) (0 + length o.items)) (next_after (packed (suc n)) course o.items) o.left (o.has.ends ∙ ap Some e)),
+          (subst (λ z. ReadsItems (packed (suc n)) course o.items bits z) o.left_is o.has.reads, end_of (packed (suc n)) (would_be_many (suc n) (0 + length o.items)) (next_after (packed (suc n)) course o.items) o.left (o.has.ends ∙ ap Some e)),
           few_items (suc n) (length o.items) o.has.few,
         ),
       ),
     )
     by o (stopped s) e = inr (
-      fault_of s 0 o.used,
+      walk_fault_of s 0 o.used,
       turns_after (packed (suc n)) course o.items,
       record {
         stop = s;

@@ -14,16 +14,16 @@ use Rattle.std.specs.BTreeMap.{insert_entry, is_at}
 use Rattle.std.specs.Map.{lookup}
 use Rattle.std.specs.Option.{unwrap_or}
 use Rattle.std.specs.Cmp.{unsigned_tied}
-use Rattle.bufr_walk.specs.Settings.{Redefined, current_reference, with_reference}
-use Rattle.bufr_walk.specs.InForce.{known_by}
+use Rattle.bufr_walk.specs.Operators.{Redefined, current_reference, with_reference}
+use Rattle.bufr_walk.specs.OperatorState.{known_by}
 use Rattle.std.specs.Prelude.{◌%◌, unsigned_abs}
 use Rattle.bufr_tables.specs.declared.kind.Kind.{Kind}
 use Rattle.bufr_tables.specs.declared.kind.Kind.TheVariants as kind
 use Rattle.bufr_tables.specs.TableB.{is_character}
 use Rattle.bufr_walk.specs.declared.spec.Role.{Role}
 use Rattle.bufr_walk.specs.declared.spec.Role.TheVariants as role
-use Rattle.bufr_walk.specs.Asked.{Asked, IsSpec, HasWidth, HasRole, HasMissing, is_reference}
-use Rattle.bufr_walk.specs.Rules.{text_of}
+use Rattle.bufr_walk.specs.FieldSpec.{FieldSpec, IsSpec, HasWidth, HasRole, HasMissing, is_reference}
+use Rattle.bufr_walk.specs.Rules.{text_spec}
 use Rattle.bufr_walk.specs.Numbers.{number_field}
 
 number_width : (k : Kind) (w : ℕ) → is_character k ≡ false → 1 ≤ w → w ≤ 63 → HasWidth k w
@@ -40,7 +40,7 @@ pub number_good : (fxy : ℕ) (r : Role) (k : Kind) (w : ℕ) (scale reference :
 number_good fxy r k w scale reference m listed e role small near some most =
     record { width = number_width k w e some most; role = role; missing = number_missing k m e; scale = small; reference = near }
 
-pub text_good : (r : Role) (fxy w : ℕ) (listed : Bool) → HasWidth kind.Character w → HasRole r kind.Character true → IsSpec (text_of r fxy w listed)
+pub text_good : (r : Role) (fxy w : ℕ) (listed : Bool) → HasWidth kind.Character w → HasRole r kind.Character true → IsSpec (text_spec r fxy w listed)
 text_good r fxy w listed h g = record { width = h; role = g; missing = refl; scale = omega arith; reference = omega arith }
 
 -- a text that stands in the template
@@ -134,7 +134,7 @@ product_small r y h g =
     let b : unsigned_abs r * 10 ^ 18 ≤ 2 ^ 63 * 10 ^ 18 = mul-le-mul_right (10 ^ 18) h in
     omega (arith, e, a, b)
 
-pub some_width : (a : Asked) → IsSpec a → 1 ≤ a.width
+pub some_width : (a : FieldSpec) → IsSpec a → 1 ≤ a.width
 some_width a h = by a.kind a.width h.width
   where
     by : (k : Kind) (w : ℕ) → HasWidth k w → 1 ≤ w
@@ -142,7 +142,7 @@ some_width a h = by a.kind a.width h.width
     by kind.Coded w g = g.0
     by kind.Numeric w g = g.0
 
-pub most_width : (a : Asked) → IsSpec a → a.width ≤ 2040
+pub most_width : (a : FieldSpec) → IsSpec a → a.width ≤ 2040
 most_width a h = by a.kind a.width h.width
   where
     by : (k : Kind) (w : ℕ) → HasWidth k w → w ≤ 2040
@@ -150,7 +150,7 @@ most_width a h = by a.kind a.width h.width
     by kind.Coded w g = omega (arith, g.1)
     by kind.Numeric w g = omega (arith, g.1)
 
-pub narrow_width : (a : Asked) → IsSpec a → is_character a.kind ≡ false → a.width ≤ 63
+pub narrow_width : (a : FieldSpec) → IsSpec a → is_character a.kind ≡ false → a.width ≤ 63
 narrow_width a h e = by a.kind a.width h.width e
   where
     by : (k : Kind) (w : ℕ) → HasWidth k w → is_character k ≡ false → w ≤ 63
@@ -158,7 +158,7 @@ narrow_width a h e = by a.kind a.width h.width e
     by kind.Coded w g q = g.1
     by kind.Numeric w g q = g.1
 
-pub whole_width : (a : Asked) → IsSpec a → is_character a.kind ≡ true → a.width % 8 ≡ 0
+pub whole_width : (a : FieldSpec) → IsSpec a → is_character a.kind ≡ true → a.width % 8 ≡ 0
 whole_width a h e = by a.kind a.width h.width e
   where
     by : (k : Kind) (w : ℕ) → HasWidth k w → is_character k ≡ true → w % 8 ≡ 0
@@ -166,7 +166,7 @@ whole_width a h e = by a.kind a.width h.width e
     by kind.Coded w g q = absurd cc
     by kind.Numeric w g q = absurd cc
 
-pub reference_width : (a : Asked) → IsSpec a → is_reference a.role ≡ true → a.width ≤ 63
+pub reference_width : (a : FieldSpec) → IsSpec a → is_reference a.role ≡ true → a.width ≤ 63
 reference_width a h e = by a.role a.kind a.may_be_missing a.width h.role h.width e
   where
     numeric : (k : Kind) (w : ℕ) → k ≡ kind.Numeric → HasWidth k w → w ≤ 63

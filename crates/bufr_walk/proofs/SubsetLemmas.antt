@@ -7,7 +7,7 @@ use Rattle.bufr_walk.specs.Calls.{Call, subset_call, Timed, timed, item_calls, s
 use Rattle.bufr_walk.specs.Content.{Content}
 use Rattle.bufr_walk.specs.Course.{Course}
 use Rattle.bufr_walk.specs.PlainIn.{Cursor, rest_of}
-use Rattle.bufr_walk.specs.Reading.{Item, plain, ReadsAll, ReadsSubsets, turns_after, turns_in}
+use Rattle.bufr_walk.specs.Reading.{Item, plain, ReadsPass, ReadsSubsets, turns_after, turns_in}
 use Rattle.bufr_walk.specs.ShowSteps.{Sofar, ItemsGo, SubsetShown, SubsetEnded, SubsetGoes, SubsetsShown}
 use Rattle.bufr_walk.specs.CallsInTurn.{Shows}
 use Rattle.bufr_walk.specs.Ticks.{ticked}
@@ -43,7 +43,7 @@ module _ {V E : Type 0} (sees : V → Call → Result (Unit {0}) E → V → Typ
   }
 
   -- the next subset is there
-  pub next_there : (all more : List (List (Item Content))) (done : ℕ) (bits left : List Bool) → ReadsSubsets course more bits left → done + length more ≡ length all → done < length all → (items : List (Item Content)) × (mid : List Bool) × ReadsAll plain course items bits mid
+  pub next_there : (all more : List (List (Item Content))) (done : ℕ) (bits left : List Bool) → ReadsSubsets course more bits left → done + length more ≡ length all → done < length all → (items : List (Item Content)) × (mid : List Bool) × ReadsPass plain course items bits mid
   next_there all [] done bits left h e lt = absurd (omega (arith, e, lt))
   next_there all (items ∷ more) done bits left h e lt = (items, h.0, h.1)
 

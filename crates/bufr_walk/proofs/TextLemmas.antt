@@ -4,7 +4,7 @@ use Rattle.std.specs.Prelude.{slice_index, slice_range, Option, Some, None, opti
 use Rattle.std.proofs.lemmas.List.{drop-drop, drop-take, take-take, take_more_set, length-drop, length-take-le}
 use Rattle.bufr_bits.specs.Bits.{bits_of, number_of}
 use Rattle.bufr_bits.proofs.BitLemmas.{drop-bits_of, take-bits_of, number_of_middle, number-bits_of_octet}
-use Rattle.bufr_walk.specs.Asked.{Asked}
+use Rattle.bufr_walk.specs.FieldSpec.{FieldSpec}
 use Rattle.bufr_walk.specs.Content.{octets_in}
 
 -- octets that are read one by one
@@ -39,11 +39,11 @@ octets_front (suc n) bits =
     eight n = omega arith
 
 -- how many octets a text has
-pub whole_octets : (spec : Asked) → spec.width % 8 ≡ 0 → 8 * (spec.width / 8) ≡ spec.width
+pub whole_octets : (spec : FieldSpec) → spec.width % 8 ≡ 0 → 8 * (spec.width / 8) ≡ spec.width
 whole_octets spec e = omega (arith, e)
 
 -- the octets of a field of whole octets
-pub text_front : (spec : Asked) (bits : List Bool) → spec.width % 8 ≡ 0 → octets_in (spec.width / 8) (take spec.width bits) ≡ octets_in (spec.width / 8) bits
+pub text_front : (spec : FieldSpec) (bits : List Bool) → spec.width % 8 ≡ 0 → octets_in (spec.width / 8) (take spec.width bits) ≡ octets_in (spec.width / 8) bits
 text_front spec bits e = ap (λ w. octets_in (spec.width / 8) (take w bits)) (whole spec.width e) ∙ octets_front (spec.width / 8) bits
   where
     whole : (w : ℕ) → w % 8 ≡ 0 → w ≡ 8 * (w / 8)

@@ -2,7 +2,7 @@
 -- Cited by public contracts.
 use Rattle.std.specs.Prelude.{ℕ, zero, suc, ◌+◌, if◌then◌else◌, List, [], ◌∷◌, ◌++◌, Option, None}
 use Rattle.bufr_tables.specs.TableB.{Row, entry_of}
-use Rattle.bufr_walk.specs.Asked.{Asked}
+use Rattle.bufr_walk.specs.FieldSpec.{FieldSpec}
 use Rattle.bufr_walk.specs.Content.{Content, ShownValue, shown, missing}
 use Rattle.bufr_walk.specs.Course.{Course}
 use Rattle.bufr_walk.specs.Reading.{Item, plain, after, turns_after, turns_in, Values, apart, together}
@@ -22,7 +22,7 @@ abbrev pub view : (fxy : ℕ) → Option Row → ShownValue → View
 view fxy entry value = record { fxy = fxy; entry = entry; value = value }
 
 -- the view of one field: the row of Table B only where the field was read by it
-abbrev pub view_of : List Row → Asked → Content → View
+abbrev pub view_of : List Row → FieldSpec → Content → View
 view_of table spec c =
     view spec.fxy (if spec.listed then entry_of table spec.fxy else None) (shown spec c)
 
@@ -56,23 +56,24 @@ content_at zero (c ∷ cs) = c
 content_at (suc j) (c ∷ cs) = content_at j cs
 
 -- the calls for the items of one subset of compressed data, which take no turns
-abbrev pub items_together : List Row → (subset : ℕ) → List (Item (List Content)) → List Timed
-items_together table j [] = []
-items_together table j (i ∷ items) =
+abbrev pub compressed_item_calls : List Row → (subset : ℕ) → List (Item (List Content)) → List Timed
+compressed_item_calls table j [] = []
+compressed_item_calls table j (i ∷ items) =
     timed 0 (item_call (view_of table i.spec (content_at j i.content)))
-    ∷ items_together table j items
+    ∷ compressed_item_calls table j items
 
 -- the calls for so many subsets of compressed data, from one on, counted from 0
-abbrev pub subsets_together : List Row → (left subset : ℕ) → List (Item (List Content)) → List Timed
-subsets_together table zero j items = []
-subsets_together table (suc n) j items =
-    timed 0 (subset_call (j + 1)) ∷ items_together table j items
-    ++ subsets_together table n (j + 1) items
+abbrev pub compressed_subset_calls : List Row → (left subset : ℕ) → List (Item (List Content))
+    → List Timed
+compressed_subset_calls table zero j items = []
+compressed_subset_calls table (suc n) j items =
+    timed 0 (subset_call (j + 1)) ∷ compressed_item_calls table j items
+    ++ compressed_subset_calls table n (j + 1) items
 
 -- the calls that show a reading
 abbrev pub calls_of : Read → Values → List Timed
 calls_of r (apart subsets) = subset_calls r.table (course_of r) 0 1 subsets
-calls_of r (together items) = subsets_together r.table r.source.subsets 0 items
+calls_of r (together items) = compressed_subset_calls r.table r.source.subsets 0 items
 
 -- how many of the calls are of items
 abbrev pub item_or_not : Call → ℕ

@@ -11,16 +11,16 @@ use Rattle.bufr_walk.specs.Reading.{Values, IsReading}
 use Rattle.bufr_walk.specs.Ticks.{ticked}
 
 -- only a redefined reference has to be kept
-abbrev pub IsKept : ShownValue → Type 0
-IsKept (shown_number value scale) = ⊥
-IsKept (shown_text octets) = ⊥
-IsKept shown_missing = ⊥
-IsKept (shown_reference value) = Unit {0}
+abbrev pub IsReferenceValue : ShownValue → Type 0
+IsReferenceValue (shown_number value scale) = ⊥
+IsReferenceValue (shown_text octets) = ⊥
+IsReferenceValue shown_missing = ⊥
+IsReferenceValue (shown_reference value) = Unit {0}
 
 -- an item that may make memory run out
 abbrev pub NeedsMemory : Call → Type 0
 NeedsMemory (subset_call number) = ⊥
-NeedsMemory (item_call item) = IsKept item.value
+NeedsMemory (item_call item) = IsReferenceValue item.value
 
 -- one call, and how it ends a showing: the visitor refuses it, or memory runs out before it is made
 abbrev pub EndsAt : {S E : Type 0} → (S → Call → Result (Unit {0}) E → S → Type 0) → S → Call

@@ -1,14 +1,14 @@
 -- What stands in a field, and what it means (WMO-No. 306, Volume I.2, FM 94: section 4).
 -- Cited by public contracts.
 use Rattle.std.specs.Prelude.{ℕ, zero, suc, ◌-◌, ◌/◌, ◌&&◌, Bool, true, false, if◌then◌else◌, List, [], ◌∷◌, take, drop, replicate, ℤ, pos, negsuc, neg_ℤ, nat_abs, ◌+ℤ◌}
-use Rattle.bufr_bits.specs.Bits.{bits_of, bits_in, number_of, all_set}
+use Rattle.bufr_bits.specs.Bits.{bits_of, bits_in, number_of, are_all_ones}
 use Rattle.bufr_tables.specs.declared.kind.Kind.{Kind}
 use Rattle.bufr_tables.specs.declared.kind.Kind.TheVariants as kind
 use Rattle.bufr_walk.specs.declared.spec.Role.{Role}
 use Rattle.bufr_walk.specs.declared.spec.Role.TheVariants as role
 use Rattle.bufr_walk.specs.declared.spec.Taken.{Taken}
 use Rattle.bufr_walk.specs.declared.spec.Taken.TheVariants as taken
-use Rattle.bufr_walk.specs.Asked.{Asked}
+use Rattle.bufr_walk.specs.FieldSpec.{FieldSpec}
 
 -- what stands in a field: a number before its reference is added, the octets of a text, all ones,
 -- or a redefined reference
@@ -35,17 +35,17 @@ said_by kind.Coded width bits = number (number_of bits)
 said_by kind.Numeric width bits = number (number_of bits)
 
 -- what the bits of a field say; all ones is missing where it may be
-abbrev pub value_in : Asked → List Bool → Content
+abbrev pub value_in : FieldSpec → List Bool → Content
 value_in spec bits =
-    if all_set bits && spec.may_be_missing then missing else said_by spec.kind spec.width bits
+    if are_all_ones bits && spec.may_be_missing then missing else said_by spec.kind spec.width bits
 
-abbrev pub content_by : Role → Asked → List Bool → Content
+abbrev pub content_by : Role → FieldSpec → List Bool → Content
 content_by role.Element spec bits = value_in spec bits
 content_by role.Inserted spec bits = value_in spec bits
 content_by role.Factor spec bits = value_in spec bits
 content_by role.Reference spec bits = reference (signed_by bits)
 
-abbrev pub content_in : Asked → List Bool → Content
+abbrev pub content_in : FieldSpec → List Bool → Content
 content_in spec bits = content_by spec.role spec bits
 
 -- a sign and a magnitude
@@ -80,8 +80,8 @@ told_by_role role.Inserted c = taken.Plain
 told_by_role role.Factor c = taken.Count (count_in c)
 told_by_role role.Reference c = taken.Reference (reference_in c)
 
-abbrev pub told : Asked → Content → Taken
-told spec c = told_by_role spec.role c
+abbrev pub answer_of : FieldSpec → Content → Taken
+answer_of spec c = told_by_role spec.role c
 
 -- what an item shows: a number with its scale, a text, missing, or a reference
 pub data ShownValue : Type 0 where
@@ -90,7 +90,7 @@ pub data ShownValue : Type 0 where
   shown_missing : ShownValue
   shown_reference : (value : ℤ) → ShownValue
 
-abbrev pub shown : Asked → Content → ShownValue
+abbrev pub shown : FieldSpec → Content → ShownValue
 shown spec (number raw) = shown_number (pos raw +ℤ spec.reference) spec.scale
 shown spec (text octets) = shown_text octets
 shown spec missing = shown_missing

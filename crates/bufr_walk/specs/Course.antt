@@ -3,55 +3,56 @@
 use Rattle.std.specs.Prelude.{ℕ, ◌+◌, Result, Ok, Err, List, [], ◌∷◌, if◌then◌else◌}
 use Rattle.bufr_tables.specs.Tree.{Tree, is_inserted_text}
 use Rattle.bufr_tables.specs.TableB.{Row}
-use Rattle.bufr_walk.specs.declared.spec.Refusal.{Refusal}
+use Rattle.bufr_walk.specs.declared.spec.TurnRefusal.{TurnRefusal}
 use Rattle.bufr_walk.specs.declared.spec.Taken.{Taken}
 use Rattle.bufr_walk.specs.declared.spec.Taken.TheVariants as taken
-use Rattle.bufr_walk.specs.Asked.{Asked}
-use Rattle.bufr_walk.specs.Settings.{Settings, begin, after_operator, after_field}
+use Rattle.bufr_walk.specs.FieldSpec.{FieldSpec}
+use Rattle.bufr_walk.specs.Operators.{OperatorModel, begin, after_operator, after_field}
 use Rattle.bufr_walk.specs.Rules.{element_spec, factor_spec, inserted_spec}
 use Rattle.bufr_walk.specs.Turns.{Turns, finish, open_end, group, pass_end, factor_turn, element_turn, operator_turn, turns_of}
 
 -- the counts among what was told
-abbrev pub counted : Taken → List ℕ → List ℕ
-counted taken.Plain counts = counts
-counted (taken.Count n) counts = n ∷ counts
-counted (taken.Reference r) counts = counts
+abbrev pub counts_in : Taken → List ℕ → List ℕ
+counts_in taken.Plain counts = counts
+counts_in (taken.Count n) counts = n ∷ counts
+counts_in (taken.Reference r) counts = counts
 
 abbrev pub counts_of : List Taken → List ℕ
 counts_of [] = []
-counts_of (t ∷ told) = counted t (counts_of told)
+counts_of (t ∷ told) = counts_in t (counts_of told)
 
 -- what comes after some items
 pub data Next : Type 0 where
-  take_next : (spec : Asked) → Next
+  take_next : (spec : FieldSpec) → Next
   at_end : Next
   -- a factor told no count
   astray : Next
-  refused : (why : Refusal) → Next
+  refused : (why : TurnRefusal) → Next
 
 -- with the number of turns up to it, itself included
-pub record Ahead : Type 0 where
+pub record NextTurn : Type 0 where
   pub turns : ℕ
   pub next : Next
 
-abbrev pub later : ℕ → Ahead → Ahead
+abbrev pub later : ℕ → NextTurn → NextTurn
 later n a = record { turns = n + a.turns; next = a.next }
 
-abbrev pub stop : Next → Ahead
+abbrev pub stop : Next → NextTurn
 stop next = record { turns = 1; next = next }
 
 -- a field that is asked for: an item told something at it, or it is the next
-abbrev pub asked : Result Asked Refusal → (Taken → List Taken → Ahead) → List Taken → Ahead
+abbrev pub asked : Result FieldSpec TurnRefusal → (Taken → List Taken → NextTurn) → List Taken
+    → NextTurn
 asked (Err why) go told = stop (refused why)
 asked (Ok spec) go [] = stop (take_next spec)
 asked (Ok spec) go (t ∷ told) = later 1 (go t told)
 
-abbrev pub operated : Result Settings Refusal → (Settings → Ahead) → Ahead
+abbrev pub operated : Result OperatorModel TurnRefusal → (OperatorModel → NextTurn) → NextTurn
 operated (Err why) go = stop (refused why)
 operated (Ok settings) go = later 1 (go settings)
 
 -- what comes after these items, in these turns
-abbrev pub ahead : List Row → Turns → Settings → List Taken → Ahead
+abbrev pub ahead : List Row → Turns → OperatorModel → List Taken → NextTurn
 ahead table finish s told = stop at_end
 ahead table open_end s told = stop astray
 ahead table (group next) s told = later 1 (ahead table next s told)
@@ -67,7 +68,7 @@ ahead table (operator_turn fxy next) s told =
 
 -- what comes next after any items, by what they told
 abbrev pub Course : Type 0
-Course = List Taken → Ahead
+Course = List Taken → NextTurn
 
 -- what comes next in a whole template
 unfoldable pub next_item : List Row → Tree → Course

@@ -1,7 +1,7 @@
 -- The faults of the data, each by what stops a reading (the numbers are a choice of this project).
 -- Cited by public contracts.
 use Rattle.std.specs.Prelude.{ℕ}
-use Rattle.bufr_walk.specs.declared.spec.Refusal.TheVariants as refusal
+use Rattle.bufr_walk.specs.declared.spec.TurnRefusal.TheVariants as refusal
 use Rattle.bufr_walk.specs.declared.fault.Spot.{Spot}
 use Rattle.bufr_walk.specs.declared.fault.WalkFault.{WalkFault}
 use Rattle.bufr_walk.specs.declared.fault.WalkFault.TheVariants as fault
@@ -15,13 +15,13 @@ abbrev pub spot : (subset fxy bit : ℕ) → Spot
 spot subset fxy bit = record { subset = subset; fxy = fxy; bit = bit }
 
 -- the fault that a stop is, in a subset, after so many bits
-abbrev pub fault_of : Stop → (subset bit : ℕ) → WalkFault
-fault_of (walk_stop (refusal.Width fxy)) subset bit = fault.Width (spot subset fxy bit)
-fault_of (walk_stop (refusal.Defining fxy)) subset bit = fault.Defining (spot subset fxy bit)
-fault_of (too_many fxy) subset bit = fault.TooManyValues (spot subset fxy bit)
-fault_of (field_stop fxy data_end) subset bit = fault.DataEnd (spot subset fxy bit)
-fault_of (field_stop fxy increment) subset bit = fault.Increment (spot subset fxy bit)
-fault_of (field_stop fxy unequal_factor) subset bit = fault.UnequalFactor (spot subset fxy bit)
+abbrev pub walk_fault_of : Stop → (subset bit : ℕ) → WalkFault
+walk_fault_of (walk_stop (refusal.Width fxy)) subset bit = fault.Width (spot subset fxy bit)
+walk_fault_of (walk_stop (refusal.Defining fxy)) subset bit = fault.Defining (spot subset fxy bit)
+walk_fault_of (too_many fxy) subset bit = fault.TooManyValues (spot subset fxy bit)
+walk_fault_of (field_stop fxy data_end) subset bit = fault.DataEnd (spot subset fxy bit)
+walk_fault_of (field_stop fxy increment) subset bit = fault.Increment (spot subset fxy bit)
+walk_fault_of (field_stop fxy unequal_factor) subset bit = fault.UnequalFactor (spot subset fxy bit)
 
 -- the bits before the item that is at fault; want of memory has no item, and all bits may lie
 -- before it
@@ -35,14 +35,14 @@ bits_before (fault.TooManyValues s) all = s.bit
 bits_before fault.Memory all = all
 
 -- the number of a fault
-abbrev pub number_of_fault : WalkFault → ℕ
-number_of_fault (fault.DataEnd s) = 30
-number_of_fault (fault.Width s) = 31
-number_of_fault (fault.Defining s) = 32
-number_of_fault (fault.UnequalFactor s) = 33
-number_of_fault (fault.Increment s) = 34
-number_of_fault (fault.TooManyValues s) = 35
-number_of_fault fault.Memory = 73
+abbrev pub number_of_walk_fault : WalkFault → ℕ
+number_of_walk_fault (fault.DataEnd s) = 30
+number_of_walk_fault (fault.Width s) = 31
+number_of_walk_fault (fault.Defining s) = 32
+number_of_walk_fault (fault.UnequalFactor s) = 33
+number_of_walk_fault (fault.Increment s) = 34
+number_of_walk_fault (fault.TooManyValues s) = 35
+number_of_walk_fault fault.Memory = 73
 
 -- the number of a fault of compressed data
 abbrev pub number_of_packed : PackedFault → ℕ

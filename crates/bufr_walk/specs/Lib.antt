@@ -1,7 +1,7 @@
 -- a field as it is asked for: what it is for, its kind, width, scale and reference
-pub mod Asked
+pub mod FieldSpec
 -- what the operators have set, and the references that the data gave
-pub mod Settings
+pub mod Operators
 -- how a field is read under what is set
 pub mod Rules
 -- the turns of a template, its groups unrolled
@@ -31,7 +31,7 @@ pub mod ViewModel
 -- the calls of a showing, up to its first fault
 pub mod CallsInTurn
 -- what a reading keeps of its items
-pub mod Kept
+pub mod StoredItems
 -- a walk over fields, each what comes next
 pub mod Taking
 -- a counter of turns
@@ -39,28 +39,32 @@ pub mod Ticks
 -- a field that is a number
 pub mod Numbers
 -- what is set, as the walk keeps it
-pub mod InForce
+pub mod OperatorState
 -- the stop of a walk at a turn that is refused
 pub mod Stop
 -- a whole walk over fields, and how it ends
 pub mod Walked
 -- how far a walk came
-pub mod Ways
+pub mod WalkProgress
 -- where a walk stands in the cells of a template
-pub mod Flat
+pub mod CellWalk
 -- the reader of data that are not compressed
 pub mod PlainIn
 -- the reader of compressed data
 pub mod PackedIn
--- items that are kept, with each field among them once
-pub mod KeptItems
+-- items that are kept, and the fields among them
+pub mod ItemIndex
 -- one pass over data that are not compressed
 pub mod Passes
--- subsets that are alike, whatever their bits say
-pub mod Alike
--- the plan of a subset, where the data have no say in it
-pub mod Plan
--- what a reading goes by: a table and a template
-pub mod Prepared
 -- fields that are read and shown at once
 pub mod ShowSteps
+-- the operators in force and a descriptor in one number
+pub mod SpecKey
+-- specs that were found, by such numbers
+pub mod SpecCache
+-- lists of descriptors that are kept with their templates
+pub mod TemplateCache
+-- the slots that they are kept in
+pub mod TemplateSlots
+-- what Table B says of a field
+pub mod FieldRow

@@ -1,12 +1,14 @@
--- A field that is a number.
+-- Fields that are numbers.
 -- Cited by private steps only.
-use Rattle.std.specs.Prelude.{ℕ, Bool, ℤ}
+use Rattle.std.specs.Prelude.{ℕ, ◌≡◌, ◌≤◌, ◌<◌, ◌^◌, ◌&&◌, nat_le, nat_lt, not, Bool, true, false, ℤ, unsigned_abs}
 use Rattle.bufr_tables.specs.declared.kind.Kind.{Kind}
+use Rattle.bufr_tables.specs.TableB.{is_character}
 use Rattle.bufr_walk.specs.declared.spec.Role.{Role}
-use Rattle.bufr_walk.specs.Asked.{Asked}
+use Rattle.bufr_walk.specs.declared.spec.Role.TheVariants as role
+use Rattle.bufr_walk.specs.FieldSpec.{FieldSpec, IsSpec}
 
 abbrev pub number_field : (fxy : ℕ) → Role → Kind → (width : ℕ) → (scale reference : ℤ)
-    → (may_be_missing listed : Bool) → Asked
+    → (may_be_missing listed : Bool) → FieldSpec
 number_field fxy role kind width scale reference may_be_missing listed =
     record {
       fxy = fxy;
@@ -18,3 +20,28 @@ number_field fxy role kind width scale reference may_be_missing listed =
       may_be_missing = may_be_missing;
       listed = listed;
     }
+
+-- whether a number is plain: that of an element that is read by a row of Table B, of at most 62
+-- bits, with a reference that is as near to 0
+abbrev pub is_plain_number : Role → (width : ℕ) → (reference : ℤ) → (listed : Bool) → Bool
+is_plain_number role.Element width reference listed =
+    listed && (nat_le width 62 && nat_lt (unsigned_abs reference) (2 ^ 62))
+is_plain_number role.Inserted width reference listed = false
+is_plain_number role.Factor width reference listed = false
+is_plain_number role.Reference width reference listed = false
+
+abbrev pub is_plain : FieldSpec → Bool
+is_plain a = not (is_character a.kind) && is_plain_number a.role a.width a.reference a.listed
+
+-- the same, part by part
+pub record IsPlainNumber (a : FieldSpec) : Type 0 where
+  pub kind : is_character a.kind ≡ false
+  pub role : a.role ≡ role.Element
+  pub listed : a.listed ≡ true
+  pub width : a.width ≤ 62
+  pub reference : unsigned_abs a.reference < 2 ^ 62
+
+-- a specification, and what is known of it besides
+pub record IsSpecWith (plain : Bool) (a : FieldSpec) : Type 0 where
+  pub spec : IsSpec a
+  pub same : is_plain a ≡ plain

@@ -10,7 +10,7 @@ use Rattle.bufr_walk.specs.declared.fault.WalkFault.TheVariants as fault
 use Rattle.bufr_walk.specs.Course.{Course, next_item}
 use Rattle.bufr_walk.specs.Reading.{Data, Values, IsReading, turns_read}
 use Rattle.bufr_walk.specs.Refusal.{Stop, IsPlainRefused, IsPackedRefused, IsPlainShort, IsPackedShort}
-use Rattle.bufr_walk.specs.Fault.{fault_of}
+use Rattle.bufr_walk.specs.Fault.{walk_fault_of}
 use Rattle.bufr_walk.specs.Ticks.{ticked}
 
 -- the data that octets hold
@@ -47,22 +47,22 @@ IsStopped false subsets course bits stop subset before turns =
 IsStopped true subsets course bits stop subset before turns =
     (subset ≡ 0) × IsPackedRefused subsets course bits stop before turns
 
-abbrev pub IsShort : Bool → (subsets : ℕ) → Course → List Bool → (turns : ℕ) → Type 0
-IsShort false subsets course bits turns = IsPlainShort subsets course bits turns
-IsShort true subsets course bits turns = IsPackedShort subsets course bits turns
+abbrev pub IsMemoryStop : Bool → (subsets : ℕ) → Course → List Bool → (turns : ℕ) → Type 0
+IsMemoryStop false subsets course bits turns = IsPlainShort subsets course bits turns
+IsMemoryStop true subsets course bits turns = IsPackedShort subsets course bits turns
 
 -- the fault of a refusal, in so many turns
 pub record IsRefused (course : Course) (d : Data) (why : WalkFault) (turns : ℕ) : Type 0 where
   pub stop : Stop
   pub subset : ℕ
   pub before : ℕ
-  pub is : why ≡ fault_of stop subset before
+  pub is : why ≡ walk_fault_of stop subset before
   pub stopped : IsStopped d.compressed d.subsets course d.bits stop subset before turns
 
 -- a fault, and the steps that were made; want of memory is the only freedom
 abbrev pub IsFault : Course → Data → WalkFault → (steps : ℕ) → Type 0
 IsFault course d fault.Memory steps =
-    (turns : ℕ) × IsShort d.compressed d.subsets course d.bits turns × (steps ≡ ticked 0 turns)
+    (turns : ℕ) × IsMemoryStop d.compressed d.subsets course d.bits turns × (steps ≡ ticked 0 turns)
 IsFault course d why steps = (turns : ℕ) × IsRefused course d why turns × (steps ≡ ticked 0 turns)
 
 -- the items, the bits that they take, and the steps that were made

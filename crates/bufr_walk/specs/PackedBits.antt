@@ -3,25 +3,26 @@
 -- Cited by private steps only.
 use Rattle.std.specs.Prelude.{ℕ, ◌≡◌, ◌≤◌, ◌<◌, ◌+◌, ◌*◌, ◌/◌, ◌==◌, ◌&&◌, ◌||◌, nat_lt, not, Bool, true, false, if◌then◌else◌, List, length, take, drop, Option, Some, None, Result, Ok, Err}
 use Rattle.std.specs.List.{list_all}
-use Rattle.bufr_bits.specs.Bits.{number_of, all_set}
+use Rattle.bufr_bits.specs.Bits.{number_of, are_all_ones}
+use Rattle.bufr_tables.specs.TableB.{is_character}
 use Rattle.bufr_tables.specs.declared.kind.Kind.{Kind}
 use Rattle.bufr_tables.specs.declared.kind.Kind.TheVariants as kind
 use Rattle.bufr_walk.specs.declared.spec.Role.{Role}
 use Rattle.bufr_walk.specs.declared.spec.Role.TheVariants as role
 use Rattle.bufr_walk.specs.declared.spec.Taken.{Taken}
-use Rattle.bufr_walk.specs.declared.packed_in.PackedItem.{PackedItem}
+use Rattle.bufr_walk.specs.declared.packed_in.ItemBits.{ItemBits}
 use Rattle.bufr_walk.specs.declared.packed_in.PackedFault.{PackedFault}
 use Rattle.bufr_walk.specs.declared.packed_in.PackedFault.TheVariants as wrong
-use Rattle.bufr_walk.specs.Asked.{Asked}
+use Rattle.bufr_walk.specs.FieldSpec.{FieldSpec}
 use Rattle.bufr_walk.specs.Content.{Content, number, missing}
 use Rattle.bufr_walk.specs.PlainField.{FieldFault, found}
 use Rattle.bufr_walk.specs.PackedIn.{PackedCursor, wrong_of, IsPackedWrong}
-use Rattle.bufr_walk.specs.Reading.{most_values}
-use Rattle.bufr_walk.specs.PackedField.{ones, increments, step_of, padded_text, contents_of, packed_field, told_first}
+use Rattle.bufr_walk.specs.Reading.{max_values}
+use Rattle.bufr_walk.specs.PackedField.{ones, increments, increment_bits_of, padded_text, contents_of, packed_field, told_first}
 
 -- whether a base is missing: all ones, where that may be
-abbrev pub is_missing : Asked → (base : List Bool) → Bool
-is_missing spec base = all_set base && spec.may_be_missing
+abbrev pub is_missing : FieldSpec → (base : List Bool) → Bool
+is_missing spec base = are_all_ones base && spec.may_be_missing
 
 -- whether the sum of a base and an increment of k bits fits its width, where the increment is not
 -- missing
@@ -44,23 +45,23 @@ increased_to m width base k i =
     else number (base + i)
 
 -- whether the increments of numbers can be
-abbrev pub numbers_hold : Asked → (k subsets : ℕ) → (base behind : List Bool) → Bool
+abbrev pub numbers_hold : FieldSpec → (k subsets : ℕ) → (base behind : List Bool) → Bool
 numbers_hold spec k n base behind =
     is_missing spec base || all_within spec.may_be_missing spec.width (number_of base) k n behind
 
 -- whether the increments of an item can be
-abbrev pub holds_by : Kind → Asked → (k subsets : ℕ) → (base behind : List Bool) → Bool
+abbrev pub holds_by : Kind → FieldSpec → (k subsets : ℕ) → (base behind : List Bool) → Bool
 holds_by kind.Character spec k n base behind = not (nat_lt (spec.width / 8) k)
 holds_by kind.Coded spec k n base behind = numbers_hold spec k n base behind
 holds_by kind.Numeric spec k n base behind = numbers_hold spec k n base behind
 
 -- the content that an increment gives
-abbrev pub number_from : Asked → (k : ℕ) → (base bits : List Bool) → Content
+abbrev pub number_from : FieldSpec → (k : ℕ) → (base bits : List Bool) → Content
 number_from spec k base i =
     if is_missing spec base then missing
     else increased_to spec.may_be_missing spec.width (number_of base) k (number_of i)
 
-abbrev pub content_from : Kind → Asked → (k : ℕ) → (base bits : List Bool) → Content
+abbrev pub content_from : Kind → FieldSpec → (k : ℕ) → (base bits : List Bool) → Content
 content_from kind.Character spec k base i = padded_text (spec.width / 8) k i
 content_from kind.Coded spec k base i = number_from spec k base i
 content_from kind.Numeric spec k base i = number_from spec k base i
@@ -76,21 +77,22 @@ kind_step kind.Coded k = k
 kind_step kind.Numeric k = k
 
 -- an item with this base, k and bits behind them has contents, and tells this
-pub record IsTold (spec : Asked) (k n : ℕ) (base behind : List Bool) (t : Taken) : Type 0 where
+pub record IsTold (spec : FieldSpec) (k n : ℕ) (base behind : List Bool) (t : Taken) : Type 0 where
   pub contents : List Content
   pub are : contents_of spec k base
-      (increments n (step_of spec.role spec.kind k) behind) ≡ Ok contents
+      (increments n (increment_bits_of spec.role spec.kind k) behind) ≡ Ok contents
   pub tells : t ≡ told_first spec contents
 
 -- or it is at fault
-pub record IsWrong (spec : Asked) (k n : ℕ) (base behind : List Bool)
+pub record IsWrong (spec : FieldSpec) (k n : ℕ) (base behind : List Bool)
     (e : PackedFault) : Type 0 where
   pub why : FieldFault
-  pub is : contents_of spec k base (increments n (step_of spec.role spec.kind k) behind) ≡ Err why
+  pub is : contents_of spec k base (increments n (increment_bits_of spec.role spec.kind k) behind)
+      ≡ Err why
   pub fault : e ≡ wrong_of spec.fxy why
 
 -- what an item tells whose base begins with a bit and whose k is known, or how it is at fault
-abbrev pub TellsAt : (bits : List Bool) (at subsets : ℕ) → Asked → (k : ℕ)
+abbrev pub TellsAt : (bits : List Bool) (at subsets : ℕ) → FieldSpec → (k : ℕ)
     → Result Taken PackedFault → Type 0
 TellsAt bits at n spec k (Ok t) =
     IsTold spec k n (take spec.width (drop at bits)) (drop (at + (spec.width + 6)) bits) t
@@ -104,17 +106,20 @@ is_plain_role role.Inserted = true
 is_plain_role role.Factor = false
 is_plain_role role.Reference = false
 
--- an item stands in bits at a place: its contents, what it tells, its k, and the bit behind it
-pub record IsSeen (bits : List Bool) (at n : ℕ) (spec : Asked) (s : PackedItem) : Type 0 where
+-- an item stands in bits at a place: its contents, what it tells, its k, the number of its base,
+-- and the bit behind it
+pub record IsSeen (bits : List Bool) (at n : ℕ) (spec : FieldSpec) (s : ItemBits) : Type 0 where
   pub contents : List Content
   pub field : packed_field n spec (drop at bits) ≡ Ok (found contents (drop s.end bits))
   pub tells : s.told ≡ told_first spec contents
   pub step : s.step ≡ number_of (take 6 (drop (at + spec.width) bits))
+  pub base : is_character spec.kind ≡ false → s.base ≡ number_of (take spec.width (drop at bits))
   pub within : s.end ≤ length bits
   pub least : at + 7 ≤ s.end
 
 -- or it is at fault
-pub record IsUnseen (bits : List Bool) (at n : ℕ) (spec : Asked) (e : PackedFault) : Type 0 where
+pub record IsUnseen (bits : List Bool) (at n : ℕ) (spec : FieldSpec)
+    (e : PackedFault) : Type 0 where
   pub why : FieldFault
   pub field : packed_field n spec (drop at bits) ≡ Err why
   pub fault : e ≡ wrong_of spec.fxy why
@@ -125,13 +130,13 @@ sum_content (Some raw) = number raw
 sum_content None = missing
 
 -- the next item stands there, and would not be one too many
-pub record IsLooked (s : PackedCursor) (spec : Asked) (found_there : PackedItem) : Type 0 where
-  pub few : (length s.items + 1) * s.subsets ≤ most_values
+pub record IsLooked (s : PackedCursor) (spec : FieldSpec) (found_there : ItemBits) : Type 0 where
+  pub few : (length s.items + 1) * s.subsets ≤ max_values
   pub seen : IsSeen s.bits s.at s.subsets spec found_there
 
 -- or it is at fault, or there would be too many values
-abbrev pub IsUnlooked : PackedCursor → Asked → PackedFault → Type 0
+abbrev pub IsUnlooked : PackedCursor → FieldSpec → PackedFault → Type 0
 IsUnlooked s spec (wrong.TooManyValues fxy) =
-    (fxy ≡ spec.fxy) × (most_values < (length s.items + 1) * s.subsets)
+    (fxy ≡ spec.fxy) × (max_values < (length s.items + 1) * s.subsets)
 IsUnlooked s spec wrong.Memory = ⊥
 IsUnlooked s spec e = IsPackedWrong s spec e

@@ -4,27 +4,27 @@
 -- Cited by public contracts.
 use Rattle.std.specs.Prelude.{ℕ, zero, suc, ◌+◌, ◌-◌, ◌*◌, ◌/◌, ◌^◌, ◌==◌, ◌&&◌, nat_lt, Bool, true, false, if◌then◌else◌, List, [], ◌∷◌, ◌++◌, length, take, drop, map, replicate, Result, Ok, Err}
 use Rattle.std.specs.List.{list_all}
-use Rattle.bufr_bits.specs.Bits.{number_of, all_set}
+use Rattle.bufr_bits.specs.Bits.{number_of, are_all_ones}
 use Rattle.bufr_tables.specs.declared.kind.Kind.{Kind}
 use Rattle.bufr_tables.specs.declared.kind.Kind.TheVariants as kind
 use Rattle.bufr_walk.specs.declared.spec.Role.{Role}
 use Rattle.bufr_walk.specs.declared.spec.Role.TheVariants as role
 use Rattle.bufr_walk.specs.declared.spec.Taken.{Taken}
 use Rattle.bufr_walk.specs.declared.spec.Taken.TheVariants as taken
-use Rattle.bufr_walk.specs.Asked.{Asked}
-use Rattle.bufr_walk.specs.Content.{Content, number, text, missing, content_in, octets_in, told}
-use Rattle.bufr_walk.specs.PlainField.{FieldFault, data_end, increment, unequal_factor, Found, found}
+use Rattle.bufr_walk.specs.FieldSpec.{FieldSpec}
+use Rattle.bufr_walk.specs.Content.{Content, number, text, missing, content_in, octets_in, answer_of}
+use Rattle.bufr_walk.specs.PlainField.{FieldFault, data_end, increment, unequal_factor, FieldRead, found}
 
 -- so many ones, as a number
 abbrev pub ones : ℕ → ℕ
 ones k = 2 ^ k - 1
 
 -- a content more, unless one before it was at fault
-abbrev pub and_more : Result Content FieldFault → Result (List Content) FieldFault
+abbrev pub and_contents : Result Content FieldFault → Result (List Content) FieldFault
     → Result (List Content) FieldFault
-and_more (Err why) more = Err why
-and_more (Ok c) (Err why) = Err why
-and_more (Ok c) (Ok cs) = Ok (c ∷ cs)
+and_contents (Err why) more = Err why
+and_contents (Ok c) (Err why) = Err why
+and_contents (Ok c) (Ok cs) = Ok (c ∷ cs)
 
 -- the number of one subset: the base and its increment of k bits
 abbrev pub increased : (may_be_missing : Bool) (width base k increment : ℕ)
@@ -44,34 +44,34 @@ abbrev pub all_increased : (may_be_missing : Bool) (width base k : ℕ) → List
     → Result (List Content) FieldFault
 all_increased m width base k [] = Ok []
 all_increased m width base k (i ∷ is) =
-    and_more (increased m width base k (number_of i)) (all_increased m width base k is)
+    and_contents (increased m width base k (number_of i)) (all_increased m width base k is)
 
 -- the text of one subset: k octets, followed by spaces up to its width
 abbrev pub padded_text : (octets k : ℕ) → List Bool → Content
 padded_text octets k bits =
-    if all_set bits then missing else text (octets_in k bits ++ replicate (octets - k) 32)
+    if are_all_ones bits then missing else text (octets_in k bits ++ replicate (octets - k) 32)
 
 -- what is behind the base and k, in bits of one subset
-abbrev pub step_of : Role → Kind → ℕ → ℕ
-step_of role.Reference kind k = 0
-step_of _ kind.Character k = 8 * k
-step_of _ kind.Coded k = k
-step_of _ kind.Numeric k = k
+abbrev pub increment_bits_of : Role → Kind → ℕ → ℕ
+increment_bits_of role.Reference kind k = 0
+increment_bits_of _ kind.Character k = 8 * k
+increment_bits_of _ kind.Coded k = k
+increment_bits_of _ kind.Numeric k = k
 
 -- increments to a base of numbers
-abbrev pub numbers_of : Asked → (k : ℕ) → List Bool → List (List Bool)
+abbrev pub numbers_of : FieldSpec → (k : ℕ) → List Bool → List (List Bool)
     → Result (List Content) FieldFault
 numbers_of spec k base is =
-    if all_set base && spec.may_be_missing then Ok (map (λ i. missing) is)
+    if are_all_ones base && spec.may_be_missing then Ok (map (λ i. missing) is)
     else all_increased spec.may_be_missing spec.width (number_of base) k is
 
 -- the texts of the subsets, where k is above 0
-abbrev pub texts_of : Asked → (k : ℕ) → List (List Bool) → Result (List Content) FieldFault
+abbrev pub texts_of : FieldSpec → (k : ℕ) → List (List Bool) → Result (List Content) FieldFault
 texts_of spec k is =
     if nat_lt (spec.width / 8) k then Err increment
     else Ok (map (padded_text (spec.width / 8) k) is)
 
-abbrev pub varied_by : Kind → Asked → (k : ℕ) → List Bool → List (List Bool)
+abbrev pub varied_by : Kind → FieldSpec → (k : ℕ) → List Bool → List (List Bool)
     → Result (List Content) FieldFault
 varied_by kind.Character spec k base is = texts_of spec k is
 varied_by kind.Coded spec k base is = numbers_of spec k base is
@@ -92,41 +92,42 @@ if_equal (Err why) = Err why
 if_equal (Ok cs) = if all_same cs then Ok cs else Err unequal_factor
 
 -- the contents of an item with k above 0
-abbrev pub varied : Role → Asked → (k : ℕ) → List Bool → List (List Bool)
+abbrev pub varied : Role → FieldSpec → (k : ℕ) → List Bool → List (List Bool)
     → Result (List Content) FieldFault
 varied role.Reference spec k base is = Err increment
 varied role.Factor spec k base is = if_equal (varied_by spec.kind spec k base is)
 varied _ spec k base is = varied_by spec.kind spec k base is
 
 -- the contents of an item, for each subset: with no increments all have the base
-abbrev pub contents_of : Asked → (k : ℕ) → List Bool → List (List Bool)
+abbrev pub contents_of : FieldSpec → (k : ℕ) → List Bool → List (List Bool)
     → Result (List Content) FieldFault
 contents_of spec k base is =
     if k == 0 then Ok (map (λ i. content_in spec base) is) else varied spec.role spec k base is
 
 -- contents, and the bits behind the item
 abbrev pub with_behind : Result (List Content) FieldFault → List Bool
-    → Result (Found (List Content)) FieldFault
+    → Result (FieldRead (List Content)) FieldFault
 with_behind (Err why) bits = Err why
 with_behind (Ok cs) bits = Ok (found cs bits)
 
 -- an item whose k is known
-abbrev pub item_by : Asked → (subsets k : ℕ) → List Bool → Result (Found (List Content)) FieldFault
+abbrev pub item_by : FieldSpec → (subsets k : ℕ) → List Bool → Result (FieldRead (List Content))
+    FieldFault
 item_by spec n k bits =
-    let step = step_of spec.role spec.kind k in
+    let step = increment_bits_of spec.role spec.kind k in
     let behind = drop (spec.width + 6) bits in
     if nat_lt (length behind) (n * step) then Err data_end
     else with_behind (contents_of spec k (take spec.width bits) (increments n step behind))
     (drop (n * step) behind)
 
 -- the item at the front of bits, for so many subsets
-abbrev pub packed_field : (subsets : ℕ) → Asked → List Bool
-    → Result (Found (List Content)) FieldFault
+abbrev pub packed_field : (subsets : ℕ) → FieldSpec → List Bool
+    → Result (FieldRead (List Content)) FieldFault
 packed_field n spec bits =
     if nat_lt (length bits) (spec.width + 6) then Err data_end
     else item_by spec n (number_of (take 6 (drop spec.width bits))) bits
 
 -- what an item tells: factors are the same in all subsets, and so are references
-abbrev pub told_first : Asked → List Content → Taken
+abbrev pub told_first : FieldSpec → List Content → Taken
 told_first spec [] = taken.Plain
-told_first spec (c ∷ cs) = told spec c
+told_first spec (c ∷ cs) = answer_of spec c

@@ -1,10 +1,11 @@
 -- Fields that are read from bits, for compressed data: each item once for all subsets.
 -- Cited by public contracts.
-use Rattle.std.specs.Prelude.{ℕ, ◌≡◌, ◌≤◌, ◌<◌, ◌+◌, ◌*◌, ◌%◌, ◌==◌, ◌&&◌, Bool, true, false, List, [], ◌∷◌, ◌++◌, length, take, drop, Result, Ok, Err}
+use Rattle.std.specs.Prelude.{ℕ, ◌≡◌, ◌≤◌, ◌<◌, ◌+◌, ◌*◌, ◌%◌, ◌==◌, ◌&&◌, ◌||◌, Bool, true, false, List, [], ◌∷◌, ◌++◌, length, take, drop, Result, Ok, Err}
 use Rattle.std.specs.List.{list_all}
 use Rattle.bufr_bits.specs.Bits.{number_of}
+use Rattle.bufr_tables.specs.TableB.{is_character}
 use Rattle.bufr_walk.specs.declared.spec.Taken.{Taken}
-use Rattle.bufr_walk.specs.declared.kept.KeptItem.{KeptItem}
+use Rattle.bufr_walk.specs.declared.kept.IndexedItem.{IndexedItem}
 use Rattle.bufr_walk.specs.declared.packed_in.PackedFault.{PackedFault}
 use Rattle.bufr_walk.specs.declared.packed_in.PackedFault.TheVariants as wrong
 use Rattle.bufr_walk.specs.declared.stop.WalkStop.{WalkStop}
@@ -12,11 +13,11 @@ use Rattle.bufr_walk.specs.declared.stop.WalkStop.TheVariants as stops
 use Rattle.bufr_walk.specs.declared.fault.WalkFault.{WalkFault}
 use Rattle.bufr_walk.specs.declared.fault.WalkFault.TheVariants as fault
 use Rattle.bufr_walk.specs.Fault.{spot}
-use Rattle.bufr_walk.specs.Asked.{Asked}
+use Rattle.bufr_walk.specs.FieldSpec.{FieldSpec}
 use Rattle.bufr_walk.specs.Content.{Content}
-use Rattle.bufr_walk.specs.PlainField.{FieldFault, data_end, increment, unequal_factor, Found, found}
+use Rattle.bufr_walk.specs.PlainField.{FieldFault, data_end, increment, unequal_factor, FieldRead, found}
 use Rattle.bufr_walk.specs.PackedField.{packed_field, told_first}
-use Rattle.bufr_walk.specs.Reading.{Item, most_values, items_at_once}
+use Rattle.bufr_walk.specs.Reading.{Item, max_values, items_at_once}
 
 -- bits, how many of them were read, for how many subsets, and the items that were read
 pub record PackedCursor : Type 0 where
@@ -26,50 +27,57 @@ pub record PackedCursor : Type 0 where
   pub items : List (Item (List Content))
 
 -- nothing was read yet
-abbrev pub packed_start : (bits : List Bool) (subsets : ℕ) → PackedCursor
-packed_start bits n = record { bits = bits; at = 0; subsets = n; items = [] }
+abbrev pub new_packed_in : (bits : List Bool) (subsets : ℕ) → PackedCursor
+new_packed_in bits n = record { bits = bits; at = 0; subsets = n; items = [] }
 
 -- the bits that are left
-abbrev pub packed_rest : PackedCursor → List Bool
-packed_rest s = drop s.at s.bits
+abbrev pub remaining_bits : PackedCursor → List Bool
+remaining_bits s = drop s.at s.bits
 
 -- an item and its contents
-abbrev pub item_with : Asked → List Content → Item (List Content)
-item_with spec contents = record { spec = spec; content = contents }
+abbrev pub item_with_contents : FieldSpec → List Content → Item (List Content)
+item_with_contents spec contents = record { spec = spec; content = contents }
 
 -- the contents that were found, or none
-abbrev pub contents_found : Result (Found (List Content)) FieldFault → List Content
+abbrev pub contents_found : Result (FieldRead (List Content)) FieldFault → List Content
 contents_found (Ok f) = f.content
 contents_found (Err why) = []
 
-abbrev pub was_found : Result (Found (List Content)) FieldFault → Bool
+abbrev pub was_found : Result (FieldRead (List Content)) FieldFault → Bool
 was_found (Ok f) = true
 was_found (Err why) = false
 
 -- the item that stands at an entry's place
-abbrev pub item_at : (bits : List Bool) (subsets : ℕ) → KeptItem → Item (List Content)
-item_at bits n e = item_with e.spec (contents_found (packed_field n e.spec (drop e.at bits)))
+abbrev pub item_at : (bits : List Bool) (subsets : ℕ) → IndexedItem → Item (List Content)
+item_at bits n e = item_with_contents e.spec
+    (contents_found (packed_field n e.spec (drop e.at bits)))
 
-abbrev pub items_at : (bits : List Bool) (subsets : ℕ) → List KeptItem → List (Item (List Content))
+abbrev pub items_at : (bits : List Bool) (subsets : ℕ) → List IndexedItem
+    → List (Item (List Content))
 items_at bits n [] = []
 items_at bits n (e ∷ kept) = item_at bits n e ∷ items_at bits n kept
 
--- whether an item stands at an entry's place, with the entry's k
-abbrev pub stands_at : (bits : List Bool) (subsets : ℕ) → KeptItem → Bool
+-- whether an entry has the number of the base at its place; a text has none
+abbrev pub has_base : (bits : List Bool) → IndexedItem → Bool
+has_base bits e =
+    is_character e.spec.kind || (e.base == number_of (take e.spec.width (drop e.at bits)))
+
+-- whether an item stands at an entry's place, with the entry's k and base
+abbrev pub stands_at : (bits : List Bool) (subsets : ℕ) → IndexedItem → Bool
 stands_at bits n e =
     was_found (packed_field n e.spec (drop e.at bits))
-    && (e.step == number_of (take 6 (drop (e.at + e.spec.width) bits)))
+    && ((e.step == number_of (take 6 (drop (e.at + e.spec.width) bits))) && has_base bits e)
 
 -- what a reader with these entries is
-abbrev pub packed_view : (bits : List Bool) (at subsets : ℕ) → List KeptItem → PackedCursor
+abbrev pub packed_view : (bits : List Bool) (at subsets : ℕ) → List IndexedItem → PackedCursor
 packed_view bits at n kept =
     record { bits = bits; at = at; subsets = n; items = items_at bits n kept }
 
 -- what the reader keeps: each item has at least a bit and the six of its k
-pub record IsPackedIn (bits : List Bool) (at subsets : ℕ) (kept : List KeptItem) : Type 0 where
+pub record IsPackedIn (bits : List Bool) (at subsets : ℕ) (kept : List IndexedItem) : Type 0 where
   pub within : at ≤ length bits
   pub some : 1 ≤ subsets
-  pub few : length kept * subsets ≤ most_values
+  pub few : length kept * subsets ≤ max_values
   pub held : 7 * length kept ≤ at
   pub stand : list_all (stands_at bits subsets) kept ≡ true
 
@@ -80,35 +88,36 @@ wrong_of fxy increment = wrong.Increment fxy
 wrong_of fxy unequal_factor = wrong.UnequalFactor fxy
 
 -- an item was found at the front of the rest, and told what it holds
-pub record IsPackedTaken (s : PackedCursor) (spec : Asked) (t : Taken)
+pub record IsPackedTaken (s : PackedCursor) (spec : FieldSpec) (t : Taken)
     (s' : PackedCursor) : Type 0 where
   pub contents : List Content
-  pub few : (length s.items + 1) * s.subsets ≤ most_values
-  pub field : packed_field s.subsets spec (packed_rest s) ≡ Ok (found contents (packed_rest s'))
+  pub few : (length s.items + 1) * s.subsets ≤ max_values
+  pub field : packed_field s.subsets spec (remaining_bits s)
+      ≡ Ok (found contents (remaining_bits s'))
   pub tells : t ≡ told_first spec contents
   pub bits : s'.bits ≡ s.bits
   pub subsets : s'.subsets ≡ s.subsets
-  pub items : s'.items ≡ s.items ++ item_with spec contents ∷ []
+  pub items : s'.items ≡ s.items ++ item_with_contents spec contents ∷ []
   pub forth : s.at + 7 ≤ s'.at
 
 -- the item at the front of the rest is at fault, and would not be one too many
-pub record IsPackedWrong (s : PackedCursor) (spec : Asked) (e : PackedFault) : Type 0 where
+pub record IsPackedWrong (s : PackedCursor) (spec : FieldSpec) (e : PackedFault) : Type 0 where
   pub why : FieldFault
-  pub few : (length s.items + 1) * s.subsets ≤ most_values
-  pub field : packed_field s.subsets spec (packed_rest s) ≡ Err why
+  pub few : (length s.items + 1) * s.subsets ≤ max_values
+  pub field : packed_field s.subsets spec (remaining_bits s) ≡ Err why
   pub fault : e ≡ wrong_of spec.fxy why
 
 -- One call: an item was read and kept, or there would be too many values, or it is at fault, or
 -- memory for so many items more ran out; then nothing is changed.
-abbrev pub PackedTakes : PackedCursor → Asked → Result Taken PackedFault → PackedCursor → Type 0
+abbrev pub PackedTakes : PackedCursor → FieldSpec → Result Taken PackedFault → PackedCursor → Type 0
 PackedTakes s spec (Ok t) s' = IsPackedTaken s spec t s'
 PackedTakes s spec (Err (wrong.TooManyValues fxy)) s' =
-    (fxy ≡ spec.fxy) × (most_values < (length s.items + 1) * s.subsets) × (s' ≡ s)
+    (fxy ≡ spec.fxy) × (max_values < (length s.items + 1) * s.subsets) × (s' ≡ s)
 PackedTakes s spec (Err wrong.Memory) s' = (s' ≡ s) × (length s.items % items_at_once ≡ 0)
 PackedTakes s spec (Err e) s' = IsPackedWrong s spec e × (s' ≡ s)
 
 -- a refusal changes nothing
-pub refuses_packed : (s : PackedCursor) (spec : Asked) (e : PackedFault) (s' : PackedCursor)
+pub refuses_packed : (s : PackedCursor) (spec : FieldSpec) (e : PackedFault) (s' : PackedCursor)
     → PackedTakes s spec (Err e) s' → s' ≡ s
 refuses_packed s spec (wrong.TooManyValues fxy) s' h = h.2
 refuses_packed s spec wrong.Memory s' h = h.0

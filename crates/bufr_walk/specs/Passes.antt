@@ -4,13 +4,13 @@ use Rattle.std.specs.Prelude.{ℕ, ◌≡◌, ◌≤◌, ◌+◌, ◌*◌, false
 use Rattle.bufr_walk.specs.declared.fault.WalkFault.{WalkFault}
 use Rattle.bufr_walk.specs.declared.fault.WalkFault.TheVariants as fault
 use Rattle.bufr_walk.specs.declared.spec.Role.TheVariants as role
-use Rattle.bufr_walk.specs.Asked.{Asked}
+use Rattle.bufr_walk.specs.FieldSpec.{FieldSpec}
 use Rattle.bufr_walk.specs.Content.{Content}
 use Rattle.bufr_walk.specs.Course.{Course, Next, take_next, at_end}
-use Rattle.bufr_walk.specs.Fault.{fault_of}
-use Rattle.bufr_walk.specs.Kept.{items_in}
+use Rattle.bufr_walk.specs.Fault.{walk_fault_of}
+use Rattle.bufr_walk.specs.StoredItems.{items_in}
 use Rattle.bufr_walk.specs.PlainIn.{Cursor, rest_of}
-use Rattle.bufr_walk.specs.Reading.{Item, plain, Reads, next_after, turns_after, turns_in, ReadsSubsets}
+use Rattle.bufr_walk.specs.Reading.{Item, plain, ReadsItems, next_after, turns_after, turns_in, ReadsSubsets}
 use Rattle.bufr_walk.specs.Refusal.{Stop, stop_at}
 use Rattle.bufr_walk.specs.Ticks.{ticked}
 
@@ -18,7 +18,7 @@ use Rattle.bufr_walk.specs.Ticks.{ticked}
 pub record PassComes (course : Course) (s : Cursor) (steps : ℕ) (next : Next) (s' : Cursor)
     (steps' : ℕ) : Type 0 where
   pub items : List (Item Content)
-  pub reads : Reads plain course items (rest_of s) (rest_of s')
+  pub reads : ReadsItems plain course items (rest_of s) (rest_of s')
   pub next_is : next ≡ next_after plain course items
   pub ticks : steps' ≡ ticked steps (turns_after plain course items)
   pub same : s'.bits ≡ s.bits
@@ -32,11 +32,11 @@ PassReads course s steps s' steps' = PassComes course s steps at_end s' steps'
 abbrev pub PassStops : Course → Cursor → (steps subset : ℕ) → WalkFault → Cursor
     → (steps' : ℕ) → Type 0
 PassStops course s steps subset fault.Memory s' steps' =
-    (spec : Asked) × PassComes course s steps (take_next spec) s' steps'
+    (spec : FieldSpec) × PassComes course s steps (take_next spec) s' steps'
     × (spec.role ≡ role.Reference)
 PassStops course s steps subset why s' steps' =
     (next : Next) × (stop : Stop) × PassComes course s steps next s' steps'
-    × (stop_at plain false next (rest_of s') ≡ Some stop) × (why ≡ fault_of stop subset s'.at)
+    × (stop_at plain false next (rest_of s') ≡ Some stop) × (why ≡ walk_fault_of stop subset s'.at)
 
 -- so many subsets were read, within a bound of n turns a bit
 pub record SubsetsRead (n : ℕ) (course : Course) (bits : List Bool) (count : ℕ) (s : Cursor)

@@ -1,7 +1,7 @@
 -- One field of data that are not compressed.
 -- Cited by public contracts.
 use Rattle.std.specs.Prelude.{nat_lt, Bool, if◌then◌else◌, List, length, take, drop, Result, Ok, Err}
-use Rattle.bufr_walk.specs.Asked.{Asked}
+use Rattle.bufr_walk.specs.FieldSpec.{FieldSpec}
 use Rattle.bufr_walk.specs.Content.{Content, content_in}
 
 -- what may be wrong with a field of the data: the data end in it, an increment cannot be, or a
@@ -12,15 +12,15 @@ pub data FieldFault : Type 0 where
   unequal_factor : FieldFault
 
 -- what a field holds, and the bits behind it
-pub record Found (C : Type 0) : Type 0 where
+pub record FieldRead (C : Type 0) : Type 0 where
   pub content : C
   pub behind : List Bool
 
-abbrev pub found : {C : Type 0} → C → List Bool → Found C
+abbrev pub found : {C : Type 0} → C → List Bool → FieldRead C
 found content behind = record { content = content; behind = behind }
 
 -- the field at the front of bits
-abbrev pub plain_field : Asked → List Bool → Result (Found Content) FieldFault
+abbrev pub plain_field : FieldSpec → List Bool → Result (FieldRead Content) FieldFault
 plain_field spec bits =
     if nat_lt (length bits) spec.width then Err data_end
     else Ok (found (content_in spec (take spec.width bits)) (drop spec.width bits))

@@ -7,8 +7,8 @@ use Rattle.bufr_walk.specs.declared.stop.WalkStop.{WalkStop}
 use Rattle.bufr_walk.specs.declared.stop.WalkStop.TheVariants as stops
 use Rattle.bufr_walk.specs.declared.fault.WalkFault.{WalkFault}
 use Rattle.bufr_walk.specs.declared.fault.WalkFault.TheVariants as fault
-use Rattle.bufr_walk.specs.Asked.{Asked}
-use Rattle.bufr_walk.specs.Content.{Content, told}
+use Rattle.bufr_walk.specs.FieldSpec.{FieldSpec}
+use Rattle.bufr_walk.specs.Content.{Content, answer_of}
 use Rattle.bufr_walk.specs.Fault.{spot}
 use Rattle.bufr_walk.specs.PlainField.{plain_field, found, data_end}
 
@@ -22,26 +22,26 @@ abbrev pub rest_of : Cursor → List Bool
 rest_of s = drop s.at s.bits
 
 -- past a field
-abbrev pub past : Cursor → Asked → Cursor
+abbrev pub past : Cursor → FieldSpec → Cursor
 past s spec = record { bits = s.bits; at = s.at + spec.width }
 
 -- a field was found at the front of the rest, and told what it holds
-pub record IsTaken (s : Cursor) (spec : Asked) (t : Taken) (s' : Cursor) : Type 0 where
+pub record IsTaken (s : Cursor) (spec : FieldSpec) (t : Taken) (s' : Cursor) : Type 0 where
   pub content : Content
   pub some : 1 ≤ spec.width
   pub field : plain_field spec (rest_of s) ≡ Ok (found content (rest_of s'))
-  pub tells : t ≡ told spec content
+  pub tells : t ≡ answer_of spec content
   pub next : s' ≡ past s spec
 
 -- one call: a field was read, or the bits end in it
-abbrev pub PlainTakes : Cursor → Asked → Result Taken DataEnd → Cursor → Type 0
+abbrev pub PlainTakes : Cursor → FieldSpec → Result Taken DataEnd → Cursor → Type 0
 PlainTakes s spec (Ok t) s' = IsTaken s spec t s'
 PlainTakes s spec (Err e) s' =
     (plain_field spec (rest_of s) ≡ Err data_end) × (e.fxy ≡ spec.fxy) × (s' ≡ s)
 
 -- the fault that a walk's stop is, in a subset, behind so many bits
-abbrev pub fault_at : WalkStop DataEnd → (subset bit : ℕ) → WalkFault
-fault_at (stops.Width fxy) subset bit = fault.Width (spot subset fxy bit)
-fault_at (stops.Defining fxy) subset bit = fault.Defining (spot subset fxy bit)
-fault_at (stops.Field e) subset bit = fault.DataEnd (spot subset e.fxy bit)
-fault_at stops.Memory subset bit = fault.Memory
+abbrev pub plain_fault : WalkStop DataEnd → (subset bit : ℕ) → WalkFault
+plain_fault (stops.Width fxy) subset bit = fault.Width (spot subset fxy bit)
+plain_fault (stops.Defining fxy) subset bit = fault.Defining (spot subset fxy bit)
+plain_fault (stops.Field e) subset bit = fault.DataEnd (spot subset e.fxy bit)
+plain_fault stops.Memory subset bit = fault.Memory

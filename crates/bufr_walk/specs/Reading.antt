@@ -3,60 +3,60 @@
 -- Cited by public contracts.
 use Rattle.std.specs.Prelude.{ℕ, zero, suc, ◌≡◌, ◌+◌, ◌*◌, ◌≤◌, Bool, true, false, List, [], ◌∷◌, length, drop, Result, Ok}
 use Rattle.bufr_walk.specs.declared.spec.Taken.{Taken}
-use Rattle.bufr_walk.specs.Asked.{Asked}
+use Rattle.bufr_walk.specs.FieldSpec.{FieldSpec}
 use Rattle.bufr_walk.specs.Course.{Course, Next, take_next, at_end}
-use Rattle.bufr_walk.specs.Content.{Content, told}
-use Rattle.bufr_walk.specs.PlainField.{FieldFault, Found, found, plain_field}
+use Rattle.bufr_walk.specs.Content.{Content, answer_of}
+use Rattle.bufr_walk.specs.PlainField.{FieldFault, FieldRead, found, plain_field}
 use Rattle.bufr_walk.specs.PackedField.{packed_field, told_first}
 
 -- an item: what was asked, and what was found there, for one subset or for all
 pub record Item (C : Type 0) : Type 0 where
-  pub spec : Asked
+  pub spec : FieldSpec
   pub content : C
 
 -- how a field is read, and what it tells the walk
-pub record Form (C : Type 0) : Type 0 where
-  pub field : Asked → List Bool → Result (Found C) FieldFault
-  pub tells : Asked → C → Taken
+pub record DataCoding (C : Type 0) : Type 0 where
+  pub field : FieldSpec → List Bool → Result (FieldRead C) FieldFault
+  pub tells : FieldSpec → C → Taken
 
 -- one subset
-abbrev pub plain : Form Content
-plain = record { field = plain_field; tells = told }
+abbrev pub plain : DataCoding Content
+plain = record { field = plain_field; tells = answer_of }
 
 -- so many subsets together
-abbrev pub packed : ℕ → Form (List Content)
+abbrev pub packed : ℕ → DataCoding (List Content)
 packed n = record { field = packed_field n; tells = told_first }
 
 -- what an item tells
-abbrev pub tells_of : {C : Type 0} → Form C → Item C → Taken
+abbrev pub tells_of : {C : Type 0} → DataCoding C → Item C → Taken
 tells_of form i = form.tells i.spec i.content
 
 -- a course after one item more
-abbrev pub after : {C : Type 0} → Form C → Course → Item C → Course
-after form course i told = course (tells_of form i ∷ told)
+abbrev pub after : {C : Type 0} → DataCoding C → Course → Item C → Course
+after form course i answer_of = course (tells_of form i ∷ answer_of)
 
 -- each item is what the field that comes next holds, at the bits behind the one before
-abbrev pub Reads : {C : Type 0} → Form C → Course → List (Item C)
+abbrev pub ReadsItems : {C : Type 0} → DataCoding C → Course → List (Item C)
     → (bits behind : List Bool) → Type 0
-Reads form course [] bits behind = bits ≡ behind
-Reads form course (i ∷ items) bits behind =
+ReadsItems form course [] bits behind = bits ≡ behind
+ReadsItems form course (i ∷ items) bits behind =
     (mid : List Bool) × ((course []).next ≡ take_next i.spec)
     × (form.field i.spec bits ≡ Ok (found i.content mid))
-    × Reads form (after form course i) items mid behind
+    × ReadsItems form (after form course i) items mid behind
 
 -- what comes after items
-abbrev pub next_after : {C : Type 0} → Form C → Course → List (Item C) → Next
+abbrev pub next_after : {C : Type 0} → DataCoding C → Course → List (Item C) → Next
 next_after form course [] = (course []).next
 next_after form course (i ∷ items) = next_after form (after form course i) items
 
 -- one pass over a template, to its end
-abbrev pub ReadsAll : {C : Type 0} → Form C → Course → List (Item C)
+abbrev pub ReadsPass : {C : Type 0} → DataCoding C → Course → List (Item C)
     → (bits behind : List Bool) → Type 0
-ReadsAll form course items bits behind =
-    Reads form course items bits behind × (next_after form course items ≡ at_end)
+ReadsPass form course items bits behind =
+    ReadsItems form course items bits behind × (next_after form course items ≡ at_end)
 
 -- the turns of a pass with these items, up to what comes after them
-abbrev pub turns_after : {C : Type 0} → Form C → Course → List (Item C) → ℕ
+abbrev pub turns_after : {C : Type 0} → DataCoding C → Course → List (Item C) → ℕ
 turns_after form course [] = (course []).turns
 turns_after form course (i ∷ items) = turns_after form (after form course i) items
 
@@ -69,12 +69,12 @@ turns_in course (items ∷ subsets) = turns_after plain course items + turns_in 
 abbrev pub ReadsSubsets : Course → List (List (Item Content)) → (bits behind : List Bool) → Type 0
 ReadsSubsets course [] bits behind = bits ≡ behind
 ReadsSubsets course (items ∷ subsets) bits behind =
-    (mid : List Bool) × ReadsAll plain course items bits mid
+    (mid : List Bool) × ReadsPass plain course items bits mid
     × ReadsSubsets course subsets mid behind
 
 -- the most values of a compressed message
-abbrev pub most_values : ℕ
-most_values = 134217728
+abbrev pub max_values : ℕ
+max_values = 134217728
 
 -- for so many items of compressed data there is room at once (a choice of this project)
 abbrev pub items_at_once : ℕ
@@ -85,7 +85,7 @@ abbrev pub IsPackedReading : (subsets : ℕ) → Course → List (Item (List Con
     → (bits behind : List Bool) → Type 0
 IsPackedReading zero course items bits behind = (items ≡ []) × (bits ≡ behind)
 IsPackedReading (suc n) course items bits behind =
-    ReadsAll (packed (suc n)) course items bits behind × (length items * suc n ≤ most_values)
+    ReadsPass (packed (suc n)) course items bits behind × (length items * suc n ≤ max_values)
 
 -- data that are not compressed: as many subsets as there are
 abbrev pub IsPlainReading : (subsets : ℕ) → Course → List (List (Item Content))

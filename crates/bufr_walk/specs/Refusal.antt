@@ -2,27 +2,27 @@
 -- project).
 -- Cited by public contracts.
 use Rattle.std.specs.Prelude.{ℕ, ◌≡◌, ◌⊎◌, ◌+◌, ◌*◌, ◌%◌, ◌≤◌, nat_lt, Bool, true, false, List, length, Option, Some, None, Result, Ok, Err}
-use Rattle.bufr_walk.specs.declared.spec.Refusal.{Refusal}
+use Rattle.bufr_walk.specs.declared.spec.TurnRefusal.{TurnRefusal}
 use Rattle.bufr_walk.specs.declared.spec.Role.TheVariants as role
-use Rattle.bufr_walk.specs.Asked.{Asked}
+use Rattle.bufr_walk.specs.FieldSpec.{FieldSpec}
 use Rattle.bufr_walk.specs.Course.{Course, Next, take_next, refused}
 use Rattle.bufr_walk.specs.Content.{Content}
-use Rattle.bufr_walk.specs.PlainField.{FieldFault, Found}
-use Rattle.bufr_walk.specs.Reading.{Item, Form, plain, packed, Reads, next_after, turns_after, turns_in, ReadsSubsets, most_values, items_at_once}
+use Rattle.bufr_walk.specs.PlainField.{FieldFault, FieldRead}
+use Rattle.bufr_walk.specs.Reading.{Item, DataCoding, plain, packed, ReadsItems, next_after, turns_after, turns_in, ReadsSubsets, max_values, items_at_once}
 
 -- why a reading stops: the walk is refused, there would be too many values, or a field cannot be
 -- read
 pub data Stop : Type 0 where
-  walk_stop : (why : Refusal) → Stop
+  walk_stop : (why : TurnRefusal) → Stop
   too_many : (fxy : ℕ) → Stop
   field_stop : (fxy : ℕ) → (why : FieldFault) → Stop
 
-abbrev pub field_stop_of : {C : Type 0} → ℕ → Result (Found C) FieldFault → Option Stop
+abbrev pub field_stop_of : {C : Type 0} → ℕ → Result (FieldRead C) FieldFault → Option Stop
 field_stop_of fxy (Ok f) = None
 field_stop_of fxy (Err why) = Some (field_stop fxy why)
 
 -- what stops at what comes next, if anything does
-abbrev pub stop_at : {C : Type 0} → Form C → (many : Bool) → Next → List Bool → Option Stop
+abbrev pub stop_at : {C : Type 0} → DataCoding C → (many : Bool) → Next → List Bool → Option Stop
 stop_at form many (refused why) bits = Some (walk_stop why)
 stop_at form true (take_next spec) bits = Some (too_many spec.fxy)
 stop_at form false (take_next spec) bits = field_stop_of spec.fxy (form.field spec bits)
@@ -36,7 +36,7 @@ pub record ComesTo (subsets : ℕ) (course : Course) (bits : List Bool) (subset 
   pub items : List (Item Content)
   pub mid : List Bool
   pub whole : ReadsSubsets course done bits mid
-  pub reads : Reads plain course items mid left
+  pub reads : ReadsItems plain course items mid left
   pub next_is : next ≡ next_after plain course items
   pub number : subset ≡ length done + 1
   pub within : subset ≤ subsets
@@ -48,8 +48,8 @@ pub record ComesToTogether (subsets : ℕ) (course : Course) (bits : List Bool)
     (items_before before turns : ℕ) (next : Next) (left : List Bool) : Type 0 where
   pub items : List (Item (List Content))
   pub some : 1 ≤ subsets
-  pub reads : Reads (packed subsets) course items bits left
-  pub few : length items * subsets ≤ most_values
+  pub reads : ReadsItems (packed subsets) course items bits left
+  pub few : length items * subsets ≤ max_values
   pub count : items_before ≡ length items
   pub next_is : next ≡ next_after (packed subsets) course items
   pub place : before + length left ≡ length bits
@@ -64,7 +64,7 @@ IsPlainRefused subsets course bits stop subset before turns =
 
 -- whether the values would be too many with one item more
 abbrev pub would_be_many : (subsets items_before : ℕ) → Bool
-would_be_many subsets items_before = nat_lt most_values ((items_before + 1) * subsets)
+would_be_many subsets items_before = nat_lt max_values ((items_before + 1) * subsets)
 
 -- compressed data are refused behind so many bits, in so many turns
 abbrev pub IsPackedRefused : (subsets : ℕ) → Course → List Bool → Stop → (before turns : ℕ) → Type 0
@@ -76,12 +76,13 @@ IsPackedRefused subsets course bits stop before turns =
 -- memory may run out at a reference that has to be kept, within so many turns
 abbrev pub IsPlainShort : (subsets : ℕ) → Course → List Bool → (turns : ℕ) → Type 0
 IsPlainShort subsets course bits turns =
-    (spec : Asked) × (left : List Bool) × (subset : ℕ) × (before : ℕ) × ComesTo subsets course bits
+    (spec : FieldSpec) × (left : List Bool) × (subset : ℕ) × (before : ℕ)
+    × ComesTo subsets course bits
     subset before turns (take_next spec) left × (spec.role ≡ role.Reference)
 
 -- of compressed data also at an item for which room has to be made, one of 64
 abbrev pub IsPackedShort : (subsets : ℕ) → Course → List Bool → (turns : ℕ) → Type 0
 IsPackedShort subsets course bits turns =
-    (spec : Asked) × (left : List Bool) × (items_before : ℕ) × (before : ℕ)
+    (spec : FieldSpec) × (left : List Bool) × (items_before : ℕ) × (before : ℕ)
     × ComesToTogether subsets course bits items_before before turns (take_next spec) left
     × ((items_before % items_at_once ≡ 0) ⊎ (spec.role ≡ role.Reference))

@@ -8,26 +8,26 @@ use Rattle.bufr_tables.specs.Fxy.{x_of, y_of}
 use Rattle.bufr_tables.specs.TableB.{Row, entry_of}
 use Rattle.bufr_walk.specs.declared.spec.Role.{Role}
 use Rattle.bufr_walk.specs.declared.spec.Role.TheVariants as role
-use Rattle.bufr_walk.specs.declared.spec.Refusal.{Refusal}
-use Rattle.bufr_walk.specs.declared.spec.Refusal.TheVariants as refusal
-use Rattle.bufr_walk.specs.Asked.{Asked}
-use Rattle.bufr_walk.specs.Settings.{Settings, is_defining, current_reference}
+use Rattle.bufr_walk.specs.declared.spec.TurnRefusal.{TurnRefusal}
+use Rattle.bufr_walk.specs.declared.spec.TurnRefusal.TheVariants as refusal
+use Rattle.bufr_walk.specs.FieldSpec.{FieldSpec}
+use Rattle.bufr_walk.specs.Operators.{OperatorModel, is_defining, current_reference}
 
 -- a number whose width is 1 to 63 bits
-abbrev pub fitting : Asked → Result Asked Refusal
-fitting a = if nat_le 1 a.width && nat_le a.width 63 then Ok a else Err (refusal.Width a.fxy)
+abbrev pub if_valid_width : FieldSpec → Result FieldSpec TurnRefusal
+if_valid_width a = if nat_le 1 a.width && nat_le a.width 63 then Ok a else Err (refusal.Width a.fxy)
 
 -- a change by Y - 128, where one is in force
-abbrev pub change_of : ℕ → ℤ
-change_of y = if y == 0 then pos 0 else pos y -ℤ pos 128
+abbrev pub scale_change_of : ℕ → ℤ
+scale_change_of y = if y == 0 then pos 0 else pos y -ℤ pos 128
 
 -- how many bits increased precision by so many digits adds
 abbrev pub extra_bits : ℕ → ℕ
 extra_bits y = (10 * y + 2) / 3
 
 -- a width changed by Y - 128, and 0 where that is below it
-abbrev pub changed_width : (width extra y : ℕ) → ℕ
-changed_width width extra y = if y == 0 then width + extra else (width + extra + y) - 128
+abbrev pub operator_width : (width extra y : ℕ) → ℕ
+operator_width width extra y = if y == 0 then width + extra else (width + extra + y) - 128
 
 -- whether all ones is a number, and not a missing value
 abbrev pub is_never_missing : ℕ → Bool
@@ -35,34 +35,35 @@ is_never_missing fxy = x_of fxy == 31
 
 -- a quantity: width, scale and reference of Table B, or the latest redefined reference, with the
 -- changes in force
-abbrev pub quantity : Settings → Row → Asked
-quantity s row = record {
+abbrev pub numeric_spec : OperatorModel → Row → FieldSpec
+numeric_spec s row = record {
   fxy = row.fxy;
   role = role.Element;
   kind = kind.Numeric;
-  width = changed_width row.width (extra_bits s.refined) s.widened;
-  scale = (row.scale +ℤ change_of s.rescaled) +ℤ pos s.refined;
-  reference = current_reference s.redefined row.fxy row.reference *ℤ pos (10 ^ s.refined);
+  width = operator_width row.width (extra_bits s.precision_increase) s.width_change;
+  scale = (row.scale +ℤ scale_change_of s.scale_change) +ℤ pos s.precision_increase;
+  reference = current_reference s.new_references row.fxy row.reference *ℤ pos
+      (10 ^ s.precision_increase);
   may_be_missing = not (is_never_missing row.fxy);
   listed = true;
 }
 
 -- a figure of a code table: no change touches it but a redefined reference
-abbrev pub figure : Settings → Row → Asked
-figure s row = record {
+abbrev pub coded_spec : OperatorModel → Row → FieldSpec
+coded_spec s row = record {
   fxy = row.fxy;
   role = role.Element;
   kind = kind.Coded;
   width = row.width;
   scale = row.scale;
-  reference = current_reference s.redefined row.fxy row.reference;
+  reference = current_reference s.new_references row.fxy row.reference;
   may_be_missing = not (is_never_missing row.fxy);
   listed = true;
 }
 
 -- text of so many octets
-abbrev pub text_of : Role → (fxy width : ℕ) → Bool → Asked
-text_of r fxy width listed =
+abbrev pub text_spec : Role → (fxy width : ℕ) → Bool → FieldSpec
+text_spec r fxy width listed =
     record {
       fxy = fxy;
       role = r;
@@ -75,23 +76,24 @@ text_of r fxy width listed =
     }
 
 -- the width of a text element
-abbrev pub text_width : Settings → ℕ → ℕ
-text_width s width = if s.lettered == 0 then width else 8 * s.lettered
+abbrev pub text_width : OperatorModel → ℕ → ℕ
+text_width s width = if s.character_octets == 0 then width else 8 * s.character_octets
 
 -- an element by its row and kind
-abbrev pub by_kind : Kind → Settings → Row → Result Asked Refusal
-by_kind kind.Numeric s row = fitting (quantity s row)
-by_kind kind.Coded s row = fitting (figure s row)
-by_kind kind.Character s row = Ok (text_of role.Element row.fxy (text_width s row.width) true)
+abbrev pub spec_by_kind : Kind → OperatorModel → Row → Result FieldSpec TurnRefusal
+spec_by_kind kind.Numeric s row = if_valid_width (numeric_spec s row)
+spec_by_kind kind.Coded s row = if_valid_width (coded_spec s row)
+spec_by_kind kind.Character s row = Ok
+    (text_spec role.Element row.fxy (text_width s row.width) true)
 
 -- a reference that is being defined
-abbrev pub defined_field : Settings → ℕ → Asked
+abbrev pub defined_field : OperatorModel → ℕ → FieldSpec
 defined_field s fxy =
     record {
       fxy = fxy;
       role = role.Reference;
       kind = kind.Numeric;
-      width = s.defining;
+      width = s.new_reference_width;
       scale = pos 0;
       reference = pos 0;
       may_be_missing = false;
@@ -99,12 +101,12 @@ defined_field s fxy =
     }
 
 -- an element whose reference is being defined: no text
-abbrev pub defined_by : Kind → Settings → ℕ → Result Asked Refusal
-defined_by kind.Character s fxy = Err (refusal.Defining fxy)
-defined_by _ s fxy = fitting (defined_field s fxy)
+abbrev pub new_reference_spec : Kind → OperatorModel → ℕ → Result FieldSpec TurnRefusal
+new_reference_spec kind.Character s fxy = Err (refusal.Defining fxy)
+new_reference_spec _ s fxy = if_valid_width (defined_field s fxy)
 
 -- an unsigned number of a given width
-abbrev pub unsigned_field : (fxy width : ℕ) → Asked
+abbrev pub unsigned_field : (fxy width : ℕ) → FieldSpec
 unsigned_field fxy width =
     record {
       fxy = fxy;
@@ -117,42 +119,43 @@ unsigned_field fxy width =
       listed = false;
     }
 
-abbrev pub unsigned_of : (fxy width : ℕ) → Result Asked Refusal
-unsigned_of fxy width = fitting (unsigned_field fxy width)
+abbrev pub unsigned_of : (fxy width : ℕ) → Result FieldSpec TurnRefusal
+unsigned_of fxy width = if_valid_width (unsigned_field fxy width)
 
 -- no operator
-abbrev pub untouched : Settings → Settings
+abbrev pub untouched : OperatorModel → OperatorModel
 untouched s =
     record {
-      widened = 0;
-      rescaled = 0;
-      defining = 0;
-      refined = 0;
-      lettered = 0;
-      given = 0;
-      redefined = List.[];
+      width_change = 0;
+      scale_change = 0;
+      new_reference_width = 0;
+      precision_increase = 0;
+      character_octets = 0;
+      local_width = 0;
+      new_references = List.[];
     }
 
 -- an element whose width is given: by its row alone where Table B has it with that width
-abbrev pub given_by : Option Row → Settings → ℕ → Result Asked Refusal
-given_by None s fxy = unsigned_of fxy s.given
-given_by (Some row) s fxy =
-    if row.width == s.given then by_kind row.kind (untouched s) row else unsigned_of fxy s.given
+abbrev pub local_width_spec : Option Row → OperatorModel → ℕ → Result FieldSpec TurnRefusal
+local_width_spec None s fxy = unsigned_of fxy s.local_width
+local_width_spec (Some row) s fxy =
+    if row.width == s.local_width then spec_by_kind row.kind (untouched s) row
+    else unsigned_of fxy s.local_width
 
 -- an element by its row; a template's elements have one
-abbrev pub listed_by : Option Row → Settings → ℕ → Result Asked Refusal
+abbrev pub listed_by : Option Row → OperatorModel → ℕ → Result FieldSpec TurnRefusal
 listed_by None s fxy = Err (refusal.Width fxy)
 listed_by (Some row) s fxy =
-    if is_defining s then defined_by row.kind s fxy else by_kind row.kind s row
+    if is_defining s then new_reference_spec row.kind s fxy else spec_by_kind row.kind s row
 
 -- an element
-abbrev pub element_spec : List Row → Settings → ℕ → Result Asked Refusal
+abbrev pub element_spec : List Row → OperatorModel → ℕ → Result FieldSpec TurnRefusal
 element_spec table s fxy =
-    if nat_lt 0 s.given then given_by (entry_of table fxy) s fxy
+    if nat_lt 0 s.local_width then local_width_spec (entry_of table fxy) s fxy
     else listed_by (entry_of table fxy) s fxy
 
 -- the factor of a delayed replication, by its row alone
-abbrev pub factor_field : Row → ℕ → Asked
+abbrev pub factor_field : Row → ℕ → FieldSpec
 factor_field row fxy =
     record {
       fxy = fxy;
@@ -165,16 +168,16 @@ factor_field row fxy =
       listed = true;
     }
 
-abbrev pub factor_by : Option Row → ℕ → Result Asked Refusal
+abbrev pub factor_by : Option Row → ℕ → Result FieldSpec TurnRefusal
 factor_by None fxy = Err (refusal.Width fxy)
-factor_by (Some row) fxy = fitting (factor_field row fxy)
+factor_by (Some row) fxy = if_valid_width (factor_field row fxy)
 
-abbrev pub factor_spec : List Row → Settings → ℕ → Result Asked Refusal
+abbrev pub factor_spec : List Row → OperatorModel → ℕ → Result FieldSpec TurnRefusal
 factor_spec table s fxy =
     if is_defining s then Err (refusal.Defining fxy) else factor_by (entry_of table fxy) fxy
 
 -- a text that stands in the template, 2 05 Y
-abbrev pub inserted_spec : Settings → ℕ → Result Asked Refusal
+abbrev pub inserted_spec : OperatorModel → ℕ → Result FieldSpec TurnRefusal
 inserted_spec s fxy =
     if is_defining s then Err (refusal.Defining fxy)
-    else Ok (text_of role.Inserted fxy (8 * y_of fxy) false)
+    else Ok (text_spec role.Inserted fxy (8 * y_of fxy) false)

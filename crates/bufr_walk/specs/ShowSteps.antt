@@ -10,13 +10,13 @@ use Rattle.bufr_walk.specs.declared.show_plain.ShowStop.TheVariants as stop
 use Rattle.bufr_walk.specs.declared.spec.Taken.{Taken}
 use Rattle.bufr_walk.specs.declared.stop.WalkStop.{WalkStop}
 use Rattle.bufr_walk.specs.declared.stop.WalkStop.TheVariants as stops
-use Rattle.bufr_walk.specs.Asked.{Asked}
+use Rattle.bufr_walk.specs.FieldSpec.{FieldSpec}
 use Rattle.bufr_walk.specs.Calls.{Call, item_call, view_of, Timed, item_calls, subset_calls}
 use Rattle.bufr_walk.specs.Content.{Content}
 use Rattle.bufr_walk.specs.Course.{Course}
 use Rattle.bufr_walk.specs.PlainField.{plain_field, data_end}
 use Rattle.bufr_walk.specs.PlainIn.{Cursor, rest_of, past, IsTaken}
-use Rattle.bufr_walk.specs.Reading.{Item, plain, ReadsAll, turns_after, turns_in, ReadsSubsets}
+use Rattle.bufr_walk.specs.Reading.{Item, plain, ReadsPass, turns_after, turns_in, ReadsSubsets}
 use Rattle.bufr_walk.specs.CallsInTurn.{Shows}
 use Rattle.bufr_walk.specs.Ticks.{ticked}
 
@@ -33,7 +33,7 @@ stage cursor visitor table a b =
 
 -- a field was found, and the visitor took it
 pub record IsShown {V E : Type 0} (sees : V → Call → Result (Unit {0}) E → V → Type 0) (s : Stage V)
-    (spec : Asked) (t : Taken) (s' : Stage V) : Type 0 where
+    (spec : FieldSpec) (t : Taken) (s' : Stage V) : Type 0 where
   pub is_taken : IsTaken s.cursor spec t s'.cursor
   pub call : sees s.visitor (item_call (view_of s.table spec is_taken.content)) (Ok tt) s'.visitor
   pub table : s'.table ≡ s.table
@@ -41,7 +41,7 @@ pub record IsShown {V E : Type 0} (sees : V → Call → Result (Unit {0}) E →
 
 -- a field was found, and the visitor refused it
 pub record IsUnshown {V E : Type 0} (sees : V → Call → Result (Unit {0}) E → V → Type 0)
-    (s : Stage V) (spec : Asked) (e : E) (s' : Stage V) : Type 0 where
+    (s : Stage V) (spec : FieldSpec) (e : E) (s' : Stage V) : Type 0 where
   pub told : Taken
   pub is_taken : IsTaken s.cursor spec told (past s.cursor spec)
   pub call : sees s.visitor (item_call (view_of s.table spec is_taken.content)) (Err e) s'.visitor
@@ -50,7 +50,7 @@ pub record IsUnshown {V E : Type 0} (sees : V → Call → Result (Unit {0}) E �
 
 -- one call: a field was shown, the data end in it, or the visitor refused it
 abbrev pub ShowingTakes : {V E : Type 0} → (V → Call → Result (Unit {0}) E → V → Type 0) → Stage V
-    → Asked → Result Taken (ShowStop E) → Stage V → Type 0
+    → FieldSpec → Result Taken (ShowStop E) → Stage V → Type 0
 ShowingTakes sees s spec (Ok t) s' = IsShown sees s spec t s'
 ShowingTakes sees s spec (Err stop.DataEnd) s' =
     (plain_field spec (rest_of s.cursor) ≡ Err data_end) × (s' ≡ s)
@@ -58,7 +58,7 @@ ShowingTakes sees s spec (Err (stop.Visitor e)) s' = IsUnshown sees s spec e s'
 
 -- a refusal goes past nothing
 pub refusal_keeps : {V E : Type 0} (sees : V → Call → Result (Unit {0}) E → V → Type 0)
-    (s : Stage V) (spec : Asked) (e : ShowStop E) (s' : Stage V)
+    (s : Stage V) (spec : FieldSpec) (e : ShowStop E) (s' : Stage V)
     → ShowingTakes sees s spec (Err e) s' → s'.cursor.at ≡ s.cursor.at
 refusal_keeps sees s spec stop.DataEnd s' h = ap (λ x. x.cursor.at) h.1
 refusal_keeps sees s spec (stop.Visitor e) s' h = ap (λ c. c.at) h.cursor
@@ -85,10 +85,10 @@ pub record ItemsShown {S E : Type 0} (sees : S → Call → Result (Unit {0}) E 
     (table : List Row) (course : Course) (c : Cursor) (s : S) (steps : ℕ) (c' : Cursor) (s' : S)
     (steps' : ℕ) : Type 0 where
   pub shown : (before : ℕ) (items : List (Item Content)) (left : List Bool) (more : List Timed)
-      → ReadsAll plain course items (rest_of c) left
+      → ReadsPass plain course items (rest_of c) left
       → Sofar sees s (item_calls table before course items ++ more) s' more
   pub left_is : (items : List (Item Content)) (left : List Bool)
-      → ReadsAll plain course items (rest_of c) left
+      → ReadsPass plain course items (rest_of c) left
       → (rest_of c' ≡ left) × (steps' ≡ ticked steps (turns_after plain course items))
 
 -- the items of a subset were shown up to one where it ended
@@ -96,7 +96,7 @@ pub record ItemsEnded {S E : Type 0} (sees : S → Call → Result (Unit {0}) E 
     (table : List Row) (course : Course) (c : Cursor) (s : S) (steps : ℕ) (why : ShowFault E)
     (s' : S) (steps' : ℕ) : Type 0 where
   pub ended : (before : ℕ) (items : List (Item Content)) (left : List Bool) (more : List Timed)
-      (turns : ℕ) → ReadsAll plain course items (rest_of c) left → steps ≡ ticked 0 before
+      (turns : ℕ) → ReadsPass plain course items (rest_of c) left → steps ≡ ticked 0 before
       → Shows sees s (item_calls table before course items ++ more) turns (Err why) s' steps'
 
 abbrev pub ItemsGo : {S E : Type 0} → (S → Call → Result (Unit {0}) E → S → Type 0) → List Row
@@ -111,18 +111,18 @@ pub record SubsetShown {S E : Type 0} (sees : S → Call → Result (Unit {0}) E
     (table : List Row) (course : Course) (number : ℕ) (c : Cursor) (s : S) (steps : ℕ) (c' : Cursor)
     (s' : S) (steps' : ℕ) : Type 0 where
   pub shown : (before : ℕ) (items : List (Item Content)) (subsets : List (List (Item Content)))
-      (left : List Bool) → ReadsAll plain course items (rest_of c) left → steps ≡ ticked 0 before
+      (left : List Bool) → ReadsPass plain course items (rest_of c) left → steps ≡ ticked 0 before
       → Sofar sees s (subset_calls table course before number (items ∷ subsets)) s'
       (subset_calls table course (before + turns_after plain course items) (number + 1) subsets)
   pub left_is : (items : List (Item Content)) (left : List Bool)
-      → ReadsAll plain course items (rest_of c) left
+      → ReadsPass plain course items (rest_of c) left
       → (rest_of c' ≡ left) × (steps' ≡ ticked steps (turns_after plain course items))
 
 pub record SubsetEnded {S E : Type 0} (sees : S → Call → Result (Unit {0}) E → S → Type 0)
     (table : List Row) (course : Course) (number : ℕ) (c : Cursor) (s : S) (steps : ℕ)
     (why : ShowFault E) (s' : S) (steps' : ℕ) : Type 0 where
   pub ended : (before : ℕ) (items : List (Item Content)) (subsets : List (List (Item Content)))
-      (left : List Bool) (turns : ℕ) → ReadsAll plain course items (rest_of c) left
+      (left : List Bool) (turns : ℕ) → ReadsPass plain course items (rest_of c) left
       → steps ≡ ticked 0 before
       → Shows sees s (subset_calls table course before number (items ∷ subsets)) turns
       (Err why) s' steps'

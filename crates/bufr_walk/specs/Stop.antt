@@ -1,10 +1,10 @@
 -- Why a walk stops, where a turn is refused.
 -- Cited by public contracts.
-use Rattle.bufr_walk.specs.declared.spec.Refusal.{Refusal}
-use Rattle.bufr_walk.specs.declared.spec.Refusal.TheVariants as refusal
+use Rattle.bufr_walk.specs.declared.spec.TurnRefusal.{TurnRefusal}
+use Rattle.bufr_walk.specs.declared.spec.TurnRefusal.TheVariants as refusal
 use Rattle.bufr_walk.specs.declared.stop.WalkStop.{WalkStop}
 use Rattle.bufr_walk.specs.declared.stop.WalkStop.TheVariants as stops
 
-abbrev pub stop_by : {E : Type 0} → Refusal → WalkStop E
+abbrev pub stop_by : {E : Type 0} → TurnRefusal → WalkStop E
 stop_by (refusal.Width fxy) = stops.Width fxy
 stop_by (refusal.Defining fxy) = stops.Defining fxy

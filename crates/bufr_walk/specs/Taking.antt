@@ -2,23 +2,23 @@
 -- Cited by public contracts.
 use Rattle.std.specs.Prelude.{◌≡◌, List, [], ◌∷◌}
 use Rattle.bufr_walk.specs.declared.spec.Taken.{Taken}
-use Rattle.bufr_walk.specs.Asked.{Asked}
+use Rattle.bufr_walk.specs.FieldSpec.{FieldSpec}
 use Rattle.bufr_walk.specs.Course.{Course, take_next}
 
 -- what was asked for, and what it told
-pub record Turn : Type 0 where
-  pub spec : Asked
+pub record TakenField : Type 0 where
+  pub spec : FieldSpec
   pub taken : Taken
 
 -- a walk's fields, each what comes next after those before it
-abbrev pub Takes : {S : Type 0} → (S → Asked → Taken → S → Type 0) → Course → S
-    → List Turn → S → Type 0
+abbrev pub Takes : {S : Type 0} → (S → FieldSpec → Taken → S → Type 0) → Course → S
+    → List TakenField → S → Type 0
 Takes takes course s [] s' = s' ≡ s
 Takes {S} takes course s (i ∷ items) s' =
     (mid : S) × ((course []).next ≡ take_next i.spec) × takes s i.spec i.taken mid
     × Takes takes (λ told. course (i.taken ∷ told)) mid items s'
 
 -- a course after some fields
-abbrev pub course_after : Course → List Turn → Course
+abbrev pub course_after : Course → List TakenField → Course
 course_after course [] told = course told
 course_after course (i ∷ items) told = course_after (λ more. course (i.taken ∷ more)) items told

@@ -1,7 +1,7 @@
 -- An item view as a clause sees it.
 -- Cited by public contracts.
 use Rattle.std.specs.Prelude.{option_map}
-use Rattle.bufr_tables.specs.Entry.{row_with}
+use Rattle.bufr_tables.specs.Entry.{row_of_entry}
 use Rattle.bufr_walk.specs.declared.visitor.Value.{Value}
 use Rattle.bufr_walk.specs.declared.visitor.Value.TheVariants as value
 use Rattle.bufr_walk.specs.declared.visitor.ItemView.{ItemView}
@@ -17,4 +17,4 @@ seen_value (value.Reference r) = shown_reference r
 
 -- an item view
 abbrev pub seen : ItemView → View
-seen v = view v.fxy (option_map (row_with v.fxy) v.entry) (seen_value v.value)
+seen v = view v.fxy (option_map (row_of_entry v.fxy) v.entry) (seen_value v.value)

@@ -1,45 +1,48 @@
 //! What the bits at a place write: a number, a number with a sign, what a field tells, octets.
 ghost use Rattle.std.specs.Prelude.{◌≡◌, ◌≤◌, ◌<◌, ◌+◌, ◌-◌, ◌*◌, ◌^◌, length, take, drop, if◌then◌else◌, ◌==◌, pos, neg_ℤ};
-ghost use Rattle.bufr_bits.specs.Bits.{number_of, bits_at, bits_of, all_set};
+ghost use Rattle.bufr_bits.specs.Bits.{number_of, bits_at, bits_of, are_all_ones};
 ghost use Rattle.bufr_bits.specs.BitSlice.{octets_of};
-ghost use Rattle.bufr_walk.specs.Asked.{IsFor};
-ghost use Rattle.bufr_walk.specs.Content.{told, content_in, signed_by, octets_in};
+ghost use Rattle.bufr_walk.specs.FieldSpec.{IsFor};
+ghost use Rattle.bufr_walk.specs.Content.{answer_of, content_in, signed_by, octets_in};
 
 use crate::spec::{Role, Spec, Taken};
 use bufr_bits::BitSlice;
 
 /// The number that bits write which are there.
+#[inline(always)]
 pub(crate) fn number_at(bits: &BitSlice<'_>, at: u64, width: u32) -> u64
     requires few { width ≤ 63 }
     requires within { at + width ≤ 8 * length (octets_of bits.now) }
     ensures value { result ≡ number_of (bits_at (octets_of bits.now) at width) }
     ensures below { result < 2 ^ width }
 {
-    match bits.get(at, width) {
-        Some(value) => value,
-        None => unreachable!(),
+    if width == 0 {
+        return 0;
     }
+    bits.number(at, width)
 }
 
 /// What bits write that are there, of which there are at most 63.
 #[derive(Clone, Copy)]
-pub(crate) struct Raw {
+pub(crate) struct RawNumber {
     /// Their number.
     pub(crate) number: u64,
     /// Whether they are all ones.
     pub(crate) all_ones: bool,
 }
 
-/// What bits write that are there.
-pub(crate) fn raw_at(bits: &BitSlice<'_>, at: u64, width: u32) -> Raw
+/// What bits write that are there, at least one.
+#[inline(always)]
+pub(crate) fn raw_at(bits: &BitSlice<'_>, at: u64, width: u32) -> RawNumber
+    requires some { 1 ≤ width }
     requires few { width ≤ 63 }
     requires within { at + width ≤ 8 * length (octets_of bits.now) }
     ensures number { result.number ≡ number_of (bits_at (octets_of bits.now) at width) }
     ensures below { result.number < 2 ^ width }
-    ensures ones { result.all_ones ≡ all_set (bits_at (octets_of bits.now) at width) }
+    ensures ones { result.all_ones ≡ are_all_ones (bits_at (octets_of bits.now) at width) }
 {
-    let number = number_at(bits, at, width);
-    Raw {
+    let number = bits.number(at, width);
+    RawNumber {
         number,
         all_ones: number == (1 << width) - 1,
     }
@@ -68,13 +71,17 @@ pub(crate) fn signed_at(bits: &BitSlice<'_>, at: u64, width: u32) -> i64
 }
 
 /// What a field that is there tells.
-#[tactic(auto, using(crate::proofs::PlainLemmas::told_element, crate::proofs::PlainLemmas::told_inserted, crate::proofs::PlainLemmas::told_factor, crate::proofs::PlainLemmas::told_reference, crate::proofs::PlainLemmas::some_width, crate::proofs::PlainLemmas::factor_width, crate::proofs::PlainLemmas::reference_width))]
-pub(crate) fn told_at(bits: &BitSlice<'_>, at: u64, spec: &Spec) -> Taken
+#[inline(always)]
+#[tactic(auto, using(crate::proofs::PlainNumbers::plain_told, crate::proofs::PlainNumbers::plain_for, crate::proofs::PlainLemmas::told_element, crate::proofs::PlainLemmas::told_inserted, crate::proofs::PlainLemmas::told_factor, crate::proofs::PlainLemmas::told_reference, crate::proofs::PlainLemmas::some_width, crate::proofs::PlainLemmas::factor_width, crate::proofs::PlainLemmas::reference_width))]
+pub(crate) fn answer_at(bits: &BitSlice<'_>, at: u64, spec: &Spec) -> Taken
     requires { at + spec.now.width ≤ 8 * length (octets_of bits.now) }
-    ensures value { result ≡ told spec.now
+    ensures value { result ≡ answer_of spec.now
         (content_in spec.now (bits_at (octets_of bits.now) at spec.now.width)) }
     ensures shape { IsFor spec.now result }
 {
+    if spec.is_plain() {
+        return Taken::Plain;
+    }
     let width = spec.width();
     match spec.role() {
         Role::Element => Taken::Plain,
@@ -87,7 +94,7 @@ pub(crate) fn told_at(bits: &BitSlice<'_>, at: u64, spec: &Spec) -> Taken
 /// Whether bits that are there are all ones.
 pub(crate) fn ones_at(bits: &BitSlice<'_>, at: u64, width: u32) -> bool
     requires { at + width ≤ 8 * length (octets_of bits.now) }
-    ensures { result ≡ all_set (bits_at (octets_of bits.now) at width) }
+    ensures { result ≡ are_all_ones (bits_at (octets_of bits.now) at width) }
 {
     match bits.all_ones(at, width) {
         Some(ones) => ones,

@@ -57,11 +57,11 @@ pub enum WalkFault {
 
 impl WalkFault {
     ghost use Rattle.std.specs.Prelude.{◌≡◌};
-    ghost use Rattle.bufr_walk.specs.Fault.{number_of_fault};
+    ghost use Rattle.bufr_walk.specs.Fault.{number_of_walk_fault};
 
     /// Its number: 30 to 35, and 73 for want of memory.
     pub fn number(self) -> u8
-        ensures { result ≡ number_of_fault self }
+        ensures { result ≡ number_of_walk_fault self }
     {
         match self {
             WalkFault::DataEnd(_) => 30,

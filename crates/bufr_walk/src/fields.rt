@@ -1,6 +1,6 @@
 //! What a walk asks of the data, field by field.
 ghost use Rattle.std.specs.Prelude.{◌≡◌, ℕ, ◌<◌, Result, Ok, Err, IfOk};
-ghost use Rattle.bufr_walk.specs.Asked.{Asked, IsFor};
+ghost use Rattle.bufr_walk.specs.FieldSpec.{FieldSpec, IsFor};
 ghost use Rattle.bufr_walk.specs.declared.spec.Taken.{Taken};
 
 use crate::spec::{Spec, Taken};
@@ -14,7 +14,7 @@ pub trait Fields {
     ghost used: { Self → ℕ };
 
     /// One call of `take` may go so: before, what is asked, the answer, after.
-    ghost takes: { Self → Asked → Result Taken Self.Fault → Self → Type 0 };
+    ghost takes: { Self → FieldSpec → Result Taken Self.Fault → Self → Type 0 };
 
     /// Takes the next field, and answers what the walk needs of it: [`Taken::Count`] exactly for a
     /// factor, [`Taken::Reference`] exactly for a reference that is being defined, else
@@ -27,15 +27,28 @@ pub trait Fields {
         ensures step { takes self.old spec.now result self.new }
         ensures shape { IfOk result (λ t. IsFor spec.now t) };
 
+    /// Where the next field is looked for first, by fields that are kept: a guess.
+    fn look_at(&mut self, place: u32)
+        ensures { self.new ≡ self.old }
+    {
+        let _ = place;
+    }
+
+    /// Where the field that was taken last stands, where fields are kept.
+    fn last_place(&self) -> Option<u32> {
+        None
+    }
+
     /// How many bits were used, by whole items.
     fn bits(&self) -> u64
         ensures { result ≡ used self.now };
 
     /// A field that is taken uses at least one bit.
-    ghost advances: { (s : Self) (spec : Asked) (t : Taken) (next : Self) → takes s spec (Ok t) next
+    ghost advances: { (s : Self) (spec : FieldSpec) (t : Taken) (next : Self)
+        → takes s spec (Ok t) next
         → used s < used next };
 
     /// A refusal uses none.
-    ghost refuses: { (s : Self) (spec : Asked) (e : Self.Fault) (next : Self)
+    ghost refuses: { (s : Self) (spec : FieldSpec) (e : Self.Fault) (next : Self)
         → takes s spec (Err e) next → used next ≡ used s };
 }

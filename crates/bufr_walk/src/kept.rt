@@ -1,23 +1,30 @@
 //! What is kept of compressed data that were read.
-use crate::kept_items::KeptItems;
+use crate::item_index::ItemIndex;
 use crate::spec::Spec;
 
-/// An item of compressed data that is kept: how it was read, the bit where it begins, and its k.
+/// An item of compressed data that is kept: how it was read, the bit where it begins, the number of
+/// its base, 0 for a text, and its k.
 #[derive(Clone, Copy)]
-pub(crate) struct KeptItem {
+pub(crate) struct IndexedItem {
     pub(crate) spec: Spec,
     pub(crate) at: u64,
+    pub(crate) base: u64,
     pub(crate) step: u8,
 }
 
-impl KeptItem {
+impl IndexedItem {
     ghost use Rattle.std.specs.Prelude.{◌≡◌};
 
     /// An item that was read so.
-    pub(crate) fn new(spec: Spec, at: u64, step: u8) -> KeptItem
-        ensures { result ≡ record { spec = spec; at = at; step = step } }
+    pub(crate) fn new(spec: Spec, at: u64, base: u64, step: u8) -> IndexedItem
+        ensures { result ≡ record { spec = spec; at = at; base = base; step = step } }
     {
-        KeptItem { spec, at, step }
+        IndexedItem {
+            spec,
+            at,
+            base,
+            step,
+        }
     }
 }
 
@@ -25,14 +32,14 @@ impl KeptItem {
 #[derive(Drop)]
 pub(crate) struct PackedRead {
     pub(crate) used: u64,
-    pub(crate) kept: KeptItems,
+    pub(crate) kept: ItemIndex,
 }
 
 impl PackedRead {
     ghost use Rattle.std.specs.Prelude.{◌≡◌};
 
     /// These items, which take so many bits.
-    pub(crate) fn new(used: u64, kept: KeptItems) -> PackedRead
+    pub(crate) fn new(used: u64, kept: ItemIndex) -> PackedRead
         ensures { result ≡ record { used = used; kept = kept } }
     {
         PackedRead { used, kept }

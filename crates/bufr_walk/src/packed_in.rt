@@ -3,17 +3,17 @@ ghost use Rattle.std.specs.Prelude.{◌≡◌, ◌≤◌, ◌<◌, ◌+◌, ◌-
 ghost use Rattle.bufr_bits.specs.Bits.{bits_of, bits_at, number_of};
 ghost use Rattle.bufr_bits.specs.BitSlice.{octets_of};
 ghost use Rattle.bufr_tables.specs.TableB.{is_character};
-ghost use Rattle.bufr_walk.specs.Asked.{IsFor, IsForRole};
-ghost use Rattle.bufr_walk.specs.PackedField.{step_of};
+ghost use Rattle.bufr_walk.specs.FieldSpec.{IsFor, IsForRole};
+ghost use Rattle.bufr_walk.specs.PackedField.{ones, increment_bits_of};
 ghost use Rattle.bufr_walk.specs.declared.spec.Role.TheVariants as role;
 ghost use Rattle.bufr_walk.specs.declared.spec.Taken.TheVariants as taken;
 ghost use Rattle.bufr_walk.specs.PackedBits.{stays_within, all_within, all_equal, numbers_hold, holds_by, is_plain_role, TellsAt, IsSeen, IsUnseen};
 
 use crate::base::{Base, base_at};
-use crate::bits::{number_at, told_at};
+use crate::bits::{answer_at, number_at};
 use crate::fields::Fields;
-use crate::kept::{KeptItem, PackedRead};
-use crate::kept_items::{KeptItems, SpecFinder};
+use crate::item_index::ItemIndex;
+use crate::kept::{IndexedItem, PackedRead};
 use crate::spec::{Role, Spec, Taken};
 use bufr_bits::BitSlice;
 use bufr_tables::{Fxy, Kind};
@@ -113,7 +113,19 @@ fn are_equal(bits: &BitSlice<'_>, at: u64, subsets: u16, k: u32, first: u64) -> 
     true
 }
 
+/// Whether the greatest increment of `k` bits fits the width, and so does each: nearly always.
+#[inline(always)]
+fn all_fit(base: Base, k: u32) -> bool
+    requires k { k ≤ 63 }
+    requires width { base.width ≤ 63 }
+    requires value { base.value < 2 ^ base.width }
+    ensures { result ≡ true → base.value + ones k ≤ ones base.width }
+{
+    base.value + ((1 << k) - 1) <= (1 << base.width) - 1
+}
+
 /// Whether the increments of numbers can be; a base of all ones passes over them.
+#[tactic(auto, using(crate::proofs::PackedLoops::numbers_fit))]
 fn numbers_hold(bits: &BitSlice<'_>, at: u64, subsets: u16, spec: &Spec, k: u32) -> bool
     requires increment { k ≤ 63 }
     requires number { is_character spec.now.kind ≡ false }
@@ -125,6 +137,9 @@ fn numbers_hold(bits: &BitSlice<'_>, at: u64, subsets: u16, spec: &Spec, k: u32)
     let Some(base) = base_at(bits, at, spec) else {
         return true;
     };
+    if all_fit(base, k) {
+        return true;
+    }
     are_within(bits, at + (u64::from(base.width) + 6), subsets, k, base)
 }
 
@@ -145,9 +160,9 @@ fn holds(bits: &BitSlice<'_>, at: u64, subsets: u16, spec: &Spec, k: u32) -> boo
 }
 
 /// The bits of one subset behind the base and `k`.
-fn step_of(spec: &Spec, k: u32) -> u32
+fn increment_bits_of(spec: &Spec, k: u32) -> u32
     requires { k ≤ 63 }
-    ensures value { result ≡ step_of spec.now.role spec.now.kind k }
+    ensures value { result ≡ increment_bits_of spec.now.role spec.now.kind k }
     ensures most { result ≤ 504 }
 {
     match spec.role() {
@@ -170,7 +185,8 @@ fn plain_at(
     requires some { 1 ≤ k }
     requires increment { k ≤ 63 }
     requires role { is_plain_role spec.now.role ≡ true }
-    requires within { at + (spec.now.width + 6) + subsets * step_of spec.now.role spec.now.kind k
+    requires within { at + (spec.now.width + 6) + subsets
+        * increment_bits_of spec.now.role spec.now.kind k
         ≤ 8 * length (octets_of bits.now) }
     ensures told { TellsAt (bits_of (octets_of bits.now)) at subsets spec.now k result }
     ensures plain { IfOk result (λ t. t ≡ taken.Plain) }
@@ -224,13 +240,14 @@ fn item_told_at(
 ) -> Result<Taken, PackedFault>
     requires increment { k ≤ 63 }
     requires subsets { 1 ≤ subsets }
-    requires within { at + (spec.now.width + 6) + subsets * step_of spec.now.role spec.now.kind k
+    requires within { at + (spec.now.width + 6) + subsets
+        * increment_bits_of spec.now.role spec.now.kind k
         ≤ 8 * length (octets_of bits.now) }
     ensures told { TellsAt (bits_of (octets_of bits.now)) at subsets spec.now k result }
     ensures shape { IfOk result (λ t. IsFor spec.now t) }
 {
     if k == 0 {
-        return Ok(told_at(bits, at, spec));
+        return Ok(answer_at(bits, at, spec));
     }
     match spec.role() {
         Role::Element => plain_at(bits, at, subsets, spec, k),
@@ -240,21 +257,35 @@ fn item_told_at(
     }
 }
 
-/// An item that stands in the bits: what it tells, its `k`, and the bit behind it.
+/// An item that stands in the bits: what it tells, its `k`, the number of its base, 0 for a text,
+/// and the bit behind it.
 #[derive(Clone, Copy)]
-struct PackedItem {
+struct ItemBits {
     told: Taken,
     step: u8,
+    base: u64,
     end: u64,
 }
 
+/// The number of the base that begins with bit `at`, 0 for a text.
+fn number_there(bits: &BitSlice<'_>, at: u64, spec: &Spec) -> u64
+    requires within { at + spec.now.width ≤ 8 * length (octets_of bits.now) }
+    ensures { is_character spec.now.kind ≡ false
+        → result ≡ number_of (bits_at (octets_of bits.now) at spec.now.width) }
+{
+    if spec.is_text() {
+        return 0;
+    }
+    number_at(bits, at, spec.width())
+}
+
 /// The item that begins with bit `at`.
-fn seen_at(
+fn item_bits_at(
     bits: &BitSlice<'_>,
     at: u64,
     subsets: u16,
     spec: &Spec,
-) -> Result<PackedItem, PackedFault>
+) -> Result<ItemBits, PackedFault>
     requires subsets { 1 ≤ subsets }
     requires within { at ≤ 8 * length (octets_of bits.now) }
     ensures seen { MatchResult result (λ s. IsSeen (bits_of (octets_of bits.now)) at subsets
@@ -267,14 +298,15 @@ fn seen_at(
         return Err(PackedFault::DataEnd(spec.fxy()));
     }
     let k = number_at(bits, at + width, 6) as u32;
-    let size = width + 6 + u64::from(subsets) * u64::from(step_of(spec, k));
+    let size = width + 6 + u64::from(subsets) * u64::from(increment_bits_of(spec, k));
     if left < size {
         return Err(PackedFault::DataEnd(spec.fxy()));
     }
     match item_told_at(bits, at, subsets, spec, k) {
-        Ok(told) => Ok(PackedItem {
+        Ok(told) => Ok(ItemBits {
             told,
             step: k as u8,
+            base: number_there(bits, at, spec),
             end: at + size,
         }),
         Err(wrong) => Err(wrong),
@@ -283,19 +315,19 @@ fn seen_at(
 
 /// The most values of a message whose data are compressed, read or written: its items times its
 /// subsets (a choice of this project).
-pub const MOST_VALUES: u64 = 134_217_728;
+pub const MAX_VALUES: u64 = 134_217_728;
 
 /// Fields of compressed data: each item stands once for all subsets, as a base, six bits `k`, and
 /// an increment for each subset where `k` is above 0 (WMO-No. 306, Volume I.2, FM 94: section 4,
-/// compression). It keeps where each item lies, and
-/// each field among them once.
+/// compression). It keeps where each item lies, and the fields among them.
 #[derive(Drop)]
 pub struct PackedIn<'a> {
     bits: BitSlice<'a>,
     at: u64,
     subsets: u16,
-    kept: KeptItems,
-    finder: SpecFinder,
+    kept: ItemIndex,
+    /// Where the next field is looked for among those that are kept.
+    next: u32,
 }
 
 impl<'a> Model for PackedIn<'a> {
@@ -315,22 +347,22 @@ impl<'a> PackedIn<'a> {
     ghost use Rattle.std.specs.List.{list_all};
     ghost use Rattle.bufr_bits.specs.Bits.{bits_of};
     ghost use Rattle.bufr_bits.specs.BitSlice.{octets_of};
-    ghost use Rattle.bufr_walk.specs.Asked.{IsFor};
+    ghost use Rattle.bufr_walk.specs.FieldSpec.{IsFor};
     ghost use Rattle.bufr_walk.specs.PackedBits.{IsLooked, IsUnlooked};
-    ghost use Rattle.bufr_walk.specs.PackedIn.{items_at, stands_at, packed_start};
-    ghost use Rattle.bufr_walk.specs.Reading.{most_values};
+    ghost use Rattle.bufr_walk.specs.PackedIn.{items_at, stands_at, new_packed_in};
+    ghost use Rattle.bufr_walk.specs.Reading.{max_values};
 
     /// The bits of compressed data, from bit 0 on, for so many subsets, at least one.
     pub fn new(alloc: Global, bits: BitSlice<'a>, subsets: u16) -> PackedIn<'a>
         requires { 1 ≤ subsets }
-        ensures { result ≡ packed_start (bits_of (octets_of bits.entry)) subsets }
+        ensures { result ≡ new_packed_in (bits_of (octets_of bits.entry)) subsets }
     {
         PackedIn {
             bits,
             at: 0,
             subsets,
-            kept: KeptItems::new(alloc),
-            finder: SpecFinder::new(alloc),
+            kept: ItemIndex::new(alloc),
+            next: 0,
         }
     }
 
@@ -338,7 +370,7 @@ impl<'a> PackedIn<'a> {
     pub(crate) fn place(&self) -> u64
         ensures value { result ≡ self.now.at }
         ensures within { self.now.at ≤ length self.now.bits }
-        ensures few { length self.now.items * self.now.subsets ≤ most_values }
+        ensures few { length self.now.items * self.now.subsets ≤ max_values }
     {
         // For the proof alone: with a field used, the reader's invariant is known.
         let _ = &self.bits;
@@ -357,22 +389,22 @@ impl<'a> PackedIn<'a> {
             at,
             subsets: _,
             kept,
-            finder: _,
+            next: _,
         } = self;
         PackedRead::new(at, kept)
     }
 
     /// The next item, without going past it.
-    fn look(&self, spec: &Spec) -> Result<PackedItem, PackedFault>
+    fn look(&self, spec: &Spec) -> Result<ItemBits, PackedFault>
         ensures seen { MatchResult result (λ s. IsLooked self.now spec.now s)
             (λ e. IsUnlooked self.now spec.now e) }
         ensures shape { IfOk result (λ s. IsFor spec.now s.told) }
     {
         let items = self.kept.len() as u64 + 1;
-        if items * u64::from(self.subsets) > MOST_VALUES {
+        if items * u64::from(self.subsets) > MAX_VALUES {
             return Err(PackedFault::TooManyValues(spec.fxy()));
         }
-        seen_at(&self.bits, self.at, self.subsets, spec)
+        item_bits_at(&self.bits, self.at, self.subsets, spec)
     }
 }
 
@@ -392,10 +424,21 @@ impl<'a> Fields for PackedIn<'a> {
 
     fn take(&mut self, spec: &Spec) -> Result<Taken, PackedFault> {
         let seen = self.look(spec)?;
-        let item = KeptItem::new(*spec, self.at, seen.step);
-        self.kept.keep(&mut self.finder, item)?;
+        let item = IndexedItem::new(*spec, self.at, seen.base, seen.step);
+        let place = self.kept.keep(self.next, item)?;
+        self.next = place.saturating_add(1);
         self.at = seen.end;
         Ok(seen.told)
+    }
+
+    fn look_at(&mut self, place: u32) {
+        // For the proof alone: with a field used, the reader's invariant is known.
+        let _ = &self.bits;
+        self.next = place;
+    }
+
+    fn last_place(&self) -> Option<u32> {
+        Some(self.next.saturating_sub(1))
     }
 
     fn bits(&self) -> u64 {

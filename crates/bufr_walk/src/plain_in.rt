@@ -1,8 +1,8 @@
 //! Fields that are read from bits, for data that are not compressed.
-use crate::bits::{copy_octets, ones_at, raw_at, signed_at, told_at};
+use crate::bits::{answer_at, copy_octets, ones_at, raw_at, signed_at};
 use crate::fields::Fields;
 use crate::spec::{Spec, Taken};
-use crate::visitor::Value;
+use crate::visitor::{Value, plain_number};
 use bufr_bits::BitSlice;
 use bufr_tables::Fxy;
 use std::marker::Model;
@@ -37,12 +37,13 @@ impl<'a> Model for PlainIn<'a> {
 
 impl<'a> PlainIn<'a> {
     ghost use Rattle.std.specs.Prelude.{◌≡◌, ◌≤◌, ◌<◌, ◌+◌, ◌*◌, ◌/◌, ◌^◌, true, false, length, take, MatchResult, Ok, Err, IfOk, IfSome};
-    ghost use Rattle.bufr_bits.specs.Bits.{bits_of, all_set};
+    ghost use Rattle.bufr_bits.specs.Bits.{bits_of, are_all_ones};
     ghost use Rattle.bufr_bits.specs.BitSlice.{octets_of};
     ghost use Rattle.bufr_tables.specs.TableB.{is_character};
-    ghost use Rattle.bufr_walk.specs.Asked.{IsFor};
+    ghost use Rattle.bufr_walk.specs.FieldSpec.{IsFor};
     ghost use Rattle.bufr_walk.specs.Content.{content_in, octets_in, shown};
     ghost use Rattle.bufr_walk.specs.PlainIn.{PlainTakes, past, rest_of};
+    ghost use Rattle.bufr_walk.specs.Numbers.{IsPlainNumber};
     ghost use Rattle.bufr_walk.specs.ViewModel.{seen_value};
 
     /// The bits of data that are not compressed, from bit 0 on.
@@ -77,6 +78,7 @@ impl<'a> PlainIn<'a> {
     ///
     /// [`DataEnd`] where the data end inside the field.
     #[tactic(auto, using(crate::proofs::PlainLemmas::taken_here, crate::proofs::PlainLemmas::ends_here, crate::proofs::PlainLemmas::bits_length))]
+    #[inline(always)]
     pub(crate) fn peek(&self, spec: &Spec) -> Result<Taken, DataEnd>
         ensures found { MatchResult result (λ t. PlainTakes self.now spec.now (Ok t)
             (past self.now spec.now)) (λ e. PlainTakes self.now spec.now (Err e) self.now) }
@@ -88,10 +90,11 @@ impl<'a> PlainIn<'a> {
         if self.bits.len_bits() - self.at < u64::from(width) {
             return Err(DataEnd { fxy: spec.fxy() });
         }
-        Ok(told_at(&self.bits, self.at, spec))
+        Ok(answer_at(&self.bits, self.at, spec))
     }
 
     /// Goes past a field.
+    #[inline(always)]
     pub(crate) fn skip(&mut self, spec: &Spec)
         requires within { self.old.at + spec.now.width ≤ length self.old.bits }
         requires small { self.old.at + spec.now.width < 2 ^ 64 }
@@ -130,7 +133,7 @@ impl<'a> PlainIn<'a> {
     #[tactic(auto, using(crate::proofs::PlainLemmas::bits_length))]
     pub(crate) fn is_ones(&self, spec: &Spec) -> bool
         requires { self.now.at + spec.now.width ≤ length self.now.bits }
-        ensures { result ≡ all_set (take spec.now.width (rest_of self.now)) }
+        ensures { result ≡ are_all_ones (take spec.now.width (rest_of self.now)) }
     {
         ones_at(&self.bits, self.at, spec.width())
     }
@@ -153,6 +156,22 @@ impl<'a> PlainIn<'a> {
             ≡ octets_in (spec.now.width / 8) (take spec.now.width (rest_of self.now)) }
     {
         copy_octets(&self.bits, self.at, (spec.width() / 8) as usize, text)
+    }
+
+    /// The value of the next field, which is plain.
+    #[tactic(auto, using(crate::proofs::PlainNumbers::plain_shown, crate::proofs::PlainNumbers::plain_missing, crate::proofs::PlainLemmas::bits_length))]
+    #[inline(always)]
+    pub(crate) fn plain_value<'t>(&self, spec: &Spec) -> Value<'t>
+        requires within { self.now.at + spec.now.width ≤ length self.now.bits }
+        requires plain { IsPlainNumber spec.now }
+        ensures { seen_value result
+            ≡ shown spec.now (content_in spec.now (take spec.now.width (rest_of self.now))) }
+    {
+        let raw = raw_at(&self.bits, self.at, spec.width());
+        if raw.all_ones && spec.may_be_missing() {
+            return Value::Missing;
+        }
+        plain_number(spec, raw.number)
     }
 
     /// The value of the next field, which is no text.
@@ -190,6 +209,7 @@ impl<'a> Fields for PlainIn<'a> {
 
     ghost refuses = { λ s spec e next h. ap (λ c. c.at) h.2 };
 
+    #[inline(always)]
     fn take(&mut self, spec: &Spec) -> Result<Taken, DataEnd> {
         let told = self.peek(spec)?;
         self.at += u64::from(spec.width());

@@ -5,18 +5,19 @@ ghost use Rattle.bufr_bits.specs.BitSlice.{octets_of};
 ghost use Rattle.bufr_tables.specs.Tree.{places};
 ghost use Rattle.bufr_walk.specs.Course.{next_item};
 ghost use Rattle.bufr_walk.specs.Fault.{bits_before};
-ghost use Rattle.bufr_walk.specs.Kept.{IsReadAndKept};
+ghost use Rattle.bufr_walk.specs.StoredItems.{IsReadAndKept};
 ghost use Rattle.bufr_walk.specs.Outcome.{data_in, IsFault};
 ghost use Rattle.bufr_walk.specs.PackedIn.{packed_fault};
 ghost use Rattle.bufr_walk.specs.declared.stop.WalkStop.TheVariants as stops;
 
 use crate::fault::{Spot, WalkFault};
+use crate::item_index::ItemIndex;
 use crate::kept::PackedRead;
-use crate::kept_items::KeptItems;
 use crate::packed_in::{PackedFault, PackedIn};
+use crate::spec_cache::SpecCache;
 use crate::steps::Steps;
 use crate::stop::WalkStop;
-use crate::walking::walk;
+use crate::walking::walk_by;
 use bufr_bits::BitSlice;
 use bufr_tables::{TableB, Template};
 use std::alloc::Global;
@@ -53,9 +54,12 @@ pub(crate) fn read_packed(
     subsets: u16,
     template: &Template,
     table: &TableB,
+    cache: &mut SpecCache<'_>,
     steps: &mut Steps,
 ) -> Result<PackedRead, WalkFault>
-    requires { steps.old ≡ 0 }
+    requires steps { steps.old ≡ 0 }
+    requires same { cache.old ≡ table.now }
+    ensures same { cache.new ≡ cache.old }
     ensures reading { IfOk result (λ r. IsReadAndKept (next_item table.now template.now)
         (data_in true subsets (octets_of bits.entry)) r.kept r.used steps.new) }
     ensures held { IfOk result (λ r. 7 * length r.kept ≤ r.used) }
@@ -66,10 +70,10 @@ pub(crate) fn read_packed(
         ≤ places template.now * (bits_before why (length (bits_of (octets_of bits.entry))) + 1)) }
 {
     if subsets == 0 {
-        return Ok(PackedRead::new(0, KeptItems::new(alloc)));
+        return Ok(PackedRead::new(0, ItemIndex::new(alloc)));
     }
     let mut fields = PackedIn::new(alloc, bits, subsets);
-    match walk(alloc, template, table, &mut fields, steps) {
+    match walk_by(alloc, template, table, cache, &mut fields, steps) {
         Ok(()) => {
             // For the proof alone: the items were read within the bits.
             let _ = fields.place();

@@ -1,19 +1,17 @@
 //! The reading of a message's data, and what they were read as.
-ghost use Rattle.std.specs.Prelude.{◌≡◌, ◌≤◌, ◌+◌, ◌*◌, length, IfOk, IfErr, IfSome};
+ghost use Rattle.std.specs.Prelude.{◌≡◌, ◌≤◌, ◌+◌, ◌*◌, length, IfOk, IfErr};
 ghost use Rattle.bufr_tables.specs.Tree.{places};
 ghost use Rattle.bufr_walk.specs.Course.{next_item};
 ghost use Rattle.bufr_walk.specs.Fault.{bits_before};
 ghost use Rattle.bufr_walk.specs.Outcome.{data_of, IsFault, IsReadingOf};
-ghost use Rattle.bufr_walk.specs.Plan.{IsPlanBy};
 
 use crate::fault::{ShowFault, WalkFault};
-use crate::kept_items::KeptItems;
-use crate::plan::Plan;
-use crate::prepared::{Prepared, each_of};
+use crate::item_index::ItemIndex;
 use crate::read_packed::read_packed;
 use crate::read_plain::read_plain;
-use crate::show_packed::show_packed;
+use crate::show_compressed::show_packed;
 use crate::show_plain::show_plain;
+use crate::spec_cache::SpecCache;
 use crate::steps::Steps;
 use crate::visitor::Visitor;
 use bufr_bits::BitSlice;
@@ -23,25 +21,24 @@ use std::alloc::Global;
 use std::marker::Model;
 
 /// What a reading keeps: nothing where each subset has bits of its own, else where each item lies,
-/// and each field among them once.
+/// and the fields among them.
 #[derive(Drop)]
-enum Kept {
+enum StoredItems {
     Apart,
-    Together(KeptItems),
+    Together(ItemIndex),
 }
 
 /// The reading of a message's data (WMO-No. 306, Volume I.2, FM 94: section 4). It borrows the
-/// message's octets, the template and the table, and the plan, if there is one.
+/// message's octets, the template and the table.
 #[derive(Drop)]
 pub struct Reading<'a> {
     bits: BitSlice<'a>,
     template: &'a Template,
     table: &'a TableB,
-    plan: Option<&'a Plan<'a>>,
     compressed: bool,
     subsets: u16,
     used: u64,
-    kept: Kept,
+    kept: StoredItems,
 }
 
 impl<'a> Model for Reading<'a> {
@@ -54,16 +51,13 @@ impl<'a> Model for Reading<'a> {
 
     ghost coded = { Prim.hlevel (codes, tree_code) };
 
-    ghost use Rattle.std.specs.Prelude.{IfSome};
-    ghost use Rattle.bufr_walk.specs.Kept.{held_of, IsHeld};
-    ghost use Rattle.bufr_walk.specs.Plan.{IsPlanBy};
+    ghost use Rattle.bufr_walk.specs.StoredItems.{held_of, IsStoredReading};
 
     ghost view = { λ r. read_by r.table.now r.template.now
         (data_in r.compressed r.subsets (octets_of r.bits)) r.used (held_of r.kept) };
 
-    ghost invariant = { λ r. IsHeld (read_by r.table.now r.template.now
-        (data_in r.compressed r.subsets (octets_of r.bits)) r.used (held_of r.kept)) r.kept
-        × IfSome r.plan (λ plan. IsPlanBy r.table.now r.template.now plan.now) };
+    ghost invariant = { λ r. IsStoredReading (read_by r.table.now r.template.now
+        (data_in r.compressed r.subsets (octets_of r.bits)) r.used (held_of r.kept)) r.kept };
 }
 
 /// Reads the data of a message by its template, in one pass for each subset, or in one pass for all
@@ -104,55 +98,25 @@ pub fn read_message<'a>(
     ensures refused { IfErr result (λ why. steps.new
         ≤ places template.now * (bits_before why (length (data_of message.now).bits) + 1)) }
 {
-    read_prepared(alloc, message, Prepared::new(template, table), steps)
+    let mut cache = SpecCache::new(alloc, table);
+    read_by(alloc, message, template, table, &mut cache, steps)
 }
 
-/// Reads the data of a message as [`read_message`] does, by what was prepared for its template. A
-/// plan saves the walks over the template: the subsets are gone past by their bits, in as many
-/// steps as the walks would take.
-///
-/// ```
-/// let mut steps = Steps::new();
-/// let by = Prepared::new(&template, &table_b);
-/// let reading = read_prepared(alloc, &message, by, &mut steps)?;
-/// assert_eq!(rt; (reading.bits(), steps.count()), (7, 2)); // of one block number
-/// ```
+/// Reads the data of a message as [`read_message`] does, by the specs that are cached.
 ///
 /// # Errors
 ///
 /// Those of [`read_message`].
-pub fn read_prepared<'a>(
-    alloc: Global,
-    message: &Message<'a>,
-    prepared: Prepared<'a>,
-    steps: &mut Steps,
-) -> Result<Reading<'a>, WalkFault>
-    ensures reading { IfOk result (λ r. IsReadingOf prepared.entry.table prepared.entry.template
-        (data_of message.now) r steps.new) }
-    ensures fault { IfErr result
-        (λ why. IsFault (next_item prepared.entry.table prepared.entry.template)
-        (data_of message.now) why steps.new) }
-    ensures accepted { IfOk result
-        (λ r. steps.new ≤ places prepared.entry.template * r.bits) }
-    ensures refused { IfErr result (λ why. steps.new ≤ places prepared.entry.template
-        * (bits_before why (length (data_of message.now).bits) + 1)) }
-{
-    let template = prepared.template();
-    let table = prepared.table();
-    let plan = prepared.plan();
-    read_by(alloc, message, template, table, plan, steps)
-}
-
-/// Reads the data of a message by its template, and its plan, if there is one.
-fn read_by<'a>(
+pub fn read_by<'a>(
     alloc: Global,
     message: &Message<'a>,
     template: &'a Template,
     table: &'a TableB,
-    plan: Option<&'a Plan<'a>>,
+    cache: &mut SpecCache<'_>,
     steps: &mut Steps,
 ) -> Result<Reading<'a>, WalkFault>
-    requires { IfSome plan (λ p. IsPlanBy table.now template.now p.now) }
+    requires { cache.old ≡ table.now }
+    ensures same { cache.new ≡ cache.old }
     ensures reading { IfOk result
         (λ r. IsReadingOf table.now template.now (data_of message.now) r steps.new) }
     ensures fault { IfErr result
@@ -165,29 +129,26 @@ fn read_by<'a>(
     let bits = message.payload();
     let subsets = message.subsets();
     if message.compressed() {
-        let read = read_packed(alloc, bits, subsets, template, table, steps)?;
+        let read = read_packed(alloc, bits, subsets, template, table, cache, steps)?;
         return Ok(Reading {
             bits,
             template,
             table,
-            plan,
             compressed: true,
             subsets,
             used: read.used,
-            kept: Kept::Together(read.kept),
+            kept: StoredItems::Together(read.kept),
         });
     }
-    let known = each_of(plan, template, table);
-    let used = read_plain(alloc, bits, subsets, template, table, known, steps)?;
+    let used = read_plain(alloc, bits, subsets, template, table, cache, steps)?;
     Ok(Reading {
         bits,
         template,
         table,
-        plan,
         compressed: false,
         subsets,
         used,
-        kept: Kept::Apart,
+        kept: StoredItems::Apart,
     })
 }
 
@@ -196,7 +157,7 @@ impl<'a> Reading<'a> {
     ghost use Rattle.bufr_tables.specs.Tree.{places};
     ghost use Rattle.bufr_walk.specs.Calls.{calls_of, items_called};
     ghost use Rattle.bufr_walk.specs.Outcome.{course_of};
-    ghost use Rattle.bufr_walk.specs.Reading.{Values, IsReading, items_kept, most_values};
+    ghost use Rattle.bufr_walk.specs.Reading.{Values, IsReading, items_kept, max_values};
     ghost use Rattle.bufr_walk.specs.CallsInTurn.{ShowsReading};
 
     /// The number of subsets.
@@ -204,6 +165,13 @@ impl<'a> Reading<'a> {
         ensures { result ≡ self.now.source.subsets }
     {
         self.subsets
+    }
+
+    /// The table that the items are read by.
+    pub fn table(&self) -> &'a TableB
+        ensures { result.now ≡ self.now.table }
+    {
+        self.table
     }
 
     /// How many bits of the data the items take.
@@ -223,8 +191,8 @@ impl<'a> Reading<'a> {
         ensures none { self.now.source.compressed ≡ false → result ≡ 0 }
     {
         match &self.kept {
-            Kept::Apart => 0,
-            Kept::Together(items) => items.len() as u64,
+            StoredItems::Apart => 0,
+            StoredItems::Together(items) => items.len() as u64,
         }
     }
 
@@ -233,24 +201,27 @@ impl<'a> Reading<'a> {
     fn show_kept<V: Visitor>(
         &self,
         alloc: Global,
+        cache: &mut SpecCache<'_>,
         visitor: &mut V,
         steps: &mut Steps,
     ) -> Result<(), ShowFault<V::Fault>>
-        ensures { ShowsReading V.sees self.now visitor.old result visitor.new steps.new }
+        requires { cache.old ≡ self.now.table }
+        ensures same { cache.new ≡ cache.old }
+        ensures shown { ShowsReading V.sees self.now visitor.old result visitor.new steps.new }
     {
         *steps = Steps::new();
         match &self.kept {
-            Kept::Apart => show_plain(
+            StoredItems::Apart => show_plain(
                 alloc,
                 self.bits,
                 self.subsets,
                 self.template,
                 self.table,
-                self.plan,
+                cache,
                 visitor,
                 steps,
             ),
-            Kept::Together(items) => {
+            StoredItems::Together(items) => {
                 show_packed(&self.bits, self.subsets, self.table, items, visitor)
             }
         }
@@ -273,11 +244,35 @@ impl<'a> Reading<'a> {
     ) -> Result<(), ShowFault<V::Fault>>
         ensures shown { ShowsReading V.sees self.now visitor.old result visitor.new steps.new }
         ensures few { (values : Values) → IsReading (course_of self.now) self.now.source values
-            self.now.bits → items_called (calls_of self.now values) ≤ most_values }
+            self.now.bits → items_called (calls_of self.now values) ≤ max_values }
+        ensures bounded { steps.new ≤ places self.now.template * self.now.bits }
+    {
+        let mut cache = SpecCache::new(alloc, self.table);
+        self.show_by(alloc, &mut cache, visitor, steps)
+    }
+
+    /// Shows each subset and its items to a visitor as [`Reading::show`] does, by the specs that
+    /// are cached.
+    ///
+    /// # Errors
+    ///
+    /// Those of [`Reading::show`].
+    pub fn show_by<V: Visitor>(
+        &self,
+        alloc: Global,
+        cache: &mut SpecCache<'_>,
+        visitor: &mut V,
+        steps: &mut Steps,
+    ) -> Result<(), ShowFault<V::Fault>>
+        requires { cache.old ≡ self.now.table }
+        ensures same { cache.new ≡ cache.old }
+        ensures shown { ShowsReading V.sees self.now visitor.old result visitor.new steps.new }
+        ensures few { (values : Values) → IsReading (course_of self.now) self.now.source values
+            self.now.bits → items_called (calls_of self.now values) ≤ max_values }
         ensures bounded { steps.new ≤ places self.now.template * self.now.bits }
     {
         // For the proof alone: what a template promises of its groups bounds the steps.
         let _ = self.template.cells();
-        self.show_kept(alloc, visitor, steps)
+        self.show_kept(alloc, cache, visitor, steps)
     }
 }

@@ -1,16 +1,18 @@
 //! How data that are not compressed are shown: they are read once more, and each item is handed on.
-ghost use Rattle.std.specs.Prelude.{◌≡◌, ◌≤◌, ◌<◌, ◌+◌, ◌-◌, ◌*◌, ◌/◌, ◌^◌, ◌==◌, true, false, length, take, drop, List, Bool, Result, Ok, Err, OnOk, IfOk, IfErr, IfSome};
-ghost use Rattle.bufr_bits.specs.Bits.{bits_of, all_set};
+ghost use Rattle.std.specs.Prelude.{◌≡◌, ◌≤◌, ◌<◌, ◌+◌, ◌-◌, ◌*◌, ◌/◌, ◌^◌, ◌==◌, true, false, length, take, drop, List, Bool, Result, Some, Ok, Err, OnOk, IfOk, IfErr};
+ghost use Rattle.bufr_bits.specs.Bits.{bits_of, are_all_ones};
 ghost use Rattle.bufr_bits.specs.BitSlice.{octets_of};
-ghost use Rattle.bufr_tables.specs.TableB.{Row, is_character};
+ghost use Rattle.bufr_tables.specs.TableB.{Row, entry_of, is_character};
+ghost use Rattle.bufr_tables.specs.Entry.{row_of_entry};
 ghost use Rattle.bufr_tables.specs.Tree.{Tree};
 ghost use Rattle.bufr_walk.specs.Calls.{item_call, view_of, subset_calls};
 ghost use Rattle.bufr_walk.specs.Content.{Content, content_in, octets_in, shown};
 ghost use Rattle.bufr_walk.specs.ViewModel.{seen_value};
 ghost use Rattle.bufr_walk.specs.Course.{next_item};
-ghost use Rattle.bufr_walk.specs.PlainIn.{rest_of, past};
-ghost use Rattle.bufr_walk.specs.Plan.{HasRow, IsPlanBy, IsPlanOf};
-ghost use Rattle.bufr_walk.specs.Reading.{Item, plain, ReadsAll, ReadsSubsets, turns_in};
+ghost use Rattle.bufr_walk.specs.PlainIn.{rest_of};
+ghost use Rattle.bufr_walk.specs.FieldRow.{HasRow};
+ghost use Rattle.bufr_walk.specs.Numbers.{IsPlainNumber};
+ghost use Rattle.bufr_walk.specs.Reading.{Item, plain, ReadsPass, ReadsSubsets, turns_in};
 ghost use Rattle.bufr_walk.specs.ShowSteps.{IsEnd, MayEnd, ItemsGo, SubsetGoes};
 ghost use Rattle.bufr_walk.specs.CallsInTurn.{Shows};
 
@@ -18,12 +20,12 @@ use crate::bits::front;
 use crate::fault::ShowFault;
 use crate::fields::Fields;
 use crate::plain_in::PlainIn;
-use crate::plan::{Plan, Planned, count_to, plan_of};
 use crate::spec::{Spec, Taken};
+use crate::spec_cache::SpecCache;
 use crate::steps::Steps;
 use crate::stop::WalkStop;
 use crate::visitor::{ItemView, Value, Visitor};
-use crate::walking::walk;
+use crate::walking::walk_by;
 use bufr_bits::BitSlice;
 use bufr_tables::{Entry, TableB, Template};
 use std::alloc::Global;
@@ -59,6 +61,23 @@ fn show_with<V: Visitor>(
     })
 }
 
+/// Shows a plain field that has this value, and what Table B says of it.
+#[inline(always)]
+pub(crate) fn show_plain_value<V: Visitor>(
+    spec: &Spec,
+    entry: Entry<'_>,
+    value: Value<'_>,
+    visitor: &mut V,
+) -> Result<(), V::Fault>
+    requires { IsPlainNumber spec.now }
+    ensures { (table : List Row) (content : Content)
+        → Some (row_of_entry spec.now.fxy entry.entry) ≡ entry_of table spec.now.fxy
+        → seen_value value.entry ≡ shown spec.now content
+        → V.sees visitor.old (item_call (view_of table spec.now content)) result visitor.new }
+{
+    show_with(spec, &Some(entry), value, visitor)
+}
+
 /// Shows a field that has this value.
 pub(crate) fn show_value<V: Visitor>(
     table: &TableB,
@@ -84,7 +103,7 @@ fn show_copied<V: Visitor>(
 ) -> Result<(), V::Fault>
     requires within { input.now.at + spec.now.width ≤ length input.now.bits }
     requires text { is_character spec.now.kind ≡ true }
-    requires some { all_set (take spec.now.width (rest_of input.now)) ≡ false }
+    requires some { are_all_ones (take spec.now.width (rest_of input.now)) ≡ false }
     ensures { (table : List Row) → HasRow table spec.now found.now
         → V.sees visitor.old (item_call (view_of table spec.now
         (content_in spec.now (take spec.now.width (rest_of input.now))))) result visitor.new }
@@ -140,8 +159,9 @@ fn show_found<V: Visitor>(
     show_with(spec, found, value, visitor)
 }
 
-/// Shows a field.
-pub(crate) fn show_field<V: Visitor>(
+/// Shows a field that is not plain.
+#[inline(never)]
+fn show_other<V: Visitor>(
     input: &PlainIn<'_>,
     table: &TableB,
     spec: &Spec,
@@ -155,6 +175,27 @@ pub(crate) fn show_field<V: Visitor>(
     show_found(input, spec, &found, visitor)
 }
 
+/// Shows a field.
+#[inline(always)]
+pub(crate) fn show_field<V: Visitor>(
+    input: &PlainIn<'_>,
+    table: &TableB,
+    spec: &Spec,
+    visitor: &mut V,
+) -> Result<(), V::Fault>
+    requires within { input.now.at + spec.now.width ≤ length input.now.bits }
+    ensures { V.sees visitor.old (item_call (view_of table.now spec.now
+        (content_in spec.now (take spec.now.width (rest_of input.now))))) result visitor.new }
+{
+    if spec.is_plain() {
+        let value = input.plain_value(spec);
+        if let Some(entry) = table.get(spec.fxy()) {
+            return show_plain_value(spec, entry, value, visitor);
+        }
+    }
+    show_other(input, table, spec, visitor)
+}
+
 /// Why a field is not taken.
 #[derive(Drop)]
 pub(crate) enum ShowStop<E> {
@@ -163,13 +204,13 @@ pub(crate) enum ShowStop<E> {
 }
 
 /// Fields that are read from bits, each shown to a visitor before it is gone past.
-pub(crate) struct Showing<'i, 't, 'v, 'b, V: Visitor> {
+pub(crate) struct ShowFields<'i, 't, 'v, 'b, V: Visitor> {
     input: &'i mut PlainIn<'b>,
     table: &'t TableB,
     visitor: &'v mut V,
 }
 
-impl<'i, 't, 'v, 'b, V: Visitor> Fields for Showing<'i, 't, 'v, 'b, V> {
+impl<'i, 't, 'v, 'b, V: Visitor> Fields for ShowFields<'i, 't, 'v, 'b, V> {
     type Fault = ShowStop<V::Fault>;
 
     ghost use Rattle.std.specs.Prelude.{ℕ};
@@ -190,6 +231,7 @@ impl<'i, 't, 'v, 'b, V: Visitor> Fields for Showing<'i, 't, 'v, 'b, V> {
         (stage next.input.now next.visitor.now next.table.now next.input.ghost_name
         next.visitor.ghost_name) h };
 
+    #[inline(always)]
     fn take(&mut self, spec: &Spec) -> Result<Taken, ShowStop<V::Fault>> {
         let told = match self.input.peek(spec) {
             Ok(told) => told,
@@ -226,19 +268,22 @@ fn walk_showing<V: Visitor>(
     alloc: Global,
     template: &Template,
     table: &TableB,
-    fields: &mut Showing<'_, '_, '_, '_, V>,
+    cache: &mut SpecCache<'_>,
+    fields: &mut ShowFields<'_, '_, '_, '_, V>,
     steps: &mut Steps,
 ) -> Result<(), ShowFault<V::Fault>>
+    requires cache { cache.old ≡ table.now }
     requires same { fields.old.table.now ≡ table.now }
-    requires readable { (items : List (Item Content)) × (left : List Bool) × ReadsAll plain
+    requires readable { (items : List (Item Content)) × (left : List Bool) × ReadsPass plain
         (next_item table.now template.now) items (rest_of fields.old.input.now) left }
+    ensures same { cache.new ≡ cache.old }
     ensures input { fields.new.input.ghost_name ≡ fields.old.input.ghost_name }
     ensures visitor { fields.new.visitor.ghost_name ≡ fields.old.visitor.ghost_name }
     ensures shown { ItemsGo V.sees table.now (next_item table.now template.now) fields.old.input.now
         fields.old.visitor.now steps.old result fields.new.input.now
         fields.new.visitor.now steps.new }
 {
-    match walk(alloc, template, table, fields, steps) {
+    match walk_by(alloc, template, table, cache, fields, steps) {
         Ok(()) => Ok(()),
         Err(why) => Err(fault_of(why)),
     }
@@ -249,113 +294,30 @@ fn show_items<V: Visitor>(
     alloc: Global,
     template: &Template,
     table: &TableB,
+    cache: &mut SpecCache<'_>,
     input: &mut PlainIn<'_>,
     visitor: &mut V,
     steps: &mut Steps,
 ) -> Result<(), ShowFault<V::Fault>>
+    requires cache { cache.old ≡ table.now }
     requires readable { (items : List (Item Content)) × (left : List Bool)
-        × ReadsAll plain (next_item table.now template.now) items (rest_of input.old) left }
-    ensures { ItemsGo V.sees table.now (next_item table.now template.now) input.old visitor.old
-        steps.old result input.new visitor.new steps.new }
+        × ReadsPass plain (next_item table.now template.now) items (rest_of input.old) left }
+    ensures same { cache.new ≡ cache.old }
+    ensures shown { ItemsGo V.sees table.now (next_item table.now template.now) input.old
+        visitor.old steps.old result input.new visitor.new steps.new }
 {
-    let mut fields = Showing {
+    let mut fields = ShowFields {
         input,
         table,
         visitor,
     };
-    let outcome = walk_showing(alloc, template, table, &mut fields, steps);
-    let Showing {
+    let outcome = walk_showing(alloc, template, table, cache, &mut fields, steps);
+    let ShowFields {
         input: _,
         table: _,
         visitor: _,
     } = fields;
     outcome
-}
-
-/// Shows the next field of a plan, and goes past it.
-fn show_next<V: Visitor>(
-    field: &Planned<'_>,
-    input: &mut PlainIn<'_>,
-    visitor: &mut V,
-) -> Result<(), V::Fault>
-    requires within { input.old.at + field.now.spec.width ≤ length input.old.bits }
-    ensures shown { (table : List Row) → HasRow table field.now.spec field.now.entry
-        → V.sees visitor.old (item_call (view_of table field.now.spec (content_in field.now.spec
-        (take field.now.spec.width (rest_of input.old))))) result visitor.new }
-    ensures past { OnOk result (input.new ≡ past input.old field.now.spec) }
-{
-    // For the proof alone: no place is past the greatest `u64`.
-    let _ = input.end();
-    match show_found(input, &field.spec, &field.entry, visitor) {
-        Ok(()) => {
-            input.skip(&field.spec);
-            Ok(())
-        }
-        Err(fault) => Err(fault),
-    }
-}
-
-/// Shows the items of one subset by its plan, a walk over which takes so many turns.
-fn show_planned<V: Visitor>(
-    alloc: Global,
-    template: &Template,
-    table: &TableB,
-    plan: &[Planned<'_>],
-    turns: u64,
-    input: &mut PlainIn<'_>,
-    visitor: &mut V,
-    steps: &mut Steps,
-) -> Result<(), ShowFault<V::Fault>>
-    requires readable { (items : List (Item Content)) × (left : List Bool)
-        × ReadsAll plain (next_item table.now template.now) items (rest_of input.old) left }
-    requires plan { IsPlanOf table.now (next_item table.now template.now) plan.now turns }
-    ensures { ItemsGo V.sees table.now (next_item table.now template.now) input.old visitor.old
-        steps.old result input.new visitor.new steps.new }
-{
-    'fields: for place in 0..plan.len() {
-        // For the proof alone: the fields before lie within the bits.
-        let _ = input.place();
-        match show_next(&plan[place], input, visitor) {
-            Ok(()) => {}
-            Err(fault) => {
-                count_to(alloc, template, table, place, steps);
-                return Err(ShowFault::Visitor(fault));
-            }
-        }
-    }
-    steps.add(turns);
-    Ok(())
-}
-
-/// Shows the items of one subset, by its plan, if it has one.
-fn show_by<V: Visitor>(
-    alloc: Global,
-    template: &Template,
-    table: &TableB,
-    plan: Option<&Plan<'_>>,
-    input: &mut PlainIn<'_>,
-    visitor: &mut V,
-    steps: &mut Steps,
-) -> Result<(), ShowFault<V::Fault>>
-    requires plan { IfSome plan (λ p. IsPlanBy table.now template.now p.now) }
-    requires readable { (items : List (Item Content)) × (left : List Bool)
-        × ReadsAll plain (next_item table.now template.now) items (rest_of input.old) left }
-    ensures { ItemsGo V.sees table.now (next_item table.now template.now) input.old visitor.old
-        steps.old result input.new visitor.new steps.new }
-{
-    match plan {
-        None => show_items(alloc, template, table, input, visitor, steps),
-        Some(plan) => show_planned(
-            alloc,
-            template,
-            table,
-            plan.fields.as_slice(),
-            plan.turns,
-            input,
-            visitor,
-            steps,
-        ),
-    }
 }
 
 /// Shows one subset, of this number.
@@ -364,41 +326,43 @@ fn show_subset<V: Visitor>(
     alloc: Global,
     template: &Template,
     table: &TableB,
+    cache: &mut SpecCache<'_>,
     number: u16,
-    plan: Option<&Plan<'_>>,
     input: &mut PlainIn<'_>,
     visitor: &mut V,
     steps: &mut Steps,
 ) -> Result<(), ShowFault<V::Fault>>
-    requires plan { IfSome plan (λ p. IsPlanBy table.now template.now p.now) }
+    requires cache { cache.old ≡ table.now }
     requires readable { (items : List (Item Content)) × (left : List Bool)
-        × ReadsAll plain (next_item table.now template.now) items (rest_of input.old) left }
-    ensures { SubsetGoes V.sees table.now (next_item table.now template.now) number input.old
+        × ReadsPass plain (next_item table.now template.now) items (rest_of input.old) left }
+    ensures same { cache.new ≡ cache.old }
+    ensures shown { SubsetGoes V.sees table.now (next_item table.now template.now) number input.old
         visitor.old steps.old result input.new visitor.new steps.new }
 {
     match visitor.subset(number) {
-        Ok(()) => show_by(alloc, template, table, plan, input, visitor, steps),
+        Ok(()) => show_items(alloc, template, table, cache, input, visitor, steps),
         Err(fault) => Err(ShowFault::Visitor(fault)),
     }
 }
 
-/// Shows all subsets, by their plan, if there is one.
-fn show_subsets<V: Visitor>(
+/// Shows all subsets.
+pub(crate) fn show_plain<V: Visitor>(
     alloc: Global,
     bits: BitSlice<'_>,
     subsets: u16,
     template: &Template,
     table: &TableB,
-    plan: Option<&Plan<'_>>,
+    cache: &mut SpecCache<'_>,
     visitor: &mut V,
     steps: &mut Steps,
 ) -> Result<(), ShowFault<V::Fault>>
     requires steps { steps.old ≡ 0 }
-    requires plan { IfSome plan (λ p. IsPlanBy table.now template.now p.now) }
+    requires cache { cache.old ≡ table.now }
     requires readable { (all : List (List (Item Content))) × (left : List Bool)
         × ReadsSubsets (next_item table.now template.now) all (bits_of (octets_of bits)) left
         × (length all ≡ subsets) }
-    ensures { (all : List (List (Item Content))) (left : List Bool)
+    ensures same { cache.new ≡ cache.old }
+    ensures shown { (all : List (List (Item Content))) (left : List Bool)
         → ReadsSubsets (next_item table.now template.now) all (bits_of (octets_of bits.entry)) left
         → length all ≡ subsets →
         Shows V.sees visitor.old (subset_calls table.now (next_item table.now template.now) 0 1 all)
@@ -410,51 +374,12 @@ fn show_subsets<V: Visitor>(
             alloc,
             template,
             table,
+            cache,
             done + 1,
-            plan,
             &mut input,
             visitor,
             steps,
         )?;
     }
     Ok(())
-}
-
-/// Shows all subsets: by the plan that is known, or by one that is made for them. A single one of
-/// which none is known is shown as fast by a walk.
-pub(crate) fn show_plain<V: Visitor>(
-    alloc: Global,
-    bits: BitSlice<'_>,
-    subsets: u16,
-    template: &Template,
-    table: &TableB,
-    known: Option<&Plan<'_>>,
-    visitor: &mut V,
-    steps: &mut Steps,
-) -> Result<(), ShowFault<V::Fault>>
-    requires steps { steps.old ≡ 0 }
-    requires known { IfSome known (λ p. IsPlanBy table.now template.now p.now) }
-    requires readable { (all : List (List (Item Content))) × (left : List Bool)
-        × ReadsSubsets (next_item table.now template.now) all (bits_of (octets_of bits)) left
-        × (length all ≡ subsets) }
-    ensures { (all : List (List (Item Content))) (left : List Bool)
-        → ReadsSubsets (next_item table.now template.now) all (bits_of (octets_of bits.entry)) left
-        → length all ≡ subsets →
-        Shows V.sees visitor.old (subset_calls table.now (next_item table.now template.now) 0 1 all)
-        (turns_in (next_item table.now template.now) all) result visitor.new steps.new }
-{
-    if known.is_some() || subsets < 2 {
-        return show_subsets(alloc, bits, subsets, template, table, known, visitor, steps);
-    }
-    let plan = plan_of(alloc, template, table);
-    show_subsets(
-        alloc,
-        bits,
-        subsets,
-        template,
-        table,
-        plan.as_ref(),
-        visitor,
-        steps,
-    )
 }

@@ -2,9 +2,9 @@
 ghost use Rattle.std.specs.Prelude.{◌≡◌, ◌≤◌, ◌^◌, false, true, unsigned_abs};
 ghost use Rattle.bufr_tables.specs.TableB.{is_character};
 ghost use Rattle.bufr_tables.specs.declared.kind.Kind.TheVariants as kinds;
-ghost use Rattle.bufr_walk.specs.Asked.{HasRole, HasWidth};
-ghost use Rattle.bufr_walk.specs.Rules.{fitting, text_of};
-ghost use Rattle.bufr_walk.specs.Numbers.{number_field};
+ghost use Rattle.bufr_walk.specs.FieldSpec.{HasRole, HasWidth};
+ghost use Rattle.bufr_walk.specs.Rules.{if_valid_width, text_spec};
+ghost use Rattle.bufr_walk.specs.Numbers.{number_field, is_plain_number};
 
 use bufr_tables::{Fxy, Kind};
 use std::marker::Model;
@@ -25,7 +25,7 @@ pub enum Role {
 /// Why a turn is refused: a width that no field may have, or a turn that may not come while
 /// references are defined.
 #[derive(Clone, Copy, Debug, PartialEq, Eq)]
-pub enum Refusal {
+pub enum TurnRefusal {
     /// A field that is not text would be under 1 or over 63 bits wide.
     Width(Fxy),
     /// A turn that may not come while references are being defined (2 03 Y).
@@ -56,12 +56,14 @@ pub struct Spec {
     kind: Kind,
     may_be_missing: bool,
     listed: bool,
+    plain: bool,
 }
 
 impl Model for Spec {
-    ghost use Rattle.bufr_walk.specs.Asked.{Asked, IsSpec};
+    ghost use Rattle.bufr_walk.specs.FieldSpec.{FieldSpec};
+    ghost use Rattle.bufr_walk.specs.Numbers.{IsSpecWith, is_plain};
 
-    ghost Value = { Asked };
+    ghost Value = { FieldSpec };
 
     ghost view = { λ s. record {
       fxy = s.fxy;
@@ -75,7 +77,7 @@ impl Model for Spec {
       listed = s.listed;
     } };
 
-    ghost invariant = { λ s. IsSpec (record {
+    ghost invariant = { λ s. IsSpecWith s.plain (record {
       fxy = s.fxy;
       role = s.role;
       kind = s.kind;
@@ -95,16 +97,40 @@ impl Model for Spec {
       reference = a.reference;
       may_be_missing = a.may_be_missing;
       listed = a.listed;
+      plain = is_plain a;
     } };
+
+    ghost inverse_ok = { λ s h. λ j. record {
+      fxy = s.fxy;
+      role = s.role;
+      kind = s.kind;
+      width = s.width;
+      scale = s.scale;
+      reference = s.reference;
+      may_be_missing = s.may_be_missing;
+      listed = s.listed;
+      plain = h.same j;
+    } };
+}
+
+/// Whether a number is plain.
+#[inline(always)]
+fn is_plain_number(role: Role, width: u32, reference: i128, listed: bool) -> bool
+    ensures { result ≡ is_plain_number role width reference listed }
+{
+    match role {
+        Role::Element => listed && width <= 62 && reference.unsigned_abs() < 1 << 62,
+        Role::Inserted | Role::Factor | Role::Reference => false,
+    }
 }
 
 impl Spec {
     ghost use Rattle.std.specs.Prelude.{◌≡◌, ◌≤◌, ◌%◌, ◌^◌, true, false, unsigned_abs};
     ghost use Rattle.bufr_tables.specs.TableB.{is_character};
     ghost use Rattle.bufr_tables.specs.declared.kind.Kind.TheVariants as kinds;
-    ghost use Rattle.bufr_walk.specs.Asked.{HasRole, HasWidth, IsSpec, is_reference};
-    ghost use Rattle.bufr_walk.specs.Rules.{fitting, text_of};
-    ghost use Rattle.bufr_walk.specs.Numbers.{number_field};
+    ghost use Rattle.bufr_walk.specs.FieldSpec.{HasRole, HasWidth, IsSpec, is_reference};
+    ghost use Rattle.bufr_walk.specs.Rules.{if_valid_width, text_spec};
+    ghost use Rattle.bufr_walk.specs.Numbers.{number_field, IsPlainNumber};
 
     /// A number, where its width is 1 to 63.
     #[tactic(auto, using(crate::proofs::SpecLemmas::number_good))]
@@ -118,12 +144,12 @@ impl Spec {
         reference: i128,
         may_be_missing: bool,
         listed: bool,
-    ) -> Result<Spec, Refusal>
+    ) -> Result<Spec, TurnRefusal>
         requires number { is_character kind ≡ false }
         requires role { HasRole role kind may_be_missing }
         requires scale { unsigned_abs scale ≤ 300 }
         requires reference { unsigned_abs reference ≤ 2 ^ 125 }
-        ensures { result ≡ fitting
+        ensures { result ≡ if_valid_width
             (number_field fxy role kind width scale reference may_be_missing listed) }
     {
         if 1 <= width && width <= 63 {
@@ -136,9 +162,10 @@ impl Spec {
                 reference,
                 may_be_missing,
                 listed,
+                plain: is_plain_number(role, width, reference, listed),
             })
         } else {
-            Err(Refusal::Width(fxy))
+            Err(TurnRefusal::Width(fxy))
         }
     }
 
@@ -148,7 +175,7 @@ impl Spec {
     pub(crate) fn text(role: Role, fxy: Fxy, width: u32, listed: bool) -> Spec
         requires width { HasWidth kinds.Character width }
         requires role { HasRole role kinds.Character true }
-        ensures { result ≡ text_of role fxy width listed }
+        ensures { result ≡ text_spec role fxy width listed }
     {
         Spec {
             fxy,
@@ -159,6 +186,7 @@ impl Spec {
             reference: 0,
             may_be_missing: true,
             listed,
+            plain: false,
         }
     }
 
@@ -237,6 +265,15 @@ impl Spec {
         ensures { result ≡ self.now.listed }
     {
         self.listed
+    }
+
+    /// Whether it is the number of an element that is read by an entry of Table B, and stays below
+    /// 2^63.
+    #[inline(always)]
+    pub(crate) fn is_plain(&self) -> bool
+        ensures { result ≡ true → IsPlainNumber self.now }
+    {
+        self.plain
     }
 
     /// Whether bits that are all ones stand for a missing value.

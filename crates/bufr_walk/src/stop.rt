@@ -1,5 +1,5 @@
 //! Why a walk over a template stops.
-use crate::spec::Refusal;
+use crate::spec::TurnRefusal;
 use bufr_tables::Fxy;
 
 /// Why a walk stopped.
@@ -15,16 +15,16 @@ pub enum WalkStop<E> {
     Memory,
 }
 
-impl<E> From<Refusal> for WalkStop<E> {
+impl<E> From<TurnRefusal> for WalkStop<E> {
     ghost use Rattle.std.specs.Prelude.{◌≡◌};
     ghost use Rattle.bufr_walk.specs.Stop.{stop_by};
 
     ghost from_gives = { λ w e. e ≡ stop_by w };
 
-    fn from(why: Refusal) -> WalkStop<E> {
+    fn from(why: TurnRefusal) -> WalkStop<E> {
         match why {
-            Refusal::Width(fxy) => WalkStop::Width(fxy),
-            Refusal::Defining(fxy) => WalkStop::Defining(fxy),
+            TurnRefusal::Width(fxy) => WalkStop::Width(fxy),
+            TurnRefusal::Defining(fxy) => WalkStop::Defining(fxy),
         }
     }
 }

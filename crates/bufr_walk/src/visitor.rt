@@ -1,8 +1,11 @@
 //! Who is shown a reading.
-ghost use Rattle.std.specs.Prelude.{ℕ, Result};
+ghost use Rattle.std.specs.Prelude.{ℕ, Result, ◌≡◌, ◌<◌, ◌^◌, ◌+ℤ◌, pos};
 ghost use Rattle.bufr_walk.specs.Calls.{Call, subset_call, item_call};
-ghost use Rattle.bufr_walk.specs.ViewModel.{seen};
+ghost use Rattle.bufr_walk.specs.ViewModel.{seen, seen_value};
+ghost use Rattle.bufr_walk.specs.Content.{shown_number};
+ghost use Rattle.bufr_walk.specs.Numbers.{IsPlainNumber};
 
+use crate::spec::Spec;
 use bufr_tables::{Entry, Fxy};
 
 /// The value of an item.
@@ -16,6 +19,19 @@ pub enum Value<'a> {
     Missing,
     /// A reference value that the data give to the element (2 03 Y).
     Reference(i64),
+}
+
+/// The value of a plain field whose bits write this number.
+#[inline(always)]
+pub(crate) fn plain_number<'t>(spec: &Spec, raw: u64) -> Value<'t>
+    requires plain { IsPlainNumber spec.now }
+    requires below { raw < 2 ^ 62 }
+    ensures { seen_value result
+        ≡ shown_number (pos raw +ℤ spec.now.reference) spec.now.scale }
+{
+    // In 64 bits, so that who is shown it may see that it fits.
+    let number = raw as i64 + spec.reference() as i64;
+    Value::Number(i128::from(number), spec.scale())
 }
 
 /// An item of the data as it is shown.

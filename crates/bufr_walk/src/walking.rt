@@ -3,18 +3,21 @@ ghost use Rattle.std.specs.Prelude.{◌≡◌, ◌<◌, ◌≤◌, ◌+◌, ◌-
 ghost use Rattle.arrayvec.specs.ArrayVec.{array_vec_len};
 ghost use Rattle.bufr_tables.specs.Tree.{Tree, places};
 ghost use Rattle.bufr_walk.specs.Course.{next_item};
-ghost use Rattle.bufr_walk.specs.Settings.{Settings, after_field};
+ghost use Rattle.bufr_walk.specs.Rules.{element_spec, factor_spec};
+ghost use Rattle.bufr_walk.specs.Operators.{OperatorModel, after_field};
+ghost use Rattle.bufr_walk.specs.SpecKey.{IsElementKey, IsFactorKey};
 ghost use Rattle.bufr_walk.specs.Turns.{Rest};
-ghost use Rattle.bufr_tables.specs.Cells.{IsLaid};
-ghost use Rattle.bufr_walk.specs.Flat.{Stands, Turned};
+ghost use Rattle.bufr_tables.specs.Cells.{AreCellsOf};
+ghost use Rattle.bufr_walk.specs.CellWalk.{IsAtCell, Turned};
 ghost use Rattle.bufr_walk.specs.Ticks.{ticked};
 ghost use Rattle.bufr_walk.specs.Walked.{Walked};
-ghost use Rattle.bufr_walk.specs.Ways.{Took};
+ghost use Rattle.bufr_walk.specs.WalkProgress.{TakesField};
 
 use crate::cells::cell_at;
 use crate::fields::Fields;
-use crate::in_force::InForce;
-use crate::spec::{Refusal, Spec, Taken};
+use crate::operators::OperatorState;
+use crate::spec::{Spec, Taken, TurnRefusal};
+use crate::spec_cache::SpecCache;
 use crate::steps::Steps;
 use crate::stop::WalkStop;
 use arrayvec::ArrayVec;
@@ -32,7 +35,7 @@ pub(crate) struct Frame {
 
 /// Goes into a group, or past it where its count is 0.
 #[inline(always)]
-fn enter(count: u64, start: u32, after: u32, stack: &mut ArrayVec<Frame, 32>) -> u32
+fn open_group(count: u64, start: u32, after: u32, stack: &mut ArrayVec<Frame, 32>) -> u32
     requires { array_vec_len stack.old < 32 }
     ensures fits { count < 2 ^ 64 }
     ensures none { count ≡ 0 → (result ≡ after) × (stack.new.items ≡ stack.old.items) }
@@ -53,14 +56,14 @@ fn enter(count: u64, start: u32, after: u32, stack: &mut ArrayVec<Frame, 32>) ->
 /// Takes the field that was asked for, and keeps what it told.
 #[inline(always)]
 fn take_one<S: Fields>(
-    spec: Result<Spec, Refusal>,
+    spec: Result<Spec, TurnRefusal>,
     fxy: Fxy,
     fields: &mut S,
-    in_force: &mut InForce,
+    in_force: &mut OperatorState,
     steps: &mut Steps,
 ) -> Result<Taken, WalkStop<S::Fault>>
     ensures tick { steps.new ≡ ticked steps.old 1 }
-    ensures took { Took S.takes spec fields.old result fields.new }
+    ensures took { TakesField S.takes spec fields.old result fields.new }
     ensures kept { IfOk result (λ t. in_force.new ≡ after_field in_force.old fxy t) }
 {
     steps.tick();
@@ -68,27 +71,211 @@ fn take_one<S: Fields>(
     in_force.take(fxy, &spec, fields)
 }
 
+/// Has a field looked for where it stood last among those that are kept.
+#[inline(always)]
+fn look_for<S: Fields>(place: u32, cache: &SpecCache<'_>, fields: &mut S)
+    ensures { fields.new ≡ fields.old }
+{
+    if let Some(kept) = cache.kept(place) {
+        fields.look_at(kept);
+    }
+}
+
+/// Takes note of where a field stands among those that are kept.
+#[inline(always)]
+fn note_place<S: Fields>(place: u32, cache: &mut SpecCache<'_>, fields: &S)
+    ensures { cache.new ≡ cache.old }
+{
+    if let Some(kept) = fields.last_place() {
+        cache.set_kept(place, kept);
+    }
+}
+
+/// Takes an element whose spec is not cached, and has it cached.
+#[tactic(auto, using(crate::proofs::SpecCacheLemmas::element_cached))]
+#[inline(never)]
+fn take_new_element<S: Fields>(
+    table: &TableB,
+    place: u32,
+    fxy: Fxy,
+    key: u64,
+    cache: &mut SpecCache<'_>,
+    fields: &mut S,
+    in_force: &mut OperatorState,
+    steps: &mut Steps,
+) -> Result<Taken, WalkStop<S::Fault>>
+    requires key { IsElementKey in_force.old fxy key }
+    requires same { cache.old ≡ table.now }
+    ensures tick { steps.new ≡ ticked steps.old 1 }
+    ensures took { TakesField S.takes (element_spec table.now in_force.old fxy) fields.old result
+        fields.new }
+    ensures kept { IfOk result (λ t. in_force.new ≡ after_field in_force.old fxy t) }
+    ensures same { cache.new ≡ cache.old }
+{
+    let spec = in_force.element(table, fxy);
+    if let Ok(spec) = &spec {
+        cache.insert(place, key, spec);
+    }
+    take_one(spec, fxy, fields, in_force, steps)
+}
+
+/// Takes an element by its spec that is cached at its place, if it is.
+#[tactic(auto, using(crate::proofs::SpecCacheLemmas::element_got, crate::proofs::SpecCacheLemmas::element_got_plain))]
+#[inline(always)]
+fn take_found_element<S: Fields>(
+    table: &TableB,
+    place: u32,
+    fxy: Fxy,
+    cache: &mut SpecCache<'_>,
+    fields: &mut S,
+    in_force: &mut OperatorState,
+    steps: &mut Steps,
+) -> Result<Taken, WalkStop<S::Fault>>
+    requires { cache.old ≡ table.now }
+    ensures tick { steps.new ≡ ticked steps.old 1 }
+    ensures took { TakesField S.takes (element_spec table.now in_force.old fxy) fields.old result
+        fields.new }
+    ensures kept { IfOk result (λ t. in_force.new ≡ after_field in_force.old fxy t) }
+    ensures same { cache.new ≡ cache.old }
+{
+    let key = in_force.element_key(fxy);
+    match cache.get(place, key) {
+        Some(spec) => {
+            steps.tick();
+            in_force.take_other(fxy, spec, fields)
+        }
+        None => take_new_element(table, place, fxy, key, cache, fields, in_force, steps),
+    }
+}
+
+/// Takes the element at a place, by its spec that is cached there, if it is.
+#[inline(always)]
+fn take_element<S: Fields>(
+    table: &TableB,
+    place: u32,
+    fxy: Fxy,
+    cache: &mut SpecCache<'_>,
+    fields: &mut S,
+    in_force: &mut OperatorState,
+    steps: &mut Steps,
+) -> Result<Taken, WalkStop<S::Fault>>
+    requires { cache.old ≡ table.now }
+    ensures tick { steps.new ≡ ticked steps.old 1 }
+    ensures took { TakesField S.takes (element_spec table.now in_force.old fxy) fields.old result
+        fields.new }
+    ensures kept { IfOk result (λ t. in_force.new ≡ after_field in_force.old fxy t) }
+    ensures same { cache.new ≡ cache.old }
+{
+    look_for(place, cache, fields);
+    let told = take_found_element(table, place, fxy, cache, fields, in_force, steps);
+    note_place(place, cache, fields);
+    told
+}
+
+/// Takes a factor whose spec is not cached, and has it cached.
+#[tactic(auto, using(crate::proofs::SpecCacheLemmas::factor_cached))]
+#[inline(never)]
+fn take_new_factor<S: Fields>(
+    table: &TableB,
+    place: u32,
+    fxy: Fxy,
+    key: u64,
+    cache: &mut SpecCache<'_>,
+    fields: &mut S,
+    in_force: &mut OperatorState,
+    steps: &mut Steps,
+) -> Result<Taken, WalkStop<S::Fault>>
+    requires key { IsFactorKey in_force.old fxy key }
+    requires same { cache.old ≡ table.now }
+    ensures tick { steps.new ≡ ticked steps.old 1 }
+    ensures took { TakesField S.takes (factor_spec table.now in_force.old fxy) fields.old result
+        fields.new }
+    ensures kept { IfOk result (λ t. in_force.new ≡ after_field in_force.old fxy t) }
+    ensures same { cache.new ≡ cache.old }
+{
+    let spec = in_force.factor(table, fxy);
+    if let Ok(spec) = &spec {
+        cache.insert(place, key, spec);
+    }
+    take_one(spec, fxy, fields, in_force, steps)
+}
+
+/// Takes a factor by its spec that is cached at its place, if it is.
+#[tactic(auto, using(crate::proofs::SpecCacheLemmas::factor_got, crate::proofs::SpecCacheLemmas::factor_got_plain))]
+#[inline(always)]
+fn take_found_factor<S: Fields>(
+    table: &TableB,
+    place: u32,
+    fxy: Fxy,
+    cache: &mut SpecCache<'_>,
+    fields: &mut S,
+    in_force: &mut OperatorState,
+    steps: &mut Steps,
+) -> Result<Taken, WalkStop<S::Fault>>
+    requires { cache.old ≡ table.now }
+    ensures tick { steps.new ≡ ticked steps.old 1 }
+    ensures took { TakesField S.takes (factor_spec table.now in_force.old fxy) fields.old result
+        fields.new }
+    ensures kept { IfOk result (λ t. in_force.new ≡ after_field in_force.old fxy t) }
+    ensures same { cache.new ≡ cache.old }
+{
+    let key = in_force.factor_key(fxy);
+    match cache.get(place, key) {
+        Some(spec) => {
+            steps.tick();
+            in_force.take_other(fxy, spec, fields)
+        }
+        None => take_new_factor(table, place, fxy, key, cache, fields, in_force, steps),
+    }
+}
+
+/// Takes the factor at a place, by its spec that is cached there, if it is.
+#[inline(always)]
+fn take_factor<S: Fields>(
+    table: &TableB,
+    place: u32,
+    fxy: Fxy,
+    cache: &mut SpecCache<'_>,
+    fields: &mut S,
+    in_force: &mut OperatorState,
+    steps: &mut Steps,
+) -> Result<Taken, WalkStop<S::Fault>>
+    requires { cache.old ≡ table.now }
+    ensures tick { steps.new ≡ ticked steps.old 1 }
+    ensures took { TakesField S.takes (factor_spec table.now in_force.old fxy) fields.old result
+        fields.new }
+    ensures kept { IfOk result (λ t. in_force.new ≡ after_field in_force.old fxy t) }
+    ensures same { cache.new ≡ cache.old }
+{
+    look_for(place, cache, fields);
+    let told = take_found_factor(table, place, fxy, cache, fields, in_force, steps);
+    note_place(place, cache, fields);
+    told
+}
+
 /// One turn: where it leads, or `None` at the end.
 #[inline(always)]
 fn turn<S: Fields>(
     cells: &[Cell],
     table: &TableB,
+    cache: &mut SpecCache<'_>,
     place: u32,
     stack: &mut ArrayVec<Frame, 32>,
     fields: &mut S,
-    in_force: &mut InForce,
+    in_force: &mut OperatorState,
     steps: &mut Steps,
 ) -> Result<Option<u32>, WalkStop<S::Fault>>
     requires within { length cells.now ≤ 65535 }
-    requires stands { (left : Rest → Rest) × Stands cells.now place stack.old.items left }
-    ensures { (left : Rest → Rest) → Stands cells.now place stack.old.items left →
+    requires same { cache.old ≡ table.now }
+    requires stands { (left : Rest → Rest) × IsAtCell cells.now place stack.old.items left }
+    ensures same { cache.new ≡ cache.old }
+    ensures turned { (left : Rest → Rest) → IsAtCell cells.now place stack.old.items left →
         Turned S.takes table.now cells.now left place stack.old.items in_force.old fields.old
         steps.old result stack.new.items in_force.new fields.new steps.new }
 {
     match cell_at(cells, place) {
         Cell::Element(fxy) => {
-            let spec = in_force.element(table, fxy);
-            take_one(spec, fxy, fields, in_force, steps)?;
+            take_element(table, place, fxy, cache, fields, in_force, steps)?;
             Ok(Some(place + 1))
         }
         Cell::Operator(fxy) => {
@@ -98,22 +285,21 @@ fn turn<S: Fields>(
                 return Ok(Some(place + 1));
             }
             steps.tick();
-            in_force.operate(fxy)?;
+            in_force.apply(fxy)?;
             Ok(Some(place + 1))
         }
         Cell::Fixed(count, after) => {
             steps.tick();
-            Ok(Some(enter(u64::from(count), place + 1, after, stack)))
+            Ok(Some(open_group(u64::from(count), place + 1, after, stack)))
         }
         Cell::Delayed(after) => {
             steps.tick();
             let Cell::Factor(fxy) = cell_at(cells, place + 1) else {
                 unreachable!()
             };
-            let spec = in_force.factor(table, fxy);
-            let told = take_one(spec, fxy, fields, in_force, steps)?;
+            let told = take_factor(table, place + 1, fxy, cache, fields, in_force, steps)?;
             match told {
-                Taken::Count(count) => Ok(Some(enter(count, place + 2, after, stack))),
+                Taken::Count(count) => Ok(Some(open_group(count, place + 2, after, stack))),
                 _ => unreachable!(),
             }
         }
@@ -121,7 +307,7 @@ fn turn<S: Fields>(
         Cell::PassEnd => {
             steps.tick();
             match stack.pop() {
-                Some(frame) => Ok(Some(enter(frame.left, frame.start, frame.after, stack))),
+                Some(frame) => Ok(Some(open_group(frame.left, frame.start, frame.after, stack))),
                 None => unreachable!(),
             }
         }
@@ -137,20 +323,24 @@ fn walk_cells<S: Fields>(
     alloc: Global,
     cells: &[Cell],
     table: &TableB,
+    cache: &mut SpecCache<'_>,
     fields: &mut S,
     steps: &mut Steps,
 ) -> Result<(), WalkStop<S::Fault>>
-    requires { (template : Tree) × IsLaid cells.now template }
-    ensures { (template : Tree) → IsLaid cells.now template →
+    requires same { cache.old ≡ table.now }
+    requires laid { (template : Tree) × AreCellsOf cells.now template }
+    ensures same { cache.new ≡ cache.old }
+    ensures walked { (template : Tree) → AreCellsOf cells.now template →
         Walked S.takes (next_item table.now template) fields.old steps.old result
         fields.new steps.new }
 {
-    let mut in_force = InForce::new(alloc);
+    let mut in_force = OperatorState::new(alloc);
     let mut stack: ArrayVec<Frame, 32> = ArrayVec::new();
     let mut place: u32 = 0;
     'turns: while let Some(next) = turn(
         cells,
         table,
+        cache,
         place,
         &mut stack,
         fields,
@@ -194,7 +384,34 @@ pub fn walk<S: Fields>(
     ensures refused { OnErr result (steps.new
         ≤ steps.old + places template.now * (S.used fields.new - S.used fields.old + 1)) }
 {
-    match walk_cells(alloc, template.cells(), table, fields, steps) {
+    let mut cache = SpecCache::new(alloc, table);
+    walk_by(alloc, template, table, &mut cache, fields, steps)
+}
+
+/// Walks over a template's cells once, as [`walk`] does. A field whose spec is cached is taken by
+/// it, and what is found is cached. Takes no memory for the cache.
+///
+/// # Errors
+///
+/// Those of [`walk`].
+pub fn walk_by<S: Fields>(
+    alloc: Global,
+    template: &Template,
+    table: &TableB,
+    cache: &mut SpecCache<'_>,
+    fields: &mut S,
+    steps: &mut Steps,
+) -> Result<(), WalkStop<S::Fault>>
+    requires { cache.old ≡ table.now }
+    ensures same { cache.new ≡ cache.old }
+    ensures walked { Walked S.takes (next_item table.now template.now) fields.old steps.old result
+        fields.new steps.new }
+    ensures accepted { OnOk result
+        (steps.new ≤ steps.old + places template.now * (S.used fields.new - S.used fields.old)) }
+    ensures refused { OnErr result (steps.new
+        ≤ steps.old + places template.now * (S.used fields.new - S.used fields.old + 1)) }
+{
+    match walk_cells(alloc, template.cells(), table, cache, fields, steps) {
         Ok(()) => Ok(()),
         Err(why) => Err(why),
     }

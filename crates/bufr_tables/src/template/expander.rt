@@ -7,12 +7,12 @@
 ghost use Rattle.std.specs.Prelude.{◌≡◌, ◌≤◌, length, IfOk};
 ghost use Rattle.bufr_tables.specs.Fxy.{x_of};
 ghost use Rattle.bufr_tables.specs.Expansion.{part_of, element_part, operator_part, group_part, fixed_part, delayed_part, sequence_part};
-ghost use Rattle.bufr_tables.specs.Growth.{places_of, GivesTree, GivesPart};
-ghost use Rattle.bufr_tables.specs.Growing.{growth_of};
+ghost use Rattle.bufr_tables.specs.Growth.{places_so_far, PushesTreeUnlessMemory, GivesPart};
+ghost use Rattle.bufr_tables.specs.Growing.{builder_model};
 ghost use Rattle.bufr_tables.specs.Expander.{tables_in, inner_in, list_in, group_in};
 
 use super::fault::TemplateFault;
-use super::growing::Growing;
+use super::growing::TemplateBuilder;
 use super::passes::Passes;
 use super::shapes::{before, begins_with_element, behind};
 use crate::fxy::Fxy;
@@ -40,11 +40,11 @@ impl Expander<'_> {
         &self,
         list: &[Fxy],
         room: u32,
-        growing: &mut Growing,
+        growing: &mut TemplateBuilder,
     ) -> Result<(), TemplateFault>
-        ensures { GivesTree (growth_of growing.old)
-            (list_in self.now room (places_of (growth_of growing.old)) list.now)
-            result (growth_of growing.new) }
+        ensures { PushesTreeUnlessMemory (builder_model growing.old)
+            (list_in self.now room (places_so_far (builder_model growing.old)) list.now)
+            result (builder_model growing.new) }
     {
         let mut rest = list;
         let mut width_given = false;
@@ -64,12 +64,12 @@ impl Expander<'_> {
         after: &[Fxy],
         width_given: bool,
         room: u32,
-        growing: &mut Growing,
+        growing: &mut TemplateBuilder,
     ) -> Result<usize, TemplateFault>
-        ensures gives { GivesPart (growth_of growing.old)
+        ensures gives { GivesPart (builder_model growing.old)
             (part_of (tables_in self.now) (inner_in self.now room) width_given
-            (places_of (growth_of growing.old)) fxy after.now)
-            result (growth_of growing.new) }
+            (places_so_far (builder_model growing.old)) fxy after.now)
+            result (builder_model growing.new) }
         ensures within { IfOk result (λ taken. taken ≤ length after.now) }
     {
         match fxy.f() {
@@ -85,11 +85,12 @@ impl Expander<'_> {
         &self,
         fxy: Fxy,
         width_given: bool,
-        growing: &mut Growing,
+        growing: &mut TemplateBuilder,
     ) -> Result<usize, TemplateFault>
-        ensures gives { GivesPart (growth_of growing.old)
-            (element_part (tables_in self.now) width_given (places_of (growth_of growing.old)) fxy)
-            result (growth_of growing.new) }
+        ensures gives { GivesPart (builder_model growing.old)
+            (element_part (tables_in self.now) width_given
+            (places_so_far (builder_model growing.old)) fxy)
+            result (builder_model growing.new) }
         ensures none { IfOk result (λ taken. taken ≡ 0) }
     {
         if !width_given && !self.knows(fxy) {
@@ -106,12 +107,12 @@ impl Expander<'_> {
         fxy: Fxy,
         after: &[Fxy],
         room: u32,
-        growing: &mut Growing,
+        growing: &mut TemplateBuilder,
     ) -> Result<usize, TemplateFault>
-        ensures gives { GivesPart (growth_of growing.old)
+        ensures gives { GivesPart (builder_model growing.old)
             (group_part (tables_in self.now) (inner_in self.now room)
-            (places_of (growth_of growing.old)) fxy after.now)
-            result (growth_of growing.new) }
+            (places_so_far (builder_model growing.old)) fxy after.now)
+            result (builder_model growing.new) }
         ensures within { IfOk result (λ taken. taken ≤ length after.now) }
     {
         if fxy.x() == 0 {
@@ -131,11 +132,12 @@ impl Expander<'_> {
         fxy: Fxy,
         after: &[Fxy],
         room: u32,
-        growing: &mut Growing,
+        growing: &mut TemplateBuilder,
     ) -> Result<usize, TemplateFault>
-        ensures gives { GivesPart (growth_of growing.old)
-            (fixed_part (inner_in self.now room) (places_of (growth_of growing.old)) fxy after.now)
-            result (growth_of growing.new) }
+        ensures gives { GivesPart (builder_model growing.old)
+            (fixed_part (inner_in self.now room) (places_so_far (builder_model growing.old)) fxy
+            after.now)
+            result (builder_model growing.new) }
         ensures within { IfOk result (λ taken. taken ≤ length after.now) }
     {
         let passes = Passes::Fixed(fxy.y());
@@ -150,12 +152,12 @@ impl Expander<'_> {
         fxy: Fxy,
         after: &[Fxy],
         room: u32,
-        growing: &mut Growing,
+        growing: &mut TemplateBuilder,
     ) -> Result<usize, TemplateFault>
-        ensures gives { GivesPart (growth_of growing.old)
+        ensures gives { GivesPart (builder_model growing.old)
             (delayed_part (tables_in self.now) (inner_in self.now room)
-            (places_of (growth_of growing.old)) fxy after.now)
-            result (growth_of growing.new) }
+            (places_so_far (builder_model growing.old)) fxy after.now)
+            result (builder_model growing.new) }
         ensures within { IfOk result (λ taken. taken ≤ length after.now) }
     {
         let Some((factor, behind_factor)) = after.split_first() else {
@@ -180,11 +182,12 @@ impl Expander<'_> {
         passes: &Passes,
         after: &[Fxy],
         room: u32,
-        growing: &mut Growing,
+        growing: &mut TemplateBuilder,
     ) -> Result<(), TemplateFault>
-        ensures gives { GivesTree (growth_of growing.old)
-            (group_in self.now room passes.now (places_of (growth_of growing.old)) fxy after.now)
-            result (growth_of growing.new) }
+        ensures gives { PushesTreeUnlessMemory (builder_model growing.old)
+            (group_in self.now room passes.now (places_so_far (builder_model growing.old)) fxy
+            after.now)
+            result (builder_model growing.new) }
         ensures taken { IfOk result (λ _. x_of fxy ≤ length after.now) }
     {
         let count = usize::from(fxy.x());
@@ -204,11 +207,16 @@ impl Expander<'_> {
 
     /// A sequence: its members stand in its place.
     #[cycle(expansion)]
-    fn sequence(&self, fxy: Fxy, room: u32, growing: &mut Growing) -> Result<usize, TemplateFault>
-        ensures gives { GivesPart (growth_of growing.old)
+    fn sequence(
+        &self,
+        fxy: Fxy,
+        room: u32,
+        growing: &mut TemplateBuilder,
+    ) -> Result<usize, TemplateFault>
+        ensures gives { GivesPart (builder_model growing.old)
             (sequence_part (tables_in self.now) (inner_in self.now room)
-            (places_of (growth_of growing.old)) fxy)
-            result (growth_of growing.new) }
+            (places_so_far (builder_model growing.old)) fxy)
+            result (builder_model growing.new) }
         ensures none { IfOk result (λ taken. taken ≡ 0) }
     {
         let Some(members) = self.table_d.members(fxy) else {
@@ -223,10 +231,10 @@ impl Expander<'_> {
 }
 
 /// An operator; one that gives a width stands before an element.
-fn operator(fxy: Fxy, after: &[Fxy], growing: &mut Growing) -> Result<usize, TemplateFault>
-    ensures gives { GivesPart (growth_of growing.old)
-        (operator_part (places_of (growth_of growing.old)) fxy after.now)
-        result (growth_of growing.new) }
+fn operator(fxy: Fxy, after: &[Fxy], growing: &mut TemplateBuilder) -> Result<usize, TemplateFault>
+    ensures gives { GivesPart (builder_model growing.old)
+        (operator_part (places_so_far (builder_model growing.old)) fxy after.now)
+        result (builder_model growing.new) }
     ensures none { IfOk result (λ taken. taken ≡ 0) }
 {
     if !fxy.is_legal_operator() {

@@ -10,7 +10,7 @@ use crate::fxy::Fxy;
 use std::alloc::Global;
 
 /// The most places that a template may take.
-const MOST_PLACES: u32 = 65_535;
+const MAX_PLACES: u32 = 65_535;
 
 /// The least room for cells that is made at the beginning: most templates fit in it, also those
 /// whose list is one sequence.
@@ -18,7 +18,7 @@ const LEAST_ROOM: usize = 128;
 
 /// The cells of a template, as far as its list has been expanded.
 #[derive(Drop)]
-pub(crate) struct Growing {
+pub(crate) struct TemplateBuilder {
     /// The cells so far.
     pub(crate) cells: Vec<Cell>,
     /// How many groups are open; the end of each is still to come.
@@ -39,7 +39,7 @@ fn check_places(places: u32, more: u32, fxy: Fxy) -> Result<(), TemplateFault>
     ensures gives { MatchResult result (λ _. with_places places more fxy ≡ Ok tt)
         (λ why. with_places places more fxy ≡ Err why) }
 {
-    if places + more > MOST_PLACES {
+    if places + more > MAX_PLACES {
         return Err(TemplateFault::TemplateSize(fxy));
     }
     Ok(())
@@ -66,21 +66,24 @@ fn push_factor(cells: &mut Vec<Cell>, passes: &Passes) -> Result<(), TemplateFau
     }
 }
 
-impl Growing {
+impl TemplateBuilder {
     ghost use Rattle.std.specs.Prelude.{◌≡◌, ◌+◌, ◌<◌, ◌≤◌, Ok, [], length, false, IfOk, IfErr};
     ghost use Rattle.bufr_tables.specs.Tree.{bare, element, operator};
-    ghost use Rattle.bufr_tables.specs.Growth.{growth, places_of, with_node, ended, GivesGrowth, GivesPlace};
-    ghost use Rattle.bufr_tables.specs.Growing.{growth_of};
+    ghost use Rattle.bufr_tables.specs.Growth.{growth, places_so_far, with_cell, with_closed_group, GivesGrowth, GivesPlace};
+    ghost use Rattle.bufr_tables.specs.Growing.{builder_model};
 
     /// No cells yet, with room for those of a list of so many elements and for the end.
-    pub(crate) fn with_room(alloc: Global, elements: usize) -> Result<Growing, TemplateFault>
-        ensures ok { IfOk result (λ growing. growth_of growing ≡ growth [] 0 0 false) }
+    pub(crate) fn with_room(
+        alloc: Global,
+        elements: usize,
+    ) -> Result<TemplateBuilder, TemplateFault>
+        ensures ok { IfOk result (λ growing. builder_model growing ≡ growth [] 0 0 false) }
         ensures err { IfErr result (λ why. why ≡ TemplateFault.Memory) }
     {
         let room = elements.saturating_add(1).max(LEAST_ROOM);
-        let room = room.min(MOST_PLACES as usize);
+        let room = room.min(MAX_PLACES as usize);
         let cells = Vec::with_capacity(alloc, room).map_err(|_| TemplateFault::Memory)?;
-        Ok(Growing {
+        Ok(TemplateBuilder {
             cells,
             open_groups: 0,
             depth: 0,
@@ -90,7 +93,7 @@ impl Growing {
 
     /// The places up to here, with those of the ends that are still to come.
     fn places(&self) -> u32
-        ensures value { result ≡ places_of (growth_of self.now) }
+        ensures value { result ≡ places_so_far (builder_model self.now) }
         ensures most { result ≤ 65535 }
     {
         self.cells.len() as u32 + self.open_groups + 1
@@ -98,8 +101,8 @@ impl Growing {
 
     /// Puts an element behind the cells.
     pub(crate) fn push_element(&mut self, fxy: Fxy) -> Result<(), TemplateFault>
-        ensures { GivesGrowth (with_node (growth_of self.old) fxy (element fxy bare)) result
-            (growth_of self.new) }
+        ensures { GivesGrowth (with_cell (builder_model self.old) fxy (element fxy bare)) result
+            (builder_model self.new) }
     {
         check_places(self.places(), 1, fxy)?;
         push_cell(&mut self.cells, Cell::Element(fxy))?;
@@ -109,8 +112,8 @@ impl Growing {
 
     /// Puts an operator behind the cells.
     pub(crate) fn push_operator(&mut self, fxy: Fxy) -> Result<(), TemplateFault>
-        ensures { GivesGrowth (with_node (growth_of self.old) fxy (operator fxy bare)) result
-            (growth_of self.new) }
+        ensures { GivesGrowth (with_cell (builder_model self.old) fxy (operator fxy bare)) result
+            (builder_model self.new) }
     {
         check_places(self.places(), 1, fxy)?;
         push_cell(&mut self.cells, Cell::Operator(fxy))?;
@@ -121,7 +124,8 @@ impl Growing {
     /// Begins a group behind the cells, and tells the place of its first cell. What is behind the
     /// group is not known yet.
     pub(crate) fn open(&mut self, fxy: Fxy, passes: &Passes) -> Result<usize, TemplateFault>
-        ensures { GivesPlace (growth_of self.old) passes.now fxy result (growth_of self.new) }
+        ensures { GivesPlace (builder_model self.old) passes.now fxy result
+            (builder_model self.new) }
     {
         check_places(self.places(), passes.places(), fxy)?;
         let place = self.cells.len();
@@ -139,8 +143,9 @@ impl Growing {
     pub(crate) fn close(&mut self, place: usize, passes: &Passes) -> Result<(), TemplateFault>
         requires inside { place < length self.old.cells.items }
         requires around { 0 < self.old.open_groups }
-        ensures { GivesGrowth (Ok (ended (growth_of self.old) place passes.now)) result
-            (growth_of self.new) }
+        ensures { GivesGrowth (Ok (with_closed_group (builder_model self.old) place passes.now))
+            result
+            (builder_model self.new) }
     {
         push_cell(&mut self.cells, Cell::PassEnd)?;
         let after = self.cells.len() as u32;

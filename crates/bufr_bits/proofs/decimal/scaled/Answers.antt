@@ -28,5 +28,5 @@ returns c =
     let zero_left = sym c.are_zeros-2.ensures ∙ c.if-not-are_zeros-2.false in
     let front = c.split_at-2.ensures.front_len in
     let few = c.min.ensures in
-    let number = c.times_ten.ensures _ (c.read_on-number.ensures _ (c.read_on.ensures 0 refl)) in
+    let number = c.times_ten.ensures _ (c.extend_with_digits-number.ensures _ (c.extend_with_digits.ensures 0 refl)) in
     answer_ok whole fraction c.args.up c.args.down _ _ _ _ _ c.times_ten.result c.requires.whole c.requires.fraction c.requires.one kept zero_cut zero_left (omega arith) number

@@ -10,7 +10,7 @@ pub read_digits-number-requires : goal.read_digits-number-requires
 read_digits-number-requires c =
     let count = c.read_digits-whole.result.1 in
     let before : count < length c.args.body.now = omega (arith, c.read_digits-whole.ensures.count, c.if-count-body.false) in
-    let few : length c.args.body.now ≤ 19 = omega (arith, c.if-body-power-gt-MOST_DIGITS.false) in
+    let few : length c.args.body.now ≤ 19 = omega (arith, c.if-body-power-gt-MAX_DIGITS.false) in
     fraction_fits c.args.body.now _ count _ few before (rest_is c.args.body.now (count + 1)) c.read_digits-whole.ensures.digits c.read_digits-whole.ensures.value
 
 pub returns-clause-number : goal.returns-clause-number

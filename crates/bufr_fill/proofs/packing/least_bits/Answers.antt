@@ -2,13 +2,13 @@ use Rattle.std.proofs.Common.{◌<◌, ◌≤◌, sym, subst, ◌∙◌, arith}
 use Rattle.bufr_fill.proofs.PackSteps.{least_here, least_later, least_end}
 use Rattle.bufr_fill.proofs.packing.least_bits.Goals as goal
 
-pub returns-then-spread-top_of : goal.returns-then-spread-top_of
-returns-then-spread-top_of c =
-    sym (c.loop-k.invariant ∙ least_here c.args.may_be_missing c.args.spread c.loop-k.k c.loop-k-test.true (subst (λ n. c.args.spread < n) c.top_of.ensures c.if-spread-top_of.true))
+pub returns-then-spread-raw_limit : goal.returns-then-spread-raw_limit
+returns-then-spread-raw_limit c =
+    sym (c.loop-k.invariant ∙ least_here c.args.may_be_missing c.args.spread c.loop-k.k c.loop-k-test.true (subst (λ n. c.args.spread < n) c.raw_limit.ensures c.if-spread-raw_limit.true))
 
 pub loop-k-preserved : goal.loop-k-preserved
 loop-k-preserved c =
-    c.loop-k.invariant ∙ least_later c.args.may_be_missing c.args.spread c.loop-k.k c.loop-k-test.true (subst (λ n. n ≤ c.args.spread) c.top_of.ensures c.if-spread-top_of.false)
+    c.loop-k.invariant ∙ least_later c.args.may_be_missing c.args.spread c.loop-k.k c.loop-k-test.true (subst (λ n. n ≤ c.args.spread) c.raw_limit.ensures c.if-spread-raw_limit.false)
 
 pub returns : goal.returns
 returns c =

@@ -1,5 +1,5 @@
 use Rattle.std.proofs.Common.{◌≡◌, ℕ, drop}
-use Rattle.bufr_fill.specs.Gathered.{contents_drawn}
+use Rattle.bufr_fill.specs.PackedRows.{contents_drawn}
 use Rattle.bufr_fill.specs.Packing.{lowest}
 use Rattle.bufr_fill.specs.Packs.{lesser}
 use Rattle.bufr_fill.proofs.packing.lowest_of.Given as goal

@@ -2,7 +2,7 @@ use Rattle.std.proofs.Common.{◌/◌, ◌++◌, ◌≡◌, ◌<◌, ◌^◌, ap
 use Rattle.std.specs.Prelude.{unwrap_or}
 use Rattle.std.specs.List.{flat_map}
 use Rattle.bufr_bits.specs.Bits.{bits_in}
-use Rattle.bufr_fill.specs.Gathered.{contents_drawn}
+use Rattle.bufr_fill.specs.PackedRows.{contents_drawn}
 use Rattle.bufr_fill.specs.Packing.{increment_bits, packed_bits, lowest}
 use Rattle.bufr_fill.specs.Packs.{spread, AreShort, least_from}
 use Rattle.bufr_fill.proofs.NumberSteps.{base_under, spread_under, least_most, least_fits, all_short, numbers_packed, parts_put, parts_length}
@@ -17,7 +17,7 @@ push-requires-clause-value c =
 pub push-requires-2-clause-value : goal.push-requires-2-clause-value
 push-requires-2-clause-value c =
     let k : c.least_bits-k.result ≡ least_from c.args.spec.now.may_be_missing (spread c.unwrap_or-base.result c.args.drawn.now) 1 =
-    c.least_bits-k.ensures ∙ ap (λ m. least_from m c.spread_of.result 1) c.may_be_missing-may_be_missing.ensures ∙ ap (λ s. least_from c.args.spec.now.may_be_missing s 1) c.spread_of.ensures in
+    c.least_bits-k.ensures ∙ ap (λ m. least_from m c.max_increment.result 1) c.may_be_missing-may_be_missing.ensures ∙ ap (λ s. least_from c.args.spec.now.may_be_missing s 1) c.max_increment.ensures in
     let narrow = c.width.ensures.narrow c.requires.number in
     omega (
       arith,
@@ -31,7 +31,7 @@ push-requires-2-clause-value c =
 pub push_increments-requires-clause-narrow : goal.push_increments-requires-clause-narrow
 push_increments-requires-clause-narrow c =
     let k : c.least_bits-k.result ≡ least_from c.args.spec.now.may_be_missing (spread c.unwrap_or-base.result c.args.drawn.now) 1 =
-    c.least_bits-k.ensures ∙ ap (λ m. least_from m c.spread_of.result 1) c.may_be_missing-may_be_missing.ensures ∙ ap (λ s. least_from c.args.spec.now.may_be_missing s 1) c.spread_of.ensures in
+    c.least_bits-k.ensures ∙ ap (λ m. least_from m c.max_increment.result 1) c.may_be_missing-may_be_missing.ensures ∙ ap (λ s. least_from c.args.spec.now.may_be_missing s 1) c.max_increment.ensures in
     let narrow = c.width.ensures.narrow c.requires.number in
     omega (
       arith,
@@ -44,7 +44,7 @@ push_increments-requires-clause-narrow c =
 pub push_increments-requires-clause-short : goal.push_increments-requires-clause-short
 push_increments-requires-clause-short c =
     let k : c.least_bits-k.result ≡ least_from c.args.spec.now.may_be_missing (spread c.unwrap_or-base.result c.args.drawn.now) 1 =
-    c.least_bits-k.ensures ∙ ap (λ m. least_from m c.spread_of.result 1) c.may_be_missing-may_be_missing.ensures ∙ ap (λ s. least_from c.args.spec.now.may_be_missing s 1) c.spread_of.ensures in
+    c.least_bits-k.ensures ∙ ap (λ m. least_from m c.max_increment.result 1) c.may_be_missing-may_be_missing.ensures ∙ ap (λ s. least_from c.args.spec.now.may_be_missing s 1) c.max_increment.ensures in
     let narrow = c.width.ensures.narrow c.requires.number in
     subst (λ n. AreShort c.unwrap_or-base.result n c.args.drawn.now) (sym k)
     (all_short c.args.spec.now.may_be_missing c.unwrap_or-base.result (least_from c.args.spec.now.may_be_missing (spread c.unwrap_or-base.result c.args.drawn.now) 1) c.args.drawn.now
@@ -56,7 +56,7 @@ returns c =
     let count = c.args.spec.now.width / 8 in
     let base = c.unwrap_or-base.result in
     let k : c.least_bits-k.result ≡ least_from c.args.spec.now.may_be_missing (spread base c.args.drawn.now) 1 =
-    c.least_bits-k.ensures ∙ ap (λ m. least_from m c.spread_of.result 1) c.may_be_missing-may_be_missing.ensures ∙ ap (λ s. least_from c.args.spec.now.may_be_missing s 1) c.spread_of.ensures in
+    c.least_bits-k.ensures ∙ ap (λ m. least_from m c.max_increment.result 1) c.may_be_missing-may_be_missing.ensures ∙ ap (λ s. least_from c.args.spec.now.may_be_missing s 1) c.max_increment.ensures in
     let put = parts_put c.args.out.now c.push.new.self c.push-2.new.self c.push_increments.new.out (bits_in base c.args.spec.now.width) (bits_in c.least_bits-k.result 6)
     (flat_map (increment_bits base c.least_bits-k.result) (contents_drawn count c.args.drawn.now))
     (c.in_ok-push.ensures.ok ∙ ap (λ w. c.args.out.now ++ bits_in base w) c.width.ensures.value)

@@ -1,7 +1,7 @@
 use Rattle.std.proofs.Common.{◌/◌, false, refl, arith, replicate}
 use Rattle.std.specs.List.{flat_map}
 use Rattle.bufr_bits.specs.Bits.{bits_in}
-use Rattle.bufr_fill.specs.Gathered.{contents_drawn}
+use Rattle.bufr_fill.specs.PackedRows.{contents_drawn}
 use Rattle.bufr_fill.specs.Packing.{octet_bits, packed_bits}
 use Rattle.bufr_fill.proofs.NumberSteps.{parts_put, parts_length}
 use Rattle.bufr_fill.proofs.PackSteps.{most_some}

@@ -1,5 +1,5 @@
 use Rattle.std.proofs.Common.{◌/◌, arith}
-use Rattle.bufr_fill.specs.declared.draw.Drawn.TheVariants as drawn
+use Rattle.bufr_fill.specs.declared.field_value.FieldContent.TheVariants as drawn
 use Rattle.bufr_fill.specs.Packing.{octet_bits}
 use Rattle.bufr_fill.proofs.GrowthSteps.{grows_on}
 use Rattle.bufr_fill.proofs.PackSteps.{flat_more, drawn_at}

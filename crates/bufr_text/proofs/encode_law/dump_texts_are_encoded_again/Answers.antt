@@ -1,6 +1,6 @@
 use Rattle.bufr_tables.proofs.SoundLemmas.{tree_fine}
 use Rattle.bufr_tables.specs.TemplateTables.{tables_of}
-use Rattle.bufr_text.specs.RoundTrip.{items_in}
+use Rattle.bufr_text.specs.RoundTrip.{dump_items_in}
 use Rattle.bufr_text.proofs.DumpableLemmas.{dumpable}
 use Rattle.bufr_text.proofs.RoundTripLemmas.{encoded_again}
 use Rattle.bufr_text.proofs.LawLemmas.{one-document}
@@ -11,4 +11,4 @@ pub returns : goal.returns
 returns c = λ records table sequences m s template values used rows a.
     let legal = (tree_fine (tables_of table sequences) s.descriptors template a.expands).legal in
     let read = rows-read records table rows in
-    (one-document s (items_in table template s values) (dumpable table sequences m s template values used read legal a), encoded_again table sequences m s template values used 1 (good-rows table read) legal a)
+    (one-document s (dump_items_in table template s values) (dumpable table sequences m s template values used read legal a), encoded_again table sequences m s template values used 1 (good-rows table read) legal a)

@@ -1,6 +1,6 @@
 use Rattle.std.proofs.Common.{◌≡◌, ◌∙◌, ◌+◌, ◌-◌, ◌%◌, ◌++◌, ◌∷◌, ap, arith, drop, slice_set, sym}
 use Rattle.std.proofs.lemmas.List.{drop-set}
-use Rattle.bufr_text.specs.Writing.{padded}
+use Rattle.bufr_text.specs.Writing.{zero_padded}
 use Rattle.bufr_text.proofs.LaidLemmas.{fraction_more, fraction_done}
 use Rattle.bufr_text.proofs.item_line.lay_fraction.Goals as goal
 
@@ -20,5 +20,5 @@ returns c =
     let last : l.place ≡ c.args.places = omega arith in
     record {
       laid = fraction_done c.args.places l.place l.left (drop (c.args.end - c.args.places) l.line) _ last (omega (arith, l.auto.left-fits))
-          (ap (λ k. padded (c.args.places + 1 - l.place) l.left ++ drop (c.args.end - k) l.line) (sym last) ∙ l.invariant);
+          (ap (λ k. zero_padded (c.args.places + 1 - l.place) l.left ++ drop (c.args.end - k) l.line) (sym last) ∙ l.invariant);
     }

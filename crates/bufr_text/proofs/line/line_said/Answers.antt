@@ -5,5 +5,5 @@ use Rattle.bufr_text.proofs.line.line_said.Goals as goal
 pub returns : goal.returns
 returns c =
     c.worded.ensures
-    ∙ rw (c.ahead.ensures, c.behind.ensures, c.word_len-len.ensures.word, c.word_len-len.ensures.rest)
+    ∙ rw (c.ahead.ensures, c.suffix.ensures, c.word_len-len.ensures.word, c.word_len-len.ensures.rest)
     (sym (line-word c.args.line.now (search rules) (search rules) (search rules)))

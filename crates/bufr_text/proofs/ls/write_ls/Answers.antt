@@ -7,5 +7,5 @@ pub returns-clause-writes : goal.returns-clause-writes
 returns-clause-writes g c =
     let P : List ℕ → Type 0 = λ t. Writes (g.W.Sink.taken c.args.w.now) (g.W.Sink.taken c.write_all.new.w) t c.write_all.result in
     subst P (line-laid c.args.offset c.args.message.now c.length.result c.head-head.result _ _ _ _ _ _ _ c.length.ensures c.head-head.ensures
-    c.behind.ensures c.lay_origin-start.ensures.laid c.lay_category-end.ensures.laid c.lay_tables-end.ensures.laid c.lay_time-end.ensures.laid c.lay_counts-end.ensures.laid (search rules))
+    c.suffix.ensures c.lay_origin-start.ensures.laid c.lay_category-end.ensures.laid c.lay_tables-end.ensures.laid c.lay_time-end.ensures.laid c.lay_counts-end.ensures.laid (search rules))
     c.write_all.ensures.writes

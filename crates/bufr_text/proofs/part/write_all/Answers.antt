@@ -23,7 +23,7 @@ pub loop-rest-preserved : goal.loop-rest-preserved
 loop-rest-preserved g c =
     let before = c.loop-rest.invariant in
     let some : 0 < c.in-Ok.n = grind (arith, c.in-Ok.n-test.1) in record {
-      so_far = more-written _ _ _ c.args.octets.now c.loop-rest.rest.now _ c.in-Ok.n before.so_far c.in-Ok.ensures.bound c.in-Ok.ensures.octets c.behind-rest.ensures;
+      so_far = more-written _ _ _ c.args.octets.now c.loop-rest.rest.now _ c.in-Ok.n before.so_far c.in-Ok.ensures.bound c.in-Ok.ensures.octets c.suffix-rest.ensures;
       failures = c.in-Ok.ensures.failed ∙ before.failures;
       empty = c.write.ensures.empty ∙ empty_writes_after-some _ _ c.write.result _ c.in-Ok.is some ∙ before.empty;
       flushes = c.in-Ok.ensures.flushed ∙ before.flushes;

@@ -8,4 +8,4 @@ use Rattle.bufr_walk.proofs.bits.raw_at.Goals as goal
 pub returns-clause-ones : goal.returns-clause-ones
 returns-clause-ones c =
     let most : 1 * 2 ^ c.args.width % 18446744073709551616 - 1 ≡ 2 ^ c.args.width - 1 = omega (arith, shl_whole 1 1 c.args.width 64 (omega arith) (omega arith)) in
-    ap (nat_eq c.number_at-number.result) most ∙ ones_by_number (octets_of c.args.bits.now) c.args.at c.args.width c.number_at-number.result c.requires.within c.number_at-number.ensures.value
+    ap (nat_eq c.number-number.result) most ∙ ones_by_number (octets_of c.args.bits.now) c.args.at c.args.width c.number-number.result c.requires.within c.number-number.ensures.value

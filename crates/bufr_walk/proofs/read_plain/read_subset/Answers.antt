@@ -7,10 +7,10 @@ returns-in-Ok-clause-read c = pass_reads (next_item c.args.table.now c.args.temp
 
 pub returns-in-Err-clause-fault : goal.returns-in-Err-clause-fault
 returns-in-Err-clause-fault c =
-    rw (c.fault_at.ensures) (pass_stops (next_item c.args.table.now c.args.template.now) c.args.fields.now c.walk.new.fields c.args.steps.now c.walk.new.steps c.args.subset c.place-in-Err.result c.in-Err.why c.place-in-Err.ensures.value c.in-Err.ensures.walked)
+    rw (c.plain_fault.ensures) (pass_stops (next_item c.args.table.now c.args.template.now) c.args.fields.now c.walk_by.new.fields c.args.steps.now c.walk_by.new.steps c.args.subset c.place-in-Err.result c.in-Err.why c.place-in-Err.ensures.value c.in-Err.ensures.walked)
 
 pub returns-in-Ok-clause-forth : goal.returns-in-Ok-clause-forth
-returns-in-Ok-clause-forth c = walk_forth (next_item c.args.table.now c.args.template.now) c.args.fields.now c.walk.new.fields c.args.steps.now c.walk.new.steps c.walk.result c.walk.ensures.walked
+returns-in-Ok-clause-forth c = walk_forth (next_item c.args.table.now c.args.template.now) c.args.fields.now c.walk_by.new.fields c.args.steps.now c.walk_by.new.steps c.walk_by.result c.walk_by.ensures.walked
 
 pub returns-in-Err-clause-forth : goal.returns-in-Err-clause-forth
-returns-in-Err-clause-forth c = walk_forth (next_item c.args.table.now c.args.template.now) c.args.fields.now c.walk.new.fields c.args.steps.now c.walk.new.steps c.walk.result c.walk.ensures.walked
+returns-in-Err-clause-forth c = walk_forth (next_item c.args.table.now c.args.template.now) c.args.fields.now c.walk_by.new.fields c.args.steps.now c.walk_by.new.steps c.walk_by.result c.walk_by.ensures.walked

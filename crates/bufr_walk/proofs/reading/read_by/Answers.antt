@@ -5,11 +5,9 @@ use Rattle.bufr_walk.proofs.ReadingLemmas.{plain_held, plain_is, same_data}
 use Rattle.bufr_walk.proofs.reading.read_by.Goals as goal
 
 pub invariant_of-result : goal.invariant_of-result
-invariant_of-result c = (
-  packed_held c.args.table.now c.args.template.now c.subsets-subsets.result (octets_of c.payload-bits.result) c.in_ok-read.read.used c.read_packed.new.steps c.in_ok-read.read.kept c.in_ok-read.ensures.reading c.in_ok-read.ensures.held
-      (subst (λ octets. length octets < 2 ^ 24) (sym c.payload-bits.ensures.value) c.payload-bits.ensures.short),
-  c.requires,
-)
+invariant_of-result c =
+    packed_held c.args.table.now c.args.template.now c.subsets-subsets.result (octets_of c.payload-bits.result) c.in_ok-read.read.used c.read_packed.new.steps c.in_ok-read.read.kept c.in_ok-read.ensures.reading c.in_ok-read.ensures.held
+    (subst (λ octets. length octets < 2 ^ 24) (sym c.payload-bits.ensures.value) c.payload-bits.ensures.short)
 
 pub returns-then-compressed-clause-reading : goal.returns-then-compressed-clause-reading
 returns-then-compressed-clause-reading c =
@@ -17,10 +15,8 @@ returns-then-compressed-clause-reading c =
     (packed_data_same c.args.message.now c.subsets-subsets.result (octets_of c.payload-bits.result) (sym c.compressed.ensures ∙ c.if-compressed.true) c.subsets-subsets.ensures c.payload-bits.ensures.value) c.in_ok-read.ensures.reading
 
 pub invariant_of-result-2 : goal.invariant_of-result-2
-invariant_of-result-2 c = (
-  plain_held c.args.table.now c.args.template.now c.subsets-subsets.result (octets_of c.payload-bits.result) c.in_ok-used.used c.read_plain.new.steps (subst (λ octets. length octets < 2 ^ 24) (sym c.payload-bits.ensures.value) c.payload-bits.ensures.short) c.in_ok-used.ensures.reading,
-  c.requires,
-)
+invariant_of-result-2 c =
+    plain_held c.args.table.now c.args.template.now c.subsets-subsets.result (octets_of c.payload-bits.result) c.in_ok-used.used c.read_plain.new.steps (subst (λ octets. length octets < 2 ^ 24) (sym c.payload-bits.ensures.value) c.payload-bits.ensures.short) c.in_ok-used.ensures.reading
 
 pub returns-clause-reading : goal.returns-clause-reading
 returns-clause-reading c =

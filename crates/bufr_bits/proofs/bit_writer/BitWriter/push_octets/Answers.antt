@@ -22,13 +22,13 @@ pub invariant_of-self-else-self-eq0 : goal.invariant_of-self-else-self-eq0
 invariant_of-self-else-self-eq0 c =
     let long : length c.args.self.now ≡ 8 * length c.self.inside.octets.items + c.self.inside.count = ap length (sym c.self.view_is) ∙ length-written c.self.inside.octets.items c.self.inside.last c.self.inside.count in
     let few = c.self.invariant.few in
-    let put = c.put_behind-self-inside.ensures.len in
-    let capacity = c.put_behind-self-inside.ensures.capacity in
+    let put = c.append_shifted-self-inside.ensures.len in
+    let capacity = c.append_shifted-self-inside.ensures.capacity in
     let reserved = c.in_ok-reserve.ensures.ok in
     let same = c.in_ok-reserve.ensures.len in
     record {
       few = c.self.invariant.few;
-      low = c.put_behind-self-inside.ensures.low;
+      low = c.append_shifted-self-inside.ensures.low;
       fits = omega (arith, c.self.inside.octets.ok.0, c.requires);
       room = omega arith;
     }
@@ -40,7 +40,7 @@ pub returns-then-self-eq0-clause-len : goal.returns-then-self-eq0-clause-len
 returns-then-self-eq0-clause-len c = ap length (returns-then-self-eq0-clause-ok c) ∙ length-append c.args.self.now (bits_of c.args.octets.now) ∙ ap (λ (m : ℕ). length c.args.self.now + m) (length-bits_of c.args.octets.now)
 
 pub returns-else-self-eq0-clause-ok : goal.returns-else-self-eq0-clause-ok
-returns-else-self-eq0-clause-ok c = rw (c.in_ok-reserve.ensures.items, c.self.view_is) at c.put_behind-self-inside.ensures.bits
+returns-else-self-eq0-clause-ok c = rw (c.in_ok-reserve.ensures.items, c.self.view_is) at c.append_shifted-self-inside.ensures.bits
 
 pub returns-else-self-eq0-clause-len : goal.returns-else-self-eq0-clause-len
 returns-else-self-eq0-clause-len c = ap length (returns-else-self-eq0-clause-ok c) ∙ length-append c.args.self.now (bits_of c.args.octets.now) ∙ ap (λ (m : ℕ). length c.args.self.now + m) (length-bits_of c.args.octets.now)

@@ -2,8 +2,8 @@ use Rattle.std.proofs.Common.{◌≡◌, ◌+◌, ◌*◌, arith, length, ap, sy
 use Rattle.bufr_bits.proofs.WriterLemmas.{length-written}
 use Rattle.bufr_bits.proofs.bit_writer.BitWriter.truncate.Goals as goal
 
-pub tail_of-self-inside-requires-clause-within : goal.tail_of-self-inside-requires-clause-within
-tail_of-self-inside-requires-clause-within c =
+pub last_bits-self-inside-requires-clause-within : goal.last_bits-self-inside-requires-clause-within
+last_bits-self-inside-requires-clause-within c =
     let long : length c.args.self.now ≡ 8 * length c.self.inside.octets.items + c.self.inside.count = ap length (sym c.self.view_is) ∙ length-written c.self.inside.octets.items c.self.inside.last c.self.inside.count in
     let all = c.len_bits.ensures in
     let fewer = c.if-bits-len_bits.false in
@@ -20,7 +20,7 @@ invariant_of-self c =
     let room = c.self.invariant.room in
     record {
       few = omega arith;
-      low = c.tail_of-self-inside.ensures.low;
+      low = c.last_bits-self-inside.ensures.low;
       fits = omega arith;
       room = omega arith;
     }

@@ -1,7 +1,7 @@
 use Rattle.std.proofs.Common.{List, [], ◌∷◌, ◌++◌, ap, ◌∙◌}
 use Rattle.std.proofs.lemmas.List.{map-append}
 use Rattle.std.proofs.lemmas.Result.{err_from_is_err_and}
-use Rattle.bufr_fill.specs.Entries.{Entry, Ends}
+use Rattle.bufr_fill.specs.Entries.{DraftEntry, Ends}
 use Rattle.bufr_fill.specs.Kept.{entry_kept, entries_kept}
 use Rattle.bufr_fill.proofs.entries.Entries.push_end.Goals as goal
 
@@ -10,7 +10,7 @@ returns-clause-end c =
     let d = c.self.inside in
     ap (entries_kept d.octets.items) c.in_ok-push.ensures.items
     ∙ map-append (entry_kept d.octets.items) d.kept.items (_ ∷ [])
-    ∙ ap (λ (entries : List Entry). entries ++ Ends c.args.line ∷ []) c.self.view_is
+    ∙ ap (λ (entries : List DraftEntry). entries ++ Ends c.args.line ∷ []) c.self.view_is
 
 pub returns-in_err-push-clause-same : goal.returns-in_err-push-clause-same
 returns-in_err-push-clause-same c =

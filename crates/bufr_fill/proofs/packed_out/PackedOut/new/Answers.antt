@@ -1,8 +1,8 @@
 use Rattle.std.proofs.Common.{◌≡◌, ◌≤◌, ◌==◌, ◌*◌, ℕ, zero, suc, Bool, false, List, length, rules, sym, ap, ◌∙◌, arith}
 use Rattle.std.proofs.lemmas.Bool.{false≢true}
-use Rattle.bufr_walk.specs.Reading.{most_values}
+use Rattle.bufr_walk.specs.Reading.{max_values}
 use Rattle.bufr_fill.specs.Entries.{Subset, subsets_of}
-use Rattle.bufr_fill.specs.PackedOut.{PackedPen}
+use Rattle.bufr_fill.specs.PackedOut.{PackedOutModel}
 use Rattle.bufr_fill.proofs.Places.{none_end, empty_is}
 use Rattle.bufr_fill.proofs.packed_out.PackedOut.new.Goals as goal
 
@@ -10,10 +10,10 @@ some_there : (count : ℕ) → false ≡ (count == 0) → 1 ≤ count
 some_there zero h = absurd (false≢true h)
 some_there (suc n) h = omega arith
 
-none_within : (count : ℕ) → 0 * count ≤ most_values
+none_within : (count : ℕ) → 0 * count ≤ max_values
 none_within count = omega arith
 
-abbrev at_start : List Subset → List Bool → PackedPen
+abbrev at_start : List Subset → List Bool → PackedOutModel
 at_start subsets bits = record { subsets = subsets; place = 0; bits = bits }
 
 pub returns-then-is_empty : goal.returns-then-is_empty

@@ -2,7 +2,7 @@ use Rattle.std.proofs.Common.{ap, refl}
 use Rattle.bufr_fill.specs.Entries.{Holds, Ends}
 use Rattle.bufr_fill.specs.Fault.{at_line, item_too_many}
 use Rattle.bufr_fill.specs.Given.{draft_in, entry_in}
-use Rattle.bufr_fill.specs.PlainOut.{Pen, behind_end}
+use Rattle.bufr_fill.specs.PlainOut.{PlainOutModel, behind_end}
 use Rattle.bufr_fill.proofs.PlainSteps.{left_there, left_none}
 use Rattle.bufr_fill.proofs.plain_out.PlainOut.end_subset.Goals as goal
 
@@ -10,7 +10,7 @@ pub returns-in-Some-End : goal.returns-in-Some-End
 returns-in-Some-End c =
     let d = c.self.inside in (
       ap behind_end (left_there d.entries.now d.place d.out c.args.self.now (entry_in c.in-Some-End.field-0) (Ends c.in-Some-End.field-0-0) c.self.view_is c.in-Some-End.ensures (ap entry_in c.in-Some-End.field-0-is)),
-      ap (λ (p : Pen). p.bits) c.self.view_is,
+      ap (λ (p : PlainOutModel). p.bits) c.self.view_is,
     )
 
 pub returns-in-Some-Item : goal.returns-in-Some-Item

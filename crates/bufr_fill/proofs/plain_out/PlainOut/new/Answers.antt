@@ -1,9 +1,9 @@
 use Rattle.std.proofs.Common.{◌≡◌, ℕ, ◌≤◌, List, [], ◌∷◌, length, drop, refl, ap, ◌∙◌, arith}
-use Rattle.bufr_fill.specs.Entries.{Entry}
-use Rattle.bufr_fill.specs.PlainOut.{pen}
+use Rattle.bufr_fill.specs.Entries.{DraftEntry}
+use Rattle.bufr_fill.specs.PlainOut.{plain_out_model}
 use Rattle.bufr_fill.proofs.plain_out.PlainOut.new.Goals as goal
 
-drop_none : (entries : List Entry) → drop 0 entries ≡ entries
+drop_none : (entries : List DraftEntry) → drop 0 entries ≡ entries
 drop_none [] = refl
 drop_none (e ∷ entries) = refl
 
@@ -14,4 +14,4 @@ pub invariant_of-result : goal.invariant_of-result
 invariant_of-result c = record { within = none_least (length c.args.entries.now); few = c.requires; room = omega (arith, ap length c.new.ensures) }
 
 pub returns : goal.returns
-returns c = ap (pen (drop 0 c.args.entries.now)) c.new.ensures ∙ ap (λ left. pen left []) (drop_none c.args.entries.now)
+returns c = ap (plain_out_model (drop 0 c.args.entries.now)) c.new.ensures ∙ ap (λ left. plain_out_model left []) (drop_none c.args.entries.now)

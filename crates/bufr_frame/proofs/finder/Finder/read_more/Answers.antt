@@ -11,20 +11,20 @@ returns-in_err-n-clause-read g c =
     let v = c.self.inside in
     let slid = c.in_ok-slid.slid in
     let room = c.in_ok-slid.ensures.made in
-    let once = c.read_behind.ensures.read in
+    let once = c.read_after.ensures.read in
     let out = rw c.in_err-n.was at once.1.outcome in
     let is = p.1 ∙ ap Err (p.2 ∙ out.0) in
     let f : v.filled - slid + 0 ≡ v.filled - slid = omega arith in
-    let E : ℕ → Type 0 = λ k. slice_range c.read_behind.new.buffer.items (v.place - slid) k ≡ c.args.self.now.rest ++ once.0 in (
+    let E : ℕ → Type 0 = λ k. slice_range c.read_after.new.buffer.items (v.place - slid) k ≡ c.args.self.now.rest ++ once.0 in (
       once.0,
       record {
         read = once.1.read;
-        rest = subst E f (rest-read v.buffer.items c.make_room.new.buffer.items c.read_behind.new.buffer.items c.args.self.now.rest once.0 v.place v.filled slid 0 (ap (λ s. s.rest) c.self.view_is) room.0 (omega (arith, c.self.invariant))
+        rest = subst E f (rest-read v.buffer.items c.make_room.new.buffer.items c.read_after.new.buffer.items c.args.self.now.rest once.0 v.place v.filled slid 0 (ap (λ s. s.rest) c.self.view_is) room.0 (omega (arith, c.self.invariant))
             (omega (arith, room.1, c.make_room.new.buffer.ok.0)) room.2 once.1.held (sym (ap length out.1)));
         at = omega (arith, room.0, ap (λ s. s.at) c.self.view_is);
         fault = ap (λ s. s.fault) c.self.view_is ∙ c.requires.sound;
         longest = ap (λ s. s.longest) c.self.view_is;
-        room = omega (arith, ap (λ s. s.room) c.self.view_is, c.make_room.ensures.room, c.read_behind.ensures.room);
+        room = omega (arith, ap (λ s. s.room) c.self.view_is, c.make_room.ensures.room, c.read_after.ensures.room);
         ends = rw is (ap (λ s. s.reads + 1) c.self.view_is, out.1, ap (λ s. s.ended) c.self.view_is ∙ c.requires.going);
       },
     )
@@ -34,17 +34,17 @@ returns-then-n-eq0-clause-read g c =
     let v = c.self.inside in
     let slid = c.in_ok-slid.slid in
     let room = c.in_ok-slid.ensures.made in
-    let once = c.read_behind.ensures.read in
+    let once = c.read_after.ensures.read in
     let out = rw c.in_ok-n.was at once.1.outcome in (
       once.0,
       record {
         read = once.1.read;
-        rest = rest-read v.buffer.items c.make_room.new.buffer.items c.read_behind.new.buffer.items c.args.self.now.rest once.0 v.place v.filled slid c.in_ok-n.n (ap (λ s. s.rest) c.self.view_is) room.0 (omega (arith, c.self.invariant))
+        rest = rest-read v.buffer.items c.make_room.new.buffer.items c.read_after.new.buffer.items c.args.self.now.rest once.0 v.place v.filled slid c.in_ok-n.n (ap (λ s. s.rest) c.self.view_is) room.0 (omega (arith, c.self.invariant))
             (omega (arith, room.1, c.make_room.new.buffer.ok.0)) room.2 once.1.held out.0;
         at = omega (arith, room.0, ap (λ s. s.at) c.self.view_is);
         fault = refl;
         longest = ap (λ s. s.longest) c.self.view_is;
-        room = omega (arith, ap (λ s. s.room) c.self.view_is, c.make_room.ensures.room, c.read_behind.ensures.room);
+        room = omega (arith, ap (λ s. s.room) c.self.view_is, c.make_room.ensures.room, c.read_after.ensures.room);
         ends = (ap (λ s. s.reads + 1) c.self.view_is, λ _. (empty-of once.0 (sym out.0 ∙ c.if-n-eq0.true), out.1 c.if-n-eq0.true));
       },
     )
@@ -54,18 +54,18 @@ returns-else-n-eq0-clause-read g c =
     let v = c.self.inside in
     let slid = c.in_ok-slid.slid in
     let room = c.in_ok-slid.ensures.made in
-    let once = c.read_behind.ensures.read in
+    let once = c.read_after.ensures.read in
     let out = rw c.in_ok-n.was at once.1.outcome in
     let going = ap (λ s. s.ended) c.self.view_is ∙ c.requires.going in (
       once.0,
       record {
         read = once.1.read;
-        rest = rest-read v.buffer.items c.make_room.new.buffer.items c.read_behind.new.buffer.items c.args.self.now.rest once.0 v.place v.filled slid c.in_ok-n.n (ap (λ s. s.rest) c.self.view_is) room.0 (omega (arith, c.self.invariant))
+        rest = rest-read v.buffer.items c.make_room.new.buffer.items c.read_after.new.buffer.items c.args.self.now.rest once.0 v.place v.filled slid c.in_ok-n.n (ap (λ s. s.rest) c.self.view_is) room.0 (omega (arith, c.self.invariant))
             (omega (arith, room.1, c.make_room.new.buffer.ok.0)) room.2 once.1.held out.0;
         at = omega (arith, room.0, ap (λ s. s.at) c.self.view_is);
         fault = ap (λ s. s.fault) c.self.view_is ∙ c.requires.sound;
         longest = ap (λ s. s.longest) c.self.view_is;
-        room = omega (arith, ap (λ s. s.room) c.self.view_is, c.make_room.ensures.room, c.read_behind.ensures.room);
+        room = omega (arith, ap (λ s. s.room) c.self.view_is, c.make_room.ensures.room, c.read_after.ensures.room);
         ends = (ap (λ s. s.reads + 1) c.self.view_is, λ end. absurd (true≢false (sym end ∙ going)));
       },
     )

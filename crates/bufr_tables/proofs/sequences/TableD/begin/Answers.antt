@@ -6,7 +6,7 @@ use Rattle.bufr_tables.proofs.sequences.TableD.begin.Goals as goal
 pub add-requires-clause-absent : goal.add-requires-clause-absent
 add-requires-clause-absent c =
     let old = c.self.inside in
-    rw (c.key.ensures.value, c.self.invariant.listed) (place-lacking old.members.items old.runs.items c.args.sequence c.self.invariant.sequences c.requires.low c.requires.high (rw c.self.view_is c.requires.absent))
+    rw (c.key.ensures.value, c.self.invariant.members_or_none) (place-lacking old.members.items old.runs.items c.args.sequence c.self.invariant.sequences c.requires.low c.requires.high (rw c.self.view_is c.requires.absent))
 
 pub invariant_of-self-2 : goal.invariant_of-self-2
 invariant_of-self-2 c =
@@ -20,7 +20,7 @@ invariant_of-self-2 c =
     record {
       inside = rw (items, pushed) (all-push _ runs _ (runs-more (length old) _ runs (omega arith) kept.inside) (omega arith, omega arith));
       sequences = rw pushed (all-push IsSequence runs _ kept.sequences (c.requires.low, c.requires.high));
-      listed = rw (c.add.ensures, c.key.ensures.value, kept.listed, pushed) (rw map-append refl);
+      members_or_none = rw (c.add.ensures, c.key.ensures.value, kept.members_or_none, pushed) (rw map-append refl);
       last = rw (items, pushed) (last-push _ runs _ (omega arith));
     }
 

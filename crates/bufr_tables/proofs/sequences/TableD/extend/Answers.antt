@@ -1,5 +1,5 @@
 use Rattle.std.proofs.Common.{◌≡◌, ◌+◌, ◌-◌, ◌∷◌, ◌<◌, [], ◌∙◌, arith, length, length-append, sym}
-use Rattle.bufr_tables.specs.Runs.{IsRun}
+use Rattle.bufr_tables.specs.Runs.{IsMemberRange}
 use Rattle.bufr_tables.proofs.RunsLemmas.{IsSequence, all-at, all-set, keys-set, last-end, last-set, longer, runs-more, sequences_kept-extended, some-runs}
 use Rattle.bufr_tables.proofs.sequences.TableD.extend.Goals as goal
 
@@ -15,11 +15,11 @@ invariant_of-self-2 c =
     let last : i + 1 ≡ length runs = omega arith in
     let size = length-append old (c.args.member ∷ []) in
     let end = last-end (length old) runs i run kept.last last c.index_mut.ensures.value in
-    let here = all-at (IsRun (length old)) runs i run kept.inside (omega arith) c.index_mut.ensures.value in
+    let here = all-at (IsMemberRange (length old)) runs i run kept.inside (omega arith) c.index_mut.ensures.value in
     record {
       inside = rw items (all-set _ runs i (longer run) (runs-more (length old) _ runs (omega arith) kept.inside) (omega arith, omega arith));
       sequences = all-set IsSequence runs i (longer run) kept.sequences (all-at IsSequence runs i run kept.sequences (omega arith) c.index_mut.ensures.value);
-      listed = kept.listed ∙ sym (keys-set runs i run c.index_mut.ensures.value);
+      members_or_none = kept.members_or_none ∙ sym (keys-set runs i run c.index_mut.ensures.value);
       last = rw items (last-set _ runs i (longer run) last (omega arith));
     }
 

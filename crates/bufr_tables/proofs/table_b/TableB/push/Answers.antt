@@ -2,14 +2,14 @@ use Rattle.std.proofs.Common.{◌<◌, refl}
 use Rattle.std.proofs.lemmas.List.{map-append}
 use Rattle.bufr_tables.proofs.KeptLemmas.{element-key, inside-grown, inside-push, place-lacking, rows_kept-push}
 use Rattle.bufr_tables.proofs.RowLemmas.{limits-grown, rows-push}
-use Rattle.bufr_tables.specs.Entry.{row_with}
+use Rattle.bufr_tables.specs.Entry.{row_of_entry}
 use Rattle.bufr_tables.specs.Kept.{rows_kept}
 use Rattle.bufr_tables.proofs.table_b.TableB.push.Goals as goal
 
 pub add-requires-clause-absent : goal.add-requires-clause-absent
 add-requires-clause-absent c =
     let old = c.self.inside in
-    rw (c.key.ensures.value, element-key c.args.fxy c.requires.element, c.self.invariant.listed) (place-lacking old.octets.items old.stored.items c.args.fxy (rw c.self.view_is c.requires.absent))
+    rw (c.key.ensures.value, element-key c.args.fxy c.requires.element, c.self.invariant.members_or_none) (place-lacking old.octets.items old.stored.items c.args.fxy (rw c.self.view_is c.requires.absent))
 
 pub invariant_of-self : goal.invariant_of-self
 invariant_of-self c =
@@ -19,7 +19,7 @@ invariant_of-self c =
     record {
       inside = inside-grown _ _ old.stored.items kept.inside grows;
       elements = kept.elements;
-      listed = kept.listed;
+      members_or_none = kept.members_or_none;
       limits = limits-grown _ _ old.stored.items kept.inside grows kept.limits;
     }
 
@@ -32,7 +32,7 @@ invariant_of-self-in_err-push c =
     record {
       inside = rw items (inside-grown _ _ old.stored.items kept.inside grows);
       elements = rw items kept.elements;
-      listed = rw items kept.listed;
+      members_or_none = rw items kept.members_or_none;
       limits = rw items (limits-grown _ _ old.stored.items kept.inside grows kept.limits);
     }
 
@@ -45,8 +45,8 @@ invariant_of-self-2 c =
     record {
       inside = rw items (inside-push _ old.stored.items c.in_ok-stored.stored (inside-grown _ _ old.stored.items kept.inside made.grows) made.ok.inside);
       elements = rw items (inside-push (λ s. s.fxy < 16384) old.stored.items c.in_ok-stored.stored kept.elements (rw made.ok.descriptor c.requires.element));
-      limits = rw (items, rows_kept-push old.octets.items _ old.stored.items c.in_ok-stored.stored c.args.fxy c.args.entry.now kept.inside made.grows made.ok) (rows-push (rows_kept old.octets.items old.stored.items) (row_with c.args.fxy c.args.entry.now) kept.limits c.requires.limits);
-      listed = rw (items, c.add.ensures, c.key.ensures.value, element-key c.args.fxy c.requires.element, kept.listed) (rw (map-append, made.ok.descriptor) refl);
+      limits = rw (items, rows_kept-push old.octets.items _ old.stored.items c.in_ok-stored.stored c.args.fxy c.args.entry.now kept.inside made.grows made.ok) (rows-push (rows_kept old.octets.items old.stored.items) (row_of_entry c.args.fxy c.args.entry.now) kept.limits c.requires.limits);
+      members_or_none = rw (items, c.add.ensures, c.key.ensures.value, element-key c.args.fxy c.requires.element, kept.members_or_none) (rw (map-append, made.ok.descriptor) refl);
     }
 
 pub returns : goal.returns

@@ -1,7 +1,7 @@
 use Rattle.std.proofs.lemmas.Result.{err_from_is_err_and}
-use Rattle.bufr_tables.specs.Cells.{raised}
+use Rattle.bufr_tables.specs.Cells.{trees_of_cells}
 use Rattle.bufr_tables.specs.TemplateTables.{tables_of}
-use Rattle.bufr_tables.specs.Growing.{growth_of}
+use Rattle.bufr_tables.specs.Growing.{builder_model}
 use Rattle.bufr_tables.proofs.LeavesLemmas.{tree_says}
 use Rattle.bufr_tables.proofs.SoundLemmas.{tree_fine}
 use Rattle.bufr_tables.proofs.WholeLemmas.{whole-fault, whole-empty, whole-ok, whole-built, IsBuilt}
@@ -10,17 +10,17 @@ use Rattle.bufr_tables.proofs.template.Template.build.Goals as goal
 pub returns-in_err-list-clause-fault : goal.returns-in_err-list-clause-fault
 returns-in_err-list-clause-fault c =
     let p = err_from_is_err_and c.from_residual-in_err-list.result c.from_residual-in_err-list.ensures.1 in
-    rw (p.1, p.2) (whole-fault (tables_of c.args.table_b.now c.args.table_d.now) c.args.descriptors.now (growth_of c.in_ok-growing.growing) _ c.in_ok-growing.ensures.ok c.in_err-list.ensures)
+    rw (p.1, p.2) (whole-fault (tables_of c.args.table_b.now c.args.table_d.now) c.args.descriptors.now (builder_model c.in_ok-growing.growing) _ c.in_ok-growing.ensures.ok c.in_err-list.ensures)
 
 pub returns-then-not-growing-clause-fault : goal.returns-then-not-growing-clause-fault
 returns-then-not-growing-clause-fault c = λ other.
-    whole-empty (tables_of c.args.table_b.now c.args.table_d.now) c.args.descriptors.now (growth_of c.in_ok-growing.growing) (growth_of c.list.new.growing) c.first_of.result c.in_ok-growing.ensures.ok c.in_ok-list.ensures c.if-not-growing.true c.first_of.ensures
+    whole-empty (tables_of c.args.table_b.now c.args.table_d.now) c.args.descriptors.now (builder_model c.in_ok-growing.growing) (builder_model c.list.new.growing) c.first_of.result c.in_ok-growing.ensures.ok c.in_ok-list.ensures c.if-not-growing.true c.first_of.ensures
 
 -- what has been built
 built : (c : goal.In_ok-push_cell) → IsBuilt (tables_of c.args.table_b.now c.args.table_d.now) c.args.descriptors.now c.push_cell.new.cells.items c.list.new.growing.depth
 built c =
-    whole-built (tables_of c.args.table_b.now c.args.table_d.now) c.args.descriptors.now (growth_of c.list.new.growing) c.push_cell.new.cells.items
-    (whole-ok (tables_of c.args.table_b.now c.args.table_d.now) c.args.descriptors.now (growth_of c.in_ok-growing.growing) (growth_of c.list.new.growing) c.in_ok-growing.ensures.ok c.in_ok-list.ensures c.if-not-growing.false)
+    whole-built (tables_of c.args.table_b.now c.args.table_d.now) c.args.descriptors.now (builder_model c.list.new.growing) c.push_cell.new.cells.items
+    (whole-ok (tables_of c.args.table_b.now c.args.table_d.now) c.args.descriptors.now (builder_model c.in_ok-growing.growing) (builder_model c.list.new.growing) c.in_ok-growing.ensures.ok c.in_ok-list.ensures c.if-not-growing.false)
     c.in_ok-push_cell.ensures.ok c.list.new.growing.within
 
 pub invariant_of-result : goal.invariant_of-result
@@ -30,10 +30,10 @@ pub returns-clause-tree : goal.returns-clause-tree
 returns-clause-tree c = (built c).is_defined
 
 pub returns-clause-leaves : goal.returns-clause-leaves
-returns-clause-leaves c = tree_says (tables_of c.args.table_b.now c.args.table_d.now) c.args.descriptors.now (raised c.push_cell.new.cells.items) (built c).is_defined
+returns-clause-leaves c = tree_says (tables_of c.args.table_b.now c.args.table_d.now) c.args.descriptors.now (trees_of_cells c.push_cell.new.cells.items) (built c).is_defined
 
 pub returns-clause-known : goal.returns-clause-known
-returns-clause-known c = (tree_fine (tables_of c.args.table_b.now c.args.table_d.now) c.args.descriptors.now (raised c.push_cell.new.cells.items) (built c).is_defined).is_known
+returns-clause-known c = (tree_fine (tables_of c.args.table_b.now c.args.table_d.now) c.args.descriptors.now (trees_of_cells c.push_cell.new.cells.items) (built c).is_defined).is_known
 
 pub returns-clause-sound : goal.returns-clause-sound
 returns-clause-sound c = (built c).is_kept.is_laid.sound

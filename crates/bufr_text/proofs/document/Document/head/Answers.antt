@@ -3,7 +3,7 @@ use Rattle.std.specs.Prelude.{slice_index}
 use Rattle.bufr_frame.specs.Layout.{IsFitting, is_writable}
 use Rattle.bufr_frame.proofs.FitLemmas.{fitting-writable}
 use Rattle.bufr_text.specs.Document.{Document}
-use Rattle.bufr_text.specs.Header.{head_in}
+use Rattle.bufr_text.specs.Header.{head_from_values}
 use Rattle.bufr_text.proofs.HeaderLemmas.{headed-fits}
 use Rattle.bufr_text.proofs.document.Document.head.Goals as goal
 
@@ -15,7 +15,7 @@ returns-clause-writable c =
     let centre : c.value.result ≡ slice_index d.header 2 = c.value.ensures ∙ ap (λ (x : Document). slice_index x.header 2) (sym same) in
     let subcentre : c.value-2.result ≡ slice_index d.header 3 = c.value-2.ensures ∙ ap (λ (x : Document). slice_index x.header 3) (sym same) in
     let year : c.value-3.result ≡ slice_index d.header 10 = c.value-3.ensures ∙ ap (λ (x : Document). slice_index x.header 10) (sym same) in
-    let fits : IsFitting (head_in d) = subst (λ (x : Document). IsFitting (head_in x)) (sym same) (headed-fits parts c.self.invariant.proper.headed) in
+    let fits : IsFitting (head_from_values d) = subst (λ (x : Document). IsFitting (head_from_values x)) (sym same) (headed-fits parts c.self.invariant.proper.headed) in
     (λ j. is_writable (record {
       edition = c.octet.ensures j;
       master = c.octet-2.ensures j;
@@ -33,4 +33,4 @@ returns-clause-writable c =
       hour = c.octet-11.ensures j;
       minute = c.octet-12.ensures j;
       second = c.octet-13.ensures j;
-    })) ∙ fitting-writable (head_in d) fits
+    })) ∙ fitting-writable (head_from_values d) fits

@@ -2,7 +2,7 @@ use Rattle.std.proofs.Common.{inl, ◌∙◌, ◌++◌, [], refl, ap, sym, subst
 use Rattle.std.specs.Prelude.{Err, Result, Option}
 use Rattle.std.proofs.lemmas.Result.{err_from_is_err_and}
 use Rattle.bufr_text.specs.Document.{Document}
-use Rattle.bufr_text.specs.Reader.{NextSo}
+use Rattle.bufr_text.specs.Reader.{ReturnsNextDocument}
 use Rattle.bufr_text.specs.declared.fault.ReadFault.{ReadFault}
 use Rattle.bufr_text.proofs.CallLemmas.{call-none}
 use Rattle.bufr_text.proofs.NextLemmas.{counts-none, counts-then, counts-same, waits-same, call-takes, went-document, went-fault, end-next, fill-call, fill-waits, fill-fault, end-proper, none-unless}
@@ -22,7 +22,7 @@ pub returns-in_err-document-clause-next : goal.returns-in_err-document-clause-ne
 returns-in_err-document-clause-next g c =
     let before = c.loop-document.invariant in
     let p = err_from_is_err_and c.from_residual.result c.from_residual.ensures.1 in
-    let N : Result (Option Document) ReadFault → Type 0 = λ r. NextSo (g.R.Source.left c.args.r.now) (g.R.Source.left c.loop-document.r) c.args.self.now c.take_held.new.self r in
+    let N : Result (Option Document) ReadFault → Type 0 = λ r. ReturnsNextDocument (g.R.Source.left c.args.r.now) (g.R.Source.left c.loop-document.r) c.args.self.now c.take_held.new.self r in
     λ _. subst N (sym (p.1 ∙ ap Err p.2)) (went-fault _ _ c.args.self.now c.loop-document.self c.take_held.new.self before.octets before.call before.waits c.take_held.ensures.ended c.take_held.ensures.reads _ (rw c.in_err-document.was at c.take_held.ensures.went))
 
 pub returns-in-Some-2-clause-next : goal.returns-in-Some-2-clause-next
@@ -66,7 +66,7 @@ returns-in_err-fill-clause-next g c =
     let waits = waits-same _ c.args.self.now c.loop-document.self s before.octets before.octets before.waits c.take_held.ensures.reads refl in
     let open' = sym (ap (λ x. x.ended) c.self-in-loop-document.view_is) ∙ c.if-self.false in
     let p = err_from_is_err_and c.from_residual-in_err-fill.result c.from_residual-in_err-fill.ensures.1 in
-    let N : Result (Option Document) ReadFault → Type 0 = λ r. NextSo (g.R.Source.left c.args.r.now) (g.R.Source.left c.fill.new.r) c.args.self.now c.fill.new.self r in
+    let N : Result (Option Document) ReadFault → Type 0 = λ r. ReturnsNextDocument (g.R.Source.left c.args.r.now) (g.R.Source.left c.fill.new.r) c.args.self.now c.fill.new.self r in
     λ _. subst N (sym (p.1 ∙ ap Err p.2)) (fill-fault _ _ _ c.args.self.now s c.fill.new.self before.octets c.fill.ensures.read.0 call waits open' went.2 _ (rw c.in_err-fill.was at c.fill.ensures.read.1))
 
 pub returns-in-Some-2-clause-proper : goal.returns-in-Some-2-clause-proper

@@ -1,7 +1,7 @@
 use Rattle.std.proofs.Common.{◌≡◌, ◌⊎◌, ◌-◌, [], List, ℕ}
 use Rattle.std.specs.Prelude.{None}
-use Rattle.bufr_frame.specs.Runs.{most_reads}
-use Rattle.bufr_text.specs.Reader.{CallSo, WaitsSo, CountsReads}
+use Rattle.bufr_frame.specs.Runs.{max_reads}
+use Rattle.bufr_text.specs.Reader.{ReadsLines, ReadsOnlyIfNoLine, CountsTextReads}
 use Rattle.bufr_text.proofs.dump_reader.DumpReader.next_document.Given as goal
 
 -- what was done so far in this call: octets were read and tell nothing yet, each time that no line
@@ -9,12 +9,12 @@ use Rattle.bufr_text.proofs.dump_reader.DumpReader.next_document.Given as goal
 abbrev pub invariant-loop-document : goal.invariant-loop-document
 invariant-loop-document g l = record {
   octets : List ℕ;
-  call : CallSo (g.R.Source.left l.fn.r) (g.R.Source.left l.r) l.fn.self l.self [] octets;
-  waits : (l.self.reads ≡ l.fn.self.reads) ⊎ WaitsSo (g.R.Source.left l.fn.r) l.fn.self l.self.reads octets;
-  counts : CountsReads (g.R.Source.reads l.fn.r) (g.R.Source.reads l.r) l.fn.self l.self;
+  call : ReadsLines (g.R.Source.left l.fn.r) (g.R.Source.left l.r) l.fn.self l.self [] octets;
+  waits : (l.self.reads ≡ l.fn.self.reads) ⊎ ReadsOnlyIfNoLine (g.R.Source.left l.fn.r) l.fn.self l.self.reads octets;
+  counts : CountsTextReads (g.R.Source.reads l.fn.r) (g.R.Source.reads l.r) l.fn.self l.self;
   failed : g.R.Source.failures l.r ≡ g.R.Source.failures l.fn.r;
   sound : l.self.fault ≡ None;
 }
 
 abbrev pub decreases-loop-document : goal.decreases-loop-document
-decreases-loop-document g l = most_reads - l.self.reads
+decreases-loop-document g l = max_reads - l.self.reads

@@ -36,11 +36,11 @@ returns-in_err-n-clause-read g c =
     let v = c.self.inside in
     let slid = c.in_ok-slid.slid in
     let room = rw c.in_ok-slid.was at c.make_room.ensures in
-    let once = c.read_behind.ensures.read in
+    let once = c.read_after.ensures.read in
     let out = rw c.in_err-n.was at once.1.outcome in
     let is = p.1 ∙ ap Err (p.2 ∙ out.0) in
     let f : v.filled - slid + 0 ≡ v.filled - slid = omega arith in
-    let E : ℕ → Type 0 = λ k. slice_range c.read_behind.new.buffer.items (v.start - slid) k ≡ (c.args.self.now.held ++ once.0) ++ [] in (
+    let E : ℕ → Type 0 = λ k. slice_range c.read_after.new.buffer.items (v.start - slid) k ≡ (c.args.self.now.held ++ once.0) ++ [] in (
       once.0,
       record {
         read = once.1.read;
@@ -48,7 +48,7 @@ returns-in_err-n-clause-read g c =
         feed = [];
         missing = inl refl;
         fed = λ ended _. absurd (true≢false (sym ended ∙ ap (λ s. s.ended) c.self.view_is ∙ c.requires.going));
-        held = subst E f (some-read v.buffer.items c.make_room.new.buffer.items c.read_behind.new.buffer.items c.args.self.now.held once.0 v.start v.filled slid 0 (ap (λ s. s.held) c.self.view_is) room.0 (omega (arith, c.self.invariant))
+        held = subst E f (some-read v.buffer.items c.make_room.new.buffer.items c.read_after.new.buffer.items c.args.self.now.held once.0 v.start v.filled slid 0 (ap (λ s. s.held) c.self.view_is) room.0 (omega (arith, c.self.invariant))
             (omega (arith, room.1, room.2, c.make_room.new.buffer.ok.0)) room.3 once.1.held (sym (ap length out.1)));
         at = ap (λ s. s.at) c.self.view_is;
         place = ap (λ s. s.place) c.self.view_is;
@@ -62,7 +62,7 @@ returns-else-n-eq0-clause-read g c =
     let v = c.self.inside in
     let slid = c.in_ok-slid.slid in
     let room = rw c.in_ok-slid.was at c.make_room.ensures in
-    let once = c.read_behind.ensures.read in
+    let once = c.read_after.ensures.read in
     let out = rw c.in_ok-n.was at once.1.outcome in
     let going = ap (λ s. s.ended) c.self.view_is ∙ c.requires.going in (
       once.0,
@@ -72,7 +72,7 @@ returns-else-n-eq0-clause-read g c =
         feed = [];
         missing = inl refl;
         fed = λ ended _. absurd (true≢false (sym ended ∙ going));
-        held = some-read v.buffer.items c.make_room.new.buffer.items c.read_behind.new.buffer.items c.args.self.now.held once.0 v.start v.filled slid c.in_ok-n.n (ap (λ s. s.held) c.self.view_is) room.0 (omega (arith, c.self.invariant))
+        held = some-read v.buffer.items c.make_room.new.buffer.items c.read_after.new.buffer.items c.args.self.now.held once.0 v.start v.filled slid c.in_ok-n.n (ap (λ s. s.held) c.self.view_is) room.0 (omega (arith, c.self.invariant))
             (omega (arith, room.1, room.2, c.make_room.new.buffer.ok.0)) room.3 once.1.held out.0;
         at = ap (λ s. s.at) c.self.view_is;
         place = ap (λ s. s.place) c.self.view_is;
@@ -86,18 +86,18 @@ invariant_of-self-then-self g c =
     let v = c.self.inside in
     let slid = c.in_ok-slid.slid in
     let room = rw c.in_ok-slid.was at c.make_room.ensures in
-    let once = c.read_behind.ensures.read in
+    let once = c.read_after.ensures.read in
     let out = rw c.in_ok-n.was at once.1.outcome in
-    let held = some-read v.buffer.items c.make_room.new.buffer.items c.read_behind.new.buffer.items c.args.self.now.held once.0 v.start v.filled slid c.in_ok-n.n (ap (λ s. s.held) c.self.view_is) room.0 (omega (arith, c.self.invariant))
+    let held = some-read v.buffer.items c.make_room.new.buffer.items c.read_after.new.buffer.items c.args.self.now.held once.0 v.start v.filled slid c.in_ok-n.n (ap (λ s. s.held) c.self.view_is) room.0 (omega (arith, c.self.invariant))
     (omega (arith, room.1, room.2, c.make_room.new.buffer.ok.0)) room.3 once.1.held out.0 in
-    let fed = feed-read c.read_behind.new.buffer.items c.put_feed.new.buffer.items _ (v.start - slid) (v.filled - slid + c.in_ok-n.n) held (omega (arith, c.if-self.true)) (omega (arith, room.1, room.2, c.if-n-eq0.true, c.read_behind.ensures.len, c.read_behind.new.buffer.ok.0)) c.put_feed.ensures.items in (
+    let fed = feed-read c.read_after.new.buffer.items c.push_line_feed.new.buffer.items _ (v.start - slid) (v.filled - slid + c.in_ok-n.n) held (omega (arith, c.if-self.true)) (omega (arith, room.1, room.2, c.if-n-eq0.true, c.read_after.ensures.len, c.read_after.new.buffer.ok.0)) c.push_line_feed.ensures.items in (
       omega (arith, c.if-self.true),
-      omega (arith, room.1, room.2, c.if-n-eq0.true, c.read_behind.ensures.len, c.put_feed.ensures.len),
-      omega (arith, room.2, c.read_behind.ensures.len, c.put_feed.ensures.len),
+      omega (arith, room.1, room.2, c.if-n-eq0.true, c.read_after.ensures.len, c.push_line_feed.ensures.len),
+      omega (arith, room.2, c.read_after.ensures.len, c.push_line_feed.ensures.len),
       omega (arith, c.requires.few, ap (λ s. s.reads) c.self.view_is),
       λ e. ap ends_by_feed fed ∙ ends-append ((c.args.self.now.held ++ once.0) ++ []),
       λ e. progress-read v.progress (v.filled - v.start) _ v.reads (c.self.invariant.5 e) (omega (arith, c.if-n-eq0.true, room.0, c.self.invariant)),
-      λ _. c.put_feed.ensures.len ∙ c.read_behind.ensures.len ∙ room.2,
+      λ _. c.push_line_feed.ensures.len ∙ c.read_after.ensures.len ∙ room.2,
     )
 
 pub returns-then-self-clause-read : goal.returns-then-self-clause-read
@@ -105,11 +105,11 @@ returns-then-self-clause-read g c =
     let v = c.self.inside in
     let slid = c.in_ok-slid.slid in
     let room = rw c.in_ok-slid.was at c.make_room.ensures in
-    let once = c.read_behind.ensures.read in
+    let once = c.read_after.ensures.read in
     let out = rw c.in_ok-n.was at once.1.outcome in
-    let held = some-read v.buffer.items c.make_room.new.buffer.items c.read_behind.new.buffer.items c.args.self.now.held once.0 v.start v.filled slid c.in_ok-n.n (ap (λ s. s.held) c.self.view_is) room.0 (omega (arith, c.self.invariant))
+    let held = some-read v.buffer.items c.make_room.new.buffer.items c.read_after.new.buffer.items c.args.self.now.held once.0 v.start v.filled slid c.in_ok-n.n (ap (λ s. s.held) c.self.view_is) room.0 (omega (arith, c.self.invariant))
     (omega (arith, room.1, room.2, c.make_room.new.buffer.ok.0)) room.3 once.1.held out.0 in
-    let fed = feed-read c.read_behind.new.buffer.items c.put_feed.new.buffer.items _ (v.start - slid) (v.filled - slid + c.in_ok-n.n) held (omega (arith, c.if-self.true)) (omega (arith, room.1, room.2, c.if-n-eq0.true, c.read_behind.ensures.len, c.read_behind.new.buffer.ok.0)) c.put_feed.ensures.items in
+    let fed = feed-read c.read_after.new.buffer.items c.push_line_feed.new.buffer.items _ (v.start - slid) (v.filled - slid + c.in_ok-n.n) held (omega (arith, c.if-self.true)) (omega (arith, room.1, room.2, c.if-n-eq0.true, c.read_after.ensures.len, c.read_after.new.buffer.ok.0)) c.push_line_feed.ensures.items in
     let some : 0 < length c.args.self.now.held = omega (arith, c.if-self.true, c.if-n-eq0.true, room.0, part-length v.buffer.items v.start v.filled (omega (arith, c.self.invariant, v.buffer.ok.0)), ap (λ s. length s.held) c.self.view_is) in (
       once.0,
       record {

@@ -3,11 +3,11 @@ use Rattle.std.specs.Prelude.{Some, Err, slice_range}
 use Rattle.bufr_text.specs.Document as spec
 use Rattle.bufr_text.specs.Documents as documents
 use Rattle.bufr_text.specs.Proper.{IsProper}
-use Rattle.bufr_text.specs.Reader.{State}
-use Rattle.bufr_text.specs.Filling.{place_now, Tells, WantsHere, WentSo}
-use Rattle.bufr_text.specs.Reading.{has_no_feed, PassesEnd}
+use Rattle.bufr_text.specs.Reader.{ReaderModel}
+use Rattle.bufr_text.specs.Filling.{place_now, ParsesHeldLines, WantsHere, TakesHeldLines}
+use Rattle.bufr_text.specs.Reading.{has_no_feed, TakesEndLine}
 use Rattle.bufr_text.specs.Step.{place_with}
-use Rattle.bufr_text.specs.declared.progress.TakingEnd.TheVariants as taken
+use Rattle.bufr_text.specs.declared.progress.TakeResult.TheVariants as taken
 use Rattle.bufr_text.proofs.ReaderLemmas.{state, place-sound, wants-here, takes-tells, takes-end, rest-clean, taken-within, taken-ends, progress-more, progress-between, refuses-went}
 use Rattle.bufr_text.proofs.dump_reader.DumpReader.take_held.Goals as goal
 
@@ -64,7 +64,7 @@ returns-in-More-clause-went c =
     let is = ap (λ l. slice_range l v.start v.filled) c.deref.ensures.value in
     let sound = ap (λ s. s.fault) c.self.view_is ∙ c.requires.sound in
     let inside : v.filled ≤ length v.buffer.items = omega (arith, c.self.invariant, v.buffer.ok.0) in
-    let P : State → Type 0 = λ s. Tells s (state n.at (place_now v.fault n) (slice_range v.buffer.items (v.start + c.in-Ok.len) v.filled) v.ended v.fault v.reads) [] in (
+    let P : ReaderModel → Type 0 = λ s. ParsesHeldLines s (state n.at (place_now v.fault n) (slice_range v.buffer.items (v.start + c.in-Ok.len) v.filled) v.ended v.fault v.reads) [] in (
       subst P c.self.view_is (takes-tells v.progress n v.fault v.fault v.buffer.items _ v.start v.filled c.in-Ok.len v.ended v.reads taken.More (place_now v.fault n) takes sound is inside (place-sound v.fault n sound)),
       sound,
       rest-clean v.progress n v.buffer.items _ v.start v.filled c.in-Ok.len takes is inside,
@@ -80,11 +80,11 @@ returns-in-Gives-clause-went c =
     let sound = ap (λ s. s.fault) c.self.view_is ∙ c.requires.sound in
     let inside : v.filled ≤ length v.buffer.items = omega (arith, c.self.invariant, v.buffer.ok.0) in
     let held = slice_range v.buffer.items (v.start + c.in-Ok.len) v.filled in
-    let P : State → Type 0 = λ s. Tells s (state d.at (place_now v.fault d) held v.ended v.fault v.reads) (documents.Spelled c.whole.result ∷ []) in
-    let A : ℕ → Type 0 = λ k. Tells (state v.progress.at (place_now v.fault v.progress) (slice_range v.buffer.items v.start v.filled) v.ended v.fault v.reads) (state k (place_now v.fault d) held v.ended v.fault v.reads) (documents.Spelled c.whole.result ∷ []) in
-    let D : spec.Document → Type 0 = λ x. Tells (state v.progress.at (place_now v.fault v.progress) (slice_range v.buffer.items v.start v.filled) v.ended v.fault v.reads) (state n.at (place_now v.fault d) held v.ended v.fault v.reads) (documents.Spelled x ∷ []) in
-    let E : State → Type 0 = λ s. PassesEnd s.at s.held d.at held in
-    let F : ℕ → Type 0 = λ k. PassesEnd v.progress.at (slice_range v.buffer.items v.start v.filled) k held in
+    let P : ReaderModel → Type 0 = λ s. ParsesHeldLines s (state d.at (place_now v.fault d) held v.ended v.fault v.reads) (documents.Complete c.whole.result ∷ []) in
+    let A : ℕ → Type 0 = λ k. ParsesHeldLines (state v.progress.at (place_now v.fault v.progress) (slice_range v.buffer.items v.start v.filled) v.ended v.fault v.reads) (state k (place_now v.fault d) held v.ended v.fault v.reads) (documents.Complete c.whole.result ∷ []) in
+    let D : spec.Document → Type 0 = λ x. ParsesHeldLines (state v.progress.at (place_now v.fault v.progress) (slice_range v.buffer.items v.start v.filled) v.ended v.fault v.reads) (state n.at (place_now v.fault d) held v.ended v.fault v.reads) (documents.Complete x ∷ []) in
+    let E : ReaderModel → Type 0 = λ s. TakesEndLine s.at s.held d.at held in
+    let F : ℕ → Type 0 = λ k. TakesEndLine v.progress.at (slice_range v.buffer.items v.start v.filled) k held in
     let between = place-sound v.fault d sound ∙ ap (λ p. place_with p d.parts) c.take_parts-parts.ensures.place in (
       subst P c.self.view_is (subst A (sym c.take_parts-parts.ensures.at) (subst D (sym (c.whole.ensures ∙ c.take_parts-parts.ensures.parts)) (takes-tells v.progress n v.fault v.fault v.buffer.items _ v.start v.filled c.in-Ok.len v.ended v.reads taken.Gives (place_now v.fault d) takes sound is inside between))),
       sound,
@@ -102,7 +102,7 @@ returns-in-Refuses-clause-went c =
     let held = slice_range v.buffer.items (v.start + c.in-Ok.len) v.filled in
     let old = state v.progress.at (place_now v.fault v.progress) (slice_range v.buffer.items v.start v.filled) v.ended v.fault v.reads in
     let f = c.at-fault.result in
-    let W : State → Type 0 = λ s. WentSo s (state n.at (place_now (Some f) n) held v.ended (Some f) v.reads) (Err f) in
+    let W : ReaderModel → Type 0 = λ s. TakesHeldLines s (state n.at (place_now (Some f) n) held v.ended (Some f) v.reads) (Err f) in
     subst W c.self.view_is (refuses-went old n.at c.in-Refuses.line n held v.ended v.reads c.in-Refuses.refusal f c.at-fault.ensures (λ g. takes-tells v.progress n v.fault g v.buffer.items _ v.start v.filled c.in-Ok.len v.ended v.reads (taken.Refuses c.in-Refuses.line c.in-Refuses.refusal) documents.Stopped takes sound is inside refl))
 
 pub returns-in_default-clause-went : goal.returns-in_default-clause-went

@@ -1,5 +1,5 @@
 use Rattle.std.proofs.Common.{◌≡◌, ℕ, ◌≤◌, ◌*◌, length, refl, subst, sym, ap, ◌∙◌, arith}
-use Rattle.bufr_walk.specs.Kept.{held_of}
+use Rattle.bufr_walk.specs.StoredItems.{held_of}
 use Rattle.bufr_walk.specs.Outcome.{Read, course_of}
 use Rattle.bufr_walk.specs.Reading.{Values, IsReading, items_kept}
 use Rattle.bufr_walk.proofs.PackedShowing.{all_kept}
@@ -13,7 +13,7 @@ returns-in-Apart-clause-value c = ap held_of (sym c.in-Apart.is) ∙ ap (λ (r :
 
 pub returns-in-Apart-clause-items : goal.returns-in-Apart-clause-items
 returns-in-Apart-clause-items c =
-    subst (λ r. (values : Values) → IsReading (course_of r) r.source values r.bits → 0 ≡ items_kept values) c.self.view_is (λ values reading. ap held_of (sym c.in-Apart.is) ∙ all_kept _ c.self.inside.kept c.self.invariant.0 values reading)
+    subst (λ r. (values : Values) → IsReading (course_of r) r.source values r.bits → 0 ≡ items_kept values) c.self.view_is (λ values reading. ap held_of (sym c.in-Apart.is) ∙ all_kept _ c.self.inside.kept c.self.invariant values reading)
 
 pub returns-in-Apart-clause-few : goal.returns-in-Apart-clause-few
 returns-in-Apart-clause-few c = none_few c.args.self.now.bits
@@ -29,4 +29,4 @@ returns-in-Together-clause-value c =
 pub returns-in-Together-clause-items : goal.returns-in-Together-clause-items
 returns-in-Together-clause-items c =
     let count : c.len.result ≡ length c.in-Together.items = omega (arith, c.len.ensures) in
-    subst (λ r. (values : Values) → IsReading (course_of r) r.source values r.bits → c.len.result ≡ items_kept values) c.self.view_is (λ values reading. count ∙ ap held_of (sym c.in-Together.is) ∙ all_kept _ c.self.inside.kept c.self.invariant.0 values reading)
+    subst (λ r. (values : Values) → IsReading (course_of r) r.source values r.bits → c.len.result ≡ items_kept values) c.self.view_is (λ values reading. count ∙ ap held_of (sym c.in-Together.is) ∙ all_kept _ c.self.inside.kept c.self.invariant values reading)

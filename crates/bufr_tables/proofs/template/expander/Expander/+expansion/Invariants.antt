@@ -1,6 +1,6 @@
 use Rattle.std.proofs.Common.{◌+◌, ◌*◌, length}
 use Rattle.bufr_tables.specs.Expansion.{inner_of}
-use Rattle.bufr_tables.specs.Growing.{growth_of}
+use Rattle.bufr_tables.specs.Growing.{builder_model}
 use Rattle.bufr_tables.specs.Expander.{tables_in}
 use Rattle.bufr_tables.proofs.LevelLemmas.{Came}
 use Rattle.bufr_tables.proofs.template.expander.Expander.+expansion.Given as goal
@@ -27,7 +27,7 @@ abbrev pub decreases-group_of : goal.decreases-group_of
 decreases-group_of l = 5 * l.room
 
 abbrev pub invariant-list-loop-fxy : goal.invariant-list-loop-fxy
-invariant-list-loop-fxy l = Came (tables_in l.self) (inner_of (tables_in l.self) l.room) l.list (growth_of l.initial.growing) l.width_given l.rest (growth_of l.growing)
+invariant-list-loop-fxy l = Came (tables_in l.self) (inner_of (tables_in l.self) l.room) l.list (builder_model l.initial.growing) l.width_given l.rest (builder_model l.growing)
 
 abbrev pub decreases-list-loop-fxy : goal.decreases-list-loop-fxy
 decreases-list-loop-fxy l = length l.rest

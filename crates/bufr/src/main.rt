@@ -1,0 +1,70 @@
+//! `bufr`: lists, dumps and encodes messages of FM 94 BUFR.
+//!
+//! `bufr ls [FILE]` writes a line for each message of a stream, `bufr dump -B FILE -D FILE [FILE]`
+//! the text of each by Tables B and D, and `bufr encode -B FILE -D FILE [--form WORD] [FILE]` the
+//! messages that such texts spell. Faults go to standard error, a line each. The exit status is 0
+//! where nothing was refused, 1 where a message or a document was, and 2 where the command line, a
+//! file, a table, reading, writing or memory failed.
+//!
+//! This crate wraps the process: its arguments, its inputs and its writers. [`run`] of `bufr_cli`
+//! does what the arguments ask for.
+#![tactic(auto)]
+
+ghost use Rattle.bufr.specs.Calling.{IsWordless, RunsArguments};
+
+mod process;
+
+use bufr_bits::{Device, Sink};
+use bufr_cli::{BUFFERED, Buffered, Outcome, finish, run};
+use bufr_frame::RunFault;
+use process::Process;
+use std::io::{BufWriter, Error, ErrorKind};
+use std::process::ExitCode;
+
+/// Runs the command line over the process's own inputs and writers.
+fn main(rt: HostRuntime) -> ExitCode {
+    ExitCode::from(status(&rt))
+}
+
+/// The exit status of the process.
+fn status(rt: &HostRuntime) -> u8 {
+    let Ok(errors) = BufWriter::with_capacity(rt.alloc(), BUFFERED, rt.stderr()) else {
+        return finish(
+            &Outcome::Run(RunFault::Memory),
+            &mut Device::new(rt.stderr()),
+        );
+    };
+    let mut e = Device::new(Buffered::new(errors));
+    let status = match BufWriter::with_capacity(rt.alloc(), BUFFERED, rt.stdout()) {
+        Ok(output) => run_words(rt, &mut Device::new(Buffered::new(output)), &mut e),
+        Err(_) => finish(&Outcome::Run(RunFault::Memory), &mut e),
+    };
+    let _ = e.flush();
+    status
+}
+
+/// Why there are no words of a command line.
+fn argument_fault(error: &Error) -> Outcome<'static>
+    ensures { IsWordless result }
+{
+    if error.kind() == ErrorKind::OutOfMemory {
+        Outcome::Run(RunFault::Memory)
+    } else {
+        Outcome::Usage("error: an argument is not UTF-8\n")
+    }
+}
+
+/// Runs the words of the command line.
+fn run_words<W: Sink, E: Sink>(rt: &HostRuntime, w: &mut W, e: &mut E) -> u8
+    ensures { RunsArguments (W.taken w.old) (W.taken w.new) (E.taken e.old) (E.taken e.new)
+        (W.all_flushed w.new) result }
+{
+    let words: Result<Vec<String>, _> = match std::env::args(rt) {
+        Ok(words) => words.collect(rt.alloc()),
+        Err(error) => return finish(&argument_fault(&error), e),
+    };
+    match words {
+        Ok(words) => run(rt.alloc(), words.as_slice(), &Process { runtime: rt }, w, e),
+        Err(_) => finish(&Outcome::Run(RunFault::Memory), e),
+    }
+}

@@ -1,0 +1,709 @@
+-- What a run of `encode` writes, document by document.
+use Rattle.std.proofs.Common.{◌≡◌, ◌∙◌, ℕ, ◌+◌, ◌-◌, ◌==◌, ◌≤◌, ◌<◌, ◌^◌, Bool, false, if◌then◌else◌, length-append, List, [], ◌∷◌, ◌++◌, length, None, arith, append_assoc, append-nil, Option, Result, Ok, Err, refl, sym, ap, subst, inl, inr, true}
+use Rattle.std.specs.Prelude.{Some, map, flat_map, count_by, IfOk, IfSome}
+use Rattle.std.specs.Io.KnownBytes.{Appends, Consumes, IsAtEnd, Keeps}
+use Rattle.std.proofs.KnownBytes.{Appends-kept, Consumes-trans, Consumes-whole}
+use Rattle.std.proofs.lemmas.Bool.{false≢true}
+use Rattle.std.proofs.lemmas.Grind.{common_steps}
+use Rattle.bufr_bits.specs.Counts.{counted}
+use Rattle.bufr_tables.specs.TableB.{Row}
+use Rattle.bufr_tables.specs.TableD.{Sequence}
+use Rattle.bufr_frame.specs.Runs.{max_reads, read_failures_after}
+use Rattle.bufr_frame.specs.declared.fault.RunFault.{RunFault}
+use Rattle.bufr_frame.specs.declared.fault.RunFault.TheVariants.{Read, Write, InputTooLong, Memory}
+use Rattle.bufr_text.specs.Document.{Document}
+use Rattle.bufr_text.specs.Documents.{ParseResult, TextLineFault, Complete, Refused, NotAllowed, LineEffect, WalkGoes, Gives, Faults, ParserState, Between, Heading, Laying, Filling, Stopped, told_at, told_at_end, parse_lines, line_within_limit, place_after, prepend_to_line, lines_of, documents_of, open_documents_of}
+use Rattle.bufr_text.specs.Reading.{parse, parse_open}
+use Rattle.bufr_text.specs.Documents as documents
+use Rattle.bufr_text.specs.Reader.{ReaderModel, new_reader, stand, parse_results, ReadsLines, ReturnsNextDocument, ReadsDocument, LeavesReader, CountsTextReads, HasNoWholeLine, failures_by}
+use Rattle.bufr_text.specs.Writing.{GrowsByPrefix, Writes}
+use Rattle.bufr_text.specs.declared.fault.ReadFault.{ReadFault}
+use Rattle.bufr_text.specs.declared.form.Form.{Form}
+use Rattle.bufr_text.specs.declared.fault.ReadFault.TheVariants.{Line, SubsetCount, HeaderRange, Run}
+use Rattle.bufr_cli.specs.DocumentLine.{refused_line}
+use Rattle.bufr_cli.specs.EncodePieces.{told_piece, encode_pieces, up_to_refused}
+use Rattle.bufr_cli.specs.EncodeRun.{EncodeDone, EncodeStopped, RunsEncode, read_documents}
+use Rattle.bufr_cli.specs.EncodeTelling.{TellsNext}
+use Rattle.bufr_cli.specs.Pieces.{Piece, OnOutput, OnErrors, errors_of, is_accepted, is_refused, output_of}
+use Rattle.bufr_cli.specs.Counting.{Blames}
+use Rattle.bufr_cli.specs.Running.{ReadsAtMost, Tallies, WritesPieces, WrittenInPart}
+use Rattle.bufr_cli.specs.WritingPieces.{TellsPieces, StopsPiece, counted_accepted, counted_refused, tally_after}
+use Rattle.bufr_cli.specs.declared.tally.Tally.{Tally}
+use Rattle.bufr_cli.specs.declared.tally.Verdict.{Verdict}
+use Rattle.bufr_cli.specs.declared.tally.Verdict.TheVariants as verdict
+use Rattle.bufr_text.proofs.CallLemmas.{call-none, call-then}
+use Rattle.bufr_text.proofs.NextLemmas.{counts-none, counts-then, told-first, told-first-openly, told-at-end, told-at-fault}
+use Rattle.bufr_cli.proofs.RunLemmas.{Written-nil, Written-then, grows-nil}
+use Rattle.bufr_cli.proofs.DumpLemmas.{errors-told, line-stopped}
+
+-- the encoding of a document was stopped
+pub next-stopped : (w w' e e' : Option (List ℕ)) (piece : ParseResult → Piece) (next : Result (Option Document) ReadFault) (document : Document) (write_event : Result Verdict RunFault) (f : RunFault) (r : Result (Option Verdict) RunFault)
+    → next ≡ Ok (Some document) → TellsPieces w w' e e' (piece (Complete document) ∷ []) write_event → StopsPiece true write_event → write_event ≡ Err f → r ≡ Err f → TellsNext w w' e e' piece next r
+next-stopped w w' e e' piece next document write_event f r is tells stops fails same =
+    let P : Result (Option Verdict) RunFault → Type 0 = λ x. TellsNext w w' e e' piece next x in
+    let T : Result Verdict RunFault → Type 0 = λ x. TellsPieces w w' e e' (piece (Complete document) ∷ []) x in
+    let S : Result Verdict RunFault → Type 0 = λ x. StopsPiece true x in
+    subst P (sym same) (by f (subst T fails tells) (subst S fails stops))
+  where
+    by : (g : RunFault) → TellsPieces w w' e e' (piece (Complete document) ∷ []) (Err g) → StopsPiece true (Err g) → TellsNext w w' e e' piece next (Err g)
+    by Read tells' stops' = absurd stops'
+    by InputTooLong tells' stops' = absurd stops'
+    by Write tells' stops' = (Complete document, ap parse_results is, tells')
+    by Memory tells' stops' = inr (Complete document, ap parse_results is, tells')
+
+-- the line of a fault of the text was stopped
+pub line-cut : {X : Type 0} (w e e' : Option (List ℕ)) (form : Form) (b : List Row) (d : List Sequence) (next : Result (Option Document) ReadFault) (fault : ReadFault) (first : Result X RunFault) (f : RunFault) (r : Result (Option Verdict) RunFault)
+    → next ≡ Err fault → ((run : RunFault) → fault ≡ Run run → ⊥) → ((line : ℕ) (why : TextLineFault) → parse_results (Err fault) ≡ Refused line why ∷ [] → Writes e e' (refused_line line why) first)
+    → first ≡ Err f → r ≡ Err f → TellsNext w w e e' (told_piece form b d) next r
+line-cut {X = X} w e e' form b d next fault first f r is some writes fails same =
+    by fault is some writes
+  where
+    told : (line : ℕ) (why : TextLineFault) → parse_results next ≡ Refused line why ∷ [] → Writes e e' (refused_line line why) first → TellsNext w w e e' (told_piece form b d) next r
+    told line why tells written =
+        let W : Result X RunFault → Type 0 = λ x. Writes e e' (refused_line line why) x in
+        let P : Result (Option Verdict) RunFault → Type 0 = λ x. TellsNext w w e e' (told_piece form b d) next x in
+        let write : f ≡ Write = (subst W fails written).0 in
+        subst P (sym (same ∙ ap Err write)) (Refused line why, tells, line-stopped w e e' (refused_line line why) first Write (Err Write) (OnErrors (refused_line line why)) refl written (fails ∙ ap Err write) refl)
+
+    by : (g : ReadFault) → next ≡ Err g → ((run : RunFault) → g ≡ Run run → ⊥) → ((line : ℕ) (why : TextLineFault) → parse_results (Err g) ≡ Refused line why ∷ [] → Writes e e' (refused_line line why) first)
+        → TellsNext w w e e' (told_piece form b d) next r
+    by (Line line) is' some' writes' = told line NotAllowed (ap parse_results is') (writes' line NotAllowed refl)
+    by (SubsetCount line) is' some' writes' = told line documents.SubsetCount (ap parse_results is') (writes' line documents.SubsetCount refl)
+    by (HeaderRange line) is' some' writes' = told line documents.HeaderRange (ap parse_results is') (writes' line documents.HeaderRange refl)
+    by (Run run) is' some' writes' = absurd (some' run refl)
+
+-- the line of a fault of the text was written
+pub line-written : (w e e' : Option (List ℕ)) (form : Form) (b : List Row) (d : List Sequence) (next : Result (Option Document) ReadFault) (fault : ReadFault)
+    → next ≡ Err fault → ((run : RunFault) → fault ≡ Run run → ⊥) → ((line : ℕ) (why : TextLineFault) → parse_results (Err fault) ≡ Refused line why ∷ [] → Appends e e' (refused_line line why))
+    → TellsNext w w e e' (told_piece form b d) next (Ok (Some verdict.Refused))
+line-written w e e' form b d next (Line line) is some writes =
+    (Refused line NotAllowed, ap parse_results is, errors-told w e e' (refused_line line NotAllowed) (OnErrors (refused_line line NotAllowed)) refl (writes line NotAllowed refl))
+line-written w e e' form b d next (SubsetCount line) is some writes =
+    (Refused line documents.SubsetCount, ap parse_results is, errors-told w e e' (refused_line line documents.SubsetCount) (OnErrors (refused_line line documents.SubsetCount)) refl (writes line documents.SubsetCount refl))
+line-written w e e' form b d next (HeaderRange line) is some writes =
+    (Refused line documents.HeaderRange, ap parse_results is, errors-told w e e' (refused_line line documents.HeaderRange) (OnErrors (refused_line line documents.HeaderRange)) refl (writes line documents.HeaderRange refl))
+line-written w e e' form b d next (Run run) is some writes = absurd (some run refl)
+
+-- the reading ended
+pub run-ended : (w e : Option (List ℕ)) (piece : ParseResult → Piece) (next : Result (Option Document) ReadFault) (fault : RunFault) → next ≡ Err (Run fault) → (next ≡ Err (Run Write) → ⊥) → TellsNext w w e e piece next (Err fault)
+run-ended w e piece next Read is some = (is, refl, refl)
+run-ended w e piece next InputTooLong is some = (is, refl, refl)
+run-ended w e piece next Memory is some = inl (is, refl, refl)
+run-ended w e piece next Write is some = absurd (some is)
+
+-- a fault that is none of a writer blames none
+pub blames-none : (X a b c d : Type 0) (fault : RunFault) → (fault ≡ Write → ⊥) → a → c → Blames {X = X} (Err fault) a b c d
+blames-none X a b c d Read some x y = (x, y)
+blames-none X a b c d InputTooLong some x y = (x, y)
+blames-none X a b c d Memory some x y = (x, y)
+blames-none X a b c d Write some x y = absurd (some refl)
+
+-- none of these pieces ends the run
+abbrev pub Open : List Piece → Type 0
+Open pieces = (more : List Piece) → up_to_refused (pieces ++ more) ≡ pieces ++ up_to_refused more
+
+-- the last of them ends it
+abbrev pub Closed : List Piece → Type 0
+Closed pieces = (more : List Piece) → up_to_refused (pieces ++ more) ≡ pieces
+
+open-accepted : (pieces : List Piece) (text : List ℕ) → Open pieces → Open (pieces ++ OnOutput text ∷ [])
+unfolding up_to_refused
+open-accepted pieces text open' more =
+    ap up_to_refused (append_assoc pieces (OnOutput text ∷ []) more) ∙ open' (OnOutput text ∷ more) ∙ sym (append_assoc pieces (OnOutput text ∷ []) (up_to_refused more))
+
+closed-refused : (pieces : List Piece) (text : List ℕ) → Open pieces → Closed (pieces ++ OnErrors text ∷ [])
+unfolding up_to_refused
+closed-refused pieces text open' more = ap up_to_refused (append_assoc pieces (OnErrors text ∷ []) more) ∙ open' (OnErrors text ∷ more)
+
+open-none : Open []
+open-none more = refl
+
+map-append : (piece : ParseResult → Piece) (xs ys : List ParseResult) → map piece (xs ++ ys) ≡ map piece xs ++ map piece ys
+map-append piece xs ys = grind (arith, common_steps)
+
+count-append : (f : Piece → Bool) (xs ys : List Piece) → count_by f (xs ++ ys) ≡ count_by f xs + count_by f ys
+count-append f xs ys = grind (arith, common_steps)
+
+-- a run ends at its first refusal
+at-most-one : (pieces : List Piece) → count_by is_refused (up_to_refused pieces) ≤ 1
+unfolding up_to_refused
+at-most-one [] = omega arith
+at-most-one (OnOutput text ∷ more) =
+    let r : count_by is_refused (OnOutput text ∷ up_to_refused more) ≡ 0 + count_by is_refused (up_to_refused more) = count-append is_refused (OnOutput text ∷ []) (up_to_refused more) in
+    omega (arith, r, at-most-one more)
+at-most-one (OnErrors text ∷ more) =
+    let one : count_by is_refused (OnErrors text ∷ []) ≡ 1 = refl in
+    omega (arith, one)
+
+-- so none of those that do not end it is one
+open-accepts : (pieces : List Piece) → Open pieces → count_by is_refused pieces ≡ 0
+unfolding up_to_refused
+open-accepts pieces open' =
+    let last = OnErrors [] ∷ [] in
+    let one : count_by is_refused last ≡ 1 = refl in
+    let same : up_to_refused (pieces ++ last) ≡ pieces ++ last = open' last in
+    omega (arith, at-most-one (pieces ++ last), ap (count_by is_refused) same, count-append is_refused pieces last, one)
+
+open-all : (pieces : List Piece) → Open pieces → up_to_refused pieces ≡ pieces
+unfolding up_to_refused
+open-all pieces open' = ap up_to_refused (sym (append-nil pieces)) ∙ open' [] ∙ append-nil pieces
+
+-- a verdict tells on which writer its piece is
+accepted-open : (pieces : List Piece) (p : Piece) → counted_accepted verdict.Accepted ≡ count_by is_accepted (p ∷ []) → Open pieces → Open (pieces ++ p ∷ [])
+accepted-open pieces (OnOutput text) is open' = open-accepted pieces text open'
+accepted-open pieces (OnErrors text) is open' = absurd (omega (arith, is))
+
+refused-closed : (pieces : List Piece) (p : Piece) → counted_accepted verdict.Refused ≡ count_by is_accepted (p ∷ []) → Open pieces → Closed (pieces ++ p ∷ [])
+refused-closed pieces (OnOutput text) is open' = absurd (omega (arith, is))
+refused-closed pieces (OnErrors text) is open' = closed-refused pieces text open'
+
+-- the next piece is the first of those that are left
+next-piece : (p : Piece) (more : List Piece) → (rest : List Piece) × (up_to_refused (p ∷ more) ≡ p ∷ rest)
+unfolding up_to_refused
+next-piece (OnOutput text) more = (up_to_refused more, refl)
+next-piece (OnErrors text) more = ([], refl)
+
+-- behind the end nothing is read
+nothing-behind : (xs ys : List ℕ) → [] ≡ xs ++ ys → ys ≡ []
+nothing-behind [] ys is = sym is
+nothing-behind (x ∷ xs) ys is = absurd (omega (arith, ap length is))
+
+end-stays : (left mid left' : Option (List ℕ)) (bs more : List ℕ) → Consumes left mid bs → IsAtEnd mid → Consumes mid left' more → Consumes left left' bs
+end-stays None mid left' bs more read end again = tt
+end-stays (Some x) None left' bs more read end again = absurd read
+end-stays (Some x) (Some y) None bs more read end again = absurd again
+end-stays (Some x) (Some y) (Some z) bs more read end again = read ∙ ap (λ l. bs ++ l) (end ∙ sym (nothing-behind more z (sym end ∙ again)))
+
+-- what is not refused is accepted
+accepted-else : (v : Verdict) → (v ≡ verdict.Refused → ⊥) → v ≡ verdict.Accepted
+accepted-else verdict.Accepted some = refl
+accepted-else verdict.Refused some = absurd (some refl)
+
+pub none-else : (o : Option Verdict) → ((v : Verdict) → o ≡ Some v → ⊥) → o ≡ None
+none-else None none = refl
+none-else (Some v) none = absurd (none v refl)
+
+-- the measure of a run falls with each document
+pub falls : (before after n : ℕ) → before < n → after ≡ before + 1 → n - after < n - before
+falls before after n few one = omega (arith, few, one)
+
+-- What a run has done so far: all that was told was written, and none of it was refused.
+pub record EncodedSoFar (form : Form) (b : List Row) (d : List Sequence) (left mid : Option (List ℕ)) (reads reads' : ℕ) (w w' e e' : Option (List ℕ)) (s : ReaderModel) (tally : Tally) : Type 0 where
+  pub octets : List ℕ
+  pub told : List ParseResult
+  pub call : ReadsLines left mid new_reader s told octets
+  pub counts : CountsTextReads reads reads' new_reader s
+  pub written : WritesPieces w w' e e' (map (told_piece form b d) told)
+  pub tallies : Tallies tally (map (told_piece form b d) told)
+  pub open' : Open (map (told_piece form b d) told)
+  pub sound : s.fault ≡ None
+
+-- of a reader that is equal the same was done
+pub ran-by-equal : (form : Form) (b : List Row) (d : List Sequence) (left mid : Option (List ℕ)) (reads reads' : ℕ) (w w' e e' : Option (List ℕ)) (s s' : ReaderModel) (tally : Tally)
+    → s' ≡ s → EncodedSoFar form b d left mid reads reads' w w' e e' s tally → EncodedSoFar form b d left mid reads reads' w w' e e' s' tally
+ran-by-equal form b d left mid reads reads' w w' e e' s s' tally is ran = subst (λ x. EncodedSoFar form b d left mid reads reads' w w' e e' x tally) (sym is) ran
+
+-- nothing was done yet
+pub ran-fresh : (form : Form) (b : List Row) (d : List Sequence) (left : Option (List ℕ)) (reads : ℕ) (w e : Option (List ℕ)) (s : ReaderModel) (tally : Tally)
+    → s ≡ new_reader → tally.accepted ≡ 0 → tally.refused ≡ 0 → EncodedSoFar form b d left left reads reads w w e e s tally
+ran-fresh form b d left reads w e s tally is accepted refused =
+    let P : ReaderModel → Type 0 = λ x. EncodedSoFar form b d left left reads reads w w e e x tally in
+    subst P (sym is) (record {
+      octets = [];
+      told = [];
+      call = call-none left new_reader;
+      counts = counts-none reads new_reader (omega arith);
+      written = Written-nil w e;
+      tallies = record { accepted = accepted; refused = refused };
+      open' = open-none;
+      sound = refl;
+    })
+
+-- what a call told that told something
+told-call : (left left' : Option (List ℕ)) (old new : ReaderModel) (next : Result (Option Document) ReadFault) (x : ParseResult) → (so : ReturnsNextDocument left left' old new next) → parse_results next ≡ x ∷ [] → ReadsLines left left' old new (x ∷ []) so.octets
+told-call left left' old new (Ok None) x so is = absurd (omega (arith, ap length is))
+told-call left left' old new (Ok (Some document)) x so is = let C : List ParseResult → Type 0 = λ t. ReadsLines left left' old new t so.octets in subst C is so.reads.0
+told-call left left' old new (Err (Line line)) x so is = let C : List ParseResult → Type 0 = λ t. ReadsLines left left' old new t so.octets in subst C is so.reads
+told-call left left' old new (Err (SubsetCount line)) x so is = let C : List ParseResult → Type 0 = λ t. ReadsLines left left' old new t so.octets in subst C is so.reads
+told-call left left' old new (Err (HeaderRange line)) x so is = let C : List ParseResult → Type 0 = λ t. ReadsLines left left' old new t so.octets in subst C is so.reads
+told-call left left' old new (Err (Run run)) x so is = absurd (omega (arith, ap length is))
+
+refused-one : (form : Form) (b : List Row) (d : List Sequence) (line : ℕ) (why : TextLineFault) (x : ParseResult) → Refused line why ∷ [] ≡ x ∷ [] → counted_accepted verdict.Accepted ≡ count_by is_accepted (told_piece form b d x ∷ []) → ⊥
+refused-one form b d line why x is one =
+    let P : List ParseResult → Type 0 = λ l. 1 ≡ count_by is_accepted (map (told_piece form b d) l) in
+    let here : 1 ≡ 0 = subst P (sym is) one in
+    omega (arith, here)
+
+-- a document that was accepted leaves the reader without a fault
+accepted-sound : (form : Form) (b : List Row) (d : List Sequence) (left left' : Option (List ℕ)) (old new : ReaderModel) (next : Result (Option Document) ReadFault) (x : ParseResult) → ReturnsNextDocument left left' old new next → parse_results next ≡ x ∷ []
+    → counted_accepted verdict.Accepted ≡ count_by is_accepted (told_piece form b d x ∷ []) → new.fault ≡ None
+accepted-sound form b d left left' old new (Ok None) x so is one = absurd (omega (arith, ap length is))
+accepted-sound form b d left left' old new (Ok (Some document)) x so is one = so.ends
+accepted-sound form b d left left' old new (Err (Line line)) x so is one = absurd (refused-one form b d line NotAllowed x is one)
+accepted-sound form b d left left' old new (Err (SubsetCount line)) x so is one = absurd (refused-one form b d line documents.SubsetCount x is one)
+accepted-sound form b d left left' old new (Err (HeaderRange line)) x so is one = absurd (refused-one form b d line documents.HeaderRange x is one)
+accepted-sound form b d left left' old new (Err (Run run)) x so is one = absurd (omega (arith, ap length is))
+
+-- the octets that were read to their end are those of the input
+all-read : (left mid : Option (List ℕ)) (bs : List ℕ) → Consumes left mid bs → IsAtEnd mid → IfSome left (λ s. bs ≡ s)
+all-read left mid bs read end = Consumes-whole left mid bs (λ s. bs ≡ s) read end refl
+
+Tallies-one : (tally tally' : Tally) (v : Verdict) (pieces : List Piece) (p : Piece) → Tallies tally pieces → tally' ≡ tally_after tally v
+    → counted_accepted v ≡ count_by is_accepted (p ∷ []) → counted_refused v ≡ count_by is_refused (p ∷ []) → Tallies tally' (pieces ++ p ∷ [])
+Tallies-one tally tally' v pieces p before is accepted refused =
+    let T : Tally → Type 0 = λ t. Tallies t (pieces ++ p ∷ []) in
+    subst T (sym is) (record {
+      accepted = ap (λ n. n + counted_accepted v) before.accepted ∙ ap (λ n. count_by is_accepted pieces + n) accepted ∙ sym (count-append is_accepted pieces (p ∷ []));
+      refused = ap (λ n. n + counted_refused v) before.refused ∙ ap (λ n. count_by is_refused pieces + n) refused ∙ sym (count-append is_refused pieces (p ∷ []));
+    })
+
+-- what was told and then one more, as pieces
+one-more : (form : Form) (b : List Row) (d : List Sequence) (told : List ParseResult) (x : ParseResult) → map (told_piece form b d) (told ++ x ∷ []) ≡ map (told_piece form b d) told ++ told_piece form b d x ∷ []
+one-more form b d told x = map-append (told_piece form b d) told (x ∷ [])
+
+-- what was told is the first of what was read
+read-front : (left left' : Option (List ℕ)) (s : ReaderModel) (told : List ParseResult) (bs : List ℕ) → ReadsLines left left' new_reader s told bs → (more : List ParseResult) × (read_documents s.ended bs ≡ told ++ more)
+read-front left left' s told bs call = by s.ended refl
+  where
+    by : (ended : Bool) → s.ended ≡ ended → (more : List ParseResult) × (read_documents s.ended bs ≡ told ++ more)
+    by true is = let R : Bool → Type 0 = λ x. (more : List ParseResult) × (read_documents x bs ≡ told ++ more) in
+        subst R (sym is) (parse (stand s) [], ap documents_of (sym (append-nil bs)) ∙ told-first left left' s told bs [] call (λ ended. refl))
+    by false is = let R : Bool → Type 0 = λ x. (more : List ParseResult) × (read_documents x bs ≡ told ++ more) in
+        subst R (sym is) (parse_open (stand s) [], ap open_documents_of (sym (append-nil bs)) ∙ told-first-openly left left' s told bs [] call is)
+
+-- so many documents are in so many octets
+told-few : (at : ℕ) (t : LineEffect) → length (told_at at t) ≤ 1
+told-few at (WalkGoes place) = omega arith
+told-few at (Gives document) = omega arith
+told-few at (Faults fault) = omega arith
+
+end-few : (at : ℕ) (place : ParserState) → length (told_at_end at place) ≤ 1
+end-few at Between = omega arith
+end-few at (Heading document) = omega arith
+end-few at (Laying part document) = omega arith
+end-few at (Filling subset document) = omega arith
+end-few at Stopped = omega arith
+
+spelled-few : (lines : List (List ℕ)) (at : ℕ) (place : ParserState) → length (parse_lines at place lines) ≤ length lines + 1
+unfolding parse_lines
+spelled-few [] at place = end-few at place
+spelled-few (line ∷ more) at place =
+    let here = documents.turn at place (line_within_limit line) in
+    omega (arith, told-few at here, spelled-few more (at + 1) (place_after here), length-append (told_at at here) (parse_lines (at + 1) (place_after here) more))
+
+onto-few : (c : ℕ) (lines : List (List ℕ)) → length (prepend_to_line c lines) ≤ length lines + 1
+onto-few c [] = omega arith
+onto-few c (line ∷ more) = omega arith
+
+-- a line feed begins a line, and another octet goes to the first one
+line-more : (c : ℕ) (more : List ℕ) (feed : Bool) (lines : List (List ℕ)) → length lines ≤ length more → length (if feed then [] ∷ lines else prepend_to_line c lines) ≤ length (c ∷ more)
+line-more c more true lines few = omega (arith, few)
+line-more c more false lines few = omega (arith, few, onto-few c lines)
+
+lines-few : (text : List ℕ) → length (lines_of text) ≤ length text
+unfolding lines_of
+lines-few [] = omega arith
+lines-few (c ∷ more) = line-more c more (c == 10) (lines_of more) (lines-few more)
+
+documents-few : (text : List ℕ) → length (documents_of text) ≤ length text + 1
+documents-few text = omega (arith, spelled-few (lines_of text) 1 Between, lines-few text)
+
+counted-all : (pieces : List Piece) → count_by is_accepted pieces + count_by is_refused pieces ≡ length pieces
+counted-all [] = refl
+counted-all (OnOutput text ∷ more) =
+    let a : count_by is_accepted (OnOutput text ∷ more) ≡ 1 + count_by is_accepted more = count-append is_accepted (OnOutput text ∷ []) more in
+    let r : count_by is_refused (OnOutput text ∷ more) ≡ 0 + count_by is_refused more = count-append is_refused (OnOutput text ∷ []) more in
+    omega (arith, a, r, counted-all more)
+counted-all (OnErrors text ∷ more) =
+    let a : count_by is_accepted (OnErrors text ∷ more) ≡ 0 + count_by is_accepted more = count-append is_accepted (OnErrors text ∷ []) more in
+    let r : count_by is_refused (OnErrors text ∷ more) ≡ 1 + count_by is_refused more = count-append is_refused (OnErrors text ∷ []) more in
+    omega (arith, a, r, counted-all more)
+
+as-many : (piece : ParseResult → Piece) (told : List ParseResult) → length (map piece told) ≡ length told
+as-many piece [] = refl
+as-many piece (x ∷ more) = omega (arith, as-many piece more)
+
+-- a tally cannot overflow
+pub ran-few : (form : Form) (b : List Row) (d : List Sequence) (left mid : Option (List ℕ)) (reads reads' : ℕ) (w w' e e' : Option (List ℕ)) (s : ReaderModel) (tally : Tally)
+    → EncodedSoFar form b d left mid reads reads' w w' e e' s tally → tally.accepted + tally.refused < 2 ^ 63
+ran-few form b d left mid reads reads' w w' e e' s tally ran =
+    let all : documents_of ran.octets ≡ ran.told ++ parse (stand s) [] = ap documents_of (sym (append-nil ran.octets)) ∙ told-first left mid s ran.told ran.octets [] ran.call (λ ended. refl) in
+    omega (
+      arith,
+      ran.tallies.accepted,
+      ran.tallies.refused,
+      counted-all (map (told_piece form b d) ran.told),
+      as-many (told_piece form b d) ran.told,
+      ap length all,
+      length-append ran.told (parse (stand s) []),
+      documents-few ran.octets,
+      ran.call.few,
+      ran.counts.most,
+    )
+
+module _ (form : Form) (b : List Row) (d : List Sequence) (left mid left' : Option (List ℕ)) (reads reads1 reads2 : ℕ) (w w1 e e1 : Option (List ℕ)) (s s' : ReaderModel) (tally : Tally) (next : Result (Option Document) ReadFault)
+    (ran : EncodedSoFar form b d left mid reads reads1 w w1 e e1 s tally) (so : ReturnsNextDocument mid left' s s' next) (counts : CountsTextReads reads1 reads2 s s') where
+  -- one more document
+  pub turn : (w2 e2 : Option (List ℕ)) (tally' : Tally) → TellsNext w1 w2 e1 e2 (told_piece form b d) next (Ok (Some verdict.Accepted)) → tally' ≡ tally_after tally verdict.Accepted
+      → EncodedSoFar form b d left left' reads reads2 w w2 e e2 s' tally'
+  turn w2 e2 tally' (x, is, (written, accepted, refused)) after =
+      let more = one-more form b d ran.told x in
+      let W : List Piece → Type 0 = λ l. WritesPieces w w2 e e2 l in
+      let T : List Piece → Type 0 = λ l. Tallies tally' l in
+      let O : List Piece → Type 0 = λ l. Open l in
+      let p = told_piece form b d x in
+      record {
+        octets = ran.octets ++ so.octets;
+        told = ran.told ++ x ∷ [];
+        call = call-then left mid left' new_reader s s' ran.told (x ∷ []) ran.octets so.octets ran.call (told-call mid left' s s' next x so is);
+        counts = counts-then reads reads1 reads2 new_reader s s' ran.counts counts;
+        written = subst W (sym more) (Written-then w w1 w2 e e1 e2 (map (told_piece form b d) ran.told) (p ∷ []) ran.written written);
+        tallies = subst T (sym more) (Tallies-one tally tally' verdict.Accepted (map (told_piece form b d) ran.told) p ran.tallies after accepted refused);
+        open' = subst O (sym more) (accepted-open (map (told_piece form b d) ran.told) p accepted ran.open');
+        sound = accepted-sound form b d mid left' s s' next x so is accepted;
+      }
+
+  -- the end of the text
+  pub done-end : next ≡ Ok None → EncodeDone (encode_pieces form b d) left left' w w1 e e1 (ran.octets ++ so.octets) tally
+  done-end is =
+      let N : Result (Option Document) ReadFault → Type 0 = λ x. ReadsDocument mid left' s s' x so.octets in
+      let E : Result (Option Document) ReadFault → Type 0 = λ x. LeavesReader s' x in
+      let bs = ran.octets ++ so.octets in
+      let call = call-then left mid left' new_reader s s' ran.told [] ran.octets so.octets ran.call (subst N is so.reads) in
+      let done = (subst E is so.ends).1 in
+      let all : documents_of bs ≡ ran.told = told-at-end left left' s' (ran.told ++ []) bs call done ∙ append-nil ran.told in
+      let pieces : encode_pieces form b d (documents_of bs) ≡ map (told_piece form b d) ran.told = ap (encode_pieces form b d) all ∙ open-all (map (told_piece form b d) ran.told) ran.open' in
+      record {
+        read = call.read;
+        ended = true;
+        end = λ _. all-read left left' bs call.read (call.end (λ end. absurd (false≢true end)) done.0);
+        written = λ t none. let W : List ℕ → Type 0 = λ l. WritesPieces w w1 e e1 (encode_pieces form b d (documents_of l)) in
+            let V : List Piece → Type 0 = λ l. WritesPieces w w1 e e1 l in
+            subst W (sym (append-nil bs) ∙ ap (λ l. bs ++ l) (sym (none refl))) (subst V (sym pieces) ran.written);
+        certain = let V : List Piece → Type 0 = λ l. WritesPieces w w1 e e1 l in subst V (sym pieces) ran.written;
+        tallies = λ t none. let W : List ℕ → Type 0 = λ l. Tallies tally (encode_pieces form b d (documents_of l)) in
+            let V : List Piece → Type 0 = λ l. Tallies tally l in
+            subst W (sym (append-nil bs) ∙ ap (λ l. bs ++ l) (sym (none refl))) (subst V (sym pieces) ran.tallies);
+      }
+
+  -- a document was refused
+  pub done-refused : (w2 e2 : Option (List ℕ)) (tally' : Tally) → TellsNext w1 w2 e1 e2 (told_piece form b d) next (Ok (Some verdict.Refused)) → tally' ≡ tally_after tally verdict.Refused
+      → EncodeDone (encode_pieces form b d) left left' w w2 e e2 (ran.octets ++ so.octets) tally'
+  done-refused w2 e2 tally' (x, is, (written, accepted, refused)) after =
+      let bs = ran.octets ++ so.octets in
+      let call = call-then left mid left' new_reader s s' ran.told (x ∷ []) ran.octets so.octets ran.call (told-call mid left' s s' next x so is) in
+      let p = told_piece form b d x in
+      let before = map (told_piece form b d) ran.told in
+      let closed = refused-closed before p accepted ran.open' in
+      let pieces : (t : List ℕ) → (s'.ended ≡ true → t ≡ []) → encode_pieces form b d (documents_of (bs ++ t)) ≡ before ++ p ∷ [] = λ t none.
+      ap (encode_pieces form b d) (told-first left left' s' (ran.told ++ x ∷ []) bs t call none)
+      ∙ ap up_to_refused (map-append (told_piece form b d) (ran.told ++ x ∷ []) (parse (stand s') t) ∙ ap (λ l. l ++ map (told_piece form b d) (parse (stand s') t)) (one-more form b d ran.told x))
+      ∙ closed (map (told_piece form b d) (parse (stand s') t)) in
+      let front = read-front left left' s' (ran.told ++ x ∷ []) bs call in
+      let known : encode_pieces form b d (read_documents s'.ended bs) ≡ before ++ p ∷ [] =
+      ap (encode_pieces form b d) front.1
+      ∙ ap up_to_refused (map-append (told_piece form b d) (ran.told ++ x ∷ []) front.0 ∙ ap (λ l. l ++ map (told_piece form b d) front.0) (one-more form b d ran.told x))
+      ∙ closed (map (told_piece form b d) front.0) in
+      let W : List Piece → Type 0 = λ l. WritesPieces w w2 e e2 l in
+      let T : List Piece → Type 0 = λ l. Tallies tally' l in
+      let all = Written-then w w1 w2 e e1 e2 before (p ∷ []) ran.written written in
+      record {
+        read = call.read;
+        ended = s'.ended;
+        end = λ ended. all-read left left' bs call.read (call.end (λ end. absurd (false≢true end)) ended);
+        written = λ t none. subst W (sym (pieces t none)) all;
+        certain = subst W (sym known) all;
+        tallies = λ t none. subst T (sym (pieces t none)) (Tallies-one tally tally' verdict.Refused before p ran.tallies after accepted refused);
+      }
+
+  -- the end of the text, told by an answer
+  pub done-last : (w2 e2 : Option (List ℕ)) (write_event : Result (Option Verdict) RunFault) → TellsNext w1 w2 e1 e2 (told_piece form b d) next write_event → write_event ≡ Ok None
+      → (bs : List ℕ) × EncodeDone (encode_pieces form b d) left left' w w2 e e2 bs tally
+  done-last w2 e2 write_event tells is =
+      let T : Result (Option Verdict) RunFault → Type 0 = λ x. TellsNext w1 w2 e1 e2 (told_piece form b d) next x in
+      let end = subst T is tells in
+      let W : Option (List ℕ) → Type 0 = λ x. EncodeDone (encode_pieces form b d) left left' w x e e1 (ran.octets ++ so.octets) tally in
+      let E : Option (List ℕ) → Type 0 = λ x. EncodeDone (encode_pieces form b d) left left' w w2 e x (ran.octets ++ so.octets) tally in
+      (ran.octets ++ so.octets, subst E (sym end.2) (subst W (sym end.1) (done-end end.0)))
+
+  -- a document was refused, told by an answer
+  pub done-at-refused : (w2 e2 : Option (List ℕ)) (write_event : Result (Option Verdict) RunFault) (v : Verdict) (tally' : Tally) → TellsNext w1 w2 e1 e2 (told_piece form b d) next write_event → write_event ≡ Ok (Some v) → v ≡ verdict.Refused
+      → tally' ≡ tally_after tally v → (bs : List ℕ) × EncodeDone (encode_pieces form b d) left left' w w2 e e2 bs tally'
+  done-at-refused w2 e2 write_event v tally' tells is refused after =
+      let T : Result (Option Verdict) RunFault → Type 0 = λ x. TellsNext w1 w2 e1 e2 (told_piece form b d) next x in
+      (ran.octets ++ so.octets, done-refused w2 e2 tally' (subst T (is ∙ ap (λ (x : Verdict). Ok (Some x)) refused) tells) (after ∙ ap (tally_after tally) refused))
+
+  -- one more document, told by an answer
+  pub turn-on : (w2 e2 : Option (List ℕ)) (write_event : Result (Option Verdict) RunFault) (v : Verdict) (tally' : Tally) → TellsNext w1 w2 e1 e2 (told_piece form b d) next write_event → write_event ≡ Ok (Some v) → (v ≡ verdict.Refused → ⊥)
+      → tally' ≡ tally_after tally v → EncodedSoFar form b d left left' reads reads2 w w2 e e2 s' tally'
+  turn-on w2 e2 write_event v tally' tells is some after =
+      let T : Result (Option Verdict) RunFault → Type 0 = λ x. TellsNext w1 w2 e1 e2 (told_piece form b d) next x in
+      let accepted = accepted-else v some in
+      turn w2 e2 tally' (subst T (is ∙ ap (λ (x : Verdict). Ok (Some x)) accepted) tells) (after ∙ ap (tally_after tally) accepted)
+
+  stops-read : (w2 e2 : Option (List ℕ)) → (w2 ≡ w1) → (e2 ≡ e1) → ReadsLines left left' new_reader s' (ran.told ++ []) (ran.octets ++ so.octets) → HasNoWholeLine s' → EncodeStopped (encode_pieces form b d) left left' w w2 e e2 (ran.octets ++ so.octets)
+  stops-read w2 e2 same_w same_e call open' =
+      let bs = ran.octets ++ so.octets in
+      let all : open_documents_of bs ≡ ran.told = told-at-fault left left' s' (ran.told ++ []) bs call open' ∙ append-nil ran.told in
+      let pieces : encode_pieces form b d (open_documents_of bs) ≡ map (told_piece form b d) ran.told = ap (encode_pieces form b d) all ∙ open-all (map (told_piece form b d) ran.told) ran.open' in
+      let V : Option (List ℕ) → Option (List ℕ) → List Piece → Type 0 = λ x y l. WritesPieces w x e y l in
+      record {
+        read = call.read;
+        written = rw (same_w, same_e) (subst (V w1 e1) (sym pieces) ran.written);
+        accepted = ap (count_by is_refused) pieces ∙ open-accepts (map (told_piece form b d) ran.told) ran.open';
+      }
+
+  -- a writer failed, or memory was refused, in the piece of what was told
+  stops-piece : (w2 e2 : Option (List ℕ)) (f : RunFault) (x : ParseResult) → parse_results next ≡ x ∷ [] → TellsPieces w1 w2 e1 e2 (told_piece form b d x ∷ []) (Err f)
+      → RunsEncode (encode_pieces form b d) left left' w w2 e e2 (Unit {0}) (ran.octets ++ so.octets) (Err Memory)
+  stops-piece w2 e2 f x is tells =
+      let bs = ran.octets ++ so.octets in
+      let call = call-then left mid left' new_reader s s' ran.told (x ∷ []) ran.octets so.octets ran.call (told-call mid left' s s' next x so is) in
+      let before = map (told_piece form b d) ran.told in
+      let p = told_piece form b d x in
+      let front = read-front left left' s' (ran.told ++ x ∷ []) bs call in
+      let tail = map (told_piece form b d) front.0 in
+      let following = next-piece p tail in (
+        record {
+          read = call.read;
+          ended = s'.ended;
+          end = λ ended. all-read left left' bs call.read (call.end (λ end. absurd (false≢true end)) ended);
+          written = record {
+            given = before;
+            next = Some p;
+            rest = following.0;
+            parts = ap (encode_pieces form b d) front.1
+                ∙ ap up_to_refused (map-append (told_piece form b d) (ran.told ++ x ∷ []) front.0 ∙ ap (λ l. l ++ tail) (one-more form b d ran.told x) ∙ append_assoc before (p ∷ []) tail)
+                ∙ ran.open' (p ∷ tail) ∙ ap (λ l. before ++ l) following.1;
+            between_output = w1;
+            between_errors = e1;
+            whole = ran.written;
+            output = tells.0;
+            errors = tells.1;
+          };
+          flushed = λ not. absurd (not tt);
+        },
+        open-accepts before ran.open',
+      )
+
+  -- memory was refused to the reader
+  module _ (w2 e2 : Option (List ℕ)) (same_w : w2 ≡ w1) (same_e : e2 ≡ e1) (is : next ≡ Err (Run Memory)) where
+    again : Consumes mid left' so.octets
+    again = let N : Result (Option Document) ReadFault → Type 0 = λ x. ReadsDocument mid left' s s' x so.octets in (subst N is so.reads).0
+
+    -- the pieces of all that was told stand before those of what is known beyond
+    told-part : (all more : List ParseResult) → all ≡ ran.told ++ more → (part : WrittenInPart w w2 e e2 (encode_pieces form b d all)) × (count_by is_refused part.given ≡ 0)
+    told-part all more parts =
+        let G : Option (List ℕ) → Type 0 = λ x. GrowsByPrefix w1 x [] in
+        let H : Option (List ℕ) → Type 0 = λ x. GrowsByPrefix e1 x [] in (
+          record {
+            given = map (told_piece form b d) ran.told;
+            next = None;
+            rest = up_to_refused (map (told_piece form b d) more);
+            parts = ap (encode_pieces form b d) parts ∙ ap up_to_refused (map-append (told_piece form b d) ran.told more) ∙ ran.open' (map (told_piece form b d) more);
+            between_output = w1;
+            between_errors = e1;
+            whole = ran.written;
+            output = subst G (sym same_w) (grows-nil w1);
+            errors = subst H (sym same_e) (grows-nil e1);
+          },
+          open-accepts (map (told_piece form b d) ran.told) ran.open',
+        )
+
+    pub stops-memory : (bs : List ℕ) × RunsEncode (encode_pieces form b d) left left' w w2 e e2 (Unit {0}) bs (Err Memory)
+    stops-memory = by s.ended refl
+      where
+        by : (ended : Bool) → s.ended ≡ ended → (bs : List ℕ) × RunsEncode (encode_pieces form b d) left left' w w2 e e2 (Unit {0}) bs (Err Memory)
+        by true ended =
+            let end = ran.call.end (λ start. absurd (false≢true start)) ended in
+            let part = told-part (documents_of ran.octets) (parse (stand s) []) (ap documents_of (sym (append-nil ran.octets)) ∙ told-first left mid s ran.told ran.octets [] ran.call (λ _. refl)) in (
+              ran.octets,
+              (
+                record {
+                  read = end-stays left mid left' ran.octets so.octets ran.call.read end again;
+                  ended = true;
+                  end = λ _. all-read left mid ran.octets ran.call.read end;
+                  written = part.0;
+                  flushed = λ not. absurd (not tt);
+                },
+                part.1,
+              ),
+            )
+        by false unended =
+            let part = told-part (open_documents_of (ran.octets ++ so.octets)) (parse_open (stand s) so.octets) (told-first-openly left mid s ran.told ran.octets so.octets ran.call unended) in (
+              ran.octets ++ so.octets,
+              (
+                record {
+                  read = Consumes-trans left mid left' ran.octets so.octets ran.call.read again;
+                  ended = false;
+                  end = λ end. absurd (false≢true end);
+                  written = part.0;
+                  flushed = λ not. absurd (not tt);
+                },
+                part.1,
+              ),
+            )
+
+  -- the run was stopped
+  pub stops : (w2 e2 : Option (List ℕ)) (write_event : Result (Option Verdict) RunFault) (f : RunFault) (r : Result Tally RunFault) → TellsNext w1 w2 e1 e2 (told_piece form b d) next write_event → write_event ≡ Err f → r ≡ Err f
+      → (bs : List ℕ) × RunsEncode (encode_pieces form b d) left left' w w2 e e2 (Unit {0}) bs r
+  stops w2 e2 write_event f r tells fails same =
+      let P : Result Tally RunFault → Type 0 = λ x. (bs : List ℕ) × RunsEncode (encode_pieces form b d) left left' w w2 e e2 (Unit {0}) bs x in
+      let T : Result (Option Verdict) RunFault → Type 0 = λ x. TellsNext w1 w2 e1 e2 (told_piece form b d) next x in
+      subst P (sym same) (by f (subst T fails tells))
+    where
+      reads-so : (g : RunFault) → next ≡ Err (Run g) → ReadsDocument mid left' s s' (Err (Run g)) so.octets
+      reads-so g is = let N : Result (Option Document) ReadFault → Type 0 = λ x. ReadsDocument mid left' s s' x so.octets in subst N is so.reads
+
+      ends-so : (g : RunFault) → next ≡ Err (Run g) → LeavesReader s' (Err (Run g))
+      ends-so g is = let E : Result (Option Document) ReadFault → Type 0 = λ x. LeavesReader s' x in subst E is so.ends
+
+      by : (g : RunFault) → TellsNext w1 w2 e1 e2 (told_piece form b d) next (Err g) → (bs : List ℕ) × RunsEncode (encode_pieces form b d) left left' w w2 e e2 (Unit {0}) bs (Err g)
+      by Read (is, same_w, same_e) = (
+        ran.octets ++ so.octets,
+        stops-read w2 e2 same_w same_e (call-then left mid left' new_reader s s' ran.told [] ran.octets so.octets ran.call (reads-so Read is)) (ends-so Read is).1,
+      )
+      by InputTooLong (is, same_w, same_e) = (
+        ran.octets ++ so.octets,
+        stops-read w2 e2 same_w same_e (call-then left mid left' new_reader s s' ran.told [] ran.octets so.octets ran.call (reads-so InputTooLong is)) (ends-so InputTooLong is).1,
+      )
+      by Write (x, is, tells') = (ran.octets ++ so.octets, (stops-piece w2 e2 Write x is tells').0)
+      by Memory (inl (is, same_w, same_e)) = stops-memory w2 e2 same_w same_e is
+      by Memory (inr (x, is, tells')) = (ran.octets ++ so.octets, stops-piece w2 e2 Memory x is tells')
+
+-- the reads of a run
+pub reads-made : {X : Type 0} (reads reads' : ℕ) (s : ReaderModel) (r : Result X RunFault) → CountsTextReads reads reads' new_reader s → (r ≡ Err InputTooLong → s.reads ≡ max_reads) → ReadsAtMost reads reads' r
+reads-made reads reads' s r counts long =
+    let e : s.reads - 0 ≡ s.reads = omega arith in
+    (s.reads, counts.most, counts.made ∙ ap (counted reads) e, long)
+
+-- a run that is stopped because its input is too long made all reads
+pub stop-reads : (left left' : Option (List ℕ)) (s s' : ReaderModel) (w w' e e' : Option (List ℕ)) (piece : ParseResult → Piece) (next : Result (Option Document) ReadFault) (write_event : Result (Option Verdict) RunFault) (f : RunFault) (r : Result Tally RunFault)
+    → ReturnsNextDocument left left' s s' next → TellsNext w w' e e' piece next write_event → write_event ≡ Err f → r ≡ Err f → r ≡ Err InputTooLong → s'.reads ≡ max_reads
+stop-reads left left' s s' w w' e e' piece next write_event f r so tells fails same long =
+    let T : Result (Option Verdict) RunFault → Type 0 = λ x. TellsNext w w' e e' piece next x in
+    let E : Result (Option Document) ReadFault → Type 0 = λ x. LeavesReader s' x in
+    let long' : write_event ≡ Err InputTooLong = cc in
+    let stopped = subst T long' tells in
+    (subst E stopped.0 so.ends).2
+
+-- what tells something is no failure of the reader
+told-keeps : (count : ℕ) (next : Result (Option Document) ReadFault) (x : ParseResult) → parse_results next ≡ x ∷ [] → failures_by count next ≡ count
+told-keeps count (Ok None) x is = refl
+told-keeps count (Ok (Some document)) x is = refl
+told-keeps count (Err (Line line)) x is = refl
+told-keeps count (Err (SubsetCount line)) x is = refl
+told-keeps count (Err (HeaderRange line)) x is = refl
+told-keeps count (Err (Run run)) x is = absurd (omega (arith, ap length is))
+
+-- the failures of the reader, where a document or a line was told
+pub verdict-keeps : (w w' e e' : Option (List ℕ)) (piece : ParseResult → Piece) (count : ℕ) (next : Result (Option Document) ReadFault) (write_event : Result (Option Verdict) RunFault) (v : Verdict)
+    → TellsNext w w' e e' piece next write_event → write_event ≡ Ok (Some v) → failures_by count next ≡ count
+verdict-keeps w w' e e' piece count next write_event v tells is =
+    let T : Result (Option Verdict) RunFault → Type 0 = λ x. TellsNext w w' e e' piece next x in
+    let here = subst T is tells in
+    told-keeps count next here.0 here.1
+
+-- the failures of the reader, where the run was stopped
+pub stop-failures : (w w' e e' : Option (List ℕ)) (piece : ParseResult → Piece) (next : Result (Option Document) ReadFault) (write_event : Result (Option Verdict) RunFault) (f : RunFault) (r : Result Tally RunFault) (before after : ℕ)
+    → TellsNext w w' e e' piece next write_event → write_event ≡ Err f → r ≡ Err f → after ≡ failures_by before next → after ≡ read_failures_after before r
+stop-failures w w' e e' piece next write_event f r before after tells fails same is =
+    let P : Result Tally RunFault → Type 0 = λ x. after ≡ read_failures_after before x in
+    let T : Result (Option Verdict) RunFault → Type 0 = λ x. TellsNext w w' e e' piece next x in
+    subst P (sym same) (by f (subst T fails tells))
+  where
+    by : (g : RunFault) → TellsNext w w' e e' piece next (Err g) → after ≡ read_failures_after {X = Tally} before (Err g)
+    by Read (stopped, _, _) = is ∙ ap (failures_by before) stopped
+    by InputTooLong (stopped, _, _) = is ∙ ap (failures_by before) stopped
+    by Write (x, one, _) = is ∙ told-keeps before next x one
+    by Memory (inl (stopped, _, _)) = is ∙ ap (failures_by before) stopped
+    by Memory (inr (x, one, _)) = is ∙ told-keeps before next x one
+
+-- a fault before the flushes
+pub stays-unflushed : (pieces_of : List ParseResult → List Piece) (left left' w w' e e' : Option (List ℕ)) (unflushed : Type 0) → unflushed → (first : Result Tally RunFault) (f : RunFault) (r : Result Tally RunFault) → first ≡ Err f → r ≡ Err f
+    → ((bs : List ℕ) × RunsEncode pieces_of left left' w w' e e' (Unit {0}) bs first) → (bs : List ℕ) × RunsEncode pieces_of left left' w w' e e' unflushed bs r
+stays-unflushed pieces_of left left' w w' e e' unflushed kept first f r fails same (bs, so) =
+    let P : Result Tally RunFault → Type 0 = λ x. RunsEncode pieces_of left left' w w' e e' unflushed bs x in
+    let F : Result Tally RunFault → Type 0 = λ x. RunsEncode pieces_of left left' w w' e e' (Unit {0}) bs x in
+    (bs, subst P (sym same) (by f (subst F fails so)))
+  where
+    by : (g : RunFault) → RunsEncode pieces_of left left' w w' e e' (Unit {0}) bs (Err g) → RunsEncode pieces_of left left' w w' e e' unflushed bs (Err g)
+    by Read before = before
+    by InputTooLong before = before
+    by Memory (cut, accepted) = (record { read = cut.read; ended = cut.ended; end = cut.end; written = cut.written; flushed = λ not. absurd (not kept) }, accepted)
+    by Write cut = record { read = cut.read; ended = cut.ended; end = cut.end; written = cut.written; flushed = λ not. absurd (not kept) }
+
+pub written-kept : (w w1 w2 e e1 e2 : Option (List ℕ)) (pieces : List Piece) → Keeps w1 w2 → Keeps e1 e2 → WritesPieces w w1 e e1 pieces → WritesPieces w w2 e e2 pieces
+written-kept w w1 w2 e e1 e2 pieces kept_w kept_e before = record {
+  output = Appends-kept w w1 w2 (flat_map output_of pieces) before.output kept_w;
+  errors = Appends-kept e e1 e2 (flat_map errors_of pieces) before.errors kept_e;
+}
+
+-- all was written, and then flushed
+module _ (pieces_of : List ParseResult → List Piece) (left left' w w1 w2 e e1 e2 : Option (List ℕ)) (first : Result Tally RunFault) (tally : Tally) (is : first ≡ Ok tally) (kept_w : Keeps w1 w2) (kept_e : Keeps e1 e2)
+    (before : (bs : List ℕ) × RunsEncode pieces_of left left' w w1 e e1 (Unit {0}) bs first) where
+  pub encode-flushed : (bs : List ℕ) × EncodeDone pieces_of left left' w w2 e e2 bs tally
+  encode-flushed =
+      let F : Result Tally RunFault → Type 0 = λ x. RunsEncode pieces_of left left' w w1 e e1 (Unit {0}) before.0 x in
+      let done = subst F is before.1 in (
+        before.0,
+        record {
+          read = done.read;
+          ended = done.ended;
+          end = done.end;
+          written = λ t none. written-kept w w1 w2 e e1 e2 (pieces_of (documents_of (before.0 ++ t))) kept_w kept_e (done.written t none);
+          certain = written-kept w w1 w2 e e1 e2 (pieces_of (read_documents done.ended before.0)) kept_w kept_e done.certain;
+          tallies = done.tallies;
+        },
+      )
+
+  -- a flush failed
+  pub stop-encode-flush : (unflushed : Type 0) (f : RunFault) (r : Result Tally RunFault) → f ≡ Write → r ≡ Err f → (bs : List ℕ) × RunsEncode pieces_of left left' w w2 e e2 unflushed bs r
+  stop-encode-flush unflushed f r write same =
+      let bs = encode-flushed.0 in
+      let done = encode-flushed.1 in
+      let all = pieces_of (read_documents done.ended bs) in
+      let P : Result Tally RunFault → Type 0 = λ x. RunsEncode pieces_of left left' w w2 e e2 unflushed bs x in (
+        bs,
+        subst P (sym (same ∙ ap Err write)) (record {
+          read = done.read;
+          ended = done.ended;
+          end = done.end;
+          written = record {
+            given = all;
+            next = None;
+            rest = [];
+            parts = sym (append-nil all);
+            between_output = w2;
+            between_errors = e2;
+            whole = done.certain;
+            output = grows-nil w2;
+            errors = grows-nil e2;
+          };
+          flushed = λ _. done.written;
+        }),
+      )
+
+nothing-more : (bs t : List ℕ) → bs ≡ bs ++ t → t ≡ []
+nothing-more bs [] is = refl
+nothing-more bs (c ∷ t) is = absurd (omega (arith, ap length is, length-append bs (c ∷ t)))
+
+-- of an input that is known the pieces are those of all its documents
+pub encode-known : (pieces_of : List ParseResult → List Piece) (left left' w w' e e' : Option (List ℕ)) (unflushed : Type 0) (r : Result Tally RunFault)
+    → ((bs : List ℕ) × RunsEncode pieces_of left left' w w' e e' unflushed bs r) → IfOk r (λ tally. IfSome left (λ s. WritesPieces w w' e e' (pieces_of (documents_of s)) × Tallies tally (pieces_of (documents_of s))))
+encode-known pieces_of left left' w w' e e' unflushed (Err f) so = tt
+encode-known pieces_of None left' w w' e e' unflushed (Ok tally) so = tt
+encode-known pieces_of (Some s) None w w' e e' unflushed (Ok tally) (bs, done) = absurd done.read
+encode-known pieces_of (Some s) (Some t) w w' e e' unflushed (Ok tally) (bs, done) =
+    let none : done.ended ≡ true → t ≡ [] = λ ended. nothing-more bs t (done.end ended ∙ done.read) in
+    let P : List ℕ → Type 0 = λ l. WritesPieces w w' e e' (pieces_of (documents_of l)) × Tallies tally (pieces_of (documents_of l)) in
+    subst P (sym done.read) (done.written t none, done.tallies t none)
+
+-- the reads of what came before
+pub reads-after : {X Y : Type 0} (reads reads' : ℕ) (first : Result X RunFault) (r : Result Y RunFault) → ReadsAtMost reads reads' first → (r ≡ Err InputTooLong → first ≡ Err InputTooLong) → ReadsAtMost reads reads' r
+reads-after reads reads' first r (n, most, made, long) same = (n, most, made, λ e. long (same e))
+
+-- the reads of what was stopped
+pub stop-keeps-reads : {X Y : Type 0} (reads reads' : ℕ) (first : Result X RunFault) (f : RunFault) (r : Result Y RunFault) → ReadsAtMost reads reads' first → first ≡ Err f → r ≡ Err f → ReadsAtMost reads reads' r
+stop-keeps-reads reads reads' first f r so fails same =
+    reads-after reads reads' first r so (λ long. cc)

@@ -1,0 +1,79 @@
+-- Which words give no job, and why.
+use Rattle.std.proofs.Common.{◌≡◌, ◌∙◌, ◌∷◌, inl, inr, List, Option, Some, None, codes, sym, subst}
+use Rattle.std.specs.Prelude.{◌⊎◌, IfNone}
+use Rattle.clap.specs.Words.{HasKind, IsAmong, Kinds, Row, Text}
+use Rattle.clap.specs.Values.{kind_of}
+use Rattle.clap.specs.declared.error.Error.{Error}
+use Rattle.clap.specs.declared.error.kind.ErrorKind.{ErrorKind}
+use Rattle.clap.specs.declared.error.kind.ErrorKind.TheVariants.{DisplayHelp, DisplayVersion, OutOfMemory}
+use Rattle.bufr_cli.specs.Line.{HasNoJob, HasTables, IsWhyNoJob, SaysWhy, TellsKind, name_of}
+use Rattle.bufr_cli.specs.declared.job.NoJob.{NoJob}
+use Rattle.bufr_cli.specs.declared.job.NoJob.TheVariants.{UnknownCommand, MissingTable, UnknownForm}
+use Rattle.bufr_cli.specs.declared.job.Subcommand.{Subcommand}
+use Rattle.bufr_cli.specs.declared.job.Subcommand.TheVariants.{Ls, Dump, Encode}
+use Rattle.bufr_cli.specs.declared.job.LineFault.{LineFault}
+use Rattle.bufr_cli.specs.declared.job.LineFault.TheVariants.{Help, Usage, Memory}
+
+-- what holds, holds where there is no value
+pub if-none : {A : Type 0} (o : Option A) (P : Type 0) → P → IfNone o P
+if-none None P p = p
+if-none (Some x) P p = tt
+
+-- something is not nothing
+pub no-some : {A : Type 0} (x : A) → Some x ≡ None → ⊥
+no-some {A} x same =
+    let P : Option A → Type 0 = λ o. IsThere o in
+    subst P same tt
+  where
+    IsThere : Option A → Type 0
+    IsThere None = ⊥
+    IsThere (Some y) = Unit {0}
+
+-- what tells the names of the commands apart
+abbrev HasThreeLetters : Text → Type 0
+HasThreeLetters (a ∷ b ∷ c ∷ rest) = Unit {0}
+HasThreeLetters _ = ⊥
+
+abbrev HasFiveLetters : Text → Type 0
+HasFiveLetters (a ∷ b ∷ c ∷ d ∷ e ∷ rest) = Unit {0}
+HasFiveLetters _ = ⊥
+
+-- a command that reads tables is not `ls`
+not-ls : (name : Text) → (name ≡ codes "dump") ⊎ (name ≡ codes "encode") → name ≡ codes "ls" → ⊥
+not-ls name (inl dump) ls = subst HasThreeLetters (sym dump ∙ ls) tt
+not-ls name (inr encode) ls = subst HasThreeLetters (sym encode ∙ ls) tt
+
+-- a look-up that failed leaves no job
+pub why-no-job : (name : Text) (rows : List Row) (why : NoJob) → IsWhyNoJob name rows why → HasNoJob (Some (name, rows))
+why-no-job name rows UnknownCommand lacks job is = lacks job.command is.0
+why-no-job name rows MissingTable (named, lacks) job is = no-tables job.command is.0 is.1
+  where
+    no-tables : (command : Subcommand) → name ≡ name_of command → HasTables rows command → ⊥
+    no-tables Ls is-ls has = not-ls name named is-ls
+    no-tables (Dump tables) is-dump has = lacks tables has
+    no-tables (Encode tables form) is-encode has = lacks tables has.0
+why-no-job name rows UnknownForm (named, lacks) job is = no-form job.command is.0 is.1
+  where
+    no-form : (command : Subcommand) → name ≡ name_of command → HasTables rows command → ⊥
+    no-form Ls is-ls has = subst HasFiveLetters (sym named ∙ is-ls) tt
+    no-form (Dump tables) is-dump has = subst HasFiveLetters (sym named ∙ is-dump) tt
+    no-form (Encode tables form) is-encode has = lacks form has.1
+
+-- want of memory is no request
+abbrev IsShown : ErrorKind → Type 0
+IsShown DisplayHelp = Unit {0}
+IsShown DisplayVersion = Unit {0}
+IsShown _ = ⊥
+
+not-shown : (k : ErrorKind) {kind : ErrorKind} → kind ≡ k → kind ≡ OutOfMemory → IsShown k → ⊥
+not-shown k shown memory is = subst IsShown memory (subst IsShown (sym shown) is)
+
+-- what an error of clap says of the line
+pub told-why : (kinds : Kinds) (e : Error) (met : Option (Text × List Row)) (fault : LineFault) → HasKind kinds e → TellsKind (kind_of e) fault → SaysWhy kinds met fault
+told-why kinds e met (Help text) (inl memory) (inl shown) = absurd (not-shown DisplayHelp shown memory tt)
+told-why kinds e met (Help text) (inl memory) (inr shown) = absurd (not-shown DisplayVersion shown memory tt)
+told-why kinds e met (Help text) (inr among) (inl shown) = inl (subst (λ kind. IsAmong kind kinds) shown among)
+told-why kinds e met (Help text) (inr among) (inr shown) = inr (subst (λ kind. IsAmong kind kinds) shown among)
+told-why kinds e met (Usage text) (inl memory) told = absurd (told.0 memory)
+told-why kinds e met (Usage text) (inr among) told = inl (kind_of e, among, told.1, told.2)
+told-why kinds e met Memory has told = tt

@@ -1,0 +1,55 @@
+-- Dumping and encoding a stream computed on worked examples.
+use Rattle.std.proofs.Common.{◌≡◌, ℕ, List, [], ◌∷◌, ◌++◌, refl, codes, pos}
+use Rattle.std.specs.Prelude.{slice_set}
+use Rattle.std.specs.Fmt.{digits}
+use Rattle.bufr_bits.specs.Bits.{bits_of, bits_in}
+use Rattle.bufr_bits.specs.DecimalValue.{decimal_value_of}
+use Rattle.bufr_frame.specs.Scan.{StreamEvent, FrameAt, StrayAt, scan_from}
+use Rattle.bufr_frame.specs.Sections.{sections_of, section_end}
+use Rattle.bufr_tables.specs.Expansion.{tree_of, inner_of, level, part_of}
+use Rattle.bufr_tables.specs.TableB.{Row}
+use Rattle.bufr_tables.specs.declared.kind.Kind.TheVariants.{Numeric}
+use Rattle.bufr_walk.specs.Course.{next_item}
+use Rattle.bufr_text.specs.Documents.{lines_of, parse_lines, turn}
+use Rattle.bufr_text.specs.Encoding.{encoding_in}
+use Rattle.bufr_text.specs.Grammar.{prefix_while, suffix_while, without_prefix, descriptors_read, fxy_read, hex_read, is_hashed, quoted_read}
+use Rattle.bufr_text.specs.Line.{keys, line_of, place_from, value_read, worded}
+use Rattle.bufr_cli.specs.EncodePieces.{up_to_refused}
+use Rattle.bufr_cli.specs.Pieces.{Piece, OnOutput, OnErrors, ls_piece}
+use Rattle.bufr_cli.specs.RoundTrip.{accepted_messages, dumped, longer_by, rebuilt}
+use Rattle.bufr_cli.proofs.Examples.{edition_3, one_block_number}
+
+-- a stray word, a message, one of another edition, and a message of another centre
+abbrev stream : List ℕ
+stream = codes "BUFR" ++ 0 ∷ 0 ∷ 64 ∷ 4 ∷ (one_block_number ++ (slice_set one_block_number 7 2 ++ slice_set one_block_number 13 99))
+
+-- what is at fault is no accepted message, and the others are in the order of the stream
+accepted-among : accepted_messages ls_piece stream ≡ one_block_number ∷ slice_set one_block_number 13 99 ∷ []
+unfolding scan_from sections_of section_end digits
+accepted-among = refl
+
+-- two messages of edition 3 among three may grow by two octets each
+grown : longer_by (edition_3 ∷ one_block_number ∷ edition_3 ∷ []) ≡ 4
+grown = refl
+
+-- an event's text is its offset
+abbrev offset_piece : StreamEvent → Piece
+offset_piece (FrameAt offset octets) = OnOutput (offset ∷ [])
+offset_piece (StrayAt offset cause) = OnErrors (offset ∷ [])
+
+-- the output has nothing of the errors
+output-alone : dumped offset_piece stream ≡ 8 ∷ 56 ∷ 104 ∷ []
+unfolding scan_from
+output-alone = refl
+
+-- a table of one element
+abbrev pub blocks : List Row
+blocks = record { fxy = 257; name = codes "WMO BLOCK NUMBER"; unit = codes "Numeric"; kind = Numeric; scale = pos 0; reference = pos 0; width = 7 } ∷ []
+
+-- a message with this text is built of it
+abbrev text_piece : StreamEvent → Piece
+text_piece here = OnOutput (codes "message\nedition 4\nmaster 0\ncentre 98\nsubcentre 0\nupdate 0\ncategory 0\nsubcategory 0\nlocalsubcategory 0\nmasterversion 14\nlocalversion 0\nyear 2024\nmonth 1\nday 2\nhour 3\nminute 4\nsecond 5\nobserved 1\ncompressed 0\noptional 0\nsubsets 1\ndescriptors 001001\nsubset 1\n001001 10  # WMO BLOCK NUMBER [Numeric]\nend\n")
+
+built-of-its-text : rebuilt blocks [] text_piece one_block_number ≡ one_block_number
+unfolding scan_from up_to_refused parse_lines lines_of turn line_of worded prefix_while suffix_while place_from keys without_prefix descriptors_read fxy_read value_read quoted_read hex_read is_hashed encoding_in tree_of level part_of inner_of next_item decimal_value_of bits_in bits_of
+built-of-its-text = refl

@@ -1,0 +1,54 @@
+-- The lines that tell the faults of a document. (a choice of this project)
+-- Cited by public contracts.
+use Rattle.std.specs.Prelude.{ℕ, true, false, List, [], ◌∷◌, ◌++◌, codes, decimal}
+use Rattle.bufr_tables.specs.Fxy.{fxy_text}
+use Rattle.bufr_tables.specs.FaultNumber.{number_of_template_fault}
+use Rattle.bufr_walk.specs.declared.spec.TurnRefusal.TheVariants as walk
+use Rattle.bufr_fill.specs.Fault.{DraftFaultKind, wrong_descriptor, wrong_number, out_of_range, text_long, missing_forbidden, unequal_factors, uneven_increment, item_too_many, walk_refused, too_many_values, no_count}
+use Rattle.bufr_text.specs.Documents.{TextLineFault, NotAllowed, SubsetCount, HeaderRange}
+use Rattle.bufr_text.specs.Encoding.{DocumentRefusal, by_template, by_item, too_long}
+use Rattle.bufr_text.specs.Writing.{joined}
+use Rattle.bufr_cli.specs.FaultLine.{template_fault_text}
+
+-- the line of a fault at a line of the text, from 1: its number and its text
+abbrev pub document_line : (line number : ℕ) → List (List ℕ) → List ℕ
+document_line line number text =
+    joined (codes "line " ∷ decimal line ∷ codes ": " ∷ decimal number ∷ codes " "
+    ∷ (text ++ codes "\n" ∷ []))
+
+-- a line that is refused
+abbrev pub refused_line : (line : ℕ) → TextLineFault → List ℕ
+refused_line line NotAllowed = document_line line 50 (codes "line" ∷ [])
+refused_line line SubsetCount = document_line line 57 (codes "subset count" ∷ [])
+refused_line line HeaderRange = document_line line 61 (codes "header range" ∷ [])
+
+-- the walk that is refused: the number that a message's data would be refused by, and the
+-- descriptor
+abbrev pub walk_text : (number fxy : ℕ) → List (List ℕ)
+walk_text number fxy = codes "walk " ∷ decimal number ∷ codes " descriptor " ∷ fxy_text fxy ∷ []
+
+-- an item that is refused; a factor always tells its count
+abbrev pub item_fault_line : (line : ℕ) → DraftFaultKind → List ℕ
+item_fault_line line (wrong_descriptor fxy false) =
+    document_line line 51 (codes "expected " ∷ fxy_text fxy ∷ [])
+item_fault_line line (wrong_descriptor fxy true) =
+    document_line line 51 (codes "expected R " ∷ fxy_text fxy ∷ [])
+item_fault_line line item_too_many = document_line line 51 (codes "expected end of subset" ∷ [])
+item_fault_line line wrong_number = document_line line 52 (codes "number" ∷ [])
+item_fault_line line out_of_range = document_line line 53 (codes "out of range" ∷ [])
+item_fault_line line text_long = document_line line 54 (codes "text long" ∷ [])
+item_fault_line line missing_forbidden = document_line line 55 (codes "missing forbidden" ∷ [])
+item_fault_line line unequal_factors = document_line line 58 (codes "unequal factor" ∷ [])
+item_fault_line line uneven_increment = document_line line 59 (codes "increment" ∷ [])
+item_fault_line line (walk_refused (walk.Width fxy)) = document_line line 62 (walk_text 31 fxy)
+item_fault_line line (walk_refused (walk.Defining fxy)) = document_line line 62 (walk_text 32 fxy)
+item_fault_line line (too_many_values fxy) = document_line line 62 (walk_text 35 fxy)
+item_fault_line line no_count = []
+
+-- a document that is refused: its template's fault is told as that of a message
+abbrev pub refusal_line : (line : ℕ) → DocumentRefusal → List ℕ
+refusal_line line (by_template why) =
+    document_line line 56 (codes "template " ∷ decimal (number_of_template_fault why) ∷ codes " "
+    ∷ template_fault_text why)
+refusal_line line (by_item why) = item_fault_line line why
+refusal_line line too_long = document_line line 60 (codes "too long" ∷ [])

@@ -1,0 +1,138 @@
+-- The command line of `bufr`, as clap reads it. (a choice of this project)
+-- Cited by public contracts.
+use Rattle.std.specs.Prelude.{◌≡◌, ◌≢◌, ◌⊎◌, ℕ, List, Option, Some, None, true, codes, option_map}
+use Rattle.clap.specs.Words.{App, IsAmong, Kinds, Row, Rule, Text, first_of, new_app, new_rule, with_rule, with_subcommand}
+use Rattle.clap.specs.declared.error.kind.ErrorKind.{ErrorKind}
+use Rattle.clap.specs.declared.error.kind.ErrorKind.TheVariants.{DisplayHelp, DisplayVersion, OutOfMemory}
+use Rattle.bufr_text.specs.declared.form.Form.{Form}
+use Rattle.bufr_text.specs.declared.form.Form.TheVariants.{AsWritten, Plain, Compressed}
+use Rattle.bufr_cli.specs.declared.job.Job.{Job}
+use Rattle.bufr_cli.specs.declared.job.LineFault.{LineFault}
+use Rattle.bufr_cli.specs.declared.job.LineFault.TheVariants.{Help, Usage, Memory}
+use Rattle.bufr_cli.specs.declared.job.NoJob.{NoJob}
+use Rattle.bufr_cli.specs.declared.job.NoJob.TheVariants.{UnknownCommand, MissingTable, UnknownForm}
+use Rattle.bufr_cli.specs.declared.job.Subcommand.{Subcommand}
+use Rattle.bufr_cli.specs.declared.job.Subcommand.TheVariants.{Ls, Dump, Encode}
+use Rattle.bufr_cli.specs.declared.job.TableNames.{TableNames}
+
+-- `ls [FILE]`
+abbrev pub ls_app : App
+ls_app = with_rule (new_app (codes "ls")) (new_rule (codes "FILE"))
+
+-- `-B FILE` or `-D FILE`, which must be there
+abbrev pub table_rule : (id : Text) → (letter : ℕ) → Rule
+table_rule id letter =
+    record (new_rule id) { short = Some letter; value_names = 1; required = true }
+
+-- `NAME -B FILE -D FILE [FILE]`
+abbrev pub tables_app : (name : Text) → App
+tables_app name =
+    with_rule (with_rule (with_rule (new_app name) (table_rule (codes "B") 66))
+    (table_rule (codes "D") 68)) (new_rule (codes "FILE"))
+
+-- `--form WORD`
+abbrev pub form_rule : Rule
+form_rule = record (new_rule (codes "form")) { long = Some (codes "form"); value_names = 1 }
+
+-- `encode -B FILE -D FILE [--form WORD] [FILE]`
+abbrev pub encode_app : App
+encode_app = with_rule (tables_app (codes "encode")) form_rule
+
+-- `bufr`, which has a version and wants a subcommand
+abbrev pub top_app : App
+top_app =
+    record (new_app (codes "bufr")) {
+      top = record ((new_app (codes "bufr")).top)
+          { has_version = true; subcommand_required = true };
+    }
+
+-- `bufr COMMAND`
+abbrev pub bufr_app : App
+bufr_app =
+    with_subcommand (with_subcommand (with_subcommand top_app ls_app.top)
+    (tables_app (codes "dump")).top) encode_app.top
+
+-- the name of a subcommand
+abbrev pub name_of : Subcommand → Text
+name_of Ls = codes "ls"
+name_of (Dump tables) = codes "dump"
+name_of (Encode tables form) = codes "encode"
+
+-- these are the values of -B and -D
+abbrev pub AreNamed : List Row → TableNames → Type 0
+AreNamed rows tables =
+    (Some tables.table_b.now ≡ first_of (codes "B") rows)
+    × (Some tables.table_d.now ≡ first_of (codes "D") rows)
+
+-- the word of --form for a form; without it documents say theirs
+abbrev pub word_of : Form → Option Text
+word_of AsWritten = None
+word_of Plain = Some (codes "plain")
+word_of Compressed = Some (codes "compressed")
+
+-- the tables of a subcommand that reads them are the values of -B and -D, and its form is that of
+-- --form
+abbrev pub HasTables : List Row → Subcommand → Type 0
+HasTables rows Ls = Unit {0}
+HasTables rows (Dump tables) = AreNamed rows tables
+HasTables rows (Encode tables form) =
+    AreNamed rows tables × (word_of form ≡ first_of (codes "form") rows)
+
+-- the job has the subcommand that was met, its tables and form, and the value of FILE there
+abbrev pub IsJobOf : Option (Text × List Row) → Job → Type 0
+IsJobOf None job = ⊥
+IsJobOf (Some subcommand) job =
+    (subcommand.0 ≡ name_of job.command) × HasTables subcommand.1 job.command
+    × (option_map (λ name. name.now) job.file ≡ first_of (codes "FILE") subcommand.1)
+
+-- no tables have these values
+abbrev pub LacksTables : List Row → Type 0
+LacksTables rows = (tables : TableNames) → ¬ AreNamed rows tables
+
+-- no form has this word
+abbrev pub LacksForm : List Row → Type 0
+LacksForm rows = (form : Form) → ¬ (word_of form ≡ first_of (codes "form") rows)
+
+-- why the subcommand that was met, of this name and with these values, gives no job
+abbrev pub IsWhyNoJob : Text → List Row → NoJob → Type 0
+IsWhyNoJob name rows UnknownCommand = (command : Subcommand) → ¬ (name ≡ name_of command)
+IsWhyNoJob name rows MissingTable = ((name ≡ codes "dump") ⊎ (name ≡ codes "encode")) × LacksTables rows
+IsWhyNoJob name rows UnknownForm = (name ≡ codes "encode") × LacksForm rows
+
+-- the tables that a command reads
+abbrev pub tables_asked : Subcommand → Option TableNames
+tables_asked Ls = None
+tables_asked (Dump tables) = Some tables
+tables_asked (Encode tables form) = Some tables
+
+-- the form that a command writes
+abbrev pub form_asked : Subcommand → Option Form
+form_asked Ls = None
+form_asked (Dump tables) = None
+form_asked (Encode tables form) = Some form
+
+-- no job is that of the subcommand that was met
+abbrev pub HasNoJob : Option (Text × List Row) → Type 0
+HasNoJob subcommand = (job : Job) → ¬ IsJobOf subcommand job
+
+-- the fault that an error of this kind stands for; its text takes memory
+abbrev pub TellsKind : ErrorKind → LineFault → Type 0
+TellsKind kind (Help text) = (kind ≡ DisplayHelp) ⊎ (kind ≡ DisplayVersion)
+TellsKind kind (Usage text) = (kind ≢ OutOfMemory) × (kind ≢ DisplayHelp) × (kind ≢ DisplayVersion)
+TellsKind kind Memory = Unit {0}
+
+-- help or the version is asked for
+abbrev pub AsksHelp : Kinds → Type 0
+AsksHelp kinds = IsAmong DisplayHelp kinds ⊎ IsAmong DisplayVersion kinds
+
+-- the line is refused, or met no job
+abbrev pub IsMistaken : Kinds → Option (Text × List Row) → Type 0
+IsMistaken kinds subcommand =
+    ((kind : ErrorKind) × IsAmong kind kinds × (kind ≢ DisplayHelp) × (kind ≢ DisplayVersion))
+    ⊎ HasNoJob subcommand
+
+-- why a line whose parse may fail by these kinds, and meets this subcommand, gives no job
+abbrev pub SaysWhy : Kinds → Option (Text × List Row) → LineFault → Type 0
+SaysWhy kinds subcommand (Help text) = AsksHelp kinds
+SaysWhy kinds subcommand (Usage text) = IsMistaken kinds subcommand
+SaysWhy kinds subcommand Memory = Unit {0}

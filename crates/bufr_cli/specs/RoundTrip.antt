@@ -1,0 +1,139 @@
+-- A stream dumped, its text encoded, and what was encoded dumped again. (a choice of this project)
+-- Cited by public contracts.
+use Rattle.std.specs.Prelude.{◌≡◌, ℕ, ◌+◌, ◌≤◌, List, [], ◌∷◌, length, map, flat_map, count_by}
+use Rattle.std.specs.List.{AllByRecursion, AllZip, concat, filter}
+use Rattle.bufr_bits.specs.Script.{taken_of}
+use Rattle.bufr_frame.specs.Layout.{max_extra_octets}
+use Rattle.bufr_frame.specs.Scan.{StreamEvent, FrameAt, StrayAt, scan}
+use Rattle.bufr_frame.specs.Sections.{Sections, edition_of}
+use Rattle.bufr_tables.specs.TableB.{Row}
+use Rattle.bufr_tables.specs.TableD.{Sequence}
+use Rattle.bufr_tables.specs.Tree.{Tree}
+use Rattle.bufr_walk.specs.Reading.{Values}
+use Rattle.bufr_text.specs.Canonical.{IsCanonical}
+use Rattle.bufr_text.specs.Documents.{documents_of}
+use Rattle.bufr_text.specs.RoundTrip.{IsAccepted, HasSameReading}
+use Rattle.bufr_text.specs.declared.form.Form.TheVariants.{AsWritten}
+use Rattle.bufr_cli.specs.DumpPieces.{IsDumpPiece}
+use Rattle.bufr_cli.specs.EncodePieces.{encode_pieces}
+use Rattle.bufr_cli.specs.Pieces.{Piece, OnOutput, OnErrors, output_of, errors_of, is_accepted, is_refused}
+use Rattle.bufr_cli.specs.Running.{GivesPieces, Tallies}
+use Rattle.bufr_cli.specs.declared.round_trip.Round.{Round}
+use Rattle.bufr_cli.specs.declared.round_trip.RunInMemory.{RunInMemory}
+use Rattle.bufr_cli.specs.declared.tally.Tally.{Tally}
+
+-- what `dump` writes for a stream, each event by its piece, and what of that is on its output
+abbrev pub dump_pieces : (StreamEvent → Piece) → List ℕ → List Piece
+dump_pieces piece s = map piece (scan s)
+
+abbrev pub dumped : (StreamEvent → Piece) → List ℕ → List ℕ
+dumped piece s = flat_map output_of (dump_pieces piece s)
+
+-- what `encode` writes for a text
+abbrev pub text_pieces : List Row → List Sequence → (text : List ℕ) → List Piece
+text_pieces b d text = encode_pieces AsWritten b d (documents_of text)
+
+-- what `encode` writes for the dump text of a stream, and what of that is on its output
+abbrev pub rebuilding : List Row → List Sequence → (StreamEvent → Piece) → List ℕ → List Piece
+rebuilding b d piece s = text_pieces b d (dumped piece s)
+
+abbrev pub rebuilt : List Row → List Sequence → (StreamEvent → Piece) → List ℕ → List ℕ
+rebuilt b d piece s = flat_map output_of (rebuilding b d piece s)
+
+-- the octets of an event that is a message
+abbrev pub event_octets : StreamEvent → List (List ℕ)
+event_octets (FrameAt offset octets) = octets ∷ []
+event_octets (StrayAt offset cause) = []
+
+-- the octets of an event whose message is accepted: its piece goes to the output
+abbrev pub accepted_in : StreamEvent → Piece → List (List ℕ)
+accepted_in here (OnOutput text) = event_octets here
+accepted_in here (OnErrors text) = []
+
+-- the messages of a stream that are accepted, in order
+abbrev pub accepted_messages : (StreamEvent → Piece) → List ℕ → List (List ℕ)
+accepted_messages piece s = flat_map (λ here. accepted_in here (piece here)) (scan s)
+
+-- By how many octets these messages may grow when they are written again: up to two for each of
+-- edition 3, whose sections 3 and 4 are made even.
+abbrev pub longer_by : List (List ℕ) → ℕ
+longer_by [] = 0
+longer_by (m ∷ ms) = max_extra_octets (edition_of m) + longer_by ms
+
+-- Of two messages the first is accepted, and the second has the same reading and is no longer, but
+-- that in edition 3 up to two octets make sections 3 and 4 even.
+pub record IsBuiltAgain (b : List Row) (d : List Sequence) (m written : List ℕ) : Type 0 where
+  pub sections : Sections
+  pub template : Tree
+  pub values : Values
+  pub used : ℕ
+  pub accepted : IsAccepted b d m sections template values used
+  pub same : HasSameReading b m sections template values written
+
+-- a message is as an encoder writes it, by the one reading that it is accepted with
+abbrev pub IsCanonicalMessage : List Row → List Sequence → List ℕ → Type 0
+IsCanonicalMessage b d m =
+    (sections : Sections) (template : Tree) (values : Values) (used : ℕ)
+    → IsAccepted b d m sections template values used → IsCanonical m sections values used
+
+-- What `dump` writes for a stream, `encode` builds again, and dumped again that is the same text.
+pub record RoundTrips (b : List Row) (d : List Sequence) (piece : StreamEvent → Piece)
+    (s : List ℕ) : Type 0 where
+  -- `encode` refuses nothing, and builds as many messages as were dumped
+  pub none_refused : count_by is_refused (rebuilding b d piece s) ≡ 0
+  pub no_line : flat_map errors_of (rebuilding b d piece s) ≡ []
+  pub as_many : count_by is_accepted (rebuilding b d piece s)
+      ≡ count_by is_accepted (dump_pieces piece s)
+  -- what it writes is these messages and nothing else, is longer than the stream by no more than
+  -- its messages of edition 3 may grow, and each has the reading of the one that was dumped
+  pub messages : rebuilt b d piece s ≡ concat (accepted_messages piece (rebuilt b d piece s))
+  pub no_longer : length (rebuilt b d piece s) ≤ length s + longer_by (accepted_messages piece s)
+  pub readings : AllZip (IsBuiltAgain b d) (accepted_messages piece s)
+      (accepted_messages piece (rebuilt b d piece s))
+  -- dumped again it has the pieces of the stream that went to the output, and no other: the same
+  -- text, octet for octet, and no fault
+  pub same_pieces : dump_pieces piece (rebuilt b d piece s)
+      ≡ filter is_accepted (dump_pieces piece s)
+  pub same_text : dumped piece (rebuilt b d piece s) ≡ dumped piece s
+  pub no_fault : flat_map errors_of (dump_pieces piece (rebuilt b d piece s)) ≡ []
+  -- and encoded again it stays as it is
+  pub settled : rebuilt b d piece (rebuilt b d piece s) ≡ rebuilt b d piece s
+
+-- A run into memory wrote these pieces, and counted them.
+pub record RunsInMemory (ran : RunInMemory) (pieces : List Piece) : Type 0 where
+  pub output : taken_of ran.output ≡ flat_map output_of pieces
+  pub errors : taken_of ran.errors ≡ flat_map errors_of pieces
+  pub tallies : Tallies ran.tally pieces
+
+-- A stream was dumped to a text, the text encoded to messages with these fault lines, and the
+-- messages dumped again to a text with these faults: the two texts are the same, nothing was
+-- refused but by the first run, and the messages have, one by one, the readings of those that were
+-- dumped.
+pub record IsWholeRound (b : List Row) (d : List Sequence)
+    (stream text messages lines again faults : List ℕ) (first second third : Tally) : Type 0 where
+  pub same_text : again ≡ text
+  pub as_many : second.accepted ≡ first.accepted
+  pub none_refused : second.refused ≡ 0
+  pub no_line : lines ≡ []
+  pub none_refused_again : third.refused ≡ 0
+  pub no_fault : faults ≡ []
+  -- what `dump` writes for each event, by which the accepted messages are known
+  pub piece : StreamEvent → Piece
+  pub gives : GivesPieces (IsDumpPiece b d) piece
+  -- the messages that were written, and nothing else, each with the reading of the one that was
+  -- dumped
+  pub are_messages : messages ≡ concat (accepted_messages piece messages)
+  pub readings : AllZip (IsBuiltAgain b d) (accepted_messages piece stream)
+      (accepted_messages piece messages)
+  pub no_longer : length messages ≤ length stream + longer_by (accepted_messages piece stream)
+  -- where those that were dumped are as an encoder writes them, these are the same, octet for octet
+  pub canonical : AllByRecursion (IsCanonicalMessage b d) (accepted_messages piece stream)
+      → messages ≡ concat (accepted_messages piece stream)
+
+-- the same of three runs into memory
+abbrev pub IsWholeRoundOf : List Row → List Sequence → (stream : List ℕ) → Round → Type 0
+IsWholeRoundOf b d stream round =
+    IsWholeRound b d stream (taken_of round.text.output) (taken_of round.messages.output)
+    (taken_of round.messages.errors)
+    (taken_of round.again.output) (taken_of round.again.errors) round.text.tally
+    round.messages.tally round.again.tally

@@ -1,0 +1,101 @@
+-- What a run leaves, by its answer. (a choice of this project)
+-- Cited by public contracts.
+use Rattle.std.specs.Prelude.{◌≡◌, ℕ, ◌<◌, ◌≤◌, Bool, true, false, List, ◌++◌, Option, None, Result, Ok, Err, flat_map, count_by, option_to_list}
+use Rattle.std.specs.Io.KnownBytes.{Consumes, Appends, IsAtEnd}
+use Rattle.bufr_bits.specs.Counts.{counted}
+use Rattle.bufr_frame.specs.Runs.{max_reads}
+use Rattle.bufr_frame.specs.Scan.{StreamEvent, scan, open_scan}
+use Rattle.bufr_frame.specs.declared.fault.RunFault.{RunFault}
+use Rattle.bufr_frame.specs.declared.fault.RunFault.TheVariants.{Read, Write, InputTooLong, Memory}
+use Rattle.bufr_text.specs.Writing.{GrowsByPrefix}
+use Rattle.bufr_cli.specs.Pieces.{Piece, output_of, errors_of, is_accepted, is_refused}
+use Rattle.bufr_cli.specs.declared.tally.Tally.{Tally}
+
+-- All of the pieces were written, each on its writer, in order.
+pub record WritesPieces (old_output new_output old_errors new_errors : Option (List ℕ))
+    (pieces : List Piece) : Type 0 where
+  pub output : Appends old_output new_output (flat_map output_of pieces)
+  pub errors : Appends old_errors new_errors (flat_map errors_of pieces)
+
+-- The first pieces were written whole, and of the next one a front.
+pub record WrittenInPart (old_output new_output old_errors new_errors : Option (List ℕ))
+    (pieces : List Piece) : Type 0 where
+  pub given : List Piece
+  pub next : Option Piece
+  pub rest : List Piece
+  pub parts : pieces ≡ given ++ (option_to_list next ++ rest)
+  pub between_output : Option (List ℕ)
+  pub between_errors : Option (List ℕ)
+  pub whole : WritesPieces old_output between_output old_errors between_errors given
+  pub output : GrowsByPrefix between_output new_output (flat_map output_of (option_to_list next))
+  pub errors : GrowsByPrefix between_errors new_errors (flat_map errors_of (option_to_list next))
+
+-- The tally counts the pieces on each writer.
+pub record Tallies (tally : Tally) (pieces : List Piece) : Type 0 where
+  pub accepted : tally.accepted ≡ count_by is_accepted pieces
+  pub refused : tally.refused ≡ count_by is_refused pieces
+
+-- The input was read to its end, its pieces were written and counted.
+pub record RunDone (pieces_of : List StreamEvent → List Piece)
+    (left left' output output' errors errors' : Option (List ℕ)) (bs : List ℕ)
+    (tally : Tally) : Type 0 where
+  pub read : Consumes left left' bs
+  pub end : IsAtEnd left'
+  pub written : WritesPieces output output' errors errors' (pieces_of (scan bs))
+  pub tallies : Tallies tally (pieces_of (scan bs))
+
+-- The run stopped before the end, and the pieces of all that was certain were written.
+pub record RunStopped (pieces_of : List StreamEvent → List Piece)
+    (left left' output output' errors errors' : Option (List ℕ)) (bs : List ℕ) : Type 0 where
+  pub read : Consumes left left' bs
+  pub written : WritesPieces output output' errors errors' (pieces_of (open_scan bs))
+
+-- the events of the octets that were read: all, where the end was reached, and else those that are
+-- certain
+abbrev pub read_events : (ended : Bool) → List ℕ → List StreamEvent
+read_events true bs = scan bs
+read_events false bs = open_scan bs
+
+-- A writer failed, or memory was refused: of what was read a front was written; where a flush was
+-- tried, all stands.
+pub record RunCut (pieces_of : List StreamEvent → List Piece)
+    (left left' output output' errors errors' : Option (List ℕ)) (unflushed : Type 0)
+    (bs : List ℕ) : Type 0 where
+  pub read : Consumes left left' bs
+  pub ended : Bool
+  pub end : ended ≡ true → IsAtEnd left'
+  pub written : WrittenInPart output output' errors errors' (pieces_of (read_events ended bs))
+  pub flushed : ¬ unflushed
+      → (ended ≡ true) × WritesPieces output output' errors errors' (pieces_of (scan bs))
+
+-- fewer than 2^32 reads were made
+abbrev pub ReadsFewer : (reads reads' : ℕ) → Type 0
+ReadsFewer reads reads' = (n : ℕ) × (n < max_reads) × (reads' ≡ counted reads n)
+
+-- what a run leaves that reads these octets; memory is wanted where a piece was to be written, or
+-- early, before all of the reads were made
+abbrev pub RunsEvents : (pieces_of : List StreamEvent → List Piece)
+    → (left left' output output' errors errors' : Option (List ℕ))
+    → (unflushed early : Type 0) → List ℕ → Result Tally RunFault → Type 0
+RunsEvents pieces_of left left' output output' errors errors' unflushed early bs (Ok tally) =
+    RunDone pieces_of left left' output output' errors errors' bs tally
+RunsEvents pieces_of left left' output output' errors errors' unflushed early bs (Err Read) =
+    RunStopped pieces_of left left' output output' errors errors' bs
+RunsEvents pieces_of left left' output output' errors errors' unflushed early bs
+    (Err InputTooLong) =
+    RunStopped pieces_of left left' output output' errors errors' bs
+RunsEvents pieces_of left left' output output' errors errors' unflushed early bs (Err Memory) =
+    (cut : RunCut pieces_of left left' output output' errors errors' unflushed bs)
+    × (cut.written.next ≡ None → early)
+RunsEvents pieces_of left left' output output' errors errors' unflushed early bs (Err Write) =
+    RunCut pieces_of left left' output output' errors errors' unflushed bs
+
+-- a run's pieces, each what its event is to put on the writers
+abbrev pub GivesPieces : (StreamEvent → Piece → Type 0) → (StreamEvent → Piece) → Type 0
+GivesPieces is_piece piece = (here : StreamEvent) → is_piece here (piece here)
+
+-- at most 2^32 reads were made; an input is too long only after all of them
+abbrev pub ReadsAtMost : {X : Type 0} → (reads reads' : ℕ) → Result X RunFault → Type 0
+ReadsAtMost reads reads' result =
+    (n : ℕ) × (n ≤ max_reads) × (reads' ≡ counted reads n)
+    × (result ≡ Err InputTooLong → n ≡ max_reads)

@@ -1,0 +1,281 @@
+//! `bufr dump`: writes the messages of a stream as text.
+ghost use Rattle.std.specs.Prelude.{◌≡◌, ◌≢◌, ℕ, List, [], ◌∷◌, true, Ok, IfErr, IfOk, OnOk, IfSome, map};
+ghost use Rattle.bufr_frame.specs.Events.{events_of, IsEvent};
+ghost use Rattle.bufr_frame.specs.Runs.{read_failures_after};
+ghost use Rattle.bufr_frame.specs.Scan.{StreamEvent, FrameAt, StrayAt, scan};
+ghost use Rattle.bufr_walk.specs.Course.{next_item};
+ghost use Rattle.bufr_walk.specs.Outcome.{data_of, IsFault, IsReadingOf};
+ghost use Rattle.bufr_cli.specs.DumpPieces.{IsDataPiece, IsDumpPiece, IsMessagePiece};
+ghost use Rattle.bufr_cli.specs.Pieces.{Piece};
+ghost use Rattle.bufr_cli.specs.Counting.{BlamesWriter};
+ghost use Rattle.bufr_cli.specs.Running.{RunsEvents, WritesPieces, GivesPieces, ReadsAtMost, ReadsFewer, Tallies};
+ghost use Rattle.bufr_cli.specs.WritingPieces.{StopsPiece, TellsPieces};
+
+use crate::fault_line::{write_section_fault, write_stray, write_template_fault, write_walk_fault};
+use crate::run_events::{EventWriter, run_events};
+use crate::tally::{Tally, Verdict};
+use bufr_bits::{Sink, Source};
+use bufr_frame::{Event, Message, RunFault};
+use bufr_tables::{Fxy, TableB, TableD, Template};
+use bufr_text::write_dump_by;
+use bufr_walk::{Reading, SpecCache, Steps, TemplateCache, WalkFault, read_by};
+use std::alloc::{AllocError, Global};
+
+/// The descriptors of a message.
+fn descriptors_of(alloc: Global, message: &Message<'_>) -> Result<Vec<Fxy>, AllocError>
+    ensures { IfOk result (λ descriptors. descriptors.items ≡ message.now.descriptors) }
+{
+    let words = message.descriptors();
+    let mut descriptors = Vec::with_capacity(alloc, words.len())?;
+    for word in words {
+        descriptors.push(Fxy::from_word(word))?;
+    }
+    Ok(descriptors)
+}
+
+/// Reads the data of a message. It says less than the call that it makes, so that what is proved of
+/// a run does not carry the bounds on steps.
+fn read_data<'a>(
+    alloc: Global,
+    message: &Message<'a>,
+    template: &'a Template,
+    table: &'a TableB,
+    cache: &mut SpecCache<'_>,
+    steps: &mut Steps,
+) -> Result<Reading<'a>, WalkFault>
+    requires { cache.old ≡ table.now }
+    ensures same { cache.new ≡ cache.old }
+    ensures reading { IfOk result
+        (λ r. IsReadingOf table.now template.now (data_of message.now) r steps.new) }
+    ensures fault { IfErr result
+        (λ why. IsFault (next_item table.now template.now) (data_of message.now) why steps.new) }
+{
+    read_by(alloc, message, template, table, cache, steps)
+}
+
+/// Writes the text of a message by its template and the specs that are cached, or the line of the
+/// fault that its data are refused for.
+fn dump_data<W: Sink, E: Sink>(
+    alloc: Global,
+    offset: u64,
+    message: &Message<'_>,
+    template: &Template,
+    table: &TableB,
+    cache: &mut SpecCache<'_>,
+    w: &mut W,
+    e: &mut E,
+) -> Result<Verdict, RunFault>
+    requires { cache.old ≡ table.now }
+    ensures same { cache.new ≡ cache.old }
+    ensures tells { (piece : Piece)
+        → IsDataPiece table.now offset message.now template.now piece
+        → TellsPieces (W.taken w.old) (W.taken w.new) (E.taken e.old) (E.taken e.new)
+        (piece ∷ []) result }
+    ensures stops { StopsPiece true result }
+    ensures counts { BlamesWriter W.failures W.empty_writes w.old w.new E.failures E.empty_writes
+        e.old e.new result }
+    ensures output_flushes { W.flushes w.new ≡ W.flushes w.old }
+    ensures errors_flushes { E.flushes e.new ≡ E.flushes e.old }
+{
+    let mut steps = Steps::new();
+    match read_data(alloc, message, template, table, cache, &mut steps) {
+        Ok(reading) => {
+            write_dump_by(alloc, message, &reading, cache, &mut steps, w)?;
+            Ok(Verdict::Accepted)
+        }
+        Err(WalkFault::Memory) => Err(RunFault::Memory),
+        Err(fault) => {
+            write_walk_fault(offset, &fault, e)?;
+            Ok(Verdict::Refused)
+        }
+    }
+}
+
+/// Writes the text of a message by the template that was selected for it, or the line of the fault
+/// that its descriptors or its data are refused for.
+fn dump_selected<W: Sink, E: Sink>(
+    alloc: Global,
+    offset: u64,
+    message: &Message<'_>,
+    templates: &TemplateCache<'_>,
+    cache: &mut SpecCache<'_>,
+    w: &mut W,
+    e: &mut E,
+) -> Result<Verdict, RunFault>
+    requires list { templates.now.list ≡ message.now.descriptors }
+    requires cached { cache.old ≡ templates.now.table_b }
+    ensures same { cache.new ≡ cache.old }
+    ensures tells { (piece : Piece)
+        → IsMessagePiece templates.now.table_b templates.now.table_d offset (Ok message.now) piece
+        → TellsPieces (W.taken w.old) (W.taken w.new) (E.taken e.old) (E.taken e.new)
+        (piece ∷ []) result }
+    ensures stops { StopsPiece true result }
+    ensures counts { BlamesWriter W.failures W.empty_writes w.old w.new E.failures E.empty_writes
+        e.old e.new result }
+    ensures output_flushes { W.flushes w.new ≡ W.flushes w.old }
+    ensures errors_flushes { E.flushes e.new ≡ E.flushes e.old }
+{
+    let table = templates.table_b();
+    match templates.answer() {
+        Ok(template) => dump_data(alloc, offset, message, template, table, cache, w, e),
+        Err(fault) => {
+            write_template_fault(offset, fault, e)?;
+            Ok(Verdict::Refused)
+        }
+    }
+}
+
+/// Writes the text of a message, or the line of the fault that its descriptors or its data are
+/// refused for.
+fn dump_message<W: Sink, E: Sink>(
+    alloc: Global,
+    offset: u64,
+    message: &Message<'_>,
+    templates: &mut TemplateCache<'_>,
+    w: &mut W,
+    e: &mut E,
+) -> Result<Verdict, RunFault>
+    ensures tells { (piece : Piece)
+        → IsMessagePiece templates.old.table_b templates.old.table_d offset (Ok message.now) piece
+        → TellsPieces (W.taken w.old) (W.taken w.new) (E.taken e.old) (E.taken e.new)
+        (piece ∷ []) result }
+    ensures stops { StopsPiece true result }
+    ensures table_b { templates.new.table_b ≡ templates.old.table_b }
+    ensures table_d { templates.new.table_d ≡ templates.old.table_d }
+    ensures counts { BlamesWriter W.failures W.empty_writes w.old w.new E.failures E.empty_writes
+        e.old e.new result }
+    ensures output_flushes { W.flushes w.new ≡ W.flushes w.old }
+    ensures errors_flushes { E.flushes e.new ≡ E.flushes e.old }
+{
+    let descriptors = descriptors_of(alloc, message)?;
+    templates.select(&descriptors)?;
+    let mut cache = templates.take_specs();
+    let outcome = dump_selected(alloc, offset, message, templates, &mut cache, w, e);
+    templates.put_specs(cache);
+    outcome
+}
+
+/// Writes the text of an event's message, or its fault line.
+fn dump_event<W: Sink, E: Sink>(
+    alloc: Global,
+    event: Event<'_>,
+    templates: &mut TemplateCache<'_>,
+    w: &mut W,
+    e: &mut E,
+) -> Result<Verdict, RunFault>
+    requires { IsEvent event }
+    ensures tells { (piece : StreamEvent → Piece)
+        → GivesPieces (IsDumpPiece templates.old.table_b templates.old.table_d) piece
+        → TellsPieces (W.taken w.old) (W.taken w.new) (E.taken e.old) (E.taken e.new)
+        (map piece (events_of event.entry)) result }
+    ensures stops { StopsPiece true result }
+    ensures table_b { templates.new.table_b ≡ templates.old.table_b }
+    ensures table_d { templates.new.table_d ≡ templates.old.table_d }
+    ensures counts { BlamesWriter W.failures W.empty_writes w.old w.new E.failures E.empty_writes
+        e.old e.new result }
+    ensures output_flushes { W.flushes w.new ≡ W.flushes w.old }
+    ensures errors_flushes { E.flushes e.new ≡ E.flushes e.old }
+{
+    match event {
+        Event::Frame(offset, octets) => match Message::parse(octets) {
+            Ok(message) => dump_message(alloc, offset, &message, templates, w, e),
+            Err(fault) => {
+                write_section_fault(offset, fault, e)?;
+                Ok(Verdict::Refused)
+            }
+        },
+        Event::Stray(offset, cause) => {
+            write_stray(offset, cause, e)?;
+            Ok(Verdict::Refused)
+        }
+        Event::Done => unreachable!(),
+    }
+}
+
+/// Tells events by the texts of their messages. The last templates are kept, with the specs of
+/// their cells: messages repeat their descriptors, and few of these can make a template of many
+/// places.
+#[derive(Drop)]
+struct DumpRun<'a> {
+    alloc: Global,
+    templates: TemplateCache<'a>,
+}
+
+impl<'a> EventWriter for DumpRun<'a> {
+    ghost use Rattle.std.specs.Prelude.{true};
+    ghost use Rattle.bufr_cli.specs.DumpPieces.{IsDumpPiece};
+
+    ghost is_piece = { λ d. IsDumpPiece d.templates.table_b d.templates.table_d };
+
+    ghost takes_memory = { λ _. true };
+
+    fn write_event<W: Sink, E: Sink>(
+        &mut self,
+        event: Event<'_>,
+        w: &mut W,
+        e: &mut E,
+    ) -> Result<Verdict, RunFault> {
+        dump_event(self.alloc, event, &mut self.templates, w, e)
+    }
+}
+
+/// Dumps the messages of `r` by these tables: for each its text on `w`, and for each stray `BUFR`
+/// and each message that is refused a fault line on `e` and nothing on `w`, in the order of the
+/// stream, each as soon as it is certain. At the end `w`, then `e` is flushed.
+///
+/// A message is refused for its sections, then for its descriptors ([`TemplateFault`]), then for
+/// its data ([`WalkFault`]).
+///
+/// ```
+/// let table_b = TableB::read(rt.alloc(), b"fxy,name,unit,scale,reference,width\n")?;
+/// let table_d = TableD::read(rt.alloc(), b"fxy,member\n")?;
+/// let mut r = Device::new(b"BUFR".as_slice());
+/// let mut w = Device::new(Vec::new(rt.alloc()));
+/// let mut e = Device::new(Vec::new(rt.alloc()));
+/// let tally = run_dump(rt.alloc(), &mut r, &mut w, &mut e, &table_b, &table_d)?;
+/// assert_eq!(rt; tally.refused, 1); // `offset 0: 1 cut` is on `e`
+/// ```
+///
+/// # Errors
+///
+/// [`RunFault::Read`] and [`RunFault::InputTooLong`] as [`bufr_frame::Finder::next`] gives them;
+/// the texts of all that was certain were written then. [`RunFault::Write`] where a writer failed
+/// or took nothing, and [`RunFault::Memory`]: a front of the texts was written.
+pub fn run_dump<R: Source, W: Sink, E: Sink>(
+    alloc: Global,
+    r: &mut R,
+    w: &mut W,
+    e: &mut E,
+    table_b: &TableB,
+    table_d: &TableD,
+) -> Result<Tally, RunFault>
+    // At `Ok` the writers hold exactly the pieces of the whole input, and the tally counts them.
+    ensures whole { (piece : StreamEvent → Piece)
+        → GivesPieces (IsDumpPiece table_b.now table_d.now)
+        piece → IfOk result (λ tally. IfSome (R.left r.old) (λ s.
+        WritesPieces (W.taken w.old) (W.taken w.new) (E.taken e.old) (E.taken e.new)
+        (map piece (scan s))
+        × Tallies tally (map piece (scan s)))) }
+    // The errors are flushed only where the output was before.
+    ensures order { E.flushes e.new ≢ E.flushes e.old → W.all_flushed w.new ≡ true }
+    ensures flushed { OnOk result ((W.all_flushed w.new ≡ true) × (E.all_flushed e.new ≡ true)) }
+    // The same over the octets that were read, and what a fault leaves.
+    ensures run { (bs : List ℕ)
+        × ((piece : StreamEvent → Piece) → GivesPieces (IsDumpPiece table_b.now table_d.now) piece
+        → RunsEvents (map piece) (R.left r.old) (R.left r.new) (W.taken w.old) (W.taken w.new)
+        (E.taken e.old) (E.taken e.new)
+        ((W.flushes w.new ≡ W.flushes w.old) × (E.flushes e.new ≡ E.flushes e.old))
+        (ReadsFewer (R.reads r.old) (R.reads r.new)) bs result) }
+
+    // Each fault comes only where its device failed in this call.
+    ensures reader { R.failures r.new ≡ read_failures_after (R.failures r.old) result }
+    ensures reads { ReadsAtMost (R.reads r.old) (R.reads r.new) result }
+    ensures writers { BlamesWriter W.failures W.empty_writes w.old w.new E.failures E.empty_writes
+        e.old e.new result }
+{
+    let mut dumping = DumpRun {
+        alloc,
+        templates: TemplateCache::new(alloc, table_b, table_d),
+    };
+    run_events(alloc, &mut dumping, r, w, e)
+}

@@ -1,0 +1,260 @@
+//! `bufr encode`: writes the messages that a text spells.
+ghost use Rattle.std.specs.Prelude.{◌≡◌, ◌≢◌, ℕ, List, [], ◌∷◌, Ok, Err, true, IfErr, IfOk, OnOk, IfSome};
+ghost use Rattle.bufr_frame.specs.Runs.{read_failures_after};
+ghost use Rattle.bufr_text.specs.Documents.{Complete, documents_of};
+ghost use Rattle.bufr_text.specs.Encoding.{encoding_in};
+ghost use Rattle.bufr_text.specs.EncodingFault.{IsDocumentRefusal, told_refusal};
+ghost use Rattle.bufr_text.specs.declared.form.Form.TheVariants.{AsWritten};
+ghost use Rattle.bufr_cli.specs.EncodePieces.{encode_pieces, told_piece};
+ghost use Rattle.bufr_cli.specs.EncodeRun.{RunsEncode};
+ghost use Rattle.bufr_cli.specs.EncodeTelling.{TellsNext};
+ghost use Rattle.bufr_cli.specs.Counting.{BlamesWriter};
+ghost use Rattle.bufr_cli.specs.Running.{WritesPieces, ReadsAtMost, Tallies};
+ghost use Rattle.bufr_cli.specs.WritingPieces.{StopsPiece, TellsPieces};
+
+use crate::document_line::{write_document_fault, write_read_fault};
+use crate::run_events::flush;
+use crate::tally::{Tally, Verdict};
+use bufr_bits::{Sink, Source};
+use bufr_frame::RunFault;
+use bufr_tables::{TableB, TableD, TemplateFault};
+use bufr_text::{Document, DocumentFault, DumpReader, Form, ReadFault, encode_by, write_all};
+use bufr_walk::{Steps, TemplateCache};
+use std::alloc::Global;
+
+/// The octets of a document in a form, or its first fault. It says less than the call that it
+/// makes, so that what is proved of a run does not carry the steps and what is said of dumps.
+fn octets_of(
+    alloc: Global,
+    document: &Document,
+    form: Form,
+    templates: &mut TemplateCache<'_>,
+) -> Result<Vec<u8>, DocumentFault>
+    ensures table_b { templates.new.table_b ≡ templates.old.table_b }
+    ensures table_d { templates.new.table_d ≡ templates.old.table_d }
+    ensures octets { IfOk result (λ octets.
+        encoding_in form templates.old.table_b templates.old.table_d document.now
+        ≡ Ok octets.items) }
+    ensures fault { IfErr result (λ why. IsDocumentRefusal (told_refusal why)
+        (encoding_in form templates.old.table_b templates.old.table_d document.now)) }
+    ensures memory { IfErr result
+        (λ why. (line : ℕ) → why ≢ DocumentFault.Template line TemplateFault.Memory) }
+{
+    encode_by(alloc, document, form, templates, &mut Steps::new())
+}
+
+/// Writes the message of a document in a form, whole, or the line of the fault that it is refused
+/// for.
+fn encode_one<W: Sink, E: Sink>(
+    alloc: Global,
+    document: &Document,
+    form: Form,
+    templates: &mut TemplateCache<'_>,
+    w: &mut W,
+    e: &mut E,
+) -> Result<Verdict, RunFault>
+    ensures tells { TellsPieces (W.taken w.old) (W.taken w.new) (E.taken e.old) (E.taken e.new)
+        (told_piece form templates.old.table_b templates.old.table_d (Complete document.now) ∷ [])
+        result }
+    ensures stops { StopsPiece true result }
+    ensures table_b { templates.new.table_b ≡ templates.old.table_b }
+    ensures table_d { templates.new.table_d ≡ templates.old.table_d }
+    ensures counts { BlamesWriter W.failures W.empty_writes w.old w.new E.failures E.empty_writes
+        e.old e.new result }
+    ensures output_flushes { W.flushes w.new ≡ W.flushes w.old }
+    ensures errors_flushes { E.flushes e.new ≡ E.flushes e.old }
+{
+    match octets_of(alloc, document, form, templates) {
+        Ok(octets) => {
+            write_all(octets.as_slice(), w)?;
+            Ok(Verdict::Accepted)
+        }
+        Err(DocumentFault::Memory) => Err(RunFault::Memory),
+        Err(DocumentFault::Template(_, TemplateFault::Memory)) => Err(RunFault::Memory),
+        Err(fault) => {
+            write_document_fault(fault, e)?;
+            Ok(Verdict::Refused)
+        }
+    }
+}
+
+/// Writes what stands for the next document of a text: its message, or a fault line. At the end of
+/// the text there is nothing. The document's memory goes back to its reader.
+fn encode_next<W: Sink, E: Sink>(
+    alloc: Global,
+    reader: &mut DumpReader,
+    next: Result<Option<Document>, ReadFault>,
+    form: Form,
+    templates: &mut TemplateCache<'_>,
+    w: &mut W,
+    e: &mut E,
+) -> Result<Option<Verdict>, RunFault>
+    requires { next ≢ Err (ReadFault.Run RunFault.Write) }
+    ensures reader { reader.new ≡ reader.old }
+    ensures table_b { templates.new.table_b ≡ templates.old.table_b }
+    ensures table_d { templates.new.table_d ≡ templates.old.table_d }
+    ensures tells { TellsNext (W.taken w.old) (W.taken w.new) (E.taken e.old) (E.taken e.new)
+        (told_piece form templates.old.table_b templates.old.table_d) next result }
+    ensures counts { BlamesWriter W.failures W.empty_writes w.old w.new E.failures E.empty_writes
+        e.old e.new result }
+    ensures output_flushes { W.flushes w.new ≡ W.flushes w.old }
+    ensures errors_flushes { E.flushes e.new ≡ E.flushes e.old }
+{
+    match next {
+        Ok(None) => Ok(None),
+        Ok(Some(document)) => {
+            let verdict = encode_one(alloc, &document, form, templates, w, e)?;
+            reader.reuse(document);
+            Ok(Some(verdict))
+        }
+        Err(ReadFault::Run(fault)) => Err(fault),
+        Err(fault) => {
+            write_read_fault(fault, e)?;
+            Ok(Some(Verdict::Refused))
+        }
+    }
+}
+
+/// Encodes the documents of `r` in a form, up to the first one that is refused, and flushes
+/// nothing.
+fn encode_documents<R: Source, W: Sink, E: Sink>(
+    alloc: Global,
+    r: &mut R,
+    w: &mut W,
+    e: &mut E,
+    table_b: &TableB,
+    table_d: &TableD,
+    form: Form,
+) -> Result<Tally, RunFault>
+    ensures run { (bs : List ℕ) × RunsEncode (encode_pieces form table_b.now table_d.now)
+        (R.left r.old) (R.left r.new) (W.taken w.old) (W.taken w.new)
+        (E.taken e.old) (E.taken e.new)
+        (Unit {0}) bs result }
+    ensures reader { R.failures r.new ≡ read_failures_after (R.failures r.old) result }
+    ensures reads { ReadsAtMost (R.reads r.old) (R.reads r.new) result }
+    ensures writers { BlamesWriter W.failures W.empty_writes w.old w.new E.failures E.empty_writes
+        e.old e.new result }
+    ensures output_flushes { W.flushes w.new ≡ W.flushes w.old }
+    ensures errors_flushes { E.flushes e.new ≡ E.flushes e.old }
+{
+    let mut templates = TemplateCache::new(alloc, table_b, table_d);
+    let mut reader = DumpReader::new(alloc);
+    let mut tally = Tally {
+        accepted: 0,
+        refused: 0,
+    };
+    loop {
+        let next = reader.next_document(r);
+        let Some(verdict) = encode_next(alloc, &mut reader, next, form, &mut templates, w, e)?
+        else {
+            return Ok(tally);
+        };
+        tally.count(verdict);
+        if let Verdict::Refused = verdict {
+            return Ok(tally);
+        }
+    }
+}
+
+/// Encodes the documents of the text `r` in a form, by these tables: for each its message on `w`,
+/// in the order of the text, each as soon as its `end` was read. The first document that is refused
+/// ends the run, with its fault line on `e` and nothing of it on `w`. At the end `w`, then `e` is
+/// flushed.
+///
+/// ```
+/// let table_b = TableB::read(rt.alloc(), b"fxy,name,unit,scale,reference,width\n")?;
+/// let table_d = TableD::read(rt.alloc(), b"fxy,member\n")?;
+/// let mut r = Device::new(b"subset 1\n".as_slice());
+/// let mut w = Device::new(Vec::new(rt.alloc()));
+/// let mut e = Device::new(Vec::new(rt.alloc()));
+/// let form = Form::Plain;
+/// let tally = run_encode_form(rt.alloc(), &mut r, &mut w, &mut e, &table_b, &table_d, form)?;
+/// assert_eq!(rt; tally.refused, 1); // `line 1: 50 line` is on `e`
+/// ```
+///
+/// # Errors
+///
+/// [`RunFault::Read`] and [`RunFault::InputTooLong`] as [`DumpReader::next_document`] gives them;
+/// the messages of all documents that were read whole were written then. [`RunFault::Write`] where
+/// a writer failed or took nothing, and [`RunFault::Memory`]: a front of the messages was written.
+pub fn run_encode_form<R: Source, W: Sink, E: Sink>(
+    alloc: Global,
+    r: &mut R,
+    w: &mut W,
+    e: &mut E,
+    table_b: &TableB,
+    table_d: &TableD,
+    form: Form,
+) -> Result<Tally, RunFault>
+    // At `Ok` the writers hold exactly the pieces of the whole input, and the tally counts them.
+    ensures whole { IfOk result (λ tally. IfSome (R.left r.old) (λ s.
+        WritesPieces (W.taken w.old) (W.taken w.new) (E.taken e.old) (E.taken e.new)
+        (encode_pieces form table_b.now table_d.now (documents_of s))
+        × Tallies tally (encode_pieces form table_b.now table_d.now (documents_of s)))) }
+    // The errors are flushed only where the output was before.
+    ensures order { E.flushes e.new ≢ E.flushes e.old → W.all_flushed w.new ≡ true }
+    ensures flushed { OnOk result ((W.all_flushed w.new ≡ true) × (E.all_flushed e.new ≡ true)) }
+    // The same over the octets that were read, and what a fault leaves.
+    ensures run { (bs : List ℕ) × RunsEncode (encode_pieces form table_b.now table_d.now)
+        (R.left r.old) (R.left r.new) (W.taken w.old) (W.taken w.new)
+        (E.taken e.old) (E.taken e.new)
+        ((W.flushes w.new ≡ W.flushes w.old) × (E.flushes e.new ≡ E.flushes e.old)) bs result }
+
+    // Each fault comes only where its device failed in this call.
+    ensures reader { R.failures r.new ≡ read_failures_after (R.failures r.old) result }
+    ensures reads { ReadsAtMost (R.reads r.old) (R.reads r.new) result }
+    ensures writers { BlamesWriter W.failures W.empty_writes w.old w.new E.failures E.empty_writes
+        e.old e.new result }
+{
+    let tally = encode_documents(alloc, r, w, e, table_b, table_d, form)?;
+    flush(w)?;
+    flush(e)?;
+    Ok(tally)
+}
+
+/// Encodes the documents of the text `r`, each in the form that it says: [`run_encode_form`] with
+/// [`Form::AsWritten`].
+///
+/// ```
+/// let table_b = TableB::read(rt.alloc(), b"fxy,name,unit,scale,reference,width\n")?;
+/// let table_d = TableD::read(rt.alloc(), b"fxy,member\n")?;
+/// let mut r = Device::new(b"subset 1\n".as_slice());
+/// let mut w = Device::new(Vec::new(rt.alloc()));
+/// let mut e = Device::new(Vec::new(rt.alloc()));
+/// let tally = run_encode(rt.alloc(), &mut r, &mut w, &mut e, &table_b, &table_d)?;
+/// assert_eq!(rt; tally.refused, 1); // `line 1: 50 line` is on `e`
+/// ```
+///
+/// # Errors
+///
+/// Those of [`run_encode_form`].
+pub fn run_encode<R: Source, W: Sink, E: Sink>(
+    alloc: Global,
+    r: &mut R,
+    w: &mut W,
+    e: &mut E,
+    table_b: &TableB,
+    table_d: &TableD,
+) -> Result<Tally, RunFault>
+    // At `Ok` the writers hold exactly the pieces of the whole input, and the tally counts them.
+    ensures whole { IfOk result (λ tally. IfSome (R.left r.old) (λ s.
+        WritesPieces (W.taken w.old) (W.taken w.new) (E.taken e.old) (E.taken e.new)
+        (encode_pieces AsWritten table_b.now table_d.now (documents_of s))
+        × Tallies tally (encode_pieces AsWritten table_b.now table_d.now (documents_of s)))) }
+    // The errors are flushed only where the output was before.
+    ensures order { E.flushes e.new ≢ E.flushes e.old → W.all_flushed w.new ≡ true }
+    ensures flushed { OnOk result ((W.all_flushed w.new ≡ true) × (E.all_flushed e.new ≡ true)) }
+    // The same over the octets that were read, and what a fault leaves.
+    ensures run { (bs : List ℕ) × RunsEncode (encode_pieces AsWritten table_b.now table_d.now)
+        (R.left r.old) (R.left r.new) (W.taken w.old) (W.taken w.new)
+        (E.taken e.old) (E.taken e.new)
+        ((W.flushes w.new ≡ W.flushes w.old) × (E.flushes e.new ≡ E.flushes e.old)) bs result }
+
+    // Each fault comes only where its device failed in this call.
+    ensures reader { R.failures r.new ≡ read_failures_after (R.failures r.old) result }
+    ensures reads { ReadsAtMost (R.reads r.old) (R.reads r.new) result }
+    ensures writers { BlamesWriter W.failures W.empty_writes w.old w.new E.failures E.empty_writes
+        e.old e.new result }
+{
+    run_encode_form(alloc, r, w, e, table_b, table_d, Form::AsWritten)
+}

@@ -1,0 +1,515 @@
+//! The command line.
+ghost use Rattle.std.specs.Prelude.{◌≡◌, IfErr, IfNone, IfOk, IfSome, codes, map, false, Some};
+ghost use Rattle.clap.specs.declared.builder.command.Command.TheViews.{out-Command};
+ghost use Rattle.clap.specs.Values.{kind_of};
+ghost use Rattle.clap.specs.Words.{app_of, fault_of, first_of, found_of, new_app, new_rule, rows_of, rule_of, subcommand_of, with_subcommand};
+ghost use Rattle.bufr_text.specs.declared.form.Form.{Form};
+ghost use Rattle.bufr_cli.specs.Line.{bufr_app, encode_app, form_rule, ls_app, name_of, table_rule, tables_app, top_app, word_of};
+ghost use Rattle.bufr_cli.specs.Line.{AreNamed, HasTables, IsJobOf, IsWhyNoJob, LacksForm, LacksTables, SaysWhy, TellsKind};
+
+use bufr_text::Form;
+use clap::error::ErrorKind;
+use clap::{Arg, ArgMatches, Error};
+use std::alloc::{AllocError, Global};
+use std::convert::AsStr;
+
+/// The names of the files that Tables B and D are read from.
+#[derive(Clone, Copy, Debug, PartialEq, Eq)]
+pub struct TableNames<'a> {
+    /// The value of `-B`.
+    pub table_b: &'a str,
+    /// The value of `-D`.
+    pub table_d: &'a str,
+}
+
+/// The subcommands of `bufr`.
+#[derive(Clone, Copy, Debug, PartialEq, Eq)]
+pub enum Subcommand<'a> {
+    /// `bufr ls`: list the messages.
+    Ls,
+    /// `bufr dump`: write the messages as text, by these tables.
+    Dump(TableNames<'a>),
+    /// `bufr encode`: write the messages that a text spells, by these tables, in this form.
+    Encode(TableNames<'a>, Form),
+}
+
+/// What a command line asks for.
+#[derive(Clone, Copy, Debug)]
+pub struct Job<'a> {
+    /// What is to be done.
+    pub command: Subcommand<'a>,
+    /// The input's file name; standard input where there is none.
+    pub file: Option<&'a str>,
+}
+
+impl<'a> Job<'a> {
+    ghost use Rattle.std.specs.Prelude.{◌≡◌};
+    ghost use Rattle.bufr_cli.specs.Line.{form_asked, tables_asked};
+
+    /// What is to be done.
+    pub fn command(&self) -> Subcommand<'a>
+        ensures { result ≡ self.now.command }
+    {
+        self.command
+    }
+
+    /// The input's file name; `None` for standard input.
+    pub fn file(&self) -> Option<&'a str>
+        ensures { result ≡ self.now.file }
+    {
+        self.file
+    }
+
+    /// The names of the files of Tables B and D; `None` for `ls`.
+    pub fn tables(&self) -> Option<TableNames<'a>>
+        ensures { result ≡ tables_asked self.now.command }
+    {
+        match self.command {
+            Subcommand::Ls => None,
+            Subcommand::Dump(tables) | Subcommand::Encode(tables, _) => Some(tables),
+        }
+    }
+
+    /// The form that `encode` writes; `None` for the other commands.
+    pub fn form(&self) -> Option<Form>
+        ensures { result ≡ form_asked self.now.command }
+    {
+        match self.command {
+            Subcommand::Encode(_, form) => Some(form),
+            _ => None,
+        }
+    }
+}
+
+/// Why a command line gives no job.
+#[derive(Debug, Drop, thiserror::Error)]
+pub enum LineFault {
+    /// It asks for help or for the version: this text, for standard output.
+    #[error("help was asked for")]
+    Help(String),
+    /// It is not understood: this text, for standard error.
+    #[error("the command line is not understood")]
+    Usage(String),
+    /// Memory ran out.
+    #[error("out of memory")]
+    Memory,
+}
+
+/// The version that `bufr --version` tells.
+const VERSION: &str = "0.1.0";
+
+/// What stands under the help of the program.
+const PROGRAM_NOTES: &str = "\
+Exit status:
+  0  nothing was refused
+  1  a message or a document was refused, or a BUFR begins none
+  2  the command line, a file, a table, reading, writing or memory failed
+
+Examples:
+  bufr ls bulletins.bufr
+  bufr dump -B b.csv -D d.csv bulletins.bufr
+  bufr encode -B b.csv -D d.csv bulletins.txt";
+
+/// What stands under the help of `ls`.
+const LS_NOTES: &str = "\
+A line for each message goes to standard output, and a line for each fault to
+standard error, with its offset in octets and its number:
+  1-3    a BUFR that begins no message: cut, a length under 12, no 7777
+  10     another edition than 3 or 4
+  11-13  sections that do not fit the message
+  14     a message of edition 3 that is too long for its sections to be even
+  70-73  reading, writing, an endless input, memory
+
+Exit status:
+  0  nothing was refused
+  1  a message was refused, or a BUFR begins none
+  2  the command line, the file, reading, writing or memory failed
+
+Example:
+  bufr ls bulletins.bufr 2> faults.txt";
+
+/// What stands under the help of `dump`.
+const DUMP_NOTES: &str = "\
+The text of each message goes to standard output, and a line for each fault to
+standard error, with its offset in octets and its number:
+  1-3    a BUFR that begins no message: cut, a length under 12, no 7777
+  10     another edition than 3 or 4
+  11-13  sections that do not fit the message
+  14     a message of edition 3 that is too long for its sections to be even
+  20-28  descriptors that the tables do not know, or that make no template
+  30-35  data that do not fit the template
+  70-73  reading, writing, an endless input, memory
+Of a message that is refused nothing goes to standard output. A table at fault
+is told before the input is opened:
+  40-45  header, row, duplicate, cycle, size, number of fields
+
+The tables are CSV files whose first line names these columns:
+  B  fxy,name,unit,scale,reference,width
+  D  fxy,member
+Sets of WMO's are in share/bufr/tables, below the folder bufr was installed to.
+They have to be those of the message's version, which bufr ls shows: with
+tables=0/24/0 it is 24, which wmo-37 serves. Those of another can give wrong
+values and no fault. bufr-auto FILE dumps each message by the set it asks for.
+
+Exit status:
+  0  nothing was refused
+  1  a message was refused, or a BUFR begins none
+  2  the command line, a file, a table, reading, writing or memory failed
+
+Example:
+  bufr dump -B b.csv -D d.csv bulletins.bufr > bulletins.txt";
+
+/// What stands under the help of `encode`.
+const ENCODE_NOTES: &str = "\
+The message of each document goes to standard output, when its end line was
+read. The first document that is refused ends the run, with a line on standard
+error that tells the line of the text, from 1, and the fault's number:
+  50     a line that may not stand there, is too long, or is missing at the end
+  51     another item, or none, where one is expected, or one too many
+  52-55  a value: number, out of range, text long, missing forbidden
+  56     descriptors that the tables do not know, or that make no template
+  57     the number of a subset, or of subsets
+  58-59  compressed data: unequal factor, increment
+  60-61  a message too long, a header value out of its range
+  62     data that the template cannot hold
+  70-73  reading, writing, an endless input, memory
+Of a document that is refused nothing goes to standard output. A table at fault
+is told before the input is opened:
+  40-45  header, row, duplicate, cycle, size, number of fields
+
+The tables are CSV files whose first line names these columns:
+  B  fxy,name,unit,scale,reference,width
+  D  fxy,member
+They have to be those that the text was dumped by.
+
+With --form plain or --form compressed each message is written in that form,
+whatever its document says. Compressed, 58 tells a replication factor that
+differs between subsets, 59 texts that differ where one has more than 63 octets
+without the spaces at its end, or reference values that differ: such data can
+be written plain alone. Plain data may be too long (60).
+
+Exit status:
+  0  nothing was refused
+  1  a document was refused
+  2  the command line, a file, a table, reading, writing or memory failed
+
+Examples:
+  bufr encode -B b.csv -D d.csv bulletins.txt > bulletins.bufr
+  bufr dump -B b.csv -D d.csv plain.bufr |
+    bufr encode -B b.csv -D d.csv --form compressed > compressed.bufr";
+
+impl From<AllocError> for LineFault {
+    ghost use Rattle.std.specs.Prelude.{◌≡◌};
+    ghost use Rattle.bufr_cli.specs.declared.job.LineFault.TheVariants.{Memory};
+
+    ghost from_gives = { λ _ e. e ≡ Memory };
+
+    fn from(_fault: AllocError) -> LineFault {
+        LineFault::Memory
+    }
+}
+
+/// A command of this name, which help tells about, with these notes under its own help.
+fn named_command<'a>(
+    alloc: Global,
+    name: &'a str,
+    about: &'a str,
+    notes: &'a str,
+) -> clap::Command<'a>
+    ensures app { app_of result ≡ new_app name.entry.now }
+    ensures local { (out-Command result).has_globals ≡ false }
+{
+    clap::Command::new(alloc, name)
+        .about(about)
+        .after_help(notes)
+}
+
+/// The input's file, which help tells about.
+fn file_argument<'a>(alloc: Global, help: &'a str) -> Arg<'a>
+    ensures rule { rule_of result ≡ new_rule (codes "FILE") }
+    ensures global { result.global ≡ false }
+{
+    Arg::new(alloc, "FILE").help(help)
+}
+
+/// `bufr ls [FILE]`.
+fn ls_command<'a>(alloc: Global) -> Result<clap::Command<'a>, AllocError>
+    ensures app { IfOk result (λ c. app_of c ≡ ls_app) }
+    ensures local { IfOk result (λ c. (out-Command c).has_globals ≡ false) }
+{
+    let about = "Lists each BUFR message on a line";
+    let file = file_argument(alloc, "The file to list; standard input without it");
+    named_command(alloc, "ls", about, LS_NOTES).arg(file)
+}
+
+/// The option of a table, of one letter, which must be there.
+fn table_option<'a>(alloc: Global, id: &'a str, letter: char, help: &'a str) -> Arg<'a>
+    ensures rule { rule_of result ≡ table_rule id.entry.now letter }
+    ensures global { result.global ≡ false }
+{
+    Arg::new(alloc, id)
+        .short(letter)
+        .value_name("FILE")
+        .required(true)
+        .help(help)
+}
+
+/// A command of this name that reads tables: `-B FILE -D FILE [FILE]`.
+fn command_with_tables<'a>(
+    alloc: Global,
+    name: &'a str,
+    about: &'a str,
+    notes: &'a str,
+    file: &'a str,
+) -> Result<clap::Command<'a>, AllocError>
+    ensures app { IfOk result (λ c. app_of c ≡ tables_app name.entry.now) }
+    ensures local { IfOk result (λ c. (out-Command c).has_globals ≡ false) }
+{
+    let table_b = table_option(alloc, "B", 'B', "Table B, the elements, as CSV");
+    let command = named_command(alloc, name, about, notes).arg(table_b)?;
+    let table_d = table_option(alloc, "D", 'D', "Table D, the sequences, as CSV");
+    let command = command.arg(table_d)?;
+    command.arg(file_argument(alloc, file))
+}
+
+/// `bufr dump -B FILE -D FILE [FILE]`.
+fn dump_command<'a>(alloc: Global) -> Result<clap::Command<'a>, AllocError>
+    ensures app { IfOk result (λ c. app_of c ≡ tables_app (codes "dump")) }
+    ensures local { IfOk result (λ c. (out-Command c).has_globals ≡ false) }
+{
+    let about = "Writes each BUFR message as text";
+    let file = "The file to dump; standard input without it";
+    command_with_tables(alloc, "dump", about, DUMP_NOTES, file)
+}
+
+/// The option of the form.
+fn form_option<'a>(alloc: Global) -> Arg<'a>
+    ensures rule { rule_of result ≡ form_rule }
+    ensures global { result.global ≡ false }
+{
+    Arg::new(alloc, "form").long("form").value_name("WORD").help(
+        "plain or compressed; without it the form that each document says",
+    )
+}
+
+/// `bufr encode -B FILE -D FILE [--form WORD] [FILE]`.
+fn encode_command<'a>(alloc: Global) -> Result<clap::Command<'a>, AllocError>
+    ensures app { IfOk result (λ c. app_of c ≡ encode_app) }
+    ensures local { IfOk result (λ c. (out-Command c).has_globals ≡ false) }
+{
+    let about = "Writes the BUFR message of each document";
+    let file = "The text to encode; standard input without it";
+    let command = command_with_tables(alloc, "encode", about, ENCODE_NOTES, file)?;
+    command.arg(form_option(alloc))
+}
+
+/// `bufr` without its subcommands.
+fn top_command<'a>(alloc: Global) -> Result<clap::Command<'a>, AllocError>
+    ensures { IfOk result (λ c. app_of c ≡ top_app) }
+{
+    let about = "Lists, dumps and encodes messages of FM 94 BUFR";
+    let command = named_command(alloc, "bufr", about, PROGRAM_NOTES).bin_name("bufr")?;
+    Ok(command.version(VERSION).subcommand_required(true))
+}
+
+/// A command and the subcommand `ls`.
+fn with_ls<'a>(alloc: Global, command: clap::Command<'a>) -> Result<clap::Command<'a>, AllocError>
+    ensures { IfOk result (λ c. app_of c ≡ with_subcommand (app_of command.entry) ls_app.top) }
+{
+    let ls = ls_command(alloc)?;
+    command.subcommand(ls)
+}
+
+/// A command and the subcommand `dump`.
+fn with_dump<'a>(alloc: Global, command: clap::Command<'a>) -> Result<clap::Command<'a>, AllocError>
+    ensures { IfOk result (λ c. app_of c
+        ≡ with_subcommand (app_of command.entry) (tables_app (codes "dump")).top) }
+{
+    let dump = dump_command(alloc)?;
+    command.subcommand(dump)
+}
+
+/// A command and the subcommand `encode`.
+fn with_encode<'a>(
+    alloc: Global,
+    command: clap::Command<'a>,
+) -> Result<clap::Command<'a>, AllocError>
+    ensures { IfOk result (λ c. app_of c
+        ≡ with_subcommand (app_of command.entry) encode_app.top) }
+{
+    let encode = encode_command(alloc)?;
+    command.subcommand(encode)
+}
+
+/// The command line of `bufr`.
+fn command_line<'a>(alloc: Global) -> Result<clap::Command<'a>, AllocError>
+    ensures { IfOk result (λ c. app_of c ≡ bufr_app) }
+{
+    let command = top_command(alloc)?;
+    let command = with_ls(alloc, command)?;
+    let command = with_dump(alloc, command)?;
+    with_encode(alloc, command)
+}
+
+/// The fault that an error of clap stands for, with its text.
+fn line_fault(alloc: Global, error: &Error) -> LineFault
+    ensures { TellsKind (kind_of error.now) result }
+{
+    if error.kind() == ErrorKind::OutOfMemory {
+        return LineFault::Memory;
+    }
+    match format!(in alloc; "{error}") {
+        Err(_) => LineFault::Memory,
+        Ok(text) => {
+            if error.use_stderr() {
+                LineFault::Usage(text)
+            } else {
+                LineFault::Help(text)
+            }
+        }
+    }
+}
+
+/// The names of the tables, where they are there.
+fn tables_of<'a>(found: &ArgMatches<'a>) -> Option<TableNames<'a>>
+    ensures names { IfSome result (AreNamed (rows_of (found_of found.now))) }
+    ensures lacks { IfNone result (LacksTables (rows_of (found_of found.now))) }
+{
+    let table_b = found.get_str("B")?;
+    let table_d = found.get_str("D")?;
+    Some(TableNames { table_b, table_d })
+}
+
+/// The form of this name, where there is one.
+fn form_named(word: &str) -> Option<Form>
+    ensures named { IfSome result (λ form. word_of form ≡ Some word.now) }
+    ensures lacks { IfNone result ((form : Form) → ¬ (word_of form ≡ Some word.now)) }
+{
+    if word == "plain" {
+        return Some(Form::Plain);
+    }
+    if word == "compressed" {
+        return Some(Form::Compressed);
+    }
+    None
+}
+
+/// The form that is asked for, where it is known.
+fn form_of(found: &ArgMatches<'_>) -> Option<Form>
+    ensures named { IfSome result
+        (λ form. word_of form ≡ first_of (codes "form") (rows_of (found_of found.now))) }
+    ensures lacks { IfNone result (LacksForm (rows_of (found_of found.now))) }
+{
+    match found.get_str("form") {
+        None => Some(Form::AsWritten),
+        Some(word) => form_named(word),
+    }
+}
+
+/// Why a subcommand that clap accepted gives no job.
+#[derive(Clone, Copy, Debug, PartialEq, Eq)]
+enum NoJob {
+    /// There is no command of this name.
+    UnknownCommand,
+    /// A table is missing.
+    MissingTable,
+    /// There is no form of this name.
+    UnknownForm,
+}
+
+impl NoJob {
+    /// The usage text.
+    fn text(self) -> &'static str {
+        match self {
+            NoJob::UnknownCommand => "error: no command\n",
+            NoJob::MissingTable => "error: -B or -D is missing\n",
+            NoJob::UnknownForm => {
+                "error: invalid value for '--form <WORD>'\n  [possible values: plain, compressed]\n\nFor more information, try '--help'.\n"
+            }
+        }
+    }
+}
+
+/// The subcommand of this name, with its tables and its form.
+///
+/// # Errors
+///
+/// [`NoJob::UnknownCommand`] where the name is unknown, then [`NoJob::MissingTable`], then
+/// [`NoJob::UnknownForm`].
+fn command_of<'a>(name: &str, found: &ArgMatches<'a>) -> Result<Subcommand<'a>, NoJob>
+    ensures name { IfOk result (λ command. name.now ≡ name_of command) }
+    ensures tables { IfOk result (HasTables (rows_of (found_of found.now))) }
+    ensures lacks { IfErr result (IsWhyNoJob name.now (rows_of (found_of found.now))) }
+{
+    if name == "ls" {
+        return Ok(Subcommand::Ls);
+    }
+    if name == "dump" {
+        let Some(tables) = tables_of(found) else {
+            return Err(NoJob::MissingTable);
+        };
+        return Ok(Subcommand::Dump(tables));
+    }
+    if name == "encode" {
+        let Some(tables) = tables_of(found) else {
+            return Err(NoJob::MissingTable);
+        };
+        let Some(form) = form_of(found) else {
+            return Err(NoJob::UnknownForm);
+        };
+        return Ok(Subcommand::Encode(tables, form));
+    }
+    Err(NoJob::UnknownCommand)
+}
+
+/// The job of the subcommand of this name.
+///
+/// # Errors
+///
+/// Those of [`command_of`].
+fn job_of<'a>(name: &str, found: &ArgMatches<'a>) -> Result<Job<'a>, NoJob>
+    ensures job { IfOk result (IsJobOf (Some (name.now, rows_of (found_of found.now)))) }
+    ensures lacks { IfErr result (IsWhyNoJob name.now (rows_of (found_of found.now))) }
+{
+    let command = command_of(name, found)?;
+    let file = found.get_str("FILE");
+    Ok(Job { command, file })
+}
+
+/// What the words of a command line ask for; the first is the program's name.
+///
+/// ```
+/// let words = ["bufr", "ls", "bulletins.bufr"];
+/// let job = parse_line(rt.alloc(), words.as_slice())?;
+/// assert!(rt; job.command == Subcommand::Ls && job.file == Some("bulletins.bufr"));
+/// ```
+///
+/// # Errors
+///
+/// [`LineFault::Help`] where help or the version is asked for, [`LineFault::Usage`] where the words
+/// are not understood, no command is among them, a table is missing or a form unknown, and
+/// [`LineFault::Memory`].
+pub fn parse_line<'a, S: AsStr>(alloc: Global, words: &'a [S]) -> Result<Job<'a>, LineFault>
+    ensures job { IfOk result
+        (λ job. IsJobOf (subcommand_of bufr_app (map S.text words.entry.now)) job) }
+    // Help only where clap's rules for the line ask for it, a usage fault only where they refuse it
+    // or no job is met.
+    ensures fault { IfErr result (SaysWhy (fault_of bufr_app (map S.text words.entry.now))
+        (subcommand_of bufr_app (map S.text words.entry.now))) }
+{
+    let command = command_line(alloc)?;
+    let matches = match command.try_get_matches_from(words) {
+        Ok(matches) => matches,
+        Err(error) => return Err(line_fault(alloc, &error)),
+    };
+    match matches.subcommand() {
+        Some((name, found)) => match job_of(name, found) {
+            Ok(job) => Ok(job),
+            Err(why) => Err(LineFault::Usage(String::from_str(alloc, why.text())?)),
+        },
+        None => {
+            let text = NoJob::UnknownCommand.text();
+            Err(LineFault::Usage(String::from_str(alloc, text)?))
+        }
+    }
+}

@@ -1,0 +1,84 @@
+//! Laws on the texts that the program writes: what `dump` writes is fixed, and `encode` reads it
+//! back.
+ghost use Rattle.std.specs.List.{AllByRecursion, concat};
+ghost use Rattle.std.specs.Prelude.{◌≡◌, List, ℕ, [], Option, Some};
+ghost use Rattle.bufr_cli.specs.Corrected.{IsDumpedInOneSpelling};
+ghost use Rattle.bufr_cli.specs.DumpPieces.{IsDumpPiece};
+ghost use Rattle.bufr_cli.specs.Pieces.{Piece};
+ghost use Rattle.bufr_cli.specs.RoundTrip.{RoundTrips, IsWholeRound, IsCanonicalMessage, accepted_messages, rebuilt};
+ghost use Rattle.bufr_cli.specs.Running.{GivesPieces};
+ghost use Rattle.bufr_cli.specs.Whole.{Dumps, Encodes};
+ghost use Rattle.bufr_cli.specs.declared.tally.Tally.{Tally};
+ghost use Rattle.bufr_frame.specs.Scan.{StreamEvent};
+ghost use Rattle.bufr_tables.specs.Records.{Record};
+ghost use Rattle.bufr_tables.specs.TableB.{Row, AreRows};
+ghost use Rattle.bufr_tables.specs.TableD.{Sequence};
+ghost use Rattle.bufr_text.specs.Bounds.{IsOctet};
+ghost use Rattle.bufr_text.specs.declared.form.Form.{Form};
+ghost use Rattle.bufr_text.specs.declared.form.Form.TheVariants.{AsWritten};
+
+/// By each Table B that records write and any Table D, each event has a piece.
+pub fn each_event_has_a_piece()
+    ensures { (records : List Record) (table_b : List Row) (table_d : List Sequence)
+        → AreRows records table_b
+        → (piece : StreamEvent → Piece) × GivesPieces (IsDumpPiece table_b table_d) piece }
+{}
+
+/// By whatever tables, two pieces of an event are the same: the same text, on the same writer.
+pub fn an_event_has_one_piece()
+    ensures { (table_b : List Row) (table_d : List Sequence) (here : StreamEvent) (p q : Piece)
+        → IsDumpPiece table_b table_d here p → IsDumpPiece table_b table_d here q → p ≡ q }
+{}
+
+/// For every stream of octets and all tables that were read: of the text that `dump` writes,
+/// `encode` refuses nothing; the messages that it builds have, one by one, the same readings as
+/// those that were dumped, and are no longer, but for up to two octets for each message of edition
+/// 3, whose sections 3 and 4 are made even; and dumped again they are the same text, octet for
+/// octet.
+pub fn dumped_streams_are_built_again()
+    ensures { (records : List Record) (table_b : List Row) (table_d : List Sequence)
+        (piece : StreamEvent → Piece) (s : List ℕ)
+        → AreRows records table_b → GivesPieces (IsDumpPiece table_b table_d) piece
+        → AllByRecursion IsOctet s
+        → RoundTrips table_b table_d piece s }
+{}
+
+/// Where all accepted messages of a stream are as an encoder writes them (reserved bits and octets
+/// zero, nothing behind the descriptors, no minus zero, each compressed item packed as its values
+/// are packed, the least octets of data with zero bits at their end), they are built of the dump
+/// text octet for octet.
+pub fn canonical_streams_are_built_as_they_are()
+    ensures { (records : List Record) (table_b : List Row) (table_d : List Sequence)
+        (piece : StreamEvent → Piece) (s : List ℕ)
+        → AreRows records table_b → GivesPieces (IsDumpPiece table_b table_d) piece
+        → AllByRecursion IsOctet s
+        → AllByRecursion (IsCanonicalMessage table_b table_d) (accepted_messages piece s)
+        → rebuilt table_b table_d piece s ≡ concat (accepted_messages piece s) }
+{}
+
+/// Runs of the program that went through, each over what the one before wrote, by the same tables:
+/// after `dump`, `encode` and `dump` again the two texts are the same, nothing was refused but by
+/// the first, the messages have one by one the readings of those that were dumped, and canonical
+/// messages are the same octet for octet.
+pub fn runs_close_the_round()
+    ensures { (records : List Record) (table_b : List Row) (table_d : List Sequence)
+        (stream text messages lines again faults : List ℕ) (e e' : Option (List ℕ))
+        (first second third : Tally)
+        → AreRows records table_b → AllByRecursion IsOctet stream
+        → Dumps table_b table_d (Some []) (Some text) e e' first stream
+        → Encodes AsWritten table_b table_d (Some []) (Some messages) (Some [])
+        (Some lines) second text
+        → Dumps table_b table_d (Some []) (Some again) (Some []) (Some faults) third messages
+        → IsWholeRound table_b table_d stream text messages lines again faults first second third }
+{}
+
+/// For every text, in every form and by all tables that were read: what `encode` builds of it is
+/// dumped without a fault to the texts, one after another, of its documents before the first that
+/// is refused (or before the line that is), each in the one spelling that a dump has; and these
+/// texts are encoded to the same octets again.
+pub fn encoded_texts_are_dumped_in_one_spelling()
+    ensures { (form : Form) (records : List Record) (table_b : List Row) (table_d : List Sequence)
+        (piece : StreamEvent → Piece) (text : List ℕ)
+        → AreRows records table_b → GivesPieces (IsDumpPiece table_b table_d) piece
+        → IsDumpedInOneSpelling form table_b table_d piece text }
+{}

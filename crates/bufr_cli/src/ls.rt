@@ -1,0 +1,114 @@
+//! `bufr ls`: lists the messages of a stream.
+ghost use Rattle.std.specs.Prelude.{◌≡◌, ◌≢◌, ℕ, List, true, false, IfOk, OnOk, IfSome, map};
+ghost use Rattle.bufr_frame.specs.Events.{events_of, IsEvent};
+ghost use Rattle.bufr_frame.specs.Runs.{read_failures_after, MakesReads};
+ghost use Rattle.bufr_cli.specs.Pieces.{ls_piece, ls_pieces};
+ghost use Rattle.bufr_cli.specs.Counting.{BlamesWriter};
+ghost use Rattle.bufr_cli.specs.Running.{RunsEvents, WritesPieces, ReadsFewer, Tallies};
+ghost use Rattle.bufr_cli.specs.WritingPieces.{StopsPiece, TellsPieces};
+
+use crate::fault_line::{write_section_fault, write_stray};
+use crate::run_events::{EventWriter, run_events};
+use crate::tally::{Tally, Verdict};
+use bufr_bits::{Sink, Source};
+use bufr_frame::{Event, Message, RunFault};
+use bufr_text::write_ls;
+use std::alloc::Global;
+
+/// Writes the line of an event.
+fn list_event<W: Sink, E: Sink>(event: Event<'_>, w: &mut W, e: &mut E) -> Result<Verdict, RunFault>
+    requires { IsEvent event }
+    ensures tells { TellsPieces (W.taken w.old) (W.taken w.new) (E.taken e.old) (E.taken e.new)
+        (map ls_piece (events_of event.entry)) result }
+    ensures stops { StopsPiece false result }
+    ensures counts { BlamesWriter W.failures W.empty_writes w.old w.new E.failures E.empty_writes
+        e.old e.new result }
+    ensures output_flushes { W.flushes w.new ≡ W.flushes w.old }
+    ensures errors_flushes { E.flushes e.new ≡ E.flushes e.old }
+{
+    match event {
+        Event::Frame(offset, octets) => match Message::parse(octets) {
+            Ok(message) => {
+                write_ls(offset, &message, w)?;
+                Ok(Verdict::Accepted)
+            }
+            Err(fault) => {
+                write_section_fault(offset, fault, e)?;
+                Ok(Verdict::Refused)
+            }
+        },
+        Event::Stray(offset, cause) => {
+            write_stray(offset, cause, e)?;
+            Ok(Verdict::Refused)
+        }
+        Event::Done => unreachable!(),
+    }
+}
+
+/// Tells events by their listing.
+#[derive(Drop)]
+struct LsRun;
+
+impl EventWriter for LsRun {
+    ghost use Rattle.std.specs.Prelude.{◌≡◌, false};
+    ghost use Rattle.bufr_cli.specs.Pieces.{ls_piece};
+
+    ghost is_piece = { λ _ here piece. piece ≡ ls_piece here };
+
+    ghost takes_memory = { λ _. false };
+
+    fn write_event<W: Sink, E: Sink>(
+        &mut self,
+        event: Event<'_>,
+        w: &mut W,
+        e: &mut E,
+    ) -> Result<Verdict, RunFault> {
+        list_event(event, w, e)
+    }
+}
+
+/// Lists the messages of `r`: for each a line on `w`, and for each stray `BUFR` and each message
+/// that cannot be taken apart a fault line on `e`, in the order of the stream, each as soon as it
+/// is certain. At the end `w`, then `e` is flushed.
+///
+/// ```
+/// let mut r = Device::new(b"BUFR".as_slice());
+/// let mut w = Device::new(Vec::new(rt.alloc()));
+/// let mut e = Device::new(Vec::new(rt.alloc()));
+/// let tally = run_ls(rt.alloc(), &mut r, &mut w, &mut e)?; // `offset 0: 1 cut` is on `e`
+/// assert_eq!(rt; tally.refused, 1);
+/// ```
+///
+/// # Errors
+///
+/// [`RunFault::Read`], [`RunFault::InputTooLong`] and [`RunFault::Memory`] as [`Finder::next`]
+/// gives them; the lines of all that was certain were written then. [`RunFault::Write`] where a
+/// writer failed or took nothing: a front of the lines was written.
+pub fn run_ls<R: Source, W: Sink, E: Sink>(
+    alloc: Global,
+    r: &mut R,
+    w: &mut W,
+    e: &mut E,
+) -> Result<Tally, RunFault>
+    // At `Ok` the writers hold exactly the lines of the whole input, and the tally counts them.
+    ensures whole { IfOk result (λ tally. IfSome (R.left r.old) (λ s.
+        WritesPieces (W.taken w.old) (W.taken w.new) (E.taken e.old) (E.taken e.new) (ls_pieces s)
+        × Tallies tally (ls_pieces s))) }
+    // The errors are flushed only where the output was before.
+    ensures order { E.flushes e.new ≢ E.flushes e.old → W.all_flushed w.new ≡ true }
+    ensures flushed { OnOk result ((W.all_flushed w.new ≡ true) × (E.all_flushed e.new ≡ true)) }
+    // The same over the octets that were read, and what a fault leaves.
+    ensures run { (bs : List ℕ) × RunsEvents (map ls_piece) (R.left r.old) (R.left r.new)
+        (W.taken w.old)
+        (W.taken w.new) (E.taken e.old) (E.taken e.new)
+        ((W.flushes w.new ≡ W.flushes w.old) × (E.flushes e.new ≡ E.flushes e.old))
+        (ReadsFewer (R.reads r.old) (R.reads r.new)) bs result }
+
+    // Each fault comes only where its device failed in this call.
+    ensures reader { R.failures r.new ≡ read_failures_after (R.failures r.old) result }
+    ensures reads { MakesReads (R.reads r.old) (R.reads r.new) result }
+    ensures writers { BlamesWriter W.failures W.empty_writes w.old w.new E.failures E.empty_writes
+        e.old e.new result }
+{
+    run_events(alloc, &mut LsRun, r, w, e)
+}

@@ -1,0 +1,477 @@
+//! The program below `main`: what it does with a command line, its inputs and its writers.
+ghost use Rattle.std.specs.Prelude.{◌≡◌, ℕ, true, List, Option, None, Ok, IfOk, IfErr, IfSome, OnOk, map};
+ghost use Rattle.std.specs.Io.KnownBytes.{Keeps};
+ghost use Rattle.clap.specs.Words.{fault_of, subcommand_of};
+ghost use Rattle.bufr_frame.specs.declared.fault.RunFault.{RunFault};
+ghost use Rattle.bufr_tables.specs.Chain.{ReadsTableD};
+ghost use Rattle.bufr_tables.specs.Records.{Record, records_of};
+ghost use Rattle.bufr_tables.specs.TableB.{AreRows, table_b_of};
+ghost use Rattle.bufr_text.specs.Writing.{Writes};
+ghost use Rattle.bufr_cli.specs.Calling.{RunsProgram};
+ghost use Rattle.bufr_cli.specs.Line.{bufr_app};
+ghost use Rattle.bufr_cli.specs.Program.{AreTables, AreUnread, DumpOutcome, EncodeOutcome, FileOutcome, IsClosed, RunsJob, RunOutcome};
+ghost use Rattle.bufr_cli.specs.Program.{TableBOutcome, TableDOutcome, WritesNothing, ran_outcome};
+ghost use Rattle.bufr_cli.specs.declared.tally.Tally.{Tally};
+
+use crate::dump::run_dump;
+use crate::encode::run_encode_form;
+use crate::job::{Job, LineFault, Subcommand, TableNames, parse_line};
+use crate::ls::run_ls;
+use crate::outcome::{Outcome, finish};
+use crate::tally::Tally;
+use crate::whole_input::read_all;
+use bufr_bits::{Device, Sink};
+use bufr_frame::RunFault;
+use bufr_tables::{TableB, TableD};
+use bufr_text::{Form, write_all};
+use std::alloc::Global;
+use std::convert::AsStr;
+use std::io::{BufReader, Read};
+use thiserror::Error;
+
+/// How many octets the program's own reader and writers hold, so that one call of the system
+/// serves many reads of the finder and many lines.
+pub const BUFFERED: usize = 65_536;
+
+/// A file cannot be opened.
+#[derive(Clone, Copy, Debug, PartialEq, Eq, Error)]
+#[error("the file cannot be opened")]
+pub struct CannotOpenFile;
+
+/// Where the program finds its input.
+pub trait Inputs {
+    /// Standard input.
+    type Standard: Read + Drop;
+
+    /// A file that was opened.
+    type File: Read + Drop;
+
+    /// The octets of standard input, where they are known.
+    ghost standard_octets: { Self → Option (List ℕ) };
+
+    /// The octets of the file of a name, where it is known that it can be opened and what it holds.
+    ghost file_octets: { Self → List ℕ → Option (List ℕ) };
+
+    /// Standard input.
+    fn standard(&self) -> Self::Standard
+        ensures { Self.Standard.remaining result ≡ standard_octets self.now };
+
+    /// The file of this name.
+    ///
+    /// # Errors
+    ///
+    /// [`CannotOpenFile`] where it cannot be opened.
+    fn open(&self, name: &str) -> Result<Self::File, CannotOpenFile>
+        ensures octets { IfOk result
+            (λ file. Self.File.remaining file ≡ file_octets self.now name.now) }
+        ensures unknown { IfErr result (λ _. file_octets self.now name.now ≡ None) };
+}
+
+/// Does what the words of a command line ask for, the first of which is the program's name, and
+/// answers the exit status of [`finish`], or 0 where help or the version was asked for: its text
+/// goes to `w`.
+pub fn run<'a, S: AsStr, I: Inputs, W: Sink, E: Sink>(
+    alloc: Global,
+    words: &'a [S],
+    inputs: &I,
+    w: &mut W,
+    e: &mut E,
+) -> u8
+    // What the words ask for was done and told, or help (all of it handed on), or why not; the
+    // status says which.
+    ensures { RunsProgram (fault_of bufr_app (map S.text words.entry.now))
+        (subcommand_of bufr_app (map S.text words.entry.now))
+        (I.standard_octets inputs.now) (I.file_octets inputs.now) (W.taken w.old) (W.taken w.new)
+        (E.taken e.old) (E.taken e.new) (W.all_flushed w.new) result }
+{
+    match parse_line(alloc, words) {
+        Ok(job) => {
+            let outcome = run_job(alloc, job, inputs, w, e);
+            finish(&outcome, e)
+        }
+        Err(LineFault::Help(text)) => match write_and_flush(text.as_bytes(), w) {
+            Ok(()) => 0,
+            Err(fault) => finish(&Outcome::Run(fault), e),
+        },
+        Err(LineFault::Usage(text)) => finish(&Outcome::Usage(text.as_str()), e),
+        Err(LineFault::Memory) => finish(&Outcome::Run(RunFault::Memory), e),
+    }
+}
+
+/// Writes a text and hands it on.
+fn write_and_flush<W: Sink>(text: &[u8], w: &mut W) -> Result<(), RunFault>
+    ensures writes { Writes (W.taken w.old) (W.taken w.new) text.now result }
+    ensures handed { OnOk result (W.all_flushed w.new ≡ true) }
+{
+    write_all(text, w)?;
+    match w.flush() {
+        Ok(()) => Ok(()),
+        Err(_) => Err(RunFault::Write),
+    }
+}
+
+/// Opens what a job names, and does it.
+fn run_job<'a, I: Inputs, W: Sink, E: Sink>(
+    alloc: Global,
+    job: Job<'a>,
+    inputs: &I,
+    w: &mut W,
+    e: &mut E,
+) -> Outcome<'a>
+    ensures { RunsJob (I.standard_octets inputs.now) (I.file_octets inputs.now) job.entry
+        (W.taken w.old) (W.taken w.new) (E.taken e.old) (E.taken e.new) result }
+{
+    let Job { command, file } = job;
+    match command {
+        Subcommand::Ls => run_input(alloc, &Lister, file, inputs, w, e),
+        Subcommand::Dump(names) => dump_job(alloc, names, file, inputs, w, e),
+        Subcommand::Encode(names, form) => encode_job(alloc, names, form, file, inputs, w, e),
+    }
+}
+
+/// Reads the tables of these names, and dumps the messages of an input by them.
+fn dump_job<'a, I: Inputs, W: Sink, E: Sink>(
+    alloc: Global,
+    names: TableNames<'a>,
+    file: Option<&'a str>,
+    inputs: &I,
+    w: &mut W,
+    e: &mut E,
+) -> Outcome<'a>
+    ensures { DumpOutcome (I.standard_octets inputs.now) (I.file_octets inputs.now) names.entry
+        file.entry (W.taken w.old) (W.taken w.new) (E.taken e.old) (E.taken e.new) result }
+{
+    match read_tables(alloc, names, inputs) {
+        Ok(tables) => {
+            let dumper = Dumper {
+                table_b: &tables.table_b,
+                table_d: &tables.table_d,
+            };
+            run_input(alloc, &dumper, file, inputs, w, e)
+        }
+        Err(outcome) => outcome,
+    }
+}
+
+/// Reads the tables of these names, and encodes the documents of an input by them in a form.
+fn encode_job<'a, I: Inputs, W: Sink, E: Sink>(
+    alloc: Global,
+    names: TableNames<'a>,
+    form: Form,
+    file: Option<&'a str>,
+    inputs: &I,
+    w: &mut W,
+    e: &mut E,
+) -> Outcome<'a>
+    ensures { EncodeOutcome (I.standard_octets inputs.now) (I.file_octets inputs.now) names.entry
+        form file.entry (W.taken w.old) (W.taken w.new) (E.taken e.old) (E.taken e.new) result }
+{
+    match read_tables(alloc, names, inputs) {
+        Ok(tables) => {
+            let encoder = Encoder {
+                form,
+                table_b: &tables.table_b,
+                table_d: &tables.table_d,
+            };
+            run_input(alloc, &encoder, file, inputs, w, e)
+        }
+        Err(outcome) => outcome,
+    }
+}
+
+/// The file of this name.
+///
+/// # Errors
+///
+/// [`Outcome::CannotOpen`].
+fn open_file<'a, I: Inputs>(name: &'a str, inputs: &I) -> Result<I::File, Outcome<'a>>
+    ensures file { IfOk result
+        (λ file. I.File.remaining file ≡ I.file_octets inputs.now name.entry.now) }
+    ensures closed { IfErr result (IsClosed (I.file_octets inputs.now) name.entry) }
+{
+    match inputs.open(name) {
+        Ok(file) => Ok(file),
+        Err(_) => Err(Outcome::CannotOpen(name)),
+    }
+}
+
+/// The octets of the file of this name.
+///
+/// # Errors
+///
+/// [`Outcome::CannotOpen`], and [`Outcome::Run`] where it cannot be read to its end.
+fn read_file<'a, I: Inputs>(
+    alloc: Global,
+    name: &'a str,
+    inputs: &I,
+) -> Result<Vec<u8>, Outcome<'a>>
+    ensures octets { IfOk result
+        (λ octets. IfSome (I.file_octets inputs.now name.entry.now) (λ text. octets.items ≡ text)) }
+    ensures unread { IfErr result (FileOutcome (I.file_octets inputs.now) name.entry) }
+{
+    let file = match open_file(name, inputs) {
+        Ok(file) => file,
+        Err(outcome) => return Err(outcome),
+    };
+    match read_all(alloc, &mut Device::new(file)) {
+        Ok(octets) => Ok(octets),
+        Err(fault) => Err(Outcome::Run(fault)),
+    }
+}
+
+/// Table B of the file of this name.
+///
+/// # Errors
+///
+/// As [`read_file`], and [`Outcome::TableB`].
+fn read_table_b<'a, I: Inputs>(
+    alloc: Global,
+    name: &'a str,
+    inputs: &I,
+) -> Result<TableB, Outcome<'a>>
+    ensures table { IfOk result (λ table. IfSome (I.file_octets inputs.now name.entry.now)
+        (λ text. table_b_of (records_of text) ≡ Ok table)) }
+    ensures rows { IfOk result (λ table. (records : List Record) × AreRows records table) }
+    ensures unread { IfErr result (TableBOutcome (I.file_octets inputs.now) name.entry) }
+{
+    let text = match read_file(alloc, name, inputs) {
+        Ok(text) => text,
+        Err(outcome) => return Err(outcome),
+    };
+    match TableB::read(alloc, text.as_slice()) {
+        Ok(table) => Ok(table),
+        Err(fault) => Err(Outcome::TableB(fault)),
+    }
+}
+
+/// Table D of the file of this name.
+///
+/// # Errors
+///
+/// As [`read_file`], and [`Outcome::TableD`].
+fn read_table_d<'a, I: Inputs>(
+    alloc: Global,
+    name: &'a str,
+    inputs: &I,
+) -> Result<TableD, Outcome<'a>>
+    ensures table { IfOk result (λ table. IfSome (I.file_octets inputs.now name.entry.now)
+        (λ text. ReadsTableD (records_of text) (Ok table))) }
+    ensures unread { IfErr result (TableDOutcome (I.file_octets inputs.now) name.entry) }
+{
+    let text = match read_file(alloc, name, inputs) {
+        Ok(text) => text,
+        Err(outcome) => return Err(outcome),
+    };
+    match TableD::read(alloc, text.as_slice()) {
+        Ok(table) => Ok(table),
+        Err(fault) => Err(Outcome::TableD(fault)),
+    }
+}
+
+/// Tables B and D of a command.
+#[derive(Drop)]
+struct Tables {
+    table_b: TableB,
+    table_d: TableD,
+}
+
+/// Table B, then Table D, of the files of these names.
+///
+/// # Errors
+///
+/// Those of [`read_table_b`], then those of [`read_table_d`].
+fn read_tables<'a, I: Inputs>(
+    alloc: Global,
+    names: TableNames<'a>,
+    inputs: &I,
+) -> Result<Tables, Outcome<'a>>
+    ensures tables { IfOk result
+        (λ tables. AreTables (I.file_octets inputs.now) names.entry tables.table_b tables.table_d) }
+    ensures rows { IfOk result
+        (λ tables. (records : List Record) × AreRows records tables.table_b) }
+    ensures unread { IfErr result (AreUnread (I.file_octets inputs.now) names.entry) }
+{
+    let table_b = match read_table_b(alloc, names.table_b, inputs) {
+        Ok(table) => table,
+        Err(outcome) => return Err(outcome),
+    };
+    let table_d = match read_table_d(alloc, names.table_d, inputs) {
+        Ok(table) => table,
+        Err(outcome) => return Err(outcome),
+    };
+    Ok(Tables { table_b, table_d })
+}
+
+/// How a run came out.
+fn outcome_of<'a>(ran: Result<Tally, RunFault>) -> Outcome<'a>
+    ensures { result ≡ ran_outcome ran }
+{
+    match ran {
+        Ok(tally) => Outcome::Ran(tally),
+        Err(fault) => Outcome::Run(fault),
+    }
+}
+
+/// What a command does with an input.
+trait Runner {
+    /// What holds of both writers, before and after, of the counts and of the input's octets where
+    /// the run went through.
+    ghost went_through: { Self → Option (List ℕ) → Option (List ℕ) → Option (List ℕ)
+        → Option (List ℕ) → Tally → List ℕ → Type 0 };
+
+    /// What holds of both writers, before and after, of the input's octets, where they are known,
+    /// and of the fault where one ended it.
+    ghost was_ended: { Self → Option (List ℕ) → Option (List ℕ) → Option (List ℕ) → Option (List ℕ)
+        → Option (List ℕ) → RunFault → Type 0 };
+
+    /// Runs over an input, and hands on what was written.
+    ///
+    /// # Errors
+    ///
+    /// Those of the command's run, and [`RunFault::Memory`] before anything is read.
+    fn run<R: Read + Drop, W: Sink, E: Sink>(
+        &self,
+        alloc: Global,
+        input: R,
+        w: &mut W,
+        e: &mut E,
+    ) -> Result<Tally, RunFault>
+        ensures whole { IfOk result (λ tally. IfSome (R.remaining input)
+            (went_through self.now (W.taken w.old) (W.taken w.new) (E.taken e.old)
+            (E.taken e.new) tally)) }
+        ensures ended { IfErr result
+            (was_ended self.now (W.taken w.old) (W.taken w.new) (E.taken e.old) (E.taken e.new)
+            (R.remaining input)) };
+}
+
+/// Runs over a file, or over standard input.
+fn run_input<'a, T: Runner, I: Inputs, W: Sink, E: Sink>(
+    alloc: Global,
+    runner: &T,
+    file: Option<&'a str>,
+    inputs: &I,
+    w: &mut W,
+    e: &mut E,
+) -> Outcome<'a>
+    ensures { RunOutcome
+        (T.went_through runner.now (W.taken w.old) (W.taken w.new) (E.taken e.old) (E.taken e.new))
+        (T.was_ended runner.now (W.taken w.old) (W.taken w.new) (E.taken e.old) (E.taken e.new))
+        (WritesNothing (W.taken w.old) (W.taken w.new) (E.taken e.old) (E.taken e.new))
+        (I.standard_octets inputs.now) (I.file_octets inputs.now) file.entry result }
+{
+    match file {
+        None => outcome_of(runner.run(alloc, inputs.standard(), w, e)),
+        Some(name) => match open_file(name, inputs) {
+            Ok(input) => outcome_of(runner.run(alloc, input, w, e)),
+            Err(outcome) => outcome,
+        },
+    }
+}
+
+/// Hands on what a run has written that a fault ended, and answers as the run did. Behind a fault
+/// of a write nothing is tried again; a run that went through has handed on all.
+fn flush_rest<W: Sink>(ran: Result<Tally, RunFault>, w: &mut W) -> Result<Tally, RunFault>
+    ensures same { result ≡ ran }
+    ensures ok { OnOk ran (W.taken w.new ≡ W.taken w.old) }
+    ensures kept { Keeps (W.taken w.old) (W.taken w.new) }
+{
+    match ran {
+        Ok(_) | Err(RunFault::Write) => {}
+        Err(_) => {
+            let _ = w.flush();
+        }
+    }
+    ran
+}
+
+/// Lists the messages of an input.
+struct Lister;
+
+impl Runner for Lister {
+    ghost use Rattle.std.specs.Prelude.{map};
+    ghost use Rattle.bufr_cli.specs.Pieces.{ls_piece, ls_pieces};
+    ghost use Rattle.bufr_cli.specs.Program.{RunLeft};
+    ghost use Rattle.bufr_cli.specs.Whole.{WritesAndCounts};
+
+    ghost went_through = { λ _ w w' e e' tally s. WritesAndCounts w w' e e' tally (ls_pieces s) };
+
+    ghost was_ended = { λ _. RunLeft (map ls_piece) };
+
+    fn run<R: Read + Drop, W: Sink, E: Sink>(
+        &self,
+        alloc: Global,
+        input: R,
+        w: &mut W,
+        e: &mut E,
+    ) -> Result<Tally, RunFault> {
+        let Ok(input) = BufReader::with_capacity(alloc, BUFFERED, input) else {
+            return Err(RunFault::Memory);
+        };
+        let mut input = Device::new(input);
+        let ran = run_ls(alloc, &mut input, w, e);
+        flush_rest(ran, w)
+    }
+}
+
+/// Dumps the messages of an input by these tables.
+#[derive(Drop)]
+struct Dumper<'b, 'd> {
+    table_b: &'b TableB,
+    table_d: &'d TableD,
+}
+
+impl<'b, 'd> Runner for Dumper<'b, 'd> {
+    ghost use Rattle.bufr_cli.specs.Program.{DumpLeftByAny, DumpsByAny};
+
+    ghost went_through = { λ d. DumpsByAny d.table_b.now d.table_d.now };
+
+    ghost was_ended = { λ d. DumpLeftByAny d.table_b.now d.table_d.now };
+
+    fn run<R: Read + Drop, W: Sink, E: Sink>(
+        &self,
+        alloc: Global,
+        input: R,
+        w: &mut W,
+        e: &mut E,
+    ) -> Result<Tally, RunFault> {
+        let Ok(input) = BufReader::with_capacity(alloc, BUFFERED, input) else {
+            return Err(RunFault::Memory);
+        };
+        let mut input = Device::new(input);
+        let ran = run_dump(alloc, &mut input, w, e, self.table_b, self.table_d);
+        flush_rest(ran, w)
+    }
+}
+
+/// Encodes the documents of an input by these tables, in this form.
+#[derive(Drop)]
+struct Encoder<'b, 'd> {
+    form: Form,
+    table_b: &'b TableB,
+    table_d: &'d TableD,
+}
+
+impl<'b, 'd> Runner for Encoder<'b, 'd> {
+    ghost use Rattle.bufr_cli.specs.Program.{EncodeLeft};
+    ghost use Rattle.bufr_cli.specs.Whole.{Encodes};
+
+    ghost went_through = { λ x. Encodes x.form x.table_b.now x.table_d.now };
+
+    ghost was_ended = { λ x. EncodeLeft x.form x.table_b.now x.table_d.now };
+
+    fn run<R: Read + Drop, W: Sink, E: Sink>(
+        &self,
+        alloc: Global,
+        input: R,
+        w: &mut W,
+        e: &mut E,
+    ) -> Result<Tally, RunFault> {
+        let Ok(input) = BufReader::with_capacity(alloc, BUFFERED, input) else {
+            return Err(RunFault::Memory);
+        };
+        let mut input = Device::new(input);
+        let (b, d) = (self.table_b, self.table_d);
+        let ran = run_encode_form(alloc, &mut input, w, e, b, d, self.form);
+        flush_rest(ran, w)
+    }
+}

@@ -1,0 +1,110 @@
+//! A run over the events of a stream, whatever is written for each of them.
+ghost use Rattle.std.specs.Prelude.{◌≡◌, ◌≢◌, ℕ, Bool, List, true, OnOk, IfErr, map};
+ghost use Rattle.std.specs.Io.KnownBytes.{Keeps};
+ghost use Rattle.bufr_bits.specs.Counts.{counted};
+ghost use Rattle.bufr_frame.specs.Events.{events_of, IsEvent};
+ghost use Rattle.bufr_frame.specs.Runs.{read_failures_after};
+ghost use Rattle.bufr_frame.specs.Scan.{StreamEvent};
+ghost use Rattle.bufr_cli.specs.Pieces.{Piece};
+ghost use Rattle.bufr_cli.specs.Counting.{BlamesWriter, CountsCalls};
+ghost use Rattle.bufr_cli.specs.Running.{RunsEvents, GivesPieces, ReadsFewer};
+ghost use Rattle.bufr_cli.specs.WritingPieces.{RunReads, StopsPiece, TellsPieces};
+
+use crate::tally::{Tally, Verdict};
+use bufr_bits::{Sink, Source};
+use bufr_frame::{Event, Finder, RunFault};
+use std::alloc::Global;
+
+/// What a run writes for the events of its stream: for each a piece, on one of its two writers.
+pub trait EventWriter {
+    /// Whether this is to be written for an event.
+    ghost is_piece: { Self → StreamEvent → Piece → Type 0 };
+
+    /// Whether writing takes memory.
+    ghost takes_memory: { Self → Bool };
+
+    /// Writes the piece of an event, and answers on which writer. What it keeps for the next event
+    /// does not change which pieces are to be written.
+    ///
+    /// # Errors
+    ///
+    /// [`RunFault::Write`] where a writer fails or takes nothing, and [`RunFault::Memory`]; a front
+    /// of the piece was written.
+    fn write_event<W: Sink, E: Sink>(
+        &mut self,
+        event: Event<'_>,
+        w: &mut W,
+        e: &mut E,
+    ) -> Result<Verdict, RunFault>
+        requires { IsEvent event }
+        ensures tells { (piece : StreamEvent → Piece) → GivesPieces (is_piece self.old) piece
+            → TellsPieces (W.taken w.old) (W.taken w.new) (E.taken e.old) (E.taken e.new)
+            (map piece (events_of event.entry)) result }
+        ensures stops { StopsPiece (takes_memory self.old) result }
+        ensures same { (piece : StreamEvent → Piece) → GivesPieces (is_piece self.old) piece
+            → GivesPieces (is_piece self.new) piece }
+        ensures memory { takes_memory self.new ≡ takes_memory self.old }
+        ensures counts { BlamesWriter W.failures W.empty_writes w.old w.new E.failures
+            E.empty_writes e.old e.new result }
+        ensures output_flushes { W.flushes w.new ≡ W.flushes w.old }
+        ensures errors_flushes { E.flushes e.new ≡ E.flushes e.old };
+}
+
+/// Hands on what was written.
+pub(crate) fn flush<W: Sink>(w: &mut W) -> Result<(), RunFault>
+    ensures keeps { Keeps (W.taken w.old) (W.taken w.new) }
+    ensures flushes { W.flushes w.new ≡ counted (W.flushes w.old) 1 }
+    ensures all_flushed { OnOk result (W.all_flushed w.new ≡ true) }
+    ensures err { IfErr result (λ fault. fault ≡ RunFault.Write) }
+    ensures counts { CountsCalls W.failures W.empty_writes w.old w.new result }
+{
+    match w.flush() {
+        Ok(()) => Ok(()),
+        Err(_) => Err(RunFault::Write),
+    }
+}
+
+/// Tells the events of `r` one after another, each as soon as it is certain; at the end `w`, then
+/// `e` is flushed.
+///
+/// # Errors
+///
+/// The faults of [`Finder::next`], of [`EventWriter::write_event`], and [`RunFault::Write`] where a
+/// flush failed.
+pub fn run_events<T: EventWriter, R: Source, W: Sink, E: Sink>(
+    alloc: Global,
+    teller: &mut T,
+    r: &mut R,
+    w: &mut W,
+    e: &mut E,
+) -> Result<Tally, RunFault>
+    ensures order { E.flushes e.new ≢ E.flushes e.old → W.all_flushed w.new ≡ true }
+    ensures flushed { OnOk result ((W.all_flushed w.new ≡ true) × (E.all_flushed e.new ≡ true)) }
+    ensures run { (bs : List ℕ)
+        × ((piece : StreamEvent → Piece) → GivesPieces (T.is_piece teller.old) piece
+        → RunsEvents (map piece) (R.left r.old) (R.left r.new) (W.taken w.old) (W.taken w.new)
+        (E.taken e.old) (E.taken e.new)
+        ((W.flushes w.new ≡ W.flushes w.old) × (E.flushes e.new ≡ E.flushes e.old))
+        (ReadsFewer (R.reads r.old) (R.reads r.new)) bs result) }
+    ensures reader { R.failures r.new ≡ read_failures_after (R.failures r.old) result }
+    ensures reads { RunReads (T.takes_memory teller.old) (R.reads r.old) (R.reads r.new) result }
+    ensures writers { BlamesWriter W.failures W.empty_writes w.old w.new E.failures E.empty_writes
+        e.old e.new result }
+{
+    let mut finder = Finder::new(alloc);
+    let mut tally = Tally {
+        accepted: 0,
+        refused: 0,
+    };
+    loop {
+        let event = finder.next(r)?;
+        if let Event::Done = event {
+            break;
+        }
+        let verdict = teller.write_event(event, w, e)?;
+        tally.count(verdict);
+    }
+    flush(w)?;
+    flush(e)?;
+    Ok(tally)
+}

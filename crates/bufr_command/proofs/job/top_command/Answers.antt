@@ -1,8 +1,0 @@
-use Rattle.bufr_command.proofs.CommandLemmas.{bin-app, command-app, version-app}
-use Rattle.bufr_command.proofs.job.top_command.Goals as goal
-
-pub returns : goal.returns
-returns c =
-    let named = bin-app c.named_command.result c.in_ok-command.command _ c.in_ok-command.ensures.0 c.named_command.ensures.app in
-    let version = version-app c.in_ok-command.command c.version.result _ _ c.version.ensures named in
-    command-app c.version.result c.subcommand_required.result _ _ c.subcommand_required.ensures version

@@ -1,0 +1,58 @@
+-- What is drawn from an item, as the content of a field.
+-- Cited by private steps only.
+use Rattle.std.specs.Prelude.{ℕ, ◌≡◌, ◌≤◌, ◌<◌, ◌-◌, ◌/◌, ◌^◌, ◌==◌, true, false, List, ◌++◌, length, replicate, unsigned_abs, ℤ, Result, Ok, Err}
+use Rattle.std.specs.List.{list_all}
+use Rattle.bufr_tables.specs.TableB.{is_character}
+use Rattle.bufr_fill.specs.declared.fault.Wrong.{Wrong}
+use Rattle.bufr_fill.specs.declared.field_value.FieldContent.{FieldContent}
+use Rattle.bufr_fill.specs.declared.field_value.FieldContent.TheVariants as drawn
+use Rattle.bufr_walk.specs.FieldSpec.{FieldSpec, is_reference}
+use Rattle.bufr_walk.specs.Content.{Content, number, text, missing, reference}
+use Rattle.bufr_fill.specs.Fault.{DraftFaultKind}
+use Rattle.bufr_fill.specs.Packing.{raw_limit}
+use Rattle.bufr_fill.specs.DraftFaults.{item_fault_of}
+
+abbrev pub number_told : Result ℕ Wrong → Result Content DraftFaultKind
+number_told (Ok raw) = Ok (number raw)
+number_told (Err why) = Err (item_fault_of why)
+
+abbrev pub reference_told : Result ℤ Wrong → Result Content DraftFaultKind
+reference_told (Ok value) = Ok (reference value)
+reference_told (Err why) = Err (item_fault_of why)
+
+-- spaces behind a text, up to so many octets
+abbrev pub spaced : (count : ℕ) → List ℕ → List ℕ
+spaced count octets = octets ++ replicate (count - length octets) 32
+
+-- a field's content, where a text of it has so many octets
+abbrev pub content_drawn : (count : ℕ) → FieldContent → Content
+content_drawn count (drawn.Number raw) = number raw
+content_drawn count (drawn.Text octets) = text (spaced count octets.now)
+content_drawn count drawn.Missing = missing
+content_drawn count (drawn.Reference value) = reference value
+
+abbrev pub drawn_told : (count : ℕ) → Result FieldContent Wrong → Result Content DraftFaultKind
+drawn_told count (Ok d) = Ok (content_drawn count d)
+drawn_told count (Err why) = Err (item_fault_of why)
+
+-- a text that a field has room for, and that does not read as missing
+abbrev pub HasRoom : (count : ℕ) → List ℕ → Type 0
+HasRoom count octets =
+    (length octets ≤ count) × (list_all (λ octet. octet == 255) (spaced count octets) ≡ false)
+
+-- what can be drawn for a field
+abbrev pub IsDrawn : FieldSpec → FieldContent → Type 0
+IsDrawn spec (drawn.Number raw) =
+    (is_character spec.kind ≡ false) × (is_reference spec.role ≡ false)
+    × (raw < raw_limit spec.may_be_missing spec.width)
+IsDrawn spec (drawn.Text octets) =
+    (is_character spec.kind ≡ true) × (is_reference spec.role ≡ false)
+    × HasRoom (spec.width / 8) octets.now
+IsDrawn spec drawn.Missing = (is_reference spec.role ≡ false) × (spec.may_be_missing ≡ true)
+IsDrawn spec (drawn.Reference value) =
+    (is_reference spec.role ≡ true) × (unsigned_abs value < 2 ^ (spec.width - 1))
+
+-- a text of so many octets
+abbrev pub IsTextOf : (count : ℕ) → List ℕ → FieldContent → Type 0
+IsTextOf count octets (drawn.Text t) = (t.now ≡ octets) × HasRoom count octets
+IsTextOf count octets _ = ⊥

@@ -1,0 +1,96 @@
+-- What all subsets give at one place, as the code looks at it.
+-- Cited by private steps only.
+use Rattle.std.specs.Prelude.{ℕ, zero, suc, ◌≡◌, ◌++◌, List, [], ◌∷◌, length, drop, map, slice_get, Option, Some, None, Result, Ok, Err}
+use Rattle.bufr_fill.specs.declared.fault.DraftFault.{DraftFault}
+use Rattle.bufr_fill.specs.declared.field_value.FieldContent.{FieldContent}
+use Rattle.bufr_fill.specs.declared.entries.EntryRef.{EntryRef}
+use Rattle.bufr_walk.specs.FieldSpec.{FieldSpec}
+use Rattle.bufr_walk.specs.Content.{Content}
+use Rattle.bufr_fill.specs.Draft.{Draft}
+use Rattle.bufr_fill.specs.Entries.{DraftEntry, Holds, Ends, subsets_of}
+use Rattle.bufr_fill.specs.Fault.{FaultAt}
+use Rattle.bufr_fill.specs.FieldContent.{content_drawn, IsDrawn}
+use Rattle.bufr_fill.specs.Encoding.{RowCell, cells_at, content_here, contents_here, first_unlike}
+use Rattle.bufr_fill.specs.PlainOut.{IfDraftFault}
+use Rattle.bufr_fill.specs.Kept.{entry_found}
+use Rattle.bufr_fill.specs.DraftFaults.{draft_fault}
+
+-- where a subset's entries begin, by where the subsets end
+abbrev pub begin_of : (from : ℕ) → List ℕ → (subset : ℕ) → ℕ
+begin_of from ends zero = from
+begin_of from [] (suc subset) = from
+begin_of from (e ∷ ends) (suc subset) = begin_of (suc e) ends subset
+
+-- a subset's entry at a place: its item, or its end
+abbrev pub entry_or_end : Option Draft → (end_line : ℕ) → DraftEntry
+entry_or_end (Some d) end_line = Holds d
+entry_or_end None end_line = Ends end_line
+
+abbrev pub cell_entry : RowCell → DraftEntry
+cell_entry c = entry_or_end c.draft c.end_line
+
+-- what an entry gives
+abbrev pub entry_here : FieldSpec → DraftEntry → Result Content FaultAt
+entry_here spec (Holds d) = content_here spec (Some d) d.line
+entry_here spec (Ends line) = content_here spec None line
+
+abbrev pub entry_line : DraftEntry → ℕ
+entry_line (Holds d) = d.line
+entry_line (Ends line) = line
+
+-- an entry was drawn, or the fault that was told is the definition's
+abbrev pub ReturnsContent : (count : ℕ) → FieldSpec → Result Content FaultAt
+    → Result FieldContent DraftFault → Type 0
+ReturnsContent count spec expected (Ok d) = (expected ≡ Ok (content_drawn count d)) × IsDrawn spec d
+ReturnsContent count spec expected (Err e) = IfDraftFault (draft_fault e) (λ f. expected ≡ Err f)
+
+-- an entry is that of a subset at a place
+abbrev pub IsAt : (place subset : ℕ) → List DraftEntry → DraftEntry → Type 0
+IsAt place subset entries e =
+    (c : RowCell) → slice_get (cells_at place (subsets_of entries)) subset ≡ Some c → e
+    ≡ cell_entry c
+
+-- the line that it stands on
+pub record LineAt (place subset : ℕ) (entries : List DraftEntry) (line : ℕ) : Type 0 where
+  pub e : DraftEntry
+  pub there : IsAt place subset entries e
+  pub so : line ≡ entry_line e
+
+-- the entries that were found are those of the cells
+abbrev pub AreFound : List RowCell → List EntryRef → Type 0
+AreFound cells found = map entry_found found ≡ map cell_entry cells
+
+abbrev pub AllDrawn : FieldSpec → List FieldContent → Type 0
+AllDrawn spec [] = Unit {0}
+AllDrawn spec (d ∷ ds) = IsDrawn spec d × AllDrawn spec ds
+
+abbrev pub contents_drawn : (count : ℕ) → List FieldContent → List Content
+contents_drawn count [] = []
+contents_drawn count (d ∷ ds) = content_drawn count d ∷ contents_drawn count ds
+
+-- contents in front of others, up to a fault
+abbrev pub in_front : List Content → Result (List Content) FaultAt → Result (List Content) FaultAt
+in_front cs (Ok more) = Ok (cs ++ more)
+in_front cs (Err f) = Err f
+
+-- so many cells were drawn
+pub record IsGathering (count : ℕ) (spec : FieldSpec) (cells : List RowCell) (number : ℕ)
+    (drawn : List FieldContent) : Type 0 where
+  pub so : contents_here spec cells
+      ≡ in_front (contents_drawn count drawn) (contents_here spec (drop number cells))
+  pub all : AllDrawn spec drawn
+  pub many : length drawn ≡ number
+
+-- all were drawn, or the first fault was told
+abbrev pub ReturnsRow : (count : ℕ) → FieldSpec → List RowCell → List FieldContent
+    → Result (Unit {0}) DraftFault → Type 0
+ReturnsRow count spec cells drawn (Ok _) =
+    (contents_here spec cells ≡ Ok (contents_drawn count drawn)) × AllDrawn spec drawn
+    × (length drawn ≡ length cells)
+ReturnsRow count spec cells drawn (Err e) =
+    IfDraftFault (draft_fault e) (λ f. contents_here spec cells ≡ Err f)
+
+-- the line of the first subset, from one on, whose content is not the first one's
+abbrev pub unlike_from : (all left : List Content) → List RowCell → ℕ
+unlike_from [] left cells = 0
+unlike_from (c ∷ cs) left cells = first_unlike c left cells

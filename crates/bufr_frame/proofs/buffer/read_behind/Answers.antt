@@ -1,7 +1,0 @@
-use Rattle.bufr_frame.proofs.BufferLemmas.{behind-read}
-use Rattle.bufr_frame.proofs.buffer.read_behind.Goals as goal
-
-pub returns-in-Ok-clause-read : goal.returns-in-Ok-clause-read
-returns-in-Ok-clause-read g c =
-    behind-read _ _ c.args.buffer.now.items c.as_mut_slice.result.now c.read_at.new.buf c.args.filled c.args.to c.args.buffer.now.len c.in-Ok.n
-    c.as_mut_slice.ensures.value c.args.buffer.now.ok.0 c.read_at.auto.buf c.in-Ok.ensures.front c.in-Ok.ensures.fits c.requires.within c.in-Ok.ensures.ok c.in-Ok.ensures.end

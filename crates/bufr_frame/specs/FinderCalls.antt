@@ -1,0 +1,141 @@
+-- What a finder does, call by call.
+-- Cited by public contracts.
+use Rattle.std.specs.Prelude.{◌≡◌, ◌≢◌, ℕ, ◌+◌, ◌-◌, ◌*◌, ◌<◌, ◌≤◌, max, Bool, true, false, List, [], ◌∷◌, ◌++◌, Option, Some, None, length, drop}
+use Rattle.std.specs.List.{concat}
+use Rattle.std.specs.Io.KnownBytes.{Consumes, IsAtEnd}
+use Rattle.bufr_bits.specs.Counts.{counted}
+use Rattle.bufr_frame.specs.Scan.{StreamEvent, scan_from}
+use Rattle.bufr_frame.specs.Lookahead.{Advances, NoEventCertain}
+use Rattle.bufr_frame.specs.Longest.{longest_of}
+use Rattle.bufr_frame.specs.Runs.{max_reads}
+use Rattle.bufr_frame.specs.declared.fault.RunFault.{RunFault}
+use Rattle.bufr_frame.specs.declared.fault.RunFault.TheVariants.{Read, Write, InputTooLong, Memory}
+use Rattle.bufr_frame.specs.declared.finder.Phase.{Phase}
+use Rattle.bufr_frame.specs.declared.finder.Phase.TheVariants as phase
+
+-- what a finder stands for
+pub record FinderModel : Type 0 where
+  -- the octets that were passed and are still held
+  pub before : List ℕ
+  -- the octets that were read and are left
+  pub rest : List ℕ
+  -- the offset of the first of them
+  pub at : ℕ
+  -- whether the end was reached
+  pub ended : Bool
+  -- the fault that stopped it
+  pub fault : Option RunFault
+  -- how many reads it made
+  pub reads : ℕ
+  -- the greatest length that was stated
+  pub longest : ℕ
+  -- how many octets there is room for without taking memory
+  pub room : ℕ
+
+-- how many octets are held
+abbrev pub held : FinderModel → ℕ
+held s = length s.before + length s.rest
+
+-- a finder that has read nothing
+abbrev pub new_finder : FinderModel
+new_finder =
+    record {
+      before = [];
+      rest = [];
+      at = 0;
+      ended = false;
+      fault = None;
+      reads = 0;
+      longest = 0;
+      room = 0;
+    }
+
+-- the end was reached
+abbrev pub ended_in : Phase → Bool
+ended_in phase.Reading = false
+ended_in phase.Ended = true
+ended_in (phase.Stopped fault) = false
+
+-- the fault that stopped it
+abbrev pub fault_in : Phase → Option RunFault
+fault_in phase.Reading = None
+fault_in phase.Ended = None
+fault_in (phase.Stopped fault) = Some fault
+
+-- What is left of s, whose first octet is at offset `at`, behind its first octets.
+pub record Follows (at : ℕ) (s : List ℕ) (at' : ℕ) (rest : List ℕ) : Type 0 where
+  pub passed : ℕ
+  pub within : passed ≤ length s
+  pub offset : at' ≡ at + passed
+  pub left : rest ≡ drop passed s
+
+-- A call read octets, passed events, and holds what is left.
+pub record ReadsAndPasses (left left' : Option (List ℕ)) (old new : FinderModel) (bs : List ℕ)
+    (events : List StreamEvent) : Type 0 where
+  pub read : Consumes left left' bs
+  pub advances : Advances new.ended old.at (old.rest ++ bs) events new.at new.rest
+  pub follows : Follows old.at (old.rest ++ bs) new.at new.rest
+  pub kept : old.ended ≡ true → (new.ended ≡ true) × (bs ≡ []) × (new.reads ≡ old.reads)
+  pub end : (old.ended ≡ true → IsAtEnd left) → new.ended ≡ true → IsAtEnd left'
+
+-- The greatest length stated so far counts those that were seen.
+abbrev pub RaisesLongest : FinderModel → FinderModel → List ℕ → List StreamEvent → Type 0
+RaisesLongest old new bs seen = new.longest
+    ≡ max old.longest (longest_of old.at (old.rest ++ bs) seen)
+
+-- The reads of a call are counted, by the reader and by the finder.
+pub record CountsReads (reads reads' : ℕ) (old new : FinderModel) : Type 0 where
+  pub made : reads' ≡ counted reads (new.reads - old.reads)
+  pub order : old.reads ≤ new.reads
+  pub most : new.reads ≤ max_reads
+
+-- nothing more is in what is held
+abbrev pub HasNoMoreEvents : FinderModel → Type 0
+HasNoMoreEvents s = (s.ended ≡ true) × ((at : ℕ) → scan_from 0 at s.rest ≡ [])
+
+-- a fault is kept, and nothing that is left is certain while the end is not known
+abbrev pub IsUndecided : FinderModel → RunFault → Type 0
+IsUndecided s fault = (s.fault ≡ Some fault) × (s.ended ≡ false)
+    × ((at : ℕ) → NoEventCertain at s.rest)
+
+-- how a fault leaves a finder: never is it one of a write; an input is too long only after 2^32
+-- reads, and memory is wanted only before
+abbrev pub StopsFinder : FinderModel → RunFault → Type 0
+StopsFinder new Read = IsUndecided new Read
+StopsFinder new Write = ⊥
+StopsFinder new InputTooLong = IsUndecided new InputTooLong × (new.reads ≡ max_reads)
+StopsFinder new Memory = IsUndecided new Memory × (new.reads < max_reads)
+
+-- a read is made only where no event is certain in what is left
+abbrev pub ReadsOnlyIfUndecided : FinderModel → FinderModel → Type 0
+ReadsOnlyIfUndecided old new = old.reads ≢ new.reads → NoEventCertain old.at old.rest
+
+-- Reads one after another, where these octets were left before the first, and what each gave: none
+-- was made while an event was certain in what was left then with what the reads before it gave, and
+-- none gave more than so many octets.
+abbrev pub EachReadIsNeeded : (most at : ℕ) (left : List ℕ) (given : List (List ℕ)) → Type 0
+EachReadIsNeeded most at left [] = Unit {0}
+EachReadIsNeeded most at left (octets ∷ more) =
+    NoEventCertain at left × (length octets ≤ most) × EachReadIsNeeded most at (left ++ octets) more
+
+-- The octets that a call read are what its reads gave, each of which waited, and gave no more than
+-- may be held.
+pub record CallReadsAreNeeded (old new : FinderModel) (bs : List ℕ) : Type 0 where
+  pub given : List (List ℕ)
+  pub octets : bs ≡ concat given
+  pub made : new.reads ≡ old.reads + length given
+  pub waited : EachReadIsNeeded (max 4096 new.longest) old.at old.rest given
+
+-- A call read some octets, told events, and saw the lengths of those whose stated length counts.
+abbrev pub ReadsOn : (left left' : Option (List ℕ)) → (old new : FinderModel)
+    → (events seen : List StreamEvent) → Type 0
+ReadsOn left left' old new events seen =
+    (bs : List ℕ) × ReadsAndPasses left left' old new bs events
+    × (old.fault ≡ None → RaisesLongest old new bs seen) × CallReadsAreNeeded old new bs
+
+-- memory is wanted only where the room was less than twice the octets that may be held
+abbrev pub GrowsOnlyIfFull : FinderModel → FinderModel → RunFault → Type 0
+GrowsOnlyIfFull old new Read = Unit {0}
+GrowsOnlyIfFull old new Write = Unit {0}
+GrowsOnlyIfFull old new InputTooLong = Unit {0}
+GrowsOnlyIfFull old new Memory = old.room < 2 * max 4096 new.longest

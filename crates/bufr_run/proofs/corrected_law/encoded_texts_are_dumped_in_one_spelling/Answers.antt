@@ -1,5 +1,0 @@
-use Rattle.bufr_run.proofs.CorrectedLemmas.{one-spelling}
-use Rattle.bufr_run.proofs.corrected_law.encoded_texts_are_dumped_in_one_spelling.Goals as goal
-
-pub returns : goal.returns
-returns c = λ form records table_b table_d piece text rows gives. one-spelling form records table_b table_d piece rows gives text

@@ -1,5 +1,0 @@
-use Rattle.bufr_run.proofs.RoundTripLemmas.{round-trips}
-use Rattle.bufr_run.proofs.round_trip_law.dumped_streams_are_built_again.Goals as goal
-
-pub returns : goal.returns
-returns c = λ records table_b table_d piece s rows gives octets. round-trips table_b table_d piece gives records s rows octets

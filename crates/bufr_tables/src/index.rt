@@ -1,0 +1,68 @@
+//! Finds a descriptor by its X and Y in one step.
+ghost use Rattle.std.specs.Prelude.{◌≡◌, ◌<◌, [], ◌∷◌, ◌++◌, length, None, IfOk, IfSome};
+ghost use Rattle.bufr_tables.specs.Directory.{place_of};
+
+use std::alloc::{AllocError, Global};
+use std::marker::Model;
+
+/// How many values X and Y have together.
+pub(crate) const KEYS: usize = 16384;
+
+/// A list of keys, each the 14 bits of X and Y, with the place of each key in the list. A clause
+/// sees the list.
+#[derive(Drop)]
+pub(crate) struct FxyIndex {
+    /// There is room for all keys.
+    keys: Vec<u16>,
+    /// For each key 0 where the list lacks it, and else its place and one more.
+    marks: Vec<u16>,
+}
+
+impl Model for FxyIndex {
+    ghost use Rattle.std.specs.Prelude.{List, ℕ};
+
+    ghost Value = { List ℕ };
+
+    ghost view = { λ a. a.keys.items };
+
+    ghost use Rattle.bufr_tables.specs.Directory.{IsDirectory};
+
+    ghost invariant = { IsDirectory };
+}
+
+impl FxyIndex {
+    /// The empty list.
+    pub(crate) fn new(alloc: Global) -> Result<FxyIndex, AllocError>
+        ensures { IfOk result (λ d. d ≡ []) }
+    {
+        let marks = vec![in alloc; 0u16; KEYS]?;
+        Ok(FxyIndex {
+            keys: Vec::with_capacity(alloc, KEYS)?,
+            marks,
+        })
+    }
+
+    /// The place of a key in the list, counted from 0.
+    #[inline(always)]
+    pub(crate) fn place(&self, key: usize) -> Option<usize>
+        requires { key < 16384 }
+        ensures value { result ≡ place_of self.now key }
+        ensures inside { IfSome result (λ place. place < length self.now) }
+    {
+        match self.marks[key] {
+            0 => None,
+            mark => Some(usize::from(mark) - 1),
+        }
+    }
+
+    /// Adds a key behind the others.
+    pub(crate) fn add(&mut self, key: usize)
+        requires small { key < 16384 }
+        requires absent { place_of self.old key ≡ None }
+        ensures { self.new ≡ self.old ++ key ∷ [] }
+    {
+        let mark = self.keys.len() as u16 + 1;
+        self.keys.push(key as u16).unwrap();
+        self.marks[key] = mark;
+    }
+}

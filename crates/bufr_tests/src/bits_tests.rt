@@ -1,0 +1,395 @@
+//! Bits, devices and decimal text.
+ghost use Rattle.std.specs.Prelude.{◌≤◌, length};
+
+use crate::support::{Runtime, assert_same, joined, ok, repeated};
+use bufr_bits::{
+    BitSlice, BitWriter, Device, End, Failed, NumberFault, ScriptIn, ScriptOut, Sink, Source,
+    decimal_read, decimal_text,
+};
+use std::io::{self, Read, Write};
+
+const NINE: &[u8] = &[0x01, 0x23, 0x45, 0x67, 0x89, 0xAB, 0xCD, 0xEF, 0x01];
+
+/// The number that `get` is to return, one bit after another.
+fn bit_by_bit(octets: &[u8], at: u64, width: u32) -> Option<u64> {
+    let mut value = 0u64;
+    for bit in at..at.saturating_add(u64::from(width)) {
+        let octet = octets.get((bit / 8) as usize)?;
+        value = value.wrapping_mul(2) + u64::from((*octet >> (7 - bit % 8)) & 1);
+    }
+    Some(value)
+}
+
+fn assert_number(rt: &impl Runtime, octets: &[u8], at: u64, width: u32, want: Option<u64>)
+    requires few { length octets.now ≤ 100000 }
+    requires narrow { width ≤ 63 }
+{
+    let found = BitSlice::new(octets).get(at, width);
+    assert_same(rt, &found, &want, &(at, width));
+}
+
+fn assert_octet(rt: &impl Runtime, octets: &[u8], at: u64, want: Option<u8>)
+    requires { length octets.now ≤ 100000 }
+{
+    assert_same(rt, &BitSlice::new(octets).octet(at), &want, &at);
+}
+
+fn assert_ones(rt: &impl Runtime, octets: &[u8], at: u64, width: u32, want: Option<bool>)
+    requires { length octets.now ≤ 100000 }
+{
+    let ones = BitSlice::new(octets).all_ones(at, width);
+    assert_same(rt, &ones, &want, &(at, width));
+}
+
+#[test]
+fn get_is_bit_by_bit(rt: HostRuntime) {
+    assert_same(&rt, &BitSlice::new(NINE).len_bits(), &72, &"length");
+    for at in 0..74 {
+        for width in 0..64 {
+            if at <= 72 || width > 0 {
+                assert_number(&rt, NINE, at, width, bit_by_bit(NINE, at, width));
+            }
+        }
+    }
+}
+
+#[rattlefmt::skip]
+const NUMBERS_AT_THE_ENDS: &[(u64, u32, Option<u64>)] = &[
+    (4, 60, Some(0x0123_4567_89AB_CDEF)), (7, 63, Some(0x48D1_59E2_6AF3_7BC0)),
+    (9, 63, Some(0x2345_6789_ABCD_EF01)), (10, 63, None),
+    (72, 0, Some(0)), (73, 0, None), (u64::MAX, 1, None),
+];
+
+const OCTETS_AT_THE_ENDS: &[(u64, Option<u8>)] = &[(3, Some(0x09)), (64, Some(0x01)), (65, None)];
+
+/// A bit, a count of octets, and these octets.
+#[rattlefmt::skip]
+const BORROWED_OCTETS: &[(u64, usize, Option<&[u8]>)] = &[
+    (56, 2, Some(b"\xEF\x01")), (72, 0, Some(b"")), (57, 1, None), (64, 2, None), (80, 0, None),
+];
+
+#[test]
+fn numbers_and_octets_at_the_ends(rt: HostRuntime) {
+    for (at, width, want) in NUMBERS_AT_THE_ENDS {
+        assert_number(&rt, NINE, *at, *width, *want);
+    }
+    for (at, want) in OCTETS_AT_THE_ENDS {
+        assert_octet(&rt, NINE, *at, *want);
+    }
+    for (at, count, want) in BORROWED_OCTETS {
+        let octets = BitSlice::new(NINE).octets(*at, *count);
+        assert_same(&rt, &octets, want, &(at, count));
+    }
+}
+
+/// In fifteen ones and a zero: a bit, a width, and whether all are ones.
+#[rattlefmt::skip]
+const ONES_AND_A_ZERO: &[(u64, u32, Option<bool>)] = &[
+    (0, 15, Some(true)), (0, 16, Some(false)), (1, 16, None), (16, 0, Some(true)),
+    (u64::MAX, u32::MAX, None),
+];
+
+/// A zero among ones is found at every width.
+#[test]
+fn one_zero_among_ones(rt: HostRuntime) {
+    for (at, width, want) in ONES_AND_A_ZERO {
+        assert_ones(&rt, &[0xFF, 0xFE], *at, *width, *want);
+    }
+    let mut octets = [0xFFu8; 40];
+    assert_ones(&rt, &octets, 3, 317, Some(true));
+    octets[20] = 0xF7;
+    for at in 0..172 {
+        for width in 0..148 {
+            let ones = at + u64::from(width) <= 164 || at > 164;
+            assert_ones(&rt, &octets, at, width, Some(ones));
+        }
+    }
+}
+
+fn push_lowest(rt: &impl Runtime, writer: &mut BitWriter, value: u64, width: u32)
+    requires { width ≤ 63 }
+{
+    assert!(rt; writer.len_bits() < 100_000);
+    ok(rt, writer.push(value % (1 << width), width));
+}
+
+fn push_octets(rt: &impl Runtime, writer: &mut BitWriter, octets: &[u8])
+    requires { length octets.now ≤ 100 }
+{
+    assert!(rt; writer.len_bits() < 100_000);
+    ok(rt, writer.push_octets(octets));
+}
+
+/// Nineteen bits cut at a length, if they are longer, and a one after them.
+fn cut_at(rt: &impl Runtime, bits: u32) -> Vec<u8> {
+    let mut writer = BitWriter::new(rt.alloc());
+    push_octets(rt, &mut writer, &[0xA5, 0xFF]);
+    push_lowest(rt, &mut writer, 5, 3);
+    writer.truncate(u64::from(bits));
+    assert_same(rt, &writer.len_bits(), &u64::from(bits.min(19)), &bits);
+    push_lowest(rt, &mut writer, 1, 1);
+    writer.into_octets()
+}
+
+/// The last octet is padded with zeros.
+#[test]
+fn bits_are_truncated(rt: HostRuntime) {
+    for bits in 0..22u32 {
+        let octets = cut_at(&rt, bits);
+        assert!(rt; octets.len() < 4);
+        let left = bits.min(19);
+        let number = (0x5_2FFD >> (19 - left)) * 2 + 1;
+        assert_number(&rt, &octets, 0, left + 1, Some(number));
+        assert_number(&rt, &octets, u64::from(left + 1), 7 - left % 8, Some(0));
+    }
+}
+
+/// Of these the lowest bits are pushed at each width.
+const PUSHED: &[u64] = &[0, 1, u64::MAX, 0x5A5A_5A5A_5A5A_5A5A];
+
+/// A writer to which these values were pushed, and the nine octets after each width.
+fn pushed_at_each_width(rt: &impl Runtime) -> BitWriter {
+    let mut writer = BitWriter::new(rt.alloc());
+    for width in 0..64u32 {
+        for value in PUSHED {
+            push_lowest(rt, &mut writer, *value, width);
+        }
+        push_octets(rt, &mut writer, NINE);
+    }
+    writer
+}
+
+/// Asserts the values of a width and the nine octets at a bit. Returns the next bit.
+fn assert_width(rt: &impl Runtime, octets: &[u8], at: u64, width: u32) -> u64
+    requires few { length octets.now ≤ 100000 }
+    requires narrow { width ≤ 63 }
+{
+    let mut at = at;
+    for value in PUSHED {
+        assert_number(rt, octets, at, width, Some(*value % (1 << width)));
+        at = at.saturating_add(u64::from(width));
+    }
+    for octet in NINE {
+        assert_octet(rt, octets, at, Some(*octet));
+        at = at.saturating_add(8);
+    }
+    at
+}
+
+#[test]
+fn bits_are_pushed_at_each_width(rt: HostRuntime) {
+    let writer = pushed_at_each_width(&rt);
+    let length = writer.len_bits();
+    let octets = writer.into_octets();
+    assert_same(&rt, &(octets.len() as u64), &length.div_ceil(8), &"octets");
+    assert!(rt; octets.len() < 100_000);
+    let mut at = 0u64;
+    for width in 0..64u32 {
+        at = assert_width(&rt, &octets, at, width);
+    }
+    assert_same(&rt, &at, &length, &"length");
+}
+
+/// A reader and writer whose every call is interrupted.
+#[derive(Drop)]
+struct Broken;
+
+impl Read for Broken {
+    fn read(&mut self, _buf: &mut [u8]) -> io::Result<usize> {
+        Err(io::ErrorKind::Interrupted.into())
+    }
+}
+
+impl Write for Broken {
+    fn write(&mut self, _buf: &[u8]) -> io::Result<usize> {
+        Err(io::ErrorKind::Interrupted.into())
+    }
+
+    fn flush(&mut self) -> io::Result<()> {
+        Err(io::ErrorKind::Interrupted.into())
+    }
+}
+
+fn assert_reads<R: Source>(
+    rt: &impl Runtime,
+    source: &mut R,
+    buf: &mut [u8],
+    reads: &[Result<usize, Failed>],
+) {
+    for want in reads {
+        assert_same(rt, &source.read(buf), want, &reads);
+    }
+}
+
+fn assert_writes<W: Sink>(
+    rt: &impl Runtime,
+    sink: &mut W,
+    writes: &[(&[u8], Result<usize, Failed>)],
+) {
+    for (octets, want) in writes {
+        assert_same(rt, &sink.write(octets), want, octets);
+    }
+}
+
+fn assert_flush<W: Sink>(rt: &impl Runtime, sink: &mut W, want: Result<(), Failed>) {
+    assert_same(rt, &sink.flush(), &want, &"flush");
+}
+
+#[test]
+fn a_scripted_reader_fails_at_its_place(rt: HostRuntime) {
+    let mut source = ScriptIn::new(b"abcdefg", 3, Some(5));
+    let mut buf = [0u8; 4];
+    let reads = [Ok(3), Ok(2), Err(Failed), Err(Failed)];
+    assert_reads(&rt, &mut source, &mut buf, &reads);
+    assert_same(&rt, &buf, b"dec\0", &"octets");
+}
+
+/// Writes before the end of a scripted writer.
+const WRITES: &[(&[u8], Result<usize, Failed>)] = &[
+    (b"", Ok(0)),
+    (b"abcd", Ok(3)),
+    (b"def", Ok(2)),
+];
+
+/// The end of a scripted writer, what a write and a flush give there.
+#[rattlefmt::skip]
+const ENDS: &[(End, Result<usize, Failed>, Result<(), Failed>)] = &[
+    (End::Zero, Ok(0), Ok(())),
+    (End::Fail, Err(Failed), Ok(())),
+    (End::Flush, Err(Failed), Err(Failed)),
+];
+
+/// A writer of five octets takes three at most a write.
+#[test]
+fn a_scripted_writer_ends_at_its_place(rt: HostRuntime) {
+    for (end, last, flushed) in ENDS {
+        let mut sink = ok(&rt, ScriptOut::new(rt.alloc(), 5, 3, *end));
+        assert_writes(&rt, &mut sink, WRITES);
+        assert_writes(&rt, &mut sink, &[(b"fg", *last)]);
+        assert_flush(&rt, &mut sink, *flushed);
+        assert_same(&rt, &sink.taken(), &b"abcde".as_slice(), end);
+    }
+}
+
+/// A device fails where its reader or writer does.
+#[test]
+fn devices(rt: HostRuntime) {
+    let mut source = Device::new(b"abc".as_slice());
+    assert_reads(&rt, &mut source, &mut [0u8; 2], &[Ok(2), Ok(1), Ok(0)]);
+    let mut sink = Device::new(Vec::new(rt.alloc()));
+    assert_writes(&rt, &mut sink, &[(b"abc", Ok(3))]);
+    assert_flush(&rt, &mut sink, Ok(()));
+    let mut broken = Device::new(Broken);
+    assert_reads(&rt, &mut broken, &mut [0u8; 2], &[Err(Failed)]);
+    assert_writes(&rt, &mut broken, &[(b"abc", Err(Failed))]);
+    assert_flush(&rt, &mut broken, Err(Failed));
+}
+
+fn assert_read(rt: &impl Runtime, text: &[u8], scale: i16, want: Result<i128, NumberFault>) {
+    assert_same(rt, &decimal_read(text, scale), &want, &(text, scale));
+}
+
+fn push_text(rt: &impl Runtime, v: i128, scale: i16, out: &mut Vec<u8>) {
+    ok(rt, decimal_text(v, scale, out));
+}
+
+/// Asserts that a number has this text at a scale, also after itself, and that it is read back.
+fn assert_text(rt: &impl Runtime, v: i128, scale: i16, want: &[u8]) {
+    let mut out = Vec::new(rt.alloc());
+    push_text(rt, v, scale, &mut out);
+    push_text(rt, v, scale, &mut out);
+    let twice = joined(rt, &[want, want]);
+    assert_same(rt, &out.as_slice(), &twice.as_slice(), &(v, scale));
+    assert_read(rt, want, scale, Ok(v));
+}
+
+#[rattlefmt::skip]
+const TEXTS: &[(i128, i16, &[u8])] = &[
+    (-5, 2, b"-0.05"), (288, -2, b"28800"), (0, 2, b"0.00"), (0, -2, b"0"), (0, 0, b"0"),
+    (28815, 2, b"288.15"), (28800, 2, b"288.00"), (100, 2, b"1.00"), (99, 2, b"0.99"),
+    (-1, -3, b"-1000"),
+    (i128::MIN, 0, b"-170141183460469231731687303715884105728"),
+    (i128::MAX, 38, b"1.70141183460469231731687303715884105727"),
+];
+
+/// The ends of `i128`, each as its sign and its 39 digits.
+#[rattlefmt::skip]
+const ENDS_OF_NUMBERS: &[(i128, &[u8], &[u8])] = &[
+    (i128::MIN, b"-", b"170141183460469231731687303715884105728"),
+    (i128::MAX, b"", b"170141183460469231731687303715884105727"),
+];
+
+/// Asserts the texts of a number of 39 digits at the ends of the scales.
+fn assert_long_texts(rt: &impl Runtime, v: i128, sign: &[u8], digits: &[u8]) {
+    let zeros = repeated(rt, b"0", 300);
+    assert_text(rt, v, -300, &joined(rt, &[sign, digits, &zeros]));
+    let zeros = repeated(rt, b"0", 261);
+    assert_text(rt, v, 300, &joined(rt, &[sign, b"0.", &zeros, digits]));
+}
+
+#[test]
+fn decimal_texts(rt: HostRuntime) {
+    for (v, scale, want) in TEXTS {
+        assert_text(&rt, *v, *scale, want);
+    }
+    for (v, sign, digits) in ENDS_OF_NUMBERS {
+        assert_long_texts(&rt, *v, sign, digits);
+    }
+}
+
+/// Texts and scales, by the fault that they are refused with.
+#[rattlefmt::skip]
+const REFUSED: &[(NumberFault, &[(&[u8], i16)])] = &[
+    (NumberFault::Syntax, &[
+        (b"1e3", 0), (b"-", 0), (b"", 0), (b"--1", 0), (b"+1", 0), (b" 1", 0), (b"1.", 0),
+        (b".5", 1), (b".", 0), (b"1.2.3", 2), (b"1.x", 1), (b"12.5x", 1), (b"-.5", 1),
+        (b".999999999999999999", 0), (b"999999999999999999.", 0),
+        (b".9999999999999999999", 0), (b"9999999999999999999.", 0),
+    ]),
+    (NumberFault::Inexact, &[
+        (b"28850", -2), (&[b'9'; 40], -1), (b"288.155", 2), (b"1", -300), (b"12000", -4),
+        (b"99999999999999999.9", 0),
+    ]),
+    (NumberFault::Large, &[
+        (&[b'9'; 39], 0), (&[b'9'; 40], 0), (b"5", 300),
+        (b"170141183460469231731687303715884105728", 0),
+        (b"-170141183460469231731687303715884105729", 0),
+    ]),
+];
+
+/// Texts, scales and the numbers that are read; many about the ends of 64 bits.
+#[rattlefmt::skip]
+const READ: &[(&[u8], i16, i128)] = &[
+    (b"28800", -2, 288), (b"-0", 0, 0), (b"-0.00", 2, 0), (b"007.50", 1, 75), (b"-000.10", 1, -1),
+    (b"288.15", 2, 28815), (b"288.1500", 2, 28815), (b"0", 300, 0), (b"0.0", -300, 0),
+    (b"12000.0", -3, 12), (b"0000000000000000001", 0, 1), (b"00000000000000000001", 0, 1),
+    (b"0000000000000000000000000000000000000000000000000000001", 0, 1),
+    (b"170141183460469231731687303715884105727", 0, i128::MAX),
+    (b"-170141183460469231731687303715884105728", 0, i128::MIN),
+    (&[b'9'; 18], 0, 999_999_999_999_999_999),
+    (&[b'9'; 19], 0, 9_999_999_999_999_999_999),
+    (&[b'9'; 20], 0, 99_999_999_999_999_999_999),
+    (&[b'9'; 38], 0, 99_999_999_999_999_999_999_999_999_999_999_999_999),
+    (b"-9999999999999999999", 0, -9_999_999_999_999_999_999),
+    (b"-18446744073709551616", 0, -18_446_744_073_709_551_616),
+    (b"999999999999999.999", 3, 999_999_999_999_999_999),
+    (b"9999999999999999.9", 1, 99_999_999_999_999_999),
+    (b"-9.9999999999999999", 16, -99_999_999_999_999_999),
+    (b"99999999999999999", 2, 9_999_999_999_999_999_900),
+    (b"99999999999999999", 3, 99_999_999_999_999_999_000),
+    (b"5", 18, 5_000_000_000_000_000_000), (b"5", 19, 50_000_000_000_000_000_000),
+    (b"120000000000000000", -1, 12_000_000_000_000_000),
+    (b"120000000000000000", -2, 1_200_000_000_000_000),
+];
+
+#[test]
+fn decimal_readings(rt: HostRuntime) {
+    for (text, scale, v) in READ {
+        assert_read(&rt, text, *scale, Ok(*v));
+    }
+    for (fault, texts) in REFUSED {
+        for (text, scale) in *texts {
+            assert_read(&rt, text, *scale, Err(*fault));
+        }
+    }
+}

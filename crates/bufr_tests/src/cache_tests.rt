@@ -1,0 +1,116 @@
+//! What is kept between messages: the last templates, and the specs of their cells.
+
+use crate::encode_tests::{document_of, encoded};
+use crate::messages::{PLAIN, message_of, text_of};
+use crate::runs::Command::{Dump, Encode};
+use crate::runs::{Task, accepted, assert_run, run_whole};
+use crate::support::{Runtime, assert_same, ok, repeated};
+use bufr_text::{Form, encode_by};
+use bufr_walk::{Steps, TemplateCache};
+
+/// More lists than are kept.
+const LISTS: u16 = 20;
+
+/// The fourth list has a fault, and the template of the ninth more cells than are kept.
+fn list_of(rt: &impl Runtime, index: u16) -> String {
+    let width = index.saturating_add(128);
+    let list = match index {
+        3 => String::from_str(rt.alloc(), "063255"),
+        8 => String::from_str(rt.alloc(), "101000 031000 300008 001001"),
+        _ => format!(in rt.alloc(); "201{width} 012101 101002 001001"),
+    };
+    ok(rt, list)
+}
+
+/// A message of a list.
+fn message_with(rt: &impl Runtime, list: &str) -> Vec<u8> {
+    message_of(rt, 1, PLAIN, list, &repeated(rt, b"\x15", 12))
+}
+
+/// What runs over the messages of the lists are to take and to write.
+#[derive(Drop)]
+struct Pieces {
+    stream: Vec<u8>,
+    text: Vec<u8>,
+    errors: String,
+    messages: Vec<u8>,
+}
+
+impl Pieces {
+    /// Appends what runs over the message of a list alone write.
+    fn push(&mut self, rt: &impl Runtime, list: &str) {
+        let message = message_with(rt, list);
+        let text = run_whole(rt, Dump, &message);
+        if text.output().is_empty() {
+            let offset = self.stream.len();
+            let line = format!(in rt.alloc(); "offset {offset}: 20 unknown element {list}\n");
+            ok(rt, self.errors.push_str(ok(rt, line).as_str()));
+        }
+        let again = run_whole(rt, Encode, text.output());
+        ok(rt, self.stream.extend_from_slice(&message));
+        ok(rt, self.text.extend_from_slice(text.output()));
+        ok(rt, self.messages.extend_from_slice(again.output()));
+    }
+}
+
+/// The pieces of all lists in turn, twice over.
+fn pieces_of(rt: &impl Runtime) -> Pieces {
+    let alloc = rt.alloc();
+    let (stream, text, messages) = (Vec::new(alloc), Vec::new(alloc), Vec::new(alloc));
+    let errors = String::new(alloc);
+    let mut pieces = Pieces {
+        stream,
+        text,
+        errors,
+        messages,
+    };
+    for index in 0..LISTS.saturating_mul(2) {
+        pieces.push(rt, list_of(rt, index % LISTS).as_str());
+    }
+    pieces
+}
+
+#[test]
+fn runs_over_many_lists_of_descriptors(rt: HostRuntime) {
+    let pieces = pieces_of(&rt);
+    let run = accepted(Dump, "lists", &pieces.stream, &pieces.text).counting(38, 2);
+    assert_run(&rt, run.with_errors(pieces.errors.as_bytes()));
+    let run = accepted(Encode, "lists", &pieces.text, &pieces.messages);
+    assert_run(&rt, run.counting(38, 0))
+}
+
+/// The text of the message of a list; of the one with a fault a text of this list.
+fn text_for(rt: &impl Runtime, list: &str) -> Vec<u8> {
+    let text = run_whole(rt, Dump, &message_with(rt, list));
+    if text.output().is_empty() {
+        let refused = text_of(rt, 1, PLAIN, list, "subset 1\n063255 1\n");
+        return repeated(rt, refused.as_bytes(), 1);
+    }
+    repeated(rt, text.output(), 1)
+}
+
+/// Asserts that a document is encoded as by itself, to the same octets or fault in as many steps.
+fn assert_kept(rt: &impl Runtime, templates: &mut TemplateCache<'_>, list: &str) {
+    let document = document_of(rt, &text_for(rt, list));
+    let (alone, count) = encoded(rt, Encode, &document);
+    let mut steps = Steps::new();
+    let kept = encode_by(
+        rt.alloc(),
+        &document,
+        Form::AsWritten,
+        templates,
+        &mut steps,
+    );
+    assert_same(rt, &kept, &alone, &list);
+    assert_same(rt, &steps.count(), &count, &list);
+}
+
+#[test]
+fn encodes_many_lists_of_descriptors(rt: HostRuntime) {
+    let task = Task::new(&rt, Encode);
+    let mut templates = TemplateCache::new(rt.alloc(), &task.b, &task.d);
+    for index in 0..LISTS.saturating_mul(2) {
+        assert_kept(&rt, &mut templates, list_of(&rt, index % LISTS).as_str());
+    }
+    assert_same(&rt, &templates.others(), &15, &"lists");
+}

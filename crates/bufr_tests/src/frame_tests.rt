@@ -1,0 +1,438 @@
+//! Messages in streams, taken apart and written.
+
+use crate::messages::{
+    COMPRESSED, EDITION_3, EDITION_3_ODD, LOCAL_USE, ONE_BLOCK_NUMBER, PACKED, PLAIN, STRAY,
+    bulletins, message_of_hex,
+};
+use crate::support::{Runtime, assert_same, assert_that, joined, ok, parsed, repeated, some};
+use bufr_bits::ScriptIn;
+use bufr_frame::{
+    Cause, Event, Finder, Head, Message, RunFault, SectionFault, WriteFault, law, read_after,
+    read_to_end, write_message,
+};
+use std::alloc::Global;
+
+/// The messages that the tests build are those whose octets are listed.
+#[test]
+fn messages_are_built(rt: HostRuntime) {
+    let one = message_of_hex(&rt, 1, PLAIN, "001001", "14");
+    assert_same(&rt, &one.as_slice(), &ONE_BLOCK_NUMBER, &"plain");
+    let two = message_of_hex(&rt, 2, PACKED, "012101", "708F05");
+    assert_same(&rt, &two.as_slice(), &COMPRESSED, &"compressed");
+    assert_same(&rt, &bulletins(&rt).len(), &305, &"bulletins");
+}
+
+/// An event: a frame's offset and length, a stray's offset and cause, the end, a failed read.
+/// `Holds` is no event, but how many octets the finder holds, and the greatest length stated.
+#[derive(Clone, Copy, Debug, PartialEq, Eq)]
+enum Want {
+    Frame(u64, usize),
+    Stray(u64, Cause),
+    Done,
+    Failed,
+    Holds(usize, usize),
+}
+
+use Want::{Frame, Holds, Stray};
+
+fn has_at(stream: &[u8], offset: u64, octets: &[u8]) -> bool {
+    match stream.get(offset as usize..) {
+        Some(rest) => rest.starts_with(octets),
+        None => false,
+    }
+}
+
+/// The next event. A frame has the octets of the stream at its offset.
+fn next_event(stream: &[u8], finder: &mut Finder, r: &mut ScriptIn<'_>) -> Option<Want> {
+    match finder.next(r) {
+        Ok(Event::Frame(offset, octets)) => {
+            has_at(stream, offset, octets).then_some(Frame(offset, octets.len()))
+        }
+        Ok(Event::Stray(offset, cause)) => Some(Stray(offset, cause)),
+        Ok(Event::Done) => Some(Want::Done),
+        Err(RunFault::Read) => Some(Want::Failed),
+        Err(_) => None,
+    }
+}
+
+fn measures_of(finder: &Finder) -> (usize, usize) {
+    (finder.held(), finder.longest())
+}
+
+/// Asserts the next event, and the bound on what the finder holds.
+fn assert_event(
+    rt: &impl Runtime,
+    stream: &[u8],
+    finder: &mut Finder,
+    r: &mut ScriptIn<'_>,
+    want: Want,
+) {
+    let (held, longest) = measures_of(finder);
+    if let Holds(_, _) = want {
+        assert_same(rt, &Holds(held, longest), &want, &"measures");
+    } else {
+        assert_same(rt, &next_event(stream, finder, r), &Some(want), &"event");
+        assert_that(rt, held <= longest.max(4096), &want);
+    }
+}
+
+/// Asserts the events of a stream, read by so many octets at a time, of which some may fail. The
+/// end comes again and again.
+fn assert_events_by(
+    rt: &impl Runtime,
+    stream: &[u8],
+    (step, fails_at): (usize, Option<usize>),
+    wanted: &[Want],
+    longest: usize,
+) {
+    assert!(rt; step > 0);
+    let mut r = ScriptIn::new(stream, step, fails_at);
+    let mut finder = Finder::new(rt.alloc());
+    assert_event(rt, stream, &mut finder, &mut r, Holds(0, 0));
+    for want in wanted {
+        assert_event(rt, stream, &mut finder, &mut r, *want);
+    }
+    let end = if fails_at.is_some() {
+        Want::Failed
+    } else {
+        Want::Done
+    };
+    for _ in 0..3 {
+        assert_event(rt, stream, &mut finder, &mut r, end);
+    }
+    assert_same(rt, &measures_of(&finder).1, &longest, &step);
+}
+
+/// How many octets the readers give a read.
+const STEPS: &[usize] = &[1, 3, 65536];
+
+/// Asserts the events of a stream, and the greatest length stated, however it is read.
+fn assert_events(
+    rt: &impl Runtime,
+    stream: &[u8],
+    fails_at: Option<usize>,
+    wanted: &[Want],
+    longest: usize,
+) {
+    for step in STEPS {
+        assert_events_by(rt, stream, (*step, fails_at), wanted, longest);
+    }
+}
+
+/// The parts of a stream, the octet where its reader fails, the events, the greatest length stated.
+#[rattlefmt::skip]
+const STREAMS: &[(&[&[u8]], Option<usize>, &[Want], usize)] = &[
+    (&[], None, &[], 0),
+    (&[STRAY, ONE_BLOCK_NUMBER, &[0; 8]], None, &[Stray(0, Cause::NoEnd), Frame(8, 48)], 64),
+    (&[b"BUFR\x00\x00\x0B\x04abcd"], None, &[Stray(0, Cause::ShortLength)], 11),
+    (&[b"BUFR\x00\x00\x0B\x04ab"], None, &[Stray(0, Cause::Cut)], 11),
+    (&[STRAY, ONE_BLOCK_NUMBER, b"xyBUF", ONE_BLOCK_NUMBER, b"BUFR\x00\x00\x0B\x04abcBUFR"], None,
+        &[Stray(0, Cause::NoEnd), Frame(8, 48), Frame(61, 48), Stray(109, Cause::ShortLength),
+            Stray(120, Cause::Cut)], 64),
+    // the certain events come before the failed read
+    (&[ONE_BLOCK_NUMBER], Some(20), &[], 48),
+    (&[ONE_BLOCK_NUMBER, ONE_BLOCK_NUMBER], Some(48), &[Frame(0, 48)], 48),
+    (&[ONE_BLOCK_NUMBER, ONE_BLOCK_NUMBER], Some(58), &[Frame(0, 48)], 48),
+    (&[ONE_BLOCK_NUMBER, b"xxBUFR\x00\x01\x00\x04abc"], Some(60), &[Frame(0, 48)], 256),
+    (&[STRAY, ONE_BLOCK_NUMBER], Some(56), &[], 64),
+];
+
+#[test]
+fn events_of_streams(rt: HostRuntime) {
+    for (parts, fails_at, wanted, longest) in STREAMS {
+        let stream = joined(&rt, parts);
+        assert_events(&rt, &stream, *fails_at, wanted, *longest);
+    }
+}
+
+/// The first octets of the message with one block number.
+fn prefix(len: usize) -> &'static [u8] {
+    ONE_BLOCK_NUMBER.get(..len).unwrap_or(b"")
+}
+
+#[test]
+fn a_message_cut_anywhere(rt: HostRuntime) {
+    for len in 0..48usize {
+        let wanted: &[Want] = if len < 4 {
+            &[]
+        } else {
+            &[Stray(0, Cause::Cut)]
+        };
+        let longest = if len < 8 { 0 } else { 48 };
+        assert_events(&rt, prefix(len), None, wanted, longest);
+    }
+    let other_end = joined(&rt, &[prefix(47), b"6"]);
+    assert_events(&rt, &other_end, None, &[Stray(0, Cause::NoEnd)], 48);
+}
+
+/// The events of 1,024 words so many octets apart: the first ones have no end, the others are cut.
+fn strays(rt: &impl Runtime, apart: u64, without_end: u64) -> Vec<Want> {
+    let mut wanted = Vec::new(rt.alloc());
+    for i in 0..1024u64 {
+        let cause = if i < without_end {
+            Cause::NoEnd
+        } else {
+            Cause::Cut
+        };
+        ok(rt, wanted.push(Stray(i.saturating_mul(apart), cause)));
+    }
+    wanted
+}
+
+/// Each word states a length. Whether it is cut may be known only at the end.
+#[test]
+fn words_alone(rt: HostRuntime) {
+    let words = repeated(&rt, b"BUFR", 1024);
+    assert_events(&rt, &words, None, &strays(&rt, 4, 0), 0x42_55_46);
+    let words = repeated(&rt, b"BUFR\x00\x10\x00\x04", 1024);
+    assert_events(&rt, &words, None, &strays(&rt, 8, 513), 4096);
+}
+
+/// A message with 5,000 local octets in section 1, 5,048 octets.
+fn long_message(rt: &impl Runtime) -> Vec<u8> {
+    let section_1 = ONE_BLOCK_NUMBER.get(11..30).unwrap_or(b"");
+    let rest = ONE_BLOCK_NUMBER.get(30..).unwrap_or(b"");
+    let local = repeated(rt, b"\x00", 5000);
+    let lengths = b"BUFR\x00\x13\xB8\x04\x00\x13\x9E";
+    joined(rt, &[lengths, section_1, &local, rest])
+}
+
+#[test]
+fn a_message_longer_than_all_before(rt: HostRuntime) {
+    let (long, zeros) = (long_message(&rt), repeated(&rt, b"\x00", 10_000));
+    let late = joined(&rt, &[&zeros, ONE_BLOCK_NUMBER]);
+    assert_events(&rt, &late, None, &[Frame(10_000, 48)], 48);
+    let growing = joined(&rt, &[ONE_BLOCK_NUMBER, &long, &zeros, ONE_BLOCK_NUMBER]);
+    let wanted = [Frame(0, 48), Frame(48, 5048), Frame(15_096, 48)];
+    assert_events(&rt, &growing, None, &wanted, 5048);
+}
+
+/// A message longer than all before is held whole until the next call, and nothing else.
+#[test]
+fn a_long_message_is_held(rt: HostRuntime) {
+    let stream = joined(&rt, &[&long_message(&rt), ONE_BLOCK_NUMBER]);
+    let wanted = [Frame(0, 5048), Holds(5048, 5048), Frame(5048, 48)];
+    assert_events(&rt, &stream, None, &wanted, 5048);
+}
+
+#[test]
+fn laws() {
+    law::open_scan_is_front();
+    law::events_to_the_end_are_the_scan();
+    law::events_before_the_end_are_certain();
+    law::events_at_a_fault_are_the_open_scan();
+    law::octets_from_an_event_on_are_held();
+    law::longest_is_that_of_the_events();
+    law::longest_at_a_fault_counts_the_open_word();
+    law::steps_compose();
+    law::done_comes_again();
+    law::written_again_is_no_longer();
+    law::even_sections_are_written_no_longer();
+    law::written_again_is_not_too_long();
+    law::heads_of_messages_can_be_written();
+    law::even_payloads_are_laid_out_alike();
+    law::shorter_payloads_make_no_longer_messages();
+    law::plain_messages_are_written_again();
+}
+
+#[rattlefmt::skip]
+const HEAD_4: Head = Head {
+    edition: 4, master: 0, centre: 98, subcentre: 0, update: 0, category: 0, subcategory: 0,
+    local_subcategory: 0, master_version: 14, local_version: 0,
+    year: 2024, month: 1, day: 2, hour: 3, minute: 4, second: 5,
+};
+
+#[rattlefmt::skip]
+const HEAD_3: Head = Head {
+    edition: 3, master: 0, centre: 98, subcentre: 0, update: 0, category: 0, subcategory: 0,
+    local_subcategory: 0, master_version: 14, local_version: 0,
+    year: 24, month: 1, day: 2, hour: 3, minute: 4, second: 0,
+};
+
+/// What a message says: section 1 and its local octets, section 2, subsets, whether observed and
+/// compressed, the first descriptor, the data.
+type Parts = (
+    Head,
+    &'static [u8],
+    Option<&'static [u8]>,
+    (u16, bool, bool),
+    u16,
+    &'static [u8],
+);
+
+/// Messages, what each says, and what its parts give when they are written.
+#[rattlefmt::skip]
+const MESSAGES: &[(&[u8], Parts, &[u8])] = &[
+    (ONE_BLOCK_NUMBER, (HEAD_4, b"", None, (1, true, false), 0x0101, b"\x14"), ONE_BLOCK_NUMBER),
+    (LOCAL_USE, (HEAD_4, b"\xAB\xCD", Some(b"\x01\x02"), (1, true, false), 0x0101, b"\x14"),
+        LOCAL_USE),
+    (COMPRESSED, (HEAD_4, b"", None, (2, true, true), 0x0c65, b"\x70\x8F\x05"), COMPRESSED),
+    (EDITION_3, (HEAD_3, b"\0", None, (1, true, false), 0x0101, b"\x14\0"), EDITION_3),
+    // odd sections become even
+    (EDITION_3_ODD, (HEAD_3, b"\0", None, (1, true, false), 0x0101, b"\x14"), EDITION_3),
+];
+
+fn assert_parts(rt: &impl Runtime, message: &Message<'_>, parts: &Parts) {
+    let (head, local, section_2, want, word, payload) = *parts;
+    assert_same(rt, &message.head(), &head, &"section 1");
+    assert_same(rt, &message.local1(), &local, &"local octets");
+    assert_same(rt, &message.section2(), &section_2, &"section 2");
+    let counts = (message.subsets(), message.observed(), message.compressed());
+    assert_same(rt, &counts, &want, &"subsets");
+    let words = (message.descriptor(0), message.descriptor(1));
+    assert_same(rt, &words, &(Some(word), None), &"descriptors");
+    let bits = message.payload();
+    let len_bits = (payload.len() as u64).saturating_mul(8);
+    assert_same(rt, &bits.len_bits(), &len_bits, &"data");
+    assert_same(rt, &bits.octets(0, payload.len()), &Some(payload), &"data");
+}
+
+fn assert_descriptors(rt: &impl Runtime, message: &Message<'_>, word: u16) {
+    let mut words = message.descriptors();
+    let counts = (words.len(), words.is_empty());
+    assert_same(rt, &counts, &(1, false), &"descriptors");
+    let found = (words.next(), words.next());
+    assert_same(rt, &found, &(Some(word), None), &"descriptors");
+}
+
+/// A message of the parts of another one, where its head can be written.
+fn written(alloc: Global, message: &Message<'_>, word: u16, payload: &[u8]) -> Option<Vec<u8>> {
+    let head = message.head();
+    let fits = head.centre <= 255 && head.subcentre <= 255 && head.year <= 255;
+    let lacks = head.local_subcategory == 0 && head.second == 0;
+    if !(head.edition == 4 || head.edition == 3 && fits && lacks) {
+        return None;
+    }
+    let octets = write_message(
+        alloc,
+        &head,
+        message.local1(),
+        message.section2(),
+        &[word],
+        message.subsets(),
+        message.observed(),
+        message.compressed(),
+        payload,
+    );
+    octets.ok()
+}
+
+#[test]
+fn parts_of_messages(rt: HostRuntime) {
+    for (octets, parts, again) in MESSAGES {
+        let message = parsed(&rt, octets);
+        assert_parts(&rt, &message, parts);
+        assert_descriptors(&rt, &message, parts.4);
+        assert_same(&rt, &message.length(), &(octets.len() as u64), octets);
+        let found = written(rt.alloc(), &message, parts.4, parts.5);
+        assert_same(&rt, &some(&rt, found).as_slice(), again, octets);
+    }
+}
+
+/// The length of a message, or the fault that refuses it.
+fn length_of(rt: &impl Runtime, octets: &[u8]) -> Result<u64, SectionFault> {
+    assert!(rt; octets.len() >= 12);
+    match Message::parse(octets) {
+        Ok(message) => Ok(message.length()),
+        Err(fault) => Err(fault),
+    }
+}
+
+/// Octets of the message with one block number that are changed, its fault, and the fault's number.
+#[rattlefmt::skip]
+const FAULTS: &[(&[(usize, u8)], SectionFault, u8)] = &[
+    (&[(7, 2)], SectionFault::Edition(2), 10),
+    (&[(10, 21)], SectionFault::SectionShort(1), 11),
+    (&[(10, 40)], SectionFault::SectionPast(1), 12),
+    (&[(41, 4)], SectionFault::SectionsEnd, 13),
+    (&[(17, 0x80), (32, 3)], SectionFault::SectionShort(2), 11),
+    (&[(17, 0x80), (32, 15)], SectionFault::SectionPast(2), 12),
+    (&[(32, 6)], SectionFault::SectionShort(3), 11),
+    (&[(41, 6)], SectionFault::SectionPast(4), 12),
+    (&[(32, 12)], SectionFault::SectionPast(4), 12),
+];
+
+/// The message with one block number, with these octets in place of its own.
+fn changed(rt: &impl Runtime, changes: &[(usize, u8)]) -> Vec<u8> {
+    let mut octets = joined(rt, &[ONE_BLOCK_NUMBER]);
+    for (index, octet) in changes {
+        *some(rt, octets.get_mut(*index)) = *octet;
+    }
+    octets
+}
+
+#[test]
+fn faults_of_sections(rt: HostRuntime) {
+    for (changes, fault, number) in FAULTS {
+        let found = length_of(&rt, &changed(&rt, changes));
+        assert_same(&rt, &found, &Err(*fault), changes);
+        assert_same(&rt, &fault.number(), number, fault);
+    }
+}
+
+/// A message of edition 3 of 16,777,214 octets: its sections 0 to 3, and the length of section 4.
+fn length_of_long(
+    rt: &impl Runtime,
+    sections: Option<&[u8]>,
+    fourth: &[u8],
+) -> Result<u64, SectionFault> {
+    let mut octets = joined(rt, &[some(rt, sections), fourth]);
+    ok(rt, octets.resize(16_777_214, 0));
+    length_of(rt, &octets)
+}
+
+/// With even sections its length could not be stated.
+#[test]
+fn long_messages_of_edition_3_have_even_sections(rt: HostRuntime) {
+    let odd = length_of_long(&rt, EDITION_3_ODD.get(..35), b"\xFF\xFF\xD7");
+    assert_same(&rt, &odd, &Err(SectionFault::Edition3Long), &"odd");
+    let even = length_of_long(&rt, EDITION_3.get(..36), b"\xFF\xFF\xD6");
+    assert_same(&rt, &even, &Ok(16_777_214), &"even");
+    assert_same(&rt, &SectionFault::Edition3Long.number(), &14, &"number");
+}
+
+/// How many octets a message with so many local ones has, or the fault that refuses it.
+fn length_with(rt: &impl Runtime, local: usize) -> Result<usize, WriteFault> {
+    let local = ok(rt, vec![in rt.alloc(); 0u8; local]);
+    write_message(rt.alloc(), &HEAD_4, &local, None, &[], 1, true, false, b"").map(
+        |octets| octets.len(),
+    )
+}
+
+/// How many local octets a message has, and how many octets in all.
+#[rattlefmt::skip]
+const LOCAL_LENGTHS: &[(usize, Result<usize, WriteFault>)] = &[
+    (16_777_215, Err(WriteFault::TooLong)), (16_777_171, Err(WriteFault::TooLong)),
+    (16_777_170, Ok(16_777_215)),
+];
+
+#[test]
+fn messages_that_are_too_long(rt: HostRuntime) {
+    for (local, want) in LOCAL_LENGTHS {
+        assert_same(&rt, &length_with(&rt, *local), want, local);
+    }
+}
+
+#[test]
+fn reads_to_the_end(rt: HostRuntime) {
+    let mut r = ScriptIn::new(LOCAL_USE, 9, None);
+    let mut octets = Vec::new(rt.alloc());
+    let mut reads = 0;
+    let ran = read_to_end(&mut r, &mut octets, &mut reads);
+    assert_same(&rt, &(ran, reads), &(Ok(()), 8), &"reads");
+    assert_same(&rt, &octets.as_slice(), &LOCAL_USE, &"octets");
+}
+
+/// A read after octets that are held, and one that fails.
+#[test]
+fn reads_into_a_part_of_a_buffer(rt: HostRuntime) {
+    let mut r = ScriptIn::new(b"bcde", 9, Some(2));
+    let mut buffer = joined(&rt, &[b"a\0\0\0"]);
+    assert!(rt; buffer.len() == 4);
+    let read = read_after(&mut r, &mut buffer, 1, 3);
+    assert_same(&rt, &read, &Ok(2), &"first read");
+    assert!(rt; buffer.len() == 4);
+    let read = read_after(&mut r, &mut buffer, 3, 4);
+    assert_same(&rt, &read, &Err(RunFault::Read), &"second read");
+    assert_same(&rt, &buffer.as_slice(), &b"abc\0".as_slice(), &"octets");
+}

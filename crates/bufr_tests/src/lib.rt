@@ -1,0 +1,41 @@
+//! The tests of all libraries, by their public calls.
+//!
+//! They have a crate of their own, since the tests of a crate are proved together with it.
+#![tactic(auto)]
+
+#[cfg(test)]
+mod bits_tests;
+#[cfg(test)]
+mod cache_tests;
+#[cfg(test)]
+mod edition3_tests;
+#[cfg(test)]
+mod encode_tests;
+#[cfg(test)]
+mod fill_tests;
+#[cfg(test)]
+mod finish_tests;
+#[cfg(test)]
+mod frame_tests;
+#[cfg(test)]
+mod messages;
+#[cfg(test)]
+mod other_programs;
+#[cfg(test)]
+mod program_tests;
+#[cfg(test)]
+mod reader_tests;
+#[cfg(test)]
+mod run_tests;
+#[cfg(test)]
+mod runs;
+#[cfg(test)]
+mod support;
+#[cfg(test)]
+mod tables_tests;
+#[cfg(test)]
+mod template_tests;
+#[cfg(test)]
+mod text_tests;
+#[cfg(test)]
+mod walk_tests;

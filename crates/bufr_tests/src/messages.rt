@@ -1,0 +1,423 @@
+//! The tables and messages of the tests. They are test data, not the tables of the WMO.
+
+use crate::support::{Runtime, from_hex, joined, ok, words_of};
+
+/// The header of Table B.
+pub(crate) const HEADER_B: &[u8] = b"fxy,name,unit,scale,reference,width\n";
+
+/// The header of Table D.
+pub(crate) const HEADER_D: &[u8] = b"fxy,member\n";
+
+/// Table B: elements, and the factors of delayed replications.
+const TABLE_B: &[u8] = b"fxy,name,unit,scale,reference,width
+001001,WMO BLOCK NUMBER,Numeric,0,0,7
+001015,STATION OR SITE NAME,CCITT IA5,0,0,160
+005002,LATITUDE (COARSE ACCURACY),degree,2,-9000,15
+012101,AIR TEMPERATURE,K,2,0,16
+020003,PRESENT WEATHER,Code table,0,0,9
+031000,SHORT DELAYED DESCRIPTOR REPLICATION FACTOR,Numeric,0,0,1
+031001,DELAYED DESCRIPTOR REPLICATION FACTOR,Numeric,0,0,8
+031002,EXTENDED DELAYED DESCRIPTOR REPLICATION FACTOR,Numeric,0,0,16
+031021,ASSOCIATED FIELD SIGNIFICANCE,Code table,0,0,6
+";
+
+/// Table D: nested sequences.
+///
+/// | sequences | members |
+/// |---|---|
+/// | 3 00 001 to 3 00 017 | the next one twice |
+/// | 3 10 001 to 3 10 016 | two passes of the next one twice |
+/// | 3 20 001 to 3 20 033 | the next one |
+/// | 3 30 001 to 3 30 003 | an operator or a replication without what it needs |
+/// | 3 60 192 | two elements |
+const TABLE_D: &[u8] = b"\
+    fxy,member\n300001,300002\n300001,300002\n300002,300003\n300002,300003\n300003,300004\n\
+    300003,300004\n300004,300005\n300004,300005\n300005,300006\n300005,300006\n300006,300007\n\
+    300006,300007\n300007,300008\n300007,300008\n300008,300009\n300008,300009\n300009,300010\n\
+    300009,300010\n300010,300011\n300010,300011\n300011,300012\n300011,300012\n300012,300013\n\
+    300012,300013\n300013,300014\n300013,300014\n300014,300015\n300014,300015\n300015,300016\n\
+    300015,300016\n300016,300017\n300016,300017\n300017,001001\n300017,001001\n310001,102002\n\
+    310001,310002\n310001,310002\n310002,102002\n310002,310003\n310002,310003\n310003,102002\n\
+    310003,310004\n310003,310004\n310004,102002\n310004,310005\n310004,310005\n310005,102002\n\
+    310005,310006\n310005,310006\n310006,102002\n310006,310007\n310006,310007\n310007,102002\n\
+    310007,310008\n310007,310008\n310008,102002\n310008,310009\n310008,310009\n310009,102002\n\
+    310009,310010\n310009,310010\n310010,102002\n310010,310011\n310010,310011\n310011,102002\n\
+    310011,310012\n310011,310012\n310012,102002\n310012,310013\n310012,310013\n310013,102002\n\
+    310013,310014\n310013,310014\n310014,102002\n310014,310015\n310014,310015\n310015,102002\n\
+    310015,310016\n310015,310016\n310016,102002\n310016,001001\n310016,001001\n320001,320002\n\
+    320002,320003\n320003,320004\n320004,320005\n320005,320006\n320006,320007\n320007,320008\n\
+    320008,320009\n320009,320010\n320010,320011\n320011,320012\n320012,320013\n320013,320014\n\
+    320014,320015\n320015,320016\n320016,320017\n320017,320018\n320018,320019\n320019,320020\n\
+    320020,320021\n320021,320022\n320022,320023\n320023,320024\n320024,320025\n320025,320026\n\
+    320026,320027\n320027,320028\n320028,320029\n320029,320030\n320030,320031\n320031,320032\n\
+    320032,320033\n320033,001001\n330001,206012\n330002,101002\n330003,201132\n360192,001001\n\
+    360192,012101\n";
+
+/// Table B. A caller does not carry its text through its proof.
+pub(crate) fn table_b() -> &'static [u8] {
+    TABLE_B
+}
+
+pub(crate) fn table_d() -> &'static [u8] {
+    TABLE_D
+}
+
+/// A message of edition 4 with one block number, 48 octets, a line for each section.
+pub(crate) const ONE_BLOCK_NUMBER: &[u8] = b"\
+    BUFR\x00\x00\x30\x04\
+    \x00\x00\x16\x00\x00\x62\x00\x00\x00\x00\x00\x00\x00\x0E\x00\x07\xE8\x01\x02\x03\x04\x05\
+    \x00\x00\x09\x00\x00\x01\x80\x01\x01\
+    \x00\x00\x05\x00\x14\
+    7777";
+
+/// The same with local octets in section 1 and a section 2, 56 octets.
+pub(crate) const LOCAL_USE: &[u8] = b"\
+    BUFR\x00\x00\x38\x04\
+    \x00\x00\x18\x00\x00\x62\x00\x00\x00\x80\x00\x00\x00\x0E\x00\x07\xE8\x01\x02\x03\x04\x05\
+    \xAB\xCD\
+    \x00\x00\x06\x00\x01\x02\
+    \x00\x00\x09\x00\x00\x01\x80\x01\x01\
+    \x00\x00\x05\x00\x14\
+    7777";
+
+/// A message of two compressed temperatures, 50 octets.
+pub(crate) const COMPRESSED: &[u8] = b"\
+    BUFR\x00\x00\x32\x04\
+    \x00\x00\x16\x00\x00\x62\x00\x00\x00\x00\x00\x00\x00\x0E\x00\x07\xE8\x01\x02\x03\x04\x05\
+    \x00\x00\x09\x00\x00\x02\xC0\x0C\x65\
+    \x00\x00\x07\x00\x70\x8F\x05\
+    7777";
+
+/// A message of edition 3 with one block number, 46 octets.
+pub(crate) const EDITION_3: &[u8] = b"\
+    BUFR\x00\x00\x2E\x03\
+    \x00\x00\x12\x00\x00\x62\x00\x00\x00\x00\x0E\x00\x18\x01\x02\x03\x04\x00\
+    \x00\x00\x0A\x00\x00\x01\x80\x01\x01\x00\
+    \x00\x00\x06\x00\x14\x00\
+    7777";
+
+/// The same with odd sections 3 and 4, 44 octets.
+pub(crate) const EDITION_3_ODD: &[u8] = b"\
+    BUFR\x00\x00\x2C\x03\
+    \x00\x00\x12\x00\x00\x62\x00\x00\x00\x00\x0E\x00\x18\x01\x02\x03\x04\x00\
+    \x00\x00\x09\x00\x00\x01\x80\x01\x01\
+    \x00\x00\x05\x00\x14\
+    7777";
+
+/// A word that begins no message, and states 64 octets.
+pub(crate) const STRAY: &[u8] = b"BUFR\x00\x00\x40\x04";
+
+/// Octet 7 of section 3: observed data, not compressed.
+pub(crate) const PLAIN: u8 = 0x80;
+
+/// Octet 7 of section 3: observed and compressed data.
+pub(crate) const PACKED: u8 = 0xC0;
+
+/// The octets of a message between its length and that of its section 3, less the last one.
+const SECTION_1: &[u8] = &[
+    4, 0, 0, 22, 0, 0, 98, 0, 0, 0, 0, 0, 0, 0, 14, 0, 7, 232, 1, 2, 3, 4, 5, 0,
+];
+
+fn length_of(rt: &impl Runtime, length: usize) -> u16 {
+    ok(rt, u16::try_from(length))
+}
+
+/// The octets of the words of descriptors.
+fn octets_of_words(rt: &impl Runtime, descriptors: &str) -> Vec<u8> {
+    let mut octets = Vec::new(rt.alloc());
+    for word in &words_of(rt, descriptors) {
+        ok(rt, octets.extend_from_slice(&word.to_be_bytes()));
+    }
+    octets
+}
+
+/// A message of edition 4 with these subsets, flags, descriptors and data.
+pub(crate) fn message_of(
+    rt: &impl Runtime,
+    subsets: u16,
+    flags: u8,
+    descriptors: &str,
+    payload: &[u8],
+) -> Vec<u8> {
+    let words = octets_of_words(rt, descriptors);
+    let third = length_of(rt, words.len().saturating_add(7));
+    let fourth = length_of(rt, payload.len().saturating_add(4));
+    let length = third
+        .saturating_add(fourth)
+        .saturating_add(34)
+        .to_be_bytes();
+    let (third, fourth) = (third.to_be_bytes(), fourth.to_be_bytes());
+    let head = joined(rt, &[b"BUFR\0", &length, SECTION_1, &third, b"\0"]);
+    let section_3 = joined(rt, &[&subsets.to_be_bytes(), &[flags], &words, b"\0"]);
+    joined(rt, &[&head, &section_3, &fourth, b"\0", payload, b"7777"])
+}
+
+/// Such a message of data in hexadecimal digits.
+pub(crate) fn message_of_hex(
+    rt: &impl Runtime,
+    subsets: u16,
+    flags: u8,
+    descriptors: &str,
+    payload: &str,
+) -> Vec<u8> {
+    let octets = from_hex(rt, payload);
+    message_of(rt, subsets, flags, descriptors, &octets)
+}
+
+/// The lines of each dump text before `observed`.
+pub(crate) const HEAD: &str = "\
+    message\nedition 4\nmaster 0\ncentre 98\nsubcentre 0\nupdate 0\ncategory 0\nsubcategory 0\n\
+    localsubcategory 0\nmasterversion 14\nlocalversion 0\nyear 2024\nmonth 1\nday 2\nhour 3\n\
+    minute 4\nsecond 5\n";
+
+/// The lines of a dump text from `observed` to `subsets`.
+fn counts_of(rt: &impl Runtime, subsets: u16, flags: u8) -> String {
+    let (observed, compressed) = (flags / 128, flags / 64 % 2);
+    let counts = format!(in rt.alloc();
+        "observed {observed}\ncompressed {compressed}\noptional 0\nsubsets {subsets}\n"
+    );
+    ok(rt, counts)
+}
+
+/// Appends the lines of descriptors, eight a line.
+fn push_descriptors(rt: &impl Runtime, text: &mut String, descriptors: &str) {
+    let mut index = 0usize;
+    for digits in descriptors.split_whitespace() {
+        if index % 8 == 0 {
+            ok(rt, text.push_str("descriptors"));
+        }
+        ok(rt, text.push(' '));
+        ok(rt, text.push_str(digits));
+        index = index.saturating_add(1);
+        if index % 8 == 0 {
+            ok(rt, text.push('\n'));
+        }
+    }
+    if index % 8 != 0 {
+        ok(rt, text.push('\n'));
+    }
+}
+
+/// The dump text of a message from `message_of`, with these lines of its subsets.
+pub(crate) fn text_of(
+    rt: &impl Runtime,
+    subsets: u16,
+    flags: u8,
+    descriptors: &str,
+    items: &str,
+) -> String {
+    let mut text = ok(rt, String::from_str(rt.alloc(), HEAD));
+    let counts = counts_of(rt, subsets, flags);
+    ok(rt, text.push_str(counts.as_str()));
+    push_descriptors(rt, &mut text, descriptors);
+    ok(rt, text.push_str(items));
+    ok(rt, text.push_str("end\n"));
+    text
+}
+
+/// The line of `ls` for the message with one block number, less its offset.
+const LINE_OF_ONE: &str = "\
+    length=48 edition=4 centre=98/0 update=0 category=0/0/0 tables=0/14/0 \
+    time=2024-01-02T03:04:05 subsets=1 observed=1 compressed=0 optional=0 descriptors=1\n";
+
+/// That line at this offset.
+pub(crate) fn line_of_one(rt: &impl Runtime, offset: &str) -> String {
+    ok(rt, format!(in rt.alloc(); "offset={offset} {LINE_OF_ONE}"))
+}
+
+/// The dump text of the message with one block number.
+pub(crate) fn text_of_one(rt: &impl Runtime) -> String {
+    let items = "subset 1\n001001 10  # WMO BLOCK NUMBER [Numeric]\n";
+    text_of(rt, 1, PLAIN, "001001", items)
+}
+
+/// A message with a delayed group of two block numbers, 54 octets.
+pub(crate) fn delayed_twice(rt: &impl Runtime) -> Vec<u8> {
+    message_of_hex(rt, 1, PLAIN, "101000 031001 001001", "02142C")
+}
+
+/// The message with one block number, of edition 2, which is refused.
+pub(crate) fn of_edition_2(rt: &impl Runtime) -> Vec<u8> {
+    let rest = ONE_BLOCK_NUMBER.get(8..).unwrap_or(b"");
+    joined(rt, &[b"BUFR\x00\x00\x30\x02", rest])
+}
+
+/// The messages of the bulletins below.
+pub(crate) fn messages_of_bulletins(rt: &impl Runtime) -> Vec<u8> {
+    let delayed = delayed_twice(rt);
+    joined(rt, &[ONE_BLOCK_NUMBER, &delayed, COMPRESSED, LOCAL_USE])
+}
+
+/// The stream of `examples/bulletins.bufr`, 305 octets: a heading and four messages. A stray word
+/// follows the second one, a message of edition 2 the third, a short stray word the last.
+pub(crate) fn bulletins(rt: &impl Runtime) -> Vec<u8> {
+    let delayed = delayed_twice(rt);
+    let refused = of_edition_2(rt);
+    let heading: &[u8] = b"IUSX40 ECMW 020300\r\r\n";
+    let between: &[u8] = b"\r\r\nNNNN\n";
+    let first = joined(rt, &[heading, ONE_BLOCK_NUMBER, between, &delayed]);
+    let stray: &[u8] = b"BUFRjunk";
+    let short: &[u8] = b"BUFR\x00\x00\x0B\x04end";
+    let second = joined(rt, &[stray, COMPRESSED, &refused, b"\n"]);
+    joined(rt, &[&first, &second, LOCAL_USE, short])
+}
+
+/// A worked message.
+pub(crate) struct Worked {
+    pub(crate) name: &'static str,
+    pub(crate) subsets: u16,
+    /// Octet 7 of section 3.
+    pub(crate) flags: u8,
+    pub(crate) descriptors: &'static str,
+    /// The octets of its data, in hexadecimal digits.
+    pub(crate) payload: &'static str,
+    /// What reading the data gives: bits, steps and items, as `walk_tests` writes them.
+    pub(crate) reading: &'static str,
+    /// The lines of its dump text from `subset 1` to `end`.
+    pub(crate) items: &'static str,
+}
+
+impl Worked {
+    /// Its octets.
+    pub(crate) fn message(&self, rt: &impl Runtime) -> Vec<u8> {
+        message_of_hex(rt, self.subsets, self.flags, self.descriptors, self.payload)
+    }
+
+    /// Its dump text.
+    pub(crate) fn text(&self, rt: &impl Runtime) -> String {
+        text_of(rt, self.subsets, self.flags, self.descriptors, self.items)
+    }
+}
+
+/// The descriptors of 32 groups, one in another.
+pub(crate) const THIRTY_TWO_GROUPS: &str = "\
+    132001 131001 130001 129001 128001 127001 126001 125001 124001 123001 122001 121001 120001 \
+    119001 118001 117001 116001 115001 114001 113001 112001 111001 110001 109001 108001 107001 \
+    106001 105001 104001 103001 102001 101001 001001";
+
+#[rattlefmt::skip]
+static ROWS: &[Worked] = &[
+    Worked { name: "one_block_number", subsets: 1, flags: PLAIN,
+        descriptors: "001001", payload: "14",
+        reading: "bits 7 steps 2; 1: 001001 10e0 #",
+        items: "subset 1\n001001 10  # WMO BLOCK NUMBER [Numeric]\n" },
+    Worked { name: "one_temperature", subsets: 1, flags: PLAIN,
+        descriptors: "012101", payload: "708F",
+        reading: "bits 16 steps 2; 1: 012101 28815e2 #",
+        items: "subset 1\n012101 288.15  # AIR TEMPERATURE [K]\n" },
+    Worked { name: "one_temperature_missing", subsets: 1, flags: PLAIN,
+        descriptors: "012101", payload: "FFFF",
+        reading: "bits 16 steps 2; 1: 012101 missing #",
+        items: "subset 1\n012101 MISSING  # AIR TEMPERATURE [K]\n" },
+    Worked { name: "delayed_twice", subsets: 1, flags: PLAIN,
+        descriptors: "101000 031001 001001", payload: "02142C",
+        reading: "bits 22 steps 7; 1: 031001 2e0 # 001001 10e0 # 001001 11e0 #",
+        items: "\
+            subset 1\n\
+            031001 2  # DELAYED DESCRIPTOR REPLICATION FACTOR [Numeric]\n\
+            001001 10  # WMO BLOCK NUMBER [Numeric]\n\
+            001001 11  # WMO BLOCK NUMBER [Numeric]\n" },
+    Worked { name: "delayed_none", subsets: 1, flags: PLAIN,
+        descriptors: "101000 031001 001001", payload: "00",
+        reading: "bits 8 steps 3; 1: 031001 0e0 #",
+        items: "\
+            subset 1\n\
+            031001 0  # DELAYED DESCRIPTOR REPLICATION FACTOR [Numeric]\n" },
+    Worked { name: "short_factor", subsets: 1, flags: PLAIN,
+        descriptors: "101000 031000 001001", payload: "8A",
+        reading: "bits 8 steps 5; 1: 031000 1e0 # 001001 10e0 #",
+        items: "\
+            subset 1\n\
+            031000 1  # SHORT DELAYED DESCRIPTOR REPLICATION FACTOR [Numeric]\n\
+            001001 10  # WMO BLOCK NUMBER [Numeric]\n" },
+    Worked { name: "width_and_scale_changed", subsets: 1, flags: PLAIN,
+        descriptors: "201132 202129 012101 201000 202000 012101", payload: "46599708F0",
+        reading: "bits 36 steps 7; 1: 012101 288153e3 # 012101 28815e2 #",
+        items: "\
+            subset 1\n\
+            012101 288.153  # AIR TEMPERATURE [K]\n\
+            012101 288.15  # AIR TEMPERATURE [K]\n" },
+    Worked { name: "redefined_reference", subsets: 1, flags: PLAIN,
+        descriptors: "203010 012101 203255 012101", payload: "E41C23C0",
+        reading: "bits 26 steps 5; 1: 012101 R-400 012101 28415e2 #",
+        items: "\
+            subset 1\n\
+            R 012101 -400\n\
+            012101 284.15  # AIR TEMPERATURE [K]\n" },
+    Worked { name: "increased_precision", subsets: 1, flags: PLAIN,
+        descriptors: "207001 012101 020003", payload: "46599028",
+        reading: "bits 29 steps 4; 1: 012101 288153e3 # 020003 5e0 #",
+        items: "\
+            subset 1\n\
+            012101 288.153  # AIR TEMPERATURE [K]\n\
+            020003 5  # PRESENT WEATHER [Code table]\n" },
+    Worked { name: "width_of_one", subsets: 1, flags: PLAIN,
+        descriptors: "201122 001001", payload: "00",
+        reading: "bits 1 steps 3; 1: 001001 0e0 #",
+        items: "subset 1\n001001 0  # WMO BLOCK NUMBER [Numeric]\n" },
+    Worked { name: "width_of_one_missing", subsets: 1, flags: PLAIN,
+        descriptors: "201122 001001", payload: "80",
+        reading: "bits 1 steps 3; 1: 001001 missing #",
+        items: "subset 1\n001001 MISSING  # WMO BLOCK NUMBER [Numeric]\n" },
+    Worked { name: "sequence", subsets: 1, flags: PLAIN, descriptors: "360192", payload: "14E11E",
+        reading: "bits 23 steps 3; 1: 001001 10e0 # 012101 28815e2 #",
+        items: "\
+            subset 1\n\
+            001001 10  # WMO BLOCK NUMBER [Numeric]\n\
+            012101 288.15  # AIR TEMPERATURE [K]\n" },
+    Worked { name: "local_descriptor", subsets: 1, flags: PLAIN,
+        descriptors: "206012 063255", payload: "0F50",
+        reading: "bits 12 steps 3; 1: 063255 245e0",
+        items: "subset 1\n063255 245\n" },
+    Worked { name: "inserted_text", subsets: 1, flags: PLAIN,
+        descriptors: "205004", payload: "225C0AFE",
+        reading: "bits 32 steps 2; 1: 205004 \"225C0AFE\"",
+        items: "subset 1\n205004 \"\\\"\\\\\\x0A\\xFE\"\n" },
+    Worked { name: "thirty_two_groups", subsets: 1, flags: PLAIN,
+        descriptors: THIRTY_TWO_GROUPS, payload: "14",
+        reading: "bits 7 steps 66; 1: 001001 10e0 #",
+        items: "subset 1\n001001 10  # WMO BLOCK NUMBER [Numeric]\n" },
+    Worked { name: "negative_latitude", subsets: 1, flags: PLAIN,
+        descriptors: "005002", payload: "4646",
+        reading: "bits 15 steps 2; 1: 005002 -5e2 #",
+        items: "subset 1\n005002 -0.05  # LATITUDE (COARSE ACCURACY) [degree]\n" },
+    Worked { name: "no_subsets", subsets: 0, flags: PLAIN, descriptors: "001001", payload: "",
+        reading: "bits 0 steps 0",
+        items: "" },
+    Worked { name: "text_width", subsets: 1, flags: PLAIN,
+        descriptors: "208003 001015", payload: "414243",
+        reading: "bits 24 steps 3; 1: 001015 \"414243\" #",
+        items: "subset 1\n001015 \"ABC\"  # STATION OR SITE NAME [CCITT IA5]\n" },
+    Worked { name: "compressed_missing", subsets: 2, flags: PACKED,
+        descriptors: "012101", payload: "708F05",
+        reading: "bits 24 steps 2 held 1; 1: 012101 28815e2 # 2: 012101 missing #",
+        items: "\
+            subset 1\n\
+            012101 288.15  # AIR TEMPERATURE [K]\n\
+            subset 2\n\
+            012101 MISSING  # AIR TEMPERATURE [K]\n" },
+    Worked { name: "compressed_name", subsets: 2, flags: PACKED,
+        descriptors: "001015",
+        payload: "00000000000000000000000000000000000000001105090C83FFFFFFFC",
+        reading: "\
+            bits 230 steps 2 held 1; \
+            1: 001015 \"4142432020202020202020202020202020202020\" # 2: 001015 missing #",
+        items: "\
+            subset 1\n\
+            001015 \"ABC                 \"  # STATION OR SITE NAME [CCITT IA5]\n\
+            subset 2\n\
+            001015 MISSING  # STATION OR SITE NAME [CCITT IA5]\n" },
+    Worked { name: "increment_to_missing", subsets: 2, flags: PACKED,
+        descriptors: "001001", payload: "FC1080",
+        reading: "bits 17 steps 2 held 1; 1: 001001 126e0 # 2: 001001 missing #",
+        items: "\
+            subset 1\n\
+            001001 126  # WMO BLOCK NUMBER [Numeric]\n\
+            subset 2\n\
+            001001 MISSING  # WMO BLOCK NUMBER [Numeric]\n" },
+];
+
+/// The worked messages. A caller does not carry their texts through its proof.
+pub(crate) fn worked_messages() -> &'static [Worked] {
+    ROWS
+}

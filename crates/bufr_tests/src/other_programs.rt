@@ -1,0 +1,110 @@
+//! Other programs on the crates: a lister, a reader of one element, a builder of messages.
+
+use crate::messages::{LOCAL_USE, ONE_BLOCK_NUMBER, STRAY, line_of_one, text_of_one};
+use crate::runs::writer;
+use crate::support::{Runtime, assert_same, build, joined, ok, parsed, some, table_b, table_d};
+use bufr_bits::{End, ScriptIn, ScriptOut};
+use bufr_frame::{Event, Finder, Message};
+use bufr_tables::Fxy;
+use bufr_text::{DumpReader, encode_document, write_ls};
+use bufr_walk::{ItemView, Steps, Value, Visitor, read_message};
+use std::alloc::AllocError;
+
+/// Writes the line of a message. A finder gives at least 12 octets.
+fn list_message(rt: &impl Runtime, offset: u64, octets: &[u8], output: &mut ScriptOut) {
+    assert!(rt; octets.len() >= 12);
+    if let Ok(message) = Message::parse(octets) {
+        ok(rt, write_ls(offset, &message, output));
+    }
+}
+
+/// Lists a stream. Each event but the end passes an octet.
+fn list(rt: &impl Runtime, stream: &[u8], output: &mut ScriptOut) {
+    let mut input = ScriptIn::new(stream, 4096, None);
+    let mut finder = Finder::new(rt.alloc());
+    for _ in 0..stream.len() {
+        match ok(rt, finder.next(&mut input)) {
+            Event::Frame(offset, octets) => list_message(rt, offset, octets, output),
+            Event::Stray(_, _) => {}
+            Event::Done => break,
+        }
+    }
+}
+
+#[test]
+fn lists_a_stream(rt: HostRuntime) {
+    let parts = [b"heading", STRAY, ONE_BLOCK_NUMBER, ONE_BLOCK_NUMBER, STRAY];
+    let mut output = writer(&rt, 4096, (4096, End::Fail));
+    list(&rt, &joined(&rt, &parts), &mut output);
+    let (first, second) = (line_of_one(&rt, "15"), line_of_one(&rt, "63"));
+    let want = joined(&rt, &[first.as_bytes(), second.as_bytes()]);
+    assert_same(&rt, &output.taken(), &want.as_slice(), &"lines");
+}
+
+/// A visitor that keeps the numbers of one element.
+#[derive(Drop)]
+struct Numbers {
+    fxy: Fxy,
+    found: Vec<i128>,
+}
+
+impl Visitor for Numbers {
+    type Fault = AllocError;
+
+    ghost sees = { λ s call r t. Unit {0} };
+
+    fn subset(&mut self, _number: u16) -> Result<(), AllocError> {
+        Ok(())
+    }
+
+    fn item(&mut self, item: &ItemView<'_>) -> Result<(), AllocError> {
+        match item.value {
+            Value::Number(number, _) if item.fxy == self.fxy => self.found.push(number)?,
+            _ => {}
+        }
+        Ok(())
+    }
+}
+
+/// Shows the data of a message to a visitor.
+fn show(rt: &impl Runtime, octets: &[u8], numbers: &mut Numbers) {
+    let message = parsed(rt, octets);
+    let (b, d) = (table_b(rt), table_d(rt));
+    let mut descriptors = Vec::new(rt.alloc());
+    for word in message.descriptors() {
+        ok(rt, descriptors.push(Fxy::from_word(word)));
+    }
+    let template = ok(rt, build(rt.alloc(), &descriptors, &b, &d));
+    let mut steps = Steps::new();
+    let answer = read_message(rt.alloc(), &message, &template, &b, &mut steps);
+    let reading = ok(rt, answer);
+    ok(rt, reading.show(rt.alloc(), numbers, &mut steps));
+}
+
+#[test]
+fn reads_one_element_of_every_message(rt: HostRuntime) {
+    let fxy = some(&rt, Fxy::read(b"001001"));
+    let found = Vec::new(rt.alloc());
+    let mut numbers = Numbers { fxy, found };
+    for octets in [ONE_BLOCK_NUMBER, LOCAL_USE] {
+        show(&rt, octets, &mut numbers);
+    }
+    let found = numbers.found.as_slice();
+    assert_same(&rt, &found, &[10, 10].as_slice(), &"001001");
+}
+
+/// The octets of the message of a document.
+fn message_of(rt: &impl Runtime, text: &[u8]) -> Vec<u8> {
+    let mut input = ScriptIn::new(text, 4096, None);
+    let mut reader = DumpReader::new(rt.alloc());
+    let document = some(rt, ok(rt, reader.next_document(&mut input)));
+    let (b, d) = (table_b(rt), table_d(rt));
+    let answer = encode_document(rt.alloc(), &document, &b, &d, &mut Steps::new());
+    ok(rt, answer)
+}
+
+#[test]
+fn builds_a_message(rt: HostRuntime) {
+    let octets = message_of(&rt, text_of_one(&rt).as_bytes());
+    assert_same(&rt, &octets.as_slice(), &ONE_BLOCK_NUMBER, &"001001");
+}

@@ -1,0 +1,453 @@
+//! Command lines: which are understood, and what the program does over inputs in memory.
+
+use crate::messages::{ONE_BLOCK_NUMBER, line_of_one, table_b, table_d, text_of_one};
+use crate::runs::writer;
+use crate::support::{Runtime, assert_same, assert_that, joined, ok};
+use bufr_bits::{Device, End, ScriptIn, ScriptOut, Sink};
+use bufr_cli::{
+    Buffered, CannotOpenFile, Inputs, LineFault, Subcommand, TableNames, parse_line, read_all, run,
+};
+use bufr_frame::RunFault;
+use bufr_text::Form;
+use std::alloc::Global;
+use std::cell::Cell;
+use std::io::{self, BufWriter, ErrorKind, Read, Write};
+
+/// The words of a command line: the program's name, a command and its arguments.
+fn line_of(
+    rt: &impl Runtime,
+    command: &'static str,
+    arguments: &'static [&'static str],
+) -> Vec<&'static str> {
+    let mut words = Vec::new(rt.alloc());
+    ok(rt, words.extend_from_slice(&["bufr", command]));
+    ok(rt, words.extend_from_slice(arguments));
+    words
+}
+
+/// Asserts that words are understood as this command with this FILE.
+fn assert_parsed(rt: &impl Runtime, words: &[&str], command: Subcommand<'_>, file: Option<&str>) {
+    let job = ok(rt, parse_line(rt.alloc(), words));
+    assert_that(rt, job.command == command, &words);
+    assert_that(rt, job.file == file, &words);
+}
+
+const TABLES: TableNames<'static> = TableNames {
+    table_b: "b.csv",
+    table_d: "d.csv",
+};
+
+// Arguments of a command that takes tables, and its FILE. The tables are always the same.
+#[rattlefmt::skip]
+static ARGUMENTS: &[(&[&str], Option<&str>)] = &[
+    (&["-B", "b.csv", "-D", "d.csv"], None),
+    (&["-B", "b.csv", "-D", "d.csv", "x.bufr"], Some("x.bufr")),
+    (&["x.bufr", "-D", "d.csv", "-B", "b.csv"], Some("x.bufr")),
+    (&["-Bb.csv", "x.bufr", "-D=d.csv"], Some("x.bufr")),
+    (&["-B", "b.csv", "-D", "d.csv", "--", "-B"], Some("-B")),
+];
+
+#[test]
+fn parses_lines(rt: HostRuntime) {
+    let (none, one) = (["bufr", "ls"], ["bufr", "ls", "bulletins.bufr"]);
+    assert_parsed(&rt, none.as_slice(), Subcommand::Ls, None);
+    assert_parsed(&rt, one.as_slice(), Subcommand::Ls, Some("bulletins.bufr"));
+    let encode = Subcommand::Encode(TABLES, Form::AsWritten);
+    for (arguments, file) in ARGUMENTS {
+        let words = line_of(&rt, "dump", *arguments);
+        assert_parsed(&rt, words.as_slice(), Subcommand::Dump(TABLES), *file);
+        let words = line_of(&rt, "encode", *arguments);
+        assert_parsed(&rt, words.as_slice(), encode, *file);
+    }
+}
+
+// Arguments of `encode`, and the form that it is asked for.
+#[rattlefmt::skip]
+static FORMS: &[(&[&str], Form)] = &[
+    (&["-B", "b.csv", "-D", "d.csv", "--form", "plain"], Form::Plain),
+    (&["--form=compressed", "-B", "b.csv", "-D", "d.csv"], Form::Compressed),
+];
+
+#[test]
+fn parses_forms(rt: HostRuntime) {
+    for (arguments, form) in FORMS {
+        let words = line_of(&rt, "encode", *arguments);
+        let encode = Subcommand::Encode(TABLES, *form);
+        assert_parsed(&rt, words.as_slice(), encode, None);
+    }
+}
+
+/// The text of a line that is not understood.
+fn usage_of(rt: &impl Runtime, words: &[&str]) -> String {
+    match parse_line(rt.alloc(), words) {
+        Err(LineFault::Usage(text)) => text,
+        _ => panic!(rt; "{words:?} gave no usage fault"),
+    }
+}
+
+/// Asserts that a command line is not understood, and that its text says so.
+fn assert_usage(rt: &impl Runtime, words: &[&str], part: &str) {
+    let text = usage_of(rt, words);
+    assert_that(rt, text.as_str().contains(part), &text);
+}
+
+// Lines that are not understood, and a part of what is written.
+#[rattlefmt::skip]
+static MISTAKEN: &[(&[&str], &str)] = &[
+    (&["bufr"], "Usage: bufr <COMMAND>"),
+    (&["/usr/bin/other"], "Usage: bufr <COMMAND>"),
+    (&["bufr", "lst"], "unrecognized subcommand 'lst'"),
+    (&["bufr", "ls", "a", "b"], "unexpected argument 'b' found"),
+    (&["bufr", "ls", "--long"], "unexpected argument '--long' found"),
+    (&["bufr", "ls", "-B", "b.csv"], "unexpected argument '-B' found"),
+    (&["bufr", "dump", "-B", "b", "-D", "d", "--form", "plain"],
+        "unexpected argument '--form' found"),
+    (&["bufr", "encode", "-B", "b", "-D", "d", "--form", "plain", "--form", "plain"],
+        "cannot be used multiple times"),
+];
+
+// Words of `--form` that name none.
+static NO_FORMS: &[&str] = &["other", "", "Plain", "plain ", "compress"];
+
+#[test]
+fn refuses_lines(rt: HostRuntime) {
+    for (words, part) in MISTAKEN {
+        assert_usage(&rt, *words, *part);
+    }
+    for word in NO_FORMS {
+        let words = ["bufr", "encode", "-B", "b", "-D", "d", "--form", *word];
+        let part = "[possible values: plain, compressed]";
+        assert_usage(&rt, words.as_slice(), part);
+    }
+}
+
+// Arguments that no command with tables takes, and a part of what is written.
+#[rattlefmt::skip]
+static MISTAKEN_ARGUMENTS: &[(&[&str], &str)] = &[
+    (&["-B", "b", "-D", "d", "--long"], "unexpected argument '--long' found"),
+    (&[], "required arguments were not provided:\n  -B <FILE>\n  -D <FILE>\n"),
+    (&["-B", "b.csv"], "required arguments were not provided:\n  -D <FILE>\n"),
+    (&["-D", "d.csv", "x.bufr"], "required arguments were not provided:\n  -B <FILE>\n"),
+    (&["-D", "d.csv", "-B"], "value is required"),
+    (&["-B", "b", "-D", "d", "-B", "c"], "cannot be used multiple times"),
+    (&["-B", "b", "-D", "d", "x", "y"], "unexpected argument 'y' found"),
+];
+
+#[test]
+fn refuses_lines_with_tables(rt: HostRuntime) {
+    for (arguments, part) in MISTAKEN_ARGUMENTS {
+        assert_usage(&rt, line_of(&rt, "dump", *arguments).as_slice(), *part);
+        assert_usage(&rt, line_of(&rt, "encode", *arguments).as_slice(), *part);
+    }
+}
+
+// Lines that ask for help, and parts of it.
+#[rattlefmt::skip]
+static HELP: &[(&[&str], &[&str])] = &[
+    (&["bufr", "--help"], &["Usage: bufr <COMMAND>", "Exit status:"]),
+    (&["bufr", "ls", "--help"], &["Usage: bufr ls [FILE]", "Exit status:"]),
+    (&["bufr", "dump", "--help"], &["Usage: bufr dump -B <FILE> -D <FILE> [FILE]",
+        "-B <FILE>", "-D <FILE>", "Exit status:", "bufr dump -B b.csv -D d.csv"]),
+    (&["bufr", "encode", "--help"],
+        &["Usage: bufr encode [OPTIONS] -B <FILE> -D <FILE> [FILE]", "-B <FILE>", "-D <FILE>",
+        "--form <WORD>", "Exit status:", "bufr encode -B b.csv -D d.csv"]),
+];
+
+/// Asserts that a command line asks for help, and that its text has these parts.
+fn assert_help(rt: &impl Runtime, words: &[&str], parts: &[&str]) {
+    let text = match parse_line(rt.alloc(), words) {
+        Err(LineFault::Help(text)) => text,
+        _ => panic!(rt; "{words:?} gave no help"),
+    };
+    for part in parts {
+        assert_that(rt, text.as_str().contains(*part), &text);
+    }
+}
+
+/// Calls the program. A test sees only what the call left, so its proof does not carry the call's
+/// contract.
+fn call<'a, I: Inputs, W: Sink, E: Sink>(
+    alloc: Global,
+    words: &'a [&'static str],
+    inputs: &I,
+    w: &mut W,
+    e: &mut E,
+) -> u8 {
+    run(alloc, words, inputs, w, e)
+}
+
+/// The text that was written.
+fn text_on<'a>(rt: &impl Runtime, writer: &'a ScriptOut) -> &'a str {
+    ok(rt, str::from_utf8(writer.taken()))
+}
+
+/// The status of a call, and its writers.
+#[derive(Drop)]
+struct Reply {
+    status: u8,
+    output: ScriptOut,
+    errors: ScriptOut,
+}
+
+/// Calls the program with an output of this end.
+fn reply_to<'a, I: Inputs>(
+    rt: &impl Runtime,
+    words: &'a [&'static str],
+    inputs: &I,
+    end: End,
+) -> Reply {
+    let mut output = writer(rt, 4096, (4096, end));
+    let mut errors = writer(rt, 4096, (4096, End::Fail));
+    let status = call(rt.alloc(), words, inputs, &mut output, &mut errors);
+    Reply {
+        status,
+        output,
+        errors,
+    }
+}
+
+/// Asserts that a text has a part, and that it is empty where the part is.
+fn assert_holds(rt: &impl Runtime, text: &str, part: &str) {
+    assert_that(rt, text.contains(part), &text);
+    assert_that(rt, text.is_empty() == part.is_empty(), &text);
+}
+
+/// Asserts the status of a call, its output, and a part of its errors.
+fn assert_called<'a, I: Inputs>(
+    rt: &impl Runtime,
+    words: &'a [&'static str],
+    inputs: &I,
+    (status, output): (u8, &[u8]),
+    errors: &str,
+) {
+    let reply = reply_to(rt, words, inputs, End::Fail);
+    assert_same(rt, &reply.status, &status, &words);
+    assert_same(rt, &reply.output.taken(), &output, &words);
+    assert_holds(rt, text_on(rt, &reply.errors), errors);
+}
+
+/// A file; a torn one fails where its octets end.
+#[derive(Drop)]
+struct Page<'a> {
+    octets: &'a [u8],
+    torn: bool,
+}
+
+impl<'a> Read for Page<'a> {
+    fn read(&mut self, buf: &mut [u8]) -> io::Result<usize> {
+        if self.torn && self.octets.is_empty() {
+            return Err(ErrorKind::Other.into());
+        }
+        self.octets.read(buf)
+    }
+}
+
+/// Tables, the file `one`, torn files and standard input.
+#[derive(Drop)]
+struct Library<'a> {
+    one: &'a [u8],
+    standard: &'a [u8],
+}
+
+impl<'a> Inputs for Library<'a> {
+    ghost use Rattle.std.specs.Prelude.{None};
+
+    type Standard = Page<'a>;
+
+    type File = Page<'a>;
+
+    ghost standard_octets = { λ _. None };
+
+    ghost file_octets = { λ _ _. None };
+
+    fn standard(&self) -> Page<'a> {
+        Page {
+            octets: self.standard,
+            torn: false,
+        }
+    }
+
+    fn open(&self, name: &str) -> Result<Page<'a>, CannotOpenFile> {
+        let octets = match name.as_bytes() {
+            b"b.csv" => table_b(),
+            b"d.csv" => table_d(),
+            b"cycle.csv" => b"fxy,member\n300001,300002\n300002,300001\n",
+            b"one" => self.one,
+            b"torn" => b"fxy",
+            b"torn.bufr" => self.standard,
+            _ => return Err(CannotOpenFile),
+        };
+        let torn = name == "torn" || name == "torn.bufr";
+        Ok(Page { octets, torn })
+    }
+}
+
+/// Inputs whose standard input and file `one` are the message.
+const ONE: Library<'static> = Library {
+    one: ONE_BLOCK_NUMBER,
+    standard: ONE_BLOCK_NUMBER,
+};
+
+/// The line of a write that failed.
+const WRITE_FAILED: &str = "bufr: 71 write failed\n";
+
+/// Asserts that help is written, and that the status and a line say so where it is not flushed.
+fn assert_shown(rt: &impl Runtime, words: &'static [&'static str]) {
+    let reply = reply_to(rt, words, &ONE, End::Zero);
+    assert_same(rt, &reply.status, &0, &words);
+    assert_holds(rt, text_on(rt, &reply.output), "Exit status:");
+    assert_same(rt, &text_on(rt, &reply.errors), &"", &words);
+    let reply = reply_to(rt, words, &ONE, End::Flush);
+    assert_same(rt, &reply.status, &2, &words);
+    assert_same(rt, &text_on(rt, &reply.errors), &WRITE_FAILED, &words);
+}
+
+#[test]
+fn shows_help(rt: HostRuntime) {
+    for (words, parts) in HELP {
+        assert_help(&rt, *words, *parts);
+        assert_shown(&rt, *words);
+    }
+}
+
+// Lines, the status, the output, and a part of the errors.
+#[rattlefmt::skip]
+static CALLED: &[(&[&str], u8, &str, &str)] = &[
+    (&["bufr", "ls", "two"], 2, "", "bufr: cannot open two\n"),
+    (&["bufr", "ls", "-"], 2, "", "bufr: cannot open -\n"),
+    (&["bufr"], 2, "", "Usage: bufr <COMMAND>"),
+    (&["bufr", "--version"], 0, "bufr 0.1.0\n", ""),
+    (&["bufr", "ls", "one", "two"], 2, "", "unexpected argument 'two' found"),
+];
+
+/// The file has a stray word before the message.
+#[test]
+fn runs_lines(rt: HostRuntime) {
+    let one = joined(&rt, &[b"BUFR", ONE_BLOCK_NUMBER]);
+    let library = Library { one: &one, ..ONE };
+    let (first, fourth) = (line_of_one(&rt, "0"), line_of_one(&rt, "4"));
+    let words = ["bufr", "ls"];
+    assert_called(&rt, words.as_slice(), &library, (0, first.as_bytes()), "");
+    let words = ["bufr", "ls", "one"];
+    let (want, errors) = ((1, fourth.as_bytes()), "offset 0: 1 cut\n");
+    assert_called(&rt, words.as_slice(), &library, want, errors);
+    for (words, status, output, errors) in CALLED {
+        assert_called(&rt, *words, &library, (*status, output.as_bytes()), *errors);
+    }
+}
+
+/// A file that is torn after its message: the message is listed, and the fault is written.
+#[test]
+fn lists_a_torn_file(rt: HostRuntime) {
+    let (words, line) = (["bufr", "ls", "torn.bufr"], line_of_one(&rt, "0"));
+    let fault = "bufr: 70 read failed\n";
+    assert_called(&rt, words.as_slice(), &ONE, (2, line.as_bytes()), fault)
+}
+
+// Arguments of a command that takes tables, the status, whether its output is written, and a part
+// of the errors: without it those of the file `one`. Table B is read first, then D, then FILE.
+#[rattlefmt::skip]
+static RUNS: &[(&[&str], u8, bool, Option<&str>)] = &[
+    (&["-B", "b.csv", "-D", "d.csv"], 0, true, Some("")),
+    (&["-B", "b.csv", "-D", "d.csv", "one"], 1, true, None),
+    (&["-B", "b.csv", "-D", "d.csv", "two"], 2, false, Some("bufr: cannot open two\n")),
+    (&["-B", "no.csv", "-D", "none.csv"], 2, false, Some("bufr: cannot open no.csv\n")),
+    (&["-B", "b.csv", "-D", "none.csv", "two"], 2, false, Some("bufr: cannot open none.csv\n")),
+    (&["-B", "d.csv", "-D", "none.csv"], 2, false, Some("table B: 40 header\n")),
+    (&["-B", "b.csv", "-D", "b.csv", "two"], 2, false, Some("table D: 40 header\n")),
+    (&["-B", "b.csv", "-D", "cycle.csv", "two"], 2, false, Some("table D: 43 cycle 300001\n")),
+    (&["-B", "torn", "-D", "none.csv"], 2, false, Some("bufr: 70 read failed\n")),
+    (&["-B", "b.csv", "-D", "torn", "two"], 2, false, Some("bufr: 70 read failed\n")),
+    (&["-B", "b.csv", "-D", "d.csv", "torn"], 2, false, Some("bufr: 70 read failed\n")),
+    (&["-D", "d.csv"], 2, false, Some("required arguments were not provided")),
+];
+
+/// Asserts what a command does with each of these arguments: this output, and these errors of
+/// `one`.
+fn assert_runs(
+    rt: &impl Runtime,
+    runs: &[(&'static [&'static str], u8, bool, Option<&'static str>)],
+    command: &'static str,
+    library: &Library<'_>,
+    (output, errors): (&[u8], &str),
+) {
+    for (arguments, status, written, other) in runs {
+        let words = line_of(rt, command, *arguments);
+        let output = if *written { output } else { b"" };
+        let errors = other.unwrap_or(errors);
+        assert_called(rt, words.as_slice(), library, (*status, output), errors);
+    }
+}
+
+/// The file has a stray word before the message.
+#[test]
+fn runs_dump_lines(rt: HostRuntime) {
+    let one = joined(&rt, &[b"BUFR", ONE_BLOCK_NUMBER]);
+    let library = Library { one: &one, ..ONE };
+    let text = text_of_one(&rt);
+    let want: (&[u8], &str) = (text.as_bytes(), "offset 0: 1 cut\n");
+    assert_runs(&rt, RUNS, "dump", &library, want)
+}
+
+/// The file has a line after the document that may not come there.
+#[test]
+fn runs_encode_lines(rt: HostRuntime) {
+    let text = text_of_one(&rt);
+    let one = joined(&rt, &[text.as_bytes(), b"subset 1\n"]);
+    let library = Library {
+        one: &one,
+        standard: text.as_bytes(),
+    };
+    let want = (ONE_BLOCK_NUMBER, "line 26: 50 line\n");
+    assert_runs(&rt, RUNS, "encode", &library, want)
+}
+
+/// A writer that is full, and counts the writes that it is given.
+#[derive(Drop)]
+struct Full<'a> {
+    writes: &'a Cell<usize>,
+}
+
+impl<'a> Write for Full<'a> {
+    fn write(&mut self, _buf: &[u8]) -> io::Result<usize> {
+        self.writes.set(self.writes.get().saturating_add(1));
+        Err(ErrorKind::Other.into())
+    }
+
+    fn flush(&mut self) -> io::Result<()> {
+        Ok(())
+    }
+}
+
+/// The status of a call over the program's own writer on a full one, which is flushed and dropped.
+fn status_if_full(rt: &impl Runtime, writes: &Cell<usize>, e: &mut ScriptOut) -> u8 {
+    let full = BufWriter::with_capacity(rt.alloc(), 1000, Full { writes });
+    let mut w = Device::new(Buffered::new(ok(rt, full)));
+    let status = call(rt.alloc(), &["bufr", "ls"], &ONE, &mut w, e);
+    assert_that(rt, w.flush().is_err(), &"flush");
+    status
+}
+
+/// A write that failed is not tried again: not by the run, a flush, nor the drop of the writer.
+#[test]
+fn tries_no_write_again(rt: HostRuntime) {
+    let writes = Cell::new(0);
+    let mut e = writer(&rt, 4096, (4096, End::Fail));
+    let status = status_if_full(&rt, &writes, &mut e);
+    assert_same(&rt, &(status, writes.get()), &(2, 1), &"status and writes");
+    assert_same(&rt, &text_on(&rt, &e), &WRITE_FAILED, &"errors");
+}
+
+/// The octets of a message that comes in parts, from a reader that may fail.
+fn all_of_one(rt: &impl Runtime, fails_at: Option<usize>) -> Result<Vec<u8>, RunFault> {
+    let mut r = ScriptIn::new(ONE_BLOCK_NUMBER, 7, fails_at);
+    read_all(rt.alloc(), &mut r)
+}
+
+#[test]
+fn reads_all(rt: HostRuntime) {
+    let octets = ok(&rt, all_of_one(&rt, None));
+    assert_same(&rt, &octets.as_slice(), &ONE_BLOCK_NUMBER, &"octets");
+    let torn = all_of_one(&rt, Some(20));
+    assert_that(&rt, matches!(torn, Err(RunFault::Read)), &"torn");
+}

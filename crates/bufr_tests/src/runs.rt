@@ -1,0 +1,427 @@
+//! Runs of the three commands over devices in memory.
+//!
+//! A test sees only what a run left, so its own proof does not carry the run's contract.
+
+use crate::messages::STRAY;
+use crate::support::{Runtime, assert_same, joined, ok, some, table_b, table_d};
+use bufr_bits::{Device, End, ScriptIn, ScriptOut, Sink, Source};
+use bufr_cli::{Tally, run_dump, run_encode, run_encode_form, run_ls};
+use bufr_frame::RunFault;
+use bufr_tables::{TableB, TableD};
+use bufr_text::Form;
+use std::alloc::Global;
+use std::cell::Cell;
+use std::io::{self, ErrorKind, Read, Write};
+
+/// The three commands, and `encode` in a form.
+#[derive(Clone, Copy)]
+pub(crate) enum Command {
+    Ls,
+    Dump,
+    Encode,
+    EncodeIn(Form),
+}
+
+/// What a run is to count: accepted and refused.
+pub(crate) fn tally(accepted: u64, refused: u64) -> Tally {
+    Tally { accepted, refused }
+}
+
+/// A run over an input in memory, and what it is to return and to write.
+#[derive(Clone, Copy)]
+pub(crate) struct Run<'a> {
+    pub(crate) command: Command,
+    pub(crate) name: &'a str,
+    pub(crate) input: &'a [u8],
+    pub(crate) output: &'a [u8],
+    pub(crate) errors: &'a [u8],
+    pub(crate) outcome: Result<Tally, RunFault>,
+}
+
+/// A run that accepts one message or document, and writes this.
+pub(crate) fn accepted<'a>(
+    command: Command,
+    name: &'a str,
+    input: &'a [u8],
+    output: &'a [u8],
+) -> Run<'a> {
+    Run {
+        command,
+        name,
+        input,
+        output,
+        errors: b"",
+        outcome: Ok(tally(1, 0)),
+    }
+}
+
+/// A run that refuses one message or document, with this fault line.
+pub(crate) fn refused<'a>(
+    command: Command,
+    name: &'a str,
+    input: &'a [u8],
+    errors: &'a [u8],
+) -> Run<'a> {
+    Run {
+        command,
+        name,
+        input,
+        output: b"",
+        errors,
+        outcome: Ok(tally(0, 1)),
+    }
+}
+
+impl<'a> Run<'a> {
+    /// The run that counts so many.
+    pub(crate) fn counting(self, accepted: u64, refused: u64) -> Run<'a> {
+        Run {
+            outcome: Ok(tally(accepted, refused)),
+            ..self
+        }
+    }
+
+    /// The run with these fault lines.
+    pub(crate) fn with_errors(self, errors: &'a [u8]) -> Run<'a> {
+        Run { errors, ..self }
+    }
+}
+
+/// The test tables, and what is run by them.
+#[derive(Drop)]
+pub(crate) struct Task {
+    pub(crate) alloc: Global,
+    pub(crate) command: Command,
+    pub(crate) b: TableB,
+    pub(crate) d: TableD,
+}
+
+impl Task {
+    pub(crate) fn new(rt: &impl Runtime, command: Command) -> Task {
+        Task {
+            alloc: rt.alloc(),
+            command,
+            b: table_b(rt),
+            d: table_d(rt),
+        }
+    }
+}
+
+/// Lists a stream.
+pub(crate) fn list<R: Source, W: Sink, E: Sink>(
+    alloc: Global,
+    r: &mut R,
+    w: &mut W,
+    e: &mut E,
+) -> Result<Tally, RunFault> {
+    run_ls(alloc, r, w, e)
+}
+
+/// Dumps a stream.
+fn dump<R: Source, W: Sink, E: Sink>(
+    task: &Task,
+    r: &mut R,
+    w: &mut W,
+    e: &mut E,
+) -> Result<Tally, RunFault> {
+    run_dump(task.alloc, r, w, e, &task.b, &task.d)
+}
+
+/// Encodes a text.
+fn encode<R: Source, W: Sink, E: Sink>(
+    task: &Task,
+    r: &mut R,
+    w: &mut W,
+    e: &mut E,
+) -> Result<Tally, RunFault> {
+    run_encode(task.alloc, r, w, e, &task.b, &task.d)
+}
+
+/// Encodes a text in a form.
+fn encode_in<R: Source, W: Sink, E: Sink>(
+    task: &Task,
+    form: Form,
+    r: &mut R,
+    w: &mut W,
+    e: &mut E,
+) -> Result<Tally, RunFault> {
+    run_encode_form(task.alloc, r, w, e, &task.b, &task.d, form)
+}
+
+/// What a run returned, and its writers.
+#[derive(Drop)]
+pub(crate) struct Ran {
+    outcome: Result<Tally, RunFault>,
+    output: ScriptOut,
+    errors: ScriptOut,
+}
+
+impl Ran {
+    /// The octets that the output took.
+    pub(crate) fn output(&self) -> &[u8] {
+        self.output.taken()
+    }
+
+    /// Asserts what the run returned and wrote, at an index in a list of runs.
+    pub(crate) fn assert(&self, rt: &impl Runtime, run: Run<'_>, index: usize) {
+        let case = (run.name, index);
+        assert_same(rt, &self.outcome, &run.outcome, &case);
+        assert_same(rt, &self.output.taken(), &run.output, &case);
+        assert_same(rt, &self.errors.taken(), &run.errors, &case);
+    }
+}
+
+/// Runs a command over a reader and two writers.
+fn run_over<R: Source>(
+    task: &Task,
+    input: &mut R,
+    mut output: ScriptOut,
+    mut errors: ScriptOut,
+) -> Ran {
+    let (w, e) = (&mut output, &mut errors);
+    let outcome = match task.command {
+        Command::Ls => list(task.alloc, input, w, e),
+        Command::Dump => dump(task, input, w, e),
+        Command::Encode => encode(task, input, w, e),
+        Command::EncodeIn(form) => encode_in(task, form, input, w, e),
+    };
+    Ran {
+        outcome,
+        output,
+        errors,
+    }
+}
+
+/// A writer with this room and end, which takes at most so many octets at once.
+pub(crate) fn writer(rt: &impl Runtime, step: usize, (room, end): (usize, End)) -> ScriptOut {
+    assert!(rt; step > 0);
+    ok(rt, ScriptOut::new(rt.alloc(), room, step, end))
+}
+
+/// How the devices of a run work.
+#[derive(Clone, Copy)]
+pub(crate) struct Devices {
+    /// At most so many octets in a read or a write.
+    pub(crate) step: usize,
+    /// Where a read fails.
+    pub(crate) fails_at: Option<usize>,
+    /// The octets that the output takes, and its end.
+    pub(crate) output: (usize, End),
+    /// The same of the errors.
+    pub(crate) errors: (usize, End),
+}
+
+/// Devices with room for 65,536 octets.
+pub(crate) fn roomy(step: usize) -> Devices {
+    Devices {
+        step,
+        fails_at: None,
+        output: (65_536, End::Fail),
+        errors: (65_536, End::Fail),
+    }
+}
+
+/// Runs the command of a task over an input and these devices.
+fn run_on(rt: &impl Runtime, task: &Task, input: &[u8], devices: Devices) -> Ran {
+    assert!(rt; devices.step > 0);
+    let mut r = ScriptIn::new(input, devices.step, devices.fails_at);
+    let w = writer(rt, devices.step, devices.output);
+    let e = writer(rt, devices.step, devices.errors);
+    run_over(task, &mut r, w, e)
+}
+
+/// Runs a command over an input.
+pub(crate) fn run_whole(rt: &impl Runtime, command: Command, input: &[u8]) -> Ran {
+    run_on(rt, &Task::new(rt, command), input, roomy(4096))
+}
+
+/// Asserts what a run over these devices returns and writes.
+pub(crate) fn assert_ran(rt: &impl Runtime, task: &Task, run: Run<'_>, devices: Devices) {
+    let index = devices.fails_at.unwrap_or(devices.step);
+    run_on(rt, task, run.input, devices).assert(rt, run, index)
+}
+
+/// Asserts what a run returns and writes, however few octets its devices take and give at once.
+pub(crate) fn assert_run(rt: &impl Runtime, run: Run<'_>) {
+    let task = Task::new(rt, run.command);
+    for step in [1, 3, 7, 4096] {
+        assert_ran(rt, &task, run, roomy(step));
+    }
+}
+
+/// Asserts what a run leaves on writers with room for so many octets that then end so. The output
+/// takes `before` where the errors are full.
+fn assert_room(
+    rt: &impl Runtime,
+    task: &Task,
+    run: Run<'_>,
+    before: &[u8],
+    (output, errors): ((usize, End), (usize, End)),
+) {
+    let mut devices = roomy(5);
+    devices.output = output;
+    devices.errors = errors;
+    let (first, second) = (output.0 < run.output.len(), errors.0 < run.errors.len());
+    let fails = first || second || output.1 == End::Flush || errors.1 == End::Flush;
+    let mut wanted = run.with_errors(run.errors.get(..errors.0).unwrap_or(run.errors));
+    wanted.output = run.output.get(..output.0).unwrap_or(run.output);
+    if second {
+        wanted.output = before;
+    }
+    if fails {
+        wanted.outcome = Err(RunFault::Write);
+    }
+    run_on(rt, task, run.input, devices).assert(rt, wanted, output.0.saturating_add(errors.0))
+}
+
+/// An output that fails, takes nothing or is not flushed takes a prefix of the whole.
+pub(crate) fn assert_stops_at_output(rt: &impl Runtime, run: Run<'_>) {
+    let task = Task::new(rt, run.command);
+    for room in 0..run.output.len().saturating_add(1) {
+        for end in [End::Fail, End::Zero, End::Flush] {
+            let errors = (run.errors.len(), End::Fail);
+            assert_room(rt, &task, run, b"", ((room, end), errors));
+        }
+    }
+}
+
+/// Errors that fail, take nothing or are not flushed take a prefix of the line. The output takes
+/// `before`, or the whole where the line was taken.
+pub(crate) fn assert_stops_at_errors(rt: &impl Runtime, run: Run<'_>, before: &[u8]) {
+    let task = Task::new(rt, run.command);
+    for room in 0..run.errors.len().saturating_add(1) {
+        for end in [End::Fail, End::Zero, End::Flush] {
+            let output = (run.output.len(), End::Fail);
+            assert_room(rt, &task, run, before, (output, (room, end)));
+        }
+    }
+}
+
+/// A read that fails at this place ends the run.
+fn assert_read_fails(rt: &impl Runtime, task: &Task, run: Run<'_>, place: usize) {
+    let outcome = Err(RunFault::Read);
+    for step in [1, 7] {
+        let devices = Devices {
+            fails_at: Some(place),
+            ..roomy(step)
+        };
+        assert_ran(rt, task, Run { outcome, ..run }, devices);
+    }
+}
+
+/// A run over two messages or documents of as many octets, of which the first gives this output.
+/// Wherever a read fails or is interrupted, the output has what was decided before.
+pub(crate) fn assert_stops_at_reads(rt: &impl Runtime, run: Run<'_>, first: &[u8]) {
+    let task = Task::new(rt, run.command);
+    let (half, whole) = (run.input.len() / 2, run.input.len());
+    for place in 0..whole.saturating_add(1) {
+        let output = if place == whole {
+            run.output
+        } else if place < half {
+            b""
+        } else {
+            first
+        };
+        assert_read_fails(rt, &task, Run { output, ..run }, place);
+        if place < 2 || place == half.saturating_sub(1) || place == half || place == whole {
+            assert_read_interrupted(rt, &task, Run { output, ..run }, place);
+        }
+    }
+}
+
+/// A reader that is interrupted once, after a prefix, and notes a read that is made then.
+#[derive(Drop)]
+struct Interrupted<'a> {
+    prefix: &'a [u8],
+    rest: &'a [u8],
+    interrupted: &'a Cell<bool>,
+    tried_again: &'a Cell<bool>,
+}
+
+impl<'a> Read for Interrupted<'a> {
+    fn read(&mut self, buf: &mut [u8]) -> io::Result<usize> {
+        if !self.prefix.is_empty() {
+            return self.prefix.read(buf);
+        }
+        if self.interrupted.get() {
+            self.tried_again.set(true);
+            return self.rest.read(buf);
+        }
+        self.interrupted.set(true);
+        Err(ErrorKind::Interrupted.into())
+    }
+}
+
+/// An interrupted read is a failed one: it is not made again, and nothing is flushed.
+fn assert_read_interrupted(rt: &impl Runtime, task: &Task, run: Run<'_>, place: usize) {
+    let (interrupted, tried_again) = (Cell::new(false), Cell::new(false));
+    let mut r = Device::new(Interrupted {
+        prefix: some(rt, run.input.get(..place)),
+        rest: some(rt, run.input.get(place..)),
+        interrupted: &interrupted,
+        tried_again: &tried_again,
+    });
+    let w = writer(rt, 7, (4096, End::Flush));
+    let e = writer(rt, 7, (0, End::Flush));
+    let outcome = Err(RunFault::Read);
+    run_over(task, &mut r, w, e).assert(rt, Run { outcome, ..run }, place);
+    let notes = (interrupted.get(), tried_again.get());
+    assert_same(rt, &notes, &(true, false), &place)
+}
+
+/// Wherever a message is cut it is refused, and with fewer than four octets it is none.
+pub(crate) fn assert_cut_anywhere(rt: &impl Runtime, command: Command, name: &str, whole: &[u8]) {
+    for length in 0..whole.len() {
+        let prefix = whole.get(..length).unwrap_or(b"");
+        let run = refused(command, name, prefix, b"offset 0: 1 cut\n");
+        let none = run.counting(0, 0).with_errors(b"");
+        assert_run(rt, if length < 4 { none } else { run });
+    }
+}
+
+/// A stray word that states 64 octets, a message, and zeros up to as many octets.
+///
+/// Nothing is decided before the last octet. The stray's line is written before the output.
+pub(crate) fn assert_stops_after_a_stray(
+    rt: &impl Runtime,
+    command: Command,
+    message: &[u8],
+    output: &[u8],
+) {
+    let mut input = joined(rt, &[STRAY, message]);
+    ok(rt, input.resize(64, 0));
+    let undecided = accepted(command, "stray", &input, b"");
+    let run = Run {
+        output,
+        ..undecided.counting(1, 1)
+    };
+    let run = run.with_errors(b"offset 0: 3 no end\n");
+    assert_stops_at_output(rt, run);
+    assert_stops_at_errors(rt, run, b"");
+    let task = Task::new(rt, command);
+    for place in 0..64 {
+        assert_read_fails(rt, &task, undecided, place);
+    }
+    assert_read_fails(rt, &task, run, 64)
+}
+
+/// A writer that counts octets and writes, and notes a write that does not end a line.
+#[derive(Drop)]
+pub(crate) struct Watched<'a> {
+    pub(crate) octets: &'a Cell<usize>,
+    pub(crate) writes: &'a Cell<usize>,
+    pub(crate) torn: &'a Cell<bool>,
+}
+
+impl<'a> Write for Watched<'a> {
+    fn write(&mut self, buf: &[u8]) -> io::Result<usize> {
+        self.octets.set(self.octets.get().saturating_add(buf.len()));
+        self.writes.set(self.writes.get().saturating_add(1));
+        self.torn.set(self.torn.get() || !buf.ends_with(b"\n"));
+        Ok(buf.len())
+    }
+
+    fn flush(&mut self) -> io::Result<()> {
+        Ok(())
+    }
+}

@@ -1,0 +1,152 @@
+//! What the tests share: assertions, octets from text, tables and templates.
+//!
+//! Nothing here has a contract, so the proof of a test carries none of the calls made here.
+
+use crate::messages;
+use bufr_frame::Message;
+use bufr_tables::{Fxy, TableB, TableD, TableFault, Template, TemplateFault};
+use std::alloc::Global;
+use std::fmt::Debug;
+use std::process::Abort;
+
+/// The runtime of a test, which ends a test that fails and allocates memory.
+pub(crate) trait Runtime: Abort + AllocGlobal {}
+
+impl<R: Abort + AllocGlobal> Runtime for R {}
+
+/// The value of a call that is to succeed. A `?` in a test would be one more way out to prove.
+pub(crate) fn ok<T, E: Drop>(rt: &impl Abort, answer: Result<T, E>) -> T {
+    match answer {
+        Ok(value) => value,
+        Err(_) => panic!(rt; "a call failed"),
+    }
+}
+
+/// The value of an option that is to have one.
+pub(crate) fn some<T>(rt: &impl Abort, option: Option<T>) -> T {
+    match option {
+        Some(value) => value,
+        None => panic!(rt; "a value is missing"),
+    }
+}
+
+/// Asserts that two values are equal, and shows the case where they are not.
+pub(crate) fn assert_same<T: Debug + PartialEq, C: Debug>(
+    rt: &impl Abort,
+    found: &T,
+    want: &T,
+    case: &C,
+) {
+    assert_eq!(rt; found, want, "for {case:?}");
+}
+
+/// Asserts that something holds, and shows the case where it does not.
+pub(crate) fn assert_that<C: Debug>(rt: &impl Abort, holds: bool, case: &C) {
+    assert!(rt; holds, "for {case:?}");
+}
+
+fn octet_of(rt: &impl Abort, high: char, low: char) -> u8 {
+    let high = some(rt, high.to_digit(16));
+    let low = some(rt, low.to_digit(16));
+    ok(rt, u8::try_from(high.wrapping_mul(16).wrapping_add(low)))
+}
+
+/// The octets of hexadecimal digits, in pairs. Blanks may separate the digits.
+pub(crate) fn from_hex(rt: &impl Runtime, digits: &str) -> Vec<u8> {
+    let mut octets = Vec::new(rt.alloc());
+    let mut first = None;
+    for digit in digits.chars() {
+        if digit == ' ' {
+            continue;
+        }
+        first = match first {
+            None => Some(digit),
+            Some(high) => {
+                ok(rt, octets.push(octet_of(rt, high, digit)));
+                None
+            }
+        };
+    }
+    assert_that(rt, first.is_none(), &digits);
+    octets
+}
+
+/// The octets of the parts, one after another.
+pub(crate) fn joined(rt: &impl Runtime, parts: &[&[u8]]) -> Vec<u8> {
+    let mut octets = Vec::new(rt.alloc());
+    for part in parts {
+        ok(rt, octets.extend_from_slice(part));
+    }
+    octets
+}
+
+/// The octets of a part, repeated.
+pub(crate) fn repeated(rt: &impl Runtime, part: &[u8], times: usize) -> Vec<u8> {
+    let mut octets = Vec::new(rt.alloc());
+    for _ in 0..times {
+        ok(rt, octets.extend_from_slice(part));
+    }
+    octets
+}
+
+fn descriptor_of(rt: &impl Abort, digits: &str) -> Fxy {
+    some(rt, Fxy::read(digits.as_bytes()))
+}
+
+/// The descriptors of a text: six digits each, separated by blanks.
+pub(crate) fn descriptors_of(rt: &impl Runtime, text: &str) -> Vec<Fxy> {
+    let mut descriptors = Vec::new(rt.alloc());
+    for digits in text.split_whitespace() {
+        ok(rt, descriptors.push(descriptor_of(rt, digits)));
+    }
+    descriptors
+}
+
+/// The words of such descriptors.
+pub(crate) fn words_of(rt: &impl Runtime, text: &str) -> Vec<u16> {
+    let mut words = Vec::new(rt.alloc());
+    for digits in text.split_whitespace() {
+        ok(rt, words.push(descriptor_of(rt, digits).word()));
+    }
+    words
+}
+
+pub(crate) fn read_b(alloc: Global, text: &[u8]) -> Result<TableB, TableFault> {
+    TableB::read(alloc, text)
+}
+
+pub(crate) fn read_d(alloc: Global, text: &[u8]) -> Result<TableD, TableFault> {
+    TableD::read(alloc, text)
+}
+
+/// Table B of the test messages.
+pub(crate) fn table_b(rt: &impl Runtime) -> TableB {
+    ok(rt, read_b(rt.alloc(), messages::table_b()))
+}
+
+/// Table D of the test messages.
+pub(crate) fn table_d(rt: &impl Runtime) -> TableD {
+    ok(rt, read_d(rt.alloc(), messages::table_d()))
+}
+
+pub(crate) fn build(
+    alloc: Global,
+    descriptors: &[Fxy],
+    table_b: &TableB,
+    table_d: &TableD,
+) -> Result<Template, TemplateFault> {
+    Template::build(alloc, descriptors, table_b, table_d)
+}
+
+/// The template of a text of descriptors, by the tables of the test messages.
+pub(crate) fn template_of(rt: &impl Runtime, text: &str) -> Template {
+    let descriptors = descriptors_of(rt, text);
+    let (table_b, table_d) = (table_b(rt), table_d(rt));
+    ok(rt, build(rt.alloc(), &descriptors, &table_b, &table_d))
+}
+
+/// The message that octets are.
+pub(crate) fn parsed<'a>(rt: &impl Abort, octets: &'a [u8]) -> Message<'a> {
+    assert!(rt; octets.len() >= 12);
+    ok(rt, Message::parse(octets))
+}

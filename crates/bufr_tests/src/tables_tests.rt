@@ -1,0 +1,372 @@
+//! Descriptors, and the reading of tables.
+
+use crate::messages::{HEADER_B, HEADER_D};
+use crate::support::{Runtime, assert_same, joined, ok, read_b, read_d, some, table_b, table_d};
+use bufr_tables::{Entry, Fxy, Kind, TableB, TableD, TableFault};
+
+/// Six digits, and the word of the descriptor that they write.
+#[rattlefmt::skip]
+const DESCRIPTORS: &[(&[u8], Option<u16>)] = &[
+    (b"000000", Some(0)), (b"001001", Some(0x0101)), (b"012101", Some(0x0c65)),
+    (b"063255", Some(0x3fff)), (b"101255", Some(0x41ff)), (b"201132", Some(0x8184)),
+    (b"360192", Some(0xfcc0)), (b"363255", Some(0xffff)),
+    (b"400000", None), (b"064000", None), (b"000256", None),
+    (b"01210", None), (b"0121010", None), (b"01210a", None),
+];
+
+/// Words, and whether their descriptors are replication factors.
+#[rattlefmt::skip]
+const FACTORS: &[(u16, bool)] = &[
+    (0x1eff, false), (0x1f00, true), (0x1f01, true), (0x1f02, true), (0x1f03, false),
+    (0x5f01, false),
+];
+
+/// Asserts which word digits write, and that its descriptor is written as they are.
+fn assert_descriptor(rt: &impl Runtime, digits: &[u8], want: Option<u16>) {
+    assert_same(rt, &Fxy::read(digits).map(Fxy::word), &want, &digits);
+    if let Some(word) = want {
+        let fxy = Fxy::from_word(word);
+        let found = (fxy.word(), fxy.text());
+        assert_same(rt, &(found.0, found.1.as_slice()), &(word, digits), &digits);
+        let shown = ok(rt, format!(in rt.alloc(); "{fxy}"));
+        assert_same(rt, &shown.as_bytes(), &digits, &word);
+    }
+}
+
+#[test]
+fn descriptors(rt: HostRuntime) {
+    for (digits, want) in DESCRIPTORS {
+        assert_descriptor(&rt, digits, *want);
+    }
+    for (word, want) in FACTORS {
+        assert_same(&rt, &Fxy::from_word(*word).is_factor(), want, word);
+    }
+    let fxy = Fxy::from_word(0xfcc0);
+    assert_same(&rt, &(fxy.f(), fxy.x(), fxy.y()), &(3, 60, 192), &fxy);
+}
+
+fn entry_of(table: &TableB, word: u16) -> Option<Entry<'_>> {
+    table.get(Fxy::from_word(word))
+}
+
+fn members_of(table: &TableD, word: u16) -> Option<&[Fxy]> {
+    table.members(Fxy::from_word(word))
+}
+
+/// Elements of Table B: word, name, unit, kind, scale, reference value and data width.
+#[rattlefmt::skip]
+const ELEMENTS: &[(u16, &[u8], &[u8], Kind, (i16, i64, u32))] = &[
+    (0x0101, b"WMO BLOCK NUMBER", b"Numeric", Kind::Numeric, (0, 0, 7)),
+    (0x010f, b"STATION OR SITE NAME", b"CCITT IA5", Kind::Character, (0, 0, 160)),
+    (0x0502, b"LATITUDE (COARSE ACCURACY)", b"degree", Kind::Numeric, (2, -9000, 15)),
+    (0x0c65, b"AIR TEMPERATURE", b"K", Kind::Numeric, (2, 0, 16)),
+    (0x1403, b"PRESENT WEATHER", b"Code table", Kind::Coded, (0, 0, 9)),
+    (0x1f00, b"SHORT DELAYED DESCRIPTOR REPLICATION FACTOR", b"Numeric", Kind::Numeric, (0, 0, 1)),
+    (0x1f01, b"DELAYED DESCRIPTOR REPLICATION FACTOR", b"Numeric", Kind::Numeric, (0, 0, 8)),
+    (0x1f02, b"EXTENDED DELAYED DESCRIPTOR REPLICATION FACTOR", b"Numeric", Kind::Numeric,
+        (0, 0, 16)),
+];
+
+/// An element that the table lacks, and descriptors that are no elements.
+const NO_ELEMENTS: &[u16] = &[0x3fff, 0x4c65, 0x8c65, 0xcc65];
+
+#[test]
+fn elements(rt: HostRuntime) {
+    let table = table_b(&rt);
+    for (word, name, unit, kind, (scale, reference, width)) in ELEMENTS {
+        let (kind, scale, reference, width) = (*kind, *scale, *reference, *width);
+        let want = Entry {
+            name,
+            unit,
+            kind,
+            scale,
+            reference,
+            width,
+        };
+        assert_same(&rt, &entry_of(&table, *word), &Some(want), word);
+    }
+    for word in NO_ELEMENTS {
+        assert_same(&rt, &entry_of(&table, *word), &None, word);
+    }
+}
+
+/// A sequence that the table lacks, and descriptors that are no sequences.
+const NO_SEQUENCES: &[u16] = &[0xffff, 0x3cc0, 0x0101];
+
+#[test]
+fn sequences(rt: HostRuntime) {
+    let table = table_d(&rt);
+    let members = [Fxy::from_word(0x0101), Fxy::from_word(0x0c65)];
+    let want = Some(members.as_slice());
+    assert_same(&rt, &members_of(&table, 0xfcc0), &want, &"members");
+    for word in NO_SEQUENCES {
+        assert_same(&rt, &members_of(&table, *word), &None, word);
+    }
+}
+
+/// `read`, or the number and text of a fault.
+fn outcome<T: Drop>(rt: &impl Runtime, answer: &Result<T, TableFault>) -> String {
+    match answer {
+        Ok(_) => ok(rt, String::from_str(rt.alloc(), READ)),
+        Err(fault) => ok(rt, format!(in rt.alloc(); "{} {fault}", fault.number())),
+    }
+}
+
+const READ: &str = "read";
+
+const HEADER: &str = "40 the first record is not the header of the table";
+
+const ROW_2: &str = "41 record 2 does not read as a row";
+
+const ROW_3: &str = "41 record 3 does not read as a row";
+
+const TABLE_SIZE: &str = "44 the table has too many rows";
+
+const LAST_IN_A_CYCLE: &str = "43 sequence 363255 reaches itself";
+
+const CSV: &str = "45 a record has another number of fields than the header";
+
+/// Rows after the header of Table B, by what reading them gives.
+#[rattlefmt::skip]
+const ROWS_OF_B: &[(&str, &[&[u8]])] = &[
+    (READ, &[
+        b"", b"\n\n\r\n", b"001001,A,K,0,0,63", b"001001,A,K,0,0,1",
+        b"001001,A,K,0,0,00000000000000000000000000000000000000007",
+        b"001001,A,K,-127,-9223372036854775808,7", b"001001,A,K,127,9223372036854775807,7",
+        b"001001,A,K,-0,-0,7", b"001001,A,ccitt ia5,0,0,16", b"001001,A,CCITT IA5,0,0,8",
+        b"001001,A,CCITT IA5,0,0,2040", b"001001,\"A,B\",K,0,0,7", b"001001,\xff\x80,\xb0C,0,0,7",
+        b"001001,,,0,0,7", b"063255,A,K,0,0,7", b"031001,A,Code table,0,0,8",
+        b"031003,A,Numeric,1,1,9",
+    ]),
+    (ROW_2, &[
+        // the data width
+        b"001001,A,K,0,0,64", b"001001,A,K,0,0,0", b"001001,A,K,0,0,-7", b"001001,A,K,0,0,+7",
+        b"001001,A,K,0,0, 7", b"001001,A,K,0,0,", b"001001,A,K,0,0,18446744073709551623",
+        b"001001,A,ccitt ia5,0,0,12", b"001001,A,CCITT IA5,0,0,0", b"001001,A,CCITT IA5,0,0,2048",
+        // the scale and the reference value
+        b"001001,A,K,128,0,7", b"001001,A,K,-128,0,7", b"001001,A,K,-,0,7",
+        b"001001,A,K,0,9223372036854775808,7", b"001001,A,K,0,-9223372036854775809,7",
+        b"001001,A,K,0,-18446744073709551616,7", b"001001,A,K,0,1.5,7",
+        b"001001,A,CCITT IA5,200,0,8",
+        // the name and the unit
+        b"001001,\"A\nB\",K,0,0,7", b"001001,A\tB,K,0,0,7", b"001001,A\x7fB,K,0,0,7",
+        b"001001,A,K\x1f,0,0,7",
+        // the descriptor
+        b"00100,A,K,0,0,7", b"0010010,A,K,0,0,7", b" 01001,A,K,0,0,7", b"064001,A,K,0,0,7",
+        b"001256,A,K,0,0,7", b"101001,A,K,0,0,7", b"301001,A,K,0,0,7", b"401001,A,K,0,0,7",
+        // a replication factor
+        b"031000,A,Numeric,0,0,8", b"031001,A,Numeric,0,0,16", b"031002,A,Numeric,0,0,8",
+        b"031001,A,Numeric,1,0,8", b"031001,A,Numeric,0,-1,8", b"031001,A,CCITT IA5,0,0,8",
+        // the first fault counts
+        b"001001,A,K,0,0,x\n001001,A",
+    ]),
+    (ROW_3, &[
+        b"001001,A,K,0,0,7\n001001,A,K,0,0,x", b"001001,A,K,0,0,7\n\n\n001002,A,K,0,0,x",
+    ]),
+    ("42 001001 is in the table already", &[b"001001,A,K,0,0,7\n001001,A,K,0,0,7"]),
+    (CSV, &[b"001001,A,K,0,0", b"001001,A,K,0,0,7,", b"001001,A,K,0,0,7\n001001,A"]),
+];
+
+/// Texts whose first record is not the header of Table B.
+#[rattlefmt::skip]
+const NO_HEADERS_OF_B: &[&[u8]] = &[
+    b"", b"\n", b"fxy,name,unit,scale,reference\n", b"fxy,name,unit,scale,reference,Width\n",
+    b"fxy,name,unit,scale,reference, width\n", b"fxy,member\n",
+];
+
+/// Rows after the header of Table D, by what reading them gives.
+#[rattlefmt::skip]
+const ROWS_OF_D: &[(&str, &[&[u8]])] = &[
+    (READ, &[
+        b"", b"300001,101000\n300001,031001\n300001,201132", b"363255,363254\n363255,001001",
+        // the same members twice, and a member that the table lacks, are no cycle
+        b"300001,300002\n300001,300002\n300002,300003\n300002,300003\n300003,001001",
+        b"300001,300002\n300002,300003",
+    ]),
+    (ROW_2, &[b"300001,x", b"200001,001001", b"300001,401001"]),
+    (ROW_3, &[b"300001,300001\n300002,x"]),
+    // a second run of rows goes before a cycle
+    ("42 300001 is in the table already", &[b"300001,300002\n300002,300001\n300001,001001"]),
+    // a cycle is named by the first sequence of the file that reaches itself
+    ("43 sequence 300001 reaches itself", &[
+        b"300001,300001", b"300001,001001\n300001,300001", b"300001,300002\n300002,300001",
+        b"300001,300002\n300002,300003\n300003,300004\n300004,300002\n300004,300001",
+    ]),
+    ("43 sequence 300002 reaches itself", &[
+        b"300002,300001\n300001,300002", b"300001,300002\n300002,300003\n300003,300002",
+    ]),
+    ("43 sequence 300003 reaches itself", &[
+        b"300001,300002\n300002,300003\n300003,300003",
+        b"300002,300003\n300003,300004\n300004,300003\n300001,300001",
+    ]),
+    (CSV, &[b"300001", b"300001,001001,"]),
+];
+
+/// Texts whose first record is not the header of Table D.
+const NO_HEADERS_OF_D: &[&[u8]] = &[b"", b"fxy\n", b"fxy,members\n", HEADER_B];
+
+fn assert_b(rt: &impl Runtime, text: &[u8], want: &str) {
+    let found = outcome(rt, &read_b(rt.alloc(), text));
+    assert_same(rt, &found.as_str(), &want, &text);
+}
+
+fn assert_d(rt: &impl Runtime, text: &[u8], want: &str) {
+    let found = outcome(rt, &read_d(rt.alloc(), text));
+    assert_same(rt, &found.as_str(), &want, &"Table D");
+}
+
+/// Asserts what reading gives, of all rows after their header.
+fn assert_all(rt: &impl Runtime, cases: &[(&str, &[&[u8]])], is_b: bool) {
+    for (want, texts) in cases {
+        for rows in *texts {
+            if is_b {
+                assert_b(rt, &joined(rt, &[HEADER_B, rows]), want);
+            } else {
+                assert_d(rt, &joined(rt, &[HEADER_D, rows]), want);
+            }
+        }
+    }
+}
+
+#[test]
+fn rows_of_tables(rt: HostRuntime) {
+    assert_all(&rt, ROWS_OF_B, true);
+    assert_all(&rt, ROWS_OF_D, false);
+    for text in NO_HEADERS_OF_B {
+        assert_b(&rt, text, HEADER);
+    }
+    for text in NO_HEADERS_OF_D {
+        assert_d(&rt, text, HEADER);
+    }
+    let memory = outcome::<TableB>(&rt, &Err(TableFault::Memory));
+    assert_same(&rt, &memory.as_str(), &"73 out of memory", &"memory");
+}
+
+/// Names and units of this many octets, and what reading them gives.
+const LONG_NAMES: &[(usize, &str)] = &[(512, READ), (513, ROW_2)];
+
+#[test]
+fn long_names_and_units(rt: HostRuntime) {
+    for (len, want) in LONG_NAMES {
+        let long = ok(&rt, vec![in rt.alloc(); b'x'; *len]);
+        let name = joined(&rt, &[HEADER_B, b"001001,", &long, b",K,0,0,8\n"]);
+        assert_b(&rt, &name, want);
+        let unit = joined(&rt, &[HEADER_B, b"001001,A,", &long, b",0,0,8\n"]);
+        assert_b(&rt, &unit, want);
+    }
+}
+
+/// Units, and the kinds of their elements.
+#[rattlefmt::skip]
+const KINDS: &[(&[u8], Kind)] = &[
+    (b"CCITT IA5", Kind::Character), (b"Ccitt iA5", Kind::Character),
+    (b"CCITT IA5 ", Kind::Numeric), (b"CCITT IA", Kind::Numeric),
+    (b"Code table", Kind::Coded), (b"CODE TABLE 0 20 003", Kind::Coded),
+    (b"Common code table C-1", Kind::Coded), (b"cOMMON CODE TABLE", Kind::Coded),
+    (b"flag table", Kind::Coded), (b" Flag table", Kind::Numeric), (b"code tabl", Kind::Numeric),
+    (b"Numeric", Kind::Numeric), (b"", Kind::Numeric),
+];
+
+#[test]
+fn kinds_of_units(rt: HostRuntime) {
+    for (unit, kind) in KINDS {
+        let text = joined(&rt, &[HEADER_B, b"001001,A,", unit, b",0,0,8\n"]);
+        let table = ok(&rt, read_b(rt.alloc(), &text));
+        assert_same(&rt, &some(&rt, entry_of(&table, 0x0101)).kind, kind, unit);
+    }
+}
+
+fn push_row(rt: &impl Runtime, text: &mut Vec<u8>, sequence: u16, member: u16) {
+    ok(rt, text.extend_from_slice(&Fxy::from_word(sequence).text()));
+    ok(rt, text.push(b','));
+    ok(rt, text.extend_from_slice(&Fxy::from_word(member).text()));
+    ok(rt, text.push(b'\n'));
+}
+
+/// The header of Table D and 65,536 rows of one sequence.
+fn most_rows(rt: &impl Runtime) -> Vec<u8> {
+    let mut text = joined(rt, &[HEADER_D]);
+    for _ in 0..65536u32 {
+        push_row(rt, &mut text, 0xc001, 0x0101);
+    }
+    text
+}
+
+fn count_members(table: &TableD, word: u16) -> Option<usize> {
+    members_of(table, word).map(<[Fxy]>::len)
+}
+
+#[test]
+fn as_many_rows_as_a_table_may_have(rt: HostRuntime) {
+    let mut text = most_rows(&rt);
+    let table = ok(&rt, read_d(rt.alloc(), &text));
+    let count = count_members(&table, 0xc001);
+    assert_same(&rt, &count, &Some(65536), &"members");
+    push_row(&rt, &mut text, 0xc001, 0x0101);
+    assert_d(&rt, &text, TABLE_SIZE);
+    push_row(&rt, &mut text, 0xc002, 0x0101);
+    assert_d(&rt, &text, TABLE_SIZE);
+}
+
+/// All sequences, each of four rows that name the next one. The last ends the chain, or with
+/// `cycle` holds itself. With `back` the file begins with the last one.
+fn long_chain(rt: &impl Runtime, back: bool, cycle: bool) -> Vec<u8> {
+    let mut text = joined(rt, &[HEADER_D]);
+    for key in 0..16384u16 {
+        let sequence = if back { 0xffff - key } else { 0xc000 + key };
+        let member = if sequence == 0xffff {
+            if cycle { 0xffff } else { 0x0101 }
+        } else {
+            sequence + 1
+        };
+        for _ in 0..4u8 {
+            push_row(rt, &mut text, sequence, member);
+        }
+    }
+    text
+}
+
+#[test]
+fn long_chains_of_sequences(rt: HostRuntime) {
+    for back in [false, true] {
+        assert_d(&rt, &long_chain(&rt, back, false), READ);
+        assert_d(&rt, &long_chain(&rt, back, true), LAST_IN_A_CYCLE);
+    }
+}
+
+/// Table B with 2,000 elements: each third word.
+fn many_elements(rt: &impl Runtime) -> Vec<u8> {
+    let mut text = joined(rt, &[HEADER_B]);
+    for third in 0..2000u16 {
+        let digits = Fxy::from_word(third * 3).text();
+        ok(rt, text.extend_from_slice(&digits));
+        let entry = b",A NAME OF SOME THIRTY OCTETS,degree true,2,-9000,16\n";
+        ok(rt, text.extend_from_slice(entry));
+    }
+    text
+}
+
+/// Table D with 1,500 sequences of ten members, each beginning with the next sequence.
+fn many_sequences(rt: &impl Runtime) -> Vec<u8> {
+    let mut text = joined(rt, &[HEADER_D]);
+    for key in 0..1500u16 {
+        push_row(rt, &mut text, 0xc000 + key, 0xc001 + key);
+        for member in 1..10u16 {
+            push_row(rt, &mut text, 0xc000 + key, member);
+        }
+    }
+    text
+}
+
+#[test]
+fn tables_of_usual_size(rt: HostRuntime) {
+    let table = ok(&rt, read_b(rt.alloc(), &many_elements(&rt)));
+    for word in 0..6000u16 {
+        let found = entry_of(&table, word).is_some();
+        assert_same(&rt, &found, &(word % 3 == 0), &word);
+    }
+    let table = ok(&rt, read_d(rt.alloc(), &many_sequences(&rt)));
+    for key in 0..1500u16 {
+        assert_same(&rt, &count_members(&table, 0xc000 + key), &Some(10), &key);
+    }
+}

@@ -1,0 +1,263 @@
+//! The line of `ls` and the dump text of a message.
+
+use crate::messages::{
+    HEAD, LOCAL_USE, ONE_BLOCK_NUMBER, Worked, delayed_twice, line_of_one, text_of_one,
+    worked_messages,
+};
+use crate::runs::{Watched, writer};
+use crate::support::{
+    Runtime, assert_same, assert_that, build, from_hex, joined, ok, some, table_b, table_d,
+};
+use bufr_bits::{Device, End, ScriptOut, Sink};
+use bufr_frame::{Message, RunFault};
+use bufr_tables::{Fxy, TableB, Template};
+use bufr_text::{Part, write_all, write_dump, write_ls, write_parts};
+use bufr_walk::{Steps, read_message};
+use std::cell::Cell;
+
+/// The message that octets are. It promises nothing.
+fn message_in(octets: &[u8]) -> Option<Message<'_>> {
+    if octets.len() < 12 {
+        return None;
+    }
+    Message::parse(octets).ok()
+}
+
+/// Lists the message with one block number on a writer.
+fn listed_on(rt: &impl Runtime, w: &mut ScriptOut) -> Result<(), RunFault> {
+    write_ls(7, &some(rt, message_in(ONE_BLOCK_NUMBER)), w)
+}
+
+/// Asserts what is listed on a writer of `step` octets a write, with this room and end.
+fn assert_listed(
+    rt: &impl Runtime,
+    step: usize,
+    room: (usize, End),
+    want: &[u8],
+    outcome: Result<(), RunFault>,
+) {
+    let mut w = writer(rt, step, room);
+    assert_same(rt, &listed_on(rt, &mut w), &outcome, &(step, room));
+    assert_same(rt, &w.taken(), &want, &(step, room));
+}
+
+#[test]
+fn lists_a_message(rt: HostRuntime) {
+    let line = line_of_one(&rt, "7");
+    for step in [1, 7, 4096] {
+        assert_listed(&rt, step, (4096, End::Fail), line.as_bytes(), Ok(()));
+    }
+}
+
+/// Wherever the writer ends, it has a prefix of the line.
+#[test]
+fn stops_listing_where_the_writer_ends(rt: HostRuntime) {
+    let line = line_of_one(&rt, "7");
+    for room in 0..line.len() {
+        let prefix = line.as_bytes().get(..room).unwrap_or(b"");
+        assert_listed(&rt, 9, (room, End::Fail), prefix, Err(RunFault::Write));
+        assert_listed(&rt, 9, (room, End::Zero), prefix, Err(RunFault::Write));
+    }
+}
+
+fn write_octets(rt: &impl Runtime, octets: &[u8], w: &mut ScriptOut) {
+    ok(rt, write_all(octets, w))
+}
+
+fn write_each(rt: &impl Runtime, parts: &[Part<'_>], w: &mut ScriptOut) {
+    ok(rt, write_parts(parts, w))
+}
+
+/// Asserts what is written of octets, then of parts.
+fn assert_parts(rt: &impl Runtime, parts: &[Part<'_>], want: &[u8]) {
+    let mut w = writer(rt, 3, (4096, End::Fail));
+    write_octets(rt, b"ten octets ", &mut w);
+    write_each(rt, parts, &mut w);
+    assert_same(rt, &w.taken(), &want, &"written");
+}
+
+#[test]
+fn writes_parts(rt: HostRuntime) {
+    let parts = [
+        Part::Text(b"a "),
+        Part::Decimal(1_024),
+        Part::Text(b" "),
+        Part::Decimal(u64::MAX),
+        Part::Decimal(0),
+    ];
+    assert_parts(&rt, &parts, b"ten octets a 1024 184467440737095516150");
+}
+
+/// A text that is longer than a line's buffer is written in its order.
+#[test]
+fn writes_long_parts(rt: HostRuntime) {
+    let long = [0x61; 300];
+    let parts = [Part::Text(b"<"), Part::Text(&long), Part::Text(b">")];
+    assert_parts(&rt, &parts, &joined(&rt, &[b"ten octets <", &long, b">"]));
+}
+
+/// Table B, and the template of a message.
+#[derive(Drop)]
+struct Expanded {
+    table: TableB,
+    template: Template,
+}
+
+/// Expands the descriptors of a message.
+fn expand(rt: &impl Runtime, message: &Message<'_>) -> Expanded {
+    let (table, sequences) = (table_b(rt), table_d(rt));
+    let mut descriptors = Vec::new(rt.alloc());
+    for word in message.descriptors() {
+        ok(rt, descriptors.push(Fxy::from_word(word)));
+    }
+    let template = ok(rt, build(rt.alloc(), &descriptors, &table, &sequences));
+    Expanded { table, template }
+}
+
+/// Reads the data of a message and dumps it.
+fn dump_by<W: Sink>(
+    rt: &impl Runtime,
+    message: &Message<'_>,
+    by: &Expanded,
+    steps: &mut Steps,
+    w: &mut W,
+) -> Result<(), RunFault> {
+    let (alloc, table) = (rt.alloc(), &by.table);
+    let reading = read_message(alloc, message, &by.template, table, steps).expect(rt, "data");
+    write_dump(alloc, message, &reading, steps, w)
+}
+
+/// Dumps a message, and counts the steps.
+fn dump_to<W: Sink>(rt: &impl Runtime, octets: &[u8], w: &mut W) -> (Result<(), RunFault>, u64) {
+    let message = some(rt, message_in(octets));
+    let mut steps = Steps::new();
+    let outcome = dump_by(rt, &message, &expand(rt, &message), &mut steps, w);
+    (outcome, steps.count())
+}
+
+/// The dump text of a message.
+pub(crate) fn dumped(rt: &impl Runtime, octets: &[u8]) -> ScriptOut {
+    let mut w = writer(rt, 4096, (65_536, End::Fail));
+    assert_same(rt, &dump_to(rt, octets, &mut w).0, &Ok(()), &"dumped");
+    w
+}
+
+/// Asserts what is dumped on a writer of `step` octets a write.
+fn assert_dumped_in_steps(rt: &impl Runtime, name: &str, octets: &[u8], step: usize, want: &str) {
+    let mut w = writer(rt, step, (65_536, End::Fail));
+    let (outcome, _) = dump_to(rt, octets, &mut w);
+    assert_same(rt, &outcome, &Ok(()), &(name, step));
+    assert_same(rt, &w.taken(), &want.as_bytes(), &(name, step));
+}
+
+/// Asserts the dump text of a message, however few octets a write takes.
+pub(crate) fn assert_dumped(rt: &impl Runtime, name: &str, octets: &[u8], want: &str) {
+    for step in [1, 7, 4096] {
+        assert_dumped_in_steps(rt, name, octets, step, want);
+    }
+}
+
+#[test]
+fn dumps_worked_messages(rt: HostRuntime) {
+    for row in worked_messages() {
+        assert_dumped(&rt, row.name, &row.message(&rt), row.text(&rt).as_str());
+    }
+}
+
+/// The lines of the message with local use, from `observed` on.
+const LOCAL_USE_LINES: &str = "\
+    observed 1\ncompressed 0\noptional 1\nsubsets 1\nlocal1 ABCD\nsection2 0102\n\
+    descriptors 001001\nsubset 1\n001001 10  # WMO BLOCK NUMBER [Numeric]\nend\n";
+
+/// The dump text of the message with local use.
+pub(crate) fn text_of_local_use(rt: &impl Runtime) -> String {
+    with_head(rt, LOCAL_USE_LINES)
+}
+
+/// The lines of the header, then others.
+pub(crate) fn with_head(rt: &impl Runtime, lines: &str) -> String {
+    ok(rt, format!(in rt.alloc(); "{HEAD}{lines}"))
+}
+
+/// A message without a subset, with 33 octets for local use and an empty section 2.
+const MANY_LOCAL_OCTETS: &str = "\
+    42554652 000054 04 \
+    000037 00 0062 0000 00 80 00 00 00 0E 00 07E8 01 02 03 04 05 \
+    00202020202020202020202020202020202020202020202020202020202020F9 1A \
+    000004 00 000009 00 0000 00 0101 000004 00 37373737";
+
+/// Its lines: a line has 32 octets for local use at most, and an empty section 2 has none.
+const MANY_LOCAL_LINES: &str = "\
+    observed 0\ncompressed 0\noptional 1\nsubsets 0\n\
+    local1 00202020202020202020202020202020202020202020202020202020202020F9\n\
+    local1 1A\ndescriptors 001001\nend\n";
+
+#[test]
+fn dumps_local_use(rt: HostRuntime) {
+    let text = text_of_local_use(&rt);
+    assert_dumped(&rt, "local use", LOCAL_USE, text.as_str());
+    let octets = from_hex(&rt, MANY_LOCAL_OCTETS);
+    let text = with_head(&rt, MANY_LOCAL_LINES);
+    assert_dumped(&rt, "many local octets", &octets, text.as_str());
+}
+
+/// Asserts that a writer with this room has a prefix of a text.
+fn assert_prefix(rt: &impl Runtime, octets: &[u8], text: &str, room: usize) {
+    let mut w = writer(rt, 9, (room, End::Fail));
+    let (outcome, _) = dump_to(rt, octets, &mut w);
+    assert_same(rt, &outcome, &Err(RunFault::Write), &room);
+    assert_same(rt, &w.taken().len(), &room, &room);
+    assert_that(rt, text.as_bytes().starts_with(w.taken()), &room);
+}
+
+/// Wherever the writer ends, it has a prefix of the text.
+#[test]
+fn stops_dumping_where_the_writer_ends(rt: HostRuntime) {
+    let text = text_of_one(&rt);
+    for room in 0..text.len() {
+        assert_prefix(&rt, ONE_BLOCK_NUMBER, text.as_str(), room);
+    }
+}
+
+/// The worked message, the room of the writer, and the steps up to the line where it stops.
+const STOPS: &[(&str, usize, u64)] = &[
+    ("delayed_twice", 65_536, 7),
+    ("delayed_twice", 200, 0),
+    ("delayed_twice", 280, 2),
+    ("delayed_twice", 370, 5),
+    ("compressed_missing", 65_536, 0),
+];
+
+/// The steps of the dump of a worked message to a writer with this room.
+fn steps_to(rt: &impl Runtime, name: &str, room: usize) -> u64 {
+    let message = some(rt, row_named(name)).message(rt);
+    dump_to(rt, &message, &mut writer(rt, 4096, (room, End::Fail))).1
+}
+
+/// The worked message of this name.
+fn row_named(name: &str) -> Option<&'static Worked> {
+    worked_messages().iter().find(|row| row.name == name)
+}
+
+/// Before the subset there is no step; an operator, a factor, an item and an end of a pass are
+/// steps. Compressed data are shown without one.
+#[test]
+fn counts_steps_of_a_dump(rt: HostRuntime) {
+    for (name, room, steps) in STOPS {
+        assert_same(&rt, &steps_to(&rt, name, *room), steps, &(*name, *room));
+    }
+}
+
+/// No line is torn: two writes for the header, and one for each line after it.
+#[test]
+fn dumps_whole_lines(rt: HostRuntime) {
+    let (octets, writes, torn) = (Cell::new(0), Cell::new(0), Cell::new(false));
+    let mut w = Device::new(Watched {
+        octets: &octets,
+        writes: &writes,
+        torn: &torn,
+    });
+    let (outcome, _) = dump_to(&rt, &delayed_twice(&rt), &mut w);
+    assert_same(&rt, &outcome, &Ok(()), &"dumped");
+    assert_same(&rt, &(writes.get(), torn.get()), &(8, false), &"writes");
+}

@@ -1,0 +1,10 @@
+use Rattle.bufr_bits.specs.Bits.{bits_of}
+use Rattle.bufr_bits.specs.BitSlice.{octets_of}
+use Rattle.bufr_walk.specs.PackedIn.{items_at}
+use Rattle.bufr_walk.proofs.PackedCalls.{SoFar}
+use Rattle.bufr_walk.proofs.PackedSubsets.{all_calls, subsets_from}
+use Rattle.bufr_walk.proofs.show_compressed.show_packed.Given as goal
+
+abbrev pub invariant-subsets : goal.invariant-subsets
+invariant-subsets g l =
+    SoFar g.V.Visitor.sees l.fn.visitor (all_calls g.V.Visitor.sees l.table l.subsets (items_at (bits_of (octets_of l.bits)) l.subsets l.kept)) l.visitor (subsets_from g.V.Visitor.sees l.table l.subsets (items_at (bits_of (octets_of l.bits)) l.subsets l.kept) l.subset)

@@ -1,0 +1,79 @@
+-- What a reading keeps of its items.
+-- Cited by private steps only.
+use Rattle.std.specs.Prelude.{ℕ, ◌≡◌, ◌≤◌, ◌<◌, ◌+◌, ◌*◌, true, Bool, List, [], ◌∷◌, length, drop}
+use Rattle.std.specs.List.{list_all}
+use Rattle.bufr_tables.specs.TableB.{Row}
+use Rattle.bufr_walk.specs.declared.kept.IndexedItem.{IndexedItem}
+use Rattle.bufr_walk.specs.declared.reading.StoredItems.{StoredItems}
+use Rattle.bufr_walk.specs.declared.reading.StoredItems.TheVariants as kept
+use Rattle.bufr_walk.specs.Calls.{Call, item_call, view_of, content_at}
+use Rattle.bufr_walk.specs.Content.{Content}
+use Rattle.bufr_walk.specs.Course.{Course}
+use Rattle.bufr_walk.specs.PackedField.{packed_field}
+use Rattle.bufr_walk.specs.PackedIn.{contents_found, items_at, stands_at}
+use Rattle.bufr_walk.specs.Reading.{Item, Data, Values, apart, together, IsReading, max_values}
+use Rattle.bufr_walk.specs.Outcome.{Read, course_of, IsRead}
+
+-- one entry for each item of compressed data, which stands at the entry's place
+abbrev pub AreKept : Data → List IndexedItem → List (Item (List Content)) → Type 0
+AreKept d entries items =
+    (items_at d.bits d.subsets entries ≡ items)
+    × (list_all (stands_at d.bits d.subsets) entries ≡ true)
+
+-- compressed data were read, and each item is kept
+abbrev pub IsReadAndKept : Course → Data → List IndexedItem → (used steps : ℕ) → Type 0
+IsReadAndKept course d entries used steps =
+    (items : List (Item (List Content))) × IsRead course d (together items) used steps
+    × AreKept d entries items
+
+-- what one subset, counted from 0, has of a kept item
+abbrev pub content_kept : (bits : List Bool) (subsets : ℕ) → IndexedItem → (subset : ℕ) → Content
+content_kept bits n e j = content_at j (contents_found (packed_field n e.spec (drop e.at bits)))
+
+-- a kept item with increments stands there, and the subset has one of them
+pub record HasIncrement (bits : List Bool) (n : ℕ) (e : IndexedItem) (j : ℕ) : Type 0 where
+  pub stands : stands_at bits n e ≡ true
+  pub below : j < n
+  pub some : 1 ≤ e.step
+
+-- the call that shows it
+abbrev pub call_kept : List Row → (bits : List Bool) (subsets : ℕ) → IndexedItem → (subset : ℕ)
+    → Call
+call_kept table bits n e j = item_call (view_of table e.spec (content_kept bits n e j))
+
+-- how many items are kept
+abbrev pub held_of : StoredItems → ℕ
+held_of kept.Apart = 0
+held_of (kept.Together entries) = length entries
+
+-- nothing is kept where each subset has bits of its own
+abbrev pub KeepsValues : StoredItems → Data → Values → Type 0
+KeepsValues kept.Apart d (apart subsets) = Unit {0}
+KeepsValues kept.Apart d (together items) = ⊥
+KeepsValues (kept.Together entries) d (apart subsets) = ⊥
+KeepsValues (kept.Together entries) d (together items) = AreKept d entries items
+
+-- the items of all subsets
+abbrev pub items_in : List (List (Item Content)) → ℕ
+items_in [] = 0
+items_in (items ∷ subsets) = length items + items_in subsets
+
+-- data that are not compressed were read, and each item took at least a bit
+abbrev pub IsReadAndPaid : Course → Data → (used steps : ℕ) → Type 0
+IsReadAndPaid course d used steps =
+    (subsets : List (List (Item Content))) × IsRead course d (apart subsets) used steps
+    × (items_in subsets ≤ used)
+
+-- an item of one subset takes at least a bit
+abbrev pub PaysBits : Values → (used : ℕ) → Type 0
+PaysBits (apart subsets) used = items_in subsets ≤ used
+PaysBits (together items) used = Unit {0}
+
+-- a reading, and what is kept of it: each item that is kept took at least 7 bits
+pub record IsStoredReading (r : Read) (k : StoredItems) : Type 0 where
+  pub values : Values
+  pub reading : IsReading (course_of r) r.source values r.bits
+  pub keeps : KeepsValues k r.source values
+  pub few : 7 * held_of k ≤ r.bits
+  pub pays : PaysBits values r.bits
+  pub short : r.bits ≤ max_values

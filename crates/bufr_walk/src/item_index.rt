@@ -1,0 +1,187 @@
+//! The items of compressed data that are kept, and the fields that they were read by.
+ghost use Rattle.std.specs.Prelude.{◌≡◌, ◌≤◌, ◌<◌, ◌+◌, ◌%◌, ◌^◌, ◌++◌, ◌∷◌, [], length, true, vec_len, vec_capacity, IfErr, IfSome, OnOk, OnErr};
+ghost use Rattle.bufr_walk.specs.ItemIndex.{HasSpecAt, IsPut, room_for, room_left};
+ghost use Rattle.bufr_walk.specs.Reading.{items_at_once};
+ghost use Rattle.bufr_walk.specs.declared.packed_in.PackedFault.TheVariants as wrong;
+
+use crate::kept::IndexedItem;
+use crate::packed_in::PackedFault;
+use crate::spec::Spec;
+use std::alloc::Global;
+use std::marker::Model;
+
+/// Room is made for so many items at once.
+const ITEMS_AT_ONCE: usize = 64;
+
+/// Where an item lies: the bit where it begins, the number of its base, the place of its field
+/// among those that are kept, and its k.
+// The widest field stands first, so that no entry has room between its fields.
+#[derive(Clone, Copy)]
+pub(crate) struct ItemLocation {
+    at: u64,
+    base: u64,
+    spec: u32,
+    step: u8,
+}
+
+/// Whether a field stands at a place among others.
+#[inline(always)]
+fn stands(specs: &[Spec], place: u32, spec: &Spec) -> bool
+    ensures { result ≡ true → HasSpecAt specs.now place spec.now }
+{
+    let place = place as usize;
+    if place < specs.len() {
+        let there = specs[place];
+        return there == *spec;
+    }
+    false
+}
+
+/// Makes room for one more item, and for a field: for 64 at once, so memory may be wanted only
+/// where the items so far are a multiple of 64.
+#[inline(always)]
+fn make_room(places: &mut Vec<ItemLocation>, specs: &mut Vec<Spec>) -> Result<(), PackedFault>
+    requires places { room_for (vec_len places.old) ≤ vec_capacity places.old }
+    requires specs { vec_len specs.old + room_left (vec_len places.old) ≤ vec_capacity specs.old }
+    ensures same_places { places.new.items ≡ places.old.items }
+    ensures same_specs { specs.new.items ≡ specs.old.items }
+    ensures places { OnOk result (room_for (vec_len places.old + 1) ≤ vec_capacity places.new) }
+    ensures specs { OnOk result (vec_len specs.old + room_left (vec_len places.old + 1) + 1
+        ≤ vec_capacity specs.new) }
+    ensures least_places { room_for (vec_len places.old) ≤ vec_capacity places.new }
+    ensures least_specs { vec_len specs.old + room_left (vec_len places.old)
+        ≤ vec_capacity specs.new }
+    ensures fault { IfErr result (λ e. e ≡ wrong.Memory) }
+    ensures full { OnErr result (vec_len places.old % items_at_once ≡ 0) }
+{
+    if places.len() % ITEMS_AT_ONCE != 0 {
+        return Ok(());
+    }
+    match places.reserve(ITEMS_AT_ONCE) {
+        Ok(()) => {}
+        Err(_) => return Err(PackedFault::Memory),
+    }
+    match specs.reserve(ITEMS_AT_ONCE) {
+        Ok(()) => Ok(()),
+        Err(_) => Err(PackedFault::Memory),
+    }
+}
+
+/// The place of a field among others: the one where it is looked for, if it stands there, else
+/// behind them, for which there is room.
+#[inline(always)]
+fn place_of(specs: &mut Vec<Spec>, guess: u32, spec: &Spec) -> u32
+    requires few { vec_len specs.old < 2 ^ 32 }
+    requires room { vec_len specs.old + 1 ≤ vec_capacity specs.old }
+    ensures put { IsPut specs.old.items spec.now result specs.new.items }
+    ensures room { vec_capacity specs.old ≤ vec_capacity specs.new }
+{
+    if stands(specs, guess, spec) {
+        return guess;
+    }
+    let place = specs.len() as u32;
+    match specs.push(*spec) {
+        Ok(()) => {}
+        Err(_) => unreachable!(),
+    }
+    place
+}
+
+/// Keeps a place for which there is room.
+#[inline(always)]
+fn keep_place(places: &mut Vec<ItemLocation>, place: ItemLocation)
+    requires { room_for (vec_len places.old + 1) ≤ vec_capacity places.old }
+    ensures items { places.new.items ≡ places.old.items ++ place ∷ [] }
+    ensures room { room_for (vec_len places.old + 1) ≤ vec_capacity places.new }
+{
+    match places.push(place) {
+        Ok(()) => {}
+        Err(_) => unreachable!(),
+    }
+}
+
+/// The items that are kept: where each of them lies, and the fields among them, in the order in
+/// which they came. A field is there once more where it was looked for in vain.
+#[derive(Drop)]
+pub(crate) struct ItemIndex {
+    specs: Vec<Spec>,
+    places: Vec<ItemLocation>,
+}
+
+impl Model for ItemIndex {
+    ghost use Rattle.std.specs.Prelude.{List, vec_capacity};
+    ghost use Rattle.bufr_walk.specs.declared.kept.IndexedItem.{IndexedItem};
+
+    ghost Value = { List IndexedItem };
+
+    ghost use Rattle.bufr_walk.specs.ItemIndex.{indexed_items, IsKeptBy};
+
+    ghost view = { λ k. indexed_items k.specs.items k.places.items };
+
+    ghost invariant = { λ k. IsKeptBy k.specs.items k.places.items (vec_capacity k.specs)
+        (vec_capacity k.places) };
+}
+
+impl ItemIndex {
+    ghost use Rattle.std.specs.Prelude.{◌≡◌, ◌<◌, ◌^◌, ◌%◌, ◌++◌, ◌∷◌, [], length, get_or, OnOk, OnErr, IfErr};
+    ghost use Rattle.bufr_walk.specs.Reading.{items_at_once};
+    ghost use Rattle.bufr_walk.specs.declared.packed_in.PackedFault.TheVariants as wrong;
+
+    /// No item.
+    pub(crate) fn new(alloc: Global) -> ItemIndex
+        ensures { result ≡ [] }
+    {
+        ItemIndex {
+            specs: Vec::new(alloc),
+            places: Vec::new(alloc),
+        }
+    }
+
+    /// How many items there are.
+    #[inline(always)]
+    pub(crate) fn len(&self) -> usize
+        ensures { result ≡ length self.now }
+    {
+        self.places.len()
+    }
+
+    /// The item at a place.
+    #[inline(always)]
+    pub(crate) fn item(&self, place: usize) -> IndexedItem
+        requires { place < length self.now }
+        ensures { result ≡ get_or self.now place result }
+    {
+        let place = self.places[place];
+        IndexedItem::new(
+            self.specs[place.spec as usize],
+            place.at,
+            place.base,
+            place.step,
+        )
+    }
+
+    /// Keeps an item behind the others, and answers where its field stands, which is looked for at
+    /// a place first. Room is made for 64 at once, so memory may be wanted only where the items so
+    /// far are a multiple of 64.
+    #[inline(always)]
+    pub(crate) fn keep(&mut self, guess: u32, item: IndexedItem) -> Result<u32, PackedFault>
+        requires { length self.old < 2 ^ 32 }
+        ensures kept { OnOk result (self.new ≡ self.old ++ item ∷ []) }
+        ensures same { OnErr result (self.new ≡ self.old) }
+        ensures fault { IfErr result (λ e. e ≡ wrong.Memory) }
+        ensures full { OnErr result (length self.old % items_at_once ≡ 0) }
+    {
+        make_room(&mut self.places, &mut self.specs)?;
+        let spec = place_of(&mut self.specs, guess, &item.spec);
+        keep_place(
+            &mut self.places,
+            ItemLocation {
+                at: item.at,
+                base: item.base,
+                spec,
+                step: item.step,
+            },
+        );
+        Ok(spec)
+    }
+}

@@ -1,0 +1,576 @@
+//! What the operators have set, and how a field is read under it.
+ghost use Rattle.std.specs.Prelude.{◌≡◌, ◌≤◌, ◌<◌, ◌*◌, ◌+◌, ◌^◌, ◌+ℤ◌, ◌*ℤ◌, if◌then◌else◌, ◌==◌, pos, unsigned_abs, List, Result, Ok, Err, Some, OnOk, OnErr, IfOk, IfErr, IsSome, true, false};
+ghost use Rattle.std.specs.Ordering.{nat_cmp};
+ghost use Rattle.std.specs.BTreeMap.{get};
+ghost use Rattle.bufr_tables.specs.Entry.{row_of_entry};
+ghost use Rattle.bufr_tables.specs.Operators.{is_legal_operator};
+ghost use Rattle.bufr_tables.specs.TableB.{IsRow, entry_of, is_character};
+ghost use Rattle.bufr_tables.specs.Tree.{is_inserted_text};
+ghost use Rattle.bufr_walk.specs.Rules.{if_valid_width, numeric_spec, coded_spec, spec_by_kind, new_reference_spec, unsigned_of, local_width_spec, element_spec, factor_by, factor_spec, inserted_spec, scale_change_of, operator_width, extra_bits, text_width};
+ghost use Rattle.bufr_walk.specs.Operators.{OperatorModel, Redefined, begin, after_operator, after_field, current_reference, with_reference};
+ghost use Rattle.bufr_walk.specs.OperatorState.{AreOperands, known_by, operator_model};
+ghost use Rattle.bufr_walk.specs.SpecKey.{IsOperatorKey};
+ghost use Rattle.bufr_walk.specs.declared.operators.OperatorOperands.{OperatorOperands};
+ghost use Rattle.bufr_tables.specs.declared.kind.Kind.TheVariants as kinds;
+
+use crate::fields::Fields;
+use crate::spec::{Role, Spec, Taken, TurnRefusal};
+use crate::spec_cache::NO_KEY;
+use crate::stop::WalkStop;
+use bufr_tables::{Entry, Fxy, Kind, TableB};
+use std::alloc::{AllocError, Global};
+use std::collections::BTreeMap;
+use std::marker::Model;
+
+/// The operand Y of each operator in force, 0 where none is.
+#[derive(Clone, Copy)]
+pub(crate) struct OperatorOperands {
+    /// 2 01 Y: the width of a quantity is changed by Y - 128 bits.
+    width_change: u8,
+    /// 2 02 Y: the scale of a quantity is changed by Y - 128.
+    scale_change: u8,
+    /// 2 03 Y: references of Y bits are being defined.
+    new_reference_width: u8,
+    /// 2 07 Y: a quantity has Y decimal digits more.
+    precision_increase: u8,
+    /// 2 08 Y: a text has Y octets.
+    character_octets: u8,
+    /// 2 06 Y: the next element has Y bits.
+    local_width: u8,
+}
+
+/// No operator is in force.
+fn no_operators() -> OperatorOperands
+    ensures value { result ≡ record {
+      width_change = 0;
+      scale_change = 0;
+      new_reference_width = 0;
+      precision_increase = 0;
+      character_octets = 0;
+      local_width = 0;
+    } }
+    ensures operands { AreOperands result }
+{
+    OperatorOperands {
+        width_change: 0,
+        scale_change: 0,
+        new_reference_width: 0,
+        precision_increase: 0,
+        character_octets: 0,
+        local_width: 0,
+    }
+}
+
+/// What the operators have set so far, and the references that the data gave, by the word of their
+/// descriptor: data may define thousands of them, and each item looks for its own.
+#[derive(Drop)]
+pub(crate) struct OperatorState {
+    operands: OperatorOperands,
+    new_references: BTreeMap<u16, i64>,
+    /// What specs are cached under.
+    key: u64,
+}
+
+impl Model for OperatorState {
+    ghost use Rattle.bufr_walk.specs.Operators.{OperatorModel};
+
+    ghost Value = { OperatorModel };
+
+    ghost use Rattle.bufr_walk.specs.OperatorState.{AreOperands, known_by, operator_model};
+
+    ghost view = { λ a. operator_model a.operands (known_by a.new_references.entries) };
+
+    ghost use Rattle.bufr_walk.specs.SpecKey.{IsOperatorKey};
+
+    ghost invariant = { λ a. AreOperands a.operands
+        × IsOperatorKey (operator_model a.operands (known_by a.new_references.entries)) a.key };
+}
+
+/// The octets of the operators in one number, while no reference is being defined and none was
+/// redefined; else no key.
+fn key_by(operands: OperatorOperands, new_references: &BTreeMap<u16, i64>) -> u64
+    ensures { IsOperatorKey (operator_model operands (known_by new_references.now.entries)) result }
+{
+    if operands.new_reference_width > 0 || !new_references.is_empty() {
+        return NO_KEY;
+    }
+    u64::from(operands.width_change)
+        + 0x100 * u64::from(operands.scale_change)
+        + 0x1_0000 * u64::from(operands.precision_increase)
+        + 0x100_0000 * u64::from(operands.character_octets)
+        + 0x1_0000_0000 * u64::from(operands.local_width)
+}
+
+/// Makes room for the reference of an element, which is 0 then.
+#[tactic(auto, using(crate::proofs::SpecLemmas::known_more))]
+fn make_room(new_references: &mut BTreeMap<u16, i64>, fxy: Fxy) -> Result<(), AllocError>
+    ensures known { OnOk result (known_by new_references.new.entries
+        ≡ with_reference fxy (pos 0) (known_by new_references.old.entries)) }
+    ensures room { OnOk result (IsSome (get nat_cmp new_references.new fxy)) }
+{
+    new_references.insert(fxy.word(), 0)?;
+    Ok(())
+}
+
+/// Keeps a reference that the data gave, for which there is room, in place of the one that the
+/// element has.
+#[tactic(auto, using(crate::proofs::SpecLemmas::known_more))]
+fn redefine(new_references: &mut BTreeMap<u16, i64>, fxy: Fxy, reference: i64)
+    requires { IsSome (get nat_cmp new_references.old fxy) }
+    ensures { known_by new_references.new.entries
+        ≡ with_reference fxy reference (known_by new_references.old.entries) }
+{
+    match new_references.insert(fxy.word(), reference) {
+        Ok(_) => {}
+        Err(_) => unreachable!(),
+    }
+}
+
+/// The reference that the data gave to an element, or the listed one.
+#[tactic(auto, using(crate::proofs::SpecLemmas::reference_found))]
+#[inline(always)]
+fn reference_of(new_references: &BTreeMap<u16, i64>, fxy: Fxy, entry: &Entry<'_>) -> i64
+    ensures { result ≡ current_reference (known_by new_references.now.entries) fxy
+        entry.now.reference }
+{
+    if new_references.is_empty() {
+        return entry.reference;
+    }
+    let local_width = new_references.get(&fxy.word()).copied();
+    local_width.unwrap_or(entry.reference)
+}
+
+/// A quantity's width with the changes in force (2 01 Y, 2 07 Y).
+#[inline(always)]
+fn operator_width(width: u32, precision_increase: u8, width_change: u8) -> u32
+    requires { width ≤ 2040 }
+    ensures { result ≡ operator_width width (extra_bits precision_increase) width_change }
+{
+    let extra = (10 * u32::from(precision_increase) + 2) / 3;
+    if width_change == 0 {
+        width + extra
+    } else {
+        (width + extra + u32::from(width_change)).saturating_sub(128)
+    }
+}
+
+/// The change of a quantity's scale by Y - 128, where one is in force (2 02 Y).
+#[inline(always)]
+fn scale_change_of(scale_change: u8) -> i16
+    ensures value { result ≡ scale_change_of scale_change }
+    ensures few { unsigned_abs result ≤ 128 }
+{
+    if scale_change == 0 {
+        0
+    } else {
+        i16::from(scale_change) - 128
+    }
+}
+
+/// A quantity's scale with the changes in force (2 02 Y, 2 07 Y).
+#[inline(always)]
+fn scale_change(scale: i16, change: i16, precision_increase: u8) -> i16
+    requires scale { unsigned_abs scale ≤ 127 }
+    requires change { unsigned_abs change ≤ 128 }
+    requires precision_increase { precision_increase ≤ 18 }
+    ensures value { result ≡ (scale +ℤ change) +ℤ pos precision_increase }
+    ensures few { unsigned_abs result ≤ 300 }
+{
+    scale + change + i16::from(precision_increase)
+}
+
+/// A power of ten.
+#[tactic(auto, using(crate::proofs::SpecLemmas::power_small))]
+fn power_of_ten(precision_increase: u8) -> u64
+    requires { precision_increase ≤ 18 }
+    ensures value { result ≡ 10 ^ precision_increase }
+    ensures most { result ≤ 10 ^ 18 }
+{
+    10u64.pow(u32::from(precision_increase))
+}
+
+/// A quantity's reference with the digits in force (2 07 Y).
+#[tactic(auto, using(crate::proofs::SpecLemmas::product_small))]
+#[inline(always)]
+fn scaled(reference: i64, precision_increase: u8) -> i128
+    requires { precision_increase ≤ 18 }
+    ensures value { result ≡ reference *ℤ pos (10 ^ precision_increase) }
+    ensures near { unsigned_abs result ≤ 2 ^ 125 }
+{
+    let reference = i128::from(reference);
+    // Nearly always: nothing is in force, and then nothing is to be multiplied.
+    if precision_increase == 0 {
+        return reference;
+    }
+    reference * i128::from(power_of_ten(precision_increase))
+}
+
+/// A number in a quantity's unit.
+#[inline(always)]
+fn numeric_spec(
+    operands: OperatorOperands,
+    reference: i64,
+    fxy: Fxy,
+    entry: &Entry<'_>,
+) -> Result<Spec, TurnRefusal>
+    requires row { IsRow (row_of_entry fxy entry.now) }
+    requires operands { AreOperands operands }
+    ensures { (known : List Redefined) → reference ≡ current_reference known fxy entry.now.reference
+        → result ≡ if_valid_width (numeric_spec (operator_model operands known)
+        (row_of_entry fxy entry.now)) }
+{
+    Spec::number(
+        fxy,
+        Role::Element,
+        Kind::Numeric,
+        operator_width(
+            entry.width,
+            operands.precision_increase,
+            operands.width_change,
+        ),
+        scale_change(
+            entry.scale,
+            scale_change_of(operands.scale_change),
+            operands.precision_increase,
+        ),
+        scaled(reference, operands.precision_increase),
+        fxy.x() != 31,
+        true,
+    )
+}
+
+/// A figure of a code table.
+#[inline(always)]
+fn coded_spec(reference: i64, fxy: Fxy, entry: &Entry<'_>) -> Result<Spec, TurnRefusal>
+    requires row { IsRow (row_of_entry fxy entry.now) }
+    ensures { (operands : OperatorOperands) (known : List Redefined)
+        → reference ≡ current_reference known fxy entry.now.reference
+        → result ≡ if_valid_width (coded_spec (operator_model operands known)
+        (row_of_entry fxy entry.now)) }
+{
+    Spec::number(
+        fxy,
+        Role::Element,
+        Kind::Coded,
+        entry.width,
+        entry.scale,
+        i128::from(reference),
+        fxy.x() != 31,
+        true,
+    )
+}
+
+/// The width of a text element, in bits (2 08 Y).
+#[inline(always)]
+fn text_width(width: u32, character_octets: u8) -> u32
+    ensures { result ≡ (if character_octets == 0 then width else 8 * character_octets) }
+{
+    if character_octets == 0 {
+        width
+    } else {
+        8 * u32::from(character_octets)
+    }
+}
+
+/// An element by its row and its reference.
+#[inline(always)]
+fn spec_by_kind(
+    operands: OperatorOperands,
+    reference: i64,
+    fxy: Fxy,
+    entry: &Entry<'_>,
+) -> Result<Spec, TurnRefusal>
+    requires row { IsRow (row_of_entry fxy entry.now) }
+    requires operands { AreOperands operands }
+    ensures { (known : List Redefined) → reference ≡ current_reference known fxy entry.now.reference
+        → result ≡ spec_by_kind entry.now.kind (operator_model operands known)
+        (row_of_entry fxy entry.now) }
+{
+    match entry.kind {
+        Kind::Numeric => numeric_spec(operands, reference, fxy, entry),
+        Kind::Coded => coded_spec(reference, fxy, entry),
+        Kind::Character => Ok(Spec::text(
+            Role::Element,
+            fxy,
+            text_width(entry.width, operands.character_octets),
+            true,
+        )),
+    }
+}
+
+/// An element whose reference is being defined (2 03 Y).
+#[inline(always)]
+fn new_reference_spec(new_reference_width: u8, fxy: Fxy, kind: Kind) -> Result<Spec, TurnRefusal>
+    ensures { (s : OperatorModel) → s.new_reference_width ≡ new_reference_width → result
+        ≡ new_reference_spec kind s fxy }
+{
+    match kind {
+        Kind::Character => Err(TurnRefusal::Defining(fxy)),
+        Kind::Coded | Kind::Numeric => Spec::number(
+            fxy,
+            Role::Reference,
+            Kind::Numeric,
+            u32::from(new_reference_width),
+            0,
+            0,
+            false,
+            false,
+        ),
+    }
+}
+
+/// An unsigned number of a given width.
+#[inline(always)]
+fn unsigned_of(fxy: Fxy, width: u8) -> Result<Spec, TurnRefusal>
+    ensures { result ≡ unsigned_of fxy width }
+{
+    Spec::number(
+        fxy,
+        Role::Element,
+        Kind::Numeric,
+        u32::from(width),
+        0,
+        0,
+        fxy.x() != 31,
+        false,
+    )
+}
+
+/// An element whose width is given (2 06 Y).
+#[inline(always)]
+fn local_width_spec(local_width: u8, fxy: Fxy, entry: &Entry<'_>) -> Result<Spec, TurnRefusal>
+    requires row { IsRow (row_of_entry fxy entry.now) }
+    ensures { (s : OperatorModel) → s.local_width ≡ local_width
+        → result ≡ local_width_spec (Some (row_of_entry fxy entry.now)) s fxy }
+{
+    if entry.width == u32::from(local_width) {
+        spec_by_kind(no_operators(), entry.reference, fxy, entry)
+    } else {
+        unsigned_of(fxy, local_width)
+    }
+}
+
+/// A factor by its row.
+#[inline(always)]
+fn factor_by(fxy: Fxy, entry: &Entry<'_>) -> Result<Spec, TurnRefusal>
+    requires row { IsRow (row_of_entry fxy entry.now) }
+    ensures { result ≡ factor_by (Some (row_of_entry fxy entry.now)) fxy }
+{
+    Spec::number(
+        fxy,
+        Role::Factor,
+        Kind::Numeric,
+        entry.width,
+        entry.scale,
+        i128::from(entry.reference),
+        false,
+        true,
+    )
+}
+
+impl OperatorState {
+    ghost use Rattle.std.specs.Prelude.{◌≡◌, Ok, Err, OnOk, IfErr, true, false, [], ◌∷◌};
+    ghost use Rattle.bufr_tables.specs.Operators.{is_legal_operator};
+    ghost use Rattle.bufr_tables.specs.Tree.{is_inserted_text};
+    ghost use Rattle.bufr_walk.specs.Rules.{element_spec, factor_spec, inserted_spec};
+    ghost use Rattle.bufr_walk.specs.Operators.{begin, after_operator, after_field};
+    ghost use Rattle.std.specs.Prelude.{IfOk};
+    ghost use Rattle.bufr_walk.specs.FieldSpec.{is_reference};
+    ghost use Rattle.bufr_walk.specs.WalkProgress.{TakesField};
+    ghost use Rattle.bufr_walk.specs.SpecKey.{IsElementKey, IsFactorKey};
+
+    /// Nothing is set.
+    pub(crate) fn new(alloc: Global) -> OperatorState
+        ensures { result ≡ begin }
+    {
+        OperatorState {
+            operands: no_operators(),
+            new_references: BTreeMap::new(alloc),
+            key: 0,
+        }
+    }
+
+    /// What the spec of an element is cached under.
+    #[tactic(auto, using(crate::proofs::SpecKeyLemmas::with_word))]
+    #[inline(always)]
+    pub(crate) fn element_key(&self, fxy: Fxy) -> u64
+        ensures { IsElementKey self.now fxy result }
+    {
+        self.key + 0x100_0000_0000 * u64::from(fxy.word())
+    }
+
+    /// What the spec of a factor is cached under.
+    #[tactic(auto, using(crate::proofs::SpecKeyLemmas::with_word))]
+    #[inline(always)]
+    pub(crate) fn factor_key(&self, fxy: Fxy) -> u64
+        ensures { IsFactorKey self.now fxy result }
+    {
+        self.key + 0x100_0000_0000 * (u64::from(fxy.word()) + 0x1_0000)
+    }
+
+    /// A given width is used up.
+    #[inline(always)]
+    fn end_given(&mut self)
+        ensures { self.new ≡ record self.old { local_width = 0 } }
+    {
+        if self.operands.local_width != 0 {
+            self.operands.local_width = 0;
+            self.key = key_by(self.operands, &self.new_references);
+        }
+    }
+
+    /// How an element is read.
+    #[inline(always)]
+    pub(crate) fn element(&self, table: &TableB, fxy: Fxy) -> Result<Spec, TurnRefusal>
+        ensures { result ≡ element_spec table.now self.now fxy }
+    {
+        let operands = self.operands;
+        match table.get(fxy) {
+            Some(entry) => {
+                if operands.local_width > 0 {
+                    local_width_spec(operands.local_width, fxy, &entry)
+                } else if operands.new_reference_width > 0 {
+                    new_reference_spec(operands.new_reference_width, fxy, entry.kind)
+                } else {
+                    let reference = reference_of(&self.new_references, fxy, &entry);
+                    spec_by_kind(operands, reference, fxy, &entry)
+                }
+            }
+            None => {
+                if operands.local_width > 0 {
+                    unsigned_of(fxy, operands.local_width)
+                } else {
+                    Err(TurnRefusal::Width(fxy))
+                }
+            }
+        }
+    }
+
+    /// How the factor of a delayed replication is read.
+    #[inline(always)]
+    pub(crate) fn factor(&self, table: &TableB, fxy: Fxy) -> Result<Spec, TurnRefusal>
+        ensures { result ≡ factor_spec table.now self.now fxy }
+    {
+        if self.operands.new_reference_width > 0 {
+            return Err(TurnRefusal::Defining(fxy));
+        }
+        match table.get(fxy) {
+            Some(entry) => factor_by(fxy, &entry),
+            None => Err(TurnRefusal::Width(fxy)),
+        }
+    }
+
+    /// How a text that stands in the template is read (2 05 Y).
+    #[tactic(auto, using(crate::proofs::SpecLemmas::inserted_width))]
+    #[inline(always)]
+    pub(crate) fn inserted(&self, fxy: Fxy) -> Result<Spec, TurnRefusal>
+        requires legal { is_legal_operator fxy ≡ true }
+        requires text { is_inserted_text fxy ≡ true }
+        ensures { result ≡ inserted_spec self.now fxy }
+    {
+        if self.operands.new_reference_width > 0 {
+            return Err(TurnRefusal::Defining(fxy));
+        }
+        Ok(Spec::text(Role::Inserted, fxy, 8 * u32::from(fxy.y()), false))
+    }
+
+    /// What an operator sets; while references are being defined only their end may come.
+    pub(crate) fn apply(&mut self, fxy: Fxy) -> Result<(), TurnRefusal>
+        requires { is_legal_operator fxy ≡ true }
+        ensures ok { OnOk result (after_operator self.old fxy ≡ Ok self.new) }
+        ensures err { IfErr result (λ why. after_operator self.old fxy ≡ Err why) }
+    {
+        let (x, y) = (fxy.x(), fxy.y());
+        if self.operands.new_reference_width > 0 && !(x == 3 && y == 255) {
+            return Err(TurnRefusal::Defining(fxy));
+        }
+        match x {
+            1 => self.operands.width_change = y,
+            2 => self.operands.scale_change = y,
+            3 => {
+                if y == 255 {
+                    self.operands.new_reference_width = 0;
+                } else if y == 0 {
+                    self.new_references.clear();
+                } else {
+                    self.operands.new_reference_width = y;
+                }
+            }
+            6 => self.operands.local_width = y,
+            7 => self.operands.precision_increase = y,
+            8 => self.operands.character_octets = y,
+            // 2 05 Y is a text of the template, and sets nothing.
+            _ => {}
+        }
+        self.key = key_by(self.operands, &self.new_references);
+        Ok(())
+    }
+
+    /// Takes a reference, and keeps it. The place for it is made before.
+    #[tactic(auto, using(crate::proofs::SpecLemmas::with_again))]
+    fn take_reference<S: Fields>(
+        &mut self,
+        fxy: Fxy,
+        spec: &Spec,
+        fields: &mut S,
+    ) -> Result<Taken, WalkStop<S::Fault>>
+        requires { is_reference spec.now.role ≡ true }
+        ensures took { TakesField S.takes (Ok spec.now) fields.old result fields.new }
+        ensures kept { IfOk result (λ t. self.new ≡ after_field self.old fxy t) }
+    {
+        self.key = NO_KEY;
+        match make_room(&mut self.new_references, fxy) {
+            Ok(()) => {}
+            Err(_) => return Err(WalkStop::Memory),
+        }
+        match fields.take(spec) {
+            Ok(Taken::Reference(reference)) => {
+                redefine(&mut self.new_references, fxy, reference);
+                self.operands.local_width = 0;
+                Ok(Taken::Reference(reference))
+            }
+            Ok(_) => unreachable!(),
+            Err(fault) => Err(WalkStop::Field(fault)),
+        }
+    }
+
+    /// Takes a field that is no reference.
+    #[inline(always)]
+    #[tactic(auto, using(crate::proofs::FieldWays::no_reference))]
+    pub(crate) fn take_other<S: Fields>(
+        &mut self,
+        fxy: Fxy,
+        spec: &Spec,
+        fields: &mut S,
+    ) -> Result<Taken, WalkStop<S::Fault>>
+        requires { is_reference spec.now.role ≡ false }
+        ensures took { TakesField S.takes (Ok spec.now) fields.old result fields.new }
+        ensures kept { IfOk result (λ t. self.new ≡ after_field self.old fxy t) }
+    {
+        match fields.take(spec) {
+            Ok(told) => {
+                self.end_given();
+                Ok(told)
+            }
+            Err(fault) => Err(WalkStop::Field(fault)),
+        }
+    }
+
+    /// Takes a field, and keeps what it makes of the settings: a given width is used up, and a
+    /// reference is kept.
+    #[inline(always)]
+    pub(crate) fn take<S: Fields>(
+        &mut self,
+        fxy: Fxy,
+        spec: &Spec,
+        fields: &mut S,
+    ) -> Result<Taken, WalkStop<S::Fault>>
+        ensures took { TakesField S.takes (Ok spec.now) fields.old result fields.new }
+        ensures kept { IfOk result (λ t. self.new ≡ after_field self.old fxy t) }
+    {
+        if spec.is_reference() {
+            return self.take_reference(fxy, spec, fields);
+        }
+        self.take_other(fxy, spec, fields)
+    }
+}

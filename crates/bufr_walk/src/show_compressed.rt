@@ -1,0 +1,442 @@
+//! How compressed data are shown: subset after subset, each item from its place.
+ghost use Rattle.std.specs.Prelude.{◌≡◌, ◌∷◌, ◌≤◌, ◌<◌, ◌+◌, ◌-◌, ◌*◌, ◌/◌, ◌^◌, ◌++◌, true, false, length, take, drop, replicate, IfNone, IfSome, OnSome};
+ghost use Rattle.std.specs.List.{list_all};
+ghost use Rattle.bufr_bits.specs.Bits.{are_all_ones, bits_of, bits_at, number_of};
+ghost use Rattle.bufr_bits.specs.BitSlice.{octets_of};
+ghost use Rattle.bufr_tables.specs.TableB.{is_character};
+ghost use Rattle.bufr_walk.specs.Calls.{compressed_item_calls, subset_call, compressed_subset_calls, timed};
+ghost use Rattle.bufr_walk.specs.Content.{octets_in, shown};
+ghost use Rattle.bufr_walk.specs.Numbers.{IsPlainNumber};
+ghost use Rattle.bufr_walk.specs.StoredItems.{HasIncrement, call_kept, content_kept};
+ghost use Rattle.bufr_walk.specs.PackedBits.{increased_to, is_missing, number_from, sum_content, text_at};
+ghost use Rattle.bufr_walk.specs.PackedIn.{items_at, stands_at};
+ghost use Rattle.bufr_walk.specs.ViewModel.{seen_value};
+ghost use Rattle.bufr_walk.specs.CallsInTurn.{Shows};
+
+use crate::base::Base;
+use crate::bits::{copy_octets, front, number_at, ones_at};
+use crate::fault::ShowFault;
+use crate::item_index::ItemIndex;
+use crate::kept::IndexedItem;
+use crate::plain_in::PlainIn;
+use crate::show_plain::{show_field, show_plain_value, show_value};
+use crate::spec::Spec;
+use crate::visitor::{Value, Visitor, plain_number};
+use bufr_bits::BitSlice;
+use bufr_tables::TableB;
+
+/// The sum of a base and an increment of `k` bits; `None` where the value is missing.
+#[inline(always)]
+fn increased(base: Base, k: u32, increment: u64) -> Option<u64>
+    requires k { k ≤ 63 }
+    requires width { base.width ≤ 63 }
+    requires value { base.value < 2 ^ base.width }
+    requires increment { increment < 2 ^ k }
+    ensures { sum_content result
+        ≡ increased_to base.may_be_missing base.width base.value k increment }
+{
+    let sum = base.value + increment;
+    if base.may_be_missing && increment == (1 << k) - 1 {
+        return None;
+    }
+    if base.may_be_missing && sum == (1 << base.width) - 1 {
+        return None;
+    }
+    Some(sum)
+}
+
+/// Whether the base of a kept item that is a number is all ones.
+#[inline(always)]
+fn is_full(bits: &BitSlice<'_>, subsets: u16, item: &IndexedItem) -> bool
+    requires stands { stands_at (bits_of (octets_of bits.now)) subsets item.now ≡ true }
+    requires number { is_character item.now.spec.kind ≡ false }
+    ensures { result ≡ are_all_ones (bits_at (octets_of bits.now) item.now.at item.now.spec.width) }
+{
+    item.base == (1 << item.spec.width()) - 1
+}
+
+/// The base of a kept item that is a number; `None` where it is missing, and with it the item of
+/// each subset.
+#[tactic(auto, using(crate::proofs::PackedAt::kept_number))]
+#[inline(always)]
+fn base_of(bits: &BitSlice<'_>, subsets: u16, item: &IndexedItem) -> Option<Base>
+    requires stands { stands_at (bits_of (octets_of bits.now)) subsets item.now ≡ true }
+    requires number { is_character item.now.spec.kind ≡ false }
+    ensures missing { IfNone result (is_missing item.now.spec
+        (bits_at (octets_of bits.now) item.now.at item.now.spec.width) ≡ true) }
+    ensures there { OnSome result (is_missing item.now.spec
+        (bits_at (octets_of bits.now) item.now.at item.now.spec.width) ≡ false) }
+    ensures value { IfSome result (λ b. b.value
+        ≡ number_of (bits_at (octets_of bits.now) item.now.at item.now.spec.width)) }
+    ensures width { IfSome result (λ b. b.width ≡ item.now.spec.width) }
+    ensures may_be_missing { IfSome result
+        (λ b. b.may_be_missing ≡ item.now.spec.may_be_missing) }
+    ensures narrow { IfSome result (λ b. b.width ≤ 63) }
+    ensures below { IfSome result (λ b. b.value < 2 ^ b.width) }
+{
+    let width = item.spec.width();
+    let may_be_missing = item.spec.may_be_missing();
+    let full = is_full(bits, subsets, item);
+    if full && may_be_missing {
+        return None;
+    }
+    Some(Base {
+        value: item.base,
+        width,
+        may_be_missing,
+    })
+}
+
+/// The number of one subset, counted from 0; `None` where it is missing.
+#[inline(always)]
+fn number_in(
+    bits: &BitSlice<'_>,
+    subsets: u16,
+    item: &IndexedItem,
+    k: u32,
+    subset: u16,
+) -> Option<u64>
+    requires stands { stands_at (bits_of (octets_of bits.now)) subsets item.now ≡ true }
+    requires increment { k ≤ 63 }
+    requires number { is_character item.now.spec.kind ≡ false }
+    requires within { item.now.at + (item.now.spec.width + 6) + (subset + 1) * k
+        ≤ 8 * length (octets_of bits.now) }
+    ensures { sum_content result ≡ number_from item.now.spec k
+        (bits_at (octets_of bits.now) item.now.at item.now.spec.width)
+        (take k (drop (subset * k)
+        (drop (item.now.at + (item.now.spec.width + 6)) (bits_of (octets_of bits.now))))) }
+{
+    let Some(base) = base_of(bits, subsets, item) else {
+        return None;
+    };
+    let place = item.at + (u64::from(base.width) + 6) + u64::from(subset) * u64::from(k);
+    increased(base, k, number_at(bits, place, k))
+}
+
+/// A number as it is shown.
+fn number_value<'t>(spec: &Spec, raw: Option<u64>) -> Value<'t>
+    ensures { seen_value result ≡ shown spec.now (sum_content raw) }
+{
+    match raw {
+        Some(raw) => Value::Number(i128::from(raw) + spec.reference(), spec.scale()),
+        None => Value::Missing,
+    }
+}
+
+/// Writes spaces behind the first `from` of `count` octets.
+#[tactic(auto, using(crate::proofs::PackedCalls::pad_none, crate::proofs::PackedCalls::pad_more))]
+fn pad(text: &mut [u8; 255], from: usize, count: usize)
+    requires few { count ≤ 255 }
+    requires order { from ≤ count }
+    ensures { take count text.new ≡ take from text.old ++ replicate (count - from) 32 }
+{
+    'spaces: for place in from..count {
+        text[place] = b' ';
+    }
+}
+
+/// The number that one subset, counted from 0, has of a kept item with increments; `None` where it
+/// is missing.
+#[tactic(auto, using(crate::proofs::PackedAt::number_content, crate::proofs::PackedAt::step_small))]
+#[inline(always)]
+fn number_of(bits: &BitSlice<'_>, subsets: u16, item: &IndexedItem, subset: u16) -> Option<u64>
+    requires increment { HasIncrement (bits_of (octets_of bits.now)) subsets item.now subset }
+    requires number { is_character item.now.spec.kind ≡ false }
+    ensures { sum_content result
+        ≡ content_kept (bits_of (octets_of bits.now)) subsets item.now subset }
+{
+    number_in(bits, subsets, item, u32::from(item.step), subset)
+}
+
+/// Where the text of one subset stands: its first bit, and how many octets, behind which come
+/// spaces.
+#[derive(Clone, Copy)]
+struct TextSpan {
+    place: u64,
+    octets: usize,
+}
+
+/// The bit where the text of one subset, counted from 0, begins.
+fn text_place(bits: &BitSlice<'_>, item: &IndexedItem, subset: u16) -> u64
+    requires { item.now.at + (item.now.spec.width + 6) + (subset + 1) * (8 * item.now.step)
+        ≤ 8 * length (octets_of bits.now) }
+    ensures { result ≡ item.now.at + (item.now.spec.width + 6) + subset * (8 * item.now.step) }
+{
+    let behind = item.at + (u64::from(item.spec.width()) + 6);
+    behind + u64::from(subset) * (8 * u64::from(item.step))
+}
+
+/// Where the text stands that one subset, counted from 0, has of a kept item with increments.
+fn text_span(bits: &BitSlice<'_>, subsets: u16, item: &IndexedItem, subset: u16) -> TextSpan
+    requires increment { HasIncrement (bits_of (octets_of bits.now)) subsets item.now subset }
+    requires text { is_character item.now.spec.kind ≡ true }
+    ensures within { result.place + 8 * result.octets ≤ 8 * length (octets_of bits.now) }
+    ensures few { result.octets ≤ item.now.spec.width / 8 }
+    ensures text { text_at (bits_of (octets_of bits.now)) (item.now.spec.width / 8) result.place
+        result.octets ≡ content_kept (bits_of (octets_of bits.now)) subsets item.now subset }
+{
+    TextSpan {
+        place: text_place(bits, item, subset),
+        octets: usize::from(item.step),
+    }
+}
+
+/// Copies the octets of a text, and spaces behind them.
+fn copy_text(bits: &BitSlice<'_>, span: TextSpan, count: usize, text: &mut [u8; 255])
+    requires count { count ≤ 255 }
+    requires few { span.octets ≤ count }
+    requires within { span.place + 8 * span.octets ≤ 8 * length (octets_of bits.now) }
+    ensures { take count text.new ≡ octets_in span.octets
+        (drop span.place (bits_of (octets_of bits.now))) ++ replicate (count - span.octets) 32 }
+{
+    copy_octets(bits, span.place, span.octets, text);
+    pad(text, span.octets, count);
+}
+
+/// A text that was copied, as it is shown.
+#[tactic(auto, using(crate::proofs::PackedTexts::missing_text, crate::proofs::PackedTexts::whole_text))]
+fn text_value<'t>(
+    bits: &BitSlice<'_>,
+    spec: &Spec,
+    span: TextSpan,
+    count: usize,
+    text: &'t [u8; 255],
+) -> Value<'t>
+    requires count { count ≤ 255 }
+    requires within { span.place + 8 * span.octets ≤ 8 * length (octets_of bits.now) }
+    requires small { span.octets ≤ 255 }
+    requires copied { take count text.now ≡ octets_in span.octets
+        (drop span.place (bits_of (octets_of bits.now))) ++ replicate (count - span.octets) 32 }
+    ensures { seen_value result
+        ≡ shown spec.now (text_at (bits_of (octets_of bits.now)) count span.place span.octets) }
+{
+    let all_missing = ones_at(bits, span.place, 8 * span.octets as u32);
+    if all_missing {
+        Value::Missing
+    } else {
+        Value::Text(front(text, count))
+    }
+}
+
+/// Shows the text that one subset, counted from 0, has of a kept item with increments. It stands by
+/// itself, so that only texts pay for its array.
+#[inline(never)]
+fn show_text<V: Visitor>(
+    bits: &BitSlice<'_>,
+    subsets: u16,
+    table: &TableB,
+    item: &IndexedItem,
+    subset: u16,
+    visitor: &mut V,
+) -> Result<(), V::Fault>
+    requires increment { HasIncrement (bits_of (octets_of bits.now)) subsets item.now subset }
+    requires text { is_character item.now.spec.kind ≡ true }
+    ensures { V.sees visitor.old (call_kept table.now (bits_of (octets_of bits.now)) subsets
+        item.now subset) result visitor.new }
+{
+    let mut text = [0u8; 255];
+    let span = text_span(bits, subsets, item, subset);
+    let count = (item.spec.width() / 8) as usize;
+    copy_text(bits, span, count, &mut text);
+    let value = text_value(bits, &item.spec, span, count, &text);
+    show_value(table, &item.spec, value, visitor)
+}
+
+/// Shows the number that one subset, counted from 0, has of a kept item with increments.
+fn show_number<V: Visitor>(
+    bits: &BitSlice<'_>,
+    subsets: u16,
+    table: &TableB,
+    item: &IndexedItem,
+    subset: u16,
+    visitor: &mut V,
+) -> Result<(), V::Fault>
+    requires increment { HasIncrement (bits_of (octets_of bits.now)) subsets item.now subset }
+    requires number { is_character item.now.spec.kind ≡ false }
+    ensures { V.sees visitor.old (call_kept table.now (bits_of (octets_of bits.now)) subsets
+        item.now subset) result visitor.new }
+{
+    let raw = number_of(bits, subsets, item, subset);
+    let value = number_value(&item.spec, raw);
+    show_value(table, &item.spec, value, visitor)
+}
+
+/// Shows the base that all subsets have of a kept item with no increments.
+fn show_base<V: Visitor>(
+    bits: &BitSlice<'_>,
+    subsets: u16,
+    table: &TableB,
+    item: &IndexedItem,
+    subset: u16,
+    visitor: &mut V,
+) -> Result<(), V::Fault>
+    requires stands { stands_at (bits_of (octets_of bits.now)) subsets item.now ≡ true }
+    requires subset { subset < subsets }
+    requires none { item.now.step ≡ 0 }
+    ensures { V.sees visitor.old (call_kept table.now (bits_of (octets_of bits.now)) subsets
+        item.now subset) result visitor.new }
+{
+    let input = PlainIn::from_bit(*bits, item.at);
+    show_field(&input, table, &item.spec, visitor)
+}
+
+/// Shows what one subset, counted from 0, has of a kept item, plain or not.
+#[inline(never)]
+fn show_other<V: Visitor>(
+    bits: &BitSlice<'_>,
+    subsets: u16,
+    table: &TableB,
+    item: &IndexedItem,
+    subset: u16,
+    visitor: &mut V,
+) -> Result<(), V::Fault>
+    requires stands { stands_at (bits_of (octets_of bits.now)) subsets item.now ≡ true }
+    requires subset { subset < subsets }
+    ensures { V.sees visitor.old (call_kept table.now (bits_of (octets_of bits.now)) subsets
+        item.now subset) result visitor.new }
+{
+    if item.step == 0 {
+        return show_base(bits, subsets, table, item, subset, visitor);
+    }
+    if item.spec.is_text() {
+        return show_text(bits, subsets, table, item, subset, visitor);
+    }
+    show_number(bits, subsets, table, item, subset, visitor)
+}
+
+/// The number that all subsets have of a kept item with no increments, which is plain; `None` where
+/// it is missing.
+#[inline(always)]
+fn common_number(bits: &BitSlice<'_>, subsets: u16, item: &IndexedItem, subset: u16) -> Option<u64>
+    requires stands { stands_at (bits_of (octets_of bits.now)) subsets item.now ≡ true }
+    requires subset { subset < subsets }
+    requires none { item.now.step ≡ 0 }
+    requires plain { IsPlainNumber item.now.spec }
+    ensures { sum_content result
+        ≡ content_kept (bits_of (octets_of bits.now)) subsets item.now subset }
+{
+    match base_of(bits, subsets, item) {
+        Some(base) => Some(base.value),
+        None => None,
+    }
+}
+
+/// The value that one subset, counted from 0, has of a kept item that is plain; `None` where it is
+/// a number of more than 62 bits, as none is.
+#[inline(always)]
+fn plain_value<'t>(
+    bits: &BitSlice<'_>,
+    subsets: u16,
+    item: &IndexedItem,
+    subset: u16,
+) -> Option<Value<'t>>
+    requires stands { stands_at (bits_of (octets_of bits.now)) subsets item.now ≡ true }
+    requires subset { subset < subsets }
+    requires plain { IsPlainNumber item.now.spec }
+    ensures { IfSome result (λ value. seen_value value ≡ shown item.now.spec
+        (content_kept (bits_of (octets_of bits.now)) subsets item.now subset)) }
+{
+    let raw = if item.step == 0 {
+        common_number(bits, subsets, item, subset)
+    } else {
+        number_of(bits, subsets, item, subset)
+    };
+    let Some(raw) = raw else {
+        return Some(Value::Missing);
+    };
+    if raw >= 1 << 62 {
+        return None;
+    }
+    Some(plain_number(&item.spec, raw))
+}
+
+/// Shows what one subset, counted from 0, has of a kept item.
+#[inline(always)]
+fn show_item<V: Visitor>(
+    bits: &BitSlice<'_>,
+    subsets: u16,
+    table: &TableB,
+    item: &IndexedItem,
+    subset: u16,
+    visitor: &mut V,
+) -> Result<(), V::Fault>
+    requires stands { stands_at (bits_of (octets_of bits.now)) subsets item.now ≡ true }
+    requires subset { subset < subsets }
+    ensures { V.sees visitor.old (call_kept table.now (bits_of (octets_of bits.now)) subsets
+        item.now subset) result visitor.new }
+{
+    if item.spec.is_plain()
+        && let Some(value) = plain_value(bits, subsets, item, subset)
+        && let Some(entry) = table.get(item.spec.fxy())
+    {
+        return show_plain_value(&item.spec, entry, value, visitor);
+    }
+    show_other(bits, subsets, table, item, subset, visitor)
+}
+
+/// Shows the items of one subset, counted from 0.
+fn show_items<V: Visitor>(
+    bits: &BitSlice<'_>,
+    subsets: u16,
+    table: &TableB,
+    kept: &ItemIndex,
+    subset: u16,
+    visitor: &mut V,
+) -> Result<(), ShowFault<V::Fault>>
+    requires stand { list_all (stands_at (bits_of (octets_of bits.now)) subsets) kept.now ≡ true }
+    requires subset { subset < subsets }
+    ensures { Shows V.sees visitor.old (compressed_item_calls table.now subset
+        (items_at (bits_of (octets_of bits.now)) subsets kept.now)) 0 result visitor.new 0 }
+{
+    'items: for place in 0..kept.len() {
+        let item = kept.item(place);
+        match show_item(bits, subsets, table, &item, subset, visitor) {
+            Ok(()) => {}
+            Err(fault) => return Err(ShowFault::Visitor(fault)),
+        }
+    }
+    Ok(())
+}
+
+/// Shows one subset, counted from 0, and its items.
+fn show_subset<V: Visitor>(
+    bits: &BitSlice<'_>,
+    subsets: u16,
+    table: &TableB,
+    kept: &ItemIndex,
+    subset: u16,
+    visitor: &mut V,
+) -> Result<(), ShowFault<V::Fault>>
+    requires stand { list_all (stands_at (bits_of (octets_of bits.now)) subsets) kept.now ≡ true }
+    requires subset { subset < subsets }
+    ensures { Shows V.sees visitor.old (timed 0 (subset_call (subset + 1))
+        ∷ compressed_item_calls table.now subset
+        (items_at (bits_of (octets_of bits.now)) subsets kept.now)) 0 result visitor.new 0 }
+{
+    match visitor.subset(subset + 1) {
+        Ok(()) => show_items(bits, subsets, table, kept, subset, visitor),
+        Err(fault) => Err(ShowFault::Visitor(fault)),
+    }
+}
+
+/// Shows each subset, and its items.
+#[tactic(auto, using(crate::proofs::PackedSubsets::subsets_start, crate::proofs::PackedSubsets::subsets_done))]
+pub(crate) fn show_packed<V: Visitor>(
+    bits: &BitSlice<'_>,
+    subsets: u16,
+    table: &TableB,
+    kept: &ItemIndex,
+    visitor: &mut V,
+) -> Result<(), ShowFault<V::Fault>>
+    requires { list_all (stands_at (bits_of (octets_of bits.now)) subsets) kept.now ≡ true }
+    ensures { Shows V.sees visitor.old (compressed_subset_calls table.now subsets 0
+        (items_at (bits_of (octets_of bits.now)) subsets kept.now)) 0 result visitor.new 0 }
+{
+    'subsets: for subset in 0..subsets {
+        match show_subset(bits, subsets, table, kept, subset, visitor) {
+            Ok(()) => {}
+            Err(fault) => return Err(fault),
+        }
+    }
+    Ok(())
+}

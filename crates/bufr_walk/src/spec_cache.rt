@@ -1,0 +1,143 @@
+//! The specs of a template's cells: at each place that which was found there last, with the
+//! operators that were in force.
+ghost use Rattle.std.specs.Prelude.{◌≡◌, ◌<◌, ◌^◌, Ok, IfSome};
+ghost use Rattle.bufr_tables.specs.TableB.{Row};
+
+use crate::spec::{Role, Spec};
+use bufr_tables::{Fxy, TableB};
+use std::alloc::{AllocError, Global};
+use std::marker::Model;
+
+/// The specs of so many cells are cached.
+const MAX_CELLS: usize = 1024;
+
+/// From here on no number is a key: nothing is cached under it.
+pub(crate) const NO_KEY: u64 = 0x4000_0000_0000_0000;
+
+/// What an entry has that no spec came to.
+const EMPTY: u64 = u64::MAX;
+
+/// A spec, the key of the operators and the descriptor that it was found for, and where it stood
+/// among the fields that the last reading kept.
+#[derive(Clone, Copy)]
+struct CachedSpec {
+    key: u64,
+    kept: u32,
+    spec: Spec,
+}
+
+/// The specs of a template's first 1,024 cells, by Table B: at each place that which was found
+/// there last. A clause sees the table alone: a spec is looked up under the operators and the
+/// descriptor that it was found for.
+///
+/// ```
+/// let mut cache = SpecCache::new(alloc, &table_b);
+/// cache.reset(template.cells().len())?;
+/// walk_by(alloc, &template, &table_b, &mut cache, &mut fields, &mut steps)?;
+/// ```
+#[derive(Drop)]
+pub struct SpecCache<'a> {
+    table: &'a TableB,
+    entries: Vec<CachedSpec>,
+}
+
+impl<'a> Model for SpecCache<'a> {
+    ghost use Rattle.std.specs.Prelude.{List};
+    ghost use Rattle.bufr_tables.specs.TableB.{Row};
+
+    ghost Value = { List Row };
+
+    ghost use Rattle.bufr_walk.specs.SpecCache.{AreCached};
+
+    ghost view = { λ c. c.table.now };
+
+    ghost invariant = { λ c. AreCached c.table.now c.entries.items };
+}
+
+impl<'a> SpecCache<'a> {
+    ghost use Rattle.std.specs.Prelude.{◌≡◌, ◌<◌, ◌^◌, IfSome};
+    ghost use Rattle.bufr_walk.specs.SpecCache.{IsSpecBy};
+
+    /// No spec, and no room for one. Takes no memory.
+    pub fn new(alloc: Global, table: &'a TableB) -> SpecCache<'a>
+        ensures { result ≡ table.now }
+    {
+        SpecCache {
+            table,
+            entries: Vec::new(alloc),
+        }
+    }
+
+    /// Drops all specs, and makes room for those of a template of so many cells.
+    ///
+    /// # Errors
+    ///
+    /// [`AllocError`] where memory runs out.
+    pub fn reset(&mut self, cells: usize) -> Result<(), AllocError>
+        ensures { self.new ≡ self.old }
+    {
+        self.entries.clear();
+        let spec = Spec::text(Role::Element, Fxy::from_word(0), 8, false);
+        self.entries.resize(
+            cells.min(MAX_CELLS),
+            CachedSpec {
+                key: EMPTY,
+                kept: 0,
+                spec,
+            },
+        )
+    }
+
+    /// The spec that was found last at a place, if it was found under this key.
+    #[inline(always)]
+    pub(crate) fn get(&self, place: u32, key: u64) -> Option<&Spec>
+        requires { key < 2 ^ 63 }
+        ensures { IfSome result (λ spec. IsSpecBy self.now key spec.now) }
+    {
+        let place = place as usize;
+        if place < self.entries.len() {
+            let entry = &self.entries[place];
+            if entry.key == key {
+                return Some(&entry.spec);
+            }
+        }
+        None
+    }
+
+    /// Has a spec cached that was found at a place under this key, if it is one.
+    pub(crate) fn insert(&mut self, place: u32, key: u64, spec: &Spec)
+        requires { key < 2 ^ 62 → IsSpecBy self.old key spec.now }
+        ensures { self.new ≡ self.old }
+    {
+        let place = place as usize;
+        if key < NO_KEY && place < self.entries.len() {
+            let kept = self.entries[place].kept;
+            self.entries[place] = CachedSpec {
+                key,
+                kept,
+                spec: *spec,
+            };
+        }
+    }
+
+    /// Where the field at a place stood last among those that are kept.
+    #[inline(always)]
+    pub(crate) fn kept(&self, place: u32) -> Option<u32> {
+        let place = place as usize;
+        if place < self.entries.len() {
+            return Some(self.entries[place].kept);
+        }
+        None
+    }
+
+    /// Takes note of where the field at a place stands among those that are kept.
+    #[inline(always)]
+    pub(crate) fn set_kept(&mut self, place: u32, kept: u32)
+        ensures { self.new ≡ self.old }
+    {
+        let place = place as usize;
+        if place < self.entries.len() {
+            self.entries[place].kept = kept;
+        }
+    }
+}

@@ -1,0 +1,137 @@
+#!/usr/bin/env python3
+"""A centre's rows in wreport's layout become a set, by which bufr-auto dumps, and which bufr-lacks asks for before.
+
+    tests/centre_tables.py [PROGRAM]
+
+The messages are of centre 98 and ask for tables=0/13/102. The rows are made up. Where wreport is installed, its rows
+become a set too.
+"""
+import os
+import pathlib
+import shutil
+import subprocess
+import sys
+import tempfile
+
+import lib
+from lib import TOP, finish, program
+
+WREPORT = pathlib.Path("/usr/share/wreport/B0000000000098013102.txt")
+# A centre's element and its sequence; and 0 12 101 as its old table has it, by which it is not to be read.
+TABLE_B = """\
+ 001212 MADE UP: NUMBER OF A BUOY IN THE ARCTIC                          NUMERIC                    0            0  16
+ 001213 MADE UP: KIND OF BUOY                                            CODETABLE  1213            0            0   4
+ 012101 TEMPERATURE/DRY-BULB TEMPERATURE                                 K                          1       - 1000  12
+"""
+TABLE_D = """\
+ 301250  3 001212
+           001213
+           012101
+ 301250  1 001213
+"""
+TEXT = """\
+message
+edition 4
+master 0
+centre 98
+subcentre 0
+update 0
+category 0
+subcategory 0
+localsubcategory 0
+masterversion 13
+localversion 102
+year 2024
+month 1
+day 2
+hour 3
+minute 4
+second 5
+observed 1
+compressed 0
+optional 0
+subsets 1
+descriptors 301250
+subset 1
+001212 4711  # MADE UP: NUMBER OF A BUOY IN THE ARCTIC [NUMERIC]
+001213 MISSING  # MADE UP: KIND OF BUOY [CODE TABLE 1213]
+012101 273.15  # TEMPERATURE/DRY-BULB TEMPERATURE [K]
+end
+"""
+
+
+def made(version: int, local: int, centre: int, descriptors: str, data: bytes) -> bytes:
+    return lib.asking(lib.message(data, lib.words(descriptors)), version, local, centre)
+
+
+def main() -> None:
+    complaints = []
+
+    def holds(what: str, told, wanted) -> None:
+        if told != wanted:
+            complaints.append(f"{what}: {told!r}, not {wanted!r}")
+
+    with tempfile.TemporaryDirectory() as folder:
+        place = pathlib.Path(folder)
+        environment = {**os.environ, "BUFR": program(), "BUFR_TABLES": str(place / "tables")}
+        shutil.copytree(TOP / "tables", place / "tables")
+        (place / "B0000000000098013102.txt").write_text(TABLE_B)
+        (place / "D0000000000098013102.txt").write_text(TABLE_D)
+
+        def script(name: str, stream: bytes):
+            words = [sys.executable, TOP / "scripts" / name]
+            done = subprocess.run(words, input=stream, capture_output=True, env=environment)
+            return done.returncode, done.stdout.decode(), done.stderr.decode()
+
+        bits = lib.Bits()
+        for value, width in ((4711, 16), (15, 4), (27315, 16)):
+            bits.put(value, width)
+        message = made(13, 102, 98, "301250", bits.octets())
+        # The same rows are asked for by another centre, by another local version, and behind another version.
+        others = [made(13, 102, 7, "301250", b""), made(13, 1, 98, "301250", b""), made(16, 102, 98, "301250", b"")]
+        other_lines = (
+            "1 message of centre 7/0, tables 0/13/102, lacks 301250\n"
+            "1 message of centre 98/0, tables 0/13/1, lacks 301250\n"
+            "1 message of centre 98/0, tables 0/16/102, lacks 301250\n"
+        )
+        stream = message + made(13, 102, 98, "001212 206008 001250", b"") + b"BUFR" + b"".join(others)
+        lines = "2 messages of centre 98/0, tables 0/13/102, lack 001212 301250\n"
+        cut = f"offset {stream.index(b'BUFRBUFR')}: 1 cut\n"
+        holds("bufr-lacks", script("bufr-lacks", stream), (1, lines + other_lines, cut))
+        note = "bufr-auto: 1 message, at offset 0: local table 102 of centre 98: there is no wmo-13+98-102\n"
+        refused = "offset 0: 21 unknown sequence 301250\n"
+        holds("bufr-auto before", script("bufr-auto", message), (1, "", refused + note))
+
+        # As tables/README.md says: behind the centre's rows WMO's, which take the place of its old ones.
+        words = [TOP / "tables/convert.py", "tables/wmo-13+98-102", "B0000000000098013102.txt", "tables/wmo-13"]
+        done = subprocess.run(words, cwd=place, capture_output=True)
+        holds("convert.py", (done.returncode, done.stderr), (0, b""))
+        holds("bufr-auto", script("bufr-auto", message), (0, TEXT, ""))
+        message_9 = made(9, 102, 98, "301250", bits.octets())
+        holds("version 9", script("bufr-auto", message_9), (0, TEXT.replace("n 13", "n 9"), ""))
+        folder = place / "tables/wmo-13+98-102"
+        words = [program(), "encode", "-B", folder / "B.csv", "-D", folder / "D.csv"]
+        done = subprocess.run(words, input=TEXT.encode(), capture_output=True)
+        holds("encode", done.stdout, message)
+        holds("bufr-lacks behind", script("bufr-lacks", message + b"".join(others)), (1, other_lines, ""))
+        holds("nothing lacks", script("bufr-lacks", message), (0, "", ""))
+        status, output, _ = script("bufr-auto", b"".join(others))
+        holds("those of others", (status, output), (1, ""))
+
+        words = [sys.executable, TOP / "scripts/bufr-lacks"]
+        for more, wanted in ((["--help"], 0), (["a", "b"], 2), (["nosuch"], 2)):
+            done = subprocess.run([*words, *more], capture_output=True, env=environment)
+            holds(f"bufr-lacks {more}", done.returncode, wanted)
+
+        if WREPORT.exists():
+            words = [TOP / "tables/convert.py", place / "tables/wmo-13+98-102", WREPORT, TOP / "tables/wmo-13"]
+            holds("convert.py of wreport", subprocess.run(words, capture_output=True).returncode, 0)
+            rows = "001212 001213 001214 001215 001216 001217 015023"
+            holds("rows of wreport", script("bufr-lacks", made(13, 102, 98, rows, b"")), (0, "", ""))
+        else:
+            print("rows of wreport-common skipped: it is not installed")
+    finish(complaints)
+
+
+if __name__ == "__main__":
+    main()

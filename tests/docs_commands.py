@@ -1,0 +1,87 @@
+#!/usr/bin/env python3
+"""Runs the commands that stand in the docs, and compares what they write with what stands below them.
+
+    tests/docs_commands.py [PROGRAM [DOC..]]
+
+A fenced block whose first line begins with `$ ` has commands: each line that begins so, with the lines after it that
+begin with `> `. Below a command stands what it writes, both outputs as one. There a line `...` stands for any lines,
+and a line `(status N)` at the end for a status other than 0. All commands of a document run one after another in one
+shell. They begin in an empty folder, with `bufr` on the path and links to examples/, scripts/ and tables/. A block
+whose fence ends in `if=WORD` is skipped where neither a program nor a module of python3 has that name.
+"""
+import os
+import pathlib
+import re
+import shutil
+import subprocess
+import sys
+import tempfile
+
+from lib import DOCS, TOP, finish, program
+
+
+def is_there(word: str) -> bool:
+    known = subprocess.run(["python3", "-c", f"import {word}"], stderr=subprocess.DEVNULL)
+    return shutil.which(word) is not None or known.returncode == 0
+
+
+def blocks(text: str):
+    """The first line's number, the word that a block needs, and the lines of each block of commands."""
+    for found in re.finditer(r"^( *)```([^\n`]*)\n(.*?)^ *```$", text, re.M | re.S):
+        lines = [line[len(found[1]) :] for line in found[3].splitlines()]
+        if lines and lines[0].startswith("$ "):
+            needs = re.search(r"if=(\w+)", found[2])
+            yield text.count("\n", 0, found.start(3)) + 1, needs and needs[1], lines
+
+
+def commands(first: int, lines: list):
+    """Each command of a block: its line's number, its words, and what it is to say."""
+    told = []
+    for number, line in enumerate(lines, first):
+        if line.startswith("$ "):
+            told.append((number, [line[2:]], []))
+        elif line.startswith("> ") and not told[-1][2]:
+            told[-1][1].append(line[2:])
+        else:
+            told[-1][2].append(line)
+    return told
+
+
+def alike(wanted: list, said: list) -> bool:
+    pattern = "".join(r"(?:.*\n)*?" if line == "..." else re.escape(line) + r"\n" for line in wanted)
+    return re.fullmatch(pattern, "".join(line + "\n" for line in said)) is not None
+
+
+def wrongs(path: pathlib.Path) -> list:
+    """Runs a document's commands. Returns those that say something else."""
+    doc, told, wrong = path.relative_to(TOP), [], []
+    for first, needs, lines in blocks(path.read_text(encoding="utf-8")):
+        if needs and not is_there(needs):
+            print(f"docs_commands: {doc}:{first}: skipped, {needs} is not there")
+        else:
+            told += commands(first, lines)
+    with tempfile.TemporaryDirectory() as place:
+        folder, kept = pathlib.Path(place) / "run", pathlib.Path(place) / "kept"
+        folder.mkdir(), kept.mkdir(), (kept / "bin").mkdir()
+        (kept / "bin/bufr").symlink_to(program())
+        for name in ("examples", "scripts", "tables"):
+            (folder / name).symlink_to(TOP / name)
+        script = ["export LC_ALL=C.UTF-8"]
+        for number, words, _ in told:
+            (kept / f"{number}.sh").write_text("\n".join(words) + "\n")
+            script.append(f'. "{kept}/{number}.sh" > "{kept}/{number}.out" 2>&1 < /dev/null')
+            script.append(f'echo $? > "{kept}/{number}.status"')
+        environment = {**os.environ, "PATH": f"{kept}/bin:{os.environ['PATH']}"}
+        subprocess.run(["bash", "-c", "\n".join(script)], cwd=folder, env=environment, timeout=300)
+        for number, words, wanted in told:
+            said = (kept / f"{number}.out").read_text(encoding="utf-8", errors="replace").splitlines()
+            status = (kept / f"{number}.status").read_text().strip()
+            said += [f"(status {status})"] * (status != "0")
+            if not alike(wanted, said):
+                wrong.append(f"{doc}:{number}: {words[0]}\nsays\n" + "\n".join(said[:40]))
+    return wrong
+
+
+if __name__ == "__main__":
+    docs = [pathlib.Path(doc).resolve() for doc in sys.argv[2:]] or DOCS
+    finish([wrong for doc in docs for wrong in wrongs(doc)])

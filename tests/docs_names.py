@@ -1,0 +1,150 @@
+#!/usr/bin/env python3
+"""Compares what the docs name with what is there.
+
+    tests/docs_names.py [PROGRAM]
+
+- of all pages: links, paths, the README's length;
+- of docs/guide.md: octets and items of the example files, and the differences from ecCodes;
+- of tables/README.md: the counts of the tables;
+- of the man page: its faults, and, where they are there, that `mandoc` and `groff` do not complain;
+- of tests/README.md: the files of tests/;
+- of the man page and the completions: commands and options.
+"""
+import csv
+import pathlib
+import re
+import shutil
+import subprocess
+
+from lib import DOCS, FAULT, TOP, finish, program
+
+complaints = []
+
+
+def read(name) -> str:
+    return (TOP / name).read_text(encoding="utf-8")
+
+
+def want(holds: bool, complaint: str) -> None:
+    if not holds:
+        complaints.append(complaint)
+
+
+def anchors(path: pathlib.Path) -> set:
+    heads = re.findall(r"^#+ (.*)$", path.read_text(encoding="utf-8"), re.M)
+    return {re.sub(r"[^\w -]", "", head.lower()).replace(" ", "-") for head in heads}
+
+
+def links_and_paths() -> None:
+    """Each link leads somewhere, and each path in the docs that begins with a folder of this tree is there."""
+    folders = "|".join(sorted(path.name for path in TOP.iterdir() if path.is_dir() and path.name != ".git"))
+    for doc in DOCS:
+        text = doc.read_text(encoding="utf-8")
+        for target in re.findall(r"\]\(([^)#]*(?:#[^)]*)?)\)", text):
+            name, _, anchor = target.partition("#")
+            path = (doc.parent / name) if name else doc
+            want(path.exists(), f"{doc.name}: a link to {target}, which is not there")
+            if anchor and path.exists():
+                want(anchor in anchors(path), f"{doc.name}: a link to {target}, which has no such heading")
+        for path in re.findall(rf"`((?:{folders})/[\w./-]+)`", text):
+            built = "/out" in path
+            want(built or (TOP / path).exists(), f"{doc.name}: {path} is not there")
+
+
+def example_files() -> None:
+    """How many octets the files of docs/guide.md have, and of those with a dump how many items, and missing ones."""
+    rows = re.findall(r"^\| `(\w+)\.bufr` \| (\d+) \|.*\| ([^|]*) \|$", read("docs/guide.md"), re.M)
+    there = {path.stem for path in TOP.glob("examples/*.bufr")}
+    want({name for name, *_ in rows} == there, f"docs/guide.md: the example files are {sorted(there)}")
+    for name, octets, told in rows:
+        path = TOP / "examples" / f"{name}.bufr"
+        want(path.exists() and path.stat().st_size == int(octets), f"docs/guide.md: {name} has other than {octets} octets")
+        dump = path.with_suffix(".txt")
+        if dump.exists():
+            subsets = [part.splitlines()[1:] for part in dump.read_text(encoding="utf-8").split("\nsubset ")[1:]]
+            items = [sum(line[:6].isdigit() for line in lines) for lines in subsets]
+            missing = sum(" MISSING" in line for lines in subsets for line in lines)
+            wanted = [*items, missing] if len(set(items)) > 1 or len(items) == 1 else [items[0], sum(items), missing]
+            want(list(map(int, re.findall(r"\d+", told))) == wanted, f"docs/guide.md: {name} has {wanted} items and missing ones")
+
+
+def counts_of_tables() -> None:
+    """How many elements and sequences each set has; a row of a set that is not there is told."""
+    rows = re.findall(r"^\| `(wmo-\d+)` \| [\d, to]+ \| ([\d,]+) \| ([\d,]+) \|$", read("tables/README.md"), re.M)
+    want({name for name, *_ in rows} == {path.name for path in TOP.glob("tables/wmo-[0-9][0-9]")}, "tables/README.md: other sets")
+    for name, *numbers in rows:
+        for file, number in zip(("B.csv", "D.csv"), numbers):
+            path = TOP / "tables" / name / file
+            lines = path.read_text(encoding="utf-8").splitlines() if path.exists() else []
+            there = len({row["fxy"] for row in csv.DictReader(lines)})
+            want(f"{there:,}" == number, f"tables/README.md: {name}/{file} has {there:,} descriptors")
+
+
+def man_page() -> None:
+    """The man page has each fault of docs/texts.md, and nobody complains of it."""
+    page = read("man/bufr.1")
+    faults = set(re.findall(FAULT, read("docs/texts.md"), re.M))
+    told = set()
+    for item in re.findall(r"^\.It (.*)$", page[page.index(".Sh DIAGNOSTICS") :], re.M):
+        told |= set(re.findall(r"(?:^| , )(\d+) ", item))
+    want(faults == told, f"man/bufr.1: of the faults {sorted(faults ^ told)} stand here or in docs/texts.md alone")
+    for command in (["mandoc", "-T", "lint"], ["groff", "-ww", "-mandoc", "-T", "utf8", "-z"]):
+        if shutil.which(command[0]):
+            done = subprocess.run([*command, TOP / "man/bufr.1"], stdout=subprocess.PIPE, stderr=subprocess.STDOUT)
+            want(not done.stdout, f"man/bufr.1: {done.stdout.decode().strip()}")
+
+
+def commands_and_options() -> None:
+    """Each command and option that help has stands in the man page and in both completions."""
+
+    def helped(*words: str) -> str:
+        return subprocess.run([program(), *words, "--help"], stdout=subprocess.PIPE, check=True).stdout.decode()
+
+    texts = {name: read(name) for name in ("man/bufr.1", "completions/bufr.bash", "completions/_bufr")}
+    commands = re.findall(r"^  (\w+)  ", helped().partition("Commands:\n")[2].partition("\n\n")[0], re.M)
+    options = set()
+    for command in commands:
+        if command != "help":
+            options |= set(re.findall(r"(?<!\w)(--?\w+)", helped(command).partition("Options:\n")[2].partition("\n\n")[0]))
+            want(f".Cm {command}\n" in texts["man/bufr.1"], f"man/bufr.1 has no {command}")
+    for name, text in texts.items():
+        for command in commands:
+            want(name == "man/bufr.1" or re.search(rf"\b{command}\b", text) is not None, f"{name} has no {command}")
+        for option in options - {"-h"}:
+            word = f"Fl {option[1:]}" if name == "man/bufr.1" else option
+            known = word in text or name == "man/bufr.1" and f", {option[1:]}" in text
+            want(known, f"{name} has no {option}")
+
+
+def files_of_tests() -> None:
+    """tests/README.md has each file of tests/, and no other."""
+    told = set(re.findall(r"`([\w/]+\.(?:py|sh|c))\b", read("tests/README.md")))
+    for name in told:
+        want((TOP / "tests" / name).exists() or (TOP / name).exists(), f"tests/README.md: {name} is not there")
+    there = {path.name for path in (TOP / "tests").iterdir() if path.suffix in (".py", ".sh", ".c")}
+    want(there <= told, f"tests/README.md does not name {sorted(there - told)}")
+
+
+def differences() -> None:
+    """docs/guide.md has the differences of tests/eccodes/against_eccodes.py, in their order."""
+    rows = re.search(r'DIFFERENCES = """\n(.*?)"""', read("tests/eccodes/against_eccodes.py"), re.S)[1].splitlines()
+    told = re.findall(r"^\| (\d+) \| ([^|]*?) \|", read("docs/guide.md"), re.M)
+    wanted = [(str(number), row.split(" | ")[0]) for number, row in enumerate(rows, 1)]
+    want(told == wanted, "docs/guide.md: the differences are not those of tests/eccodes/against_eccodes.py")
+
+
+def main() -> None:
+    lines = read("README.md").count("\n")
+    want(lines <= 150, f"README.md has {lines} lines, over 150")
+    links_and_paths()
+    example_files()
+    counts_of_tables()
+    man_page()
+    commands_and_options()
+    differences()
+    files_of_tests()
+    finish(complaints)
+
+
+if __name__ == "__main__":
+    main()

@@ -1,0 +1,268 @@
+#!/usr/bin/env python3
+"""Compares `bufr dump` and `bufr encode` with ecCodes, value by value.
+
+    tests/eccodes/against_eccodes.py [COUNT [FIRST]]    random messages: COUNT (1,000 by default) from number FIRST on
+    tests/eccodes/against_eccodes.py FILE..             the messages of these files
+    tests/eccodes/against_eccodes.py --differences      small messages that the two are known to read differently
+
+random_messages.py writes a message and the lines that its dump should have. With those lines two readings are
+compared: what `bufr dump` writes, and what ecCodes writes. Of ecCodes `bufr_dump -jf` gives descriptors, texts and
+scales, `bufr_filter` the sections and numbers in all digits of a double. Then `bufr encode` writes the dump as a
+message again, and ecCodes has to read the same in it. Of files there are no lines to expect; the rest is the same.
+
+A message that differs is kept in tests/out/eccodes, its first difference is told, and the status is 1. PROGRAM=FILE is
+another program than the one that was built. Outside the gate: it wants ecCodes.
+"""
+import collections
+import json
+import os
+import pathlib
+import shutil
+import subprocess
+import sys
+from fractions import Fraction
+from typing import NamedTuple
+
+TESTS = pathlib.Path(__file__).resolve().parent.parent
+sys.path[:0] = [str(TESTS), str(TESTS / "hostile")]
+
+import random_messages
+from lib import BUILT, TABLES, Bits, message, words
+
+PROGRAM = os.environ.get("PROGRAM", str(BUILT))
+KEPT = TESTS / "out/eccodes"
+
+# the keys of ecCodes for the header lines of a dump, in their order; `optional` has none that says the same
+KEYS = """edition masterTableNumber bufrHeaderCentre bufrHeaderSubCentre updateSequenceNumber dataCategory
+internationalDataSubCategory dataSubCategory masterTablesVersionNumber localTablesVersionNumber typicalYear
+typicalMonth typicalDay typicalHour typicalMinute typicalSecond observedData compressedData section2Present
+numberOfSubsets""".split()
+# what stands in their place in edition 3, where it is another key, or nothing, which is 0 in a dump
+KEYS_3 = {
+    "internationalDataSubCategory": "[dataSubCategory]",
+    "dataSubCategory": "0",
+    "typicalYear": "[typicalYearOfCentury]",
+    "typicalSecond": "0",
+}
+MISSING = -1e100
+
+# What the two are known to read differently: what ecCodes 2.28 does, subsets, flags, descriptors, and the data as
+# number:width. In the first thirteen docs/format.md has the choice that `bufr` goes by; the last eight are limits of
+# ecCodes. random_messages.py draws none of them.
+DIFFERENCES = """
+widens a replication factor by 201 | 1 | 80 | 201132 101000 031001 001001 | 2:8 10:11 11:11
+scales a replication factor by 202 | 1 | 80 | 202130 101000 031001 001001 | 2:8 10:7 11:7
+forgets 202 where 207 follows | 1 | 80 | 202129 207001 012101 | 1:20
+does not multiply a redefined reference by 207 | 1 | 80 | 203010 012101 203255 207001 012101 | 5:10 1:20
+drops references where others are redefined | 1 | 80 | 203010 012101 203255 203010 001001 203255 012101 | 5:10 3:10 1:16
+keeps the first of two references for one element | 1 | 80 | 203010 101002 012101 203255 012101 | 5:10 6:10 1:16
+reads no six bits behind a redefined reference | 2 | C0 | 203010 012101 203255 012101 | 5:10 0:6 1:16 0:6
+reads no scale behind 206, whatever Table B says | 1 | 80 | 012101 206016 012101 | 1:16 2:16
+reads all ones in a single bit as 1 | 1 | 80 | 012101 201113 012101 | 3:16 1:1
+reads all ones of class 31 as missing | 1 | 80 | 012101 031012 | 3:16 65535:16
+reads a sum of all ones as a number | 2 | C0 | 001001 | 126:7 2:6 0:2 1:2
+adds increments to an R0 of all ones | 2 | C0 | 001001 | 127:7 2:6 0:2 1:2
+refuses equal increments of a factor | 2 | C0 | 101000 031001 001001 | 1:8 1:6 0:1 0:1 5:7 0:6
+ends without an answer at no subsets | 0 | 80 | 012101 | 0:8
+ends early behind a third delayed group that is empty | 1 | 80 | 105000 031001 103000 031001 101000 031001 001001 | 2:8 1:8 0:8 0:8
+goes on without what a repetition left in force | 1 | 80 | 103000 031001 012101 201130 012101 | 2:8 2:16 3:18 4:18 5:18
+takes in operators of a group that is empty | 1 | 80 | 102000 031001 201130 012101 012101 012101 | 0:8 1:16 2:16
+refuses a delayed group of 100 elements | 1 | 80 | 102000 031001 101100 001001 001001 | 0:8 1:7
+reads sums of compressed data in 32 bits | 2 | C0 | 201144 012101 | 3000000000:32 2:6 0:2 1:2
+reads references in 32 bits | 1 | 80 | 207003 005001 | 1:35
+reads some numbers of more than 57 bits short | 1 | 80 | 001001 201170 012101 | 1:7 288230376151711743:58
+"""
+
+
+class Different(Exception):
+    """Where two readings differ."""
+
+
+class Reading(NamedTuple):
+    """What a dump says: its header's numbers, its descriptors, and each subset's item lines without comments."""
+
+    header: list
+    descriptors: list
+    subsets: list
+
+
+class Foreign(NamedTuple):
+    """What ecCodes says: the header's numbers, and of all subsets, one after another, the numbers and the entries."""
+
+    header: list
+    numbers: list
+    entries: list
+
+
+def run(words: list, given: bytes = b"") -> bytes:
+    """The output of a command; a refusal is told as a difference."""
+    done = subprocess.run(words, input=given, stdout=subprocess.PIPE, stderr=subprocess.PIPE)
+    if done.returncode != 0:
+        told = done.stderr.decode("latin-1").strip().splitlines()
+        raise Different(f"{pathlib.Path(words[0]).name} {words[1]}: {told[0] if told else done.returncode}")
+    return done.stdout
+
+
+def ours(text: bytes) -> Reading:
+    header, descriptors, subsets = [], [], []
+    for line in text.decode("latin-1").splitlines():
+        word, _, rest = line.partition(" ")
+        if word == "subset":
+            subsets.append([])
+        elif subsets and word != "end":
+            value, quote, comment = line.rpartition('"')
+            subsets[-1].append(value + quote + comment.split("  # ")[0])
+        elif word == "descriptors":
+            descriptors += rest.split()
+        elif rest.isdigit() and word not in ("local1", "section2"):
+            header.append(int(rest))
+    return Reading(header, descriptors, subsets)
+
+
+def theirs(path: pathlib.Path) -> Foreign:
+    flat = json.loads(run(["bufr_dump", "-jf", str(path)]).decode("latin-1"), strict=False)["messages"]
+    others = KEYS_3 if path.read_bytes()[7] == 3 else {}
+    shown = [others.get(key, f"[{key}]") for key in KEYS]
+    rules = "set unpack = 1; " + " ".join(f'print "{each}";' for each in shown) + ' print "[numericValues!9%.17g]";'
+    told = run(["bufr_filter", "-", str(path)], rules.encode()).decode().split()
+    header = [int(number) for number in told[: len(KEYS)]]
+    entries = [entry for entry in flat if entry["key"] != "subsetNumber"]
+    compressed, subsets = header[-3], header[-1]
+    entries = [chosen(entry, subset) for subset in range(subsets if compressed else 1) for entry in entries]
+    return Foreign(header, [float(number) for number in told[len(KEYS) :]], entries)
+
+
+def chosen(entry: dict, subset: int) -> dict:
+    """The entry of one subset: the value of compressed data is one for all subsets, or a list. Texts are trimmed."""
+    value = entry["value"][subset] if isinstance(entry["value"], list) else entry["value"]
+    return {**entry, "value": value.rstrip() if isinstance(value, str) else value}
+
+
+def is_text(entry: dict) -> bool:
+    """Whether an entry is a text; its number is then a mark, 1000 times its place and its length."""
+    return entry.get("units") == "CCITT IA5" or entry.get("key") == "text"
+
+
+def same_number(token: str, number: float, entry: dict) -> bool:
+    """Whether a double is the decimal but for its rounding, which is that of (raw + reference) / 10^scale."""
+    exact, reference = Fraction(token), Fraction(entry.get("reference", 0)) / Fraction(10) ** entry.get("scale", 0)
+    return abs(Fraction(number) - exact) <= (abs(exact) + 2 * abs(reference)) / 2**51
+
+
+def same_item(line: str, number: float, entry: dict, tally: collections.Counter) -> bool:
+    """Whether ecCodes says of an item what its line says."""
+    fxy, token = line.split(" ", 1)
+    if entry.get("code", fxy) != fxy:
+        return False
+    if token == "MISSING":
+        tally["missing"] += 1
+        return entry.get("value") is None and (is_text(entry) or number == MISSING)
+    if token.startswith('"'):
+        tally["texts"] += 1
+        return is_text(entry) and entry["value"] == token[1:-1].rstrip() and number % 1000 == len(token) - 2
+    tally["numbers"] += 1
+    digits = len(token.partition(".")[2])
+    return digits == max(0, entry.get("scale", 0)) and same_number(token, number, entry)
+
+
+def compare(reading: Reading, foreign: Foreign, tally: collections.Counter) -> None:
+    """Compares all values of a dump with those of ecCodes, which shows no redefined references."""
+    if reading.header != foreign.header:
+        raise Different(f"header {reading.header}, ecCodes {foreign.header}")
+    numbers, entries = iter(foreign.numbers), iter(foreign.entries)
+    for count, lines in enumerate(reading.subsets, 1):
+        for line in lines:
+            if line.startswith("R "):
+                tally["references"] += 1
+                continue
+            number = next(numbers, None)
+            entry = {} if is_local(line) else next(entries, None)
+            if number is None or entry is None or not same_item(line, number, entry, tally):
+                raise Different(f"subset {count}: {line}, ecCodes {number} {entry}")
+    if next(numbers, None) is not None or next(entries, None) is not None:
+        raise Different("ecCodes has more items")
+    tally["subsets"] += len(reading.subsets)
+    tally["compressed messages"] += reading.header[-3]
+    tally[f"messages of edition {reading.header[0]}"] += 1
+    for operator in {fxy[:3] for fxy in reading.descriptors if fxy[0] == "2"}:
+        tally[f"messages with {operator}"] += 1
+
+
+def is_local(line: str) -> bool:
+    """Whether the item is of a descriptor for local use, of which ecCodes shows the number alone."""
+    return line[0] == "0" and (line[1:3] >= "48" or line[3:6] >= "192")
+
+
+def check(octets: bytes, expected, path: pathlib.Path, tally: collections.Counter) -> None:
+    """All comparisons of one message, which is written to the file."""
+    path.write_bytes(octets)
+    text = run([PROGRAM, "dump", *TABLES, str(path)])
+    reading = ours(text)
+    if expected is not None and reading.subsets != expected:
+        pairs = [(a, b) for a, b in zip(sum(reading.subsets, []), sum(expected, [])) if a != b]
+        raise Different(f"bufr dump: not what was written: {pairs[:1]}")
+    foreign = theirs(path)
+    compare(reading, foreign, tally)
+    again = run([PROGRAM, "encode", *TABLES], text)
+    if again != octets:
+        encoded = path.with_suffix(".encoded.bufr")
+        encoded.write_bytes(again)
+        if theirs(encoded) != foreign:
+            raise Different("ecCodes reads something else in what bufr encode wrote")
+        tally["encoded to other octets"] += 1
+
+
+def of_file(name: str):
+    """The messages of a file that `bufr ls` lists, with their names."""
+    octets = pathlib.Path(name).read_bytes()
+    listed = subprocess.run([PROGRAM, "ls", name], stdout=subprocess.PIPE, stderr=subprocess.DEVNULL).stdout
+    for line in listed.decode().splitlines():
+        start, length = (int(word.split("=")[1]) for word in line.split()[:2])
+        yield f"{pathlib.Path(name).stem}-{start}", octets[start : start + length], None
+
+
+def at_random(count: int = 1000, first: int = 0):
+    for number in range(first, first + count):
+        drawn = random_messages.message(number)
+        yield f"random-{number}", drawn.octets, drawn.lines
+
+
+def known_differences():
+    for what, subsets, flags, descriptors, data in (row.split(" | ") for row in DIFFERENCES.strip().splitlines()):
+        bits = Bits()
+        for number, width in (item.split(":") for item in data.split()):
+            bits.put(int(number), int(width))
+        yield f"ecCodes {what}", message(bits.octets(), words(descriptors), int(subsets), int(flags, 16)), None
+
+
+def messages(asked: list):
+    if asked == ["--differences"]:
+        return known_differences()
+    if asked and not asked[0].isdigit():
+        return (one for name in asked for one in of_file(name))
+    return at_random(*map(int, asked))
+
+
+def main() -> None:
+    asked = sys.argv[1:]
+    for needed in (PROGRAM, "bufr_dump", "bufr_filter"):
+        if shutil.which(needed) is None:
+            sys.exit(f"{needed} is not there")
+    KEPT.mkdir(parents=True, exist_ok=True)
+    tally, alike, differ = collections.Counter(), 0, 0
+    for name, octets, expected in messages(asked):
+        path = KEPT / (name.replace(" ", "-") + ".bufr")
+        try:
+            check(octets, expected, path, tally)
+            path.unlink()
+            path.with_suffix(".encoded.bufr").unlink(missing_ok=True)
+            alike += 1
+        except Different as difference:
+            differ += 1
+            print(f"{name}: {difference}", flush=True)
+    print(f"{alike} messages read alike, {differ} not; " + ", ".join(f"{tally[key]} {key}" for key in sorted(tally)))
+    sys.exit((alike if asked == ["--differences"] else differ) > 0)
+
+
+if __name__ == "__main__":
+    main()

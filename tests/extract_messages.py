@@ -1,0 +1,145 @@
+#!/usr/bin/env python3
+"""Tries scripts/bufr-extract: which messages of a made stream it takes, what it refuses, and how long it takes.
+
+    tests/extract_messages.py [PROGRAM]
+
+Each condition is given over a file, over standard input as a file, and over a pipe: the same messages must come, with the
+fault lines and the status of `bufr ls`. Of 100,000 messages of 10 KB it must take at most twice the seconds of `bufr ls`.
+The two take turns, and the least seconds of each count: of fifteen rounds, or of fewer where these do.
+"""
+import os
+import pathlib
+import subprocess
+import sys
+import tempfile
+import time
+
+import lib
+from lib import TOP, want
+
+EXTRACT = TOP / "scripts/bufr-extract"
+HEADING = b"\x01\r\r\n123\r\r\nISMD01 EDZW 221200\r\r\n"
+
+
+def made(number: int, octets: int = 8) -> bytes:
+    """A message of that many data octets: its number gives its category, 0 to 4, centre, 98 or 74, and day, 1 to 28."""
+    message = bytearray(lib.message(bytes(octets + number % 7), subsets=1 + number % 3))
+    message[8 + 5] = (98, 74)[number // 5 % 2]
+    message[8 + 10] = number % 5
+    message[8 + 18] = 1 + number % 28
+    return bytes(message)
+
+
+# a condition's words, and which messages (number, octets) meet it
+CONDITIONS = [
+    ([], lambda n, m: True),
+    (["category=0"], lambda n, m: n % 5 == 0),
+    (["category=0/0/0"], lambda n, m: n % 5 == 0),
+    (["category=0/1"], lambda n, m: False),
+    (["category!=0,3"], lambda n, m: n % 5 not in (0, 3)),
+    (["category=1,2", "centre!=98"], lambda n, m: n % 5 in (1, 2) and n // 5 % 2 == 1),
+    (["centre=9"], lambda n, m: False),
+    (["time=2024-01-07"], lambda n, m: n % 28 == 6),
+    (["subsets!=1", "time!=2024-01-07T03"], lambda n, m: n % 3 != 0 and n % 28 != 6),
+    (["descriptors=1"], lambda n, m: True),
+    (["length=55,56"], lambda n, m: len(m) in (55, 56)),
+    (["--awk", 'value["length"] > 56 && $6 ~ /=[34]\\//'], lambda n, m: len(m) > 56 and n % 5 > 2),
+    (["--awk", "/ category=4/", "centre=74"], lambda n, m: n % 5 == 4 and n // 5 % 2 == 1),
+]
+# words that are refused with status 2, and what is told
+REFUSED = [
+    (["categori=0"], "no key categori"),
+    (["category=land"], "no value of a listing"),
+    (["category="], "no value of a listing"),
+    (["--awk", "1)"], "awk does not take the condition"),
+    (["--all"], "no option --all"),
+    (["one", "two"], "one file a call"),
+    (["nosuch"], "cannot open nosuch"),
+    (["/"], "read failed"),
+]
+
+
+def run(words: list, **streams) -> subprocess.CompletedProcess:
+    streams.setdefault("stdout", subprocess.PIPE)
+    return subprocess.run([sys.executable, EXTRACT, *words], stderr=subprocess.PIPE, **streams)
+
+
+def takes_what_is_asked(program: str, path: pathlib.Path) -> None:
+    messages = [made(number) for number in range(300)]
+    # a message of edition 2 and a stray word among them, and a message that is cut at the end
+    refused = [messages[7][:7] + b"\x02" + messages[7][8:], b"BUFR\0\0\x40\x04" + bytes(60)]
+    path.write_bytes(
+        b"".join(HEADING + message + refused[n % 2] * (n % 50 == 9) for n, message in enumerate(messages))
+        + messages[0][:30]
+    )
+    listed = subprocess.run([program, "ls", path], stdout=subprocess.PIPE, stderr=subprocess.PIPE)
+    want(listed.returncode == 1 and listed.stdout.count(b"\n") == 300, "the made stream has other messages")
+    for words, meets in CONDITIONS:
+        wanted = b"".join(message for number, message in enumerate(messages) if meets(number, message))
+        with open(path, "rb") as stream:
+            stream.seek(len(HEADING))
+            runs = {
+                "a file": run([*words, path]),
+                "standard input": run(words, stdin=stream),
+                "a pipe": run(words, input=path.read_bytes()),
+            }
+        for name, done in runs.items():
+            want(done.stdout == wanted, f"{words} over {name} takes other messages")
+            if name != "standard input":  # which stands behind the first heading: other offsets
+                want(
+                    (done.returncode, done.stderr) == (1, listed.stderr),
+                    f"{words} over {name}: {done.returncode}, {done.stderr}",
+                )
+
+
+def refuses_what_it_cannot(path: pathlib.Path) -> None:
+    for words, told in REFUSED:
+        done = run(words, stdin=subprocess.DEVNULL)
+        want(
+            done.returncode == 2 and not done.stdout and told in done.stderr.decode(), f"{words} is told {done.stderr}"
+        )
+    path.write_bytes(made(1))
+    with open("/dev/full", "wb") as full:
+        done = run([path], stdout=full)
+    want(done.returncode == 2 and b"bufr-extract: write failed" in done.stderr, "a full device is not told")
+    want(run(["--help"]).returncode == 0, "--help gives no help")
+    want(run([path, "category=9"]).returncode == 0, "no message to take is a fault")
+
+
+def takes_at_most_twice_the_time(program: str, folder: pathlib.Path) -> None:
+    path, output = folder / "long.bufr", folder / "output"
+    pieces = b"".join(made(number, 10_000) for number in range(100))
+    with path.open("wb") as stream:
+        for _ in range(1000):
+            stream.write(pieces)
+    commands = {"ls": [program, "ls", path], "extract": [sys.executable, EXTRACT, "category=3", "subsets!=1", path]}
+    least = dict.fromkeys(commands, 1e9)
+    for _ in range(15):
+        if least["extract"] <= 2 * least["ls"] < 1e9:
+            break
+        for name, words in commands.items():
+            with output.open("wb") as out:
+                begin = time.monotonic()
+                subprocess.run(words, stdout=out, check=True)
+                least[name] = min(least[name], time.monotonic() - begin)
+    want(
+        output.stat().st_size == 1000 * sum(len(made(n, 10_000)) for n in range(100) if n % 5 == 3 and n % 3),
+        "other octets of the long stream",
+    )
+    told = f"{least['extract']:.2f} s for 100,000 messages in 1 GB, `bufr ls` {least['ls']:.2f} s"
+    print(f"extract_messages: {told}")
+    want(least["extract"] <= 2 * least["ls"], f"over twice the time: {told}")
+
+
+def main() -> None:
+    program = lib.program()
+    os.environ["BUFR"] = program
+    with tempfile.TemporaryDirectory() as place:
+        folder = pathlib.Path(place)
+        takes_what_is_asked(program, folder / "stream.bufr")
+        refuses_what_it_cannot(folder / "one.bufr")
+        takes_at_most_twice_the_time(program, folder)
+
+
+if __name__ == "__main__":
+    main()

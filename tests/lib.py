@@ -1,0 +1,76 @@
+"""What the tests in Python share: the program, tables, how a test ends, and messages that are put together by hand."""
+import pathlib
+import sys
+
+TOP = pathlib.Path(__file__).resolve().parent.parent
+BUILT = TOP / "crates/bufr/out/bufr"
+FAULT = r"^\| `(?:bufr: )?(\d+) "  # the row of a fault in docs/texts.md
+PAGES = ["README.md", "CONTRIBUTING.md", "bench/README.md", "tables/README.md", "tests/README.md"]
+DOCS = [*(TOP / page for page in PAGES), *sorted((TOP / "docs").glob("*.md"))]
+TABLES = ["-B", str(TOP / "tables/wmo-39/B.csv"), "-D", str(TOP / "tables/wmo-39/D.csv")]
+
+
+def program() -> str:
+    """The program that a test is called with, or else the one that was built."""
+    return str(pathlib.Path(sys.argv[1] if len(sys.argv) > 1 else BUILT).resolve())
+
+
+def finish(wrongs: list) -> None:
+    """Ends a test: prints what is wrong, with the name of the test."""
+    test = pathlib.Path(sys.argv[0]).resolve().relative_to(TOP)
+    for wrong in wrongs:
+        print(f"{test}: {wrong}", file=sys.stderr)
+    sys.exit(bool(wrongs))
+
+
+def want(holds: bool, wrong: str) -> None:
+    """Ends a test at once where something does not hold."""
+    if not holds:
+        finish([wrong])
+
+
+# Section 1 of each edition, with one octet for local use in edition 3.
+SECTION_1 = {
+    3: bytes.fromhex("000012000062000000000E00180102030400"),
+    4: bytes.fromhex("000016000062000000000000000E0007E80102030405"),
+}
+
+
+def section(content: bytes, edition: int) -> bytes:
+    """A section with its length; in edition 3 a zero octet makes it even."""
+    content += b"\0" * (edition == 3 and len(content) % 2 == 0)
+    return (len(content) + 3).to_bytes(3, "big") + content
+
+
+def message(data: bytes, descriptors: bytes = b"\x01\x01", subsets: int = 1, flags: int = 0x80, edition: int = 4) -> bytes:
+    """A message with least lengths and no optional section."""
+    three = section(b"\0" + subsets.to_bytes(2, "big") + bytes([flags]) + descriptors, edition)
+    body = SECTION_1[edition] + three + section(b"\0" + data, edition) + b"7777"
+    return b"BUFR" + (8 + len(body)).to_bytes(3, "big") + bytes([edition]) + body
+
+
+def asking(message: bytes, version: int, local: int = 0, centre: int = 98) -> bytes:
+    """A message of edition 4, but of this centre, and asking for this version and this local version."""
+    return message[:12] + centre.to_bytes(2, "big") + message[14:21] + bytes([version, local]) + message[23:]
+
+
+def words(text: str) -> bytes:
+    """Descriptors, six digits each, as section 3 has them."""
+    return b"".join((int(d[0]) << 14 | int(d[1:3]) << 8 | int(d[3:])).to_bytes(2, "big") for d in text.split())
+
+
+class Bits:
+    """Bits that are put together, the first ones first."""
+
+    def __init__(self) -> None:
+        self.value, self.count, self.done = 0, 0, bytearray()
+
+    def put(self, number: int, width: int) -> None:
+        self.value, self.count = self.value << width | number, self.count + width
+        while self.count >= 8:
+            self.count -= 8
+            self.done.append(self.value >> self.count)
+            self.value &= (1 << self.count) - 1
+
+    def octets(self) -> bytes:
+        return bytes(self.done) + (bytes([self.value << 8 - self.count]) if self.count else b"")

@@ -1,0 +1,45 @@
+# shellcheck shell=bash
+# What the tests in shell share. A test sources this file with its own arguments: the program is the first of them.
+# It goes to the top of the repository, and makes a folder $work that goes with the test.
+set -eu -o pipefail
+bufr=$(realpath "${1:-"$(dirname "${BASH_SOURCE[0]}")/../crates/bufr/out/bufr"}")
+cd "$(dirname "${BASH_SOURCE[0]}")/.."
+tables=(-B tables/wmo-39/B.csv -D tables/wmo-39/D.csv)
+work=$(mktemp -d)
+trap 'rm -r "$work"' EXIT
+
+# fail TEXT: ends the test.
+fail() {
+    echo "$0: $1" >&2
+    exit 1
+}
+
+# run WORD..: the program's output and errors are in $work, its status is $status.
+run() {
+    status=0
+    "$bufr" "$@" > "$work/output" 2> "$work/errors" || status=$?
+}
+
+# gives STATUS OUTPUT ERRORS WORD..: the program has this status, output and errors.
+gives() {
+    local wanted=$1 output=$2 errors=$3
+    shift 3
+    run "$@" < /dev/null
+    [ "$status" -eq "$wanted" ] || fail "bufr $*: status $status, not $wanted"
+    printf %s "$output" | diff - "$work/output" || fail "bufr $*: another output"
+    printf %s "$errors" | diff - "$work/errors" || fail "bufr $*: other errors"
+}
+
+# is_prefix FILE WHOLE: the file is the beginning of another one.
+is_prefix() {
+    cmp -n "$(stat -c %s "$1")" "$1" "$2"
+}
+
+# ends STATUS LINE WHOLE WORD..: the program has this status, this last line of errors, and a prefix of that output.
+ends() {
+    local wanted=$1 line=$2 whole=$3
+    shift 3
+    run "$@"
+    [ "$status" -eq "$wanted" ] && [ "$(tail -n 1 "$work/errors")" = "$line" ] && is_prefix "$work/output" "$whole" ||
+        fail "bufr $*: status $status, $(tail -n 1 "$work/errors")"
+}

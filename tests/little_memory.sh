@@ -1,0 +1,32 @@
+#!/usr/bin/env bash
+# Each command in little memory: from too little for the loader up to enough, in steps of 16 KiB.
+# Once the program is loaded its answer is whole, or it ends with 73 and status 2 after a prefix of both outputs.
+set -eu
+. "$(dirname "$0")/lib.sh"
+
+# grows WORD..: runs the program in more and more memory, until its answer is whole.
+grows() {
+    local limit=2048 loaded='' wanted=0
+    "$bufr" "$@" > "$work/whole" 2> "$work/faults" || wanted=$?
+    while true; do
+        status=0
+        (ulimit -v "$limit" && exec "$bufr" "$@") > "$work/output" 2> "$work/errors" || status=$?
+        [ "$status" -eq "$wanted" ] && cmp -s "$work/whole" "$work/output" && cmp -s "$work/faults" "$work/errors" && break
+        [ "$limit" -lt 65536 ] || fail "bufr $1: no whole answer in 64 MiB"
+        if [ "$status" -eq 2 ] && [ "$(tail -n 1 "$work/errors")" = 'bufr: 73 out of memory' ]; then
+            loaded=1
+            head -n -1 "$work/errors" > "$work/before"
+            is_prefix "$work/output" "$work/whole" && is_prefix "$work/before" "$work/faults" ||
+                fail "bufr $1 in $limit KiB: no prefix of its answer"
+        else
+            [ -z "$loaded" ] || fail "bufr $1 in $limit KiB: status $status, $(< "$work/errors")"
+        fi
+        limit=$((limit + 16))
+    done
+    [ -n "$loaded" ] || fail "bufr $1: never tells want of memory"
+    echo "little_memory: bufr $1 has its whole answer in $limit KiB"
+}
+
+grows ls examples/bulletins.bufr
+grows dump "${tables[@]}" examples/synop.bufr
+grows encode "${tables[@]}" examples/synop.txt

@@ -1,0 +1,42 @@
+#!/usr/bin/env python3
+"""Finds public types and definitions whose name another crate has for another idea.
+
+    tests/names.py
+
+It looks at `pub struct`, `pub enum` and `pub trait` of src/, and at what is public in specs/. A type and its own
+definition in one crate share a name. No relation's name ends in `So`.
+"""
+import collections
+import re
+import sys
+
+from lib import TOP
+
+# The same idea in each crate: a result handed on to the next step.
+SHARED = {"and_then", "◌>>=◌"}
+
+TYPE = re.compile(r"^pub (?:struct|enum|trait) (\w+)", re.M)
+DEFINITION = re.compile(r"^(?:abbrev |unfoldable |rec )*pub (?:abbrev |data |record |unfoldable |rec )*([^\s:]+)", re.M)
+
+
+def names() -> dict:
+    """Each name with the crates and the files that define it."""
+    found = collections.defaultdict(lambda: collections.defaultdict(set))
+    for path in sorted(TOP.glob("crates/*/src/**/*.rt")) + sorted(TOP.glob("crates/*/specs/*.antt")):
+        pattern = TYPE if path.suffix == ".rt" else DEFINITION
+        crate, file = path.relative_to(TOP).parts[1], str(path.relative_to(TOP))
+        for name in pattern.findall(path.read_text()):
+            if crate != "bufr_tests" and name not in ("mod", "use"):
+                found[name][crate].add(file)
+    return found
+
+
+wrong = []
+for name, crates in names().items():
+    if len(crates) > 1 and name not in SHARED:
+        wrong.append(f"{name} is defined in {', '.join(sorted(set().union(*crates.values())))}")
+    if re.search(r"[a-z]So$", name):
+        wrong.append(f"{name} does not say what holds")
+for line in wrong:
+    print(f"names: {line}", file=sys.stderr)
+sys.exit(bool(wrong))

@@ -1,0 +1,87 @@
+#!/usr/bin/env python3
+"""The commands of tables/NEW-VERSION.md make a set of a version 99 that is made up, and tell what differs.
+
+    tests/next_version.py [PROGRAM]
+
+The version is that of wmo-39, in WMO's layout, with an element and a sequence more, and a width that changed.
+"""
+import csv
+import os
+import pathlib
+import re
+import shutil
+import subprocess
+import sys
+import tempfile
+
+import lib
+from lib import TOP, finish, program
+
+PAGE = TOP / "tables/NEW-VERSION.md"
+HEADER_B = (
+    "ClassNo,ClassName_en,FXY,ElementName_en,Note_en,BUFR_Unit,BUFR_Scale,BUFR_ReferenceValue,BUFR_DataWidth_Bits,"
+    "CREX_Unit,CREX_Scale,CREX_DataWidth_Char,Status"
+).split(",")
+HEADER_D = (
+    "Category,CategoryOfSequences_en,FXY1,Title_en,SubTitle_en,FXY2,ElementName_en,ElementDescription_en,Note_en,Status"
+).split(",")
+TOLD = """\
+wmo-39 to wmo-99
+  elements changed: 1: 015083
+  elements gone: 0
+  elements new: 1
+  sequences changed: 0
+  sequences gone: 0
+  sequences new: 1
+"""
+
+
+def wmo_csv(folder: pathlib.Path) -> None:
+    """WMO's files of version 99: one for each class of elements, and for each category of sequences."""
+    folder.mkdir()
+    with open(TOP / "tables/wmo-39/B.csv", newline="") as file:
+        elements = [*csv.reader(file)][1:]
+    with open(TOP / "tables/wmo-39/D.csv", newline="") as file:
+        sequences = [*csv.reader(file)][1:]
+    next(row for row in elements if row[0] == "015083")[5] = "12"
+    elements.append(["043001", "Made up for version 99", "Numeric", "0", "0", "8"])
+    sequences += [["301190", "001001"], ["301190", "043001"]]
+    files = {}
+    for fxy, name, unit, *numbers in elements:
+        row = [fxy[1:3], "", fxy, name, "", unit, *numbers, "", "", "", "Operational"]
+        files.setdefault(f"BUFRCREX_TableB_en_{fxy[1:3]}.csv", [HEADER_B]).append(row)
+    for fxy, member in sequences:
+        row = [fxy[1:3], "", fxy, "", "", member, "", "", "", "Operational"]
+        files.setdefault(f"BUFR_TableD_en_{fxy[1:3]}.csv", [HEADER_D]).append(row)
+    for name, rows in files.items():
+        with open(folder / name, "w", newline="", encoding="utf-8-sig") as file:
+            csv.writer(file).writerows(rows)
+
+
+def main() -> None:
+    text, complaints = PAGE.read_text(), []
+    if len(text.split()) > 200:
+        complaints.append(f"the page has {len(text.split())} words, more than 200")
+    commands = "".join(re.findall(r"```sh\n(.*?)```", text, re.S))
+    with tempfile.TemporaryDirectory() as folder:
+        place = pathlib.Path(folder)
+        shutil.copytree(TOP / "tables", place / "tables")
+        wmo_csv(place / "wmo-csv")
+        done = subprocess.run(["sh", "-eu", "-c", commands], cwd=place, capture_output=True, text=True)
+        if (done.returncode, done.stdout, done.stderr) != (0, TOLD, ""):
+            complaints.append(f"the page's commands: {done}")
+        bits = lib.Bits()
+        bits.put(7, 7)
+        bits.put(99, 8)
+        message = lib.asking(lib.message(bits.octets(), lib.words("301190")), 99)
+        environment = {**os.environ, "BUFR": program(), "BUFR_TABLES": str(place / "tables")}
+        words = [sys.executable, TOP / "scripts/bufr-auto"]
+        done = subprocess.run(words, input=message, capture_output=True, env=environment)
+        items = b"\n001001 7  # WMO BLOCK NUMBER [Numeric]\n043001 99  # Made up for version 99 [Numeric]\nend\n"
+        if not done.stdout.endswith(items) or done.stderr or done.returncode:
+            complaints.append(f"a message of version 99: {done}")
+    finish(complaints)
+
+
+if __name__ == "__main__":
+    main()

@@ -1,0 +1,134 @@
+#!/usr/bin/env python3
+"""Tries scripts/bufr-parallel: the same text, fault lines and status as by one `bufr dump` of the same stream.
+
+    tests/parallel_dump.py [PROGRAM]
+
+The made stream has headings, strays, and messages that are refused for their sections or their data. A word in it states
+more octets than its part has. It is given as one file, as three files cut inside a message, and over a pipe, to one
+to five processes. Then it is told how long one and four processes take for a longer stream.
+"""
+import os
+import pathlib
+import subprocess
+import sys
+import tempfile
+import time
+
+import lib
+from lib import TABLES, TOP, want
+
+PARALLEL = [sys.executable, TOP / "scripts/bufr-parallel"]
+
+
+def run(words: list, **streams) -> tuple:
+    done = subprocess.run(words, stdout=subprocess.PIPE, stderr=subprocess.PIPE, **streams)
+    return done.returncode, done.stdout, done.stderr
+
+
+def made_stream() -> bytes:
+    """Some 6,000 pieces: most are messages, some of them alone and some one behind another."""
+    good = [lib.message(bytes([20] * (40 + 90 * n)), lib.words(f"1010{40 + n} 001001"), 1) for n in range(5)]
+    data_end = lib.message(b"\x14", b"\x01\x01", 3)
+    unknown = lib.message(b"\x14", lib.words("063255"))
+    edition_2 = good[0][:7] + b"\x02" + good[0][8:]
+    # to one process of the whole stream this is `3 no end`, and its end lies in another part
+    word = b"BUFR\x03\x00\x00\x04"
+    pieces = []
+    for n in range(6000):
+        pieces.append(good[n % 5])
+        pieces.append({7: b"\r\r\nHEADING\r\r\n", 31: data_end, 53: unknown, 71: edition_2, 89: word}.get(n % 97, b""))
+    return b"".join(pieces) + good[0][:40]
+
+
+def same_as_one_run(program: str, folder: pathlib.Path) -> None:
+    octets = made_stream()
+    path = folder / "stream.bufr"
+    path.write_bytes(octets)
+    third = len(octets) // 3
+    files = [folder / name for name in "abc"]
+    for number, file in enumerate(files):
+        file.write_bytes(octets[third * number : third * (number + 1) if number < 2 else len(octets)])
+    one = run([program, "dump", *TABLES, path])
+    faults = set(line.split(b": ")[1][:2] for line in one[2].splitlines())
+    want(one[0] == 1 and faults == {b"1 ", b"3 ", b"10", b"20", b"30"}, f"the made stream has other faults: {faults}")
+    for processes in "12345":
+        words = [*PARALLEL, "-P", processes, "dump", *TABLES]
+        want(run([*words, path]) == one, f"a file by {processes} processes is not as by one")
+    want(run([*PARALLEL, "dump", *TABLES, *files]) == one, "three files are not as one stream")
+    want(run([*PARALLEL, "dump", *TABLES], input=octets) == one, "a pipe is not as a file")
+    small = folder / "small.bufr"
+    small.write_bytes(octets[:500])
+    many = run([program, "dump", *TABLES], input=octets[:500] * 1500)
+    want(run([*PARALLEL, "dump", *TABLES, *[small] * 1500]) == many, "1,500 files are not as one stream")
+    with (folder / "text").open("ab") as text:
+        subprocess.run([*PARALLEL, "dump", *TABLES, path], stdout=text, stderr=subprocess.DEVNULL)
+    want((folder / "text").read_bytes() == one[1], "onto the end of a file something else is written")
+    empty = run([*PARALLEL, "dump", *TABLES], stdin=subprocess.DEVNULL)
+    want(empty == (0, b"", b""), f"of nothing comes {empty}")
+
+
+def tells_what_fails(program: str, folder: pathlib.Path) -> None:
+    path = folder / "stream.bufr"
+    swapped = ["-B", TABLES[3], "-D", TABLES[1]]
+    want(
+        run([*PARALLEL, "dump", *swapped, path]) == run([program, "dump", *swapped, path]),
+        "swapped tables are told otherwise",
+    )
+    want(
+        run([*PARALLEL, "dump", *TABLES, "nosuch"]) == (2, b"", b"bufr-parallel: cannot open nosuch\n"),
+        "a missing file is told otherwise",
+    )
+    for words in (["ls", path], ["dump", path], ["-P", "0", "dump", *TABLES, path]):
+        status, output, _ = run([*PARALLEL, *words])
+        want(status == 2 and not output, f"{words} is taken")
+    with open("/dev/full", "wb") as full:
+        done = subprocess.run([*PARALLEL, "dump", *TABLES, path], stdout=full, stderr=subprocess.PIPE)
+    want(done.returncode == 2 and b"bufr-parallel: " in done.stderr, "a full device is not told")
+    # a process that fails: what stands before its part is written, its line is told, and nothing behind
+    failing = folder / "failing"
+    failing.write_text(
+        f'#!/bin/sh\n[ "$1" = ls ] && exec {program} ls\ncat > $$.part\n{program} "$@" < $$.part\n'
+        "status=$?\n[ $(wc -c < $$.part) -eq 0 ] || grep -q HEADING2 $$.part || exit $status\n[ ! -s $$.part ] && exit 0\n"
+        "echo 'bufr: 73 out of memory' >&2\nexit 2\n"
+    )
+    failing.chmod(0o755)
+    message = lib.message(bytes(60_000))
+    marked = lib.message(b"HEADING2" + bytes(60_000))
+    (folder / "marked.bufr").write_bytes(message * 4 + marked + message * 4)
+    status, output, errors = run(
+        [*PARALLEL, "-P", "2", "dump", *TABLES, "marked.bufr"], cwd=folder, env={**os.environ, "BUFR": str(failing)}
+    )
+    want(
+        (status, output.count(b"\nend\n"), errors) == (2, 5, b"bufr: 73 out of memory\n"),
+        f"a failed process ends with {status}, {errors}",
+    )
+
+
+def gain(program: str, folder: pathlib.Path) -> None:
+    report = lib.message(bytes(range(250)) * 40, lib.words("101250 012101 101250 012101"), 10)
+    path = folder / "long.bufr"
+    path.write_bytes(report * 2000)
+    least = {}
+    for _ in range(2):
+        for name, words in {"one": [program], "four": [*PARALLEL, "-P", "4"]}.items():
+            with (folder / "output").open("wb") as output:
+                begin = time.monotonic()
+                subprocess.run([*words, "dump", *TABLES, path], stdout=output, check=True)
+                least[name] = min(least.get(name, 1e9), time.monotonic() - begin)
+    size = (folder / "output").stat().st_size >> 20
+    print(
+        f"parallel_dump: {path.stat().st_size >> 20} MB to {size} MB of text: one process {least['one']:.2f} s, four {least['four']:.2f} s"
+    )
+
+
+def main() -> None:
+    program = lib.program()
+    os.environ["BUFR"] = program
+    with tempfile.TemporaryDirectory() as place:
+        same_as_one_run(program, pathlib.Path(place))
+        tells_what_fails(program, pathlib.Path(place))
+        gain(program, pathlib.Path(place))
+
+
+if __name__ == "__main__":
+    main()

@@ -1,0 +1,56 @@
+#!/usr/bin/env bash
+# Each example comes back: its text is encoded to the same octets, and those have the same text.
+# In the form that it does not have its text differs by the lines `compressed` alone, and changed back it is as it was.
+set -eu
+. "$(dirname "$0")/lib.sh"
+
+# messages FILE: the messages of a file, without what is between them.
+messages() {
+    { "$bufr" ls "$1" 2> /dev/null || true; } | while read -r offset length _; do
+        dd if="$1" bs=1 skip="${offset#offset=}" count="${length#length=}" status=none
+    done
+}
+
+# in_form WORD TEXT: the text of a text's messages in that form.
+in_form() {
+    "$bufr" encode "${tables[@]}" --form "$1" "$2" > "$work/in_form" && "$bufr" dump "${tables[@]}" "$work/in_form"
+}
+
+# comes_in FORM TEXT WANTED: in that form a text is the one that is wanted.
+comes_in() {
+    in_form "$1" "$2" | cmp - "$3" || fail "$file: its $1 form is another"
+}
+
+# comes_in_both: so does the text in $work, and each form of it in the other.
+comes_in_both() {
+    sed 's/^compressed [01]$/compressed 0/' "$work/text" > "$work/plain"
+    sed 's/^compressed [01]$/compressed 1/' "$work/text" > "$work/compressed"
+    comes_in plain "$work/text" "$work/plain"
+    comes_in compressed "$work/text" "$work/compressed"
+    comes_in compressed "$work/plain" "$work/compressed"
+    comes_in plain "$work/compressed" "$work/plain"
+}
+
+# comes_in_plain: factors differ in the text in $work, so it is plain and cannot be compressed.
+comes_in_plain() {
+    comes_in plain "$work/text" "$work/text"
+    run encode "${tables[@]}" --form compressed "$work/text"
+    [ "$status" -eq 1 ] && grep -qx 'line [0-9]*: 58 unequal factor' "$work/errors" || fail "$file: is compressed"
+}
+
+for file in examples/*.bufr; do
+    messages "$file" > "$work/messages"
+    [ -s "$work/messages" ] || fail "$file: no message"
+    run dump "${tables[@]}" "$file"
+    [ "$status" -lt 2 ] || fail "$file: status $status of its dump" # 1 where more than messages is in it
+    mv "$work/output" "$work/text"
+    "$bufr" encode "${tables[@]}" "$work/text" | cmp - "$work/messages" || fail "$file: other octets come back"
+    "$bufr" dump "${tables[@]}" "$work/messages" | cmp - "$work/text" || fail "$file: another text comes back"
+    case $file in
+        examples/synop.bufr) comes_in_plain ;;
+        *) comes_in_both ;;
+    esac
+done
+for text in examples/*.txt; do
+    "$bufr" dump "${tables[@]}" "${text%.txt}.bufr" | cmp - "$text" || fail "$text: not the dump of its messages"
+done

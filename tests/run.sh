@@ -1,0 +1,21 @@
+#!/usr/bin/env bash
+# Runs all tests of this folder on the program that was built.
+#
+#     tests/run.sh [PROGRAM]        crates/bufr/out/bufr by default
+#
+# A test is a file with an ending beside this one, but for lib.sh and lib.py. Its argument is the program.
+# It ends with status 0, or says which file is wrong, and how. What it cannot try here it says, and skips.
+# At last the instructions of each command are counted. The longer trials of hostile/ and eccodes/ are run by hand.
+set -eu
+program=$(realpath -m "${1:-"$(dirname "$0")/../crates/bufr/out/bufr"}")
+cd "$(dirname "$0")/.."
+[ -x "$program" ] || { echo "$0: there is no $program; build it first (README.md)" >&2 && exit 2; }
+count=0 failed=()
+for test in tests/*.py tests/*.sh tests/vectors/run.py bench/count_instructions.py; do
+    case $test in tests/lib.* | tests/run.sh) continue ;; esac
+    count=$((count + 1))
+    "$test" "$program" || failed+=("$test")
+done
+[ ${#failed[@]} -eq 0 ] || echo "failed: ${failed[*]}" >&2
+echo "tests/run.sh: $((count - ${#failed[@]})) of $count tests passed, in $SECONDS s"
+[ ${#failed[@]} -eq 0 ]

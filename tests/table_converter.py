@@ -1,0 +1,238 @@
+#!/usr/bin/env python3
+"""Tries rows of tables on tables/convert.py and on the program: the one leaves out, and tells, what the other refuses.
+
+    tests/table_converter.py [PROGRAM]
+
+Each row is in a table of its own. Beside it stands the reason for which the converter leaves it out, or nothing where
+it is kept. Then come sources whose rows are not alike, and files that are not laid out as they should be.
+"""
+import pathlib
+import subprocess
+import sys
+import tempfile
+
+from lib import TOP, finish, program
+
+AS_IT_IS = {"encoding": "utf-8", "errors": "surrogateescape"}
+HEADERS = {"B": "fxy,name,unit,scale,reference,width", "D": "fxy,member"}
+WIDE, WHOLE = "no width of 1 to 63 bits", "no width of 8 to 2040 bits in whole octets"
+SCALE, REFERENCE = "no scale from -127 to 127", "no reference of 64 bits with sign"
+FACTOR = "a factor, which has scale 0, reference 0, width 8 and is no text"
+
+# fxy,name,unit,scale,reference,width | the reason
+ELEMENTS = f"""
+063255,NAME,K,2,-7,16 |
+064000,NAME,K,2,0,16 | X over 63
+012256,NAME,K,2,0,16 | Y over 255
+112101,NAME,K,2,0,16 | not six digits, the first 0
+12101,NAME,K,2,0,16 | not six digits, the first 0
+0121010,NAME,K,2,0,16 | not six digits, the first 0
+01210\u0661,NAME,K,2,0,16 | not six digits, the first 0
+012101,{'n' * 512},K,2,0,16 |
+012101,{'n' * 513},K,2,0,16 | a name of over 512 octets
+012101,{'°' * 256},K,2,0,16 |
+012101,{'°' * 257},K,2,0,16 | a name of over 512 octets
+012101,\udcb0\udcff,\udcb0C,2,0,16 |
+012101,A\x01B,K,2,0,16 | a control character in the name
+012101,A\x1bB,K,2,0,16 | a control character in the name
+012101,A\x7fB,K,2,0,16 | a control character in the name
+012101,NAME,{'u' * 512},2,0,16 |
+012101,NAME,{'u' * 513},2,0,16 | a unit of over 512 octets
+012101,NAME,A\x08B,2,0,16 | a control character in the unit
+012101,,,-127,0,16 |
+012101,NAME,K,127,0,16 |
+012101,NAME,K,128,0,16 | {SCALE}
+012101,NAME,K,-128,0,16 | {SCALE}
+012101,NAME,K,+1,0,16 | {SCALE}
+012101,NAME,K,,0,16 | {SCALE}
+012101,NAME,K,\u0661,0,16 | {SCALE}
+012101,NAME,K,-007,-0,0016 |
+012101,NAME,K,2,-9223372036854775808,16 |
+012101,NAME,K,2,9223372036854775807,16 |
+012101,NAME,K,2,9223372036854775808,16 | {REFERENCE}
+012101,NAME,K,2,-9223372036854775809,16 | {REFERENCE}
+012101,NAME,K,2,1.5,16 | {REFERENCE}
+012101,NAME,K,2,-,16 | {REFERENCE}
+012101,NAME,K,2,0, | no width
+012101,NAME,K,2,0,0 | {WIDE}
+012101,NAME,K,2,0,1 |
+012101,NAME,K,2,0,63 |
+012101,NAME,K,2,0,64 | {WIDE}
+012101,NAME,CCITT IA5,0,0,0 | {WHOLE}
+012101,NAME,ccitt ia5,0,0,8 |
+012101,NAME,CCITT IA5,0,0,12 | {WHOLE}
+012101,NAME,CCITT IA5,0,0,2040 |
+012101,NAME,CCITT IA5,0,0,2048 | {WHOLE}
+012101,NAME,CCITT \u0131a5,0,0,12 |
+031000,NAME,Numeric,0,0,1 |
+031001,NAME,Code table 1,0,0,8 |
+031002,NAME,Numeric,0,0,16 |
+031001,NAME,Numeric,0,0,16 | {FACTOR}
+031001,NAME,Numeric,1,0,8 | {FACTOR}
+031001,NAME,Numeric,0,-1,8 | {FACTOR}
+031001,NAME,CCITT IA5,0,0,8 | {FACTOR}
+031011,NAME,Numeric,1,-1,9 |
+""".strip("\n")
+# fxy,member | the reason
+SEQUENCES = """
+363255,363254 |
+364000,001001 | X over 63
+307256,001001 | Y over 255
+207060,001001 | not six digits, the first 3
+30706,001001 | not six digits, the first 3
+307060,263255 |
+307060,163255 |
+307060,064000 | the member 064000: X over 63
+307060,107256 | the member 107256: Y over 255
+307060,400000 | the member 400000: not six digits, the first 0-3
+307060, | the member : not six digits, the first 0-3
+""".strip("\n")
+
+
+
+def wreport_row(fxy: str, name: str, unit: str, scale: str, reference: str, width: str, rest: str = "") -> str:
+    """A line of wreport's B*.txt."""
+    return f" {fxy} {name:65}{unit:24}{scale:>4} {reference:>12} {width:>3}{rest}\n"
+
+
+# A file, its text, the status, what is told, and what the set then holds behind its headers.
+ELEMENT = "012101,NAME,K,2,0,16\n"
+TWICE = "left out of source: %s: one of several, not alike\n"
+SOURCES = [
+    ("B.csv", f"{HEADERS['B']}\n{ELEMENT}{ELEMENT}", 0, "", ELEMENT),
+    (
+        "B.csv",
+        f"{HEADERS['B']}\n{ELEMENT}012101,NAME,K,1,0,12\n012103,NAME,K,2,0,16\n",
+        1,
+        TWICE % "012101 NAME K 2 0 16" + TWICE % "012101 NAME K 1 0 12",
+        "012103,NAME,K,2,0,16\n",
+    ),
+    (
+        "D.csv",
+        "fxy,member\n307060,001001\n307061,001001\n307060,001002\n",
+        1,
+        TWICE % "307060 001001" + TWICE % "307060 001002",
+        "307061,001001\n",
+    ),
+    (
+        "sequence.def",
+        '"307060" = [ 001001, 12101, 001002 ]\n"307061" = [ ]\n"307062" = [ 001001 , 001002, ] # a comment\n',
+        1,
+        "left out of source: 307060 001001 12101 001002: the member 12101: not six digits, the first 0-3\n"
+        "left out of source: 307061: no members\n",
+        "307062,001001\n307062,001002\n",
+    ),
+    (
+        "element.table",
+        "#code|..\n\n012101|a|long|A | NAME|K|2|0|16|C|2|4\n",
+        1,
+        "left out of source: 012101 A NAME K 2 0: no scale from -127 to 127\n",
+        "",
+    ),
+    ("element.table", "012101|a|long|NAME|K|2\n", 2, "source/element.table, line 1: fewer than eight fields\n", None),
+    ("sequence.def", '"307060" = 001001\n', 2, 'source/sequence.def: what is "307060" = 001001\n', None),
+    (
+        "B.csv",
+        f"{HEADERS['B']}\n012101,A, B,K,2,0,16\n",
+        2,
+        "source/B.csv, line 2: another number of fields than the header\n",
+        None,
+    ),
+    ("D.csv", "fxy\n307060\n", 2, "source/D.csv has no column member\n", None),
+    ("other.csv", "", 2, "source holds no tables that are known here\n", None),
+    # wreport's layout: units without spaces, a sign apart, a name that fills its columns, letters of two octets.
+    (
+        "B13.txt",
+        wreport_row("001210", "MADE UP", "CCITTIA5", "0", "0", "72")
+        + wreport_row("001211", "A CODE", "CODETABLE 1211", "0", "0", "8")
+        + wreport_row("001212", "A FLAG", "FLAG TABLE 1212", "0", "0", "8", "\r\r")
+        + wreport_row("001213", "A COMMON ONE", "COMMONCODETABLEC-1", "0", "0", "16")
+        + "\n"
+        + wreport_row("007030", "N" * 65, "M", "1", "- 4000", "17", " M      1   5")
+        + wreport_row("041003", "DISSOLVED NITRATES", "\u03bcMOL KG-1", "3", "0", "17")
+        + wreport_row("041004", "OF NO WIDTH", "K", "3", "0", "0"),
+        1,
+        "left out of source: 041004 OF NO WIDTH K 3 0 0: no width of 1 to 63 bits\n",
+        "001210,MADE UP,CCITT IA5,0,0,72\n001211,A CODE,CODE TABLE 1211,0,0,8\n001212,A FLAG,FLAG TABLE 1212,0,0,8\n"
+        f"001213,A COMMON ONE,COMMON CODE TABLE C-1,0,0,16\n007030,{'N' * 65},M,1,-4000,17\n"
+        "041003,DISSOLVED NITRATES,\u03bcMOL KG-1,3,0,17\n",
+    ),
+    # The same sequence twice: the first counts. Counts of one, two and three digits; what stands behind a member.
+    (
+        "D13.txt",
+        " 307210  2 001210  of this centre\n           001211\r\n 307211  1 307210\n 307210  1 001212\n"
+        " 307212100 001210\n" + "           001211\n" * 99 + " 307213 101 001210\n" + "            001212\n" * 100,
+        0,
+        "",
+        "307210,001210\n307210,001211\n307211,307210\n307212,001210\n"
+        + "307212,001211\n" * 99
+        + "307213,001210\n"
+        + "307213,001212\n" * 100,
+    ),
+    ("D13.txt", " 307210  2 001210\n", 2, "source/D13.txt: 307210 states 2 members and has 1\n", None),
+    ("D13.txt", "           001210\n", 2, "source/D13.txt, line 1: no member of a sequence\n", None),
+    ("D13.txt", " D07210  1 B01210\n", 2, "source/D13.txt, line 1: no member of a sequence\n", None),
+    (
+        "B13.txt",
+        " 012101 NAME K 2 0 16\n",
+        2,
+        "source/B13.txt, line 1: no scale, reference and width in columns 98 to 118\n",
+        None,
+    ),
+]
+
+
+def convert(place: pathlib.Path, name: str, text: str):
+    """The converter's run over a source of one file; the set is in `out`."""
+    for folder in (place / "source", place / "out"):
+        folder.mkdir(exist_ok=True)
+        for path in folder.iterdir():
+            path.unlink()
+    (place / "source" / name).write_bytes(text.encode(**AS_IT_IS))
+    words = [sys.executable, TOP / "tables/convert.py", "out", "source"]
+    return subprocess.run(words, cwd=place, stdout=subprocess.PIPE, stderr=subprocess.PIPE, **AS_IT_IS)
+
+
+def behind_headers(place: pathlib.Path):
+    """The rows of both tables of the set, or none where it was not written."""
+    paths = [place / "out" / f"{table}.csv" for table in HEADERS]
+    if not all(path.exists() for path in paths):
+        return None
+    return "".join(path.read_bytes().decode(**AS_IT_IS).partition("\n")[2] for path in paths)
+
+
+def wrong_row(place: pathlib.Path, table: str, row: str, reason: str) -> str:
+    """What is wrong of the row of a table: nothing where both do as they should."""
+    texts = {name: f"{header}\n" + f"{row}\n" * (name == table) for name, header in HEADERS.items()}
+    done = convert(place, f"{table}.csv", texts[table])
+    kept = behind_headers(place)
+    if (done.returncode, bool(kept)) != ((1, False) if reason else (0, True)):
+        return f"convert.py ends with {done.returncode} and keeps {kept!r}"
+    if not (done.stderr.endswith(f": {reason}\n") and done.stderr.count("\n") == 1 if reason else done.stderr == ""):
+        return f"convert.py says {done.stderr!r}"
+    for name, text in texts.items():
+        (place / f"{name}.csv").write_bytes(text.encode(**AS_IT_IS))
+    words = [program(), "dump", "-B", "B.csv", "-D", "D.csv"]
+    done = subprocess.run(words, cwd=place, stdin=subprocess.DEVNULL, stderr=subprocess.PIPE, **AS_IT_IS)
+    said = (2, f"table {table}: 41 row 2\n") if reason else (0, "")
+    return "" if (done.returncode, done.stderr) == said else f"the program says {done.stderr!r}"
+
+
+def main() -> None:
+    wrongs = []
+    with tempfile.TemporaryDirectory() as folder:
+        place = pathlib.Path(folder)
+        for table, lines in (("B", ELEMENTS), ("D", SEQUENCES)):
+            for line in lines.split("\n"):
+                row, reason = line.split(" |")
+                wrong = wrong_row(place, table, row, reason.strip())
+                wrongs += [f"{row[:60]!a}: {wrong}"] * bool(wrong)
+        for name, text, status, told, kept in SOURCES:
+            done = convert(place, name, text)
+            if (done.returncode, done.stderr, behind_headers(place)) != (status, told, kept):
+                wrongs.append(f"{text!a} in {name}: {done.returncode}, {done.stderr!r}, {behind_headers(place)!r}")
+    finish(wrongs)
+
+
+if __name__ == "__main__":
+    main()

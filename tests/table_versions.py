@@ -1,0 +1,120 @@
+#!/usr/bin/env python3
+"""The sets of tables/ serve each version from 7 to 39 exactly, by the rule of tables/README.md, and none can be spared.
+
+    tests/table_versions.py
+
+A version's set is that of its number, or else the next later one. Each row of the version must be read by its set as
+the version has it; rows that were added since do no harm. The versions are those of ecCodes, and of wreport with the
+differences that stand below. What is not installed is skipped, and told.
+"""
+import pathlib
+import re
+import subprocess
+import sys
+import tempfile
+
+from lib import TOP, finish
+
+sys.path.insert(0, str(TOP / "tables"))
+import changes  # noqa: E402
+
+ECCODES = pathlib.Path("/usr/share/eccodes/definitions/bufr/tables/0/wmo")
+WREPORT = pathlib.Path("/usr/share/wreport")
+VERSIONS = range(7, 40)
+# What bufr-auto takes for read otherwise than meant, up to version 6.
+AUTO = (TOP / "scripts/bufr-auto").read_text()
+CHANGED_SINCE_6 = re.search(r'CHANGED_SINCE_6 = set\(\s*"""([^"]*)"""', AUTO)[1].split()
+# What wreport has otherwise. Of versions 12 and 13: members that are missing, or stand there twice.
+MISPRINTS = "301034 307046 307052 307054 307055 307084 308008 310019 310025".split()
+# Of version 16: the reference that ecCodes has from version 17 on; nine sequences, cut in two and joined the wrong way
+# round; four that neither version 15 of ecCodes nor its version 16 has. Its file of version 15 is that of version 16.
+OF_16 = """
+    014052 014053 305006 307045 307081 307093 309019 310027 311008 318001 340007 302067 308015 308016 315004
+""".split()
+WREPORT_HAS_OTHERWISE = {12: [*MISPRINTS, "302056"], 13: MISPRINTS, 14: ["307084"], 16: OF_16}
+
+
+def sets() -> dict:
+    """The sets of tables/, by their versions."""
+    return {int(path.name[4:]): changes.read(path) for path in sorted((TOP / "tables").glob("wmo-[0-9][0-9]"))}
+
+
+def converted(source: pathlib.Path, place: str):
+    """The tables that convert.py makes of a source; rows that it leaves out are unknown, and told as such."""
+    done = subprocess.run([TOP / "tables/convert.py", place, source], stderr=subprocess.PIPE, text=True)
+    if done.returncode > 1:
+        sys.exit(f"tables/convert.py does not read {source}: {done.stderr}")
+    return changes.read(place)
+
+
+def otherwise(version, served) -> set:
+    """The rows of a version that a set does not have, or has otherwise."""
+    return {fxy for table, other in zip(version, served) for fxy in table if other.get(fxy) != table[fxy]}
+
+
+def is_of_wmo(fxy: str) -> bool:
+    return int(fxy[1:3]) < 48 and int(fxy[3:]) < 192
+
+
+def check(name: str, versions: dict, known: dict) -> list:
+    """Complaints of the versions of one publisher."""
+    shipped, complaints = sets(), []
+    for version, tables in versions.items():
+        number = min(number for number in shipped if number >= version)
+        found = {fxy for fxy in otherwise(tables, shipped[number]) if is_of_wmo(fxy)}
+        if found != set(known.get(version, [])):
+            complaints.append(f"version {version} of {name} by wmo-{number}: {' '.join(sorted(found))} are otherwise")
+    print(f"tables of {name}: versions {min(versions)} to {max(versions)} compared with tables/")
+    return complaints
+
+
+def check_eccodes(place: str) -> list:
+    tables = {version: converted(ECCODES / str(version), f"{place}/e{version}") for version in (2, 6, *VERSIONS)}
+    complaints = check("ecCodes", {version: tables[version] for version in VERSIONS}, {})
+    # The sets that stand there are made of these, names and units too.
+    for number in sets():
+        for name in ("B.csv", "D.csv"):
+            made = pathlib.Path(f"{place}/e{number}/{name}").read_bytes()
+            if made != (TOP / f"tables/wmo-{number}/{name}").read_bytes():
+                complaints.append(f"tables/wmo-{number}/{name} is not what convert.py makes of ecCodes")
+    # As few as can: each set but the last has a row that the next later one has otherwise.
+    numbers = sorted(sets())
+    for number, later in zip(numbers, numbers[1:]):
+        if not otherwise(tables[number], tables[later]):
+            complaints.append(f"wmo-{number} is not needed: wmo-{later} serves version {number} exactly")
+    old = sets()[13]
+    found = {fxy for version in (2, 6) for fxy in otherwise(tables[version], old) if any(fxy in table for table in old)}
+    if found != set(CHANGED_SINCE_6):
+        complaints.append(f"up to version 6 these are otherwise: {' '.join(sorted(found))}")
+    return complaints
+
+
+def check_wreport(place: str) -> list:
+    def path(letter: str, version: int):
+        return WREPORT / f"{letter}00000000000000{version}000.txt"
+
+    tables = {version: converted(path("B", version), f"{place}/w{version}") for version in range(12, 32)}
+    if path("D", 15).read_bytes() == path("D", 16).read_bytes():
+        tables[15] = tables[15][0], {}
+        print("sequences of version 15 of wreport skipped: its file is that of version 16")
+    return check("wreport", tables, WREPORT_HAS_OTHERWISE)
+
+
+def main() -> None:
+    complaints = []
+    missing = [version for version in VERSIONS if not any(number >= version for number in sets())]
+    complaints += [f"no set serves version {version}" for version in missing]
+    with tempfile.TemporaryDirectory() as place:
+        for there, run, package in (
+            (ECCODES, check_eccodes, "libeccodes-data"),
+            (WREPORT, check_wreport, "wreport-common"),
+        ):
+            if there.is_dir():
+                complaints += run(place)
+            else:
+                print(f"versions of {package} skipped: it is not installed")
+    finish(complaints)
+
+
+if __name__ == "__main__":
+    main()
