@@ -77,16 +77,24 @@ fn text_of_even(rt: &impl Runtime) -> String {
     text_with(rt, 0, "local1 00\n")
 }
 
-/// Asserts that a message is dumped to its text, and what that is encoded to.
+/// Asserts what a message is dumped to, and what that is encoded to.
+fn assert_round(rt: &impl Runtime, name: &str, message: &[u8], text: &str, again: &[u8]) {
+    assert_dumped(rt, name, message, text);
+    let text = text.as_bytes();
+    assert_run(rt, accepted(Dump, name, message, text));
+    let encoded = octets_for(rt, text);
+    assert_same(rt, &encoded.as_slice(), &again, &name);
+    assert_run(rt, accepted(Encode, name, text, again))
+}
+
 fn assert_layout(rt: &impl Runtime, row: &Layout) {
     let octets = from_hex(rt, row.octets);
-    let again: &[u8] = if row.is_even { &octets } else { EDITION_3 };
     let text = text_with(rt, row.optional, row.local);
-    assert_dumped(rt, row.name, &octets, text.as_str());
-    let encoded = octets_for(rt, text.as_bytes());
-    assert_same(rt, &encoded.as_slice(), &again, &row.name);
-    assert_run(rt, accepted(Dump, row.name, &octets, text.as_bytes()));
-    assert_run(rt, accepted(Encode, row.name, text.as_bytes(), again))
+    if row.is_even {
+        assert_round(rt, row.name, &octets, text.as_str(), &octets)
+    } else {
+        assert_round(rt, row.name, &octets, text.as_str(), EDITION_3)
+    }
 }
 
 /// Sections 3 and 4 are made even, also those that were odd.

@@ -693,19 +693,24 @@ fn dumps_what_was_written_by_hand(rt: HostRuntime) {
 }
 
 /// Asserts the number and the line of a fault.
-fn assert_fault(rt: &impl Runtime, fault: &DocumentFault, number: u8, line: Option<u64>) {
-    assert_same(rt, &(fault.number(), fault.line()), &(number, line), fault);
+fn assert_fault(rt: &impl Runtime, fault: DocumentFault, number: u8, line: Option<u64>) {
+    assert_same(rt, &(fault.number(), fault.line()), &(number, line), &fault);
 }
 
 #[test]
 fn document_faults_have_numbers_and_lines(rt: HostRuntime) {
     let fxy = Fxy::from_word(0x0101);
-    let refusal = WalkRefusal::TooManyValues(fxy);
     let template = TemplateFault::EmptyGroup(fxy);
     let item = DocumentFault::WrongDescriptor(24, Expected::Item(fxy));
-    assert_fault(&rt, &item, 51, Some(24));
-    assert_fault(&rt, &DocumentFault::Template(1, template), 56, Some(1));
-    assert_fault(&rt, &DocumentFault::Walk(24, refusal), 62, Some(24));
-    assert_fault(&rt, &DocumentFault::Memory, 73, None);
-    assert_same(&rt, &refusal.number(), &35, &"refusal");
+    assert_fault(&rt, item, 51, Some(24));
+    assert_fault(&rt, DocumentFault::Template(1, template), 56, Some(1));
+    let refusal = WalkRefusal::TooManyValues(fxy);
+    assert_fault(&rt, DocumentFault::Walk(24, refusal), 62, Some(24));
+    assert_fault(&rt, DocumentFault::Memory, 73, None);
+    assert_same(
+        &rt,
+        &WalkRefusal::TooManyValues(fxy).number(),
+        &35,
+        &"refusal",
+    );
 }

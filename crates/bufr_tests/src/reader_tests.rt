@@ -225,20 +225,28 @@ fn with_octets(rt: &impl Runtime, lines: &[u8]) -> Vec<u8> {
     joined(rt, &[HEAD.as_bytes(), counts, lines, end])
 }
 
+/// A line of a word and so many digits.
+fn line_of_digits(rt: &impl Runtime, word: &[u8], count: usize) -> Vec<u8> {
+    let digits = repeated(rt, b"9", count);
+    joined(rt, &[word, &digits, b"\n"])
+}
+
 /// Lines of octets have at most 64 digits, and an even number of them.
+fn assert_octet_lines(rt: &impl Runtime, word: &[u8]) {
+    for (count, want) in [
+        (64, Read(0, 0)),
+        (63, Refused(Line(22))),
+        (66, Refused(Line(22))),
+    ] {
+        let line = line_of_digits(rt, word, count);
+        assert_document(rt, &with_octets(rt, &line), want);
+    }
+}
+
 #[test]
 fn reads_lines_of_octets(rt: HostRuntime) {
-    for word in [b"local1 ".as_slice(), b"section2 "] {
-        for (count, want) in [
-            (64, Read(0, 0)),
-            (63, Refused(Line(22))),
-            (66, Refused(Line(22))),
-        ] {
-            let digits = repeated(&rt, b"9", count);
-            let line = joined(&rt, &[word, &digits, b"\n"]);
-            assert_document(&rt, &with_octets(&rt, &line), want);
-        }
-    }
+    assert_octet_lines(&rt, b"local1 ");
+    assert_octet_lines(&rt, b"section2 ")
 }
 
 // A word that digits are put after in place of a line, their count, and what the document then is.
@@ -255,8 +263,7 @@ static LONG_LINES: &[(usize, &[u8], usize, Next)] = &[
 #[test]
 fn reads_long_lines(rt: HostRuntime) {
     for (number, word, count, want) in LONG_LINES {
-        let digits = repeated(&rt, b"9", *count);
-        let line = joined(&rt, &[word, &digits, b"\n"]);
+        let line = line_of_digits(&rt, word, *count);
         assert_document(&rt, &with_line(&rt, *number, &line), *want);
     }
     let note = repeated(&rt, b"#", 4097);

@@ -393,13 +393,19 @@ const FOLLOWED: &[(&str, &str)] = &[
     ("message\n", "line 27: 50 line\n"),
 ];
 
+/// Asserts that the document before these lines is encoded, and what they are refused with.
+fn assert_followed(rt: &impl Runtime, lines: &str, errors: &str) {
+    let one = text_of_one(rt);
+    let text = joined(rt, &[one.as_bytes(), lines.as_bytes()]);
+    let run = accepted(Encode, lines, &text, ONE_BLOCK_NUMBER);
+    let run = run.counting(1, u64::from(!errors.is_empty()));
+    assert_run(rt, run.with_errors(errors.as_bytes()))
+}
+
 #[test]
 fn encodes_before_other_lines(rt: HostRuntime) {
     for (lines, errors) in FOLLOWED {
-        let text = joined(&rt, &[text_of_one(&rt).as_bytes(), lines.as_bytes()]);
-        let run = accepted(Encode, lines, &text, ONE_BLOCK_NUMBER);
-        let run = run.counting(1, u64::from(!errors.is_empty()));
-        assert_run(&rt, run.with_errors(errors.as_bytes()));
+        assert_followed(&rt, lines, errors);
     }
 }
 
@@ -432,11 +438,23 @@ fn encodes_other_lines_of_the_header(rt: HostRuntime) {
 #[test]
 fn stops_at_the_first_refused_document(rt: HostRuntime) {
     let (good, bad) = (text_of_one(&rt), text_refused(&rt));
-    let (good, bad): (&[u8], &[u8]) = (good.as_bytes(), bad.as_bytes());
-    let text = joined(&rt, &[good, bad, good, b"no line of a dump\n"]);
-    let run = accepted(Encode, "the second", &text, ONE_BLOCK_NUMBER);
-    assert_run(&rt, run.counting(1, 1).with_errors(b"line 49: 52 number\n"));
-    let run = refused(Encode, "a failed read", bad, b"line 24: 52 number\n");
+    let text = joined(
+        &rt,
+        &[
+            good.as_bytes(),
+            bad.as_bytes(),
+            good.as_bytes(),
+            b"no line\n",
+        ],
+    );
+    let second = accepted(Encode, "the second", &text, ONE_BLOCK_NUMBER).counting(1, 1);
+    assert_run(&rt, second.with_errors(b"line 49: 52 number\n"));
+    let run = refused(
+        Encode,
+        "a failed read",
+        bad.as_bytes(),
+        b"line 24: 52 number\n",
+    );
     let mut devices = roomy(7);
     devices.fails_at = Some(bad.len());
     assert_ran(&rt, &Task::new(&rt, Encode), run, devices)
@@ -497,17 +515,18 @@ fn encodes_a_thousand_documents(rt: HostRuntime) {
     assert_run(&rt, run.counting(1000, 0))
 }
 
+/// The document of one block number after a comment of so many octets.
+fn with_comment(rt: &impl Runtime, count: usize) -> Vec<u8> {
+    let (note, one) = (repeated(rt, b"#", count), text_of_one(rt));
+    joined(rt, &[&note, b"\n", one.as_bytes()])
+}
+
 #[test]
 fn encodes_after_a_long_line(rt: HostRuntime) {
-    let (note, one) = (repeated(&rt, b"#", 4096), text_of_one(&rt));
-    let text = joined(&rt, &[&note, b"\n", one.as_bytes()]);
-    assert_run(
-        &rt,
-        accepted(Encode, "4,096 octets", &text, ONE_BLOCK_NUMBER),
-    );
-    let text = joined(&rt, &[b"#", &text]);
-    let line = b"line 1: 50 line\n";
-    assert_run(&rt, refused(Encode, "4,097 octets", &text, line))
+    let text = with_comment(&rt, 4096);
+    assert_run(&rt, accepted(Encode, "4,096", &text, ONE_BLOCK_NUMBER));
+    let longer = with_comment(&rt, 4097);
+    assert_run(&rt, refused(Encode, "4,097", &longer, b"line 1: 50 line\n"))
 }
 
 /// A document is written compressed. The next one, of two subsets that differ in length, cannot be.

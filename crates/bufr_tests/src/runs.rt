@@ -251,26 +251,31 @@ pub(crate) fn assert_run(rt: &impl Runtime, run: Run<'_>) {
 
 /// Asserts what a run leaves on writers with room for so many octets that then end so. The output
 /// takes `before` where the errors are full.
-fn assert_room(
+fn assert_room<'a>(
     rt: &impl Runtime,
     task: &Task,
-    run: Run<'_>,
-    before: &[u8],
+    run: Run<'a>,
+    before: &'a [u8],
     (output, errors): ((usize, End), (usize, End)),
 ) {
-    let mut devices = roomy(5);
-    devices.output = output;
-    devices.errors = errors;
     let (first, second) = (output.0 < run.output.len(), errors.0 < run.errors.len());
     let fails = first || second || output.1 == End::Flush || errors.1 == End::Flush;
-    let mut wanted = run.with_errors(run.errors.get(..errors.0).unwrap_or(run.errors));
-    wanted.output = run.output.get(..output.0).unwrap_or(run.output);
-    if second {
-        wanted.output = before;
-    }
-    if fails {
-        wanted.outcome = Err(RunFault::Write);
-    }
+    let whole = run.output.get(..output.0).unwrap_or(run.output);
+    let wanted = Run {
+        output: if second { before } else { whole },
+        errors: run.errors.get(..errors.0).unwrap_or(run.errors),
+        outcome: if fails {
+            Err(RunFault::Write)
+        } else {
+            run.outcome
+        },
+        ..run
+    };
+    let devices = Devices {
+        output,
+        errors,
+        ..roomy(5)
+    };
     run_on(rt, task, run.input, devices).assert(rt, wanted, output.0.saturating_add(errors.0))
 }
 
