@@ -461,12 +461,17 @@ fn assert_encoded(rt: &impl Runtime, command: Command, flags: u8, row: &Row) {
     assert_run(rt, run)
 }
 
+/// Asserts what each document is encoded to in the form it has.
+fn assert_rows(rt: &impl Runtime, rows: &[Row]) {
+    for row in rows {
+        assert_encoded(rt, Encode, row.2, row);
+    }
+}
+
 #[test]
 fn encodes_worked_documents(rt: HostRuntime) {
     for rows in parts() {
-        for row in rows {
-            assert_encoded(&rt, Encode, row.2, row);
-        }
+        assert_rows(&rt, rows);
     }
 }
 
@@ -489,18 +494,25 @@ fn push_twice(rt: &impl Runtime, row: &Row, text: &mut Vec<u8>, messages: &mut V
     ok(rt, messages.extend_from_slice(&repeated(rt, &message, 2)));
 }
 
+/// The same of each accepted document, and how many were pushed.
+fn push_rows(rt: &impl Runtime, rows: &[Row], text: &mut Vec<u8>, messages: &mut Vec<u8>) -> u64 {
+    let mut count = 0u64;
+    for row in rows {
+        if matches!(row.5, Data(_)) {
+            push_twice(rt, row, text, messages);
+            count = count.saturating_add(2);
+        }
+    }
+    count
+}
+
 /// The accepted documents, each of them twice, are encoded as each alone.
 #[test]
 fn encodes_documents_after_others(rt: HostRuntime) {
     let (mut text, mut messages) = (Vec::new(rt.alloc()), Vec::new(rt.alloc()));
     let mut count = 0u64;
     for rows in parts() {
-        for row in rows {
-            if matches!(row.5, Data(_)) {
-                push_twice(&rt, row, &mut text, &mut messages);
-                count = count.saturating_add(2);
-            }
-        }
+        count = count.saturating_add(push_rows(&rt, rows, &mut text, &mut messages));
     }
     let run = accepted(Encode, "together", &text, &messages);
     assert_run(&rt, run.counting(count, 0))

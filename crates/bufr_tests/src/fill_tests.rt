@@ -161,14 +161,18 @@ fn packed_laws() {
     law::packed_fault_is_as_defined();
 }
 
+fn assert_rows(rt: &impl Runtime, rows: &[Row]) {
+    for row in rows {
+        assert_written(rt, row);
+    }
+}
+
 #[test]
 fn writes_items(rt: HostRuntime) {
     plain_laws();
     packed_laws();
     for rows in parts() {
-        for row in rows {
-            assert_written(&rt, row);
-        }
+        assert_rows(&rt, rows);
     }
 }
 
