@@ -183,6 +183,9 @@ class Trial:
             f'echo $$ > "{self.place}/begun"\nmv "{self.place}/begun" "{self.place}/number"\nexec sleep 60\n'
         )
         slow.chmod(0o755)
+        # A job in the background ignores some signals, and what it starts would too.
+        for number in (signal.SIGINT, signal.SIGHUP):
+            signal.signal(number, signal.SIG_DFL)
         for number in (signal.SIGINT, signal.SIGTERM, signal.SIGHUP, signal.SIGPIPE):
             for program in (self.program, str(slow)):
                 (self.place / "number").unlink(missing_ok=True)

@@ -3,11 +3,10 @@
 
     tests/docs_names.py [PROGRAM]
 
-- of all pages: links, paths, the README's length;
+- of all pages: links and paths;
 - of docs/guide.md: octets and items of the example files, and the differences from ecCodes;
 - of tables/README.md: the counts of the tables;
 - of the man page: its faults, and, where they are there, that `mandoc` and `groff` do not complain;
-- of tests/README.md: the files of tests/;
 - of the man page and the completions: commands and options.
 """
 import csv
@@ -116,15 +115,6 @@ def commands_and_options() -> None:
             want(known, f"{name} has no {option}")
 
 
-def files_of_tests() -> None:
-    """tests/README.md has each file of tests/, and no other."""
-    told = set(re.findall(r"`([\w/]+\.(?:py|sh|c))\b", read("tests/README.md")))
-    for name in told:
-        want((TOP / "tests" / name).exists() or (TOP / name).exists(), f"tests/README.md: {name} is not there")
-    there = {path.name for path in (TOP / "tests").iterdir() if path.suffix in (".py", ".sh", ".c")}
-    want(there <= told, f"tests/README.md does not name {sorted(there - told)}")
-
-
 def differences() -> None:
     """docs/guide.md has the differences of tests/eccodes/against_eccodes.py, in their order."""
     rows = re.search(r'DIFFERENCES = """\n(.*?)"""', read("tests/eccodes/against_eccodes.py"), re.S)[1].splitlines()
@@ -134,15 +124,12 @@ def differences() -> None:
 
 
 def main() -> None:
-    lines = read("README.md").count("\n")
-    want(lines <= 150, f"README.md has {lines} lines, over 150")
     links_and_paths()
     example_files()
     counts_of_tables()
     man_page()
     commands_and_options()
     differences()
-    files_of_tests()
     finish(complaints)
 
 

@@ -5,7 +5,7 @@ import sys
 TOP = pathlib.Path(__file__).resolve().parent.parent
 BUILT = TOP / "crates/bufr/out/bufr"
 FAULT = r"^\| `(?:bufr: )?(\d+) "  # the row of a fault in docs/texts.md
-PAGES = ["README.md", "CONTRIBUTING.md", "bench/README.md", "tables/README.md", "tests/README.md"]
+PAGES = ["README.md", "CONTRIBUTING.md", "bench/README.md", "tables/README.md"]
 DOCS = [*(TOP / page for page in PAGES), *sorted((TOP / "docs").glob("*.md"))]
 TABLES = ["-B", str(TOP / "tables/wmo-39/B.csv"), "-D", str(TOP / "tables/wmo-39/D.csv")]
 

@@ -1,10 +1,10 @@
 #!/usr/bin/env python3
-"""Checks the names of the code in docs/MAP.md, docs/ARCHITECTURE.md and the other pages against what is there.
+"""Checks the names of the code in docs/map.md, docs/design.md and the other pages against what is there.
 
     tests/map.py
 
-Of docs/MAP.md: each name is there, each heading of docs/format.md and docs/texts.md has its part, and each fault of
-docs/texts.md a row. Of docs/ARCHITECTURE.md: the part of a crate names each module of it that is no test, and no other.
+Of docs/map.md: each name is there, each heading of docs/format.md and docs/texts.md has its part, and each fault of
+docs/texts.md a row. Of docs/design.md: the part of a crate names each module of it that is no test, and no other.
 Of the other pages: a name of the code that stands in backquotes is somewhere in the crates. Each thing that is not so
 stands on a line of its own, with the line of the document.
 """
@@ -15,8 +15,8 @@ from lib import FAULT, TOP, finish
 
 CRATES = re.findall(r"^(\w+):", (TOP / "crates.txt").read_text(encoding="utf-8"), re.M)
 TESTS = "bufr_tests"  # the crate of the tests of all others
-OF_DOCS = "ARCHITECTURE DECISIONS PROMISES format forms texts".split()
-PAGES = ["CONTRIBUTING.md", "tests/README.md", *(f"docs/{page}.md" for page in OF_DOCS)]
+OF_DOCS = "DECISIONS design format proof texts".split()
+PAGES = ["CONTRIBUTING.md", *(f"docs/{page}.md" for page in OF_DOCS)]
 COLUMNS = "rule crate definition function example test".split()
 complaints = []
 
@@ -96,7 +96,7 @@ def names(line: int, crate: str, column: str, cell: str) -> None:
     """The names of a cell: each of the row's crate, or behind that of another crate, or a file of tests/."""
     told = re.findall(r"`([^`]*)`", cell)
     if cell != "-" and ", ".join(f"`{name}`" for name in told) != cell:
-        complain("docs/MAP.md", line, f"{column}: {cell} is neither `-` nor names in backquotes with commas between them")
+        complain("docs/map.md", line, f"{column}: {cell} is neither `-` nor names in backquotes with commas between them")
     for name in told:
         other, _, rest = name.partition("/")
         if column == "test" and name.startswith("tests/"):
@@ -107,42 +107,42 @@ def names(line: int, crate: str, column: str, cell: str) -> None:
             there = IS_THERE[column](crate, name)
         if not there:
             home = other if rest else crate
-            complain("docs/MAP.md", line, f"{column} {name} is not in {home}{elsewhere(column, rest or name)}")
+            complain("docs/map.md", line, f"{column} {name} is not in {home}{elsewhere(column, rest or name)}")
 
 
 def row(line: int, text: str) -> None:
     cells = text.strip().strip("|").split(" | ")
     if len(cells) != len(COLUMNS):
-        complain("docs/MAP.md", line, f"{len(cells)} cells and not {len(COLUMNS)}")
+        complain("docs/map.md", line, f"{len(cells)} cells and not {len(COLUMNS)}")
         return
     cells = dict(zip(COLUMNS, map(str.strip, cells)))
     crate = cells["crate"].strip("`")
     if crate not in CRATES:
-        complain("docs/MAP.md", line, f"there is no crate {crate}")
+        complain("docs/map.md", line, f"there is no crate {crate}")
         return
     for column in IS_THERE:
         names(line, crate, column, cells[column])
 
 
 def rules() -> None:
-    """The rows of docs/MAP.md, and that no heading and no fault is left out."""
-    text = read(TOP / "docs/MAP.md")
+    """The rows of docs/map.md, and that no heading and no fault is left out."""
+    text = read(TOP / "docs/map.md")
     linked, body = set(), False
     for line, one in enumerate(text.splitlines(), 1):
         for doc, anchor in re.findall(r"\]\((\w+\.md)#([^)]*)\)", one):
             linked.add((doc, anchor))
             if anchor not in anchors(doc):
-                complain("docs/MAP.md", line, f"docs/{doc} has no heading #{anchor}")
+                complain("docs/map.md", line, f"docs/{doc} has no heading #{anchor}")
         if body and one.startswith("|"):
             row(line, one)
         body = one.startswith("|") and (body or one.startswith("|---"))
     for doc in ("format.md", "texts.md"):
         for anchor in anchors(doc):
             if (doc, anchor) not in linked:
-                complain("docs/MAP.md", 1, f"no part for docs/{doc}#{anchor}")
+                complain("docs/map.md", 1, f"no part for docs/{doc}#{anchor}")
     for number in sorted(set(re.findall(FAULT, read(TOP / "docs/texts.md"), re.M)), key=int):
         if not re.search(rf"^\| fault {number}\b", text, re.M):
-            complain("docs/MAP.md", 1, f"no row of fault {number}")
+            complain("docs/map.md", 1, f"no row of fault {number}")
 
 
 def modules(crate: str) -> set:
@@ -152,9 +152,9 @@ def modules(crate: str) -> set:
 
 
 def house() -> None:
-    """The part of each crate in docs/ARCHITECTURE.md names its modules: what stands in backquotes, with a small letter
+    """The part of each crate in docs/design.md names its modules: what stands in backquotes, with a small letter
     first, in the list below its heading."""
-    lines = read(TOP / "docs/ARCHITECTURE.md").splitlines()
+    lines = read(TOP / "docs/design.md").splitlines()
     named, first, crate = {}, {}, ""
     for line, one in enumerate(lines, 1):
         if one.startswith("#"):
@@ -166,9 +166,9 @@ def house() -> None:
     for crate in CRATES:
         told = named.get(crate, {})
         for name in sorted(modules(crate) - set(told)):
-            complain("docs/ARCHITECTURE.md", first.get(crate, 1), f"{crate} has a module {name}, which is not named")
+            complain("docs/design.md", first.get(crate, 1), f"{crate} has a module {name}, which is not named")
         for name in sorted(set(told) - modules(crate)):
-            complain("docs/ARCHITECTURE.md", told[name], f"{crate} has no module {name}")
+            complain("docs/design.md", told[name], f"{crate} has no module {name}")
 
 
 def words_of_code() -> set:

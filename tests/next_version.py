@@ -1,5 +1,7 @@
 #!/usr/bin/env python3
-"""The commands of tables/NEW-VERSION.md make a set of a version 99 that is made up, and tell what differs.
+"""The commands of tables/README.md for next year's version make a set of a version 99 that is made up.
+
+They also tell what differs from the latest set.
 
     tests/next_version.py [PROGRAM]
 
@@ -17,7 +19,7 @@ import tempfile
 import lib
 from lib import TOP, finish, program
 
-PAGE = TOP / "tables/NEW-VERSION.md"
+PAGE = TOP / "tables/README.md"
 HEADER_B = (
     "ClassNo,ClassName_en,FXY,ElementName_en,Note_en,BUFR_Unit,BUFR_Scale,BUFR_ReferenceValue,BUFR_DataWidth_Bits,"
     "CREX_Unit,CREX_Scale,CREX_DataWidth_Char,Status"
@@ -59,17 +61,17 @@ def wmo_csv(folder: pathlib.Path) -> None:
 
 
 def main() -> None:
-    text, complaints = PAGE.read_text(), []
+    text, complaints = PAGE.read_text().partition("\n## Next year's version\n")[2], []
     if len(text.split()) > 200:
-        complaints.append(f"the page has {len(text.split())} words, more than 200")
-    commands = "".join(re.findall(r"```sh\n(.*?)```", text, re.S))
+        complaints.append(f"the part has {len(text.split())} words, more than 200")
+    commands = "".join(re.findall(r"```sh\n(.*?) *```", text, re.S))
     with tempfile.TemporaryDirectory() as folder:
         place = pathlib.Path(folder)
         shutil.copytree(TOP / "tables", place / "tables")
         wmo_csv(place / "wmo-csv")
         done = subprocess.run(["sh", "-eu", "-c", commands], cwd=place, capture_output=True, text=True)
         if (done.returncode, done.stdout, done.stderr) != (0, TOLD, ""):
-            complaints.append(f"the page's commands: {done}")
+            complaints.append(f"the commands: {done}")
         bits = lib.Bits()
         bits.put(7, 7)
         bits.put(99, 8)

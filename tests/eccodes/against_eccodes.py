@@ -56,15 +56,15 @@ forgets 202 where 207 follows | 1 | 80 | 202129 207001 012101 | 1:20
 does not multiply a redefined reference by 207 | 1 | 80 | 203010 012101 203255 207001 012101 | 5:10 1:20
 drops references where others are redefined | 1 | 80 | 203010 012101 203255 203010 001001 203255 012101 | 5:10 3:10 1:16
 keeps the first of two references for one element | 1 | 80 | 203010 101002 012101 203255 012101 | 5:10 6:10 1:16
-reads no six bits behind a redefined reference | 2 | C0 | 203010 012101 203255 012101 | 5:10 0:6 1:16 0:6
-reads no scale behind 206, whatever Table B says | 1 | 80 | 012101 206016 012101 | 1:16 2:16
+reads no six bits after a redefined reference | 2 | C0 | 203010 012101 203255 012101 | 5:10 0:6 1:16 0:6
+reads no scale after 206, whatever Table B says | 1 | 80 | 012101 206016 012101 | 1:16 2:16
 reads all ones in a single bit as 1 | 1 | 80 | 012101 201113 012101 | 3:16 1:1
 reads all ones of class 31 as missing | 1 | 80 | 012101 031012 | 3:16 65535:16
 reads a sum of all ones as a number | 2 | C0 | 001001 | 126:7 2:6 0:2 1:2
 adds increments to an R0 of all ones | 2 | C0 | 001001 | 127:7 2:6 0:2 1:2
 refuses equal increments of a factor | 2 | C0 | 101000 031001 001001 | 1:8 1:6 0:1 0:1 5:7 0:6
 ends without an answer at no subsets | 0 | 80 | 012101 | 0:8
-ends early behind a third delayed group that is empty | 1 | 80 | 105000 031001 103000 031001 101000 031001 001001 | 2:8 1:8 0:8 0:8
+ends early after a third delayed group that is empty | 1 | 80 | 105000 031001 103000 031001 101000 031001 001001 | 2:8 1:8 0:8 0:8
 goes on without what a repetition left in force | 1 | 80 | 103000 031001 012101 201130 012101 | 2:8 2:16 3:18 4:18 5:18
 takes in operators of a group that is empty | 1 | 80 | 102000 031001 201130 012101 012101 012101 | 0:8 1:16 2:16
 refuses a delayed group of 100 elements | 1 | 80 | 102000 031001 101100 001001 001001 | 0:8 1:7
