@@ -1,7 +1,7 @@
 -- A number as bits, in parts and by octets.
-use Rattle.std.proofs.Common.{◌≡◌, ℕ, zero, suc, ◌+◌, ◌-◌, ◌*◌, ◌/◌, ◌%◌, ◌^◌, ◌<◌, ◌≤◌, ◌==◌, Bool, false, List, [], ◌∷◌, ◌++◌, length, take, drop, replicate, get_or, refl, sym, ap, ◌∙◌, arith, append_assoc, drop-drop, mod-eq_of_lt}
+use Rattle.std.proofs.Common.{◌≡◌, ℕ, zero, suc, ◌+◌, ◌*◌, ◌/◌, ◌%◌, ◌^◌, ◌<◌, ◌==◌, Bool, false, List, [], ◌∷◌, ◌++◌, length, take, drop, replicate, get_or, refl, sym, ap, ◌∙◌, arith, append_assoc, drop-drop, mod-eq_of_lt}
 use Rattle.std.proofs.lemmas.Nat.{mod-pow-add, shr_high, shr_split, shr_le, mod_below, shr-shr, pow-add, pow_pos}
-use Rattle.std.proofs.lemmas.List.{take_all, take_at, drop_at, drop-append-le, drop_more}
+use Rattle.std.proofs.lemmas.List.{take_at, drop_at, drop-append-le, drop_more}
 use Rattle.std.specs.Int.{bytes_high_first, byte_at}
 use Rattle.std.proofs.Math.Nat.{pow-suc}
 use Rattle.bufr_bits.specs.Bits.{bits_of_octet, bits_of, bits_in, number_of, bits_at}
@@ -91,22 +91,6 @@ bits_of-bytes (suc k) n =
     let first : bits_of_octet (byte_at k n) ≡ bits_in (n / 2 ^ (8 * k)) 8 = ap bits_of_octet (byte_at-is k n) ∙ sym (bits_in-octet (n / 2 ^ (8 * k))) in
     let whole : bits_in n (8 * suc k) ≡ bits_in (n / 2 ^ (8 * k)) 8 ++ bits_in n (8 * k) = ap (bits_in n) e ∙ bits_in-split n 8 (8 * k) in
     ap (λ (xs : List Bool). xs ++ bits_of (bytes_high_first k n)) first ∙ ap (λ (xs : List Bool). bits_in (n / 2 ^ (8 * k)) 8 ++ xs) (bits_of-bytes k n) ∙ sym whole
-
-pub drop-bytes : (j k n : ℕ) → drop j (bytes_high_first (j + k) n) ≡ bytes_high_first k n
-drop-bytes zero k n = ap (λ (m : ℕ). bytes_high_first m n) (omega arith)
-drop-bytes (suc j) k n = let e : suc j + k ≡ suc (j + k) = omega arith in ap (λ (m : ℕ). drop (suc j) (bytes_high_first m n)) e ∙ drop-bytes j k n
-
-pub length-bytes : (k n : ℕ) → length (bytes_high_first k n) ≡ k
-length-bytes zero n = refl
-length-bytes (suc k) n = ap suc (length-bytes k n)
-
--- the last octets of the eight of a number
-pub low_bytes : (whole n : ℕ) (bytes : List ℕ) → whole ≤ 8 → bytes ≡ bytes_high_first 8 n → take (8 - (8 - whole)) (drop (8 - whole) bytes) ≡ bytes_high_first whole n
-low_bytes whole n bytes h e =
-    let j = 8 - whole in
-    let eight : 8 ≡ j + whole = omega arith in
-    let dropped : drop j bytes ≡ bytes_high_first whole n = ap (drop j) (e ∙ ap (λ (k : ℕ). bytes_high_first k n) eight) ∙ drop-bytes j whole n in
-    ap (take (8 - j)) dropped ∙ take_all (8 - j) (bytes_high_first whole n) (omega (arith, length-bytes whole n))
 
 -- the bits of a number in a width write the number
 pub number_of-bits_in : (v w : ℕ) → number_of (bits_in v w) ≡ v % 2 ^ w
