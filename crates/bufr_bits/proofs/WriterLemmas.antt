@@ -1,4 +1,4 @@
--- What a writer of bits stands for, after each of its calls.
+-- The bits of a writer after each of its calls.
 use Rattle.std.proofs.Common.{◌≡◌, ℕ, suc, ◌+◌, ◌-◌, ◌*◌, ◌/◌, ◌%◌, ◌^◌, ◌<◌, ◌≤◌, Bool, false, List, [], ◌∷◌, ◌++◌, length, take, replicate, get_or, drop, refl, sym, ap, ◌∙◌, subst, arith, append_assoc, append-nil, length-append, length-take-le, take-append-drop, take_at, drop-cons, pow_mono}
 use Rattle.std.proofs.lemmas.Nat.{shr_split, mod_below, mod_low, pow-add, pow_pos, shl_whole, shr_below, shr_le}
 use Rattle.std.proofs.Math.Nat.{mul-le-mul_right}
@@ -25,8 +25,8 @@ bits_of-one : (n : ℕ) → bits_of (n % 256 ∷ []) ≡ bits_in n 8
 unfolding bits_of
 bits_of-one n = sym (bits_in-octet n)
 
--- ---- the bits that stand last, with zeros up to the next octet
--- zeros behind bits, and as many of all of these as end within the zeros
+-- ---- the last bits, with zeros up to the next octet
+-- zeros after bits, and as many of all of these as end within the zeros
 zeros_behind : (last count pad rest : ℕ) → take (count + pad) (bits_in (last * 2 ^ (pad + rest)) (count + (pad + rest))) ≡ bits_in last count ++ replicate pad false
 zeros_behind last count pad rest =
     let free = pad + rest in
@@ -51,7 +51,7 @@ last_octets xs ys bytes last count some few low b e =
     let first : bits_of (take whole bytes) ≡ bits_in last count ++ padding count = sym (take-bits_of whole bytes) ∙ ap (λ (k : ℕ). take k (bits_of bytes)) filled ∙ ap (take (count + pad)) bits ∙ zeros_behind last count pad rest in
     ap bits_of e ∙ bits_of-append xs (take whole bytes) ∙ ap (λ (bs : List Bool). bits_of xs ++ bs) first
 
--- where none stand last there is nothing to write
+-- where there are no last bits there is nothing to write
 pub no_octets : (xs : List ℕ) (last count : ℕ) → count ≤ 0 → bits_of xs ≡ bits_of xs ++ (bits_in last count ++ padding count)
 no_octets xs last count none =
     let zero_count : count ≡ 0 = omega arith in
@@ -64,7 +64,7 @@ padded xs ys last count bits e v =
     let free : (8 - count % 8) % 8 ≡ (8 - length bits % 8) % 8 = omega arith in
     e ∙ sym (append_assoc (bits_of xs) (bits_in last count) (padding count)) ∙ ap (λ (bs : List Bool). bs ++ padding count) v ∙ ap (λ (k : ℕ). bits ++ replicate k false) free
 
--- octets behind whole octets
+-- octets after whole octets
 pub appended_whole : (xs ys zs octets : List ℕ) (last count : ℕ) (bits : List Bool) → count % 8 ≡ 0 → bits_of xs ++ bits_in last count ≡ bits → bits_of ys ≡ bits_of xs ++ (bits_in last count ++ padding count) → zs ≡ ys ++ octets → bits_of zs ++ bits_in 0 0 ≡ bits ++ bits_of octets
 appended_whole xs ys zs octets last count bits whole v y z =
     let none : (8 - count % 8) % 8 ≡ 0 = omega arith in
@@ -95,7 +95,7 @@ pub both_bits : (xs : List ℕ) (last count value width : ℕ) → count + width
 both_bits xs last count value width few hl hv =
     ap (λ (m : ℕ). bits_of xs ++ bits_in m (count + width)) (both_are last count value width few hl) ∙ ap (λ (bs : List Bool). bits_of xs ++ bs) (sym (bits_in-join last value count width hv)) ∙ sym (append_assoc (bits_of xs) (bits_in last count) (bits_in value width))
 
--- many bits: the first 64, and the bits behind them
+-- many bits: the first 64, and the bits after them
 two_powers : (last width shift kept value : ℕ) → width ≡ shift + kept → last * 2 ^ width + value ≡ last * 2 ^ shift * 2 ^ kept + value
 two_powers last width shift kept value e = ap (λ (k : ℕ). last * 2 ^ k + value) e ∙ ap (λ (p : ℕ). last * p + value) (pow-add 2 shift kept) ∙ omega arith
 
@@ -120,7 +120,7 @@ power_fits k few = shl_whole 1 1 k 64 (omega arith) (omega arith) ∙ omega arit
 pub rest_low : (value kept : ℕ) → kept < 63 → value % (1 * 2 ^ kept % 18446744073709551616) < 2 ^ kept
 rest_low value kept few = subst (λ (m : ℕ). value % m < 2 ^ kept) (sym (power_fits kept (omega arith))) (mod_below value (2 ^ kept) (pow_pos kept))
 
--- ---- bits written as octets and bits behind them
+-- ---- bits written as octets and bits after them
 pub bits_in-rest : (n k : ℕ) → bits_in (n % 2 ^ k) k ≡ bits_in n k
 bits_in-rest n k = sym (ap (λ (m : ℕ). bits_in m k) (sym (shr_split n k)) ∙ bits_in-above (n / 2 ^ k) (n % 2 ^ k) k)
 
@@ -128,8 +128,8 @@ pub written : (xs ys bytes : List ℕ) (last count value width head tail whole k
 written xs ys bytes last count value width head tail whole kept bits v hv total h t b e =
     let n = last * 2 ^ width + value in
     let octets : bits_of bytes ≡ bits_in (n / 2 ^ kept) (8 * whole) = ap bits_of b ∙ bits_of-bytes whole head ∙ ap (λ (m : ℕ). bits_in m (8 * whole)) h in
-    let behind : bits_in tail kept ≡ bits_in n kept = ap (λ (m : ℕ). bits_in m kept) t ∙ bits_in-rest n kept in
-    let new : bits_of bytes ++ bits_in tail kept ≡ bits_in last count ++ bits_in value width = ap (λ (bs : List Bool). bs ++ bits_in tail kept) octets ∙ ap (λ (bs : List Bool). bits_in (n / 2 ^ kept) (8 * whole) ++ bs) behind ∙ sym (bits_in-split n (8 * whole) kept) ∙ ap (bits_in n) (sym total) ∙ sym (bits_in-join last value count width hv) in
+    let after : bits_in tail kept ≡ bits_in n kept = ap (λ (m : ℕ). bits_in m kept) t ∙ bits_in-rest n kept in
+    let new : bits_of bytes ++ bits_in tail kept ≡ bits_in last count ++ bits_in value width = ap (λ (bs : List Bool). bs ++ bits_in tail kept) octets ∙ ap (λ (bs : List Bool). bits_in (n / 2 ^ kept) (8 * whole) ++ bs) after ∙ sym (bits_in-split n (8 * whole) kept) ∙ ap (bits_in n) (sym total) ∙ sym (bits_in-join last value count width hv) in
     ap (λ (zs : List ℕ). bits_of zs ++ bits_in tail kept) e ∙ ap (λ (bs : List Bool). bs ++ bits_in tail kept) (bits_of-append xs bytes) ∙ append_assoc (bits_of xs) (bits_of bytes) (bits_in tail kept) ∙ ap (λ (bs : List Bool). bits_of xs ++ bs) new ∙ sym (append_assoc (bits_of xs) (bits_in last count) (bits_in value width)) ∙ ap (λ (bs : List Bool). bs ++ bits_in value width) v
 
 -- eight octets go out
@@ -141,29 +141,29 @@ full_bits xs ys bytes last count value width shift kept all parts few hl hv b e 
     let tail : value % (1 * 2 ^ kept % 18446744073709551616) ≡ n % 2 ^ kept = ap (λ (m : ℕ). value % m) (power_fits kept (omega arith)) ∙ sym (ap (λ (m : ℕ). m % 2 ^ kept) split ∙ rest_above (last * 2 ^ shift) value kept) in
     written xs ys bytes last count value width _ _ 8 kept (bits_of xs ++ bits_in last count) refl hv (omega arith) head tail b e
 
--- ---- octets behind bits, one after another
-pub behind_step : (start xs ys octets : List ℕ) (last count behind kept next more i : ℕ) → i < length octets → get_or octets i 0 < 256 → bits_of xs ++ bits_in behind kept ≡ bits_of start ++ bits_in last count ++ bits_of (take i octets) → bits_of ys ++ bits_in next more ≡ bits_of xs ++ bits_in behind kept ++ bits_in (get_or octets i 0) 8 → bits_of ys ++ bits_in next more ≡ bits_of start ++ bits_in last count ++ bits_of (take (i + 1) octets)
-behind_step start xs ys octets last count behind kept next more i inside small so_far e =
+-- ---- octets after bits, one after another
+pub after_step : (start xs ys octets : List ℕ) (last count after kept next more i : ℕ) → i < length octets → get_or octets i 0 < 256 → bits_of xs ++ bits_in after kept ≡ bits_of start ++ bits_in last count ++ bits_of (take i octets) → bits_of ys ++ bits_in next more ≡ bits_of xs ++ bits_in after kept ++ bits_in (get_or octets i 0) 8 → bits_of ys ++ bits_in next more ≡ bits_of start ++ bits_in last count ++ bits_of (take (i + 1) octets)
+after_step start xs ys octets last count after kept next more i inside small so_far e =
     let octet = get_or octets i 0 in
     let same : octet ≡ octet % 256 = omega arith in
     let bits : bits_in octet 8 ≡ bits_of (octet ∷ []) = sym (ap (λ (m : ℕ). bits_of (m ∷ [])) same ∙ bits_of-one octet) in
     let whole : bits_of (take (i + 1) octets) ≡ bits_of (take i octets) ++ bits_of (octet ∷ []) = ap bits_of (take_more octets i 0 inside) ∙ bits_of-append (take i octets) (octet ∷ []) in
-    e ∙ ap (λ (bs : List Bool). bits_of xs ++ bits_in behind kept ++ bs) bits ∙ ap (λ (bs : List Bool). bs ++ bits_of (octet ∷ [])) so_far ∙ append_assoc (bits_of start ++ bits_in last count) (bits_of (take i octets)) (bits_of (octet ∷ [])) ∙ ap (λ (bs : List Bool). bits_of start ++ bits_in last count ++ bs) (sym whole)
+    e ∙ ap (λ (bs : List Bool). bits_of xs ++ bits_in after kept ++ bs) bits ∙ ap (λ (bs : List Bool). bs ++ bits_of (octet ∷ [])) so_far ∙ append_assoc (bits_of start ++ bits_in last count) (bits_of (take i octets)) (bits_of (octet ∷ [])) ∙ ap (λ (bs : List Bool). bits_of start ++ bits_in last count ++ bs) (sym whole)
 
-pub nothing_behind : (xs : List ℕ) (last count : ℕ) → bits_of xs ++ bits_in last count ≡ bits_of xs ++ bits_in last count ++ bits_of []
+pub nothing_after : (xs : List ℕ) (last count : ℕ) → bits_of xs ++ bits_in last count ≡ bits_of xs ++ bits_in last count ++ bits_of []
 unfolding bits_of
-nothing_behind xs last count = sym (append-nil (bits_of xs ++ bits_in last count))
+nothing_after xs last count = sym (append-nil (bits_of xs ++ bits_in last count))
 
 -- ---- the first of the bits
--- bits that are cut behind a front of them
-cut_behind : (front kept behind : List Bool) (n : ℕ) → length (front ++ kept) ≡ n → take n (front ++ (kept ++ behind)) ≡ front ++ kept
-cut_behind front kept behind n e = ap (take n) (sym (append_assoc front kept behind)) ∙ take_at (front ++ kept) behind n e
+-- bits that are cut after a prefix of them
+cut_after : (prefix kept after : List Bool) (n : ℕ) → length (prefix ++ kept) ≡ n → take n (prefix ++ (kept ++ after)) ≡ prefix ++ kept
+cut_after prefix kept after n e = ap (take n) (sym (append_assoc prefix kept after)) ∙ take_at (prefix ++ kept) after n e
 
 pub cut_in_last : (xs : List ℕ) (last count kept : ℕ) → kept ≤ count → take (8 * length xs + kept) (bits_of xs ++ bits_in last count) ≡ bits_of xs ++ bits_in (last / 2 ^ (count - kept)) kept
 cut_in_last xs last count kept few =
     let cut = count - kept in
     let sum : count ≡ kept + cut = omega arith in
-    ap (λ (bs : List Bool). take (8 * length xs + kept) (bits_of xs ++ bs)) (ap (bits_in last) sum ∙ bits_in-split last kept cut) ∙ cut_behind (bits_of xs) (bits_in (last / 2 ^ cut) kept) (bits_in last cut) (8 * length xs + kept) (length-written xs (last / 2 ^ cut) kept)
+    ap (λ (bs : List Bool). take (8 * length xs + kept) (bits_of xs ++ bs)) (ap (bits_in last) sum ∙ bits_in-split last kept cut) ∙ cut_after (bits_of xs) (bits_in (last / 2 ^ cut) kept) (bits_in last cut) (8 * length xs + kept) (length-written xs (last / 2 ^ cut) kept)
 
 -- some of the last bits are kept
 pub cut_last : (xs : List ℕ) (last count kept n : ℕ) (bits : List Bool) → bits_of xs ++ bits_in last count ≡ bits → kept ≤ count → n ≡ 8 * length xs + kept → bits_of xs ++ bits_in (last / 2 ^ (count - kept)) kept ≡ take n bits
@@ -175,9 +175,9 @@ cut_none xs last count n bits v all =
     let long : length bits ≡ 8 * length xs + count = ap length (sym v) ∙ length-written xs last count in
     sym (take_all n bits (omega arith))
 
-cut_in_octet : (xs : List ℕ) (behind : List Bool) (whole kept d : ℕ) → whole < length xs → kept < 8 → get_or xs whole d < 256 → take (8 * whole + kept) (bits_of xs ++ behind) ≡ bits_of (take whole xs) ++ bits_in (get_or xs whole d / 2 ^ (8 - kept)) kept
+cut_in_octet : (xs : List ℕ) (after : List Bool) (whole kept d : ℕ) → whole < length xs → kept < 8 → get_or xs whole d < 256 → take (8 * whole + kept) (bits_of xs ++ after) ≡ bits_of (take whole xs) ++ bits_in (get_or xs whole d / 2 ^ (8 - kept)) kept
 unfolding bits_of
-cut_in_octet xs behind whole kept d inside few small =
+cut_in_octet xs after whole kept d inside few small =
     let x = get_or xs whole d in
     let rest = drop (suc whole) xs in
     let cut = 8 - kept in
@@ -186,9 +186,9 @@ cut_in_octet xs behind whole kept d inside few small =
     let octet : bits_of_octet x ≡ bits_in (x / 2 ^ cut) kept ++ bits_in x cut = ap bits_of_octet (sym same) ∙ sym (bits_in-octet x) ∙ ap (bits_in x) sum ∙ bits_in-split x kept cut in
     let parts : xs ≡ take whole xs ++ x ∷ rest = sym (take-append-drop whole xs) ∙ ap (λ (ys : List ℕ). take whole xs ++ ys) (drop-cons xs whole d inside) in
     let long : length (take whole xs) ≡ whole = length-take-le whole xs (omega arith) in
-    let bits : bits_of xs ++ behind ≡ bits_of (take whole xs) ++ (bits_in (x / 2 ^ cut) kept ++ (bits_in x cut ++ (bits_of rest ++ behind))) =
-    ap (λ (ys : List ℕ). bits_of ys ++ behind) parts ∙ ap (λ (bs : List Bool). bs ++ behind) (bits_of-append (take whole xs) (x ∷ rest)) ∙ append_assoc (bits_of (take whole xs)) (bits_of_octet x ++ bits_of rest) behind ∙ ap (λ (bs : List Bool). bits_of (take whole xs) ++ bs) (append_assoc (bits_of_octet x) (bits_of rest) behind ∙ ap (λ (bs : List Bool). bs ++ (bits_of rest ++ behind)) octet ∙ append_assoc (bits_in (x / 2 ^ cut) kept) (bits_in x cut) (bits_of rest ++ behind)) in
-    ap (take (8 * whole + kept)) bits ∙ cut_behind (bits_of (take whole xs)) (bits_in (x / 2 ^ cut) kept) (bits_in x cut ++ (bits_of rest ++ behind)) (8 * whole + kept) (length-written (take whole xs) (x / 2 ^ cut) kept ∙ ap (λ (m : ℕ). 8 * m + kept) long)
+    let bits : bits_of xs ++ after ≡ bits_of (take whole xs) ++ (bits_in (x / 2 ^ cut) kept ++ (bits_in x cut ++ (bits_of rest ++ after))) =
+    ap (λ (ys : List ℕ). bits_of ys ++ after) parts ∙ ap (λ (bs : List Bool). bs ++ after) (bits_of-append (take whole xs) (x ∷ rest)) ∙ append_assoc (bits_of (take whole xs)) (bits_of_octet x ++ bits_of rest) after ∙ ap (λ (bs : List Bool). bits_of (take whole xs) ++ bs) (append_assoc (bits_of_octet x) (bits_of rest) after ∙ ap (λ (bs : List Bool). bs ++ (bits_of rest ++ after)) octet ∙ append_assoc (bits_in (x / 2 ^ cut) kept) (bits_in x cut) (bits_of rest ++ after)) in
+    ap (take (8 * whole + kept)) bits ∙ cut_after (bits_of (take whole xs)) (bits_in (x / 2 ^ cut) kept) (bits_in x cut ++ (bits_of rest ++ after)) (8 * whole + kept) (length-written (take whole xs) (x / 2 ^ cut) kept ∙ ap (λ (m : ℕ). 8 * m + kept) long)
 
 -- some of the octets are kept, and some bits of the next
 pub cut_octet : (xs ys : List ℕ) (last count octet n d : ℕ) (bits : List Bool) → bits_of xs ++ bits_in last count ≡ bits → ys ≡ take (n / 8) xs → octet ≡ get_or xs (n / 8) d → n < 8 * length xs → octet < 256 → bits_of ys ++ bits_in (octet / 2 ^ (8 - n % 8)) (n % 8) ≡ take n bits

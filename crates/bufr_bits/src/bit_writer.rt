@@ -229,22 +229,22 @@ fn put_last(out: &mut Vec<u8>, last: u64, count: u32)
     }
 }
 
-/// Law: where octets have the bits that write a value, with any bits before and behind, the number
+/// Law: where octets have the bits that write a value, with any bits before and after, the number
 /// that [`BitSlice::get`](crate::BitSlice::get) answers for them is the value.
 pub fn pushed_reads_back(value: u64, width: u32)
     requires { value < 2 ^ width }
-    ensures { (before behind : List Bool) (octets : List ℕ) → bits_of octets ≡ before ++ bits_in
-        value width ++ behind → number_of (bits_at octets (length before) width) ≡ value }
+    ensures { (before after : List Bool) (octets : List ℕ) → bits_of octets ≡ before ++ bits_in
+        value width ++ after → number_of (bits_at octets (length before) width) ≡ value }
 {}
 
-/// Law: where octets have the bits of other octets, with any bits before and behind, each of these
+/// Law: where octets have the bits of other octets, with any bits before and after, each of these
 /// is the number that [`BitSlice::octet`](crate::BitSlice::octet) answers at its place.
 pub fn pushed_octets_read_back(octets: &[u8])
-    ensures bits { (before behind : List Bool) (among : List ℕ)
-        → bits_of among ≡ before ++ bits_of octets.now ++ behind
+    ensures bits { (before after : List Bool) (among : List ℕ)
+        → bits_of among ≡ before ++ bits_of octets.now ++ after
         → bits_at among (length before) (8 * length octets.now) ≡ bits_of octets.now }
-    ensures octets { (before behind : List Bool) (among : List ℕ)
-        → bits_of among ≡ before ++ bits_of octets.now ++ behind
+    ensures octets { (before after : List Bool) (among : List ℕ)
+        → bits_of among ≡ before ++ bits_of octets.now ++ after
         → (k : ℕ) → k < length octets.now
         → number_of (bits_at among (length before + 8 * k) 8) ≡ slice_index octets.now k }
 {}

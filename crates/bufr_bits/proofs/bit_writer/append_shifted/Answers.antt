@@ -1,10 +1,10 @@
 use Rattle.std.proofs.Common.{◌<◌, get_or, arith}
-use Rattle.bufr_bits.proofs.WriterLemmas.{behind_step, nothing_behind}
+use Rattle.bufr_bits.proofs.WriterLemmas.{after_step, nothing_after}
 use Rattle.bufr_bits.proofs.bit_writer.append_shifted.Goals as goal
 
 pub loop-octet-init : goal.loop-octet-init
 loop-octet-init c = record {
-  bits = nothing_behind c.args.out.now.items c.args.last c.args.count;
+  bits = nothing_after c.args.out.now.items c.args.last c.args.count;
   few = c.requires.few;
   low = c.requires.low;
   len = omega arith;
@@ -20,7 +20,7 @@ loop-octet-preserved c =
     let before = c.loop-octet.invariant.capacity in
     let capacity = c.put_bits-last.ensures.capacity in
     record {
-      bits = behind_step c.args.out.now.items c.loop-octet.out.items c.put_bits-last.new.out.items c.args.octets.now c.args.last c.args.count c.loop-octet.number c.loop-octet.held c.put_bits-last.result.0 c.put_bits-last.result.1 c.loop-octet.octet-index c.loop-octet-test.true small c.loop-octet.invariant.bits (rw octet at c.put_bits-last.ensures.bits);
+      bits = after_step c.args.out.now.items c.loop-octet.out.items c.put_bits-last.new.out.items c.args.octets.now c.args.last c.args.count c.loop-octet.number c.loop-octet.held c.put_bits-last.result.0 c.put_bits-last.result.1 c.loop-octet.octet-index c.loop-octet-test.true small c.loop-octet.invariant.bits (rw octet at c.put_bits-last.ensures.bits);
       few = c.put_bits-last.ensures.few;
       low = c.put_bits-last.ensures.low;
       len = omega arith;
