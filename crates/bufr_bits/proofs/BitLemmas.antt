@@ -13,19 +13,19 @@ bit b = if b then 1 else 0
 shift_once : (n b p q r : ℕ) → q ≡ p * 2 → (2 * n + b) * p + r ≡ n * q + ((2 * 0 + b) * p + r)
 shift_once n b p q r e = rw e (omega arith)
 
--- bits behind a number: the number moves up by as many places
-pub number_behind-is : (n : ℕ) (xs : List Bool) → number_after_bits n xs ≡ n * 2 ^ length xs + number_of xs
-number_behind-is n [] = omega arith
-number_behind-is n (x ∷ xs) =
+-- bits after a number: the number moves up by as many places
+pub number_after_bits-is : (n : ℕ) (xs : List Bool) → number_after_bits n xs ≡ n * 2 ^ length xs + number_of xs
+number_after_bits-is n [] = omega arith
+number_after_bits-is n (x ∷ xs) =
     let q = 2 ^ suc (length xs) in
-    number_behind-is (2 * n + bit x) xs ∙ shift_once n (bit x) (2 ^ length xs) q (number_of xs) (pow-suc 2 (length xs)) ∙ ap (λ (k : ℕ). n * q + k) (sym (number_behind-is (2 * 0 + bit x) xs))
+    number_after_bits-is (2 * n + bit x) xs ∙ shift_once n (bit x) (2 ^ length xs) q (number_of xs) (pow-suc 2 (length xs)) ∙ ap (λ (k : ℕ). n * q + k) (sym (number_after_bits-is (2 * 0 + bit x) xs))
 
-pub number_behind-append : (n : ℕ) (xs ys : List Bool) → number_after_bits n (xs ++ ys) ≡ number_after_bits (number_after_bits n xs) ys
-number_behind-append n [] ys = refl
-number_behind-append n (x ∷ xs) ys = number_behind-append (2 * n + bit x) xs ys
+pub number_after_bits-append : (n : ℕ) (xs ys : List Bool) → number_after_bits n (xs ++ ys) ≡ number_after_bits (number_after_bits n xs) ys
+number_after_bits-append n [] ys = refl
+number_after_bits-append n (x ∷ xs) ys = number_after_bits-append (2 * n + bit x) xs ys
 
 pub number_of-append : (xs ys : List Bool) → number_of (xs ++ ys) ≡ number_of xs * 2 ^ length ys + number_of ys
-number_of-append xs ys = number_behind-append 0 xs ys ∙ number_behind-is (number_of xs) ys
+number_of-append xs ys = number_after_bits-append 0 xs ys ∙ number_after_bits-is (number_of xs) ys
 
 bit-le : (b : Bool) → bit b ≤ 1
 bit-le true = omega arith
@@ -38,7 +38,7 @@ pub number_of-below : (xs : List Bool) → number_of xs < 2 ^ length xs
 number_of-below [] = omega arith
 number_of-below (x ∷ xs) =
     let below = number_of-below xs in
-    let alone = number_behind-is (2 * 0 + bit x) xs in
+    let alone = number_after_bits-is (2 * 0 + bit x) xs in
     let p : 2 ^ suc (length xs) ≡ 2 ^ length xs * 2 = pow-suc 2 (length xs) in
     let small = below_twice (bit x) (2 ^ length xs) (number_of xs) (bit-le x) below in
     omega (arith, small, alone, p)
@@ -75,20 +75,20 @@ middle_of a b c n w k hb hc e =
 -- the middle of a list of bits writes the middle of the number that the list writes
 pub number_of_middle : (xs : List Bool) (n from width : ℕ) → length xs ≡ n → from + width ≤ n → number_of (take width (drop from xs)) ≡ number_of xs / 2 ^ (n - from - width) % 2 ^ width
 number_of_middle xs n from width l h =
-    let front = take from xs in
+    let prefix = take from xs in
     let mid = take width (drop from xs) in
     let back = drop width (drop from xs) in
     let length_mid : length mid ≡ width = length-take-le width (drop from xs) (omega (arith, length-drop from xs)) in
     let length_back : length back ≡ n - from - width = omega (arith, length-drop from xs, length-drop width (drop from xs)) in
     let k = n - from - width in
     let halves : number_of (drop from xs) ≡ number_of mid * 2 ^ length back + number_of back = ap number_of (sym (take-append-drop width (drop from xs))) ∙ number_of-append mid back in
-    let thirds : number_of xs ≡ number_of front * 2 ^ length (drop from xs) + number_of (drop from xs) = ap number_of (sym (take-append-drop from xs)) ∙ number_of-append front (drop from xs) in
+    let thirds : number_of xs ≡ number_of prefix * 2 ^ length (drop from xs) + number_of (drop from xs) = ap number_of (sym (take-append-drop from xs)) ∙ number_of-append prefix (drop from xs) in
     let below_mid : number_of mid < 2 ^ width = subst (λ (m : ℕ). number_of mid < 2 ^ m) length_mid (number_of-below mid) in
     let below_back : number_of back < 2 ^ k = subst (λ (m : ℕ). number_of back < 2 ^ m) length_back (number_of-below back) in
     let rest : length (drop from xs) ≡ width + k = omega (arith, length-drop from xs) in
-    let behind : number_of (drop from xs) ≡ number_of mid * 2 ^ k + number_of back = halves ∙ ap (λ (m : ℕ). number_of mid * 2 ^ m + number_of back) length_back in
-    let all : number_of xs ≡ number_of front * 2 ^ (width + k) + (number_of mid * 2 ^ k + number_of back) = thirds ∙ ap (λ (m : ℕ). number_of front * 2 ^ m + number_of (drop from xs)) rest ∙ ap (λ (m : ℕ). number_of front * 2 ^ (width + k) + m) behind in
-    sym (middle_of (number_of front) (number_of mid) (number_of back) (number_of xs) width k below_mid below_back all)
+    let after : number_of (drop from xs) ≡ number_of mid * 2 ^ k + number_of back = halves ∙ ap (λ (m : ℕ). number_of mid * 2 ^ m + number_of back) length_back in
+    let all : number_of xs ≡ number_of prefix * 2 ^ (width + k) + (number_of mid * 2 ^ k + number_of back) = thirds ∙ ap (λ (m : ℕ). number_of prefix * 2 ^ m + number_of (drop from xs)) rest ∙ ap (λ (m : ℕ). number_of prefix * 2 ^ (width + k) + m) after in
+    sym (middle_of (number_of prefix) (number_of mid) (number_of back) (number_of xs) width k below_mid below_back all)
 
 -- the bits of octets, by octets
 pub length-bits_of : (xs : List ℕ) → length (bits_of xs) ≡ 8 * length xs
@@ -121,8 +121,8 @@ number_of_part xs i from width h small fits =
     let there : drop (8 * i + from) (bits_of xs) ≡ drop from (bits_of (drop i xs)) = sym (drop-drop from (8 * i) (bits_of xs)) ∙ ap (drop from) (drop-bits_of i xs) in
     let first : drop from (bits_of (drop i xs)) ≡ drop from (bits ++ bits_of (drop (i + 1) xs)) = ap (λ (ys : List ℕ). drop from (bits_of ys)) (drop_more xs i 0 h) in
     let within : drop from (bits ++ bits_of (drop (i + 1) xs)) ≡ drop from bits ++ bits_of (drop (i + 1) xs) = drop-append-le from bits _ (omega arith) in
-    let front : take width (drop from bits ++ bits_of (drop (i + 1) xs)) ≡ take width (drop from bits) = take-append-le width (drop from bits) _ (omega (arith, length-drop from bits)) in
-    ap (λ (ys : List Bool). number_of (take width ys)) (there ∙ first ∙ within) ∙ ap number_of front ∙ number_of_middle bits 8 from width refl fits ∙ ap (λ (m : ℕ). m / 2 ^ (8 - from - width) % 2 ^ width) (number-bits_of_octet octet small)
+    let prefix : take width (drop from bits ++ bits_of (drop (i + 1) xs)) ≡ take width (drop from bits) = take-append-le width (drop from bits) _ (omega (arith, length-drop from bits)) in
+    ap (λ (ys : List Bool). number_of (take width ys)) (there ∙ first ∙ within) ∙ ap number_of prefix ∙ number_of_middle bits 8 from width refl fits ∙ ap (λ (m : ℕ). m / 2 ^ (8 - from - width) % 2 ^ width) (number-bits_of_octet octet small)
 
 -- so many bits are there, within the octets
 pub length-bits_at : (xs : List ℕ) (at width : ℕ) → at + width ≤ 8 * length xs → length (bits_at xs at width) ≡ width

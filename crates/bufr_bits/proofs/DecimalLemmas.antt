@@ -14,7 +14,7 @@ use Rattle.bufr_bits.specs.Capped.{capped}
 use Rattle.bufr_bits.specs.DecimalValue.{all_digits, whole_quotient}
 use Rattle.bufr_bits.specs.declared.decimal.NumberFault.TheVariants.{Inexact}
 
--- digits behind a number: the number moves up by as many places
+-- digits after a number: the number moves up by as many places
 move_up : (n d p q r : ℕ) → q ≡ p * 10 → (n * 10 + d) * p + r ≡ n * q + ((0 * 10 + d) * p + r)
 move_up n d p q r e = rw e (omega arith)
 
@@ -46,7 +46,7 @@ pub quotient_is : (n d q r : ℕ) → n ≡ q * d + r → r < d → whole_quotie
 quotient_is n d q r e h =
     rw (e, mod-mul-add q d r h, div-mul-add q d r h) refl
 
--- ten multiplies: digits behind the point come before it, and zeros behind them
+-- ten multiplies: digits after the point come before it, and zeros after them
 up_product : (a c d p q u : ℕ) → (a * (p * q) + (c * p + d)) * (u * q) ≡ (a * q + c) * u * (p * q) + d * (u * q)
 up_product a c d p q u = omega arith
 
@@ -65,7 +65,7 @@ sum_zero (suc b) p d h = let some : 0 < suc b * p + d = omega arith in grind (ar
 pub ten_split : (m i j : ℕ) → m ≡ i + j → 10 ^ m ≡ 10 ^ i * 10 ^ j
 ten_split m i j e = ap (λ (k : ℕ). 10 ^ k) e ∙ pow-add 10 i j
 
--- what is left over is small: digits are left over only where no zeros are put behind
+-- what is left over is small: digits are left over only where no zeros are put after
 left_small : (d f k up : ℕ) → k ≡ min up f → d < 10 ^ (f - k) → d * 10 ^ up < 10 ^ f
 left_small d f k up e h =
     ⊎_elim

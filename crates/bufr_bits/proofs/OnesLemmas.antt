@@ -5,7 +5,7 @@ use Rattle.std.specs.Option.{option_eq}
 use Rattle.std.proofs.lemmas.Bool.Decides.{nat_tests}
 use Rattle.std.proofs.Math.Nat.{pow-suc}
 use Rattle.bufr_bits.specs.Bits.{bits_of_octet, bits_of, number_of, bits_at, are_all_ones}
-use Rattle.bufr_bits.proofs.BitLemmas.{number_behind-is, number_of-below, number-bits_of_octet, length-bits_at, drop-bits_of, take-bits_of}
+use Rattle.bufr_bits.proofs.BitLemmas.{number_after_bits-is, number_of-below, number-bits_of_octet, length-bits_at, drop-bits_of, take-bits_of}
 
 and_assoc : (a b c : Bool) → (a && (b && c)) ≡ (a && b && c)
 and_assoc true b c = refl
@@ -24,20 +24,20 @@ greatest_not : (n p : ℕ) → n < p → eqb (0 * p + n) (p * 2 - 1) ≡ false
 greatest_not n p h = grind (arith, nat_tests)
 
 -- bits are all ones where they write the greatest number of their width
-pub all_set-number : (xs : List Bool) → eqb (number_of xs) (2 ^ length xs - 1) ≡ are_all_ones xs
-all_set-number [] = refl
-all_set-number (true ∷ xs) =
-    ap (λ (m : ℕ). eqb m (2 ^ suc (length xs) - 1)) (number_behind-is 1 xs) ∙ ap (λ (m : ℕ). eqb (1 * 2 ^ length xs + number_of xs) (m - 1)) (pow-suc 2 (length xs)) ∙ greatest_ahead (number_of xs) (2 ^ length xs) (number_of-below xs) ∙ all_set-number xs
-all_set-number (false ∷ xs) =
-    ap (λ (m : ℕ). eqb m (2 ^ suc (length xs) - 1)) (number_behind-is 0 xs) ∙ ap (λ (m : ℕ). eqb (0 * 2 ^ length xs + number_of xs) (m - 1)) (pow-suc 2 (length xs)) ∙ greatest_not (number_of xs) (2 ^ length xs) (number_of-below xs)
+pub are_all_ones-number : (xs : List Bool) → eqb (number_of xs) (2 ^ length xs - 1) ≡ are_all_ones xs
+are_all_ones-number [] = refl
+are_all_ones-number (true ∷ xs) =
+    ap (λ (m : ℕ). eqb m (2 ^ suc (length xs) - 1)) (number_after_bits-is 1 xs) ∙ ap (λ (m : ℕ). eqb (1 * 2 ^ length xs + number_of xs) (m - 1)) (pow-suc 2 (length xs)) ∙ greatest_ahead (number_of xs) (2 ^ length xs) (number_of-below xs) ∙ are_all_ones-number xs
+are_all_ones-number (false ∷ xs) =
+    ap (λ (m : ℕ). eqb m (2 ^ suc (length xs) - 1)) (number_after_bits-is 0 xs) ∙ ap (λ (m : ℕ). eqb (0 * 2 ^ length xs + number_of xs) (m - 1)) (pow-suc 2 (length xs)) ∙ greatest_not (number_of xs) (2 ^ length xs) (number_of-below xs)
 
 -- octets are all ones where each is 255
-pub all_set-bits_of : (xs : List ℕ) → ((k : ℕ) → get_or xs k 0 < 256) → list_all (λ octet. octet == 255) xs ≡ are_all_ones (bits_of xs)
+pub are_all_ones-bits_of : (xs : List ℕ) → ((k : ℕ) → get_or xs k 0 < 256) → list_all (λ octet. octet == 255) xs ≡ are_all_ones (bits_of xs)
 unfolding bits_of
-all_set-bits_of [] h = refl
-all_set-bits_of (x ∷ xs) h =
-    let here : eqb x 255 ≡ are_all_ones (bits_of_octet x) = ap (λ (m : ℕ). eqb m 255) (sym (number-bits_of_octet x (h 0))) ∙ all_set-number (bits_of_octet x) in
-    let rest : list_all (λ octet. octet == 255) xs ≡ are_all_ones (bits_of xs) = all_set-bits_of xs (λ k. h (suc k)) in
+are_all_ones-bits_of [] h = refl
+are_all_ones-bits_of (x ∷ xs) h =
+    let here : eqb x 255 ≡ are_all_ones (bits_of_octet x) = ap (λ (m : ℕ). eqb m 255) (sym (number-bits_of_octet x (h 0))) ∙ are_all_ones-number (bits_of_octet x) in
+    let rest : list_all (λ octet. octet == 255) xs ≡ are_all_ones (bits_of xs) = are_all_ones-bits_of xs (λ k. h (suc k)) in
     ap (λ (b : Bool). b && list_all (λ octet. octet == 255) xs) here ∙ ap (λ (b : Bool). are_all_ones (bits_of_octet x) && b) rest ∙ sym (list_all-append (λ (b : Bool). b) (bits_of_octet x) (bits_of xs))
 
 -- whole octets of a list of bits
@@ -45,39 +45,39 @@ pub bits_at-octets : (xs : List ℕ) (first count : ℕ) → bits_at xs (8 * fir
 bits_at-octets xs first count = ap (take (8 * count)) (drop-bits_of first xs) ∙ take-bits_of count (drop first xs)
 
 -- all of some bits, in parts
-pub all_set-more : (xs : List ℕ) (at front rest : ℕ) → are_all_ones (bits_at xs at (front + rest)) ≡ (are_all_ones (bits_at xs at front) && are_all_ones (bits_at xs (at + front) rest))
-all_set-more xs at front rest =
-    let there : take rest (drop front (drop at (bits_of xs))) ≡ bits_at xs (at + front) rest = ap (take rest) (drop-drop front at (bits_of xs)) in
-    ap are_all_ones (take-add front rest (drop at (bits_of xs)) ∙ ap (λ (ys : List Bool). bits_at xs at front ++ ys) there) ∙ list_all-append (λ (b : Bool). b) (bits_at xs at front) (bits_at xs (at + front) rest)
+pub are_all_ones-more : (xs : List ℕ) (at leading rest : ℕ) → are_all_ones (bits_at xs at (leading + rest)) ≡ (are_all_ones (bits_at xs at leading) && are_all_ones (bits_at xs (at + leading) rest))
+are_all_ones-more xs at leading rest =
+    let there : take rest (drop leading (drop at (bits_of xs))) ≡ bits_at xs (at + leading) rest = ap (take rest) (drop-drop leading at (bits_of xs)) in
+    ap are_all_ones (take-add leading rest (drop at (bits_of xs)) ∙ ap (λ (ys : List Bool). bits_at xs at leading ++ ys) there) ∙ list_all-append (λ (b : Bool). b) (bits_at xs at leading) (bits_at xs (at + leading) rest)
 
 -- whether a read number is the greatest of its width
 pub read_greatest : (r : Option ℕ) (xs : List ℕ) (at width most : ℕ) → SomeIff r (at + width ≤ 8 * length xs) (number_of (bits_at xs at width)) → at + width ≤ 8 * length xs → most ≡ 2 ^ width - 1 → option_eq nat_eq r (Some most) ≡ are_all_ones (bits_at xs at width)
 read_greatest None xs at width most h fits e = absurd (h fits)
 read_greatest (Some value) xs at width most h fits e =
-    ap (λ (m : ℕ). eqb m most) h.1 ∙ ap (λ (m : ℕ). eqb (number_of (bits_at xs at width)) m) e ∙ ap (λ (m : ℕ). eqb (number_of (bits_at xs at width)) (2 ^ m - 1)) (sym (length-bits_at xs at width fits)) ∙ all_set-number (bits_at xs at width)
+    ap (λ (m : ℕ). eqb m most) h.1 ∙ ap (λ (m : ℕ). eqb (number_of (bits_at xs at width)) m) e ∙ ap (λ (m : ℕ). eqb (number_of (bits_at xs at width)) (2 ^ m - 1)) (sym (length-bits_at xs at width fits)) ∙ are_all_ones-number (bits_at xs at width)
 
 -- some bits, whole octets and some bits more
-pub all_set_by_octets : (xs : List ℕ) (at first front whole back width : ℕ) → at + front ≡ 8 * first → width ≡ front + (8 * whole + back) → are_all_ones (bits_at xs at width) ≡ (are_all_ones (bits_at xs at front) && (are_all_ones (bits_at xs (8 * first) (8 * whole)) && are_all_ones (bits_at xs (at + front + 8 * whole) back)))
-all_set_by_octets xs at first front whole back width e w =
-    ap (λ (m : ℕ). are_all_ones (bits_at xs at m)) w ∙ all_set-more xs at front (8 * whole + back) ∙ ap (λ (b : Bool). are_all_ones (bits_at xs at front) && b) (all_set-more xs (at + front) (8 * whole) back) ∙ ap (λ (m : ℕ). are_all_ones (bits_at xs at front) && (are_all_ones (bits_at xs m (8 * whole)) && are_all_ones (bits_at xs (at + front + 8 * whole) back))) e
+pub are_all_ones_by_octets : (xs : List ℕ) (at first leading whole back width : ℕ) → at + leading ≡ 8 * first → width ≡ leading + (8 * whole + back) → are_all_ones (bits_at xs at width) ≡ (are_all_ones (bits_at xs at leading) && (are_all_ones (bits_at xs (8 * first) (8 * whole)) && are_all_ones (bits_at xs (at + leading + 8 * whole) back)))
+are_all_ones_by_octets xs at first leading whole back width e w =
+    ap (λ (m : ℕ). are_all_ones (bits_at xs at m)) w ∙ are_all_ones-more xs at leading (8 * whole + back) ∙ ap (λ (b : Bool). are_all_ones (bits_at xs at leading) && b) (are_all_ones-more xs (at + leading) (8 * whole) back) ∙ ap (λ (m : ℕ). are_all_ones (bits_at xs at leading) && (are_all_ones (bits_at xs m (8 * whole)) && are_all_ones (bits_at xs (at + leading + 8 * whole) back))) e
 
 -- the same of three answers: the first that is false decides
-pub ones_by_three : (xs : List ℕ) (at first front whole back last width : ℕ) (a b c : Bool) → at + front ≡ 8 * first → width ≡ front + (8 * whole + back) → last ≡ at + front + 8 * whole → a ≡ are_all_ones (bits_at xs at front) → b ≡ are_all_ones (bits_at xs (8 * first) (8 * whole)) → c ≡ are_all_ones (bits_at xs last back) → (a && (b && c)) ≡ are_all_ones (bits_at xs at width)
-ones_by_three xs at first front whole back last width a b c e w l ha hb hc =
-    let third : c ≡ are_all_ones (bits_at xs (at + front + 8 * whole) back) = hc ∙ ap (λ (m : ℕ). are_all_ones (bits_at xs m back)) l in
-    rw (all_set_by_octets xs at first front whole back width e w, ← ha, ← hb, ← third) refl
+pub ones_by_three : (xs : List ℕ) (at first leading whole back last width : ℕ) (a b c : Bool) → at + leading ≡ 8 * first → width ≡ leading + (8 * whole + back) → last ≡ at + leading + 8 * whole → a ≡ are_all_ones (bits_at xs at leading) → b ≡ are_all_ones (bits_at xs (8 * first) (8 * whole)) → c ≡ are_all_ones (bits_at xs last back) → (a && (b && c)) ≡ are_all_ones (bits_at xs at width)
+ones_by_three xs at first leading whole back last width a b c e w l ha hb hc =
+    let third : c ≡ are_all_ones (bits_at xs (at + leading + 8 * whole) back) = hc ∙ ap (λ (m : ℕ). are_all_ones (bits_at xs m back)) l in
+    rw (are_all_ones_by_octets xs at first leading whole back width e w, ← ha, ← hb, ← third) refl
 
-pub ones_not_first : (xs : List ℕ) (at front width : ℕ) (a : Bool) → front ≤ width → a ≡ are_all_ones (bits_at xs at front) → a ≡ false → false ≡ are_all_ones (bits_at xs at width)
-ones_not_first xs at front width a h ha no_ones =
-    let w : width ≡ front + (width - front) = omega arith in
-    let parts = ap (λ (m : ℕ). are_all_ones (bits_at xs at m)) w ∙ all_set-more xs at front (width - front) in
-    sym (parts ∙ ap (λ (b : Bool). b && are_all_ones (bits_at xs (at + front) (width - front))) (sym ha ∙ no_ones))
+pub ones_not_first : (xs : List ℕ) (at leading width : ℕ) (a : Bool) → leading ≤ width → a ≡ are_all_ones (bits_at xs at leading) → a ≡ false → false ≡ are_all_ones (bits_at xs at width)
+ones_not_first xs at leading width a h ha no_ones =
+    let w : width ≡ leading + (width - leading) = omega arith in
+    let parts = ap (λ (m : ℕ). are_all_ones (bits_at xs at m)) w ∙ are_all_ones-more xs at leading (width - leading) in
+    sym (parts ∙ ap (λ (b : Bool). b && are_all_ones (bits_at xs (at + leading) (width - leading))) (sym ha ∙ no_ones))
 
 pub and_false : (a : Bool) → (a && false) ≡ false
 and_false true = refl
 and_false false = refl
 
-pub ones_not_middle : (xs : List ℕ) (at first front whole back width : ℕ) (b : Bool) → at + front ≡ 8 * first → width ≡ front + (8 * whole + back) → b ≡ are_all_ones (bits_at xs (8 * first) (8 * whole)) → b ≡ false → false ≡ are_all_ones (bits_at xs at width)
-ones_not_middle xs at first front whole back width b e w hb no_ones =
+pub ones_not_middle : (xs : List ℕ) (at first leading whole back width : ℕ) (b : Bool) → at + leading ≡ 8 * first → width ≡ leading + (8 * whole + back) → b ≡ are_all_ones (bits_at xs (8 * first) (8 * whole)) → b ≡ false → false ≡ are_all_ones (bits_at xs at width)
+ones_not_middle xs at first leading whole back width b e w hb no_ones =
     let middle : are_all_ones (bits_at xs (8 * first) (8 * whole)) ≡ false = sym hb ∙ no_ones in
-    sym (all_set_by_octets xs at first front whole back width e w ∙ ap (λ (m : Bool). are_all_ones (bits_at xs at front) && (m && are_all_ones (bits_at xs (at + front + 8 * whole) back))) middle ∙ and_false (are_all_ones (bits_at xs at front)))
+    sym (are_all_ones_by_octets xs at first leading whole back width e w ∙ ap (λ (m : Bool). are_all_ones (bits_at xs at leading) && (m && are_all_ones (bits_at xs (at + leading + 8 * whole) back))) middle ∙ and_false (are_all_ones (bits_at xs at leading)))

@@ -1,11 +1,11 @@
 -- A number as bits, in parts and by octets.
-use Rattle.std.proofs.Common.{◌≡◌, ℕ, zero, suc, ◌+◌, ◌-◌, ◌*◌, ◌/◌, ◌%◌, ◌^◌, ◌<◌, ◌≤◌, ◌==◌, Bool, false, List, [], ◌∷◌, ◌++◌, length, take, drop, replicate, get_or, refl, sym, ap, ◌∙◌, arith, append_assoc, drop-drop, mod-eq_of_lt}
+use Rattle.std.proofs.Common.{◌≡◌, ℕ, zero, suc, ◌+◌, ◌*◌, ◌/◌, ◌%◌, ◌^◌, ◌<◌, ◌==◌, Bool, false, List, [], ◌∷◌, ◌++◌, length, take, drop, replicate, get_or, refl, sym, ap, ◌∙◌, arith, append_assoc, drop-drop, mod-eq_of_lt}
 use Rattle.std.proofs.lemmas.Nat.{mod-pow-add, shr_high, shr_split, shr_le, mod_below, shr-shr, pow-add, pow_pos}
-use Rattle.std.proofs.lemmas.List.{take_all, take_at, drop_at, drop-append-le, drop_more}
+use Rattle.std.proofs.lemmas.List.{take_at, drop_at, drop-append-le, drop_more}
 use Rattle.std.specs.Int.{bytes_high_first, byte_at}
 use Rattle.std.proofs.Math.Nat.{pow-suc}
 use Rattle.bufr_bits.specs.Bits.{bits_of_octet, bits_of, bits_in, number_of, bits_at}
-use Rattle.bufr_bits.proofs.BitLemmas.{bit, bit_of_test, number_behind-is, length-bits_of, drop-bits_of, number-bits_of_octet}
+use Rattle.bufr_bits.proofs.BitLemmas.{bit, bit_of_test, number_after_bits-is, length-bits_of, drop-bits_of, number-bits_of_octet}
 
 pub length-bits_in : (v w : ℕ) → length (bits_in v w) ≡ w
 unfolding bits_in
@@ -43,7 +43,7 @@ bits_in-above a v (suc w) =
     let rest : bits_in (a * 2 ^ suc w + v) w ≡ bits_in v w = ap (λ (n : ℕ). bits_in n w) same ∙ bits_in-above (2 * a) v w in
     cc
 
--- two numbers as bits, one behind the other
+-- two numbers as bits, one after the other
 pub bits_in-join : (a v c w : ℕ) → v < 2 ^ w → bits_in a c ++ bits_in v w ≡ bits_in (a * 2 ^ w + v) (c + w)
 bits_in-join a v c w h =
     sym (bits_in-split (a * 2 ^ w + v) c w ∙ ap (λ (n : ℕ). bits_in n c ++ bits_in (a * 2 ^ w + v) w) (shr_high a w v h) ∙ ap (λ (xs : List Bool). bits_in a c ++ xs) (bits_in-above a v w))
@@ -92,54 +92,38 @@ bits_of-bytes (suc k) n =
     let whole : bits_in n (8 * suc k) ≡ bits_in (n / 2 ^ (8 * k)) 8 ++ bits_in n (8 * k) = ap (bits_in n) e ∙ bits_in-split n 8 (8 * k) in
     ap (λ (xs : List Bool). xs ++ bits_of (bytes_high_first k n)) first ∙ ap (λ (xs : List Bool). bits_in (n / 2 ^ (8 * k)) 8 ++ xs) (bits_of-bytes k n) ∙ sym whole
 
-pub drop-bytes : (j k n : ℕ) → drop j (bytes_high_first (j + k) n) ≡ bytes_high_first k n
-drop-bytes zero k n = ap (λ (m : ℕ). bytes_high_first m n) (omega arith)
-drop-bytes (suc j) k n = let e : suc j + k ≡ suc (j + k) = omega arith in ap (λ (m : ℕ). drop (suc j) (bytes_high_first m n)) e ∙ drop-bytes j k n
-
-pub length-bytes : (k n : ℕ) → length (bytes_high_first k n) ≡ k
-length-bytes zero n = refl
-length-bytes (suc k) n = ap suc (length-bytes k n)
-
--- the last octets of the eight of a number
-pub low_bytes : (whole n : ℕ) (bytes : List ℕ) → whole ≤ 8 → bytes ≡ bytes_high_first 8 n → take (8 - (8 - whole)) (drop (8 - whole) bytes) ≡ bytes_high_first whole n
-low_bytes whole n bytes h e =
-    let j = 8 - whole in
-    let eight : 8 ≡ j + whole = omega arith in
-    let dropped : drop j bytes ≡ bytes_high_first whole n = ap (drop j) (e ∙ ap (λ (k : ℕ). bytes_high_first k n) eight) ∙ drop-bytes j whole n in
-    ap (take (8 - j)) dropped ∙ take_all (8 - j) (bytes_high_first whole n) (omega (arith, length-bytes whole n))
-
 -- the bits of a number in a width write the number
 pub number_of-bits_in : (v w : ℕ) → number_of (bits_in v w) ≡ v % 2 ^ w
 unfolding bits_in
 number_of-bits_in v zero = omega arith
 number_of-bits_in v (suc w) =
     let first = v / 2 ^ w % 2 in
-    let behind : number_of (bits_in v (suc w)) ≡ bit (first == 1) * 2 ^ length (bits_in v w) + number_of (bits_in v w) = number_behind-is (0 + bit (first == 1)) (bits_in v w) ∙ ap (λ (m : ℕ). m * 2 ^ length (bits_in v w) + number_of (bits_in v w)) (omega arith) in
+    let after : number_of (bits_in v (suc w)) ≡ bit (first == 1) * 2 ^ length (bits_in v w) + number_of (bits_in v w) = number_after_bits-is (0 + bit (first == 1)) (bits_in v w) ∙ ap (λ (m : ℕ). m * 2 ^ length (bits_in v w) + number_of (bits_in v w)) (omega arith) in
     let one : suc w ≡ 1 + w = omega arith in
-    behind ∙ ap (λ (m : ℕ). m * 2 ^ length (bits_in v w) + number_of (bits_in v w)) (bit_of_test (v / 2 ^ w)) ∙ ap (λ (m : ℕ). first * 2 ^ m + number_of (bits_in v w)) (length-bits_in v w) ∙ ap (λ (m : ℕ). first * 2 ^ w + m) (number_of-bits_in v w) ∙ sym (mod-pow-add v 1 w) ∙ ap (λ (m : ℕ). v % 2 ^ m) (sym one)
+    after ∙ ap (λ (m : ℕ). m * 2 ^ length (bits_in v w) + number_of (bits_in v w)) (bit_of_test (v / 2 ^ w)) ∙ ap (λ (m : ℕ). first * 2 ^ m + number_of (bits_in v w)) (length-bits_in v w) ∙ ap (λ (m : ℕ). first * 2 ^ w + m) (number_of-bits_in v w) ∙ sym (mod-pow-add v 1 w) ∙ ap (λ (m : ℕ). v % 2 ^ m) (sym one)
 
--- bits among others are found where they stand
-pub found_between : (before behind : List Bool) (octets : List ℕ) (v w : ℕ) → v < 2 ^ w → bits_of octets ≡ before ++ bits_in v w ++ behind → number_of (bits_at octets (length before) w) ≡ v
-found_between before behind octets v w h e =
-    let turned : bits_of octets ≡ before ++ (bits_in v w ++ behind) = e ∙ append_assoc before (bits_in v w) behind in
-    let there : drop (length before) (bits_of octets) ≡ bits_in v w ++ behind = ap (drop (length before)) turned ∙ drop_at before (bits_in v w ++ behind) (length before) refl in
-    let found : bits_at octets (length before) w ≡ bits_in v w = ap (take w) there ∙ take_at (bits_in v w) behind w (length-bits_in v w) in
+-- bits among others are found at their place
+pub found_between : (before after : List Bool) (octets : List ℕ) (v w : ℕ) → v < 2 ^ w → bits_of octets ≡ before ++ bits_in v w ++ after → number_of (bits_at octets (length before) w) ≡ v
+found_between before after octets v w h e =
+    let turned : bits_of octets ≡ before ++ (bits_in v w ++ after) = e ∙ append_assoc before (bits_in v w) after in
+    let there : drop (length before) (bits_of octets) ≡ bits_in v w ++ after = ap (drop (length before)) turned ∙ drop_at before (bits_in v w ++ after) (length before) refl in
+    let found : bits_at octets (length before) w ≡ bits_in v w = ap (take w) there ∙ take_at (bits_in v w) after w (length-bits_in v w) in
     ap number_of found ∙ number_of-bits_in v w ∙ mod-eq_of_lt h
 
-module _ (before behind : List Bool) (among xs : List ℕ) (e : bits_of among ≡ before ++ bits_of xs ++ behind) where
-  -- behind the first bits
-  there : drop (length before) (bits_of among) ≡ bits_of xs ++ behind
-  there = ap (drop (length before)) (e ∙ append_assoc before (bits_of xs) behind) ∙ drop_at before (bits_of xs ++ behind) (length before) refl
+module _ (before after : List Bool) (among xs : List ℕ) (e : bits_of among ≡ before ++ bits_of xs ++ after) where
+  -- after the first bits
+  there : drop (length before) (bits_of among) ≡ bits_of xs ++ after
+  there = ap (drop (length before)) (e ∙ append_assoc before (bits_of xs) after) ∙ drop_at before (bits_of xs ++ after) (length before) refl
 
-  -- the bits of octets among others are found where they stand
+  -- the bits of octets among others are found at their place
   pub bits_between : bits_at among (length before) (8 * length xs) ≡ bits_of xs
-  bits_between = ap (take (8 * length xs)) there ∙ take_at (bits_of xs) behind (8 * length xs) (length-bits_of xs)
+  bits_between = ap (take (8 * length xs)) there ∙ take_at (bits_of xs) after (8 * length xs) (length-bits_of xs)
 
   -- and so is each octet
   pub octet_between : (k : ℕ) → k < length xs → get_or xs k 0 < 256 → number_of (bits_at among (length before + 8 * k) 8) ≡ get_or xs k 0
   unfolding bits_of
   octet_between k h small =
-      let past : drop (length before + 8 * k) (bits_of among) ≡ drop (8 * k) (bits_of xs ++ behind) = sym (drop-drop (8 * k) (length before) (bits_of among)) ∙ ap (drop (8 * k)) there in
-      let inside : drop (8 * k) (bits_of xs ++ behind) ≡ bits_of (drop k xs) ++ behind = drop-append-le (8 * k) (bits_of xs) behind (omega (arith, length-bits_of xs)) ∙ ap (λ (ys : List Bool). ys ++ behind) (drop-bits_of k xs) in
+      let past : drop (length before + 8 * k) (bits_of among) ≡ drop (8 * k) (bits_of xs ++ after) = sym (drop-drop (8 * k) (length before) (bits_of among)) ∙ ap (drop (8 * k)) there in
+      let inside : drop (8 * k) (bits_of xs ++ after) ≡ bits_of (drop k xs) ++ after = drop-append-le (8 * k) (bits_of xs) after (omega (arith, length-bits_of xs)) ∙ ap (λ (ys : List Bool). ys ++ after) (drop-bits_of k xs) in
       let first : bits_of (drop k xs) ≡ bits_of_octet (get_or xs k 0) ++ bits_of (drop (k + 1) xs) = ap bits_of (drop_more xs k 0 h) in
-      ap (λ (ys : List Bool). number_of (take 8 ys)) (past ∙ inside ∙ ap (λ (ys : List Bool). ys ++ behind) first) ∙ number-bits_of_octet (get_or xs k 0) small
+      ap (λ (ys : List Bool). number_of (take 8 ys)) (past ∙ inside ∙ ap (λ (ys : List Bool). ys ++ after) first) ∙ number-bits_of_octet (get_or xs k 0) small

@@ -37,7 +37,7 @@ point_nowhere (d ∷ whole) h =
     let rest = point_nowhere whole (and_second (is_ascii_digit d) (all_digits whole) h) in
     rw digit (omega (arith, rest))
 
--- zeros in front
+-- leading zeros
 pub zeros_digits : (k : ℕ) → all_digits (replicate k 48) ≡ true
 zeros_digits zero = refl
 zeros_digits (suc k) = zeros_digits k
@@ -164,7 +164,7 @@ unsigned_is_text (suc n) (negsuc less) h = text_alone (decimal (suc n) ++ replic
 pub no_sign : (text : List ℕ) → is_ascii_digit (get_or text 0 0) ≡ true → starts_with_minus text ≡ false
 no_sign text h = digit_no_minus (get_or text 0 0) h
 
--- a text behind a sign is read as its parts
+-- a text after a sign is read as its parts
 read_behind_minus : (text : List ℕ) (n : ℕ) (scale : ℤ) → IsTextOf text n scale → decimal_value_of (45 ∷ text) scale ≡ signed true n
 unfolding decimal_value_of
 read_behind_minus text n scale h = rw (h.form, h.value) refl

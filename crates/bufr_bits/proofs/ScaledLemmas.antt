@@ -53,11 +53,11 @@ scaled_up whole fraction up hw hf =
     let d = digits_value 10 left in
     let all : digits_value 10 (whole ++ fraction) ≡ a * 10 ^ f + (c * 10 ^ (f - k) + d) = value-append whole fraction ∙ ap (λ (m : ℕ). a * 10 ^ f + m) (value_cut k fraction) in
     let length_moved : length moved ≡ k = length-take-le k fraction (omega arith) in
-    let behind : a * 10 ^ k + c ≡ digits_value_after 10 a moved = ap (λ (m : ℕ). a * 10 ^ m + c) (sym length_moved) ∙ sym (value_after-is a moved) in
+    let after : a * 10 ^ k + c ≡ digits_value_after 10 a moved = ap (λ (m : ℕ). a * 10 ^ m + c) (sym length_moved) ∙ sym (value_after-is a moved) in
     let zeros : (d == 0) ≡ list_all (λ d. d == 48) left = zero_value left (all_digits-drop k fraction hf) in
     let none_cut : drop (length whole - 0) whole ≡ [] = drop_all (length whole - 0) whole (omega arith) in
     let all_kept : take (length whole - 0) whole ≡ whole = take_all (length whole - 0) whole (omega arith) in
-    ap (λ (m : ℕ). whole_quotient (m * 10 ^ up) (10 ^ (f + 0))) all ∙ exact_up a c d f k up refl (below_cut k fraction hf) ∙ ap (λ (t : Bool). if t then Ok ((a * 10 ^ k + c) * 10 ^ (up - k)) else Err Inexact) zeros ∙ ap (λ (v : ℕ). if list_all (λ d. d == 48) left then Ok (v * 10 ^ (up - k)) else Err Inexact) behind ∙ ap (λ (ds : List ℕ). kept_or_inexact ds [] moved left (up - k)) (sym all_kept) ∙ ap (λ (ds : List ℕ). kept_or_inexact (take (length whole - 0) whole) ds moved left (up - k)) (sym none_cut)
+    ap (λ (m : ℕ). whole_quotient (m * 10 ^ up) (10 ^ (f + 0))) all ∙ exact_up a c d f k up refl (below_cut k fraction hf) ∙ ap (λ (t : Bool). if t then Ok ((a * 10 ^ k + c) * 10 ^ (up - k)) else Err Inexact) zeros ∙ ap (λ (v : ℕ). if list_all (λ d. d == 48) left then Ok (v * 10 ^ (up - k)) else Err Inexact) after ∙ ap (λ (ds : List ℕ). kept_or_inexact ds [] moved left (up - k)) (sym all_kept) ∙ ap (λ (ds : List ℕ). kept_or_inexact (take (length whole - 0) whole) ds moved left (up - k)) (sym none_cut)
 
 scaled_down : (whole fraction : List ℕ) (down : ℕ) → all_digits whole ≡ true → all_digits fraction ≡ true → whole_quotient (digits_value 10 (whole ++ fraction) * 10 ^ 0) (10 ^ (length fraction + down)) ≡ kept_of whole fraction 0 down
 scaled_down whole fraction down hw hf =
@@ -134,7 +134,7 @@ value_by_parts : (text body whole fraction : List ℕ) (scale : ℤ) → body �
 unfolding decimal_value_of
 value_by_parts text body whole fraction scale b h =
     let parts : IsParts (unsigned_part text) whole fraction = subst (λ (t : List ℕ). IsParts t whole fraction) b h in
-    rw (parts.form, ← parts.before, ← parts.behind) refl
+    rw (parts.form, ← parts.before, ← parts.after) refl
 
 -- the quotient by the powers that the code has
 abbrev quotient_of : (whole fraction : List ℕ) (up down : ℕ) → Result ℕ NumberFault

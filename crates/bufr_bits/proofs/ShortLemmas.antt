@@ -1,4 +1,4 @@
--- Short decimal texts: the digits at the front of a text, its parts, and its number at a scale.
+-- Short decimal texts: the first digits of a text, its parts, and its number at a scale.
 use Rattle.std.proofs.Common.{◌≡◌, ℕ, suc, ◌+◌, ◌-◌, ◌*◌, ◌/◌, ◌%◌, ◌^◌, ◌<◌, ◌≤◌, ◌==◌, ◌&&◌, Bool, true, false, if◌then◌else◌, List, [], ◌∷◌, ◌++◌, length, take, drop, get_or, Result, Ok, Err, ℤ, refl, sym, ap, ◌∙◌, subst, arith, length-append, length-drop, append-nil, length-take-le, take-append-drop}
 use Rattle.std.specs.Int.{IsInRange}
 use Rattle.std.specs.Char.{is_ascii_digit, digit_value}
@@ -15,7 +15,7 @@ use Rattle.bufr_bits.proofs.OnesLemmas.{list_all-append}
 use Rattle.bufr_bits.proofs.DecimalLemmas.{value_after-is, value_after-append, value-below, quotient_is, ten_pos, ten_split, product_zero, sum_zero}
 use Rattle.bufr_bits.proofs.RoundLemmas.{whole_with_point, fraction_with_point, whole_alone, fraction_alone, form_with_point, form_alone}
 
--- one digit more at the front
+-- one more first digit
 digit_range : (c : ℕ) → is_ascii_digit c ≡ true → IsInRange 48 57 c
 digit_range c h = (grind (arith, nat_tests), grind (arith, nat_tests))
 
@@ -29,7 +29,7 @@ front_more n ds i lt d =
     let same : digit_value (get_or ds i 0) ≡ get_or ds i 0 - 48 = omega arith in
     ap (digits_value_after 10 n) (take_more ds i 0 lt) ∙ value_after-append n (take i ds) (get_or ds i 0 ∷ []) ∙ ap (λ (m : ℕ). digits_value_after 10 n (take i ds) * 10 + m) same
 
--- a number with digits behind it stays below the next one with as many places
+-- a number with digits after it stays below the next one with as many places
 pub value_after-below : (n : ℕ) (ds : List ℕ) → all_digits ds ≡ true → digits_value_after 10 n ds < (n + 1) * 10 ^ length ds
 value_after-below n ds h = let moved = value_after-is n ds in let below = value-below ds h in omega (arith, moved, below)
 
@@ -44,8 +44,8 @@ digit_fits n value i len d most below lt fits few =
 
 pub front_fits : (n value i d : ℕ) (ds : List ℕ) → all_digits (take i ds) ≡ true → value ≡ digits_value_after 10 n (take i ds) → i < length ds → (n + 1) * 10 ^ length ds ≤ 2 ^ 64 → d ≤ 9 → value * 10 + d < 2 ^ 64
 front_fits n value i d ds h e lt fits few =
-    let front : length (take i ds) ≡ i = length-take-le i ds (omega arith) in
-    let below : value < (n + 1) * 10 ^ i = subst (λ (k : ℕ). value < (n + 1) * 10 ^ k) front (subst (λ (k : ℕ). k < (n + 1) * 10 ^ length (take i ds)) (sym e) (value_after-below n (take i ds) h)) in
+    let prefix : length (take i ds) ≡ i = length-take-le i ds (omega arith) in
+    let below : value < (n + 1) * 10 ^ i = subst (λ (k : ℕ). value < (n + 1) * 10 ^ k) prefix (subst (λ (k : ℕ). k < (n + 1) * 10 ^ length (take i ds)) (sym e) (value_after-below n (take i ds) h)) in
     digit_fits n value i (length ds) d (2 ^ 64) below lt fits few
 
 pub digit_few : (c : ℕ) → is_ascii_digit c ≡ true → (48 ≤ c) × (c - 48 ≤ 9)
@@ -139,7 +139,7 @@ short_alone text count n some e h v =
     record {
       form = form_alone text (omega arith) digits;
       value = value ∙ sym (ap (digits_value 10) same);
-      behind = sym (ap length none);
+      after = sym (ap length none);
       below = subst (λ (m : ℕ). m < 10 ^ length text) (sym value) (value-below text digits);
     }
 
@@ -165,7 +165,7 @@ short_parts whole fraction m n sw sf hw hf hm hn =
     record {
       form = form_with_point whole fraction sw sf hw hf;
       value = rw (w, f) value;
-      behind = sym (ap length f);
+      after = sym (ap length f);
       below = pointed_below whole fraction n hw hf value;
     }
 
@@ -173,22 +173,22 @@ pub short_pointed : (text fraction : List ℕ) (count places m n : ℕ) → 0 < 
 short_pointed text fraction count places m n sw lt point f sf len hw hm hf hn =
     let whole = take count text in
     let all : take places fraction ≡ fraction = take_all places fraction (omega arith) in
-    let behind : drop count text ≡ 46 ∷ fraction = drop_more text count 0 lt ∙ rw (point, ← f) refl in
-    let same : whole ++ 46 ∷ fraction ≡ text = ap (λ (ds : List ℕ). whole ++ ds) (sym behind) ∙ take-append-drop count text in
+    let after : drop count text ≡ 46 ∷ fraction = drop_more text count 0 lt ∙ rw (point, ← f) refl in
+    let same : whole ++ 46 ∷ fraction ≡ text = ap (λ (ds : List ℕ). whole ++ ds) (sym after) ∙ take-append-drop count text in
     let some : 0 < length whole = omega (arith, length-take-le count text (omega arith)) in
     let parts = short_parts whole fraction m n some (omega arith) hw (sym (ap all_digits all) ∙ hf) hm (hn ∙ ap (digits_value_after 10 m) all) in
     subst (λ (k : ℕ). IsShortDecimal text n k) (sym len) (subst (λ (ds : List ℕ). IsShortDecimal ds n (length fraction)) same parts)
 
--- what is read behind the point fits, and what ten multiplies
+-- what is read after the point fits, and what ten multiplies
 pub fraction_fits : (text fraction : List ℕ) (count m : ℕ) → length text ≤ 19 → count < length text → fraction ≡ drop (count + 1) text → all_digits (take count text) ≡ true → m ≡ digits_value_after 10 0 (take count text) → (m + 1) * 10 ^ length fraction ≤ 2 ^ 64
 fraction_fits text fraction count m few lt f h e =
     let whole : length (take count text) ≡ count = length-take-le count text (omega arith) in
-    let behind : length fraction ≡ length text - (count + 1) = ap length f ∙ length-drop (count + 1) text in
+    let after : length fraction ≡ length text - (count + 1) = ap length f ∙ length-drop (count + 1) text in
     let below : m < (0 + 1) * 10 ^ count = subst (λ (k : ℕ). m < (0 + 1) * 10 ^ k) whole (subst (λ (k : ℕ). k < (0 + 1) * 10 ^ length (take count text)) (sym e) (value_after-below 0 (take count text) h)) in
     let upto : m + 1 ≤ 10 ^ count = omega (arith, below) in
     let product = mul-le-mul_right (10 ^ length fraction) upto in
     let split : 10 ^ (count + length fraction) ≡ 10 ^ count * 10 ^ length fraction = ten_split (count + length fraction) count (length fraction) refl in
-    let short : count + length fraction ≤ 19 = omega (arith, behind) in
+    let short : count + length fraction ≤ 19 = omega (arith, after) in
     let most : 10 ^ (count + length fraction) ≤ 10 ^ 19 = pow-le-pow_right (omega arith) short in
     let literal : 10 ^ 19 ≤ 2 ^ 64 = omega arith in
     omega (arith, product, split, most, literal)
@@ -207,7 +207,7 @@ value_short : (text body : List ℕ) (scale : ℤ) (up down n places : ℕ) → 
 unfolding decimal_value_of
 value_short text body scale up down n places b h hu hd =
     let short : IsShortDecimal (unsigned_part text) n places = subst (λ (t : List ℕ). IsShortDecimal t n places) b h in
-    rw (short.form, hu, hd, short.value, short.behind) refl
+    rw (short.form, hu, hd, short.value, short.after) refl
 
 pub read_short : (text body : List ℕ) (scale : ℤ) (up down n places size : ℕ) (negative : Bool) (r : Result ℤ NumberFault) → body ≡ unsigned_part text → IsShortDecimal body n places → up ≡ positive_scale scale → down ≡ negative_scale scale → negative ≡ starts_with_minus text → Ok size ≡ whole_quotient (n * 10 ^ up) (10 ^ (places + down)) → r ≡ signed negative size → r ≡ decimal_value_of text scale
 read_short text body scale up down n places size negative r b h hu hd hn e result =
@@ -222,6 +222,6 @@ read_short_fault text body scale up down n places fault r b h hu hd e result =
 pub ten_more_front : (n value i : ℕ) → value ≡ n * 10 ^ i → value * 10 ≡ n * 10 ^ (i + 1)
 ten_more_front n value i e = let ten : 10 ^ (i + 1) ≡ 10 ^ i * 10 = ten_split (i + 1) i 1 refl in rw (e, ten) (omega arith)
 
--- all that stands behind a place
+-- all that follows a place
 pub rest_is : (text : List ℕ) (i : ℕ) → take (length text - i) (drop i text) ≡ drop i text
 rest_is text i = take_all (length text - i) (drop i text) (omega (arith, length-drop i text))

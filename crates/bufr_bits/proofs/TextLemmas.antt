@@ -6,7 +6,7 @@ use Rattle.std.specs.Fmt.{decimal}
 use Rattle.bufr_bits.specs.DecimalText.{decimal_text_of, unsigned_text, pointed, sign_of}
 use Rattle.bufr_bits.specs.DecimalValue.{positive_scale, negative_scale}
 
--- behind a sign, with a point
+-- after a sign, with a point
 unsigned_pointed : (n : ℕ) (scale : ℤ) (places : ℕ) → 0 < places → places ≡ positive_scale scale → pointed places (decimal n) ≡ unsigned_text n scale
 unfolding unsigned_text
 unsigned_pointed n (pos zero) places h e = absurd (omega arith)
@@ -16,7 +16,7 @@ unsigned_pointed n (negsuc m) places h e = absurd (omega arith)
 not_zero : (n : ℕ) → (suc n == 0) ≡ false
 not_zero n = grind (arith, nat_tests)
 
--- behind a sign, with zeros
+-- after a sign, with zeros
 unsigned_plain : (n : ℕ) (scale : ℤ) (places power count : ℕ) → places ≤ 0 → places ≡ positive_scale scale → power ≡ negative_scale scale → count ≡ (if n == 0 then 0 else power) → decimal n ++ replicate count 48 ≡ unsigned_text n scale
 unfolding unsigned_text
 unsigned_plain zero (pos zero) places power count h u d z = rw z (append-nil (decimal 0))

@@ -6,7 +6,7 @@ use Rattle.std.proofs.lemmas.Bool.Decides.{nat_tests}
 use Rattle.std.specs.Int.{from_be_bytes, w64}
 use Rattle.bufr_bits.specs.Bits.{bits_of, bits_in, bits_at, number_of, are_all_ones}
 use Rattle.bufr_bits.specs.Window.{IsWindow}
-use Rattle.bufr_bits.proofs.OnesLemmas.{all_set-number, list_all-append}
+use Rattle.bufr_bits.proofs.OnesLemmas.{are_all_ones-number, list_all-append}
 use Rattle.bufr_bits.proofs.BitLemmas.{number_of_middle, number_of_more, number_of_part, drop-bits_of}
 use Rattle.bufr_bits.proofs.PushLemmas.{length-bits_in, bits_of-bytes, number_of-bits_in}
 use Rattle.bufr_bits.proofs.WriterLemmas.{bits_of-append}
@@ -95,7 +95,7 @@ window_ones xs w h =
     let word = bits_in w 64 in
     let parts : bits_of xs ≡ word ++ bits_of (drop 8 xs) = ap bits_of (sym (take-append-drop 8 xs)) ∙ bits_of-append (take 8 xs) (drop 8 xs) ∙ ap (λ (bs : List Bool). bs ++ bits_of (drop 8 xs)) h.bits in
     let value : number_of word ≡ w = number_of-bits_in w 64 ∙ mod-eq_of_lt h.small in
-    let ones : are_all_ones word ≡ (w == 2 ^ 64 - 1) = sym (all_set-number word) ∙ ap (λ (m : ℕ). m == 2 ^ length word - 1) value ∙ ap (λ (k : ℕ). w == 2 ^ k - 1) (length-bits_in w 64) in
+    let ones : are_all_ones word ≡ (w == 2 ^ 64 - 1) = sym (are_all_ones-number word) ∙ ap (λ (m : ℕ). m == 2 ^ length word - 1) value ∙ ap (λ (k : ℕ). w == 2 ^ k - 1) (length-bits_in w 64) in
     ap are_all_ones parts ∙ list_all-append (λ (b : Bool). b) word (bits_of (drop 8 xs)) ∙ ap (λ (b : Bool). b && are_all_ones (bits_of (drop 8 xs))) ones
 
 pub window_not_ones : (xs : List ℕ) (w : ℕ) (all : Bool) → IsWindow w 0 xs → (w ≡ 2 ^ 64 - 1 → ⊥) → all ≡ are_all_ones (bits_of xs) → false ≡ all

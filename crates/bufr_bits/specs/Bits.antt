@@ -15,7 +15,7 @@ unfoldable pub bits_of : List ℕ → List Bool
 bits_of [] = []
 bits_of (octet ∷ more) = bits_of_octet octet ++ bits_of more
 
--- the number that bits write behind a number that was written before them
+-- the number that bits write after a number that was written before them
 abbrev pub number_after_bits : ℕ → List Bool → ℕ
 number_after_bits n [] = n
 number_after_bits n (bit ∷ bits) = number_after_bits (2 * n + (if bit then 1 else 0)) bits

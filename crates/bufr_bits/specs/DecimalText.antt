@@ -4,7 +4,7 @@
 use Rattle.std.specs.Prelude.{ℕ, zero, suc, ◌+◌, ◌-◌, List, [], ◌∷◌, ◌++◌, length, take, drop, replicate, ℤ, pos, negsuc, unsigned_abs}
 use Rattle.std.specs.Fmt.{decimal}
 
--- digits with a point before the last so many; zeros in front see to one digit before the point
+-- digits with a point before the last so many, and leading zeros for one digit before the point
 abbrev pub pointed : (places : ℕ) (digits : List ℕ) → List ℕ
 pointed places digits =
     let padded = replicate (places + 1 - length digits) 48 ++ digits in
@@ -12,7 +12,7 @@ pointed places digits =
     take whole padded ++ 46 ∷ drop whole padded
 
 -- a number without its sign as text: at a scale above 0 a point before the last digits, at one
--- below 0 zeros behind them
+-- below 0 zeros after them
 unfoldable pub unsigned_text : (n : ℕ) (scale : ℤ) → List ℕ
 unsigned_text n (pos zero) = decimal n
 unsigned_text n (pos (suc places)) = pointed (suc places) (decimal n)

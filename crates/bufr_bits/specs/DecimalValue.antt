@@ -8,7 +8,7 @@ use Rattle.std.specs.Str.Parse.{digits_value, starts_with_minus}
 use Rattle.bufr_bits.specs.declared.decimal.NumberFault.{NumberFault}
 use Rattle.bufr_bits.specs.declared.decimal.NumberFault.TheVariants.{Syntax, Inexact, Large}
 
--- the text behind an optional minus sign
+-- the text after an optional minus sign
 abbrev pub unsigned_part : List ℕ → List ℕ
 unsigned_part text = if starts_with_minus text then drop 1 text else text
 
@@ -16,7 +16,7 @@ unsigned_part text = if starts_with_minus text then drop 1 text else text
 abbrev pub whole_part : List ℕ → List ℕ
 whole_part text = before_first (λ c. c == 46) text
 
--- the digits behind the point
+-- the digits after the point
 abbrev pub fraction_part : List ℕ → List ℕ
 fraction_part text = after_first (λ c. c == 46) text
 
@@ -28,7 +28,7 @@ all_digits text = list_all is_ascii_digit text
 abbrev pub is_digits : List ℕ → Bool
 is_digits text = nat_lt 0 (length text) && all_digits text
 
--- digits, and where there is a point digits behind it
+-- digits, and where there is a point digits after it
 abbrev pub is_unsigned : List ℕ → Bool
 is_unsigned text =
     is_digits (whole_part text)
@@ -76,11 +76,11 @@ decimal_value_of text scale =
 pub record IsParts (text whole fraction : List ℕ) : Type 0 where
   pub form : is_unsigned text ≡ true
   pub before : whole ≡ whole_part text
-  pub behind : fraction ≡ fraction_part text
+  pub after : fraction ≡ fraction_part text
 
--- an unsigned decimal text, by the number that its digits write and how many stand behind the point
+-- an unsigned decimal text, by the number that its digits write and how many follow the point
 pub record IsShortDecimal (text : List ℕ) (number places : ℕ) : Type 0 where
   pub form : is_unsigned text ≡ true
   pub value : number ≡ digits_value 10 (whole_part text ++ fraction_part text)
-  pub behind : places ≡ length (fraction_part text)
+  pub after : places ≡ length (fraction_part text)
   pub below : number < 10 ^ length text

@@ -7,7 +7,7 @@ use Rattle.bufr_bits.specs.declared.script.ScriptOut.{ScriptOut}
 use Rattle.bufr_bits.specs.declared.script.End.{End}
 use Rattle.bufr_bits.specs.declared.script.End.TheVariants.{Zero, Fail, Flush}
 
--- the octets that a reader has not given yet, those behind the place where it fails too
+-- the octets that a reader has not given yet, those after the place where it fails too
 abbrev pub unread_of : ScriptIn → List ℕ
 unread_of s = s.rest.now
 
@@ -33,7 +33,7 @@ read_answer step room held None = Ok (min (min step room) held)
 read_answer step room held (Some zero) = Err (record {})
 read_answer step room held (Some (suc before)) = Ok (min (min (min step room) held) (suc before))
 
--- how many octets an answer tells of
+-- how many octets a call moved, by its answer
 abbrev pub octets_moved : Result ℕ Failed → ℕ
 octets_moved (Ok n) = n
 octets_moved (Err e) = 0

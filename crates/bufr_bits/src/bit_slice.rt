@@ -176,7 +176,7 @@ impl<'a> BitSlice<'a> {
     }
 
     /// Whether `width` bits from bit `at` on, which do not go past the end, are all ones: those up
-    /// to the next octet, the whole octets, and those behind them.
+    /// to the next octet, the whole octets, and those after them.
     fn are_ones(&self, at: u64, width: u32) -> bool
         requires { at + width ≤ 8 * length (octets_of self.now) }
         ensures { result ≡ are_all_ones (bits_at (octets_of self.now) at width) }
@@ -184,16 +184,16 @@ impl<'a> BitSlice<'a> {
         if width < 64 {
             return self.few_are_ones(at, width);
         }
-        let front = (8 - at % 8) % 8;
-        let rest = u64::from(width) - front;
+        let leading = (8 - at % 8) % 8;
+        let rest = u64::from(width) - leading;
         let whole = rest / 8;
-        if !self.few_are_ones(at, front as u32) {
+        if !self.few_are_ones(at, leading as u32) {
             return false;
         }
-        if !self.octets_are_ones(((at + front) / 8) as usize, whole as usize) {
+        if !self.octets_are_ones(((at + leading) / 8) as usize, whole as usize) {
             return false;
         }
-        self.few_are_ones(at + front + 8 * whole, (rest % 8) as u32)
+        self.few_are_ones(at + leading + 8 * whole, (rest % 8) as u32)
     }
 
     /// The same of so few bits that they are one number.

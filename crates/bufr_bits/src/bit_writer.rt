@@ -1,4 +1,4 @@
-//! Bits written behind each other, most significant first.
+//! Bits that are written one after another, most significant first.
 ghost use Rattle.std.specs.Prelude.{◌≡◌, ◌≤◌, ◌<◌, ◌+◌, ◌*◌, ◌/◌, ◌%◌, ◌^◌, ◌++◌, [], Bool, List, ℕ, length, take, slice_index, vec_len, vec_capacity, OnOk, OnErr};
 ghost use Rattle.bufr_bits.specs.Bits.{bits_of, bits_in, bits_at, number_of, padding};
 
@@ -6,7 +6,7 @@ use crate::append::put;
 use std::alloc::{AllocError, Global};
 use std::marker::Model;
 
-/// Bits that are written behind each other. A contract sees the list of the bits; there are at
+/// Bits that are written one after another. A contract sees the list of the bits; there are at
 /// most 2^63 of them.
 ///
 /// ```
@@ -19,8 +19,11 @@ use std::marker::Model;
 #[derive(Drop)]
 pub struct BitWriter {
     octets: Vec<u8>,
-    last: u8,
+    /// The bits after the octets, fewer than 64.
+    last: u64,
     count: u32,
+    /// How many more bits `last` takes. The octets have room for all of them.
+    free: u32,
 }
 
 impl Model for BitWriter {
@@ -32,7 +35,8 @@ impl Model for BitWriter {
 
     ghost view = { λ w. bits_of w.octets.items ++ bits_in w.last w.count };
 
-    ghost invariant = { λ w. IsWriting (vec_len w.octets) (vec_capacity w.octets) w.last w.count };
+    ghost invariant = { λ w. IsWriting (vec_len w.octets) (vec_capacity w.octets) w.last w.count
+        w.free };
 }
 
 impl BitWriter {
@@ -44,6 +48,7 @@ impl BitWriter {
             octets: Vec::new(alloc),
             last: 0,
             count: 0,
+            free: 0,
         }
     }
 
@@ -60,6 +65,7 @@ impl BitWriter {
     /// # Errors
     ///
     /// [`AllocError`] where the writer could not grow; it is then unchanged.
+    #[inline(always)]
     pub fn push(&mut self, value: u64, width: u32) -> Result<(), AllocError>
         requires width { width ≤ 63 }
         requires value { value < 2 ^ width }
@@ -68,14 +74,30 @@ impl BitWriter {
         ensures len { OnOk result (length self.new ≡ length self.old + width) }
         ensures err { OnErr result (self.new ≡ self.old) }
     {
-        let total = self.count + width;
-        let kept = total % 8;
-        let whole = (total / 8) as usize;
-        self.octets.reserve(whole + 1)?;
-        let (head, tail) = join_bits(self.last, self.count, value, width);
-        put(&mut self.octets, &head.to_be_bytes()[8 - whole..]);
-        self.last = tail;
-        self.count = kept;
+        if width > self.free {
+            return self.push_over(value, width);
+        }
+        self.last = (self.last << width) + value;
+        self.count += width;
+        self.free -= width;
+        Ok(())
+    }
+
+    /// The same, where room is made first or the bits fill a number of 64 bits.
+    #[inline(never)]
+    fn push_over(&mut self, value: u64, width: u32) -> Result<(), AllocError>
+        requires width { width ≤ 63 }
+        requires value { value < 2 ^ width }
+        requires room { length self.old + width ≤ 2 ^ 63 }
+        ensures ok { OnOk result (self.new ≡ self.old ++ bits_in value width) }
+        ensures len { OnOk result (length self.new ≡ length self.old + width) }
+        ensures err { OnErr result (self.new ≡ self.old) }
+    {
+        self.octets.reserve(16)?;
+        let (last, count) = put_bits(&mut self.octets, self.last, self.count, value, width);
+        self.last = last;
+        self.count = count;
+        self.free = 63 - count;
         Ok(())
     }
 
@@ -90,11 +112,18 @@ impl BitWriter {
         ensures len { OnOk result (length self.new ≡ length self.old + 8 * length octets.now) }
         ensures err { OnErr result (self.new ≡ self.old) }
     {
-        self.octets.reserve(octets.len() + 1)?;
-        if self.count == 0 {
+        self.octets.reserve(octets.len() + 16)?;
+        if self.count % 8 == 0 {
+            put_last(&mut self.octets, self.last, self.count);
             put(&mut self.octets, octets);
+            self.last = 0;
+            self.count = 0;
+            self.free = 63;
         } else {
-            self.last = append_shifted(&mut self.octets, self.last, self.count, octets);
+            let (last, count) = append_shifted(&mut self.octets, self.last, self.count, octets);
+            self.last = last;
+            self.count = count;
+            self.free = 63 - count;
         }
         Ok(())
     }
@@ -104,14 +133,21 @@ impl BitWriter {
     pub fn truncate(&mut self, bits: u64)
         ensures bits { self.new ≡ take bits self.old }
     {
-        if bits >= self.len_bits() {
+        let before = 8 * self.octets.len() as u64;
+        if bits >= before {
+            if bits - before < u64::from(self.count) {
+                let kept = (bits - before) as u32;
+                self.last >>= self.count - kept;
+                self.count = kept;
+            }
             return;
         }
         let whole = (bits / 8) as usize;
         let kept = (bits % 8) as u32;
-        self.last = last_bits(self.octets.as_slice(), self.last, self.count, whole, kept);
+        self.last = u64::from(self.octets[whole]) >> (8 - kept);
         self.octets.truncate(whole);
         self.count = kept;
+        self.free = 0;
     }
 
     /// The octets of the bits, with zero bits up to the next octet. It takes no memory.
@@ -123,86 +159,92 @@ impl BitWriter {
             mut octets,
             last,
             count,
+            ..
         } = self;
-        if count > 0 {
-            put(&mut octets, &[last << (8 - count)]);
-        }
+        put_last(&mut octets, last, count);
         octets
     }
 }
 
-/// The bits that stand last and those of a value behind them, as whole octets in the low octets
-/// of a number and as the bits behind these.
-fn join_bits(last: u8, count: u32, value: u64, width: u32) -> (u64, u8)
-    requires few { count < 8 }
+/// Appends bits to those kept in a number, and returns those that are kept then. Where there are
+/// 64 of them, they go out as eight octets.
+fn put_bits(out: &mut Vec<u8>, last: u64, count: u32, value: u64, width: u32) -> (u64, u32)
+    requires few { count < 64 }
     requires low { last < 2 ^ count }
     requires width { width ≤ 63 }
     requires value { value < 2 ^ width }
-    ensures head { result.0 ≡ (last * 2 ^ width + value) / 2 ^ ((count + width) % 8) }
-    ensures tail { result.1 ≡ (last * 2 ^ width + value) % 2 ^ ((count + width) % 8) }
-{
-    let total = count + width;
-    if total < 8 {
-        return (0, (last << width) + value as u8);
-    }
-    let kept = total % 8;
-    let head = (u64::from(last) << (width - kept)) + (value >> kept);
-    (head, (value % (1 << kept)) as u8)
-}
-
-/// The `kept` bits behind the first `whole` octets, where more bits than these stand there.
-fn last_bits(octets: &[u8], last: u8, count: u32, whole: usize, kept: u32) -> u8
-    requires few { count < 8 }
-    requires low { last < 2 ^ count }
-    requires kept { kept < 8 }
-    requires within { 8 * whole + kept < 8 * length octets.now + count }
-    ensures bits { take (8 * whole + kept) (bits_of octets.now ++ bits_in last count)
-        ≡ bits_of (take whole octets.now) ++ bits_in result kept }
-    ensures low { result < 2 ^ kept }
-{
-    if whole < octets.len() {
-        (u16::from(octets[whole]) >> (8 - kept)) as u8
-    } else {
-        last >> (count - kept)
-    }
-}
-
-/// Appends octets behind `count` bits, and answers the bits that then stand last.
-fn append_shifted(out: &mut Vec<u8>, last: u8, count: u32, octets: &[u8]) -> u8
-    requires few { count < 8 }
-    requires low { last < 2 ^ count }
-    requires room { vec_len out.old + length octets.now ≤ vec_capacity out.old }
-    ensures bits { bits_of out.new.items ++ bits_in result count
-        ≡ bits_of out.old.items ++ bits_in last count ++ bits_of octets.now }
-    ensures low { result < 2 ^ count }
-    ensures len { vec_len out.new ≡ vec_len out.old + length octets.now }
+    requires room { vec_len out.old + 8 ≤ vec_capacity out.old }
+    ensures bits { bits_of out.new.items ++ bits_in result.0 result.1
+        ≡ bits_of out.old.items ++ bits_in last count ++ bits_in value width }
+    ensures few { result.1 < 64 }
+    ensures low { result.0 < 2 ^ result.1 }
+    ensures len { 8 * vec_len out.new + result.1 ≡ 8 * vec_len out.old + count + width }
+    ensures eight { vec_len out.new ≤ vec_len out.old + 8 }
     ensures capacity { vec_capacity out.old ≤ vec_capacity out.new }
 {
-    let mut behind = last;
-    for octet in octets {
-        let both = (u16::from(behind) << 8) + u16::from(*octet);
-        put(out, &[(both >> count) as u8]);
-        behind = (both % (1 << count)) as u8;
+    let free = 64 - count;
+    if width < free {
+        return ((last << width) + value, count + width);
     }
-    behind
+    let rest = width - free;
+    let full = (last << free) + (value >> rest);
+    put(out, &full.to_be_bytes());
+    (value % (1 << rest), rest)
 }
 
-/// Law: where octets have the bits that write a value, with any bits before and behind, the number
+/// Appends octets to the bits kept in a number, and returns those that are kept then.
+fn append_shifted(out: &mut Vec<u8>, last: u64, count: u32, octets: &[u8]) -> (u64, u32)
+    requires few { count < 64 }
+    requires low { last < 2 ^ count }
+    requires room { vec_len out.old + length octets.now + 16 ≤ vec_capacity out.old }
+    ensures bits { bits_of out.new.items ++ bits_in result.0 result.1
+        ≡ bits_of out.old.items ++ bits_in last count ++ bits_of octets.now }
+    ensures few { result.1 < 64 }
+    ensures low { result.0 < 2 ^ result.1 }
+    ensures len { 8 * vec_len out.new + result.1 ≡ 8 * vec_len out.old + count + 8 * length octets.now }
+    ensures capacity { vec_capacity out.old ≤ vec_capacity out.new }
+{
+    let mut number = last;
+    let mut held = count;
+    for octet in octets {
+        let (last, count) = put_bits(out, number, held, u64::from(*octet), 8);
+        number = last;
+        held = count;
+    }
+    (number, held)
+}
+
+/// Appends the octets of bits kept in a number, with zero bits up to the next octet.
+fn put_last(out: &mut Vec<u8>, last: u64, count: u32)
+    requires few { count < 64 }
+    requires low { last < 2 ^ count }
+    requires room { vec_len out.old + (count + 7) / 8 ≤ vec_capacity out.old }
+    ensures bits { bits_of out.new.items ≡ bits_of out.old.items ++ (bits_in last count ++ padding count) }
+    ensures len { vec_len out.new ≡ vec_len out.old + (count + 7) / 8 }
+    ensures capacity { vec_capacity out.old ≤ vec_capacity out.new }
+{
+    if count > 0 {
+        let whole = (count as usize + 7) / 8;
+        put(out, &(last << (64 - count)).to_be_bytes()[..whole]);
+    }
+}
+
+/// Law: where octets have the bits that write a value, with any bits before and after, the number
 /// that [`BitSlice::get`](crate::BitSlice::get) answers for them is the value.
 pub fn pushed_reads_back(value: u64, width: u32)
     requires { value < 2 ^ width }
-    ensures { (before behind : List Bool) (octets : List ℕ) → bits_of octets ≡ before ++ bits_in
-        value width ++ behind → number_of (bits_at octets (length before) width) ≡ value }
+    ensures { (before after : List Bool) (octets : List ℕ) → bits_of octets ≡ before ++ bits_in
+        value width ++ after → number_of (bits_at octets (length before) width) ≡ value }
 {}
 
-/// Law: where octets have the bits of other octets, with any bits before and behind, each of these
+/// Law: where octets have the bits of other octets, with any bits before and after, each of these
 /// is the number that [`BitSlice::octet`](crate::BitSlice::octet) answers at its place.
 pub fn pushed_octets_read_back(octets: &[u8])
-    ensures bits { (before behind : List Bool) (among : List ℕ)
-        → bits_of among ≡ before ++ bits_of octets.now ++ behind
+    ensures bits { (before after : List Bool) (among : List ℕ)
+        → bits_of among ≡ before ++ bits_of octets.now ++ after
         → bits_at among (length before) (8 * length octets.now) ≡ bits_of octets.now }
-    ensures octets { (before behind : List Bool) (among : List ℕ)
-        → bits_of among ≡ before ++ bits_of octets.now ++ behind
+    ensures octets { (before after : List Bool) (among : List ℕ)
+        → bits_of among ≡ before ++ bits_of octets.now ++ after
         → (k : ℕ) → k < length octets.now
         → number_of (bits_at among (length before + 8 * k) 8) ≡ slice_index octets.now k }
 {}

@@ -1,4 +1,4 @@
-//! Numbers with a decimal scale as text, and back: the number v at scale s stands for v / 10^s.
+//! Numbers with a decimal scale as text, and back: the number v at scale s is v / 10^s.
 ghost use Rattle.std.specs.Prelude.{◌≡◌, ◌≤◌, ◌<◌, ◌+◌, ◌*◌, ◌^◌, ◌++◌, ◌==◌, if◌then◌else◌, ℕ, ℤ, true, false, length, unsigned_abs, vec_len, vec_capacity, MatchOption, OnOk, OnErr};
 ghost use Rattle.std.specs.List.{list_all, position};
 ghost use Rattle.std.specs.Str.Parse.{digits_value, digits_value_after, starts_with_minus};
@@ -12,7 +12,7 @@ use itoa::Buffer;
 use std::alloc::AllocError;
 use thiserror::Error;
 
-/// Why a text is no number at a scale. The first that fits is told.
+/// Why a text is no number at a scale. The first that fits is reported.
 #[derive(Clone, Copy, Debug, PartialEq, Eq, Error)]
 pub enum NumberFault {
     /// Not an optional `-`, one or more digits, and optionally a point and one or more digits.
@@ -26,9 +26,9 @@ pub enum NumberFault {
     Large,
 }
 
-/// Appends the text of `v` at `scale` to `out`: at a scale above 0 a point before the last `scale`
-/// digits, with zeros in front so that one digit stands before it; at one below 0 as many zeros
-/// behind the digits, except that zero is `0`. A negative number begins with `-`.
+/// Appends the text of `v` at `scale` to `out`. A scale above 0 puts a point before the last
+/// `scale` digits, with leading zeros so that one digit comes before it. One below 0 puts as many
+/// zeros after the digits, except that zero is `0`. A negative number begins with `-`.
 ///
 /// ```
 /// let mut out = Vec::new(rt.alloc());
@@ -61,7 +61,7 @@ pub fn decimal_text(v: i128, scale: i16, out: &mut Vec<u8>) -> Result<(), AllocE
     Ok(())
 }
 
-/// How many zeros stand behind the digits of a number that ten multiplies so often: none behind 0.
+/// How many zeros follow the digits of a number that ten multiplies so often: none follow 0.
 fn trailing_zeros(size: u128, power: usize) -> usize
     ensures value { result ≡ (if size == 0 then 0 else power) }
     ensures few { result ≤ power }
@@ -149,7 +149,7 @@ fn long_read(text: &[u8], scale: i16) -> Result<i128, NumberFault>
     apply_sign(negative, number)
 }
 
-/// Whether a text begins with a minus sign, and what stands behind that.
+/// Whether a text begins with a minus sign, and the text after it.
 fn without_sign(text: &[u8]) -> (bool, &[u8])
     ensures sign { result.0 ≡ starts_with_minus text.now }
     ensures body { result.1.now ≡ unsigned_part text.now }
@@ -160,7 +160,7 @@ fn without_sign(text: &[u8]) -> (bool, &[u8])
     }
 }
 
-/// The digits before and behind the point, or `None` where the text is not of that form.
+/// The digits before and after the point, or `None` where the text is not of that form.
 fn parts_of(body: &[u8]) -> Option<(&[u8], &[u8])>
     ensures { MatchOption result (is_unsigned body.now ≡ false)
         (λ parts. IsParts body.now parts.0.now parts.1.now) }
@@ -223,7 +223,7 @@ fn are_zeros(digits: &[u8]) -> bool
     digits.iter().all(|digit| *digit == b'0')
 }
 
-/// The number that digits write behind a number, up to the greatest `u128`.
+/// The number that digits write after a number, up to the greatest `u128`.
 fn extend_with_digits(number: u128, digits: &[u8]) -> u128
     requires { all_digits digits.now ≡ true }
     ensures { (n : ℕ) → number ≡ capped n → result ≡ capped (digits_value_after 10 n digits.now) }

@@ -13,9 +13,9 @@ pub struct Failed;
 
 /// A reader of octets that counts its calls.
 ///
-/// Its contract speaks of three values that no code holds: the octets that are left, where the
-/// device under it tells them; how many calls failed; and how many were made. Both counts stop
-/// at the greatest `u64`.
+/// Its contract speaks of three values that no code holds: the octets that are left, where they
+/// are known, how many calls failed, and how many were made. Both counts stop at the greatest
+/// `u64`.
 pub trait Source {
     /// The octets that reads will give from here on, where they are known.
     ghost left: { Self → Option (List ℕ) };
@@ -26,8 +26,8 @@ pub trait Source {
     /// How many reads were made.
     ghost reads: { Self → ℕ };
 
-    /// Reads octets into the front of `buf` and answers how many; none only at the end of the
-    /// input, or where `buf` is empty.
+    /// Reads octets into the first places of `buf` and returns how many. None are read only at the
+    /// end of the input, or where `buf` is empty.
     ///
     /// # Errors
     ///
@@ -41,10 +41,9 @@ pub trait Source {
 
 /// A writer of octets that counts its calls.
 ///
-/// Its contract speaks of values that no code holds: the octets taken so far, where the device
-/// under it tells them; how many calls failed; how many writes took none of the octets that they
-/// were given; how many flushes were made; and whether all that was taken was handed on by a
-/// flush. The counts stop at the greatest `u64`.
+/// Its contract speaks of values that no code holds: the octets taken so far, where they are
+/// known, and whether a flush handed all of them on. It counts the calls that failed, the writes
+/// that took none of their octets, and the flushes. The counts stop at the greatest `u64`.
 pub trait Sink {
     /// The octets taken so far, where they are known.
     ghost taken: { Self → Option (List ℕ) };
@@ -61,7 +60,7 @@ pub trait Sink {
     /// Whether all octets that were taken were handed on.
     ghost all_flushed: { Self → Bool };
 
-    /// Takes octets from the front of `buf` and answers how many.
+    /// Takes the first octets of `buf` and returns how many.
     ///
     /// # Errors
     ///

@@ -1,4 +1,4 @@
-//! A reader and a writer in memory for tests, which go in small steps and fail where they are told.
+//! A reader and a writer in memory for tests, which go in small steps and fail at a given place.
 ghost use Rattle.std.specs.Prelude.{◌≤◌, ◌<◌, vec_len, vec_capacity};
 
 use crate::{Failed, Sink, Source};

@@ -8,7 +8,7 @@ use crate::decimal::NumberFault;
 /// The most digits whose number always fits a `u64`.
 const MAX_DIGITS: usize = 19;
 
-/// The number that an unsigned text writes without its point, and how many digits stand behind the
+/// The number that an unsigned text writes without its point, and how many digits follow the
 /// point. `None` where the text is not of that form, or so long that its number times ten to
 /// `power` may not fit.
 pub(crate) fn short_number(body: &[u8], power: usize) -> Option<(u64, usize)>
@@ -37,7 +37,7 @@ pub(crate) fn short_number(body: &[u8], power: usize) -> Option<(u64, usize)>
     Some((number, places))
 }
 
-/// The number that the digits at the front of a text write behind a number, and how many they are.
+/// The number that the first digits of a text write after a number, and how many they are.
 fn read_digits(number: u64, text: &[u8]) -> (u64, usize)
     requires { (number + 1) * 10 ^ length text.now ≤ 2 ^ 64 }
     ensures count { result.1 ≤ length text.now }

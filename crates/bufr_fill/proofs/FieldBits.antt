@@ -7,9 +7,9 @@ use Rattle.std.proofs.lemmas.List.{nil_from_length, take-append-drop, take_at, d
 use Rattle.std.proofs.lemmas.Bool.Decides.{nat_tests}
 use Rattle.std.proofs.lemmas.Nat.{shr_high}
 use Rattle.bufr_bits.specs.Bits.{bits_of, bits_of_octet, bits_in, number_after_bits, number_of, are_all_ones}
-use Rattle.bufr_bits.proofs.BitLemmas.{bit, number_behind-is, number_of-below, number-bits_of_octet, length-bits_of}
+use Rattle.bufr_bits.proofs.BitLemmas.{bit, number_after_bits-is, number_of-below, number-bits_of_octet, length-bits_of}
 use Rattle.bufr_bits.proofs.PushLemmas.{bits_in-above, bits_in-octet, length-bits_in, number_of-bits_in}
-use Rattle.bufr_bits.proofs.OnesLemmas.{all_set-number, all_set-bits_of}
+use Rattle.bufr_bits.proofs.OnesLemmas.{are_all_ones-number, are_all_ones-bits_of}
 use Rattle.bufr_tables.specs.declared.kind.Kind.{Kind}
 use Rattle.bufr_tables.specs.declared.kind.Kind.TheVariants as kind
 use Rattle.bufr_walk.specs.FieldSpec.{HasWidth, HasMissing}
@@ -22,7 +22,7 @@ pub number_again : (v w : ℕ) → v < 2 ^ w → number_of (bits_in v w) ≡ v
 number_again v w h = number_of-bits_in v w ∙ mod-eq_of_lt h
 
 pub ones_test : (xs : List Bool) (w : ℕ) → length xs ≡ w → eqb (number_of xs) (2 ^ w - 1) ≡ are_all_ones xs
-ones_test xs w e = subst (λ n. eqb (number_of xs) (2 ^ n - 1) ≡ are_all_ones xs) e (all_set-number xs)
+ones_test xs w e = subst (λ n. eqb (number_of xs) (2 ^ n - 1) ≡ are_all_ones xs) e (are_all_ones-number xs)
 
 pub top_below : (m : Bool) (w v : ℕ) → v < raw_limit m w → v < 2 ^ w
 top_below true w v h = omega arith
@@ -81,7 +81,7 @@ octet_at (x ∷ xs) h zero = h.0
 octet_at (x ∷ xs) h (suc k) = octet_at xs h.1 k
 
 pub full_test : (octets : List ℕ) → AreOctets octets → are_all_ones (bits_of octets) ≡ list_all (λ octet. octet == 255) octets
-full_test octets h = sym (all_set-bits_of octets (octet_at octets h))
+full_test octets h = sym (are_all_ones-bits_of octets (octet_at octets h))
 
 bit_test : (b : Bool) → eqb (bit b % 2) 1 ≡ b
 bit_test true = refl
@@ -95,7 +95,7 @@ pub bits_again : (xs : List Bool) → bits_in (number_of xs) (length xs) ≡ xs
 unfolding bits_in
 bits_again [] = refl
 bits_again (x ∷ xs) =
-    let e : number_of (x ∷ xs) ≡ bit x * 2 ^ length xs + number_of xs = ap (λ n. number_after_bits n xs) (omega arith) ∙ number_behind-is (bit x) xs in
+    let e : number_of (x ∷ xs) ≡ bit x * 2 ^ length xs + number_of xs = ap (λ n. number_after_bits n xs) (omega arith) ∙ number_after_bits-is (bit x) xs in
     ap (λ n. bits_in n (suc (length xs))) e
     ∙ ap (λ b. b ∷ bits_in (bit x * 2 ^ length xs + number_of xs) (length xs)) (first_bit x (number_of xs) (length xs) (number_of-below xs))
     ∙ ap (λ bs. x ∷ bs) (bits_in-above (bit x) (number_of xs) (length xs) ∙ bits_again xs)

@@ -6,7 +6,7 @@ use Rattle.std.proofs.Math.Nat.{pow-le-pow_right}
 use Rattle.std.proofs.lemmas.Bool.Decides.{nat_tests}
 use Rattle.bufr_bits.specs.Bits.{bits_of, bits_at, number_of, are_all_ones}
 use Rattle.bufr_bits.proofs.BitLemmas.{length-bits_of, length-bits_at}
-use Rattle.bufr_bits.proofs.OnesLemmas.{all_set-number}
+use Rattle.bufr_bits.proofs.OnesLemmas.{are_all_ones-number}
 use Rattle.bufr_tables.specs.declared.kind.Kind.{Kind}
 use Rattle.bufr_tables.specs.declared.kind.Kind.TheVariants as kind
 use Rattle.bufr_walk.specs.declared.spec.Role.TheVariants as role
@@ -107,4 +107,4 @@ bits_length octets = length-bits_of octets
 -- bits are all ones where their number is the greatest of their width
 pub ones_by_number : (octets : List ℕ) (at width raw : ℕ) → at + width ≤ 8 * length octets → raw ≡ number_of (bits_at octets at width) → (raw == 2 ^ width - 1) ≡ are_all_ones (bits_at octets at width)
 ones_by_number octets at width raw within is =
-    ap (λ (m : ℕ). m == 2 ^ width - 1) is ∙ ap (λ (m : ℕ). number_of (bits_at octets at width) == 2 ^ m - 1) (sym (length-bits_at octets at width within)) ∙ all_set-number (bits_at octets at width)
+    ap (λ (m : ℕ). m == 2 ^ width - 1) is ∙ ap (λ (m : ℕ). number_of (bits_at octets at width) == 2 ^ m - 1) (sym (length-bits_at octets at width within)) ∙ are_all_ones-number (bits_at octets at width)

@@ -1,5 +1,5 @@
 use Rattle.std.proofs.Common.{◌∙◌, sym, refl}
-use Rattle.bufr_bits.proofs.OnesLemmas.{all_set-bits_of}
+use Rattle.bufr_bits.proofs.OnesLemmas.{are_all_ones-bits_of}
 use Rattle.bufr_bits.proofs.WindowLemmas.{window_not_ones, window_all_ones}
 use Rattle.bufr_bits.proofs.bit_slice.are_full.Goals as goal
 
@@ -10,4 +10,4 @@ pub loop-window-preserved : goal.loop-window-preserved
 loop-window-preserved c = c.loop-window.invariant ∙ window_all_ones c.loop-window.rest.now _ c.in-Some.window c.in-Some.ensures c.if-window.false refl
 
 pub returns : goal.returns
-returns c = c.are_each_full.ensures.full ∙ all_set-bits_of c.loop-window.rest.now c.are_each_full.ensures.octets ∙ sym c.loop-window.invariant
+returns c = c.are_each_full.ensures.full ∙ are_all_ones-bits_of c.loop-window.rest.now c.are_each_full.ensures.octets ∙ sym c.loop-window.invariant
