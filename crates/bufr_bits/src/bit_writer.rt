@@ -201,7 +201,8 @@ fn append_shifted(out: &mut Vec<u8>, last: u64, count: u32, octets: &[u8]) -> (u
         ≡ bits_of out.old.items ++ bits_in last count ++ bits_of octets.now }
     ensures few { result.1 < 64 }
     ensures low { result.0 < 2 ^ result.1 }
-    ensures len { 8 * vec_len out.new + result.1 ≡ 8 * vec_len out.old + count + 8 * length octets.now }
+    ensures len { 8 * vec_len out.new + result.1
+        ≡ 8 * vec_len out.old + count + 8 * length octets.now }
     ensures capacity { vec_capacity out.old ≤ vec_capacity out.new }
 {
     let mut number = last;
@@ -219,7 +220,8 @@ fn put_last(out: &mut Vec<u8>, last: u64, count: u32)
     requires few { count < 64 }
     requires low { last < 2 ^ count }
     requires room { vec_len out.old + (count + 7) / 8 ≤ vec_capacity out.old }
-    ensures bits { bits_of out.new.items ≡ bits_of out.old.items ++ (bits_in last count ++ padding count) }
+    ensures bits { bits_of out.new.items
+        ≡ bits_of out.old.items ++ (bits_in last count ++ padding count) }
     ensures len { vec_len out.new ≡ vec_len out.old + (count + 7) / 8 }
     ensures capacity { vec_capacity out.old ≤ vec_capacity out.new }
 {

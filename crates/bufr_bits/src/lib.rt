@@ -2,10 +2,11 @@
 //!
 //! A device is a [`Source`] or a [`Sink`]. Bits are counted from 0, most significant first.
 //!
-//! All other crates use it: `bufr_frame` reads a source, and `bufr_walk` reads the bits of a message
-//! by a [`BitSlice`]. `bufr_fill` writes bits by a [`BitWriter`], `bufr_fill` and `bufr_text` read
-//! and write the text of numbers, and `bufr_cli` makes devices of files. The tests
-//! `get_is_bit_by_bit`, `bits_are_pushed`, `decimal_texts` and `device_reads_and_writes` show each.
+//! All other crates use it: `bufr_frame` reads a source, and `bufr_walk` reads the bits of a
+//! message by a [`BitSlice`]. `bufr_fill` writes bits by a [`BitWriter`], `bufr_fill` and
+//! `bufr_text` read and write the text of numbers, and `bufr_cli` makes devices of files. The
+//! tests `get_is_bit_by_bit`, `bits_are_pushed`, `decimal_texts` and `device_reads_and_writes`
+//! show each.
 #![tactic(auto)]
 
 mod append;
