@@ -1,37 +1,57 @@
 #!/usr/bin/env bash
-# Help, words that are not understood, and files that are not there or not what they are named for.
+# Help and usage texts, word for word; each word of a line matters; files that are not there or not what they are named for.
 set -eu
 . "$(dirname "$0")/lib.sh"
 
-# helps [COMMAND]: help goes to standard output, and nothing to standard error.
+# helps FILE WORD..: the text of this file of tests/help is all that the program writes.
 helps() {
-    run "$@" --help
-    [ "$status" -eq 0 ] && grep -q '^Usage: bufr' "$work/output" && grep -q '^Exit status:$' "$work/output" &&
-        [ ! -s "$work/errors" ] || fail "bufr $* --help: no help, or more than help"
+    local file=$1
+    shift
+    gives 0 "$(cat "tests/help/$file.txt")"$'\n' '' "$@"
 }
 
-# misuses WORD..: a usage fault is all that the program writes, on standard error.
+# misuses TEXT USAGE WORD..: a usage fault of this text and this usage is all that the program writes.
 misuses() {
-    run "$@" < /dev/null
-    [ "$status" -eq 2 ] && [ ! -s "$work/output" ] && grep -q '^error: ' "$work/errors" &&
-        grep -q '^Usage: bufr' "$work/errors" || fail "bufr $*: no usage fault"
+    local text=$1 usage=$2
+    shift 2
+    gives 2 '' "error: $text"$'\n\n'"Usage: bufr $usage"$'\n\nFor more information, try \'--help\'.\n' "$@"
 }
 
-helps
+helps bufr --help
+helps bufr help
 for command in ls dump encode; do
-    helps "$command"
+    helps "$command" "$command" --help
+    helps "$command" help "$command"
 done
-misuses
-misuses lst
-misuses ls one two
-misuses dump -B "${tables[1]}"
+gives 0 $'bufr 0.1.0\n' '' --version
+
+usage='-B <FILE> -D <FILE> [FILE]'
+lacks=$'the following required arguments were not provided:\n  '
+misuses $'\'bufr\' requires a subcommand but one was not provided\n  [subcommands: ls, dump, encode, help]' '<COMMAND>'
+misuses $'unrecognized subcommand \'lst\'\n\n  tip: a similar subcommand exists: \'ls\'' '<COMMAND>' lst
+misuses "unexpected argument 'two' found" 'ls [FILE]' ls one two
+misuses "${lacks}-D <FILE>" "dump $usage" dump -B "${tables[1]}"
+misuses "${lacks}-B <FILE>" "encode $usage" encode -D "${tables[3]}"
 gives 2 '' "\
 error: invalid value for '--form <WORD>'
   [possible values: plain, compressed]
 
 For more information, try '--help'.
 " encode "${tables[@]}" --form other examples/synop.txt
-ends 2 'error: an argument is not UTF-8' /dev/null ls $'\xff'
-gives 2 '' $'bufr: cannot open nosuch\n' ls nosuch
+gives 2 '' $'error: an argument is not UTF-8\n' ls $'\xff'
+
+# Without any one of its words a line has another output.
+line=(encode "${tables[@]}" --form compressed examples/buoys.txt)
+run "${line[@]}"
+[ "$status" -eq 0 ] || fail "bufr ${line[*]}: status $status"
+mv "$work/output" "$work/whole"
+for place in "${!line[@]}"; do
+    run "${line[@]:0:place}" "${line[@]:place+1}" < /dev/null
+    ! cmp -s "$work/output" "$work/whole" || fail "bufr ${line[*]}: the same without ${line[place]}"
+done
+
+for name in nosuch 'no such' ñ '' -; do
+    gives 2 '' "bufr: cannot open $name"$'\n' ls "$name"
+done
 gives 2 '' $'table B: 40 header\n' dump -B "${tables[3]}" -D "${tables[3]}" examples/bulletins.bufr
 gives 2 '' $'table D: 40 header\n' dump -B "${tables[1]}" -D "${tables[1]}" examples/bulletins.bufr

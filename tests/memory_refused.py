@@ -8,11 +8,18 @@ last run gives the whole answer. Each other one has status 2 and a prefix of the
 fault lines and then `bufr: 73 out of memory`. One call may be refused and the answer be whole, for another is made in
 its place: std's `collect` of the words first asks for much room.
 
-refuse_memory.c refuses. Where there is no C compiler ($CC or cc) all is skipped.
+The output is made of pieces: the lines of `ls`, the texts of `dump`, the messages of `encode`. A prefix of them is left,
+whole, and never fewer than an earlier refusal left. `dump` also leaves the whole lines of the text that it was at. Of
+several pieces a late refusal leaves some: what was written before it is handed on.
+
+Then the tests of `growth_tests.rt`, one call of a library each, are run in the same way: each passes at each refusal.
+
+refuse_memory.c refuses. It is compiled by a C compiler ($CC or cc), or else by the toolchain's.
 """
 import concurrent.futures
 import os
 import pathlib
+import re
 import shutil
 import subprocess
 import sys
@@ -22,6 +29,8 @@ from typing import NamedTuple
 from lib import SECTION_1, TABLES, TOP, finish, message, program, section, words
 
 WANT = b"bufr: 73 out of memory\n"
+TESTS = TOP / "crates/bufr_tests/out/bufr_tests_tests"
+PIECE = rb"(?s)message\n.*?\nend\n|offset=[^\n]*\n|.+"  # of `dump` and `ls`, or a text that is one
 
 # Tables of a few rows, with and without a fault.
 SMALL_B = b"fxy,name,unit,scale,reference,width\n001001,WMO BLOCK NUMBER,Numeric,0,0,7\n"
@@ -53,10 +62,10 @@ INPUTS = {
 
 
 class Run(NamedTuple):
-    """A run of the program."""
+    """A run of a program."""
 
     name: str
-    arguments: list
+    words: list
     input: bytes
 
 
@@ -70,13 +79,13 @@ class Left(NamedTuple):
 
 
 class Trial:
-    """The program, the library that refuses, and a folder for their files."""
+    """The library that refuses, and a folder for files."""
 
-    def __init__(self, compiler: str, work: pathlib.Path) -> None:
-        self.program, self.work = program(), work
-        self.library = work / "refuse_memory.so"
+    def __init__(self, compiler: list, work: pathlib.Path) -> None:
+        self.work, self.library = work, work / "refuse_memory.so"
         source = TOP / "tests/refuse_memory.c"
-        subprocess.run([compiler, "-shared", "-fPIC", "-O1", "-o", self.library, source], check=True)
+        flags = ["-shared", "-fPIC", "-O1", "-nostdlib", "-o", self.library]
+        subprocess.run([*compiler, *flags, source], check=True)
 
     def left(self, run: Run, refused: int) -> Left:
         """Makes a run with one of its calls refused, or none where that is 0."""
@@ -86,25 +95,32 @@ class Trial:
         told = {"LD_PRELOAD": str(self.library), "REFUSE_COUNT": str(count), "REFUSE_AT": str(refused)}
         with source.open("rb") as stdin:
             how = {"stdin": stdin, "capture_output": True, "env": told, "timeout": 60}
-            done = subprocess.run([self.program, *run.arguments], **how)
+            done = subprocess.run(run.words, **how)
         return Left(done.returncode, done.stdout, done.stderr, int.from_bytes(count.read_bytes(), sys.byteorder))
 
-    def wrongs(self, run: Run) -> list:
-        """What is not so of a run with each call refused in turn. Tells how many it makes."""
+    def lefts(self, run: Run) -> tuple:
+        """What a run leaves with all memory, and with each call refused. Says how many calls it makes."""
         whole = self.left(run, 0)
         print(f"memory_refused: {run.name}: {whole.calls} calls", flush=True)
-        if whole.calls == 0:
-            return ["the library does not see the program's calls for memory"]
-        if whole.errors.endswith(WANT):
-            return [f"without a refusal: {whole}"]
         numbers = range(1, whole.calls + 2)
         with concurrent.futures.ThreadPoolExecutor(os.cpu_count()) as pool:
-            lefts = list(pool.map(lambda number: self.left(run, number), numbers))
-        again = [left for left in lefts if left.calls > whole.calls and left[:3] == whole[:3]]
-        spared = [left for left in lefts[:-1] if left.calls <= whole.calls and left[:3] == whole[:3]]
-        wrong = [f"call {n} refused: {left}"[:400] for n, left in zip(numbers, lefts) if not fits(whole, n, left)]
-        wrong += [f"{len(again)} refused calls are made again"] * (len(again) > 1)
-        return wrong + [f"{len(spared)} refused calls are spared"] * (len(spared) > 0)
+            return whole, list(pool.map(lambda number: self.left(run, number), numbers))
+
+
+def wrongs(whole: Left, lefts: list) -> list:
+    """What is not so of a run of the program with each call refused in turn."""
+    if whole.calls == 0:
+        return ["the library does not see the program's calls for memory"]
+    if whole.errors.endswith(WANT):
+        return [f"without a refusal: {whole}"]
+    again = [left for left in lefts if left.calls > whole.calls and left[:3] == whole[:3]]
+    spared = [left for left in lefts[:-1] if left.calls <= whole.calls and left[:3] == whole[:3]]
+    wrong = [f"call {n} refused: {left}"[:400] for n, left in enumerate(lefts, 1) if not fits(whole, n, left)]
+    wrong += [f"{len(again)} refused calls are made again"] * (len(again) > 1)
+    wrong += [f"{len(spared)} refused calls are spared"] * (len(spared) > 0)
+    short = [len(left.output) for left in lefts if left[:3] != whole[:3]]
+    wrong += ["a later refusal leaves less"] * (short != sorted(short))
+    return wrong + ["no refusal leaves a piece"] * (len(pieces(whole.output)) > 1 and short[-1] == 0)
 
 
 def fits(whole: Left, number: int, left: Left) -> bool:
@@ -114,26 +130,61 @@ def fits(whole: Left, number: int, left: Left) -> bool:
     front = left.errors[: -len(WANT)]
     told = left.status == 2 and left.errors.endswith(WANT) and left.calls >= number
     lines = whole.errors.startswith(front) and front[-1:] in (b"", b"\n")
-    return told and lines and whole.output.startswith(left.output)
+    return told and lines and is_left(left.output, whole.output)
 
 
-def runs(trial: Trial) -> list:
+def is_left(output: bytes, whole: bytes) -> bool:
+    """Whether an output is the first pieces of another, and of a text that is next its first lines."""
+    left = whole
+    for piece in reversed(pieces(whole)):
+        left = left[: -len(piece)]
+        if output.startswith(left):
+            rest = output[len(left) :]
+            return rest in (b"", piece) or piece[:8] == b"message\n" and piece.startswith(rest) and rest[-1:] == b"\n"
+    return output == whole == b""
+
+
+def pieces(output: bytes) -> list:
+    """The lines, texts or messages that an output is made of."""
+    if output[:4] != b"BUFR":
+        return re.findall(PIECE, output)
+    length = int.from_bytes(output[4:7], "big")
+    return [output[:length], *pieces(output[length:])]
+
+
+def tests(trial: Trial) -> list:
+    """What is not so of the tests of calls that take memory, with each call for it refused."""
+    if not TESTS.is_file():
+        print(f"memory_refused: skipped the tests of single calls, there is no {TESTS.relative_to(TOP)}")
+        return []
+    listed = subprocess.run([TESTS, "--list"], capture_output=True, text=True, check=True).stdout
+    wrong = []
+    for name in re.findall(r"(?m)^(growth_tests::\w+): test$", listed):
+        whole, lefts = trial.lefts(Run(name, [TESTS, name], b""))
+        wrong += [f"{name}: no call for memory"] * (whole.calls == 0)
+        wrong += [f"{name}: call {n} refused: {left}" for n, left in enumerate(lefts, 1) if left.status != 0]
+    return wrong or ["no test of a single call"] * ("growth_tests::" not in listed)
+
+
+def runs(work: pathlib.Path) -> list:
     """The runs: of each command, of each table, and of words that are asked for help or not understood."""
+    bufr = program()
 
     def file(name: str, octets: bytes) -> str:
-        (trial.work / name).write_bytes(octets)
-        return str(trial.work / name)
+        (work / name).write_bytes(octets)
+        return str(work / name)
 
     def tables(b: str, d: str) -> list:
         return ["-B", b, "-D", d]
 
     def text(octets: bytes) -> bytes:
-        return subprocess.run([trial.program, "dump", *TABLES], input=octets, capture_output=True, check=True).stdout
+        return subprocess.run([bufr, "dump", *TABLES], input=octets, capture_output=True, check=True).stdout
 
     small = file("B.csv", SMALL_B)
     made = [Run(f"ls of {name}", ["ls"], INPUTS[name]) for name in list(INPUTS)[:2]]
     made += [Run(f"dump of {name}", ["dump", *TABLES], INPUTS[name]) for name in list(INPUTS)[2:]]
     of_texts = ["a delayed group", "compressed names", "octets for local use", "a redefined reference", "four items"]
+    of_texts += ["two templates in turn"]
     made += [Run(f"encode of {name}", ["encode", *TABLES], text(INPUTS[name])) for name in of_texts]
     made += [
         Run("small tables", ["dump", *tables(small, file("D.csv", SMALL_D))], b""),
@@ -152,17 +203,29 @@ def runs(trial: Trial) -> list:
     ):
         octets = (TOP / "examples" / name).read_bytes()
         made.append(Run(f"{' '.join(arguments)} of {name}", [*arguments, *TABLES], octets))
-    return made
+    return [run._replace(words=[bufr, *run.words]) for run in made]
+
+
+def compiler() -> list:
+    """The words that call a C compiler, or none where there is none."""
+    own = os.environ.get("CC", "cc")
+    if shutil.which(own):
+        return [own]
+    if not shutil.which("rt"):
+        return []
+    page = subprocess.run(["rt", "doc"], capture_output=True, text=True, check=True).stdout.strip()
+    return [pathlib.Path(page).parent / "toolchain/bin/clang", "-fuse-ld=lld"]
 
 
 def main() -> None:
-    compiler = os.environ.get("CC", "cc")
-    if not shutil.which(compiler):
-        print(f"memory_refused: skipped, there is no C compiler ({compiler})")
+    words = compiler()
+    if not words:
+        print("memory_refused: skipped, there is no C compiler and no toolchain")
         return
     with tempfile.TemporaryDirectory() as work:
-        trial = Trial(compiler, pathlib.Path(work))
-        finish([f"{run.name}: {wrong}" for run in runs(trial) for wrong in trial.wrongs(run)])
+        trial = Trial(words, pathlib.Path(work))
+        found = [f"{run.name}: {wrong}" for run in runs(trial.work) for wrong in wrongs(*trial.lefts(run))]
+        finish(found + tests(trial))
 
 
 if __name__ == "__main__":

@@ -2,13 +2,20 @@
 // what the program does at each of them. REFUSE_COUNT names a file of eight octets: it is mapped, and the calls are
 // counted in it, since a program may end at any time and without a word. REFUSE_AT is the number of the call
 // that is refused, from 1; at 0 none is.
-#include <errno.h>
-#include <fcntl.h>
-#include <stddef.h>
-#include <stdint.h>
-#include <stdlib.h>
-#include <sys/mman.h>
-#include <unistd.h>
+//
+// It declares what it calls, so that a compiler without the headers of the C library serves.
+typedef __SIZE_TYPE__ size_t;
+typedef __UINT64_TYPE__ uint64_t;
+#define NULL ((void *)0)
+enum { ENOMEM = 12, O_RDWR = 2, PROT_READ_WRITE = 3, MAP_SHARED = 1 }; // of Linux
+
+int *__errno_location(void);
+char *getenv(const char *name);
+int open(const char *name, int flags, ...);
+void *mmap(void *at, size_t size, int protection, int flags, int file, long offset);
+int close(int file);
+unsigned long long strtoull(const char *text, char **end, int base);
+_Noreturn void _exit(int status);
 
 // What stands behind these calls in the GNU C library.
 void *__libc_malloc(size_t size);
@@ -22,8 +29,8 @@ static uint64_t refused;
 __attribute__((constructor)) static void begin(void) {
     const char *name = getenv("REFUSE_COUNT"), *number = getenv("REFUSE_AT");
     int file = name && number ? open(name, O_RDWR) : -1;
-    void *map = mmap(NULL, sizeof *calls, PROT_READ | PROT_WRITE, MAP_SHARED, file, 0);
-    if (map == MAP_FAILED)
+    void *map = mmap(NULL, sizeof *calls, PROT_READ_WRITE, MAP_SHARED, file, 0);
+    if (map == (void *)-1)
         _exit(99); // no status of the program
     close(file);
     refused = strtoull(number, NULL, 10);
@@ -33,7 +40,7 @@ __attribute__((constructor)) static void begin(void) {
 static int refuses(void) {
     if (!calls || ++*calls != refused)
         return 0;
-    errno = ENOMEM;
+    *__errno_location() = ENOMEM;
     return 1;
 }
 

@@ -236,7 +236,7 @@ fn laws() {
 }
 
 #[rattlefmt::skip]
-const HEAD_4: Head = Head {
+pub(crate) const HEAD_4: Head = Head {
     edition: 4, master: 0, centre: 98, subcentre: 0, update: 0, category: 0, subcategory: 0,
     local_subcategory: 0, master_version: 14, local_version: 0,
     year: 2024, month: 1, day: 2, hour: 3, minute: 4, second: 5,

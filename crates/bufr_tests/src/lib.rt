@@ -18,6 +18,8 @@ mod finish_tests;
 #[cfg(test)]
 mod frame_tests;
 #[cfg(test)]
+mod growth_tests;
+#[cfg(test)]
 mod messages;
 #[cfg(test)]
 mod other_programs;

@@ -5,7 +5,8 @@ use crate::runs::writer;
 use crate::support::{Runtime, assert_same, assert_that, joined, ok};
 use bufr_bits::{Device, End, ScriptIn, ScriptOut, Sink};
 use bufr_cli::{
-    Buffered, CannotOpenFile, Inputs, LineFault, Subcommand, TableNames, parse_line, read_all, run,
+    BUFFERED, Buffered, CannotOpenFile, Inputs, LineFault, Subcommand, TableNames, parse_line,
+    read_all, run,
 };
 use bufr_frame::RunFault;
 use bufr_text::Form;
@@ -402,40 +403,105 @@ fn runs_encode_lines(rt: HostRuntime) {
     assert_runs(&rt, RUNS, "encode", &library, want)
 }
 
-/// A writer that is full, and counts the writes that it is given.
+/// The status of a call over the program's own writer on octets in memory.
+fn status_on(
+    rt: &impl Runtime,
+    words: &[&'static str],
+    inputs: &Library<'_>,
+    octets: &mut Vec<u8>,
+) -> u8 {
+    let output = BufWriter::with_capacity(rt.alloc(), BUFFERED, octets);
+    let mut w = Device::new(Buffered::new(ok(rt, output)));
+    let mut e = writer(rt, 4096, (4096, End::Fail));
+    call(rt.alloc(), words, inputs, &mut w, &mut e)
+}
+
+/// Asserts that a call of a command whose input is torn hands on all that it wrote before.
+fn assert_handed_on(
+    rt: &impl Runtime,
+    command: &'static str,
+    arguments: &'static [&'static str],
+    input: &[u8],
+    output: &[u8],
+) {
+    let words = line_of(rt, command, arguments);
+    let torn = Library {
+        one: b"",
+        standard: input,
+    };
+    let mut octets = Vec::new(rt.alloc());
+    let status = status_on(rt, words.as_slice(), &torn, &mut octets);
+    assert_same(rt, &status, &2, &command);
+    assert_same(rt, &octets.as_slice(), &output, &command);
+}
+
+/// What a buffered writer holds at a fault of reading is on its device before the writer goes.
+#[test]
+fn hands_on_what_was_written_before_a_fault(rt: HostRuntime) {
+    let (line, text) = (line_of_one(&rt, "0"), text_of_one(&rt));
+    let (line, text) = (line.as_bytes(), text.as_bytes());
+    let arguments = &["-B", "b.csv", "-D", "d.csv", "torn.bufr"];
+    assert_handed_on(&rt, "ls", &["torn.bufr"], ONE_BLOCK_NUMBER, line);
+    assert_handed_on(&rt, "dump", arguments, ONE_BLOCK_NUMBER, text);
+    assert_handed_on(&rt, "encode", arguments, text, ONE_BLOCK_NUMBER);
+}
+
+/// A writer that is full, and counts the calls that it is given.
 #[derive(Drop)]
 struct Full<'a> {
-    writes: &'a Cell<usize>,
+    calls: &'a Cell<usize>,
 }
 
 impl<'a> Write for Full<'a> {
     fn write(&mut self, _buf: &[u8]) -> io::Result<usize> {
-        self.writes.set(self.writes.get().saturating_add(1));
+        self.calls.set(self.calls.get().saturating_add(1));
         Err(ErrorKind::Other.into())
     }
 
     fn flush(&mut self) -> io::Result<()> {
+        self.calls.set(self.calls.get().saturating_add(1));
         Ok(())
     }
 }
 
 /// The status of a call over the program's own writer on a full one, which is flushed and dropped.
-fn status_if_full(rt: &impl Runtime, writes: &Cell<usize>, e: &mut ScriptOut) -> u8 {
-    let full = BufWriter::with_capacity(rt.alloc(), 1000, Full { writes });
+fn status_if_full(
+    rt: &impl Runtime,
+    words: &[&'static str],
+    inputs: &Library<'_>,
+    calls: &Cell<usize>,
+) -> u8 {
+    let full = BufWriter::with_capacity(rt.alloc(), 1000, Full { calls });
     let mut w = Device::new(Buffered::new(ok(rt, full)));
-    let status = call(rt.alloc(), &["bufr", "ls"], &ONE, &mut w, e);
+    let mut e = writer(rt, 4096, (4096, End::Fail));
+    let status = call(rt.alloc(), words, inputs, &mut w, &mut e);
     assert_that(rt, w.flush().is_err(), &"flush");
+    assert_same(rt, &text_on(rt, &e), &WRITE_FAILED, &"errors");
     status
+}
+
+/// Asserts that a command of these arguments makes one call of a full writer.
+fn assert_tried_once(
+    rt: &impl Runtime,
+    command: &'static str,
+    arguments: &'static [&'static str],
+    standard: &[u8],
+) {
+    let words = line_of(rt, command, arguments);
+    let inputs = Library { one: b"", standard };
+    let calls = Cell::new(0);
+    let status = status_if_full(rt, words.as_slice(), &inputs, &calls);
+    assert_same(rt, &(status, calls.get()), &(2, 1), &command);
 }
 
 /// A write that failed is not tried again: not by the run, a flush, nor the drop of the writer.
 #[test]
 fn tries_no_write_again(rt: HostRuntime) {
-    let writes = Cell::new(0);
-    let mut e = writer(&rt, 4096, (4096, End::Fail));
-    let status = status_if_full(&rt, &writes, &mut e);
-    assert_same(&rt, &(status, writes.get()), &(2, 1), &"status and writes");
-    assert_same(&rt, &text_on(&rt, &e), &WRITE_FAILED, &"errors");
+    let text = text_of_one(&rt);
+    let arguments = &["-B", "b.csv", "-D", "d.csv"];
+    assert_tried_once(&rt, "ls", &[], ONE_BLOCK_NUMBER);
+    assert_tried_once(&rt, "dump", arguments, ONE_BLOCK_NUMBER);
+    assert_tried_once(&rt, "encode", arguments, text.as_bytes());
 }
 
 /// The octets of a message that comes in parts, from a reader that may fail.

@@ -1,0 +1,188 @@
+//! Calls that take memory: each answers the whole, or that it wants memory.
+//!
+//! `tests/memory_refused.py` refuses each growth of each test in turn. So a test ends well where it
+//! gets no memory for its own values.
+
+use crate::frame_tests::HEAD_4;
+use crate::messages::{self, LOCAL_USE};
+use crate::support::{Runtime, assert_same, assert_that, build, ok, read_b, read_d};
+use bufr_bits::{BitSlice, BitWriter, End, ScriptIn, ScriptOut, Sink, decimal_text};
+use bufr_cli::{LineFault, parse_line, read_all};
+use bufr_frame::{RunFault, WriteFault, write_message};
+use bufr_tables::{Fxy, TableFault, TemplateFault};
+use std::alloc::AllocError;
+use std::fmt::Debug;
+use std::process::Abort;
+
+/// The whole answer of a call, if it got memory; else its fault is want of memory.
+fn whole<T, E: Debug + PartialEq + Drop>(
+    rt: &impl Abort,
+    answer: Result<T, E>,
+    want_of_memory: E,
+) -> Option<T> {
+    match answer {
+        Ok(value) => Some(value),
+        Err(fault) => {
+            assert_same(rt, &fault, &want_of_memory, &"fault");
+            None
+        }
+    }
+}
+
+/// Writes a number after others. Where memory is wanted nothing is written, and it is tried again.
+fn write_number(rt: &impl Abort, out: &mut Vec<u8>) {
+    let before = out.len();
+    if decimal_text(-28_815, 2, out).is_err() {
+        assert_same(rt, &out.len(), &before, &"octets");
+        ok(rt, decimal_text(-28_815, 2, out));
+    }
+}
+
+#[test]
+fn decimal_text_grows(rt: HostRuntime) {
+    let mut out = Vec::new(rt.alloc());
+    for _ in 0..4 {
+        write_number(&rt, &mut out);
+    }
+    let want = b"-288.15-288.15-288.15-288.15".as_slice();
+    assert_same(&rt, &out.as_slice(), &want, &"numbers");
+}
+
+/// Pushes 40 bits. Where memory is wanted nothing is pushed, and it is tried again.
+fn push_number(rt: &impl Abort, writer: &mut BitWriter, value: u64) {
+    let before = writer.len_bits();
+    assert!(rt; before < 100_000);
+    if writer.push(value % (1 << 40), 40).is_err() {
+        assert!(rt; writer.len_bits() == before);
+        ok(rt, writer.push(value % (1 << 40), 40));
+    }
+}
+
+/// A number of 40 bits that is another at each index.
+fn number_at(index: u64) -> u64 {
+    index.wrapping_mul(0x0001_2345_6789) % (1 << 40)
+}
+
+#[test]
+fn push_grows(rt: HostRuntime) {
+    let mut writer = BitWriter::new(rt.alloc());
+    for index in 0..50 {
+        push_number(&rt, &mut writer, number_at(index));
+    }
+    let octets = writer.into_octets();
+    assert!(rt; octets.len() == 250);
+    for index in 0..50u64 {
+        let found = BitSlice::new(&octets).get(40 * index, 40);
+        assert_same(&rt, &found, &Some(number_at(index)), &index);
+    }
+}
+
+/// Pushes octets. Where memory is wanted nothing is pushed, and it is tried again.
+fn push_message(rt: &impl Abort, writer: &mut BitWriter) {
+    let before = writer.len_bits();
+    assert!(rt; before < 100_000);
+    if writer.push_octets(LOCAL_USE).is_err() {
+        assert!(rt; writer.len_bits() == before);
+        ok(rt, writer.push_octets(LOCAL_USE));
+    }
+}
+
+#[test]
+fn push_octets_grows(rt: HostRuntime) {
+    let mut writer = BitWriter::new(rt.alloc());
+    for _ in 0..5 {
+        push_message(&rt, &mut writer);
+    }
+    let octets = writer.into_octets();
+    for message in octets.as_slice().chunks(LOCAL_USE.len()) {
+        assert_same(&rt, &message, &LOCAL_USE, &"message");
+    }
+    assert_same(&rt, &octets.len(), &(5 * LOCAL_USE.len()), &"octets");
+}
+
+#[test]
+fn script_out_grows(rt: HostRuntime) {
+    let writer = ScriptOut::new(rt.alloc(), 1000, 600, End::Fail);
+    if let Some(mut writer) = whole(&rt, writer, AllocError) {
+        let taken = (writer.write(&[1; 700]), writer.write(&[1; 700]));
+        assert_same(&rt, &taken, &(Ok(600), Ok(400)), &"room");
+    }
+}
+
+#[test]
+fn write_message_grows(rt: HostRuntime) {
+    let message = write_message(
+        rt.alloc(),
+        &HEAD_4,
+        b"\xAB\xCD",
+        Some(b"\x01\x02"),
+        &[0x0101],
+        1,
+        true,
+        false,
+        b"\x14",
+    );
+    if let Some(octets) = whole(&rt, message, WriteFault::Memory) {
+        assert_same(&rt, &octets.as_slice(), &LOCAL_USE, &"message");
+    }
+}
+
+/// The descriptors of 32 replications of one descriptor each, around an element.
+fn thirty_two_groups() -> [Fxy; 33] {
+    let mut descriptors = [Fxy::from_word(0x0101); 33];
+    for place in 0..32u16 {
+        descriptors[usize::from(place)] = Fxy::from_word(0x4001 + ((32 - place) << 8));
+    }
+    descriptors
+}
+
+#[test]
+fn build_grows(rt: HostRuntime) {
+    let table_b = read_b(rt.alloc(), messages::table_b());
+    let table_d = read_d(rt.alloc(), messages::table_d());
+    let table_b = whole(&rt, table_b, TableFault::Memory);
+    let table_d = whole(&rt, table_d, TableFault::Memory);
+    let (Some(table_b), Some(table_d)) = (table_b, table_d) else {
+        return;
+    };
+    let template = build(rt.alloc(), &thirty_two_groups(), &table_b, &table_d);
+    if let Some(template) = whole(&rt, template, TemplateFault::Memory) {
+        let found = (template.places(), template.depth());
+        assert_same(&rt, &found, &(66, 32), &"places and depth");
+    }
+}
+
+#[test]
+fn read_all_grows(rt: HostRuntime) {
+    let input = [0x5A; 40_000];
+    let mut r = ScriptIn::new(&input, 3000, None);
+    let octets = read_all(rt.alloc(), &mut r);
+    if let Some(octets) = whole(&rt, octets, RunFault::Memory) {
+        assert_that(&rt, octets.as_slice() == input.as_slice(), &octets.len());
+    }
+}
+
+/// Lines, and how what they give ends: the name of a file, help, or why they are not understood.
+#[rattlefmt::skip]
+static LINES: &[(&[&str], &str)] = &[
+    (&["bufr", "encode", "-B", "b.csv", "-D", "d.csv", "--form", "plain", "x.txt"], "x.txt"),
+    (&["bufr", "ls", "--help"], "  bufr ls bulletins.bufr 2> faults.txt\n"),
+    (&["bufr", "ls", "a", "b"], "For more information, try '--help'.\n"),
+];
+
+/// Asserts that a line gives what ends so, or wants memory.
+fn assert_line(rt: &impl Runtime, words: &[&str], end: &str) {
+    match parse_line(rt.alloc(), words) {
+        Ok(job) => assert_same(rt, &job.file, &Some(end), &words),
+        Err(LineFault::Help(text)) => assert_that(rt, text.as_str().ends_with(end), &text),
+        Err(LineFault::Usage(text)) => assert_that(rt, text.as_str().ends_with(end), &text),
+        Err(LineFault::Memory) => {}
+    }
+}
+
+#[test]
+fn parse_line_grows(rt: HostRuntime) {
+    for (words, end) in LINES {
+        assert_line(&rt, *words, *end);
+    }
+}
