@@ -65,7 +65,6 @@ impl<'a> Model for Reading<'a> {
 /// reading makes at most as many steps as the template has places. A refusal makes at most as many
 /// for each bit before the item, plus as many again. (WMO-No. 306, Volume I.2, FM 94: sections 3
 /// and 4)
-/// once more.
 ///
 /// ```
 /// let mut steps = Steps::new();
