@@ -22,11 +22,11 @@ abbrev pub reference_told : Result ℤ Wrong → Result Content DraftFaultKind
 reference_told (Ok value) = Ok (reference value)
 reference_told (Err why) = Err (item_fault_of why)
 
--- a text followed by spaces, up to so many octets
+-- a text followed by spaces, up to `count` octets
 abbrev pub spaced : (count : ℕ) → List ℕ → List ℕ
 spaced count octets = octets ++ replicate (count - length octets) 32
 
--- the content of a field, whose text has so many octets
+-- the content of a field, whose text has `count` octets
 abbrev pub content_drawn : (count : ℕ) → FieldContent → Content
 content_drawn count (drawn.Number raw) = number raw
 content_drawn count (drawn.Text octets) = text (spaced count octets.now)
@@ -55,7 +55,7 @@ IsDrawn spec drawn.Missing = (is_reference spec.role ≡ false) × (spec.may_be_
 IsDrawn spec (drawn.Reference value) =
     (is_reference spec.role ≡ true) × (unsigned_abs value < 2 ^ (spec.width - 1))
 
--- a content that is this text, for a field of so many octets
+-- a content that is this text, for a field of `count` octets
 abbrev pub IsTextOf : (count : ℕ) → List ℕ → FieldContent → Type 0
 IsTextOf count octets (drawn.Text t) = (t.now ≡ octets) × HasRoom count octets
 IsTextOf count octets _ = ⊥

@@ -21,7 +21,7 @@ FitsNumber m width (number raw) = raw < raw_limit m width
 FitsNumber m width missing = m ≡ true
 FitsNumber m width _ = ⊥
 
--- so many octets that do not read as missing
+-- a text of `count` octets that does not read as missing
 abbrev pub FitsText : ℕ → Content → Type 0
 FitsText count (text octets) =
     (length octets ≡ count) × AreOctets octets × (list_all (λ octet. octet == 255) octets ≡ false)

@@ -67,7 +67,7 @@ abbrev pub AllDrawn : FieldSpec → List FieldContent → Type 0
 AllDrawn spec [] = Unit {0}
 AllDrawn spec (d ∷ ds) = IsDrawn spec d × AllDrawn spec ds
 
--- the contents, whose texts have so many octets
+-- the contents, whose texts have `count` octets
 abbrev pub contents_drawn : (count : ℕ) → List FieldContent → List Content
 contents_drawn count [] = []
 contents_drawn count (d ∷ ds) = content_drawn count d ∷ contents_drawn count ds

@@ -14,7 +14,7 @@ use Rattle.bufr_walk.specs.Content.{Content, number, text, missing, reference, b
 use Rattle.bufr_walk.specs.PlainField.{FieldFault, increment, unequal_factor}
 use Rattle.bufr_walk.specs.PackedField.{ones}
 
--- the limit of the numbers that so many bits write, without all ones where that is missing
+-- the limit of the numbers that `width` bits write, without all ones where that is missing
 abbrev pub raw_limit : (may_be_missing : Bool) (width : ℕ) → ℕ
 raw_limit m width = if m then ones width else 2 ^ width
 
@@ -47,7 +47,7 @@ abbrev pub smaller : ℕ → Option ℕ → ℕ
 smaller n None = n
 smaller n (Some m) = min n m
 
--- the least of the numbers that are there
+-- the least number among contents, if there is one
 abbrev pub lowest : List Content → Option ℕ
 lowest [] = None
 lowest (number n ∷ cs) = Some (smaller n (lowest cs))

@@ -71,7 +71,7 @@ octet_in (o ∷ os) (suc i) = octet_in os i
 abbrev pub ExtendsBits : (old new : List Bool) → Type 0
 ExtendsBits old new = (more : List Bool) × (new ≡ old ++ more)
 
--- an item was packed in at most so many bits, or it cannot be; where memory ran out some of its
+-- an item was packed in at most `most` bits, or it cannot be; where memory ran out some of its
 -- bits may follow the earlier ones
 abbrev pub PacksItem : (old new : List Bool) → (expected : Result (List Bool) FieldFault)
     → (most : ℕ) → Result (Unit {0}) PackingFault → Type 0
@@ -99,7 +99,7 @@ abbrev pub PutFault : Option FaultAt → (old new : List Bool) → FieldSpec →
 PutFault None old new spec a = ExtendsBits old new
 PutFault (Some f) old new spec a = (pack_across spec a ≡ Err f) × (new ≡ old)
 
--- the item of all subsets in a row was written, in at most so many bits
+-- the item of all subsets in a row was written, in at most `most` bits
 pub record IsPutWithin (old new : List Bool) (spec : FieldSpec) (a : ItemRow) (most : ℕ)
     (t : Taken) : Type 0 where
   pub put : IsPutAcross old new spec a t

@@ -28,7 +28,7 @@ pub(crate) enum FieldContent<'a> {
     Reference(i64),
 }
 
-/// The numbers below this can be written in so many bits, without all ones where that is missing.
+/// The limit of the numbers that `width` bits write, without all ones where that is missing.
 pub(crate) fn raw_limit(may_be_missing: bool, width: u32) -> u64
     requires narrow { width ≤ 63 }
     ensures { result ≡ raw_limit may_be_missing width }
@@ -114,7 +114,7 @@ fn reads_as_missing(octets: &[u8], count: usize) -> bool
     octets.len() == count && full
 }
 
-/// A text of at most so many octets.
+/// A text of at most `count` octets.
 fn text_for<'a>(octets: &'a [u8], count: usize) -> Result<FieldContent<'a>, Wrong>
     ensures is { drawn_told count result ≡ text_within count octets.now }
     ensures text { IfOk result (λ d. IsTextOf count octets.now d) }

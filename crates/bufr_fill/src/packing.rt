@@ -48,7 +48,7 @@ fn octet_at(octets: &[u8], place: usize) -> u8
     }
 }
 
-/// Whether two texts are the same, with spaces up to so many octets.
+/// Whether two texts are the same, with spaces up to `count` octets.
 fn same_text(one: &[u8], other: &[u8], count: usize) -> bool
     requires one { length one.now ≤ count }
     requires other { length other.now ≤ count }
@@ -324,7 +324,7 @@ fn push_fronts(
     Ok(())
 }
 
-/// Writes so many octets of zeros.
+/// Writes zeros as wide as a text.
 #[tactic(auto, using(crate::proofs::PackSteps::zero_bits))]
 fn push_zeros(out: &mut BitWriter, spec: &Spec) -> Result<(), AllocError>
     requires text { is_character spec.now.kind ≡ true }

@@ -22,7 +22,7 @@ pub(crate) fn with_spaces(octets: &[u8]) -> [u8; 255]
     all
 }
 
-/// Writes a text of so many octets, with spaces after it.
+/// Writes a text, followed by spaces up to `count` octets.
 #[tactic(auto, using(crate::proofs::PutLemmas::spaced_front))]
 fn push_text(out: &mut BitWriter, octets: &[u8], count: usize) -> Result<(), AllocError>
     requires within { length octets.now ≤ count }
@@ -54,7 +54,7 @@ fn signed_bits(value: i64, width: u32) -> u64
     }
 }
 
-/// Writes so many octets of ones.
+/// Writes `count` octets of ones.
 #[tactic(auto, using(crate::proofs::PutLemmas::full_bits))]
 pub(crate) fn push_full(out: &mut BitWriter, count: usize) -> Result<(), AllocError>
     requires most { count ≤ 255 }

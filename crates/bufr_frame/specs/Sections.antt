@@ -47,8 +47,8 @@ section_end m k least p =
 abbrev pub edition_of : List ℕ → ℕ
 edition_of m = slice_index m 7
 
--- whether a section 3 or 4 of so many octets is written with a zero octet more: in edition 3, where
--- they are odd
+-- whether a section 3 or 4 of `size` octets is written with a zero octet more: in edition 3, where
+-- `size` is odd
 abbrev pub is_padded : (edition size : ℕ) → Bool
 is_padded edition size = (edition == 3) && (size % 2 == 1)
 

@@ -33,7 +33,7 @@ pub(crate) const SECTION_4: usize = 4;
 /// Section 5, which always has this length.
 pub(crate) const SECTION_5: usize = 4;
 
-/// Whether a section 3 or 4 of so many octets is written with a zero octet more.
+/// Whether a section 3 or 4 of `len` octets is written with a zero octet more.
 pub(crate) fn is_padded(edition: u8, len: usize) -> bool
     requires { IsTrue (is_edition edition) }
     ensures { result ≡ is_padded edition len }

@@ -32,7 +32,7 @@ pub(crate) enum Candidate {
 pub(crate) struct NextEvent {
     /// The index of its `BUFR`, from 0.
     pub(crate) place: usize,
-    /// What is there.
+    /// What begins there: a message, or a stray word.
     pub(crate) here: Candidate,
     /// The length that is stated there, 0 where its octets are missing.
     pub(crate) stated_length: usize,

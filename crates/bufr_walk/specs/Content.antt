@@ -18,7 +18,7 @@ pub data Content : Type 0 where
   missing : Content
   reference : (value : ℤ) → Content
 
--- so many octets of bits, as numbers
+-- the first n octets of bits, as numbers
 abbrev pub octets_in : ℕ → List Bool → List ℕ
 octets_in zero bits = []
 octets_in (suc n) bits = number_of (take 8 bits) ∷ octets_in n (drop 8 bits)

@@ -35,7 +35,7 @@ pub record NextTurn : Type 0 where
   pub turns : ℕ
   pub next : Next
 
--- the same after so many turns more
+-- what comes next after n turns more
 abbrev pub later : ℕ → NextTurn → NextTurn
 later n a = record { turns = n + a.turns; next = a.next }
 

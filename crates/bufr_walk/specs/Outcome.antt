@@ -48,12 +48,12 @@ IsStopped false subsets course bits stop subset before turns =
 IsStopped true subsets course bits stop subset before turns =
     (subset ≡ 0) × IsPackedRefused subsets course bits stop before turns
 
--- memory may run out after so many turns
+-- memory may run out after these turns
 abbrev pub IsMemoryStop : Bool → (subsets : ℕ) → Course → List Bool → (turns : ℕ) → Type 0
 IsMemoryStop false subsets course bits turns = IsPlainShort subsets course bits turns
 IsMemoryStop true subsets course bits turns = IsPackedShort subsets course bits turns
 
--- the fault of a refusal, after so many turns
+-- the fault of a refusal, after these turns
 pub record IsRefused (course : Course) (d : Data) (why : WalkFault) (turns : ℕ) : Type 0 where
   pub stop : Stop
   pub subset : ℕ

@@ -15,7 +15,7 @@ use Rattle.bufr_walk.specs.FieldSpec.{FieldSpec}
 use Rattle.bufr_walk.specs.Content.{Content, number, text, missing, content_in, octets_in, answer_of}
 use Rattle.bufr_walk.specs.PlainField.{FieldFault, data_end, increment, unequal_factor, FieldRead, found}
 
--- the number of so many ones
+-- the number that k ones write
 abbrev pub ones : ℕ → ℕ
 ones k = 2 ^ k - 1
 
@@ -35,7 +35,7 @@ increased m width base k i =
     else if m && (base + i == ones width) then Ok missing
     else Ok (number (base + i))
 
--- so many increments of k bits
+-- the first n increments of k bits
 abbrev pub increments : (count k : ℕ) → List Bool → List (List Bool)
 increments zero k bits = []
 increments (suc n) k bits = take k bits ∷ increments n k (drop k bits)
@@ -123,7 +123,7 @@ item_by spec n k bits =
     else with_behind (contents_of spec k (take spec.width bits) (increments n step behind))
     (drop (n * step) behind)
 
--- the item that begins the bits, for so many subsets
+-- the item that begins the bits, for n subsets
 abbrev pub packed_field : (subsets : ℕ) → FieldSpec → List Bool
     → Result (FieldRead (List Content)) FieldFault
 packed_field n spec bits =

@@ -127,7 +127,7 @@ refuses_packed s spec (wrong.DataEnd fxy) s' h = h.1
 refuses_packed s spec (wrong.Increment fxy) s' h = h.1
 refuses_packed s spec (wrong.UnequalFactor fxy) s' h = h.1
 
--- the fault of the stop of a walk, after so many bits
+-- the fault of the stop of a walk, after `bit` bits
 abbrev pub packed_fault : WalkStop PackedFault → (bit : ℕ) → WalkFault
 packed_fault (stops.Width fxy) bit = fault.Width (spot 0 fxy bit)
 packed_fault (stops.Defining fxy) bit = fault.Defining (spot 0 fxy bit)

@@ -39,7 +39,7 @@ PlainTakes s spec (Ok t) s' = IsTaken s spec t s'
 PlainTakes s spec (Err e) s' =
     (plain_field spec (rest_of s) ≡ Err data_end) × (e.fxy ≡ spec.fxy) × (s' ≡ s)
 
--- the fault of the stop of a walk, in a subset, after so many bits
+-- the fault of the stop of a walk, in a subset, after `bit` bits
 abbrev pub plain_fault : WalkStop DataEnd → (subset bit : ℕ) → WalkFault
 plain_fault (stops.Width fxy) subset bit = fault.Width (spot subset fxy bit)
 plain_fault (stops.Defining fxy) subset bit = fault.Defining (spot subset fxy bit)

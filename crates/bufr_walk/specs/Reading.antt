@@ -23,7 +23,7 @@ pub record DataCoding (C : Type 0) : Type 0 where
 abbrev pub plain : DataCoding Content
 plain = record { field = plain_field; tells = answer_of }
 
--- the coding of so many compressed subsets
+-- the coding of n compressed subsets
 abbrev pub packed : ℕ → DataCoding (List Content)
 packed n = record { field = packed_field n; tells = told_first }
 
@@ -87,7 +87,7 @@ IsPackedReading zero course items bits behind = (items ≡ []) × (bits ≡ behi
 IsPackedReading (suc n) course items bits behind =
     ReadsPass (packed (suc n)) course items bits behind × (length items * suc n ≤ max_values)
 
--- data that are not compressed: as many subsets as there are
+-- data that are not compressed: the subsets, n of them
 abbrev pub IsPlainReading : (subsets : ℕ) → Course → List (List (Item Content))
     → (bits behind : List Bool) → Type 0
 IsPlainReading n course subsets bits behind =
@@ -120,7 +120,7 @@ IsReading course d (together items) used =
     (d.compressed ≡ true) × (used ≤ length d.bits)
     × IsPackedReading d.subsets course items d.bits (drop used d.bits)
 
--- the turns of one pass for so many subsets; with none there is no pass
+-- the turns of one pass for all subsets; with no subset there is no pass
 abbrev pub turns_together : (subsets : ℕ) → Course → List (Item (List Content)) → ℕ
 turns_together zero course items = 0
 turns_together (suc n) course items = turns_after (packed (suc n)) course items

@@ -29,8 +29,8 @@ stop_at form true (take_next spec) bits = Some (too_many spec.fxy)
 stop_at form false (take_next spec) bits = field_stop_of spec.fxy (form.field spec bits)
 stop_at form many _ bits = None
 
--- data that are not compressed were read up to what comes next: in a subset, from 1, after so many
--- bits, in so many turns
+-- data that are not compressed were read up to what comes next: in a subset, from 1, after `before`
+-- bits, in these turns
 pub record ComesTo (subsets : ℕ) (course : Course) (bits : List Bool) (subset before turns : ℕ)
     (next : Next) (left : List Bool) : Type 0 where
   pub done : List (List (Item Content))
@@ -44,7 +44,7 @@ pub record ComesTo (subsets : ℕ) (course : Course) (bits : List Bool) (subset 
   pub place : before + length left ≡ length bits
   pub turns_are : turns ≡ turns_in course done + turns_after plain course items
 
--- compressed data were read up to what comes after so many items
+-- compressed data were read up to what comes after `items_before` items
 pub record ComesToTogether (subsets : ℕ) (course : Course) (bits : List Bool)
     (items_before before turns : ℕ) (next : Next) (left : List Bool) : Type 0 where
   pub items : List (Item (List Content))
@@ -56,7 +56,7 @@ pub record ComesToTogether (subsets : ℕ) (course : Course) (bits : List Bool)
   pub place : before + length left ≡ length bits
   pub turns_are : turns ≡ turns_after (packed subsets) course items
 
--- data that are not compressed are refused in a subset, after so many bits, in so many turns
+-- data that are not compressed are refused in a subset, after `before` bits, in these turns
 abbrev pub IsPlainRefused : (subsets : ℕ) → Course → List Bool → Stop
     → (subset before turns : ℕ) → Type 0
 IsPlainRefused subsets course bits stop subset before turns =
@@ -67,14 +67,14 @@ IsPlainRefused subsets course bits stop subset before turns =
 abbrev pub would_be_many : (subsets items_before : ℕ) → Bool
 would_be_many subsets items_before = nat_lt max_values ((items_before + 1) * subsets)
 
--- compressed data are refused after so many bits, in so many turns
+-- compressed data are refused after `before` bits, in these turns
 abbrev pub IsPackedRefused : (subsets : ℕ) → Course → List Bool → Stop → (before turns : ℕ) → Type 0
 IsPackedRefused subsets course bits stop before turns =
     (items_before : ℕ) × (next : Next) × (left : List Bool)
     × ComesToTogether subsets course bits items_before before turns next left
     × (stop_at (packed subsets) (would_be_many subsets items_before) next left ≡ Some stop)
 
--- memory may run out at a reference that must be kept, after so many turns
+-- memory may run out at a reference that must be kept, after these turns
 abbrev pub IsPlainShort : (subsets : ℕ) → Course → List Bool → (turns : ℕ) → Type 0
 IsPlainShort subsets course bits turns =
     (spec : FieldSpec) × (left : List Bool) × (subset : ℕ) × (before : ℕ)

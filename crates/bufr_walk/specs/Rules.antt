@@ -21,7 +21,7 @@ if_valid_width a = if nat_le 1 a.width && nat_le a.width 63 then Ok a else Err (
 abbrev pub scale_change_of : ℕ → ℤ
 scale_change_of y = if y == 0 then pos 0 else pos y -ℤ pos 128
 
--- how many bits so many digits of increased precision add
+-- how many bits 2 07 Y adds to a width
 abbrev pub extra_bits : ℕ → ℕ
 extra_bits y = (10 * y + 2) / 3
 
@@ -61,7 +61,7 @@ coded_spec s row = record {
   listed = true;
 }
 
--- text of so many octets
+-- text of `width` bits
 abbrev pub text_spec : Role → (fxy width : ℕ) → Bool → FieldSpec
 text_spec r fxy width listed =
     record {

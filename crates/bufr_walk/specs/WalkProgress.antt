@@ -20,7 +20,7 @@ use Rattle.bufr_walk.specs.Walked.{oks, answers_of, StopsWalk}
 abbrev pub course : List Row → Rest → OperatorModel → Course
 course table rest s told = ahead table (rest (counts_of told)) s told
 
--- a walk from one course and state to another, in so many turns
+-- a walk from one course and state to another, in t turns
 pub record WalkGoes {S E : Type 0} (takes : S → FieldSpec → Result Taken E → S → Type 0)
     (n : Course)
     (s : S) (t : ℕ) (n' : Course) (s' : S) : Type 0 where
@@ -38,7 +38,7 @@ TakesField takes (Ok spec) s (Err stops.Memory) s' = (spec.role ≡ role.Referen
 TakesField takes (Err why) s (Err w) s' = (w ≡ stop_by why) × (s' ≡ s)
 TakesField takes _ s _ s' = ⊥
 
--- a walk from a course and state to a stop, in so many turns
+-- a walk from a course and state to a stop, in t turns
 pub record Stops {S E : Type 0} (takes : S → FieldSpec → Result Taken E → S → Type 0) (n : Course)
     (s : S) (t : ℕ) (stop : WalkStop E) (s' : S) : Type 0 where
   pub items : List TakenField

@@ -20,7 +20,7 @@ impl Spot {
     ghost use Rattle.std.specs.Prelude.{◌≡◌};
     ghost use Rattle.bufr_walk.specs.Fault.{spot};
 
-    /// An item of this subset, after so many bits.
+    /// An item of this subset, after `bit` bits.
     pub(crate) fn new(subset: u16, fxy: Fxy, bit: u64) -> Spot
         ensures { result ≡ spot subset fxy bit }
     {

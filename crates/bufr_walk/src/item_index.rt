@@ -10,7 +10,7 @@ use crate::spec::Spec;
 use std::alloc::Global;
 use std::marker::Model;
 
-/// Room is made for so many items at once.
+/// How many items room is made for at once.
 const ITEMS_AT_ONCE: usize = 64;
 
 /// Location of an item: the bit where it begins, the number of its base, the index of its

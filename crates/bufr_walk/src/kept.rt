@@ -38,7 +38,7 @@ pub(crate) struct PackedRead {
 impl PackedRead {
     ghost use Rattle.std.specs.Prelude.{◌≡◌};
 
-    /// These items, which take so many bits.
+    /// These items, which take `used` bits.
     pub(crate) fn new(used: u64, kept: ItemIndex) -> PackedRead
         ensures { result ≡ record { used = used; kept = kept } }
     {

@@ -53,7 +53,7 @@ impl<'a> PlainIn<'a> {
         PlainIn { bits, at: 0 }
     }
 
-    /// A reader of bits of which so many were read.
+    /// A reader of these bits, the first `at` of which were read.
     #[tactic(auto, using(crate::proofs::PlainLemmas::bits_length))]
     pub(crate) fn from_bit(bits: BitSlice<'a>, at: u64) -> PlainIn<'a>
         requires { at ≤ 8 * length (octets_of bits) }
@@ -111,7 +111,7 @@ impl<'a> PlainIn<'a> {
         self.bits.len_bits()
     }
 
-    /// Whether so many more bits are there.
+    /// Whether the data have `width` more bits.
     #[tactic(auto, using(crate::proofs::PlainLemmas::bits_length))]
     pub(crate) fn holds(&self, width: u64) -> bool
         ensures within { result ≡ true → self.now.at + width ≤ length self.now.bits }
@@ -120,7 +120,7 @@ impl<'a> PlainIn<'a> {
         self.bits.len_bits() - self.at >= width
     }
 
-    /// Passes so many bits.
+    /// Passes `width` bits.
     pub(crate) fn pass(&mut self, width: u64)
         requires within { self.old.at + width ≤ length self.old.bits }
         requires small { self.old.at + width < 2 ^ 64 }

@@ -14,7 +14,7 @@ use std::marker::Model;
 pub enum Role {
     /// The value of an element.
     Element,
-    /// Text that the template asks for (2 05 Y).
+    /// Text of the template (2 05 Y).
     Inserted,
     /// The factor of a delayed replication.
     Factor,
@@ -168,7 +168,7 @@ impl Spec {
         }
     }
 
-    /// Text of so many bits.
+    /// Text of `width` bits.
     #[tactic(auto, using(crate::proofs::SpecLemmas::text_good))]
     #[inline(always)]
     pub(crate) fn text(role: Role, fxy: Fxy, width: u32, listed: bool) -> Spec

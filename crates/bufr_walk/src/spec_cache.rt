@@ -67,7 +67,7 @@ impl<'a> SpecCache<'a> {
         }
     }
 
-    /// Drops all specs, and makes room for those of a template of so many cells.
+    /// Drops all specs, and makes room for those of a template of this number of cells.
     ///
     /// # Errors
     ///

@@ -39,7 +39,7 @@ impl Steps {
         self.count = self.count.saturating_add(1);
     }
 
-    /// Counts so many more steps, up to the greatest `u64`.
+    /// Counts `turns` more steps, up to the greatest `u64`.
     pub(crate) fn add(&mut self, turns: u64)
         ensures { self.new ≡ ticked self.old turns }
     {
