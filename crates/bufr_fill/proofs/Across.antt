@@ -1,4 +1,4 @@
--- The dump of compressed data, subset after subset, gives each item of all subsets together.
+-- The dump of compressed data, subset after subset, has the rows of the items.
 use Rattle.std.proofs.Common.{◌≡◌, ℕ, zero, suc, ◌+◌, ◌*◌, ◌<◌, ◌≤◌, List, [], ◌∷◌, length, drop, Some, refl, sym, ◌∙◌, ap, subst, arith}
 use Rattle.std.specs.Prelude.{slice_get}
 use Rattle.std.proofs.Math.Nat.{mul-le-mul_right}
@@ -11,7 +11,7 @@ use Rattle.bufr_fill.specs.WrittenAgain.{IsDumped, AreDrafts, items_of_subset, A
 use Rattle.bufr_fill.proofs.WrittenLists.{IsCellOf, AreCellsOf, IsDumpedAcross, HaveContents}
 use Rattle.bufr_walk.specs.Calls.{content_at}
 
--- the draft at a place is that of the item there
+-- the draft at an index is that of the item there
 draft_at : (items : List (Item Content)) (ds : List Draft) (p : ℕ) (i : Item Content) (rest : List (Item Content)) → AreDrafts IsDumped items ds → drop p items ≡ i ∷ rest → IsCellOf i.spec i.content (slice_get ds p)
 draft_at [] [] zero i rest h e = absurd cc
 draft_at [] [] (suc p) i rest h e = absurd cc
@@ -36,7 +36,7 @@ content_none (suc j) [] h = refl
 content_none zero (c ∷ cs) h = absurd (omega (arith, h))
 content_none (suc j) (c ∷ cs) h = let e : length cs ≡ j = omega (arith, h) in content_none j cs e
 
--- the cells at a place are those of the item there
+-- the cells at an index are those of the item there
 cells_there : (items : List (Item (List Content))) (p : ℕ) (i : Item (List Content)) (rest : List (Item (List Content))) (j : ℕ) (ss : List Subset) → drop p items ≡ i ∷ rest → j + length ss ≡ length i.content → AreDumpedFrom j items ss → AreCellsOf i.spec (drop j i.content) (cells_at p ss)
 cells_there items p i rest j [] e n h = subst (λ cs. AreCellsOf i.spec cs []) (sym (content_none j i.content (omega (arith, n)))) tt
 cells_there items p i rest j (s ∷ ss) e n h =
@@ -56,7 +56,7 @@ drop_next [] (suc p) i rest e = absurd cc
 drop_next (x ∷ items) zero i rest e = cc
 drop_next (x ∷ items) (suc p) i rest e = let q : suc p + 1 ≡ suc (p + 1) = omega arith in ap (λ k. drop k (x ∷ items)) q ∙ drop_next items p i rest e
 
--- row after row, from a place on
+-- row after row, from an index on
 rows_are : (n : ℕ) (items : List (Item (List Content))) (ss : List Subset) (rest : List (Item (List Content))) (p : ℕ) → length ss ≡ n → HaveContents n rest → AreDumpedFrom 0 items ss → drop p items ≡ rest → (p + length rest) * n ≤ max_values → AreDrafts (IsDumpedAcross n) rest (rows (length rest) p ss)
 rows_are n items ss [] p count have h e few = tt
 rows_are n items ss (i ∷ rest) p count have h e few = (

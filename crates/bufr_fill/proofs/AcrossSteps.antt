@@ -56,12 +56,12 @@ module _ (spec : FieldSpec) (place : ℕ) (subsets : List Subset) where
     pub put_uneven : (cs : List Content) → contents_here spec (cells_at place subsets) ≡ Ok cs → packing spec cs ≡ Err increment → pack_across spec (item_row place subsets) ≡ Err (at_line (first_line (cells_at place subsets)) uneven_increment)
     put_uneven cs h e = given cs h ∙ ap (packed_to cs (cells_at place subsets)) e
 
--- what the first subset's content tells
+-- what the first subset's content returns to the walk
 pub tells_first : (spec : FieldSpec) (count : ℕ) (ds : List FieldContent) (z : FieldContent) (t : Taken) → 0 < length ds → t ≡ answer_of spec (content_drawn count (get_or ds 0 z)) → t ≡ told_first spec (contents_drawn count ds)
 tells_first spec count [] z t h e = absurd (omega (arith, h))
 tells_first spec count (d ∷ ds) z t h e = e
 
--- contents that are all alike, and those that are not
+-- contents that are all the same, and those that are not
 pub packed_alike : (spec : FieldSpec) (count : ℕ) (ds : List FieldContent) (z : FieldContent) → 0 < length ds → are_same (content_drawn count (get_or ds 0 z)) (contents_drawn count ds) ≡ true
     → packing spec (contents_drawn count ds) ≡ Ok (packed_bits (bits_for spec.width (content_drawn count (get_or ds 0 z))) 0 [])
 packed_alike spec count [] z h e = absurd (omega (arith, h))

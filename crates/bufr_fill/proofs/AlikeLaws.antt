@@ -1,4 +1,4 @@
--- Drafts that say the same are written to the same bits.
+-- Drafts with the same contents are written to the same bits.
 use Rattle.std.proofs.Common.{◌≡◌, ℕ, suc, Bool, List, [], ◌∷◌, ◌++◌, length, Ok, refl, sym, ◌∙◌, ap}
 use Rattle.bufr_tables.specs.Legal.{IsLegal}
 use Rattle.bufr_tables.specs.Records.{Record}

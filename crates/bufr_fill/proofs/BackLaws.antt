@@ -1,4 +1,4 @@
--- What is written of drafts is read as what they say.
+-- The bits that are written of drafts read as the contents of the drafts.
 use Rattle.std.proofs.Common.{◌≡◌, ℕ, zero, suc, ◌+◌, ◌*◌, ◌≤◌, Bool, true, false, List, [], ◌∷◌, ◌++◌, length, drop, Option, Some, None, Result, Ok, Err, refl, sym, ◌∙◌, ap, subst, arith, append_assoc}
 use Rattle.std.specs.Prelude.{slice_get, nat_lt, if◌then◌else◌}
 use Rattle.std.specs.List.{AllByRecursion}
@@ -43,7 +43,7 @@ pub record IsBack {C D : Type 0} (form : DataCoding C) (of_item : Item C → D �
   pub said : AreDrafts of_item items ds
   pub read : (more : List Bool) → ReadsPass form course items (out ++ more) more
 
--- what one item must be
+-- what must hold of one item
 pub record IsOneBack {C D : Type 0} (form : DataCoding C) (of_item : Item C → D → Type 0) (spec : FieldSpec) (d : D) (w : WrittenItem C) : Type 0 where
   pub said : of_item (record { spec = spec; content = w.content }) d
   pub within : IsWithin (form.tells spec w.content)
@@ -126,7 +126,7 @@ module _ (course : Course) (good : IsGoodCourse course) where
 
 -- ---- compressed data
 
--- what a cell says
+-- the content of a cell
 abbrev IsCellSaid : FieldSpec → Content → Option Draft → Type 0
 IsCellSaid spec c None = ⊥
 IsCellSaid spec c (Some d) = content_of spec d ≡ Ok c
@@ -135,7 +135,7 @@ abbrev OctetsIn : Option Draft → Type 0
 OctetsIn None = Unit {0}
 OctetsIn (Some d) = HasOctets d.form
 
--- the cells say the contents, from that of one subset on
+-- the cells have the contents, from that of one subset on
 abbrev SaidFrom : ℕ → FieldSpec → List Content → List RowCell → Type 0
 SaidFrom j spec cs [] = Unit {0}
 SaidFrom j spec cs (cell ∷ cells) = IsCellSaid spec (content_at j cs) cell.draft × SaidFrom (suc j) spec cs cells

@@ -1,4 +1,4 @@
--- Steps of the loops over what all subsets give at a place.
+-- Steps of the loops over a row.
 use Rattle.std.proofs.Common.{◌≡◌, ℕ, zero, suc, ◌+◌, ◌<◌, ◌≤◌, Bool, true, false, List, [], ◌∷◌, ◌++◌, length, drop, get_or, Option, Some, None, Result, Ok, Err, refl, sym, ◌∙◌, ap, arith, append_assoc}
 use Rattle.std.specs.Prelude.{map, option_map, slice_get, take, if◌then◌else◌}
 use Rattle.std.proofs.lemmas.List.{append-nil, length-append, length-map, map-append, take_all}
@@ -33,7 +33,7 @@ cell_at (c ∷ cells) (suc j) h =
     let n : suc (j + 1) ≡ suc j + 1 = omega arith in
     record { cell = r.cell; is = r.is; left = r.left ∙ ap (λ k. r.cell ∷ drop k (c ∷ cells)) n }
 
--- an entry gives what its cell does
+-- an entry has the content of its cell
 entry_same : (spec : FieldSpec) (o : Option Draft) (line : ℕ) → entry_here spec (entry_or_end o line) ≡ content_here spec o line
 entry_same spec None line = refl
 entry_same spec (Some d) line = refl
@@ -62,7 +62,7 @@ front_more cs x (Err f) = refl
 
 module _ (count : ℕ) (spec : FieldSpec) (cells : List RowCell) (j : ℕ) (ds : List FieldContent) (e : DraftEntry) (inv : IsGathering count spec cells j ds) (within : j < length cells)
     (here : (c : RowCell) → slice_get cells j ≡ Some c → e ≡ cell_entry c) where
-  -- what comes next, by its cell
+  -- the contents of the row, by the next cell
   next_is : (k : CellAt cells j) → contents_here spec cells ≡ in_front (contents_drawn count ds) (entry_here spec e >>= λ first. contents_here spec (drop (j + 1) cells) >>= λ rest. Ok (first ∷ rest))
   next_is k =
       inv.so ∙ ap (λ cs. in_front (contents_drawn count ds) (contents_here spec cs)) k.left

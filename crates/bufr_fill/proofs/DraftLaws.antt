@@ -1,4 +1,4 @@
--- The item that a dump writes for a content is that content again.
+-- The item that a dump writes for a content has that content.
 use Rattle.std.proofs.Common.{◌≡◌, ℕ, suc, ◌-◌, ◌/◌, ◌^◌, ◌<◌, ◌≤◌, ◌&&◌, ltb, Bool, true, false, not, List, ◌++◌, length, replicate, Ok, Err, refl, sym, ◌∙◌, ap, arith, ℤ, pos, negsuc, ◌+ℤ◌, ◌-ℤ◌, nat_abs, pow_mono}
 use Rattle.std.specs.Prelude.{◌==◌, nat_lt, if◌then◌else◌, unsigned_abs}
 use Rattle.std.specs.List.{list_all}
@@ -125,7 +125,7 @@ module _ (spec : FieldSpec) (good : IsSpec spec) where
   marked role.Reference (text octets) h = absurd h
   marked role.Reference missing h = absurd h
 
-  -- whatever the line
+  -- on any line
   pub draft_again : (line : ℕ) (c : Content) → Fits spec c → content_of spec (record { line = line; fxy = spec.fxy; form = draft_value_of spec c }) ≡ Ok c
   draft_again line c h =
       ap (λ b. if b && (if is_reference spec.role then is_marked (draft_value_of spec c) else not (is_marked (draft_value_of spec c))) then content_by_form (draft_value_of spec c) spec else Err (wrong_for spec)) (equal_test spec.fxy)

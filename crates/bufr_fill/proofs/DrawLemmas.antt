@@ -1,4 +1,4 @@
--- What an item is as the content of a field, as the code draws it.
+-- An item as the content of its field, as the code converts it.
 use Rattle.std.proofs.Common.{◌≡◌, ℕ, ◌^◌, ◌<◌, ◌&&◌, Bool, true, false, not, ℤ, Result, Err, refl, sym, ◌∙◌, ap, arith}
 use Rattle.std.specs.Prelude.{◌==◌, if◌then◌else◌}
 use Rattle.bufr_walk.specs.FieldSpec.{FieldSpec, is_reference}
@@ -14,7 +14,7 @@ and_second : (a b : Bool) → (a && b) ≡ true → b ≡ true
 and_second true b h = h
 and_second false b h = absurd cc
 
--- an item that is that of a field has its mark
+-- an item of a field has the field's mark
 pub marks : (spec : FieldSpec) (d : Draft) → is_of spec d ≡ true → is_reference spec.role ≡ is_marked d.form
 marks spec d h = by (is_reference spec.role) (is_marked d.form) (and_second (d.fxy == spec.fxy) _ h)
   where
@@ -23,14 +23,14 @@ marks spec d h = by (is_reference spec.role) (is_marked d.form) (and_second (d.f
     by false true q = q
     by false false q = refl
 
--- an item that is that of a field has its form's content
+-- an item of a field has its value's content
 pub content_there : (spec : FieldSpec) (d : Draft) (r : Result Content DraftFaultKind) → is_of spec d ≡ true → r ≡ content_by_form d.form spec → r ≡ content_of spec d
 content_there spec d r h e = e ∙ ap (λ b. if b then content_by_form d.form spec else Err (wrong_for spec)) (sym h)
 
 pub content_wrong : (spec : FieldSpec) (d : Draft) → is_of spec d ≡ false → content_of spec d ≡ Err (wrong_for spec)
 content_wrong spec d h = ap (λ b. if b then content_by_form d.form spec else Err (wrong_for spec)) h
 
--- what each role tells
+-- what each role returns to the walk
 pub told_element : (spec : FieldSpec) (c : Content) → spec.role ≡ role.Element → taken.Plain ≡ answer_of spec c
 told_element spec c e = sym (ap (λ r. told_by_role r c) e)
 

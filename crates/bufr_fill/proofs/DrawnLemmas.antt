@@ -1,4 +1,4 @@
--- Numbers that no field has.
+-- Numbers that no field can have.
 use Rattle.std.proofs.Common.{◌≡◌, ℕ, ◌^◌, ◌<◌, ◌≤◌, Bool, true, false, Ok, Err, refl, sym, ℤ, pos, negsuc, arith, ap, ◌∙◌, pow_mono}
 use Rattle.std.specs.Prelude.{nat_lt, if◌then◌else◌}
 use Rattle.std.proofs.lemmas.Bool.Decides.{nat_tests}

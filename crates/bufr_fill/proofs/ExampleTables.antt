@@ -1,5 +1,4 @@
--- The table of the worked examples, the drafts of some texts, and the bits that they are written
--- as.
+-- The table of the worked examples, the drafts of some texts, and their bits.
 use Rattle.std.proofs.Common.{ℕ, zero, suc, ◌+◌, ◌*◌, Bool, List, [], ◌∷◌, Result, Ok, ℤ, pos, negsuc}
 use Rattle.std.specs.Prelude.{take}
 use Rattle.bufr_bits.specs.Bits.{bits_of}

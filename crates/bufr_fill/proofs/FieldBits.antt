@@ -17,7 +17,7 @@ use Rattle.bufr_walk.specs.Content.{Content, number, text, missing, reference, o
 use Rattle.bufr_fill.specs.Fits.{AreOctets, FitsKind}
 use Rattle.bufr_fill.specs.Packing.{raw_limit}
 
--- a number that its bits can write is written so
+-- a number that fits its bits is written in them
 pub number_again : (v w : ℕ) → v < 2 ^ w → number_of (bits_in v w) ≡ v
 number_again v w h = number_of-bits_in v w ∙ mod-eq_of_lt h
 
@@ -31,7 +31,7 @@ top_below false w v h = h
 not_ones : (v w : ℕ) → v < 2 ^ w - 1 → eqb v (2 ^ w - 1) ≡ false
 not_ones v w h = grind (arith, nat_tests)
 
--- a number below its top is not missing
+-- a number below the limit is not missing
 not_missing : (m : Bool) (w v : ℕ) (b : Bool) → v < raw_limit m w → (m ≡ true → b ≡ eqb v (2 ^ w - 1)) → (b && m) ≡ false
 not_missing true w v b h e = ap (λ x. x && true) (e refl ∙ not_ones v w h)
 not_missing false w v true h e = refl
@@ -41,7 +41,7 @@ pub ones_set : (w : ℕ) → are_all_ones (replicate w true) ≡ true
 ones_set zero = refl
 ones_set (suc w) = ones_set w
 
--- a number that bits write is below their top, where it is not missing
+-- a number of bits is below the limit, where it is not missing
 below_top : (m : Bool) (xs : List Bool) (w : ℕ) → length xs ≡ w → (are_all_ones xs && m) ≡ false → number_of xs < raw_limit m w
 below_top false xs w e h = subst (λ n. number_of xs < 2 ^ n) e (number_of-below xs)
 below_top true xs w e h =
@@ -136,7 +136,7 @@ module _ (w : ℕ) where
   chosen_yes : (b : Bool) (c : Content) → b ≡ true → (if b then missing else c) ≡ missing
   chosen_yes b c e = ap (λ x. if x then missing else c) e
 
-  -- what is written by kind is what is read
+  -- what is written by kind reads the same
   pub kind_back : (k : Kind) (m : Bool) (c : Content) → HasWidth k w → HasMissing k m → FitsKind k m w c → (if are_all_ones (bits_for w c) && m then missing else said_by k w (bits_for w c)) ≡ c
   kind_back kind.Character m (number raw) hw hm h = absurd h
   kind_back kind.Character m (reference v) hw hm h = absurd h
@@ -185,7 +185,7 @@ module _ (w : ℕ) where
       and_true true = refl
       and_true false = refl
 
-  -- what bits say is a content that the field can have
+  -- the content of bits is one that the field can have
   pub kind_fits : (k : Kind) (m : Bool) (bits : List Bool) → length bits ≡ w → HasWidth k w → HasMissing k m → FitsKind k m w (if are_all_ones bits && m then missing else said_by k w bits)
   kind_fits k m bits l hw hm = fits_said (are_all_ones bits && m) k m bits l hw hm refl
 

@@ -1,4 +1,4 @@
--- One field that an encoder is asked for.
+-- One field that an encoder writes.
 use Rattle.std.specs.Prelude.{◌≡◌, Bool, List, [], ◌∷◌, ◌++◌, Ok, Err}
 use Rattle.bufr_walk.specs.declared.spec.Taken.{Taken}
 use Rattle.bufr_walk.specs.FieldSpec.{FieldSpec}
@@ -13,7 +13,7 @@ pub record HasFilled {D C E : Type 0} (filler : Filler D C E) (left : List D) (o
   pub tells : t ≡ filler.tells spec item.content
   pub bits : out' ≡ out ++ item.bits
 
--- why the field could not be filled
+-- the fault of a field that could not be written
 abbrev pub IsUnfilled : {D C E : Type 0} → Filler D C E → List D → FieldSpec → E → Type 0
 IsUnfilled filler [] spec e = e ≡ filler.none_left spec
 IsUnfilled filler (d ∷ ds) spec e = filler.fills spec d ≡ Err e

@@ -1,4 +1,4 @@
--- What is drawn from an item fits its field.
+-- The content of an item fits its field.
 use Rattle.std.proofs.Common.{◌≡◌, ℕ, zero, suc, ◌-◌, ◌/◌, ◌^◌, ◌<◌, ◌≤◌, Bool, true, false, not, List, [], ◌∷◌, ◌++◌, length, replicate, Result, Ok, Err, refl, sym, subst, arith, ℤ, pos, negsuc, nat_abs, ◌-ℤ◌}
 use Rattle.std.specs.Prelude.{◌==◌, nat_lt, if◌then◌else◌}
 use Rattle.std.specs.List.{list_all}
@@ -111,6 +111,6 @@ module _ (spec : FieldSpec) (c : Content) where
   by_draft d h true p e = role_form spec.role d.form h (and_second (d.fxy == spec.fxy) (if is_reference spec.role then is_marked d.form else not (is_marked d.form)) p) e
   by_draft d h false p e = cc
 
--- what a draft says at a field fits it
+-- the content of a draft at a field fits it
 pub draft_fits : (spec : FieldSpec) (d : Draft) (c : Content) → HasOctets d.form → content_of spec d ≡ Ok c → Fits spec c
 draft_fits spec d c h e = by_draft spec c d h (is_of spec d) refl e

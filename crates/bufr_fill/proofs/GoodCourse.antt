@@ -1,4 +1,4 @@
--- What comes next in a template is a specification as every one is.
+-- What comes next in a template is a specification.
 use Rattle.std.proofs.Common.{◌≡◌, ℕ, zero, suc, ◌*◌, ◌≤◌, ◌&&◌, ◌||◌, Bool, true, false, not, List, [], ◌∷◌, Result, Ok, Err, refl, sym, ◌∙◌, ap, subst, arith}
 use Rattle.std.specs.Prelude.{◌==◌, ◌^◌, nat_le, nat_lt, unsigned_abs, if◌then◌else◌, ℤ}
 use Rattle.std.proofs.lemmas.Bool.Decides.{nat_tests}
@@ -72,7 +72,7 @@ inserted_good s fxy spec x legal e = by (is_defining s) e
         let most : y_of fxy ≤ 255 = operand_most fxy in
         subst IsSpec is (record { width = (omega arith, omega arith, omega arith); role = refl; missing = refl; scale = omega arith; reference = omega arith })
 
--- settings after an operator, and after a field
+-- the operators in force after an operator, and after a field
 references_good : (s : OperatorModel) (y : ℕ) → IsSettings s → ((y == 255) ≡ false → y ≤ 63) → IsSettings (with_references y s)
 references_good s y set h = by (y == 255) (y == 0) refl
   where
@@ -94,7 +94,7 @@ operator_good s x y set most legal = by (x == 1) (x == 2) (x == 3) (x == 6) (x =
     by false false false false false true p q = record { width_change = set.width_change; scale_change = set.scale_change; new_reference_width = set.new_reference_width; precision_increase = set.precision_increase; character_octets = most; local_width = set.local_width; new_references = set.new_references }
     by false false false false false false p q = set
 
--- the references with one more that was told
+-- the references with one more that was defined
 references_kept : (fxy : ℕ) (reference : ℤ) (known : List Redefined) → unsigned_abs reference ≤ 2 ^ 63 → AreRedefined known → AreRedefined (with_reference fxy reference known)
 references_kept fxy reference [] told h = (told, h)
 references_kept fxy reference (r ∷ more) told h = by (nat_lt fxy r.fxy) (fxy == r.fxy) (references_kept fxy reference more told h.1)

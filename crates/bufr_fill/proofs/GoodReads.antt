@@ -1,4 +1,4 @@
--- The items of a reading were asked for as fields may be.
+-- The fields of the items of a reading are specifications.
 use Rattle.std.proofs.Common.{◌≡◌, ℕ, ◌-◌, ◌^◌, ◌≤◌, Bool, List, [], ◌∷◌, Ok, arith, pow_mono}
 use Rattle.bufr_tables.specs.declared.kind.Kind.{Kind}
 use Rattle.bufr_tables.specs.declared.kind.Kind.TheVariants as kind
@@ -21,7 +21,7 @@ use Rattle.bufr_fill.proofs.PlainLaws.{plain_read}
 use Rattle.bufr_fill.proofs.PackedLaws.{packed_again}
 use Rattle.bufr_fill.proofs.GoodCourse.{next_good}
 
--- whatever comes next on a course is a specification as every one is
+-- what comes next on a course is a specification
 abbrev pub IsGoodCourse : Course → Type 0
 IsGoodCourse course = (answer_of : List Taken) (spec : FieldSpec) → AreWithin answer_of → (course answer_of).next ≡ take_next spec → IsSpec spec
 

@@ -1,4 +1,4 @@
--- What stood there stands.
+-- Bits that were written stay.
 use Rattle.std.proofs.Common.{◌≡◌, Bool, List, [], ◌++◌, sym, ◌∙◌, ap, append_assoc}
 use Rattle.std.proofs.lemmas.List.{append-nil}
 use Rattle.bufr_fill.specs.Packs.{ExtendsBits}

@@ -1,4 +1,4 @@
--- What a list of entries keeps of them.
+-- The entries of a block and its stored entries.
 use Rattle.std.proofs.Common.{◌≡◌, ℕ, ◌+◌, ◌-◌, ◌<◌, ◌≤◌, List, [], ◌∷◌, ◌++◌, length, drop, get_or, map, Some, None, refl, sym, ap, ◌∙◌, arith, length-append}
 use Rattle.std.specs.Prelude.{slice_range, slice_get, option_map}
 use Rattle.std.proofs.lemmas.List.{take-append-le, drop-append-le, length-drop, length-map, map-append, take_all}
@@ -8,7 +8,7 @@ use Rattle.bufr_fill.specs.Entries.{DraftEntry}
 use Rattle.bufr_fill.specs.Kept.{entry_by, entry_kept, entries_kept, IsEntryInside, AreInside}
 use Rattle.bufr_fill.specs.declared.entries.StoredEntry.{StoredEntry}
 
--- octets behind the block leave the entries as they are
+-- octets after the block leave the entries unchanged
 range-append : (xs ys : List ℕ) (i j : ℕ) → i ≤ j → j ≤ length xs → slice_range (xs ++ ys) i j ≡ slice_range xs i j
 range-append xs ys i j before inside =
     rw (drop-append-le i xs ys (omega arith), take-append-le (j - i) (drop i xs) ys (omega (arith, length-drop i xs))) refl
@@ -23,7 +23,7 @@ entries-append : (octets more : List ℕ) (cells : List StoredEntry) → AreInsi
 entries-append octets more [] all = refl
 entries-append octets more (one ∷ cells) (here, all) = rw (entry-append octets more one here, entries-append octets more cells all) refl
 
--- one entry more, with its octets behind the block
+-- one more entry, with its octets after the block
 pub entries-push : (octets more new : List ℕ) (cells : List StoredEntry) (one : StoredEntry) (e : DraftEntry) → AreInside (length octets) cells → new ≡ octets ++ more → one.start ≡ length octets → one.end ≡ length new → entry_by one.kind one.line one.fxy more ≡ e
     → entries_kept new (cells ++ one ∷ []) ≡ entries_kept octets cells ++ e ∷ []
 entries-push octets more new cells one e all is from at said =
@@ -35,14 +35,14 @@ entries-push octets more new cells one e all is from at said =
     ∙ ap (λ (t : List ℕ). map (entry_kept t) cells ++ e ∷ []) is
     ∙ ap (λ (t : List DraftEntry). t ++ e ∷ []) (entries-append octets more cells all)
 
--- no entry more, though octets were put behind the block
+-- no more entry, though octets were put after the block
 pub entries-same : (octets more new : List ℕ) (cells same : List StoredEntry) → AreInside (length octets) cells → new ≡ octets ++ more → same ≡ cells → entries_kept new same ≡ entries_kept octets cells
 entries-same octets more new cells same all is kept =
     ap (entries_kept new) kept
     ∙ ap (λ (t : List ℕ). entries_kept t cells) is
     ∙ entries-append octets more cells all
 
--- the entry at a place
+-- the entry at an index
 pub kept-there : (octets block : List ℕ) (cells : List StoredEntry) (entries : List DraftEntry) (place : ℕ) (one : StoredEntry) (e : DraftEntry) → entries_kept octets cells ≡ entries → place < length cells → one ≡ get_or cells place one → block ≡ octets → e ≡ entry_kept block one
     → Some e ≡ slice_get entries place
 kept-there octets block cells entries place one e are within here is said =
@@ -53,7 +53,7 @@ kept-there octets block cells entries place one e are within here is said =
     ∙ ap (λ (t : List ℕ). Some (entry_kept t one)) (sym is)
     ∙ ap (λ (x : DraftEntry). Some x) (sym said))
 
--- and none behind the last
+-- and none after the last
 pub kept-past : (octets : List ℕ) (cells : List StoredEntry) (entries : List DraftEntry) (place : ℕ) → entries_kept octets cells ≡ entries → length cells ≤ place → None ≡ slice_get entries place
 kept-past octets cells entries place are past =
     sym (ap (λ (t : List DraftEntry). slice_get t place) (sym are)

@@ -1,4 +1,4 @@
--- The round trip of data, over the tables that records write.
+-- The round trip of data, over the tables of records.
 use Rattle.std.proofs.Common.{◌≡◌, ℕ, Bool, List, length}
 use Rattle.bufr_tables.specs.Legal.{IsLegal}
 use Rattle.bufr_tables.specs.Records.{Record}

@@ -89,7 +89,7 @@ pub are_same_copies : {X : Type 0} (c : Content) (is : List X) → are_same c (m
 are_same_copies c [] = refl
 are_same_copies c (i ∷ is) = ap (λ b. b && are_same c (map (λ i. c) is)) (content_self c) ∙ are_same_copies c is
 
--- none of the numbers is below this one
+-- no number is below this one
 abbrev pub IsOver : ℕ → Content → Type 0
 IsOver m (number n) = m ≤ n
 IsOver m _ = Unit {0}

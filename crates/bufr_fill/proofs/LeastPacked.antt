@@ -1,6 +1,6 @@
--- The k with which an item is packed is the least of all from which its contents are read: bits of
--- one item with the same contents differ in length by their k alone, and an item is packed in no
--- more bits than any that were read.
+-- An item is packed with the least k of all that its contents are read from. Bits of one item with
+-- the same contents differ in length by their k alone. So an item is packed in no more bits than
+-- any that were read.
 use Rattle.std.proofs.Common.{◌≡◌, ℕ, ◌+◌, ◌*◌, ◌≤◌, ◌≢◌, Bool, true, false, List, [], ◌∷◌, length, map, Result, Ok, refl, sym, ◌∙◌, ap, subst, arith}
 use Rattle.std.specs.Prelude.{◌==◌, if◌then◌else◌}
 use Rattle.std.proofs.lemmas.Bool.Decides.{nat_tests}

@@ -1,4 +1,4 @@
--- The limits of what a template and its tables can ask for.
+-- The limits of the fields of a template, by its tables.
 use Rattle.std.specs.Prelude.{◌≡◌, ◌≤◌, ◌^◌, true, List, [], ◌∷◌, unsigned_abs}
 use Rattle.bufr_tables.specs.TableB.{Row, allows_width}
 use Rattle.bufr_tables.specs.Operators.{is_legal_operator}
@@ -17,7 +17,7 @@ abbrev pub AreGoodRows : List Row → Type 0
 AreGoodRows [] = Unit {0}
 AreGoodRows (row ∷ rows) = IsRow row × AreGoodRows rows
 
--- references that were told are of 64 bits
+-- references that were defined are of 64 bits
 abbrev pub IsWithin : Taken → Type 0
 IsWithin taken.Plain = Unit {0}
 IsWithin (taken.Count n) = Unit {0}

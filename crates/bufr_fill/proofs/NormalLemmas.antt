@@ -1,4 +1,4 @@
--- The one spelling of an item is the form of its content.
+-- The one spelling of an item is the value of its content.
 use Rattle.std.proofs.Common.{◌≡◌, ℕ, ◌-◌, ◌/◌, ◌^◌, Bool, true, false, not, List, ◌++◌, length, replicate, Result, Ok, Err, refl, ◌∙◌, ap, arith, ℤ, pos, negsuc, nat_abs, ◌+ℤ◌, ◌-ℤ◌}
 use Rattle.std.specs.Prelude.{◌==◌, nat_lt, if◌then◌else◌}
 use Rattle.std.specs.List.{list_all}
@@ -70,11 +70,11 @@ module _ (spec : FieldSpec) (c : Content) where
   by_draft d true e = form_normal d.form e
   by_draft d false e = cc
 
--- the normal form of a draft is the form that a dump writes for what it says
+-- the normal form of a draft is the value that a dump writes for its content
 pub normal_dumped : (spec : FieldSpec) (d : Draft) (c : Content) → content_of spec d ≡ Ok c → normal_form spec d.form ≡ draft_value_of spec c
 normal_dumped spec d c e = by_draft spec c d (is_of spec d) e
 
--- a draft that says a content of a field is of its descriptor
+-- a draft with a content of a field has the field's descriptor
 pub said_fxy : (spec : FieldSpec) (d : Draft) (c : Content) → content_of spec d ≡ Ok c → d.fxy ≡ spec.fxy
 said_fxy spec d c e = by (is_of spec d) refl e
   where

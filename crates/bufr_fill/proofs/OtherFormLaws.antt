@@ -1,4 +1,4 @@
--- Data are written in the other form, over the tables that records write.
+-- Data are written in the other form, over the tables of records.
 use Rattle.std.proofs.Common.{◌≡◌, ◌≤◌, ℕ, Bool, List, length}
 use Rattle.bufr_tables.specs.Legal.{IsLegal}
 use Rattle.bufr_tables.specs.Records.{Record}
@@ -17,7 +17,7 @@ use Rattle.bufr_fill.proofs.PlainForm.{apart}
 use Rattle.bufr_fill.proofs.TableRows.{table_good}
 use Rattle.bufr_fill.proofs.WholeLaws.{reads_specs}
 
--- nothing is asked of the specifications
+-- nothing is required of the specifications
 pub template_apart : (n : ℕ) (table : List Row) (template : Tree) (items : List (Item (List Content))) (drafts : List Subset) (bits behind : List Bool) → AreGoodRows table → IsLegal template → length drafts ≡ n → AreDumpedFrom 0 items drafts → IsPackedReading n (next_item table template) items bits behind
     → IsWrittenApart n (next_item table template) items drafts
 template_apart n table template items drafts bits behind rows legal count dumped h = apart n (next_item table template) items drafts bits behind count (reads_specs n table template items bits behind rows legal h) dumped h

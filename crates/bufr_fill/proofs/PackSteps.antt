@@ -129,7 +129,7 @@ short_at base k [] i d h s = absurd (omega (arith, h))
 short_at base k (x ∷ ds) zero d h s = s.0
 short_at base k (x ∷ ds) (suc i) d h s = short_at base k ds i d (omega (arith, h)) s.1
 
--- the content at a place, and those behind it
+-- the content at an index, and those after it
 pub at_index : {X : Type 0} (xs : List X) (i : ℕ) (z : X) → i < length xs → drop i xs ≡ get_or xs i z ∷ drop (i + 1) xs
 at_index xs i z h = drop-cons xs i z h ∙ ap (λ j. get_or xs i z ∷ drop j xs) (sym (add-one i))
 

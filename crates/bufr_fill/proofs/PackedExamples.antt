@@ -36,7 +36,7 @@ differing_written : packed_to_bits temperature (subset (numbered 24 3173 (codes 
 unfolding packed_to_bits ok_bits temperature decimal_value_of bits_in
 differing_written = refl
 
--- the base is the least number, wherever it stands
+-- the base is the least number, wherever it occurs
 least_is_second : packed_to_bits temperature (subset (numbered 24 3173 (codes "288.16") ∷ []) 25 ∷ subset (numbered 26 3173 (codes "288.15") ∷ []) 27 ∷ []) ≡ ok_bits (112 ∷ 143 ∷ 9 ∷ 0 ∷ []) 26
 unfolding packed_to_bits ok_bits temperature decimal_value_of bits_in
 least_is_second = refl
@@ -118,7 +118,7 @@ item_too_many_in_the_second : packed_to_bits temperature
 unfolding packed_to_bits temperature decimal_value_of bits_in
 item_too_many_in_the_second = refl
 
--- the walk's refusal is told at the first subset's next line
+-- the walk's refusal is on the first subset's next line
 width_refused : packed_to_bits width_of_none (subset [] 25 ∷ subset (numbered 26 257 (codes "0") ∷ []) 27 ∷ []) ≡ Err (at_line 25 (walk_refused (refusal.Width 257)))
 unfolding packed_to_bits width_of_none
 width_refused = refl
@@ -130,7 +130,7 @@ no_subsets = refl
 as_quantity : FieldSpec
 as_quantity = record { fxy = 3173; role = role.Element; kind = kind.Numeric; width = 16; scale = pos 2; reference = pos 0; may_be_missing = Bool.true; listed = Bool.true }
 
--- 134,217,728 values are allowed, one more is not; that goes before another descriptor
+-- 134,217,728 values are allowed, one more is not; that comes before another descriptor
 last_value : pack_across as_quantity (item_row 67108863 (subset [] 25 ∷ subset [] 26 ∷ [])) ≡ Err (at_line 25 (wrong_descriptor 3173 Bool.false))
 unfolding as_quantity
 last_value = refl
@@ -143,8 +143,8 @@ values_too_many_at_the_end : none_across 25 Bool.true as_quantity ≡ at_line 25
 unfolding as_quantity
 values_too_many_at_the_end = refl
 
--- two temperatures are packed with a k of 2; with a k of 3, or over a lesser base, they are read as
--- well
+-- two temperatures are packed with a k of 2; bits with a k of 3, or over a lesser base, read the
+-- same
 least_k_packed : packing as_quantity (number 28815 ∷ number 28816 ∷ []) ≡ Ok (take 26 (bits_of (112 ∷ 143 ∷ 8 ∷ 64 ∷ [])))
 unfolding as_quantity bits_in bits_of
 least_k_packed = refl

@@ -1,4 +1,4 @@
--- Where a walk over the items of all subsets stops, the fault is that of their data.
+-- Where a walk over the items of all subsets stops, its fault is that of their data.
 use Rattle.std.proofs.Common.{◌≡◌, ◌≤◌, ◌<◌, ◌+◌, ◌-◌, ℕ, zero, suc, max, Bool, true, false, List, [], ◌∷◌, length, Option, Some, None, Result, Ok, Err, refl, sym, ◌∙◌, ap, arith}
 use Rattle.std.specs.Prelude.{slice_get, if◌then◌else◌}
 use Rattle.std.proofs.lemmas.List.{append-nil}
@@ -34,7 +34,7 @@ past_none (x ∷ items) (suc place) e = omega (arith, past_none items place e)
 no_row : (place : ℕ) (ss : List Subset) → longest ss ≤ place → rows (longest ss - place) place ss ≡ []
 no_row place ss h = let e : longest ss - place ≡ 0 = omega (arith, h) in ap (λ n. rows n place ss) e
 
--- all subsets end behind the longest
+-- all subsets end after the longest
 ends_past : (place : ℕ) (ss : List Subset) → all_at_end (cells_at place ss) ≡ Ok tt → longest ss ≤ place
 ends_past place [] e = omega arith
 ends_past place (s ∷ ss) e = by (slice_get s.items place) refl e (λ e. ends_past place ss e)

@@ -1,4 +1,4 @@
--- Contents that fit a field and can be packed are packed so that they are read again.
+-- Contents that fit a field and can be packed are read again from their bits.
 use Rattle.std.proofs.Common.{◌≡◌, ℕ, zero, suc, ◌+◌, ◌-◌, ◌*◌, ◌/◌, ◌<◌, ◌≤◌, ◌&&◌, Bool, true, false, not, List, [], ◌∷◌, ◌++◌, length, take, replicate, Result, Ok, Err, refl, sym, ◌∙◌, ap, subst, arith}
 use Rattle.std.specs.Prelude.{◌==◌, nat_lt, nat_le, if◌then◌else◌}
 use Rattle.std.specs.List.{list_all, flat_map}
@@ -90,7 +90,7 @@ all_texts : (m : Bool) (w : ℕ) (cs : List Content) → AllKind kind.Character 
 all_texts m w [] h = tt
 all_texts m w (c ∷ cs) h = (h.0, all_texts m w cs h.1)
 
--- a k with which they are written
+-- a k that they can be written with
 abbrev Varies : Kind → Bool → ℕ → List Content → Type 0
 Varies kd m w cs = (k : ℕ) × (1 ≤ k) × (k ≤ 63) × IsVaried kd m w k cs
 

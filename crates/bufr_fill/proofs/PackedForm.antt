@@ -1,5 +1,5 @@
--- Items that were read subset after subset are written together so that they are read again, or
--- their factors differ, or no increments tell them apart.
+-- Items that were read subset after subset are written together so that they are read again.
+-- Otherwise their factors differ, or no increments can write their contents.
 use Rattle.std.proofs.Common.{◌≡◌, ◌⊎◌, inl, inr, ℕ, zero, suc, ◌+◌, ◌*◌, ◌<◌, ◌≤◌, max, Bool, List, [], ◌∷◌, ◌++◌, length, drop, Result, Ok, Err, refl, sym, ◌∙◌, ap, subst, arith, append_assoc}
 use Rattle.std.specs.Prelude.{slice_get, if◌then◌else◌}
 use Rattle.bufr_walk.specs.declared.spec.Taken.{Taken}
@@ -52,14 +52,14 @@ abbrev longest_left : List (List (Item Content)) → ℕ
 longest_left [] = 0
 longest_left (r ∷ rs) = max (length r) (longest_left rs)
 
--- the drafts from a place on are those of what is left
+-- the drafts from an index on are those of what is left
 abbrev DumpedAt : ℕ → List (List (Item Content)) → List Subset → Type 0
 DumpedAt p [] [] = Unit {0}
 DumpedAt p [] (s ∷ ss) = ⊥
 DumpedAt p (r ∷ rs) [] = ⊥
 DumpedAt p (r ∷ rs) (s ∷ ss) = AreDrafts IsDumped r (drop p s.items) × DumpedAt p rs ss
 
--- each has an item of this field
+-- the next item of a subset is of this field, and fits it
 abbrev IsHeaded : FieldSpec → List (Item Content) → Type 0
 IsHeaded spec [] = ⊥
 IsHeaded spec (i ∷ items) = (i.spec ≡ spec) × Fits spec i.content
@@ -102,7 +102,7 @@ longest_tails spec [] rs h = absurd h.0
 longest_tails spec (i ∷ items) [] h = omega arith
 longest_tails spec (i ∷ items) (q ∷ rs) h = omega (arith, longest_tails spec q rs h.1)
 
--- ---- the cells at a place
+-- ---- the cells at an index
 
 cell_there : (p : ℕ) (ds : List Draft) (i : Item Content) (items : List (Item Content)) → AreDrafts IsDumped (i ∷ items) (drop p ds) → IsCellOf i.spec i.content (slice_get ds p)
 cell_there zero [] i items h = absurd h
@@ -145,7 +145,7 @@ across_gives spec good p rs ss h d few =
     ap (λ b. if b then Err (at_line (first_line cells) (too_many_values spec.fxy)) else (contents_here spec cells >>= λ xs. packed_to xs cells (packing spec xs))) (past max_values ((p + 1) * length cells) within)
     ∙ ap (λ r. r >>= λ xs. packed_to xs cells (packing spec xs)) (all_here spec good (firsts rs) cells (all_fit spec rs h) (cells_there spec p rs ss h d))
 
--- ---- the course goes on the same for all
+-- ---- the course continues the same for all
 
 abbrev AllTell : FieldSpec → Taken → List Content → Type 0
 AllTell spec t [] = Unit {0}
@@ -222,7 +222,7 @@ module _ (end_line : ℕ) (many : Bool) where
   fault_unlike cs cells increment = tt
   fault_unlike cs cells unequal_factor = tt
 
-  -- the first row, and those behind it
+  -- the first row, and those after it
   onto : (n : ℕ) (course : Course) (spec : FieldSpec) (c : Content) (cs : List Content) (rs : List (List (Item Content))) (a : ItemRow) (more : List ItemRow) → IsSpec spec → (course []).next ≡ take_next spec → AreHeaded spec rs → firsts rs ≡ c ∷ cs → length rs ≡ n
       → (r : Result (List Bool) FieldFault) → packing spec (c ∷ cs) ≡ r → pack_across spec a ≡ packed_to (c ∷ cs) a.cells r
       → ((out : List Bool) → packing spec (c ∷ cs) ≡ Ok out → Either n (λ told_so. course (answer_of spec c ∷ told_so)) (tails rs) more end_line many)
@@ -257,7 +257,7 @@ module _ (end_line : ℕ) (many : Bool) where
             few = let e : suc (length x.items) * n ≡ n + length x.items * n = grind arith in omega (arith, x.few, e, count, total_tails spec rs h);
           })
 
-  -- all rows from a place on
+  -- all rows from an index on
   from_place : (course : Course) (r : List (Item Content)) (rs : List (List (Item Content))) (ss : List Subset) (p : ℕ) → AllFollow course (r ∷ rs) → DumpedAt p (r ∷ rs) ss → p * suc (length rs) + total (r ∷ rs) ≤ max_values
       → Either (suc (length rs)) course (r ∷ rs) (rows (longest_left (r ∷ rs)) p ss) end_line many
   from_place course [] rs ss p f d few =

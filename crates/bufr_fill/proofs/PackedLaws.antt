@@ -34,7 +34,7 @@ at_most a b h = grind (arith, nat_tests)
 same_ok : {A : Type 0} (a b : A) → ◌≡◌ {A = Result A FieldFault} (Ok a) (Ok b) → a ≡ b
 same_ok a b e = cc
 
--- ---- what stands in bits that were read
+-- ---- the parts of bits that were read
 
 pub record IsUnpacked (n : ℕ) (spec : FieldSpec) (bits : List Bool) (cs : List Content) (mid : List Bool) (k : ℕ) : Type 0 where
   pub small : k ≤ 63
@@ -107,8 +107,8 @@ module _ (n : ℕ) (spec : FieldSpec) where
 
 -- ---- contents that differ
 
--- what is known of contents that were read with k above 0: they fit, and so many bits, or octets,
--- are enough for them
+-- what holds of contents that were read with k above 0: they fit, and so many bits or octets of
+-- each are enough
 abbrev pub IsVaried : Kind → Bool → (w k : ℕ) → List Content → Type 0
 IsVaried kind.Character m w k cs = AreTexts (w / 8) cs × (list_all (has_octets k) cs ≡ true) × (k ≤ w / 8)
 IsVaried kind.Coded m w k cs = AreNumbers m w cs × ((low : ℕ) → lowest cs ≡ Some low → list_all (has_bits m low k) cs ≡ true)
@@ -180,7 +180,7 @@ pos_top : (m : Bool) (w : ℕ) → 1 ≤ w → 0 < raw_limit m w
 pos_top true w h = let p : 2 ^ 1 ≤ 2 ^ w = pow_mono h in omega arith
 pos_top false w h = let p : 2 ^ 1 ≤ 2 ^ w = pow_mono h in omega arith
 
--- what stands for contents that differ, by kind
+-- what holds of contents that differ, by kind
 pub record IsWritten (kd : Kind) (spec : FieldSpec) (cs : List Content) (most : ℕ) : Type 0 where
   pub base : List Bool
   pub k : ℕ
@@ -450,7 +450,7 @@ module _ (n : ℕ) (spec : FieldSpec) (good : IsSpec spec) where
       let v = spec_by_kind spec k spec.kind base is (c ∷ cs) (subst (λ j. AllLong j is) st long) q.0 in
       uniform c cs most (subst (λ r. FitsRole r spec c) (sym er) (first_fits_kind spec.kind k c cs v.0)) (same_counts c cs q.1) (v.1 ∙ count) (omega (arith, room))
 
-  -- what was read, with k 0 or above
+  -- what was read with any k
   by_k : (b : Bool) (k : ℕ) → (k == 0) ≡ b → (c : Content) (cs : List Content) (most : ℕ) (base : List Bool) (is : List (List Bool)) → length base ≡ spec.width → k ≤ 63 → AllLong (increment_bits_of spec.role spec.kind k) is → length is ≡ n
       → (if b then Ok (map (λ i. content_in spec base) is) else varied spec.role spec k base is) ≡ Ok (c ∷ cs) → spec.width + 6 + n * increment_bits_of spec.role spec.kind k ≤ most → PacksWithin n spec (c ∷ cs) most
   by_k true k p c cs most base [] lb small long count e room = absurd cc
@@ -472,7 +472,7 @@ module _ (n : ℕ) (spec : FieldSpec) (good : IsSpec spec) where
         by_k (k == 0) k refl c cs (spec.width + 6 + n * step) (take spec.width bits) (increments n step (drop (spec.width + 6) bits)) u.base u.small is.0 is.1 u.contents (omega arith),
       )
 
-  -- an item holds a content for each subset
+  -- an item has a content for each subset
   role_count : (r : Role) (k : ℕ) (base : List Bool) (is : List (List Bool)) (cs : List Content) → AllLong (increment_bits_of r spec.kind k) is → varied r spec k base is ≡ Ok cs → length cs ≡ length is
   role_count role.Reference k base is cs long e = cc
   role_count role.Element k base is cs long e = (spec_by_kind spec k spec.kind base is cs (subst (λ j. AllLong j is) (step_element role.Element spec.kind k (λ q. cc)) long) e).1

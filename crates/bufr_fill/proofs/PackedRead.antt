@@ -1,4 +1,4 @@
--- What the k that was read says of the contents.
+-- The contents that were read, by their k.
 use Rattle.std.proofs.Common.{◌≡◌, ℕ, zero, suc, ◌+◌, ◌-◌, ◌*◌, ◌^◌, ◌<◌, ◌≤◌, ◌≢◌, ◌&&◌, Bool, true, false, not, List, [], ◌∷◌, ◌++◌, length, take, drop, map, replicate, Result, Ok, Err, refl, sym, ◌∙◌, ap, subst, arith, pow_mono}
 use Rattle.std.specs.Prelude.{◌==◌, nat_lt, if◌then◌else◌}
 use Rattle.std.specs.List.{list_all}
@@ -38,7 +38,7 @@ abbrev pub AreShort : Bool → (base k : ℕ) → List Content → Type 0
 AreShort m base k [] = Unit {0}
 AreShort m base k (c ∷ cs) = IsShort m base k c × AreShort m base k cs
 
--- what one number that was read from an increment is
+-- what holds of a number that was read from an increment
 pub record IsIncreased (m : Bool) (w base k : ℕ) (c : Content) : Type 0 where
   pub fits : FitsNumber m w c
   pub increment_over : IsOver base c
@@ -132,7 +132,7 @@ AreOctets-spaces (suc n) = (omega arith, AreOctets-spaces n)
 and_false : (a b : Bool) → a ≡ false → (a && b) ≡ false
 and_false a b e = ap (λ x. x && b) e
 
--- a text that was read from k octets fits, and k octets give it again
+-- a text that was read from k octets fits, and k octets are the text again
 pub record IsFromOctets (count k : ℕ) (c : Content) : Type 0 where
   pub fits : FitsText count c
   pub again : has_octets k c ≡ true

@@ -37,7 +37,7 @@ some_there [] k x e = absurd cc
 some_there (y ∷ xs) zero x e = omega arith
 some_there (y ∷ xs) (suc k) x e = omega (arith, some_there xs k x e)
 
--- an item that was written is there in the first subset
+-- an item that was written is in the first subset
 first_there : (spec : FieldSpec) (place : ℕ) (s : Subset) (ss : List Subset) (w : WrittenItem (List Content)) → pack_across spec (item_row place (s ∷ ss)) ≡ Ok w → place < length s.items
 first_there spec place s ss w e = by (slice_get s.items place) refl (are_many place (length (cells_at place (s ∷ ss)))) e
   where

@@ -1,4 +1,4 @@
--- Where the subsets stand among entries.
+-- The indices of the subsets among entries.
 use Rattle.std.proofs.Common.{◌≡◌, ℕ, zero, suc, ◌+◌, ◌-◌, ◌≤◌, ◌<◌, Bool, List, [], ◌∷◌, ◌++◌, true, false, length, drop, get_or, min, Option, Some, None, refl, sym, ◌∙◌, ap, arith, add-one}
 use Rattle.std.specs.Prelude.{slice_get, option_map, ◌==◌}
 use Rattle.std.proofs.Math.Seq.{drop-cons}
@@ -59,7 +59,7 @@ cut from (Holds d ∷ more) e rest h =
     at items line g zero = let m : min (suc (length items)) 0 ≡ 0 = omega arith in ap (slice_get (Holds d ∷ more)) m
     at items line g (suc j) = let m : min (suc (length items)) (suc j) ≡ suc (min (length items) j) = omega arith in ap (slice_get (Holds d ∷ more)) m ∙ g j
 
--- nor behind them
+-- each end is the index of an entry
 pub ends_before : (from : ℕ) (xs : List DraftEntry) (s e : ℕ) → slice_get (ends_of from xs) s ≡ Some e → e < from + length xs
 ends_before from [] s e h = absurd cc
 ends_before from (Holds d ∷ more) s e h = omega (arith, ends_before (from + 1) more s e h)
@@ -72,7 +72,7 @@ slice_get-drop zero (x ∷ xs) k = let e : k ≡ 0 + k = omega arith in ap (slic
 slice_get-drop (suc n) [] k = refl
 slice_get-drop (suc n) (x ∷ xs) k = let e : suc n + k ≡ suc (n + k) = omega arith in slice_get-drop n xs k ∙ ap (slice_get (x ∷ xs)) (sym e)
 
--- where a subset begins
+-- the index where a subset begins
 pub begin_none : (ends : List ℕ) → begin_of 0 ends 0 ≡ 0
 begin_none ends = refl
 
@@ -95,7 +95,7 @@ length-subsets from (Holds d ∷ more) = length-onto d (subsets_of more) ∙ len
     length-onto d [] = refl
     length-onto d (s ∷ ss) = refl
 
--- the entry of a subset at a place
+-- the entry of a subset at an index
 pub record Stands (place s from : ℕ) (xs : List DraftEntry) (ends : List ℕ) (e : ℕ) (c : RowCell) : Type 0 where
   pub begins : from ≤ begin_of from ends s
   pub ends_at : from ≤ e
@@ -133,13 +133,13 @@ module _ (place : ℕ) (e : ℕ) (c : RowCell) where
       let k = cut from xs x rest p in
       further from xs s x rest k (stands_at s (suc x) (drop (suc (length k.items)) xs) rest (sym k.rest_is) q (sym (ap (λ ss. slice_get (cells_at place ss) (suc s)) k.subsets) ∙ r))
 
--- what the code reads of it
+-- the entry that the code reads
 pub entry_there : (place s : ℕ) (xs : List DraftEntry) (e : ℕ) (c : RowCell) → slice_get (ends_of 0 xs) s ≡ Some e → slice_get (cells_at place (subsets_of xs)) s ≡ Some c → slice_get xs (min e (begin_of 0 (ends_of 0 xs) s + place)) ≡ Some (cell_entry c)
 entry_there place s xs e c h g =
     let m : min e (begin_of 0 (ends_of 0 xs) s + place) - 0 ≡ min e (begin_of 0 (ends_of 0 xs) s + place) = omega arith in
     sym (ap (slice_get xs) m) ∙ (stands_at place e c s 0 xs (ends_of 0 xs) refl h g).there
 
--- the ends lie within the entries
+-- the ends are indices of entries
 pub end_small : (from : ℕ) (xs : List DraftEntry) (s : ℕ) (z : ℕ) → s < length (ends_of from xs) → get_or (ends_of from xs) s z < from + length xs
 end_small from [] s z h = absurd (omega (arith, h))
 end_small from (Holds d ∷ more) s z h = omega (arith, end_small (from + 1) more s z h)
@@ -208,7 +208,7 @@ true-false e = cc
 false-true : false ≡ true → ⊥
 false-true e = cc
 
--- one entry more was looked at
+-- one more entry was examined
 next_of : (xs : List DraftEntry) (place : ℕ) → place < length xs → drop place xs ≡ get_or xs place (Ends 0) ∷ drop (place + 1) xs
 next_of xs place h = drop-cons xs place (Ends 0) h ∙ ap (λ j. get_or xs place (Ends 0) ∷ drop j xs) (sym (add-one place))
 

@@ -22,7 +22,7 @@ temperature_inexact : plain_bits temperature (subset (numbered 24 3173 (codes "2
 unfolding plain_bits temperature decimal_value_of
 temperature_inexact = refl
 
--- a number that is not whole goes before one that is too great
+-- a number that is not whole comes before one that is too great
 temperature_inexact_and_great : plain_bits temperature (subset (numbered 24 3173 (codes "700.155") ∷ []) 25 ∷ []) ≡ Err (at_line 24 wrong_number)
 unfolding plain_bits temperature decimal_value_of
 temperature_inexact_and_great = refl
@@ -44,7 +44,7 @@ text_for_a_number : plain_bits temperature (subset (draft 24 3173 (text_form (co
 unfolding plain_bits temperature
 text_for_a_number = refl
 
--- the reference is taken off
+-- the reference is subtracted
 negative_latitude : plain_bits latitude (subset (numbered 24 1282 (codes "-0.05") ∷ []) 25 ∷ []) ≡ ok_bits (70 ∷ 70 ∷ []) 15
 unfolding plain_bits ok_bits latitude decimal_value_of bits_in
 negative_latitude = refl
@@ -53,7 +53,7 @@ under_the_reference : plain_bits latitude (subset (numbered 24 1282 (codes "-90.
 unfolding plain_bits latitude decimal_value_of
 under_the_reference = refl
 
--- all ones is a number of class 31, and nothing there is missing
+-- all ones is a number of class 31, and no field of class 31 is missing
 figure_of_all_ones : plain_bits coded_spec (subset (numbered 24 7957 (codes "63") ∷ []) 25 ∷ []) ≡ ok_bits (252 ∷ []) 6
 unfolding plain_bits ok_bits coded_spec decimal_value_of bits_in
 figure_of_all_ones = refl
@@ -70,7 +70,7 @@ blocks_written : plain_bits delayed_blocks (subset (numbered 24 7937 (codes "2")
 unfolding plain_bits ok_bits delayed_blocks decimal_value_of bits_in
 blocks_written = refl
 
--- spaces follow a text that is short
+-- spaces follow a short text
 text_written : plain_bits four_letters (subset (draft 24 34052 (text_form (codes "AB")) ∷ []) 25 ∷ []) ≡ ok_bits (65 ∷ 66 ∷ 32 ∷ 32 ∷ []) 32
 unfolding plain_bits ok_bits four_letters bits_of
 text_written = refl
@@ -87,12 +87,12 @@ text_would_be_missing : plain_bits four_letters (subset (draft 24 34052 (text_fo
 unfolding plain_bits four_letters
 text_would_be_missing = refl
 
--- with a space behind it a text of octets 255 is one
+-- with a space after it a text of octets 255 is not missing
 text_of_some_ones : plain_bits four_letters (subset (draft 24 34052 (text_form (255 ∷ 255 ∷ 255 ∷ [])) ∷ []) 25 ∷ []) ≡ ok_bits (255 ∷ 255 ∷ 255 ∷ 32 ∷ []) 32
 unfolding plain_bits ok_bits four_letters bits_of
 text_of_some_ones = refl
 
--- too long goes before missing
+-- too long comes before missing
 text_too_long : plain_bits four_letters (subset (draft 24 34052 (text_form (255 ∷ 255 ∷ 255 ∷ 255 ∷ 255 ∷ [])) ∷ []) 25 ∷ []) ≡ Err (at_line 24 text_long)
 unfolding plain_bits four_letters
 text_too_long = refl
@@ -124,7 +124,7 @@ reference_for_a_number : plain_bits temperature (subset (draft 24 3173 (referenc
 unfolding plain_bits temperature
 reference_for_a_number = refl
 
--- another descriptor goes before its number
+-- another descriptor comes before its number
 other_descriptor : plain_bits temperature (subset (numbered 24 257 (codes "1-") ∷ []) 25 ∷ []) ≡ Err (at_line 24 (wrong_descriptor 3173 Bool.false))
 unfolding plain_bits temperature
 other_descriptor = refl
@@ -137,7 +137,7 @@ second_item : plain_bits temperature (subset (numbered 24 3173 (codes "1") ∷ n
 unfolding plain_bits temperature decimal_value_of bits_in
 second_item = refl
 
--- the walk's refusal goes before another descriptor, and before the end
+-- the walk's refusal comes before another descriptor, and before the end
 width_refused : plain_bits width_of_none (subset (numbered 24 3173 (codes "0") ∷ []) 25 ∷ []) ≡ Err (at_line 24 (walk_refused (refusal.Width 257)))
 unfolding plain_bits width_of_none
 width_refused = refl

@@ -1,4 +1,4 @@
--- Items that fit their fields are written subset after subset so that they are read again; those of
+-- Items that fit their fields are written subset after subset so that they are read again. Those of
 -- compressed data are such items.
 use Rattle.std.proofs.Common.{◌≡◌, ℕ, zero, suc, ◌+◌, ◌<◌, ◌≤◌, Bool, true, false, List, [], ◌∷◌, ◌++◌, length, Result, Ok, refl, sym, ◌∙◌, ap, subst, arith, append_assoc}
 use Rattle.std.specs.Prelude.{if◌then◌else◌}
@@ -106,7 +106,7 @@ plain_subsets course (items ∷ subsets) (s ∷ ss) h dumped =
 
 -- ---- the items of compressed data
 
--- contents that are packed tell the same
+-- contents that are packed return the same to the walk
 same_at : (c : Content) (cs : List Content) (j : ℕ) → are_same c cs ≡ true → j < length cs → content_at j cs ≡ c
 same_at c [] j e h = absurd (omega (arith, h))
 same_at c (d ∷ cs) zero e h = sym (content_same c d (and_first (same c d) (are_same c cs) e))
@@ -132,7 +132,7 @@ fit_at spec [] j f h = absurd (omega (arith, h))
 fit_at spec (c ∷ cs) zero f h = f.0
 fit_at spec (c ∷ cs) (suc j) f h = fit_at spec cs j f.1 (omega (arith, h))
 
--- what is known of one subset's content of an item that was read
+-- what holds of the content of one subset of an item that was read
 record IsOneOf (spec : FieldSpec) (cs : List Content) (j : ℕ) : Type 0 where
   fits : Fits spec (content_at j cs)
   tells : answer_of spec (content_at j cs) ≡ told_first spec cs

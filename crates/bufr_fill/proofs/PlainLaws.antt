@@ -1,5 +1,4 @@
--- A plain field that was read is written so that it is read again, from the item that a dump writes
--- for it.
+-- A plain field that was read is written from the item that a dump writes for it, and read again.
 use Rattle.std.proofs.Common.{◌≡◌, ℕ, ◌+◌, ◌-◌, ◌≤◌, Bool, true, false, List, ◌++◌, length, take, drop, Result, Ok, Err, refl, ◌∙◌, ap, subst, arith, nat_abs}
 use Rattle.std.specs.Prelude.{nat_lt, if◌then◌else◌}
 use Rattle.std.proofs.lemmas.List.{take_at, drop_at, length-append, length-take-le, length-drop}
@@ -36,7 +35,7 @@ module _ (spec : FieldSpec) (good : IsSpec spec) where
   role_back role.Reference (text octets) h = absurd h
   role_back role.Reference missing h = absurd h
 
-  -- the bits of a content that fits say that content
+  -- the bits of a content that fits have that content
   pub content_back : (c : Content) → Fits spec c → content_in spec (bits_for spec.width c) ≡ c
   content_back c h = role_back spec.role c h
 
@@ -58,14 +57,14 @@ module _ (spec : FieldSpec) (good : IsSpec spec) where
   role_fits role.Factor bits l = kind_fits spec.width spec.kind spec.may_be_missing bits l good.width good.missing
   role_fits role.Reference bits l = signed_below bits spec.width l (width_least spec.kind spec.width good.width)
 
-  -- what bits say fits
+  -- the content of bits fits
   pub content_fits : (bits : List Bool) → length bits ≡ spec.width → Fits spec (content_in spec bits)
   content_fits bits l = role_fits spec.role bits l
 
   within_test : (a b : ℕ) → b ≤ a → nat_lt a b ≡ false
   within_test a b h = grind (arith, nat_tests)
 
-  -- a content that fits is read from its bits, whatever is behind them
+  -- a content that fits is read from its bits, whatever follows them
   pub plain_again : (c : Content) → Fits spec c → (more : List Bool) → plain_field spec (bits_for spec.width c ++ more) ≡ Ok (found c more)
   plain_again c h more =
       let bits = bits_for spec.width c in

@@ -1,4 +1,4 @@
--- One item that the code wrote, apart from other subsets.
+-- One item that the code wrote, in data that are not compressed.
 use Rattle.std.proofs.Common.{◌≡◌, ℕ, suc, ◌+◌, ◌/◌, ◌<◌, Bool, List, [], ◌∷◌, ◌++◌, length, drop, Ok, Err, Option, Some, None, refl, sym, ◌∙◌, ap, subst, add-one}
 use Rattle.std.specs.Prelude.{slice_get}
 use Rattle.std.proofs.lemmas.Option.{slice_get_within, get_or_from_slice_get}
@@ -18,7 +18,7 @@ use Rattle.bufr_fill.specs.FieldContent.{content_drawn}
 use Rattle.bufr_fill.specs.Fault.{DraftFaultKind, FaultAt, at_line}
 use Rattle.bufr_fill.specs.PlainOut.{PlainOutModel, plain_out_model, IsFilled, IsFaultOf, IfDraftFault}
 
--- the entries that are left, at a place
+-- the entries that are left, at an index
 pub next_there : (entries : List DraftEntry) (place : ℕ) (e : DraftEntry) → slice_get entries place ≡ Some e → drop place entries ≡ e ∷ drop (place + 1) entries
 next_there entries place e here =
     drop-cons entries place e (slice_get_within entries place e here) ∙ ap (λ x. x ∷ drop (suc place) entries) (get_or_from_slice_get entries place e e here) ∙ ap (λ j. e ∷ drop j entries) (sym (add-one place))
@@ -39,7 +39,7 @@ filled_here entries place item spec d t old new s view here drawn tells bits for
       forth = forth;
     })
 
--- what a writer has left, by what the code found at its place
+-- what a writer has left, by the entry that the code found
 pub left_there : (entries : List DraftEntry) (place : ℕ) (old : List Bool) (s : PlainOutModel) (found e : DraftEntry) → plain_out_model (drop place entries) old ≡ s → Some found ≡ slice_get entries place → found ≡ e → s.left ≡ e ∷ drop (place + 1) entries
 left_there entries place old s found e view here is =
     sym (ap (λ (p : PlainOutModel). p.left) view) ∙ next_there entries place e (sym here ∙ ap (λ (x : DraftEntry). Some x) is)
@@ -47,7 +47,7 @@ left_there entries place old s found e view here is =
 pub left_none : (entries : List DraftEntry) (place : ℕ) (old : List Bool) (s : PlainOutModel) → plain_out_model (drop place entries) old ≡ s → None ≡ slice_get entries place → s.left ≡ []
 left_none entries place old s view here = sym (ap (λ (p : PlainOutModel). p.left) view) ∙ drop_all place entries (none_there entries place here)
 
--- the fault of what is next
+-- the fault at the next entry
 pub end_fault : (spec : FieldSpec) (left more : List DraftEntry) (answer_of : Option FaultAt) (line : ℕ) (why : DraftFaultKind) → answer_of ≡ Some (at_line line why) → why ≡ wrong_for spec → left ≡ Ends line ∷ more → IfDraftFault answer_of (IsFaultOf spec left)
 end_fault spec left more answer_of line why is wrong here =
     subst (λ (o : Option FaultAt). IfDraftFault o (IsFaultOf spec left)) (sym is) (subst (λ (l : List DraftEntry). IsFaultOf spec l (at_line line why)) (sym here) (ap (at_line line) wrong))

@@ -29,7 +29,7 @@ pub walk_of_items : (end : ℕ) (course : Course) (s : PlainOutModel) (items : L
     → (bits : List Bool) × (s'.bits ≡ s.bits ++ bits) × (fill (plain_filler end) course (items_left s.left) ≡ and_behind (plain_filler end) bits (fill (plain_filler end) (course_after course items) (items_left s'.left)))
 walk_of_items end course s items s' h = walk_fills (plain_filler end) (λ (p : PlainOutModel). items_left p.left) (λ (p : PlainOutModel). p.bits) (oks PlainFills) (fills end) course s items s' h
 
--- the fault of the next item is the definition's
+-- the fault of the next item is that of the definition
 pub fault_of_items : (course : Course) (left : List DraftEntry) (spec : FieldSpec) (f : FaultAt) → (course []).next ≡ take_next spec → IsFaultOf spec left f → fill (plain_filler (end_left left)) course (items_left left) ≡ Err f
 fault_of_items course left spec f next h = unfilled (plain_filler (end_left left)) (λ (p : PlainOutModel). items_left p.left) (λ (p : PlainOutModel). p.bits) (oks PlainFills) (fills (end_left left)) course (items_left left) spec f next (by left h)
   where

@@ -1,4 +1,4 @@
--- Texts and references as the code puts them.
+-- Texts and references as the code writes them.
 use Rattle.std.proofs.Common.{◌≡◌, ℕ, zero, suc, ◌+◌, ◌-◌, ◌*◌, ◌/◌, ◌%◌, ◌^◌, ◌<◌, ◌≤◌, Bool, true, false, List, [], ◌∷◌, ◌++◌, length, take, drop, replicate, refl, sym, ◌∙◌, ap, arith, ℤ, pos, negsuc, ◌<ℤ◌, ◌≤ℤ◌, pow_mono}
 use Rattle.std.specs.Prelude.{unsigned_abs, ◌==◌, ◌&&◌}
 use Rattle.std.specs.List.{list_all}
@@ -46,7 +46,7 @@ pub positive_bits : (v : ℤ) (w size : ℕ) → pos 0 ≤ℤ v → 1 ≤ w → 
 positive_bits (pos n) w size pos_v some e h = ap (λ x. bits_in x w) (let q : size ≡ 0 * 2 ^ (w - 1) + n = omega (arith, e) in q) ∙ at_width false w n some h
 positive_bits (negsuc n) w size pos_v some e h = absurd (omega (arith, ints, pos_v))
 
--- a text with spaces behind it is all 255 where it is full and none is
+-- a text followed by spaces is all 255 where it is full and its octets are
 pub all_of_spaced : (octets : List ℕ) (count : ℕ) (full : Bool) → length octets ≤ count → full ≡ list_all (λ octet. octet == 255) octets → ((length octets == count) && full) ≡ list_all (λ octet. octet == 255) (octets ++ replicate (count - length octets) 32)
 all_of_spaced octets count full h e = by (count - length octets) (length octets == count) refl refl
   where

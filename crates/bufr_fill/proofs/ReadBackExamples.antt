@@ -1,4 +1,4 @@
--- Worked examples of what drafts say, and of the one spelling of an item.
+-- Worked examples of the contents of drafts, and of the one spelling of an item.
 use Rattle.std.proofs.Common.{◌≡◌, ℕ, ℤ, pos, true, [], ◌∷◌, Err, refl, arith}
 use Rattle.std.specs.Prelude.{codes}
 use Rattle.std.specs.Fmt.{digits}
@@ -39,7 +39,7 @@ redefining = asked_as role.Reference kind.Numeric 10 (pos 0)
 abbrev item : FieldSpec → Content → Item Content
 item spec content = record { spec = spec; content = content }
 
--- ---- what an item says
+-- ---- the content of an item
 
 point_and_zero : IsSaid (item block (number 1)) (draft 24 257 (number_token (codes "1.0")))
 unfolding decimal_value_of
@@ -115,7 +115,7 @@ whole_reference : normal_form redefining (reference_token (codes "-007.0")) ≡ 
 unfolding decimal_value_of decimal_text_of unsigned_text digits
 whole_reference = refl
 
--- ---- drafts that say the same
+-- ---- drafts with the same contents
 
 on_other_lines : AllAlike (subset (draft 24 257 (number_token (codes "10")) ∷ []) 25 ∷ []) (subset (draft 34 257 (number_token (codes "10")) ∷ []) 36 ∷ [])
 on_other_lines = ((λ spec. refl, tt), tt)

@@ -1,4 +1,4 @@
--- What was read is written so that it is read again, in no more bits.
+-- Data that were read are written so that they read the same, in no more bits.
 use Rattle.std.proofs.Common.{◌≡◌, ◌+◌, ◌≤◌, Bool, List, [], ◌∷◌, ◌++◌, length, Ok, refl, sym, ◌∙◌, ap, subst, arith, append_assoc}
 use Rattle.std.proofs.lemmas.List.{length-append}
 use Rattle.bufr_walk.specs.FieldSpec.{FieldSpec, IsSpec}

@@ -1,4 +1,4 @@
--- The drafts that a dump writes for items say these items.
+-- The drafts that a dump writes for items have the contents of these items.
 use Rattle.std.proofs.Common.{◌≡◌, ℕ, zero, suc, Bool, List, [], ◌∷◌, length, ◌∙◌, ap, arith}
 use Rattle.bufr_tables.specs.Legal.{IsLegal}
 use Rattle.bufr_tables.specs.Records.{Record}
@@ -38,7 +38,7 @@ together_said course n j items [] e f h = tt
 together_said course zero j items (s ∷ ss) e f h = absurd (omega (arith, e))
 together_said course (suc n) j items (s ∷ ss) e f h = (items_said course (items_of_subset j items) s.items f.0 h.0, together_said course n (suc j) items ss (omega (arith, e)) f.1 h.1)
 
--- what the drafts of compressed data say, subset by subset
+-- the contents of the drafts of compressed data, subset by subset
 pub said_from : (n j : ℕ) (items : List (Item (List Content))) (ss : List Subset) → length ss ≡ n → AreSaidFrom j items ss → AreSaid (subsets_from n j items) ss
 said_from zero j items [] e h = tt
 said_from (suc n) j items [] e h = absurd (omega (arith, e))

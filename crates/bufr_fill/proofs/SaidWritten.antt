@@ -1,4 +1,4 @@
--- The bits that are written of drafts are told by what the drafts say.
+-- The contents of drafts determine the bits that are written.
 use Rattle.std.proofs.Common.{◌≡◌, ℕ, zero, suc, ◌+◌, ◌*◌, ◌≤◌, Bool, List, [], ◌∷◌, ◌++◌, length, drop, Some, Result, Ok, Err, refl, sym, ◌∙◌, ap, subst, arith}
 use Rattle.std.specs.Prelude.{slice_get, flat_map, if◌then◌else◌}
 use Rattle.std.proofs.Math.Nat.{mul-le-mul_right}
@@ -75,7 +75,7 @@ bits_or_none (Err why) = []
 abbrev packed_laid : Item (List Content) → List Bool
 packed_laid i = bits_or_none (packing i.spec i.content)
 
--- the draft at a place says the content of the item there
+-- the draft at an index has the content of the item there
 said_at : (end_line : ℕ) (items : List (Item Content)) (ds : List Draft) (p : ℕ) (i : Item Content) (rest : List (Item Content)) → AreDrafts IsSaid items ds → drop p items ≡ i ∷ rest → content_here i.spec (slice_get ds p) end_line ≡ Ok i.content
 said_at end_line [] [] zero i rest h e = absurd cc
 said_at end_line [] [] (suc p) i rest h e = absurd cc
@@ -84,7 +84,7 @@ said_at end_line (x ∷ items) [] p i rest h e = absurd h
 said_at end_line (x ∷ items) (d ∷ ds) zero i rest h e = let is : x ≡ i = cc in subst (λ (y : Item Content). content_here y.spec (Some d) end_line ≡ Ok y.content) is (ap (at_line_if_fault d.line) h.0)
 said_at end_line (x ∷ items) (d ∷ ds) (suc p) i rest h e = said_at end_line items ds p i rest h.1 e
 
--- the cells at a place say the contents of the item there
+-- the cells at an index have the contents of the item there
 contents_said : (items : List (Item (List Content))) (p : ℕ) (i : Item (List Content)) (rest : List (Item (List Content))) (j : ℕ) (ss : List Subset) → drop p items ≡ i ∷ rest → j + length ss ≡ length i.content → AreSaidFrom j items ss → contents_here i.spec (cells_at p ss) ≡ Ok (drop j i.content)
 contents_said items p i rest j [] e n h = ap Ok (sym (content_none j i.content (omega (arith, n))))
 contents_said items p i rest j (s ∷ ss) e n h =
@@ -93,7 +93,7 @@ contents_said items p i rest j (s ∷ ss) e n h =
     ∙ ap (λ r. r >>= λ more. Ok (content_at j i.content ∷ more)) (contents_said items p i rest (suc j) ss e (omega (arith, n)) h.1)
     ∙ ap Ok (sym (content_more j i.content (omega (arith, n))))
 
--- an item of all subsets, as the cells of a row say it
+-- an item of all subsets, by the cells of a row
 record IsSaidRow (n : ℕ) (i : Item (List Content)) (a : ItemRow) : Type 0 where
   contents : contents_here i.spec a.cells ≡ Ok i.content
   total : length a.cells ≡ n

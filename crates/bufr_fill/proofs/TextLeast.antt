@@ -1,4 +1,4 @@
--- That texts are packed by the least k.
+-- Texts are packed by the least k.
 use Rattle.std.proofs.Common.{◌≡◌, ℕ, zero, suc, ◌+◌, ◌-◌, ◌/◌, ◌<◌, ◌≤◌, ◌&&◌, max, Bool, true, false, not, List, [], ◌∷◌, ◌++◌, length, take, replicate, Ok, Err, refl, sym, ◌∙◌, ap, arith}
 use Rattle.std.specs.Prelude.{◌==◌, nat_le, min, if◌then◌else◌}
 use Rattle.std.specs.List.{list_all, flat_map}
@@ -51,7 +51,7 @@ both_first : (a b : Bool) → (a && b) ≡ true → a ≡ true
 both_first true b h = refl
 both_first false b h = h
 
--- k octets and spaces are the text again where nothing but spaces is behind them
+-- k octets and spaces are the text again where only spaces follow them
 abbrev again : ℕ → List ℕ → Bool
 again k os = same_octets (take k os ++ replicate (length os - k) 32) os
 
@@ -175,7 +175,7 @@ gives_is os k f = by (nat_le (trimmed os) k) refl
     by true e = ap (λ b. b && not (full (take k os))) (again_is k os ∙ e) ∙ not_full os k f (le_from (trimmed os) k e)
     by false e = ap (λ b. b && not (full (take k os))) (again_is k os ∙ e) ∙ sym (le_past (need os) k (omega (arith, le_not (trimmed os) k e, need_least os)))
 
--- spaces behind a text tell nothing
+-- spaces after a text do not count
 trimmed_none : (n : ℕ) → trimmed (replicate n 32) ≡ 0
 trimmed_none zero = refl
 trimmed_none (suc n) = ap (λ t. if (t == 0) && (32 == 32) then 0 else suc t) (trimmed_none n)
@@ -208,7 +208,7 @@ take_all [] (suc n) h = refl
 take_all (o ∷ os) zero h = absurd (omega (arith, h))
 take_all (o ∷ os) (suc n) h = ap (λ xs. o ∷ xs) (take_all os n (omega (arith, h)))
 
--- the field has the octets that tell a text
+-- the field has the octets that determine a text
 need_room : (count : ℕ) (os : List ℕ) → HasRoom count os → need os ≤ count
 need_room count os h = by (full (take (trimmed os) os)) refl
   where
@@ -240,7 +240,7 @@ most_room spec (drawn.Text t ∷ ds) some all = omega (arith, need_room (spec.wi
 most_room spec (drawn.Missing ∷ ds) some all = omega (arith, some, most_room spec ds some all.1)
 most_room spec (drawn.Reference v ∷ ds) some all = omega (arith, some, most_room spec ds some all.1)
 
--- all texts are told by so many octets as the one that needs most
+-- the text that needs most octets determines those of all texts
 max_le : (a b k : ℕ) → nat_le (max a b) k ≡ (nat_le a k && nat_le b k)
 max_le a b k = by (nat_le a k) (nat_le b k) refl refl
   where

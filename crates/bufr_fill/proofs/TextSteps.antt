@@ -1,4 +1,4 @@
--- Steps of the code that looks at texts.
+-- Steps of the code that reads texts.
 use Rattle.std.proofs.Common.{◌≡◌, ℕ, zero, suc, ◌+◌, ◌-◌, ◌<◌, ◌≤◌, ◌&&◌, Bool, true, false, List, [], ◌∷◌, ◌++◌, length, take, drop, get_or, replicate, refl, sym, ◌∙◌, ap, arith}
 use Rattle.std.specs.Prelude.{◌==◌, if◌then◌else◌}
 use Rattle.std.proofs.lemmas.Bool.Decides.{nat_tests}
@@ -22,7 +22,7 @@ apart_test a b h = by (a == b) refl
     by true e = absurd (h (equal_from a b e))
     by false e = e
 
--- the octet at a place
+-- the octet at an index
 pub octet_inside : (os : List ℕ) (i x : ℕ) → i < length os → x ≡ get_or os i x → x ≡ octet_in os i
 octet_inside [] i x h e = absurd (omega (arith, h))
 octet_inside (o ∷ os) zero x h e = e
@@ -33,7 +33,7 @@ octet_outside [] i h = refl
 octet_outside (o ∷ os) zero h = absurd (omega (arith, h))
 octet_outside (o ∷ os) (suc i) h = octet_outside os i (omega (arith, h))
 
--- a text with spaces behind it, from a place on
+-- a text followed by spaces, from an index on
 pub spaced_at : (count : ℕ) (os : List ℕ) (i : ℕ) → length os ≤ count → i < count → drop i (spaced count os) ≡ octet_in os i ∷ drop (i + 1) (spaced count os)
 spaced_at count os i h l = by os (count - length os) i (omega (arith, h, l))
   where

@@ -1,4 +1,4 @@
--- A walk over drafts fills as the definition does.
+-- A walk over drafts writes as the definition does.
 use Rattle.std.proofs.Common.{◌≡◌, Bool, List, [], ◌∷◌, ◌++◌, Result, Ok, Err, refl, sym, ◌∙◌, ap, append_assoc}
 use Rattle.std.proofs.lemmas.List.{append-nil}
 use Rattle.bufr_walk.specs.declared.spec.Taken.{Taken}
@@ -31,8 +31,8 @@ module _ {D C E S : Type 0} (filler : Filler D C E) (left : S → List D) (out :
   none (Ok x) = refl
   none (Err why) = refl
 
-  -- what the definition makes of the drafts is what the walk wrote, and what the definition makes
-  -- of those that are left
+  -- the definition writes of the drafts what the walk wrote, and then what it writes of those that
+  -- are left
   pub walk_fills : (course : Course) (s : S) (items : List TakenField) (s' : S) → Takes takes course s items s' → (bits : List Bool) × (out s' ≡ out s ++ bits) × (fill filler course (left s) ≡ and_behind filler bits (fill filler (course_after course items) (left s')))
   walk_fills course s [] s' h = ([], ap out h ∙ sym (append-nil (out s)), none (fill filler course (left s)) ∙ ap (λ x. and_behind filler [] (fill filler course (left x))) (sym h))
   walk_fills course s (i ∷ items) s' h =
@@ -43,7 +43,7 @@ module _ {D C E S : Type 0} (filler : Filler D C E) (left : S → List D) (out :
         one course s i.spec i.taken h.0 h.1 f ∙ ap (and_behind filler f.item.bits) rest.2 ∙ twice f.item.bits rest.0 (fill filler (course_after (λ told. course (i.taken ∷ told)) items) (left s')),
       )
 
-  -- a field that could not be filled is the definition's fault
+  -- the fault of a field that could not be written is that of the definition
   pub unfilled : (course : Course) (ds : List D) (spec : FieldSpec) (e : E) → (course []).next ≡ take_next spec → IsUnfilled filler ds spec e → fill filler course ds ≡ Err e
   unfilled course [] spec e next h = ap (fill_none filler) next ∙ ap Err (sym h)
   unfilled course (d ∷ ds) spec e next h =

@@ -53,7 +53,7 @@ packed_again (suc n) course items (s ∷ ss) bits behind count specs dumped h =
     let r = rewritten (packed (suc n)) (packed_filler s.end_line many) (IsDumpedAcross (suc n)) (λ spec c. refl) (packed_rewritten (suc n) s.end_line many (omega arith)) course items (rows (longest (s ∷ ss)) 0 (s ∷ ss)) bits behind specs rows_are h.0 in
     record { out = r.out; is = r.fills; again = λ more. ((r.again more, h.0.1), h.1); short = r.short }
 
--- the same over a template: nothing is asked of the specifications
+-- the same over a template: nothing is required of the specifications
 pub plain_template_again : (table : List Row) (tree : Tree) (subsets : List (List (Item Content))) (drafts : List Subset) (bits behind : List Bool) → AreGoodRows table → IsLegal tree → AreDumped subsets drafts → ReadsSubsets (next_item table tree) subsets bits behind → IsWrittenAgain (next_item table tree) subsets drafts bits behind
 plain_template_again table tree subsets drafts bits behind rows legal dumped h =
     plain_again (next_item table tree) subsets drafts bits behind (plain_specs (next_item table tree) subsets bits behind (template_good table tree rows legal) h) dumped h

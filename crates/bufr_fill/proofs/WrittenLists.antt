@@ -1,5 +1,5 @@
--- What lemmas on a round trip say of lists: each item's specification, how many contents, the cells
--- at one place.
+-- Lists in the lemmas on a round trip: each item's specification, the number of its contents, and
+-- its cells.
 use Rattle.std.specs.Prelude.{◌≡◌, ℕ, ◌+◌, ◌*◌, ◌≤◌, List, [], ◌∷◌, length, Option, Some, None}
 use Rattle.bufr_walk.specs.FieldSpec.{FieldSpec, IsSpec}
 use Rattle.bufr_walk.specs.Content.{Content}
@@ -8,7 +8,7 @@ use Rattle.bufr_fill.specs.Draft.{Draft}
 use Rattle.bufr_fill.specs.DraftContent.{draft_value_of}
 use Rattle.bufr_fill.specs.Encoding.{RowCell, ItemRow}
 
--- each item was asked for as a field may be
+-- each item's specification is one
 abbrev pub AllSpecs : {C : Type 0} → List (Item C) → Type 0
 AllSpecs [] = Unit {0}
 AllSpecs (i ∷ items) = IsSpec i.spec × AllSpecs items
@@ -33,7 +33,7 @@ AreCellsOf spec [] (cell ∷ cells) = ⊥
 AreCellsOf spec (c ∷ cs) [] = ⊥
 AreCellsOf spec (c ∷ cs) (cell ∷ cells) = IsCellOf spec c cell.draft × AreCellsOf spec cs cells
 
--- so many subsets' drafts of one item, at a place that is not past the most values
+-- so many subsets' drafts of one item, at an index that is not past the most values
 pub record IsDumpedAcross (n : ℕ) (i : Item (List Content)) (a : ItemRow) : Type 0 where
   pub cells : AreCellsOf i.spec i.content a.cells
   pub total : length a.cells ≡ n

@@ -1,8 +1,8 @@
--- Items as a dump text gives them. (a choice of this project)
+-- The items of a dump text. (a choice of this project)
 -- Cited by public contracts.
 use Rattle.std.specs.Prelude.{ℕ, List}
 
--- what stands behind the descriptor of an item
+-- the value of an item, as the dump text writes it
 pub data DraftValue : Type 0 where
   number_token : (digits : List ℕ) → DraftValue
   text_form : (octets : List ℕ) → DraftValue
@@ -15,5 +15,6 @@ pub record Draft : Type 0 where
   pub fxy : ℕ
   pub form : DraftValue
 
+-- a draft from its parts
 abbrev pub draft : (line fxy : ℕ) → DraftValue → Draft
 draft line fxy form = record { line = line; fxy = fxy; form = form }

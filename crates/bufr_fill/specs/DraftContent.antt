@@ -1,4 +1,4 @@
--- What an item of a dump text is as the content of a field, and which item a dump writes for a
+-- An item of a dump text as the content of its field, and the item that a dump writes for a
 -- content. (a choice of this project)
 -- Cited by public contracts.
 use Rattle.std.specs.Prelude.{ℕ, ◌-◌, ◌/◌, ◌^◌, ◌==◌, ◌&&◌, nat_lt, not, Bool, true, false, if◌then◌else◌, List, ◌++◌, length, replicate, ℤ, pos, negsuc, nat_abs, ◌+ℤ◌, ◌-ℤ◌, Result, Ok, Err}
@@ -15,14 +15,15 @@ use Rattle.bufr_fill.specs.Fault.{DraftFaultKind, wrong_descriptor, wrong_number
 use Rattle.bufr_fill.specs.Packing.{raw_limit}
 use Rattle.bufr_fill.specs.Filling.{WrittenItem, written_item, Filler}
 
+-- whether a value has the mark of a redefined reference
 abbrev pub is_marked : DraftValue → Bool
 is_marked (number_token digits) = false
 is_marked (text_form octets) = false
 is_marked missing_form = false
 is_marked (reference_token digits) = true
 
--- a decimal that is none, or not whole at its scale, is no number; one past the greatest is out of
--- range
+-- a text that is no decimal, or not whole at its scale, is no number; a value past the greatest is
+-- out of range
 abbrev pub number_fault : NumberFault → DraftFaultKind
 number_fault Syntax = wrong_number
 number_fault Inexact = wrong_number
@@ -34,28 +35,29 @@ raw_within m width (pos raw) =
     if nat_lt raw (raw_limit m width) then Ok (number raw) else Err out_of_range
 raw_within m width (negsuc n) = Err out_of_range
 
--- the number in the bits is the value without the reference (FM 94: Regulation 94.5, Table B)
+-- the number in the bits is the value minus the reference (FM 94: Regulation 94.5, Table B)
 abbrev pub raw_of : FieldSpec → Result ℤ NumberFault → Result Content DraftFaultKind
 raw_of spec (Ok value) = raw_within spec.may_be_missing spec.width (value -ℤ spec.reference)
 raw_of spec (Err why) = Err (number_fault why)
 
--- a reference whose magnitude fits the bits behind its sign
+-- a reference whose magnitude fits the bits after its sign
 abbrev pub reference_of : FieldSpec → Result ℤ NumberFault → Result Content DraftFaultKind
 reference_of spec (Ok value) =
     if nat_lt (nat_abs value) (2 ^ (spec.width - 1)) then Ok (reference value) else Err out_of_range
 reference_of spec (Err why) = Err (number_fault why)
 
--- a text with spaces up to its length, which does not read as missing
+-- a text followed by spaces up to its length, which does not read as missing
 abbrev pub text_within : ℕ → List ℕ → Result Content DraftFaultKind
 text_within count octets =
     if nat_lt count (length octets) then Err text_long
     else let whole = octets ++ replicate (count - length octets) 32 in
     if list_all (λ octet. octet == 255) whole then Err out_of_range else Ok (text whole)
 
+-- a missing value, where one is allowed
 abbrev pub missing_of : Bool → Result Content DraftFaultKind
 missing_of m = if m then Ok missing else Err missing_forbidden
 
--- a form as content of a field; one of another kind is no number
+-- a value as the content of its field; one of another kind is no number
 abbrev pub content_by_form : DraftValue → FieldSpec → Result Content DraftFaultKind
 content_by_form (number_token digits) spec =
     if is_character spec.kind then Err wrong_number
@@ -65,21 +67,22 @@ content_by_form (text_form octets) spec =
 content_by_form missing_form spec = missing_of spec.may_be_missing
 content_by_form (reference_token digits) spec = reference_of spec (decimal_value_of digits (pos 0))
 
--- an item is that of a field
+-- whether an item has the descriptor and the mark of a field
 abbrev pub is_of : FieldSpec → Draft → Bool
 is_of spec d =
     (d.fxy == spec.fxy)
     && (if is_reference spec.role then is_marked d.form else not (is_marked d.form))
 
+-- the fault of another item than that of the field
 abbrev pub wrong_for : FieldSpec → DraftFaultKind
 wrong_for spec = wrong_descriptor spec.fxy (is_reference spec.role)
 
--- what an item is as the content of a field: another field's item first, then another kind, then
--- what does not fit
+-- an item as the content of its field; the first fault is another field's item, then another kind,
+-- then a value that does not fit
 abbrev pub content_of : FieldSpec → Draft → Result Content DraftFaultKind
 content_of spec d = if is_of spec d then content_by_form d.form spec else Err (wrong_for spec)
 
--- the form of a content, as a dump writes it
+-- the value of a content, as a dump writes it
 abbrev pub draft_value_of : FieldSpec → Content → DraftValue
 draft_value_of spec (number raw) = number_token
     (decimal_text_of (pos raw +ℤ spec.reference) spec.scale)
@@ -87,13 +90,13 @@ draft_value_of spec (text octets) = text_form octets
 draft_value_of spec missing = missing_form
 draft_value_of spec (reference value) = reference_token (decimal_text_of value (pos 0))
 
--- a content and its bits, in data that are not compressed
+-- a content and its bits, in data that are not compressed, or the fault on the line
 abbrev pub plainly : ℕ → FieldSpec → Result Content DraftFaultKind
     → Result (WrittenItem Content) FaultAt
 plainly line spec (Ok c) = Ok (written_item c (bits_for spec.width c))
 plainly line spec (Err why) = Err (at_line line why)
 
--- items of one subset, whose end stands on a line
+-- how the items of one subset are written, which ends on a line
 abbrev pub plain_filler : (end_line : ℕ) → Filler Draft Content FaultAt
 plain_filler end_line = record {
   fills = λ spec d. plainly d.line spec (content_of spec d);

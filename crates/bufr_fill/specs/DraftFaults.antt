@@ -1,5 +1,4 @@
--- The faults that the code tells, as the definitions name them (the numbers are a choice of this
--- project).
+-- The faults of the code, as the definitions name them. (The numbers are a choice of this project.)
 -- Cited by public contracts.
 use Rattle.std.specs.Prelude.{ℕ, true, false, Option, Some, None}
 use Rattle.bufr_fill.specs.declared.fault.Expected.{Expected}
@@ -10,13 +9,13 @@ use Rattle.bufr_fill.specs.declared.fault.Wrong.{Wrong}
 use Rattle.bufr_fill.specs.declared.fault.Wrong.TheVariants as wrong
 use Rattle.bufr_fill.specs.Fault.{DraftFaultKind, wrong_descriptor, wrong_number, out_of_range, text_long, missing_forbidden, unequal_factors, uneven_increment, item_too_many, too_many_values, FaultAt, at_line}
 
--- another item than the expected one
+-- the fault of another item than the expected one
 abbrev pub other_than : Expected → DraftFaultKind
 other_than (expected.Item fxy) = wrong_descriptor fxy false
 other_than (expected.Reference fxy) = wrong_descriptor fxy true
 other_than expected.EndOfSubset = item_too_many
 
--- a fault of the text; want of memory is none
+-- a fault of the dump text; where memory ran out there is none
 abbrev pub draft_fault : DraftFault → Option FaultAt
 draft_fault (fault.WrongDescriptor line e) = Some (at_line line (other_than e))
 draft_fault (fault.Number line) = Some (at_line line wrong_number)
@@ -28,7 +27,7 @@ draft_fault (fault.Increment line) = Some (at_line line uneven_increment)
 draft_fault (fault.TooManyValues line fxy) = Some (at_line line (too_many_values fxy))
 draft_fault fault.Memory = None
 
--- what is wrong with an item, its line aside
+-- the fault of an item, without its line
 abbrev pub item_fault_of : Wrong → DraftFaultKind
 item_fault_of (wrong.Descriptor e) = other_than e
 item_fault_of wrong.Number = wrong_number

@@ -15,15 +15,16 @@ pub record Subset : Type 0 where
   pub items : List Draft
   pub end_line : ℕ
 
+-- a subset from its parts
 abbrev pub subset : List Draft → ℕ → Subset
 subset items end_line = record { items = items; end_line = end_line }
 
--- an item in front of the first subset; items that no line ends belong to none
+-- one more item at the start of the first subset; items that no line ends belong to none
 abbrev pub prepend_to_subset : Draft → List Subset → List Subset
 prepend_to_subset item [] = []
 prepend_to_subset item (s ∷ subsets) = subset (item ∷ s.items) s.end_line ∷ subsets
 
--- the subsets that entries spell
+-- the subsets of entries
 abbrev pub subsets_of : List DraftEntry → List Subset
 subsets_of [] = []
 subsets_of (Holds item ∷ more) = prepend_to_subset item (subsets_of more)

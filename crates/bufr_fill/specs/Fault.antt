@@ -1,11 +1,12 @@
--- What is at fault with the items of a dump text. (a choice of this project)
+-- Faults in the items of a dump text. (a choice of this project)
 -- Cited by public contracts.
 use Rattle.std.specs.Prelude.{ℕ, Bool}
 use Rattle.bufr_walk.specs.declared.spec.TurnRefusal.{TurnRefusal}
 
+-- the fault of an item
 pub data DraftFaultKind : Type 0 where
-  -- another descriptor, or a reference mark where none should be or none where one should, or no
-  -- item
+  -- another descriptor, or a reference mark where there should be none, or no such mark where there
+  -- should be one, or no item
   wrong_descriptor : (expected : ℕ) (marked : Bool) → DraftFaultKind
   wrong_number : DraftFaultKind
   out_of_range : DraftFaultKind
@@ -13,11 +14,11 @@ pub data DraftFaultKind : Type 0 where
   missing_forbidden : DraftFaultKind
   unequal_factors : DraftFaultKind
   uneven_increment : DraftFaultKind
-  -- an item where the subset is to end
+  -- an item after the last of its subset
   item_too_many : DraftFaultKind
   walk_refused : (why : TurnRefusal) → DraftFaultKind
   too_many_values : (fxy : ℕ) → DraftFaultKind
-  -- a factor told no count, which no draft of a factor does
+  -- a factor has no count, which no draft of a factor causes
   no_count : DraftFaultKind
 
 -- a fault, and its line
@@ -25,5 +26,6 @@ pub record FaultAt : Type 0 where
   pub line : ℕ
   pub fault : DraftFaultKind
 
+-- a fault from its line and kind
 abbrev pub at_line : ℕ → DraftFaultKind → FaultAt
 at_line line fault = record { line = line; fault = fault }

@@ -1,4 +1,4 @@
--- What is drawn from an item, as the content of a field.
+-- The content of a field from an item, as the code has it.
 -- Cited by private steps only.
 use Rattle.std.specs.Prelude.{ℕ, ◌≡◌, ◌≤◌, ◌<◌, ◌-◌, ◌/◌, ◌^◌, ◌==◌, true, false, List, ◌++◌, length, replicate, unsigned_abs, ℤ, Result, Ok, Err}
 use Rattle.std.specs.List.{list_all}
@@ -12,35 +12,38 @@ use Rattle.bufr_fill.specs.Fault.{DraftFaultKind}
 use Rattle.bufr_fill.specs.Packing.{raw_limit}
 use Rattle.bufr_fill.specs.DraftFaults.{item_fault_of}
 
+-- the content of a number, or its fault
 abbrev pub number_told : Result ℕ Wrong → Result Content DraftFaultKind
 number_told (Ok raw) = Ok (number raw)
 number_told (Err why) = Err (item_fault_of why)
 
+-- the content of a reference, or its fault
 abbrev pub reference_told : Result ℤ Wrong → Result Content DraftFaultKind
 reference_told (Ok value) = Ok (reference value)
 reference_told (Err why) = Err (item_fault_of why)
 
--- spaces behind a text, up to so many octets
+-- a text followed by spaces, up to `count` octets
 abbrev pub spaced : (count : ℕ) → List ℕ → List ℕ
 spaced count octets = octets ++ replicate (count - length octets) 32
 
--- a field's content, where a text of it has so many octets
+-- the content of a field, whose text has `count` octets
 abbrev pub content_drawn : (count : ℕ) → FieldContent → Content
 content_drawn count (drawn.Number raw) = number raw
 content_drawn count (drawn.Text octets) = text (spaced count octets.now)
 content_drawn count drawn.Missing = missing
 content_drawn count (drawn.Reference value) = reference value
 
+-- the content of a field, or its fault
 abbrev pub drawn_told : (count : ℕ) → Result FieldContent Wrong → Result Content DraftFaultKind
 drawn_told count (Ok d) = Ok (content_drawn count d)
 drawn_told count (Err why) = Err (item_fault_of why)
 
--- a text that a field has room for, and that does not read as missing
+-- a text that the field has room for, and that does not read as missing
 abbrev pub HasRoom : (count : ℕ) → List ℕ → Type 0
 HasRoom count octets =
     (length octets ≤ count) × (list_all (λ octet. octet == 255) (spaced count octets) ≡ false)
 
--- what can be drawn for a field
+-- the contents that a field can have
 abbrev pub IsDrawn : FieldSpec → FieldContent → Type 0
 IsDrawn spec (drawn.Number raw) =
     (is_character spec.kind ≡ false) × (is_reference spec.role ≡ false)
@@ -52,7 +55,7 @@ IsDrawn spec drawn.Missing = (is_reference spec.role ≡ false) × (spec.may_be_
 IsDrawn spec (drawn.Reference value) =
     (is_reference spec.role ≡ true) × (unsigned_abs value < 2 ^ (spec.width - 1))
 
--- a text of so many octets
+-- a content that is this text, for a field of `count` octets
 abbrev pub IsTextOf : (count : ℕ) → List ℕ → FieldContent → Type 0
 IsTextOf count octets (drawn.Text t) = (t.now ≡ octets) × HasRoom count octets
 IsTextOf count octets _ = ⊥

@@ -1,4 +1,4 @@
--- What an encoder makes of items that are given one after another. (a choice of this project)
+-- The writing of items that come one after another. (a choice of this project)
 -- Cited by public contracts.
 use Rattle.std.specs.Prelude.{Bool, List, [], ◌∷◌, ◌++◌, Result, Ok, Err}
 use Rattle.bufr_walk.specs.declared.spec.TurnRefusal.{TurnRefusal}
@@ -6,16 +6,17 @@ use Rattle.bufr_walk.specs.declared.spec.Taken.{Taken}
 use Rattle.bufr_walk.specs.FieldSpec.{FieldSpec}
 use Rattle.bufr_walk.specs.Course.{Course, Next, take_next, at_end, astray, refused}
 
--- what an item is written as: its content, and the bits
+-- an item that was written: its content and its bits
 pub record WrittenItem (C : Type 0) : Type 0 where
   pub content : C
   pub bits : List Bool
 
+-- a written item from its parts
 abbrev pub written_item : {C : Type 0} → C → List Bool → WrittenItem C
 written_item content bits = record { content = content; bits = bits }
 
--- how drafts D become contents C with their bits, and what is at fault with the faults E: with a
--- draft at its field, where there is none, with one too many, and where the walk is refused
+-- how drafts D are written as contents C and their bits, and the faults E: of a draft at its field,
+-- of no draft, of one too many, and of a refused walk
 pub record Filler (D C E : Type 0) : Type 0 where
   pub fills : FieldSpec → D → Result (WrittenItem C) E
   pub tells : FieldSpec → C → Taken
@@ -26,25 +27,25 @@ pub record Filler (D C E : Type 0) : Type 0 where
   pub lost : E
 
 module _ {D C E : Type 0} (filler : Filler D C E) where
-  -- a written item, and what is written behind it
+  -- bits, followed by the bits of the rest
   abbrev pub and_behind : List Bool → Result (List Bool) E → Result (List Bool) E
   and_behind bits (Err why) = Err why
   and_behind bits (Ok behind) = Ok (bits ++ behind)
 
-  -- one item that was filled, and the rest
+  -- one item that was written, and the rest
   abbrev pub filled : FieldSpec → Result (WrittenItem C) E → (Taken → Result (List Bool) E)
       → Result (List Bool) E
   filled spec (Err why) rest = Err why
   filled spec (Ok w) rest = and_behind w.bits (rest (filler.tells spec w.content))
 
-  -- where there is a draft
+  -- what comes next, where there is a draft
   abbrev pub fill_one : Next → D → (Taken → Result (List Bool) E) → Result (List Bool) E
   fill_one (take_next spec) d rest = filled spec (filler.fills spec d) rest
   fill_one at_end d rest = Err (filler.left_over d)
   fill_one (refused why) d rest = Err (filler.refused_at d why)
   fill_one astray d rest = Err filler.lost
 
-  -- where there is none
+  -- what comes next, where there is no draft
   abbrev pub fill_none : Next → Result (List Bool) E
   fill_none (take_next spec) = Err (filler.none_left spec)
   fill_none at_end = Ok []

@@ -1,4 +1,4 @@
--- The items that the code hands over, as the definitions name them.
+-- The items of the code, as the definitions name them.
 -- Cited by public contracts.
 use Rattle.bufr_fill.specs.declared.draft.DraftValue.{DraftValue}
 use Rattle.bufr_fill.specs.declared.draft.DraftValue.TheVariants as form
@@ -10,15 +10,18 @@ use Rattle.bufr_fill.specs.declared.draft.DraftEntry.TheVariants as entry
 use Rattle.bufr_fill.specs.Entries.{Holds, Ends}
 use Rattle.bufr_fill.specs.Entries as entries
 
+-- the value of an item
 abbrev pub form_in : DraftValue → drafts.DraftValue
 form_in (form.Number digits) = number_token digits.now
 form_in (form.Text octets) = text_form octets.now
 form_in form.Missing = missing_form
 form_in (form.Reference digits) = reference_token digits.now
 
+-- an item
 abbrev pub draft_in : DraftItem → Draft
 draft_in item = draft item.line item.fxy (form_in item.form)
 
+-- an entry
 abbrev pub entry_in : DraftEntry → entries.DraftEntry
 entry_in (entry.Item item) = Holds (draft_in item)
 entry_in (entry.End line) = Ends line

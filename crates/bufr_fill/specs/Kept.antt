@@ -1,4 +1,4 @@
--- How entries are kept: a block of octets for tokens and texts, and each entry's places in it.
+-- The stored entries: a block of octets for tokens and texts, and the indices of each entry in it.
 -- Cited by private steps only.
 use Rattle.std.specs.Prelude.{ℕ, ◌≤◌, Bool, true, false, List, map, slice_range}
 use Rattle.std.specs.List.{AllByRecursion}
@@ -17,14 +17,15 @@ entry_by kind.Missing line fxy octets = Holds (draft line fxy missing_form)
 entry_by kind.Reference line fxy octets = Holds (draft line fxy (reference_token octets))
 entry_by kind.End line fxy octets = Ends line
 
--- the entry that is kept
+-- the entry of a stored one
 abbrev pub entry_kept : List ℕ → StoredEntry → DraftEntry
 entry_kept octets k = entry_by k.kind k.line k.fxy (slice_range octets k.start k.end)
 
--- and as it was found there
+-- the entry of a reference to it
 abbrev pub entry_found : EntryRef → DraftEntry
 entry_found f = entry_by f.kind f.line f.word f.octets.now
 
+-- the entries of all stored ones
 abbrev pub entries_kept : List ℕ → List StoredEntry → List DraftEntry
 entries_kept octets kept = map (entry_kept octets) kept
 
@@ -33,9 +34,10 @@ abbrev pub is_end : DraftEntry → Bool
 is_end (Holds d) = false
 is_end (Ends line) = true
 
--- the places of an entry are in order and inside the block
+-- the indices of an entry are in order and inside the block
 abbrev pub IsEntryInside : ℕ → StoredEntry → Type 0
 IsEntryInside size k = (k.start ≤ k.end) × (k.end ≤ size)
 
+-- the same of all entries
 abbrev pub AreInside : ℕ → List StoredEntry → Type 0
 AreInside size kept = AllByRecursion (IsEntryInside size) kept

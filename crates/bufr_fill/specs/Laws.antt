@@ -1,4 +1,4 @@
--- What the laws on writing have in common.
+-- Definitions that the laws on writing share.
 -- Cited by public contracts.
 use Rattle.std.specs.Prelude.{◌≡◌, Bool, List, ◌++◌}
 use Rattle.bufr_tables.specs.Legal.{IsLegal}
@@ -9,7 +9,7 @@ use Rattle.bufr_walk.specs.Course.{Course, next_item}
 use Rattle.bufr_walk.specs.Taking.{TakenField, course_after}
 use Rattle.bufr_fill.specs.Filling.{Filler, fill, and_behind}
 
--- a law holds of what comes next, by each Table B that can be read and each template of legal nodes
+-- a law holds of the course of each template of legal nodes, by each Table B that can be read
 abbrev pub OfTemplates : (Course → Type 0) → Type 0
 OfTemplates law =
     (records : List Record) (table : List Row) (template : Tree) → AreRows records table

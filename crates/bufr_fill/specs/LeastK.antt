@@ -1,5 +1,5 @@
--- The k with which an item of compressed data is packed (WMO-No. 306, Volume I.2, FM 94: section 4,
--- compression; that it is the least is a choice of this project).
+-- The k of a packed item. (WMO-No. 306, Volume I.2, FM 94: section 4, compression; that it is the
+-- least is a choice of this project)
 -- Cited by public contracts.
 use Rattle.std.specs.Prelude.{◌≡◌, ℕ, ◌+◌, ◌≤◌, Bool, List, ◌++◌, length, take, drop, Ok}
 use Rattle.bufr_bits.specs.Bits.{number_of}
@@ -9,12 +9,12 @@ use Rattle.bufr_walk.specs.PlainField.{found}
 use Rattle.bufr_walk.specs.PackedField.{packed_field}
 use Rattle.bufr_fill.specs.Packing.{packing}
 
--- the k of an item: the number of the six bits behind its base
+-- the k of an item: the number of the six bits after its base
 abbrev pub k_of : FieldSpec → List Bool → ℕ
 k_of spec bits = number_of (take 6 (drop spec.width bits))
 
--- the contents of an item for n subsets are packed in bits from which they are read again; and
--- whatever bits they are read from, these have no lesser k, and are no fewer
+-- the contents of an item for n subsets are packed in bits that they are read from again; any other
+-- bits that they are read from have no lesser k, and are no fewer
 pub record HasLeastK (n : ℕ) (spec : FieldSpec) (contents : List Content) : Type 0 where
   pub out : List Bool
   pub is : packing spec contents ≡ Ok out

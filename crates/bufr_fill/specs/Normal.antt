@@ -7,12 +7,12 @@ use Rattle.bufr_bits.specs.declared.decimal.NumberFault.{NumberFault}
 use Rattle.bufr_walk.specs.FieldSpec.{FieldSpec}
 use Rattle.bufr_fill.specs.Draft.{DraftValue, number_token, text_form, missing_form, reference_token}
 
--- the text of a decimal that was read at a scale; what is none stays
+-- the text that a dump writes for a decimal at a scale; a text that is no decimal stays
 abbrev pub decimal_again : List ℕ → ℤ → Result ℤ NumberFault → List ℕ
 decimal_again digits scale (Ok value) = decimal_text_of value scale
 decimal_again digits scale (Err why) = digits
 
--- a number by its value at the field's scale, a text with spaces up to the field's octets
+-- a number by its value at the field's scale, and a text with spaces up to the field's octets
 abbrev pub normal_form : FieldSpec → DraftValue → DraftValue
 normal_form spec (number_token digits) =
     number_token (decimal_again digits spec.scale (decimal_value_of digits spec.scale))

@@ -1,5 +1,5 @@
--- What a change of form says: data that were read in one form, and the bits that are written from
--- their dump in the other. (a choice of this project)
+-- A change of form: data that were read in one form, and written in the other from their dump. (a
+-- choice of this project)
 -- Cited by public contracts.
 use Rattle.std.specs.Prelude.{◌≡◌, ◌⊎◌, ℕ, zero, suc, Bool, List, [], ◌∷◌, ◌++◌, length, Ok, Err}
 use Rattle.bufr_walk.specs.Content.{Content}
@@ -10,21 +10,22 @@ use Rattle.bufr_fill.specs.Encoding.{plain_data, packed_data}
 use Rattle.bufr_fill.specs.Fault.{DraftFaultKind, unequal_factors, uneven_increment, FaultAt}
 use Rattle.bufr_fill.specs.WrittenAgain.{items_of_subset}
 
--- so many subsets of compressed data, from one on, counted from 0, each with items of its own
+-- the items of `left` subsets of compressed data, each subset by itself; `subset` is the first of
+-- them, from 0
 abbrev pub subsets_from : (left subset : ℕ) → List (Item (List Content))
     → List (List (Item Content))
 subsets_from zero j items = []
 subsets_from (suc left) j items = items_of_subset j items ∷ subsets_from left (suc j) items
 
--- a fault of contents that compressed data cannot hold: factors that differ, or contents that no
--- increments tell apart
+-- a fault of contents that compressed data cannot have: factors that differ, or contents that no
+-- increments can write
 abbrev pub IsUnlike : DraftFaultKind → Type 0
 IsUnlike unequal_factors = Unit {0}
 IsUnlike uneven_increment = Unit {0}
 IsUnlike _ = ⊥
 
--- items of n subsets that were read together are written subset after subset, to bits from which
--- each subset's items are read
+-- the items of n compressed subsets are written subset after subset, and each subset's items are
+-- read from the bits
 pub record IsWrittenApart (n : ℕ) (course : Course) (items : List (Item (List Content)))
     (drafts : List Subset) : Type 0 where
   pub out : List Bool
@@ -32,8 +33,8 @@ pub record IsWrittenApart (n : ℕ) (course : Course) (items : List (Item (List 
   pub again : (more : List Bool)
       → IsPlainReading n course (subsets_from n 0 items) (out ++ more) more
 
--- items that were read subset after subset are written together, to bits from which the items of
--- each subset are read
+-- the items of subsets that are not compressed are written together, and the items of each subset
+-- are read from the bits
 pub record IsWrittenTogether (course : Course) (subsets : List (List (Item Content)))
     (drafts : List Subset) : Type 0 where
   pub items : List (Item (List Content))
@@ -42,12 +43,13 @@ pub record IsWrittenTogether (course : Course) (subsets : List (List (Item Conte
   pub is : packed_data course drafts ≡ Ok out
   pub again : (more : List Bool) → IsPackedReading (length subsets) course items (out ++ more) more
 
--- they cannot be written together
+-- these items cannot be written together
 pub record IsUnwritten (course : Course) (drafts : List Subset) : Type 0 where
   pub why : FaultAt
   pub is : packed_data course drafts ≡ Err why
   pub unlike : IsUnlike why.fault
 
+-- the items are written together, or cannot be
 abbrev pub IsTogetherOrNot : Course → List (List (Item Content)) → List Subset → Type 0
 IsTogetherOrNot course subsets drafts =
     IsWrittenTogether course subsets drafts ⊎ IsUnwritten course drafts

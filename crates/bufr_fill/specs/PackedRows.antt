@@ -1,4 +1,4 @@
--- What all subsets give at one place, as the code looks at it.
+-- The rows of all subsets, as the code reads them.
 -- Cited by private steps only.
 use Rattle.std.specs.Prelude.{ℕ, zero, suc, ◌≡◌, ◌++◌, List, [], ◌∷◌, length, drop, map, slice_get, Option, Some, None, Result, Ok, Err}
 use Rattle.bufr_fill.specs.declared.fault.DraftFault.{DraftFault}
@@ -15,42 +15,44 @@ use Rattle.bufr_fill.specs.PlainOut.{IfDraftFault}
 use Rattle.bufr_fill.specs.Kept.{entry_found}
 use Rattle.bufr_fill.specs.DraftFaults.{draft_fault}
 
--- where a subset's entries begin, by where the subsets end
+-- the index where a subset's entries begin, by the indices of the ends
 abbrev pub begin_of : (from : ℕ) → List ℕ → (subset : ℕ) → ℕ
 begin_of from ends zero = from
 begin_of from [] (suc subset) = from
 begin_of from (e ∷ ends) (suc subset) = begin_of (suc e) ends subset
 
--- a subset's entry at a place: its item, or its end
+-- a subset's entry in a row: its item, or its end
 abbrev pub entry_or_end : Option Draft → (end_line : ℕ) → DraftEntry
 entry_or_end (Some d) end_line = Holds d
 entry_or_end None end_line = Ends end_line
 
+-- the entry of a cell
 abbrev pub cell_entry : RowCell → DraftEntry
 cell_entry c = entry_or_end c.draft c.end_line
 
--- what an entry gives
+-- the content of an entry, or its fault
 abbrev pub entry_here : FieldSpec → DraftEntry → Result Content FaultAt
 entry_here spec (Holds d) = content_here spec (Some d) d.line
 entry_here spec (Ends line) = content_here spec None line
 
+-- the line of an entry
 abbrev pub entry_line : DraftEntry → ℕ
 entry_line (Holds d) = d.line
 entry_line (Ends line) = line
 
--- an entry was drawn, or the fault that was told is the definition's
+-- the content of an entry is the one expected, or its fault is
 abbrev pub ReturnsContent : (count : ℕ) → FieldSpec → Result Content FaultAt
     → Result FieldContent DraftFault → Type 0
 ReturnsContent count spec expected (Ok d) = (expected ≡ Ok (content_drawn count d)) × IsDrawn spec d
 ReturnsContent count spec expected (Err e) = IfDraftFault (draft_fault e) (λ f. expected ≡ Err f)
 
--- an entry is that of a subset at a place
+-- an entry is that of a subset in a row
 abbrev pub IsAt : (place subset : ℕ) → List DraftEntry → DraftEntry → Type 0
 IsAt place subset entries e =
     (c : RowCell) → slice_get (cells_at place (subsets_of entries)) subset ≡ Some c → e
     ≡ cell_entry c
 
--- the line that it stands on
+-- the line of that entry
 pub record LineAt (place subset : ℕ) (entries : List DraftEntry) (line : ℕ) : Type 0 where
   pub e : DraftEntry
   pub there : IsAt place subset entries e
@@ -60,20 +62,22 @@ pub record LineAt (place subset : ℕ) (entries : List DraftEntry) (line : ℕ) 
 abbrev pub AreFound : List RowCell → List EntryRef → Type 0
 AreFound cells found = map entry_found found ≡ map cell_entry cells
 
+-- each content is one that the field can have
 abbrev pub AllDrawn : FieldSpec → List FieldContent → Type 0
 AllDrawn spec [] = Unit {0}
 AllDrawn spec (d ∷ ds) = IsDrawn spec d × AllDrawn spec ds
 
+-- the contents, whose texts have `count` octets
 abbrev pub contents_drawn : (count : ℕ) → List FieldContent → List Content
 contents_drawn count [] = []
 contents_drawn count (d ∷ ds) = content_drawn count d ∷ contents_drawn count ds
 
--- contents in front of others, up to a fault
+-- contents before others, or the fault of these
 abbrev pub in_front : List Content → Result (List Content) FaultAt → Result (List Content) FaultAt
 in_front cs (Ok more) = Ok (cs ++ more)
 in_front cs (Err f) = Err f
 
--- so many cells were drawn
+-- the first `number` cells were converted
 pub record IsGathering (count : ℕ) (spec : FieldSpec) (cells : List RowCell) (number : ℕ)
     (drawn : List FieldContent) : Type 0 where
   pub so : contents_here spec cells
@@ -81,7 +85,7 @@ pub record IsGathering (count : ℕ) (spec : FieldSpec) (cells : List RowCell) (
   pub all : AllDrawn spec drawn
   pub many : length drawn ≡ number
 
--- all were drawn, or the first fault was told
+-- all cells were converted, or the first fault was returned
 abbrev pub ReturnsRow : (count : ℕ) → FieldSpec → List RowCell → List FieldContent
     → Result (Unit {0}) DraftFault → Type 0
 ReturnsRow count spec cells drawn (Ok _) =
@@ -90,7 +94,7 @@ ReturnsRow count spec cells drawn (Ok _) =
 ReturnsRow count spec cells drawn (Err e) =
     IfDraftFault (draft_fault e) (λ f. contents_here spec cells ≡ Err f)
 
--- the line of the first subset, from one on, whose content is not the first one's
+-- the line of the first cell that is left and whose content is not the first of all
 abbrev pub unlike_from : (all left : List Content) → List RowCell → ℕ
 unlike_from [] left cells = 0
 unlike_from (c ∷ cs) left cells = first_unlike c left cells

@@ -1,6 +1,6 @@
--- How the contents of one item are packed for all subsets: the least base, and the least k (WMO-No.
--- 306, Volume I.2, FM 94: section 4, compression; that both are the least is a choice of this
--- project).
+-- The packing of the contents of one item for all subsets: the least base, and the least k.
+-- (WMO-No. 306, Volume I.2, FM 94: section 4, compression; that both are the least is a choice of
+-- this project)
 -- Cited by public contracts.
 use Rattle.std.specs.Prelude.{ℕ, zero, suc, ◌+◌, ◌-◌, ◌*◌, ◌^◌, ◌==◌, ◌&&◌, nat_lt, nat_le, min, not, Bool, true, false, if◌then◌else◌, List, [], ◌∷◌, ◌++◌, take, replicate, length, Option, Some, None, unwrap_or, nat_abs, Result, Ok, Err}
 use Rattle.std.specs.List.{list_all, flat_map}
@@ -14,16 +14,18 @@ use Rattle.bufr_walk.specs.Content.{Content, number, text, missing, reference, b
 use Rattle.bufr_walk.specs.PlainField.{FieldFault, increment, unequal_factor}
 use Rattle.bufr_walk.specs.PackedField.{ones}
 
--- the numbers that so many bits can write, but for all ones where that is missing: those below this
+-- the limit of the numbers that `width` bits write, without all ones where that is missing
 abbrev pub raw_limit : (may_be_missing : Bool) (width : ℕ) → ℕ
 raw_limit m width = if m then ones width else 2 ^ width
 
+-- whether two texts are the same
 abbrev pub same_octets : List ℕ → List ℕ → Bool
 same_octets [] [] = true
 same_octets [] (y ∷ ys) = false
 same_octets (x ∷ xs) [] = false
 same_octets (x ∷ xs) (y ∷ ys) = (x == y) && same_octets xs ys
 
+-- whether two signs are the same
 abbrev pub same_sign : Bool → Bool → Bool
 same_sign true b = b
 same_sign false b = not b
@@ -40,37 +42,40 @@ same _ _ = false
 abbrev pub are_same : Content → List Content → Bool
 are_same c cs = list_all (same c) cs
 
+-- the lesser of a number and of another, if there is one
 abbrev pub smaller : ℕ → Option ℕ → ℕ
 smaller n None = n
 smaller n (Some m) = min n m
 
--- the least of the numbers that are there
+-- the least number among contents, if there is one
 abbrev pub lowest : List Content → Option ℕ
 lowest [] = None
 lowest (number n ∷ cs) = Some (smaller n (lowest cs))
 lowest (_ ∷ cs) = lowest cs
 
--- whether a content's increment over a base has k bits, not all of them ones where that is missing
+-- whether a content's increment over a base has k bits, and is not all ones where that is missing
 abbrev pub has_bits : Bool → (base k : ℕ) → Content → Bool
 has_bits m base k (number n) = nat_lt (n - base) (raw_limit m k)
 has_bits m base k _ = true
 
--- whether k octets of a text, and spaces behind them, give it again, and not as missing
+-- whether the first k octets of a text, followed by spaces, are the text again, and do not read as
+-- missing
 abbrev pub gives_again : (k : ℕ) → List ℕ → Bool
 gives_again k octets =
     same_octets (take k octets ++ replicate (length octets - k) 32) octets
     && not (list_all (λ octet. octet == 255) (take k octets))
 
+-- the same of a content that is a text
 abbrev pub has_octets : (k : ℕ) → Content → Bool
 has_octets k (text octets) = gives_again k octets
 has_octets k _ = true
 
--- the first number from one on, of so many, that passes
+-- the first number from one on, of so many, that passes a test
 abbrev pub first_from : (ℕ → Bool) → ℕ → ℕ → ℕ
 first_from p zero k = k
 first_from p (suc fuel) k = if p k then k else first_from p fuel (k + 1)
 
--- the least k, from 1 to 63, that all of them pass, or 64
+-- the least k, from 1 to 63, that all contents pass, or 64
 abbrev pub least_k : (ℕ → Content → Bool) → List Content → ℕ
 least_k passes cs = first_from (λ k. list_all (passes k) cs) 63 1
 
@@ -93,6 +98,7 @@ abbrev pub packed_numbers : (width base k : ℕ) → List Content → List Bool
 packed_numbers width base k cs =
     packed_bits (bits_in base width) k (flat_map (increment_bits base k) cs)
 
+-- numbers that differ, over a base, with the least k
 abbrev pub numbers_over : (m : Bool) (width base : ℕ) → List Content → List Bool
 numbers_over m width base cs = packed_numbers width base (least_k (has_bits m base) cs) cs
 
@@ -102,11 +108,12 @@ packed_texts width k cs =
     if nat_le k 63
     then Ok (packed_bits (replicate width false) k (flat_map (octet_bits k) cs)) else Err increment
 
+-- contents that differ, by kind
 abbrev pub packed_by : Kind → FieldSpec → List Content → Result (List Bool) FieldFault
 packed_by kind.Character spec cs = packed_texts spec.width (least_k has_octets cs) cs
 packed_by _ spec cs = Ok (numbers_over spec.may_be_missing spec.width (unwrap_or (lowest cs) 0) cs)
 
--- contents that differ: counts and references may not
+-- contents that differ, by role: counts and references must not
 abbrev pub packed_unlike : Role → FieldSpec → List Content → Result (List Bool) FieldFault
 packed_unlike role.Factor spec cs = Err unequal_factor
 packed_unlike role.Reference spec cs = Err increment

@@ -26,50 +26,53 @@ abbrev pub spread : (base : ℕ) → List FieldContent → ℕ
 spread base [] = 0
 spread base (d ∷ ds) = max (over_of base d) (spread base ds)
 
--- the lesser of two numbers that may be there
+-- the lesser of two numbers, where there are any
 abbrev pub lesser : Option ℕ → Option ℕ → Option ℕ
 lesser None o = o
 lesser (Some n) o = Some (smaller n o)
 
+-- the number of a content, if it is one
 abbrev pub number_in : FieldContent → Option ℕ
 number_in (drawn.Number n) = Some n
 number_in _ = None
 
--- the least k from some k on, under 64, whose bits write an increment
+-- the least k from some k on, under 64, whose bits write an increment, else 64
 unfoldable pub least_from : (may_be_missing : Bool) (spread from : ℕ) → ℕ
 least_from m spread from = first_from (λ k. nat_lt spread (raw_limit m k)) (64 - from) from
 
--- the octets of a text without the spaces at its end
+-- how many octets of a text come before the spaces at its end
 abbrev pub trimmed : List ℕ → ℕ
 trimmed [] = 0
 trimmed (o ∷ os) = if (trimmed os == 0) && (o == 32) then 0 else suc (trimmed os)
 
--- how many octets tell a text: those before the spaces at its end, and one more where these read as
--- missing
+-- how many octets determine a text: those before the spaces at its end, and one more where these
+-- read as missing
 abbrev pub need : List ℕ → ℕ
 need os =
     if list_all (λ octet. octet == 255) (take (trimmed os) os) then suc (trimmed os) else trimmed os
 
+-- how many octets determine a content
 abbrev pub need_of : FieldContent → ℕ
 need_of (drawn.Text octets) = need octets.now
 need_of _ = 1
 
+-- how many octets determine each of the contents
 abbrev pub most_need : List FieldContent → ℕ
 most_need [] = 1
 most_need (d ∷ ds) = max (need_of d) (most_need ds)
 
--- the octet at a place of a text that spaces follow
+-- the octet at an index of a text that spaces follow
 abbrev pub octet_in : List ℕ → ℕ → ℕ
 octet_in [] i = 32
 octet_in (o ∷ os) zero = o
 octet_in (o ∷ os) (suc i) = octet_in os i
 
--- what stood there stands, and more may stand behind it
+-- the bits before are a prefix of those after
 abbrev pub ExtendsBits : (old new : List Bool) → Type 0
 ExtendsBits old new = (more : List Bool) × (new ≡ old ++ more)
 
--- an item was packed in at most so many bits, or it cannot be; want of memory may leave some of its
--- bits behind the earlier ones
+-- an item was packed in at most `most` bits, or it cannot be; where memory ran out some of its
+-- bits may follow the earlier ones
 abbrev pub PacksItem : (old new : List Bool) → (expected : Result (List Bool) FieldFault)
     → (most : ℕ) → Result (Unit {0}) PackingFault → Type 0
 PacksItem old new expected most (Ok _) =
@@ -80,26 +83,29 @@ PacksItem old new expected most (Err unpacked.Unequal) =
 PacksItem old new expected most (Err unpacked.Uneven) = (expected ≡ Err increment) × (new ≡ old)
 PacksItem old new expected most (Err unpacked.Memory) = ExtendsBits old new
 
--- an increment over a base that so many bits can write
+-- a content's increment over a base fits k bits
 abbrev pub FitsIncrement : (base k : ℕ) → FieldContent → Type 0
 FitsIncrement base k (drawn.Number raw) = raw - base < 2 ^ k
 FitsIncrement base k _ = Unit {0}
 
+-- the same of all contents
 abbrev pub AreShort : (base k : ℕ) → List FieldContent → Type 0
 AreShort base k [] = Unit {0}
 AreShort base k (d ∷ ds) = FitsIncrement base k d × AreShort base k ds
 
--- the item of all subsets at a place was written, in at most so many bits, or it is at fault, or
--- memory ran out
+-- the fault of an item of all subsets that was not written; where memory ran out some of its bits
+-- may be
 abbrev pub PutFault : Option FaultAt → (old new : List Bool) → FieldSpec → ItemRow → Type 0
 PutFault None old new spec a = ExtendsBits old new
 PutFault (Some f) old new spec a = (pack_across spec a ≡ Err f) × (new ≡ old)
 
+-- the item of all subsets in a row was written, in at most `most` bits
 pub record IsPutWithin (old new : List Bool) (spec : FieldSpec) (a : ItemRow) (most : ℕ)
     (t : Taken) : Type 0 where
   pub put : IsPutAcross old new spec a t
   pub few : length put.item ≤ most
 
+-- such an item was written, or it is at fault, or memory ran out
 abbrev pub PutAcross : (old new : List Bool) → FieldSpec → ItemRow → (most : ℕ)
     → Result Taken DraftFault → Type 0
 PutAcross old new spec a most (Ok t) = IsPutWithin old new spec a most t

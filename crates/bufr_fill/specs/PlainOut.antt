@@ -1,5 +1,5 @@
--- Fields that are written from the items of a dump text, one subset after another. (a choice of
--- this project)
+-- The writer of data that are not compressed, from the items of a dump text. (a choice of this
+-- project)
 -- Cited by public contracts.
 use Rattle.std.specs.Prelude.{ℕ, ◌≡◌, ◌≤◌, ◌<◌, ◌*◌, ◌^◌, Bool, List, [], ◌∷◌, ◌++◌, length, Option, Some, None, Result, Ok, Err}
 use Rattle.bufr_walk.specs.declared.spec.Taken.{Taken}
@@ -13,15 +13,16 @@ use Rattle.bufr_fill.specs.Fault.{DraftFaultKind, FaultAt, at_line, item_too_man
 use Rattle.bufr_fill.specs.DraftContent.{content_of, wrong_for}
 use Rattle.bufr_fill.specs.DraftFaults.{draft_fault}
 
--- the entries that are left, and the bits that were written
+-- the writer: the entries that are left, and the bits that were written
 pub record PlainOutModel : Type 0 where
   pub left : List DraftEntry
   pub bits : List Bool
 
+-- a writer from its parts
 abbrev pub plain_out_model : List DraftEntry → List Bool → PlainOutModel
 plain_out_model left bits = record { left = left; bits = bits }
 
--- what the writer keeps: so many entries of so many were taken, each for at most 2,040 bits
+-- what holds of a writer: `place` of `count` entries were taken, each for at most 2,040 bits
 pub record IsPlainOut (place count bits : ℕ) : Type 0 where
   pub within : place ≤ count
   pub few : count ≤ 2 ^ 45
@@ -38,32 +39,32 @@ pub record IsFilled (s : PlainOutModel) (spec : FieldSpec) (t : Taken)
   pub bits : s'.bits ≡ s.bits ++ bits_for spec.width content
   pub forth : length s.bits < length s'.bits
 
--- the fault of the next item, or of the line that ends the subset; behind the last subset there is
--- no line
+-- the fault of the next item, or of the line that ends the subset; after the last subset the line
+-- is 0
 abbrev pub IsFaultOf : FieldSpec → List DraftEntry → FaultAt → Type 0
 IsFaultOf spec [] f = f ≡ at_line 0 (wrong_for spec)
 IsFaultOf spec (Ends line ∷ more) f = f ≡ at_line line (wrong_for spec)
 IsFaultOf spec (Holds d ∷ more) f =
     (why : DraftFaultKind) × (content_of spec d ≡ Err why) × (f ≡ at_line d.line why)
 
--- where a fault of the text is told, it is so; want of memory is none
+-- a property of the fault, where it is one of the dump text and not that memory ran out
 abbrev pub IfDraftFault : Option FaultAt → (FaultAt → Type 0) → Type 0
 IfDraftFault None p = Unit {0}
 IfDraftFault (Some f) p = p f
 
--- one call: the next item was written, or it is at fault, or memory ran out; then nothing is
--- changed
+-- one call: the next item was written, or it is at fault, or memory ran out; a fault changes
+-- nothing
 abbrev pub PlainFills : PlainOutModel → FieldSpec → Result Taken DraftFault → PlainOutModel → Type 0
 PlainFills s spec (Ok t) s' = IsFilled s spec t s'
 PlainFills s spec (Err e) s' = IfDraftFault (draft_fault e) (IsFaultOf spec s.left) × (s' ≡ s)
 
--- the line of the next entry, 0 behind the last
+-- the line of the next entry, 0 after the last
 abbrev pub line_at : List DraftEntry → ℕ
 line_at [] = 0
 line_at (Holds d ∷ more) = d.line
 line_at (Ends line ∷ more) = line
 
--- what is left behind the end of a subset, where it is next
+-- the entries after the end of a subset, where the end is next
 abbrev pub behind_end : List DraftEntry → Result (List DraftEntry) FaultAt
 behind_end [] = Err (at_line 0 item_too_many)
 behind_end (Holds d ∷ more) = Err (at_line d.line item_too_many)
@@ -83,12 +84,13 @@ IsFaultNext (refused why) left f = f ≡ at_line (line_at left) (walk_refused wh
 IsFaultNext at_end left f = (1 ≤ length left) × (behind_end left ≡ Err f)
 IsFaultNext astray left f = ⊥
 
--- the items of the next subset, and the line that ends it; behind the last there is none
+-- the items of the next subset
 abbrev pub items_left : List DraftEntry → List Draft
 items_left [] = []
 items_left (Holds d ∷ more) = d ∷ items_left more
 items_left (Ends line ∷ more) = []
 
+-- the line that ends the next subset; after the last subset it is 0
 abbrev pub end_left : List DraftEntry → ℕ
 end_left [] = 0
 end_left (Holds d ∷ more) = end_left more

@@ -1,5 +1,5 @@
--- What the round trip of data says: a reading, its dump, and the bits that are written from it. (a
--- choice of this project)
+-- The round trip of data: a reading, its dump, and the bits that are written from it. (a choice of
+-- this project)
 -- Cited by public contracts.
 use Rattle.std.specs.Prelude.{◌≡◌, ℕ, suc, ◌+◌, ◌≤◌, Bool, List, [], ◌∷◌, ◌++◌, length, Ok}
 use Rattle.bufr_walk.specs.Course.{Course}
@@ -11,26 +11,26 @@ use Rattle.bufr_fill.specs.DraftContent.{draft_value_of}
 use Rattle.bufr_fill.specs.Entries.{Subset}
 use Rattle.bufr_fill.specs.Encoding.{plain_data, packed_data}
 
--- a draft is the one that a dump writes for an item, on some line
+-- a draft is the one that a dump writes for an item, on any line
 abbrev pub IsDumped : Item Content → Draft → Type 0
 IsDumped i d = (d.fxy ≡ i.spec.fxy) × (d.form ≡ draft_value_of i.spec i.content)
 
--- the drafts are those of the items, one by one
+-- the drafts belong to the items, one by one
 abbrev pub AreDrafts : {C D : Type 0} → (Item C → D → Type 0) → List (Item C) → List D → Type 0
 AreDrafts of_item [] [] = Unit {0}
 AreDrafts of_item [] (d ∷ ds) = ⊥
 AreDrafts of_item (i ∷ items) [] = ⊥
 AreDrafts of_item (i ∷ items) (d ∷ ds) = of_item i d × AreDrafts of_item items ds
 
--- subset by subset
+-- the drafts are those of the dump, subset by subset
 abbrev pub AreDumped : List (List (Item Content)) → List Subset → Type 0
 AreDumped [] [] = Unit {0}
 AreDumped [] (s ∷ ss) = ⊥
 AreDumped (items ∷ subsets) [] = ⊥
 AreDumped (items ∷ subsets) (s ∷ ss) = AreDrafts IsDumped items s.items × AreDumped subsets ss
 
--- items that were read from bits are written again from the drafts of their dump: to bits with the
--- same reading, and no more of them
+-- items that were read from bits are written again from the drafts of their dump; the new bits have
+-- the same reading, and are no more
 pub record IsWrittenAgain (course : Course) (subsets : List (List (Item Content)))
     (drafts : List Subset) (bits behind : List Bool) : Type 0 where
   pub out : List Bool
@@ -38,6 +38,7 @@ pub record IsWrittenAgain (course : Course) (subsets : List (List (Item Content)
   pub again : (more : List Bool) → ReadsSubsets course subsets (out ++ more) more
   pub short : length out + length behind ≤ length bits
 
+-- the same of compressed data
 pub record IsPackedAgain (n : ℕ) (course : Course) (items : List (Item (List Content)))
     (drafts : List Subset) (bits behind : List Bool) : Type 0 where
   pub out : List Bool

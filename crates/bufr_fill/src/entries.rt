@@ -10,7 +10,7 @@ use bufr_tables::Fxy;
 use std::alloc::{AllocError, Global};
 use std::marker::Model;
 
-/// What a line has: an item of this form, or the end of a subset.
+/// The kind of a line: an item with a value of this form, or the end of a subset.
 #[derive(Clone, Copy)]
 enum EntryKind {
     Number,
@@ -20,7 +20,7 @@ enum EntryKind {
     End,
 }
 
-/// An entry as it is kept: its octets go from `start` to `end` of one block.
+/// A stored entry: its octets go from `start` to `end` of one block.
 #[derive(Clone, Copy)]
 struct StoredEntry {
     line: u64,
@@ -30,7 +30,7 @@ struct StoredEntry {
     kind: EntryKind,
 }
 
-/// The kind of a form, and the octets in it.
+/// The kind of a value, and its octets.
 #[inline(always)]
 fn parts_of<'a>(form: DraftValue<'a>) -> (EntryKind, &'a [u8])
     ensures { (line fxy : ℕ) → entry_by result.0 line fxy result.1.now
@@ -44,7 +44,7 @@ fn parts_of<'a>(form: DraftValue<'a>) -> (EntryKind, &'a [u8])
     }
 }
 
-/// An item of this form.
+/// The value of this kind.
 #[inline(always)]
 fn item<'a>(line: u64, fxy: Fxy, form: DraftValue<'a>) -> DraftEntry<'a>
     ensures { entry_in result ≡ Holds (draft line fxy (form_in form.entry)) }
@@ -52,7 +52,7 @@ fn item<'a>(line: u64, fxy: Fxy, form: DraftValue<'a>) -> DraftEntry<'a>
     DraftEntry::Item(DraftItem { line, fxy, form })
 }
 
-/// An entry as it was found among the others, with its octets.
+/// Reference to an entry, with its octets.
 #[derive(Clone, Copy)]
 pub(crate) struct EntryRef<'a> {
     octets: &'a [u8],
@@ -82,7 +82,7 @@ impl<'a> EntryRef<'a> {
     }
 }
 
-/// The entry that is kept, with its octets in this block.
+/// The stored entry, with its octets in this block.
 #[inline(always)]
 fn found_in<'a>(octets: &'a [u8], kept: StoredEntry) -> EntryRef<'a>
     requires { IsEntryInside (length octets.now) kept }
@@ -97,7 +97,7 @@ fn found_in<'a>(octets: &'a [u8], kept: StoredEntry) -> EntryRef<'a>
 }
 
 /// The items of all subsets and the lines that end them, one after another. Their tokens and texts
-/// stand in one block, so an entry takes 32 octets and those of its value.
+/// are in one block, so an entry takes 32 octets and those of its value.
 ///
 /// A contract sees the list of the entries.
 ///
@@ -143,7 +143,7 @@ impl Entries {
         }
     }
 
-    /// Drops all entries, and keeps their memory for others.
+    /// Drops all entries, and keeps their memory.
     pub fn clear(&mut self)
         ensures { self.new ≡ [] }
     {
@@ -151,11 +151,11 @@ impl Entries {
         self.kept.clear();
     }
 
-    /// One more item, behind the others.
+    /// Appends an item.
     ///
     /// # Errors
     ///
-    /// [`AllocError`] where the list could not grow; the entries are the same then.
+    /// [`AllocError`] where the list could not grow; then the entries do not change.
     #[inline(always)]
     pub fn push_item(&mut self, line: u64, fxy: Fxy, form: DraftValue<'_>) -> Result<(), AllocError>
         ensures item { OnOk result
@@ -176,11 +176,11 @@ impl Entries {
         Ok(())
     }
 
-    /// The end of a subset, behind the other entries.
+    /// Appends the end of a subset, by its line.
     ///
     /// # Errors
     ///
-    /// [`AllocError`] where the list could not grow; the entries are the same then.
+    /// [`AllocError`] where the list could not grow; then the entries do not change.
     pub fn push_end(&mut self, line: u64) -> Result<(), AllocError>
         ensures end { OnOk result (self.new ≡ self.old ++ Ends line ∷ []) }
         ensures same { OnErr result (self.new ≡ self.old) }
@@ -203,7 +203,7 @@ impl Entries {
         self.kept.len()
     }
 
-    /// The entry at a place, from 0, or `None` behind the last.
+    /// The entry at an index, from 0, or `None` after the last.
     #[inline(always)]
     pub fn get(&self, place: usize) -> Option<DraftEntry<'_>>
         ensures { option_map entry_in result ≡ slice_get self.now place }
@@ -211,8 +211,8 @@ impl Entries {
         Some(self.find(place)?.entry())
     }
 
-    /// The entry at a place, from 0, with its octets, or `None` behind the last. They are not
-    /// looked at.
+    /// The entry at an index, from 0, with its octets, or `None` after the last. Its octets are not
+    /// read.
     #[inline(always)]
     pub(crate) fn find(&self, place: usize) -> Option<EntryRef<'_>>
         ensures { option_map entry_found result ≡ slice_get self.now place }
@@ -224,7 +224,7 @@ impl Entries {
         }
     }
 
-    /// Whether the entry at a place is the end of a subset.
+    /// Whether the entry at an index is the end of a subset.
     pub(crate) fn is_end(&self, place: usize) -> bool
         requires { place < length self.now }
         ensures { Some result ≡ option_map is_end (slice_get self.now place) }

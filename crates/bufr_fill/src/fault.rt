@@ -1,11 +1,11 @@
-//! What can be wrong with the items of a dump text (the numbers and their order are a choice of
-//! this project).
+//! Faults in the items of a dump text. (Their numbers and their order are a choice of this
+//! project.)
 ghost use Rattle.std.specs.Prelude.{◌≡◌, Some};
 
 use bufr_tables::Fxy;
 use thiserror::Error;
 
-/// What should stand in place of an item.
+/// The expected item.
 #[derive(Clone, Copy, Debug, PartialEq, Eq)]
 pub enum Expected {
     /// An item with this descriptor.
@@ -19,29 +19,30 @@ pub enum Expected {
 /// Why an item cannot be written, with the number of its line, or of the line that ends its subset.
 #[derive(Clone, Copy, Debug, PartialEq, Eq, Error)]
 pub enum DraftFault {
-    /// Another item, or none, stands where this is expected.
+    /// Expected this item, found another or none.
     #[error("another item is expected")]
     WrongDescriptor(u64, Expected),
-    /// No decimal, or one that is not whole at the field's scale, or a form of another kind than
+    /// No decimal, or one that is not whole at the field's scale, or a value of another kind than
     /// the field.
     #[error("not a number of the field")]
     Number(u64),
-    /// It does not fit the field's bits, or would read as missing.
+    /// The number does not fit the field's bits, or would read as missing; or a text would read as
+    /// missing.
     #[error("out of range")]
     OutOfRange(u64),
-    /// A text with more octets than the field.
+    /// A text has more octets than the field.
     #[error("a text that is too long")]
     TextLong(u64),
-    /// A missing value where none may be.
+    /// A missing value is not allowed for the field.
     #[error("a missing value where none may be")]
     MissingForbidden(u64),
-    /// A factor of compressed data that is not that of the first subset.
+    /// A factor of compressed data differs from that of the first subset.
     #[error("a factor is not the same in all subsets")]
     UnequalFactor(u64),
-    /// Texts of compressed data that no increments can tell apart, or references that differ.
+    /// Texts of compressed data differ but no increments can write them, or references differ.
     #[error("no increments can tell the values apart")]
     Increment(u64),
-    /// Compressed data would have more than 134,217,728 values, with the item's descriptor.
+    /// Compressed data would have more than 134,217,728 values, at the item with this descriptor.
     #[error("too many values")]
     TooManyValues(u64, Fxy),
     /// Memory ran out.
@@ -53,7 +54,8 @@ impl DraftFault {
     ghost use Rattle.std.specs.Prelude.{◌≡◌};
     ghost use Rattle.bufr_fill.specs.DraftFaults.{number_of_draft_fault};
 
-    /// Its number: 51 to 55, 58, 59, 35 for too many values, and 73 for want of memory.
+    /// The number of this fault: 51 to 55, 58, 59, 35 for too many values, and 73 where memory ran
+    /// out.
     pub fn number(self) -> u8
         ensures { result ≡ number_of_draft_fault self }
     {
@@ -71,7 +73,7 @@ impl DraftFault {
     }
 }
 
-/// What is wrong with an item, its line aside.
+/// The fault of an item, without its line.
 #[derive(Clone, Copy)]
 pub(crate) enum Wrong {
     Descriptor(Expected),
@@ -86,7 +88,7 @@ impl Wrong {
     ghost use Rattle.bufr_fill.specs.Fault.{at_line};
     ghost use Rattle.bufr_fill.specs.DraftFaults.{draft_fault, item_fault_of};
 
-    /// The fault on a line.
+    /// The same fault with its line.
     pub(crate) fn at(self, line: u64) -> DraftFault
         ensures { draft_fault result ≡ Some (at_line line (item_fault_of self)) }
     {

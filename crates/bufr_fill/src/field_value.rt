@@ -1,4 +1,4 @@
-//! What an item of a dump text is as the content of a field.
+//! Converts an item of a dump text to the content of its field.
 ghost use Rattle.std.specs.Prelude.{◌≡◌, ◌≤◌, ◌<◌, ◌-ℤ◌, ◌-◌, ◌/◌, ◌^◌, ◌==◌, ◌++◌, false, pos, length, replicate, unsigned_abs, IfOk, OnOk, OnErr};
 ghost use Rattle.std.specs.List.{list_all};
 ghost use Rattle.bufr_bits.specs.DecimalValue.{decimal_value_of};
@@ -15,7 +15,7 @@ use crate::fault::{Expected, Wrong};
 use bufr_bits::{NumberFault, decimal_read};
 use bufr_walk::Spec;
 
-/// The content of a field.
+/// The content of a field, from an item.
 #[derive(Clone, Copy)]
 pub(crate) enum FieldContent<'a> {
     /// A number before its reference is added.
@@ -28,7 +28,7 @@ pub(crate) enum FieldContent<'a> {
     Reference(i64),
 }
 
-/// The numbers below this can be written in so many bits, all ones aside where that is missing.
+/// The limit of the numbers that `width` bits write, without all ones where that is missing.
 pub(crate) fn raw_limit(may_be_missing: bool, width: u32) -> u64
     requires narrow { width ≤ 63 }
     ensures { result ≡ raw_limit may_be_missing width }
@@ -40,7 +40,7 @@ pub(crate) fn raw_limit(may_be_missing: bool, width: u32) -> u64
     }
 }
 
-/// The number in the bits of a value, where they can write it and it does not read as missing.
+/// The number in the bits of a value, where it fits them and does not read as missing.
 #[inline(always)]
 fn raw_in(value: i128, spec: &Spec) -> Result<u64, Wrong>
     requires narrow { spec.now.width ≤ 63 }
@@ -76,7 +76,7 @@ fn raw_of_token(token: &[u8], spec: &Spec) -> Result<u64, Wrong>
     }
 }
 
-/// The reference of a token, where its magnitude fits the bits behind the sign.
+/// The reference of a token, where its magnitude fits the bits after the sign.
 fn reference_of_token(token: &[u8], spec: &Spec) -> Result<i64, Wrong>
     requires some { 1 ≤ spec.now.width }
     requires narrow { spec.now.width ≤ 63 }
@@ -103,7 +103,7 @@ pub(crate) fn is_all_255(octets: &[u8]) -> bool
     octets.iter().all(|octet| *octet == 255)
 }
 
-/// Whether a text, with spaces behind it, would read as missing.
+/// Whether a text, followed by spaces, would read as missing.
 #[tactic(auto, using(crate::proofs::PutLemmas::all_of_spaced))]
 fn reads_as_missing(octets: &[u8], count: usize) -> bool
     requires { length octets.now ≤ count }
@@ -114,7 +114,7 @@ fn reads_as_missing(octets: &[u8], count: usize) -> bool
     octets.len() == count && full
 }
 
-/// A text of so many octets, or fewer.
+/// A text of at most `count` octets.
 fn text_for<'a>(octets: &'a [u8], count: usize) -> Result<FieldContent<'a>, Wrong>
     ensures is { drawn_told count result ≡ text_within count octets.now }
     ensures text { IfOk result (λ d. IsTextOf count octets.now d) }
@@ -128,7 +128,7 @@ fn text_for<'a>(octets: &'a [u8], count: usize) -> Result<FieldContent<'a>, Wron
     Ok(FieldContent::Text(octets))
 }
 
-/// What a form is as the content of a field.
+/// Converts a value to the content of its field.
 #[inline(always)]
 fn draw_form<'a>(form: DraftValue<'a>, spec: &Spec) -> Result<FieldContent<'a>, Wrong>
     requires mark { is_reference spec.now.role ≡ is_marked (form_in form) }
@@ -164,7 +164,7 @@ fn draw_form<'a>(form: DraftValue<'a>, spec: &Spec) -> Result<FieldContent<'a>, 
     }
 }
 
-/// Whether an item is that of a field.
+/// Whether an item has the descriptor and the mark of a field.
 #[inline(always)]
 fn is_item_of(item: &DraftItem<'_>, spec: &Spec) -> bool
     ensures { result ≡ is_of spec.now (draft_in item.now) }
@@ -173,7 +173,7 @@ fn is_item_of(item: &DraftItem<'_>, spec: &Spec) -> bool
     item.fxy == spec.fxy() && marked == spec.is_reference()
 }
 
-/// What is wrong where another item stands.
+/// The fault of another item than the expected one.
 pub(crate) fn wrong_item(spec: &Spec) -> Wrong
     ensures { item_fault_of result ≡ wrong_for spec.now }
 {
@@ -184,7 +184,7 @@ pub(crate) fn wrong_item(spec: &Spec) -> Wrong
     })
 }
 
-/// What an item is as the content of a field.
+/// Converts an item to the content of its field.
 #[inline(always)]
 #[tactic(auto, using(crate::proofs::DrawLemmas::marks, crate::proofs::DrawLemmas::content_wrong, crate::proofs::DrawLemmas::content_there))]
 pub(crate) fn field_content<'a>(

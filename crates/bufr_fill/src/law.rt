@@ -1,6 +1,6 @@
-//! Laws on writing: a walk writes what the definition makes of the items, and the items of a dump
-//! are written to bits from which the same is read, and no more bits than were read, each item of
-//! compressed data with the least `k`.
+//! Laws on writing. A walk writes what the definition makes of the items. The items of a dump are
+//! written to bits that read the same, and are no more than were read. Each item of compressed data
+//! has the least `k`.
 ghost use Rattle.std.specs.Prelude.{◌≡◌, ◌≤◌, ℕ, List, [], Bool, length, Ok, Err};
 ghost use Rattle.bufr_walk.specs.FieldSpec.{FieldSpec, IsSpec};
 ghost use Rattle.bufr_walk.specs.Content.{Content};
@@ -26,9 +26,8 @@ ghost use Rattle.bufr_fill.specs.OtherForm.{IsWrittenApart, IsTogetherOrNot};
 ghost use Rattle.bufr_fill.specs.PlainOut.{PlainOutModel, PlainFills, IsFaultNext, items_left, end_left};
 ghost use Rattle.bufr_fill.specs.WrittenAgain.{AreDumped, AreDumpedFrom, IsWrittenAgain, IsPackedAgain};
 
-/// What was read of data that are not compressed is written again, from the items of its dump, to
-/// bits that have the same reading, and no more of them (WMO-No. 306, Volume I.2, FM 94: section
-/// 4).
+/// Law: what was read of data that are not compressed is written again, from the items of its dump.
+/// The bits have the same reading, and are no more. (WMO-No. 306, Volume I.2, FM 94: section 4)
 pub fn plain_data_round_trip()
     ensures { OfTemplates (λ course. (subsets : List (List (Item Content))) (drafts : List Subset)
         (bits behind : List Bool) → AreDumped subsets drafts
@@ -36,8 +35,8 @@ pub fn plain_data_round_trip()
         → IsWrittenAgain course subsets drafts bits behind) }
 {}
 
-/// The same of compressed data: what was read is written again to bits that have the same reading,
-/// and no more of them.
+/// Law: the same of compressed data. What was read is written again to bits that have the same
+/// reading, and are no more.
 pub fn packed_data_round_trip()
     ensures { OfTemplates (λ course. (n : ℕ) (items : List (Item (List Content)))
         (drafts : List Subset) (bits behind : List Bool) → length drafts ≡ n
@@ -45,39 +44,39 @@ pub fn packed_data_round_trip()
         → IsPackedAgain n course items drafts bits behind) }
 {}
 
-/// An item of compressed data is packed with the least `k` of all from which its contents can be
-/// read: this `k` is never above the one that was read, and the item has no more bits than were
-/// read (WMO-No. 306, Volume I.2, FM 94: section 4, compression; that the `k` is the least is a
-/// choice of this project).
+/// Law: an item of compressed data is packed with the least `k` of all that its contents can be
+/// read from. So its `k` is never above the one that was read, and the item has no more bits.
+/// (WMO-No. 306, Volume I.2, FM 94: section 4, compression; that the `k` is the least is a choice
+/// of this project)
 pub fn items_are_packed_with_the_least_k()
     ensures { (n : ℕ) (spec : FieldSpec) (contents : List Content) (bits behind : List Bool)
         → 1 ≤ n → IsSpec spec
         → packed_field n spec bits ≡ Ok (found contents behind) → HasLeastK n spec contents }
 {}
 
-/// Contents that fit their field, and that are packed, are packed with the least `k` of all from
-/// which they can be read, whatever they come from.
+/// Law: contents that fit their field, from any source, are packed with the least `k` of all that
+/// they can be read from.
 pub fn fitting_items_are_packed_with_the_least_k()
     ensures { (n : ℕ) (spec : FieldSpec) (contents : List Content) (out : List Bool) → 1 ≤ n
         → IsSpec spec → AllFit spec contents → length contents ≡ n
         → packing spec contents ≡ Ok out → HasLeastK n spec contents }
 {}
 
-/// The data that are written of any drafts, without compression, are read as what the drafts say,
-/// whatever bits are behind them (WMO-No. 306, Volume I.2, FM 94: section 4).
+/// Law: the data that are written of any drafts, without compression, read as the contents of the
+/// drafts, whatever bits follow. (WMO-No. 306, Volume I.2, FM 94: section 4)
 pub fn written_plain_data_are_read()
     ensures { OfTemplates (λ course. (drafts : List Subset) (bits : List Bool) → AllHaveOctets
         drafts → plain_data course drafts ≡ Ok bits → IsReadBack course drafts bits) }
 {}
 
-/// The same of compressed data.
+/// Law: the same of compressed data.
 pub fn written_packed_data_are_read()
     ensures { OfTemplates (λ course. (drafts : List Subset) (bits : List Bool) → AllHaveOctets
         drafts → packed_data course drafts ≡ Ok bits → IsPackedReadBack course drafts bits) }
 {}
 
-/// Drafts that say the items of a reading are written, without compression, to bits that the items
-/// tell: other drafts that say the same are written to the same bits.
+/// Law: the drafts of the items of a reading, without compression, are written to bits that the
+/// items determine. Other drafts with the same contents are written to the same bits.
 pub fn plain_data_are_told_by_what_is_said()
     ensures { OfTemplates (λ course. (subsets : List (List (Item Content)))
         (drafts others : List Subset) (bits behind : List Bool)
@@ -86,7 +85,7 @@ pub fn plain_data_are_told_by_what_is_said()
         → plain_data course drafts ≡ plain_data course others) }
 {}
 
-/// The same of compressed data.
+/// Law: the same of compressed data.
 pub fn packed_data_are_told_by_what_is_said()
     ensures { OfTemplates (λ course. (n : ℕ) (items : List (Item (List Content)))
         (drafts others : List Subset) (bits behind : List Bool)
@@ -95,24 +94,24 @@ pub fn packed_data_are_told_by_what_is_said()
         → AreSaidFrom 0 items others → packed_data course drafts ≡ packed_data course others) }
 {}
 
-/// Drafts that say the same at every field, where the first can be written, without compression,
-/// are written to the same bits.
+/// Law: drafts with the same contents at every field are written to the same bits, without
+/// compression, where the first can be written.
 pub fn alike_drafts_have_the_same_plain_data()
     ensures { OfTemplates (λ course. (drafts others : List Subset) (bits : List Bool)
         → AllHaveOctets drafts → AllAlike drafts others
         → plain_data course drafts ≡ Ok bits → plain_data course others ≡ Ok bits) }
 {}
 
-/// The same of compressed data.
+/// Law: the same of compressed data.
 pub fn alike_drafts_have_the_same_packed_data()
     ensures { OfTemplates (λ course. (drafts others : List Subset) (bits : List Bool)
         → AllHaveOctets drafts → AllAlike drafts others
         → packed_data course drafts ≡ Ok bits → packed_data course others ≡ Ok bits) }
 {}
 
-/// What was read of compressed data is written subset after subset, from the items of its dump, to
-/// bits from which each subset's items are read (WMO-No. 306, Volume I.2, FM 94: section 4): such
-/// data are never refused in the plain form.
+/// Law: what was read of compressed data is written subset after subset, from the items of its
+/// dump. Each subset's items are read from the bits, so such data are never refused in the plain
+/// form. (WMO-No. 306, Volume I.2, FM 94: section 4)
 pub fn compressed_data_are_written_apart()
     ensures { OfTemplates (λ course. (n : ℕ) (items : List (Item (List Content)))
         (drafts : List Subset) (bits behind : List Bool) → length drafts ≡ n
@@ -120,10 +119,10 @@ pub fn compressed_data_are_written_apart()
         → IsWrittenApart n course items drafts) }
 {}
 
-/// What was read of data that are not compressed is written together, from the items of its dump,
-/// to bits from which the items of each subset are read; or their factors differ, or no increments
-/// tell their contents apart, and nothing else is at fault (WMO-No. 306, Volume I.2, FM 94: section
-/// 4, compression).
+/// Law: what was read of data that are not compressed is written together, from the items of its
+/// dump. The items of each subset are read from the bits. Otherwise their factors differ, or no
+/// increments can write their contents; there is no other fault. (WMO-No. 306, Volume I.2, FM 94:
+/// section 4, compression)
 pub fn plain_data_are_written_together()
     ensures { OfTemplates (λ course. (subsets : List (List (Item Content))) (drafts : List Subset)
         (bits behind : List Bool) → length bits ≤ max_values
@@ -131,8 +130,8 @@ pub fn plain_data_are_written_together()
         → IsTogetherOrNot course subsets drafts) }
 {}
 
-/// A walk over the items of one subset writes what the definition makes of them, up to those that
-/// are left.
+/// Law: a walk over the items of one subset writes what the definition makes of them, up to those
+/// that are left.
 #[tactic(auto, using(crate::proofs::PlainWalks::walk_of_items))]
 pub fn plain_walk_writes_as_defined()
     ensures { (end : ℕ) (course : Course) (s : PlainOutModel) (items : List TakenField)
@@ -142,8 +141,9 @@ pub fn plain_walk_writes_as_defined()
         (items_left s'.left) }
 {}
 
-/// The fault where a walk over the items of one subset stops is the definition's: that of an item,
-/// that of a width or a turn on the next entry's line, or an item that is left over.
+/// Law: where a walk over the items of one subset stops, its fault is that of the definition. It is
+/// that of an item, that of a width or a step on the next entry's line, or an item that is left
+/// over.
 #[tactic(auto, using(crate::proofs::PlainWalks::fault_as_defined))]
 pub fn plain_fault_is_as_defined()
     ensures { (course : Course) (left : List DraftEntry) (f : FaultAt)
@@ -151,8 +151,8 @@ pub fn plain_fault_is_as_defined()
         left f → fill (plain_filler (end_left left)) course (items_left left) ≡ Err f }
 {}
 
-/// A walk over the items of all subsets writes what the definition makes of them, up to those that
-/// are left.
+/// Law: a walk over the items of all subsets writes what the definition makes of them, up to those
+/// that are left.
 #[tactic(auto, using(crate::proofs::PackedWalks::walk_of_rows))]
 pub fn packed_walk_writes_as_defined()
     ensures { (end : ℕ) (many : Bool) (course : Course) (s : PackedOutModel)
@@ -162,9 +162,9 @@ pub fn packed_walk_writes_as_defined()
         (rows_left s) (rows_left s') }
 {}
 
-/// Where such a walk stops, the fault there is that of the data of all subsets: that of an item,
-/// that of a width or a turn on the line of the first subset's next entry, or the first item that
-/// is left over.
+/// Law: where such a walk stops, its fault is that of the data of all subsets. It is that of an
+/// item, or that of a width or a step on the line of the first subset's next entry. Or it is the
+/// first item that is left over.
 #[tactic(auto, using(crate::proofs::PackedFaults::fault_as_defined))]
 pub fn packed_fault_is_as_defined()
     ensures { (course : Course) (subsets : List Subset) (items : List TakenField)
@@ -174,8 +174,8 @@ pub fn packed_fault_is_as_defined()
         → IsFaultHere (course (answers_of items)).next s f → packed_data course subsets ≡ Err f }
 {}
 
-/// Where such a walk ends and no item is left over, the bits that were written are the data of all
-/// subsets.
+/// Law: where such a walk ends and no item is left over, the bits that were written are the data of
+/// all subsets.
 #[tactic(auto, using(crate::proofs::PackedFaults::written_as_defined))]
 pub fn packed_data_are_written_as_defined()
     ensures { (course : Course) (subsets : List Subset) (items : List TakenField)

@@ -1,8 +1,8 @@
-//! The items of a dump text, and their writing as the data of FM 94 BUFR.
+//! The items of a dump text, written as the data of FM 94 BUFR.
 //!
-//! An encoder hands the items of a document ([`Entries`]) to a [`PlainOut`], which writes subset
-//! after subset, or to a [`PackedOut`], which writes each item once for all subsets; the walk of
-//! `bufr_walk` goes over either, and the octets are taken behind it.
+//! An encoder passes the items of a document ([`Entries`]) to a writer. [`PlainOut`] writes subset
+//! after subset, and [`PackedOut`] each item once for all subsets. The walk of `bufr_walk` goes
+//! over either; after the walk the encoder takes the octets.
 #![tactic(auto)]
 
 mod draft;

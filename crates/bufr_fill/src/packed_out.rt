@@ -1,4 +1,4 @@
-//! Items of a dump text written as compressed data.
+//! The writer of compressed data, from the items of a dump text.
 ghost use Rattle.std.specs.Prelude.{◌≡◌, ◌≤◌, ◌<◌, ◌+◌, ◌*◌, ◌/◌, ◌^◌, IfOk, Ok, length};
 ghost use Rattle.bufr_walk.specs.FieldSpec.{IsFor};
 ghost use Rattle.bufr_walk.specs.Reading.{max_values};
@@ -19,20 +19,20 @@ use bufr_walk::{Fields, MAX_VALUES, Spec, Taken};
 use std::alloc::{AllocError, Global};
 use std::marker::Model;
 
-/// Items of a dump text, each written once for all subsets as a base, six bits `k`, and an
-/// increment for each subset where `k` is above 0 (WMO-No. 306, Volume I.2, FM 94: section 4,
-/// compression). One walk takes the items of all subsets.
+/// Items of a dump text, each written once for all subsets. An item is a base, six bits `k`, and
+/// where `k` is above 0 an increment for each subset. One walk takes the items of all subsets.
+/// (WMO-No. 306, Volume I.2, FM 94: section 4, compression)
 ///
 /// A contract sees it as the subsets, how many items of each were taken, and the bits of these
-/// items. A refusal, for want of memory too, changes none of them: what was written of the item is
-/// cut off again.
+/// items. A fault, [`DraftFault::Memory`] too, changes none of them: what was written of the item
+/// is removed again.
 #[derive(Drop)]
 pub struct PackedOut<'s> {
     entries: &'s Entries,
     ends: Vec<usize>,
     place: usize,
-    /// The entries of the item that is packed, and what they give. Each item uses their memory
-    /// again.
+    /// The row of the item that is packed: its entries and its contents. Each item uses their
+    /// memory again.
     found: Vec<EntryRef<'s>>,
     drawn: Vec<FieldContent<'s>>,
     out: BitWriter,
@@ -54,7 +54,7 @@ impl<'s> Model for PackedOut<'s> {
     ghost invariant = { λ s. IsPackedOut s.entries.now s.ends.items s.place (length s.out) };
 }
 
-/// The places of the entries that end subsets.
+/// The indices of the entries that end subsets.
 fn ends_in(alloc: Global, entries: &Entries) -> Result<Vec<usize>, AllocError>
     ensures { IfOk result (λ ends. ends.items ≡ ends_of 0 entries.now) }
 {
@@ -67,7 +67,7 @@ fn ends_in(alloc: Global, entries: &Entries) -> Result<Vec<usize>, AllocError>
     Ok(ends)
 }
 
-/// Writes what was drawn for all subsets.
+/// Writes the contents of an item for all subsets.
 #[tactic(auto, using(crate::proofs::PackSteps::drawn_at))]
 fn put_drawn(
     entries: &Entries,
@@ -145,7 +145,7 @@ impl<'s> PackedOut<'s> {
     ///
     /// # Errors
     ///
-    /// [`AllocError`] where the places of the subsets could not be kept.
+    /// [`AllocError`] where the indices of the ends of subsets could not be kept.
     pub fn new(alloc: Global, entries: &'s Entries) -> Result<Option<PackedOut<'s>>, AllocError>
         requires few { length entries.now ≤ 2 ^ 45 }
         ensures { IfOk result (λ out. StartsPackedOut (subsets_of entries.now) out) }
@@ -164,26 +164,26 @@ impl<'s> PackedOut<'s> {
         }))
     }
 
-    /// The number of the next item's line in the first subset, or of the line that ends that
-    /// subset.
+    /// The line of the next item of the first subset, or the line that ends that subset.
     pub fn line(&self) -> u64
         ensures { result ≡ first_line_at self.now.place self.now.subsets }
     {
         first_line(self.entries, &self.ends, self.place)
     }
 
-    /// Whether all subsets are at their ends.
+    /// Checks that all subsets are at their ends.
     ///
     /// # Errors
     ///
-    /// [`DraftFault::WrongDescriptor`] with the first subset that has an item more.
+    /// [`DraftFault::WrongDescriptor`] with the first subset that has one more item.
     pub fn end(&self) -> Result<(), DraftFault>
         ensures { EndsAllSubsets self.now.place self.now.subsets result }
     {
         all_at_end(self.entries, &self.ends, self.place)
     }
 
-    /// The octets of the bits of whole items, with zero bits to the next octet. It takes no memory.
+    /// Returns the octets of the bits of whole items, with zero bits to the next octet. It takes no
+    /// memory.
     pub fn into_octets(self) -> Vec<u8>
         ensures bits { bits_of result.items ≡ self.entry.bits ++ padding (length self.entry.bits) }
         ensures len { vec_len result ≡ (length self.entry.bits + 7) / 8 }
@@ -231,7 +231,7 @@ impl<'s> Fields for PackedOut<'s> {
                 Ok(told)
             }
             Err(why) => {
-                // Memory may have run out within the item.
+                // Memory may have run out inside the item.
                 self.out.truncate(bits);
                 Err(why)
             }

@@ -1,4 +1,4 @@
-//! What all subsets give at one place.
+//! The rows of compressed data: the entries of all subsets at one index.
 ghost use Rattle.std.specs.Prelude.{◌≡◌, ◌≤◌, ◌<◌, ◌+◌, ◌/◌, ◌^◌, ℕ, List, length, slice_get, get_or, Some, IfOk};
 ghost use Rattle.bufr_fill.specs.Encoding.{RowCell, cells_at, unlike_line};
 ghost use Rattle.bufr_fill.specs.Entries.{Holds, subsets_of};
@@ -15,7 +15,7 @@ use crate::packing::is_same;
 use bufr_walk::Spec;
 use std::alloc::AllocError;
 
-/// Where a subset's entries begin, by the places of the entries that end subsets.
+/// The index where a subset's entries begin, by the indices of the entries that end subsets.
 #[tactic(auto, using(crate::proofs::Places::begin_more, crate::proofs::Places::begin_none))]
 fn begin_of(ends: &[usize], subset: usize) -> usize
     requires subset { subset < length ends.now }
@@ -26,7 +26,7 @@ fn begin_of(ends: &[usize], subset: usize) -> usize
     if subset == 0 { 0 } else { ends[subset - 1] + 1 }
 }
 
-/// Finds a subset's entry at a place, counted from its first: its item, or its end where that
+/// Finds a subset's entry at an index, counted from its first: its item, or its end where that
 /// comes first.
 #[inline(always)]
 fn find_at<'s>(entries: &'s Entries, ends: &[usize], subset: usize, place: usize) -> EntryRef<'s>
@@ -44,7 +44,7 @@ fn find_at<'s>(entries: &'s Entries, ends: &[usize], subset: usize, place: usize
     }
 }
 
-/// A subset's entry at a place.
+/// A subset's entry at an index.
 fn entry_of<'s>(entries: &'s Entries, ends: &[usize], subset: usize, place: usize) -> DraftEntry<'s>
     requires ends { ends.now ≡ ends_of 0 entries.now }
     requires few { length entries.now ≤ 2 ^ 45 }
@@ -56,7 +56,7 @@ fn entry_of<'s>(entries: &'s Entries, ends: &[usize], subset: usize, place: usiz
     find_at(entries, ends, subset, place).entry()
 }
 
-/// The line of a subset's entry at a place.
+/// The line of a subset's entry at an index.
 fn line_at(entries: &Entries, ends: &[usize], subset: usize, place: usize) -> u64
     requires ends { ends.now ≡ ends_of 0 entries.now }
     requires few { length entries.now ≤ 2 ^ 45 }
@@ -70,7 +70,7 @@ fn line_at(entries: &Entries, ends: &[usize], subset: usize, place: usize) -> u6
     }
 }
 
-/// What an item is as the content of a field, or its fault.
+/// Converts an item to the content of its field, or its fault with the line.
 fn item_content<'a>(item: &DraftItem<'a>, spec: &Spec) -> Result<FieldContent<'a>, DraftFault>
     ensures { ReturnsContent (spec.now.width / 8) spec.now
         (entry_here spec.now (Holds (draft_in item.now))) result }
@@ -81,7 +81,7 @@ fn item_content<'a>(item: &DraftItem<'a>, spec: &Spec) -> Result<FieldContent<'a
     }
 }
 
-/// What an entry is as the content of a field, or its fault.
+/// Converts an entry to the content of its field, or its fault with the line.
 fn draw_found<'a>(found: EntryRef<'a>, spec: &Spec) -> Result<FieldContent<'a>, DraftFault>
     ensures { ReturnsContent (spec.now.width / 8) spec.now
         (entry_here spec.now (entry_found found.entry)) result }
@@ -92,8 +92,8 @@ fn draw_found<'a>(found: EntryRef<'a>, spec: &Spec) -> Result<FieldContent<'a>, 
     }
 }
 
-/// Finds each subset's entry at a place. The entries stand far apart in memory: fetched one right
-/// behind another they are waited for together, and not each by itself where its value is read.
+/// Finds each subset's entry at an index. The entries are far apart in memory: reads of them one
+/// right after another wait together, and reads between those of the values would each wait.
 fn entries_of_row<'a>(
     entries: &'a Entries,
     ends: &[usize],
@@ -113,7 +113,7 @@ fn entries_of_row<'a>(
     Ok(())
 }
 
-/// Draws what each subset gives, for a field.
+/// Converts a row to the contents of a field.
 fn contents_of_row<'a>(
     found: &[EntryRef<'a>],
     spec: &Spec,
@@ -136,7 +136,7 @@ fn contents_of_row<'a>(
     Ok(())
 }
 
-/// Draws what each subset gives at a place, for a field; the ends are the places of the entries
+/// Converts the row at an index to the contents of a field; `ends` has the indices of the entries
 /// that end the subsets.
 pub(crate) fn read_row<'a>(
     entries: &'a Entries,
@@ -158,7 +158,7 @@ pub(crate) fn read_row<'a>(
     }
 }
 
-/// The line of the first subset whose content at a place is not that of the first subset.
+/// The line of the first subset whose content differs from that of the first subset.
 pub(crate) fn unlike_line(
     entries: &Entries,
     ends: &[usize],
@@ -182,7 +182,7 @@ pub(crate) fn unlike_line(
     0
 }
 
-/// The line of the first subset's entry at a place.
+/// The line of the first subset's entry at an index.
 pub(crate) fn first_line(entries: &Entries, ends: &[usize], place: usize) -> u64
     requires ends { ends.now ≡ ends_of 0 entries.now }
     requires few { length entries.now ≤ 2 ^ 45 }
@@ -193,7 +193,7 @@ pub(crate) fn first_line(entries: &Entries, ends: &[usize], place: usize) -> u64
     line_at(entries, ends, 0, place)
 }
 
-/// Whether all subsets end at a place; else the first that has an item there is told.
+/// Checks that all subsets end at an index; else returns the first item there as the fault.
 pub(crate) fn all_at_end(entries: &Entries, ends: &[usize], place: usize) -> Result<(), DraftFault>
     requires ends { ends.now ≡ ends_of 0 entries.now }
     requires few { length entries.now ≤ 2 ^ 45 }

@@ -1,4 +1,4 @@
-//! How the contents of one item are packed for all subsets.
+//! The packing of the contents of one item for all subsets.
 ghost use Rattle.std.specs.Prelude.{ℕ, ◌≡◌, ◌≤◌, ◌<◌, ◌+◌, ◌-◌, ◌*◌, ◌/◌, ◌^◌, ◌++◌, ◌∷◌, [], true, false, length, map, take, replicate, nat_lt, OnOk, unwrap_or};
 ghost use Rattle.std.specs.List.{list_all, flat_map};
 ghost use Rattle.bufr_bits.specs.Bits.{bits_in, bits_of};
@@ -20,9 +20,9 @@ use std::alloc::AllocError;
 pub(crate) enum PackingFault {
     /// Its counts differ.
     Unequal,
-    /// Its references differ, or its texts only behind octet 63.
+    /// Its references differ, or its texts only after octet 63.
     Uneven,
-    /// Memory ran out, perhaps within the item.
+    /// Memory ran out, perhaps inside the item.
     Memory,
 }
 
@@ -37,7 +37,7 @@ impl From<AllocError> for PackingFault {
     }
 }
 
-/// The octet at a place of a text that spaces follow.
+/// The octet at an index of a text that spaces follow.
 #[tactic(auto, using(crate::proofs::TextSteps::octet_inside, crate::proofs::TextSteps::octet_outside))]
 fn octet_at(octets: &[u8], place: usize) -> u8
     ensures { result ≡ octet_in octets.now place }
@@ -48,7 +48,7 @@ fn octet_at(octets: &[u8], place: usize) -> u8
     }
 }
 
-/// Whether two texts are the same, with spaces up to so many octets.
+/// Whether two texts are the same, with spaces up to `count` octets.
 fn same_text(one: &[u8], other: &[u8], count: usize) -> bool
     requires one { length one.now ≤ count }
     requires other { length other.now ≤ count }
@@ -80,7 +80,7 @@ pub(crate) fn is_same(one: FieldContent<'_>, other: FieldContent<'_>, spec: &Spe
     }
 }
 
-/// Whether all are the same as one.
+/// Whether all contents are the same as one.
 #[tactic(auto, using(crate::proofs::PackSteps::drawn_at, crate::proofs::PackSteps::alike_more, crate::proofs::PackSteps::alike_not, crate::proofs::PackSteps::alike_done))]
 fn are_alike(first: FieldContent<'_>, drawn: &[FieldContent<'_>], spec: &Spec) -> bool
     requires first { IsDrawn spec.now first }
@@ -96,7 +96,7 @@ fn are_alike(first: FieldContent<'_>, drawn: &[FieldContent<'_>], spec: &Spec) -
     true
 }
 
-/// The lesser of a number that may be there and what was drawn, where that is a number.
+/// The lesser of a number, if there is one, and of a content, if that is a number.
 fn min_number(found: Option<u64>, drawn: FieldContent<'_>) -> Option<u64>
     ensures { result ≡ lesser found (number_in drawn.entry) }
 {
@@ -107,7 +107,7 @@ fn min_number(found: Option<u64>, drawn: FieldContent<'_>) -> Option<u64>
     }
 }
 
-/// The least number, of those that are there.
+/// The least of the numbers, if there is one.
 #[tactic(auto, using(crate::proofs::PackSteps::lowest_more, crate::proofs::PackSteps::lowest_done))]
 fn lowest_of(drawn: &[FieldContent<'_>]) -> Option<u64>
     ensures { (count : ℕ) → result ≡ lowest (contents_drawn count drawn.now) }
@@ -119,7 +119,7 @@ fn lowest_of(drawn: &[FieldContent<'_>]) -> Option<u64>
     found
 }
 
-/// The increment over a base.
+/// The increment of a content over a base.
 fn increment_over(drawn: FieldContent<'_>, base: u64) -> u64
     ensures { result ≡ over_of base drawn.entry }
 {
@@ -143,8 +143,8 @@ fn max_increment(drawn: &[FieldContent<'_>], base: u64) -> u64
     most
 }
 
-/// The least `k` from 1 to 63 whose bits write an increment, all ones aside where that is missing;
-/// 64 where none does.
+/// The least `k` from 1 to 63 whose bits write an increment, without all ones where that is
+/// missing; 64 where none does.
 #[tactic(auto, using(crate::proofs::PackSteps::least_here, crate::proofs::PackSteps::least_later, crate::proofs::PackSteps::least_end))]
 fn least_bits(spread: u64, may_be_missing: bool) -> u32
     ensures { result ≡ least_from may_be_missing spread 1 }
@@ -219,7 +219,7 @@ fn pack_numbers(
     Ok(())
 }
 
-/// How many octets of a text stand before the spaces at its end.
+/// How many octets of a text come before the spaces at its end.
 #[tactic(auto, using(crate::proofs::TextSteps::trimmed_here, crate::proofs::TextSteps::trimmed_later, crate::proofs::TextSteps::trimmed_all))]
 fn trimmed_len(octets: &[u8]) -> usize
     ensures value { result ≡ trimmed octets.now }
@@ -233,7 +233,7 @@ fn trimmed_len(octets: &[u8]) -> usize
     0
 }
 
-/// How many octets tell a text.
+/// How many octets determine a text.
 fn text_need(octets: &[u8]) -> usize
     requires { length octets.now ≤ 255 }
     ensures { result ≡ need octets.now }
@@ -246,7 +246,7 @@ fn text_need(octets: &[u8]) -> usize
     }
 }
 
-/// How many octets tell what was drawn, where that is a text.
+/// How many octets determine a content, where that is a text.
 #[tactic(auto, using(crate::proofs::PackSteps::eighth_most))]
 fn drawn_need(drawn: FieldContent<'_>, spec: &Spec) -> usize
     requires { IsDrawn spec.now drawn }
@@ -262,7 +262,7 @@ fn drawn_need(drawn: FieldContent<'_>, spec: &Spec) -> usize
     }
 }
 
-/// How many octets tell all texts.
+/// How many octets determine all texts.
 #[tactic(auto, using(crate::proofs::PackSteps::need_more, crate::proofs::PackSteps::need_done, crate::proofs::PackSteps::drawn_at))]
 fn octets_needed(drawn: &[FieldContent<'_>], spec: &Spec) -> usize
     requires { AllDrawn spec.now drawn.now }
@@ -275,7 +275,7 @@ fn octets_needed(drawn: &[FieldContent<'_>], spec: &Spec) -> usize
     most
 }
 
-/// Writes the first octets of a text that spaces follow, or ones where it is missing.
+/// Writes the first octets of a text that spaces follow, or ones where the text is missing.
 #[tactic(auto, using(crate::proofs::PackSteps::eighth_most))]
 fn push_front(
     out: &mut BitWriter,
@@ -324,7 +324,7 @@ fn push_fronts(
     Ok(())
 }
 
-/// Writes so many octets of zeros.
+/// Writes zeros as wide as a text.
 #[tactic(auto, using(crate::proofs::PackSteps::zero_bits))]
 fn push_zeros(out: &mut BitWriter, spec: &Spec) -> Result<(), AllocError>
     requires text { is_character spec.now.kind ≡ true }
@@ -337,7 +337,7 @@ fn push_zeros(out: &mut BitWriter, spec: &Spec) -> Result<(), AllocError>
     out.push_octets(&zeros[..(spec.width() / 8) as usize])
 }
 
-/// Writes texts that differ: zero bits, `k`, and the first `k` octets of each.
+/// Writes texts that differ: a base of zero bits, `k`, and the first `k` octets of each.
 fn pack_texts(
     out: &mut BitWriter,
     drawn: &[FieldContent<'_>],
@@ -362,7 +362,7 @@ fn pack_texts(
     Ok(())
 }
 
-/// Writes contents that are all alike: the first of them, and no increments.
+/// Writes contents that are all the same: the first of them, and no increments.
 fn pack_alike(out: &mut BitWriter, first: FieldContent<'_>, spec: &Spec) -> Result<(), AllocError>
     requires first { IsDrawn spec.now first }
     requires room { length out.old + 2046 + 2040 ≤ 2 ^ 63 }
@@ -378,7 +378,7 @@ fn pack_alike(out: &mut BitWriter, first: FieldContent<'_>, spec: &Spec) -> Resu
     Ok(())
 }
 
-/// Writes contents that are not all alike.
+/// Writes contents that are not all the same.
 fn pack_unlike(
     out: &mut BitWriter,
     drawn: &[FieldContent<'_>],
@@ -402,8 +402,8 @@ fn pack_unlike(
     }
 }
 
-/// Writes the contents of an item for all subsets: the least base and the least `k` from which they
-/// are read again.
+/// Writes the contents of an item for all subsets: the least base and the least `k` that they can
+/// be read from.
 #[tactic(auto, using(crate::proofs::PackSteps::drawn_at))]
 pub(crate) fn pack(
     out: &mut BitWriter,

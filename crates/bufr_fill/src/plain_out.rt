@@ -1,4 +1,4 @@
-//! Items of a dump text written as data that are not compressed.
+//! The writer of data that are not compressed, from the items of a dump text.
 ghost use Rattle.std.specs.Prelude.{◌≡◌, ◌≤◌, ◌+◌, ◌^◌, length};
 
 use crate::draft::DraftEntry;
@@ -11,8 +11,8 @@ use bufr_walk::{Fields, Spec, Taken};
 use std::alloc::Global;
 use std::marker::Model;
 
-/// Items of a dump text, subset after subset, each written as the field that a walk asks for
-/// (WMO-No. 306, Volume I.2, FM 94: section 4). One walk takes the items of one subset.
+/// Items of a dump text, subset after subset, each written as the field that comes next in a walk.
+/// One walk takes the items of one subset. (WMO-No. 306, Volume I.2, FM 94: section 4)
 ///
 /// A contract sees it as the entries that are left and the bits that were written.
 ///
@@ -57,8 +57,7 @@ impl<'s> PlainOut<'s> {
         }
     }
 
-    /// The number of the next item's line, or of the line that ends the subset; 0 behind the last
-    /// subset.
+    /// The line of the next item, or the line that ends the subset; 0 after the last subset.
     pub fn line(&self) -> u64
         ensures { result ≡ line_at self.now.left }
     {
@@ -69,11 +68,11 @@ impl<'s> PlainOut<'s> {
         }
     }
 
-    /// Goes past the end of a subset.
+    /// Passes the end of a subset.
     ///
     /// # Errors
     ///
-    /// [`DraftFault::WrongDescriptor`] where the subset has an item more; nothing is changed then.
+    /// [`DraftFault::WrongDescriptor`] where the subset has one more item; then nothing is changed.
     pub fn end_subset(&mut self) -> Result<(), DraftFault>
         ensures { EndsSubset self.old result self.new }
     {
@@ -88,8 +87,8 @@ impl<'s> PlainOut<'s> {
         }
     }
 
-    /// The octets of the bits that were written, with zero bits to the next octet. It takes no
-    /// memory.
+    /// Returns the octets of the bits that were written, with zero bits to the next octet. It takes
+    /// no memory.
     pub fn into_octets(self) -> Vec<u8>
         ensures bits { bits_of result.items ≡ self.entry.bits ++ padding (length self.entry.bits) }
         ensures len { vec_len result ≡ (length self.entry.bits + 7) / 8 }

@@ -1,4 +1,4 @@
-//! What was drawn for a field, written as its bits.
+//! Writes the content of a field as its bits.
 ghost use Rattle.std.specs.Prelude.{◌≡◌, ◌≤◌, ◌<◌, ◌+◌, ◌-◌, ◌*◌, ◌/◌, ◌^◌, ◌++◌, ◌∷◌, ℕ, true, false, length, replicate, unsigned_abs, OnOk, OnErr};
 ghost use Rattle.bufr_bits.specs.Bits.{bits_of, bits_in};
 ghost use Rattle.bufr_tables.specs.TableB.{is_character};
@@ -11,7 +11,7 @@ use bufr_bits::BitWriter;
 use bufr_walk::{Role, Spec, Taken};
 use std::alloc::AllocError;
 
-/// Octets, and spaces behind them.
+/// Octets, followed by spaces.
 #[tactic(auto, using(crate::proofs::PutLemmas::spaced_whole))]
 pub(crate) fn with_spaces(octets: &[u8]) -> [u8; 255]
     requires { length octets.now ≤ 255 }
@@ -22,7 +22,7 @@ pub(crate) fn with_spaces(octets: &[u8]) -> [u8; 255]
     all
 }
 
-/// Writes a text of so many octets, with spaces behind it.
+/// Writes a text, followed by spaces up to `count` octets.
 #[tactic(auto, using(crate::proofs::PutLemmas::spaced_front))]
 fn push_text(out: &mut BitWriter, octets: &[u8], count: usize) -> Result<(), AllocError>
     requires within { length octets.now ≤ count }
@@ -54,7 +54,7 @@ fn signed_bits(value: i64, width: u32) -> u64
     }
 }
 
-/// Writes so many octets of ones.
+/// Writes `count` octets of ones.
 #[tactic(auto, using(crate::proofs::PutLemmas::full_bits))]
 pub(crate) fn push_full(out: &mut BitWriter, count: usize) -> Result<(), AllocError>
     requires most { count ≤ 255 }
@@ -83,7 +83,7 @@ fn push_missing(out: &mut BitWriter, spec: &Spec) -> Result<(), AllocError>
     }
 }
 
-/// Writes what was drawn for a field, in the field's bits.
+/// Writes the content of a field, in the field's bits.
 #[inline(always)]
 #[tactic(auto, using(crate::proofs::DrawLemmas::drawn_narrow))]
 pub(crate) fn push_drawn(
@@ -108,7 +108,7 @@ pub(crate) fn push_drawn(
     }
 }
 
-/// The count that a factor's content is.
+/// The count of a factor's content.
 fn count_of(drawn: FieldContent<'_>) -> u64
     ensures { (count : ℕ) → result ≡ count_in (content_drawn count drawn.entry) }
 {
@@ -118,7 +118,7 @@ fn count_of(drawn: FieldContent<'_>) -> u64
     }
 }
 
-/// The reference that a content is.
+/// The reference of a content.
 fn reference_in(drawn: FieldContent<'_>) -> i64
     ensures { (count : ℕ) → result ≡ reference_in (content_drawn count drawn.entry) }
 {
@@ -128,7 +128,7 @@ fn reference_in(drawn: FieldContent<'_>) -> i64
     }
 }
 
-/// What a field tells the walk.
+/// What a field returns to the walk.
 #[inline(always)]
 #[tactic(auto, using(crate::proofs::DrawLemmas::told_count, crate::proofs::DrawLemmas::told_reference, crate::proofs::DrawLemmas::told_element, crate::proofs::DrawLemmas::told_inserted))]
 pub(crate) fn taken_of(drawn: FieldContent<'_>, spec: &Spec) -> Taken

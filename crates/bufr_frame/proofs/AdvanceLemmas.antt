@@ -1,4 +1,4 @@
--- How a finder goes on, turn by turn.
+-- How a finder advances, turn by turn.
 use Rattle.std.proofs.Common.{inl, inr, ◌⊎◌, ◌≡◌, ℕ, ◌+◌, ◌-◌, ◌<◌, ◌≤◌, false, List, [], ◌++◌, drop, refl, sym, ◌∙◌, ap, subst, arith, Option, append-nil}
 use Rattle.std.specs.Prelude.{Result, Ok, Err, Some, None, take_while}
 use Rattle.bufr_bits.specs.Counts.{counted}

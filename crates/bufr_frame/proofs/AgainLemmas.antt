@@ -1,4 +1,4 @@
--- A message taken apart, and written again from its parts.
+-- A message parsed, and written again from its parts.
 use Rattle.std.proofs.Common.{inl, inr, ◌≡◌, ◌≢◌, ◌==◌, ◌∙◌, ℕ, zero, suc, ◌+◌, ◌-◌, ◌*◌, ◌/◌, ◌%◌, ◌<◌, ◌≤◌, Bool, true, false, List, [], ◌∷◌, ◌++◌, length, take, drop, refl, ap, sym, subst, arith, Some, None, Ok, Err, get_or, codes, append_assoc, length-take, length-drop}
 use Rattle.std.specs.Prelude.{Result, if◌then◌else◌, nat_lt, nat_le, not, is_some, slice_range, All, ◌&&◌, ◌||◌}
 use Rattle.std.proofs.Math.Seq.{drop-cons, take-add}
@@ -122,8 +122,7 @@ second-size : (b : Bool) (m : List ℕ) (p q : ℕ) → q ≤ length m → (b �
 second-size true m p q within there absent = omega (arith, slice-long m (p + 4) q within, there refl)
 second-size false m p q within there absent = omega (arith, absent refl)
 
--- how long the parts are: sections 3 and 4 are as they are made even, without what section 3 has
--- left over
+-- the length of the parts: sections 3 and 4 are made even, without the octet left over in section 3
 sizes : (m : List ℕ) (s : Sections) (e : Ended m s)
     → message_size (edition_of m) (parts_in (parts m e.p1 e.p2 e.p3 e.p4))
     ≡ e.p2 + even_size (edition_of m) (7 + 2 * ((e.p3 - (e.p2 + 7)) / 2)) + even_size (edition_of m) (e.p4 - e.p3) + 4
@@ -311,7 +310,7 @@ module _ (m : List ℕ) (small : All (λ octet. octet < 256) m) where
   some-back true x = refl
   some-back false x = refl
 
-  -- section 1 behind its length
+  -- section 1 after its length
   laid : (centre subcentre year : List ℕ) (flag : ℕ) → List ℕ
   laid centre subcentre year flag = get_or m 11 0 ∷ centre ++ subcentre ++ get_or m 16 0 ∷ flag ∷ get_or m 18 0 ∷ get_or m 19 0 ∷ get_or m 20 0 ∷ get_or m 21 0 ∷ get_or m 22 0 ∷ year
       ++ get_or m 25 0 ∷ get_or m 26 0 ∷ get_or m 27 0 ∷ get_or m 28 0 ∷ get_or m 29 0 ∷ []

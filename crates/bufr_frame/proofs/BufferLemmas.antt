@@ -8,7 +8,7 @@ use Rattle.std.proofs.Math.Seq.{take-add}
 use Rattle.bufr_frame.specs.Input.{ReadsOnce}
 use Rattle.bufr_frame.proofs.ScanLemmas.{drop-twice}
 
--- a part is the end of a front
+-- a part is the end of a prefix
 pub part-front : (s : List ℕ) (a b : ℕ) → a ≤ b → slice_range s a b ≡ drop a (take b s)
 part-front s a b order =
     let e : a + (b - a) ≡ b = omega arith in
@@ -46,7 +46,7 @@ part-last s l before a b n same order within is fits =
     ∙ ap (λ i. slice_range s i b) (sym k) ∙ sym (part-drop s a b (b - a - n) less)
     ∙ ap (λ i. drop (i - n) (slice_range s a b)) (sym long) ∙ ap (drop (length before - n)) is
 
--- what was read stands behind what was held, where the buffer was lent as a slice
+-- what was read follows what was held, where the buffer was lent as a slice
 pub behind-read : (a b : Option (List ℕ)) (items lent room : List ℕ) (filled to size n : ℕ) → lent ≡ items → size ≡ length items → length room ≡ length lent → take filled room ≡ take filled lent
     → filled + n ≤ to → to ≤ size → Consumes a b (take n (drop filled room)) → (n ≡ 0 → IsAtEnd b)
     → (bs : List ℕ) × ReadsOnce a b (take filled items) (take (filled + length bs) (take size (room ++ drop (length room) items))) (Ok n) bs

@@ -1,4 +1,4 @@
--- What calls of a finder say together.
+-- Several calls of a finder together.
 use Rattle.std.proofs.Common.{inl, inr, ◌≡◌, ℕ, zero, suc, ◌+◌, ◌-◌, ◌≤◌, true, false, List, [], ◌∷◌, ◌++◌, length, drop, codes, refl, sym, ◌∙◌, ap, subst, arith, Option, length-drop, length-append, append-nil}
 use Rattle.std.specs.Prelude.{Result, Ok, Err, max, take_while}
 use Rattle.std.specs.List.{list_all}
@@ -25,7 +25,7 @@ events-are-open s rest events at advances none =
     ap (take_while is_decided) (whole-scan false s rest events at advances) ∙ take_while-all events (scan_from 0 at rest) (advances.decided refl)
     ∙ ap (λ l. events ++ l) none ∙ append-nil events
 
--- what was read and is not behind an event is held
+-- what was read from a frame on, or after a stray word, is held
 pub is-held : (left left' : Option (List ℕ)) (reads reads' : ℕ) (old new : FinderModel) (result : Result Event RunFault) → (next : ReturnsNextEvent left left' reads reads' old new result)
     → HoldsUnread (old.at + length (old.rest ++ next.steps.0)) new result
 is-held left left' reads reads' old new (Ok (event.Frame offset octets)) next =
@@ -37,7 +37,7 @@ is-held left left' reads reads' old new (Ok (event.Stray offset cause)) next =
 is-held left left' reads reads' old new (Ok event.Done) next = tt
 is-held left left' reads reads' old new (Err fault) next = tt
 
--- where the events of octets stand
+-- the offsets of the events of octets
 abbrev Placed : ℕ → List ℕ → StreamEvent → Type 0
 Placed at s e = (at ≤ offset_of e) × (is_decided e ≡ true → offset_of e + 8 ≤ at + length s)
 
@@ -91,7 +91,7 @@ scan-placed (suc n) at (x ∷ m) within =
           subst P (sym (scan_from-here at s (omega arith) (omega (arith, bounds.0)))) (placed-append at s (stream_event at s (classify s)) (scan_from 0 (at + k) (drop k s)) first more)
     ]
 
--- octets behind do not change the length that is stated at a certain event
+-- octets after it do not change the length that is stated at a certain event
 here-front : (m t : List ℕ) → 8 ≤ length m → length_here (m ++ t) ≡ length_here m
 here-front m t long = length-eight (m ++ t) (omega (arith, length-append m t)) ∙ stated-front m t long ∙ sym (length-eight m long)
 

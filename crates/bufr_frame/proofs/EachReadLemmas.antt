@@ -34,7 +34,7 @@ waits-still old s s' bs each reads longer = record {
   waited = wider (max 4096 s.longest) (max 4096 s'.longest) old.at old.rest each.given (omega (arith, longer)) each.waited;
 }
 
--- what was left at first, with all that was read, decides nothing where what is left now does not
+-- if what is left now decides nothing, neither does what was left at first with all that was read
 none-in-all : (left mid : Option (List ℕ)) (old s : FinderModel) (bs : List ℕ) (place size : ℕ) → ReadsAndPasses left mid old s bs [] → s.ended ≡ false → IsIncomplete s.rest place size → NoEventCertain old.at (old.rest ++ bs)
 none-in-all left mid old s bs place size step going open' =
     let all : scan_from 0 old.at (old.rest ++ bs) ≡ scan_from 0 s.at s.rest =

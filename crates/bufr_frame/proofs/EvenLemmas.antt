@@ -46,7 +46,7 @@ evened-twice edition front octets =
 even-twice : (edition n : ℕ) → even_size edition (even_size edition n) ≡ even_size edition n
 even-twice edition n = ap (λ b. if b then even_size edition n + 1 else even_size edition n) (even-stays edition n)
 
--- a payload that is even already is laid out as the payload that it was made from
+-- a payload that is even already is written as the payload that it was made from
 pub laid-even : (h : Head) (local1 : List ℕ) (section2 : Option (List ℕ)) (descriptors : List ℕ) (subsets : ℕ) (observed compressed : Bool) (payload : List ℕ)
     → message_octets h (parts_of local1 section2 descriptors subsets observed compressed (with_even_length h.edition 4 payload)) ≡ message_octets h (parts_of local1 section2 descriptors subsets observed compressed payload)
 laid-even h local1 section2 descriptors subsets observed compressed payload =
@@ -61,7 +61,7 @@ unfolding bits_of
 bits-append [] ys = refl
 bits-append (x ∷ xs) ys = ap (λ (b : List Bool). bits_of_octet x ++ b) (bits-append xs ys) ∙ sym (append_assoc (bits_of_octet x) (bits_of xs) (bits_of ys))
 
--- the bits of a payload are in front
+-- the bits of a payload come first
 bits-by : (b : Bool) (octets : List ℕ) → (tail : List Bool) × (bits_of (with_pad_octet b octets) ≡ bits_of octets ++ tail)
 bits-by true octets = (bits_of (0 ∷ []), bits-append octets (0 ∷ []))
 bits-by false octets = ([], sym (append-nil (bits_of octets)))

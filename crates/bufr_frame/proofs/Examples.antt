@@ -155,7 +155,7 @@ fourth-past : sections_of (slice_set one_block_number 41 6) ≡ Err (SectionPast
 unfolding sections_of section_end
 fourth-past = refl
 
--- the events: one message, two, a message without its end, a stray word in front, short and cut
+-- the events: one message, two, a message without its end, a stray word first, short and cut
 -- lengths
 one-event : scan one_block_number ≡ FrameAt 0 one_block_number ∷ []
 unfolding scan_from
@@ -240,7 +240,7 @@ stating-longest : longest_of 0 (stating_64 16) (scan (stating_64 16)) ≡ 64
 unfolding scan_from
 stating-longest = refl
 
--- a run cut in two: the events of the first 58 octets, and what goes on behind them
+-- a run cut in two: the events of the first 58 octets, and the scan after them
 open-at-a-fault : open_scan (one_block_number ++ take 10 one_block_number) ≡ FrameAt 0 one_block_number ∷ []
 unfolding scan_from
 open-at-a-fault = refl
@@ -249,8 +249,8 @@ goes-on : scan (one_block_number ++ one_block_number) ≡ FrameAt 0 one_block_nu
 unfolding scan_from
 goes-on = refl
 
--- the greatest length: of a message, with the word behind it that is not yet certain, and of a word
--- without a length
+-- the greatest length: of a message, of one followed by a word that is not yet certain, and of a
+-- word without a length
 longest-of-one : longest_of 0 one_block_number (scan one_block_number) ≡ 48
 unfolding scan_from
 longest-of-one = refl
@@ -269,8 +269,8 @@ stray-behind-messages : scan (codes "BUFR" ++ 0 ∷ 0 ∷ 64 ∷ 4 ∷ one_block
 unfolding scan_from
 stray-behind-messages = refl
 
--- parts written again: the message that is plain has the same octets; one with a reserved bit set
--- has not, and is as long
+-- parts written again: the plain message has the same octets; one with a reserved bit set has other
+-- octets, and is as long
 one-again : message_octets (the_sections [] None 48).head (parts_in (the_sections [] None 48)) ≡ one_block_number
 one-again = refl
 

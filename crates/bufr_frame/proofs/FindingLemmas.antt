@@ -24,7 +24,7 @@ use Rattle.bufr_frame.proofs.LookLemmas.{take_while-all}
 all-append : (xs ys : List StreamEvent) → list_all is_decided xs ≡ true → list_all is_decided ys ≡ true → list_all is_decided (xs ++ ys) ≡ true
 all-append xs ys p q = grind (arith, common_steps)
 
--- one way on after another
+-- one step after another
 pub Advances-then : (e e' : Bool) (at at' at'' : ℕ) (r r' r'' bs : List ℕ) (es es' : List StreamEvent)
     → (e ≡ true → (e' ≡ true) × (bs ≡ []))
     → Advances e at r es at' r' → Advances e' at' (r' ++ bs) es' at'' r'' → Advances e' at (r ++ bs) (es ++ es') at'' r''
@@ -43,7 +43,7 @@ Advances-then e e' at at' at'' r r' r'' bs es es' kept one u16_at = record {
 pub Advances-none : (e : Bool) (at : ℕ) (r : List ℕ) → Advances e at r [] at r
 Advances-none e at r = record { whole = λ t _. refl; decided = λ _. refl }
 
--- one way behind octets after another
+-- one step after another, each with its octets
 pub Follows-then : (at at' at'' : ℕ) (r r' r'' bs : List ℕ) → Follows at r at' r' → Follows at' (r' ++ bs) at'' r'' → Follows at (r ++ bs) at'' r''
 Follows-then at at' at'' r r' r'' bs one u16_at =
     let long : length r' ≡ length r - one.passed = ap length one.left ∙ length-drop one.passed r in
@@ -128,7 +128,7 @@ event-is s m before offset (Stray cause) is within = refl
 event-is s m before offset Frame is within =
     ap (λ l. FrameAt offset (drop (length l - stated_length m) l) ∷ []) is ∙ ap (λ l. FrameAt offset l ∷ []) (last-taken before m (stated_length m) within)
 
--- the event that a finder goes behind
+-- the event that a finder passes
 module _ (old s s' : FinderModel) (place len size : ℕ) (here : Candidate) (found : IsNextEvent old.ended old.rest place here)
     (is : s ≡ gone_to old place size) (takes : len ≡ candidate_len s.rest here) (is' : s' ≡ gone_to s len 0) where
   pub found-step : Advances s'.ended old.at old.rest (event_by s' s.at len here) s'.at s'.rest

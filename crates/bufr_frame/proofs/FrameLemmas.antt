@@ -1,4 +1,4 @@
--- What stands in the frames of a stream of octets.
+-- The octets of the frames of a stream.
 use Rattle.std.proofs.Common.{◌≡◌, ℕ, zero, suc, ◌+◌, ◌-◌, ◌<◌, ◌≤◌, Bool, true, false, List, [], ◌∷◌, ◌++◌, length, take, codes, refl, sym, subst, arith, length-take}
 use Rattle.std.specs.Prelude.{slice_index}
 use Rattle.std.specs.List.{AllByRecursion}
@@ -61,7 +61,7 @@ framed-here at m Nothing = omega arith
 framed-here at m (Stray cause) = omega arith
 framed-here at m Frame = omega (arith, length-take (stated_length m) m)
 
--- some octet is taken, and none that is not there
+-- some octet is taken, and only octets that are there
 taken-within : (c : ℕ) (m : List ℕ) → (0 < candidate_len (c ∷ m) (classify (c ∷ m))) × (candidate_len (c ∷ m) (classify (c ∷ m)) ≤ length (c ∷ m))
 taken-within c m = by (has_word_at (codes "BUFR") 0 (c ∷ m)) refl
   where

@@ -9,7 +9,7 @@ use Rattle.bufr_frame.specs.Input.{ReadsOnce, ReadsInput, InputEnds}
 use Rattle.bufr_frame.specs.declared.fault.RunFault.{RunFault}
 use Rattle.bufr_frame.specs.declared.fault.RunFault.TheVariants.{Read}
 
--- octets were read and stand behind those that were held
+-- octets were read and follow those that were held
 pub record ReadSoFar (left mid : Option (List ℕ)) (old now : List ℕ) : Type 0 where
   pub octets : List ℕ
   pub read : Consumes left mid octets
@@ -41,6 +41,6 @@ counted-one-more start before after reads now is more order =
 pub read-fault : (mid left' : Option (List ℕ)) (now now' bs : List ℕ) (result : Result ℕ RunFault) (fault : RunFault) → result ≡ Err fault → ReadsOnce mid left' now now' result bs → fault ≡ Read
 read-fault mid left' now now' bs result fault is once = (rw is at once.outcome).0
 
--- a read told the end
+-- a read reached the end
 pub read-end : (mid left' : Option (List ℕ)) (now now' bs : List ℕ) (result : Result ℕ RunFault) (n : ℕ) → result ≡ Ok n → n ≡ 0 → ReadsOnce mid left' now now' result bs → IsAtEnd left'
 read-end mid left' now now' bs result n is none once = (rw is at once.outcome).1 none

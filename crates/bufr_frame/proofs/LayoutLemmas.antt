@@ -1,4 +1,4 @@
--- A message that was laid out, read again.
+-- A message that was written, read again.
 use Rattle.std.proofs.Common.{◌≡◌, ◌≢◌, ◌==◌, ◌∙◌, ℕ, ◌+◌, ◌-◌, ◌*◌, ◌/◌, ◌%◌, ◌≤◌, Bool, true, false, List, [], ◌∷◌, ◌++◌, length, take, refl, ap, sym, subst, arith, Option, Some, None, Ok, get_or, codes, append_assoc, length-append}
 use Rattle.std.proofs.Math.Seq.{get_or-append_right, take-length}
 use Rattle.std.proofs.lemmas.List.{drop_at, take-append-le}
@@ -49,7 +49,7 @@ length-padded false front octets = refl
 pub length-evened : (edition front : ℕ) (octets : List ℕ) → front + length (with_even_length edition front octets) ≡ even_size edition (front + length octets)
 length-evened edition front octets = length-padded (is_padded edition (front + length octets)) front octets
 
--- in edition 3 what is left over of a division by 2 is put behind
+-- in edition 3 the remainder of a division by 2 is added
 pub even-3 : (n : ℕ) → even_size 3 n ≡ n + n % 2
 even-3 n = by (n % 2 == 1) refl
   where
@@ -75,7 +75,7 @@ length-octets_in [] says = refl
 length-octets_in (Single field ∷ more) says = omega (arith, length-octets_in more says)
 length-octets_in (Double field ∷ more) says = omega (arith, length-octets_in more says)
 
--- behind a front
+-- what comes after a prefix
 pub index-behind : (front rest : List ℕ) (p k : ℕ) → p ≡ length front → get_or (front ++ rest) (p + k) 0 ≡ get_or rest k 0
 index-behind front rest p k is =
     let e : p + k - length front ≡ k = omega arith in
@@ -157,7 +157,7 @@ length-section2_octets : (optional : Option (List ℕ)) → length (section2_oct
 length-section2_octets None = refl
 length-section2_octets (Some octets) = omega arith
 
--- section 1 behind its length
+-- section 1 after its length
 first-split : (n : ℕ) (head local1 rest : List ℕ) → ((three_octets n ++ head) ++ local1) ++ rest ≡ three_octets n ++ ((head ++ local1) ++ rest)
 first-split n head local1 rest = refl
 

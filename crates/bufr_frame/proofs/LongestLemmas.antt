@@ -25,7 +25,7 @@ raise a b place size rest (inr (word, long, grown)) first is =
     let size_is : size ≡ stated_length rest = subst P (first word) is ∙ length-eight rest long in
     omega (arith, grown, size_is)
 
--- it stays so when octets come behind
+-- it stays so when octets come after
 pub raised-read : (a b : ℕ) (rest bs : List ℕ) → Raised a b rest → Raised a b (rest ++ bs)
 raised-read a b rest bs (inl same) = inl same
 raised-read a b rest bs (inr (word, long, grown)) = inr (

@@ -1,4 +1,4 @@
--- What comes behind doesn't change what was certain.
+-- Octets that come after do not change what was certain.
 use Rattle.std.proofs.Common.{◌≡◌, ◌⊎◌, inl, inr, ℕ, zero, suc, ◌+◌, ◌-◌, ◌*◌, ◌<◌, ◌≤◌, Bool, true, false, List, [], ◌∷◌, ◌++◌, length, take, drop, codes, refl, sym, ◌∙◌, ap, subst, arith, Some, None, length-drop, append_assoc, length-append, length-take, get_or, append-nil, below_more}
 use Rattle.std.specs.Prelude.{if◌then◌else◌, nat_lt, not, take_while, min, max}
 use Rattle.std.specs.List.{list_all, prefix_len}
@@ -47,7 +47,7 @@ nothing-front m t j long absent =
       reads = λ i below. sym (get_or_append_left m t 0 (j + i) (omega arith)) ∙ occurs.reads i below;
     }))
 
--- the places before k have nothing, whatever comes behind
+-- the first k indices have no event, whatever comes after
 past-front : (k : ℕ) (m t : List ℕ) → ((j : ℕ) → j < k → j + 4 ≤ length m) → k ≤ length m → ((j : ℕ) → j < k → OccursAt m (codes "BUFR") j → ⊥)
     → (at : ℕ) → scan_from 0 at (m ++ t) ≡ scan_from 0 (at + k) (drop k m ++ t)
 past-front k m t long within absent at =
@@ -124,7 +124,7 @@ taken-front m t Nothing long = refl
 taken-front m t (Stray cause) long = refl
 taken-front m t Frame long = stated-front m t long
 
--- the event at the front, whatever comes behind
+-- the first event, whatever comes after
 pub found-front : (m t : List ℕ) (at : ℕ) → has_word_at (codes "BUFR") 0 m ≡ true → 8 ≤ length m → stated_length m ≤ length m
     → scan_from 0 at (m ++ t) ≡ stream_event at m (classify m) ++ scan_from 0 (at + candidate_len m (classify m)) (drop (candidate_len m (classify m)) m ++ t)
 found-front m t at here long whole =
@@ -141,15 +141,15 @@ found-front m t at here long whole =
 pub stands-there : (s : List ℕ) (j : ℕ) → OccursAt s (codes "BUFR") j → has_word_at (codes "BUFR") 0 (drop j s) ≡ true
 stands-there s j occurs = (bytes_eq-Decides (take 4 (drop j s)) (codes "BUFR")).1 (OccursAt-part s (codes "BUFR") j occurs)
 
--- `BUFR` does not stand at a place, as a comparison tells it
+-- `BUFR` is not at an index, by the comparison of the code
 pub absent-there : (s m : List ℕ) (place : ℕ) (b : Bool) → m ≡ drop place s → b ≡ has_word_at (codes "BUFR") 0 m → b ≡ false → OccursAt s (codes "BUFR") place → ⊥
 absent-there s m place b is so differs occurs = true≢false (sym (so ∙ ap (has_word_at (codes "BUFR") 0) is ∙ stands-there s place occurs) ∙ differs)
 
--- nor at the places before it
+-- nor at the indices before it
 pub nowhere-more : (s : List ℕ) (place : ℕ) → Nowhere (OccursAt s (codes "BUFR")) 0 place → (OccursAt s (codes "BUFR") place → ⊥) → Nowhere (OccursAt s (codes "BUFR")) 0 (place + 1)
 nowhere-more s place before here k low below = below_more (λ j. OccursAt s (codes "BUFR") j → ⊥) place (λ j less. before j (omega arith) less) here k below
 
--- a place behind others, counted from them and from the front
+-- an index after others, counted from them and from 0
 occurs-behind : (s : List ℕ) (near k : ℕ) → OccursAt s (codes "BUFR") (near + k) → OccursAt (drop near s) (codes "BUFR") k
 occurs-behind s near k occurs = record {
   fits = omega (arith, occurs.fits, length-drop near s);
@@ -162,7 +162,7 @@ occurs-before s near k occurs = record {
   reads = λ j below. ap (λ n. get_or s n 0) (omega arith) ∙ sym (get_or-drop near s (k + j) 0) ∙ occurs.reads j below;
 }
 
--- no `BUFR` among the nearest places, and none up to a place behind them
+-- no `BUFR` at the nearest indices, and none up to an index after them
 nowhere-behind : (s : List ℕ) (near far : ℕ) → Nowhere (OccursAt s (codes "BUFR")) 0 near → Nowhere (OccursAt (drop near s) (codes "BUFR")) 0 far → Nowhere (OccursAt s (codes "BUFR")) 0 (near + far)
 nowhere-behind s near far before behind k low below occurs = elim (cases_lt k near) [
   | inl less ↦ before k (omega arith) less occurs
@@ -184,18 +184,18 @@ none-behind s m near is within before none =
     let N : ℕ → Type 0 = λ n. Nowhere (OccursAt s (codes "BUFR")) 0 n in
     subst N (omega (arith, length-drop near s)) (nowhere-behind s near (length (drop near s) + 1) before (subst F is none))
 
--- the places before the first `BUFR`
+-- the indices before the first `BUFR`
 to-first : (s : List ℕ) (place : ℕ) → FindsNeedle s (codes "BUFR") 0 (Some place) → (t : List ℕ) (at : ℕ) → scan_from 0 at (s ++ t) ≡ scan_from 0 (at + place) (drop place s ++ t)
 to-first s place found t at =
     past-front place s t (λ j below. omega (arith, found.1.fits)) (omega (arith, found.1.fits)) (λ j below. found.0.before j (omega arith) below) at
 
--- the word at the front, as a search tells it
+-- the octets begin with the word, by the search of the code
 pub word-occurs : (s : List ℕ) → StartsWithBufr s → OccursAt s (codes "BUFR") 0
 word-occurs s here =
     let same : take 4 (drop 0 s) ≡ codes "BUFR" = (bytes_eq-Decides (take 4 (drop 0 s)) (codes "BUFR")).0 here in
     OccursAt-from_part s (codes "BUFR") 0 (omega (arith, length-take {A = ℕ}, length-drop {A = ℕ}, ap length same)) same
 
--- the first place of the word is the front, where it stands there
+-- the first index of the word is 0, where the octets begin with it
 first-front : (s : List ℕ) (place : ℕ) → FindsNeedle s (codes "BUFR") 0 (Some place) → StartsWithBufr s → place ≡ 0
 first-front s zero found here = refl
 first-front s (suc k) found here = absurd (found.0.before 0 (omega arith) (omega arith) (word-occurs s here))
@@ -221,7 +221,7 @@ found-so ended s place found long whole =
       };
     }
 
--- behind the end nothing comes
+-- after the end nothing comes
 pub found-so-end : (s : List ℕ) (place : ℕ) → FindsNeedle s (codes "BUFR") 0 (Some place) → IsNextEvent true s place (classify (drop place s))
 found-so-end s place found =
     let m = drop place s in
@@ -262,14 +262,14 @@ cut-so m here (inr short) =
 pub length-eight : (m : List ℕ) → 8 ≤ length m → length_here m ≡ stated_length m
 length-eight m long = let a : nat_lt (length m) 8 ≡ false = grind (arith, nat_tests) in rw a refl
 
--- the word with too few octets behind it
+-- the word with too few octets after it
 pub cut-here : (m : List ℕ) (size : ℕ) → StartsWithBufr m → size ≡ length_here m → length m < max 8 size → classify m ≡ Stray Cut
 cut-here m size here is few = elim (cases_lt (length m) 8) [
   | inl short ↦ cut-so m here (inl short)
   | inr long ↦ cut-so m here (inr (let e : size ≡ stated_length m = is ∙ length-eight m long in omega arith))
 ]
 
--- more octets are needed behind the first `BUFR`
+-- more octets are needed after the first `BUFR`
 pub open-so : (s : List ℕ) (place size : ℕ) → FindsNeedle s (codes "BUFR") 0 (Some place) → size ≡ length_here (drop place s) → length (drop place s) < max 8 size → IsIncomplete s place size
 open-so s place size found is few =
     let m = drop place s in
@@ -283,7 +283,7 @@ open-so s place size found is few =
       none = λ at. none-cut at m (omega (arith, found.1.fits, length-drop place s)) (cut-here m size here is few);
     }
 
--- no `BUFR` stands there yet, but the last three octets may begin one
+-- there is no `BUFR` yet, but the last three octets may begin one
 pub none-so : (s : List ℕ) → FindsNeedle s (codes "BUFR") 0 None → IsIncomplete s (length s - min (length s) 3) 0
 none-so s found =
     let k = length s - min (length s) 3 in
@@ -330,7 +330,7 @@ found-whole ended s m place size v found states long whole is here =
     let Z : ℕ → Type 0 = λ z. z ≤ length m in
     subst V (sym (here ∙ ap classify is)) (found-so ended s place found (subst L is long) (subst W is (subst Z size_is whole)))
 
--- what is certain of a stream, and where it stands then
+-- what is certain of a stream, and how far that reaches
 pub record Certain (at : ℕ) (s : List ℕ) : Type 0 where
   pub events : List StreamEvent
   pub at' : ℕ
@@ -389,7 +389,7 @@ take_while-all (x ∷ xs) ys all =
     let one : 1 + prefix_len is_decided (xs ++ ys) ≡ suc (prefix_len is_decided (xs ++ ys)) = omega arith in
     rw (both.0, one) (ap (λ l. x ∷ l) (take_while-all xs ys both.1))
 
--- what was certain stays the front, whatever comes behind
+-- what was certain stays the prefix, whatever comes after
 pub open-front : (s t : List ℕ) → (more : List StreamEvent) × (scan (s ++ t) ≡ open_scan s ++ more)
 open-front s t =
     let c = certain-within (length s) 0 s (omega arith) in

@@ -36,14 +36,14 @@ scan_from-here at (x ∷ m) some goes =
     ap (λ t. stream_event at (x ∷ m) (classify (x ∷ m)) ++ t)
     (scan_from-skip (k - 1) (at + 1) m ∙ one-on k at x m goes)
 
--- where nothing is, the scan goes on one octet further
+-- where no event is, the scan goes on one octet further
 pub scan_from-nothing : (at x : ℕ) (m : List ℕ) → classify (x ∷ m) ≡ Nothing → scan_from 0 at (x ∷ m) ≡ scan_from 0 (at + 1) m
 unfolding scan_from
 scan_from-nothing at x m nothing =
     let P : Candidate → Type 0 = λ v. stream_event at (x ∷ m) v ++ scan_from (candidate_len (x ∷ m) v - 1) (at + 1) m ≡ scan_from 0 (at + 1) m in
     subst P (sym nothing) refl
 
--- nothing is at the first k places
+-- no event is at the first k indices
 pub scan_from-past : (k at : ℕ) (m : List ℕ) → k ≤ length m → ((j : ℕ) → j < k → classify (drop j m) ≡ Nothing) → scan_from 0 at m ≡ scan_from 0 (at + k) (drop k m)
 scan_from-past zero at m within none = rw add-zero refl
 scan_from-past (suc k) at [] within none = absurd (omega arith)
@@ -52,7 +52,7 @@ scan_from-past (suc k) at (x ∷ m) within none =
     ∙ scan_from-past k (at + 1) m (omega arith) (λ j below. none (suc j) (omega arith))
     ∙ ap (λ n. scan_from 0 n (drop k m)) (omega arith)
 
--- where `BUFR` doesn't stand, nothing is
+-- where `BUFR` is not, no event is
 pub verdict-nothing : (m : List ℕ) → has_word_at (codes "BUFR") 0 m ≡ false → classify m ≡ Nothing
 verdict-nothing m absent = rw absent refl
 
@@ -85,7 +85,7 @@ verdict-some m here = rw here (not-nothing (nat_lt (length m) 8) (nat_lt (length
 pub verdict-there : (s : List ℕ) (j : ℕ) → OccursAt s (codes "BUFR") j → classify (drop j s) ≢ Nothing
 verdict-there s j occurs = verdict-some (drop j s) ((bytes_eq-Decides (take 4 (drop j s)) (codes "BUFR")).1 (OccursAt-part s (codes "BUFR") j occurs))
 
--- the event at a place, and the rest of the scan behind it
+-- the event at an index, and the rest of the scan after it
 pub scan_from-front : (s : List ℕ) (at place k : ℕ) → place < length s → k ≡ candidate_len (drop place s) (classify (drop place s)) → 0 < k
     → scan_from 0 at (drop place s) ≡ stream_event at (drop place s) (classify (drop place s)) ++ scan_from 0 (at + k) (drop (place + k) s)
 scan_from-front s at place k within is goes =

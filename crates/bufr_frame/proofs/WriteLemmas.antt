@@ -24,7 +24,7 @@ pub is_some-map : {X Y : Type 0} (f : X → Y) (o : Option X) → is_some o ≡ 
 is_some-map f (Some x) = refl
 is_some-map f None = refl
 
--- what is padded behind a front
+-- what is padded after a prefix
 padded-behind : (b : Bool) (front octets : List ℕ) → with_pad_octet b (front ++ octets) ≡ front ++ with_pad_octet b octets
 padded-behind true front octets = append_assoc front octets (0 ∷ [])
 padded-behind false front octets = refl

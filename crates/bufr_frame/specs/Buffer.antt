@@ -4,8 +4,8 @@ use Rattle.std.specs.Prelude.{◌≡◌, ℕ, ◌-◌, ◌<◌, ◌≤◌, List,
 use Rattle.bufr_frame.specs.declared.fault.RunFault.{RunFault}
 use Rattle.bufr_frame.specs.declared.fault.RunFault.TheVariants.{Memory}
 
--- The octets stand some places nearer to the front, and room is behind them; or memory was refused,
--- and all is as it was.
+-- The octets move some places towards the start, with room after them; or memory was refused, and
+-- nothing changes.
 abbrev pub MakesRoom : (old new : List ℕ) → (len len' start filled : ℕ) → Result ℕ RunFault → Type 0
 MakesRoom old new len len' start filled (Ok slid) =
     (slid ≤ start) × (filled - slid < len')

@@ -1,11 +1,11 @@
--- What an event of the code says.
+-- The meaning of an event of the code.
 -- Cited by public contracts.
 use Rattle.std.specs.Prelude.{List, [], ◌∷◌, ◌≤◌, length}
 use Rattle.bufr_frame.specs.Scan.{StreamEvent, FrameAt, StrayAt}
 use Rattle.bufr_frame.specs.declared.finder.Event.{Event}
 use Rattle.bufr_frame.specs.declared.finder.Event.TheVariants.{Frame, Stray, Done}
 
--- what happened in the stream
+-- the event of the stream
 abbrev pub events_of : Event → List StreamEvent
 events_of (Frame offset octets) = FrameAt offset octets.now ∷ []
 events_of (Stray offset cause) = StrayAt offset cause ∷ []

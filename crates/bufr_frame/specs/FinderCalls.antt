@@ -13,7 +13,7 @@ use Rattle.bufr_frame.specs.declared.fault.RunFault.TheVariants.{Read, Write, In
 use Rattle.bufr_frame.specs.declared.finder.Phase.{Phase}
 use Rattle.bufr_frame.specs.declared.finder.Phase.TheVariants as phase
 
--- what a finder stands for
+-- the model of a finder
 pub record FinderModel : Type 0 where
   -- the octets that were passed and are still held
   pub before : List ℕ
@@ -32,7 +32,7 @@ pub record FinderModel : Type 0 where
   -- how many octets there is room for without taking memory
   pub room : ℕ
 
--- how many octets are held
+-- the number of octets held
 abbrev pub held : FinderModel → ℕ
 held s = length s.before + length s.rest
 
@@ -50,7 +50,7 @@ new_finder =
       room = 0;
     }
 
--- the end was reached
+-- whether the end was reached
 abbrev pub ended_in : Phase → Bool
 ended_in phase.Reading = false
 ended_in phase.Ended = true
@@ -62,7 +62,7 @@ fault_in phase.Reading = None
 fault_in phase.Ended = None
 fault_in (phase.Stopped fault) = Some fault
 
--- What is left of s, whose first octet is at offset `at`, behind its first octets.
+-- `rest`, from offset `at'`, is a suffix of s, whose first octet is at offset `at`.
 pub record Follows (at : ℕ) (s : List ℕ) (at' : ℕ) (rest : List ℕ) : Type 0 where
   pub passed : ℕ
   pub within : passed ≤ length s
@@ -89,7 +89,7 @@ pub record CountsReads (reads reads' : ℕ) (old new : FinderModel) : Type 0 whe
   pub order : old.reads ≤ new.reads
   pub most : new.reads ≤ max_reads
 
--- nothing more is in what is held
+-- what is held has no further event
 abbrev pub HasNoMoreEvents : FinderModel → Type 0
 HasNoMoreEvents s = (s.ended ≡ true) × ((at : ℕ) → scan_from 0 at s.rest ≡ [])
 
@@ -98,8 +98,8 @@ abbrev pub IsUndecided : FinderModel → RunFault → Type 0
 IsUndecided s fault = (s.fault ≡ Some fault) × (s.ended ≡ false)
     × ((at : ℕ) → NoEventCertain at s.rest)
 
--- how a fault leaves a finder: never is it one of a write; an input is too long only after 2^32
--- reads, and memory is wanted only before
+-- how a fault leaves a finder: it is never one of a write; an input is too long only after 2^32
+-- reads, and memory is needed only before
 abbrev pub StopsFinder : FinderModel → RunFault → Type 0
 StopsFinder new Read = IsUndecided new Read
 StopsFinder new Write = ⊥
@@ -110,30 +110,30 @@ StopsFinder new Memory = IsUndecided new Memory × (new.reads < max_reads)
 abbrev pub ReadsOnlyIfUndecided : FinderModel → FinderModel → Type 0
 ReadsOnlyIfUndecided old new = old.reads ≢ new.reads → NoEventCertain old.at old.rest
 
--- Reads one after another, where these octets were left before the first, and what each gave: none
--- was made while an event was certain in what was left then with what the reads before it gave, and
--- none gave more than so many octets.
+-- Reads one after another, with what each gave, where `left` is what was left before the first. No
+-- read was made while an event was certain in `left` and the octets read so far. No read gave more
+-- than `most` octets.
 abbrev pub EachReadIsNeeded : (most at : ℕ) (left : List ℕ) (given : List (List ℕ)) → Type 0
 EachReadIsNeeded most at left [] = Unit {0}
 EachReadIsNeeded most at left (octets ∷ more) =
     NoEventCertain at left × (length octets ≤ most) × EachReadIsNeeded most at (left ++ octets) more
 
--- The octets that a call read are what its reads gave, each of which waited, and gave no more than
--- may be held.
+-- The octets of a call are what its reads gave. Each read was needed, and gave no more than may be
+-- held.
 pub record CallReadsAreNeeded (old new : FinderModel) (bs : List ℕ) : Type 0 where
   pub given : List (List ℕ)
   pub octets : bs ≡ concat given
   pub made : new.reads ≡ old.reads + length given
   pub waited : EachReadIsNeeded (max 4096 new.longest) old.at old.rest given
 
--- A call read some octets, told events, and saw the lengths of those whose stated length counts.
+-- A call read some octets, returned events, and raised the greatest length by those seen.
 abbrev pub ReadsOn : (left left' : Option (List ℕ)) → (old new : FinderModel)
     → (events seen : List StreamEvent) → Type 0
 ReadsOn left left' old new events seen =
     (bs : List ℕ) × ReadsAndPasses left left' old new bs events
     × (old.fault ≡ None → RaisesLongest old new bs seen) × CallReadsAreNeeded old new bs
 
--- memory is wanted only where the room was less than twice the octets that may be held
+-- memory is needed only where the room was less than twice the octets that may be held
 abbrev pub GrowsOnlyIfFull : FinderModel → FinderModel → RunFault → Type 0
 GrowsOnlyIfFull old new Read = Unit {0}
 GrowsOnlyIfFull old new Write = Unit {0}

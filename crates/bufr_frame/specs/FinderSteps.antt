@@ -1,4 +1,4 @@
--- What the steps of a finder do, one by one.
+-- What the steps of a finder do.
 -- Cited by private steps only.
 use Rattle.std.specs.Prelude.{◌≡◌, ◌≢◌, ℕ, ◌+◌, ◌-◌, ◌*◌, ◌<◌, ◌≤◌, true, false, List, [], ◌∷◌, ◌++◌, Option, Some, None, Result, Ok, Err, length, take, drop, max}
 use Rattle.std.specs.Io.KnownBytes.{Consumes, IsAtEnd}
@@ -17,22 +17,23 @@ event_by s offset len Nothing = []
 event_by s offset len (Stray cause) = StrayAt offset cause ∷ []
 event_by s offset len Frame = FrameAt offset (drop (length s.before - len) s.before) ∷ []
 
+-- the event that was passed last, from its offset and length
 abbrev pub passed_events : FinderModel → PassedEvent → List StreamEvent
 passed_events s p = event_by s p.offset p.len p.here
 
--- the events of a call that goes on
+-- the events of a call that passes one
 abbrev pub events_by : FinderModel → Result (Option PassedEvent) RunFault → List StreamEvent
 events_by s (Ok (Some passed)) = passed_events s passed
 events_by s (Ok None) = []
 events_by s (Err fault) = []
 
--- the events whose stated length counts: at a fault the first that is left
+-- the events whose stated length counts: after a fault the first that is left
 abbrev pub seen_by : FinderModel → Result (Option PassedEvent) RunFault → List StreamEvent
 seen_by s (Ok (Some passed)) = passed_events s passed
 seen_by s (Ok None) = []
 seen_by s (Err fault) = first_event (scan_from 0 s.at s.rest)
 
--- An event was passed: it is before what is left, and it is held.
+-- An event was passed: it ends where the rest begins, and it is held.
 pub record PassesEvent (old new : FinderModel) (passed : PassedEvent) : Type 0 where
   pub sound : new.fault ≡ None
   pub moves : old.at < new.at
@@ -42,7 +43,7 @@ pub record PassesEvent (old new : FinderModel) (passed : PassedEvent) : Type 0 w
   pub frame : passed.here ≡ Frame → 12 ≤ passed.len
   pub stray : passed.here ≢ Frame → passed.len ≡ 4
 
--- how a call that goes on leaves a finder
+-- how a call that passes an event leaves a finder
 abbrev pub AdvancesFinder : FinderModel → FinderModel → Result (Option PassedEvent) RunFault
     → Type 0
 AdvancesFinder old new (Ok (Some passed)) = PassesEvent old new passed
@@ -64,7 +65,7 @@ ReadEnds left' old new bs (Err Memory) =
     (new.reads ≡ old.reads) × (bs ≡ []) × (new.ended ≡ false)
     × (old.room < 2 * max 4096 old.longest)
 
--- One read: octets come behind those that are left, or the end was reached.
+-- One read: octets come after those that are left, or the end was reached.
 pub record ReadsMore (left left' : Option (List ℕ)) (old new : FinderModel)
     (result : Result (Unit {0}) RunFault) (bs : List ℕ) : Type 0 where
   pub read : Consumes left left' bs
@@ -81,7 +82,7 @@ pub record KeepsRun (old new : FinderModel) : Type 0 where
   pub fault : new.fault ≡ old.fault
   pub reads : new.reads ≡ old.reads
 
--- behind the first n octets that are left, where a length is stated
+-- the finder after it passes the first n octets that are left, where a length is stated
 abbrev pub gone_to : FinderModel → (n stated_length : ℕ) → FinderModel
 gone_to s n stated_length =
     record s {

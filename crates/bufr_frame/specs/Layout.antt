@@ -1,6 +1,6 @@
--- How a message of edition 3 or 4 is laid out. (WMO-No. 306, Volume I.2, FM 94: sections 0 to 5)
+-- The layout of a message of edition 3 or 4. (WMO-No. 306, Volume I.2, FM 94: sections 0 to 5)
 -- Cited by public contracts.
--- Lengths are the least that hold the parts, in edition 3 sections 3 and 4 made even; reserved
+-- Lengths are the least that hold the parts, with sections 3 and 4 made even in edition 3. Reserved
 -- octets and bits are zero, a choice of this project.
 use Rattle.std.specs.Prelude.{◌≡◌, ℕ, ◌≤◌, ◌+◌, ◌*◌, ◌==◌, nat_le, ◌&&◌, ◌||◌, Bool, true, false, List, [], ◌∷◌, ◌++◌, Option, Some, None, length, codes, is_some, if◌then◌else◌}
 use Rattle.bufr_frame.specs.Octets.{three_octets, two_octets, octets_of_words}
@@ -18,6 +18,7 @@ pub record MessageParts : Type 0 where
   pub compressed : Bool
   pub payload : List ℕ
 
+-- the parts from the arguments of `write_message`
 abbrev pub parts_of : List ℕ → Option (List ℕ) → List ℕ → ℕ
     → (observed compressed : Bool) → List ℕ → MessageParts
 parts_of local1 section2 descriptors subsets observed compressed payload =
@@ -40,17 +41,17 @@ section2_size (Some octets) = 4 + length octets
 abbrev pub even_size : (edition size : ℕ) → ℕ
 even_size edition size = if is_padded edition size then size + 1 else size
 
--- octets with a zero octet behind them, where they are padded
+-- octets followed by a zero octet, where they are padded
 abbrev pub with_pad_octet : (pads : Bool) → List ℕ → List ℕ
 with_pad_octet pads octets = if pads then octets ++ 0 ∷ [] else octets
 
--- what stands in a section 3 or 4 behind its first octets, `front` of them
+-- the octets of a section 3 or 4 after its first `front` octets
 abbrev pub with_even_length : (edition front : ℕ) → List ℕ → List ℕ
 with_even_length edition front octets = with_pad_octet (is_padded edition (front + length octets))
     octets
 
--- the octets of a message: 8 of section 0, those of section 1 with local use, those of section 2, 7
--- or more of section 3, 4 or more of section 4, 4 of section 5
+-- the octets of a message: 8 of section 0, those of section 1 with local use, and those of section
+-- 2; 7 or more of section 3, 4 or more of section 4, and 4 of section 5
 abbrev pub size_from : (edition local1 : ℕ) → Option (List ℕ) → (descriptors payload : ℕ) → ℕ
 size_from edition local1 section2 descriptors payload =
     8 + (first_least edition + local1) + section2_size section2
@@ -91,18 +92,20 @@ pub record IsFitting (h : Head) : Type 0 where
   pub edition : is_edition h.edition ≡ true
   pub fits : (field : Field) → head_value h false field ≤ most_in (slots_of h.edition) field
 
--- section 1 behind its length and before its local use
+-- section 1 after its length and before its local use
 abbrev pub head_octets : Head → (optional : Bool) → List ℕ
 head_octets h optional = slot_octets (slots_of h.edition) (head_value h optional)
 
+-- section 1: its length, its values, and its local use
 abbrev pub section1_octets : Head → List ℕ → (optional : Bool) → List ℕ
 section1_octets h local1 optional =
     three_octets (first_least h.edition + length local1) ++ head_octets h optional ++ local1
 
--- section 4, and section 2 where it is there: the length, a reserved octet, the octets
+-- section 4: its length, a reserved octet, the payload
 abbrev pub section4_octets : List ℕ → List ℕ
 section4_octets payload = three_octets (4 + length payload) ++ 0 ∷ payload
 
+-- section 2 where there is one, in the layout of section 4
 abbrev pub section2_octets : Option (List ℕ) → List ℕ
 section2_octets None = []
 section2_octets (Some octets) = section4_octets octets
@@ -111,8 +114,8 @@ section2_octets (Some octets) = section4_octets octets
 abbrev pub data_flags : (observed compressed : Bool) → ℕ
 data_flags observed compressed = (if observed then 128 else 0) + (if compressed then 64 else 0)
 
--- section 3: the length, a reserved octet, the number of subsets, the flags, and behind them the
--- octets of the descriptors with what makes it even
+-- section 3: the length, a reserved octet, the number of subsets, the flags, then the octets of the
+-- descriptors with the padding
 abbrev pub section3_octets : List ℕ → (subsets flags : ℕ) → List ℕ
 section3_octets content subsets flags =
     three_octets (7 + length content) ++ 0 ∷ two_octets subsets ++ flags ∷ content
@@ -126,8 +129,8 @@ message_octets h p =
     (octets_of_words p.descriptors)) p.subsets (data_flags p.observed p.compressed)
     ++ (section4_octets (with_even_length h.edition 4 p.payload) ++ codes "7777"))))
 
--- the sections that a message of these parts has; in edition 3 the payload may be followed by the
--- octet that makes section 4 even
+-- the sections of a message of these parts; in edition 3 the octet that makes section 4 even may
+-- follow the payload
 abbrev pub sections_from : Head → MessageParts → Sections
 sections_from h p = record {
   head = h;

@@ -1,23 +1,23 @@
 -- The definitions of this crate, a file for each idea.
 -- a buffer that slides over a stream
 pub mod Buffer
--- the editions as the code tells them apart
+-- the editions as the type of the code
 pub mod Editions
--- what an event of the code says
+-- the meaning of an event of the code
 pub mod Events
--- what a finder stands for, and what a call of it does
+-- the model of a finder, and what a call of it does
 pub mod FinderCalls
 -- how a finder keeps the octets that it holds
 pub mod FinderInvariant
 -- what reading an input to its end gives
 pub mod Input
--- how a message is laid out, and which heads can be written
+-- the layout of a message, and which heads can be written
 pub mod Layout
 -- the greatest length that was stated
 pub mod Longest
--- how a scan goes on behind its first events
+-- how a scan goes on after its first events
 pub mod Lookahead
--- what a call of `Finder::next` answers
+-- what a call of `Finder::next` returns
 pub mod Next
 -- the numbers of the faults
 pub mod Numbers
@@ -27,7 +27,7 @@ pub mod Octets
 pub mod FinderSteps
 -- messages that are written as `write_message` writes them
 pub mod Plain
--- what a call that reads leaves of its reader's counts
+-- the counts of a reader after a call
 pub mod Runs
 -- the events of a stream: its messages and its stray words
 pub mod Scan
@@ -35,7 +35,7 @@ pub mod Scan
 pub mod Section1
 -- the sections of a message, or the first fault; which sections are padded
 pub mod Sections
--- what octets show behind which more may come
+-- what octets show when more may come after them
 pub mod Search
--- what an iterator of words has left
+-- the words that an iterator has left
 pub mod Words

@@ -3,11 +3,11 @@
 use Rattle.std.specs.Prelude.{ℕ, ◌-◌, max, nat_lt, List, [], ◌∷◌, length, drop, if◌then◌else◌}
 use Rattle.bufr_frame.specs.Scan.{StreamEvent, FrameAt, StrayAt, stated_length}
 
--- the length that is stated at the front, where eight octets are there
+-- the length that octets 5 to 7 state, 0 where there are not eight octets
 abbrev pub length_here : List ℕ → ℕ
 length_here m = if nat_lt (length m) 8 then 0 else stated_length m
 
--- where `BUFR` stands
+-- the offset of the `BUFR` of an event
 abbrev pub offset_of : StreamEvent → ℕ
 offset_of (FrameAt offset octets) = offset
 offset_of (StrayAt offset cause) = offset

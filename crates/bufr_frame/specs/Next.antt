@@ -1,4 +1,4 @@
--- What a call of `Finder::next` answers. (a choice of this project)
+-- What a call of `Finder::next` returns. (a choice of this project)
 -- Cited by public contracts.
 use Rattle.std.specs.Prelude.{◌≡◌, ℕ, ◌+◌, ◌<◌, ◌≤◌, ◌^◌, max, length, List, [], false, Option, None, IfSome, Result, Ok, Err}
 use Rattle.bufr_frame.specs.Scan.{StreamEvent, scan_from}
@@ -9,13 +9,13 @@ use Rattle.bufr_frame.specs.declared.fault.RunFault.{RunFault}
 use Rattle.bufr_frame.specs.declared.finder.Event.{Event}
 use Rattle.bufr_frame.specs.declared.finder.Event.TheVariants.{Frame, Stray, Done}
 
--- the events that an answer tells
+-- the events of an answer
 abbrev pub events_returned : Result Event RunFault → List StreamEvent
 events_returned (Ok event) = events_of event
 events_returned (Err fault) = []
 
--- the events whose stated length counts: those that are told, and at a fault the first that is
--- left, which is not certain
+-- the events whose stated length counts: those returned, and after a fault the first that is left,
+-- which is not certain
 abbrev pub seen_at : FinderModel → Result Event RunFault → List StreamEvent
 seen_at new (Ok event) = events_of event
 seen_at new (Err fault) = first_event (scan_from 0 new.at new.rest)
@@ -32,8 +32,8 @@ LeavesFinder old new (Err fault) =
     (old.ended ≡ false) × (old.fault ≡ None → StopsFinder new fault)
     × (old.fault ≡ None → GrowsOnlyIfFull old new fault)
 
--- A call reads some octets, and the scan of what was left and of these begins with the event that
--- it answers; no read of them is made while anything that is left then is certain.
+-- A call reads some octets, and the scan of what was left and of these begins with the event
+-- returned. No read is made while anything that is left is certain.
 pub record ReturnsNextEvent (left left' : Option (List ℕ)) (reads reads' : ℕ)
     (old new : FinderModel)
     (result : Result Event RunFault) : Type 0 where
@@ -42,16 +42,16 @@ pub record ReturnsNextEvent (left left' : Option (List ℕ)) (reads reads' : ℕ
   pub counts : CountsReads reads reads' old new
   pub waits : ReadsOnlyIfUndecided old new
   pub near : new.at < 2 ^ 63
-  -- no more octets are held than the longest length that was stated asks for
+  -- no more octets are held than the greatest stated length needs
   pub bound : held new ≤ max 4096 new.longest
-  -- after a fault nothing changes any more
+  -- after a fault nothing changes
   pub again : IfSome old.fault (λ _. new ≡ old)
 
 -- after a fault the same fault comes again
 abbrev pub RepeatsFault : FinderModel → Result Event RunFault → Type 0
 RepeatsFault old result = IfSome old.fault (λ fault. result ≡ Err fault)
 
--- all octets up to `end` that were read and are not behind the event are held, a frame's too
+-- all octets that were read, up to `end`, are held: from a frame on, or after a stray word
 abbrev pub HoldsUnread : (end : ℕ) → FinderModel → Result Event RunFault → Type 0
 HoldsUnread end new (Ok (Frame offset octets)) = end ≤ offset + held new
 HoldsUnread end new (Ok (Stray offset cause)) = end ≤ offset + 4 + held new

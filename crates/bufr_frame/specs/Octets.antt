@@ -2,11 +2,11 @@
 -- Cited by public contracts.
 use Rattle.std.specs.Prelude.{ℕ, ◌+◌, ◌*◌, ◌/◌, ◌%◌, List, [], ◌∷◌, slice_index}
 
--- the number that three octets from place p write
+-- the number that the three octets from index p write
 abbrev pub u24_at : List ℕ → ℕ → ℕ
 u24_at m p = 65536 * slice_index m p + 256 * slice_index m (p + 1) + slice_index m (p + 2)
 
--- the number that two octets from place p write
+-- the number that the two octets from index p write
 abbrev pub u16_at : List ℕ → ℕ → ℕ
 u16_at m p = 256 * slice_index m p + slice_index m (p + 1)
 

@@ -6,19 +6,22 @@ use Rattle.bufr_frame.specs.Octets.{u24_at}
 use Rattle.bufr_frame.specs.Section1.{Flags, slot_value}
 use Rattle.bufr_frame.specs.Sections.{edition_of, slots_in, has_section2}
 
--- where section 2 begins, or section 3 where there is no section 2
+-- the index where section 2 begins, or section 3 where there is no section 2
 abbrev pub section2_begins : List ℕ → ℕ
 section2_begins m = 8 + u24_at m 8
 
+-- the index where section 3 begins
 abbrev pub section3_begins : List ℕ → ℕ
 section3_begins m =
     if has_section2 m then section2_begins m + u24_at m (section2_begins m) else section2_begins m
 
+-- the index where section 4 begins
 abbrev pub section4_begins : List ℕ → ℕ
 section4_begins m = section3_begins m + u24_at m (section3_begins m)
 
--- A message as a finder gives it, with all reserved octets and bits zero and no octet left over in
--- section 3; in edition 3 sections 3 and 4 are even, and the octet left over in section 3 is zero.
+-- A message as a finder returns it, with all reserved octets and bits zero and no octet left over
+-- in section 3. In edition 3 sections 3 and 4 are even, and the octet left over in section 3 is
+-- zero.
 pub record IsPlain (m : List ℕ) : Type 0 where
   pub octets : All (λ octet. octet < 256) m
   pub word : take 4 m ≡ codes "BUFR"

@@ -1,12 +1,11 @@
--- What a call that reads leaves of its reader's counts. (a choice of this project)
+-- The counts of a reader after a call. (a choice of this project)
 -- Cited by public contracts.
 use Rattle.std.specs.Prelude.{◌≡◌, ℕ, ◌<◌, ◌≤◌, ◌^◌, Result, Ok, Err}
 use Rattle.bufr_bits.specs.Counts.{counted}
 use Rattle.bufr_frame.specs.declared.fault.RunFault.{RunFault}
 use Rattle.bufr_frame.specs.declared.fault.RunFault.TheVariants.{Read, Write, InputTooLong, Memory}
 
--- the reader's count of failures after a call: a read fault is one more failure, and nothing else
--- changes it
+-- the reader's count of failures after a call: a read fault adds one, and nothing else does
 abbrev pub read_failures_after : {X : Type 0} → ℕ → Result X RunFault → ℕ
 read_failures_after count (Ok x) = count
 read_failures_after count (Err Read) = counted count 1
@@ -18,7 +17,7 @@ read_failures_after count (Err Memory) = count
 abbrev pub max_reads : ℕ
 max_reads = 2 ^ 32
 
--- at most 2^32 reads were made; an input is too long only after all of them, and memory is wanted
+-- at most 2^32 reads were made; an input is too long only after all of them, and memory is needed
 -- only before
 abbrev pub MakesReads : {X : Type 0} → (reads reads' : ℕ) → Result X RunFault → Type 0
 MakesReads reads reads' result =

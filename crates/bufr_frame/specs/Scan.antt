@@ -1,8 +1,7 @@
--- The events of a stream of octets: its messages, and the places where `BUFR` stands and no message
--- does.
+-- The events of a stream of octets: its messages, and each `BUFR` where no message begins.
 -- Cited by public contracts.
--- (The word and the length in octets 5 to 7: WMO-No. 306, Volume I.2, FM 94, section 0. What is
--- done with a stray word is a choice of this project.)
+-- (The word and the length in octets 5 to 7: WMO-No. 306, Volume I.2, FM 94, section 0. The
+-- treatment of a stray word is a choice of this project.)
 use Rattle.std.specs.Prelude.{ℕ, zero, suc, ◌+◌, ◌-◌, Bool, true, false, not, nat_lt, List, [], ◌∷◌, ◌++◌, length, take, drop, codes, if◌then◌else◌, take_while}
 use Rattle.std.specs.Str.{bytes_eq}
 use Rattle.bufr_frame.specs.Octets.{u24_at}
@@ -11,12 +10,12 @@ use Rattle.bufr_frame.specs.declared.fault.Cause.TheVariants.{Cut, ShortLength, 
 use Rattle.bufr_frame.specs.declared.search.Candidate.{Candidate}
 use Rattle.bufr_frame.specs.declared.search.Candidate.TheVariants.{Nothing, Stray, Frame}
 
--- a message, or a place where `BUFR` stands and no message does; offsets count from 0
+-- a message, or a `BUFR` where no message begins; offsets count from 0
 pub data StreamEvent : Type 0 where
   FrameAt : (offset : ℕ) (octets : List ℕ) → StreamEvent
   StrayAt : (offset : ℕ) (cause : Cause) → StreamEvent
 
--- the four octets of `word` stand at place p
+-- the four octets of `word` are at index p
 abbrev pub has_word_at : List ℕ → ℕ → List ℕ → Bool
 has_word_at word p m = bytes_eq (take 4 (drop p m)) word
 
@@ -24,7 +23,7 @@ has_word_at word p m = bytes_eq (take 4 (drop p m)) word
 abbrev pub stated_length : List ℕ → ℕ
 stated_length m = u24_at m 4
 
--- what is at the front of the octets that are left: the first case that holds counts
+-- what the octets that are left begin with: the first case that holds counts
 abbrev pub classify : List ℕ → Candidate
 classify m =
     if not (has_word_at (codes "BUFR") 0 m) then Nothing
@@ -34,13 +33,13 @@ classify m =
     else if not (has_word_at (codes "7777") (stated_length m - 4) m) then Stray NoEnd
     else Frame
 
--- what happens there
+-- the event there, or none
 abbrev pub stream_event : ℕ → List ℕ → Candidate → List StreamEvent
 stream_event at m Nothing = []
 stream_event at m (Stray cause) = StrayAt at cause ∷ []
 stream_event at m Frame = FrameAt at (take (stated_length m) m) ∷ []
 
--- how many octets it takes: behind a stray word the scan goes on four octets later
+-- by how many octets the scan goes on: one where nothing begins, four after a stray word
 abbrev pub candidate_len : List ℕ → Candidate → ℕ
 candidate_len m Nothing = 1
 candidate_len m (Stray cause) = 4
@@ -59,7 +58,7 @@ scan_from zero at (octet ∷ m) =
 abbrev pub scan : List ℕ → List StreamEvent
 scan s = scan_from 0 0 s
 
--- the end of the stream had no part in it
+-- the event does not depend on where the stream ends
 abbrev pub is_decided : StreamEvent → Bool
 is_decided (FrameAt offset octets) = true
 is_decided (StrayAt offset Cut) = false

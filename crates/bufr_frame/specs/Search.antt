@@ -1,4 +1,4 @@
--- What octets show behind which more may come. (a choice of this project)
+-- What octets show when more may come after them. (a choice of this project)
 -- Cited by private steps only.
 use Rattle.std.specs.Prelude.{◌≡◌, ◌≢◌, ◌⊎◌, ℕ, ◌+◌, ◌^◌, ◌<◌, ◌≤◌, max, Bool, true, false, List, [], length, drop, codes}
 use Rattle.bufr_frame.specs.Scan.{scan_from, classify, stream_event, candidate_len, stated_length, has_word_at}
@@ -9,7 +9,7 @@ use Rattle.bufr_frame.specs.declared.search.Candidate.TheVariants.{Nothing, Fram
 use Rattle.bufr_frame.specs.declared.search.SearchResult.{SearchResult}
 use Rattle.bufr_frame.specs.declared.search.SearchResult.TheVariants.{Found, NeedsMore, End}
 
--- `BUFR` stands at the front
+-- the octets begin with `BUFR`
 abbrev pub StartsWithBufr : List ℕ → Type 0
 StartsWithBufr m = has_word_at (codes "BUFR") 0 m ≡ true
 
@@ -26,8 +26,8 @@ pub record IsNextEvent (ended : Bool) (rest : List ℕ) (place : ℕ) (here : Ca
       (at + place + candidate_len (drop place rest) here)
       (drop (place + candidate_len (drop place rest) here) rest)
 
--- No event is certain, and none is before `place`; there `BUFR` stands, or too few octets to tell
--- are there.
+-- No event is certain, and none begins before `place`. `BUFR` begins there, or too few octets to
+-- decide are left.
 pub record IsIncomplete (rest : List ℕ) (place stated_length : ℕ) : Type 0 where
   pub within : place ≤ length rest
   pub first : StartsWithBufr rest → place ≡ 0
@@ -36,16 +36,16 @@ pub record IsIncomplete (rest : List ℕ) (place stated_length : ℕ) : Type 0 w
   pub advances : (at : ℕ) → Advances false at rest [] (at + place) (drop place rest)
   pub none : (at : ℕ) → NoEventCertain at (drop place rest)
 
--- nothing more comes
+-- no event comes any more
 pub record HasNoFurtherEvent (rest : List ℕ) : Type 0 where
   pub scan : (at : ℕ) → scan_from 0 at rest ≡ []
   pub word : StartsWithBufr rest → ⊥
 
--- a length that is stated at a place
+-- the length that octets 5 to 7 state, 0 where there are not eight octets
 abbrev pub IsStatedLength : List ℕ → ℕ → Type 0
 IsStatedLength m stated_length = (stated_length ≡ length_here m) × (stated_length < 2 ^ 24)
 
--- what octets show behind which more may come unless the end was reached
+-- what octets show; more may come after them unless the end was reached
 abbrev pub IsSearchResult : Bool → List ℕ → SearchResult → Type 0
 IsSearchResult ended rest (Found found) =
     IsNextEvent ended rest found.place found.here × IsStatedLength (drop found.place rest)
@@ -55,8 +55,7 @@ IsSearchResult ended rest (NeedsMore wanted) =
     × IsStatedLength (drop wanted.place rest) wanted.stated_length
 IsSearchResult ended rest End = (ended ≡ true) × HasNoFurtherEvent rest
 
--- how the greatest length has grown since it was `old`: by the length that the word at the front
--- states, or not
+-- how the greatest length grew since it was `old`: by the length that a first `BUFR` states, or not
 abbrev pub Raised : (old now : ℕ) → List ℕ → Type 0
 Raised old now rest =
     (now ≡ old) ⊎ (StartsWithBufr rest × (8 ≤ length rest) × (now ≡ max old (stated_length rest)))

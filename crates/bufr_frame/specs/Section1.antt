@@ -1,13 +1,13 @@
--- Section 1 by edition: what stands in it, in which order, and in how many octets. (WMO-No. 306,
--- Volume I.2, FM 94: section 1)
+-- Section 1 by edition: its fields, their order, and their octets. (WMO-No. 306, Volume I.2, FM 94:
+-- section 1)
 -- Cited by public contracts.
--- The rest stands on these two tables: where a value is read, what is written, and which values
+-- All else follows from these two tables: where a value is read, what is written, and which values
 -- fit.
 use Rattle.std.specs.Prelude.{ℕ, ◌+◌, ◌==◌, ◌||◌, Bool, List, [], ◌∷◌, ◌++◌, slice_index, if◌then◌else◌}
 use Rattle.bufr_frame.specs.Octets.{u16_at, two_octets}
 use Rattle.bufr_frame.specs.declared.head.Head.{Head}
 
--- what section 1 says behind its length
+-- the fields of section 1 after its length
 pub data Field : Type 0 where
   Master : Field
   Centre : Field
@@ -31,7 +31,7 @@ pub data Slot : Type 0 where
   Single : Field → Slot
   Double : Field → Slot
 
--- edition 3; the sub-category is the data sub-category, the year that of the century as it stands
+-- edition 3; the sub-category is the data sub-category, the year that of the century, unchanged
 abbrev pub slots_3 : List Slot
 slots_3 =
     Single Master ∷ Single Subcentre ∷ Single Centre ∷ Single Update ∷ Single Flags
@@ -51,11 +51,11 @@ slots_4 =
 abbrev pub is_edition : ℕ → Bool
 is_edition edition = (edition == 3) || (edition == 4)
 
--- what section 1 has in an edition
+-- the slots of section 1 in an edition
 abbrev pub slots_of : (edition : ℕ) → List Slot
 slots_of edition = if edition == 3 then slots_3 else slots_4
 
--- the number of a field, by which it is found
+-- the number of a field, which identifies it
 abbrev pub order : Field → ℕ
 order Master = 0
 order Centre = 1
@@ -83,35 +83,36 @@ slot_field (Double field) = field
 abbrev pub is_for : Field → Slot → Bool
 is_for field slot = order field == order (slot_field slot)
 
--- how many octets it has
+-- how many octets a slot has
 abbrev pub width : Slot → ℕ
 width (Single field) = 1
 width (Double field) = 2
 
--- the greatest number that it holds
+-- the greatest number that a slot holds
 abbrev pub most : Slot → ℕ
 most (Single field) = 255
 most (Double field) = 65535
 
--- the number that stands at place p, and the octets that write a number
+-- the number of a slot that begins at index p
 abbrev pub read_slot : List ℕ → (p : ℕ) → Slot → ℕ
 read_slot m p (Single field) = slice_index m p
 read_slot m p (Double field) = u16_at m p
 
+-- the octets of a slot that has a number
 abbrev pub write_slot : Slot → ℕ → List ℕ
 write_slot (Single field) n = n ∷ []
 write_slot (Double field) n = two_octets n
 
--- how many octets these have
+-- how many octets these slots have
 abbrev pub octets_of_slots : List Slot → ℕ
 octets_of_slots [] = 0
 octets_of_slots (slot ∷ more) = width slot + octets_of_slots more
 
--- the octets of section 1 without those for local use: three of its length, and these
+-- the octets of section 1 without those for local use: the three of its length, and these
 abbrev pub first_least : (edition : ℕ) → ℕ
 first_least edition = 3 + octets_of_slots (slots_of edition)
 
--- the value of a field, where the first slot begins at place p; 0 where the edition lacks it
+-- the value of a field, where the first slot begins at index p; 0 where the edition lacks it
 abbrev pub slot_value : List Slot → List ℕ → (p : ℕ) → Field → ℕ
 slot_value [] m p field = 0
 slot_value (slot ∷ more) m p field =
@@ -128,7 +129,7 @@ slot_octets [] head_value = []
 slot_octets (slot ∷ more) head_value = write_slot slot (head_value (slot_field slot))
     ++ slot_octets more head_value
 
--- what a head says; bit 1 of the flags: there is a section 2
+-- the values of a head; bit 1 of the flags: there is a section 2
 abbrev pub head_value : Head → (optional : Bool) → Field → ℕ
 head_value h optional Master = h.master
 head_value h optional Centre = h.centre
@@ -147,7 +148,7 @@ head_value h optional Hour = h.hour
 head_value h optional Minute = h.minute
 head_value h optional Second = h.second
 
--- a head as it stands in slots, the first of which begins at place p
+-- the head that slots hold, the first of which begins at index p
 abbrev pub head_in : (edition : ℕ) → List Slot → List ℕ → (p : ℕ) → Head
 head_in edition slots m p = record {
   edition = edition;

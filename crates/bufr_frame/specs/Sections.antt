@@ -1,8 +1,8 @@
 -- The sections of a message of edition 3 or 4. (WMO-No. 306, Volume I.2, FM 94: sections 0 to 5)
 -- Cited by public contracts.
--- Octets count from 0 here: section 1 begins at 8. That reserved octets and bits are ignored, and
--- that bits behind the data stay in the payload, are choices of this project; so is that sections
--- of an odd number of octets are read in edition 3.
+-- Octets count from 0 here: section 1 begins at 8. Three choices of this project: reserved octets
+-- and bits are ignored, bits after the data stay in the payload, and odd sections are read in
+-- edition 3.
 use Rattle.std.specs.Prelude.{◌≡◌, ℕ, ◌+◌, ◌-◌, ◌%◌, ◌==◌, ◌&&◌, ◌||◌, Bool, not, nat_lt, nat_le, List, Option, Some, None, Result, Ok, Err, length, slice_index, slice_range, if◌then◌else◌}
 use Rattle.bufr_frame.specs.Octets.{u24_at, u16_at, words}
 use Rattle.bufr_frame.specs.Section1.{Slot, Flags, slots_of, is_edition, first_least, slot_value, head_in}
@@ -10,10 +10,10 @@ use Rattle.bufr_frame.specs.declared.head.Head.{Head}
 use Rattle.bufr_frame.specs.declared.fault.SectionFault.{SectionFault}
 use Rattle.bufr_frame.specs.declared.fault.SectionFault.TheVariants.{Edition, SectionShort, SectionPast, SectionsEnd, Edition3Long}
 
--- what a message consists of
+-- the parts of a message
 pub record Sections : Type 0 where
   pub head : Head
-  -- section 1 behind what its edition lays down
+  -- section 1 after the octets that its edition defines
   pub local1 : List ℕ
   -- section 2 from its octet 5 on
   pub section2 : Option (List ℕ)
@@ -27,6 +27,7 @@ pub record Sections : Type 0 where
   -- how many octets the message has
   pub size : ℕ
 
+-- the first fault of two steps, or the result of the second step
 infixl 10 ◌>>=◌
 abbrev pub ◌>>=◌ : {A B : Type 0} → Result A SectionFault → (A → Result B SectionFault)
     → Result B SectionFault
@@ -42,16 +43,16 @@ section_end m k least p =
     else if nat_lt (length m - 4) (p + u24_at m p) then Err (SectionPast k)
     else Ok (p + u24_at m p)
 
--- what octet 8 of section 0 says
+-- the edition of octet 8 of section 0
 abbrev pub edition_of : List ℕ → ℕ
 edition_of m = slice_index m 7
 
--- whether a section 3 or 4 of so many octets is written with a zero octet more: in edition 3, where
--- they are odd
+-- whether a section 3 or 4 of `size` octets is written with a zero octet more: in edition 3, where
+-- `size` is odd
 abbrev pub is_padded : (edition size : ℕ) → Bool
 is_padded edition size = (edition == 3) && (size % 2 == 1)
 
--- what section 1 of a message has, in the order of its edition
+-- the slots of section 1 of a message, by its edition
 abbrev pub slots_in : List ℕ → List Slot
 slots_in m = slots_of (edition_of m)
 
@@ -59,7 +60,7 @@ slots_in m = slots_of (edition_of m)
 abbrev pub has_section2 : List ℕ → Bool
 has_section2 m = nat_le 128 (slot_value (slots_in m) m 11 Flags)
 
--- what octet 8 of section 0 and section 1 behind its length say
+-- the values of octet 8 of section 0 and of section 1 after its length
 abbrev pub head_of : List ℕ → Head
 head_of m = head_in (edition_of m) (slots_in m) m 11
 
@@ -77,8 +78,8 @@ parts m p1 p2 p3 p4 = record {
   size = length m;
 }
 
--- a message, of edition 3, that is so long that with its sections 3 and 4 padded, one at least, its
--- length might not be stated any more
+-- a message of edition 3 that is too long for the padding of an odd section 3 or 4: then three
+-- octets might not state its length
 abbrev pub is_long_edition_3 : List ℕ → (p2 p3 p4 : ℕ) → Bool
 is_long_edition_3 m p2 p3 p4 =
     nat_lt 16777213 (length m)
@@ -91,7 +92,7 @@ parts_if_end_matches m p1 p2 p3 p4 =
     else if is_long_edition_3 m p2 p3 p4 then Err Edition3Long
     else Ok (parts m p1 p2 p3 p4)
 
--- the sections of a message, or the first fault: the edition goes before all, then the sections in
+-- the sections of a message, or the first fault: the edition comes first, then the sections in
 -- their order, then the end
 unfoldable pub sections_of : List ℕ → Result Sections SectionFault
 sections_of m = if not (is_edition (edition_of m)) then Err (Edition (edition_of m)) else do
@@ -101,7 +102,7 @@ sections_of m = if not (is_edition (edition_of m)) then Err (Edition (edition_of
   p4 ← section_end m 4 4 p3
   parts_if_end_matches m p1 p2 p3 p4
 
--- what a function answers, seen by view, is what is stated
+-- what a function returns, seen by view, is the definition's value
 abbrev pub ReturnsView : {X Y : Type 0} → (X → Y) → Result X SectionFault → Result Y SectionFault
     → Type 0
 ReturnsView view (Ok x) stated_length = stated_length ≡ Ok (view x)

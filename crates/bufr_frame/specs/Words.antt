@@ -1,4 +1,4 @@
--- What an iterator of words has left.
+-- The words that an iterator has left.
 -- Cited by public contracts.
 use Rattle.std.specs.Prelude.{ℕ, List}
 use Rattle.bufr_frame.specs.Octets.{words}

@@ -1,7 +1,7 @@
 //! A buffer that slides over a stream.
 //!
 //! Its room is twice the octets that may be held at once. So it slides only when it is used up, and
-//! each octet is moved about once, whatever the stream states.
+//! each octet is moved about once, whatever length the stream states.
 ghost use Rattle.std.specs.Prelude.{◌≡◌, ◌≤◌, ◌<◌, ◌+◌, ◌-◌, ◌^◌, ◌*◌, ℕ, List, drop, take, length, slice_range, IfOk, OnErr, vec_len, vec_capacity};
 ghost use Rattle.std.specs.Io.KnownBytes.{ReadConsumes, Consumes, Keeps, IsAtEnd};
 ghost use Rattle.bufr_bits.specs.Counts.{counted, failures_after};
@@ -12,9 +12,9 @@ ghost use Rattle.bufr_frame.specs.Buffer.{MakesRoom};
 use crate::fault::RunFault;
 use bufr_bits::{Failed, Source};
 
-/// Makes room behind the octets from `start` to `filled`, of which `limit` may be held, and answers
-/// how many places nearer to the front they then stand. Where the room is used up they slide to the
-/// front, or where that would give little room the buffer grows.
+/// Makes room after the octets from `start` to `filled`, of which `limit` may be held. Returns by
+/// how many places the octets move towards the start. Where the room is used up they slide to the
+/// start. Where that would give little room, the buffer grows.
 pub(crate) fn make_room(
     buffer: &mut Vec<u8>,
     start: usize,
@@ -44,7 +44,7 @@ pub(crate) fn make_room(
     }
 }
 
-/// Reads once into the octets of `buf` from the place `from` to the place `to`.
+/// Reads once into the octets of `buf` from index `from` up to index `to`.
 fn read_range<R: Source>(r: &mut R, buf: &mut [u8], from: usize, to: usize) -> Result<usize, Failed>
     requires order { from < to }
     requires within { to ≤ length buf.old }
@@ -60,12 +60,12 @@ fn read_range<R: Source>(r: &mut R, buf: &mut [u8], from: usize, to: usize) -> R
     r.read(&mut buf[from..to])
 }
 
-/// Reads once behind the first `filled` octets of a buffer, up to the place `to` (from 0, which is
-/// not written any more), and answers how many octets came; none only at the end of the input. What
-/// stands in front stays, and so does the length of the buffer.
+/// Reads once after the first `filled` octets of a buffer, up to index `to` (from 0, not written).
+/// Returns how many octets came; none come only at the end of the input. The first `filled` octets
+/// and the length of the buffer do not change.
 ///
-/// It is for buffers that slide over an input, as those of [`crate::Finder`] and of a reader of
-/// lines; an input that is wanted whole is read by [`crate::read_to_end`].
+/// It is for buffers that slide over an input: that of [`crate::Finder`], and that of a reader of
+/// lines. An input that is needed whole is read by [`crate::read_to_end`].
 ///
 /// ```
 /// let mut buffer = Vec::from_array(rt.alloc(), [b'a', 0, 0, 0])?;
@@ -76,7 +76,7 @@ fn read_range<R: Source>(r: &mut R, buf: &mut [u8], from: usize, to: usize) -> R
 ///
 /// # Errors
 ///
-/// [`RunFault::Read`] where the read failed; no octet was read then.
+/// [`RunFault::Read`] where the read failed; then no octet was read.
 pub fn read_after<R: Source>(
     r: &mut R,
     buffer: &mut Vec<u8>,

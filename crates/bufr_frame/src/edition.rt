@@ -1,7 +1,7 @@
 //! The two editions that are read and written.
 
-/// An edition of FM 94. What differs between them is matched on it, so that one more edition is
-/// missed nowhere.
+/// An edition of FM 94. What differs between editions is matched on it, so the compiler finds each
+/// place that a new edition needs.
 #[derive(Clone, Copy, Debug)]
 pub(crate) enum Edition {
     /// Edition 3.

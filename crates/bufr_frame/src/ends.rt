@@ -8,8 +8,8 @@ use crate::fault::SectionFault;
 use crate::least::{SECTION_0, SECTION_2, SECTION_3, SECTION_4, SECTION_5, is_padded, section_1};
 use crate::octets::u24_from;
 
-/// The places behind the last octets of sections 1 to 4, from 0. A section 2 that is not there
-/// ends where section 1 does.
+/// The indices after the last octets of sections 1 to 4, from 0. A section 2 that is absent ends
+/// where section 1 does.
 #[derive(Clone, Copy, Debug)]
 pub(crate) struct Ends {
     pub(crate) first: usize,
@@ -22,7 +22,7 @@ pub(crate) struct Ends {
     ghost short: { fourth < third + 2 ^ 24 },
 }
 
-/// Where section `k` ends, which begins at `p` and has at least `least` octets.
+/// The end of section `k`, which begins at `p` and has at least `least` octets.
 #[tactic(auto, unfolding(crate::specs::Sections::section_end))]
 fn section_end_at(m: &[u8], k: u8, least: usize, p: usize) -> Result<usize, SectionFault>
     requires long { 12 ≤ length m.now }
@@ -67,7 +67,7 @@ pub(crate) fn has_second(m: &[u8]) -> bool
     flags_at(m) >= 128
 }
 
-/// Where section 2 ends, if there is one, or else section 1.
+/// The end of section 2, or of section 1 where there is no section 2.
 fn second_end(m: &[u8], first: usize) -> Result<usize, SectionFault>
     requires known { IsTrue (is_edition (edition_of m.now)) }
     requires long { 18 ≤ length m.now }
@@ -86,11 +86,11 @@ fn second_end(m: &[u8], first: usize) -> Result<usize, SectionFault>
     }
 }
 
-/// The most octets of a message of which a section is padded: with two zero octets more its length
-/// can still be stated.
+/// The most octets of a message of edition 3 with an odd section 3 or 4. With two zero octets more,
+/// three octets can still state its length.
 const MOST_ODD: usize = 16_777_213;
 
-/// Whether a message, whose sections end there, is too long for its sections 3 and 4 to be padded.
+/// Whether a message with these ends of sections is too long for its sections 3 and 4 to be padded.
 fn is_long(m: &[u8], second: usize, third: usize, fourth: usize) -> bool
     requires known { IsTrue (is_edition (edition_of m.now)) }
     requires long { 8 ≤ length m.now }
@@ -108,7 +108,7 @@ fn is_known(edition: u8) -> bool
     edition == 3 || edition == 4
 }
 
-/// Where the sections of `m` end, or the first fault.
+/// The ends of the sections of `m`, or the first fault.
 #[tactic(auto, unfolding(crate::specs::Sections::sections_of))]
 pub(crate) fn ends_of(m: &[u8]) -> Result<Ends, SectionFault>
     requires long { 12 ≤ length m.now }

@@ -1,25 +1,25 @@
-//! What can be wrong with a stream, with a message, and with a run.
+//! Faults of a stream, of a message, of a run, and of writing a message.
 //!
-//! Each has its number; the text of its fault line stands where the line is written.
+//! Each has a number. `bufr_cli` writes the text of its fault line.
 
 use std::alloc::AllocError;
 use thiserror::Error;
 
-/// Why no message begins at a place where `BUFR` stands.
+/// Why no message begins at an occurrence of `BUFR`.
 #[derive(Clone, Copy, Debug, PartialEq, Eq, Error)]
 pub enum Cause {
-    /// The stream ends before the eight octets of section 0 do, or before the stated length does.
+    /// The stream ends before the 8 octets of section 0, or before the stated length.
     #[error("the stream ends inside the message")]
     Cut,
     /// The stated length is under 12 octets.
     #[error("the stated length is too short for a message")]
     ShortLength,
-    /// `7777` does not stand where the stated length ends.
+    /// `7777` is not at the end of the stated length.
     #[error("7777 does not stand at the end of the message")]
     NoEnd,
 }
 
-/// Why a message cannot be taken apart.
+/// Why a message cannot be divided into its sections.
 #[derive(Clone, Copy, Debug, PartialEq, Eq, Error)]
 pub enum SectionFault {
     /// The edition is another one than 3 or 4.
@@ -28,19 +28,19 @@ pub enum SectionFault {
     /// This section is shorter than its fixed octets.
     #[error("section {0} is shorter than its fixed octets")]
     SectionShort(u8),
-    /// This section, or its length, reaches past the place of section 5.
+    /// This section, or its length, reaches past the start of section 5.
     #[error("section {0} reaches past the end")]
     SectionPast(u8),
     /// Section 4 does not end where section 5 begins.
     #[error("section 4 does not end where section 5 begins")]
     SectionsEnd,
-    /// A message of edition 3 of more than 16,777,213 octets, section 3 or 4 of which has an odd
-    /// number of them: with even sections, as they are written, its length might not be stated.
+    /// A message of edition 3 with an odd section 3 or 4 has more than 16,777,213 octets. It is
+    /// written with even sections, and then three octets might not state its length.
     #[error("a message of edition 3 with odd sections is too long")]
     Edition3Long,
 }
 
-/// What ends a run.
+/// Why a run ends early.
 #[derive(Clone, Copy, Debug, PartialEq, Eq, Error)]
 pub enum RunFault {
     /// A read failed.
@@ -49,7 +49,7 @@ pub enum RunFault {
     /// A write or a flush failed, or a write took nothing.
     #[error("a write failed")]
     Write,
-    /// The input has not ended after 2^32 reads.
+    /// The input did not end within 2^32 reads.
     #[error("the input does not end within 2^32 reads")]
     InputTooLong,
     /// Memory ran out.
@@ -72,7 +72,7 @@ impl Cause {
     ghost use Rattle.std.specs.Prelude.{◌≡◌};
     ghost use Rattle.bufr_frame.specs.Numbers.{number_of_cause};
 
-    /// Its number, 1 to 3.
+    /// The number of this fault, 1 to 3.
     pub fn number(self) -> u8
         ensures { result ≡ number_of_cause self }
     {
@@ -88,7 +88,7 @@ impl SectionFault {
     ghost use Rattle.std.specs.Prelude.{◌≡◌};
     ghost use Rattle.bufr_frame.specs.Numbers.{number_of_section_fault};
 
-    /// Its number, 10 to 14.
+    /// The number of this fault, 10 to 14.
     pub fn number(self) -> u8
         ensures { result ≡ number_of_section_fault self }
     {
@@ -106,7 +106,7 @@ impl RunFault {
     ghost use Rattle.std.specs.Prelude.{◌≡◌};
     ghost use Rattle.bufr_frame.specs.Numbers.{number_of_run_fault};
 
-    /// Its number, 70 to 73.
+    /// The number of this fault, 70 to 73.
     pub fn number(self) -> u8
         ensures { result ≡ number_of_run_fault self }
     {
@@ -123,7 +123,7 @@ impl WriteFault {
     ghost use Rattle.std.specs.Prelude.{◌≡◌};
     ghost use Rattle.bufr_frame.specs.Numbers.{number_of_write_fault};
 
-    /// Its number, 60 or 73.
+    /// The number of this fault, 60 or 73.
     pub fn number(self) -> u8
         ensures { result ≡ number_of_write_fault self }
     {

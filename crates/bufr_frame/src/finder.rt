@@ -1,4 +1,4 @@
-//! The messages of a stream.
+//! The finder: the messages of a stream, one after another.
 
 use crate::buffer::{make_room, read_after};
 use crate::fault::{Cause, RunFault};
@@ -9,21 +9,21 @@ use memchr::memmem;
 use std::alloc::Global;
 use std::marker::Model;
 
-/// How many octets may be held while no greater length is stated.
+/// How many octets may be held while no greater length was stated.
 const MIN_HELD: usize = 4096;
 
-/// What comes next in a stream. Offsets are in octets, from 0.
+/// The next event of a stream. Offsets are in octets, from 0.
 #[derive(Clone, Copy, Debug)]
 pub enum Event<'a> {
-    /// A message: where it begins, and its octets, from `BUFR` to `7777`.
+    /// A message: the offset of its first octet, and its octets from `BUFR` to `7777`.
     Frame(u64, &'a [u8]),
-    /// A place where `BUFR` stands and no message begins, and why none does.
+    /// An occurrence of `BUFR` where no message begins: its offset, and the cause.
     Stray(u64, Cause),
     /// The end of the stream.
     Done,
 }
 
-/// An event that was passed, and how many octets it took.
+/// An event that was passed, and how many octets it takes.
 #[derive(Clone, Copy)]
 struct PassedEvent {
     offset: u64,
@@ -31,23 +31,23 @@ struct PassedEvent {
     len: usize,
 }
 
-/// How far a finder has come with its input.
+/// The state of a finder with its input.
 #[derive(Clone, Copy)]
 enum Phase {
     /// More octets may come.
     Reading,
     /// The input was read to its end.
     Ended,
-    /// A fault came.
+    /// A fault ended the run.
     Stopped(RunFault),
 }
 
-/// Finds the messages of a stream. Each place where `BUFR` stands gives a frame or a stray; behind
-/// a frame the search goes on, and behind the four octets of a stray word.
+/// Finds the messages of a stream. Each `BUFR` gives a frame or a stray word. The search goes on
+/// after the frame, or after the four octets of the stray word.
 ///
-/// It reads only while the next event is not certain, so the first message is told before the
-/// second is read. It holds at most 4,096 octets or, where that is more, the greatest length that
-/// the stream has stated so far; its memory is about twice that.
+/// It reads only while the next event is not certain, so the first message is returned before the
+/// second is read. It holds at most 4,096 octets or, where that is more, the greatest length stated
+/// so far. Its memory is about twice that.
 ///
 /// ```
 /// let mut finder = Finder::new(rt.alloc());
@@ -60,13 +60,13 @@ enum Phase {
 /// }
 /// ```
 ///
-/// (Section 0: WMO-No. 306, Volume I.2, FM 94. What is done with a stray word is a choice of this
+/// (WMO-No. 306, Volume I.2, FM 94: section 0. The treatment of a stray word is a choice of this
 /// project.)
 #[derive(Drop)]
 pub struct Finder {
     /// The search for `BUFR`.
     word: memmem::Finder<'static>,
-    /// Its octets from `start` to `filled` are held, of which those from `place` on are left.
+    /// The octets from `start` to `filled` are held; those from `place` on are left.
     buffer: Vec<u8>,
     start: usize,
     place: usize,
@@ -74,9 +74,9 @@ pub struct Finder {
     /// The offset of the buffer's first octet.
     base: u64,
     phase: Phase,
-    /// How many reads were made.
+    /// How many reads were made, at most 2^32.
     reads: u64,
-    /// The greatest length that was stated.
+    /// The greatest length that was stated, in octets.
     longest: usize,
 }
 
@@ -135,8 +135,8 @@ impl Finder {
         }
     }
 
-    /// How many octets are held: those that were read and are left, and before them a frame that is
-    /// lent. At most 4,096 or, where that is more, [`Finder::longest`].
+    /// The number of octets held: those that were read and are left, and before them a frame that
+    /// is lent. At most 4,096 or, where that is more, [`Finder::longest`].
     pub fn held(&self) -> usize
         ensures value { result ≡ held self.now }
         ensures bound { result ≤ max 4096 self.now.longest }
@@ -144,9 +144,9 @@ impl Finder {
         self.filled - self.start
     }
 
-    /// The greatest length in octets that was stated where `BUFR` stood, 0 at first. After an event
-    /// it is that of all events so far. After a fault the word counts too that was not yet certain,
-    /// where its length was read.
+    /// The greatest length in octets that was stated after a `BUFR`, 0 at first. After an event it
+    /// is that of all events so far. After a fault, a first `BUFR` that is not yet certain counts
+    /// too where its length was read.
     pub fn longest(&self) -> usize
         ensures { result ≡ self.now.longest }
     {
@@ -185,7 +185,7 @@ impl Finder {
         self.base + self.place as u64
     }
 
-    /// How many octets the event takes that stands first.
+    /// How many octets the first event takes.
     fn event_len(&self, here: Candidate) -> usize
         requires whole { here ≡ Candidate.Frame → 8 ≤ length self.now.rest }
         requires some { here ≢ Candidate.Nothing }
@@ -218,7 +218,7 @@ impl Finder {
         let offset = self.offset();
         let len = self.event_len(found.here);
         self.advance_to(len, 0);
-        // the struct's model is known only where one of its fields is used
+        // The struct's model is known only where one of its fields is used.
         let _ = &self.buffer;
         PassedEvent {
             offset,
@@ -227,7 +227,7 @@ impl Finder {
         }
     }
 
-    /// Reads once, behind the octets that are left. Those that were passed are let go.
+    /// Reads once, after the octets that are left. Those that were passed are dropped.
     fn read_more<R: Source>(&mut self, r: &mut R) -> Result<(), RunFault>
         requires room { length self.old.rest < max 4096 self.old.longest }
         requires few { self.old.reads < max_reads }
@@ -256,7 +256,7 @@ impl Finder {
         Ok(())
     }
 
-    /// Stops for good.
+    /// Stops the finder with a fault, which each further call returns.
     fn stop(&mut self, fault: RunFault) -> RunFault
         requires { self.old.ended ≡ false }
         ensures new { self.new ≡ record self.old { fault = Some fault } }
@@ -268,7 +268,7 @@ impl Finder {
         fault
     }
 
-    /// Goes on behind the next event, where there is one.
+    /// Passes the next event, where there is one.
     fn advance<R: Source>(&mut self, r: &mut R) -> Result<Option<PassedEvent>, RunFault>
         ensures steps { ReadsOn (R.left r.old) (R.left r.new) self.old self.new
             (events_by self.new result) (seen_by self.new result) }
@@ -326,15 +326,15 @@ impl Finder {
         }
     }
 
-    /// The next event of the stream `r`, which is to be the same at each call. A frame is lent
-    /// until the next call. After [`Event::Done`] it comes again.
+    /// Returns the next event of the stream `r`, which must be the same at each call. A frame is
+    /// lent until the next call. After [`Event::Done`] each call returns it again.
     ///
     /// # Errors
     ///
-    /// [`RunFault::Read`] where a read failed in this call, [`RunFault::InputTooLong`] where the
-    /// end was not reached in 2^32 reads, and [`RunFault::Memory`] where the buffer had to grow and
-    /// was refused. All events that were certain then were given before. After a fault each call
-    /// answers the same one, and reads nothing.
+    /// [`RunFault::Read`] where a read failed in this call. [`RunFault::InputTooLong`] where the
+    /// end was not reached in 2^32 reads. [`RunFault::Memory`] where the buffer had to grow and was
+    /// refused. All events that were certain then were returned before. After a fault each call
+    /// returns the same one, and reads nothing.
     pub fn next<R: Source>(&mut self, r: &mut R) -> Result<Event<'_>, RunFault>
         ensures failed { self.old.fault ≡ None
             → R.failures r.new ≡ read_failures_after (R.failures r.old) result }

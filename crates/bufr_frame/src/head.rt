@@ -1,10 +1,10 @@
-//! What section 1 says.
+//! The values of section 1.
 
-/// The edition (octet 8 of section 0) and what section 1 of a message says, as it stands.
+/// The edition (octet 8 of section 0) and the values of section 1 of a message, unchanged.
 ///
 /// Values are not checked against each other: a month of 14 is kept. In edition 3 centre,
-/// sub-centre and year have one octet each, and the local sub-category and the second, which it
-/// lacks, are 0. (WMO-No. 306, Volume I.2, FM 94, section 1)
+/// sub-centre and year have one octet each. The local sub-category and the second, which it lacks,
+/// are 0. (WMO-No. 306, Volume I.2, FM 94: section 1)
 #[derive(Clone, Copy, Debug, PartialEq, Eq)]
 pub struct Head {
     /// The edition of FM 94, octet 8 of section 0.

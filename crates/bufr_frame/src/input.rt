@@ -9,13 +9,13 @@ use crate::buffer::read_after;
 use crate::fault::RunFault;
 use bufr_bits::Source;
 
-/// The most reads that are made of one input, 2^32; the next one is not made.
+/// The most reads of one input, 2^32; no further one is made.
 pub const MAX_READS: u64 = 1 << 32;
 
 /// How many octets one read asks for.
 const CHUNK: usize = 65536;
 
-/// Makes room of `CHUNK` octets behind those that are held, and answers how many are held.
+/// Makes room of `CHUNK` octets after those that are held, and returns how many are held.
 fn make_room_behind(octets: &mut Vec<u8>) -> Result<usize, RunFault>
     ensures held { IfOk result (λ held. take held octets.new.items ≡ octets.old.items) }
     ensures room { IfOk result (λ held. vec_len octets.new ≡ held + CHUNK) }
@@ -27,7 +27,7 @@ fn make_room_behind(octets: &mut Vec<u8>) -> Result<usize, RunFault>
     Ok(held)
 }
 
-/// Reads once behind the first `held` octets, into the room that is there, and keeps no room.
+/// Reads once after the first `held` octets, into the room that is there, and keeps no room.
 fn read_once<R: Source>(r: &mut R, octets: &mut Vec<u8>, held: usize) -> Result<usize, RunFault>
     requires room { vec_len octets.old ≡ held + CHUNK }
     ensures read { (bs : List ℕ) × ReadsOnce (R.left r.old) (R.left r.new)
@@ -47,14 +47,15 @@ fn read_once<R: Source>(r: &mut R, octets: &mut Vec<u8>, held: usize) -> Result<
     }
 }
 
-/// Reads an input to its end, behind the octets that are held: for an input that is wanted whole,
-/// as a table. `reads` counts the reads that are made of the input; after 2^32 of them no other one
-/// is made. A stream of messages is read by [`crate::Finder`].
+/// Reads an input to its end, and appends its octets to those that are held. It is for an input
+/// that is needed whole, as a table. `reads` counts the reads of the input, at most 2^32. A stream
+/// of messages is read by [`crate::Finder`].
 ///
 /// # Errors
 ///
-/// [`RunFault::Read`] where a read failed, [`RunFault::InputTooLong`] where the end was not
-/// reached in 2^32 reads, and [`RunFault::Memory`]. The octets read before are held.
+/// [`RunFault::Read`] where a read failed. [`RunFault::InputTooLong`] where the end was not reached
+/// in 2^32 reads. [`RunFault::Memory`] where the octets could not grow. The octets that were read
+/// before are held.
 pub fn read_to_end<R: Source>(
     r: &mut R,
     octets: &mut Vec<u8>,

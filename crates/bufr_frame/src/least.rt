@@ -1,5 +1,5 @@
-//! How many octets the sections have at least, and which are padded. (WMO-No. 306, Volume I.2,
-//! FM 94)
+//! The least octets of each section, and which sections are padded. (WMO-No. 306, Volume I.2, FM
+//! 94: sections 0 to 5)
 ghost use Rattle.std.specs.Prelude.{◌≡◌, ◌<◌, ◌-◌, ◌^◌, IsTrue};
 ghost use Rattle.bufr_frame.specs.Layout.{even_size};
 ghost use Rattle.bufr_frame.specs.Section1.{first_least, is_edition};
@@ -7,7 +7,7 @@ ghost use Rattle.bufr_frame.specs.Sections.{is_padded};
 
 use crate::edition::Edition;
 
-/// Section 0, which has always as many.
+/// Section 0, which always has this length.
 pub(crate) const SECTION_0: usize = 8;
 
 /// Section 1 of an edition, without octets for local use.
@@ -30,10 +30,10 @@ pub(crate) const SECTION_3: usize = 7;
 /// Section 4, without data.
 pub(crate) const SECTION_4: usize = 4;
 
-/// Section 5, which has always as many.
+/// Section 5, which always has this length.
 pub(crate) const SECTION_5: usize = 4;
 
-/// Whether a section 3 or 4 of so many octets is written with a zero octet more.
+/// Whether a section 3 or 4 of `len` octets is written with a zero octet more.
 pub(crate) fn is_padded(edition: u8, len: usize) -> bool
     requires { IsTrue (is_edition edition) }
     ensures { result ≡ is_padded edition len }
@@ -44,7 +44,7 @@ pub(crate) fn is_padded(edition: u8, len: usize) -> bool
     }
 }
 
-/// The octets of a section 3 or 4 of so many, with the zero octet more where it is padded.
+/// The octets of a section 3 or 4 with the zero octet of its padding.
 pub(crate) fn even_len(edition: u8, len: usize) -> usize
     requires known { IsTrue (is_edition edition) }
     requires room { len < 2 ^ 64 - 1 }

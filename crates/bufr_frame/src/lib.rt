@@ -1,8 +1,8 @@
-//! Frames of FM 94 BUFR: finds the messages of a stream, takes a message apart into its sections,
+//! The frames of FM 94 BUFR: finds the messages of a stream, divides a message into its sections,
 //! and writes one from its parts.
 //!
-//! A run of `bufr_cli` asks [`Finder::next`] for one event after another and [`Message::parse`] for
-//! the sections of a frame; `bufr_text` and `bufr_walk` read what these say. `bufr_text` calls
+//! A run of `bufr_cli` calls [`Finder::next`] for one event after another and [`Message::parse`]
+//! for the sections of a frame. `bufr_text` and `bufr_walk` read these sections. `bufr_text` calls
 //! [`write_message`] for a document that is encoded. [`read_to_end`] is for the tables. The tests
 //! `streams`, `reads_a_message` and `parts_written_again` show each.
 #![tactic(auto)]

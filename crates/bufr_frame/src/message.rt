@@ -1,4 +1,4 @@
-//! A message taken apart into its sections.
+//! A message divided into its sections.
 ghost use Rattle.std.specs.Prelude.{◌≡◌, ◌≤◌, ◌+◌, length, IsTrue, Some, None, slice_range, if◌then◌else◌};
 ghost use Rattle.std.specs.Option.{option_map};
 ghost use Rattle.bufr_frame.specs.Section1.{first_least, head_in, is_edition, slots_3, slots_4};
@@ -14,7 +14,7 @@ use crate::words::Words;
 use bufr_bits::BitSlice;
 use std::marker::Model;
 
-/// A message of edition 3 or 4, taken apart. It borrows its octets.
+/// A message of edition 3 or 4, divided into its sections. It borrows its octets.
 ///
 /// ```
 /// if let Event::Frame(offset, octets) = finder.next(&mut input)? {
@@ -26,7 +26,7 @@ use std::marker::Model;
 /// }
 /// ```
 ///
-/// (WMO-No. 306, Volume I.2, FM 94, sections 0 to 5)
+/// (WMO-No. 306, Volume I.2, FM 94: sections 0 to 5)
 #[derive(Debug, Drop)]
 pub struct Message<'a> {
     octets: &'a [u8],
@@ -113,7 +113,7 @@ fn head_4(m: &[u8]) -> Head
     }
 }
 
-/// What octet 8 of section 0 and section 1 behind its length say.
+/// The values of octet 8 of section 0 and of section 1 after its length.
 fn head_at(m: &[u8]) -> Head
     requires known { IsTrue (is_edition (edition_of m.now)) }
     requires long { 8 ≤ length m.now }
@@ -126,7 +126,7 @@ fn head_at(m: &[u8]) -> Head
     }
 }
 
-/// The octets of section 2 from its octet 5 on, where it is there.
+/// The octets of section 2 from its octet 5 on, where there is a section 2.
 fn section2_of(m: &[u8], first: usize, second: usize) -> Option<&[u8]>
     requires known { IsTrue (is_edition (edition_of m.now)) }
     requires long { 18 ≤ length m.now }
@@ -149,18 +149,18 @@ impl<'a> Message<'a> {
     ghost use Rattle.bufr_frame.specs.Sections.{sections_of, parts};
     ghost use Rattle.bufr_frame.specs.Words.{words_left};
 
-    /// Takes a message of at least 12 octets apart. Octet 8 is examined, and the octets from 9 to
-    /// the last four; the rest is taken as it stands. It takes no memory.
+    /// Divides a message of at least 12 octets into its sections. It reads octet 8, and the octets
+    /// from 9 to the last four; it takes the rest unchecked. It takes no memory.
     ///
     /// # Errors
     ///
-    /// The first that holds: [`SectionFault::Edition`] for another edition than 3 or 4; then for
-    /// sections 1, 2 (where bit 1 of the flags of section 1 is set), 3 and 4 in turn
-    /// [`SectionFault::SectionPast`] where the section's length octets or its octets reach past
-    /// the last four octets, and [`SectionFault::SectionShort`] where its length is under 22 (17 in
-    /// edition 3), 4, 7 or 4; [`SectionFault::SectionsEnd`] where section 4 does not end at the
-    /// last four octets; at last, in edition 3, [`SectionFault::Edition3Long`] where section 3 or 4
-    /// has an odd number of octets and the message more than 16,777,213.
+    /// The first that holds. [`SectionFault::Edition`] for another edition than 3 or 4. Then for
+    /// sections 1, 2 (where bit 1 of the flags of section 1 is set), 3 and 4 in turn:
+    /// [`SectionFault::SectionPast`] where its length octets or its octets reach past the last four
+    /// octets; [`SectionFault::SectionShort`] where its length is under 22 (17 in edition 3), 4, 7
+    /// or 4. [`SectionFault::SectionsEnd`] where section 4 does not end at the last four octets.
+    /// [`SectionFault::Edition3Long`] where section 3 or 4 of edition 3 has an odd number of octets
+    /// and the message has more than 16,777,213.
     pub fn parse(octets: &'a [u8]) -> Result<Message<'a>, SectionFault>
         requires { 12 ≤ length octets.now }
         ensures { result ≡ sections_of octets.now }
@@ -169,7 +169,7 @@ impl<'a> Message<'a> {
         Ok(Message::between(octets, ends))
     }
 
-    /// The message whose sections end there.
+    /// The message with these ends of its sections.
     fn between(octets: &'a [u8], ends: Ends) -> Message<'a>
         requires known { IsTrue (is_edition (edition_of octets.now)) }
         requires within { ends.fourth ≤ length octets.now }
@@ -191,14 +191,14 @@ impl<'a> Message<'a> {
         }
     }
 
-    /// The edition and what section 1 says.
+    /// The edition and the values of section 1.
     pub fn head(&self) -> Head
         ensures { result ≡ self.now.head }
     {
         self.head
     }
 
-    /// The octets of section 1 for local use, from its octet 23 on, in edition 3 from octet 18 on.
+    /// The octets of section 1 for local use: from its octet 23 on, in edition 3 from octet 18 on.
     pub fn local1(&self) -> &'a [u8]
         ensures { result.now ≡ self.now.local1 }
     {
@@ -223,21 +223,21 @@ impl<'a> Message<'a> {
         Some(two_at(self.descriptors, 2 * i))
     }
 
-    /// The words of the descriptors of section 3, in order.
+    /// The words of the descriptors of section 3, in order, of two octets each.
     pub fn descriptors(&self) -> Words<'a>
         ensures { words_left result ≡ self.now.descriptors }
     {
         Words::new(self.descriptors)
     }
 
-    /// The number of subsets.
+    /// The number of subsets, octets 5 and 6 of section 3.
     pub fn subsets(&self) -> u16
         ensures { result ≡ self.now.subsets }
     {
         self.subsets
     }
 
-    /// Whether the data are observed ones, bit 1 of octet 7 of section 3.
+    /// Whether the data are observed, bit 1 of octet 7 of section 3.
     pub fn observed(&self) -> bool
         ensures { result ≡ self.now.observed }
     {
@@ -251,7 +251,7 @@ impl<'a> Message<'a> {
         self.compressed
     }
 
-    /// The data and what pads them: section 4 from its octet 5 on, less than 2^24 octets.
+    /// The data and their padding: section 4 from its octet 5 on, less than 2^24 octets.
     pub fn payload(&self) -> BitSlice<'a>
         ensures value { octets_of result ≡ self.now.payload }
         ensures short { length self.now.payload < 2 ^ 24 }

@@ -1,4 +1,4 @@
-//! The search for the next place where `BUFR` stands.
+//! The search for the next occurrence of `BUFR`.
 ghost use Rattle.std.specs.Prelude.{◌≡◌, ◌≢◌, ◌≤◌, ◌<◌, ◌+◌, ◌-◌, ◌^◌, ℕ, List, [], ◌∷◌, ◌++◌, length, take, drop, min, codes, IfOk, IfSome, MatchOption, vec_len, Some, None};
 ghost use Rattle.memchr.specs.Find.{FindsNeedle, IsFirst, OccursAt};
 ghost use Rattle.bufr_frame.specs.Scan.{classify, stated_length, has_word_at};
@@ -10,55 +10,55 @@ use crate::least::{SECTION_0, SECTION_5};
 use crate::octets::u24_from;
 use memchr::memmem;
 
-/// Where octets 5 to 7 of a message stand, which state its length.
+/// The index of octets 5 to 7 of a message, which state its length.
 const LENGTH: usize = 4;
 
-/// How many places are compared one by one before a search is begun, which costs more than they.
+/// How many indices are compared one by one first, since a search costs more to begin.
 const NEAR: usize = 16;
 
-/// What is at the front of the octets that are left.
+/// What the octets that are left begin with.
 #[derive(Clone, Copy)]
 pub(crate) enum Candidate {
-    /// `BUFR` does not stand there.
+    /// They do not begin with `BUFR`.
     Nothing,
-    /// `BUFR` stands there, and no message begins with it.
+    /// They begin with `BUFR`, and no message begins there.
     Stray(Cause),
-    /// A message begins there.
+    /// They begin with a message.
     Frame,
 }
 
 /// The next event of some octets, which is certain.
 #[derive(Clone, Copy)]
 pub(crate) struct NextEvent {
-    /// The place where `BUFR` stands, from 0.
+    /// The index of its `BUFR`, from 0.
     pub(crate) place: usize,
-    /// What is there.
+    /// What begins there: a message, or a stray word.
     pub(crate) here: Candidate,
-    /// The length that is stated there, 0 where its octets are not there.
+    /// The length that is stated there, 0 where its octets are missing.
     pub(crate) stated_length: usize,
 }
 
-/// A place before which no event is; more octets are needed to tell what is there.
+/// An index before which no event begins; more octets are needed to classify what begins there.
 #[derive(Clone, Copy)]
 pub(crate) struct Incomplete {
-    /// The place, from 0.
+    /// The index, from 0.
     pub(crate) place: usize,
     /// The length that is stated there, 0 where none is.
     pub(crate) stated_length: usize,
 }
 
-/// What the octets at hand show.
+/// What the octets that are held show.
 #[derive(Clone, Copy)]
 pub(crate) enum SearchResult {
     /// An event.
     Found(NextEvent),
-    /// More octets are needed to tell.
+    /// More octets are needed.
     NeedsMore(Incomplete),
     /// No event any more.
     End,
 }
 
-/// The octets from `place` on.
+/// The suffix of `s` from index `place`.
 pub(crate) fn behind(s: &[u8], place: usize) -> &[u8]
     requires { place ≤ length s.now }
     ensures { result.now ≡ drop place s.now }
@@ -87,14 +87,14 @@ pub(crate) fn len_here(m: &[u8]) -> usize
     }
 }
 
-/// Whether `BUFR` stands at the front.
+/// Whether the octets begin with `BUFR`.
 fn starts_with_bufr(m: &[u8]) -> bool
     ensures { result ≡ has_word_at (codes "BUFR") 0 m.now }
 {
     m.starts_with(b"BUFR")
 }
 
-/// What is at the front of `m`, behind which nothing comes: the first case that holds counts.
+/// What `m` begins with, if nothing comes after `m`: the first case that holds counts.
 pub(crate) fn classify(m: &[u8]) -> Candidate
     ensures { result ≡ classify m.now }
 {
@@ -117,7 +117,7 @@ pub(crate) fn classify(m: &[u8]) -> Candidate
     Candidate::Frame
 }
 
-/// The first place where `BUFR` stands, among the nearest.
+/// The first of the nearest indices where `BUFR` is.
 fn find_near(rest: &[u8]) -> Option<usize>
     ensures { IsFirst (OccursAt rest.now (codes "BUFR")) 0 (min (length rest.now) 16) result }
 {
@@ -129,12 +129,12 @@ fn find_near(rest: &[u8]) -> Option<usize>
     None
 }
 
-/// The first place where `BUFR` stands. `word` searches for it.
+/// The first index where `BUFR` is. `word` searches for it.
 fn find_word(word: &memmem::Finder<'_>, rest: &[u8]) -> Option<usize>
     requires { word.now ≡ codes "BUFR" }
     ensures { FindsNeedle rest.now (codes "BUFR") 0 result }
 {
-    // messages and stray words follow one another
+    // Messages and stray words often follow one another.
     if let Some(place) = find_near(rest) {
         return Some(place);
     }
@@ -143,8 +143,8 @@ fn find_word(word: &memmem::Finder<'_>, rest: &[u8]) -> Option<usize>
     Some(near + place)
 }
 
-/// What `rest` shows, behind which more octets may come unless the end was reached. `word` searches
-/// for `BUFR`.
+/// What `rest` shows. More octets may come after it unless the end was reached. `word` searches for
+/// `BUFR`.
 pub(crate) fn find_event(word: &memmem::Finder<'_>, rest: &[u8], ended: bool) -> SearchResult
     requires { word.now ≡ codes "BUFR" }
     ensures { IsSearchResult ended rest.now result }
@@ -154,7 +154,7 @@ pub(crate) fn find_event(word: &memmem::Finder<'_>, rest: &[u8], ended: bool) ->
             if ended {
                 SearchResult::End
             } else {
-                // the last three octets may begin a word
+                // The last three octets may begin a word.
                 SearchResult::NeedsMore(Incomplete {
                     place: rest.len() - rest.len().min(3),
                     stated_length: 0,
@@ -165,7 +165,7 @@ pub(crate) fn find_event(word: &memmem::Finder<'_>, rest: &[u8], ended: bool) ->
     }
 }
 
-/// The same, where `BUFR` stands first at `place`.
+/// The same, where `place` is the first index of `BUFR`.
 fn find_event_at(rest: &[u8], place: usize, ended: bool) -> SearchResult
     requires { FindsNeedle rest.now (codes "BUFR") 0 (Some place) }
     ensures { IsSearchResult ended rest.now result }

@@ -1,4 +1,4 @@
-//! The words of two octets, one after another.
+//! The words of two octets in a slice.
 
 use crate::octets::word_of;
 

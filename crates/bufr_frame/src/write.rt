@@ -1,4 +1,4 @@
-//! A message written from its parts.
+//! Writing a message from its parts.
 ghost use Rattle.std.specs.Prelude.{◌≡◌, ◌≢◌, ◌≤◌, ◌<◌, ◌+◌, ◌*◌, ◌/◌, ◌%◌, ◌^◌, ◌↔◌, ◌++◌, ◌∷◌, [], length, IfOk, OnOk, Ok, Err, Some, SomeIff, IsTrue, codes, if◌then◌else◌};
 ghost use Rattle.std.specs.Option.{option_map};
 ghost use Rattle.bufr_frame.specs.Octets.{three_octets, two_octets, octets_of_words};
@@ -18,7 +18,7 @@ use std::alloc::{AllocError, Global};
 /// The most octets that a message has, since three octets state its length.
 const MAX_OCTETS: usize = 16_777_215;
 
-/// How many octets the message has, where they are not too many.
+/// The number of octets of the message, or `TooLong`.
 fn size_of(
     edition: u8,
     local1: &[u8],
@@ -54,7 +54,7 @@ fn push_three(octets: &mut Vec<u8>, n: usize) -> Result<(), AllocError>
     octets.extend_from_slice(&three_octets_of(n))
 }
 
-/// Section 1 of edition 3 behind its length.
+/// Section 1 of edition 3 after its length.
 fn head_octets_3(head: &Head, optional: bool) -> [u8; 14]
     requires centre { head.now.centre ≤ 255 }
     requires subcentre { head.now.subcentre ≤ 255 }
@@ -79,7 +79,7 @@ fn head_octets_3(head: &Head, optional: bool) -> [u8; 14]
     ]
 }
 
-/// Section 1 of edition 4 behind its length.
+/// Section 1 of edition 4 after its length.
 fn head_octets_4(head: &Head, optional: bool) -> [u8; 19]
     ensures { result ≡ slot_octets slots_4 (head_value head.now optional) }
 {
@@ -106,7 +106,7 @@ fn head_octets_4(head: &Head, optional: bool) -> [u8; 19]
     ]
 }
 
-/// Appends section 1 behind its length and before its local use.
+/// Appends section 1 after its length and before its local use.
 fn push_head(octets: &mut Vec<u8>, head: &Head, optional: bool) -> Result<(), AllocError>
     requires { IsTrue (is_writable head.now) }
     ensures { OnOk result (octets.new.items ≡ octets.old.items ++ head_octets head.now optional) }
@@ -134,7 +134,7 @@ fn push_section1(
     octets.extend_from_slice(local1)
 }
 
-/// Appends the zero octet with which a section is padded, where it is.
+/// Appends the zero octet that pads a section, where one does.
 fn push_padding(octets: &mut Vec<u8>, pads: bool) -> Result<(), AllocError>
     ensures { OnOk result (octets.new.items ≡ with_pad_octet pads octets.old.items) }
 {
@@ -236,13 +236,14 @@ fn push_section0(octets: &mut Vec<u8>, size: usize, edition: u8) -> Result<(), A
 }
 
 /// Writes a message of edition 3 or 4 from its parts: `BUFR` first, its length in octets 5 to 7,
-/// the sections with the least lengths that hold the parts, reserved octets and bits zero, `7777`
-/// last. `local1` stands in section 1 from its octet 23 on (18 in edition 3), `section2` in
-/// section 2 from its octet 5 on, `payload` in section 4 from its octet 5 on. In edition 3 sections
-/// 3 and 4 have an even number of octets: a zero octet is put behind the descriptors, and behind
-/// the payload where it is odd. The condition is that `head.edition` is 3 or 4, and that in edition
-/// 3 centre, sub-centre and year fit an octet and the local sub-category and the second are 0.
-/// (WMO-No. 306, Volume I.2, FM 94, sections 0 to 5)
+/// `7777` last. Sections have the least lengths that hold the parts; reserved octets and bits are
+/// zero. `local1` is in section 1 from its octet 23 on (18 in edition 3). `section2` and `payload`
+/// are in sections 2 and 4 from octet 5 on. In edition 3 sections 3 and 4 have an even number of
+/// octets: a zero octet follows the descriptors, and follows an odd payload.
+///
+/// The condition is that `head.edition` is 3 or 4. In edition 3 centre, sub-centre and year must
+/// fit an octet, and the local sub-category and the second must be 0. (WMO-No. 306, Volume I.2, FM
+/// 94: sections 0 to 5)
 ///
 /// ```
 /// let message = Message::parse(octets)?;
@@ -254,8 +255,8 @@ fn push_section0(octets: &mut Vec<u8>, size: usize, edition: u8) -> Result<(), A
 ///
 /// # Errors
 ///
-/// [`WriteFault::TooLong`] exactly where the message would have more than 16,777,215 octets, and
-/// [`WriteFault::Memory`].
+/// [`WriteFault::TooLong`] exactly where the message would have more than 16,777,215 octets.
+/// [`WriteFault::Memory`] where memory ran out.
 pub fn write_message(
     alloc: Global,
     head: &Head,
@@ -268,7 +269,7 @@ pub fn write_message(
     payload: &[u8],
 ) -> Result<Vec<u8>, WriteFault>
     requires { IsTrue (is_writable head.now) }
-    // The octets as they are laid out; read as a message they have the parts again.
+    // These octets, read as a message, have the parts again.
     ensures layout { IfOk result (λ octets. octets.items ≡ message_octets head.now
         (parts_of local1.now (option_map (λ s. s.now) section2.entry) descriptors.now subsets
         observed compressed payload.now)) }

@@ -1,4 +1,4 @@
--- How many turns there are, by the items.
+-- A bound on the turns, by the items.
 use Rattle.std.proofs.Common.{◌≡◌, ℕ, zero, suc, ◌+◌, ◌-◌, ◌*◌, ◌<◌, ◌≤◌, List, [], ◌∷◌, length, Bool, true, false, ◌||◌, Result, Ok, Err, refl, ap, subst, arith}
 use Rattle.std.specs.Prelude.{if◌then◌else◌}
 use Rattle.std.proofs.Math.Nat.{mul-le-mul_left}
@@ -19,7 +19,7 @@ use Rattle.bufr_walk.specs.Walked.{oks, answers_of, StopsWalk, Walked}
 use Rattle.bufr_walk.specs.Ticks.{ticked}
 
 module _ (table : List Row) (n : ℕ) where
-  -- each item pays for n turns, and what is behind for so many
+  -- each item pays for n turns, and what follows for `a`
   abbrev pub Bounded : ℕ → Rest → Type 0
   Bounded a rest = (counts : List ℕ) (s : OperatorModel) (items : List Taken) → (ahead table (rest counts) s items).turns ≤ a + n * length items
 
@@ -32,7 +32,7 @@ module _ (table : List Row) (n : ℕ) where
   operated_turns (Err why) go items a h = omega arith
   operated_turns (Ok s) go items a h = omega (arith, h s)
 
-  -- an operator, or a text that it asks for
+  -- an operator, or a text of the template
   operator_turns : (fxy : ℕ) (s : OperatorModel) (next : Turns) (items : List Taken) (a : ℕ) → ((s' : OperatorModel) (more : List Taken) → (ahead table next s' more).turns ≤ a + n * length more) → (ahead table (operator_turn fxy next) s items).turns ≤ 1 + a + n * length items
   operator_turns fxy s next items a h = by (is_inserted_text fxy)
     where
@@ -91,7 +91,7 @@ module _ (table : List Row) (n : ℕ) where
     pays (delayed fxy body more) h g c a rest b = λ counts s items.
         omega (arith, delayed_turns fxy body more rest a (λ j. passes_any body (omega arith) (pays body (omega arith) g.1.0 g.0) j (size more + a) (unroll more rest) (bounded more (omega arith) g.1.1 a rest b)) counts s items)
 
-  -- the same where the walk comes to its end, with so much to spare
+  -- the same where the walk comes to its end, with `d` turns to spare
   abbrev pub Ends : ℕ → ℕ → Rest → Type 0
   Ends d a rest = (counts : List ℕ) (s : OperatorModel) (items : List Taken) → (ahead table (rest counts) s items).next ≡ at_end → (ahead table (rest counts) s items).turns + d ≤ a + n * length items
 

@@ -1,5 +1,5 @@
 -- The table of the worked examples, and readings by it: a pass over a template with all that it
--- shows, and how it ended.
+-- shows, and its end.
 use Rattle.std.proofs.Common.{ℕ, zero, suc, ◌+◌, ◌-◌, ◌*◌, Bool, List, [], ◌∷◌, ◌++◌, length, map, Result, Ok, Err, ℤ, pos, negsuc}
 use Rattle.std.specs.Prelude.{drop}
 use Rattle.bufr_bits.specs.Bits.{bits_of}
@@ -42,14 +42,14 @@ table =
     ∷ listed 0 31 250 kind.Character (pos 0) (pos 0) 8
     ∷ []
 
--- how a pass ended: with so many bits left, or at a fault of the walk or of a field
+-- the end of a pass: with so many bits left, or at a fault of the walk or of a field
 pub data Ending : Type 0 where
   done : (left turns : ℕ) → Ending
   walk_fault : (why : TurnRefusal) (left turns : ℕ) → Ending
   field_fault : (fxy : ℕ) (why : FieldFault) (left turns : ℕ) → Ending
   unknown : Ending
 
--- one pass: what each item shows, by its descriptor, and how it ended
+-- one pass: what each item shows, by its descriptor, and its end
 pub record Pass (C : Type 0) : Type 0 where
   pub items : List (ℕ × C)
   pub ending : Ending
@@ -85,7 +85,7 @@ unfoldable pub one : Tree → List ℕ → Pass ShownValue
 unfolding table pass next_item bits_of
 one tree octets = pass plain shown (next_item table tree) 40 [] (bits_of octets)
 
--- all of so many subsets that are
+-- all of so many compressed subsets
 unfoldable pub together : ℕ → Tree → List ℕ → Pass (List ShownValue)
 unfolding table pass next_item bits_of
 together n tree octets = pass (packed n) (λ spec cs. map (shown spec) cs) (next_item table tree) 40 [] (bits_of octets)
@@ -103,11 +103,11 @@ in_turn (suc n) course bits =
     let p = pass plain shown course 40 [] bits in p ∷ behind p.ending (λ left. in_turn n course (drop (length bits - left) bits))
 
 -- two subsets of data that are not compressed, each from the beginning of the template; nothing is
--- read behind a fault
+-- read after a fault
 unfoldable pub two : Tree → List ℕ → List (Pass ShownValue)
 unfolding table in_turn next_item bits_of
 two tree octets = in_turn 2 (next_item table tree) (bits_of octets)
 
--- what a pass is expected to show
+-- the expected pass
 unfoldable pub gives : {V : Type 0} → List (ℕ × V) → Ending → Pass V
 gives items ending = record { items = items; ending = ending }

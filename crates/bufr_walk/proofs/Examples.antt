@@ -169,7 +169,7 @@ inserted_missing : one (operator (fxy 2 5 1) bare) (255 ∷ []) ≡ gives ((3404
 unfolding one gives fxy
 inserted_missing = refl
 
--- a base of all ones: all are missing, and the increments are passed over
+-- a base of all ones: all are missing, and the increments are passed
 base_missing : together 2 (element (fxy 0 1 1) bare) (254 ∷ 16 ∷ 128 ∷ []) ≡ gives ((257, shown_missing ∷ shown_missing ∷ []) ∷ []) (done 7 2)
 unfolding together gives fxy
 base_missing = refl
@@ -199,7 +199,7 @@ octets_past_the_text : together 2 (operator (fxy 2 5 1) bare) (0 ∷ 8 ∷ 0 ∷
 unfolding together gives fxy
 octets_past_the_text = refl
 
--- the data end before that is told
+-- the data end first
 octets_past_the_end : together 2 (operator (fxy 2 5 1) bare) (0 ∷ 8 ∷ []) ≡ gives [] (field_fault 34049 data_end 16 1)
 unfolding together gives fxy
 octets_past_the_end = refl

@@ -1,4 +1,4 @@
--- The ways over one field, and over an operator.
+-- Walks over one field, and over an operator.
 use Rattle.std.proofs.Common.{◌≡◌, ℕ, ◌+◌, ◌*◌, ◌&&◌, append-nil, arith, List, [], ◌∷◌, Bool, true, false, Option, Some, None, Result, Ok, Err, refl, sym, ◌∙◌, ap, subst}
 use Rattle.std.specs.Prelude.{◌==◌, nat_lt, nat_le, if◌then◌else◌}
 use Rattle.bufr_tables.specs.declared.kind.Kind.{Kind}
@@ -26,7 +26,7 @@ use Rattle.bufr_walk.specs.Stop.{stop_by}
 use Rattle.bufr_walk.specs.Ticks.{ticked}
 use Rattle.bufr_walk.proofs.WaysLemmas.{ticked_twice, later_twice, later_none, goes_turn}
 
--- which roles tell a count
+-- roles other than a factor return no count
 no_count : (r : Role) (t : Taken) (counts : List ℕ) → (r ≡ role.Factor → ⊥) → IsForRole r t → counts_in t counts ≡ counts
 no_count role.Factor t counts n h = absurd (n refl)
 no_count role.Element taken.Plain counts n h = refl
@@ -98,7 +98,7 @@ module _ {S E : Type 0} (takes : S → FieldSpec → Result Taken E → S → Ty
   took_ok (Ok spec) f t f' h = (spec, refl, h.0, h.1)
   took_ok (Err why) f t f' h = absurd h
 
-  -- turns that ask for a field that is no factor
+  -- turns of a field that is no factor
   pub came_field : (over left : Rest → Rest) (fxy : ℕ) (s : OperatorModel) (f : S) (c : ℕ) (r : Result FieldSpec TurnRefusal) (t : Taken) (f' : S) (c' : ℕ)
       → ((rest : Rest) (counts : List ℕ) (told : List Taken) → ahead table (over rest counts) s told ≡ asked r (λ u more. ahead table (left rest counts) (after_field s fxy u) more) told)
       → ((spec : FieldSpec) → r ≡ Ok spec → spec.role ≡ role.Factor → ⊥) → TakesField takes r f (Ok t) f' → c' ≡ ticked c 1 → HasWalked takes table over left s f c (after_field s fxy t) f' c'
@@ -135,7 +135,7 @@ module _ {S E : Type 0} (takes : S → FieldSpec → Result Taken E → S → Ty
         };
       }
 
-  -- where a field is asked for and not taken, the walk stops there
+  -- where a field comes next and is not taken, the walk stops there
   stops_asked : (k : ℕ) (r : Result FieldSpec TurnRefusal) (go : Taken → List Taken → NextTurn) (f : S) (why : WalkStop E) (f' : S) (n : Course) → n [] ≡ later k (asked r go []) → TakesField takes r f (Err why) f' → Stops takes n f (k + 1) why f'
   stops_asked k (Ok spec) go f (stops.Field e) f' n h took = record { items = []; mid = f; taken = refl; stops = subst (λ x. StopsWalk takes x f (stops.Field e) f') (sym (ap (λ x. x.next) h)) took; turns = ap (λ x. x.turns) h }
   stops_asked k (Ok spec) go f stops.Memory f' n h took = record { items = []; mid = f; taken = refl; stops = subst (λ x. StopsWalk takes x f stops.Memory f') (sym (ap (λ x. x.next) h)) took; turns = ap (λ x. x.turns) h }
@@ -162,7 +162,7 @@ module _ {S E : Type 0} (takes : S → FieldSpec → Result Taken E → S → Ty
     way = λ rest. stops_asked 1 (factor_spec table s fxy) (λ u told. ahead table open_end (after_field s fxy u) told) f why f' _ refl (subst (λ q. TakesField takes q f (Err why) f') is took);
   }
 
-  -- an operator that sets something
+  -- an operator that changes the operators in force
   operator_is : (over left : Rest → Rest) (fxy : ℕ) (s : OperatorModel) → is_inserted_text fxy ≡ false → ((rest : Rest) (counts : List ℕ) → over rest counts ≡ operator_turn fxy (left rest counts)) → (rest : Rest) (counts : List ℕ) (told : List Taken)
       → ahead table (over rest counts) s told ≡ operated (after_operator s fxy) (λ s'. ahead table (left rest counts) s' told)
   operator_is over left fxy s x is rest counts told =

@@ -1,4 +1,4 @@
--- What each turn of the walk does.
+-- The effect of each turn of the walk.
 use Rattle.std.proofs.Common.{◌≡◌, ℕ, zero, suc, ◌+◌, ◌-◌, ◌*◌, ◌^◌, ◌<◌, ◌≤◌, List, [], ◌∷◌, ◌++◌, true, false, length, drop, get_or, Result, Ok, Err, Option, Some, None, refl, sym, ◌∙◌, ap, subst, arith, length-append}
 use Rattle.std.proofs.lemmas.List.{drop-drop}
 use Rattle.std.proofs.Math.Nat.{suc-mul, mul-le-mul_right}
@@ -41,7 +41,7 @@ module _ (cells : List Cell) where
   pub in_range : (place : ℕ) (stack : List Frame) (left : Rest → Rest) → IsAtCell cells place stack left → place < length cells
   in_range place stack left st = let k = spot st.0 st.1 place in (drop_head cells place k.0 k.1 (st.2.here ∙ k.2)).0
 
-  -- what stands before these nodes is this cell
+  -- the cells of these nodes begin with this cell
   pub at_cell : (place : ℕ) (more : Tree) (groups : List OpenGroup) (d c : Cell) → drop place cells ≡ cells_of more place (tail_of groups) → get_or cells place d ≡ c → cells_of more place (tail_of groups) ≡ c ∷ drop (place + 1) cells
   at_cell place more groups d c h e =
       let k = spot more groups place in
@@ -52,7 +52,7 @@ module _ (cells : List Cell) where
   frames_length [] = refl
   frames_length (s ∷ outer) = simp length-append (omega (arith, frames_length outer))
 
-  -- a group is gone into, or past
+  -- a group is opened, or passed
   pub entered : (count : ℕ) (body more : Tree) (groups : List OpenGroup) (start after next : ℕ) (stack stack' : List Frame)
       → (count ≡ 0 → (next ≡ after) × (stack' ≡ stack))
       → (0 < count → (next ≡ start) × (stack' ≡ stack ++ record { start = start; after = after; left = count - 1 } ∷ []))
@@ -154,11 +154,11 @@ module _ {S E : Type 0} (takes : S → FieldSpec → Result Taken E → S → Ty
   here_is : (place : ℕ) (stack : List Frame) (left : Rest → Rest) (d c : Cell) (st : IsAtCell cells place stack left) → get_or cells place d ≡ c → cells_of st.0 place (tail_of st.1) ≡ c ∷ drop (place + 1) cells
   here_is place stack left d c st e = at_cell cells place st.0 st.1 d c st.2.here e
 
-  -- it stands before other nodes
+  -- the walk is before other nodes
   moved : (place : ℕ) (stack : List Frame) (left : Rest → Rest) (st : IsAtCell cells place stack left) (t : Tree) → st.0 ≡ t → IsAtNodes cells place stack left t st.1
   moved place stack left st t e = subst (λ x. IsAtNodes cells place stack left x st.1) e st.2
 
-  -- one cell on
+  -- the walk moves one cell on
   pub turn_on : (place : ℕ) (stack : List Frame) (left : Rest → Rest) (groups : List OpenGroup) (more : Tree) (before : Tree) (s s' : OperatorModel) (f f' : S) (c c' : ℕ) → IsAtNodes cells place stack left before groups → drop (place + 1) cells ≡ cells_of more (place + 1) (tail_of groups) → depth before ≡ depth more → worst before ≡ 1 + worst more → IsLegal more
       → HasWalked takes table (λ k. unroll before (turns_after_pass groups k)) (λ k. unroll more (turns_after_pass groups k)) s f c s' f' c' → Turned takes table cells left place stack s f c (Ok (Some (place + 1))) stack s' f' c'
   turn_on place stack left groups more before s s' f f' c c' at next deep cost legal came = (
@@ -221,7 +221,7 @@ module _ {S E : Type 0} (takes : S → FieldSpec → Result Taken E → S → Ty
       came_stops takes table (stop_by why) (came_none takes table left (λ k. unroll (operator fxy i.0) (turns_after_pass st.1 k)) s f c at.left_is)
       (stops_operator takes table (λ k. unroll (operator fxy i.0) (turns_after_pass st.1 k)) (λ k. unroll i.0 (turns_after_pass st.1 k)) fxy s f c c' why x (λ rest counts. refl) told tick)
 
-  -- behind a body and its end
+  -- after a body and its end
   past_body : (start after : ℕ) (body m : Tree) (tail : List Cell) → after ≡ start + (size body + 1) → drop start cells ≡ cells_of body start (cell.PassEnd ∷ cells_of m after tail) → drop after cells ≡ cells_of m after tail
   past_body start after body m tail e h = ap (λ j. drop j cells) e ∙ sym (drop-drop (size body + 1) start cells) ∙ ap (drop (size body + 1)) h ∙ drop_body body start (cells_of m after tail)
 
@@ -240,7 +240,7 @@ module _ {S E : Type 0} (takes : S → FieldSpec → Result Taken E → S → Ty
       let deep : length st.1 + depth (delayed i.0 i.1 i.2) ≤ 32 = subst (λ x. length st.1 + depth x ≤ 32) i.3 st.2.deep in
       omega (arith, deep, stack_length place stack left st)
 
-  -- the factor stands at the next place
+  -- the factor is at the next place
   pub factor_next : (place : ℕ) (stack : List Frame) (left : Rest → Rest) (d : Cell) (after : ℕ) → IsAtCell cells place stack left → get_or cells place d ≡ cell.Delayed after → (place + 1 < length cells) × (word : ℕ) × ((d2 : Cell) → get_or cells (place + 1) d2 ≡ cell.Factor word)
   factor_next place stack left d after st e =
       let i = is_delayed st.0 st.1 place after _ (here_is place stack left d _ st e) in
@@ -348,7 +348,7 @@ laid_length cells template h =
     lay_length (fixed n body more) at tail = omega (arith, lay_length body (at + 1) (cell.PassEnd ∷ cells_of more (at + 2 + size body) tail), lay_length more (at + 2 + size body) tail)
     lay_length (delayed fxy body more) at tail = omega (arith, lay_length body (at + 2) (cell.PassEnd ∷ cells_of more (at + 3 + size body) tail), lay_length more (at + 3 + size body) tail)
 
--- a walk stands before the whole template
+-- a walk before the whole template
 pub stands_first : (cells : List Cell) (template : Tree) (stack : List Frame) → AreCellsOf cells template → stack ≡ [] → IsAtCell cells 0 stack (unroll template)
 stands_first cells template stack h e = (template, [], record { frames = e; here = h.laid; deep = omega (arith, h.shallow); legal = h.legal; outer = tt; left_is = λ k counts. refl })
 

@@ -39,7 +39,7 @@ drop_lay (delayed fxy body more) at tail =
     (skip 1 (size more) (1 + size more) _ (cells_of more (at + 3 + size body) tail) tail refl (drop_lay more (at + 3 + size body) tail) refl) refl)
     (omega arith)
 
--- past a body and its end
+-- after a body and its end
 pub drop_body : (t : Tree) (at : ℕ) (tail : List Cell) → drop (size t + 1) (cells_of t at (cell.PassEnd ∷ tail)) ≡ tail
 drop_body t at tail = skip (size t) 1 (size t + 1) _ (cell.PassEnd ∷ tail) tail (drop_lay t at (cell.PassEnd ∷ tail)) refl refl
 
@@ -49,7 +49,7 @@ costs_drop [] at (suc i) = refl
 costs_drop (x ∷ xs) at zero = ap (λ k. get_or (costs (x ∷ xs) k) 0 0) (let e : at ≡ at + 0 = omega arith in e)
 costs_drop (x ∷ xs) at (suc i) = costs_drop xs (at + 1) i ∙ ap (λ k. get_or (costs (drop i xs) k) 0 0) (let e : at + 1 + i ≡ at + suc i = omega arith in e)
 
--- the cost behind a jump
+-- the cost after a jump
 jump : (xs ys : List Cell) (at after k : ℕ) → drop k xs ≡ ys → after ≡ at + k → get_or (costs xs at) (after - at) 0 ≡ get_or (costs ys after) 0 0
 jump xs ys at after k h e =
     costs_drop xs at (after - at)

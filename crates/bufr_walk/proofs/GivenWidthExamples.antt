@@ -5,10 +5,10 @@ use Rattle.bufr_walk.specs.declared.spec.TurnRefusal.TheVariants as refusal
 use Rattle.bufr_walk.specs.Content.{shown_number, shown_text, shown_missing, shown_reference}
 use Rattle.bufr_walk.proofs.ExampleTables.{fxy, done, walk_fault, one, gives}
 
--- A given width that is that of Table B has the element read by its row alone, as a quantity, a
--- figure or a text, and holds for it alone: fails where the changes, the references or the text
--- width in force reach it, where it is read as a bare number, or where the next element is read by
--- its row alone too.
+-- Where a given width is that of Table B, an element is read by its row alone: as a quantity, a
+-- figure or a text. The width holds for it alone. Fails where the changes, the references or the
+-- text width in force reach it, or where it is read as a bare number. Fails where the next element
+-- is read by its row alone too.
 given_table_width : one (operator (fxy 2 3 10) (element (fxy 0 12 101) (operator (fxy 2 3 255) (operator (fxy 2 1 132) (operator (fxy 2 2 129) (operator (fxy 2 7 1) (operator (fxy 2 6 16) (element (fxy 0 12 101) (element (fxy 0 12 101) bare))))))))) (228 ∷ 28 ∷ 35 ∷ 203 ∷ 1 ∷ 223 ∷ 0 ∷ [])
     ≡ gives ((3173, shown_reference (negsuc 399)) ∷ (3173, shown_number (pos 28815) (pos 2)) ∷ (3173, shown_number (pos 2881500) (pos 4)) ∷ []) (done 6 10)
 unfolding one gives fxy
@@ -25,7 +25,7 @@ unfolding one gives fxy
 given_text = refl
 
 -- Another width than that of Table B gives a bare number, of scale and reference zero, with nothing
--- in force: fails where scale, reference, changes or a redefined reference are kept, or where a
+-- in force. Fails where scale, reference, changes or a redefined reference are kept, or where a
 -- text is read as a text.
 given_other_width : one (operator (fxy 2 3 10) (element (fxy 0 5 2) (operator (fxy 2 3 255) (operator (fxy 2 1 132) (operator (fxy 2 2 129) (operator (fxy 2 7 1) (operator (fxy 2 6 12) (element (fxy 0 5 2) bare)))))))) (228 ∷ 3 ∷ 212 ∷ [])
     ≡ gives ((1282, shown_reference (negsuc 399)) ∷ (1282, shown_number (pos 245) (pos 0)) ∷ []) (done 2 9)
@@ -49,8 +49,9 @@ given_class_31 : one (operator (fxy 2 6 12) (element (fxy 0 31 21) (operator (fx
 unfolding one gives fxy
 given_class_31 = refl
 
--- A number of 63 bits is read and one of 64 is not, before the data are looked at, and for a text
--- that is read as a number too: fails where the bound is another, or where the data end first.
+-- A number of 63 bits is read and one of 64 is not, before the data are examined. The same bound
+-- holds for a text that is read as a number. Fails where the bound is another, or where the data
+-- end first.
 given_63 : one (operator (fxy 2 6 63) (element (fxy 0 63 255) bare)) (0 ∷ 0 ∷ 0 ∷ 0 ∷ 0 ∷ 0 ∷ 0 ∷ 21 ∷ [])
     ≡ gives ((16383, shown_number (pos 10) (pos 0)) ∷ []) (done 1 3)
 unfolding one gives fxy

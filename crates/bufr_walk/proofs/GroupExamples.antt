@@ -13,16 +13,16 @@ use Rattle.bufr_walk.specs.Reading.{Item, turns_in, IsPlainReading}
 use Rattle.bufr_walk.specs.Refusal.{Stop, field_stop, IsPlainRefused}
 use Rattle.bufr_walk.proofs.ExampleTables.{fxy, table, done, field_fault, one, two, gives}
 
--- A group of so many passes leaves what its passes set in force: fails where a pass or a group ends
--- a change, where it is passed once, or where turns are counted otherwise.
+-- A group of so many passes leaves the operators of its passes in force. Fails where a pass or a
+-- group ends a change, where it is passed once, or where turns are counted otherwise.
 fixed_group : one (fixed 2 (element (fxy 0 1 1) (operator (fxy 2 1 129) bare)) bare) (20 ∷ 22 ∷ [])
     ≡ gives ((257, shown_number (pos 10) (pos 0)) ∷ (257, shown_number (pos 11) (pos 0)) ∷ []) (done 1 8)
 unfolding one gives fxy
 fixed_group = refl
 
--- Counts are told in the order of the data, an inner one anew in each pass of the outer, and none
--- for a group that is not entered: fails where the counts of inner and outer groups are mixed up,
--- or where one count serves all passes.
+-- Counts come in the order of the data, an inner one anew in each pass of the outer. A group that
+-- is not opened has none. Fails where the counts of inner and outer groups are mixed up, or where
+-- one count serves all passes.
 group_in_a_group : one (delayed (fxy 0 31 1) (delayed (fxy 0 31 1) (element (fxy 0 1 1) bare) bare) bare) (2 ∷ 1 ∷ 20 ∷ 4 ∷ 44 ∷ 96 ∷ [])
     ≡ gives ((7937, shown_number (pos 2) (pos 0)) ∷ (7937, shown_number (pos 1) (pos 0)) ∷ (257, shown_number (pos 10) (pos 0)) ∷ (7937, shown_number (pos 2) (pos 0)) ∷ (257, shown_number (pos 11) (pos 0)) ∷ (257, shown_number (pos 12) (pos 0)) ∷ []) (done 3 15)
 unfolding one gives fxy
@@ -154,8 +154,8 @@ turns_of_both : turns_in (next_item table changed_behind) ((at_288_15 ∷ minus_
 unfolding table changed_behind at_288_15 minus_400 next_item
 turns_of_both = refl
 
--- A refusal names its subset from 1 on, and the bits and the turns before it from the first subset
--- on: fails where they are counted in the subset, or the subsets from 0.
+-- A refusal has its subset from 1, and the bits and the turns before it from the first subset on.
+-- Fails where they are counted in the subset, or the subsets from 0.
 refused_in_second_subset : IsPlainRefused 65535 (next_item table (element (fxy 0 1 1) bare)) (bits_of (20 ∷ [])) (field_stop 257 data_end) 2 7 3
 unfolding table block_10 next_item bits_of fxy
 refused_in_second_subset = (

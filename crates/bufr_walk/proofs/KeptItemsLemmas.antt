@@ -1,4 +1,4 @@
--- Items that are kept, and the fields among them.
+-- The items that are kept, and the fields among them.
 use Rattle.std.proofs.Common.{◌≡◌, ℕ, suc, ◌<◌, ◌&&◌, Bool, true, false, eqb, List, ◌++◌, ◌∷◌, [], length, get_or, sym, ◌∙◌, ap, refl, arith}
 use Rattle.std.specs.Ordering.{int_eq}
 use Rattle.std.proofs.Math.Bool.{beq}
@@ -53,7 +53,7 @@ stands_there specs place there spec below at same = record {
   is = get_or_default specs place no_field there below ∙ sym at ∙ same;
 }
 
--- the items are the same where fields stand behind those that they have
+-- the items are the same where fields follow those that they have
 same_items : (specs more : List FieldSpec) (places : List ItemLocation) → All (λ p. p.spec < length specs) places → indexed_items (specs ++ more) places ≡ indexed_items specs places
 same_items specs more [] have = refl
 same_items specs more (p ∷ places) have =

@@ -1,5 +1,5 @@
--- Worked examples of what a walk asks for: role, kind, width, scale and reference, whether all ones
--- is missing, and whether Table B comments it.
+-- Worked examples of the fields of a walk: role, kind, width, scale and reference, whether all ones
+-- is missing, and whether Table B has the comment.
 use Rattle.std.proofs.Common.{◌≡◌, true, false, List, [], ◌∷◌, pos, negsuc, refl}
 use Rattle.bufr_tables.specs.declared.kind.Kind.TheVariants as kind
 use Rattle.bufr_tables.specs.Tree.{Tree, bare, element, operator, delayed}
@@ -10,7 +10,7 @@ use Rattle.bufr_walk.specs.FieldSpec.{FieldSpec}
 use Rattle.bufr_walk.specs.Course.{take_next, next_item}
 use Rattle.bufr_walk.proofs.ExampleTables.{fxy, table}
 
--- what a walk asks for, after what the items so far told
+-- the field that comes next, after items that returned this
 abbrev asks : Tree → List Taken → FieldSpec → Type 0
 asks tree told spec = (next_item table tree told).next ≡ take_next spec
 
@@ -42,8 +42,8 @@ text_of_class_31_asked : asks (element (fxy 0 31 250) bare) [] (record { fxy = 8
 unfolding table next_item fxy
 text_of_class_31_asked = refl
 
--- A given width that is that of Table B leaves an element to be commented, as its row has it: fails
--- where the number is a bare one, or where what is in force shows.
+-- A given width that is that of Table B leaves an element to be commented, as its row has it. Fails
+-- where the number is a bare one, or where an operator in force shows.
 given_table_width_asked : asks (operator (fxy 2 1 132) (operator (fxy 2 2 129) (operator (fxy 2 7 1) (operator (fxy 2 6 16) (element (fxy 0 12 101) bare))))) [] (record { fxy = 3173; role = role.Element; kind = kind.Numeric; width = 16; scale = pos 2; reference = pos 0; may_be_missing = true; listed = true })
 unfolding table next_item fxy
 given_table_width_asked = refl
@@ -78,8 +78,8 @@ given_class_31_asked : asks (operator (fxy 2 6 12) (element (fxy 0 31 21) bare))
 unfolding table next_item fxy
 given_class_31_asked = refl
 
--- A factor is a count with its own comment, by its row alone, and is never missing; so is a factor
--- in a group and behind one: fails where a change of width reaches it, or where it is an element.
+-- A factor is a count with its own comment, by its row alone, and is never missing. So is a factor
+-- in a group and after one. Fails where a change of width reaches it, or where it is an element.
 factor_asked : asks (operator (fxy 2 1 132) (delayed (fxy 0 31 1) (element (fxy 0 1 1) bare) bare)) [] (record { fxy = 7937; role = role.Factor; kind = kind.Numeric; width = 8; scale = pos 0; reference = pos 0; may_be_missing = false; listed = true })
 unfolding table next_item fxy
 factor_asked = refl
@@ -98,8 +98,8 @@ reference_asked : asks (operator (fxy 2 1 132) (operator (fxy 2 7 1) (operator (
 unfolding table next_item fxy
 reference_asked = refl
 
--- A text of Table B has its comment and the text width in force, a text of the template has
--- neither: fails where either is taken for the other.
+-- A text of Table B has its comment and the text width in force; a text of the template has
+-- neither. Fails where either is taken for the other.
 text_asked : asks (operator (fxy 2 8 3) (element (fxy 0 1 15) bare)) [] (record { fxy = 271; role = role.Element; kind = kind.Character; width = 24; scale = pos 0; reference = pos 0; may_be_missing = true; listed = true })
 unfolding table next_item fxy
 text_asked = refl

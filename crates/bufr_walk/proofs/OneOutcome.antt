@@ -6,7 +6,7 @@ use Rattle.bufr_walk.specs.PlainField.{FieldFault, FieldRead, found}
 use Rattle.bufr_walk.specs.Reading.{Item, DataCoding, ReadsItems, next_after, after}
 use Rattle.bufr_walk.specs.Refusal.{Stop, stop_at, field_stop_of}
 
--- how a pass ends
+-- the end of a pass
 pub data Outcome : Type 0 where
   ended : Outcome
   stopped : (stop : Stop) → Outcome
@@ -21,8 +21,8 @@ outcome_of form many (take_next spec) bits = stopped_by (stop_at form many (take
 outcome_of form many (refused why) bits = stopped_by (stop_at form many (refused why) bits)
 outcome_of form many astray bits = None
 
--- a pass with its items, what is left of the bits, and how it ends; the items are numbered from
--- some number on, and at no item there were too many values
+-- a pass with its items, the rest of the bits, and its end; the items are numbered from some number
+-- on, and at no item there were too many values
 pub record HasOutcome {C : Type 0} (form : DataCoding C) (many : ℕ → Bool) (course : Course) (from : ℕ) (bits : List Bool) (items : List (Item C)) (left : List Bool) (o : Outcome) : Type 0 where
   pub reads : ReadsItems form course items bits left
   pub few : (j : ℕ) → j < length items → many (from + j) ≡ false

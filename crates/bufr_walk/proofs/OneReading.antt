@@ -1,4 +1,4 @@
--- Data have at most one reading or refusal.
+-- Data have at most one reading or one refusal.
 use Rattle.std.proofs.Common.{◌≡◌, ℕ, zero, suc, ◌+◌, ◌*◌, ◌<◌, ◌≤◌, Bool, true, false, List, [], ◌∷◌, length, drop, Some, refl, sym, ◌∙◌, ap, subst, arith, length-drop}
 use Rattle.std.specs.Prelude.{nat_lt}
 use Rattle.std.proofs.lemmas.Bool.Decides.{nat_tests}
@@ -75,7 +75,7 @@ module _ (course : Course) where
       let more = stops_one done done' items items' w.0 mid mid' left left' stop stop' w.2 (subst (λ b. ReadsSubsets course done' b mid') (sym o.1) v.2) r q e f in
       (ap (λ z. z ∷ done) o.0 ∙ ap (λ zs. c ∷ zs) more.0, more.1, more.2, more.3)
 
--- so few items that none of them would be one too many
+-- so few items that one more is not too many
 few_values : (n items j : ℕ) → items * n ≤ max_values → j < items → would_be_many n (0 + j) ≡ false
 few_values n items j h lt = below max_values ((0 + j + 1) * n) (omega (arith, h, scaled (0 + j + 1) items n (omega (arith, lt))))
   where

@@ -1,4 +1,4 @@
--- What one subset has of an item of compressed data.
+-- The content of an item of compressed data for one subset.
 use Rattle.std.proofs.Common.{◌≡◌, ℕ, zero, suc, ◌+◌, ◌-◌, ◌*◌, ◌^◌, ◌<◌, ◌≤◌, ◌&&◌, ◌||◌, Bool, true, false, List, length, take, drop, map, Result, Ok, Err, refl, sym, ◌∙◌, ap, subst, arith}
 use Rattle.std.specs.Prelude.{◌==◌, ◌/◌, nat_lt, if◌then◌else◌}
 use Rattle.std.proofs.lemmas.List.{length-drop, length-take, drop-drop}
@@ -36,7 +36,7 @@ behind_found (Err why) bs h = absurd cc
 at_most : (a b : ℕ) → nat_lt a b ≡ false → b ≤ a
 at_most a b h = grind (arith, nat_tests)
 
--- where an item stands, with its contents
+-- an item at a bit, with its contents
 pub record IsAt (bits : List Bool) (at n : ℕ) (a : FieldSpec) (k : ℕ) (cs : List Content) : Type 0 where
   pub within : at + (a.width + 6 + n * increment_bits_of a.role a.kind k) ≤ length bits
   pub are : contents_of a k (take a.width (drop at bits)) (increments n (increment_bits_of a.role a.kind k) (drop (at + (a.width + 6)) bits)) ≡ Ok cs
@@ -83,7 +83,7 @@ pub kept_parts : (bits : List Bool) (n : ℕ) (e : IndexedItem) → stands_at bi
 kept_parts bits n e h =
     parts bits e.at n e.spec e.step (and_first (was_found (packed_field n e.spec (drop e.at bits))) ((e.step == number_of (take 6 (drop (e.at + e.spec.width) bits))) && has_base bits e) h) (kept_step bits n e h)
 
--- one of what is made of increments
+-- one content of increments
 pub at_map : (f : List Bool → Content) (n s j : ℕ) (bits : List Bool) → j < n → content_at j (map f (increments n s bits)) ≡ f (take s (drop (j * s) bits))
 at_map f zero s j bits h = absurd (omega arith)
 at_map f (suc n) s zero bits h = ap (λ m. f (take s (drop m bits))) (nothing s)
@@ -149,7 +149,7 @@ step_is a k n base behind cs some are = by a.role refl
         let no : ◌≡◌ {A = Result (List Content) FieldFault} (Err w.why) (Ok cs) = sym w.is ∙ are in
         absurd cc
 
--- so many increments reach past that of each subset
+-- the increment of each subset is within that many increments
 pub reaches : (n j s : ℕ) → j < n → (j + 1) * s ≤ n * s
 reaches n j s h = mul-le-mul_right s (omega (arith, h))
 
@@ -174,7 +174,7 @@ step_small bits n e h =
     length-take-most : (n : ℕ) (xs : List Bool) → length (take n xs) ≤ n
     length-take-most n xs = omega (arith, length-take n xs)
 
--- the content of one subset, by what stands there
+-- the content of one subset, by the bits of its item
 pub base_content : (bits : List Bool) (n : ℕ) (e : IndexedItem) (j : ℕ) → stands_at bits n e ≡ true → e.step ≡ 0 → j < n → content_kept bits n e j ≡ content_in e.spec (take e.spec.width (drop e.at bits))
 base_content bits n e j h none below = let p = kept_parts bits n e h in base_at e.spec e.step n j _ _ _ none below p.are
 

@@ -1,4 +1,4 @@
--- How the calls that show compressed data are joined.
+-- Calls that show compressed data, joined.
 use Rattle.std.proofs.Common.{◌≡◌, ℕ, suc, ◌+◌, ◌-◌, ◌<◌, ◌≤◌, Bool, true, length, take, drop, get_or, set, replicate, Result, Ok, Err, List, [], ◌∷◌, ◌++◌, inl, inr, sym, ◌∙◌, ap, subst, add-one, append_assoc, arith}
 use Rattle.std.specs.List.{list_all}
 use Rattle.std.proofs.Math.Seq.{drop-cons}
@@ -12,7 +12,7 @@ use Rattle.bufr_walk.specs.StoredItems.{call_kept}
 use Rattle.bufr_walk.specs.PackedIn.{items_at, stands_at}
 use Rattle.bufr_walk.specs.CallsInTurn.{Shows}
 
--- the calls went as far as these, without a turn
+-- these calls were made, in no turn
 pub record SoFar {S E : Type 0} (sees : S → Call → Result (Unit {0}) E → S → Type 0) (s : S) (calls : List Timed) (s1 : S) (rest : List Timed) : Type 0 where
   pub on : (r : Result (Unit {0}) (ShowFault E)) (s' : S) → Shows sees s1 rest 0 r s' 0 → Shows sees s calls 0 r s' 0
 
@@ -56,7 +56,7 @@ next_call table bits n j kept i k h e = ap (λ ks. compressed_item_calls table j
 pub stand_behind : (bits : List Bool) (n : ℕ) (kept : List IndexedItem) (i : ℕ) (k : IndexedItem) → i < length kept → k ≡ get_or kept i k → list_all (stands_at bits n) (drop i kept) ≡ true → list_all (stands_at bits n) (drop (i + 1) kept) ≡ true
 stand_behind bits n kept i k h e w = and_second (stands_at bits n k) (list_all (stands_at bits n) (drop (i + 1) kept)) (subst (λ ks. list_all (stands_at bits n) ks ≡ true) (next_entry kept i k h (sym e)) w)
 
--- spaces behind a text
+-- spaces after a text
 pub pad_none : (xs : List ℕ) (n : ℕ) → xs ≡ xs ++ replicate (n - n) 32
 pad_none xs n = let none : 0 ≡ n - n = omega arith in sym (append-nil xs) ∙ ap (λ k. xs ++ replicate k 32) none
 

@@ -24,7 +24,7 @@ one_within false true c x h = absurd cc
 one_within false false true x h = refl
 one_within false false false x h = refl
 
--- one that goes past it
+-- one that exceeds it
 one_past : (a b c : Bool) (x : Content) → (a || not b) ≡ false → ◌≡◌ {A = Result Content FieldFault} (if a then Ok missing else if b then Err increment else if c then Ok missing else Ok x) (Err increment)
 one_past true b c x h = absurd cc
 one_past false true c x h = refl
@@ -124,7 +124,7 @@ factor_are a k n base behind some e =
     ap (λ b. if b then Ok (map (λ i. content_in a base) (increments n (increment_bits_of a.role a.kind k) behind)) else varied a.role a k base (increments n (increment_bits_of a.role a.kind k) behind)) (not_zero k some)
     ∙ ap (λ r. varied r a k base (increments n (increment_bits_of r a.kind k) behind)) e ∙ ap (λ s. if_equal (varied_by a.kind a k base (increments n s behind))) (step_factor a.kind k)
 
--- an element tells nothing
+-- an element returns nothing to the walk
 plain_element : (a : FieldSpec) (cs : List Content) → a.role ≡ role.Element → taken.Plain ≡ told_first a cs
 plain_element a [] e = refl
 plain_element a (c ∷ cs) e = ap (λ r. told_by_role r c) (sym e)
@@ -238,7 +238,7 @@ wrong_unequal a k n base behind first f g some any spec e h q t = record {
   fault = ap wrong.UnequalFactor g;
 }
 
--- the same for each role that tells nothing
+-- the same for each role that returns nothing
 pub told_varied : (a : FieldSpec) (k n : ℕ) (base behind : List Bool) → 1 ≤ k → is_plain_role a.role ≡ true → holds_by a.kind a k n base behind ≡ true → IsTold a k n base behind taken.Plain
 told_varied a k n base behind some e h = by a.role refl e
   where

@@ -13,8 +13,8 @@ use Rattle.bufr_walk.specs.Refusal.{Stop, walk_stop, too_many, field_stop, stop_
 use Rattle.bufr_walk.proofs.ExampleTables.{fxy, table, done, walk_fault, field_fault, together, gives}
 
 -- A base of all ones is missing in all subsets, whatever the increments are, but the increments
--- must be there: fails where the base is a number, where an increment past the width is a fault,
--- where the increments are read as the next item, or where they need not be there.
+-- must be there. Fails where the base is a number, or where an increment past the width is a fault.
+-- Fails where the increments are read as the next item, or where they may be absent.
 base_of_all_ones : together 2 (element (fxy 0 12 101) (element (fxy 0 1 1) bare)) (255 ∷ 255 ∷ 9 ∷ 5 ∷ 0 ∷ [])
     ≡ gives ((3173, shown_missing ∷ shown_missing ∷ []) ∷ (257, shown_number (pos 10) (pos 0) ∷ shown_number (pos 10) (pos 0) ∷ []) ∷ []) (done 1 3)
 unfolding together gives fxy
@@ -30,8 +30,8 @@ base_of_all_ones_data_end : together 2 (element (fxy 0 12 101) bare) (255 ∷ 25
 unfolding together gives fxy
 base_of_all_ones_data_end = refl
 
--- An increment of all ones is missing before the sum is looked at, and may have more bits than the
--- item: fails where such a sum is a fault, or where the number of bits is.
+-- An increment of all ones is missing before the sum is examined, and may have more bits than the
+-- item. Fails where such a sum is a fault, or where the number of bits is.
 increment_of_all_ones : together 2 (element (fxy 0 1 1) bare) (252 ∷ 17 ∷ 128 ∷ [])
     ≡ gives ((257, shown_number (pos 126) (pos 0) ∷ shown_missing ∷ []) ∷ []) (done 7 2)
 unfolding together gives fxy
@@ -42,7 +42,7 @@ increment_over_the_width : together 2 (element (fxy 0 1 1) bare) (10 ∷ 80 ∷ 
 unfolding together gives fxy
 increment_over_the_width = refl
 
--- The data end where an increment lacks: fails where the increments that are there are at fault
+-- The data end where an increment is absent: fails where the increments that are there are at fault
 -- first.
 increment_data_end : together 3 (element (fxy 0 1 1) bare) (252 ∷ 20 ∷ [])
     ≡ gives [] (field_fault 257 data_end 16 1)
@@ -50,7 +50,7 @@ unfolding together gives fxy
 increment_data_end = refl
 
 -- In class 31 a base, an increment and a sum of all ones are numbers, and a sum past the width is a
--- fault: fails where one of them is missing, or where the sum wraps.
+-- fault. Fails where one of them is missing, or where the sum wraps.
 class_31_together : together 2 (element (fxy 0 31 1) (element (fxy 0 31 1) (element (fxy 0 31 1) (element (fxy 0 31 21) bare)))) (255 ∷ 4 ∷ 250 ∷ 11 ∷ 127 ∷ 129 ∷ 127 ∷ 0 ∷ [])
     ≡ gives ((7937, shown_number (pos 255) (pos 0) ∷ shown_number (pos 255) (pos 0) ∷ []) ∷ (7937, shown_number (pos 253) (pos 0) ∷ shown_number (pos 251) (pos 0) ∷ []) ∷ (7937, shown_number (pos 254) (pos 0) ∷ shown_number (pos 255) (pos 0) ∷ []) ∷ (7957, shown_number (pos 63) (pos 0) ∷ shown_number (pos 63) (pos 0) ∷ []) ∷ []) (done 2 5)
 unfolding together gives fxy
@@ -67,8 +67,8 @@ one_subset_together : together 1 (element (fxy 0 1 1) bare) (20 ∷ 18 ∷ []) �
 unfolding together gives fxy
 one_subset_together = refl
 
--- The settings of the walk are those of data that are not compressed: fails where the changes are
--- not in force, or where a text in a definition is read.
+-- The operators in force act as on data that are not compressed. Fails where the changes are not in
+-- force, or where a text in a definition is read.
 changes_together : together 2 (operator (fxy 2 3 10) (element (fxy 0 5 2) (operator (fxy 2 3 255) (operator (fxy 2 1 130) (operator (fxy 2 2 129) (operator (fxy 2 7 1) (element (fxy 0 5 2) bare))))))) (228 ∷ 0 ∷ 0 ∷ 125 ∷ 0 ∷ 76 ∷ [])
     ≡ gives ((1282, shown_reference (negsuc 399) ∷ shown_reference (negsuc 399) ∷ []) ∷ (1282, shown_number (pos 1) (pos 4) ∷ shown_number (pos 2) (pos 4) ∷ []) ∷ []) (done 1 8)
 unfolding together gives fxy
@@ -79,7 +79,7 @@ defining_together : together 2 (operator (fxy 2 3 10) (element (fxy 0 1 15) bare
 unfolding together gives fxy
 defining_together = refl
 
--- A text has so many octets and then spaces: fails where it is cut or ends with zeros, where the
+-- A text has so many octets and then spaces. Fails where it is cut or ends with zeros, where the
 -- base begins it, or where the bits are counted in place of the octets.
 texts_of_one_base : together 2 (operator (fxy 2 5 2) (operator (fxy 2 5 2) bare)) (65 ∷ 66 ∷ 3 ∷ 255 ∷ 252 ∷ 0 ∷ [])
     ≡ gives ((34050, shown_text (65 ∷ 66 ∷ []) ∷ shown_text (65 ∷ 66 ∷ []) ∷ []) ∷ (34050, shown_missing ∷ shown_missing ∷ []) ∷ []) (done 4 3)
@@ -91,9 +91,9 @@ texts_of_one_octet : together 2 (operator (fxy 2 5 2) bare) (88 ∷ 89 ∷ 5 ∷
 unfolding together gives fxy
 texts_of_one_octet = refl
 
--- Octets of 255 alone are missing, and a base is not looked at where octets are behind it: fails
--- where a shorter text of 255s is shown, where as many octets as the item has are a fault, or where
--- a base of all ones is missing in all subsets.
+-- Octets of 255 alone are missing, and a base is not examined where octets follow it. Fails where a
+-- shorter text of 255s is shown, or where as many octets as the item has are a fault. Fails where a
+-- base of all ones is missing in all subsets.
 text_of_255 : together 2 (operator (fxy 2 5 2) bare) (255 ∷ 255 ∷ 11 ∷ 255 ∷ 255 ∷ 255 ∷ 248 ∷ [])
     ≡ gives ((34050, shown_missing ∷ shown_text (255 ∷ 254 ∷ []) ∷ []) ∷ []) (done 2 2)
 unfolding together gives fxy
@@ -116,8 +116,8 @@ text_octets_past_the_data : together 2 (operator (fxy 2 5 2) bare) (0 ∷ 0 ∷ 
 unfolding together gives fxy
 text_octets_past_the_data = refl
 
--- A factor may have increments if all its counts are the same, and one of all ones is a count:
--- fails where increments are a fault, where the base alone counts, or where all ones is missing.
+-- A factor may have increments if all its counts are the same, and one of all ones is a count.
+-- Fails where increments are a fault, where the base alone counts, or where all ones is missing.
 factor_with_increments : together 2 (delayed (fxy 0 31 1) (element (fxy 0 1 1) bare) bare) (1 ∷ 12 ∷ 145 ∷ 64 ∷ 11 ∷ 0 ∷ [])
     ≡ gives ((7937, shown_number (pos 2) (pos 0) ∷ shown_number (pos 2) (pos 0) ∷ []) ∷ (257, shown_number (pos 10) (pos 0) ∷ shown_number (pos 10) (pos 0) ∷ []) ∷ (257, shown_number (pos 11) (pos 0) ∷ shown_number (pos 11) (pos 0) ∷ []) ∷ []) (done 2 7)
 unfolding together gives fxy
@@ -145,8 +145,8 @@ factor_past_the_width : together 2 (delayed (fxy 0 31 1) (element (fxy 0 1 1) ba
 unfolding together gives fxy
 factor_past_the_width = refl
 
--- A reference has no increments, and is never missing: fails where they are read or passed over,
--- where the data end is looked at before them, or where all ones is missing.
+-- A reference has no increments, and is never missing. Fails where they are read or passed, where
+-- the data end is examined before them, or where all ones is missing.
 reference_together : together 2 (operator (fxy 2 3 10) (element (fxy 0 12 101) (operator (fxy 2 3 255) (element (fxy 0 12 101) bare)))) (228 ∷ 0 ∷ 112 ∷ 143 ∷ 5 ∷ [])
     ≡ gives ((3173, shown_reference (negsuc 399) ∷ shown_reference (negsuc 399) ∷ []) ∷ (3173, shown_number (pos 28415) (pos 2) ∷ shown_missing ∷ []) ∷ []) (done 0 5)
 unfolding together gives fxy
@@ -167,8 +167,8 @@ reference_of_all_ones_together : together 2 (operator (fxy 2 3 10) (element (fxy
 unfolding together gives fxy
 reference_of_all_ones_together = refl
 
--- More than 134217728 values are too many, counted before an item is read and behind the faults of
--- the walk: fails where the data end first, where a refused width or a text in a definition comes
+-- More than 134217728 values are too many, counted before an item is read and after the faults of
+-- the walk. Fails where the data end first, where a refused width or a text in a definition comes
 -- later, or where the bound is another.
 too_many_before_the_data_end : stop_at (packed 65535) (nat_lt max_values (2049 * 65535)) (next_item table (element (fxy 0 12 101) bare) []).next [] ≡ Some (too_many 3173)
 unfolding table next_item fxy

@@ -1,4 +1,4 @@
--- What a reading of compressed data is made of.
+-- The parts of a reading of compressed data.
 use Rattle.std.proofs.Common.{◌≡◌, ◌<◌, ◌≤◌, ◌*◌, ◌^◌, ℕ, true, List, length, refl, sym, ◌∙◌, ap, subst}
 use Rattle.bufr_frame.specs.Sections.{Sections}
 use Rattle.bufr_tables.specs.TableB.{Row}

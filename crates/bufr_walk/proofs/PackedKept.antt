@@ -1,4 +1,4 @@
--- What a reader of compressed data keeps.
+-- The items that a reader of compressed data keeps.
 use Rattle.std.proofs.Common.{◌≡◌, ℕ, zero, suc, ◌+◌, ◌*◌, ◌^◌, ◌<◌, ◌≤◌, ◌&&◌, ◌||◌, Bool, true, false, List, [], ◌∷◌, ◌++◌, length, take, drop, Result, Ok, Err, refl, sym, ◌∙◌, ap, subst, arith}
 use Rattle.std.specs.Prelude.{◌==◌, ◌%◌, MatchResult}
 use Rattle.std.specs.List.{list_all}
@@ -32,7 +32,7 @@ equal_test a b h = grind (arith, nat_tests)
 both : (a b : Bool) → a ≡ true → b ≡ true → (a && b) ≡ true
 both a b e f = ap (λ x. x && b) e ∙ f
 
--- the entry of an item that was seen
+-- the entry of an item that was read
 pub stands_here : (bits : List Bool) (n : ℕ) (e : IndexedItem) (seen : ItemBits) → IsSeen bits e.at n e.spec seen → e.base ≡ seen.base → e.step ≡ seen.step → stands_at bits n e ≡ true
 stands_here bits n e seen h b k =
     let step = e.step == number_of (take 6 (drop (e.at + e.spec.width) bits)) in
@@ -79,7 +79,7 @@ unlooked s a e few h = subst (IsUnlooked s a) (sym h.fault) (by h.why h.field)
     by increment f = record { why = increment; few = few; field = f; fault = refl }
     by unequal_factor f = record { why = unequal_factor; few = few; field = f; fault = refl }
 
--- what a reader sees, and what it keeps
+-- the reader of a contract, and what it keeps
 too_many : (s : PackedCursor) (bits : List Bool) (at n : ℕ) (kept : List IndexedItem) (len from : ℕ) → s ≡ packed_view bits at n kept → len ≡ length kept → from ≡ n → max_values < (len + 1) * from → max_values < (length s.items + 1) * s.subsets
 too_many s bits at n kept len from e f g h =
     subst (λ x. max_values < (length x.items + 1) * x.subsets) (sym e)

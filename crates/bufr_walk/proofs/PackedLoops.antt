@@ -16,12 +16,12 @@ pub increments_next : (left left' k at at' : ℕ) (bits : List Bool) → left �
 increments_next left left' k at at' bits e f =
     ap (λ n. increments n k (drop at bits)) e ∙ ap (λ bs. take k (drop at bits) ∷ increments left' k bs) (drop-drop k at bits ∙ ap (λ j. drop j bits) (sym f))
 
--- a test of the increments goes on behind one that passes
+-- the test of all increments goes on after one that passes
 pub passes_next : (p : List Bool → Bool) (left left' k at at' : ℕ) (bits : List Bool) (whole : Bool) → left ≡ suc left' → at' ≡ at + k → whole ≡ list_all p (increments left k (drop at bits)) → p (take k (drop at bits)) ≡ true → whole ≡ list_all p (increments left' k (drop at' bits))
 passes_next p left left' k at at' bits whole e f h t =
     h ∙ ap (list_all p) (increments_next left left' k at at' bits e f) ∙ ap (λ b. b && list_all p (increments left' k (drop at' bits))) t
 
--- and ends at one that does not
+-- and ends at one that fails
 pub fails_next : (p : List Bool → Bool) (left left' k at : ℕ) (bits : List Bool) (whole : Bool) → left ≡ suc left' → whole ≡ list_all p (increments left k (drop at bits)) → p (take k (drop at bits)) ≡ false → whole ≡ false
 fails_next p left left' k at bits whole e h t =
     h ∙ ap (list_all p) (increments_next left left' k at (at + k) bits e refl) ∙ ap (λ b. b && list_all p (increments left' k (drop (at + k) bits))) t
@@ -42,7 +42,7 @@ is_first n first m e h = by m first (sym e ∙ h)
 pub stays_here : (m : Bool) (w base k n i : ℕ) (stays b : Bool) → n ≡ i → stays ≡ stays_within m w base k n → stays ≡ b → stays_within m w base k i ≡ b
 stays_here m w base k n i stays b e h g = ap (stays_within m w base k) (sym e) ∙ sym h ∙ g
 
--- all increments can be where the greatest fits
+-- all increments are valid where the greatest fits
 pub all_fit : (m : Bool) (w base k : ℕ) (n : ℕ) (bits : List Bool) → base + ones k ≤ ones w → all_within m w base k n bits ≡ true
 all_fit m w base k zero bits h = refl
 all_fit m w base k (suc n) bits h =

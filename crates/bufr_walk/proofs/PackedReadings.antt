@@ -28,7 +28,7 @@ use Rattle.bufr_walk.specs.Taking.{TakenField, Takes}
 use Rattle.bufr_walk.specs.Ticks.{ticked}
 use Rattle.bufr_walk.specs.Walked.{oks, answers_of, StopsWalk, Walked}
 
--- what some turns read
+-- the items that some turns read
 pub record Passed (n : ℕ) (course : Course) (s : PackedCursor) (turns : List TakenField) (s' : PackedCursor) : Type 0 where
   pub read : List (Item (List Content))
   pub reads : ReadsItems (packed n) course read (remaining_bits s) (remaining_bits s')

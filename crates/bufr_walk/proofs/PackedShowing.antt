@@ -1,4 +1,4 @@
--- A reading of compressed data is shown by what it keeps.
+-- A reading of compressed data is shown from what it keeps.
 use Rattle.std.proofs.Common.{◌≡◌, ℕ, zero, suc, Bool, true, false, List, [], ◌∷◌, drop, Result, length, refl, sym, ◌∙◌, ap, subst}
 use Rattle.std.specs.List.{list_all}
 use Rattle.bufr_walk.specs.declared.fault.ShowFault.{ShowFault}
@@ -24,7 +24,7 @@ one_packed (suc n) course xs ys bits l m h g = let one = one_outcome (packed (su
     has : (zs : List (Item (List Content))) (left : List Bool) → ReadsPass (packed (suc n)) course zs bits left → HasOutcome (packed (suc n)) (λ j. false) course 0 bits zs left ended
     has zs left w = record { reads = w.0; few = λ j lt. refl; ends = ap (λ x. outcome_of (packed (suc n)) false x left) w.1 }
 
--- the entries of what is kept stand where they say
+-- the entries that are kept are at their locations
 pub entries_stand : (r : Read) (entries : List IndexedItem) → IsStoredReading r (kept.Together entries) → list_all (stands_at r.source.bits r.source.subsets) entries ≡ true
 entries_stand r entries h = by h.values h.keeps
   where

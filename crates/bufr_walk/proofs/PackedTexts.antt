@@ -35,7 +35,7 @@ span_text bits n e j place h some below c is =
 pub span_within : (octets : List ℕ) (n : ℕ) (e : IndexedItem) (j : ℕ) → stands_at (bits_of octets) n e ≡ true → 1 ≤ e.step → j < n → is_character e.spec.kind ≡ true → e.at + (e.spec.width + 6) + (j + 1) * (8 * e.step) ≤ 8 * length octets
 span_within octets n e j h some below c = omega (arith, text_within (bits_of octets) n e j h some below c, bits_length octets)
 
--- an item stands within the bits
+-- an item is within the bits
 pub base_within : (octets : List ℕ) (n : ℕ) (e : IndexedItem) → stands_at (bits_of octets) n e ≡ true → e.at + e.spec.width ≤ 8 * length octets
 base_within octets n e h = let p = kept_parts (bits_of octets) n e h in omega (arith, p.within, bits_length octets)
 

@@ -25,7 +25,7 @@ use Rattle.bufr_walk.proofs.ShownLemmas.{value_by, said_number, missing_shown, n
 pub plain_made : (a : FieldSpec) (p : Bool) → IsSpec a → is_character a.kind ≡ false → p ≡ is_plain_number a.role a.width a.reference a.listed → IsSpecWith p a
 plain_made a p h k e = record { spec = h; same = ap (λ b. not b && is_plain_number a.role a.width a.reference a.listed) k ∙ sym e }
 
--- what a plain field is
+-- what holds of a plain field
 pub plain_is : (a : FieldSpec) → is_plain a ≡ true → IsPlainNumber a
 plain_is a h =
     let number : not (is_character a.kind) ≡ true = and_first _ (is_plain_number a.role a.width a.reference a.listed) h in
@@ -63,7 +63,7 @@ plain_missing a bits p m = missing_shown a bits (ap is_reference p.role) m
 pub plain_shown : (a : FieldSpec) (bits : List Bool) (raw : ℕ) → IsPlainNumber a → (are_all_ones bits && a.may_be_missing) ≡ false → raw ≡ number_of bits → shown_number (pos raw +ℤ a.reference) a.scale ≡ shown a (content_in a bits)
 plain_shown a bits raw p m is = number_shown a bits raw p.kind (ap is_reference p.role) m is
 
--- what all subsets have of a plain item with no increments
+-- the value of a plain item with no increments, which all subsets have
 pub base_missing : (octets : List ℕ) (n : ℕ) (e : IndexedItem) (j : ℕ) → stands_at (bits_of octets) n e ≡ true → e.step ≡ 0 → j < n → IsPlainNumber e.spec → is_missing e.spec (bits_at octets e.at e.spec.width) ≡ true → missing ≡ content_kept (bits_of octets) n e j
 base_missing octets n e j h none below p m =
     let base = bits_at octets e.at e.spec.width in
@@ -77,11 +77,11 @@ base_number octets n e j raw h none below p m is =
     ∙ sym (base_content (bits_of octets) n e j h none below ∙ value_by e.spec.role e.spec base (ap is_reference p.role)
     ∙ ap (λ b. if b then missing else said_by e.spec.kind e.spec.width base) m ∙ said_number e.spec.kind e.spec.width base p.kind)
 
--- what Table B says of it
+-- its row of Table B
 pub row_is : (table : List Row) (a : FieldSpec) (row : Row) → IsPlainNumber a → Some row ≡ entry_of table a.fxy → Some row ≡ (if a.listed then entry_of table a.fxy else None)
 row_is table a row p e = e ∙ ap (λ b. if b then entry_of table a.fxy else None) (sym p.listed)
 
--- what it tells
+-- what it returns to the walk
 pub plain_told : (a : FieldSpec) (bits : List Bool) → IsPlainNumber a → taken.Plain ≡ answer_of a (content_in a bits)
 plain_told a bits p = told_element a bits p.role
 

@@ -74,7 +74,7 @@ all_read n course octets total s steps used h e =
 pub few_read : (n : ℕ) (course : Course) (bits : List Bool) (total : ℕ) (s : Cursor) (steps used : ℕ) → SubsetsRead n course bits total s steps → used ≡ s.at → steps ≤ n * used
 few_read n course bits total s steps used h e = subst (λ k. steps ≤ n * k) (sym e) h.few
 
--- where a pass stands behind some subsets
+-- the state of a pass after some subsets
 comes : (n : ℕ) (course : Course) (bits : List Bool) (i total : ℕ) (s s' : Cursor) (c c' before : ℕ) (next : Next) (h : SubsetsRead n course bits i s c) (p : PassComes course s c next s' c') → i < total → before + length (rest_of s') ≡ length bits → ComesTo total course bits (i + 1) before (turns_in course h.subsets + turns_after plain course p.items) next (rest_of s')
 comes n course bits i total s s' c c' before next h p more place = record {
   done = h.subsets;

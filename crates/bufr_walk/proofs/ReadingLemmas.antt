@@ -1,4 +1,4 @@
--- What a reading is made of.
+-- The parts of a reading.
 use Rattle.std.proofs.Common.{◌≡◌, ◌<◌, ◌≤◌, ◌^◌, ℕ, Bool, false, List, length, drop, refl, sym, ◌∙◌, ap, subst, arith}
 use Rattle.bufr_frame.specs.Sections.{Sections}
 use Rattle.bufr_tables.specs.TableB.{Row}

@@ -75,7 +75,7 @@ pass_stops course s s' c c' subset at why here w =
     by stops.Memory (refused (refusal.Width f)) h p = absurd cc h.0
     by stops.Memory (refused (refusal.Defining f)) h p = absurd cc h.0
 
--- a walk goes forth
+-- a walk does not move back
 takes_forth : (course : Course) (s : Cursor) (items : List TakenField) (s' : Cursor) → Takes (oks PlainTakes) course s items s' → s.at ≤ s'.at
 takes_forth course s [] s' h = omega (arith, ap (λ x. x.at) h)
 takes_forth course s (i ∷ items) s' h = omega (arith, takes_forth (λ told. course (i.taken ∷ told)) h.0 items s' h.3, ap (λ x. x.at) h.2.next)

@@ -1,4 +1,4 @@
--- Worked examples of redefined references (2 03), and of what may come while references are
+-- Worked examples of redefined references (2 03), and of what is allowed while references are
 -- defined, computed from the definitions.
 use Rattle.std.proofs.Common.{◌≡◌, [], ◌∷◌, pos, negsuc, refl}
 use Rattle.bufr_tables.specs.Tree.{bare, element, operator, fixed, delayed}
@@ -20,7 +20,7 @@ unfolding one gives fxy
 reference_width_alone = refl
 
 -- A reference of all ones is the least number, of one bit the sign alone is left, and of 63 bits
--- none is lost: fails where a reference may be missing, where it is a two's complement, or where it
+-- none is lost. Fails where a reference may be missing, where it is a two's complement, or where it
 -- has fewer bits.
 reference_of_all_ones : one (operator (fxy 2 3 10) (element (fxy 0 12 101) (operator (fxy 2 3 255) (element (fxy 0 12 101) bare)))) (255 ∷ 220 ∷ 35 ∷ 192 ∷ [])
     ≡ gives ((3173, shown_reference (negsuc 510)) ∷ (3173, shown_number (pos 28304) (pos 2)) ∷ []) (done 6 5)
@@ -43,7 +43,7 @@ references_dropped : one (operator (fxy 2 3 10) (element (fxy 0 12 101) (element
 unfolding one gives fxy
 references_dropped = refl
 
--- A second definition keeps the references of the first, each for its own element: fails where 2 03
+-- A second definition keeps the references of the first, each for its own element. Fails where 2 03
 -- 008 begins anew, or where one reference goes to every element.
 references_kept : one (operator (fxy 2 3 10) (element (fxy 0 12 101) (operator (fxy 2 3 255) (operator (fxy 2 3 8) (element (fxy 0 1 1) (operator (fxy 2 3 255) (element (fxy 0 12 101) (element (fxy 0 1 1) bare)))))))) (228 ∷ 1 ∷ 92 ∷ 35 ∷ 197 ∷ 0 ∷ [])
     ≡ gives ((3173, shown_reference (negsuc 399)) ∷ (257, shown_reference (pos 5)) ∷ (3173, shown_number (pos 28415) (pos 2)) ∷ (257, shown_number (pos 15) (pos 0)) ∷ []) (done 7 9)
@@ -68,8 +68,8 @@ defining_at_the_end : one (operator (fxy 2 3 10) (element (fxy 0 12 101) bare)) 
 unfolding one gives fxy
 defining_at_the_end = refl
 
--- Groups of so many passes may stand in a definition, and its end may stand in a group: fails where
--- a group is a fault there, or where a pass or a group puts back what was in force before it.
+-- Groups of so many passes may be in a definition, and its end may be in a group. Fails where a
+-- group is a fault there, or where a pass or a group restores what was in force before it.
 defining_passes_a_group : one (operator (fxy 2 3 10) (fixed 2 (element (fxy 0 12 101) (element (fxy 0 20 3) bare)) (operator (fxy 2 3 255) (element (fxy 0 12 101) bare)))) (228 ∷ 0 ∷ 25 ∷ 146 ∷ 2 ∷ 112 ∷ 143 ∷ [])
     ≡ gives ((3173, shown_reference (negsuc 399)) ∷ (5123, shown_reference (pos 1)) ∷ (3173, shown_reference (negsuc 99)) ∷ (5123, shown_reference (negsuc 1)) ∷ (3173, shown_number (pos 28715) (pos 2)) ∷ []) (done 0 11)
 unfolding one gives fxy
@@ -80,8 +80,8 @@ definitions_end_in_a_group : one (operator (fxy 2 3 10) (fixed 2 (element (fxy 0
 unfolding one gives fxy
 definitions_end_in_a_group = refl
 
--- No change of width, scale, precision or text width may come while references are defined, not
--- even behind the last of them: fails where such an operator is taken.
+-- No change of width, scale, precision or text width is allowed while references are defined, not
+-- even after the last of them: fails where such an operator is taken.
 width_while_defining : one (operator (fxy 2 3 10) (element (fxy 0 12 101) (operator (fxy 2 1 132) bare))) (228 ∷ 0 ∷ [])
     ≡ gives ((3173, shown_reference (negsuc 399)) ∷ []) (walk_fault (refusal.Defining 33156) 6 3)
 unfolding one gives fxy
@@ -102,8 +102,8 @@ text_width_while_defining : one (operator (fxy 2 3 10) (element (fxy 0 12 101) (
 unfolding one gives fxy
 text_width_while_defining = refl
 
--- Nor another definition, nor its dropping: fails where 2 03 008 or 2 03 000 is taken in a
--- definition.
+-- Nor is another definition allowed, nor its dropping: fails where 2 03 008 or 2 03 000 is taken in
+-- a definition.
 defining_again : one (operator (fxy 2 3 10) (fixed 2 (element (fxy 0 12 101) (operator (fxy 2 3 8) bare)) bare)) (228 ∷ 0 ∷ [])
     ≡ gives ((3173, shown_reference (negsuc 399)) ∷ []) (walk_fault (refusal.Defining 33544) 6 4)
 unfolding one gives fxy
@@ -114,15 +114,15 @@ defining_dropped : one (operator (fxy 2 3 10) (fixed 2 (element (fxy 0 12 101) (
 unfolding one gives fxy
 defining_dropped = refl
 
--- Nor a given width, and it is refused before the width itself is looked at: fails where the fault
+-- Nor is a given width, which is refused before the width itself is examined: fails where the fault
 -- is at 063255, or is its width.
 defining_given : one (operator (fxy 2 3 10) (fixed 2 (operator (fxy 2 6 64) (element (fxy 0 63 255) bare)) bare)) []
     ≡ gives [] (walk_fault (refusal.Defining 34368) 0 3)
 unfolding one gives fxy
 defining_given = refl
 
--- Nor a text of the template, nor a factor, which is refused at itself and not at its group: fails
--- where either is read, or where the group is at fault.
+-- Nor is a text of the template, nor a factor, which is refused at itself and not at its group.
+-- Fails where either is read, or where the group is at fault.
 defining_inserted : one (operator (fxy 2 3 10) (fixed 2 (operator (fxy 2 5 1) bare) bare)) (65 ∷ 66 ∷ [])
     ≡ gives [] (walk_fault (refusal.Defining 34049) 16 3)
 unfolding one gives fxy

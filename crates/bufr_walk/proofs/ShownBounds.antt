@@ -1,4 +1,4 @@
--- How many items a showing has, and how many steps.
+-- Bounds on the items and the steps of a showing.
 use Rattle.std.proofs.Common.{◌≡◌, ℕ, zero, suc, ◌+◌, ◌*◌, ◌≤◌, Bool, List, [], ◌∷◌, ◌++◌, inl, inr, length, drop, Result, Ok, Err, refl, sym, ◌∙◌, ap, subst, arith}
 use Rattle.std.proofs.Math.Nat.{mul-le-mul_left}
 use Rattle.bufr_tables.specs.Sound.{IsSound}
@@ -77,7 +77,7 @@ shows_within sees most s (c ∷ calls) turns (Ok u) s' steps h t g = shows_withi
 shows_within sees most s (c ∷ calls) turns (Err why) s' steps h t g =
     elim h as (λ _. steps ≤ most) [ inl x ↦ ticked_most c.turns most steps x.1 g.0 | inr y ↦ shows_within sees most y.0 calls turns (Err why) s' steps y.2 t g.1 ]
 
--- what items told
+-- what items returned to the walk
 abbrev tells_all : List (Item Content) → List Taken
 tells_all [] = []
 tells_all (i ∷ items) = tells_of plain i ∷ tells_all items

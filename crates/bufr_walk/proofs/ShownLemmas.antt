@@ -1,4 +1,4 @@
--- What a walk with a visitor shows.
+-- The items that a walk with a visitor shows.
 use Rattle.std.proofs.Common.{◌≡◌, ℕ, ◌+◌, ◌/◌, ◌&&◌, Bool, true, false, List, [], ◌∷◌, ◌++◌, ◌⊎◌, inl, inr, length, take, drop, Option, Result, Ok, Err, ℤ, pos, ◌+ℤ◌, refl, sym, ◌∙◌, ap, subst}
 use Rattle.std.specs.Prelude.{nat_lt, if◌then◌else◌, None, option_map}
 use Rattle.bufr_bits.specs.Bits.{number_of, are_all_ones}
@@ -37,7 +37,7 @@ use Rattle.bufr_walk.proofs.PlainSubsets.{ticked_more}
 same_found : (a b : FieldRead Content) → ◌≡◌ {A = Result (FieldRead Content) FieldFault} (Ok a) (Ok b) → a ≡ b
 same_found a b e = cc
 
--- what a field that is there holds
+-- the content of a field that is there
 pub content_is : (spec : FieldSpec) (bits behind : List Bool) (c : Content) → plain_field spec bits ≡ Ok (found c behind) → content_in spec (take spec.width bits) ≡ c
 content_is spec bits behind c h = by (nat_lt (length bits) spec.width) h
   where
@@ -130,7 +130,7 @@ behind_of : (course : Course) (i : TakenField) (a : Item Content) (others : List
 behind_of course i a others mid' mid left go e r = subst (λ c. ReadsPass plain c others mid left) (sym go) (subst (λ b. ReadsPass plain (after plain course a) others b left) e r)
 
 module _ {V E : Type 0} (sees : V → Call → Result (Unit {0}) E → V → Type 0) where
-  -- a field that was peeked at, shown and gone past
+  -- a field that was peeked at, shown and passed
   pub shown_here : (c c' : Cursor) (v v' : V) (table : List Row) (a b : ℕ) (spec : FieldSpec) (t : Taken) → c' ≡ past c spec → IsTaken c spec t (past c spec) → sees v (item_call (view_of table spec (content_in spec (take spec.width (rest_of c))))) (Ok tt) v' → IsShown sees (stage c v table a b) spec t (stage c' v' table a b)
   shown_here c c' v v' table a b spec t e h w = record {
     is_taken = subst (λ x. IsTaken c spec t x) (sym e) h;
@@ -165,7 +165,7 @@ module _ {V E : Type 0} (sees : V → Call → Result (Unit {0}) E → V → Typ
   pub sofar_call : (s s1 : V) (t : Timed) (rest : List Timed) → sees s t.call (Ok tt) s1 → Sofar sees s (t ∷ rest) s1 rest
   sofar_call s s1 t rest h = record { on = λ turns r s' steps w. call_on s s1 t rest turns r s' steps h w }
 
-  -- where a showing stands among the items that a reading has
+  -- the rest of a showing among the items of a reading
   pub record Left (table : List Row) (course : Course) (before : ℕ) (all : List (Item Content)) (left : List Bool) (more : List Timed) (answer_of : List Taken) (v : V) (s' : Stage V) : Type 0 where
     pub rest : List (Item Content)
     pub further : Course

@@ -18,7 +18,7 @@ use Rattle.bufr_walk.specs.Refusal.{walk_stop, too_many, field_stop, field_stop_
 use Rattle.bufr_walk.proofs.OneOutcome.{Outcome, ended, stopped, stopped_by, outcome_of, HasOutcome}
 use Rattle.bufr_walk.proofs.SomeSteps.{IsSane}
 
--- a field that was found takes bits, and tells what its role asks
+-- a field that was found takes bits, and its answer fits its role
 pub record Forth {C : Type 0} (form : DataCoding C) (spec : FieldSpec) (bits : List Bool) (c : C) (mid : List Bool) : Type 0 where
   pub tells : IsFor spec (form.tells spec c)
   pub size : ℕ

@@ -147,7 +147,7 @@ plain_decided course n bits sane = by (some_subsets course n bits sane)
       },
     )
 
--- none of these items is one too many
+-- at none of these items one more is too many
 few_items : (n items : ℕ) → ((j : ℕ) → j < items → would_be_many n (0 + j) ≡ false) → items * n ≤ max_values
 few_items n zero h = omega arith
 few_items n (suc k) h = at_most (h k (omega arith))
@@ -217,7 +217,7 @@ decided : (course : Course) (compressed : Bool) (n : ℕ) (bits : List Bool) →
 decided course false n bits sane = plain_decided course n bits sane
 decided course true n bits sane = packed_decided course n bits sane
 
--- the widths of the rows that records write
+-- the widths of the rows of the records
 rows_within : (records : List Record) (table : List Row) → map row_of records ≡ map Some table → (fxy : ℕ) (row : Row) → entry_of table fxy ≡ Some row → allows_width row.kind row.width ≡ true
 rows_within records [] e fxy row q = absurd cc
 rows_within [] (first ∷ table) e fxy row q = absurd cc

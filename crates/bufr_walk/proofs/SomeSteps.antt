@@ -1,4 +1,4 @@
--- What comes next in a template takes bits of the data, and is never astray.
+-- What comes next in a template takes bits of the data, and its counts match its factors.
 use Rattle.std.proofs.Common.{◌≡◌, ℕ, zero, suc, ◌*◌, ◌≤◌, ◌&&◌, Bool, true, false, List, [], ◌∷◌, Option, Some, None, Result, Ok, Err, refl, sym, ◌∙◌, ap, subst, arith}
 use Rattle.std.specs.Prelude.{◌==◌, nat_le, nat_lt, if◌then◌else◌}
 use Rattle.std.proofs.lemmas.Bool.Decides.{nat_tests}
@@ -23,8 +23,8 @@ use Rattle.bufr_walk.specs.Operators.{OperatorModel, begin, is_defining, after_o
 use Rattle.bufr_walk.specs.Turns.{finish, open_end, group, pass_end, element_turn, operator_turn, Rest, passes, unroll}
 use Rattle.bufr_walk.proofs.SpecLemmas.{inserted_width}
 
--- for so many items: what comes next has a width, and is not astray, while each item tells what its
--- role asks
+-- for so many items: what comes next has a width, and counts match the factors, while each answer
+-- fits its role
 abbrev pub IsSane : ℕ → Course → Type 0
 IsSane zero course = Unit {0}
 IsSane (suc n) course =
@@ -70,14 +70,14 @@ field_sane (suc n) (Ok spec) c e w h = (
     not_astray : (spec : FieldSpec) → take_next spec ≡ astray → ⊥
     not_astray spec q = cc
 
--- whether a role tells a count
+-- whether a role returns a count
 abbrev is_counting : Role → Bool
 is_counting role.Element = false
 is_counting role.Inserted = false
 is_counting role.Factor = true
 is_counting role.Reference = false
 
--- a field with a width that tells no count
+-- a field with a width that returns no count
 abbrev IsUncounted : FieldSpec → Type 0
 IsUncounted a = (1 ≤ a.width) × (is_counting a.role ≡ false)
 
@@ -176,7 +176,7 @@ module _ (table : List Row) (rows : (fxy : ℕ) (row : Row) → entry_of table f
   group_goes : (rest : Rest) → ((n : ℕ) (s : OperatorModel) → IsSane n (λ told. ahead table (rest (counts_of told)) s told)) → (n : ℕ) (s : OperatorModel) → IsSane n (λ told. ahead table (group (rest (counts_of told))) s told)
   group_goes rest h n s = sane_same n (λ told. ahead table (rest (counts_of told)) s told) (λ told. ahead table (group (rest (counts_of told))) s told) (λ told. refl) (h n s)
 
-  -- a field that tells no count
+  -- a field that returns no count
   uncounted_goes : (r : Result FieldSpec TurnRefusal) (s : OperatorModel) (fxy : ℕ) (rest : Rest) → ((spec : FieldSpec) → r ≡ Ok spec → IsUncounted spec) → ((n : ℕ) (s : OperatorModel) → IsSane n (λ told. ahead table (rest (counts_of told)) s told))
       → (n : ℕ) → IsSane n (λ told. asked r (λ t more. ahead table (rest (counts_of told)) (after_field s fxy t) more) told)
   uncounted_goes r s fxy rest good h n =

@@ -1,4 +1,4 @@
--- What is built is a specification as every one is.
+-- Each spec that is built is a specification.
 use Rattle.std.proofs.Common.{◌≡◌, ℕ, ◌*◌, ◌≤◌, ◌^◌, Bool, true, false, List, [], ◌∷◌, subst, refl, arith, ◌∙◌, ap, ℤ, pos, ◌*ℤ◌}
 use Rattle.std.proofs.lemmas.Int.{unsigned_abs-mul}
 use Rattle.std.proofs.Math.Nat.{mul-le-mul_left, mul-le-mul_right, pow-le-pow_right}
@@ -43,7 +43,7 @@ number_good fxy r k w scale reference m listed e role small near some most =
 pub text_good : (r : Role) (fxy w : ℕ) (listed : Bool) → HasWidth kind.Character w → HasRole r kind.Character true → IsSpec (text_spec r fxy w listed)
 text_good r fxy w listed h g = record { width = h; role = g; missing = refl; scale = omega arith; reference = omega arith }
 
--- a text that stands in the template
+-- a text of the template
 pub inserted_width : (fxy : ℕ) → is_legal_operator fxy ≡ true → is_inserted_text fxy ≡ true → HasWidth kind.Character (8 * y_of fxy)
 inserted_width fxy legal x = by (x_of fxy) (y_of fxy) (equal_from (x_of fxy) 5 x) legal (omega arith)
   where

@@ -29,8 +29,8 @@ inserted_width_alone : one (operator (fxy 2 8 3) (operator (fxy 2 5 2) bare)) (6
 unfolding one gives fxy
 inserted_width_alone = refl
 
--- A later text width takes the place of the earlier one, and zero ends it: fails where the widths
--- add up, or where 2 08 000 is passed over.
+-- A later text width replaces the earlier one, and zero ends it: fails where the widths add up, or
+-- where 2 08 000 is ignored.
 text_width_cancelled : one (operator (fxy 2 8 5) (operator (fxy 2 8 3) (element (fxy 0 1 15) (operator (fxy 2 8 0) (element (fxy 0 1 15) bare))))) (88 ∷ 89 ∷ 90 ∷ 48 ∷ 49 ∷ 50 ∷ 51 ∷ 52 ∷ 53 ∷ 54 ∷ 55 ∷ 56 ∷ 57 ∷ 65 ∷ 66 ∷ 67 ∷ 68 ∷ 69 ∷ 70 ∷ 71 ∷ 72 ∷ 73 ∷ 74 ∷ [])
     ≡ gives ((271, shown_text (88 ∷ 89 ∷ 90 ∷ [])) ∷ (271, shown_text (48 ∷ 49 ∷ 50 ∷ 51 ∷ 52 ∷ 53 ∷ 54 ∷ 55 ∷ 56 ∷ 57 ∷ 65 ∷ 66 ∷ 67 ∷ 68 ∷ 69 ∷ 70 ∷ 71 ∷ 72 ∷ 73 ∷ 74 ∷ [])) ∷ []) (done 0 6)
 unfolding one gives fxy

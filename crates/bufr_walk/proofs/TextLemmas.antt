@@ -1,4 +1,4 @@
--- Octets that stand in bits, and texts.
+-- Octets read from bits, and texts.
 use Rattle.std.proofs.Common.{◌≡◌, ℕ, zero, suc, ◌+◌, ◌-◌, ◌*◌, ◌/◌, ◌%◌, ◌^◌, ◌<◌, ◌≤◌, Bool, List, [], ◌∷◌, ◌++◌, length, take, drop, set, refl, sym, ◌∙◌, ap, subst, arith, add-one}
 use Rattle.std.specs.Prelude.{slice_index, slice_range, Option, Some, None, option_map, SomeIff, IfSome}
 use Rattle.std.proofs.lemmas.List.{drop-drop, drop-take, take-take, take_more_set, length-drop, length-take-le}
@@ -60,7 +60,7 @@ window_octet bits p few i lt within =
     ap (λ n. take 8 (drop (8 * i) (take n (drop p bits)))) parts ∙ ap (take 8) (drop-take (8 * i) (8 * (few - i)) (drop p bits)) ∙ take-take 8 (8 * (few - i)) (drop (8 * i) (drop p bits)) (omega (arith, lt)) ∙ ap (take 8) (drop-drop (8 * i) p bits) in
     ap number_of (sym there) ∙ number_of_middle xs (8 * few) (8 * i) 8 long (omega (arith, lt)) ∙ ap (λ k. number_of xs / 2 ^ k % 256) shift
 
--- that octet behind those before it
+-- that octet after those before it
 pub window_put : (bits : List Bool) (at done few i window : ℕ) (text : List ℕ) → i < few → done + few ≤ length text → at + 8 * (done + few) ≤ length bits → window ≡ number_of (take (8 * few) (drop (at + 8 * done) bits)) → take (done + i) text ≡ octets_in (done + i) (drop at bits)
     → take (done + (i + 1)) (set text (done + i) (window / 2 ^ (8 * (few - i - 1)) % 256)) ≡ octets_in (done + (i + 1)) (drop at bits)
 window_put bits at done few i window text lt room within is before =

@@ -1,4 +1,4 @@
--- Where a walk stands in the cells of a template.
+-- The state of a walk in the cells of a template.
 -- Cited by private steps only.
 use Rattle.std.specs.Prelude.{ℕ, ◌+◌, ◌-◌, ◌*◌, ◌^◌, ◌≡◌, ◌<◌, ◌≤◌, Result, Ok, Err, Option, Some, None, List, [], ◌∷◌, ◌++◌, length, drop, slice_index}
 use Rattle.bufr_tables.specs.Tree.{Tree, depth}
@@ -16,13 +16,13 @@ use Rattle.bufr_tables.specs.Cells.{cells_of}
 use Rattle.bufr_walk.specs.WalkProgress.{HasWalked, StopsIn}
 use Rattle.bufr_walk.specs.Ticks.{ticked}
 
--- an open group: its frame, its body and what is behind it
+-- an open group: its frame, its body and the nodes after it
 pub record OpenGroup : Type 0 where
   pub frame : Frame
   pub body : Tree
   pub more : Tree
 
--- the frames, the outermost first; the groups are given from the innermost on
+-- the frames, the outermost first; the groups begin with the innermost
 abbrev pub frames_of : List OpenGroup → List Frame
 frames_of [] = []
 frames_of (s ∷ outer) = frames_of outer ++ s.frame ∷ []
@@ -33,12 +33,12 @@ turns_after_pass [] k counts = k counts
 turns_after_pass (s ∷ outer) k counts =
     pass_end (passes s.frame.left (unroll s.body) (unroll s.more (turns_after_pass outer k)) counts)
 
--- the cells from there on
+-- the cells from the end of the innermost group's pass on
 abbrev pub tail_of : List OpenGroup → List Cell
 tail_of [] = cell.Finish ∷ []
 tail_of (s ∷ outer) = cell.PassEnd ∷ cells_of s.more s.frame.after (tail_of outer)
 
--- each open group stands in the cells, no deeper than 32
+-- each open group is in the cells, no deeper than 32
 abbrev pub AllStand : List Cell → List OpenGroup → Type 0
 AllStand cells [] = Unit {0}
 AllStand cells (s ∷ outer) =
@@ -47,8 +47,7 @@ AllStand cells (s ∷ outer) =
     × (length outer + 1 + depth s.body ≤ 32) × (length outer + depth s.more ≤ 32)
     × IsLegal s.body × IsLegal s.more × AllStand cells outer
 
--- A walk stands at a place before these nodes, with these open groups: left is what it still has to
--- do.
+-- A walk is at a place before these nodes, with these open groups; `left` is the rest of its turns.
 pub record IsAtNodes (cells : List Cell) (place : ℕ) (stack : List Frame) (left : Rest → Rest)
     (more : Tree) (groups : List OpenGroup) : Type 0 where
   pub frames : stack ≡ frames_of groups
@@ -59,6 +58,7 @@ pub record IsAtNodes (cells : List Cell) (place : ℕ) (stack : List Frame) (lef
   pub left_is : (k : Rest) (counts : List ℕ) → left k counts
       ≡ unroll more (turns_after_pass groups k) counts
 
+-- a walk is at a place, with this stack of open groups
 abbrev pub IsAtCell : List Cell → ℕ → List Frame → (Rest → Rest) → Type 0
 IsAtCell cells place stack left =
     (more : Tree) × (groups : List OpenGroup) × IsAtNodes cells place stack left more groups
@@ -75,6 +75,7 @@ cost_of (cell.Factor f) at later = 0
 cost_of cell.PassEnd at later = 0
 cost_of cell.Finish at later = 0
 
+-- the most turns from each cell to the end of its pass
 abbrev pub costs : List Cell → ℕ → List ℕ
 costs [] at = []
 costs (c ∷ cells) at = cost_of c at (costs cells (at + 1)) ∷ costs cells (at + 1)
@@ -89,7 +90,7 @@ owed cost (f ∷ frames) =
 abbrev pub weight : List Cell → ℕ → List Frame → ℕ
 weight cells place stack = slice_index (costs cells 0) place + owed (costs cells 0) stack
 
--- what a turn did
+-- the result of a turn
 abbrev pub Turned : {S E : Type 0} → (S → FieldSpec → Result Taken E → S → Type 0) → List Row
     → List Cell → (Rest → Rest) → ℕ → List Frame → OperatorModel → S → ℕ
     → Result (Option ℕ) (WalkStop E)

@@ -1,4 +1,4 @@
--- What stands in a field, and what it means (WMO-No. 306, Volume I.2, FM 94: section 4).
+-- The content of a field, and its meaning. (WMO-No. 306, Volume I.2, FM 94: section 4)
 -- Cited by public contracts.
 use Rattle.std.specs.Prelude.{ℕ, zero, suc, ◌-◌, ◌/◌, ◌&&◌, Bool, true, false, if◌then◌else◌, List, [], ◌∷◌, take, drop, replicate, ℤ, pos, negsuc, neg_ℤ, nat_abs, ◌+ℤ◌}
 use Rattle.bufr_bits.specs.Bits.{bits_of, bits_in, number_of, are_all_ones}
@@ -10,7 +10,7 @@ use Rattle.bufr_walk.specs.declared.spec.Taken.{Taken}
 use Rattle.bufr_walk.specs.declared.spec.Taken.TheVariants as taken
 use Rattle.bufr_walk.specs.FieldSpec.{FieldSpec}
 
--- what stands in a field: a number before its reference is added, the octets of a text, all ones,
+-- the content of a field: a number before its reference is added, the octets of a text, all ones,
 -- or a redefined reference
 pub data Content : Type 0 where
   number : (raw : ℕ) → Content
@@ -18,7 +18,7 @@ pub data Content : Type 0 where
   missing : Content
   reference : (value : ℤ) → Content
 
--- so many octets of bits, as numbers
+-- the first n octets of bits, as numbers
 abbrev pub octets_in : ℕ → List Bool → List ℕ
 octets_in zero bits = []
 octets_in (suc n) bits = number_of (take 8 bits) ∷ octets_in n (drop 8 bits)
@@ -28,58 +28,62 @@ abbrev pub signed_by : List Bool → ℤ
 signed_by [] = pos 0
 signed_by (sign ∷ bits) = if sign then neg_ℤ (pos (number_of bits)) else pos (number_of bits)
 
--- what bits say by kind, where they are not missing
+-- the content that bits write, by kind, where it is not missing
 abbrev pub said_by : Kind → ℕ → List Bool → Content
 said_by kind.Character width bits = text (octets_in (width / 8) bits)
 said_by kind.Coded width bits = number (number_of bits)
 said_by kind.Numeric width bits = number (number_of bits)
 
--- what the bits of a field say; all ones is missing where it may be
+-- the content of a field that is no reference; all ones is missing where that is allowed
 abbrev pub value_in : FieldSpec → List Bool → Content
 value_in spec bits =
     if are_all_ones bits && spec.may_be_missing then missing else said_by spec.kind spec.width bits
 
+-- the content of a field, by role
 abbrev pub content_by : Role → FieldSpec → List Bool → Content
 content_by role.Element spec bits = value_in spec bits
 content_by role.Inserted spec bits = value_in spec bits
 content_by role.Factor spec bits = value_in spec bits
 content_by role.Reference spec bits = reference (signed_by bits)
 
+-- the content that the bits of a field write
 abbrev pub content_in : FieldSpec → List Bool → Content
 content_in spec bits = content_by spec.role spec bits
 
--- a sign and a magnitude
+-- the sign bit of a number
 abbrev pub sign_bit : ℤ → Bool
 sign_bit (pos n) = false
 sign_bit (negsuc n) = true
 
--- the bits by which a content is written; zero has the plus sign
+-- the bits that write a content; zero has the plus sign
 abbrev pub bits_for : ℕ → Content → List Bool
 bits_for width (number raw) = bits_in raw width
 bits_for width (text octets) = bits_of octets
 bits_for width missing = replicate width true
 bits_for width (reference value) = sign_bit value ∷ bits_in (nat_abs value) (width - 1)
 
--- the count that a factor's content is
+-- the count of a factor
 abbrev pub count_in : Content → ℕ
 count_in (number raw) = raw
 count_in (text octets) = 0
 count_in missing = 0
 count_in (reference value) = 0
 
+-- the reference that a field defines
 abbrev pub reference_in : Content → ℤ
 reference_in (number raw) = pos 0
 reference_in (text octets) = pos 0
 reference_in missing = pos 0
 reference_in (reference value) = value
 
--- what a field tells the walk
+-- what a content returns to the walk, by role
 abbrev pub told_by_role : Role → Content → Taken
 told_by_role role.Element c = taken.Plain
 told_by_role role.Inserted c = taken.Plain
 told_by_role role.Factor c = taken.Count (count_in c)
 told_by_role role.Reference c = taken.Reference (reference_in c)
 
+-- what a field returns to the walk
 abbrev pub answer_of : FieldSpec → Content → Taken
 answer_of spec c = told_by_role spec.role c
 
@@ -90,6 +94,7 @@ pub data ShownValue : Type 0 where
   shown_missing : ShownValue
   shown_reference : (value : ℤ) → ShownValue
 
+-- the value that an item shows
 abbrev pub shown : FieldSpec → Content → ShownValue
 shown spec (number raw) = shown_number (pos raw +ℤ spec.reference) spec.scale
 shown spec (text octets) = shown_text octets

@@ -1,4 +1,4 @@
--- What comes next in a template, after what the items so far told.
+-- What comes next in a template after some items, by what these returned.
 -- Cited by public contracts.
 use Rattle.std.specs.Prelude.{ℕ, ◌+◌, Result, Ok, Err, List, [], ◌∷◌, if◌then◌else◌}
 use Rattle.bufr_tables.specs.Tree.{Tree, is_inserted_text}
@@ -11,47 +11,51 @@ use Rattle.bufr_walk.specs.Operators.{OperatorModel, begin, after_operator, afte
 use Rattle.bufr_walk.specs.Rules.{element_spec, factor_spec, inserted_spec}
 use Rattle.bufr_walk.specs.Turns.{Turns, finish, open_end, group, pass_end, factor_turn, element_turn, operator_turn, turns_of}
 
--- the counts among what was told
+-- the counts with that of a factor before them
 abbrev pub counts_in : Taken → List ℕ → List ℕ
 counts_in taken.Plain counts = counts
 counts_in (taken.Count n) counts = n ∷ counts
 counts_in (taken.Reference r) counts = counts
 
+-- the counts that items returned
 abbrev pub counts_of : List Taken → List ℕ
 counts_of [] = []
 counts_of (t ∷ told) = counts_in t (counts_of told)
 
--- what comes after some items
+-- what comes next: a field, the end, or a refusal
 pub data Next : Type 0 where
   take_next : (spec : FieldSpec) → Next
   at_end : Next
-  -- a factor told no count
+  -- the counts do not match the factors
   astray : Next
   refused : (why : TurnRefusal) → Next
 
--- with the number of turns up to it, itself included
+-- what comes next, with the number of turns up to it, itself included
 pub record NextTurn : Type 0 where
   pub turns : ℕ
   pub next : Next
 
+-- what comes next after n turns more
 abbrev pub later : ℕ → NextTurn → NextTurn
 later n a = record { turns = n + a.turns; next = a.next }
 
+-- what comes next, in one turn
 abbrev pub stop : Next → NextTurn
 stop next = record { turns = 1; next = next }
 
--- a field that is asked for: an item told something at it, or it is the next
+-- a field: an item was taken there, or it comes next
 abbrev pub asked : Result FieldSpec TurnRefusal → (Taken → List Taken → NextTurn) → List Taken
     → NextTurn
 asked (Err why) go told = stop (refused why)
 asked (Ok spec) go [] = stop (take_next spec)
 asked (Ok spec) go (t ∷ told) = later 1 (go t told)
 
+-- an operator: it is applied, or refused
 abbrev pub operated : Result OperatorModel TurnRefusal → (OperatorModel → NextTurn) → NextTurn
 operated (Err why) go = stop (refused why)
 operated (Ok settings) go = later 1 (go settings)
 
--- what comes after these items, in these turns
+-- what comes next in these turns, after items that returned `told`
 abbrev pub ahead : List Row → Turns → OperatorModel → List Taken → NextTurn
 ahead table finish s told = stop at_end
 ahead table open_end s told = stop astray
@@ -66,7 +70,7 @@ ahead table (operator_turn fxy next) s told =
     then asked (inserted_spec s fxy) (λ t more. ahead table next (after_field s fxy t) more) told
     else operated (after_operator s fxy) (λ s'. ahead table next s' told)
 
--- what comes next after any items, by what they told
+-- what comes next after any items, by what these returned
 abbrev pub Course : Type 0
 Course = List Taken → NextTurn
 

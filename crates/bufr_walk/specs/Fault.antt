@@ -1,4 +1,4 @@
--- The faults of the data, each by what stops a reading (the numbers are a choice of this project).
+-- The faults of the data, by what stops a reading. (The numbers are a choice of this project.)
 -- Cited by public contracts.
 use Rattle.std.specs.Prelude.{ℕ}
 use Rattle.bufr_walk.specs.declared.spec.TurnRefusal.TheVariants as refusal
@@ -10,11 +10,11 @@ use Rattle.bufr_walk.specs.declared.packed_in.PackedFault.TheVariants as wrong
 use Rattle.bufr_walk.specs.PlainField.{data_end, increment, unequal_factor}
 use Rattle.bufr_walk.specs.Refusal.{Stop, walk_stop, too_many, field_stop}
 
--- where an item stands: the subset, the descriptor, and the bits before it
+-- the location of an item: the subset, the descriptor, and the bits before it
 abbrev pub spot : (subset fxy bit : ℕ) → Spot
 spot subset fxy bit = record { subset = subset; fxy = fxy; bit = bit }
 
--- the fault that a stop is, in a subset, after so many bits
+-- the fault of a stop, in a subset, after `bit` bits
 abbrev pub walk_fault_of : Stop → (subset bit : ℕ) → WalkFault
 walk_fault_of (walk_stop (refusal.Width fxy)) subset bit = fault.Width (spot subset fxy bit)
 walk_fault_of (walk_stop (refusal.Defining fxy)) subset bit = fault.Defining (spot subset fxy bit)
@@ -23,8 +23,8 @@ walk_fault_of (field_stop fxy data_end) subset bit = fault.DataEnd (spot subset 
 walk_fault_of (field_stop fxy increment) subset bit = fault.Increment (spot subset fxy bit)
 walk_fault_of (field_stop fxy unequal_factor) subset bit = fault.UnequalFactor (spot subset fxy bit)
 
--- the bits before the item that is at fault; want of memory has no item, and all bits may lie
--- before it
+-- the bits before the item at fault; where memory ran out there is no item, and all bits may
+-- precede
 abbrev pub bits_before : WalkFault → (all : ℕ) → ℕ
 bits_before (fault.DataEnd s) all = s.bit
 bits_before (fault.Width s) all = s.bit

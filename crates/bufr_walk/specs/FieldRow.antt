@@ -1,4 +1,4 @@
--- What Table B says of a field.
+-- The row of Table B of a field.
 -- Cited by private steps only.
 use Rattle.std.specs.Prelude.{◌≡◌, if◌then◌else◌, List, Option, None, option_map}
 use Rattle.bufr_tables.specs.declared.table_b.Entry.{Entry}
@@ -6,7 +6,7 @@ use Rattle.bufr_tables.specs.Entry.{row_of_entry}
 use Rattle.bufr_tables.specs.TableB.{Row, entry_of}
 use Rattle.bufr_walk.specs.FieldSpec.{FieldSpec}
 
--- what a table says of a field's element, where the field is read by it
+-- the row of Table B of a field's element, where the field is read by it
 abbrev pub HasRow : List Row → FieldSpec → Option Entry → Type 0
 HasRow table spec found =
     option_map (row_of_entry spec.fxy) found

@@ -1,5 +1,4 @@
--- What is asked of the data at one field (WMO-No. 306, Volume I.2, FM 94: section 4, Tables B and
--- C).
+-- The specification of one field. (WMO-No. 306, Volume I.2, FM 94: section 4, Tables B and C)
 -- Cited by public contracts.
 use Rattle.std.specs.Prelude.{ℕ, ◌≡◌, ◌≤◌, ◌^◌, ◌%◌, Bool, ℤ, unsigned_abs}
 use Rattle.bufr_tables.specs.declared.kind.Kind.{Kind}
@@ -20,7 +19,7 @@ pub record FieldSpec : Type 0 where
   pub may_be_missing : Bool
   pub listed : Bool
 
--- a width that a kind of field may have: whole octets for text
+-- whether a kind of field may have a width: whole octets for text
 abbrev pub HasWidth : Kind → ℕ → Type 0
 HasWidth kind.Character width = (8 ≤ width) × (width ≤ 2040) × (width % 8 ≡ 0)
 HasWidth kind.Coded width = (1 ≤ width) × (width ≤ 63)
@@ -39,7 +38,7 @@ HasMissing kind.Character m = m ≡ Bool.true
 HasMissing kind.Coded m = Unit {0}
 HasMissing kind.Numeric m = Unit {0}
 
--- what every specification keeps
+-- what holds of every specification
 pub record IsSpec (a : FieldSpec) : Type 0 where
   pub width : HasWidth a.kind a.width
   pub role : HasRole a.role a.kind a.may_be_missing
@@ -47,7 +46,7 @@ pub record IsSpec (a : FieldSpec) : Type 0 where
   pub scale : unsigned_abs a.scale ≤ 300
   pub reference : unsigned_abs a.reference ≤ 2 ^ 125
 
--- which answers a field gives: a count for a factor, a reference for a reference, and nothing else
+-- the answers that fit a role: a count for a factor, a reference for a reference, and nothing else
 -- for an element
 abbrev pub IsForRole : Role → Taken → Type 0
 IsForRole role.Element taken.Plain = Unit {0}
@@ -56,6 +55,7 @@ IsForRole role.Factor (taken.Count n) = Unit {0}
 IsForRole role.Reference (taken.Reference r) = Unit {0}
 IsForRole _ _ = ⊥
 
+-- the answers that fit a field
 abbrev pub IsFor : FieldSpec → Taken → Type 0
 IsFor spec t = IsForRole spec.role t
 

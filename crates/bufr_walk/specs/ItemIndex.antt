@@ -1,4 +1,4 @@
--- Items that are kept, and the fields among them.
+-- The index of the items of compressed data, and their specifications.
 -- Cited by private steps only.
 use Rattle.std.specs.Prelude.{ℕ, ◌≡◌, ◌≤◌, ◌<◌, ◌+◌, ◌-◌, ◌*◌, ◌/◌, List, ◌++◌, length, map, get_or, pos, false}
 use Rattle.std.specs.List.{All}
@@ -13,11 +13,11 @@ use Rattle.bufr_walk.specs.Reading.{items_at_once}
 abbrev pub room_for : (entries : ℕ) → ℕ
 room_for entries = (entries + (items_at_once - 1)) / items_at_once * items_at_once
 
--- how many entries more have room
+-- how many more entries have room
 abbrev pub room_left : (entries : ℕ) → ℕ
 room_left entries = room_for entries - entries
 
--- what stands past the last field; no item has its field there
+-- a default for an index after the last field; no item has it
 abbrev pub no_field : FieldSpec
 no_field = record {
   fxy = 0;
@@ -30,21 +30,21 @@ no_field = record {
   listed = false;
 }
 
--- the item of a place
+-- the item of a location
 abbrev pub item_at_location : List FieldSpec → ItemLocation → IndexedItem
 item_at_location specs p =
     record { spec = get_or specs p.spec no_field; at = p.at; base = p.base; step = p.step }
 
--- the items of all places
+-- the items of all locations
 abbrev pub indexed_items : List FieldSpec → List ItemLocation → List IndexedItem
 indexed_items specs places = map (item_at_location specs) places
 
--- a field stands at a place among others
+-- a field has this index among others
 pub record HasSpecAt (specs : List FieldSpec) (place : ℕ) (spec : FieldSpec) : Type 0 where
   pub below : place < length specs
   pub is : get_or specs place no_field ≡ spec
 
--- a field is among those that were there before, or behind them
+-- a field is among those that were there before, or is appended
 pub record IsPut (specs : List FieldSpec) (spec : FieldSpec) (place : ℕ)
     (specs' : List FieldSpec) : Type 0 where
   pub more : List FieldSpec
@@ -52,8 +52,8 @@ pub record IsPut (specs : List FieldSpec) (spec : FieldSpec) (place : ℕ)
   pub few : length more ≤ 1
   pub stands : HasSpecAt specs' place spec
 
--- each place has its field, and there is room for the items, and for a field with each, until room
--- is made again
+-- each location has its field; there is room for the items until room is made again, and for a
+-- field with each
 pub record IsKeptBy (specs : List FieldSpec) (places : List ItemLocation)
     (room_specs room_places : ℕ) : Type 0 where
   pub have : All (λ p. p.spec < length specs) places

@@ -1,14 +1,14 @@
--- a field as it is asked for: what it is for, its kind, width, scale and reference
+-- the specification of a field: what it is for, its kind, width, scale and reference
 pub mod FieldSpec
--- what the operators have set, and the references that the data gave
+-- the operators in force, and the references that the data defined
 pub mod Operators
--- how a field is read under what is set
+-- the specification of a field under the operators in force
 pub mod Rules
 -- the turns of a template, its groups unrolled
 pub mod Turns
 -- what comes next in a template
 pub mod Course
--- what stands in a field, what it tells the walk, and what it shows
+-- the content of a field, what it returns to the walk, and what it shows
 pub mod Content
 -- one field of data that are not compressed
 pub mod PlainField
@@ -22,9 +22,9 @@ pub mod Reading
 pub mod Refusal
 -- the faults, with their places and numbers
 pub mod Fault
--- what the reading of a message's data answers
+-- what the reading of a message's data returns
 pub mod Outcome
--- what a visitor is told, call by call
+-- the calls of a visitor
 pub mod Calls
 -- an item view as a clause sees it
 pub mod ViewModel
@@ -38,7 +38,7 @@ pub mod Taking
 pub mod Ticks
 -- a field that is a number
 pub mod Numbers
--- what is set, as the walk keeps it
+-- the operators in force, as the walk keeps them
 pub mod OperatorState
 -- the stop of a walk at a turn that is refused
 pub mod Stop
@@ -46,13 +46,13 @@ pub mod Stop
 pub mod Walked
 -- how far a walk came
 pub mod WalkProgress
--- where a walk stands in the cells of a template
+-- the state of a walk in the cells of a template
 pub mod CellWalk
 -- the reader of data that are not compressed
 pub mod PlainIn
 -- the reader of compressed data
 pub mod PackedIn
--- items that are kept, and the fields among them
+-- the index of the items of compressed data, and their specifications
 pub mod ItemIndex
 -- one pass over data that are not compressed
 pub mod Passes
@@ -60,11 +60,11 @@ pub mod Passes
 pub mod ShowSteps
 -- the operators in force and a descriptor in one number
 pub mod SpecKey
--- specs that were found, by such numbers
+-- the cache of specs by such keys
 pub mod SpecCache
 -- lists of descriptors that are kept with their templates
 pub mod TemplateCache
 -- the slots that they are kept in
 pub mod TemplateSlots
--- what Table B says of a field
+-- the row of Table B of a field
 pub mod FieldRow

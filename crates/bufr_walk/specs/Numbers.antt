@@ -7,6 +7,7 @@ use Rattle.bufr_walk.specs.declared.spec.Role.{Role}
 use Rattle.bufr_walk.specs.declared.spec.Role.TheVariants as role
 use Rattle.bufr_walk.specs.FieldSpec.{FieldSpec, IsSpec}
 
+-- a field that is a number, from its parts
 abbrev pub number_field : (fxy : ℕ) → Role → Kind → (width : ℕ) → (scale reference : ℤ)
     → (may_be_missing listed : Bool) → FieldSpec
 number_field fxy role kind width scale reference may_be_missing listed =
@@ -21,8 +22,8 @@ number_field fxy role kind width scale reference may_be_missing listed =
       listed = listed;
     }
 
--- whether a number is plain: that of an element that is read by a row of Table B, of at most 62
--- bits, with a reference that is as near to 0
+-- whether a number is plain: of an element that is read by a row of Table B, of at most 62 bits,
+-- with a reference of less than 2^62
 abbrev pub is_plain_number : Role → (width : ℕ) → (reference : ℤ) → (listed : Bool) → Bool
 is_plain_number role.Element width reference listed =
     listed && (nat_le width 62 && nat_lt (unsigned_abs reference) (2 ^ 62))
@@ -30,6 +31,7 @@ is_plain_number role.Inserted width reference listed = false
 is_plain_number role.Factor width reference listed = false
 is_plain_number role.Reference width reference listed = false
 
+-- whether a field is a plain number
 abbrev pub is_plain : FieldSpec → Bool
 is_plain a = not (is_character a.kind) && is_plain_number a.role a.width a.reference a.listed
 
@@ -41,7 +43,7 @@ pub record IsPlainNumber (a : FieldSpec) : Type 0 where
   pub width : a.width ≤ 62
   pub reference : unsigned_abs a.reference < 2 ^ 62
 
--- a specification, and what is known of it besides
+-- a specification, and whether it is plain
 pub record IsSpecWith (plain : Bool) (a : FieldSpec) : Type 0 where
   pub spec : IsSpec a
   pub same : is_plain a ≡ plain

@@ -1,4 +1,4 @@
--- The settings in force, as the walk keeps them.
+-- The operators in force, as the walk keeps them.
 -- Cited by private steps only.
 use Rattle.std.specs.Prelude.{◌≤◌, ℕ, ℤ, List, [], ◌∷◌}
 use Rattle.bufr_walk.specs.Operators.{OperatorModel, Redefined}

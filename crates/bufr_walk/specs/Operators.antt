@@ -1,4 +1,4 @@
--- What the operators have set so far, in one subset (WMO-No. 306, Volume I.2, FM 94: Table C).
+-- The operators in force, in one subset. (WMO-No. 306, Volume I.2, FM 94: Table C)
 -- Cited by public contracts.
 use Rattle.std.specs.Prelude.{ℕ, ◌==◌, ◌&&◌, not, nat_lt, Bool, if◌then◌else◌, List, [], ◌∷◌, ℤ, Result, Ok, Err}
 use Rattle.bufr_tables.specs.Fxy.{x_of, y_of}
@@ -7,12 +7,13 @@ use Rattle.bufr_walk.specs.declared.spec.TurnRefusal.TheVariants as refusal
 use Rattle.bufr_walk.specs.declared.spec.Taken.{Taken}
 use Rattle.bufr_walk.specs.declared.spec.Taken.TheVariants as taken
 
--- a reference that the data gave to an element
+-- a reference that the data defined for an element
 pub record Redefined : Type 0 where
   pub fxy : ℕ
   pub reference : ℤ
 
--- the operand Y of each operator in force, 0 where none is, and the references that the data gave
+-- the operand Y of each operator in force, 0 where none is, and the references that the data
+-- defined
 pub record OperatorModel : Type 0 where
   -- 2 01 Y: the width of a quantity is changed by Y - 128 bits
   pub width_change : ℕ
@@ -29,7 +30,7 @@ pub record OperatorModel : Type 0 where
   -- one for an element, in the order of descriptors
   pub new_references : List Redefined
 
--- nothing is set, as at the beginning of each subset
+-- no operator is in force, as at the beginning of each subset
 abbrev pub begin : OperatorModel
 begin =
     record {
@@ -46,14 +47,14 @@ begin =
 abbrev pub is_defining : OperatorModel → Bool
 is_defining s = nat_lt 0 s.new_reference_width
 
--- 2 03 Y: 255 ends the definition of references, 0 drops those that were defined, else it begins
+-- 2 03 Y: 255 ends the definition of references, 0 drops those that were defined, else one begins
 abbrev pub with_references : ℕ → OperatorModel → OperatorModel
 with_references y s =
     if y == 255 then record s { new_reference_width = 0 }
     else if y == 0 then record s { new_references = [] }
     else record s { new_reference_width = y }
 
--- what the operator 2 X Y sets; a text that the template asks for (2 05 Y) sets nothing
+-- the operator 2 X Y changes the operands; a text of the template (2 05 Y) changes nothing
 abbrev pub with_operator : (x y : ℕ) → OperatorModel → OperatorModel
 with_operator x y s =
     if x == 1 then record s { width_change = y }
@@ -64,14 +65,14 @@ with_operator x y s =
     else if x == 8 then record s { character_octets = y }
     else s
 
--- what an operator makes of the settings; while references are being defined only their end may
--- come
+-- the operators in force after an operator; while references are being defined only their end is
+-- allowed
 abbrev pub after_operator : OperatorModel → ℕ → Result OperatorModel TurnRefusal
 after_operator s fxy =
     if is_defining s && not (x_of fxy == 3 && y_of fxy == 255) then Err (refusal.Defining fxy)
     else Ok (with_operator (x_of fxy) (y_of fxy) s)
 
--- the references with that of an element, in place of the one that it had
+-- the references, with that of an element in place of the one before
 abbrev pub with_reference : (fxy : ℕ) → (reference : ℤ) → List Redefined → List Redefined
 with_reference fxy reference [] = record { fxy = fxy; reference = reference } ∷ []
 with_reference fxy reference (r ∷ more) =
@@ -79,14 +80,14 @@ with_reference fxy reference (r ∷ more) =
     else if fxy == r.fxy then record r { reference = reference } ∷ more
     else r ∷ with_reference fxy reference more
 
--- what a field makes of the settings: a given width is used up, and a reference is kept
+-- the operators in force after a field: a given width ends, and a reference is kept
 abbrev pub after_field : OperatorModel → ℕ → Taken → OperatorModel
 after_field s fxy taken.Plain = record s { local_width = 0 }
 after_field s fxy (taken.Count n) = record s { local_width = 0 }
 after_field s fxy (taken.Reference r) =
     record s { local_width = 0; new_references = with_reference fxy r s.new_references }
 
--- the reference of an element: that which the data gave it, or that of Table B
+-- the reference of an element: the one that the data defined, or that of Table B
 abbrev pub current_reference : List Redefined → ℕ → ℤ → ℤ
 current_reference [] fxy listed = listed
 current_reference (r ∷ more) fxy listed =

@@ -1,5 +1,5 @@
--- An item of compressed data, part by part (WMO-No. 306, Volume I.2, FM 94: section 4,
--- compression).
+-- An item of compressed data, part by part. (WMO-No. 306, Volume I.2, FM 94: section 4,
+-- compression)
 -- Cited by private steps only.
 use Rattle.std.specs.Prelude.{ℕ, ◌≡◌, ◌≤◌, ◌<◌, ◌+◌, ◌*◌, ◌/◌, ◌==◌, ◌&&◌, ◌||◌, nat_lt, not, Bool, true, false, if◌then◌else◌, List, length, take, drop, Option, Some, None, Result, Ok, Err}
 use Rattle.std.specs.List.{list_all}
@@ -20,12 +20,11 @@ use Rattle.bufr_walk.specs.PackedIn.{PackedCursor, wrong_of, IsPackedWrong}
 use Rattle.bufr_walk.specs.Reading.{max_values}
 use Rattle.bufr_walk.specs.PackedField.{ones, increments, increment_bits_of, padded_text, contents_of, packed_field, told_first}
 
--- whether a base is missing: all ones, where that may be
+-- whether a base is missing: all ones, where that is allowed
 abbrev pub is_missing : FieldSpec → (base : List Bool) → Bool
 is_missing spec base = are_all_ones base && spec.may_be_missing
 
--- whether the sum of a base and an increment of k bits fits its width, where the increment is not
--- missing
+-- whether an increment of k bits is missing, or its sum with the base fits the width
 abbrev pub stays_within : (may_be_missing : Bool) (width base k increment : ℕ) → Bool
 stays_within m width base k i = (m && (i == ones k)) || not (nat_lt (ones width) (base + i))
 
@@ -44,46 +43,47 @@ increased_to m width base k i =
     if m && (i == ones k) then missing else if m && (base + i == ones width) then missing
     else number (base + i)
 
--- whether the increments of numbers can be
+-- whether the increments of numbers are valid
 abbrev pub numbers_hold : FieldSpec → (k subsets : ℕ) → (base behind : List Bool) → Bool
 numbers_hold spec k n base behind =
     is_missing spec base || all_within spec.may_be_missing spec.width (number_of base) k n behind
 
--- whether the increments of an item can be
+-- whether the increments of an item are valid
 abbrev pub holds_by : Kind → FieldSpec → (k subsets : ℕ) → (base behind : List Bool) → Bool
 holds_by kind.Character spec k n base behind = not (nat_lt (spec.width / 8) k)
 holds_by kind.Coded spec k n base behind = numbers_hold spec k n base behind
 holds_by kind.Numeric spec k n base behind = numbers_hold spec k n base behind
 
--- the content that an increment gives
+-- the content of a number with an increment
 abbrev pub number_from : FieldSpec → (k : ℕ) → (base bits : List Bool) → Content
 number_from spec k base i =
     if is_missing spec base then missing
     else increased_to spec.may_be_missing spec.width (number_of base) k (number_of i)
 
+-- the content of an item with an increment, by kind
 abbrev pub content_from : Kind → FieldSpec → (k : ℕ) → (base bits : List Bool) → Content
 content_from kind.Character spec k base i = padded_text (spec.width / 8) k i
 content_from kind.Coded spec k base i = number_from spec k base i
 content_from kind.Numeric spec k base i = number_from spec k base i
 
--- the text of so many octets at a place, with spaces up to a count of them
+-- the text of so many octets at a bit, followed by spaces up to `count` octets
 abbrev pub text_at : (bits : List Bool) (count place octets : ℕ) → Content
 text_at bits count place octets = padded_text count octets (take (8 * octets) (drop place bits))
 
--- the bits of one subset by kind
+-- the bits of an increment, by kind
 abbrev pub kind_step : Kind → ℕ → ℕ
 kind_step kind.Character k = 8 * k
 kind_step kind.Coded k = k
 kind_step kind.Numeric k = k
 
--- an item with this base, k and bits behind them has contents, and tells this
+-- an item with this base, k and the bits `behind` has contents, and returns `t`
 pub record IsTold (spec : FieldSpec) (k n : ℕ) (base behind : List Bool) (t : Taken) : Type 0 where
   pub contents : List Content
   pub are : contents_of spec k base
       (increments n (increment_bits_of spec.role spec.kind k) behind) ≡ Ok contents
   pub tells : t ≡ told_first spec contents
 
--- or it is at fault
+-- such an item is at fault
 pub record IsWrong (spec : FieldSpec) (k n : ℕ) (base behind : List Bool)
     (e : PackedFault) : Type 0 where
   pub why : FieldFault
@@ -91,7 +91,7 @@ pub record IsWrong (spec : FieldSpec) (k n : ℕ) (base behind : List Bool)
       ≡ Err why
   pub fault : e ≡ wrong_of spec.fxy why
 
--- what an item tells whose base begins with a bit and whose k is known, or how it is at fault
+-- what an item of known k at a bit returns to the walk, or its fault
 abbrev pub TellsAt : (bits : List Bool) (at subsets : ℕ) → FieldSpec → (k : ℕ)
     → Result Taken PackedFault → Type 0
 TellsAt bits at n spec k (Ok t) =
@@ -99,15 +99,14 @@ TellsAt bits at n spec k (Ok t) =
 TellsAt bits at n spec k (Err e) =
     IsWrong spec k n (take spec.width (drop at bits)) (drop (at + (spec.width + 6)) bits) e
 
--- whether a role tells nothing
+-- whether a role returns nothing to the walk
 abbrev pub is_plain_role : Role → Bool
 is_plain_role role.Element = true
 is_plain_role role.Inserted = true
 is_plain_role role.Factor = false
 is_plain_role role.Reference = false
 
--- an item stands in bits at a place: its contents, what it tells, its k, the number of its base,
--- and the bit behind it
+-- an item at a bit: its contents, its answer, its k, the number of its base, and the bit after it
 pub record IsSeen (bits : List Bool) (at n : ℕ) (spec : FieldSpec) (s : ItemBits) : Type 0 where
   pub contents : List Content
   pub field : packed_field n spec (drop at bits) ≡ Ok (found contents (drop s.end bits))
@@ -117,24 +116,24 @@ pub record IsSeen (bits : List Bool) (at n : ℕ) (spec : FieldSpec) (s : ItemBi
   pub within : s.end ≤ length bits
   pub least : at + 7 ≤ s.end
 
--- or it is at fault
+-- such an item is at fault
 pub record IsUnseen (bits : List Bool) (at n : ℕ) (spec : FieldSpec)
     (e : PackedFault) : Type 0 where
   pub why : FieldFault
   pub field : packed_field n spec (drop at bits) ≡ Err why
   pub fault : e ≡ wrong_of spec.fxy why
 
--- a number, or missing
+-- the content of a number, or missing
 abbrev pub sum_content : Option ℕ → Content
 sum_content (Some raw) = number raw
 sum_content None = missing
 
--- the next item stands there, and would not be one too many
+-- the next item is there, and not one too many
 pub record IsLooked (s : PackedCursor) (spec : FieldSpec) (found_there : ItemBits) : Type 0 where
   pub few : (length s.items + 1) * s.subsets ≤ max_values
   pub seen : IsSeen s.bits s.at s.subsets spec found_there
 
--- or it is at fault, or there would be too many values
+-- the next item is at fault, or there would be too many values
 abbrev pub IsUnlooked : PackedCursor → FieldSpec → PackedFault → Type 0
 IsUnlooked s spec (wrong.TooManyValues fxy) =
     (fxy ≡ spec.fxy) × (max_values < (length s.items + 1) * s.subsets)

@@ -1,6 +1,6 @@
 -- One item of compressed data: a base of the item's width, six bits k, and an increment for each
--- subset where k is above 0 (WMO-No. 306, Volume I.2, FM 94: section 4, compression; what is left
--- open there is a choice of this project).
+-- subset where k is above 0. (WMO-No. 306, Volume I.2, FM 94: section 4, compression; what it
+-- leaves open is a choice of this project)
 -- Cited by public contracts.
 use Rattle.std.specs.Prelude.{ℕ, zero, suc, ◌+◌, ◌-◌, ◌*◌, ◌/◌, ◌^◌, ◌==◌, ◌&&◌, nat_lt, Bool, true, false, if◌then◌else◌, List, [], ◌∷◌, ◌++◌, length, take, drop, map, replicate, Result, Ok, Err}
 use Rattle.std.specs.List.{list_all}
@@ -15,18 +15,18 @@ use Rattle.bufr_walk.specs.FieldSpec.{FieldSpec}
 use Rattle.bufr_walk.specs.Content.{Content, number, text, missing, content_in, octets_in, answer_of}
 use Rattle.bufr_walk.specs.PlainField.{FieldFault, data_end, increment, unequal_factor, FieldRead, found}
 
--- so many ones, as a number
+-- the number that k ones write
 abbrev pub ones : ℕ → ℕ
 ones k = 2 ^ k - 1
 
--- a content more, unless one before it was at fault
+-- one more content, unless one before it was at fault
 abbrev pub and_contents : Result Content FieldFault → Result (List Content) FieldFault
     → Result (List Content) FieldFault
 and_contents (Err why) more = Err why
 and_contents (Ok c) (Err why) = Err why
 and_contents (Ok c) (Ok cs) = Ok (c ∷ cs)
 
--- the number of one subset: the base and its increment of k bits
+-- the number of one subset: the base plus its increment of k bits
 abbrev pub increased : (may_be_missing : Bool) (width base k increment : ℕ)
     → Result Content FieldFault
 increased m width base k i =
@@ -35,11 +35,12 @@ increased m width base k i =
     else if m && (base + i == ones width) then Ok missing
     else Ok (number (base + i))
 
--- so many increments of k bits
+-- the first n increments of k bits
 abbrev pub increments : (count k : ℕ) → List Bool → List (List Bool)
 increments zero k bits = []
 increments (suc n) k bits = take k bits ∷ increments n k (drop k bits)
 
+-- the numbers of the subsets, or the first fault
 abbrev pub all_increased : (may_be_missing : Bool) (width base k : ℕ) → List (List Bool)
     → Result (List Content) FieldFault
 all_increased m width base k [] = Ok []
@@ -51,14 +52,14 @@ abbrev pub padded_text : (octets k : ℕ) → List Bool → Content
 padded_text octets k bits =
     if are_all_ones bits then missing else text (octets_in k bits ++ replicate (octets - k) 32)
 
--- what is behind the base and k, in bits of one subset
+-- how many bits each subset has after the base and k
 abbrev pub increment_bits_of : Role → Kind → ℕ → ℕ
 increment_bits_of role.Reference kind k = 0
 increment_bits_of _ kind.Character k = 8 * k
 increment_bits_of _ kind.Coded k = k
 increment_bits_of _ kind.Numeric k = k
 
--- increments to a base of numbers
+-- the numbers of the subsets: all are missing where the base is
 abbrev pub numbers_of : FieldSpec → (k : ℕ) → List Bool → List (List Bool)
     → Result (List Content) FieldFault
 numbers_of spec k base is =
@@ -71,6 +72,7 @@ texts_of spec k is =
     if nat_lt (spec.width / 8) k then Err increment
     else Ok (map (padded_text (spec.width / 8) k) is)
 
+-- the contents of the subsets, where k is above 0, by kind
 abbrev pub varied_by : Kind → FieldSpec → (k : ℕ) → List Bool → List (List Bool)
     → Result (List Content) FieldFault
 varied_by kind.Character spec k base is = texts_of spec k is
@@ -82,11 +84,12 @@ abbrev pub same_count : Content → Content → Bool
 same_count (number a) (number b) = a == b
 same_count _ _ = false
 
+-- whether the contents of a factor are all the same count
 abbrev pub all_same : List Content → Bool
 all_same [] = true
 all_same (c ∷ cs) = list_all (same_count c) cs
 
--- factors are the same in all subsets
+-- the contents of a factor, which are the same in all subsets
 abbrev pub if_equal : Result (List Content) FieldFault → Result (List Content) FieldFault
 if_equal (Err why) = Err why
 if_equal (Ok cs) = if all_same cs then Ok cs else Err unequal_factor
@@ -98,13 +101,13 @@ varied role.Reference spec k base is = Err increment
 varied role.Factor spec k base is = if_equal (varied_by spec.kind spec k base is)
 varied _ spec k base is = varied_by spec.kind spec k base is
 
--- the contents of an item, for each subset: with no increments all have the base
+-- the contents of an item, for each subset: without increments all have the base
 abbrev pub contents_of : FieldSpec → (k : ℕ) → List Bool → List (List Bool)
     → Result (List Content) FieldFault
 contents_of spec k base is =
     if k == 0 then Ok (map (λ i. content_in spec base) is) else varied spec.role spec k base is
 
--- contents, and the bits behind the item
+-- contents, and the bits after the item
 abbrev pub with_behind : Result (List Content) FieldFault → List Bool
     → Result (FieldRead (List Content)) FieldFault
 with_behind (Err why) bits = Err why
@@ -120,14 +123,14 @@ item_by spec n k bits =
     else with_behind (contents_of spec k (take spec.width bits) (increments n step behind))
     (drop (n * step) behind)
 
--- the item at the front of bits, for so many subsets
+-- the item that begins the bits, for n subsets
 abbrev pub packed_field : (subsets : ℕ) → FieldSpec → List Bool
     → Result (FieldRead (List Content)) FieldFault
 packed_field n spec bits =
     if nat_lt (length bits) (spec.width + 6) then Err data_end
     else item_by spec n (number_of (take 6 (drop spec.width bits))) bits
 
--- what an item tells: factors are the same in all subsets, and so are references
+-- what an item returns to the walk: factors are the same in all subsets, and so are references
 abbrev pub told_first : FieldSpec → List Content → Taken
 told_first spec [] = taken.Plain
 told_first spec (c ∷ cs) = answer_of spec c

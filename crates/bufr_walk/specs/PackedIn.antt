@@ -1,4 +1,4 @@
--- Fields that are read from bits, for compressed data: each item once for all subsets.
+-- The reader of compressed data, where each item occurs once for all subsets.
 -- Cited by public contracts.
 use Rattle.std.specs.Prelude.{ℕ, ◌≡◌, ◌≤◌, ◌<◌, ◌+◌, ◌*◌, ◌%◌, ◌==◌, ◌&&◌, ◌||◌, Bool, true, false, List, [], ◌∷◌, ◌++◌, length, take, drop, Result, Ok, Err}
 use Rattle.std.specs.List.{list_all}
@@ -19,14 +19,14 @@ use Rattle.bufr_walk.specs.PlainField.{FieldFault, data_end, increment, unequal_
 use Rattle.bufr_walk.specs.PackedField.{packed_field, told_first}
 use Rattle.bufr_walk.specs.Reading.{Item, max_values, items_at_once}
 
--- bits, how many of them were read, for how many subsets, and the items that were read
+-- the reader: the bits, how many of them were read, the number of subsets, and the items read
 pub record PackedCursor : Type 0 where
   pub bits : List Bool
   pub at : ℕ
   pub subsets : ℕ
   pub items : List (Item (List Content))
 
--- nothing was read yet
+-- a reader that has read nothing
 abbrev pub new_packed_in : (bits : List Bool) (subsets : ℕ) → PackedCursor
 new_packed_in bits n = record { bits = bits; at = 0; subsets = n; items = [] }
 
@@ -43,37 +43,39 @@ abbrev pub contents_found : Result (FieldRead (List Content)) FieldFault → Lis
 contents_found (Ok f) = f.content
 contents_found (Err why) = []
 
+-- whether an item was found
 abbrev pub was_found : Result (FieldRead (List Content)) FieldFault → Bool
 was_found (Ok f) = true
 was_found (Err why) = false
 
--- the item that stands at an entry's place
+-- the item at the location of an entry
 abbrev pub item_at : (bits : List Bool) (subsets : ℕ) → IndexedItem → Item (List Content)
 item_at bits n e = item_with_contents e.spec
     (contents_found (packed_field n e.spec (drop e.at bits)))
 
+-- the items at the locations of entries
 abbrev pub items_at : (bits : List Bool) (subsets : ℕ) → List IndexedItem
     → List (Item (List Content))
 items_at bits n [] = []
 items_at bits n (e ∷ kept) = item_at bits n e ∷ items_at bits n kept
 
--- whether an entry has the number of the base at its place; a text has none
+-- whether an entry has the number of the base in the bits; a text has none
 abbrev pub has_base : (bits : List Bool) → IndexedItem → Bool
 has_base bits e =
     is_character e.spec.kind || (e.base == number_of (take e.spec.width (drop e.at bits)))
 
--- whether an item stands at an entry's place, with the entry's k and base
+-- whether an item is at the location of an entry, with its k and base
 abbrev pub stands_at : (bits : List Bool) (subsets : ℕ) → IndexedItem → Bool
 stands_at bits n e =
     was_found (packed_field n e.spec (drop e.at bits))
     && ((e.step == number_of (take 6 (drop (e.at + e.spec.width) bits))) && has_base bits e)
 
--- what a reader with these entries is
+-- the reader with these entries
 abbrev pub packed_view : (bits : List Bool) (at subsets : ℕ) → List IndexedItem → PackedCursor
 packed_view bits at n kept =
     record { bits = bits; at = at; subsets = n; items = items_at bits n kept }
 
--- what the reader keeps: each item has at least a bit and the six of its k
+-- what holds of a reader: each item has at least one bit and the six of its k
 pub record IsPackedIn (bits : List Bool) (at subsets : ℕ) (kept : List IndexedItem) : Type 0 where
   pub within : at ≤ length bits
   pub some : 1 ≤ subsets
@@ -87,7 +89,7 @@ wrong_of fxy data_end = wrong.DataEnd fxy
 wrong_of fxy increment = wrong.Increment fxy
 wrong_of fxy unequal_factor = wrong.UnequalFactor fxy
 
--- an item was found at the front of the rest, and told what it holds
+-- the rest begins with an item, and this is its answer
 pub record IsPackedTaken (s : PackedCursor) (spec : FieldSpec) (t : Taken)
     (s' : PackedCursor) : Type 0 where
   pub contents : List Content
@@ -100,7 +102,7 @@ pub record IsPackedTaken (s : PackedCursor) (spec : FieldSpec) (t : Taken)
   pub items : s'.items ≡ s.items ++ item_with_contents spec contents ∷ []
   pub forth : s.at + 7 ≤ s'.at
 
--- the item at the front of the rest is at fault, and would not be one too many
+-- the rest begins with an item at fault, which is not one too many
 pub record IsPackedWrong (s : PackedCursor) (spec : FieldSpec) (e : PackedFault) : Type 0 where
   pub why : FieldFault
   pub few : (length s.items + 1) * s.subsets ≤ max_values
@@ -108,7 +110,7 @@ pub record IsPackedWrong (s : PackedCursor) (spec : FieldSpec) (e : PackedFault)
   pub fault : e ≡ wrong_of spec.fxy why
 
 -- One call: an item was read and kept, or there would be too many values, or it is at fault, or
--- memory for so many items more ran out; then nothing is changed.
+-- memory for more items ran out. A fault changes nothing.
 abbrev pub PackedTakes : PackedCursor → FieldSpec → Result Taken PackedFault → PackedCursor → Type 0
 PackedTakes s spec (Ok t) s' = IsPackedTaken s spec t s'
 PackedTakes s spec (Err (wrong.TooManyValues fxy)) s' =
@@ -125,7 +127,7 @@ refuses_packed s spec (wrong.DataEnd fxy) s' h = h.1
 refuses_packed s spec (wrong.Increment fxy) s' h = h.1
 refuses_packed s spec (wrong.UnequalFactor fxy) s' h = h.1
 
--- the fault that a walk's stop is, behind so many bits
+-- the fault of the stop of a walk, after `bit` bits
 abbrev pub packed_fault : WalkStop PackedFault → (bit : ℕ) → WalkFault
 packed_fault (stops.Width fxy) bit = fault.Width (spot 0 fxy bit)
 packed_fault (stops.Defining fxy) bit = fault.Defining (spot 0 fxy bit)

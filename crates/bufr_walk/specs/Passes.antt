@@ -1,4 +1,4 @@
--- One pass over data that are not compressed, by what it read.
+-- One pass over data that are not compressed.
 -- Cited by private steps only.
 use Rattle.std.specs.Prelude.{ℕ, ◌≡◌, ◌≤◌, ◌+◌, ◌*◌, false, Bool, List, length, Some}
 use Rattle.bufr_walk.specs.declared.fault.WalkFault.{WalkFault}
@@ -14,7 +14,7 @@ use Rattle.bufr_walk.specs.Reading.{Item, plain, ReadsItems, next_after, turns_a
 use Rattle.bufr_walk.specs.Refusal.{Stop, stop_at}
 use Rattle.bufr_walk.specs.Ticks.{ticked}
 
--- items were read up to what comes next, in so many turns
+-- items were read up to what comes next, and their turns were counted
 pub record PassComes (course : Course) (s : Cursor) (steps : ℕ) (next : Next) (s' : Cursor)
     (steps' : ℕ) : Type 0 where
   pub items : List (Item Content)
@@ -38,7 +38,7 @@ PassStops course s steps subset why s' steps' =
     (next : Next) × (stop : Stop) × PassComes course s steps next s' steps'
     × (stop_at plain false next (rest_of s') ≡ Some stop) × (why ≡ walk_fault_of stop subset s'.at)
 
--- so many subsets were read, within a bound of n turns a bit
+-- `count` subsets were read, in at most n turns a bit
 pub record SubsetsRead (n : ℕ) (course : Course) (bits : List Bool) (count : ℕ) (s : Cursor)
     (steps : ℕ) : Type 0 where
   pub subsets : List (List (Item Content))

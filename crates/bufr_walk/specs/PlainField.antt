@@ -4,22 +4,23 @@ use Rattle.std.specs.Prelude.{nat_lt, Bool, if◌then◌else◌, List, length, t
 use Rattle.bufr_walk.specs.FieldSpec.{FieldSpec}
 use Rattle.bufr_walk.specs.Content.{Content, content_in}
 
--- what may be wrong with a field of the data: the data end in it, an increment cannot be, or a
--- factor is not the same in all subsets
+-- the faults of a field: the data end in it, an increment is invalid, or a factor is not the same
+-- in all subsets
 pub data FieldFault : Type 0 where
   data_end : FieldFault
   increment : FieldFault
   unequal_factor : FieldFault
 
--- what a field holds, and the bits behind it
+-- the content of a field, and the bits after it
 pub record FieldRead (C : Type 0) : Type 0 where
   pub content : C
   pub behind : List Bool
 
+-- a field from its content and the bits after it
 abbrev pub found : {C : Type 0} → C → List Bool → FieldRead C
 found content behind = record { content = content; behind = behind }
 
--- the field at the front of bits
+-- the field that begins the bits
 abbrev pub plain_field : FieldSpec → List Bool → Result (FieldRead Content) FieldFault
 plain_field spec bits =
     if nat_lt (length bits) spec.width then Err data_end

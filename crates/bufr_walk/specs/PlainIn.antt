@@ -1,4 +1,4 @@
--- Fields that are read from bits, for data that are not compressed.
+-- The reader of data that are not compressed.
 -- Cited by public contracts.
 use Rattle.std.specs.Prelude.{ℕ, ◌≡◌, ◌≤◌, ◌+◌, Bool, List, drop, Result, Ok, Err}
 use Rattle.bufr_walk.specs.declared.spec.Taken.{Taken}
@@ -12,7 +12,7 @@ use Rattle.bufr_walk.specs.Content.{Content, answer_of}
 use Rattle.bufr_walk.specs.Fault.{spot}
 use Rattle.bufr_walk.specs.PlainField.{plain_field, found, data_end}
 
--- bits, and how many of them were read
+-- the bits, and how many of them were read
 pub record Cursor : Type 0 where
   pub bits : List Bool
   pub at : ℕ
@@ -21,11 +21,11 @@ pub record Cursor : Type 0 where
 abbrev pub rest_of : Cursor → List Bool
 rest_of s = drop s.at s.bits
 
--- past a field
+-- the reader after a field
 abbrev pub past : Cursor → FieldSpec → Cursor
 past s spec = record { bits = s.bits; at = s.at + spec.width }
 
--- a field was found at the front of the rest, and told what it holds
+-- the rest begins with a field, and this is its answer
 pub record IsTaken (s : Cursor) (spec : FieldSpec) (t : Taken) (s' : Cursor) : Type 0 where
   pub content : Content
   pub some : 1 ≤ spec.width
@@ -39,7 +39,7 @@ PlainTakes s spec (Ok t) s' = IsTaken s spec t s'
 PlainTakes s spec (Err e) s' =
     (plain_field spec (rest_of s) ≡ Err data_end) × (e.fxy ≡ spec.fxy) × (s' ≡ s)
 
--- the fault that a walk's stop is, in a subset, behind so many bits
+-- the fault of the stop of a walk, in a subset, after `bit` bits
 abbrev pub plain_fault : WalkStop DataEnd → (subset bit : ℕ) → WalkFault
 plain_fault (stops.Width fxy) subset bit = fault.Width (spot subset fxy bit)
 plain_fault (stops.Defining fxy) subset bit = fault.Defining (spot subset fxy bit)

@@ -1,5 +1,5 @@
--- The reading of data by a template: items one after another, each as what comes next asks (WMO-No.
--- 306, Volume I.2, FM 94: sections 3 and 4).
+-- The reading of data by a template: items one after another, each as what comes next specifies.
+-- (WMO-No. 306, Volume I.2, FM 94: sections 3 and 4)
 -- Cited by public contracts.
 use Rattle.std.specs.Prelude.{ℕ, zero, suc, ◌≡◌, ◌+◌, ◌*◌, ◌≤◌, Bool, true, false, List, [], ◌∷◌, length, drop, Result, Ok}
 use Rattle.bufr_walk.specs.declared.spec.Taken.{Taken}
@@ -9,33 +9,33 @@ use Rattle.bufr_walk.specs.Content.{Content, answer_of}
 use Rattle.bufr_walk.specs.PlainField.{FieldFault, FieldRead, found, plain_field}
 use Rattle.bufr_walk.specs.PackedField.{packed_field, told_first}
 
--- an item: what was asked, and what was found there, for one subset or for all
+-- an item: its specification, and its content for one subset or for all
 pub record Item (C : Type 0) : Type 0 where
   pub spec : FieldSpec
   pub content : C
 
--- how a field is read, and what it tells the walk
+-- how a field is read, and what its content returns to the walk
 pub record DataCoding (C : Type 0) : Type 0 where
   pub field : FieldSpec → List Bool → Result (FieldRead C) FieldFault
   pub tells : FieldSpec → C → Taken
 
--- one subset
+-- the coding of one subset
 abbrev pub plain : DataCoding Content
 plain = record { field = plain_field; tells = answer_of }
 
--- so many subsets together
+-- the coding of n compressed subsets
 abbrev pub packed : ℕ → DataCoding (List Content)
 packed n = record { field = packed_field n; tells = told_first }
 
--- what an item tells
+-- what an item returns to the walk
 abbrev pub tells_of : {C : Type 0} → DataCoding C → Item C → Taken
 tells_of form i = form.tells i.spec i.content
 
--- a course after one item more
+-- a course after one more item
 abbrev pub after : {C : Type 0} → DataCoding C → Course → Item C → Course
 after form course i answer_of = course (tells_of form i ∷ answer_of)
 
--- each item is what the field that comes next holds, at the bits behind the one before
+-- each item is the content of the field that comes next, at the bits after the one before
 abbrev pub ReadsItems : {C : Type 0} → DataCoding C → Course → List (Item C)
     → (bits behind : List Bool) → Type 0
 ReadsItems form course [] bits behind = bits ≡ behind
@@ -44,7 +44,7 @@ ReadsItems form course (i ∷ items) bits behind =
     × (form.field i.spec bits ≡ Ok (found i.content mid))
     × ReadsItems form (after form course i) items mid behind
 
--- what comes after items
+-- what comes next after items
 abbrev pub next_after : {C : Type 0} → DataCoding C → Course → List (Item C) → Next
 next_after form course [] = (course []).next
 next_after form course (i ∷ items) = next_after form (after form course i) items
@@ -76,7 +76,7 @@ ReadsSubsets course (items ∷ subsets) bits behind =
 abbrev pub max_values : ℕ
 max_values = 134217728
 
--- for so many items of compressed data there is room at once (a choice of this project)
+-- how many items of compressed data have room at once (a choice of this project)
 abbrev pub items_at_once : ℕ
 items_at_once = 64
 
@@ -87,25 +87,25 @@ IsPackedReading zero course items bits behind = (items ≡ []) × (bits ≡ behi
 IsPackedReading (suc n) course items bits behind =
     ReadsPass (packed (suc n)) course items bits behind × (length items * suc n ≤ max_values)
 
--- data that are not compressed: as many subsets as there are
+-- data that are not compressed: the subsets, n of them
 abbrev pub IsPlainReading : (subsets : ℕ) → Course → List (List (Item Content))
     → (bits behind : List Bool) → Type 0
 IsPlainReading n course subsets bits behind =
     ReadsSubsets course subsets bits behind × (length subsets ≡ n)
 
--- what is read: so many subsets, compressed or not, and the bits that hold them
+-- the data: the number of subsets, whether they are compressed, and their bits
 pub record Data : Type 0 where
   pub compressed : Bool
   pub subsets : ℕ
   pub bits : List Bool
 
--- the items of the data: those of each subset, or, where they are compressed, those of all subsets
--- together
+-- the items of the data: those of each subset, or those of all subsets together where they are
+-- compressed
 pub data Values : Type 0 where
   apart : (subsets : List (List (Item Content))) → Values
   together : (items : List (Item (List Content))) → Values
 
--- how many items a reading keeps: those of compressed data, each once for all subsets, and none of
+-- how many items a reading keeps: of compressed data each one, once for all subsets, and none of
 -- other data
 abbrev pub items_kept : Values → ℕ
 items_kept (apart subsets) = 0
@@ -120,7 +120,7 @@ IsReading course d (together items) used =
     (d.compressed ≡ true) × (used ≤ length d.bits)
     × IsPackedReading d.subsets course items d.bits (drop used d.bits)
 
--- the turns of one pass for so many subsets; with none there is no pass
+-- the turns of one pass for all subsets; with no subset there is no pass
 abbrev pub turns_together : (subsets : ℕ) → Course → List (Item (List Content)) → ℕ
 turns_together zero course items = 0
 turns_together (suc n) course items = turns_after (packed (suc n)) course items

@@ -1,5 +1,5 @@
--- Why data cannot be read, and where (the order of the faults at one item is a choice of this
--- project).
+-- Why data cannot be read, and where. (The order of the faults at one item is a choice of this
+-- project.)
 -- Cited by public contracts.
 use Rattle.std.specs.Prelude.{ℕ, ◌≡◌, ◌⊎◌, ◌+◌, ◌*◌, ◌%◌, ◌≤◌, nat_lt, Bool, true, false, List, length, Option, Some, None, Result, Ok, Err}
 use Rattle.bufr_walk.specs.declared.spec.TurnRefusal.{TurnRefusal}
@@ -17,19 +17,20 @@ pub data Stop : Type 0 where
   too_many : (fxy : ℕ) → Stop
   field_stop : (fxy : ℕ) → (why : FieldFault) → Stop
 
+-- the stop of a field, where it is at fault
 abbrev pub field_stop_of : {C : Type 0} → ℕ → Result (FieldRead C) FieldFault → Option Stop
 field_stop_of fxy (Ok f) = None
 field_stop_of fxy (Err why) = Some (field_stop fxy why)
 
--- what stops at what comes next, if anything does
+-- the stop at what comes next, if there is one
 abbrev pub stop_at : {C : Type 0} → DataCoding C → (many : Bool) → Next → List Bool → Option Stop
 stop_at form many (refused why) bits = Some (walk_stop why)
 stop_at form true (take_next spec) bits = Some (too_many spec.fxy)
 stop_at form false (take_next spec) bits = field_stop_of spec.fxy (form.field spec bits)
 stop_at form many _ bits = None
 
--- data that are not compressed were read up to what comes next: in a subset, counted from 1, behind
--- so many bits, by so many turns
+-- data that are not compressed were read up to what comes next: in a subset, from 1, after `before`
+-- bits, in these turns
 pub record ComesTo (subsets : ℕ) (course : Course) (bits : List Bool) (subset before turns : ℕ)
     (next : Next) (left : List Bool) : Type 0 where
   pub done : List (List (Item Content))
@@ -43,7 +44,7 @@ pub record ComesTo (subsets : ℕ) (course : Course) (bits : List Bool) (subset 
   pub place : before + length left ≡ length bits
   pub turns_are : turns ≡ turns_in course done + turns_after plain course items
 
--- compressed data were read up to what comes behind so many items
+-- compressed data were read up to what comes after `items_before` items
 pub record ComesToTogether (subsets : ℕ) (course : Course) (bits : List Bool)
     (items_before before turns : ℕ) (next : Next) (left : List Bool) : Type 0 where
   pub items : List (Item (List Content))
@@ -55,7 +56,7 @@ pub record ComesToTogether (subsets : ℕ) (course : Course) (bits : List Bool)
   pub place : before + length left ≡ length bits
   pub turns_are : turns ≡ turns_after (packed subsets) course items
 
--- data that are not compressed are refused in a subset, behind so many bits, in so many turns
+-- data that are not compressed are refused in a subset, after `before` bits, in these turns
 abbrev pub IsPlainRefused : (subsets : ℕ) → Course → List Bool → Stop
     → (subset before turns : ℕ) → Type 0
 IsPlainRefused subsets course bits stop subset before turns =
@@ -66,21 +67,21 @@ IsPlainRefused subsets course bits stop subset before turns =
 abbrev pub would_be_many : (subsets items_before : ℕ) → Bool
 would_be_many subsets items_before = nat_lt max_values ((items_before + 1) * subsets)
 
--- compressed data are refused behind so many bits, in so many turns
+-- compressed data are refused after `before` bits, in these turns
 abbrev pub IsPackedRefused : (subsets : ℕ) → Course → List Bool → Stop → (before turns : ℕ) → Type 0
 IsPackedRefused subsets course bits stop before turns =
     (items_before : ℕ) × (next : Next) × (left : List Bool)
     × ComesToTogether subsets course bits items_before before turns next left
     × (stop_at (packed subsets) (would_be_many subsets items_before) next left ≡ Some stop)
 
--- memory may run out at a reference that has to be kept, within so many turns
+-- memory may run out at a reference that must be kept, after these turns
 abbrev pub IsPlainShort : (subsets : ℕ) → Course → List Bool → (turns : ℕ) → Type 0
 IsPlainShort subsets course bits turns =
     (spec : FieldSpec) × (left : List Bool) × (subset : ℕ) × (before : ℕ)
     × ComesTo subsets course bits
     subset before turns (take_next spec) left × (spec.role ≡ role.Reference)
 
--- of compressed data also at an item for which room has to be made, one of 64
+-- in compressed data memory may also run out at an item for which room is made, one of 64
 abbrev pub IsPackedShort : (subsets : ℕ) → Course → List Bool → (turns : ℕ) → Type 0
 IsPackedShort subsets course bits turns =
     (spec : FieldSpec) × (left : List Bool) × (items_before : ℕ) × (before : ℕ)

@@ -1,5 +1,5 @@
--- How a field is read under the settings in force (WMO-No. 306, Volume I.2, FM 94: Tables B and C;
--- what is left open there is a choice of this project).
+-- The specification of a field under the operators in force. (WMO-No. 306, Volume I.2, FM 94:
+-- Tables B and C; what they leave open is a choice of this project)
 -- Cited by public contracts.
 use Rattle.std.specs.Prelude.{ℕ, ◌+◌, ◌-◌, ◌*◌, ◌/◌, ◌^◌, ◌==◌, ◌&&◌, not, nat_lt, nat_le, Bool, true, false, if◌then◌else◌, List, ℤ, pos, ◌+ℤ◌, ◌-ℤ◌, ◌*ℤ◌, Option, Some, None, Result, Ok, Err}
 use Rattle.bufr_tables.specs.declared.kind.Kind.{Kind}
@@ -21,7 +21,7 @@ if_valid_width a = if nat_le 1 a.width && nat_le a.width 63 then Ok a else Err (
 abbrev pub scale_change_of : ℕ → ℤ
 scale_change_of y = if y == 0 then pos 0 else pos y -ℤ pos 128
 
--- how many bits increased precision by so many digits adds
+-- how many bits 2 07 Y adds to a width
 abbrev pub extra_bits : ℕ → ℕ
 extra_bits y = (10 * y + 2) / 3
 
@@ -29,7 +29,7 @@ extra_bits y = (10 * y + 2) / 3
 abbrev pub operator_width : (width extra y : ℕ) → ℕ
 operator_width width extra y = if y == 0 then width + extra else (width + extra + y) - 128
 
--- whether all ones is a number, and not a missing value
+-- whether all ones is a number, not a missing value
 abbrev pub is_never_missing : ℕ → Bool
 is_never_missing fxy = x_of fxy == 31
 
@@ -48,7 +48,7 @@ numeric_spec s row = record {
   listed = true;
 }
 
--- a figure of a code table: no change touches it but a redefined reference
+-- a figure of a code table: only a redefined reference changes it
 abbrev pub coded_spec : OperatorModel → Row → FieldSpec
 coded_spec s row = record {
   fxy = row.fxy;
@@ -61,7 +61,7 @@ coded_spec s row = record {
   listed = true;
 }
 
--- text of so many octets
+-- text of `width` bits
 abbrev pub text_spec : Role → (fxy width : ℕ) → Bool → FieldSpec
 text_spec r fxy width listed =
     record {
@@ -100,7 +100,7 @@ defined_field s fxy =
       listed = false;
     }
 
--- an element whose reference is being defined: no text
+-- an element whose reference is being defined; no text has one
 abbrev pub new_reference_spec : Kind → OperatorModel → ℕ → Result FieldSpec TurnRefusal
 new_reference_spec kind.Character s fxy = Err (refusal.Defining fxy)
 new_reference_spec _ s fxy = if_valid_width (defined_field s fxy)
@@ -119,10 +119,11 @@ unsigned_field fxy width =
       listed = false;
     }
 
+-- such a number, or the refusal of its width
 abbrev pub unsigned_of : (fxy width : ℕ) → Result FieldSpec TurnRefusal
 unsigned_of fxy width = if_valid_width (unsigned_field fxy width)
 
--- no operator
+-- the same with no operator in force
 abbrev pub untouched : OperatorModel → OperatorModel
 untouched s =
     record {
@@ -135,7 +136,7 @@ untouched s =
       new_references = List.[];
     }
 
--- an element whose width is given: by its row alone where Table B has it with that width
+-- an element whose width is given: by its row alone where its width in Table B is that
 abbrev pub local_width_spec : Option Row → OperatorModel → ℕ → Result FieldSpec TurnRefusal
 local_width_spec None s fxy = unsigned_of fxy s.local_width
 local_width_spec (Some row) s fxy =
@@ -168,15 +169,17 @@ factor_field row fxy =
       listed = true;
     }
 
+-- such a factor, or the refusal of its width
 abbrev pub factor_by : Option Row → ℕ → Result FieldSpec TurnRefusal
 factor_by None fxy = Err (refusal.Width fxy)
 factor_by (Some row) fxy = if_valid_width (factor_field row fxy)
 
+-- the specification of a factor
 abbrev pub factor_spec : List Row → OperatorModel → ℕ → Result FieldSpec TurnRefusal
 factor_spec table s fxy =
     if is_defining s then Err (refusal.Defining fxy) else factor_by (entry_of table fxy) fxy
 
--- a text that stands in the template, 2 05 Y
+-- a text of the template, 2 05 Y
 abbrev pub inserted_spec : OperatorModel → ℕ → Result FieldSpec TurnRefusal
 inserted_spec s fxy =
     if is_defining s then Err (refusal.Defining fxy)

@@ -20,13 +20,14 @@ use Rattle.bufr_walk.specs.Reading.{Item, plain, ReadsPass, turns_after, turns_i
 use Rattle.bufr_walk.specs.CallsInTurn.{Shows}
 use Rattle.bufr_walk.specs.Ticks.{ticked}
 
--- what a showing holds: where it reads, the visitor, and by which names it holds them
+-- the state of a showing: the reader, the visitor, the table, and the names of the first two
 pub record Stage (V : Type 0) : Type 0 where
   pub cursor : Cursor
   pub visitor : V
   pub table : List Row
   pub names : ℕ × ℕ
 
+-- a state from its parts
 abbrev pub stage : {V : Type 0} → Cursor → V → List Row → ℕ → ℕ → Stage V
 stage cursor visitor table a b =
     record { cursor = cursor; visitor = visitor; table = table; names = (a, b) }
@@ -56,31 +57,32 @@ ShowingTakes sees s spec (Err stop.DataEnd) s' =
     (plain_field spec (rest_of s.cursor) ≡ Err data_end) × (s' ≡ s)
 ShowingTakes sees s spec (Err (stop.Visitor e)) s' = IsUnshown sees s spec e s'
 
--- a refusal goes past nothing
+-- a refusal passes no bit
 pub refusal_keeps : {V E : Type 0} (sees : V → Call → Result (Unit {0}) E → V → Type 0)
     (s : Stage V) (spec : FieldSpec) (e : ShowStop E) (s' : Stage V)
     → ShowingTakes sees s spec (Err e) s' → s'.cursor.at ≡ s.cursor.at
 refusal_keeps sees s spec stop.DataEnd s' h = ap (λ x. x.cursor.at) h.1
 refusal_keeps sees s spec (stop.Visitor e) s' h = ap (λ c. c.at) h.cursor
 
--- a walk over data that were read before ends so: the visitor refuses, or memory runs out
+-- the end of a walk over data that were read before: the visitor refuses, or memory runs out
 abbrev pub IsEnd : {E : Type 0} → WalkStop (ShowStop E) → ShowFault E → Type 0
 IsEnd (stops.Field (stop.Visitor e)) why = why ≡ fault.Visitor e
 IsEnd stops.Memory why = why ≡ fault.Memory
 IsEnd _ why = ⊥
 
+-- whether a walk over such data may stop so
 abbrev pub MayEnd : {E : Type 0} → WalkStop (ShowStop E) → Type 0
 MayEnd (stops.Field (stop.Visitor e)) = Unit {0}
 MayEnd stops.Memory = Unit {0}
 MayEnd _ = ⊥
 
--- from some calls to those that are left: what these do, all do
+-- the calls up to `rest` were made: what ends `rest` ends all
 pub record Sofar {S E : Type 0} (sees : S → Call → Result (Unit {0}) E → S → Type 0) (s : S)
     (calls : List Timed) (s1 : S) (rest : List Timed) : Type 0 where
   pub on : (turns : ℕ) (r : Result (Unit {0}) (ShowFault E)) (s' : S) (steps : ℕ)
       → Shows sees s1 rest turns r s' steps → Shows sees s calls turns r s' steps
 
--- the items of a subset were shown, whatever comes behind them
+-- the items of a subset were shown, whatever follows them
 pub record ItemsShown {S E : Type 0} (sees : S → Call → Result (Unit {0}) E → S → Type 0)
     (table : List Row) (course : Course) (c : Cursor) (s : S) (steps : ℕ) (c' : Cursor) (s' : S)
     (steps' : ℕ) : Type 0 where
@@ -91,7 +93,7 @@ pub record ItemsShown {S E : Type 0} (sees : S → Call → Result (Unit {0}) E 
       → ReadsPass plain course items (rest_of c) left
       → (rest_of c' ≡ left) × (steps' ≡ ticked steps (turns_after plain course items))
 
--- the items of a subset were shown up to one where it ended
+-- the items of a subset were shown up to one that ended the showing
 pub record ItemsEnded {S E : Type 0} (sees : S → Call → Result (Unit {0}) E → S → Type 0)
     (table : List Row) (course : Course) (c : Cursor) (s : S) (steps : ℕ) (why : ShowFault E)
     (s' : S) (steps' : ℕ) : Type 0 where
@@ -99,6 +101,7 @@ pub record ItemsEnded {S E : Type 0} (sees : S → Call → Result (Unit {0}) E 
       (turns : ℕ) → ReadsPass plain course items (rest_of c) left → steps ≡ ticked 0 before
       → Shows sees s (item_calls table before course items ++ more) turns (Err why) s' steps'
 
+-- the items of a subset were shown, or one of them ended the showing
 abbrev pub ItemsGo : {S E : Type 0} → (S → Call → Result (Unit {0}) E → S → Type 0) → List Row
     → Course → Cursor → S → ℕ → Result (Unit {0}) (ShowFault E) → Cursor → S → ℕ → Type 0
 ItemsGo sees table course c s steps (Ok _) c' s' steps' =
@@ -106,7 +109,7 @@ ItemsGo sees table course c s steps (Ok _) c' s' steps' =
 ItemsGo sees table course c s steps (Err why) c' s' steps' =
     ItemsEnded sees table course c s steps why s' steps'
 
--- the same of a subset, with its own call in front
+-- the items of a subset were shown, after its own call
 pub record SubsetShown {S E : Type 0} (sees : S → Call → Result (Unit {0}) E → S → Type 0)
     (table : List Row) (course : Course) (number : ℕ) (c : Cursor) (s : S) (steps : ℕ) (c' : Cursor)
     (s' : S) (steps' : ℕ) : Type 0 where
@@ -118,6 +121,7 @@ pub record SubsetShown {S E : Type 0} (sees : S → Call → Result (Unit {0}) E
       → ReadsPass plain course items (rest_of c) left
       → (rest_of c' ≡ left) × (steps' ≡ ticked steps (turns_after plain course items))
 
+-- a subset was shown up to a call that ended the showing
 pub record SubsetEnded {S E : Type 0} (sees : S → Call → Result (Unit {0}) E → S → Type 0)
     (table : List Row) (course : Course) (number : ℕ) (c : Cursor) (s : S) (steps : ℕ)
     (why : ShowFault E) (s' : S) (steps' : ℕ) : Type 0 where
@@ -127,6 +131,7 @@ pub record SubsetEnded {S E : Type 0} (sees : S → Call → Result (Unit {0}) E
       → Shows sees s (subset_calls table course before number (items ∷ subsets)) turns
       (Err why) s' steps'
 
+-- a subset was shown, or a call ended the showing
 abbrev pub SubsetGoes : {S E : Type 0} → (S → Call → Result (Unit {0}) E → S → Type 0) → List Row
     → Course → ℕ → Cursor → S → ℕ → Result (Unit {0}) (ShowFault E) → Cursor → S → ℕ → Type 0
 SubsetGoes sees table course number c s steps (Ok _) c' s' steps' =
@@ -134,7 +139,7 @@ SubsetGoes sees table course number c s steps (Ok _) c' s' steps' =
 SubsetGoes sees table course number c s steps (Err why) c' s' steps' =
     SubsetEnded sees table course number c s steps why s' steps'
 
--- some subsets were shown, of those that the data hold
+-- some subsets of the data were shown
 pub record SubsetsShown {S E : Type 0} (sees : S → Call → Result (Unit {0}) E → S → Type 0)
     (table : List Row) (course : Course) (all : List (List (Item Content))) (done : ℕ)
     (left : List Bool) (s : S) (c : Cursor) (s' : S) (steps : ℕ) : Type 0 where

@@ -1,5 +1,4 @@
--- Specs that were found, each under the key of the operators and the descriptor that it was found
--- for.
+-- The cache of specs, each under the key of the operators and the descriptor that it was found for.
 -- Cited by private steps only.
 use Rattle.std.specs.Prelude.{ℕ, ◌≡◌, ◌<◌, ◌+◌, ◌^◌, List, Ok}
 use Rattle.std.specs.List.{All}
@@ -10,7 +9,7 @@ use Rattle.bufr_walk.specs.SpecKey.{IsKey}
 use Rattle.bufr_walk.specs.Rules.{element_spec, factor_spec}
 use Rattle.bufr_walk.specs.declared.spec_cache.CachedSpec.{CachedSpec}
 
--- a spec is that of each element and factor whose key this is
+-- the spec of each element and factor that has this key
 pub record IsSpecBy (table : List Row) (key : ℕ) (spec : FieldSpec) : Type 0 where
   pub few : key < 2 ^ 62
   pub element : (s : OperatorModel) (fxy : ℕ) → fxy < 65536 → IsKey s fxy key
@@ -22,6 +21,6 @@ pub record IsSpecBy (table : List Row) (key : ℕ) (spec : FieldSpec) : Type 0 w
 abbrev pub IsCached : List Row → CachedSpec → Type 0
 IsCached table c = c.key < 2 ^ 63 → IsSpecBy table c.key c.spec
 
--- each entry is so
+-- each entry has such a spec
 abbrev pub AreCached : List Row → List CachedSpec → Type 0
 AreCached table entries = All (IsCached table) entries

@@ -14,7 +14,7 @@ use Rattle.bufr_walk.specs.PackedIn.{contents_found, items_at, stands_at}
 use Rattle.bufr_walk.specs.Reading.{Item, Data, Values, apart, together, IsReading, max_values}
 use Rattle.bufr_walk.specs.Outcome.{Read, course_of, IsRead}
 
--- one entry for each item of compressed data, which stands at the entry's place
+-- one entry for each item of compressed data, which is at the entry's location
 abbrev pub AreKept : Data → List IndexedItem → List (Item (List Content)) → Type 0
 AreKept d entries items =
     (items_at d.bits d.subsets entries ≡ items)
@@ -26,22 +26,22 @@ IsReadAndKept course d entries used steps =
     (items : List (Item (List Content))) × IsRead course d (together items) used steps
     × AreKept d entries items
 
--- what one subset, counted from 0, has of a kept item
+-- the content of a kept item for one subset, counted from 0
 abbrev pub content_kept : (bits : List Bool) (subsets : ℕ) → IndexedItem → (subset : ℕ) → Content
 content_kept bits n e j = content_at j (contents_found (packed_field n e.spec (drop e.at bits)))
 
--- a kept item with increments stands there, and the subset has one of them
+-- a kept item has increments, and the subset, counted from 0, has one of them
 pub record HasIncrement (bits : List Bool) (n : ℕ) (e : IndexedItem) (j : ℕ) : Type 0 where
   pub stands : stands_at bits n e ≡ true
   pub below : j < n
   pub some : 1 ≤ e.step
 
--- the call that shows it
+-- the call that shows a kept item
 abbrev pub call_kept : List Row → (bits : List Bool) (subsets : ℕ) → IndexedItem → (subset : ℕ)
     → Call
 call_kept table bits n e j = item_call (view_of table e.spec (content_kept bits n e j))
 
--- how many items are kept
+-- the number of items kept
 abbrev pub held_of : StoredItems → ℕ
 held_of kept.Apart = 0
 held_of (kept.Together entries) = length entries
@@ -53,7 +53,7 @@ KeepsValues kept.Apart d (together items) = ⊥
 KeepsValues (kept.Together entries) d (apart subsets) = ⊥
 KeepsValues (kept.Together entries) d (together items) = AreKept d entries items
 
--- the items of all subsets
+-- the number of items of all subsets
 abbrev pub items_in : List (List (Item Content)) → ℕ
 items_in [] = 0
 items_in (items ∷ subsets) = length items + items_in subsets
@@ -64,7 +64,7 @@ IsReadAndPaid course d used steps =
     (subsets : List (List (Item Content))) × IsRead course d (apart subsets) used steps
     × (items_in subsets ≤ used)
 
--- an item of one subset takes at least a bit
+-- an item of one subset takes at least one bit
 abbrev pub PaysBits : Values → (used : ℕ) → Type 0
 PaysBits (apart subsets) used = items_in subsets ≤ used
 PaysBits (together items) used = Unit {0}

@@ -1,16 +1,16 @@
--- A walk over fields, each what comes next.
+-- The fields that a walk takes, each of which comes next.
 -- Cited by public contracts.
 use Rattle.std.specs.Prelude.{◌≡◌, List, [], ◌∷◌}
 use Rattle.bufr_walk.specs.declared.spec.Taken.{Taken}
 use Rattle.bufr_walk.specs.FieldSpec.{FieldSpec}
 use Rattle.bufr_walk.specs.Course.{Course, take_next}
 
--- what was asked for, and what it told
+-- a field, and what it returned to the walk
 pub record TakenField : Type 0 where
   pub spec : FieldSpec
   pub taken : Taken
 
--- a walk's fields, each what comes next after those before it
+-- the fields of a walk, each of which comes next after those before it
 abbrev pub Takes : {S : Type 0} → (S → FieldSpec → Taken → S → Type 0) → Course → S
     → List TakenField → S → Type 0
 Takes takes course s [] s' = s' ≡ s

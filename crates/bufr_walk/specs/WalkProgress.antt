@@ -16,11 +16,11 @@ use Rattle.bufr_walk.specs.Stop.{stop_by}
 use Rattle.bufr_walk.specs.Ticks.{ticked}
 use Rattle.bufr_walk.specs.Walked.{oks, answers_of, StopsWalk}
 
--- the course of turns whose counts are among what is told
+-- the course of turns whose counts are among those returned
 abbrev pub course : List Row → Rest → OperatorModel → Course
 course table rest s told = ahead table (rest (counts_of told)) s told
 
--- from one course and state to another, by so many turns
+-- a walk from one course and state to another, in t turns
 pub record WalkGoes {S E : Type 0} (takes : S → FieldSpec → Result Taken E → S → Type 0)
     (n : Course)
     (s : S) (t : ℕ) (n' : Course) (s' : S) : Type 0 where
@@ -28,8 +28,7 @@ pub record WalkGoes {S E : Type 0} (takes : S → FieldSpec → Result Taken E �
   pub taken : Takes (oks takes) n s items s'
   pub leads : (more : List Taken) → n (answers_of items ++ more) ≡ later t (n' more)
 
--- one field that was asked for: it was taken and kept, or refused, or there was no memory to keep
--- the reference that it would tell
+-- one field: it was taken and kept, or refused, or memory for its reference ran out
 abbrev pub TakesField : {S E : Type 0} → (S → FieldSpec → Result Taken E → S → Type 0)
     → Result FieldSpec TurnRefusal
     → S → Result Taken (WalkStop E) → S → Type 0
@@ -39,7 +38,7 @@ TakesField takes (Ok spec) s (Err stops.Memory) s' = (spec.role ≡ role.Referen
 TakesField takes (Err why) s (Err w) s' = (w ≡ stop_by why) × (s' ≡ s)
 TakesField takes _ s _ s' = ⊥
 
--- from a course and state to a stop, by so many turns
+-- a walk from a course and state to a stop, in t turns
 pub record Stops {S E : Type 0} (takes : S → FieldSpec → Result Taken E → S → Type 0) (n : Course)
     (s : S) (t : ℕ) (stop : WalkStop E) (s' : S) : Type 0 where
   pub items : List TakenField
@@ -48,7 +47,7 @@ pub record Stops {S E : Type 0} (takes : S → FieldSpec → Result Taken E → 
   pub stops : StopsWalk takes (n (answers_of items)).next mid stop s'
   pub turns : (n (answers_of items)).turns ≡ t
 
--- it came from all the turns to those that are left
+-- a walk from all the turns to those that are left
 pub record HasWalked {S E : Type 0} (takes : S → FieldSpec → Result Taken E → S → Type 0)
     (table : List Row)
     (over left : Rest → Rest) (s : OperatorModel) (f : S) (c : ℕ) (s' : OperatorModel) (f' : S)
@@ -58,7 +57,7 @@ pub record HasWalked {S E : Type 0} (takes : S → FieldSpec → Result Taken E 
   pub way : (rest : Rest)
       → WalkGoes takes (course table (over rest) s) f turns (course table (left rest) s') f'
 
--- it stopped within the turns that were left
+-- a walk that stopped within the turns that were left
 pub record StopsIn {S E : Type 0} (takes : S → FieldSpec → Result Taken E → S → Type 0)
     (table : List Row) (over : Rest → Rest) (s : OperatorModel) (f : S) (c : ℕ) (why : WalkStop E)
     (f' : S) (c' : ℕ) : Type 0 where

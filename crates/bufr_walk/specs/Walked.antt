@@ -16,12 +16,12 @@ abbrev pub oks : {S E : Type 0} → (S → FieldSpec → Result Taken E → S �
     → Taken → S → Type 0
 oks takes s spec t s' = takes s spec (Ok t) s'
 
--- what items told
+-- what items returned to the walk
 abbrev pub answers_of : List TakenField → List Taken
 answers_of [] = []
 answers_of (i ∷ items) = i.taken ∷ answers_of items
 
--- what stopped a walk where this comes next; memory may run out before a reference is taken
+-- the stop of a walk where this comes next; memory may run out before a reference is taken
 abbrev pub StopsWalk : {S E : Type 0} → (S → FieldSpec → Result Taken E → S → Type 0) → Next → S
     → WalkStop E → S → Type 0
 StopsWalk takes (take_next spec) s (stops.Field e) s' = takes s spec (Err e) s'
@@ -29,8 +29,8 @@ StopsWalk takes (take_next spec) s stops.Memory s' = (spec.role ≡ role.Referen
 StopsWalk takes (refused why) s w s' = (w ≡ stop_by why) × (s' ≡ s)
 StopsWalk takes _ s _ s' = ⊥
 
--- A whole walk: each item is what comes next after those before it. At Ok nothing comes after them;
--- else what comes after them is what stopped it. The steps are the turns up to there.
+-- A whole walk: each item is what comes next after those before it. At Ok the end comes next; else
+-- what comes next stopped it. The steps are the turns up to there.
 abbrev pub Walked : {S E : Type 0} → (S → FieldSpec → Result Taken E → S → Type 0) → Course → S → ℕ
     → Result (Unit {0}) (WalkStop E) → S → ℕ → Type 0
 Walked takes n s steps (Ok _) s' steps' =

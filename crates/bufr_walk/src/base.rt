@@ -1,4 +1,4 @@
-//! The base of an item of compressed data that is a number.
+//! The base of a compressed item that is a number.
 ghost use Rattle.std.specs.Prelude.{◌≡◌, ◌≤◌, ◌<◌, ◌+◌, ◌*◌, ◌^◌, false, true, length, IfNone, IfSome, OnSome};
 ghost use Rattle.bufr_bits.specs.Bits.{bits_at, number_of};
 ghost use Rattle.bufr_bits.specs.BitSlice.{octets_of};
@@ -17,8 +17,8 @@ pub(crate) struct Base {
     pub(crate) may_be_missing: bool,
 }
 
-/// The base that begins with bit `at`; `None` where it is missing, and with it the item of each
-/// subset.
+/// The base that begins with bit `at`; `None` where it is missing, so that the item of each subset
+/// is missing too.
 #[inline(always)]
 pub(crate) fn base_at(bits: &BitSlice<'_>, at: u64, spec: &Spec) -> Option<Base>
     requires number { is_character spec.now.kind ≡ false }

@@ -1,4 +1,4 @@
-//! What the bits at a place write: a number, a number with a sign, what a field tells, octets.
+//! What bits write at an index: a number, a number with a sign, the answer of a field, octets.
 ghost use Rattle.std.specs.Prelude.{◌≡◌, ◌≤◌, ◌<◌, ◌+◌, ◌-◌, ◌*◌, ◌^◌, length, take, drop, if◌then◌else◌, ◌==◌, pos, neg_ℤ};
 ghost use Rattle.bufr_bits.specs.Bits.{number_of, bits_at, bits_of, are_all_ones};
 ghost use Rattle.bufr_bits.specs.BitSlice.{octets_of};
@@ -8,7 +8,7 @@ ghost use Rattle.bufr_walk.specs.Content.{answer_of, content_in, signed_by, octe
 use crate::spec::{Role, Spec, Taken};
 use bufr_bits::BitSlice;
 
-/// The number that bits write which are there.
+/// The number that bits inside the data write.
 #[inline(always)]
 pub(crate) fn number_at(bits: &BitSlice<'_>, at: u64, width: u32) -> u64
     requires few { width ≤ 63 }
@@ -22,7 +22,7 @@ pub(crate) fn number_at(bits: &BitSlice<'_>, at: u64, width: u32) -> u64
     bits.number(at, width)
 }
 
-/// What bits write that are there, of which there are at most 63.
+/// What at most 63 bits inside the data write.
 #[derive(Clone, Copy)]
 pub(crate) struct RawNumber {
     /// Their number.
@@ -31,7 +31,7 @@ pub(crate) struct RawNumber {
     pub(crate) all_ones: bool,
 }
 
-/// What bits write that are there, at least one.
+/// What at least one bit, all of them inside the data, write.
 #[inline(always)]
 pub(crate) fn raw_at(bits: &BitSlice<'_>, at: u64, width: u32) -> RawNumber
     requires some { 1 ≤ width }
@@ -70,7 +70,7 @@ pub(crate) fn signed_at(bits: &BitSlice<'_>, at: u64, width: u32) -> i64
     signed(sign, size)
 }
 
-/// What a field that is there tells.
+/// What a field that is inside the data returns to the walk.
 #[inline(always)]
 #[tactic(auto, using(crate::proofs::PlainNumbers::plain_told, crate::proofs::PlainNumbers::plain_for, crate::proofs::PlainLemmas::told_element, crate::proofs::PlainLemmas::told_inserted, crate::proofs::PlainLemmas::told_factor, crate::proofs::PlainLemmas::told_reference, crate::proofs::PlainLemmas::some_width, crate::proofs::PlainLemmas::factor_width, crate::proofs::PlainLemmas::reference_width))]
 pub(crate) fn answer_at(bits: &BitSlice<'_>, at: u64, spec: &Spec) -> Taken
@@ -91,7 +91,7 @@ pub(crate) fn answer_at(bits: &BitSlice<'_>, at: u64, spec: &Spec) -> Taken
     }
 }
 
-/// Whether bits that are there are all ones.
+/// Whether bits that are inside the data are all ones.
 pub(crate) fn ones_at(bits: &BitSlice<'_>, at: u64, width: u32) -> bool
     requires { at + width ≤ 8 * length (octets_of bits.now) }
     ensures { result ≡ are_all_ones (bits_at (octets_of bits.now) at width) }
@@ -102,7 +102,7 @@ pub(crate) fn ones_at(bits: &BitSlice<'_>, at: u64, width: u32) -> bool
     }
 }
 
-/// Copies a few octets, at most seven, behind the first `done` of those that begin with bit `at`.
+/// Copies a few octets, at most seven, after the first `done` of those that begin with bit `at`.
 fn copy_window(bits: &BitSlice<'_>, at: u64, done: usize, few: usize, text: &mut [u8; 255])
     requires most { few ≤ 7 }
     requires room { done + few ≤ 255 }
@@ -117,7 +117,7 @@ fn copy_window(bits: &BitSlice<'_>, at: u64, done: usize, few: usize, text: &mut
     }
 }
 
-/// Copies so many octets that begin at any bit.
+/// Copies `count` octets that begin at any bit.
 pub(crate) fn copy_octets(bits: &BitSlice<'_>, at: u64, count: usize, text: &mut [u8; 255])
     requires few { count ≤ 255 }
     requires within { at + 8 * count ≤ 8 * length (octets_of bits.now) }

@@ -1,19 +1,18 @@
-//! What can be wrong with the data of a message (the numbers and their order are a choice of this
-//! project).
+//! Faults in the data of a message. (Their numbers and their order are a choice of this project.)
 ghost use Rattle.std.specs.Prelude.{◌≡◌};
 
 use bufr_tables::Fxy;
 use std::alloc::AllocError;
 use thiserror::Error;
 
-/// Where an item of the data stands.
+/// The location of an item in the data.
 #[derive(Clone, Copy, Debug, PartialEq, Eq)]
 pub struct Spot {
-    /// The subset, from 1, and 0 where the data are compressed.
+    /// The subset, from 1; 0 where the data are compressed.
     pub subset: u16,
     /// The descriptor: an element, a factor, or an operator.
     pub fxy: Fxy,
-    /// How many bits of the data lie before the item.
+    /// How many bits of the data precede the item.
     pub bit: u64,
 }
 
@@ -21,7 +20,7 @@ impl Spot {
     ghost use Rattle.std.specs.Prelude.{◌≡◌};
     ghost use Rattle.bufr_walk.specs.Fault.{spot};
 
-    /// An item of this subset, behind so many bits.
+    /// An item of this subset, after `bit` bits.
     pub(crate) fn new(subset: u16, fxy: Fxy, bit: u64) -> Spot
         ensures { result ≡ spot subset fxy bit }
     {
@@ -35,19 +34,19 @@ pub enum WalkFault {
     /// The data end inside the item.
     #[error("the data end inside an item")]
     DataEnd(Spot),
-    /// A field that is not text would be under 1 or over 63 bits wide.
+    /// A field that is not text is under 1 or over 63 bits wide.
     #[error("a width outside 1 to 63 bits")]
     Width(Spot),
-    /// A turn that may not come while references are being defined (2 03 Y).
+    /// A step that is not allowed while 2 03 Y defines references.
     #[error("not allowed while references are being defined")]
     Defining(Spot),
     /// The factor of a replication is not the same in all subsets of compressed data.
     #[error("a factor is not the same in all subsets")]
     UnequalFactor(Spot),
-    /// The increments of an item of compressed data cannot be.
+    /// The increments of an item of compressed data are invalid.
     #[error("an increment that cannot be")]
     Increment(Spot),
-    /// Compressed data would have more than 134,217,728 values.
+    /// Compressed data have more than 134,217,728 values.
     #[error("too many values")]
     TooManyValues(Spot),
     /// Memory ran out.
@@ -59,7 +58,7 @@ impl WalkFault {
     ghost use Rattle.std.specs.Prelude.{◌≡◌};
     ghost use Rattle.bufr_walk.specs.Fault.{number_of_walk_fault};
 
-    /// Its number: 30 to 35, and 73 for want of memory.
+    /// The number of this fault: 30 to 35, and 73 where memory ran out.
     pub fn number(self) -> u8
         ensures { result ≡ number_of_walk_fault self }
     {

@@ -1,4 +1,4 @@
-//! What a walk asks of the data, field by field.
+//! The data that a walk takes field by field.
 ghost use Rattle.std.specs.Prelude.{◌≡◌, ℕ, ◌<◌, Result, Ok, Err, IfOk};
 ghost use Rattle.bufr_walk.specs.FieldSpec.{FieldSpec, IsFor};
 ghost use Rattle.bufr_walk.specs.declared.spec.Taken.{Taken};
@@ -13,28 +13,28 @@ pub trait Fields {
     /// How many bits were used, by whole items.
     ghost used: { Self → ℕ };
 
-    /// One call of `take` may go so: before, what is asked, the answer, after.
+    /// The relation of a call of `take`: before, the field's specification, the answer, after.
     ghost takes: { Self → FieldSpec → Result Taken Self.Fault → Self → Type 0 };
 
-    /// Takes the next field, and answers what the walk needs of it: [`Taken::Count`] exactly for a
+    /// Takes the next field, and returns what the walk needs of it: [`Taken::Count`] exactly for a
     /// factor, [`Taken::Reference`] exactly for a reference that is being defined, else
     /// [`Taken::Plain`]. A field that is taken uses at least one bit.
     ///
     /// # Errors
     ///
-    /// [`Fields::Fault`] where the field is not taken; no bit is used then.
+    /// [`Fields::Fault`] where the field is not taken; then no bit is used.
     fn take(&mut self, spec: &Spec) -> Result<Taken, Self::Fault>
         ensures step { takes self.old spec.now result self.new }
         ensures shape { IfOk result (λ t. IsFor spec.now t) };
 
-    /// Where the next field is looked for first, by fields that are kept: a guess.
+    /// Where fields that are kept look first for the next field: a guess.
     fn look_at(&mut self, place: u32)
         ensures { self.new ≡ self.old }
     {
         let _ = place;
     }
 
-    /// Where the field that was taken last stands, where fields are kept.
+    /// The index of the field that was taken last, where fields are kept.
     fn last_place(&self) -> Option<u32> {
         None
     }

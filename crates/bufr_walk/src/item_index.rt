@@ -1,4 +1,4 @@
-//! The items of compressed data that are kept, and the fields that they were read by.
+//! The index of the items of compressed data, and the specifications that they were read by.
 ghost use Rattle.std.specs.Prelude.{◌≡◌, ◌≤◌, ◌<◌, ◌+◌, ◌%◌, ◌^◌, ◌++◌, ◌∷◌, [], length, true, vec_len, vec_capacity, IfErr, IfSome, OnOk, OnErr};
 ghost use Rattle.bufr_walk.specs.ItemIndex.{HasSpecAt, IsPut, room_for, room_left};
 ghost use Rattle.bufr_walk.specs.Reading.{items_at_once};
@@ -10,12 +10,12 @@ use crate::spec::Spec;
 use std::alloc::Global;
 use std::marker::Model;
 
-/// Room is made for so many items at once.
+/// How many items room is made for at once.
 const ITEMS_AT_ONCE: usize = 64;
 
-/// Where an item lies: the bit where it begins, the number of its base, the place of its field
-/// among those that are kept, and its k.
-// The widest field stands first, so that no entry has room between its fields.
+/// Location of an item: the bit where it begins, the number of its base, the index of its
+/// specification, and its k.
+// The widest field is first, so that an entry has no gaps between its fields.
 #[derive(Clone, Copy)]
 pub(crate) struct ItemLocation {
     at: u64,
@@ -24,7 +24,7 @@ pub(crate) struct ItemLocation {
     step: u8,
 }
 
-/// Whether a field stands at a place among others.
+/// Whether a field has an index among others.
 #[inline(always)]
 fn stands(specs: &[Spec], place: u32, spec: &Spec) -> bool
     ensures { result ≡ true → HasSpecAt specs.now place spec.now }
@@ -37,8 +37,8 @@ fn stands(specs: &[Spec], place: u32, spec: &Spec) -> bool
     false
 }
 
-/// Makes room for one more item, and for a field: for 64 at once, so memory may be wanted only
-/// where the items so far are a multiple of 64.
+/// Makes room for one more item and one more field. Room is made for 64 at once, so memory is
+/// needed only where the items so far are a multiple of 64.
 #[inline(always)]
 fn make_room(places: &mut Vec<ItemLocation>, specs: &mut Vec<Spec>) -> Result<(), PackedFault>
     requires places { room_for (vec_len places.old) ≤ vec_capacity places.old }
@@ -67,8 +67,8 @@ fn make_room(places: &mut Vec<ItemLocation>, specs: &mut Vec<Spec>) -> Result<()
     }
 }
 
-/// The place of a field among others: the one where it is looked for, if it stands there, else
-/// behind them, for which there is room.
+/// The index of a field among others: the guess, if the field is there, else the index after all
+/// others, for which there is room.
 #[inline(always)]
 fn place_of(specs: &mut Vec<Spec>, guess: u32, spec: &Spec) -> u32
     requires few { vec_len specs.old < 2 ^ 32 }
@@ -87,7 +87,7 @@ fn place_of(specs: &mut Vec<Spec>, guess: u32, spec: &Spec) -> u32
     place
 }
 
-/// Keeps a place for which there is room.
+/// Keeps a location for which there is room.
 #[inline(always)]
 fn keep_place(places: &mut Vec<ItemLocation>, place: ItemLocation)
     requires { room_for (vec_len places.old + 1) ≤ vec_capacity places.old }
@@ -100,8 +100,8 @@ fn keep_place(places: &mut Vec<ItemLocation>, place: ItemLocation)
     }
 }
 
-/// The items that are kept: where each of them lies, and the fields among them, in the order in
-/// which they came. A field is there once more where it was looked for in vain.
+/// The items that are kept: the location of each, and their fields in the order in which they came.
+/// A field that the guess missed is kept once more.
 #[derive(Drop)]
 pub(crate) struct ItemIndex {
     specs: Vec<Spec>,
@@ -145,7 +145,7 @@ impl ItemIndex {
         self.places.len()
     }
 
-    /// The item at a place.
+    /// The item of an index.
     #[inline(always)]
     pub(crate) fn item(&self, place: usize) -> IndexedItem
         requires { place < length self.now }
@@ -160,9 +160,9 @@ impl ItemIndex {
         )
     }
 
-    /// Keeps an item behind the others, and answers where its field stands, which is looked for at
-    /// a place first. Room is made for 64 at once, so memory may be wanted only where the items so
-    /// far are a multiple of 64.
+    /// Appends an item, and returns the index of its field, which is looked for at the guess first.
+    /// Room is made for 64 at once, so memory is needed only where the items so far are a multiple
+    /// of 64.
     #[inline(always)]
     pub(crate) fn keep(&mut self, guess: u32, item: IndexedItem) -> Result<u32, PackedFault>
         requires { length self.old < 2 ^ 32 }

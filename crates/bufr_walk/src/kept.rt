@@ -1,9 +1,9 @@
-//! What is kept of compressed data that were read.
+//! What a reading of compressed data keeps.
 use crate::item_index::ItemIndex;
 use crate::spec::Spec;
 
-/// An item of compressed data that is kept: how it was read, the bit where it begins, the number of
-/// its base, 0 for a text, and its k.
+/// An item of compressed data that is kept: its specification, the bit where it begins, the number
+/// of its base (0 for a text), and its k.
 #[derive(Clone, Copy)]
 pub(crate) struct IndexedItem {
     pub(crate) spec: Spec,
@@ -15,7 +15,7 @@ pub(crate) struct IndexedItem {
 impl IndexedItem {
     ghost use Rattle.std.specs.Prelude.{◌≡◌};
 
-    /// An item that was read so.
+    /// An item with these parts.
     pub(crate) fn new(spec: Spec, at: u64, base: u64, step: u8) -> IndexedItem
         ensures { result ≡ record { spec = spec; at = at; base = base; step = step } }
     {
@@ -28,7 +28,7 @@ impl IndexedItem {
     }
 }
 
-/// What was read: how many bits the items take, and the items.
+/// The result of a reading: how many bits the items take, and the items.
 #[derive(Drop)]
 pub(crate) struct PackedRead {
     pub(crate) used: u64,
@@ -38,7 +38,7 @@ pub(crate) struct PackedRead {
 impl PackedRead {
     ghost use Rattle.std.specs.Prelude.{◌≡◌};
 
-    /// These items, which take so many bits.
+    /// These items, which take `used` bits.
     pub(crate) fn new(used: u64, kept: ItemIndex) -> PackedRead
         ensures { result ≡ record { used = used; kept = kept } }
     {

@@ -1,4 +1,4 @@
-//! Laws on what a message's data are: read in one way or refused in one way, and never both.
+//! Laws on the data of a message: they have one reading or one refusal, and never both.
 ghost use Rattle.std.specs.Prelude.{◌≡◌, ◌⊎◌, ℕ, List};
 ghost use Rattle.bufr_tables.specs.Legal.{IsLegal};
 ghost use Rattle.bufr_tables.specs.Records.{Record};
@@ -9,28 +9,28 @@ ghost use Rattle.bufr_walk.specs.Outcome.{IsRefused};
 ghost use Rattle.bufr_walk.specs.Reading.{Data, Values, IsReading};
 ghost use Rattle.bufr_walk.specs.declared.fault.WalkFault.{WalkFault};
 
-/// Two readings of the same data by the same course have the same items, with the same values, and
-/// take the same bits (WMO-No. 306, Volume I.2, FM 94: sections 3 and 4).
+/// Law: two readings of the same data by the same course have the same items, with the same values,
+/// and take the same bits. (WMO-No. 306, Volume I.2, FM 94: sections 3 and 4)
 pub fn readings_are_one()
     ensures { (course : Course) (d : Data) (v w : Values) (used used' : ℕ)
         → IsReading course d v used → IsReading course d w used' → (v ≡ w) × (used ≡ used') }
 {}
 
-/// Two refusals of the same data by the same course are the same fault at the same place, in as
-/// many turns.
+/// Law: two refusals of the same data by the same course are the same fault at the same location,
+/// after as many turns.
 pub fn refusals_are_one()
     ensures { (course : Course) (d : Data) (why why' : WalkFault) (turns turns' : ℕ) → IsRefused
         course d why turns → IsRefused course d why' turns' → (why ≡ why') × (turns ≡ turns') }
 {}
 
-/// Data that are read are not refused.
+/// Law: data that have a reading have no refusal.
 pub fn readings_are_not_refused()
     ensures { (course : Course) (d : Data) (v : Values) (used : ℕ) (why : WalkFault) (turns : ℕ)
         → IsReading course d v used → IsRefused course d why turns → ⊥ }
 {}
 
-/// Data are read or refused, by each template of legal nodes and each Table B: whatever their bits
-/// are, compressed or not, and for any number of subsets.
+/// Law: data have a reading or a refusal, by each template of legal nodes and each Table B. This
+/// holds for any bits, compressed or not, and any number of subsets.
 pub fn data_are_read_or_refused()
     ensures { (records : List Record) (table : List Row) (template : Tree) (d : Data)
         → AreRows records table → IsLegal template

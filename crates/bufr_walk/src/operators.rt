@@ -1,4 +1,4 @@
-//! What the operators have set, and how a field is read under it.
+//! The operators in force, and the specification of a field under them.
 ghost use Rattle.std.specs.Prelude.{◌≡◌, ◌≤◌, ◌<◌, ◌*◌, ◌+◌, ◌^◌, ◌+ℤ◌, ◌*ℤ◌, if◌then◌else◌, ◌==◌, pos, unsigned_abs, List, Result, Ok, Err, Some, OnOk, OnErr, IfOk, IfErr, IsSome, true, false};
 ghost use Rattle.std.specs.Ordering.{nat_cmp};
 ghost use Rattle.std.specs.BTreeMap.{get};
@@ -61,13 +61,13 @@ fn no_operators() -> OperatorOperands
     }
 }
 
-/// What the operators have set so far, and the references that the data gave, by the word of their
-/// descriptor: data may define thousands of them, and each item looks for its own.
+/// The operators in force, and the references that the data defined, by the word of their
+/// descriptor. Data may define thousands of references, and each item looks for its own.
 #[derive(Drop)]
 pub(crate) struct OperatorState {
     operands: OperatorOperands,
     new_references: BTreeMap<u16, i64>,
-    /// What specs are cached under.
+    /// The key under which specs are cached.
     key: u64,
 }
 
@@ -86,8 +86,8 @@ impl Model for OperatorState {
         × IsOperatorKey (operator_model a.operands (known_by a.new_references.entries)) a.key };
 }
 
-/// The octets of the operators in one number, while no reference is being defined and none was
-/// redefined; else no key.
+/// The operands in one number, while no reference is being defined and none was redefined; else a
+/// number that is no key.
 fn key_by(operands: OperatorOperands, new_references: &BTreeMap<u16, i64>) -> u64
     ensures { IsOperatorKey (operator_model operands (known_by new_references.now.entries)) result }
 {
@@ -112,8 +112,7 @@ fn make_room(new_references: &mut BTreeMap<u16, i64>, fxy: Fxy) -> Result<(), Al
     Ok(())
 }
 
-/// Keeps a reference that the data gave, for which there is room, in place of the one that the
-/// element has.
+/// Keeps a reference of an element, for which there is room, in place of the one before.
 #[tactic(auto, using(crate::proofs::SpecLemmas::known_more))]
 fn redefine(new_references: &mut BTreeMap<u16, i64>, fxy: Fxy, reference: i64)
     requires { IsSome (get nat_cmp new_references.old fxy) }
@@ -126,7 +125,7 @@ fn redefine(new_references: &mut BTreeMap<u16, i64>, fxy: Fxy, reference: i64)
     }
 }
 
-/// The reference that the data gave to an element, or the listed one.
+/// The reference that the data defined for an element, or that of Table B.
 #[tactic(auto, using(crate::proofs::SpecLemmas::reference_found))]
 #[inline(always)]
 fn reference_of(new_references: &BTreeMap<u16, i64>, fxy: Fxy, entry: &Entry<'_>) -> i64
@@ -140,7 +139,7 @@ fn reference_of(new_references: &BTreeMap<u16, i64>, fxy: Fxy, entry: &Entry<'_>
     local_width.unwrap_or(entry.reference)
 }
 
-/// A quantity's width with the changes in force (2 01 Y, 2 07 Y).
+/// The width of a quantity with the changes in force (2 01 Y, 2 07 Y), in bits.
 #[inline(always)]
 fn operator_width(width: u32, precision_increase: u8, width_change: u8) -> u32
     requires { width ≤ 2040 }
@@ -154,7 +153,7 @@ fn operator_width(width: u32, precision_increase: u8, width_change: u8) -> u32
     }
 }
 
-/// The change of a quantity's scale by Y - 128, where one is in force (2 02 Y).
+/// The change of a quantity's scale by Y - 128, where 2 02 Y is in force.
 #[inline(always)]
 fn scale_change_of(scale_change: u8) -> i16
     ensures value { result ≡ scale_change_of scale_change }
@@ -167,7 +166,7 @@ fn scale_change_of(scale_change: u8) -> i16
     }
 }
 
-/// A quantity's scale with the changes in force (2 02 Y, 2 07 Y).
+/// The scale of a quantity with the changes in force (2 02 Y, 2 07 Y).
 #[inline(always)]
 fn scale_change(scale: i16, change: i16, precision_increase: u8) -> i16
     requires scale { unsigned_abs scale ≤ 127 }
@@ -189,7 +188,7 @@ fn power_of_ten(precision_increase: u8) -> u64
     10u64.pow(u32::from(precision_increase))
 }
 
-/// A quantity's reference with the digits in force (2 07 Y).
+/// The reference of a quantity with the digits in force (2 07 Y).
 #[tactic(auto, using(crate::proofs::SpecLemmas::product_small))]
 #[inline(always)]
 fn scaled(reference: i64, precision_increase: u8) -> i128
@@ -198,7 +197,7 @@ fn scaled(reference: i64, precision_increase: u8) -> i128
     ensures near { unsigned_abs result ≤ 2 ^ 125 }
 {
     let reference = i128::from(reference);
-    // Nearly always: nothing is in force, and then nothing is to be multiplied.
+    // Nearly always no operator is in force, and then nothing is to be multiplied.
     if precision_increase == 0 {
         return reference;
     }
@@ -379,7 +378,7 @@ impl OperatorState {
     ghost use Rattle.bufr_walk.specs.WalkProgress.{TakesField};
     ghost use Rattle.bufr_walk.specs.SpecKey.{IsElementKey, IsFactorKey};
 
-    /// Nothing is set.
+    /// No operator is in force.
     pub(crate) fn new(alloc: Global) -> OperatorState
         ensures { result ≡ begin }
     {
@@ -390,7 +389,7 @@ impl OperatorState {
         }
     }
 
-    /// What the spec of an element is cached under.
+    /// The key for the spec of an element.
     #[tactic(auto, using(crate::proofs::SpecKeyLemmas::with_word))]
     #[inline(always)]
     pub(crate) fn element_key(&self, fxy: Fxy) -> u64
@@ -399,7 +398,7 @@ impl OperatorState {
         self.key + 0x100_0000_0000 * u64::from(fxy.word())
     }
 
-    /// What the spec of a factor is cached under.
+    /// The key for the spec of a factor.
     #[tactic(auto, using(crate::proofs::SpecKeyLemmas::with_word))]
     #[inline(always)]
     pub(crate) fn factor_key(&self, fxy: Fxy) -> u64
@@ -408,7 +407,7 @@ impl OperatorState {
         self.key + 0x100_0000_0000 * (u64::from(fxy.word()) + 0x1_0000)
     }
 
-    /// A given width is used up.
+    /// Ends a given width, which holds for one element.
     #[inline(always)]
     fn end_given(&mut self)
         ensures { self.new ≡ record self.old { local_width = 0 } }
@@ -419,7 +418,7 @@ impl OperatorState {
         }
     }
 
-    /// How an element is read.
+    /// The specification of an element. (WMO-No. 306, Volume I.2, FM 94: Tables B and C)
     #[inline(always)]
     pub(crate) fn element(&self, table: &TableB, fxy: Fxy) -> Result<Spec, TurnRefusal>
         ensures { result ≡ element_spec table.now self.now fxy }
@@ -446,7 +445,7 @@ impl OperatorState {
         }
     }
 
-    /// How the factor of a delayed replication is read.
+    /// The specification of the factor of a delayed replication.
     #[inline(always)]
     pub(crate) fn factor(&self, table: &TableB, fxy: Fxy) -> Result<Spec, TurnRefusal>
         ensures { result ≡ factor_spec table.now self.now fxy }
@@ -460,7 +459,7 @@ impl OperatorState {
         }
     }
 
-    /// How a text that stands in the template is read (2 05 Y).
+    /// The specification of a text of the template (2 05 Y).
     #[tactic(auto, using(crate::proofs::SpecLemmas::inserted_width))]
     #[inline(always)]
     pub(crate) fn inserted(&self, fxy: Fxy) -> Result<Spec, TurnRefusal>
@@ -474,7 +473,8 @@ impl OperatorState {
         Ok(Spec::text(Role::Inserted, fxy, 8 * u32::from(fxy.y()), false))
     }
 
-    /// What an operator sets; while references are being defined only their end may come.
+    /// Applies an operator. While references are being defined only their end is allowed. (WMO-No.
+    /// 306, Volume I.2, FM 94: Table C)
     pub(crate) fn apply(&mut self, fxy: Fxy) -> Result<(), TurnRefusal>
         requires { is_legal_operator fxy ≡ true }
         ensures ok { OnOk result (after_operator self.old fxy ≡ Ok self.new) }
@@ -499,14 +499,14 @@ impl OperatorState {
             6 => self.operands.local_width = y,
             7 => self.operands.precision_increase = y,
             8 => self.operands.character_octets = y,
-            // 2 05 Y is a text of the template, and sets nothing.
+            // 2 05 Y is a text of the template, and changes no operand.
             _ => {}
         }
         self.key = key_by(self.operands, &self.new_references);
         Ok(())
     }
 
-    /// Takes a reference, and keeps it. The place for it is made before.
+    /// Takes a reference, and keeps it. Its room is made before.
     #[tactic(auto, using(crate::proofs::SpecLemmas::with_again))]
     fn take_reference<S: Fields>(
         &mut self,
@@ -556,8 +556,8 @@ impl OperatorState {
         }
     }
 
-    /// Takes a field, and keeps what it makes of the settings: a given width is used up, and a
-    /// reference is kept.
+    /// Takes a field, and changes the operators in force by it: a given width ends, and a reference
+    /// is kept.
     #[inline(always)]
     pub(crate) fn take<S: Fields>(
         &mut self,

@@ -1,4 +1,4 @@
-//! Fields that are read from bits, for compressed data: each item stands once for all subsets.
+//! The reader of compressed data, where each item occurs once for all subsets.
 ghost use Rattle.std.specs.Prelude.{◌≡◌, ◌≤◌, ◌<◌, ◌+◌, ◌-◌, ◌*◌, ◌/◌, ◌%◌, ◌^◌, ◌++◌, ◌∷◌, [], length, drop, MatchResult, IfOk, false, true};
 ghost use Rattle.bufr_bits.specs.Bits.{bits_of, bits_at, number_of};
 ghost use Rattle.bufr_bits.specs.BitSlice.{octets_of};
@@ -21,7 +21,7 @@ use std::alloc::Global;
 use std::marker::Model;
 use thiserror::Error;
 
-/// What is wrong with an item of compressed data, with its descriptor.
+/// The fault of an item of compressed data, with its descriptor.
 #[derive(Clone, Copy, Debug, PartialEq, Eq, Error)]
 pub enum PackedFault {
     /// The data end inside the item.
@@ -46,8 +46,8 @@ impl PackedFault {
     ghost use Rattle.std.specs.Prelude.{◌≡◌};
     ghost use Rattle.bufr_walk.specs.Fault.{number_of_packed};
 
-    /// Its number, as that of the [`WalkFault`](crate::WalkFault) that it is: 30, 33 to 35, and 73
-    /// for want of memory.
+    /// The number of the [`WalkFault`](crate::WalkFault) that it becomes: 30, 33 to 35, and 73
+    /// where memory ran out.
     pub fn number(self) -> u8
         ensures { result ≡ number_of_packed self }
     {
@@ -61,7 +61,7 @@ impl PackedFault {
     }
 }
 
-/// Whether an increment of `k` bits can be: it is missing, or the sum stays within the width.
+/// Whether an increment of `k` bits is valid: it is missing, or the sum stays within the width.
 fn stays_within(base: Base, k: u32, increment: u64) -> bool
     requires k { k ≤ 63 }
     requires width { base.width ≤ 63 }
@@ -75,7 +75,7 @@ fn stays_within(base: Base, k: u32, increment: u64) -> bool
     base.value + increment <= (1 << base.width) - 1
 }
 
-/// Whether all increments can be; the first begins with bit `at`.
+/// Whether all increments are valid; the first begins with bit `at`.
 fn are_within(bits: &BitSlice<'_>, at: u64, subsets: u16, k: u32, base: Base) -> bool
     requires increment { k ≤ 63 }
     requires width { base.width ≤ 63 }
@@ -113,7 +113,7 @@ fn are_equal(bits: &BitSlice<'_>, at: u64, subsets: u16, k: u32, first: u64) -> 
     true
 }
 
-/// Whether the greatest increment of `k` bits fits the width, and so does each: nearly always.
+/// Whether the greatest increment of `k` bits fits the width, and so each does: nearly always.
 #[inline(always)]
 fn all_fit(base: Base, k: u32) -> bool
     requires k { k ≤ 63 }
@@ -124,7 +124,7 @@ fn all_fit(base: Base, k: u32) -> bool
     base.value + ((1 << k) - 1) <= (1 << base.width) - 1
 }
 
-/// Whether the increments of numbers can be; a base of all ones passes over them.
+/// Whether the increments of numbers are valid; a base of all ones makes all of them valid.
 #[tactic(auto, using(crate::proofs::PackedLoops::numbers_fit))]
 fn numbers_hold(bits: &BitSlice<'_>, at: u64, subsets: u16, spec: &Spec, k: u32) -> bool
     requires increment { k ≤ 63 }
@@ -143,7 +143,7 @@ fn numbers_hold(bits: &BitSlice<'_>, at: u64, subsets: u16, spec: &Spec, k: u32)
     are_within(bits, at + (u64::from(base.width) + 6), subsets, k, base)
 }
 
-/// Whether the increments of an item, or the count of octets of a text, can be.
+/// Whether the increments of an item, or the count of octets of a text, are valid.
 fn holds(bits: &BitSlice<'_>, at: u64, subsets: u16, spec: &Spec, k: u32) -> bool
     requires increment { k ≤ 63 }
     requires within { is_character spec.now.kind ≡ false
@@ -159,7 +159,7 @@ fn holds(bits: &BitSlice<'_>, at: u64, subsets: u16, spec: &Spec, k: u32) -> boo
     }
 }
 
-/// The bits of one subset behind the base and `k`.
+/// The bits that each subset has after the base and `k`.
 fn increment_bits_of(spec: &Spec, k: u32) -> u32
     requires { k ≤ 63 }
     ensures value { result ≡ increment_bits_of spec.now.role spec.now.kind k }
@@ -174,7 +174,7 @@ fn increment_bits_of(spec: &Spec, k: u32) -> u32
     }
 }
 
-/// What an item with increments tells that is no factor.
+/// What an item with increments, no factor, returns to the walk.
 fn plain_at(
     bits: &BitSlice<'_>,
     at: u64,
@@ -199,7 +199,7 @@ fn plain_at(
     }
 }
 
-/// What a factor with increments tells: the count that all subsets have.
+/// What a factor with increments returns to the walk: the count that all subsets have.
 fn factor_at(
     bits: &BitSlice<'_>,
     at: u64,
@@ -230,7 +230,7 @@ fn factor_at(
     Ok(Taken::Count(base + first))
 }
 
-/// What an item tells whose `k` is known.
+/// What an item whose `k` is known returns to the walk.
 fn item_told_at(
     bits: &BitSlice<'_>,
     at: u64,
@@ -257,8 +257,8 @@ fn item_told_at(
     }
 }
 
-/// An item that stands in the bits: what it tells, its `k`, the number of its base, 0 for a text,
-/// and the bit behind it.
+/// An item in the bits: what it returns to the walk, its `k`, the number of its base (0 for a
+/// text), and the bit after it.
 #[derive(Clone, Copy)]
 struct ItemBits {
     told: Taken,
@@ -313,20 +313,20 @@ fn item_bits_at(
     }
 }
 
-/// The most values of a message whose data are compressed, read or written: its items times its
-/// subsets (a choice of this project).
+/// The most values of a message with compressed data, read or written: its items times its subsets.
+/// (a choice of this project)
 pub const MAX_VALUES: u64 = 134_217_728;
 
-/// Fields of compressed data: each item stands once for all subsets, as a base, six bits `k`, and
-/// an increment for each subset where `k` is above 0 (WMO-No. 306, Volume I.2, FM 94: section 4,
-/// compression). It keeps where each item lies, and the fields among them.
+/// Fields of compressed data: each item occurs once for all subsets. An item is a base, six bits
+/// `k`, and where `k` is above 0 an increment for each subset. It keeps the location of each item,
+/// and the fields among them. (WMO-No. 306, Volume I.2, FM 94: section 4, compression)
 #[derive(Drop)]
 pub struct PackedIn<'a> {
     bits: BitSlice<'a>,
     at: u64,
     subsets: u16,
     kept: ItemIndex,
-    /// Where the next field is looked for among those that are kept.
+    /// The guess at the index of the next field.
     next: u32,
 }
 
@@ -352,7 +352,7 @@ impl<'a> PackedIn<'a> {
     ghost use Rattle.bufr_walk.specs.PackedIn.{items_at, stands_at, new_packed_in};
     ghost use Rattle.bufr_walk.specs.Reading.{max_values};
 
-    /// The bits of compressed data, from bit 0 on, for so many subsets, at least one.
+    /// A reader of compressed data from bit 0 on, for at least one subset.
     pub fn new(alloc: Global, bits: BitSlice<'a>, subsets: u16) -> PackedIn<'a>
         requires { 1 ≤ subsets }
         ensures { result ≡ new_packed_in (bits_of (octets_of bits.entry)) subsets }
@@ -394,7 +394,7 @@ impl<'a> PackedIn<'a> {
         PackedRead::new(at, kept)
     }
 
-    /// The next item, without going past it.
+    /// The next item, which is not passed.
     fn look(&self, spec: &Spec) -> Result<ItemBits, PackedFault>
         ensures seen { MatchResult result (λ s. IsLooked self.now spec.now s)
             (λ e. IsUnlooked self.now spec.now e) }

@@ -1,4 +1,4 @@
-//! Fields that are read from bits, for data that are not compressed.
+//! The reader of data that are not compressed.
 use crate::bits::{answer_at, copy_octets, ones_at, raw_at, signed_at};
 use crate::fields::Fields;
 use crate::spec::{Spec, Taken};
@@ -14,8 +14,8 @@ pub struct DataEnd {
     pub fxy: Fxy,
 }
 
-/// Fields of data that are not compressed, one after another (WMO-No. 306, Volume I.2, FM 94:
-/// section 4). A contract sees the bits, and how many of them were read.
+/// Fields of data that are not compressed, one after another. A contract sees the bits, and how
+/// many of them were read. (WMO-No. 306, Volume I.2, FM 94: section 4)
 #[derive(Drop)]
 pub struct PlainIn<'a> {
     bits: BitSlice<'a>,
@@ -46,14 +46,14 @@ impl<'a> PlainIn<'a> {
     ghost use Rattle.bufr_walk.specs.Numbers.{IsPlainNumber};
     ghost use Rattle.bufr_walk.specs.ViewModel.{seen_value};
 
-    /// The bits of data that are not compressed, from bit 0 on.
+    /// A reader of data that are not compressed, from bit 0 on.
     pub fn new(bits: BitSlice<'a>) -> PlainIn<'a>
         ensures { result ≡ record { bits = bits_of (octets_of bits.entry); at = 0 } }
     {
         PlainIn { bits, at: 0 }
     }
 
-    /// Bits of which so many were read.
+    /// A reader of these bits, the first `at` of which were read.
     #[tactic(auto, using(crate::proofs::PlainLemmas::bits_length))]
     pub(crate) fn from_bit(bits: BitSlice<'a>, at: u64) -> PlainIn<'a>
         requires { at ≤ 8 * length (octets_of bits) }
@@ -72,7 +72,7 @@ impl<'a> PlainIn<'a> {
         self.at
     }
 
-    /// What the next field tells, without going past it.
+    /// What the next field returns to the walk; the field is not passed.
     ///
     /// # Errors
     ///
@@ -93,7 +93,7 @@ impl<'a> PlainIn<'a> {
         Ok(answer_at(&self.bits, self.at, spec))
     }
 
-    /// Goes past a field.
+    /// Passes a field.
     #[inline(always)]
     pub(crate) fn skip(&mut self, spec: &Spec)
         requires within { self.old.at + spec.now.width ≤ length self.old.bits }
@@ -103,7 +103,7 @@ impl<'a> PlainIn<'a> {
         self.at += u64::from(spec.width());
     }
 
-    /// How many bits there are.
+    /// How many bits the data have.
     #[tactic(auto, using(crate::proofs::PlainLemmas::bits_length))]
     pub(crate) fn end(&self) -> u64
         ensures { result ≡ length self.now.bits }
@@ -111,7 +111,7 @@ impl<'a> PlainIn<'a> {
         self.bits.len_bits()
     }
 
-    /// Whether so many more bits are there.
+    /// Whether the data have `width` more bits.
     #[tactic(auto, using(crate::proofs::PlainLemmas::bits_length))]
     pub(crate) fn holds(&self, width: u64) -> bool
         ensures within { result ≡ true → self.now.at + width ≤ length self.now.bits }
@@ -120,7 +120,7 @@ impl<'a> PlainIn<'a> {
         self.bits.len_bits() - self.at >= width
     }
 
-    /// Goes past so many bits.
+    /// Passes `width` bits.
     pub(crate) fn pass(&mut self, width: u64)
         requires within { self.old.at + width ≤ length self.old.bits }
         requires small { self.old.at + width < 2 ^ 64 }

@@ -22,7 +22,7 @@ use bufr_bits::BitSlice;
 use bufr_tables::{TableB, Template};
 use std::alloc::Global;
 
-/// The fault of an item, behind so many bits.
+/// The fault of an item, after `bit` bits.
 fn field_fault(wrong: PackedFault, bit: u64) -> WalkFault
     ensures { result ≡ packed_fault (stops.Field wrong) bit }
 {
@@ -35,7 +35,7 @@ fn field_fault(wrong: PackedFault, bit: u64) -> WalkFault
     }
 }
 
-/// The fault that a walk's stop is, behind so many bits.
+/// The fault of the stop of a walk, after `bit` bits.
 fn fault_at(why: WalkStop<PackedFault>, bit: u64) -> WalkFault
     ensures { result ≡ packed_fault why bit }
 {

@@ -21,7 +21,7 @@ use bufr_bits::BitSlice;
 use bufr_tables::{TableB, Template};
 use std::alloc::Global;
 
-/// The fault that a walk's stop is.
+/// The fault of the stop of a walk.
 fn plain_fault(why: WalkStop<DataEnd>, subset: u16, bit: u64) -> WalkFault
     ensures { result ≡ plain_fault why subset bit }
 {
@@ -33,7 +33,7 @@ fn plain_fault(why: WalkStop<DataEnd>, subset: u16, bit: u64) -> WalkFault
     }
 }
 
-/// Reads one subset, of this number.
+/// Reads the subset of this number, from 1.
 fn read_subset(
     alloc: Global,
     template: &Template,
@@ -66,7 +66,7 @@ fn read_subset(
     }
 }
 
-/// Reads all subsets, and answers how many bits they take.
+/// Reads all subsets, and returns how many bits they take.
 pub(crate) fn read_plain(
     alloc: Global,
     bits: BitSlice<'_>,

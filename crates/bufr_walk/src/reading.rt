@@ -1,4 +1,4 @@
-//! The reading of a message's data, and what they were read as.
+//! The reading of a message's data.
 ghost use Rattle.std.specs.Prelude.{◌≡◌, ◌≤◌, ◌+◌, ◌*◌, length, IfOk, IfErr};
 ghost use Rattle.bufr_tables.specs.Tree.{places};
 ghost use Rattle.bufr_walk.specs.Course.{next_item};
@@ -20,7 +20,7 @@ use bufr_tables::{TableB, Template};
 use std::alloc::Global;
 use std::marker::Model;
 
-/// What a reading keeps: nothing where each subset has bits of its own, else where each item lies,
+/// What a reading keeps: nothing of data that are not compressed, else the location of each item
 /// and the fields among them.
 #[derive(Drop)]
 enum StoredItems {
@@ -28,8 +28,8 @@ enum StoredItems {
     Together(ItemIndex),
 }
 
-/// The reading of a message's data (WMO-No. 306, Volume I.2, FM 94: section 4). It borrows the
-/// message's octets, the template and the table.
+/// The reading of a message's data. It borrows the message's octets, the template and the table.
+/// (WMO-No. 306, Volume I.2, FM 94: section 4)
 #[derive(Drop)]
 pub struct Reading<'a> {
     bits: BitSlice<'a>,
@@ -60,11 +60,11 @@ impl<'a> Model for Reading<'a> {
         (data_in r.compressed r.subsets (octets_of r.bits)) r.used (held_of r.kept)) r.kept };
 }
 
-/// Reads the data of a message by its template, in one pass for each subset, or in one pass for all
-/// where the data are compressed (WMO-No. 306, Volume I.2, FM 94: sections 3 and 4). The steps are
-/// set to those that it makes. A reading makes at most as many steps as the template has places,
-/// for each bit that its items take; a refusal at most as many for each bit before the item, and
-/// once more.
+/// Reads the data of a message by its template: one pass for each subset, or one pass for all where
+/// the data are compressed. Sets `steps` to the steps of the reading. For each bit of its items a
+/// reading makes at most as many steps as the template has places. A refusal makes at most as many
+/// for each bit before the item, plus as many again. (WMO-No. 306, Volume I.2, FM 94: sections 3
+/// and 4)
 ///
 /// ```
 /// let mut steps = Steps::new();
@@ -74,15 +74,14 @@ impl<'a> Model for Reading<'a> {
 ///
 /// # Errors
 ///
-/// The first that holds, in the order of the data, with the subset (0 where the data are
-/// compressed), the descriptor, and how many bits lie before the item. At one item:
-/// [`WalkFault::Defining`] for what may not come while references are being defined;
+/// The first that holds, in the order of the data. It has the subset (0 where the data are
+/// compressed), the descriptor, and how many bits precede the item. At one item:
+/// [`WalkFault::Defining`] for what is not allowed while references are being defined;
 /// [`WalkFault::Width`] for a width outside 1 to 63 bits; [`WalkFault::TooManyValues`] where
 /// compressed data would have more than 134,217,728 values; [`WalkFault::DataEnd`] where the data
-/// end in the item; [`WalkFault::Increment`] for increments that cannot be;
-/// [`WalkFault::UnequalFactor`] for a factor that is not the same in all subsets.
-/// [`WalkFault::Memory`] where memory runs out: before a reference that the data define, and in
-/// compressed data at every 64th item.
+/// end in the item; [`WalkFault::Increment`] for invalid increments; [`WalkFault::UnequalFactor`]
+/// for a factor that is not the same in all subsets. [`WalkFault::Memory`] where memory runs out:
+/// before a reference that the data define, and in compressed data at every 64th item.
 pub fn read_message<'a>(
     alloc: Global,
     message: &Message<'a>,
@@ -102,7 +101,7 @@ pub fn read_message<'a>(
     read_by(alloc, message, template, table, &mut cache, steps)
 }
 
-/// Reads the data of a message as [`read_message`] does, by the specs that are cached.
+/// Reads the data of a message as [`read_message`] does, with the specs that are cached.
 ///
 /// # Errors
 ///
@@ -182,7 +181,7 @@ impl<'a> Reading<'a> {
     }
 
     /// How many items are kept: none where the data are not compressed, else each item of all
-    /// subsets, at most one for seven bits.
+    /// subsets. They are at most one for seven bits.
     pub fn held(&self) -> u64
         ensures value { result ≡ self.now.held }
         ensures items { (values : Values) → IsReading (course_of self.now) self.now.source values
@@ -196,7 +195,7 @@ impl<'a> Reading<'a> {
         }
     }
 
-    /// Shows each subset and its items to a visitor, by what is kept.
+    /// Shows each subset and its items to a visitor, from what is kept.
     #[tactic(auto, using(crate::proofs::ReadingLemmas::readable_of, crate::proofs::PackedShowing::entries_stand, crate::proofs::PackedShowing::packed_shown))]
     fn show_kept<V: Visitor>(
         &self,
@@ -227,14 +226,14 @@ impl<'a> Reading<'a> {
         }
     }
 
-    /// Shows each subset and its items to a visitor, in the order of the data, and sets the steps
-    /// to those that are made for it, none where the data are compressed. It stops at the visitor's
-    /// first fault. At most 134,217,728 items are shown, and there are at most as many steps as the
-    /// template has places for each bit of the items.
+    /// Shows each subset and its items to a visitor, in the order of the data, and stops at its
+    /// first fault. Sets `steps` to the steps of the showing, 0 where the data are compressed. At
+    /// most 134,217,728 items are shown. There are at most as many steps as the template has places
+    /// for each bit of the items.
     ///
     /// # Errors
     ///
-    /// [`ShowFault::Visitor`] with the visitor's fault; [`ShowFault::Memory`] where memory runs out
+    /// [`ShowFault::Visitor`] with the visitor's fault. [`ShowFault::Memory`] where memory runs out
     /// before a reference that the data define.
     pub fn show<V: Visitor>(
         &self,
@@ -251,7 +250,7 @@ impl<'a> Reading<'a> {
         self.show_by(alloc, &mut cache, visitor, steps)
     }
 
-    /// Shows each subset and its items to a visitor as [`Reading::show`] does, by the specs that
+    /// Shows each subset and its items to a visitor as [`Reading::show`] does, with the specs that
     /// are cached.
     ///
     /// # Errors
@@ -271,7 +270,7 @@ impl<'a> Reading<'a> {
             self.now.bits → items_called (calls_of self.now values) ≤ max_values }
         ensures bounded { steps.new ≤ places self.now.template * self.now.bits }
     {
-        // For the proof alone: what a template promises of its groups bounds the steps.
+        // For the proof alone: what a template ensures of its groups bounds the steps.
         let _ = self.template.cells();
         self.show_kept(alloc, cache, visitor, steps)
     }

@@ -1,4 +1,4 @@
-//! How compressed data are shown: subset after subset, each item from its place.
+//! The showing of compressed data: subset after subset, each item from its location.
 ghost use Rattle.std.specs.Prelude.{◌≡◌, ◌∷◌, ◌≤◌, ◌<◌, ◌+◌, ◌-◌, ◌*◌, ◌/◌, ◌^◌, ◌++◌, true, false, length, take, drop, replicate, IfNone, IfSome, OnSome};
 ghost use Rattle.std.specs.List.{list_all};
 ghost use Rattle.bufr_bits.specs.Bits.{are_all_ones, bits_of, bits_at, number_of};
@@ -55,8 +55,8 @@ fn is_full(bits: &BitSlice<'_>, subsets: u16, item: &IndexedItem) -> bool
     item.base == (1 << item.spec.width()) - 1
 }
 
-/// The base of a kept item that is a number; `None` where it is missing, and with it the item of
-/// each subset.
+/// The base of a kept item that is a number; `None` where it is missing, so that the item of each
+/// subset is missing too.
 #[tactic(auto, using(crate::proofs::PackedAt::kept_number))]
 #[inline(always)]
 fn base_of(bits: &BitSlice<'_>, subsets: u16, item: &IndexedItem) -> Option<Base>
@@ -123,7 +123,7 @@ fn number_value<'t>(spec: &Spec, raw: Option<u64>) -> Value<'t>
     }
 }
 
-/// Writes spaces behind the first `from` of `count` octets.
+/// Writes spaces after the first `from` of `count` octets.
 #[tactic(auto, using(crate::proofs::PackedCalls::pad_none, crate::proofs::PackedCalls::pad_more))]
 fn pad(text: &mut [u8; 255], from: usize, count: usize)
     requires few { count ≤ 255 }
@@ -135,8 +135,8 @@ fn pad(text: &mut [u8; 255], from: usize, count: usize)
     }
 }
 
-/// The number that one subset, counted from 0, has of a kept item with increments; `None` where it
-/// is missing.
+/// The number of a kept item with increments for one subset, counted from 0; `None` where it is
+/// missing.
 #[tactic(auto, using(crate::proofs::PackedAt::number_content, crate::proofs::PackedAt::step_small))]
 #[inline(always)]
 fn number_of(bits: &BitSlice<'_>, subsets: u16, item: &IndexedItem, subset: u16) -> Option<u64>
@@ -148,8 +148,7 @@ fn number_of(bits: &BitSlice<'_>, subsets: u16, item: &IndexedItem, subset: u16)
     number_in(bits, subsets, item, u32::from(item.step), subset)
 }
 
-/// Where the text of one subset stands: its first bit, and how many octets, behind which come
-/// spaces.
+/// Location of the text of one subset: its first bit, and how many octets, which spaces follow.
 #[derive(Clone, Copy)]
 struct TextSpan {
     place: u64,
@@ -166,7 +165,7 @@ fn text_place(bits: &BitSlice<'_>, item: &IndexedItem, subset: u16) -> u64
     behind + u64::from(subset) * (8 * u64::from(item.step))
 }
 
-/// Where the text stands that one subset, counted from 0, has of a kept item with increments.
+/// The location of the text of a kept item with increments for one subset, counted from 0.
 fn text_span(bits: &BitSlice<'_>, subsets: u16, item: &IndexedItem, subset: u16) -> TextSpan
     requires increment { HasIncrement (bits_of (octets_of bits.now)) subsets item.now subset }
     requires text { is_character item.now.spec.kind ≡ true }
@@ -181,7 +180,7 @@ fn text_span(bits: &BitSlice<'_>, subsets: u16, item: &IndexedItem, subset: u16)
     }
 }
 
-/// Copies the octets of a text, and spaces behind them.
+/// Copies the octets of a text, followed by spaces.
 fn copy_text(bits: &BitSlice<'_>, span: TextSpan, count: usize, text: &mut [u8; 255])
     requires count { count ≤ 255 }
     requires few { span.octets ≤ count }
@@ -218,8 +217,8 @@ fn text_value<'t>(
     }
 }
 
-/// Shows the text that one subset, counted from 0, has of a kept item with increments. It stands by
-/// itself, so that only texts pay for its array.
+/// Shows the text of a kept item with increments for one subset, counted from 0. It is a function
+/// of its own, so that only texts pay for its array.
 #[inline(never)]
 fn show_text<V: Visitor>(
     bits: &BitSlice<'_>,
@@ -242,7 +241,7 @@ fn show_text<V: Visitor>(
     show_value(table, &item.spec, value, visitor)
 }
 
-/// Shows the number that one subset, counted from 0, has of a kept item with increments.
+/// Shows the number of a kept item with increments for one subset, counted from 0.
 fn show_number<V: Visitor>(
     bits: &BitSlice<'_>,
     subsets: u16,
@@ -261,7 +260,7 @@ fn show_number<V: Visitor>(
     show_value(table, &item.spec, value, visitor)
 }
 
-/// Shows the base that all subsets have of a kept item with no increments.
+/// Shows the base of a kept item with no increments, which all subsets have.
 fn show_base<V: Visitor>(
     bits: &BitSlice<'_>,
     subsets: u16,
@@ -280,7 +279,7 @@ fn show_base<V: Visitor>(
     show_field(&input, table, &item.spec, visitor)
 }
 
-/// Shows what one subset, counted from 0, has of a kept item, plain or not.
+/// Shows a kept item for one subset, counted from 0, plain or not.
 #[inline(never)]
 fn show_other<V: Visitor>(
     bits: &BitSlice<'_>,
@@ -304,8 +303,8 @@ fn show_other<V: Visitor>(
     show_number(bits, subsets, table, item, subset, visitor)
 }
 
-/// The number that all subsets have of a kept item with no increments, which is plain; `None` where
-/// it is missing.
+/// The number of a plain kept item with no increments, which all subsets have; `None` where it is
+/// missing.
 #[inline(always)]
 fn common_number(bits: &BitSlice<'_>, subsets: u16, item: &IndexedItem, subset: u16) -> Option<u64>
     requires stands { stands_at (bits_of (octets_of bits.now)) subsets item.now ≡ true }
@@ -321,8 +320,8 @@ fn common_number(bits: &BitSlice<'_>, subsets: u16, item: &IndexedItem, subset: 
     }
 }
 
-/// The value that one subset, counted from 0, has of a kept item that is plain; `None` where it is
-/// a number of more than 62 bits, as none is.
+/// The value of a plain kept item for one subset, counted from 0; `None` for a number of more than
+/// 62 bits, which none is.
 #[inline(always)]
 fn plain_value<'t>(
     bits: &BitSlice<'_>,
@@ -350,7 +349,7 @@ fn plain_value<'t>(
     Some(plain_number(&item.spec, raw))
 }
 
-/// Shows what one subset, counted from 0, has of a kept item.
+/// Shows a kept item for one subset, counted from 0.
 #[inline(always)]
 fn show_item<V: Visitor>(
     bits: &BitSlice<'_>,

@@ -1,4 +1,4 @@
-//! How data that are not compressed are shown: they are read once more, and each item is handed on.
+//! The showing of data that are not compressed: they are read once more, and each item is shown.
 ghost use Rattle.std.specs.Prelude.{◌≡◌, ◌≤◌, ◌<◌, ◌+◌, ◌-◌, ◌*◌, ◌/◌, ◌^◌, ◌==◌, true, false, length, take, drop, List, Bool, Result, Some, Ok, Err, OnOk, IfOk, IfErr};
 ghost use Rattle.bufr_bits.specs.Bits.{bits_of, are_all_ones};
 ghost use Rattle.bufr_bits.specs.BitSlice.{octets_of};
@@ -30,7 +30,7 @@ use bufr_bits::BitSlice;
 use bufr_tables::{Entry, TableB, Template};
 use std::alloc::Global;
 
-/// What Table B says of the field's element, where the field is read by it.
+/// The row of Table B of the field's element, where the field is read by it.
 pub(crate) fn entry_for<'t>(table: &'t TableB, spec: &Spec) -> Option<Entry<'t>>
     ensures { HasRow table.now spec.now result }
 {
@@ -41,7 +41,7 @@ pub(crate) fn entry_for<'t>(table: &'t TableB, spec: &Spec) -> Option<Entry<'t>>
     }
 }
 
-/// Shows a field that has this value, and what Table B says of it.
+/// Shows a field that has this value, with its row of Table B.
 #[inline(always)]
 fn show_with<V: Visitor>(
     spec: &Spec,
@@ -61,7 +61,7 @@ fn show_with<V: Visitor>(
     })
 }
 
-/// Shows a plain field that has this value, and what Table B says of it.
+/// Shows a plain field that has this value, with its row of Table B.
 #[inline(always)]
 pub(crate) fn show_plain_value<V: Visitor>(
     spec: &Spec,
@@ -92,8 +92,8 @@ pub(crate) fn show_value<V: Visitor>(
     show_with(spec, &found, value, visitor)
 }
 
-/// Shows a field that is text, not missing, and does not begin an octet. It stands by itself, so
-/// that only such texts pay for its array.
+/// Shows a field that is text, not missing, and does not begin at an octet. It is a function of its
+/// own, so that only such texts pay for its array.
 #[inline(never)]
 fn show_copied<V: Visitor>(
     input: &PlainIn<'_>,
@@ -139,7 +139,7 @@ fn show_text<V: Visitor>(
     }
 }
 
-/// Shows a field, of which this is found in Table B.
+/// Shows a field with this row of Table B.
 #[inline(always)]
 fn show_found<V: Visitor>(
     input: &PlainIn<'_>,
@@ -203,7 +203,7 @@ pub(crate) enum ShowStop<E> {
     Visitor(E),
 }
 
-/// Fields that are read from bits, each shown to a visitor before it is gone past.
+/// Fields that are read from bits, each shown to a visitor before it is passed.
 pub(crate) struct ShowFields<'i, 't, 'v, 'b, V: Visitor> {
     input: &'i mut PlainIn<'b>,
     table: &'t TableB,
@@ -251,7 +251,7 @@ impl<'i, 't, 'v, 'b, V: Visitor> Fields for ShowFields<'i, 't, 'v, 'b, V> {
     }
 }
 
-/// The fault that the stop of a walk over data that were read before is.
+/// The fault of the stop of a walk over data that were read before.
 fn fault_of<E>(why: WalkStop<ShowStop<E>>) -> ShowFault<E>
     requires { MayEnd why }
     ensures { IsEnd why result }
@@ -320,7 +320,7 @@ fn show_items<V: Visitor>(
     outcome
 }
 
-/// Shows one subset, of this number.
+/// Shows the subset of this number, from 1.
 #[tactic(auto, using(crate::proofs::SubsetLemmas::subset_goes, crate::proofs::SubsetLemmas::subset_refused))]
 fn show_subset<V: Visitor>(
     alloc: Global,

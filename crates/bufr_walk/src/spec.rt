@@ -1,4 +1,4 @@
-//! How one field of the data is to be read.
+//! The specification of one field of the data.
 ghost use Rattle.std.specs.Prelude.{◌≡◌, ◌≤◌, ◌^◌, false, true, unsigned_abs};
 ghost use Rattle.bufr_tables.specs.TableB.{is_character};
 ghost use Rattle.bufr_tables.specs.declared.kind.Kind.TheVariants as kinds;
@@ -14,7 +14,7 @@ use std::marker::Model;
 pub enum Role {
     /// The value of an element.
     Element,
-    /// Text that the template asks for (2 05 Y).
+    /// Text of the template (2 05 Y).
     Inserted,
     /// The factor of a delayed replication.
     Factor,
@@ -22,29 +22,28 @@ pub enum Role {
     Reference,
 }
 
-/// Why a turn is refused: a width that no field may have, or a turn that may not come while
-/// references are defined.
+/// Why a step is refused: an invalid data width, or not allowed while 2 03 Y defines references.
 #[derive(Clone, Copy, Debug, PartialEq, Eq)]
 pub enum TurnRefusal {
-    /// A field that is not text would be under 1 or over 63 bits wide.
+    /// A field that is not text is under 1 or over 63 bits wide.
     Width(Fxy),
-    /// A turn that may not come while references are being defined (2 03 Y).
+    /// A step that is not allowed while 2 03 Y defines references.
     Defining(Fxy),
 }
 
-/// What a field told the walk.
+/// What `take` returns to the walk.
 #[derive(Clone, Copy, Debug, PartialEq, Eq)]
 pub enum Taken {
     /// Nothing that the walk needs.
     Plain,
-    /// How often the group is to be repeated.
+    /// How many passes of the group follow.
     Count(u64),
     /// The new reference value.
     Reference(i64),
 }
 
-/// How one field is to be read.
-// The widest field stands first: with room between the fields each copy would cost as much as the
+/// How one field is read. (WMO-No. 306, Volume I.2, FM 94: section 4, Tables B and C)
+// The widest field is first: with gaps between the fields each copy would cost as much as the
 // reading of a number.
 #[derive(Clone, Copy, Debug, PartialEq, Eq)]
 pub struct Spec {
@@ -169,7 +168,7 @@ impl Spec {
         }
     }
 
-    /// Text of so many bits.
+    /// Text of `width` bits.
     #[tactic(auto, using(crate::proofs::SpecLemmas::text_good))]
     #[inline(always)]
     pub(crate) fn text(role: Role, fxy: Fxy, width: u32, listed: bool) -> Spec
@@ -190,28 +189,28 @@ impl Spec {
         }
     }
 
-    /// Its descriptor.
+    /// The descriptor of the field.
     pub fn fxy(&self) -> Fxy
         ensures { result ≡ self.now.fxy }
     {
         self.fxy
     }
 
-    /// What it is for.
+    /// What the field is for.
     pub fn role(&self) -> Role
         ensures { result ≡ self.now.role }
     {
         self.role
     }
 
-    /// Whether it is text, a figure of a code or flag table, or a number in a unit.
+    /// Whether the field is text, a figure of a code or flag table, or a number in a unit.
     pub fn kind(&self) -> Kind
         ensures { result ≡ self.now.kind }
     {
         self.kind
     }
 
-    /// Its width in bits, 1 to 63, for text a multiple of 8 up to 2,040.
+    /// The width of the field in bits, 1 to 63; for text a multiple of 8 up to 2,040.
     #[tactic(auto, using(crate::proofs::SpecLemmas::some_width, crate::proofs::SpecLemmas::most_width, crate::proofs::SpecLemmas::narrow_width, crate::proofs::SpecLemmas::whole_width, crate::proofs::SpecLemmas::reference_width))]
     pub fn width(&self) -> u32
         ensures value { result ≡ self.now.width }
@@ -225,14 +224,14 @@ impl Spec {
         self.width
     }
 
-    /// The power of ten by which its number is to be divided.
+    /// The power of ten that divides its number.
     pub fn scale(&self) -> i16
         ensures value { result ≡ self.now.scale }
     {
         self.scale
     }
 
-    /// What is added to the bits' number.
+    /// The reference value, which is added to the number of the bits.
     pub fn reference(&self) -> i128
         ensures value { result ≡ self.now.reference }
         ensures spec { IsSpec self.now }
@@ -267,8 +266,8 @@ impl Spec {
         self.listed
     }
 
-    /// Whether it is the number of an element that is read by an entry of Table B, and stays below
-    /// 2^63.
+    /// Whether the field is the number of an element that is read by an entry of Table B, and stays
+    /// below 2^63.
     #[inline(always)]
     pub(crate) fn is_plain(&self) -> bool
         ensures { result ≡ true → IsPlainNumber self.now }
@@ -276,7 +275,7 @@ impl Spec {
         self.plain
     }
 
-    /// Whether bits that are all ones stand for a missing value.
+    /// Whether bits that are all ones are a missing value.
     pub fn may_be_missing(&self) -> bool
         ensures { result ≡ self.now.may_be_missing }
     {

@@ -1,5 +1,4 @@
-//! The specs of a template's cells: at each place that which was found there last, with the
-//! operators that were in force.
+//! The cache of the specs of a template's cells, each with the operators that were in force.
 ghost use Rattle.std.specs.Prelude.{◌≡◌, ◌<◌, ◌^◌, Ok, IfSome};
 ghost use Rattle.bufr_tables.specs.TableB.{Row};
 
@@ -8,17 +7,17 @@ use bufr_tables::{Fxy, TableB};
 use std::alloc::{AllocError, Global};
 use std::marker::Model;
 
-/// The specs of so many cells are cached.
+/// How many cells of a template have their specs cached.
 const MAX_CELLS: usize = 1024;
 
-/// From here on no number is a key: nothing is cached under it.
+/// The least number that is no key: nothing is cached under it.
 pub(crate) const NO_KEY: u64 = 0x4000_0000_0000_0000;
 
-/// What an entry has that no spec came to.
+/// The key of an entry that has no spec.
 const EMPTY: u64 = u64::MAX;
 
-/// A spec, the key of the operators and the descriptor that it was found for, and where it stood
-/// among the fields that the last reading kept.
+/// A cached spec: its key of operators and descriptor, and the index of its field in what the last
+/// reading kept.
 #[derive(Clone, Copy)]
 struct CachedSpec {
     key: u64,
@@ -26,7 +25,7 @@ struct CachedSpec {
     spec: Spec,
 }
 
-/// The specs of a template's first 1,024 cells, by Table B: at each place that which was found
+/// The specs of a template's first 1,024 cells, by Table B: for each cell the one that was found
 /// there last. A clause sees the table alone: a spec is looked up under the operators and the
 /// descriptor that it was found for.
 ///
@@ -68,7 +67,7 @@ impl<'a> SpecCache<'a> {
         }
     }
 
-    /// Drops all specs, and makes room for those of a template of so many cells.
+    /// Drops all specs, and makes room for those of a template of this number of cells.
     ///
     /// # Errors
     ///
@@ -88,7 +87,7 @@ impl<'a> SpecCache<'a> {
         )
     }
 
-    /// The spec that was found last at a place, if it was found under this key.
+    /// The spec that was found last for a cell, if it was found under this key.
     #[inline(always)]
     pub(crate) fn get(&self, place: u32, key: u64) -> Option<&Spec>
         requires { key < 2 ^ 63 }
@@ -104,7 +103,7 @@ impl<'a> SpecCache<'a> {
         None
     }
 
-    /// Has a spec cached that was found at a place under this key, if it is one.
+    /// Caches a spec that was found for a cell under this key, if that is a key.
     pub(crate) fn insert(&mut self, place: u32, key: u64, spec: &Spec)
         requires { key < 2 ^ 62 → IsSpecBy self.old key spec.now }
         ensures { self.new ≡ self.old }
@@ -120,7 +119,7 @@ impl<'a> SpecCache<'a> {
         }
     }
 
-    /// Where the field at a place stood last among those that are kept.
+    /// The last index of the field of a cell among those that are kept.
     #[inline(always)]
     pub(crate) fn kept(&self, place: u32) -> Option<u32> {
         let place = place as usize;
@@ -130,7 +129,7 @@ impl<'a> SpecCache<'a> {
         None
     }
 
-    /// Takes note of where the field at a place stands among those that are kept.
+    /// Notes the index of the field of a cell among those that are kept.
     #[inline(always)]
     pub(crate) fn set_kept(&mut self, place: u32, kept: u32)
         ensures { self.new ≡ self.old }

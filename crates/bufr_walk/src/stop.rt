@@ -5,9 +5,9 @@ use bufr_tables::Fxy;
 /// Why a walk stopped.
 #[derive(Debug, PartialEq, Eq, Drop)]
 pub enum WalkStop<E> {
-    /// A field that is not text would be under 1 or over 63 bits wide.
+    /// A field that is not text is under 1 or over 63 bits wide.
     Width(Fxy),
-    /// A turn that may not come while references are being defined (2 03 Y).
+    /// A step that is not allowed while 2 03 Y defines references.
     Defining(Fxy),
     /// The field was not taken.
     Field(E),

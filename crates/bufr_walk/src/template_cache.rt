@@ -1,5 +1,5 @@
-//! Lists of descriptors with their templates and the specs of their cells, of which the last few
-//! are kept: the messages of a stream repeat their descriptors.
+//! The cache of the last lists of descriptors, with their templates and the specs of their cells.
+//! The messages of a stream repeat their descriptors.
 ghost use Rattle.std.specs.Prelude.{◌≡◌, ◌≢◌, ◌≤◌, ◌<◌, [], length, true, false, IfErr, IfOk, IfSome, OnOk, get_or};
 ghost use Rattle.bufr_walk.specs.TemplateCache.{MayStay};
 ghost use Rattle.std.specs.Prelude.{List};
@@ -14,10 +14,10 @@ use std::alloc::{AllocError, Global};
 use std::marker::Model;
 use std::mem;
 
-/// So many lists are kept beside the last one.
+/// The most lists that are kept beside the last one.
 const MAX_OTHERS: usize = 15;
 
-/// A list beside the last one has at most so many descriptors, and its template so many cells.
+/// The most descriptors of a list beside the last one, and the most cells of its template.
 const MAX_KEPT: usize = 1024;
 
 /// A list of descriptors with its template, and the specs of its cells.
@@ -43,7 +43,7 @@ impl<'a> Slot<'a> {
         }
     }
 
-    /// Has this list expanded, and room made for the specs of its cells.
+    /// Expands this list, and makes room for the specs of its cells.
     fn expand(&mut self, descriptors: &[Fxy]) -> Result<(), AllocError>
         ensures table_b { self.new.templates.table_b ≡ self.old.templates.table_b }
         ensures table_d { self.new.templates.table_d ≡ self.old.templates.table_d }
@@ -99,8 +99,8 @@ fn drop_first(slots: &mut Vec<Slot<'_>>)
     }
 }
 
-/// Puts the last list among the others, of which the first goes where they are full. The list of no
-/// descriptors is the last then.
+/// Puts the last list among the others, of which the first is dropped where they are full. Then the
+/// list of no descriptors is the last.
 fn set_aside<'a>(
     alloc: Global,
     table_b: &'a TableB,
@@ -119,7 +119,7 @@ fn set_aside<'a>(
     Ok(())
 }
 
-/// Makes a list among the others the last one, which takes its place if it may stay.
+/// Makes a list among the others the last one. The last one takes its index, if it may stay.
 fn bring_back<'a>(
     table_b: &TableB,
     table_d: &TableD,
@@ -139,8 +139,8 @@ fn bring_back<'a>(
     }
 }
 
-/// Templates by two tables: a list of descriptors that is selected again is not expanded again, and
-/// the specs of its cells are not found again. A clause sees the tables, the list that was selected
+/// Templates by two tables. For a list of descriptors that is selected again, neither the template
+/// nor the specs of its cells are made again. A clause sees the tables, the list that was selected
 /// last, and the others that are kept.
 ///
 /// ```
@@ -204,9 +204,9 @@ impl<'a> TemplateCache<'a> {
         }
     }
 
-    /// Makes this list of descriptors the last one, and has it expanded, if it is not kept. The
-    /// list that was the last stays beside it where it has at most 1,024 descriptors, and its
-    /// template as many cells. At most 15 stay.
+    /// Makes this list of descriptors the last one, and expands it if it is not kept. The list
+    /// before it is kept where it has at most 1,024 descriptors, and its template as many cells. At
+    /// most 15 others are kept.
     ///
     /// # Errors
     ///
@@ -241,8 +241,8 @@ impl<'a> TemplateCache<'a> {
         self.last.expand(descriptors)
     }
 
-    /// Takes the specs of the last list's cells, for a walk over its template. They come back by
-    /// [`TemplateCache::put_specs`]; where they do not, they are found again.
+    /// Takes the specs of the last list's cells, for a walk over its template.
+    /// [`TemplateCache::put_specs`] puts them back; otherwise they are made again.
     pub fn take_specs(&mut self) -> SpecCache<'a>
         ensures specs { result ≡ self.old.table_b }
         ensures same { self.new ≡ self.old }
@@ -261,8 +261,8 @@ impl<'a> TemplateCache<'a> {
         self.last.specs = specs;
     }
 
-    /// What the last list is expanded to: the template that [`Template::build`] makes, or its
-    /// fault, which is never want of memory. Takes no memory.
+    /// The expansion of the last list: the template that [`Template::build`] makes, or its fault,
+    /// which is never `Memory`. Takes no memory.
     pub fn answer(&self) -> &Result<Template, TemplateFault>
         ensures answer { tree_of (tables_of self.now.table_b self.now.table_d)
             self.now.list ≡ result.now }
@@ -271,7 +271,7 @@ impl<'a> TemplateCache<'a> {
         self.last.templates.answer()
     }
 
-    /// The table that the templates' elements are read by.
+    /// The table that gives the elements of the templates.
     pub fn table_b(&self) -> &'a TableB
         ensures { result.now ≡ self.now.table_b }
     {

@@ -1,4 +1,4 @@
-//! Who is shown a reading.
+//! The visitor of a reading, and the items that it is shown.
 ghost use Rattle.std.specs.Prelude.{ℕ, Result, ◌≡◌, ◌<◌, ◌^◌, ◌+ℤ◌, pos};
 ghost use Rattle.bufr_walk.specs.Calls.{Call, subset_call, item_call};
 ghost use Rattle.bufr_walk.specs.ViewModel.{seen, seen_value};
@@ -11,13 +11,13 @@ use bufr_tables::{Entry, Fxy};
 /// The value of an item.
 #[derive(Clone, Copy, Debug, PartialEq, Eq)]
 pub enum Value<'a> {
-    /// A number, and its scale: the number is to be divided by that power of ten.
+    /// A number and its scale: the number is divided by that power of ten.
     Number(i128, i16),
-    /// Text, as the octets that stand in the data, or that compressed data stand for.
+    /// The octets of a text: those of the data, or those that compressed data write.
     Text(&'a [u8]),
     /// A missing value.
     Missing,
-    /// A reference value that the data give to the element (2 03 Y).
+    /// A reference value that the data define for the element (2 03 Y).
     Reference(i64),
 }
 
@@ -29,7 +29,7 @@ pub(crate) fn plain_number<'t>(spec: &Spec, raw: u64) -> Value<'t>
     ensures { seen_value result
         ≡ shown_number (pos raw +ℤ spec.now.reference) spec.now.scale }
 {
-    // In 64 bits, so that who is shown it may see that it fits.
+    // In 64 bits, so that a visitor sees that it fits.
     let number = raw as i64 + spec.reference() as i64;
     Value::Number(i128::from(number), spec.scale())
 }
@@ -39,18 +39,18 @@ pub(crate) fn plain_number<'t>(spec: &Spec, raw: u64) -> Value<'t>
 pub struct ItemView<'a> {
     /// Its descriptor: an element, a factor, or 2 05 Y.
     pub fxy: Fxy,
-    /// What Table B says of the descriptor, where the item was read by it.
+    /// The row of Table B of the descriptor, where the item was read by it.
     pub entry: Option<Entry<'a>>,
     /// Its value.
     pub value: Value<'a>,
 }
 
-/// Who is shown a reading, subset by subset and item by item.
+/// A visitor of a reading, subset by subset and item by item.
 pub trait Visitor {
-    /// Why a showing is to stop.
+    /// Why a visitor stops a showing.
     type Fault;
 
-    /// One call may go so: before, the call, the answer, after.
+    /// The relation of a call: before, the call, the answer, after.
     ghost sees: { Self → Call → Result (Unit {0}) Self.Fault → Self → Type 0 };
 
     /// A subset begins, counted from 1.

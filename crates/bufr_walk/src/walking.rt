@@ -1,4 +1,4 @@
-//! The walk over a template's cells, with a place and a stack of open groups.
+//! The walk over the cells of a template, with a place and a stack of open groups.
 ghost use Rattle.std.specs.Prelude.{◌≡◌, ◌<◌, ◌≤◌, ◌+◌, ◌-◌, ◌*◌, ◌^◌, ◌++◌, ◌∷◌, [], length, IfOk, IfErr, OnOk, OnErr, Result, Ok, Err};
 ghost use Rattle.arrayvec.specs.ArrayVec.{array_vec_len};
 ghost use Rattle.bufr_tables.specs.Tree.{Tree, places};
@@ -24,8 +24,7 @@ use arrayvec::ArrayVec;
 use bufr_tables::{Cell, Fxy, TableB, Template};
 use std::alloc::Global;
 
-/// An open group: where its body starts, what stands behind it, and how many passes are left after
-/// this one.
+/// An open group: first cell of its body, first cell after it, passes left after this one.
 #[derive(Clone, Copy, Default)]
 pub(crate) struct Frame {
     start: u32,
@@ -33,7 +32,7 @@ pub(crate) struct Frame {
     left: u64,
 }
 
-/// Goes into a group, or past it where its count is 0.
+/// Opens a group, or passes it where its count is 0.
 #[inline(always)]
 fn open_group(count: u64, start: u32, after: u32, stack: &mut ArrayVec<Frame, 32>) -> u32
     requires { array_vec_len stack.old < 32 }
@@ -53,7 +52,7 @@ fn open_group(count: u64, start: u32, after: u32, stack: &mut ArrayVec<Frame, 32
     start
 }
 
-/// Takes the field that was asked for, and keeps what it told.
+/// Takes the field of a specification, and changes the operators in force by it.
 #[inline(always)]
 fn take_one<S: Fields>(
     spec: Result<Spec, TurnRefusal>,
@@ -71,7 +70,7 @@ fn take_one<S: Fields>(
     in_force.take(fxy, &spec, fields)
 }
 
-/// Has a field looked for where it stood last among those that are kept.
+/// Sets the guess for a field to its last index among those that are kept.
 #[inline(always)]
 fn look_for<S: Fields>(place: u32, cache: &SpecCache<'_>, fields: &mut S)
     ensures { fields.new ≡ fields.old }
@@ -81,7 +80,7 @@ fn look_for<S: Fields>(place: u32, cache: &SpecCache<'_>, fields: &mut S)
     }
 }
 
-/// Takes note of where a field stands among those that are kept.
+/// Notes the index of a field among those that are kept.
 #[inline(always)]
 fn note_place<S: Fields>(place: u32, cache: &mut SpecCache<'_>, fields: &S)
     ensures { cache.new ≡ cache.old }
@@ -91,7 +90,7 @@ fn note_place<S: Fields>(place: u32, cache: &mut SpecCache<'_>, fields: &S)
     }
 }
 
-/// Takes an element whose spec is not cached, and has it cached.
+/// Takes an element whose spec is not cached, and caches it.
 #[tactic(auto, using(crate::proofs::SpecCacheLemmas::element_cached))]
 #[inline(never)]
 fn take_new_element<S: Fields>(
@@ -119,7 +118,7 @@ fn take_new_element<S: Fields>(
     take_one(spec, fxy, fields, in_force, steps)
 }
 
-/// Takes an element by its spec that is cached at its place, if it is.
+/// Takes an element by the spec cached for its cell, if there is one.
 #[tactic(auto, using(crate::proofs::SpecCacheLemmas::element_got, crate::proofs::SpecCacheLemmas::element_got_plain))]
 #[inline(always)]
 fn take_found_element<S: Fields>(
@@ -148,7 +147,7 @@ fn take_found_element<S: Fields>(
     }
 }
 
-/// Takes the element at a place, by its spec that is cached there, if it is.
+/// Takes the element of a cell, by the spec that is cached for it, if there is one.
 #[inline(always)]
 fn take_element<S: Fields>(
     table: &TableB,
@@ -172,7 +171,7 @@ fn take_element<S: Fields>(
     told
 }
 
-/// Takes a factor whose spec is not cached, and has it cached.
+/// Takes a factor whose spec is not cached, and caches it.
 #[tactic(auto, using(crate::proofs::SpecCacheLemmas::factor_cached))]
 #[inline(never)]
 fn take_new_factor<S: Fields>(
@@ -200,7 +199,7 @@ fn take_new_factor<S: Fields>(
     take_one(spec, fxy, fields, in_force, steps)
 }
 
-/// Takes a factor by its spec that is cached at its place, if it is.
+/// Takes a factor by the spec cached for its cell, if there is one.
 #[tactic(auto, using(crate::proofs::SpecCacheLemmas::factor_got, crate::proofs::SpecCacheLemmas::factor_got_plain))]
 #[inline(always)]
 fn take_found_factor<S: Fields>(
@@ -229,7 +228,7 @@ fn take_found_factor<S: Fields>(
     }
 }
 
-/// Takes the factor at a place, by its spec that is cached there, if it is.
+/// Takes the factor of a cell, by the spec that is cached for it, if there is one.
 #[inline(always)]
 fn take_factor<S: Fields>(
     table: &TableB,
@@ -253,7 +252,7 @@ fn take_factor<S: Fields>(
     told
 }
 
-/// One turn: where it leads, or `None` at the end.
+/// Makes one step, and returns the place after it, or `None` at the end.
 #[inline(always)]
 fn turn<S: Fields>(
     cells: &[Cell],
@@ -352,11 +351,11 @@ fn walk_cells<S: Fields>(
     Ok(())
 }
 
-/// Walks over a template's cells once, field by field: over one subset, or over all of them where
-/// the data are compressed. `steps` grows by one for each descriptor that is taken (an element, an
-/// operator, a replication, its factor), for each end of a pass of a group, and for the end. No
-/// turn is free: each bit that is used pays for at most as many turns as there are places (WMO-No.
-/// 306, Volume I.2, FM 94: section 3, Tables B and C).
+/// Walks over the cells of a template once, field by field: over one subset, or over all of them
+/// where the data are compressed. `steps` grows by one for each descriptor: an element, an
+/// operator, a replication, its factor. It grows by one for each end of a pass of a group, and for
+/// the end. Each bit that is used pays for at most as many steps as the template has places.
+/// (WMO-No. 306, Volume I.2, FM 94: section 3, Tables B and C)
 ///
 /// ```
 /// let mut steps = Steps::new();
@@ -366,10 +365,10 @@ fn walk_cells<S: Fields>(
 ///
 /// # Errors
 ///
-/// The first that is met: [`WalkStop::Defining`] for a turn that may not come while references are
-/// being defined, [`WalkStop::Width`] for a field that is not text outside 1 to 63 bits,
-/// [`WalkStop::Field`] with the fault of [`Fields::take`], and [`WalkStop::Memory`] where memory
-/// runs out before a reference that is being defined is taken.
+/// The first that is met. [`WalkStop::Defining`] for a step that is not allowed while references
+/// are being defined. [`WalkStop::Width`] for a field that is not text outside 1 to 63 bits.
+/// [`WalkStop::Field`] with the fault of [`Fields::take`]. [`WalkStop::Memory`] where memory runs
+/// out before a reference is taken.
 pub fn walk<S: Fields>(
     alloc: Global,
     template: &Template,
@@ -388,8 +387,8 @@ pub fn walk<S: Fields>(
     walk_by(alloc, template, table, &mut cache, fields, steps)
 }
 
-/// Walks over a template's cells once, as [`walk`] does. A field whose spec is cached is taken by
-/// it, and what is found is cached. Takes no memory for the cache.
+/// Walks over the cells of a template once, as [`walk`] does. A field whose spec is cached is taken
+/// by it, and each spec that is found is cached. Takes no memory for the cache.
 ///
 /// # Errors
 ///

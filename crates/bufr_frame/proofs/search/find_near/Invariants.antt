@@ -2,6 +2,6 @@ use Rattle.std.proofs.Common.{codes}
 use Rattle.memchr.specs.Find.{Nowhere, OccursAt}
 use Rattle.bufr_frame.proofs.search.find_near.Given as goal
 
--- no `BUFR` stands at the places so far
+-- no `BUFR` is at the indices so far
 abbrev pub invariant-places : goal.invariant-places
 invariant-places l = Nowhere (OccursAt l.rest (codes "BUFR")) 0 l.place

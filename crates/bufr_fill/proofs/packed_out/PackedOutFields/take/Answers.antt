@@ -12,7 +12,7 @@ use Rattle.bufr_fill.specs.DraftFaults.{draft_fault}
 use Rattle.bufr_fill.proofs.Places.{ends_few}
 use Rattle.bufr_fill.proofs.packed_out.PackedOutFields.take.Goals as goal
 
--- a refusal, cut back to the bits that stood there
+-- a fault, where the bits are cut back to those before
 cut_back : (o : Option FaultAt) (spec : FieldSpec) (a : ItemRow) (old new cut : List Bool) (count : ℕ) → count ≡ length old → cut ≡ take count new → PutFault o old new spec a → IfDraftFault o (λ f. pack_across spec a ≡ Err f) × (cut ≡ old)
 cut_back None spec a old new cut count e t h = (tt, t ∙ ap (λ n. take n new) e ∙ ap (take (length old)) h.1 ∙ take-append_seam old h.0)
 cut_back (Some f) spec a old new cut count e t h = (h.0, t ∙ ap (λ n. take n new) e ∙ ap (take (length old)) h.1 ∙ take-length old)

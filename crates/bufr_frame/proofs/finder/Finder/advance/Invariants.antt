@@ -5,7 +5,7 @@ use Rattle.bufr_frame.specs.Lookahead.{NoEventCertain}
 use Rattle.bufr_frame.specs.Runs.{max_reads}
 use Rattle.bufr_frame.proofs.finder.Finder.advance.Given as goal
 
--- octets were read, no event was passed, and only the word at the front may have raised the
+-- octets were read, no event was passed, and only a `BUFR` at the start may have raised the
 -- greatest length
 abbrev pub invariant-loop-found : goal.invariant-loop-found
 invariant-loop-found g l = record {

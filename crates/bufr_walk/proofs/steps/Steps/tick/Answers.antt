@@ -2,7 +2,7 @@ use Rattle.std.proofs.Common.{◌≡◌, ℕ, ◌+◌, ◌-◌, ◌<◌, ◌^◌
 use Rattle.bufr_walk.specs.Ticks.{ticked}
 use Rattle.bufr_walk.proofs.steps.Steps.tick.Goals as goal
 
--- a sum that stops at the greatest number is what a counter has after so many ticks
+-- a sum that stops at the greatest number is the counter after so many ticks
 counted : (count now turns sum : ℕ) → count < 2 ^ 64 → count ≡ now → sum ≡ min (count + turns) (2 ^ 64 - 1) → sum ≡ ticked now turns
 counted count now turns sum fits is e = omega (arith, fits, is, e)
 
