@@ -1,5 +1,6 @@
 #!/usr/bin/env bash
 # Help and usage texts, word for word; each word of a line matters; files that are not there or not what they are named for.
+# rule: argument-not-utf-8
 set -eu
 . "$(dirname "$0")/lib.sh"
 

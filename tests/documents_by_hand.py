@@ -22,6 +22,7 @@ FACTOR = "  # DELAYED DESCRIPTOR REPLICATION FACTOR [Numeric]"
 
 def plain(descriptors: str, *items: str) -> str:
     """One subset without compression."""
+# rule: 2-06-y-width-of-table-b, 2-06-y-other-width
     return lines("compressed 0", "optional 0", "subsets 1", f"descriptors {descriptors}", "subset 1", *items, "end")
 
 

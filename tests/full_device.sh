@@ -1,5 +1,6 @@
 #!/usr/bin/env bash
 # Outputs that are full or closed: 71 and status 2, after all that could still be written.
+# rule: fault-line-not-written
 set -eu
 . "$(dirname "$0")/lib.sh"
 stream=examples/bulletins.bufr

@@ -1,15 +1,17 @@
 #!/usr/bin/env python3
-"""Checks the names of the code in docs/map.md, docs/design.md and the other pages against what is there.
+"""Compares docs/map.md with the tags in the sources, and the names in other pages with the code.
 
-    tests/map.py
+    tests/map.py [--update]        --update writes docs/map.md anew
 
-Of docs/map.md: each name is there, each heading of docs/format.md and docs/texts.md has its part, and each fault of
-docs/texts.md a row. Of docs/design.md: the part of a crate names each module of it that is no test, and no other.
-Of the other pages: a name of the code that stands in backquotes is somewhere in the crates. Each thing that is not so
-stands on a line of its own, with the line of the document.
+A rule of docs/map.md has a tag. In the sources a comment `rule: TAG, TAG` is on the line above what has these rules: a
+definition of specs/, an example of proofs/, a function, a test of bufr_tests; or among the first lines of a file of
+tests/. The first two cells of a row are written by hand, the others are made from the tags. Each heading of
+docs/format.md and docs/texts.md has its part, and each fault of docs/texts.md a row. In docs/design.md the part of a
+crate names each of its modules. A name of the code in a page is somewhere in the crates.
 """
 import pathlib
 import re
+import sys
 
 from lib import FAULT, TOP, finish
 
@@ -17,7 +19,13 @@ CRATES = re.findall(r"^(\w+):", (TOP / "crates.txt").read_text(encoding="utf-8")
 TESTS = "bufr_tests"  # the crate of the tests of all others
 OF_DOCS = "DECISIONS design format proof texts".split()
 PAGES = ["CONTRIBUTING.md", *(f"docs/{page}.md" for page in OF_DOCS)]
-COLUMNS = "rule crate definition function example test".split()
+COLUMNS = ["definition", "function", "example", "test"]
+MAP = TOP / "docs/map.md"
+TAG = re.compile(r"^ *(?://|--|#) rule: (.+)$")
+NAMED = {
+    ".rt": re.compile(r"^ *(?:pub(?:\(\w+\))? )?(?:const )?fn (\w+)"),
+    ".antt": re.compile(r"^ *(?:abbrev |unfoldable )?(?:pub )?(?:record |data )?([^\s:]+)"),
+}
 complaints = []
 
 
@@ -30,119 +38,103 @@ def read(path: pathlib.Path) -> str:
     return path.read_text(encoding="utf-8") if path.is_file() else ""
 
 
+# ---------------------------------------------------------------- the tags
+
+
+def owner(lines: list, line: int) -> str:
+    """The type or trait whose `impl` or `trait` has this line, with `::` after it, or nothing."""
+    if not lines[line].startswith(" "):
+        return ""
+    head = next((one for one in reversed(lines[:line]) if re.match(r"(?:pub(?:\(\w+\))? )?(?:impl|trait)\b", one)), "")
+    named = re.sub(r"^.*?\b(?:impl|trait)\b(?:<[^>]*>)?", "", head)
+    return re.search(r"\w+", named.rpartition(" for ")[2])[0] + "::"
+
+
+def tagged(path: pathlib.Path):
+    """Each tag of a file with the line that it is for, from 0."""
+    tags = []
+    for line, one in enumerate(read(path).splitlines()):
+        found = TAG.match(one)
+        if found:
+            tags += found[1].split(", ")
+        elif tags:
+            yield from ((tag, line) for tag in tags)
+            tags = []
+
+
+def places() -> list:
+    """Each place that has a tag, in the order of the files: the tag, its column, crate and name."""
+    found = []
+    for crate in CRATES:
+        for folder in ("specs", "src", "proofs"):
+            root = TOP / "crates" / crate / folder
+            for path in sorted([*root.rglob("*.rt"), *root.rglob("*.antt")]):
+                lines, parts = read(path).splitlines(), path.relative_to(root).with_suffix("").parts
+                for tag, line in tagged(path):
+                    name = NAMED[path.suffix].match(lines[line])
+                    if not name:
+                        complain(str(path.relative_to(TOP)), line + 1, f"the tag {tag} is above no name")
+                    elif folder == "src":
+                        column = "test" if crate == TESTS else "function"
+                        found.append((tag, column, crate, "::".join((*parts, owner(lines, line) + name[1]))))
+                    else:
+                        column = "definition" if folder == "specs" else "example"
+                        found.append((tag, column, crate, "/".join(parts) + f".{name[1]}"))
+    for path in sorted((TOP / "tests").glob("*.*")):
+        found += ((tag, "test", "", f"tests/{path.name}") for tag, _ in tagged(path))
+    return found
+
+
+def row(rule: str, tag: str, of: list) -> str:
+    """The row of a rule, made of the places that have its tag."""
+    crate = next((one[2] for column in COLUMNS for one in of if one[1] == column and one[2] not in ("", TESTS)), "-")
+    cells = []
+    for column in COLUMNS:
+        names = [one[3] if one[2] in (crate, "", TESTS) else f"{one[2]}/{one[3]}" for one in of if one[1] == column]
+        cells.append(", ".join(f"`{name}`" for name in names) or "-")
+    return "| " + " | ".join([rule, f"`{tag}`", f"`{crate}`", *cells]) + " |"
+
+
 def anchors(doc: str) -> list:
     """The anchors of a document's headings below its title."""
     heads = re.findall(r"^##+ (.*)$", read(TOP / "docs" / doc), re.M)
     return [re.sub(r"[^\w -]", "", head.lower()).replace(" ", "-") for head in heads]
 
 
-def defined(crate: str, folder: str, name: str) -> bool:
-    """`File.name`, which a line of that file of specs/ or proofs/ begins to define."""
-    file, _, last = name.rpartition(".")
-    text = read(TOP / "crates" / crate / folder / (file.replace(".", "/") + ".antt"))
-    word = re.escape(last)
-    head = rf"^ *(?:abbrev |unfoldable )(?:pub )?{word}(?: |$)|^(?:pub )?(?:record |data )?{word}(?: |$)"
-    return re.search(head, text, re.M) is not None
-
-
-def source(crate: str, path: list) -> tuple:
-    """The text of the module that a path begins with, and what is left of the path."""
-    for end in range(len(path) - 1, 0, -1):
-        text = read(TOP / "crates" / crate / "src" / ("/".join(path[:end]) + ".rt"))
-        if text:
-            return text, path[end:]
-    return "", path
-
-
-def function(crate: str, name: str) -> bool:
-    """`module::name` or `module::Type::name`: a function of that module, or of an `impl` or trait there."""
-    text, rest = source(crate, name.split("::"))
-    if len(rest) == 2:
-        heads = rf"^(?:pub(?:\(crate\))? )?(?:impl|trait)\b[^\n]*\b{rest[0]}\b.*?^}}"
-        text = "\n".join(re.findall(heads, text, re.M | re.S))
-    return len(rest) < 3 and re.search(rf"\bfn {rest[-1]}\b", text) is not None
-
-
-def test(crate: str, name: str) -> bool:
-    """`module::name`, a test of that module of the crate of tests, whatever crate it tries."""
-    text, rest = source(TESTS, name.split("::"))
-    return len(rest) == 1 and re.search(rf"#\[test\]\s+(?:#\[.*\]\s+)*fn {rest[0]}\b", text) is not None
-
-
-IS_THERE = {
-    "definition": lambda crate, name: defined(crate, "specs", name),
-    "function": function,
-    "example": lambda crate, name: defined(crate, "proofs", name),
-    "test": test,
-}
-
-
-def elsewhere(column: str, name: str) -> str:
-    """The names under which what is not there stands in other files, for who has to change the line."""
-    folder, mark, end = {"definition": ("specs", ".", "antt"), "example": ("proofs", ".", "antt")}.get(
-        column, ("src", "::", "rt")
-    )
-    last, found = name.split(mark)[-1], []
-    for crate in CRATES:
-        root = TOP / "crates" / crate / folder
-        for file in sorted(root.rglob(f"*.{end}")):
-            other = mark.join((*file.relative_to(root).with_suffix("").parts, last))
-            if IS_THERE[column](crate, other):
-                found.append(f"{crate}/{other}")
-    return f"; there is {', '.join(found)}" if found else ""
-
-
-def names(line: int, crate: str, column: str, cell: str) -> None:
-    """The names of a cell: each of the row's crate, or behind that of another crate, or a file of tests/."""
-    told = re.findall(r"`([^`]*)`", cell)
-    if cell != "-" and ", ".join(f"`{name}`" for name in told) != cell:
-        complain("docs/map.md", line, f"{column}: {cell} is neither `-` nor names in backquotes with commas between them")
-    for name in told:
-        other, _, rest = name.partition("/")
-        if column == "test" and name.startswith("tests/"):
-            there = (TOP / name).is_file()
-        elif rest:
-            there = other in CRATES and IS_THERE[column](other, rest)
-        else:
-            there = IS_THERE[column](crate, name)
-        if not there:
-            home = other if rest else crate
-            complain("docs/map.md", line, f"{column} {name} is not in {home}{elsewhere(column, rest or name)}")
-
-
-def row(line: int, text: str) -> None:
-    cells = text.strip().strip("|").split(" | ")
-    if len(cells) != len(COLUMNS):
-        complain("docs/map.md", line, f"{len(cells)} cells and not {len(COLUMNS)}")
-        return
-    cells = dict(zip(COLUMNS, map(str.strip, cells)))
-    crate = cells["crate"].strip("`")
-    if crate not in CRATES:
-        complain("docs/map.md", line, f"there is no crate {crate}")
-        return
-    for column in IS_THERE:
-        names(line, crate, column, cells[column])
-
-
 def rules() -> None:
-    """The rows of docs/map.md, and that no heading and no fault is left out."""
-    text = read(TOP / "docs/map.md")
-    linked, body = set(), False
-    for line, one in enumerate(text.splitlines(), 1):
+    """Makes the rows of docs/map.md, and sees that no heading, no fault and no tag is left out."""
+    by_tag, lines, linked, known = {}, [], set(), set()
+    for place in places():
+        by_tag.setdefault(place[0], []).append(place)
+    for line, one in enumerate(read(MAP).splitlines(), 1):
         for doc, anchor in re.findall(r"\]\((\w+\.md)#([^)]*)\)", one):
             linked.add((doc, anchor))
             if anchor not in anchors(doc):
                 complain("docs/map.md", line, f"docs/{doc} has no heading #{anchor}")
-        if body and one.startswith("|"):
-            row(line, one)
-        body = one.startswith("|") and (body or one.startswith("|---"))
+        found = re.match(r"\| (.+?) \| `([\w-]+)` \| ", one)
+        if found:
+            if found[2] in known:
+                complain("docs/map.md", line, f"another rule has the tag {found[2]}")
+            if found[2] not in by_tag:
+                complain("docs/map.md", line, f"nothing has the tag {found[2]}")
+            known.add(found[2])
+            one = row(found[1], found[2], by_tag.get(found[2], []))
+        lines.append(one)
+    for tag in sorted(set(by_tag) - known):
+        complain("docs/map.md", 1, f"no rule has the tag {tag} of {', '.join(one[3] for one in by_tag[tag])}")
     for doc in ("format.md", "texts.md"):
         for anchor in anchors(doc):
             if (doc, anchor) not in linked:
                 complain("docs/map.md", 1, f"no part for docs/{doc}#{anchor}")
+    made = "\n".join(lines) + "\n"
     for number in sorted(set(re.findall(FAULT, read(TOP / "docs/texts.md"), re.M)), key=int):
-        if not re.search(rf"^\| fault {number}\b", text, re.M):
+        if not re.search(rf"^\| fault {number}\b", made, re.M):
             complain("docs/map.md", 1, f"no row of fault {number}")
+    if "--update" in sys.argv:
+        MAP.write_text(made, encoding="utf-8")
+    for line, (old, new) in enumerate(zip(read(MAP).splitlines(), lines), 1):
+        if old != new:
+            complain("docs/map.md", line, "is not as the tags have it: run tests/map.py --update")
 
 
 def modules(crate: str) -> set:

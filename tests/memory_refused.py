@@ -63,6 +63,7 @@ INPUTS = {
 
 class Run(NamedTuple):
     """A run of a program."""
+# rule: fault-73
 
     name: str
     words: list

@@ -99,6 +99,7 @@ ACCEPTED = [
 
 def items_of(text: bytes) -> str:
     """The item lines of a dump without their comments."""
+# rule: reserved-ignored, reads-minus-zero
     lines = (line.split("  # ")[0] for line in text.decode().splitlines())
     return "; ".join(line for line in lines if line[:1] in "0123456789R")
 

@@ -1,5 +1,6 @@
 #!/usr/bin/env bash
 # Inputs that end in a message or in a text, and inputs and tables that cannot be read.
+# rule: input-ends-early, input-not-read
 set -eu
 . "$(dirname "$0")/lib.sh"
 stream=examples/bulletins.bufr

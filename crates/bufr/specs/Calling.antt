@@ -20,6 +20,7 @@ IsWordless outcome =
 -- What the process does with its words, whichever they are: what a call of the program with them
 -- comes to, of whose inputs nothing is known; or they cannot be had, and that is told by a last
 -- line (or a front of it) and the status, with no output.
+-- rule: argument-not-utf-8
 pub data RunsArguments (output output' errors errors' : Option (List ℕ)) (handed : Bool)
     (status : ℕ) : Type 0 where
   Calls : (words : List (List ℕ)) → RunsProgram (fault_of bufr_app words)

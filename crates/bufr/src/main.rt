@@ -27,6 +27,7 @@ fn main(rt: HostRuntime) -> ExitCode {
 }
 
 /// The exit status of the process.
+// rule: output-held-back
 fn status(rt: &HostRuntime) -> u8 {
     let Ok(errors) = BufWriter::with_capacity(rt.alloc(), BUFFERED, rt.stderr()) else {
         return finish(
@@ -44,6 +45,7 @@ fn status(rt: &HostRuntime) -> u8 {
 }
 
 /// Why there are no words of a command line.
+// rule: argument-not-utf-8
 fn argument_fault(error: &Error) -> Outcome<'static>
     ensures { IsWordless result }
 {

@@ -11,6 +11,7 @@ bits_of_octet n =
     ∷ (n / 8 % 2 == 1) ∷ (n / 4 % 2 == 1) ∷ (n / 2 % 2 == 1) ∷ (n % 2 == 1) ∷ []
 
 -- the bits of octets, one octet after another
+-- rule: bit-order
 unfoldable pub bits_of : List ℕ → List Bool
 bits_of [] = []
 bits_of (octet ∷ more) = bits_of_octet octet ++ bits_of more
@@ -21,10 +22,12 @@ number_after_bits n [] = n
 number_after_bits n (bit ∷ bits) = number_after_bits (2 * n + (if bit then 1 else 0)) bits
 
 -- the number that bits write
+-- rule: field-number
 abbrev pub number_of : List Bool → ℕ
 number_of bits = number_after_bits 0 bits
 
 -- so many of the bits of octets, from a place on
+-- rule: field-number
 abbrev pub bits_at : (octets : List ℕ) (at width : ℕ) → List Bool
 bits_at octets at width = take width (drop at (bits_of octets))
 

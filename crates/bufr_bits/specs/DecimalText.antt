@@ -5,6 +5,7 @@ use Rattle.std.specs.Prelude.{ℕ, zero, suc, ◌+◌, ◌-◌, List, [], ◌∷
 use Rattle.std.specs.Fmt.{decimal}
 
 -- digits with a point before the last so many, and leading zeros for one digit before the point
+-- rule: decimal-point
 abbrev pub pointed : (places : ℕ) (digits : List ℕ) → List ℕ
 pointed places digits =
     let padded = replicate (places + 1 - length digits) 48 ++ digits in
@@ -13,6 +14,7 @@ pointed places digits =
 
 -- a number without its sign as text: at a scale above 0 a point before the last digits, at one
 -- below 0 zeros after them
+-- rule: decimal-zeros-after
 unfoldable pub unsigned_text : (n : ℕ) (scale : ℤ) → List ℕ
 unsigned_text n (pos zero) = decimal n
 unsigned_text n (pos (suc places)) = pointed (suc places) (decimal n)
@@ -20,6 +22,7 @@ unsigned_text zero (negsuc less) = decimal 0
 unsigned_text (suc n) (negsuc less) = decimal (suc n) ++ replicate (suc less) 48
 
 -- a minus before a number below zero
+-- rule: decimal-sign
 abbrev pub sign_of : ℤ → List ℕ
 sign_of (pos n) = []
 sign_of (negsuc n) = 45 ∷ []

@@ -29,6 +29,7 @@ abbrev pub is_digits : List ℕ → Bool
 is_digits text = nat_lt 0 (length text) && all_digits text
 
 -- digits, and where there is a point digits after it
+-- rule: decimal-form
 abbrev pub is_unsigned : List ℕ → Bool
 is_unsigned text =
     is_digits (whole_part text)
@@ -65,6 +66,7 @@ and_then (Ok n) next = next n
 and_then (Err fault) next = Err fault
 
 -- the number that a text writes, times ten to the scale, or the first fault
+-- rule: inexact-before-too-large
 unfoldable pub decimal_value_of : (text : List ℕ) (scale : ℤ) → Result ℤ NumberFault
 decimal_value_of text scale =
     let body = unsigned_part text in

@@ -42,6 +42,7 @@ impl<'a> BitSlice<'a> {
 
     /// The number that `width` bits, at most 63, write from bit `at` on, most significant first;
     /// `None` exactly where they go past the end. No bits write 0.
+    // rule: bit-order, field-number, past-last-bit
     pub fn get(&self, at: u64, width: u32) -> Option<u64>
         requires { width ≤ 63 }
         ensures value { SomeIff result (at + width ≤ 8 * length (octets_of self.now))

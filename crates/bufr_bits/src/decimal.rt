@@ -62,6 +62,7 @@ pub fn decimal_text(v: i128, scale: i16, out: &mut Vec<u8>) -> Result<(), AllocE
 }
 
 /// How many zeros follow the digits of a number that ten multiplies so often: none follow 0.
+// rule: decimal-zeros-after
 fn trailing_zeros(size: u128, power: usize) -> usize
     ensures value { result ≡ (if size == 0 then 0 else power) }
     ensures few { result ≤ power }
@@ -80,6 +81,7 @@ fn powers_of(scale: i16) -> (usize, usize)
 }
 
 /// Appends the sign of a number, for which there is room.
+// rule: decimal-sign
 fn push_sign(out: &mut Vec<u8>, v: i128)
     requires { vec_len out.old + 1 ≤ vec_capacity out.old }
     ensures items { out.new.items ≡ out.old.items ++ sign_of v }
@@ -92,6 +94,7 @@ fn push_sign(out: &mut Vec<u8>, v: i128)
 }
 
 /// Appends digits with a point before the last `places` of them.
+// rule: decimal-point
 fn push_with_point(out: &mut Vec<u8>, digits: &[u8], places: usize)
     requires { vec_len out.old + length digits.now + places + 2 ≤ vec_capacity out.old }
     ensures { out.new.items ≡ out.old.items ++ pointed places digits.now }
@@ -122,6 +125,7 @@ fn push_with_point(out: &mut Vec<u8>, digits: &[u8], places: usize)
 ///
 /// The first that fits of [`NumberFault::Syntax`], [`NumberFault::Inexact`] where the answer is not
 /// whole, and [`NumberFault::Large`] where it is outside `i128`.
+// rule: inexact-before-too-large
 pub fn decimal_read(text: &[u8], scale: i16) -> Result<i128, NumberFault>
     ensures { result ≡ decimal_value_of text.now scale }
 {
@@ -161,6 +165,7 @@ fn without_sign(text: &[u8]) -> (bool, &[u8])
 }
 
 /// The digits before and after the point, or `None` where the text is not of that form.
+// rule: decimal-form
 fn parts_of(body: &[u8]) -> Option<(&[u8], &[u8])>
     ensures { MatchOption result (is_unsigned body.now ≡ false)
         (λ parts. IsParts body.now parts.0.now parts.1.now) }

@@ -11,18 +11,22 @@ use Rattle.bufr_text.specs.declared.form.Form.TheVariants.{AsWritten}
 use Rattle.bufr_cli.specs.EncodePieces.{encode_pieces, up_to_refused}
 use Rattle.bufr_cli.specs.Pieces.{OnOutput, OnErrors}
 
+-- rule: fault-lines-of-reading
 not-a-line : refused_line 26 NotAllowed ≡ codes "line 26: 50 line\n"
 unfolding digits
 not-a-line = refl
 
+-- rule: fault-lines-of-reading
 subset-count-line : refused_line 25 SubsetCount ≡ codes "line 25: 57 subset count\n"
 unfolding digits
 subset-count-line = refl
 
+-- rule: fault-lines-of-reading
 header-range-line : refused_line 4 HeaderRange ≡ codes "line 4: 61 header range\n"
 unfolding digits
 header-range-line = refl
 
+-- rule: fault-lines-of-encoding
 expected-line : refusal_line 24 (by_item (wrong_descriptor 0x0101 false)) ≡ codes "line 24: 51 expected 001001\n"
 unfolding digits
 expected-line = refl
@@ -51,6 +55,7 @@ missing-line : refusal_line 24 (by_item missing_forbidden) ≡ codes "line 24: 5
 unfolding digits
 missing-line = refl
 
+-- rule: fault-lines-of-encoding
 template-line : refusal_line 1 (by_template (template.EmptyGroup 0x8100)) ≡ codes "line 1: 56 template 25 empty group 201000\n"
 unfolding digits
 template-line = refl
@@ -67,6 +72,7 @@ too-long-line : refusal_line 1 too_long ≡ codes "line 1: 60 too long\n"
 unfolding digits
 too-long-line = refl
 
+-- rule: fault-lines-of-encoding
 width-line : refusal_line 24 (by_item (walk_refused (walk.Width 0x0101))) ≡ codes "line 24: 62 walk 31 descriptor 001001\n"
 unfolding digits
 width-line = refl
@@ -80,6 +86,7 @@ unfolding digits
 too-many-line = refl
 
 -- behind the first fault nothing is written
+-- rule: first-refusal-ends
 first-fault : up_to_refused (OnOutput (1 ∷ []) ∷ OnErrors (2 ∷ []) ∷ OnOutput (3 ∷ []) ∷ OnErrors (4 ∷ []) ∷ []) ≡ OnOutput (1 ∷ []) ∷ OnErrors (2 ∷ []) ∷ []
 unfolding up_to_refused
 first-fault = refl

@@ -26,27 +26,33 @@ unfolding walk_fault walked defaults_fault flags_fault bundle_met chars encode
 encodes = refl
 
 -- lines that ask for help or the version
+-- rule: help
 asks-help : fault_of bufr_app (codes "bufr" ∷ codes "--help" ∷ []) ≡ DisplayHelp ∷ []
 unfolding walk_fault walked defaults_fault flags_fault bundle_met chars encode
 asks-help = refl
 
+-- rule: help
 asks-help-of-dump : fault_of bufr_app (codes "bufr" ∷ codes "dump" ∷ codes "-h" ∷ []) ≡ DisplayHelp ∷ []
 unfolding walk_fault walked defaults_fault flags_fault bundle_met chars encode
 asks-help-of-dump = refl
 
+-- rule: version
 asks-version : fault_of bufr_app (codes "bufr" ∷ codes "--version" ∷ []) ≡ DisplayVersion ∷ []
 unfolding walk_fault walked defaults_fault flags_fault bundle_met chars encode
 asks-version = refl
 
 -- lines that are refused
+-- rule: usage
 no-command : fault_of bufr_app (codes "bufr" ∷ []) ≡ MissingSubcommand ∷ []
 unfolding walk_fault walked defaults_fault flags_fault bundle_met chars encode
 no-command = refl
 
+-- rule: usage
 no-tables : fault_of bufr_app (codes "bufr" ∷ codes "dump" ∷ codes "-B" ∷ codes "b.csv" ∷ []) ≡ MissingRequiredArgument ∷ []
 unfolding walk_fault walked defaults_fault flags_fault bundle_met chars encode
 no-tables = refl
 
+-- rule: one-file
 two-files : fault_of bufr_app (codes "bufr" ∷ codes "ls" ∷ codes "a" ∷ codes "b" ∷ []) ≡ UnknownArgument ∷ []
 unfolding walk_fault walked defaults_fault flags_fault bundle_met chars encode
 two-files = refl
@@ -55,6 +61,7 @@ a-table-of-ls : fault_of bufr_app (codes "bufr" ∷ codes "ls" ∷ codes "-B" �
 unfolding walk_fault walked defaults_fault flags_fault bundle_met chars encode
 a-table-of-ls = refl
 
+-- rule: usage
 a-table-twice : fault_of bufr_app (codes "bufr" ∷ codes "dump" ∷ codes "-B" ∷ codes "b" ∷ codes "-D" ∷ codes "d" ∷ codes "-B" ∷ codes "c" ∷ []) ≡ ArgumentConflict ∷ []
 unfolding walk_fault walked defaults_fault flags_fault bundle_met chars encode
 a-table-twice = refl

@@ -29,6 +29,7 @@ unfolding scan_from sections_of section_end digits
 accepted-among = refl
 
 -- two messages of edition 3 among three may grow by two octets each
+-- rule: encode-may-grow
 grown : longer_by (edition_3 ∷ one_block_number ∷ edition_3 ∷ []) ≡ 4
 grown = refl
 

@@ -16,6 +16,7 @@ use Rattle.bufr_cli.specs.declared.job.Job.{Job}
 -- outcome told by a last line (or a front of it) and the status; or help was asked for, written and
 -- handed on, or a front of it was written; or the words are mistaken; or memory ran out before
 -- there was a job.
+-- rule: status-of-help
 pub data RunsProgram (kinds : Kinds) (subcommand : Option (Text × List Row))
     (standard : Option (List ℕ))
     (named : List ℕ → Option (List ℕ))

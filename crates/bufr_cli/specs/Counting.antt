@@ -37,6 +37,7 @@ Blames (Err Write) output_stays output_fails errors_stays errors_fails =
     (output_fails × errors_stays) ⊎ (output_stays × errors_fails)
 
 -- a write fault comes from a call of the output or of the errors that its own ghosts count
+-- rule: fault-71
 abbrev pub BlamesWriter : {X W E : Type 0} → (W → ℕ) → (W → ℕ) → (output output' : W) → (E → ℕ)
     → (E → ℕ) → (errors errors' : E) → Result X RunFault → Type 0
 BlamesWriter failures empty output output' failures' empty' errors errors' result =

@@ -17,6 +17,7 @@ document_line line number text =
     ∷ (text ++ codes "\n" ∷ []))
 
 -- a line that is refused
+-- rule: fault-lines-of-reading
 abbrev pub refused_line : (line : ℕ) → TextLineFault → List ℕ
 refused_line line NotAllowed = document_line line 50 (codes "line" ∷ [])
 refused_line line SubsetCount = document_line line 57 (codes "subset count" ∷ [])
@@ -28,6 +29,7 @@ abbrev pub walk_text : (number fxy : ℕ) → List (List ℕ)
 walk_text number fxy = codes "walk " ∷ decimal number ∷ codes " descriptor " ∷ fxy_text fxy ∷ []
 
 -- an item that is refused; a factor always tells its count
+-- rule: fault-lines-of-encoding
 abbrev pub item_fault_line : (line : ℕ) → DraftFaultKind → List ℕ
 item_fault_line line (wrong_descriptor fxy false) =
     document_line line 51 (codes "expected " ∷ fxy_text fxy ∷ [])
@@ -46,6 +48,7 @@ item_fault_line line (too_many_values fxy) = document_line line 62 (walk_text 35
 item_fault_line line no_count = []
 
 -- a document that is refused: its template's fault is told as that of a message
+-- rule: fault-lines-of-encoding
 abbrev pub refusal_line : (line : ℕ) → DocumentRefusal → List ℕ
 refusal_line line (by_template why) =
     document_line line 56 (codes "template " ∷ decimal (number_of_template_fault why) ∷ codes " "

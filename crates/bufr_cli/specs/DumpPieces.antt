@@ -33,6 +33,7 @@ dump_text table template s values used =
 
 -- the text of a message whose data are read by a template, or the fault line of one whose data are
 -- refused
+-- rule: refused-messages-write-nothing
 abbrev pub IsDataPiece : List Row → ℕ → Sections → Tree → Piece → Type 0
 IsDataPiece table offset s template (OnOutput text) =
     (values : Values) × (used : ℕ) × IsReading (next_item table template) (data_of s) values used
@@ -43,6 +44,7 @@ IsDataPiece table offset s template (OnErrors text) =
 
 -- what is written for a message, by the template that its descriptors make, or by the fault of
 -- these
+-- rule: list-before-data
 abbrev pub IsTemplatePiece : List Row → ℕ → Sections → Result Tree TemplateFault → Piece → Type 0
 IsTemplatePiece table offset s (Ok template) piece = IsDataPiece table offset s template piece
 IsTemplatePiece table offset s (Err fault) piece = piece ≡ template_piece offset fault
@@ -55,6 +57,7 @@ IsMessagePiece b d offset (Ok s) piece =
 IsMessagePiece b d offset (Err fault) piece = piece ≡ section_piece offset fault
 
 -- what `dump` writes for an event
+-- rule: one-fault-a-message
 abbrev pub IsDumpPiece : List Row → List Sequence → StreamEvent → Piece → Type 0
 IsDumpPiece b d (FrameAt offset octets) piece = IsMessagePiece b d offset (sections_of octets) piece
 IsDumpPiece b d (StrayAt offset cause) piece = piece ≡ stray_piece offset cause

@@ -15,11 +15,13 @@ encoded (Ok octets) = OnOutput octets
 encoded (Err refused) = OnErrors (refusal_line refused.line refused.why)
 
 -- what is written for a document, or for the line that is refused
+-- rule: document-read-first
 abbrev pub told_piece : Form → List Row → List Sequence → ParseResult → Piece
 told_piece form b d (Complete document) = encoded (encoding_in form b d document)
 told_piece form b d (Refused line fault) = OnErrors (refused_line line fault)
 
 -- nothing more is written behind the first fault
+-- rule: first-refusal-ends
 unfoldable pub up_to_refused : List Piece → List Piece
 up_to_refused [] = []
 up_to_refused (OnOutput text ∷ more) = OnOutput text ∷ up_to_refused more

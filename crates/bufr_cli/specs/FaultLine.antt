@@ -14,12 +14,14 @@ use Rattle.bufr_walk.specs.declared.fault.WalkFault.TheVariants as walk
 use Rattle.bufr_text.specs.Writing.{joined}
 
 -- the text of a stray word
+-- rule: fault-1, fault-2, fault-3
 abbrev pub cause_text : Cause → List ℕ
 cause_text Cut = codes "cut"
 cause_text ShortLength = codes "short length"
 cause_text NoEnd = codes "no end"
 
 -- the text of a section fault, in parts
+-- rule: fault-10, fault-11, fault-12, fault-13, fault-14
 abbrev pub section_fault_text : SectionFault → List (List ℕ)
 section_fault_text (Edition edition) = codes "edition " ∷ decimal edition ∷ []
 section_fault_text (SectionShort section) = codes "section " ∷ decimal section ∷ codes " short" ∷ []
@@ -29,6 +31,7 @@ section_fault_text SectionsEnd = codes "sections do not meet the end" ∷ []
 section_fault_text Edition3Long = codes "edition 3 length" ∷ []
 
 -- the text of a template fault, in parts; want of memory ends a run, and no line tells it
+-- rule: fault-20, fault-21, fault-22, fault-23, fault-24, fault-25, fault-26, fault-27, fault-28
 abbrev pub template_fault_text : TemplateFault → List (List ℕ)
 template_fault_text (template.UnknownElement fxy) = codes "unknown element " ∷ fxy_text fxy ∷ []
 template_fault_text (template.UnknownSequence fxy) = codes "unknown sequence " ∷ fxy_text fxy ∷ []
@@ -42,12 +45,14 @@ template_fault_text (template.LocalShape fxy) = codes "local shape " ∷ fxy_tex
 template_fault_text template.Memory = []
 
 -- what stands at fault, and where: the subset, the descriptor, and the bits before the item
+-- rule: stream-fault-place
 abbrev pub spot_text : List ℕ → Spot → List (List ℕ)
 spot_text name spot =
     name ∷ codes " at subset " ∷ decimal spot.subset ∷ codes " descriptor " ∷ fxy_text spot.fxy
     ∷ codes " bit " ∷ decimal spot.bit ∷ []
 
 -- the text of a fault of the data, in parts; want of memory ends a run, and no line tells it
+-- rule: fault-30, fault-31, fault-32, fault-33, fault-34, fault-35
 abbrev pub walk_fault_text : WalkFault → List (List ℕ)
 walk_fault_text (walk.DataEnd spot) = spot_text (codes "data end") spot
 walk_fault_text (walk.Width spot) = spot_text (codes "width") spot
@@ -58,6 +63,7 @@ walk_fault_text (walk.TooManyValues spot) = spot_text (codes "too many values") 
 walk_fault_text walk.Memory = []
 
 -- the line of a fault at the offset of `BUFR`: its number and its text
+-- rule: stream-fault-line
 abbrev pub fault_line : (offset number : ℕ) → List (List ℕ) → List ℕ
 fault_line offset number text =
     joined (codes "offset " ∷ decimal offset ∷ codes ": " ∷ decimal number ∷ codes " "

@@ -20,6 +20,7 @@ run_fault_text InputTooLong = codes "input too long"
 run_fault_text Memory = codes "out of memory"
 
 -- the line of a fault that ends a run: its number and its text
+-- rule: fault-70, fault-71, fault-72, fault-73
 abbrev pub run_line : RunFault → List ℕ
 run_line fault =
     joined (codes "bufr: " ∷ decimal (number_of_run_fault fault) ∷ codes " "
@@ -30,6 +31,7 @@ abbrev pub numbered : (table : List ℕ) (number : ℕ) → List (List ℕ) → 
 numbered table number text = joined (table ∷ decimal number ∷ codes " " ∷ (text ++ codes "\n" ∷ []))
 
 -- the line of a table that cannot be read; want of memory is told as in a run
+-- rule: status-of-table, fault-73
 abbrev pub table_line : (table : List ℕ) → TableFault → List ℕ
 table_line name table.Header =
     numbered name (number_of_table_fault table.Header) (codes "header" ∷ [])
@@ -46,6 +48,7 @@ table_line name table.Csv = numbered name (number_of_table_fault table.Csv) (cod
 table_line name table.Memory = run_line Memory
 
 -- the line before status 2, or the usage text; nothing where the run went through
+-- rule: status-of-usage, status-of-open
 abbrev pub last_line : Outcome → List ℕ
 last_line (Ran tally) = []
 last_line (Usage text) = text.now
@@ -55,11 +58,13 @@ last_line (TableD fault) = table_line (codes "table D: ") fault
 last_line (Run fault) = run_line fault
 
 -- 0 where nothing was refused, 1 where something was
+-- rule: status-0-and-1
 abbrev pub ran_status : (refused : ℕ) → ℕ
 ran_status zero = 0
 ran_status (suc more) = 1
 
 -- 2 for all that is no run that went through
+-- rule: status-of-usage
 abbrev pub status_of : Outcome → ℕ
 status_of (Ran tally) = ran_status tally.refused
 status_of (Usage text) = 2

@@ -16,6 +16,7 @@ use Rattle.bufr_cli.specs.declared.job.Subcommand.TheVariants.{Ls, Dump, Encode}
 use Rattle.bufr_cli.specs.declared.job.TableNames.{TableNames}
 
 -- `ls [FILE]`
+-- rule: one-file
 abbrev pub ls_app : App
 ls_app = with_rule (new_app (codes "ls")) (new_rule (codes "FILE"))
 
@@ -47,6 +48,7 @@ top_app =
     }
 
 -- `bufr COMMAND`
+-- rule: version
 abbrev pub bufr_app : App
 bufr_app =
     with_subcommand (with_subcommand (with_subcommand top_app ls_app.top)
@@ -65,6 +67,7 @@ AreNamed rows tables =
     × (Some tables.table_d.now ≡ first_of (codes "D") rows)
 
 -- the word of --form for a form; without it documents say theirs
+-- rule: form-words
 abbrev pub word_of : Form → Option Text
 word_of AsWritten = None
 word_of Plain = Some (codes "plain")
@@ -90,6 +93,7 @@ abbrev pub LacksTables : List Row → Type 0
 LacksTables rows = (tables : TableNames) → ¬ AreNamed rows tables
 
 -- no form has this word
+-- rule: form-words
 abbrev pub LacksForm : List Row → Type 0
 LacksForm rows = (form : Form) → ¬ (word_of form ≡ first_of (codes "form") rows)
 
@@ -122,10 +126,12 @@ TellsKind kind (Usage text) = (kind ≢ OutOfMemory) × (kind ≢ DisplayHelp) �
 TellsKind kind Memory = Unit {0}
 
 -- help or the version is asked for
+-- rule: help
 abbrev pub AsksHelp : Kinds → Type 0
 AsksHelp kinds = IsAmong DisplayHelp kinds ⊎ IsAmong DisplayVersion kinds
 
 -- the line is refused, or met no job
+-- rule: usage
 abbrev pub IsMistaken : Kinds → Option (Text × List Row) → Type 0
 IsMistaken kinds subcommand =
     ((kind : ErrorKind) × IsAmong kind kinds × (kind ≢ DisplayHelp) × (kind ≢ DisplayVersion))

@@ -50,10 +50,12 @@ ls_or_fault offset (Ok sections) = OnOutput (ls_line offset sections)
 ls_or_fault offset (Err fault) = section_piece offset fault
 
 -- what `ls` writes for an event
+-- rule: one-fault-a-message
 abbrev pub ls_piece : StreamEvent → Piece
 ls_piece (FrameAt offset octets) = ls_or_fault offset (sections_of octets)
 ls_piece (StrayAt offset cause) = stray_piece offset cause
 
 -- what `ls` writes for a whole input
+-- rule: input-without-bufr
 abbrev pub ls_pieces : List ℕ → List Piece
 ls_pieces s = map ls_piece (scan s)

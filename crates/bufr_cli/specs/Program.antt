@@ -27,6 +27,7 @@ use Rattle.bufr_cli.specs.declared.tally.Tally.{Tally}
 
 -- the octets of the input, where they are known: those of the file of this name, or of standard
 -- input
+-- rule: dash-is-a-name
 abbrev pub input_octets : (standard : Option (List ℕ)) → (named : List ℕ → Option (List ℕ))
     → (file : Option (Bor (List ℕ))) → Option (List ℕ)
 input_octets standard named None = standard
@@ -72,6 +73,7 @@ ran_outcome (Ok tally) = Ran tally
 ran_outcome (Err fault) = Run fault
 
 -- the octets of the file of this name are not read
+-- rule: table-not-read
 abbrev pub FileOutcome : (named : List ℕ → Option (List ℕ))
     → (name : Bor (List ℕ)) → Outcome → Type 0
 FileOutcome named name outcome =
@@ -137,6 +139,7 @@ pub data AreUnread (named : List ℕ → Option (List ℕ)) (tables : TableNames
 
 -- what comes of a run by tables: they are not both read, and nothing was written; or there is a run
 -- by both
+-- rule: tables-before-input
 pub data TablesOutcome (run : List Row → List Sequence → Outcome → Type 0) (nothing : Type 0)
     (named : List ℕ → Option (List ℕ)) (tables : TableNames) (outcome : Outcome) : Type 0 where
   NoTables : nothing → AreUnread named tables outcome

@@ -56,6 +56,7 @@ accepted_messages piece s = flat_map (λ here. accepted_in here (piece here)) (s
 
 -- By how many octets these messages may grow when they are written again: up to two for each of
 -- edition 3, whose sections 3 and 4 are made even.
+-- rule: encode-may-grow
 abbrev pub longer_by : List (List ℕ) → ℕ
 longer_by [] = 0
 longer_by (m ∷ ms) = max_extra_octets (edition_of m) + longer_by ms

@@ -12,6 +12,7 @@ use Rattle.bufr_cli.specs.Pieces.{Piece, output_of, errors_of, is_accepted, is_r
 use Rattle.bufr_cli.specs.declared.tally.Tally.{Tally}
 
 -- All of the pieces were written, each on its writer, in order.
+-- rule: output-in-order
 pub record WritesPieces (old_output new_output old_errors new_errors : Option (List ℕ))
     (pieces : List Piece) : Type 0 where
   pub output : Appends old_output new_output (flat_map output_of pieces)
@@ -45,6 +46,7 @@ pub record RunDone (pieces_of : List StreamEvent → List Piece)
   pub tallies : Tallies tally (pieces_of (scan bs))
 
 -- The run stopped before the end, and the pieces of all that was certain were written.
+-- rule: input-not-read
 pub record RunStopped (pieces_of : List StreamEvent → List Piece)
     (left left' output output' errors errors' : Option (List ℕ)) (bs : List ℕ) : Type 0 where
   pub read : Consumes left left' bs
@@ -58,6 +60,7 @@ read_events false bs = open_scan bs
 
 -- A writer failed, or memory was refused: of what was read a front was written; where a flush was
 -- tried, all stands.
+-- rule: fault-line-not-written, reader-gone
 pub record RunCut (pieces_of : List StreamEvent → List Piece)
     (left left' output output' errors errors' : Option (List ℕ)) (unflushed : Type 0)
     (bs : List ℕ) : Type 0 where
@@ -74,6 +77,7 @@ ReadsFewer reads reads' = (n : ℕ) × (n < max_reads) × (reads' ≡ counted re
 
 -- what a run leaves that reads these octets; memory is wanted where a piece was to be written, or
 -- early, before all of the reads were made
+-- rule: fault-70
 abbrev pub RunsEvents : (pieces_of : List StreamEvent → List Piece)
     → (left left' output output' errors errors' : Option (List ℕ))
     → (unflushed early : Type 0) → List ℕ → Result Tally RunFault → Type 0
@@ -95,6 +99,7 @@ abbrev pub GivesPieces : (StreamEvent → Piece → Type 0) → (StreamEvent →
 GivesPieces is_piece piece = (here : StreamEvent) → is_piece here (piece here)
 
 -- at most 2^32 reads were made; an input is too long only after all of them
+-- rule: fault-72
 abbrev pub ReadsAtMost : {X : Type 0} → (reads reads' : ℕ) → Result X RunFault → Type 0
 ReadsAtMost reads reads' result =
     (n : ℕ) × (n ≤ max_reads) × (reads' ≡ counted reads n)

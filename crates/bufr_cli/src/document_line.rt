@@ -150,6 +150,7 @@ fn write_walk<E: Sink>(
 /// # Errors
 ///
 /// [`RunFault::Write`] where the writer fails or takes nothing; a front of the line was taken.
+// rule: fault-lines-of-encoding
 pub fn write_document_fault<E: Sink>(fault: DocumentFault, e: &mut E) -> Result<(), RunFault>
     requires some { fault ≢ DocumentFault.Memory }
     requires template { (line : ℕ) → fault ≢ DocumentFault.Template line TemplateFault.Memory }
@@ -183,6 +184,7 @@ pub fn write_document_fault<E: Sink>(fault: DocumentFault, e: &mut E) -> Result<
 /// # Errors
 ///
 /// [`RunFault::Write`] where the writer fails or takes nothing; a front of the line was taken.
+// rule: fault-lines-of-reading
 pub fn write_read_fault<E: Sink>(fault: ReadFault, e: &mut E) -> Result<(), RunFault>
     requires { (run : RunFault) → fault ≢ ReadFault.Run run }
     ensures writes { (line : ℕ) (why : TextLineFault) → parse_results (Err fault) ≡ Refused line why

@@ -55,6 +55,7 @@ fn read_data<'a>(
 
 /// Writes the text of a message by its template and the specs that are cached, or the line of the
 /// fault that its data are refused for.
+// rule: refused-messages-write-nothing
 fn dump_data<W: Sink, E: Sink>(
     alloc: Global,
     offset: u64,
@@ -127,6 +128,7 @@ fn dump_selected<W: Sink, E: Sink>(
 
 /// Writes the text of a message, or the line of the fault that its descriptors or its data are
 /// refused for.
+// rule: list-before-data
 fn dump_message<W: Sink, E: Sink>(
     alloc: Global,
     offset: u64,
@@ -156,6 +158,7 @@ fn dump_message<W: Sink, E: Sink>(
 }
 
 /// Writes the text of an event's message, or its fault line.
+// rule: one-fault-a-message
 fn dump_event<W: Sink, E: Sink>(
     alloc: Global,
     event: Event<'_>,

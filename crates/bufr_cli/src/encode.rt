@@ -80,6 +80,7 @@ fn encode_one<W: Sink, E: Sink>(
 
 /// Writes what stands for the next document of a text: its message, or a fault line. At the end of
 /// the text there is nothing. The document's memory goes back to its reader.
+// rule: document-read-first
 fn encode_next<W: Sink, E: Sink>(
     alloc: Global,
     reader: &mut DumpReader,
@@ -117,6 +118,7 @@ fn encode_next<W: Sink, E: Sink>(
 
 /// Encodes the documents of `r` in a form, up to the first one that is refused, and flushes
 /// nothing.
+// rule: first-refusal-ends
 fn encode_documents<R: Source, W: Sink, E: Sink>(
     alloc: Global,
     r: &mut R,

@@ -23,6 +23,7 @@ const SPOT_LINE: usize = 110;
 
 /// Writes the fault line whose text, with its line feed, stands in `line` from `end` on: before it
 /// come a word, the place that this counts, and the fault's number.
+// rule: stream-fault-line
 pub(crate) fn write_fault<E: Sink>(
     word: &[u8],
     place: u64,
@@ -62,6 +63,7 @@ fn stray_text(cause: Cause) -> &'static [u8]
 /// # Errors
 ///
 /// [`RunFault::Write`] where the writer fails or takes nothing; a front of the line was taken.
+// rule: fault-1, fault-2, fault-3
 pub fn write_stray<E: Sink>(offset: u64, cause: Cause, e: &mut E) -> Result<(), RunFault>
     ensures writes { Writes (E.taken e.old) (E.taken e.new)
         (fault_line offset (number_of_cause cause) (cause_text cause ∷ [])) result }
@@ -103,6 +105,7 @@ fn lay_section_fault(fault: SectionFault, line: &mut [u8]) -> usize
 /// # Errors
 ///
 /// [`RunFault::Write`] where the writer fails or takes nothing; a front of the line was taken.
+// rule: fault-10, fault-11, fault-12, fault-13, fault-14
 pub fn write_section_fault<E: Sink>(
     offset: u64,
     fault: SectionFault,
@@ -143,6 +146,7 @@ pub(crate) fn name_of_template_fault(fault: &TemplateFault) -> (&'static [u8], F
 /// # Errors
 ///
 /// [`RunFault::Write`] where the writer fails or takes nothing; a front of the line was taken.
+// rule: fault-20, fault-21, fault-22, fault-23, fault-24, fault-25, fault-26, fault-27, fault-28
 pub fn write_template_fault<E: Sink>(
     offset: u64,
     fault: &TemplateFault,
@@ -181,6 +185,7 @@ fn name_of_walk_fault(fault: &WalkFault) -> (&'static [u8], Spot)
 
 /// Lays a name and where in the data it stands at the end of the octets, and answers where they
 /// begin.
+// rule: stream-fault-place
 fn lay_spot(name: &[u8], spot: Spot, line: &mut [u8]) -> usize
     requires short { length name.now ≤ 15 }
     requires room { 75 ≤ length line.old }
@@ -204,6 +209,7 @@ fn lay_spot(name: &[u8], spot: Spot, line: &mut [u8]) -> usize
 /// # Errors
 ///
 /// [`RunFault::Write`] where the writer fails or takes nothing; a front of the line was taken.
+// rule: fault-30, fault-31, fault-32, fault-33, fault-34, fault-35
 pub fn write_walk_fault<E: Sink>(offset: u64, fault: &WalkFault, e: &mut E) -> Result<(), RunFault>
     requires { fault.now ≢ WalkFault.Memory }
     ensures writes { Writes (E.taken e.old) (E.taken e.new)

@@ -233,6 +233,7 @@ fn file_argument<'a>(alloc: Global, help: &'a str) -> Arg<'a>
 }
 
 /// `bufr ls [FILE]`.
+// rule: one-file
 fn ls_command<'a>(alloc: Global) -> Result<clap::Command<'a>, AllocError>
     ensures app { IfOk result (λ c. app_of c ≡ ls_app) }
     ensures local { IfOk result (λ c. (out-Command c).has_globals ≡ false) }
@@ -342,6 +343,7 @@ fn with_encode<'a>(
 }
 
 /// The command line of `bufr`.
+// rule: version
 fn command_line<'a>(alloc: Global) -> Result<clap::Command<'a>, AllocError>
     ensures { IfOk result (λ c. app_of c ≡ bufr_app) }
 {
@@ -352,6 +354,7 @@ fn command_line<'a>(alloc: Global) -> Result<clap::Command<'a>, AllocError>
 }
 
 /// The fault that an error of clap stands for, with its text.
+// rule: help
 fn line_fault(alloc: Global, error: &Error) -> LineFault
     ensures { TellsKind (kind_of error.now) result }
 {
@@ -381,6 +384,7 @@ fn tables_of<'a>(found: &ArgMatches<'a>) -> Option<TableNames<'a>>
 }
 
 /// The form of this name, where there is one.
+// rule: form-words
 fn form_named(word: &str) -> Option<Form>
     ensures named { IfSome result (λ form. word_of form ≡ Some word.now) }
     ensures lacks { IfNone result ((form : Form) → ¬ (word_of form ≡ Some word.now)) }
@@ -489,6 +493,7 @@ fn job_of<'a>(name: &str, found: &ArgMatches<'a>) -> Result<Job<'a>, NoJob>
 /// [`LineFault::Help`] where help or the version is asked for, [`LineFault::Usage`] where the words
 /// are not understood, no command is among them, a table is missing or a form unknown, and
 /// [`LineFault::Memory`].
+// rule: usage
 pub fn parse_line<'a, S: AsStr>(alloc: Global, words: &'a [S]) -> Result<Job<'a>, LineFault>
     ensures job { IfOk result
         (λ job. IsJobOf (subcommand_of bufr_app (map S.text words.entry.now)) job) }

@@ -35,6 +35,7 @@ pub fn an_event_has_one_piece()
 /// those that were dumped, and are no longer, but for up to two octets for each message of edition
 /// 3, whose sections 3 and 4 are made even; and dumped again they are the same text, octet for
 /// octet.
+// rule: encode-may-grow
 pub fn dumped_streams_are_built_again()
     ensures { (records : List Record) (table_b : List Row) (table_d : List Sequence)
         (piece : StreamEvent → Piece) (s : List ℕ)

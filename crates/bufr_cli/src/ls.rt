@@ -16,6 +16,7 @@ use bufr_text::write_ls;
 use std::alloc::Global;
 
 /// Writes the line of an event.
+// rule: one-fault-a-message
 fn list_event<W: Sink, E: Sink>(event: Event<'_>, w: &mut W, e: &mut E) -> Result<Verdict, RunFault>
     requires { IsEvent event }
     ensures tells { TellsPieces (W.taken w.old) (W.taken w.new) (E.taken e.old) (E.taken e.new)
@@ -84,6 +85,7 @@ impl EventWriter for LsRun {
 /// [`RunFault::Read`], [`RunFault::InputTooLong`] and [`RunFault::Memory`] as [`Finder::next`]
 /// gives them; the lines of all that was certain were written then. [`RunFault::Write`] where a
 /// writer failed or took nothing: a front of the lines was written.
+// rule: input-without-bufr
 pub fn run_ls<R: Source, W: Sink, E: Sink>(
     alloc: Global,
     r: &mut R,

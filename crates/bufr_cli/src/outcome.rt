@@ -41,6 +41,7 @@ fn text_of_run_fault(fault: RunFault) -> &'static [u8]
 }
 
 /// The exit status of an outcome.
+// rule: status-0-and-1
 fn status(outcome: &Outcome<'_>) -> u8
     ensures { result ≡ status_of outcome.now }
 {
@@ -52,6 +53,7 @@ fn status(outcome: &Outcome<'_>) -> u8
 }
 
 /// Writes that the file of this name cannot be opened.
+// rule: status-of-open
 fn write_cannot_open<E: Sink>(name: &str, e: &mut E) -> Result<(), RunFault>
     ensures writes { Writes (E.taken e.old) (E.taken e.new)
         (last_line (Outcome.CannotOpen name.entry)) result }
@@ -66,6 +68,7 @@ fn write_cannot_open<E: Sink>(name: &str, e: &mut E) -> Result<(), RunFault>
 }
 
 /// Writes the number and the text of a fault that ended the run.
+// rule: fault-70, fault-71, fault-72, fault-73
 fn write_run_fault<E: Sink>(fault: RunFault, e: &mut E) -> Result<(), RunFault>
     ensures writes { Writes (E.taken e.old) (E.taken e.new) (run_line fault) result }
     ensures counts { CountsCalls E.failures E.empty_writes e.old e.new result }
@@ -105,6 +108,7 @@ fn write_numbered<'a, E: Sink>(
 }
 
 /// Writes the line of a table that cannot be read.
+// rule: status-of-table, fault-73
 fn write_table_fault<E: Sink>(table: &[u8], fault: &TableFault, e: &mut E) -> Result<(), RunFault>
     ensures writes { Writes (E.taken e.old) (E.taken e.new)
         (table_line table.now fault.now) result }
@@ -131,6 +135,7 @@ fn write_table_fault<E: Sink>(table: &[u8], fault: &TableFault, e: &mut E) -> Re
 }
 
 /// Writes the line that goes before status 2, or the usage text, or nothing.
+// rule: status-of-usage
 fn write_last<E: Sink>(outcome: &Outcome<'_>, e: &mut E) -> Result<(), RunFault>
     ensures writes { Writes (E.taken e.old) (E.taken e.new) (last_line outcome.now) result }
     ensures counts { CountsCalls E.failures E.empty_writes e.old e.new result }

@@ -99,6 +99,7 @@ pub fn run<'a, S: AsStr, I: Inputs, W: Sink, E: Sink>(
 }
 
 /// Writes a text and hands it on.
+// rule: status-of-help
 fn write_and_flush<W: Sink>(text: &[u8], w: &mut W) -> Result<(), RunFault>
     ensures writes { Writes (W.taken w.old) (W.taken w.new) text.now result }
     ensures handed { OnOk result (W.all_flushed w.new ≡ true) }
@@ -130,6 +131,7 @@ fn run_job<'a, I: Inputs, W: Sink, E: Sink>(
 }
 
 /// Reads the tables of these names, and dumps the messages of an input by them.
+// rule: tables-before-input
 fn dump_job<'a, I: Inputs, W: Sink, E: Sink>(
     alloc: Global,
     names: TableNames<'a>,
@@ -154,6 +156,7 @@ fn dump_job<'a, I: Inputs, W: Sink, E: Sink>(
 }
 
 /// Reads the tables of these names, and encodes the documents of an input by them in a form.
+// rule: tables-before-input
 fn encode_job<'a, I: Inputs, W: Sink, E: Sink>(
     alloc: Global,
     names: TableNames<'a>,
@@ -200,6 +203,7 @@ fn open_file<'a, I: Inputs>(name: &'a str, inputs: &I) -> Result<I::File, Outcom
 /// # Errors
 ///
 /// [`Outcome::CannotOpen`], and [`Outcome::Run`] where it cannot be read to its end.
+// rule: table-not-read
 fn read_file<'a, I: Inputs>(
     alloc: Global,
     name: &'a str,
@@ -345,6 +349,7 @@ trait Runner {
 }
 
 /// Runs over a file, or over standard input.
+// rule: dash-is-a-name
 fn run_input<'a, T: Runner, I: Inputs, W: Sink, E: Sink>(
     alloc: Global,
     runner: &T,

@@ -71,6 +71,7 @@ pub(crate) fn flush<W: Sink>(w: &mut W) -> Result<(), RunFault>
 ///
 /// The faults of [`Finder::next`], of [`EventWriter::write_event`], and [`RunFault::Write`] where a
 /// flush failed.
+// rule: output-in-order, fault-line-not-written, input-not-read, reader-gone
 pub fn run_events<T: EventWriter, R: Source, W: Sink, E: Sink>(
     alloc: Global,
     teller: &mut T,

@@ -23,20 +23,24 @@ missing_written : packed_to_bits temperature (subset (numbered 24 3173 (codes "2
 unfolding packed_to_bits ok_bits temperature decimal_value_of bits_in
 missing_written = refl
 
+-- rule: packs-all-missing
 all_missing : packed_to_bits temperature (subset (draft 24 3173 missing_form ∷ []) 25 ∷ subset (draft 26 3173 missing_form ∷ []) 27 ∷ []) ≡ ok_bits (255 ∷ 255 ∷ 0 ∷ []) 22
 unfolding packed_to_bits ok_bits temperature bits_in
 all_missing = refl
 
+-- rule: packs-equal
 equal_written : packed_to_bits temperature (subset (numbered 24 3173 (codes "288.15") ∷ []) 25 ∷ subset (numbered 26 3173 (codes "288.15") ∷ []) 27 ∷ []) ≡ ok_bits (112 ∷ 143 ∷ 0 ∷ []) 22
 unfolding packed_to_bits ok_bits temperature decimal_value_of bits_in
 equal_written = refl
 
 -- with k = 1 the second would read as missing
+-- rule: packs-numbers
 differing_written : packed_to_bits temperature (subset (numbered 24 3173 (codes "288.15") ∷ []) 25 ∷ subset (numbered 26 3173 (codes "288.16") ∷ []) 27 ∷ []) ≡ ok_bits (112 ∷ 143 ∷ 8 ∷ 64 ∷ []) 26
 unfolding packed_to_bits ok_bits temperature decimal_value_of bits_in
 differing_written = refl
 
 -- the base is the least number, wherever it occurs
+-- rule: packs-numbers
 least_is_second : packed_to_bits temperature (subset (numbered 24 3173 (codes "288.16") ∷ []) 25 ∷ subset (numbered 26 3173 (codes "288.15") ∷ []) 27 ∷ []) ≡ ok_bits (112 ∷ 143 ∷ 9 ∷ 0 ∷ []) 26
 unfolding packed_to_bits ok_bits temperature decimal_value_of bits_in
 least_is_second = refl
@@ -47,19 +51,23 @@ unfolding packed_to_bits ok_bits block decimal_value_of bits_in
 missing_first = refl
 
 -- where nothing is missing an increment may be all ones
+-- rule: packs-class-31
 figures_written : packed_to_bits coded_spec (subset (numbered 24 7957 (codes "5") ∷ []) 25 ∷ subset (numbered 26 7957 (codes "6") ∷ []) 27 ∷ []) ≡ ok_bits (20 ∷ 20 ∷ []) 14
 unfolding packed_to_bits ok_bits coded_spec decimal_value_of bits_in
 figures_written = refl
 
+-- rule: packs-texts
 name_written : packed_to_bits name (subset (draft 24 271 (text_form (codes "ABC")) ∷ []) 25 ∷ subset (draft 26 271 missing_form ∷ []) 27 ∷ []) ≡ ok_bits (zeros 20 (13 ∷ 5 ∷ 9 ∷ 15 ∷ 255 ∷ 255 ∷ 252 ∷ [])) 214
 unfolding packed_to_bits ok_bits zeros name bits_in bits_of
 name_written = refl
 
+-- rule: packs-equal
 names_equal : packed_to_bits four_letters (subset (draft 24 34052 (text_form (codes "AB")) ∷ []) 25 ∷ subset (draft 26 34052 (text_form (codes "AB  ")) ∷ []) 27 ∷ []) ≡ ok_bits (65 ∷ 66 ∷ 32 ∷ 32 ∷ 0 ∷ []) 38
 unfolding packed_to_bits ok_bits four_letters bits_in bits_of
 names_equal = refl
 
 -- with k = 1 the first would read as missing
+-- rule: packs-texts-not-missing
 text_that_begins_with_ones : packed_to_bits four_letters (subset (draft 24 34052 (text_form (255 ∷ [])) ∷ []) 25 ∷ subset (draft 26 34052 (text_form (codes "B")) ∷ []) 27 ∷ []) ≡ ok_bits (zeros 4 (11 ∷ 252 ∷ 129 ∷ 8 ∷ 128 ∷ [])) 70
 unfolding packed_to_bits ok_bits zeros four_letters bits_in bits_of
 text_that_begins_with_ones = refl
@@ -70,37 +78,44 @@ texts_of_63 : packed_to_bits (operator 34112 bare) (subset (draft 24 34112 (text
 unfolding packed_to_bits letters bits_in bits_of
 texts_of_63 = refl
 
+-- rule: fault-59
 texts_too_long_apart : packed_to_bits (operator 34112 bare) (subset (draft 24 34112 (text_form (letters 63 65)) ∷ []) 25 ∷ subset (draft 26 34112 (text_form (letters 63 66)) ∷ []) 27 ∷ []) ≡ Err (at_line 24 uneven_increment)
 unfolding packed_to_bits letters bits_in
 texts_too_long_apart = refl
 
 -- the first subset whose factor is not that of the first
+-- rule: fault-58
 factors_unequal : packed_to_bits delayed_blocks
     (subset (numbered 24 7937 (codes "0") ∷ []) 25 ∷ subset (numbered 26 7937 (codes "0") ∷ []) 27 ∷ subset (numbered 28 7937 (codes "1") ∷ numbered 29 257 (codes "1") ∷ []) 30 ∷ []) ≡ Err (at_line 28 unequal_factors)
 unfolding packed_to_bits delayed_blocks decimal_value_of bits_in
 factors_unequal = refl
 
+-- rule: packs-factors-and-references
 blocks_written : packed_to_bits delayed_blocks
     (subset (numbered 24 7937 (codes "1") ∷ numbered 25 257 (codes "10") ∷ []) 26 ∷ subset (numbered 27 7937 (codes "1") ∷ numbered 28 257 (codes "10") ∷ []) 29 ∷ []) ≡ ok_bits (1 ∷ 0 ∷ 80 ∷ 0 ∷ []) 27
 unfolding packed_to_bits ok_bits delayed_blocks decimal_value_of bits_in
 blocks_written = refl
 
+-- rule: packs-factors-and-references
 references_equal : packed_to_bits redefined
     (subset (draft 24 3173 (reference_token (codes "-400")) ∷ numbered 25 3173 (codes "284.15") ∷ []) 26 ∷ subset (draft 27 3173 (reference_token (codes "-400")) ∷ numbered 28 3173 (codes "284.15") ∷ []) 29 ∷ [])
     ≡ ok_bits (228 ∷ 0 ∷ 112 ∷ 143 ∷ 0 ∷ []) 38
 unfolding packed_to_bits ok_bits redefined decimal_value_of bits_in
 references_equal = refl
 
+-- rule: fault-59
 references_differ : packed_to_bits redefined
     (subset (draft 24 3173 (reference_token (codes "-400")) ∷ []) 26 ∷ subset (draft 27 3173 (reference_token (codes "400")) ∷ []) 29 ∷ []) ≡ Err (at_line 24 uneven_increment)
 unfolding packed_to_bits redefined decimal_value_of bits_in
 references_differ = refl
 
 -- subset by subset, and only then whether they can be packed
+-- rule: fault-order-of-subsets
 second_at_fault : packed_to_bits delayed_blocks (subset (numbered 24 7937 (codes "0") ∷ []) 25 ∷ subset (numbered 26 7937 (codes "1") ∷ []) 27 ∷ subset (numbered 28 7937 (codes "1.5") ∷ []) 29 ∷ []) ≡ Err (at_line 28 wrong_number)
 unfolding packed_to_bits delayed_blocks decimal_value_of bits_in
 second_at_fault = refl
 
+-- rule: fault-order-of-subsets
 first_goes_before : packed_to_bits temperature (subset (numbered 24 3173 (codes "655.35") ∷ []) 25 ∷ subset (numbered 26 257 (codes "1") ∷ []) 27 ∷ []) ≡ Err (at_line 24 out_of_range)
 unfolding packed_to_bits temperature decimal_value_of
 first_goes_before = refl
@@ -135,6 +150,7 @@ last_value : pack_across as_quantity (item_row 67108863 (subset [] 25 ∷ subset
 unfolding as_quantity
 last_value = refl
 
+-- rule: fault-62
 values_too_many : pack_across as_quantity (item_row 67108864 (subset [] 25 ∷ subset [] 26 ∷ [])) ≡ Err (at_line 25 (too_many_values 3173))
 unfolding as_quantity
 values_too_many = refl

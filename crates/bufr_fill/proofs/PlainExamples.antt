@@ -14,19 +14,23 @@ temperature_written : plain_bits temperature (subset (numbered 24 3173 (codes "6
 unfolding plain_bits ok_bits temperature decimal_value_of bits_in
 temperature_written = refl
 
+-- rule: fault-53
 temperature_would_be_missing : plain_bits temperature (subset (numbered 24 3173 (codes "655.35") ∷ []) 25 ∷ []) ≡ Err (at_line 24 out_of_range)
 unfolding plain_bits temperature decimal_value_of
 temperature_would_be_missing = refl
 
+-- rule: fault-52
 temperature_inexact : plain_bits temperature (subset (numbered 24 3173 (codes "288.155") ∷ []) 25 ∷ []) ≡ Err (at_line 24 wrong_number)
 unfolding plain_bits temperature decimal_value_of
 temperature_inexact = refl
 
 -- a number that is not whole comes before one that is too great
+-- rule: fault-order-of-an-item
 temperature_inexact_and_great : plain_bits temperature (subset (numbered 24 3173 (codes "700.155") ∷ []) 25 ∷ []) ≡ Err (at_line 24 wrong_number)
 unfolding plain_bits temperature decimal_value_of
 temperature_inexact_and_great = refl
 
+-- rule: fault-52
 no_decimal : plain_bits temperature (subset (numbered 24 3173 (codes "2-8") ∷ []) 25 ∷ []) ≡ Err (at_line 24 wrong_number)
 unfolding plain_bits temperature decimal_value_of
 no_decimal = refl
@@ -40,6 +44,7 @@ temperature_missing : plain_bits temperature (subset (draft 24 3173 missing_form
 unfolding plain_bits ok_bits temperature
 temperature_missing = refl
 
+-- rule: fault-52
 text_for_a_number : plain_bits temperature (subset (draft 24 3173 (text_form (codes "28815")) ∷ []) 25 ∷ []) ≡ Err (at_line 24 wrong_number)
 unfolding plain_bits temperature
 text_for_a_number = refl
@@ -49,6 +54,7 @@ negative_latitude : plain_bits latitude (subset (numbered 24 1282 (codes "-0.05"
 unfolding plain_bits ok_bits latitude decimal_value_of bits_in
 negative_latitude = refl
 
+-- rule: fault-53
 under_the_reference : plain_bits latitude (subset (numbered 24 1282 (codes "-90.01") ∷ []) 25 ∷ []) ≡ Err (at_line 24 out_of_range)
 unfolding plain_bits latitude decimal_value_of
 under_the_reference = refl
@@ -58,10 +64,12 @@ figure_of_all_ones : plain_bits coded_spec (subset (numbered 24 7957 (codes "63"
 unfolding plain_bits ok_bits coded_spec decimal_value_of bits_in
 figure_of_all_ones = refl
 
+-- rule: fault-55
 figure_missing : plain_bits coded_spec (subset (draft 24 7957 missing_form ∷ []) 25 ∷ []) ≡ Err (at_line 24 missing_forbidden)
 unfolding plain_bits coded_spec
 figure_missing = refl
 
+-- rule: fault-55
 factor_missing : plain_bits delayed_blocks (subset (draft 24 7937 missing_form ∷ []) 25 ∷ []) ≡ Err (at_line 24 missing_forbidden)
 unfolding plain_bits delayed_blocks
 factor_missing = refl
@@ -71,6 +79,7 @@ unfolding plain_bits ok_bits delayed_blocks decimal_value_of bits_in
 blocks_written = refl
 
 -- spaces follow a short text
+-- rule: fault-54
 text_written : plain_bits four_letters (subset (draft 24 34052 (text_form (codes "AB")) ∷ []) 25 ∷ []) ≡ ok_bits (65 ∷ 66 ∷ 32 ∷ 32 ∷ []) 32
 unfolding plain_bits ok_bits four_letters bits_of
 text_written = refl
@@ -83,6 +92,7 @@ number_for_a_text : plain_bits four_letters (subset (numbered 24 34052 (codes "1
 unfolding plain_bits four_letters
 number_for_a_text = refl
 
+-- rule: fault-53
 text_would_be_missing : plain_bits four_letters (subset (draft 24 34052 (text_form (255 ∷ 255 ∷ 255 ∷ 255 ∷ [])) ∷ []) 25 ∷ []) ≡ Err (at_line 24 out_of_range)
 unfolding plain_bits four_letters
 text_would_be_missing = refl
@@ -93,6 +103,7 @@ unfolding plain_bits ok_bits four_letters bits_of
 text_of_some_ones = refl
 
 -- too long comes before missing
+-- rule: fault-54, fault-order-of-an-item
 text_too_long : plain_bits four_letters (subset (draft 24 34052 (text_form (255 ∷ 255 ∷ 255 ∷ 255 ∷ 255 ∷ [])) ∷ []) 25 ∷ []) ≡ Err (at_line 24 text_long)
 unfolding plain_bits four_letters
 text_too_long = refl
@@ -103,6 +114,7 @@ unfolding plain_bits ok_bits redefined decimal_value_of bits_in
 reference_written = refl
 
 -- zero has the plus sign
+-- rule: writes-plus-zero
 minus_zero : plain_bits redefined (subset (draft 24 3173 (reference_token (codes "-0")) ∷ numbered 25 3173 (codes "288.15") ∷ []) 26 ∷ []) ≡ ok_bits (0 ∷ 28 ∷ 35 ∷ 192 ∷ []) 26
 unfolding plain_bits ok_bits redefined decimal_value_of bits_in
 minus_zero = refl
@@ -116,6 +128,7 @@ reference_inexact : plain_bits redefined (subset (draft 24 3173 (reference_token
 unfolding plain_bits redefined decimal_value_of
 reference_inexact = refl
 
+-- rule: fault-51
 number_for_a_reference : plain_bits redefined (subset (numbered 24 3173 (codes "-400") ∷ []) 26 ∷ []) ≡ Err (at_line 24 (wrong_descriptor 3173 Bool.true))
 unfolding plain_bits redefined
 number_for_a_reference = refl
@@ -125,23 +138,28 @@ unfolding plain_bits temperature
 reference_for_a_number = refl
 
 -- another descriptor comes before its number
+-- rule: fault-51, fault-order-of-an-item
 other_descriptor : plain_bits temperature (subset (numbered 24 257 (codes "1-") ∷ []) 25 ∷ []) ≡ Err (at_line 24 (wrong_descriptor 3173 Bool.false))
 unfolding plain_bits temperature
 other_descriptor = refl
 
+-- rule: fault-51
 item_left_out : plain_bits temperature (subset [] 24 ∷ []) ≡ Err (at_line 24 (wrong_descriptor 3173 Bool.false))
 unfolding plain_bits temperature
 item_left_out = refl
 
+-- rule: fault-51
 second_item : plain_bits temperature (subset (numbered 24 3173 (codes "1") ∷ numbered 25 3173 (codes "1") ∷ []) 26 ∷ []) ≡ Err (at_line 25 item_too_many)
 unfolding plain_bits temperature decimal_value_of bits_in
 second_item = refl
 
 -- the walk's refusal comes before another descriptor, and before the end
+-- rule: fault-62, fault-62-first
 width_refused : plain_bits width_of_none (subset (numbered 24 3173 (codes "0") ∷ []) 25 ∷ []) ≡ Err (at_line 24 (walk_refused (refusal.Width 257)))
 unfolding plain_bits width_of_none
 width_refused = refl
 
+-- rule: fault-62
 width_refused_at_the_end : plain_bits width_of_none (subset [] 25 ∷ []) ≡ Err (at_line 25 (walk_refused (refusal.Width 257)))
 unfolding plain_bits width_of_none
 width_refused_at_the_end = refl

@@ -24,12 +24,14 @@ is_marked (reference_token digits) = true
 
 -- a text that is no decimal, or not whole at its scale, is no number; a value past the greatest is
 -- out of range
+-- rule: fault-52
 abbrev pub number_fault : NumberFault → DraftFaultKind
 number_fault Syntax = wrong_number
 number_fault Inexact = wrong_number
 number_fault Large = out_of_range
 
 -- a number that fits its bits and does not read as missing
+-- rule: fault-53
 abbrev pub raw_within : Bool → ℕ → ℤ → Result Content DraftFaultKind
 raw_within m width (pos raw) =
     if nat_lt raw (raw_limit m width) then Ok (number raw) else Err out_of_range
@@ -47,6 +49,7 @@ reference_of spec (Ok value) =
 reference_of spec (Err why) = Err (number_fault why)
 
 -- a text followed by spaces up to its length, which does not read as missing
+-- rule: fault-53, fault-54
 abbrev pub text_within : ℕ → List ℕ → Result Content DraftFaultKind
 text_within count octets =
     if nat_lt count (length octets) then Err text_long
@@ -54,10 +57,12 @@ text_within count octets =
     if list_all (λ octet. octet == 255) whole then Err out_of_range else Ok (text whole)
 
 -- a missing value, where one is allowed
+-- rule: fault-55
 abbrev pub missing_of : Bool → Result Content DraftFaultKind
 missing_of m = if m then Ok missing else Err missing_forbidden
 
 -- a value as the content of its field; one of another kind is no number
+-- rule: fault-52, fault-order-of-an-item
 abbrev pub content_by_form : DraftValue → FieldSpec → Result Content DraftFaultKind
 content_by_form (number_token digits) spec =
     if is_character spec.kind then Err wrong_number
@@ -68,6 +73,7 @@ content_by_form missing_form spec = missing_of spec.may_be_missing
 content_by_form (reference_token digits) spec = reference_of spec (decimal_value_of digits (pos 0))
 
 -- whether an item has the descriptor and the mark of a field
+-- rule: fault-51
 abbrev pub is_of : FieldSpec → Draft → Bool
 is_of spec d =
     (d.fxy == spec.fxy)
@@ -79,6 +85,7 @@ wrong_for spec = wrong_descriptor spec.fxy (is_reference spec.role)
 
 -- an item as the content of its field; the first fault is another field's item, then another kind,
 -- then a value that does not fit
+-- rule: fault-order-of-an-item
 abbrev pub content_of : FieldSpec → Draft → Result Content DraftFaultKind
 content_of spec d = if is_of spec d then content_by_form d.form spec else Err (wrong_for spec)
 
@@ -97,6 +104,7 @@ plainly line spec (Ok c) = Ok (written_item c (bits_for spec.width c))
 plainly line spec (Err why) = Err (at_line line why)
 
 -- how the items of one subset are written, which ends on a line
+-- rule: fault-51, fault-62
 abbrev pub plain_filler : (end_line : ℕ) → Filler Draft Content FaultAt
 plain_filler end_line = record {
   fills = λ spec d. plainly d.line spec (content_of spec d);

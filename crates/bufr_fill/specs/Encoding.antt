@@ -111,11 +111,13 @@ first_unlike c (d ∷ ds) (cell ∷ cells) = if same c d then first_unlike c ds 
     else cell_line cell
 
 -- the line of the first cell whose content differs from the first one's
+-- rule: fault-58
 abbrev pub unlike_line : List Content → List RowCell → ℕ
 unlike_line [] cells = 0
 unlike_line (c ∷ cs) cells = first_unlike c (c ∷ cs) cells
 
 -- the fault of contents that cannot be packed, with its line
+-- rule: fault-58
 abbrev pub packing_fault : List Content → List RowCell → FieldFault → FaultAt
 packing_fault cs cells unequal_factor = at_line (unlike_line cs cells) unequal_factors
 packing_fault cs cells _ = at_line (first_line cells) uneven_increment
@@ -131,6 +133,7 @@ abbrev pub are_many : (place subsets : ℕ) → Bool
 are_many place subsets = nat_lt max_values ((place + 1) * subsets)
 
 -- an item of all subsets: its contents and its bits, or its fault
+-- rule: fault-order-of-subsets
 abbrev pub pack_across : FieldSpec → ItemRow → Result (WrittenItem (List Content)) FaultAt
 pack_across spec a =
     if are_many a.place (length a.cells)
@@ -145,6 +148,7 @@ none_across end_line many spec =
 
 -- how rows are written, where the first subset ends on a line; `many` is whether one more row has
 -- too many values
+-- rule: fault-62
 abbrev pub packed_filler : (end_line : ℕ) (many : Bool) → Filler ItemRow (List Content) FaultAt
 packed_filler end_line many = record {
   fills = pack_across;

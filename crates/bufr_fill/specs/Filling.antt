@@ -54,6 +54,7 @@ module _ {D C E : Type 0} (filler : Filler D C E) where
 
   -- the bits of drafts, each at the field that comes next, to the end of the template; or the first
   -- fault
+  -- rule: fault-62-first
   abbrev pub fill : Course → List D → Result (List Bool) E
   fill course [] = fill_none (course []).next
   fill course (d ∷ ds) = fill_one (course []).next d (λ t. fill (λ told. course (t ∷ told)) ds)

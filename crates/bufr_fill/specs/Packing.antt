@@ -15,6 +15,7 @@ use Rattle.bufr_walk.specs.PlainField.{FieldFault, increment, unequal_factor}
 use Rattle.bufr_walk.specs.PackedField.{ones}
 
 -- the limit of the numbers that `width` bits write, without all ones where that is missing
+-- rule: packs-class-31
 abbrev pub raw_limit : (may_be_missing : Bool) (width : ℕ) → ℕ
 raw_limit m width = if m then ones width else 2 ^ width
 
@@ -48,6 +49,7 @@ smaller n None = n
 smaller n (Some m) = min n m
 
 -- the least number among contents, if there is one
+-- rule: packs-numbers
 abbrev pub lowest : List Content → Option ℕ
 lowest [] = None
 lowest (number n ∷ cs) = Some (smaller n (lowest cs))
@@ -60,6 +62,7 @@ has_bits m base k _ = true
 
 -- whether the first k octets of a text, followed by spaces, are the text again, and do not read as
 -- missing
+-- rule: packs-texts-not-missing
 abbrev pub gives_again : (k : ℕ) → List ℕ → Bool
 gives_again k octets =
     same_octets (take k octets ++ replicate (length octets - k) 32) octets
@@ -76,6 +79,7 @@ first_from p zero k = k
 first_from p (suc fuel) k = if p k then k else first_from p fuel (k + 1)
 
 -- the least k, from 1 to 63, that all contents pass, or 64
+-- rule: packs-numbers
 abbrev pub least_k : (ℕ → Content → Bool) → List Content → ℕ
 least_k passes cs = first_from (λ k. list_all (passes k) cs) 63 1
 
@@ -103,6 +107,7 @@ abbrev pub numbers_over : (m : Bool) (width base : ℕ) → List Content → Lis
 numbers_over m width base cs = packed_numbers width base (least_k (has_bits m base) cs) cs
 
 -- texts that differ: the base is zero bits
+-- rule: packs-texts, fault-59
 abbrev pub packed_texts : (width k : ℕ) → List Content → Result (List Bool) FieldFault
 packed_texts width k cs =
     if nat_le k 63
@@ -114,12 +119,14 @@ packed_by kind.Character spec cs = packed_texts spec.width (least_k has_octets c
 packed_by _ spec cs = Ok (numbers_over spec.may_be_missing spec.width (unwrap_or (lowest cs) 0) cs)
 
 -- contents that differ, by role: counts and references must not
+-- rule: packs-factors-and-references, fault-59
 abbrev pub packed_unlike : Role → FieldSpec → List Content → Result (List Bool) FieldFault
 packed_unlike role.Factor spec cs = Err unequal_factor
 packed_unlike role.Reference spec cs = Err increment
 packed_unlike _ spec cs = packed_by spec.kind spec cs
 
 -- the contents of one item for all subsets, where they can be packed
+-- rule: packs-equal, packs-all-missing
 abbrev pub packing : FieldSpec → List Content → Result (List Bool) FieldFault
 packing spec [] = Ok []
 packing spec (c ∷ cs) =

@@ -42,6 +42,7 @@ pub(crate) fn raw_limit(may_be_missing: bool, width: u32) -> u64
 
 /// The number in the bits of a value, where it fits them and does not read as missing.
 #[inline(always)]
+// rule: fault-53
 fn raw_in(value: i128, spec: &Spec) -> Result<u64, Wrong>
     requires narrow { spec.now.width ≤ 63 }
     ensures is { number_told result
@@ -63,6 +64,7 @@ fn raw_in(value: i128, spec: &Spec) -> Result<u64, Wrong>
 
 /// The number in the bits of a token.
 #[inline(always)]
+// rule: fault-52
 fn raw_of_token(token: &[u8], spec: &Spec) -> Result<u64, Wrong>
     requires narrow { spec.now.width ≤ 63 }
     ensures is { number_told result ≡ raw_of spec.now (decimal_value_of token.now spec.now.scale) }
@@ -115,6 +117,7 @@ fn reads_as_missing(octets: &[u8], count: usize) -> bool
 }
 
 /// A text of at most `count` octets.
+// rule: fault-53, fault-54
 fn text_for<'a>(octets: &'a [u8], count: usize) -> Result<FieldContent<'a>, Wrong>
     ensures is { drawn_told count result ≡ text_within count octets.now }
     ensures text { IfOk result (λ d. IsTextOf count octets.now d) }
@@ -130,6 +133,7 @@ fn text_for<'a>(octets: &'a [u8], count: usize) -> Result<FieldContent<'a>, Wron
 
 /// Converts a value to the content of its field.
 #[inline(always)]
+// rule: fault-52, fault-55, fault-order-of-an-item
 fn draw_form<'a>(form: DraftValue<'a>, spec: &Spec) -> Result<FieldContent<'a>, Wrong>
     requires mark { is_reference spec.now.role ≡ is_marked (form_in form) }
     ensures is { drawn_told (spec.now.width / 8) result
@@ -166,6 +170,7 @@ fn draw_form<'a>(form: DraftValue<'a>, spec: &Spec) -> Result<FieldContent<'a>, 
 
 /// Whether an item has the descriptor and the mark of a field.
 #[inline(always)]
+// rule: fault-51
 fn is_item_of(item: &DraftItem<'_>, spec: &Spec) -> bool
     ensures { result ≡ is_of spec.now (draft_in item.now) }
 {
@@ -187,6 +192,7 @@ pub(crate) fn wrong_item(spec: &Spec) -> Wrong
 /// Converts an item to the content of its field.
 #[inline(always)]
 #[tactic(auto, using(crate::proofs::DrawLemmas::marks, crate::proofs::DrawLemmas::content_wrong, crate::proofs::DrawLemmas::content_there))]
+// rule: fault-order-of-an-item
 pub(crate) fn field_content<'a>(
     item: &DraftItem<'a>,
     spec: &Spec,

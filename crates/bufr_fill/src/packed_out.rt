@@ -103,6 +103,7 @@ fn put_drawn(
 }
 
 /// Writes the next item of all subsets.
+// rule: fault-order-of-subsets
 fn pack_next<'a>(
     entries: &'a Entries,
     ends: &[usize],

@@ -159,6 +159,7 @@ pub(crate) fn read_row<'a>(
 }
 
 /// The line of the first subset whose content differs from that of the first subset.
+// rule: fault-58
 pub(crate) fn unlike_line(
     entries: &Entries,
     ends: &[usize],

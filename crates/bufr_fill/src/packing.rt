@@ -146,6 +146,7 @@ fn max_increment(drawn: &[FieldContent<'_>], base: u64) -> u64
 /// The least `k` from 1 to 63 whose bits write an increment, without all ones where that is
 /// missing; 64 where none does.
 #[tactic(auto, using(crate::proofs::PackSteps::least_here, crate::proofs::PackSteps::least_later, crate::proofs::PackSteps::least_end))]
+// rule: packs-class-31
 fn least_bits(spread: u64, may_be_missing: bool) -> u32
     ensures { result ≡ least_from may_be_missing spread 1 }
 {
@@ -198,6 +199,7 @@ fn push_increments(
 }
 
 /// Writes numbers that differ: the least of them, `k`, and the increments over it.
+// rule: packs-numbers
 fn pack_numbers(
     out: &mut BitWriter,
     drawn: &[FieldContent<'_>],
@@ -234,6 +236,7 @@ fn trimmed_len(octets: &[u8]) -> usize
 }
 
 /// How many octets determine a text.
+// rule: packs-texts-not-missing
 fn text_need(octets: &[u8]) -> usize
     requires { length octets.now ≤ 255 }
     ensures { result ≡ need octets.now }
@@ -338,6 +341,7 @@ fn push_zeros(out: &mut BitWriter, spec: &Spec) -> Result<(), AllocError>
 }
 
 /// Writes texts that differ: a base of zero bits, `k`, and the first `k` octets of each.
+// rule: packs-texts, fault-59
 fn pack_texts(
     out: &mut BitWriter,
     drawn: &[FieldContent<'_>],
@@ -363,6 +367,7 @@ fn pack_texts(
 }
 
 /// Writes contents that are all the same: the first of them, and no increments.
+// rule: packs-equal, packs-all-missing
 fn pack_alike(out: &mut BitWriter, first: FieldContent<'_>, spec: &Spec) -> Result<(), AllocError>
     requires first { IsDrawn spec.now first }
     requires room { length out.old + 2046 + 2040 ≤ 2 ^ 63 }
@@ -379,6 +384,7 @@ fn pack_alike(out: &mut BitWriter, first: FieldContent<'_>, spec: &Spec) -> Resu
 }
 
 /// Writes contents that are not all the same.
+// rule: packs-factors-and-references, fault-59
 fn pack_unlike(
     out: &mut BitWriter,
     drawn: &[FieldContent<'_>],

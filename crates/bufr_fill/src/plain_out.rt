@@ -73,6 +73,7 @@ impl<'s> PlainOut<'s> {
     /// # Errors
     ///
     /// [`DraftFault::WrongDescriptor`] where the subset has one more item; then nothing is changed.
+    // rule: fault-51
     pub fn end_subset(&mut self) -> Result<(), DraftFault>
         ensures { EndsSubset self.old result self.new }
     {
@@ -89,6 +90,7 @@ impl<'s> PlainOut<'s> {
 
     /// Returns the octets of the bits that were written, with zero bits to the next octet. It takes
     /// no memory.
+    // rule: writes-section-4
     pub fn into_octets(self) -> Vec<u8>
         ensures bits { bits_of result.items ≡ self.entry.bits ++ padding (length self.entry.bits) }
         ensures len { vec_len result ≡ (length self.entry.bits + 7) / 8 }

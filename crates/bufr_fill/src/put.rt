@@ -38,6 +38,7 @@ fn push_text(out: &mut BitWriter, octets: &[u8], count: usize) -> Result<(), All
 
 /// The bits of a sign and a magnitude, as a number.
 #[tactic(auto, using(crate::proofs::PutLemmas::negative_bits, crate::proofs::PutLemmas::positive_bits))]
+// rule: writes-plus-zero
 fn signed_bits(value: i64, width: u32) -> u64
     requires some { 1 ≤ width }
     requires narrow { width ≤ 63 }

@@ -57,29 +57,37 @@ the_parts local1 section2 = parts_of local1 section2 (257 ∷ []) 1 true false (
 abbrev the_sections : List ℕ → Option (List ℕ) → ℕ → Sections
 the_sections local1 section2 size = record { head = the_head; local1 = local1; section2 = section2; descriptors = 257 ∷ []; subsets = 1; observed = true; compressed = false; payload = 0x14 ∷ []; size = size }
 
+-- rule: section-0, section-5, reserved-zero, writes-no-pad-octet
 one-laid-out : message_octets the_head (the_parts [] None) ≡ one_block_number
 one-laid-out = refl
 
+-- rule: sections-1-and-2-as-given
 local-laid-out : message_octets the_head (the_parts (0xAB ∷ 0xCD ∷ []) (Some (1 ∷ 2 ∷ []))) ≡ local_use
 local-laid-out = refl
 
+-- rule: section-1-of-edition-4, section-3, section-4
 one-sections : sections_of one_block_number ≡ Ok (the_sections [] None 48)
 unfolding sections_of section_end
 one-sections = refl
 
+-- rule: section-2-flag, local-use, section-2, sections-in-order
 local-sections : sections_of local_use ≡ Ok (the_sections (0xAB ∷ 0xCD ∷ []) (Some (1 ∷ 2 ∷ [])) 56)
 unfolding sections_of section_end
 local-sections = refl
 
+-- rule: section-1-of-edition-3, local-use, descriptors-of-section-3, edition-3-lacks
+-- rule: year-of-the-century
 edition-3-sections : sections_of edition_3 ≡ Ok (sections_of_edition_3 (0x14 ∷ 0 ∷ []) 46)
 unfolding sections_of section_end
 edition-3-sections = refl
 
 -- odd sections are read, and written even
+-- rule: odd-sections-read
 edition-3-odd : sections_of edition_3_odd ≡ Ok (sections_of_edition_3 (0x14 ∷ []) 44)
 unfolding sections_of section_end
 edition-3-odd = refl
 
+-- rule: least-lengths, becomes-canonical
 edition-3-laid-out : message_octets head_of_edition_3 (parts_in (sections_of_edition_3 (0x14 ∷ []) 44)) ≡ edition_3
 edition-3-laid-out = refl
 
@@ -90,6 +98,7 @@ edition-3-again = refl
 abbrev head_by_edition_3 : Head
 head_by_edition_3 = record { edition = 3; master = 0; centre = 98; subcentre = 0; update = 0; category = 0; subcategory = 0; local_subcategory = 0; master_version = 0; local_version = 0; year = 0; month = 14; day = 0; hour = 7; minute = 232; second = 0 }
 
+-- rule: odd-values-kept
 by-edition-3 : sections_of (slice_set one_block_number 7 3)
     ≡ Ok (record { head = head_by_edition_3; local1 = 1 ∷ 2 ∷ 3 ∷ 4 ∷ 5 ∷ []; section2 = None; descriptors = 257 ∷ []; subsets = 1; observed = true; compressed = false; payload = 0x14 ∷ []; size = 48 })
 unfolding sections_of section_end
@@ -103,6 +112,7 @@ no-seconds : is_writable (record head_of_edition_3 { second = 5 }) ≡ false
 no-seconds = refl
 
 -- section 1 of 16 octets is short in edition 3
+-- rule: length-under-least
 first-short-3 : sections_of (slice_set edition_3 10 16) ≡ Err (SectionShort 1)
 unfolding sections_of section_end
 first-short-3 = refl
@@ -114,18 +124,22 @@ second-past-3 = refl
 
 -- the section faults: another edition, a section short, a section past the end, sections that do
 -- not meet the end
+-- rule: edition-first
 edition-2 : sections_of (slice_set one_block_number 7 2) ≡ Err (Edition 2)
 unfolding sections_of section_end
 edition-2 = refl
 
+-- rule: length-under-least
 first-short : sections_of (slice_set one_block_number 10 21) ≡ Err (SectionShort 1)
 unfolding sections_of section_end
 first-short = refl
 
+-- rule: section-past-end
 first-past : sections_of (slice_set one_block_number 10 40) ≡ Err (SectionPast 1)
 unfolding sections_of section_end
 first-past = refl
 
+-- rule: section-4-end
 no-meeting : sections_of (slice_set one_block_number 41 4) ≡ Err SectionsEnd
 unfolding sections_of section_end
 no-meeting = refl
@@ -143,6 +157,7 @@ unfolding sections_of section_end
 third-short = refl
 
 -- section 1 of 34 octets leaves no three octets before the last four for the length of section 3
+-- rule: length-past-end
 third-past : sections_of (slice_set one_block_number 10 34) ≡ Err (SectionPast 3)
 unfolding sections_of section_end
 third-past = refl
@@ -151,6 +166,7 @@ fourth-short : sections_of (slice_set one_block_number 41 3) ≡ Err (SectionSho
 unfolding sections_of section_end
 fourth-short = refl
 
+-- rule: section-past-end
 fourth-past : sections_of (slice_set one_block_number 41 6) ≡ Err (SectionPast 4)
 unfolding sections_of section_end
 fourth-past = refl
@@ -161,38 +177,47 @@ one-event : scan one_block_number ≡ FrameAt 0 one_block_number ∷ []
 unfolding scan_from
 one-event = refl
 
+-- rule: frame
 two-events : scan (one_block_number ++ one_block_number) ≡ FrameAt 0 one_block_number ∷ FrameAt 48 one_block_number ∷ []
 unfolding scan_from
 two-events = refl
 
+-- rule: stray-no-end
 no-end : scan (slice_set one_block_number 47 54) ≡ StrayAt 0 NoEnd ∷ []
 unfolding scan_from
 no-end = refl
 
+-- rule: after-a-stray
 stray-in-front : scan (codes "BUFR" ++ 0 ∷ 0 ∷ 64 ∷ 4 ∷ one_block_number ++ 0 ∷ 0 ∷ 0 ∷ 0 ∷ 0 ∷ 0 ∷ 0 ∷ 0 ∷ []) ≡ StrayAt 0 NoEnd ∷ FrameAt 8 one_block_number ∷ []
 unfolding scan_from
 stray-in-front = refl
 
+-- rule: stray-short-length
 short-length : scan (codes "BUFR" ++ 0 ∷ 0 ∷ 11 ∷ 4 ∷ codes "abcd") ≡ StrayAt 0 ShortLength ∷ []
 unfolding scan_from
 short-length = refl
 
+-- rule: stray-short-length
 cut-before-short : scan (codes "BUFR" ++ 0 ∷ 0 ∷ 11 ∷ 4 ∷ codes "ab") ≡ StrayAt 0 Cut ∷ []
 unfolding scan_from
 cut-before-short = refl
 
+-- rule: stray-cut, input-ends-early
 cut-at-47 : scan (take 47 one_block_number) ≡ StrayAt 0 Cut ∷ []
 unfolding scan_from
 cut-at-47 = refl
 
+-- rule: stray-cut
 cut-at-4 : scan (take 4 one_block_number) ≡ StrayAt 0 Cut ∷ []
 unfolding scan_from
 cut-at-4 = refl
 
+-- rule: input-without-bufr
 cut-at-3 : scan (take 3 one_block_number) ≡ []
 unfolding scan_from
 cut-at-3 = refl
 
+-- rule: output-waits
 open-before-the-cut : open_scan (one_block_number ++ take 47 one_block_number) ≡ FrameAt 0 one_block_number ∷ []
 unfolding scan_from
 open-before-the-cut = refl
@@ -211,6 +236,7 @@ words-only : length (scan (words_only 1024)) ≡ 1024
 unfolding scan_from
 words-only = refl
 
+-- rule: after-a-stray
 words-only-cut : are_cut 0 (scan (words_only 1024)) ≡ true
 unfolding scan_from
 words-only-cut = refl
@@ -264,6 +290,7 @@ unfolding scan_from
 longest-of-a-bare-word = refl
 
 -- the stray words of the worked streams, and lengths under 12
+-- rule: first-bufr
 stray-behind-messages : scan (codes "BUFR" ++ 0 ∷ 0 ∷ 64 ∷ 4 ∷ one_block_number ++ codes "xyBUF" ++ one_block_number ++ codes "BUFR" ++ 0 ∷ 0 ∷ 11 ∷ 4 ∷ codes "abcBUFR")
     ≡ StrayAt 0 NoEnd ∷ FrameAt 8 one_block_number ∷ FrameAt 61 one_block_number ∷ StrayAt 109 ShortLength ∷ StrayAt 120 Cut ∷ []
 unfolding scan_from
@@ -274,6 +301,7 @@ stray-behind-messages = refl
 one-again : message_octets (the_sections [] None 48).head (parts_in (the_sections [] None 48)) ≡ one_block_number
 one-again = refl
 
+-- rule: reserved-ignored
 reserved-bit : sections_of (slice_set one_block_number 36 129) ≡ Ok (the_sections [] None 48)
 unfolding sections_of section_end
 reserved-bit = refl

@@ -38,6 +38,7 @@ section2_size None = 0
 section2_size (Some octets) = 4 + length octets
 
 -- the octets of a section 3 or 4; in edition 3 they are even
+-- rule: least-lengths
 abbrev pub even_size : (edition size : ℕ) → ℕ
 even_size edition size = if is_padded edition size then size + 1 else size
 
@@ -46,6 +47,7 @@ abbrev pub with_pad_octet : (pads : Bool) → List ℕ → List ℕ
 with_pad_octet pads octets = if pads then octets ++ 0 ∷ [] else octets
 
 -- the octets of a section 3 or 4 after its first `front` octets
+-- rule: least-lengths, writes-no-pad-octet, writes-even-sections
 abbrev pub with_even_length : (edition front : ℕ) → List ℕ → List ℕ
 with_even_length edition front octets = with_pad_octet (is_padded edition (front + length octets))
     octets
@@ -63,15 +65,18 @@ message_size edition p =
     size_from edition (length p.local1) p.section2 (length p.descriptors) (length p.payload)
 
 -- the most octets that a message has, since three octets state its length
+-- rule: greatest-length
 abbrev pub max_octets : ℕ
 max_octets = 16777215
 
 -- how many octets more a message may have when it is written again: in edition 3 one for section 3
 -- and one for section 4
+-- rule: becomes-canonical, encode-may-grow
 abbrev pub max_extra_octets : (edition : ℕ) → ℕ
 max_extra_octets edition = if edition == 3 then 2 else 0
 
 -- `BUFR`, the length of the message, the edition
+-- rule: section-0
 abbrev pub section0_octets : (size edition : ℕ) → List ℕ
 section0_octets size edition = codes "BUFR" ++ three_octets size ++ edition ∷ []
 
@@ -97,30 +102,36 @@ abbrev pub head_octets : Head → (optional : Bool) → List ℕ
 head_octets h optional = slot_octets (slots_of h.edition) (head_value h optional)
 
 -- section 1: its length, its values, and its local use
+-- rule: sections-1-and-2-as-given
 abbrev pub section1_octets : Head → List ℕ → (optional : Bool) → List ℕ
 section1_octets h local1 optional =
     three_octets (first_least h.edition + length local1) ++ head_octets h optional ++ local1
 
 -- section 4: its length, a reserved octet, the payload
+-- rule: section-4
 abbrev pub section4_octets : List ℕ → List ℕ
 section4_octets payload = three_octets (4 + length payload) ++ 0 ∷ payload
 
 -- section 2 where there is one, in the layout of section 4
+-- rule: section-2, sections-1-and-2-as-given
 abbrev pub section2_octets : Option (List ℕ) → List ℕ
 section2_octets None = []
 section2_octets (Some octets) = section4_octets octets
 
 -- octet 7 of section 3: bit 1 observed, bit 2 compressed
+-- rule: reserved-zero
 abbrev pub data_flags : (observed compressed : Bool) → ℕ
 data_flags observed compressed = (if observed then 128 else 0) + (if compressed then 64 else 0)
 
 -- section 3: the length, a reserved octet, the number of subsets, the flags, then the octets of the
 -- descriptors with the padding
+-- rule: section-3, reserved-zero, writes-no-pad-octet
 abbrev pub section3_octets : List ℕ → (subsets flags : ℕ) → List ℕ
 section3_octets content subsets flags =
     three_octets (7 + length content) ++ 0 ∷ two_octets subsets ++ flags ∷ content
 
 -- the octets of a message, section by section
+-- rule: section-5
 abbrev pub message_octets : Head → MessageParts → List ℕ
 message_octets h p =
     section0_octets (message_size h.edition p) h.edition

@@ -14,5 +14,6 @@ pub record Advances (ended : Bool) (at : ℕ) (rest : List ℕ) (events : List S
   pub decided : ended ≡ false → list_all is_decided events ≡ true
 
 -- no event is certain yet
+-- rule: output-waits
 abbrev pub NoEventCertain : ℕ → List ℕ → Type 0
 NoEventCertain at rest = take_while is_decided (scan_from 0 at rest) ≡ []

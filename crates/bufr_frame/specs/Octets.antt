@@ -11,6 +11,7 @@ abbrev pub u16_at : List ℕ → ℕ → ℕ
 u16_at m p = 256 * slice_index m p + slice_index m (p + 1)
 
 -- the whole words of two octets; an octet left over is ignored, a choice of this project
+-- rule: descriptors-of-section-3
 abbrev pub words : List ℕ → List ℕ
 words [] = []
 words (a ∷ []) = []

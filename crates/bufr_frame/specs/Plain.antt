@@ -22,6 +22,7 @@ section4_begins m = section3_begins m + u24_at m (section3_begins m)
 -- A message as a finder returns it, with all reserved octets and bits zero and no octet left over
 -- in section 3. In edition 3 sections 3 and 4 are even, and the octet left over in section 3 is
 -- zero.
+-- rule: canonical
 pub record IsPlain (m : List ℕ) : Type 0 where
   pub octets : All (λ octet. octet < 256) m
   pub word : take 4 m ≡ codes "BUFR"

@@ -20,10 +20,12 @@ abbrev pub has_word_at : List ℕ → ℕ → List ℕ → Bool
 has_word_at word p m = bytes_eq (take 4 (drop p m)) word
 
 -- the length that octets 5 to 7 state
+-- rule: section-0
 abbrev pub stated_length : List ℕ → ℕ
 stated_length m = u24_at m 4
 
 -- what the octets that are left begin with: the first case that holds counts
+-- rule: stray-cut, stray-short-length, stray-no-end, input-ends-early
 abbrev pub classify : List ℕ → Candidate
 classify m =
     if not (has_word_at (codes "BUFR") 0 m) then Nothing
@@ -34,12 +36,14 @@ classify m =
     else Frame
 
 -- the event there, or none
+-- rule: frame
 abbrev pub stream_event : ℕ → List ℕ → Candidate → List StreamEvent
 stream_event at m Nothing = []
 stream_event at m (Stray cause) = StrayAt at cause ∷ []
 stream_event at m Frame = FrameAt at (take (stated_length m) m) ∷ []
 
 -- by how many octets the scan goes on: one where nothing begins, four after a stray word
+-- rule: frame, after-a-stray
 abbrev pub candidate_len : List ℕ → Candidate → ℕ
 candidate_len m Nothing = 1
 candidate_len m (Stray cause) = 4
@@ -47,6 +51,7 @@ candidate_len m Frame = stated_length m
 
 -- the events of the octets that are left, after some are skipped; the first of them is at offset
 -- `at`
+-- rule: first-bufr
 unfoldable pub scan_from : (skip at : ℕ) → List ℕ → List StreamEvent
 scan_from skip at [] = []
 scan_from (suc skip) at (octet ∷ m) = scan_from skip (at + 1) m

@@ -32,6 +32,7 @@ pub data Slot : Type 0 where
   Double : Field → Slot
 
 -- edition 3; the sub-category is the data sub-category, the year that of the century, unchanged
+-- rule: section-1-of-edition-3, year-of-the-century
 abbrev pub slots_3 : List Slot
 slots_3 =
     Single Master ∷ Single Subcentre ∷ Single Centre ∷ Single Update ∷ Single Flags
@@ -40,6 +41,7 @@ slots_3 =
     ∷ Single Hour ∷ Single Minute ∷ []
 
 -- edition 4
+-- rule: section-1-of-edition-4
 abbrev pub slots_4 : List Slot
 slots_4 =
     Single Master ∷ Double Centre ∷ Double Subcentre ∷ Single Update ∷ Single Flags
@@ -48,6 +50,7 @@ slots_4 =
     ∷ Single Hour ∷ Single Minute ∷ Single Second ∷ []
 
 -- the editions that are read and written
+-- rule: edition-first
 abbrev pub is_edition : ℕ → Bool
 is_edition edition = (edition == 3) || (edition == 4)
 
@@ -109,16 +112,19 @@ octets_of_slots [] = 0
 octets_of_slots (slot ∷ more) = width slot + octets_of_slots more
 
 -- the octets of section 1 without those for local use: the three of its length, and these
+-- rule: local-use, length-under-least
 abbrev pub first_least : (edition : ℕ) → ℕ
 first_least edition = 3 + octets_of_slots (slots_of edition)
 
 -- the value of a field, where the first slot begins at index p; 0 where the edition lacks it
+-- rule: edition-3-lacks, odd-values-kept
 abbrev pub slot_value : List Slot → List ℕ → (p : ℕ) → Field → ℕ
 slot_value [] m p field = 0
 slot_value (slot ∷ more) m p field =
     if is_for field slot then read_slot m p slot else slot_value more m (p + width slot) field
 
 -- the greatest value of a field; 0 where the edition lacks it
+-- rule: reading-header-ranges
 abbrev pub most_in : List Slot → Field → ℕ
 most_in [] field = 0
 most_in (slot ∷ more) field = if is_for field slot then most slot else most_in more field
@@ -149,6 +155,7 @@ head_value h optional Minute = h.minute
 head_value h optional Second = h.second
 
 -- the head that slots hold, the first of which begins at index p
+-- rule: listing-of-edition-3
 abbrev pub head_in : (edition : ℕ) → List Slot → List ℕ → (p : ℕ) → Head
 head_in edition slots m p = record {
   edition = edition;

@@ -36,6 +36,7 @@ abbrev pub ◌>>=◌ : {A B : Type 0} → Result A SectionFault → (A → Resul
 
 -- where section k ends, which begins at p and has at least `least` octets; the last four octets are
 -- section 5
+-- rule: odd-sections-read, length-past-end, length-under-least, section-past-end
 unfoldable pub section_end : List ℕ → (k least p : ℕ) → Result ℕ SectionFault
 section_end m k least p =
     if nat_lt (length m - 4) (p + 3) then Err (SectionPast k)
@@ -57,6 +58,7 @@ abbrev pub slots_in : List ℕ → List Slot
 slots_in m = slots_of (edition_of m)
 
 -- bit 1 of the flags of section 1: there is a section 2
+-- rule: section-2-flag
 abbrev pub has_section2 : List ℕ → Bool
 has_section2 m = nat_le 128 (slot_value (slots_in m) m 11 Flags)
 
@@ -65,6 +67,7 @@ abbrev pub head_of : List ℕ → Head
 head_of m = head_in (edition_of m) (slots_in m) m 11
 
 -- the parts, where sections 1 to 4 end at p1 to p4 (section 2 is empty where there is none)
+-- rule: local-use, section-2, section-3, section-4, reserved-ignored
 abbrev pub parts : List ℕ → (p1 p2 p3 p4 : ℕ) → Sections
 parts m p1 p2 p3 p4 = record {
   head = head_of m;
@@ -80,12 +83,14 @@ parts m p1 p2 p3 p4 = record {
 
 -- a message of edition 3 that is too long for the padding of an odd section 3 or 4: then three
 -- octets might not state its length
+-- rule: edition-3-length
 abbrev pub is_long_edition_3 : List ℕ → (p2 p3 p4 : ℕ) → Bool
 is_long_edition_3 m p2 p3 p4 =
     nat_lt 16777213 (length m)
     && (is_padded (edition_of m) (p3 - p2) || is_padded (edition_of m) (p4 - p3))
 
 -- the parts, where section 4 ends at the last four octets
+-- rule: section-4-end
 abbrev pub parts_if_end_matches : List ℕ → (p1 p2 p3 p4 : ℕ) → Result Sections SectionFault
 parts_if_end_matches m p1 p2 p3 p4 =
     if not (p4 == (length m - 4)) then Err SectionsEnd
@@ -94,6 +99,7 @@ parts_if_end_matches m p1 p2 p3 p4 =
 
 -- the sections of a message, or the first fault: the edition comes first, then the sections in
 -- their order, then the end
+-- rule: edition-first, sections-in-order
 unfoldable pub sections_of : List ℕ → Result Sections SectionFault
 sections_of m = if not (is_edition (edition_of m)) then Err (Edition (edition_of m)) else do
   p1 ← section_end m 1 (first_least (edition_of m)) 8

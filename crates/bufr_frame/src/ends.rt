@@ -24,6 +24,7 @@ pub(crate) struct Ends {
 
 /// The end of section `k`, which begins at `p` and has at least `least` octets.
 #[tactic(auto, unfolding(crate::specs::Sections::section_end))]
+// rule: odd-sections-read, length-past-end, length-under-least, section-past-end
 fn section_end_at(m: &[u8], k: u8, least: usize, p: usize) -> Result<usize, SectionFault>
     requires long { 12 ≤ length m.now }
     requires near { p < 2 ^ 33 }
@@ -59,6 +60,7 @@ fn flags_at(m: &[u8]) -> u8
 }
 
 /// Whether there is a section 2.
+// rule: section-2-flag
 pub(crate) fn has_second(m: &[u8]) -> bool
     requires known { IsTrue (is_edition (edition_of m.now)) }
     requires long { 18 ≤ length m.now }
@@ -91,6 +93,7 @@ fn second_end(m: &[u8], first: usize) -> Result<usize, SectionFault>
 const MOST_ODD: usize = 16_777_213;
 
 /// Whether a message with these ends of sections is too long for its sections 3 and 4 to be padded.
+// rule: edition-3-length
 fn is_long(m: &[u8], second: usize, third: usize, fourth: usize) -> bool
     requires known { IsTrue (is_edition (edition_of m.now)) }
     requires long { 8 ≤ length m.now }
@@ -102,6 +105,7 @@ fn is_long(m: &[u8], second: usize, third: usize, fourth: usize) -> bool
 }
 
 /// Whether messages of this edition are read.
+// rule: edition-first
 fn is_known(edition: u8) -> bool
     ensures { result ≡ is_edition edition }
 {
@@ -110,6 +114,7 @@ fn is_known(edition: u8) -> bool
 
 /// The ends of the sections of `m`, or the first fault.
 #[tactic(auto, unfolding(crate::specs::Sections::sections_of))]
+// rule: edition-first, sections-in-order, section-4-end
 pub(crate) fn ends_of(m: &[u8]) -> Result<Ends, SectionFault>
     requires long { 12 ≤ length m.now }
     ensures value { ReturnsView (λ e. parts m.now e.first e.second e.third e.fourth) result

@@ -186,6 +186,7 @@ impl Finder {
     }
 
     /// How many octets the first event takes.
+    // rule: frame, after-a-stray
     fn event_len(&self, here: Candidate) -> usize
         requires whole { here ≡ Candidate.Frame → 8 ≤ length self.now.rest }
         requires some { here ≢ Candidate.Nothing }
@@ -199,6 +200,7 @@ impl Finder {
     }
 
     /// Passes an event.
+    // rule: frame
     fn take_event(&mut self, found: NextEvent) -> PassedEvent
         requires sound { self.old.fault ≡ None }
         requires found { IsNextEvent self.old.ended self.old.rest found.place found.here }

@@ -11,6 +11,7 @@ use crate::edition::Edition;
 pub(crate) const SECTION_0: usize = 8;
 
 /// Section 1 of an edition, without octets for local use.
+// rule: length-under-least
 pub(crate) fn section_1(edition: u8) -> usize
     requires { IsTrue (is_edition edition) }
     ensures { result ≡ first_least edition }
@@ -34,6 +35,7 @@ pub(crate) const SECTION_4: usize = 4;
 pub(crate) const SECTION_5: usize = 4;
 
 /// Whether a section 3 or 4 of `len` octets is written with a zero octet more.
+// rule: least-lengths
 pub(crate) fn is_padded(edition: u8, len: usize) -> bool
     requires { IsTrue (is_edition edition) }
     ensures { result ≡ is_padded edition len }
@@ -45,6 +47,7 @@ pub(crate) fn is_padded(edition: u8, len: usize) -> bool
 }
 
 /// The octets of a section 3 or 4 with the zero octet of its padding.
+// rule: least-lengths
 pub(crate) fn even_len(edition: u8, len: usize) -> usize
     requires known { IsTrue (is_edition edition) }
     requires room { len < 2 ^ 64 - 1 }

@@ -64,6 +64,7 @@ impl<'a> Model for Message<'a> {
 }
 
 /// The edition and section 1 of edition 3, without its length, flags and local use.
+// rule: section-1-of-edition-3, edition-3-lacks, year-of-the-century, listing-of-edition-3
 fn head_3(m: &[u8]) -> Head
     requires { 25 ≤ length m.now }
     ensures { result ≡ head_in (edition_of m.now) slots_3 m.now 11 }
@@ -89,6 +90,7 @@ fn head_3(m: &[u8]) -> Head
 }
 
 /// The edition and section 1 of edition 4, without its length, flags and local use.
+// rule: section-1-of-edition-4
 fn head_4(m: &[u8]) -> Head
     requires { 30 ≤ length m.now }
     ensures { result ≡ head_in (edition_of m.now) slots_4 m.now 11 }
@@ -114,6 +116,7 @@ fn head_4(m: &[u8]) -> Head
 }
 
 /// The values of octet 8 of section 0 and of section 1 after its length.
+// rule: odd-values-kept
 fn head_at(m: &[u8]) -> Head
     requires known { IsTrue (is_edition (edition_of m.now)) }
     requires long { 8 ≤ length m.now }
@@ -127,6 +130,7 @@ fn head_at(m: &[u8]) -> Head
 }
 
 /// The octets of section 2 from its octet 5 on, where there is a section 2.
+// rule: section-2
 fn section2_of(m: &[u8], first: usize, second: usize) -> Option<&[u8]>
     requires known { IsTrue (is_edition (edition_of m.now)) }
     requires long { 18 ≤ length m.now }
@@ -170,6 +174,7 @@ impl<'a> Message<'a> {
     }
 
     /// The message with these ends of its sections.
+    // rule: local-use, section-3, section-4, reserved-ignored
     fn between(octets: &'a [u8], ends: Ends) -> Message<'a>
         requires known { IsTrue (is_edition (edition_of octets.now)) }
         requires within { ends.fourth ≤ length octets.now }

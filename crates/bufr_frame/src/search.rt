@@ -67,6 +67,7 @@ pub(crate) fn behind(s: &[u8], place: usize) -> &[u8]
 }
 
 /// The length that octets 5 to 7 state.
+// rule: section-0
 pub(crate) fn stated_len(m: &[u8]) -> usize
     requires { 8 ≤ length m.now }
     ensures value { result ≡ stated_length m.now }
@@ -95,6 +96,7 @@ fn starts_with_bufr(m: &[u8]) -> bool
 }
 
 /// What `m` begins with, if nothing comes after `m`: the first case that holds counts.
+// rule: stray-cut, stray-short-length, stray-no-end, input-ends-early
 pub(crate) fn classify(m: &[u8]) -> Candidate
     ensures { result ≡ classify m.now }
 {
@@ -145,6 +147,7 @@ fn find_word(word: &memmem::Finder<'_>, rest: &[u8]) -> Option<usize>
 
 /// What `rest` shows. More octets may come after it unless the end was reached. `word` searches for
 /// `BUFR`.
+// rule: first-bufr
 pub(crate) fn find_event(word: &memmem::Finder<'_>, rest: &[u8], ended: bool) -> SearchResult
     requires { word.now ≡ codes "BUFR" }
     ensures { IsSearchResult ended rest.now result }
@@ -166,6 +169,7 @@ pub(crate) fn find_event(word: &memmem::Finder<'_>, rest: &[u8], ended: bool) ->
 }
 
 /// The same, where `place` is the first index of `BUFR`.
+// rule: output-waits
 fn find_event_at(rest: &[u8], place: usize, ended: bool) -> SearchResult
     requires { FindsNeedle rest.now (codes "BUFR") 0 (Some place) }
     ensures { IsSearchResult ended rest.now result }

@@ -46,6 +46,7 @@ impl<'a> Iterator for Words<'a> {
 
     ghost remaining = { item_count words_left };
 
+    // rule: descriptors-of-section-3
     fn next(&mut self) -> Option<u16> {
         match self.octets {
             [first, second, rest @ ..] => {

@@ -19,6 +19,7 @@ use std::alloc::{AllocError, Global};
 const MAX_OCTETS: usize = 16_777_215;
 
 /// The number of octets of the message, or `TooLong`.
+// rule: greatest-length
 fn size_of(
     edition: u8,
     local1: &[u8],
@@ -55,6 +56,7 @@ fn push_three(octets: &mut Vec<u8>, n: usize) -> Result<(), AllocError>
 }
 
 /// Section 1 of edition 3 after its length.
+// rule: section-1-of-edition-3
 fn head_octets_3(head: &Head, optional: bool) -> [u8; 14]
     requires centre { head.now.centre ≤ 255 }
     requires subcentre { head.now.subcentre ≤ 255 }
@@ -80,6 +82,7 @@ fn head_octets_3(head: &Head, optional: bool) -> [u8; 14]
 }
 
 /// Section 1 of edition 4 after its length.
+// rule: section-1-of-edition-4
 fn head_octets_4(head: &Head, optional: bool) -> [u8; 19]
     ensures { result ≡ slot_octets slots_4 (head_value head.now optional) }
 {
@@ -118,6 +121,7 @@ fn push_head(octets: &mut Vec<u8>, head: &Head, optional: bool) -> Result<(), Al
 }
 
 /// Appends section 1.
+// rule: sections-1-and-2-as-given
 fn push_section1(
     octets: &mut Vec<u8>,
     head: &Head,
@@ -135,6 +139,7 @@ fn push_section1(
 }
 
 /// Appends the zero octet that pads a section, where one does.
+// rule: writes-even-sections
 fn push_padding(octets: &mut Vec<u8>, pads: bool) -> Result<(), AllocError>
     ensures { OnOk result (octets.new.items ≡ with_pad_octet pads octets.old.items) }
 {
@@ -158,6 +163,7 @@ fn push_plain(octets: &mut Vec<u8>, content: &[u8], pads: bool) -> Result<(), Al
 }
 
 /// Appends section 2, where there is one.
+// rule: section-2, sections-1-and-2-as-given
 fn push_section2(octets: &mut Vec<u8>, section2: Option<&[u8]>) -> Result<(), AllocError>
     requires { section2_size (option_map (λ s. s.now) section2) < 2 ^ 24 }
     ensures { OnOk result (octets.new.items
@@ -180,6 +186,7 @@ fn push_words(octets: &mut Vec<u8>, words: &[u16]) -> Result<(), AllocError>
 }
 
 /// Appends section 3.
+// rule: section-3, reserved-zero, writes-no-pad-octet
 fn push_section3(
     octets: &mut Vec<u8>,
     edition: u8,
@@ -201,6 +208,7 @@ fn push_section3(
 }
 
 /// Appends section 4.
+// rule: section-4
 fn push_section4(octets: &mut Vec<u8>, edition: u8, payload: &[u8]) -> Result<(), AllocError>
     requires known { IsTrue (is_edition edition) }
     requires short { even_size edition (4 + length payload.now) < 2 ^ 24 }
@@ -216,6 +224,7 @@ fn push_section4(octets: &mut Vec<u8>, edition: u8, payload: &[u8]) -> Result<()
 }
 
 /// Octet 7 of section 3.
+// rule: reserved-zero
 fn flags_of(observed: bool, compressed: bool) -> u8
     ensures { result ≡ data_flags observed compressed }
 {
@@ -225,6 +234,7 @@ fn flags_of(observed: bool, compressed: bool) -> u8
 }
 
 /// Appends section 0.
+// rule: section-0
 fn push_section0(octets: &mut Vec<u8>, size: usize, edition: u8) -> Result<(), AllocError>
     requires { size < 2 ^ 24 }
     ensures { OnOk result (octets.new.items ≡ octets.old.items ++ section0_octets size edition) }
@@ -257,6 +267,7 @@ fn push_section0(octets: &mut Vec<u8>, size: usize, edition: u8) -> Result<(), A
 ///
 /// [`WriteFault::TooLong`] exactly where the message would have more than 16,777,215 octets.
 /// [`WriteFault::Memory`] where memory ran out.
+// rule: section-5
 pub fn write_message(
     alloc: Global,
     head: &Head,

@@ -21,6 +21,7 @@ unfolding next_record records_from strip_bom field_at begins_with is_words kind_
 on_literals = tt
 
 -- descriptors
+-- rule: descriptor-fxy
 temperature-text : fxy_text 0x0C65 ≡ codes "012101"
 temperature-text = refl
 
@@ -30,6 +31,7 @@ temperature-read = refl
 local-read : fxy_of (codes "363255") ≡ Some 0xFFFF
 local-read = refl
 
+-- rule: descriptor-fxy
 class-64 : fxy_of (codes "064001") ≡ None
 class-64 = refl
 
@@ -37,14 +39,17 @@ five-digits : fxy_of (codes "01210") ≡ None
 five-digits = refl
 
 -- kinds
+-- rule: kind-by-unit
 small-letters : kind_of (codes "ccitt ia5") ≡ Character
 unfolding on_literals
 small-letters = refl
 
+-- rule: kind-by-unit
 code-table : kind_of (codes "Code table 0 20 003") ≡ Coded
 unfolding on_literals
 code-table = refl
 
+-- rule: kind-by-unit
 kelvin : kind_of (codes "K") ≡ Numeric
 unfolding on_literals
 kelvin = refl
@@ -79,30 +84,37 @@ two-elements : b.table_b_of (records_of (header_b ++ codes "005002,LATITUDE (COA
 unfolding on_literals
 two-elements = refl
 
+-- rule: fault-40
 empty-b : b.table_b_of (records_of []) ≡ Err Header
 unfolding on_literals
 empty-b = refl
 
+-- rule: fault-45
 five-fields : b.table_b_of (records_of (header_b ++ codes "001001,A,K,0,0\n")) ≡ Err Csv
 unfolding on_literals
 five-fields = refl
 
+-- rule: fault-41-of-table-b
 width-64 : b.table_b_of (records_of (header_b ++ codes "001001,A,K,0,0,64\n")) ≡ Err (Row 2)
 unfolding on_literals
 width-64 = refl
 
+-- rule: fault-41-of-table-b
 text-of-12-bits : b.table_b_of (records_of (header_b ++ codes "001001,A,ccitt ia5,0,0,12\n")) ≡ Err (Row 2)
 unfolding on_literals
 text-of-12-bits = refl
 
+-- rule: fault-41-of-table-b
 quoted-line-feed : b.table_b_of (records_of (header_b ++ codes "001001,\"A\nB\",K,0,0,7\n")) ≡ Err (Row 2)
 unfolding on_literals
 quoted-line-feed = refl
 
+-- rule: fault-42
 element-twice : b.table_b_of (records_of (header_b ++ codes "001001,A,K,0,0,7\n001001,A,K,0,0,7\n")) ≡ Err (Duplicate 0x0101)
 unfolding on_literals
 element-twice = refl
 
+-- rule: fault-41-of-table-b
 factor-of-8-bits : b.table_b_of (records_of (header_b ++ codes "031002,A,Numeric,0,0,8\n")) ≡ Err (Row 2)
 unfolding on_literals
 factor-of-8-bits = refl
@@ -115,14 +127,17 @@ one-sequence : d.table_d_of (records_of (header_d ++ codes "360192,001001\n36019
 unfolding on_literals
 one-sequence = refl
 
+-- rule: fault-42, fault-43-last
 second-run : d.table_d_of (records_of (header_d ++ codes "300001,300002\n300002,300001\n300001,001001\n")) ≡ Err (Duplicate 0xC001)
 unfolding on_literals
 second-run = refl
 
+-- rule: fault-44
 row-65536 : d.with_record_d 65537 [] (codes "300001" ∷ codes "001001" ∷ []) ≡ Ok (record { fxy = 0xC001; members = 0x0101 ∷ [] } ∷ [])
 unfolding on_literals
 row-65536 = refl
 
+-- rule: fault-44
 row-65537 : d.with_record_d 65538 [] (codes "300001" ∷ codes "001001" ∷ []) ≡ Err TableSize
 unfolding on_literals
 row-65537 = refl
@@ -141,6 +156,7 @@ there = record { members = 0xC002 ∷ []; has = refl; member = (0, lit< tt, refl
 back : Leads circle 0xC002 0xC001
 back = record { members = 0xC001 ∷ []; has = refl; member = (0, lit< tt, refl); sequence = refl }
 
+-- rule: fault-43
 circle-named : IsFirstCycle circle 0xC001
 circle-named = record {
   before = [];

@@ -47,6 +47,7 @@ one_block_number : given (fxy 0 1 1 ∷ []) ≡ Ok (element (fxy 0 1 1) bare)
 unfolding given
 one_block_number = refl
 
+-- rule: delayed-replication
 delayed_twice : given (fxy 1 1 0 ∷ fxy 0 31 1 ∷ fxy 0 1 1 ∷ []) ≡ Ok (delayed (fxy 0 31 1) (element (fxy 0 1 1) bare) bare)
 unfolding given
 delayed_twice = refl
@@ -59,6 +60,7 @@ short_factor : given (fxy 1 1 0 ∷ fxy 0 31 0 ∷ fxy 0 1 1 ∷ []) ≡ Ok (del
 unfolding given
 short_factor = refl
 
+-- rule: groups-take-bits
 empty_group_of_operators : given (fxy 1 1 255 ∷ fxy 2 1 0 ∷ []) ≡ Err (fault.EmptyGroup (fxy 1 1 255))
 unfolding given
 empty_group_of_operators = refl
@@ -67,6 +69,7 @@ empty_whole : given (fxy 2 1 0 ∷ []) ≡ Err (fault.EmptyGroup (fxy 2 1 0))
 unfolding given
 empty_whole = refl
 
+-- rule: groups-take-bits
 empty_list : given [] ≡ Err (fault.EmptyGroup 0)
 unfolding given
 empty_list = refl
@@ -79,6 +82,7 @@ sequence_of_two_is_measured : measured (given (fxy 3 60 192 ∷ [])) ≡ Ok (3, 
 unfolding given measured
 sequence_of_two_is_measured = refl
 
+-- rule: 2-06-y-unknown-element
 local_descriptor : given (fxy 2 6 12 ∷ fxy 0 63 255 ∷ []) ≡ Ok (operator (fxy 2 6 12) (element (fxy 0 63 255) bare))
 unfolding given
 local_descriptor = refl
@@ -99,14 +103,17 @@ group_past_the_list : given (fxy 1 2 2 ∷ fxy 0 1 1 ∷ []) ≡ Err (fault.Grou
 unfolding given
 group_past_the_list = refl
 
+-- rule: delayed-replication
 no_factor : given (fxy 1 1 0 ∷ fxy 0 1 1 ∷ []) ≡ Err (fault.NoFactor (fxy 1 1 0))
 unfolding given
 no_factor = refl
 
+-- rule: 2-06-y-before-an-element
 local_shape : given (fxy 2 6 12 ∷ fxy 2 1 0 ∷ []) ≡ Err (fault.LocalShape (fxy 2 6 12))
 unfolding given
 local_shape = refl
 
+-- rule: operators-known
 unknown_operator : given (fxy 2 4 1 ∷ []) ≡ Err (fault.Operator (fxy 2 4 1))
 unfolding given
 unknown_operator = refl
@@ -123,14 +130,17 @@ inserted_text_in_a_group : measured (given (fxy 1 1 2 ∷ fxy 2 5 4 ∷ [])) ≡
 unfolding given measured
 inserted_text_in_a_group = refl
 
+-- rule: 2-06-y-before-an-element
 width_at_the_end_of_a_group : given (fxy 1 1 2 ∷ fxy 2 6 12 ∷ fxy 0 63 255 ∷ []) ≡ Err (fault.LocalShape (fxy 2 6 12))
 unfolding given
 width_at_the_end_of_a_group = refl
 
+-- rule: replication-in-one-list
 group_past_the_group : given (fxy 1 1 2 ∷ fxy 1 1 2 ∷ fxy 0 1 1 ∷ []) ≡ Err (fault.GroupShape (fxy 1 1 2))
 unfolding given
 group_past_the_group = refl
 
+-- rule: descriptor-kinds, fixed-replication, replication-before-expansion
 group_of_a_sequence : given (fxy 1 1 2 ∷ fxy 3 60 192 ∷ fxy 0 20 3 ∷ []) ≡ Ok (fixed 2 (element (fxy 0 1 1) (element (fxy 0 12 101) bare)) (element (fxy 0 20 3) bare))
 unfolding given
 group_of_a_sequence = refl
@@ -155,6 +165,7 @@ delayed_twice_is_laid = refl
 delayed_twice_is_raised : trees_of_cells (cell.Delayed 4 ∷ cell.Factor (fxy 0 31 1) ∷ cell.Element (fxy 0 1 1) ∷ cell.PassEnd ∷ cell.Finish ∷ []) ≡ delayed (fxy 0 31 1) (element (fxy 0 1 1) bare) bare
 delayed_twice_is_raised = refl
 
+-- rule: replication-nested
 delayed_in_delayed_is_laid : laid (given (fxy 1 3 0 ∷ fxy 0 31 1 ∷ fxy 1 1 0 ∷ fxy 0 31 1 ∷ fxy 0 1 1 ∷ [])) ≡ Ok (cell.Delayed 7 ∷ cell.Factor (fxy 0 31 1) ∷ cell.Delayed 6 ∷ cell.Factor (fxy 0 31 1) ∷ cell.Element (fxy 0 1 1) ∷ cell.PassEnd ∷ cell.PassEnd ∷ cell.Finish ∷ [])
 unfolding given laid
 delayed_in_delayed_is_laid = refl

@@ -28,6 +28,7 @@ abbrev pub HasNoCycle : List Sequence → Type 0
 HasNoCycle table = (fxy : ℕ) → ¬ ReachesItself table fxy
 
 -- the first sequence of the file that reaches itself
+-- rule: fault-43
 pub record IsFirstCycle (table : List Sequence) (fxy : ℕ) : Type 0 where
   pub before : List Sequence
   pub sequence : Sequence
@@ -39,6 +40,7 @@ pub record IsFirstCycle (table : List Sequence) (fxy : ℕ) : Type 0 where
 
 -- what a read of Table D answers: the table, where it has no cycle, or the first fault; a cycle
 -- comes after all others
+-- rule: fault-43-last
 abbrev pub ReadsTableD : List Record → Result (List Sequence) TableFault → Type 0
 ReadsTableD records (Ok table) = (table_d_of records ≡ Ok table) × HasNoCycle table
 ReadsTableD records (Err (Cycle fxy)) =

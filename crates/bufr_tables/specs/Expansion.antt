@@ -36,6 +36,7 @@ unless true why = Ok tt
 unless false why = Err why
 
 -- a fault, where so many places more are too many
+-- rule: fault-27
 abbrev pub with_places : (places more d : ℕ) → Result (Unit {0}) TemplateFault
 with_places places more d = unless (nat_le (places + more) max_places) (fault.TemplateSize d)
 
@@ -52,6 +53,7 @@ abbrev pub part : Tree → ℕ → ExpandedPart
 part tree taken = record { tree = tree; taken = taken }
 
 -- how one more group or sequence is expanded, where there is room for it
+-- rule: fault-26
 abbrev pub opened : Option Expansion → ℕ → Result Expansion TemplateFault
 opened None d = Err (fault.Depth d)
 opened (Some inner) d = Ok inner
@@ -62,6 +64,7 @@ begins_with_element [] = false
 begins_with_element (d ∷ after) = f_of d == 0
 
 -- an element: known to Table B, or of a width that the operator before it gives
+-- rule: 2-06-y-unknown-element, fault-20
 abbrev pub element_part : Tables → Bool → ℕ → ℕ → Result ExpandedPart TemplateFault
 element_part tables width_given places d = do
   _ ← unless (width_given || tables.known d) (fault.UnknownElement d)
@@ -69,6 +72,7 @@ element_part tables width_given places d = do
   Ok (part (element d bare) 0)
 
 -- an operator; one that gives a width stands before an element
+-- rule: 2-06-y-before-an-element, fault-22, fault-28
 abbrev pub operator_part : ℕ → ℕ → List ℕ → Result ExpandedPart TemplateFault
 operator_part places d after = do
   _ ← unless (is_legal_operator d) (fault.Operator d)
@@ -78,6 +82,7 @@ operator_part places d after = do
 
 -- the body of a group: the next X descriptors, behind the group's own places; some node of it takes
 -- bits
+-- rule: replication-before-expansion, replication-nested, replication-in-one-list, fault-23
 abbrev pub body_of : Option Expansion → (places own d : ℕ) → List ℕ → Result Tree TemplateFault
 body_of inner places own d after = do
   _ ← unless (nat_le (x_of d) (length after)) (fault.GroupShape d)
@@ -88,12 +93,14 @@ body_of inner places own d after = do
   Ok body
 
 -- a group of Y passes
+-- rule: fixed-replication
 abbrev pub fixed_part : Option Expansion → ℕ → ℕ → List ℕ → Result ExpandedPart TemplateFault
 fixed_part inner places d after = do
   body ← body_of inner places 2 d after
   Ok (part (fixed (y_of d) body bare) (x_of d))
 
 -- a group of as many passes as its factor tells, which stands before the X descriptors
+-- rule: delayed-replication, fault-24
 abbrev pub delayed_part : Tables → Option Expansion → ℕ → ℕ → List ℕ
     → Result ExpandedPart TemplateFault
 delayed_part tables inner places d [] = Err (fault.NoFactor d)
@@ -110,6 +117,7 @@ group_by zero tables inner places d after = delayed_part tables inner places d a
 group_by (suc count) tables inner places d after = fixed_part inner places d after
 
 -- a replication
+-- rule: fault-23
 abbrev pub group_part : Tables → Option Expansion → ℕ → ℕ → List ℕ
     → Result ExpandedPart TemplateFault
 group_part tables inner places d after = do
@@ -117,6 +125,7 @@ group_part tables inner places d after = do
   group_by (y_of d) tables inner places d after
 
 -- a sequence: its members stand in its place
+-- rule: fault-21
 abbrev pub sequence_part : Tables → Option Expansion → ℕ → ℕ → Result ExpandedPart TemplateFault
 sequence_part tables inner places d = do
   members ← ok_or (tables.members d) (fault.UnknownSequence d)
@@ -125,6 +134,7 @@ sequence_part tables inner places d = do
   Ok (part tree 0)
 
 -- one descriptor, by its F
+-- rule: descriptor-kinds
 abbrev pub part_by : ℕ → Tables → Option Expansion → Bool → ℕ → ℕ → List ℕ
     → Result ExpandedPart TemplateFault
 part_by zero tables inner width_given places d after = element_part tables width_given places d
@@ -158,6 +168,7 @@ first_of [] = 0
 first_of (d ∷ after) = d
 
 -- a whole list: the end of the template is its first place, and some node takes bits
+-- rule: groups-take-bits, fault-25
 unfoldable pub tree_of : Tables → List ℕ → Result Tree TemplateFault
 tree_of tables list = do
   tree ← level tables (inner_of tables max_open) false 0 1 list

@@ -30,6 +30,7 @@ abbrev pub digit_of : ℕ → ℕ
 digit_of n = 48 + n
 
 -- the six digits
+-- rule: descriptor-fxy
 abbrev pub fxy_text : ℕ → List ℕ
 fxy_text word =
     digit_of (f_of word)
@@ -55,11 +56,13 @@ abbrev pub y_in : List ℕ → ℕ
 y_in text = 100 * number_at text 3 + 10 * number_at text 4 + number_at text 5
 
 -- a text is six digits whose F, X and Y fit their bits
+-- rule: reading-descriptor
 abbrev pub is_fxy : List ℕ → Bool
 is_fxy text =
     (length text == 6) && list_all is_ascii_digit text && nat_le (f_in text) 3
     && nat_le (x_in text) 63 && nat_le (y_in text) 255
 
 -- the descriptor that a text writes, where it writes one
+-- rule: descriptor-fxy
 abbrev pub fxy_of : List ℕ → Option ℕ
 fxy_of text = if is_fxy text then Some (16384 * f_in text + 256 * x_in text + y_in text) else None

@@ -21,6 +21,7 @@ is_code_table unit =
     || begins_with unit (codes "Flag table")
 
 -- `CCITT IA5` is text; tables of figures are coded; every other unit is a quantity
+-- rule: kind-by-unit
 unfoldable pub kind_of : List ℕ → Kind
 kind_of unit =
     if is_words unit (codes "CCITT IA5") then Character else if is_code_table unit

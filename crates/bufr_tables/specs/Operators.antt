@@ -8,6 +8,7 @@ use Rattle.bufr_tables.specs.Fxy.{f_of, x_of, y_of}
 -- whether operator 2 X may have the operand Y: a change of width, scale or text width any; new
 -- references a width up to 63, 255 that ends them or 0 that drops them; an inserted text and a
 -- given width not 0; a precision at most 18
+-- rule: operators-known
 abbrev pub has_legal_operand : ℕ → ℕ → Bool
 has_legal_operand x y =
     if x == 3 then nat_le y 63 || y == 255

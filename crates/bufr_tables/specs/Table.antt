@@ -15,11 +15,13 @@ has_fields (name ∷ names) [] = false
 has_fields (name ∷ names) (field ∷ fields) = bytes_eq field name && has_fields names fields
 
 -- the first record is the header
+-- rule: fault-40
 abbrev pub has_header : List (List ℕ) → List Record → Bool
 has_header header [] = false
 has_header header (first ∷ rest) = has_fields header first
 
 -- what was read so far with the rows of the records from record n on, or the first fault of these
+-- rule: first-record-decides
 unfoldable pub table_from : {A : Type 0} → (with_record : ℕ → A → Record → Result A TableFault) → ℕ
     → A → List Record → Result A TableFault
 table_from with_record n table [] = Ok table

@@ -27,6 +27,7 @@ pub record Row : Type 0 where
   pub width : ℕ
 
 -- the fields of the header
+-- rule: fault-40
 abbrev pub columns_b : List (List ℕ)
 columns_b =
     codes "fxy" ∷ codes "name" ∷ codes "unit" ∷ codes "scale" ∷ codes "reference"
@@ -91,6 +92,7 @@ is_valid_factor (Some width) row =
     && not (is_character row.kind)
 
 -- the row that a record writes, where it writes one
+-- rule: fault-41-of-table-b
 unfoldable pub row_of : Record → Option Row
 row_of r = do
   fxy ← element_of (field_of r 0)
@@ -126,11 +128,13 @@ abbrev pub entry_of : List Row → ℕ → Option Row
 entry_of rows fxy = find (λ row. row.fxy == fxy) rows
 
 -- the rows so far and that of record n, or what is at fault with this record
+-- rule: fault-42
 abbrev pub with_row : ℕ → List Row → Option Row → Result (List Row) TableFault
 with_row n rows None = Err (RowFault n)
 with_row n rows (Some row) =
     if is_some (entry_of rows row.fxy) then Err (Duplicate row.fxy) else Ok (rows ++ row ∷ [])
 
+-- rule: fault-45
 unfoldable pub with_record_b : ℕ → List Row → Record → Result (List Row) TableFault
 with_record_b n rows r = if length r == 6 then with_row n rows (row_of r) else Err Csv
 

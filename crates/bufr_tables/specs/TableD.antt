@@ -22,6 +22,7 @@ pub record Member : Type 0 where
   pub fxy : ℕ
 
 -- the fields of the header
+-- rule: fault-40
 abbrev pub columns_d : List (List ℕ)
 columns_d = codes "fxy" ∷ codes "member" ∷ []
 
@@ -30,6 +31,7 @@ unfoldable pub sequence_of : List ℕ → Option ℕ
 sequence_of text = fxy_of text >>= λ fxy. only_if (f_of fxy == 3) fxy
 
 -- the row that a record writes, where it writes one
+-- rule: fault-41-of-table-d
 unfoldable pub member_of : Record → Option Member
 member_of r = do
   sequence ← sequence_of (field_of r 0)
@@ -67,17 +69,20 @@ added table row =
     else table ++ record { fxy = row.sequence; members = row.fxy ∷ [] } ∷ []
 
 -- a row begins a second run of rows of its sequence
+-- rule: fault-42
 abbrev pub begins_again : List Sequence → Member → Bool
 begins_again table row = not (is_last table row.sequence) && is_some (members_of table row.sequence)
 
 -- the sequences so far with the row of record n, or what is at fault with this record; n - 2 rows
 -- stand before it
+-- rule: fault-44
 abbrev pub with_member : ℕ → List Sequence → Option Member → Result (List Sequence) TableFault
 with_member n table None = Err (RowFault n)
 with_member n table (Some row) =
     if begins_again table row then Err (Duplicate row.sequence)
     else if nat_le 65536 (n - 2) then Err TableSize else Ok (added table row)
 
+-- rule: fault-45
 unfoldable pub with_record_d : ℕ → List Sequence → Record → Result (List Sequence) TableFault
 with_record_d n table r = if length r == 2 then with_member n table (member_of r) else Err Csv
 

@@ -47,6 +47,7 @@ is_inserted_text fxy = x_of fxy == 5
 
 -- whether some node takes bits of the data: an element, an inserted text, a delayed group (its
 -- factor) or a fixed group whose body does
+-- rule: groups-take-bits
 abbrev pub consumes : Tree → Bool
 consumes bare = false
 consumes (element fxy rest) = true

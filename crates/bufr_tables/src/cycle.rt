@@ -18,6 +18,7 @@ use std::alloc::{AllocError, Global};
 const WORDS: usize = 65536;
 
 /// The first sequence of the table that reaches itself, if one does.
+// rule: fault-43
 pub(crate) fn first_cycle(alloc: Global, table: &TableD) -> Result<Option<Fxy>, AllocError>
     ensures { IfOk result (λ o. MatchOption o (HasNoCycle table.now) (IsFirstCycle table.now)) }
 {

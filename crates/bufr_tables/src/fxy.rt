@@ -86,6 +86,7 @@ impl Fxy {
     }
 
     /// Whether a template may hold this operator, with its operand (Table C).
+    // rule: operators-known
     pub(crate) const fn is_legal_operator(self) -> bool
         ensures { result ≡ is_legal_operator self }
     {
@@ -108,6 +109,7 @@ impl Fxy {
     }
 
     /// The six digits, as `012101`.
+    // rule: descriptor-fxy
     pub const fn text(self) -> [u8; 6]
         ensures value { result ≡ fxy_text self }
         ensures reads_back { fxy_of result ≡ Some self }
@@ -132,6 +134,7 @@ impl Fxy {
     /// assert_eq!(rt; Fxy::read(b"012101"), Some(Fxy::from_word(0x0c65)));
     /// assert_eq!(rt; Fxy::read(b"064000"), None);
     /// ```
+    // rule: descriptor-fxy
     pub fn read(text: &[u8]) -> Option<Fxy>
         ensures { result ≡ fxy_of text.now }
     {

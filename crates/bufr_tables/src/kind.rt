@@ -16,6 +16,7 @@ pub enum Kind {
 impl Kind {
     /// The kind of the elements with this unit. ASCII case makes no difference.
     #[tactic(auto, unfolding(crate::specs::Kind::kind_of))]
+    // rule: kind-by-unit
     pub(crate) fn of(unit: &[u8]) -> Kind
         ensures { result ≡ kind_of unit.now }
     {

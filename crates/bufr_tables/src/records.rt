@@ -97,6 +97,7 @@ pub(crate) fn field(fields: &ByteRecord, place: usize) -> &[u8]
 }
 
 /// Whether a record has these fields, and no other.
+// rule: fault-40
 fn has_fields(fields: &ByteRecord, names: &[&[u8]]) -> bool
     ensures { result ≡ has_fields (field_texts names.now) (fields_of fields.now) }
 {

@@ -36,6 +36,7 @@ fn read_sequence(text: &[u8]) -> Option<Fxy>
 
 /// The sequence and the member that a record writes, where it writes a row.
 #[tactic(auto, unfolding(crate::specs::TableD::member_of))]
+// rule: fault-41-of-table-d
 fn row(fields: &ByteRecord) -> Option<(Fxy, Fxy)>
     ensures value { option_map (λ p. member_with p.0 p.1) result
         ≡ member_of (fields_of fields.now) }
@@ -88,6 +89,7 @@ impl Model for TableD {
 
 impl TableD {
     /// Reads the rows, whatever sequences reach themselves.
+    // rule: first-record-decides
     pub(crate) fn read_rows(alloc: Global, text: &[u8]) -> Result<TableD, TableFault>
         ensures { ReturnsUnlessMemory (table_d_of (records_of text.now)) result }
     {
@@ -154,6 +156,7 @@ impl TableD {
 
     /// Adds the row of record `number`.
     #[tactic(auto, unfolding(crate::specs::TableD::with_record_d, crate::specs::TableD::added))]
+    // rule: fault-42, fault-44, fault-45
     fn add(&mut self, number: u64, fields: &ByteRecord) -> Result<(), TableFault>
         ensures ok { OnOk result
             (with_record_d number self.old (fields_of fields.now) ≡ Ok self.new) }

@@ -168,6 +168,7 @@ fn parse_row(fields: &ByteRecord) -> Option<(Fxy, Entry<'_>)>
 }
 
 /// The same element, which is within the limits of a row.
+// rule: fault-41-of-table-b
 fn row(fields: &ByteRecord) -> Option<(Fxy, Entry<'_>)>
     ensures value { option_map (λ p. row_of_entry p.0 p.1) result ≡ row_of (fields_of fields.now) }
     ensures element { IfSome result (λ p. p.0 < 16384) }
@@ -236,6 +237,7 @@ impl TableB {
     /// [`TableFault::Header`], and of the first record at fault [`TableFault::Csv`],
     /// [`TableFault::Row`] or [`TableFault::Duplicate`], in this order; [`TableFault::Memory`]
     /// where memory ran out.
+    // rule: first-record-decides
     pub fn read(alloc: Global, text: &[u8]) -> Result<TableB, TableFault>
         ensures read { ReturnsUnlessMemory (table_b_of (records_of text.now)) result }
         ensures rows { IfOk result (AreRows (records_of text.now)) }
@@ -270,6 +272,7 @@ impl TableB {
 
     /// Adds the element of record `number`.
     #[tactic(auto, unfolding(crate::specs::TableB::with_record_b))]
+    // rule: fault-42, fault-45
     fn add(&mut self, number: u64, fields: &ByteRecord) -> Result<(), TableFault>
         ensures ok { OnOk result
             (with_record_b number self.old (fields_of fields.now) ≡ Ok self.new) }

@@ -22,6 +22,7 @@ impl TableD {
     /// [`TableFault::Header`], and of the first record at fault [`TableFault::Csv`],
     /// [`TableFault::Row`], [`TableFault::Duplicate`] or [`TableFault::TableSize`], in this order;
     /// after all records [`TableFault::Cycle`]; [`TableFault::Memory`] where memory ran out.
+    // rule: fault-43-last
     pub fn read(alloc: Global, text: &[u8]) -> Result<TableD, TableFault>
         ensures read { ReadsTableD (records_of text.now) result }
         ensures rows { IfOk result (AreSequences (records_of text.now)) }

@@ -96,6 +96,7 @@ impl Template {
     ///   none) where no node takes bits.
     ///
     /// [`TemplateFault::Memory`] where memory runs out, at any growth.
+    // rule: groups-take-bits
     pub fn build(
         alloc: Global,
         descriptors: &[Fxy],

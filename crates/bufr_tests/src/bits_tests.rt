@@ -42,6 +42,7 @@ fn assert_ones(rt: &impl Runtime, octets: &[u8], at: u64, width: u32, want: Opti
 }
 
 #[test]
+// rule: bit-order, field-number
 fn get_is_bit_by_bit(rt: HostRuntime) {
     assert_same(&rt, &BitSlice::new(NINE).len_bits(), &72, &"length");
     for at in 0..74 {
@@ -69,6 +70,7 @@ const BORROWED_OCTETS: &[(u64, usize, Option<&[u8]>)] = &[
 ];
 
 #[test]
+// rule: past-last-bit
 fn numbers_and_octets_at_the_ends(rt: HostRuntime) {
     for (at, width, want) in NUMBERS_AT_THE_ENDS {
         assert_number(&rt, NINE, *at, *width, *want);
@@ -328,6 +330,7 @@ fn assert_long_texts(rt: &impl Runtime, v: i128, sign: &[u8], digits: &[u8]) {
 }
 
 #[test]
+// rule: decimal-point, decimal-zeros-after, decimal-sign
 fn decimal_texts(rt: HostRuntime) {
     for (v, scale, want) in TEXTS {
         assert_text(&rt, *v, *scale, want);
@@ -383,6 +386,7 @@ const READ: &[(&[u8], i16, i128)] = &[
 ];
 
 #[test]
+// rule: decimal-form, inexact-before-too-large
 fn decimal_readings(rt: HostRuntime) {
     for (text, scale, v) in READ {
         assert_read(&rt, text, *scale, Ok(*v));

@@ -99,6 +99,8 @@ fn assert_layout(rt: &impl Runtime, row: &Layout) {
 
 /// Sections 3 and 4 are made even, also those that were odd.
 #[test]
+// rule: odd-sections-read, sections-1-and-2-as-given, bits-left-over, writes-even-sections
+// rule: becomes-canonical, text-header-of-edition-3
 fn dumps_and_encodes_each_layout(rt: HostRuntime) {
     for row in LAYOUTS {
         assert_layout(&rt, row);
@@ -123,6 +125,7 @@ fn line_of(rt: &impl Runtime, centre: &str) -> String {
 
 /// The sub-centre comes before the centre. The year is listed as the message has it.
 #[test]
+// rule: section-1-of-edition-3, year-of-the-century, listing-of-edition-3
 fn lists_messages(rt: HostRuntime) {
     let line = line_of(&rt, "98/0");
     assert_run(&rt, accepted(Ls, "even", EDITION_3, line.as_bytes()));
@@ -140,6 +143,7 @@ const LINE_OF_OTHER: &str = "offset=0 length=48 edition=3 centre=98/0 update=0 c
 
 /// It is read by the layout that it states, the next one by its own.
 #[test]
+// rule: odd-values-kept
 fn lists_editions_side_by_side(rt: HostRuntime) {
     let rest = ONE_BLOCK_NUMBER.get(8..).unwrap_or(b"");
     let input = joined(&rt, &[b"BUFR\x00\x00\x30\x03", rest, ONE_BLOCK_NUMBER]);
@@ -171,6 +175,7 @@ fn encodes_in_each_form(rt: HostRuntime) {
 
 /// The text of a stream of both editions is encoded to even sections, which have the same text.
 #[test]
+// rule: encode-may-grow
 fn closes_the_round_of_both_editions(rt: HostRuntime) {
     let both = joined(&rt, &[EDITION_3, ONE_BLOCK_NUMBER]);
     let odd = joined(&rt, &[&both, EDITION_3_ODD, ONE_BLOCK_NUMBER]);
@@ -234,6 +239,7 @@ fn assert_value(rt: &impl Runtime, old: &str, new: &str, line: u8) {
 }
 
 #[test]
+// rule: reading-header-ranges
 fn refuses_values_past_their_octets(rt: HostRuntime) {
     for (old, new, line) in VALUES {
         assert_value(&rt, old, new, *line);
@@ -246,6 +252,7 @@ const LONG: &str =
 
 /// A message that could not be written with even sections is refused by `ls` too.
 #[test]
+// rule: fault-14
 fn refuses_a_long_message_with_an_odd_section(rt: HostRuntime) {
     let mut octets = from_hex(&rt, LONG);
     ok(&rt, octets.resize(16_777_210, 0));

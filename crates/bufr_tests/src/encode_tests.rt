@@ -469,6 +469,8 @@ fn assert_rows(rt: &impl Runtime, rows: &[Row]) {
 }
 
 #[test]
+// rule: writes-local-use, writes-section-4, fault-51, fault-52, fault-53, fault-56, fault-62
+// rule: fault-lines-of-encoding, fault-56-first-60-last, fault-62-first
 fn encodes_worked_documents(rt: HostRuntime) {
     for rows in parts() {
         assert_rows(&rt, rows);
@@ -483,6 +485,7 @@ fn assert_forms(rt: &impl Runtime, forms: &[(Form, u8, Row)]) {
 }
 
 #[test]
+// rule: writes-form, form-option
 fn encodes_in_a_form(rt: HostRuntime) {
     assert_forms(&rt, FORMS)
 }
@@ -562,6 +565,7 @@ fn assert_encoded_again(rt: &impl Runtime, row: &Worked) {
 }
 
 #[test]
+// rule: canonical, becomes-canonical
 fn encodes_what_was_dumped(rt: HostRuntime) {
     encode_laws();
     for row in worked_messages() {
@@ -656,6 +660,7 @@ fn text_of_many_texts(rt: &impl Runtime, last: &str) -> String {
 
 /// The longest message has 16,777,215 octets.
 #[test]
+// rule: fault-60
 fn encodes_the_longest_message(rt: HostRuntime) {
     let text = text_of_many_texts(&rt, "205192");
     let octets = octets_for(&rt, text.as_bytes());

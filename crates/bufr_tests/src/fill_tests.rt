@@ -168,6 +168,9 @@ fn assert_rows(rt: &impl Runtime, rows: &[Row]) {
 }
 
 #[test]
+// rule: class-31-never-missing, writes-plus-zero, packs-numbers, packs-class-31, packs-equal
+// rule: packs-all-missing, packs-texts, packs-texts-not-missing, packs-factors-and-references
+// rule: fault-54, fault-55, fault-58, fault-59, fault-order-of-an-item, fault-order-of-subsets
 fn writes_items(rt: HostRuntime) {
     plain_laws();
     packed_laws();

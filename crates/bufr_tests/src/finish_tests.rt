@@ -32,6 +32,7 @@ static FAULTS: [(RunFault, &str); 4] = [
 ];
 
 #[test]
+// rule: status-0-and-1, status-of-usage, status-of-open, fault-70, fault-71, fault-72, fault-73
 fn finishes(rt: HostRuntime) {
     assert_finished(&rt, &Outcome::Ran(tally(3, 0)), "", 0);
     assert_finished(&rt, &Outcome::Ran(tally(3, 1)), "", 1);
@@ -55,6 +56,7 @@ fn assert_d(rt: &impl Runtime, fault: TableFault, line: &str) {
 }
 
 #[test]
+// rule: status-of-table
 fn finishes_at_a_fault_of_table_b(rt: HostRuntime) {
     assert_b(&rt, TableFault::Header, "table B: 40 header\n");
     let row = TableFault::Row(18_446_744_073_709_551_615);

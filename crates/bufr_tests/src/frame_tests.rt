@@ -138,6 +138,7 @@ const STREAMS: &[(&[&[u8]], Option<usize>, &[Want], usize)] = &[
 ];
 
 #[test]
+// rule: first-bufr, stray-short-length, stray-no-end
 fn events_of_streams(rt: HostRuntime) {
     for (parts, fails_at, wanted, longest) in STREAMS {
         let stream = joined(&rt, parts);
@@ -151,6 +152,7 @@ fn prefix(len: usize) -> &'static [u8] {
 }
 
 #[test]
+// rule: stray-cut
 fn a_message_cut_anywhere(rt: HostRuntime) {
     for len in 0..48usize {
         let wanted: &[Want] = if len < 4 {
@@ -181,6 +183,7 @@ fn strays(rt: &impl Runtime, apart: u64, without_end: u64) -> Vec<Want> {
 
 /// Each word states a length. Whether it is cut may be known only at the end.
 #[test]
+// rule: after-a-stray, output-waits
 fn words_alone(rt: HostRuntime) {
     let words = repeated(&rt, b"BUFR", 1024);
     assert_events(&rt, &words, None, &strays(&rt, 4, 0), 0x42_55_46);
@@ -198,6 +201,7 @@ fn long_message(rt: &impl Runtime) -> Vec<u8> {
 }
 
 #[test]
+// rule: frame
 fn a_message_longer_than_all_before(rt: HostRuntime) {
     let (long, zeros) = (long_message(&rt), repeated(&rt, b"\x00", 10_000));
     let late = joined(&rt, &[&zeros, ONE_BLOCK_NUMBER]);
@@ -318,6 +322,9 @@ fn written(alloc: Global, message: &Message<'_>, word: u16, payload: &[u8]) -> O
 }
 
 #[test]
+// rule: section-0, section-1-of-edition-4, section-1-of-edition-3, section-2-flag, local-use
+// rule: section-2, section-3, descriptors-of-section-3, section-4, section-5, edition-3-lacks
+// rule: reserved-zero, least-lengths, sections-in-order, writes-no-pad-octet
 fn parts_of_messages(rt: HostRuntime) {
     for (octets, parts, again) in MESSAGES {
         let message = parsed(&rt, octets);
@@ -362,6 +369,7 @@ fn changed(rt: &impl Runtime, changes: &[(usize, u8)]) -> Vec<u8> {
 }
 
 #[test]
+// rule: length-past-end, length-under-least, section-past-end, section-4-end
 fn faults_of_sections(rt: HostRuntime) {
     for (changes, fault, number) in FAULTS {
         let found = length_of(&rt, &changed(&rt, changes));
@@ -383,6 +391,7 @@ fn length_of_long(
 
 /// With even sections its length could not be stated.
 #[test]
+// rule: edition-3-length
 fn long_messages_of_edition_3_have_even_sections(rt: HostRuntime) {
     let odd = length_of_long(&rt, EDITION_3_ODD.get(..35), b"\xFF\xFF\xD7");
     assert_same(&rt, &odd, &Err(SectionFault::Edition3Long), &"odd");
@@ -407,6 +416,7 @@ const LOCAL_LENGTHS: &[(usize, Result<usize, WriteFault>)] = &[
 ];
 
 #[test]
+// rule: greatest-length
 fn messages_that_are_too_long(rt: HostRuntime) {
     for (local, want) in LOCAL_LENGTHS {
         assert_same(&rt, &length_with(&rt, *local), want, local);

@@ -70,6 +70,7 @@ static FORMS: &[(&[&str], Form)] = &[
 ];
 
 #[test]
+// rule: form-words
 fn parses_forms(rt: HostRuntime) {
     for (arguments, form) in FORMS {
         let words = line_of(&rt, "encode", *arguments);
@@ -111,6 +112,7 @@ static MISTAKEN: &[(&[&str], &str)] = &[
 static NO_FORMS: &[&str] = &["other", "", "Plain", "plain ", "compress"];
 
 #[test]
+// rule: one-file, usage
 fn refuses_lines(rt: HostRuntime) {
     for (words, part) in MISTAKEN {
         assert_usage(&rt, *words, *part);
@@ -135,6 +137,7 @@ static MISTAKEN_ARGUMENTS: &[(&[&str], &str)] = &[
 ];
 
 #[test]
+// rule: usage
 fn refuses_lines_with_tables(rt: HostRuntime) {
     for (arguments, part) in MISTAKEN_ARGUMENTS {
         assert_usage(&rt, line_of(&rt, "dump", *arguments).as_slice(), *part);
@@ -304,6 +307,7 @@ fn assert_shown(rt: &impl Runtime, words: &'static [&'static str]) {
 }
 
 #[test]
+// rule: status-of-help, help
 fn shows_help(rt: HostRuntime) {
     for (words, parts) in HELP {
         assert_help(&rt, *words, *parts);
@@ -323,6 +327,7 @@ static CALLED: &[(&[&str], u8, &str, &str)] = &[
 
 /// The file has a stray word before the message.
 #[test]
+// rule: dash-is-a-name, status-of-help, status-of-usage, version
 fn runs_lines(rt: HostRuntime) {
     let one = joined(&rt, &[b"BUFR", ONE_BLOCK_NUMBER]);
     let library = Library { one: &one, ..ONE };
@@ -382,6 +387,7 @@ fn assert_runs(
 
 /// The file has a stray word before the message.
 #[test]
+// rule: tables-before-input, table-not-read
 fn runs_dump_lines(rt: HostRuntime) {
     let one = joined(&rt, &[b"BUFR", ONE_BLOCK_NUMBER]);
     let library = Library { one: &one, ..ONE };
@@ -392,6 +398,7 @@ fn runs_dump_lines(rt: HostRuntime) {
 
 /// The file has a line after the document that may not come there.
 #[test]
+// rule: tables-before-input
 fn runs_encode_lines(rt: HostRuntime) {
     let text = text_of_one(&rt);
     let one = joined(&rt, &[text.as_bytes(), b"subset 1\n"]);

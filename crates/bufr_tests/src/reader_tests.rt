@@ -214,6 +214,10 @@ fn assert_rules(rt: &impl Runtime, rules: &[(usize, &[u8], Next)]) {
 }
 
 #[test]
+// rule: reading-empty-lines, reading-last-line, reading-carriage-return, reading-blanks
+// rule: reading-after-a-value, reading-header-order, reading-long-lists, reading-hexadecimal
+// rule: reading-section2, reading-descriptor, reading-number, reading-reference, reading-quoted
+// rule: reading-subsets, fault-50, fault-57, fault-61, fault-order-of-a-line
 fn reads_each_line_by_its_rule(rt: HostRuntime) {
     assert_rules(&rt, RULES)
 }
@@ -244,6 +248,7 @@ fn assert_octet_lines(rt: &impl Runtime, word: &[u8]) {
 }
 
 #[test]
+// rule: reading-long-lists
 fn reads_lines_of_octets(rt: HostRuntime) {
     assert_octet_lines(&rt, b"local1 ");
     assert_octet_lines(&rt, b"section2 ")
@@ -261,6 +266,7 @@ static LONG_LINES: &[(usize, &[u8], usize, Next)] = &[
 
 /// Lines of 4,096 octets are read; of one octet more no line feed is looked for.
 #[test]
+// rule: reading-longest-line, reading-header-number
 fn reads_long_lines(rt: HostRuntime) {
     for (number, word, count, want) in LONG_LINES {
         let line = line_of_digits(&rt, word, *count);
@@ -275,6 +281,7 @@ const WHOLE: usize = 300;
 
 /// Lines are counted on from document to document. Between them come blank lines and comments.
 #[test]
+// rule: reading-between-documents, reading-line-numbers
 fn reads_several_documents(rt: HostRuntime) {
     let one = text_of_one(&rt);
     let one: &[u8] = one.as_bytes();
@@ -372,6 +379,7 @@ fn reads_values_of_items(rt: HostRuntime) {
 
 /// The items of each subset come before its end.
 #[test]
+// rule: reading-subset-end
 fn reads_compressed_subsets(rt: HostRuntime) {
     let lines: &[u8] = b"observed 0\ncompressed 1\noptional 0\nsubsets 2\ndescriptors 001001\n\
         subset 1\n001001 10\nsubset 2\n001001 11\nend\n";

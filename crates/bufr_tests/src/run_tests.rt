@@ -82,6 +82,8 @@ fn assert_streams(rt: &impl Runtime, streams: &[Stream]) {
 }
 
 #[test]
+// rule: edition-first, listing-offset-and-length, stream-fault-line, fault-2, fault-3, fault-10
+// rule: fault-11, fault-12, fault-13, output-in-order
 fn lists_and_dumps_streams(rt: HostRuntime) {
     assert_streams(&rt, STREAMS)
 }
@@ -96,6 +98,7 @@ const LINES: [&str; 2] = [
 ];
 
 #[test]
+// rule: listing-flags
 fn lists_optional_and_compressed(rt: HostRuntime) {
     let [local_use, compressed] = LINES;
     assert_run(
@@ -109,6 +112,7 @@ fn lists_optional_and_compressed(rt: HostRuntime) {
 }
 
 #[test]
+// rule: fault-1
 fn refuses_a_message_cut_anywhere(rt: HostRuntime) {
     assert_cut_anywhere(&rt, Ls, "one block number", ONE_BLOCK_NUMBER);
     assert_cut_anywhere(&rt, Dump, "delayed", &delayed_twice(&rt));
@@ -178,6 +182,7 @@ fn lists_while_it_reads(rt: HostRuntime) {
 
 /// Also through a reader and writers of std.
 #[test]
+// rule: input-without-bufr
 fn accepts_an_empty_input(rt: HostRuntime) {
     let empty: &[u8] = b"";
     let mut w = Device::new(Vec::new(rt.alloc()));
@@ -209,6 +214,7 @@ fn assert_dumped(rt: &impl Runtime, name: &str, message: &[u8], text: &[u8]) {
 }
 
 #[test]
+// rule: no-subsets
 fn dumps_worked_messages(rt: HostRuntime) {
     for row in worked_messages() {
         assert_dumped(&rt, row.name, &row.message(&rt), row.text(&rt).as_bytes());
@@ -269,6 +275,9 @@ fn assert_refused(rt: &impl Runtime, name: &str, message: &[u8], fault: &str) {
 }
 
 #[test]
+// rule: fault-20, fault-21, fault-22, fault-23, fault-24, fault-25, fault-26, fault-27, fault-28
+// rule: fault-30, fault-31, fault-32, fault-33, fault-34, stream-fault-place, list-before-data
+// rule: refused-messages-write-nothing
 fn refuses_worked_messages(rt: HostRuntime) {
     for (name, subsets, flags, descriptors, data, fault) in REFUSED {
         let message = message_of_hex(&rt, *subsets, *flags, descriptors, data);
@@ -279,6 +288,7 @@ fn refuses_worked_messages(rt: HostRuntime) {
 /// One group more than may be nested. The 2,049th item of 65,535 subsets is one value too many;
 /// each takes seven bits.
 #[test]
+// rule: fault-35
 fn refuses_what_is_too_much(rt: HostRuntime) {
     let groups = ok(&rt, format!(in rt.alloc(); "133001 {THIRTY_TWO_GROUPS}"));
     let message = message_of_hex(&rt, 1, PLAIN, groups.as_str(), "14");
@@ -291,6 +301,7 @@ fn refuses_what_is_too_much(rt: HostRuntime) {
 
 /// Of refused messages nothing is on the output.
 #[test]
+// rule: one-fault-a-message
 fn dumps_after_refused_messages(rt: HostRuntime) {
     let half = message_of_hex(&rt, 2, PLAIN, "001001", "14");
     let input = joined(&rt, &[STRAY, &of_edition_2(&rt), &half, ONE_BLOCK_NUMBER]);
@@ -336,6 +347,7 @@ fn assert_pair_stops(
 
 /// Wherever a read fails or is interrupted, or the output ends, what was decided before is written.
 #[test]
+// rule: fault-70, fault-71
 fn lists_what_was_decided_before_a_failure(rt: HostRuntime) {
     let (first, second) = (line_of_one(&rt, "0"), line_of_one(&rt, "48"));
     let lines = (first.as_bytes(), second.as_bytes());
@@ -343,6 +355,7 @@ fn lists_what_was_decided_before_a_failure(rt: HostRuntime) {
 }
 
 #[test]
+// rule: fault-line-not-written
 fn dumps_what_was_decided_before_a_failure(rt: HostRuntime) {
     let text = text_of_one(&rt);
     let text = text.as_bytes();
@@ -403,6 +416,7 @@ fn assert_followed(rt: &impl Runtime, lines: &str, errors: &str) {
 }
 
 #[test]
+// rule: document-read-first
 fn encodes_before_other_lines(rt: HostRuntime) {
     for (lines, errors) in FOLLOWED {
         assert_followed(&rt, lines, errors);
@@ -423,6 +437,7 @@ const LINES_OF_ONE: &[(&str, &str, &str)] = &[
 ];
 
 #[test]
+// rule: reading-header-ranges, fault-lines-of-reading
 fn encodes_other_lines_of_the_header(rt: HostRuntime) {
     let text = text_of_one(&rt);
     for (line, other, digits) in LINES_OF_ONE {
@@ -436,6 +451,7 @@ fn encodes_other_lines_of_the_header(rt: HostRuntime) {
 
 /// The first document that is refused ends the run: what follows it is not read.
 #[test]
+// rule: first-refusal-ends
 fn stops_at_the_first_refused_document(rt: HostRuntime) {
     let (good, bad) = (text_of_one(&rt), text_refused(&rt));
     let text = joined(

@@ -34,6 +34,7 @@ fn assert_descriptor(rt: &impl Runtime, digits: &[u8], want: Option<u16>) {
 }
 
 #[test]
+// rule: descriptor-fxy
 fn descriptors(rt: HostRuntime) {
     for (digits, want) in DESCRIPTORS {
         assert_descriptor(&rt, digits, *want);
@@ -229,6 +230,8 @@ fn assert_all(rt: &impl Runtime, cases: &[(&str, &[&[u8]])], is_b: bool) {
 }
 
 #[test]
+// rule: fault-40, fault-41-of-table-b, fault-41-of-table-d, fault-42, fault-43, fault-45
+// rule: first-record-decides, fault-43-last
 fn rows_of_tables(rt: HostRuntime) {
     assert_all(&rt, ROWS_OF_B, true);
     assert_all(&rt, ROWS_OF_D, false);
@@ -246,6 +249,7 @@ fn rows_of_tables(rt: HostRuntime) {
 const LONG_NAMES: &[(usize, &str)] = &[(512, READ), (513, ROW_2)];
 
 #[test]
+// rule: fault-41-of-table-b
 fn long_names_and_units(rt: HostRuntime) {
     for (len, want) in LONG_NAMES {
         let long = ok(&rt, vec![in rt.alloc(); b'x'; *len]);
@@ -268,6 +272,7 @@ const KINDS: &[(&[u8], Kind)] = &[
 ];
 
 #[test]
+// rule: kind-by-unit
 fn kinds_of_units(rt: HostRuntime) {
     for (unit, kind) in KINDS {
         let text = joined(&rt, &[HEADER_B, b"001001,A,", unit, b",0,0,8\n"]);
@@ -297,6 +302,7 @@ fn count_members(table: &TableD, word: u16) -> Option<usize> {
 }
 
 #[test]
+// rule: fault-44
 fn as_many_rows_as_a_table_may_have(rt: HostRuntime) {
     let mut text = most_rows(&rt);
     let table = ok(&rt, read_d(rt.alloc(), &text));
@@ -327,6 +333,7 @@ fn long_chain(rt: &impl Runtime, back: bool, cycle: bool) -> Vec<u8> {
 }
 
 #[test]
+// rule: fault-43
 fn long_chains_of_sequences(rt: HostRuntime) {
     for back in [false, true] {
         assert_d(&rt, &long_chain(&rt, back, false), READ);

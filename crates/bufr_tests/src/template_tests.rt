@@ -86,6 +86,8 @@ const NO_FACTORS: &[u8] = b"\
     001001,WMO BLOCK NUMBER,Numeric,0,0,7\n";
 
 #[test]
+// rule: delayed-replication, replication-in-one-list, 2-06-y-before-an-element
+// rule: 2-06-y-unknown-element, groups-take-bits, operators-known
 fn lists_of_descriptors(rt: HostRuntime) {
     let (table_b, table_d) = (table_b(&rt), table_d(&rt));
     for row in LISTS {
@@ -147,6 +149,7 @@ fn cells_of(rt: &impl Runtime, template: &Template) -> String {
 }
 
 #[test]
+// rule: descriptor-kinds, fixed-replication, replication-before-expansion, replication-nested
 fn cells_of_templates(rt: HostRuntime) {
     for (name, text, want) in CELLS {
         let cells = cells_of(&rt, &template_of(&rt, text));

@@ -42,6 +42,7 @@ fn assert_listed(
 }
 
 #[test]
+// rule: listing-line
 fn lists_a_message(rt: HostRuntime) {
     let line = line_of_one(&rt, "7");
     for step in [1, 7, 4096] {
@@ -77,6 +78,7 @@ fn assert_parts(rt: &impl Runtime, parts: &[Part<'_>], want: &[u8]) {
 }
 
 #[test]
+// rule: listing-time
 fn writes_parts(rt: HostRuntime) {
     let parts = [
         Part::Text(b"a "),
@@ -158,6 +160,8 @@ pub(crate) fn assert_dumped(rt: &impl Runtime, name: &str, octets: &[u8], want: 
 }
 
 #[test]
+// rule: text-lines-in-order, text-header, text-descriptors, text-subset, text-number, text-quoted
+// rule: text-missing, text-reference, text-inserted, text-escapes, text-comment, text-no-comment
 fn dumps_worked_messages(rt: HostRuntime) {
     for row in worked_messages() {
         assert_dumped(&rt, row.name, &row.message(&rt), row.text(&rt).as_str());
@@ -193,6 +197,7 @@ const MANY_LOCAL_LINES: &str = "\
     local1 1A\ndescriptors 001001\nend\n";
 
 #[test]
+// rule: text-local1, text-section2, text-hexadecimal
 fn dumps_local_use(rt: HostRuntime) {
     let text = text_of_local_use(&rt);
     assert_dumped(&rt, "local use", LOCAL_USE, text.as_str());
@@ -250,6 +255,7 @@ fn counts_steps_of_a_dump(rt: HostRuntime) {
 
 /// No line is torn: two writes for the header, and one for each line after it.
 #[test]
+// rule: one-write-a-line
 fn dumps_whole_lines(rt: HostRuntime) {
     let (octets, writes, torn) = (Cell::new(0), Cell::new(0), Cell::new(false));
     let mut w = Device::new(Watched {

@@ -291,6 +291,16 @@ fn assert_row(rt: &impl Runtime, row: &(&str, u16, u8, &str, &str, &str)) {
 }
 
 #[test]
+// rule: value, missing, missing-inserted-text, factor-by-entry, 2-01-y, 2-02-y, 2-03-y, 2-03-000
+// rule: new-reference, 2-05-y, 2-06-y, 2-07-y, 2-08-y, cancel-2-01-and-2-02, cancel-2-07-and-2-08
+// rule: later-operator-replaces, 2-01-2-02-2-07-add-up, 2-07-y-of-a-new-reference
+// rule: new-reference-of-quantities, new-reference-of-figures, figures-unchanged, 2-03-y-again
+// rule: last-reference-counts, operators-end-with-subset, 2-06-y-used-up, 2-06-y-of-class-31
+// rule: defining-no-text, defining-no-inserted-text, defining-no-other-operator
+// rule: defining-no-delayed-group, defining-fixed-groups, 2-03-255-alone, widths
+// rule: fault-32-before-31, subsets-without-padding, field-past-end, compressed-increments-there
+// rule: compressed-missing-increment, compressed-sum-of-ones, compressed-text
+// rule: compressed-text-missing, compressed-text-base
 fn readings_of_messages(rt: HostRuntime) {
     for row in READINGS {
         assert_row(&rt, row);
@@ -331,6 +341,7 @@ fn octets_with(rt: &impl Runtime, first: &[u8], len: usize) -> Vec<u8> {
 }
 
 #[test]
+// rule: too-many-values, compressed-fault-order
 fn limits_of_readings(rt: HostRuntime) {
     for (name, subsets, flags, descriptors, (first, len), want, counts) in LIMITS {
         let payload = octets_with(&rt, first, *len);
@@ -419,6 +430,9 @@ fn walked(
 }
 
 #[test]
+// rule: compressed-item, compressed-equal, compressed-all-missing, compressed-past-width
+// rule: compressed-class-31, compressed-text-past-width, compressed-factors
+// rule: compressed-references, fault-30-before-34, fault-34-before-33
 fn items_of_compressed_subsets(rt: HostRuntime) {
     let table = table_b(&rt);
     for (name, subsets, descriptors, payload, want) in PACKED_ITEMS {

@@ -61,6 +61,7 @@ block_accepted = record {
   read = (refl, omega arith, ((drop 7 (bits_of (0x14 ∷ [])), ((drop 7 (bits_of (0x14 ∷ [])), refl, refl, refl), refl), refl), refl));
 }
 
+-- rule: canonical
 block_canonical : IsCanonical (one_block_number 0x14) (its_sections 0x14) block_number 7
 unfolding the_head message one_block_number its_sections block_number bits_of bits_in
 block_canonical = record {
@@ -84,6 +85,7 @@ block_canonical = record {
 }
 
 -- With a bit behind its data the message is accepted, and is not as an encoder writes it.
+-- rule: bits-left-over
 bit_behind_accepted : IsAccepted the_table [] (one_block_number 0x15) (its_sections 0x15) (element 257 bare) block_number 7
 unfolding the_table the_head message one_block_number its_sections block_number sections_of section_end tree_of level part_of inner_of next_item bits_of bits_in
 bit_behind_accepted = record {
@@ -94,6 +96,7 @@ bit_behind_accepted = record {
   read = (refl, omega arith, ((drop 7 (bits_of (0x15 ∷ [])), ((drop 7 (bits_of (0x15 ∷ [])), refl, refl, refl), refl), refl), refl));
 }
 
+-- rule: canonical
 bit_behind_is_not_canonical : IsCanonical (one_block_number 0x15) (its_sections 0x15) block_number 7 → ⊥
 unfolding its_sections the_head bits_of
 bit_behind_is_not_canonical c = let with_bit : List ℕ = 0x15 ∷ [] in let without : List ℕ = 0x14 ∷ [] in let e : with_bit ≡ without = c.least in cc

@@ -45,20 +45,24 @@ unfoldable line : FieldSpec → Content → List ℕ
 unfolding table
 line spec content = item_text (dump_item_of (view_of table spec content))
 
+-- rule: text-comment
 block : line (asked 257 role.Element kind.Numeric (pos 0) (pos 0) true) (number 10) ≡ codes "001001 10  # WMO BLOCK NUMBER [Numeric]"
 unfolding line digits decimal_text_of unsigned_text
 block = refl
 
 -- zeros at the end stay
+-- rule: text-number
 block_of_hundred : line (asked 3173 role.Element kind.Numeric (pos 2) (pos 0) true) (number 28800) ≡ codes "012101 288.00  # AIR TEMPERATURE [K]"
 unfolding line digits decimal_text_of unsigned_text
 block_of_hundred = refl
 
+-- rule: text-comment
 factor : line (asked 7937 role.Factor kind.Numeric (pos 0) (pos 0) true) (number 2) ≡ codes "031001 2  # DELAYED DESCRIPTOR REPLICATION FACTOR [Numeric]"
 unfolding line digits decimal_text_of unsigned_text
 factor = refl
 
 -- a redefined reference has the mark and no comment
+-- rule: text-reference
 redefined : line (asked 3173 role.Reference kind.Numeric (pos 0) (pos 0) false) (reference (negsuc 399)) ≡ codes "R 012101 -400"
 unfolding line digits decimal_text_of unsigned_text
 redefined = refl
@@ -72,6 +76,7 @@ unfolding line digits decimal_text_of unsigned_text
 below_zero = refl
 
 -- a scale below zero
+-- rule: text-number
 power_of_ten : line (asked 3173 role.Element kind.Numeric (negsuc 1) (pos 0) true) (number 288) ≡ codes "012101 28800  # AIR TEMPERATURE [K]"
 unfolding line digits decimal_text_of unsigned_text
 power_of_ten = refl
@@ -81,29 +86,35 @@ unfolding line digits decimal_text_of unsigned_text
 coded_spec = refl
 
 -- a missing item has its comment too
+-- rule: text-missing
 missing_temperature : line (asked 3173 role.Element kind.Numeric (pos 2) (pos 0) true) (missing) ≡ codes "012101 MISSING  # AIR TEMPERATURE [K]"
 unfolding line digits decimal_text_of unsigned_text
 missing_temperature = refl
 
 -- what no row gives has no comment, nor has a listed descriptor that was read with another width
+-- rule: text-no-comment
 given_width : line (asked 16383 role.Element kind.Numeric (pos 0) (pos 0) false) (number 245) ≡ codes "063255 245"
 unfolding line digits decimal_text_of unsigned_text
 given_width = refl
 
+-- rule: text-no-comment
 another_width : line (asked 257 role.Element kind.Numeric (pos 0) (pos 0) false) (number 245) ≡ codes "001001 245"
 unfolding line digits decimal_text_of unsigned_text
 another_width = refl
 
 -- a quote, a backslash and what cannot be printed
+-- rule: text-inserted, text-escapes
 inserted : line (asked 34052 role.Inserted kind.Character (pos 0) (pos 0) false) (text (34 ∷ 92 ∷ 10 ∷ 254 ∷ [])) ≡ codes "205004 \"\\\"\\\\\\x0A\\xFE\""
 unfolding line digits decimal_text_of unsigned_text quoted
 inserted = refl
 
 -- spaces at the end stay
+-- rule: text-quoted
 spaces_behind : line (asked 271 role.Element kind.Character (pos 0) (pos 0) true) (text (codes "ABC " ++ replicate 3 32)) ≡ codes "001015 \"ABC    \"  # STATION OR SITE NAME [CCITT IA5]"
 unfolding line digits decimal_text_of unsigned_text quoted
 spaces_behind = refl
 
+-- rule: text-escapes
 edges_of_the_printed : line (asked 34052 role.Inserted kind.Character (pos 0) (pos 0) false) (text (31 ∷ 32 ∷ 126 ∷ 127 ∷ [])) ≡ codes "205004 \"\\x1F ~\\x7F\""
 unfolding line digits decimal_text_of unsigned_text quoted
 edges_of_the_printed = refl
@@ -125,6 +136,7 @@ unfolding item
 block_number = item (asked 257 role.Element kind.Numeric (pos 0) (pos 0) true) (number 10)
 
 -- a message with one block number, 48 octets, and its 25 lines
+-- rule: text-lines-in-order, text-header
 one_block_number : dumped
     (0x42 ∷ 0x55 ∷ 0x46 ∷ 0x52 ∷ 0x00 ∷ 0x00 ∷ 0x30 ∷ 0x04 ∷
     0x00 ∷ 0x00 ∷ 0x16 ∷ 0x00 ∷ 0x00 ∷ 0x62 ∷ 0x00 ∷ 0x00 ∷ 0x00 ∷ 0x00 ∷ 0x00 ∷ 0x00 ∷ 0x00 ∷ 0x0E ∷ 0x00 ∷ 0x07 ∷ 0xE8 ∷ 0x01 ∷ 0x02 ∷ 0x03 ∷ 0x04 ∷ 0x05 ∷
@@ -140,6 +152,7 @@ unfolding item
 temperatures = item (asked 3173 role.Element kind.Numeric (pos 2) (pos 0) true) (number 28815 ∷ missing ∷ [])
 
 -- compressed data: each subset with its own value
+-- rule: text-subset
 compressed_missing : dumped
     (0x42 ∷ 0x55 ∷ 0x46 ∷ 0x52 ∷ 0x00 ∷ 0x00 ∷ 0x32 ∷ 0x04 ∷
     0x00 ∷ 0x00 ∷ 0x16 ∷ 0x00 ∷ 0x00 ∷ 0x62 ∷ 0x00 ∷ 0x00 ∷ 0x00 ∷ 0x00 ∷ 0x00 ∷ 0x00 ∷ 0x00 ∷ 0x0E ∷ 0x00 ∷ 0x07 ∷ 0xE8 ∷ 0x01 ∷ 0x02 ∷ 0x03 ∷ 0x04 ∷ 0x05 ∷
@@ -151,6 +164,7 @@ unfolding dumped temperatures item table keys header_lines subset_lines runs_beh
 compressed_missing = refl
 
 -- octets for local use in section 1, and a section 2
+-- rule: text-section2, text-hexadecimal
 local_use : dumped
     (0x42 ∷ 0x55 ∷ 0x46 ∷ 0x52 ∷ 0x00 ∷ 0x00 ∷ 0x38 ∷ 0x04 ∷
     0x00 ∷ 0x00 ∷ 0x18 ∷ 0x00 ∷ 0x00 ∷ 0x62 ∷ 0x00 ∷ 0x00 ∷ 0x00 ∷ 0x80 ∷ 0x00 ∷ 0x00 ∷ 0x00 ∷ 0x0E ∷ 0x00 ∷ 0x07 ∷ 0xE8 ∷ 0x01 ∷ 0x02 ∷ 0x03 ∷ 0x04 ∷ 0x05 ∷ 0xAB ∷ 0xCD ∷
@@ -174,6 +188,7 @@ unfolding dumped table keys header_lines subset_lines runs_behind hex_text descr
 no_subsets = refl
 
 -- 33 octets and nine descriptors take two lines each
+-- rule: text-local1, text-descriptors
 two_lines : text_of_lines (map local1_line (runs_of 32 (replicate 33 171)) ++ map descriptors_line (runs_of 8 (replicate 9 257)))
     ≡ codes "local1 ABABABABABABABABABABABABABABABABABABABABABABABABABABABABABABABAB\nlocal1 AB\ndescriptors 001001 001001 001001 001001 001001 001001 001001 001001\ndescriptors 001001\n"
 unfolding runs_behind hex_text descriptors_text

@@ -51,6 +51,7 @@ message size sections = Ok (codes "BUFR" ++ 0 ∷ 0 ∷ size ∷ 4
     ∷ 0 ∷ 0 ∷ 0x16 ∷ 0 ∷ 0 ∷ 0x62 ∷ 0 ∷ 0 ∷ 0 ∷ 0 ∷ 0 ∷ 0 ∷ 0 ∷ 0x0E ∷ 0 ∷ 0x07 ∷ 0xE8 ∷ 1 ∷ 2 ∷ 3 ∷ 4 ∷ 5
     ∷ sections ++ codes "7777")
 
+-- rule: writes-section-4
 one_block_number : encoded (document 0 1 (0x0101 ∷ []) (number 24 0x0101 (codes "10") ∷ Ends 25 ∷ []))
     ≡ message 48 (0 ∷ 0 ∷ 9 ∷ 0 ∷ 0 ∷ 1 ∷ 0x80 ∷ 1 ∷ 1 ∷ 0 ∷ 0 ∷ 5 ∷ 0 ∷ 0x14 ∷ [])
 unfolding listed table document number encoded message encoding_in tree_of level part_of inner_of next_item decimal_value_of bits_in bits_of
@@ -75,6 +76,7 @@ no_subsets_of_an_unknown_element : encoded (document 0 0 (0x0102 ∷ []) []) ≡
 unfolding listed table document encoded encoding_in tree_of level part_of inner_of
 no_subsets_of_an_unknown_element = refl
 
+-- rule: writes-local-use
 local_use_sections : encoded (record {
   line = 1;
   header = 4 ∷ 0 ∷ 98 ∷ 0 ∷ 0 ∷ 0 ∷ 0 ∷ 0 ∷ 14 ∷ 0 ∷ 2024 ∷ 1 ∷ 2 ∷ 3 ∷ 4 ∷ 5 ∷ 1 ∷ 0 ∷ 1 ∷ 1 ∷ [];
@@ -134,6 +136,7 @@ unfolding listed table document text encoded encoding_in tree_of level part_of i
 texts_too_long_apart = refl
 
 -- the template, and the walk over it
+-- rule: fault-56
 empty_group : encoded (document 0 1 (0x8100 ∷ []) (Ends 24 ∷ [])) ≡ Err (refused_at 1 (by_template (template.EmptyGroup 0x8100)))
 unfolding listed table document encoded encoding_in tree_of level part_of inner_of
 empty_group = refl
@@ -143,11 +146,13 @@ unfolding listed table document number encoded encoding_in tree_of level part_of
 width_of_none = refl
 
 -- the template goes before the items
+-- rule: fault-56-first-60-last
 template_goes_before : encoded (document 0 1 (0x0101 ∷ 0x0102 ∷ []) (number 24 0x0C65 (codes "5") ∷ Ends 25 ∷ [])) ≡ Err (refused_at 1 (by_template (template.UnknownElement 0x0102)))
 unfolding listed table document number encoded encoding_in tree_of level part_of inner_of
 template_goes_before = refl
 
 -- edition 3: one octet of local use makes section 1 even, and sections 3 and 4 are made even
+-- rule: writes-even-sections
 edition_3 : encoded (record {
   line = 1;
   header = 3 ∷ 0 ∷ 98 ∷ 0 ∷ 0 ∷ 0 ∷ 0 ∷ 0 ∷ 14 ∷ 0 ∷ 24 ∷ 1 ∷ 2 ∷ 3 ∷ 4 ∷ 0 ∷ 1 ∷ 0 ∷ 0 ∷ 1 ∷ [];

@@ -63,6 +63,7 @@ as_document : the_document ≡ the_document_written
 unfolding header_lines subset_lines item_entries subset_entries keys digits runs_behind hex_text descriptors_text quoted decimal_text_of unsigned_text
 as_document = refl
 
+-- rule: reading-subset-end
 read_back : documents_of the_text ≡ Complete the_document_written ∷ []
 unfolding parse_lines lines_of turn line_of worded prefix_while suffix_while place_from keys without_prefix descriptors_read fxy_read value_read quoted_read hex_read is_hashed
 read_back = refl
@@ -75,22 +76,27 @@ read_openly = refl
 abbrev noted_document : Document
 noted_document = record the_document_written { entries = Holds (draft 26 257 (number_token (codes "10"))) ∷ Ends 27 ∷ [] }
 
+-- rule: reading-empty-lines
 noted : documents_of (text_of_lines (head_lines ++ [] ∷ codes "# note" ∷ codes "subset 1" ∷ codes "001001 10" ∷ codes "end" ∷ [])) ≡ Complete noted_document ∷ []
 unfolding parse_lines lines_of turn line_of worded prefix_while suffix_while place_from keys without_prefix descriptors_read fxy_read value_read quoted_read hex_read is_hashed
 noted = refl
 
+-- rule: fault-50
 not_a_number : documents_of (text_of_lines (head_lines ++ [] ∷ codes "# note" ∷ codes "subset 1" ∷ codes "001001 x" ∷ codes "end" ∷ [])) ≡ Refused 26 NotAllowed ∷ []
 unfolding parse_lines lines_of turn line_of worded prefix_while suffix_while place_from keys without_prefix descriptors_read fxy_read value_read quoted_read hex_read is_hashed
 not_a_number = refl
 
+-- rule: fault-61
 centre_past_its_range : documents_of (text_of_lines (head_with (codes "centre 65536") (codes "subsets 1") ++ item_lines)) ≡ Refused 4 HeaderRange ∷ []
 unfolding parse_lines lines_of turn line_of worded prefix_while suffix_while place_from keys without_prefix descriptors_read fxy_read value_read quoted_read hex_read is_hashed
 centre_past_its_range = refl
 
+-- rule: reading-subsets, fault-57
 one_subset_of_two : documents_of (text_of_lines (head_with (codes "centre 98") (codes "subsets 2") ++ item_lines)) ≡ Refused 25 SubsetCount ∷ []
 unfolding parse_lines lines_of turn line_of worded prefix_while suffix_while place_from keys without_prefix descriptors_read fxy_read value_read quoted_read hex_read is_hashed
 one_subset_of_two = refl
 
+-- rule: fault-50, input-ends-early
 cut_after_24 : documents_of (text_of_lines (take 24 (head_lines ++ item_lines))) ≡ Refused 25 NotAllowed ∷ []
 unfolding parse_lines lines_of turn line_of worded prefix_while suffix_while place_from keys without_prefix descriptors_read fxy_read value_read quoted_read hex_read is_hashed
 cut_after_24 = refl
@@ -100,6 +106,7 @@ unfolding parse_open_lines split_of turn line_of worded prefix_while suffix_whil
 open_after_24 = refl
 
 -- the last line may lack its line feed; while the end is not known it is not whole
+-- rule: reading-last-line
 last_feed_lacks : documents_of (text_of_lines (head_lines ++ take 2 item_lines) ++ codes "end") ≡ Complete the_document_written ∷ []
 unfolding parse_lines lines_of turn line_of worded prefix_while suffix_while place_from keys without_prefix descriptors_read fxy_read value_read quoted_read hex_read is_hashed
 last_feed_lacks = refl
@@ -109,6 +116,7 @@ unfolding parse_open_lines split_of turn line_of worded prefix_while suffix_whil
 last_feed_lacks_openly = refl
 
 -- between documents only `message` may come
+-- rule: reading-between-documents
 second_document : documents_of (the_text ++ text_of_lines (codes "centre 98" ∷ [])) ≡ Complete the_document_written ∷ Refused 26 NotAllowed ∷ []
 unfolding parse_lines lines_of turn line_of worded prefix_while suffix_while place_from keys without_prefix descriptors_read fxy_read value_read quoted_read hex_read is_hashed
 second_document = refl
@@ -136,6 +144,7 @@ edition_3 : documents_of (text_of_lines (lines_3 (codes "edition 3") (codes "cen
 unfolding parse_lines lines_of turn line_of worded prefix_while suffix_while place_from keys without_prefix descriptors_read fxy_read value_read quoted_read hex_read is_hashed
 edition_3 = refl
 
+-- rule: reading-header-ranges
 edition_3_centre : documents_of (text_of_lines (lines_3 (codes "edition 3") (codes "centre 256") (codes "second 0") ++ item_lines)) ≡ Refused 4 HeaderRange ∷ []
 unfolding parse_lines lines_of turn line_of worded prefix_while suffix_while place_from keys without_prefix descriptors_read fxy_read value_read quoted_read hex_read is_hashed
 edition_3_centre = refl
@@ -153,6 +162,7 @@ unfolding parse_lines lines_of turn line_of worded prefix_while suffix_while pla
 edition_5 = refl
 
 -- a document of edition 4 that says edition 3 is refused at its year
+-- rule: reading-header-ranges
 year_of_edition_4 : documents_of (text_of_lines (codes "message" ∷ codes "edition 3" ∷ drop 2 head_lines ++ item_lines)) ≡ Refused 12 HeaderRange ∷ []
 unfolding parse_lines lines_of turn line_of worded prefix_while suffix_while place_from keys without_prefix descriptors_read fxy_read value_read quoted_read hex_read is_hashed
 year_of_edition_4 = refl

@@ -21,12 +21,14 @@ inserted_written = refl
 abbrev all_said : List (List ℕ) → List Line
 all_said lines = map line_within_limit lines
 
+-- rule: reading-number, reading-reference
 items_said : all_said (
     inserted_line ∷ codes "012101 MISSING" ∷ codes "R 012101 -400" ∷ codes "005002 -0.05 #" ∷ codes "005002 -0.05  # LATITUDE [degree]" ∷ [])
     ≡ Item 0x8504 (text_form inserted) ∷ Item 0x0C65 missing_form ∷ Item 0x0C65 (reference_token (codes "-400")) ∷ Item 0x0502 (number_token (codes "-0.05")) ∷ Item 0x0502 (number_token (codes "-0.05")) ∷ []
 unfolding line_of worded prefix_while suffix_while without_prefix fxy_read value_read quoted_read is_hashed
 items_said = refl
 
+-- rule: reading-reference
 items_wrong : all_said (
     codes "001001 10 " ∷ codes "001001 10# x" ∷ codes "001001  10" ∷ codes "001001 " ∷ codes "001001 x" ∷ codes "R 012101 MISSING" ∷ codes "064001 1" ∷ codes "01001 1"
     ∷ (codes "205001 " ++ 34 ∷ 65 ∷ []) ∷ (codes "205001 " ++ 34 ∷ 92 ∷ codes "xfe" ++ 34 ∷ []) ∷ (codes "205001 " ++ 34 ∷ 9 ∷ 34 ∷ []) ∷ [])
@@ -34,6 +36,7 @@ items_wrong : all_said (
 unfolding line_of worded prefix_while suffix_while without_prefix fxy_read value_read quoted_read is_hashed place_from keys
 items_wrong = refl
 
+-- rule: reading-header-number
 others_said : all_said (
     [] ∷ codes "#" ∷ (35 ∷ 13 ∷ []) ∷ codes "local1 abCD" ∷ codes "section2 0102" ∷ codes "descriptors 001001 363255" ∷ codes "subset 01" ∷ codes "year 99999999999999999999999" ∷ [])
     ≡ Passed ∷ Passed ∷ Passed ∷ Local1 (0xAB ∷ 0xCD ∷ []) ∷ Section2 (1 ∷ 2 ∷ []) ∷ Descriptors (257 ∷ 65535 ∷ []) ∷ Begins 1 ∷ Header 10 65536 ∷ []
@@ -47,12 +50,14 @@ unfolding line_of worded prefix_while suffix_while without_prefix hex_read descr
 others_wrong = refl
 
 -- runs of 32 octets and of 8 descriptors are the most
+-- rule: reading-long-lists
 most_said : all_said (local1_line (replicate 32 255) ∷ local1_line (replicate 33 255) ∷ descriptors_line (replicate 8 257) ∷ descriptors_line (replicate 9 257) ∷ [])
     ≡ Local1 (replicate 32 255) ∷ Wrong ∷ Descriptors (replicate 8 257) ∷ Wrong ∷ []
 unfolding line_of worded prefix_while suffix_while without_prefix hex_read hex_text descriptors_read descriptors_text
 most_said = refl
 
 -- 4,096 octets are the most, comment lines too
+-- rule: reading-longest-line
 long_said : all_said ((35 ∷ replicate 4095 120) ∷ (35 ∷ replicate 4096 120) ∷ []) ≡ Passed ∷ Wrong ∷ []
 unfolding line_of
 long_said = refl

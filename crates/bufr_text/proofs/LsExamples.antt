@@ -18,6 +18,7 @@ all_different = record {
   size = 77;
 }
 
+-- rule: listing-line, listing-offset-and-length, listing-time, listing-flags
 different-listed : ls_line 4294967296 all_different ≡ codes "offset=4294967296 length=77 edition=4 centre=1234/56 update=7 category=8/9/10 tables=11/12/13 time=0987-14-15T232:06:00 subsets=65535 observed=0 compressed=1 optional=1 descriptors=3\n"
 unfolding digits
 different-listed = refl

@@ -13,27 +13,32 @@ ten : Line
 ten = Item 257 (number_token (codes "10"))
 
 -- one space is behind a descriptor, and no tab or second one
+-- rule: reading-blanks
 blanks : all_said (codes "001001 10" ∷ (codes "001001" ++ 9 ∷ codes "10") ∷ codes "001001  10" ∷ [] ∷ codes "  " ∷ (9 ∷ []) ∷ []) ≡ ten ∷ Wrong ∷ Wrong ∷ Passed ∷ Wrong ∷ Wrong ∷ []
 unfolding ten line_of worded prefix_while suffix_while without_prefix fxy_read value_read is_hashed place_from keys
 blanks = refl
 
 -- a carriage return is an octet of the line: it can stand behind `#` alone
+-- rule: reading-carriage-return
 carriage_returns : all_said ((35 ∷ 13 ∷ []) ∷ (13 ∷ []) ∷ (codes "001001 10 #" ++ 13 ∷ []) ∷ (codes "001001 10" ++ 13 ∷ []) ∷ (codes "end" ++ 13 ∷ []) ∷ []) ≡ Passed ∷ Wrong ∷ ten ∷ Wrong ∷ Wrong ∷ []
 unfolding ten line_of worded prefix_while suffix_while without_prefix fxy_read value_read is_hashed place_from keys
 carriage_returns = refl
 
 -- behind a value, `#` stands behind spaces, and nothing else does
+-- rule: reading-after-a-value
 comments : all_said (codes "001001 10 #" ∷ codes "001001 10    # x" ∷ codes "001001 10#" ∷ codes "001001 10 x" ∷ codes "001001 10 " ∷ codes " # x" ∷ []) ≡ ten ∷ ten ∷ Wrong ∷ Wrong ∷ Wrong ∷ Wrong ∷ []
 unfolding ten line_of worded prefix_while suffix_while without_prefix fxy_read value_read is_hashed place_from keys
 comments = refl
 
 -- two digits of either case for an octet
+-- rule: reading-hexadecimal
 digits : all_said (codes "local1 0aF9" ∷ codes "local1 0aF" ∷ codes "local1 0g" ∷ codes "section2 ff" ∷ codes "section2 f" ∷ codes "local1  0a" ∷ codes "local1 0a " ∷ [])
     ≡ Local1 (10 ∷ 249 ∷ []) ∷ Wrong ∷ Wrong ∷ Section2 (255 ∷ []) ∷ Wrong ∷ Wrong ∷ Wrong ∷ []
 unfolding line_of worded prefix_while suffix_while without_prefix hex_read place_from keys
 digits = refl
 
 -- a descriptor is six digits whose F, X and Y fit their bits, on every line
+-- rule: reading-descriptor
 descriptors : all_said (codes "descriptors 001001" ∷ codes "descriptors 0010010" ∷ codes "descriptors 00100" ∷ codes "descriptors 363255" ∷ codes "descriptors 364255" ∷ codes "descriptors 363256" ∷ codes "descriptors 463255" ∷ codes "363255 10" ∷ codes "363256 10" ∷ codes "0010010 10" ∷ [])
     ≡ Descriptors (257 ∷ []) ∷ Wrong ∷ Wrong ∷ Descriptors (65535 ∷ []) ∷ Wrong ∷ Wrong ∷ Wrong ∷ Item 65535 (number_token (codes "10")) ∷ Wrong ∷ Wrong ∷ []
 unfolding line_of worded prefix_while suffix_while without_prefix descriptors_read fxy_read value_read is_hashed place_from keys
@@ -41,6 +46,7 @@ descriptors = refl
 
 -- in a text: escapes with upper-case digits, for any octet; nothing that cannot be printed; the
 -- closing quote
+-- rule: reading-quoted
 texts : all_said (
     (codes "205001 " ++ 34 ∷ 92 ∷ codes "x41" ++ 34 ∷ []) ∷ (codes "205001 " ++ 34 ∷ 92 ∷ codes "xaf" ++ 34 ∷ []) ∷ (codes "205001 " ++ 34 ∷ 92 ∷ codes "n" ++ 34 ∷ []) ∷ (codes "205001 " ++ 34 ∷ 126 ∷ 34 ∷ []) ∷ (codes "205001 " ++ 34 ∷ 127 ∷ 34 ∷ [])
     ∷ (codes "205001 " ++ 34 ∷ 254 ∷ 34 ∷ []) ∷ (codes "205001 " ++ 34 ∷ 65 ∷ []) ∷ (codes "205001 " ++ 34 ∷ 34 ∷ 34 ∷ []) ∷ [])
@@ -63,6 +69,7 @@ abbrev header_written : List ℕ
 header_written = 4 ∷ 0 ∷ 98 ∷ 0 ∷ 0 ∷ 0 ∷ 0 ∷ 0 ∷ 14 ∷ 0 ∷ 2024 ∷ 1 ∷ 2 ∷ 3 ∷ 4 ∷ 5 ∷ 1 ∷ 0 ∷ 1 ∷ 0 ∷ []
 
 -- lines of octets and of descriptors may be short in the middle; their kinds stand in order
+-- rule: reading-long-lists
 short_in_the_middle : none_with (codes "local1 01" ∷ codes "local1 0203" ∷ codes "section2 04" ∷ codes "section2 0506" ∷ codes "descriptors 001001" ∷ codes "descriptors 012101 001001" ∷ codes "end" ∷ [])
     ≡ Complete (record { line = 1; header = header_written; local1 = 1 ∷ 2 ∷ 3 ∷ []; section2 = 4 ∷ 5 ∷ 6 ∷ []; descriptors = 257 ∷ 0x0C65 ∷ 257 ∷ []; entries = [] }) ∷ []
 unfolding parse_lines lines_of turn line_of worded prefix_while suffix_while place_from keys without_prefix hex_read descriptors_read
@@ -84,27 +91,33 @@ the_most : centre_with (codes "centre 65535") ≡ Refused 22 SubsetCount ∷ []
 unfolding parse_lines lines_of turn line_of worded prefix_while suffix_while place_from keys without_prefix
 the_most = refl
 
+-- rule: reading-header-ranges
 one_past_the_most : centre_with (codes "centre 65536") ≡ Refused 4 HeaderRange ∷ []
 unfolding parse_lines lines_of turn line_of worded prefix_while suffix_while place_from keys without_prefix
 one_past_the_most = refl
 
+-- rule: fault-order-of-a-line
 past_and_no_line : centre_with (codes "centre 65536 ") ≡ Refused 4 NotAllowed ∷ []
 unfolding parse_lines lines_of turn line_of worded prefix_while suffix_while place_from keys without_prefix
 past_and_no_line = refl
 
+-- rule: reading-header-order
 another_key : centre_with (codes "subcentre 65536") ≡ Refused 4 NotAllowed ∷ []
 unfolding parse_lines lines_of turn line_of worded prefix_while suffix_while place_from keys without_prefix
 another_key = refl
 
+-- rule: fault-order-of-a-line
 no_number : none_with (codes "subset x" ∷ []) ≡ Refused 22 NotAllowed ∷ []
 unfolding parse_lines lines_of turn line_of worded prefix_while suffix_while place_from keys without_prefix
 no_number = refl
 
+-- rule: reading-subsets
 past_the_subsets : none_with (codes "subset 1" ∷ []) ≡ Refused 22 SubsetCount ∷ []
 unfolding parse_lines lines_of turn line_of worded prefix_while suffix_while place_from keys without_prefix
 past_the_subsets = refl
 
 -- lines are counted on over documents; a comment between them is counted
+-- rule: reading-line-numbers
 two_documents : documents_of (document_with (codes "centre 98") (codes "optional 1") (codes "subsets 0") (codes "end" ∷ codes "# x" ∷ []) ++ document_with (codes "centre 98") (codes "optional 1") (codes "subsets 0") (codes "end" ∷ []))
     ≡ Complete (record { line = 1; header = header_written; local1 = []; section2 = []; descriptors = []; entries = [] }) ∷ Complete (record { line = 24; header = header_written; local1 = []; section2 = []; descriptors = []; entries = [] }) ∷ []
 unfolding parse_lines lines_of turn line_of worded prefix_while suffix_while place_from keys without_prefix

@@ -32,6 +32,7 @@ AreWritten (together items) bits behind = ArePacked items bits behind
 
 -- reserved octets and bits are zero, no octet is left over, and the data take the least octets,
 -- with zero bits behind them; in edition 3 the least that make section 4 even
+-- rule: canonical
 pub record IsCanonical (m : List ℕ) (s : Sections) (values : Values) (used : ℕ) : Type 0 where
   pub plain : IsPlain m
   pub least : s.payload ≡ with_even_length s.head.edition 4

@@ -57,6 +57,7 @@ in_range edition key value =
     && nat_le value (slice_index (mosts (slots_of edition)) key)
 
 -- a header line
+-- rule: reading-header-order, fault-61, fault-order-of-a-line
 abbrev pub heading : Document → Line → LineEffect
 heading d (Header key value) =
     if not (key == length d.header) then Faults NotAllowed
@@ -66,16 +67,19 @@ heading d (Header key value) =
 heading d line = Faults NotAllowed
 
 -- `subset` and its number, where so many subsets were read
+-- rule: reading-subsets, fault-57
 abbrev pub beginning : (read : ℕ) → Document → (subset : ℕ) → LineEffect
 beginning read d subset =
     if (subset == read + 1) && nat_le subset (subsets_in d) then WalkGoes (Filling subset d)
     else Faults SubsetCount
 
 -- `end`
+-- rule: reading-subsets, fault-57
 abbrev pub closing : (read : ℕ) → Document → LineEffect
 closing read d = if read == subsets_in d then Gives d else Faults SubsetCount
 
 -- a line behind the header and before the first subset
+-- rule: reading-section2
 abbrev pub laying : (part : ℕ) → Document → Line → LineEffect
 laying part d (Local1 octets) =
     if part == 0 then WalkGoes (Laying 0 (with_local1 d octets)) else Faults NotAllowed
@@ -88,6 +92,7 @@ laying part d Closes = closing 0 d
 laying part d line = Faults NotAllowed
 
 -- a line in a subset
+-- rule: reading-subset-end
 abbrev pub filling : (at subset : ℕ) → Document → Line → LineEffect
 filling at subset d (Item fxy form) =
     WalkGoes (Filling subset (with_entry d (Holds (draft at fxy form))))
@@ -96,11 +101,13 @@ filling at subset d Closes = closing subset (with_entry d (Ends at))
 filling at subset d line = Faults NotAllowed
 
 -- a line between documents
+-- rule: reading-between-documents
 abbrev pub opening : (at : ℕ) → Line → LineEffect
 opening at Opens = WalkGoes (Heading (blank at))
 opening at line = Faults NotAllowed
 
 -- what a line does at a place
+-- rule: reading-empty-lines, fault-50
 unfoldable pub turn : (at : ℕ) → ParserState → Line → LineEffect
 turn at place Passed = WalkGoes place
 turn at Between line = opening at line
@@ -121,6 +128,7 @@ adds (Filling subset d) Closes = true
 adds place line = false
 
 -- a line has at most 4,096 octets
+-- rule: reading-longest-line
 abbrev pub line_within_limit : List ℕ → Line
 line_within_limit line = if nat_lt 4096 (length line) then Wrong else line_of line
 
@@ -135,6 +143,7 @@ told_at at (Gives d) = Complete d ∷ []
 told_at at (Faults fault) = Refused at fault ∷ []
 
 -- the end of the text: inside a document it is a fault at the next line
+-- rule: fault-50, input-ends-early
 abbrev pub told_at_end : (at : ℕ) → ParserState → List ParseResult
 told_at_end at Between = []
 told_at_end at (Heading d) = Refused at NotAllowed ∷ []
@@ -143,6 +152,7 @@ told_at_end at (Filling subset d) = Refused at NotAllowed ∷ []
 told_at_end at Stopped = []
 
 -- the documents that lines spell, from a place on
+-- rule: reading-line-numbers
 unfoldable pub parse_lines : (at : ℕ) → ParserState → List (List ℕ) → List ParseResult
 parse_lines at place [] = told_at_end at place
 parse_lines at place (line ∷ more) =
@@ -156,6 +166,7 @@ prepend_to_line c [] = (c ∷ []) ∷ []
 prepend_to_line c (line ∷ more) = (c ∷ line) ∷ more
 
 -- the lines of a text, each without its line feed; the last may lack it
+-- rule: reading-last-line
 unfoldable pub lines_of : List ℕ → List (List ℕ)
 lines_of [] = []
 lines_of (c ∷ more) = if c == 10 then [] ∷ lines_of more else prepend_to_line c (lines_of more)

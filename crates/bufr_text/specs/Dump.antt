@@ -33,6 +33,7 @@ pub record DumpItem : Type 0 where
 abbrev pub bit : Bool → ℕ
 bit on = if on then 1 else 0
 
+-- rule: text-header, text-header-of-edition-3
 abbrev pub header_of : Sections → List ℕ
 header_of s = let h = s.head in
     h.edition ∷ h.master ∷ h.centre ∷ h.subcentre ∷ h.update ∷ h.category ∷ h.subcategory
@@ -50,16 +51,20 @@ unfoldable pub header_lines : (key : ℕ) → List ℕ → List (List ℕ)
 header_lines key [] = []
 header_lines key (value ∷ more) = header_line key value ∷ header_lines (key + 1) more
 
+-- rule: text-local1
 abbrev pub local1_line : List ℕ → List ℕ
 local1_line octets = codes "local1 " ++ hex_text octets
 
+-- rule: text-section2
 abbrev pub section2_line : List ℕ → List ℕ
 section2_line octets = codes "section2 " ++ hex_text octets
 
+-- rule: text-descriptors
 abbrev pub descriptors_line : List ℕ → List ℕ
 descriptors_line words = codes "descriptors" ++ descriptors_text words
 
 -- what stands for a value in a document
+-- rule: text-number
 abbrev pub dump_value_of : DumpValue → DraftValue
 dump_value_of (IsNumber v scale) = number_token (decimal_text_of v scale)
 dump_value_of (IsText octets) = text_form octets
@@ -67,12 +72,14 @@ dump_value_of IsMissing = missing_form
 dump_value_of (IsReference v) = reference_token (decimal_text_of v (pos 0))
 
 -- two spaces, `# `, the name, the unit in brackets
+-- rule: text-comment
 abbrev pub comment_text : Option Comment → List ℕ
 comment_text None = []
 comment_text (Some comment) =
     joined (codes "  # " ∷ comment.name ∷ codes " [" ∷ comment.unit ∷ codes "]" ∷ [])
 
 -- a descriptor and what stands for its value
+-- rule: text-quoted, text-missing, text-reference, text-inserted
 abbrev pub form_text : (fxy : ℕ) → DraftValue → List ℕ
 form_text fxy (number_token token) = fxy_text fxy ++ 32 ∷ token
 form_text fxy (text_form octets) = fxy_text fxy ++ 32 ∷ 34 ∷ quoted octets
@@ -86,6 +93,7 @@ abbrev pub subset_line : ℕ → List ℕ
 subset_line subset = codes "subset " ++ decimal subset
 
 -- the lines of the subsets from a number on
+-- rule: text-subset
 unfoldable pub subset_lines : (subset : ℕ) → List (List DumpItem) → List (List ℕ)
 subset_lines subset [] = []
 subset_lines subset (items ∷ more) =
@@ -100,6 +108,7 @@ head_lines s =
     ++ map descriptors_line (runs_of 8 s.descriptors))))
 
 -- the lines of a message
+-- rule: text-lines-in-order
 abbrev pub dump_lines : Sections → List (List DumpItem) → List (List ℕ)
 dump_lines s subsets = head_lines s ++ (subset_lines 1 subsets ++ codes "end" ∷ [])
 

@@ -21,6 +21,7 @@ abbrev pub comment_of : Row → Comment
 comment_of row = record { name = row.name; unit = row.unit }
 
 -- an item as it is shown: with a comment exactly where it was read by a row of Table B
+-- rule: text-no-comment
 abbrev pub dump_item_of : View → DumpItem
 dump_item_of v =
     record { fxy = v.fxy; comment = option_map comment_of v.entry; value = value_of v.value }

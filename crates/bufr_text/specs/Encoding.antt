@@ -45,6 +45,7 @@ abbrev pub ◌>>=◌ : {A B : Type 0} → Result A RefusedAt → (A → Result B
 (Err why) >>= next = Err why
 
 -- a fault of the template is told at the line of `message`
+-- rule: fault-56
 abbrev pub told_of_template : ℕ → Result Tree TemplateFault → Result Tree RefusedAt
 told_of_template line (Ok template) = Ok template
 told_of_template line (Err why) = Err (refused_at line (by_template why))
@@ -59,10 +60,12 @@ data_bits true course subsets = packed_data course subsets
 data_bits false course subsets = plain_data course subsets
 
 -- bits as octets, with zero bits up to the next octet
+-- rule: writes-section-4
 abbrev pub octets_of_bits : List Bool → List ℕ
 octets_of_bits bits = octets_in ((length bits + 7) / 8) (bits ++ padding (length bits))
 
 -- what is written besides the head
+-- rule: writes-local-use
 abbrev pub parts_as : (compressed : Bool) → Document → (payload : List ℕ) → MessageParts
 parts_as compressed d payload =
     parts_of d.local1 (section2_in d) d.descriptors (subsets_in d)
@@ -72,10 +75,12 @@ abbrev pub parts_of_document : Document → (payload : List ℕ) → MessagePart
 parts_of_document d payload = parts_as (compressed_in d) d payload
 
 -- whether the data of a document are compressed in a form
+-- rule: form-option
 abbrev pub compressed_as : Form → Document → Bool
 compressed_as form d = compressed_by form (compressed_in d)
 
 -- a message of these parts, where it is not too long
+-- rule: fault-60
 abbrev pub message_of : (line : ℕ) → Head → MessageParts → Result (List ℕ) RefusedAt
 message_of line head parts =
     if nat_lt max_octets (message_size head.edition parts) then Err (refused_at line too_long)
@@ -83,6 +88,7 @@ message_of line head parts =
 
 -- the octets of a document's message, or its first fault: the template goes before all, then the
 -- items in the order of the template, then the length
+-- rule: fault-56-first-60-last
 unfoldable pub encoding_in : Form → List Row → List Sequence → Document → Result (List ℕ) RefusedAt
 encoding_in form table sequences d = do
   template ← told_of_template d.line (tree_of (tables_of table sequences) d.descriptors)

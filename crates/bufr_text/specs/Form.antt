@@ -5,6 +5,7 @@ use Rattle.bufr_text.specs.declared.form.Form.{Form}
 use Rattle.bufr_text.specs.declared.form.Form.TheVariants as form
 
 -- whether data are compressed, where a document says so or not
+-- rule: writes-form
 abbrev pub compressed_by : Form → (written : Bool) → Bool
 compressed_by form.AsWritten written = written
 compressed_by form.Plain written = false

@@ -44,6 +44,7 @@ upper_value c =
     if is_ascii_digit c then Some (c - 48) else if nat_le 65 c && nat_le c 70
     then Some (c - 55) else None
 
+-- rule: reading-hexadecimal
 abbrev pub either_value : ℕ → Option ℕ
 either_value c = if nat_le 97 c && nat_le c 102 then Some (c - 87) else upper_value c
 
@@ -58,6 +59,7 @@ abbrev pub hex_pair : ℕ → List ℕ
 hex_pair octet = hex_digit (octet / 16) ∷ hex_digit (octet % 16) ∷ []
 
 -- two digits for each octet
+-- rule: text-hexadecimal
 unfoldable pub hex_text : List ℕ → List ℕ
 hex_text [] = []
 hex_text (octet ∷ more) = hex_digit (octet / 16) ∷ hex_digit (octet % 16) ∷ hex_text more
@@ -86,6 +88,7 @@ unfoldable pub descriptors_text : List ℕ → List ℕ
 descriptors_text [] = []
 descriptors_text (fxy ∷ more) = 32 ∷ fxy_text fxy ++ descriptors_text more
 
+-- rule: reading-descriptor
 unfoldable pub descriptors_read : List ℕ → Option (List ℕ)
 descriptors_read [] = Some []
 descriptors_read (s ∷ a ∷ b ∷ c ∷ d ∷ e ∷ g ∷ more) =
@@ -95,6 +98,7 @@ descriptors_read text = None
 
 -- an unsigned decimal of any length; numbers past 65,535 are all alike, since none of them fits
 -- anywhere
+-- rule: reading-header-number
 abbrev pub number_read : List ℕ → Option ℕ
 number_read text =
     if nat_lt 0 (length text) && list_all is_ascii_digit text
@@ -105,6 +109,7 @@ abbrev pub is_unescaped : ℕ → Bool
 is_unescaped c = nat_le 32 c && nat_le c 126 && not (c == 34) && not (c == 92)
 
 -- an octet in a text: a quote and a backslash behind a backslash, what cannot be printed as `\xHH`
+-- rule: text-escapes
 abbrev pub escaped : ℕ → List ℕ
 escaped octet =
     if is_unescaped octet then octet ∷ []
@@ -137,6 +142,7 @@ escape_of text =
     else Nothing
 
 -- what stands in front of a text
+-- rule: reading-quoted
 abbrev pub quoting_of : List ℕ → QuotedToken
 quoting_of text =
     if slice_index text 0 == 34 then Closed
@@ -163,6 +169,7 @@ quoted_read (suc skip) (c ∷ more) = quoted_read skip more
 quoted_read zero (c ∷ more) = quoted_on (quoting_of (c ∷ more)) more (λ skip. quoted_read skip more)
 
 -- an octet of a number token
+-- rule: reading-number
 abbrev pub is_number_octet : ℕ → Bool
 is_number_octet c = is_ascii_digit c || (c == 45) || (c == 46)
 
@@ -171,6 +178,7 @@ unfoldable pub is_hashed : List ℕ → Bool
 is_hashed [] = false
 is_hashed (c ∷ more) = if c == 32 then is_hashed more else (c == 35)
 
+-- rule: reading-after-a-value
 abbrev pub is_passed_behind : List ℕ → Bool
 is_passed_behind [] = true
 is_passed_behind (c ∷ more) = (c == 32) && is_hashed more

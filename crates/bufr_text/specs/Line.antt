@@ -34,6 +34,7 @@ least_of (Holds field) = 0
 least_of Bit = 0
 least_of Count = 0
 
+-- rule: reading-header-ranges
 abbrev pub most_of : List Slot → Bound → ℕ
 most_of slots Editions = 4
 most_of slots (Holds field) = most_in slots field
@@ -49,6 +50,7 @@ abbrev pub key : List ℕ → Bound → Key
 key name bound = record { name = name; bound = bound }
 
 -- the keys of the header, in their order
+-- rule: text-header
 unfoldable pub keys : List Key
 keys =
     key (codes "edition") Editions ∷ key (codes "master") (Holds Master)
@@ -88,6 +90,7 @@ made line (Some x) = line x
 made line None = Wrong
 
 -- lines of hexadecimal digits have 1 to 32 octets, lines of descriptors 1 to 8
+-- rule: reading-long-lists
 abbrev pub with_one_to : (most : ℕ) → (List ℕ → Line) → List ℕ → Line
 with_one_to most line xs =
     if nat_lt 0 (length xs) && nat_le (length xs) most then line xs else Wrong
@@ -128,6 +131,7 @@ abbrev pub item_line : (List ℕ → Option (DraftValue × List ℕ)) → List �
 item_line read text = made (valued read) (fxy_read text)
 
 -- a line by its first word, and what is behind that word
+-- rule: reading-reference
 unfoldable pub worded : (word rest : List ℕ) → Line
 worded word rest =
     if bytes_eq word (codes "message") then (if length rest == 0 then Opens else Wrong)
@@ -149,6 +153,7 @@ abbrev pub is_no_space : ℕ → Bool
 is_no_space c = not (c == 32)
 
 -- what a line says
+-- rule: reading-empty-lines, reading-carriage-return, reading-blanks
 unfoldable pub line_of : List ℕ → Line
 line_of [] = Passed
 line_of (c ∷ more) =

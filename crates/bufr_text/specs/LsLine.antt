@@ -39,6 +39,7 @@ counts_texts subsets observed compressed optional descriptors =
     decimal descriptors ∷ codes "\n" ∷ []
 
 -- the line, with its line feed
+-- rule: listing-line
 abbrev pub ls_text : (offset size : ℕ) → Head
     → (subsets : ℕ) (observed compressed optional : Bool) (descriptors : ℕ) → List ℕ
 ls_text offset size h subsets observed compressed optional descriptors = joined (
@@ -46,6 +47,7 @@ ls_text offset size h subsets observed compressed optional descriptors = joined 
     ++ counts_texts subsets observed compressed optional descriptors))))
 
 -- the line of a message at an offset
+-- rule: listing-offset-and-length
 abbrev pub ls_line : ℕ → Sections → List ℕ
 ls_line offset s =
     ls_text offset s.size s.head s.subsets s.observed s.compressed (is_some s.section2)

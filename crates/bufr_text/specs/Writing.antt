@@ -38,10 +38,12 @@ CountsWrites failures failures' empty empty' (Ok x) = Stays failures failures' e
 CountsWrites failures failures' empty empty' (Err fault) = Fails failures failures' empty empty'
 
 -- decimal digits, at least so many, zeros in front
+-- rule: listing-time
 abbrev pub zero_padded : (least n : ℕ) → List ℕ
 zero_padded least n = replicate (least - length (decimal n)) 48 ++ decimal n
 
 -- 1 or 0
+-- rule: listing-flags
 abbrev pub flag : Bool → List ℕ
 flag on = if on then codes "1" else codes "0"
 

@@ -27,6 +27,7 @@ pub(crate) fn fxy_front<'a>(text: &'a [u8]) -> Option<(u16, &'a [u8])>
 
 /// Puts descriptors, each behind one space, to the front of `out`; answers how many they are, 1 to
 /// 8.
+// rule: reading-descriptor
 pub(crate) fn describe(text: &[u8], out: &mut [u16]) -> Option<usize>
     requires { length out.old ≡ 8 }
     ensures { Describes text.now out.new result }

@@ -28,6 +28,7 @@ const LINE: usize = 1024;
 const SUBSET_LINE: usize = 13;
 
 /// Writes the line that begins a subset.
+// rule: text-subset
 fn write_subset<W: Sink>(number: u16, w: &mut W) -> Result<(), RunFault>
     ensures writes { WritesPrefix (W.taken w.old) (W.taken w.new)
         (call_line (subset_call number) ++ 10 ∷ []) result }
@@ -43,6 +44,7 @@ fn write_subset<W: Sink>(number: u16, w: &mut W) -> Result<(), RunFault>
 
 /// Writes the line of an item, put together in `line`.
 #[inline(always)]
+// rule: one-write-a-line
 fn write_item<W: Sink>(item: &ItemView<'_>, line: &mut Vec<u8>, w: &mut W) -> Result<(), RunFault>
     ensures writes { WritesPrefix (W.taken w.old) (W.taken w.new)
         (call_line (item_call (seen item.now)) ++ 10 ∷ []) result }
@@ -205,6 +207,7 @@ pub fn write_dump<W: Sink>(
 /// # Errors
 ///
 /// Those of [`write_dump`].
+// rule: text-lines-in-order
 pub fn write_dump_by<W: Sink>(
     alloc: Global,
     message: &Message<'_>,

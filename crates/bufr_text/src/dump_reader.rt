@@ -181,6 +181,7 @@ impl DumpReader {
     }
 
     /// What the end of the input comes to, where no line is left: none may be missing.
+    // rule: fault-50, input-ends-early
     fn finish(&mut self) -> Result<Option<Document>, ReadFault>
         requires sound { self.old.fault ≡ None }
         requires ended { self.old.ended ≡ true }
@@ -198,6 +199,7 @@ impl DumpReader {
     }
 
     /// Reads once, behind the octets that are held. At the end the last line is ended.
+    // rule: reading-last-line
     fn read_more<R: Source>(&mut self, r: &mut R) -> Result<(), RunFault>
         requires sound { self.old.fault ≡ None }
         requires going { self.old.ended ≡ false }

@@ -30,6 +30,7 @@ use bufr_walk::{SpecCache, Steps, TemplateCache, WalkStop, walk_by};
 use std::alloc::{AllocError, Global};
 
 /// The fault of a walk that stopped, where the next entry stands on a line.
+// rule: fault-62
 fn of_stop(stop: WalkStop<DraftFault>, line: u64) -> DocumentFault
     ensures { told_refusal result ≡ option_map told_of_draft (told_stop line stop) }
 {
@@ -67,6 +68,7 @@ fn select(
 }
 
 /// The template that is selected, for the document of this line.
+// rule: fault-56
 fn template_of<'t>(
     line: u64,
     templates: &'t TemplateCache<'_>,
@@ -164,6 +166,7 @@ fn write_packed(
 }
 
 /// Whether the data of a document are compressed in a form.
+// rule: form-option
 fn is_compressed(document: &Document, form: Form) -> bool
     ensures { result ≡ compressed_as form document.now }
 {
@@ -203,6 +206,7 @@ fn write_data(
 }
 
 /// The message of a document with these data, which are in a form.
+// rule: writes-local-use, fault-60
 fn write_whole(
     alloc: Global,
     document: &Document,
@@ -286,6 +290,7 @@ fn encode_selected(
 /// # Errors
 ///
 /// Those of [`encode_form`].
+// rule: fault-56-first-60-last
 pub fn encode_by(
     alloc: Global,
     document: &Document,

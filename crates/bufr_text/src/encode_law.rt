@@ -30,6 +30,7 @@ pub fn accepted_messages_are_dumpable()
 /// The document of an accepted message's dump text is encoded, wherever it stands: to a message
 /// with the same head, local octets, section 2, descriptors, number of subsets, flags and values,
 /// and no longer, but that in edition 3 up to two octets make sections 3 and 4 even.
+// rule: becomes-canonical
 pub fn dumped_messages_are_encoded_again()
     ensures { (records : List Record) (table : List Row) (sequences : List Sequence) (m : List ℕ)
         (s : Sections) (template : Tree) (values : Values) (used at : ℕ)
@@ -82,6 +83,7 @@ pub fn dumped_messages_are_refused_for_want_of_memory_alone()
 {}
 
 /// A canonical message is encoded from its dump text to the same octets.
+// rule: canonical
 pub fn canonical_messages_are_encoded_to_themselves()
     ensures { (records : List Record) (table : List Row) (sequences : List Sequence) (m : List ℕ)
         (s : Sections) (template : Tree) (values : Values) (used at : ℕ)

@@ -16,6 +16,7 @@ pub enum Form {
 
 impl Form {
     /// Whether data are compressed, where a document says `written`.
+    // rule: writes-form
     pub(crate) fn is_compressed(self, written: bool) -> bool
         ensures { result ≡ compressed_by self written }
     {

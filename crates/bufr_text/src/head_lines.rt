@@ -53,6 +53,7 @@ fn lay_category(head: &Head, line: &mut [u8], end: usize) -> usize
 }
 
 /// Writes the line `message`, and those of the edition and of what section 1 says before the date.
+// rule: text-header
 fn write_origin<W: Sink>(message: &Message<'_>, w: &mut W) -> Result<(), RunFault>
     ensures writes { WritesPrefix (W.taken w.old) (W.taken w.new)
         (text_of_lines (codes "message" ∷ header_lines 0 (take 10 (header_of message.now)))) result }
@@ -106,6 +107,7 @@ fn lay_date(head: &Head, line: &mut [u8], end: usize) -> usize
 }
 
 /// Writes the lines of the date, the flags and the number of subsets.
+// rule: text-header, text-header-of-edition-3
 fn write_date<W: Sink>(message: &Message<'_>, w: &mut W) -> Result<(), RunFault>
     ensures writes { WritesPrefix (W.taken w.old) (W.taken w.new)
         (text_of_lines (header_lines 10 (drop 10 (header_of message.now)))) result }
@@ -138,6 +140,7 @@ fn write_octet_line<W: Sink>(
 }
 
 /// Writes octets behind a word, 32 on each line but the last.
+// rule: text-local1
 fn write_octet_lines<W: Sink>(
     word: &[u8],
     octets: &[u8],
@@ -160,6 +163,7 @@ fn write_octet_lines<W: Sink>(
 }
 
 /// Writes the lines of section 2, where there is one.
+// rule: text-section2
 fn write_section2<W: Sink>(
     message: &Message<'_>,
     line: &mut Vec<u8>,
@@ -196,6 +200,7 @@ fn write_descriptor_line<W: Sink>(
 }
 
 /// Writes the descriptors, eight on each line but the last.
+// rule: text-descriptors
 fn write_descriptor_lines<W: Sink>(
     message: &Message<'_>,
     line: &mut Vec<u8>,

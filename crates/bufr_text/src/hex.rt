@@ -4,6 +4,7 @@ ghost use Rattle.bufr_text.specs.Grammar.{either_value};
 ghost use Rattle.bufr_text.specs.Unhexing.{Unhexes};
 
 /// The number of a hexadecimal digit of either case.
+// rule: reading-hexadecimal
 fn either_value(octet: u8) -> Option<u8>
     ensures value { result ≡ either_value octet }
     ensures few { IfSome result (λ n. n < 16) }

@@ -20,6 +20,7 @@ fn is_number_octet(octet: u8) -> bool
 }
 
 /// How many octets of a number token stand in front.
+// rule: reading-number
 fn token(text: &[u8]) -> usize
     ensures within { result ≤ length text.now }
     ensures ahead { take result text.now ≡ prefix_while is_number_octet text.now }
@@ -68,6 +69,7 @@ fn is_hashed(text: &[u8]) -> bool
 
 /// Whether nothing but a comment is behind a value.
 #[tactic(auto, using(crate::proofs::ItemLemmas::hash_steps))]
+// rule: reading-after-a-value
 fn is_passed_behind(text: &[u8]) -> bool
     ensures { result ≡ is_passed_behind text.now }
 {
@@ -89,6 +91,7 @@ pub(crate) fn item<'a>(text: &'a [u8], scratch: &'a mut [u8]) -> Option<ParsedLi
 
 /// What a line says of a redefined reference, behind `R` and a space.
 #[tactic(auto, using(crate::proofs::ItemLemmas::reference_steps))]
+// rule: reading-reference
 pub(crate) fn reference<'a>(text: &'a [u8]) -> Option<ParsedLine<'a>>
     ensures { made meaning result ≡ item_line (number_value reference_token) text.now }
 {

@@ -19,6 +19,7 @@ use itoa::Buffer;
 use std::alloc::AllocError;
 
 /// Lays an octet that does not stand for itself before `end`, and answers where it begins.
+// rule: text-escapes
 fn lay_escape(octet: u8, line: &mut [u8], end: usize) -> usize
     requires other { is_unescaped octet ≡ false }
     requires room { 4 ≤ end }
@@ -51,6 +52,7 @@ fn lay_octet(octet: u8, line: &mut [u8], end: usize) -> usize
 
 /// Lays the octets of a text before `end`, what does not stand for itself as an escape, and the
 /// quote that closes it, and answers where it begins.
+// rule: text-quoted, text-inserted
 fn lay_quoted(octets: &[u8], line: &mut [u8], end: usize) -> usize
     requires room { 4 * length octets.now + 1 ≤ end }
     requires within { end ≤ length line.old }
@@ -202,6 +204,7 @@ fn lay_fxy(fxy: Fxy, line: &mut [u8], end: usize) -> usize
 }
 
 /// Lays a descriptor, a space and a number before `end`, and answers where they begin.
+// rule: text-number
 fn lay_numeric(fxy: Fxy, v: i128, scale: i16, line: &mut [u8], end: usize) -> usize
     requires room { 50 + unsigned_abs scale ≤ end }
     requires within { end ≤ length line.old }
@@ -216,6 +219,7 @@ fn lay_numeric(fxy: Fxy, v: i128, scale: i16, line: &mut [u8], end: usize) -> us
 }
 
 /// Lays a descriptor and what stands for a value before `end`, and answers where they begin.
+// rule: text-missing, text-reference
 fn lay_form(fxy: Fxy, value: Value<'_>, line: &mut [u8], end: usize) -> usize
     requires room { most_value value ≤ end }
     requires within { end ≤ length line.old }
@@ -244,6 +248,7 @@ fn lay_form(fxy: Fxy, value: Value<'_>, line: &mut [u8], end: usize) -> usize
 /// Lays the name and the unit of the entry of Table B by which an item was read before `end`, and
 /// answers where they begin.
 #[inline(always)]
+// rule: text-comment
 fn lay_comment(fxy: Fxy, entry: Option<Entry<'_>>, line: &mut [u8], end: usize) -> usize
     requires room { most_comment entry ≤ end }
     requires within { end ≤ length line.old }

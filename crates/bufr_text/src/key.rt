@@ -104,6 +104,7 @@ fn most(edition: u16, key: usize) -> u16
 
 /// Whether a value is in the range of its key, which goes by the edition.
 #[tactic(auto, unfolding(crate::specs::Line::keys))]
+// rule: reading-header-ranges
 pub(crate) fn in_range(edition: u16, key: usize, value: u32) -> bool
     requires { key < 20 }
     ensures value { result ≡ in_range edition key value }

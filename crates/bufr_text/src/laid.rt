@@ -23,6 +23,7 @@ pub fn lay_text(text: &[u8], line: &mut [u8], end: usize) -> usize
 
 /// Lays `1` or `0` before `end`, and answers where it stands.
 #[inline(always)]
+// rule: listing-flags
 pub(crate) fn lay_flag(on: bool, line: &mut [u8], end: usize) -> usize
     requires room { 1 ≤ end }
     requires within { end ≤ length line.old }
@@ -87,6 +88,7 @@ pub(crate) fn lay_zeros(count: usize, line: &mut [u8], end: usize) -> usize
 
 /// Lays a number in at least `least` digits before `end`, and answers where it begins.
 #[inline(always)]
+// rule: listing-time
 pub(crate) fn lay_padded(value: u64, least: usize, line: &mut [u8], end: usize) -> usize
     requires few { least ≤ 4 }
     requires room { 24 ≤ end }

@@ -33,6 +33,7 @@ fn word_len(line: &[u8]) -> usize
 
 /// The octets, 1 to 32 of them, that the digits behind one space write; they are put into
 /// `scratch`.
+// rule: reading-long-lists
 fn octets_behind<'a>(rest: &[u8], scratch: &'a mut [u8]) -> Option<&'a [u8]>
     requires { length rest.now ≤ length scratch.old }
     ensures { (line : List ℕ → Line) → made line (option_map (λ s. s.now) result)
@@ -46,6 +47,7 @@ fn octets_behind<'a>(rest: &[u8], scratch: &'a mut [u8]) -> Option<&'a [u8]>
 }
 
 /// A line of descriptors; they are put into `words`.
+// rule: reading-long-lists
 fn descriptors<'a>(rest: &[u8], words: &'a mut [u16]) -> Option<ParsedLine<'a>>
     requires { length words.old ≡ 8 }
     ensures { made meaning result
@@ -163,6 +165,7 @@ fn line_said<'a>(
 
 /// What a line says, most likely the value of the key `next`, if there is one. Octets and
 /// descriptors that it writes are put into `octets` and `words`.
+// rule: reading-empty-lines, reading-carriage-return, reading-blanks
 pub(crate) fn read_line<'a>(
     line: &'a [u8],
     next: usize,

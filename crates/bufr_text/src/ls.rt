@@ -113,6 +113,7 @@ fn lay_origin(offset: u64, size: u64, head: &Head, line: &mut [u8], end: usize) 
 /// # Errors
 ///
 /// [`RunFault::Write`] where the writer fails or takes nothing; a front of the line was taken.
+// rule: listing-line, listing-offset-and-length
 pub fn write_ls<W: Sink>(offset: u64, message: &Message<'_>, w: &mut W) -> Result<(), RunFault>
     ensures writes { Writes (W.taken w.old) (W.taken w.new) (ls_line offset message.now) result }
     ensures counts { CountsWrites (W.failures w.old) (W.failures w.new) (W.empty_writes w.old)

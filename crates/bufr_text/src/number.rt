@@ -11,6 +11,7 @@ fn capped(number: u32) -> u32
 }
 
 /// The number that digits write; numbers past 65,535 are all alike.
+// rule: reading-header-number
 pub(crate) fn number(text: &[u8]) -> Option<u32>
     ensures { result ≡ number_read text.now }
 {

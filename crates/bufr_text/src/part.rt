@@ -24,6 +24,7 @@ pub enum Part<'a> {
 /// # Errors
 ///
 /// [`RunFault::Write`] where the writer fails or takes nothing; a front of the octets was taken.
+// rule: one-write-a-line
 pub fn write_all<W: Sink>(octets: &[u8], w: &mut W) -> Result<(), RunFault>
     ensures writes { Writes (W.taken w.old) (W.taken w.new) octets.now result }
     ensures counts { CountsWrites (W.failures w.old) (W.failures w.new) (W.empty_writes w.old)

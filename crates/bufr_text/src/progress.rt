@@ -43,6 +43,7 @@ fn feed(held: &[u8]) -> Option<usize>
 }
 
 /// A line that is whole.
+// rule: reading-longest-line
 pub(crate) fn take_line(
     progress: &mut Progress,
     line: &[u8],
@@ -69,6 +70,7 @@ pub(crate) fn take_line(
 
 /// Takes lines that are held, up to the first that makes a document whole or is refused. Answers
 /// how many octets they took. What a line writes by digits or in quotes is put into `octets`.
+// rule: reading-line-numbers
 pub(crate) fn take_lines(
     progress: &mut Progress,
     held: &[u8],

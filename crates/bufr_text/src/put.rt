@@ -21,6 +21,7 @@ pub(crate) fn hex_digit(n: u8) -> u8
 }
 
 /// Puts two hexadecimal digits for an octet.
+// rule: text-hexadecimal
 fn put_hex_pair(octet: u8, line: &mut Vec<u8>) -> Result<(), AllocError>
     ensures { OnOk result (line.new.items ≡ line.old.items ++ hex_pair octet) }
 {

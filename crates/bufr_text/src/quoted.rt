@@ -59,6 +59,7 @@ fn escape(text: &[u8]) -> QuotedToken
 }
 
 /// What stands in front of a text.
+// rule: reading-quoted
 fn first_part(text: &[u8]) -> QuotedToken
     ensures { quoting_said result ≡ quoting_of text.now }
 {

@@ -83,6 +83,7 @@ pub(crate) enum LineEffect {
 }
 
 /// A header line.
+// rule: reading-header-order, fault-61, fault-order-of-a-line
 fn heading(parts: &mut DocumentParts, key: usize, value: u32) -> LineEffect
     requires { length parts.old.header < 20 }
     ensures turns { turned result parts.new ≡ heading parts.old (line.Header key value) }
@@ -103,6 +104,7 @@ fn heading(parts: &mut DocumentParts, key: usize, value: u32) -> LineEffect
 }
 
 /// `subset` and its number, where so many subsets were read.
+// rule: reading-subsets, fault-57
 fn beginning(parts: &DocumentParts, read: u32, subset: u32) -> LineEffect
     requires { read < 65536 }
     ensures turns { turned result parts.now ≡ beginning read parts.now subset }
@@ -115,6 +117,7 @@ fn beginning(parts: &DocumentParts, read: u32, subset: u32) -> LineEffect
 }
 
 /// `end`
+// rule: reading-subsets, fault-57
 fn closing(parts: &DocumentParts, read: u32) -> LineEffect
     ensures turns { turned result parts.now ≡ closing read parts.now }
 {
@@ -126,6 +129,7 @@ fn closing(parts: &DocumentParts, read: u32) -> LineEffect
 }
 
 /// A line behind the header and before the first subset.
+// rule: reading-section2
 fn laying(
     parts: &mut DocumentParts,
     part: LineGroup,
@@ -157,6 +161,7 @@ fn laying(
 }
 
 /// A line in a subset.
+// rule: reading-subset-end
 fn filling(
     parts: &mut DocumentParts,
     at: u64,
@@ -188,6 +193,7 @@ fn filling(
 }
 
 /// A line between documents.
+// rule: reading-between-documents
 fn opening(parts: &mut DocumentParts, at: u64, said: ParsedLine<'_>) -> LineEffect
     ensures turns { turned result parts.new ≡ opening at (meaning said.entry) }
 {
@@ -202,6 +208,7 @@ fn opening(parts: &mut DocumentParts, at: u64, said: ParsedLine<'_>) -> LineEffe
 
 /// A line at a place.
 #[tactic(auto, unfolding(crate::specs::Documents::turn))]
+// rule: fault-50
 pub(crate) fn step(
     place: ParserState,
     parts: &mut DocumentParts,

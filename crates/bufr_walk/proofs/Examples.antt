@@ -16,6 +16,7 @@ one_temperature : one (element (fxy 0 12 101) bare) (112 ∷ 143 ∷ []) ≡ giv
 unfolding one gives fxy
 one_temperature = refl
 
+-- rule: missing
 one_temperature_missing : one (element (fxy 0 12 101) bare) (255 ∷ 255 ∷ []) ≡ gives ((3173, shown_missing) ∷ []) (done 0 2)
 unfolding one gives fxy
 one_temperature_missing = refl
@@ -33,6 +34,7 @@ unfolding one gives delayed_blocks
 delayed_none = refl
 
 -- the data end at bit 22 of 24
+-- rule: field-past-end
 delayed_past_the_end : one delayed_blocks (255 ∷ 20 ∷ 44 ∷ []) ≡ gives ((7937, shown_number (pos 255) (pos 0)) ∷ (257, shown_number (pos 10) (pos 0)) ∷ (257, shown_number (pos 11) (pos 0)) ∷ []) (field_fault 257 data_end 2 7)
 unfolding one gives delayed_blocks
 delayed_past_the_end = refl
@@ -41,18 +43,21 @@ short_factor : one (delayed (fxy 0 31 0) (element (fxy 0 1 1) bare) bare) (138 �
 unfolding one gives fxy
 short_factor = refl
 
+-- rule: 2-01-y, 2-02-y, cancel-2-01-and-2-02
 width_and_scale_changed : one
     (operator (fxy 2 1 132) (operator (fxy 2 2 129) (element (fxy 0 12 101) (operator (fxy 2 1 0) (operator (fxy 2 2 0) (element (fxy 0 12 101) bare))))))
     (70 ∷ 89 ∷ 151 ∷ 8 ∷ 240 ∷ []) ≡ gives ((3173, shown_number (pos 288153) (pos 3)) ∷ (3173, shown_number (pos 28815) (pos 2)) ∷ []) (done 4 7)
 unfolding one gives fxy
 width_and_scale_changed = refl
 
+-- rule: 2-03-y, new-reference-of-quantities
 redefined_reference : one
     (operator (fxy 2 3 10) (element (fxy 0 12 101) (operator (fxy 2 3 255) (element (fxy 0 12 101) bare))))
     (228 ∷ 28 ∷ 35 ∷ 192 ∷ []) ≡ gives ((3173, shown_reference (negsuc 399)) ∷ (3173, shown_number (pos 28415) (pos 2)) ∷ []) (done 6 5)
 unfolding one gives fxy
 redefined_reference = refl
 
+-- rule: 2-07-y
 increased_precision : one (operator (fxy 2 7 1) (element (fxy 0 12 101) (element (fxy 0 20 3) bare))) (70 ∷ 89 ∷ 144 ∷ 40 ∷ [])
     ≡ gives ((3173, shown_number (pos 288153) (pos 3)) ∷ (5123, shown_number (pos 5) (pos 0)) ∷ []) (done 3 4)
 unfolding one gives fxy
@@ -62,6 +67,7 @@ width_refused : one (operator (fxy 2 1 121) (element (fxy 0 1 1) bare)) (0 ∷ [
 unfolding one gives fxy
 width_refused = refl
 
+-- rule: 2-01-y
 width_of_one : one (operator (fxy 2 1 122) (element (fxy 0 1 1) bare)) (0 ∷ []) ≡ gives ((257, shown_number (pos 0) (pos 0)) ∷ []) (done 7 3)
 unfolding one gives fxy
 width_of_one = refl
@@ -70,26 +76,32 @@ width_of_one_missing : one (operator (fxy 2 1 122) (element (fxy 0 1 1) bare)) (
 unfolding one gives fxy
 width_of_one_missing = refl
 
+-- rule: 2-06-y
 local_descriptor : one (operator (fxy 2 6 12) (element (fxy 0 63 255) bare)) (15 ∷ 80 ∷ []) ≡ gives ((16383, shown_number (pos 245) (pos 0)) ∷ []) (done 4 3)
 unfolding one gives fxy
 local_descriptor = refl
 
+-- rule: 2-05-y
 inserted_text : one (operator (fxy 2 5 4) bare) (34 ∷ 92 ∷ 10 ∷ 254 ∷ []) ≡ gives ((34052, shown_text (34 ∷ 92 ∷ 10 ∷ 254 ∷ [])) ∷ []) (done 0 2)
 unfolding one gives fxy
 inserted_text = refl
 
+-- rule: value
 negative_latitude : one (element (fxy 0 5 2) bare) (70 ∷ 70 ∷ []) ≡ gives ((1282, shown_number (negsuc 4) (pos 2)) ∷ []) (done 1 2)
 unfolding one gives fxy
 negative_latitude = refl
 
+-- rule: defining-no-text
 defining_text : one (operator (fxy 2 3 10) (element (fxy 0 1 15) bare)) (0 ∷ 0 ∷ []) ≡ gives [] (walk_fault (refusal.Defining 271) 16 2)
 unfolding one gives fxy
 defining_text = refl
 
+-- rule: 2-08-y
 text_width_changed : one (operator (fxy 2 8 3) (element (fxy 0 1 15) bare)) (65 ∷ 66 ∷ 67 ∷ []) ≡ gives ((271, shown_text (65 ∷ 66 ∷ 67 ∷ [])) ∷ []) (done 0 3)
 unfolding one gives fxy
 text_width_changed = refl
 
+-- rule: compressed-item
 compressed_missing : together 2 (element (fxy 0 12 101) bare) (112 ∷ 143 ∷ 5 ∷ []) ≡ gives ((3173, shown_number (pos 28815) (pos 2) ∷ shown_missing ∷ []) ∷ []) (done 0 2)
 unfolding together gives fxy
 compressed_missing = refl
@@ -112,18 +124,22 @@ compressed_name_shorter : together 2 (element (fxy 0 1 15) bare) (zeros 20 (13 �
 unfolding together gives fxy zeros spaces
 compressed_name_shorter = refl
 
+-- rule: compressed-factors
 factors_differ : together 2 delayed_blocks (1 ∷ 5 ∷ []) ≡ gives [] (field_fault 7937 unequal_factor 16 2)
 unfolding together gives delayed_blocks
 factors_differ = refl
 
+-- rule: compressed-past-width
 increment_past_the_width : together 2 (element (fxy 0 1 1) bare) (252 ∷ 17 ∷ 0 ∷ []) ≡ gives [] (field_fault 257 increment 24 1)
 unfolding together gives fxy
 increment_past_the_width = refl
 
+-- rule: compressed-sum-of-ones
 increment_to_all_ones : together 2 (element (fxy 0 1 1) bare) (252 ∷ 16 ∷ 128 ∷ []) ≡ gives ((257, shown_number (pos 126) (pos 0) ∷ shown_missing ∷ []) ∷ []) (done 7 2)
 unfolding together gives fxy
 increment_to_all_ones = refl
 
+-- rule: reads-minus-zero
 minus_zero : one
     (operator (fxy 2 3 10) (element (fxy 0 12 101) (operator (fxy 2 3 255) (element (fxy 0 12 101) bare))))
     (128 ∷ 28 ∷ 35 ∷ 192 ∷ []) ≡ gives ((3173, shown_reference (pos 0)) ∷ (3173, shown_number (pos 28815) (pos 2)) ∷ []) (done 6 5)
@@ -147,12 +163,14 @@ each_from_the_beginning =
     (bits_of (112 ∷ 143 ∷ []), ((bits_of (112 ∷ 143 ∷ []), refl, refl, refl), refl), ([], (([], refl, refl, refl), refl), refl))
 
 -- a given width holds for one descriptor
+-- rule: 2-06-y-used-up
 given_width_is_used_up : one (operator (fxy 2 6 12) (element (fxy 0 63 255) (element (fxy 0 1 1) bare))) (15 ∷ 81 ∷ 64 ∷ [])
     ≡ gives ((16383, shown_number (pos 245) (pos 0)) ∷ (257, shown_number (pos 10) (pos 0)) ∷ []) (done 5 4)
 unfolding one gives fxy
 given_width_is_used_up = refl
 
 -- figures take a redefined reference as it is, and no other change; 2 03 000 drops it
+-- rule: new-reference-of-figures
 figures_take_a_reference : one
     (operator (fxy 2 7 1) (operator (fxy 2 1 132) (operator (fxy 2 3 10) (element (fxy 0 20 3) (operator (fxy 2 3 255) (element (fxy 0 20 3) (operator (fxy 2 3 0) (element (fxy 0 20 3) bare))))))))
     (228 ∷ 0 ∷ 160 ∷ 80 ∷ []) ≡ gives ((5123, shown_reference (negsuc 399)) ∷ (5123, shown_number (negsuc 394) (pos 0)) ∷ (5123, shown_number (pos 5) (pos 0)) ∷ []) (done 4 9)
@@ -160,11 +178,13 @@ unfolding one gives fxy
 figures_take_a_reference = refl
 
 -- figures of class 31 are never missing
+-- rule: class-31-never-missing
 figures_never_missing : one (operator (fxy 2 1 132) (element (fxy 0 31 21) bare)) (252 ∷ []) ≡ gives ((7957, shown_number (pos 63) (pos 0)) ∷ []) (done 2 3)
 unfolding one gives fxy
 figures_never_missing = refl
 
 -- an inserted text of all ones is missing
+-- rule: missing-inserted-text
 inserted_missing : one (operator (fxy 2 5 1) bare) (255 ∷ []) ≡ gives ((34049, shown_missing) ∷ []) (done 0 2)
 unfolding one gives fxy
 inserted_missing = refl
@@ -211,10 +231,12 @@ unfolding together gives delayed_blocks
 factor_with_increments = refl
 
 -- a redefined reference has none
+-- rule: compressed-equal
 reference_together : together 2 (operator (fxy 2 3 10) (element (fxy 0 12 101) bare)) (228 ∷ 0 ∷ []) ≡ gives ((3173, shown_reference (negsuc 399) ∷ shown_reference (negsuc 399) ∷ []) ∷ []) (done 0 3)
 unfolding together gives fxy
 reference_together = refl
 
+-- rule: compressed-references
 reference_with_increments : together 2 (operator (fxy 2 3 10) (element (fxy 0 12 101) bare)) (228 ∷ 1 ∷ []) ≡ gives [] (field_fault 3173 increment 16 2)
 unfolding together gives fxy
 reference_with_increments = refl

@@ -9,6 +9,7 @@ use Rattle.bufr_walk.proofs.ExampleTables.{fxy, done, walk_fault, one, gives}
 -- figure or a text. The width holds for it alone. Fails where the changes, the references or the
 -- text width in force reach it, or where it is read as a bare number. Fails where the next element
 -- is read by its row alone too.
+-- rule: 2-06-y-width-of-table-b
 given_table_width : one (operator (fxy 2 3 10) (element (fxy 0 12 101) (operator (fxy 2 3 255) (operator (fxy 2 1 132) (operator (fxy 2 2 129) (operator (fxy 2 7 1) (operator (fxy 2 6 16) (element (fxy 0 12 101) (element (fxy 0 12 101) bare))))))))) (228 ∷ 28 ∷ 35 ∷ 203 ∷ 1 ∷ 223 ∷ 0 ∷ [])
     ≡ gives ((3173, shown_reference (negsuc 399)) ∷ (3173, shown_number (pos 28815) (pos 2)) ∷ (3173, shown_number (pos 2881500) (pos 4)) ∷ []) (done 6 10)
 unfolding one gives fxy
@@ -27,6 +28,7 @@ given_text = refl
 -- Another width than that of Table B gives a bare number, of scale and reference zero, with nothing
 -- in force. Fails where scale, reference, changes or a redefined reference are kept, or where a
 -- text is read as a text.
+-- rule: 2-06-y-other-width
 given_other_width : one (operator (fxy 2 3 10) (element (fxy 0 5 2) (operator (fxy 2 3 255) (operator (fxy 2 1 132) (operator (fxy 2 2 129) (operator (fxy 2 7 1) (operator (fxy 2 6 12) (element (fxy 0 5 2) bare)))))))) (228 ∷ 3 ∷ 212 ∷ [])
     ≡ gives ((1282, shown_reference (negsuc 399)) ∷ (1282, shown_number (pos 245) (pos 0)) ∷ []) (done 2 9)
 unfolding one gives fxy
@@ -44,6 +46,7 @@ unfolding one gives fxy
 given_missing = refl
 
 -- But not in class 31: fails where it is missing there.
+-- rule: 2-06-y-of-class-31
 given_class_31 : one (operator (fxy 2 6 12) (element (fxy 0 31 21) (operator (fxy 2 6 4) (element (fxy 0 31 255) bare)))) (255 ∷ 255 ∷ [])
     ≡ gives ((7957, shown_number (pos 4095) (pos 0)) ∷ (8191, shown_number (pos 15) (pos 0)) ∷ []) (done 0 5)
 unfolding one gives fxy

@@ -58,6 +58,7 @@ changed_behind : Tree
 unfolding fxy
 changed_behind = element (fxy 0 12 101) (operator (fxy 2 1 132) (operator (fxy 2 2 129) (operator (fxy 2 7 1) (operator (fxy 2 3 10) (element (fxy 0 12 101) (operator (fxy 2 3 255) bare))))))
 
+-- rule: operators-end-with-subset
 changes_end_with_the_subset : two changed_behind (112 ∷ 143 ∷ 228 ∷ 28 ∷ 35 ∷ 249 ∷ 0 ∷ [])
     ≡ gives ((3173, shown_number (pos 28815) (pos 2)) ∷ (3173, shown_reference (negsuc 399)) ∷ []) (done 30 8)
     ∷ gives ((3173, shown_number (pos 28815) (pos 2)) ∷ (3173, shown_reference (negsuc 399)) ∷ []) (done 4 8) ∷ []
@@ -69,6 +70,7 @@ defining_behind : Tree
 unfolding fxy
 defining_behind = element (fxy 0 1 1) (operator (fxy 2 3 10) (element (fxy 0 1 1) bare))
 
+-- rule: operators-end-with-subset
 definitions_end_with_the_subset : two defining_behind (21 ∷ 200 ∷ 10 ∷ 228 ∷ 0 ∷ [])
     ≡ gives ((257, shown_number (pos 10) (pos 0)) ∷ (257, shown_reference (negsuc 399)) ∷ []) (done 23 4)
     ∷ gives ((257, shown_number (pos 10) (pos 0)) ∷ (257, shown_reference (negsuc 399)) ∷ []) (done 6 4) ∷ []
@@ -107,6 +109,7 @@ minus_400 fxy = record {
   content = reference (negsuc 399);
 }
 
+-- rule: subsets-without-padding
 reading_of_changes : IsPlainReading 2 (next_item table changed_behind) ((at_288_15 ∷ minus_400 3173 ∷ []) ∷ (at_288_15 ∷ minus_400 3173 ∷ []) ∷ []) data_of_two []
 unfolding table changed_behind at_288_15 minus_400 next_item data_of_two
 reading_of_changes = (
@@ -145,6 +148,7 @@ letter octet = record {
   content = text (octet ∷ []);
 }
 
+-- rule: subsets-without-padding
 reading_of_letters : IsPlainReading 2 (next_item table text_width_behind) ((letter 65 ∷ []) ∷ (letter 66 ∷ []) ∷ []) (bits_of (65 ∷ 66 ∷ [])) []
 unfolding table text_width_behind letter next_item bits_of
 reading_of_letters = ((bits_of (66 ∷ []), ((bits_of (66 ∷ []), refl, refl, refl), refl), ([], (([], refl, refl, refl), refl), refl)), refl)

@@ -15,6 +15,7 @@ use Rattle.bufr_walk.proofs.ExampleTables.{fxy, table, done, walk_fault, field_f
 -- A base of all ones is missing in all subsets, whatever the increments are, but the increments
 -- must be there. Fails where the base is a number, or where an increment past the width is a fault.
 -- Fails where the increments are read as the next item, or where they may be absent.
+-- rule: compressed-all-missing
 base_of_all_ones : together 2 (element (fxy 0 12 101) (element (fxy 0 1 1) bare)) (255 ∷ 255 ∷ 9 ∷ 5 ∷ 0 ∷ [])
     ≡ gives ((3173, shown_missing ∷ shown_missing ∷ []) ∷ (257, shown_number (pos 10) (pos 0) ∷ shown_number (pos 10) (pos 0) ∷ []) ∷ []) (done 1 3)
 unfolding together gives fxy
@@ -25,6 +26,7 @@ base_of_all_ones_alone : together 2 (element (fxy 0 12 101) bare) (255 ∷ 255 �
 unfolding together gives fxy
 base_of_all_ones_alone = refl
 
+-- rule: compressed-increments-there
 base_of_all_ones_data_end : together 2 (element (fxy 0 12 101) bare) (255 ∷ 255 ∷ 128 ∷ [])
     ≡ gives [] (field_fault 3173 data_end 24 1)
 unfolding together gives fxy
@@ -32,6 +34,7 @@ base_of_all_ones_data_end = refl
 
 -- An increment of all ones is missing before the sum is examined, and may have more bits than the
 -- item. Fails where such a sum is a fault, or where the number of bits is.
+-- rule: compressed-missing-increment
 increment_of_all_ones : together 2 (element (fxy 0 1 1) bare) (252 ∷ 17 ∷ 128 ∷ [])
     ≡ gives ((257, shown_number (pos 126) (pos 0) ∷ shown_missing ∷ []) ∷ []) (done 7 2)
 unfolding together gives fxy
@@ -51,11 +54,13 @@ increment_data_end = refl
 
 -- In class 31 a base, an increment and a sum of all ones are numbers, and a sum past the width is a
 -- fault. Fails where one of them is missing, or where the sum wraps.
+-- rule: compressed-class-31
 class_31_together : together 2 (element (fxy 0 31 1) (element (fxy 0 31 1) (element (fxy 0 31 1) (element (fxy 0 31 21) bare)))) (255 ∷ 4 ∷ 250 ∷ 11 ∷ 127 ∷ 129 ∷ 127 ∷ 0 ∷ [])
     ≡ gives ((7937, shown_number (pos 255) (pos 0) ∷ shown_number (pos 255) (pos 0) ∷ []) ∷ (7937, shown_number (pos 253) (pos 0) ∷ shown_number (pos 251) (pos 0) ∷ []) ∷ (7937, shown_number (pos 254) (pos 0) ∷ shown_number (pos 255) (pos 0) ∷ []) ∷ (7957, shown_number (pos 63) (pos 0) ∷ shown_number (pos 63) (pos 0) ∷ []) ∷ []) (done 2 5)
 unfolding together gives fxy
 class_31_together = refl
 
+-- rule: compressed-class-31
 class_31_past_the_width : together 2 (element (fxy 0 31 1) bare) (255 ∷ 5 ∷ [])
     ≡ gives [] (field_fault 7937 increment 16 1)
 unfolding together gives fxy
@@ -86,6 +91,7 @@ texts_of_one_base : together 2 (operator (fxy 2 5 2) (operator (fxy 2 5 2) bare)
 unfolding together gives fxy
 texts_of_one_base = refl
 
+-- rule: compressed-text
 texts_of_one_octet : together 2 (operator (fxy 2 5 2) bare) (88 ∷ 89 ∷ 5 ∷ 5 ∷ 8 ∷ [])
     ≡ gives ((34050, shown_text (65 ∷ 32 ∷ []) ∷ shown_text (66 ∷ 32 ∷ []) ∷ []) ∷ []) (done 2 2)
 unfolding together gives fxy
@@ -94,11 +100,13 @@ texts_of_one_octet = refl
 -- Octets of 255 alone are missing, and a base is not examined where octets follow it. Fails where a
 -- shorter text of 255s is shown, or where as many octets as the item has are a fault. Fails where a
 -- base of all ones is missing in all subsets.
+-- rule: compressed-text-base
 text_of_255 : together 2 (operator (fxy 2 5 2) bare) (255 ∷ 255 ∷ 11 ∷ 255 ∷ 255 ∷ 255 ∷ 248 ∷ [])
     ≡ gives ((34050, shown_missing ∷ shown_text (255 ∷ 254 ∷ []) ∷ []) ∷ []) (done 2 2)
 unfolding together gives fxy
 text_of_255 = refl
 
+-- rule: compressed-text-missing
 text_of_255_shorter : together 2 (operator (fxy 2 5 2) bare) (0 ∷ 0 ∷ 7 ∷ 253 ∷ 4 ∷ [])
     ≡ gives ((34050, shown_missing ∷ shown_text (65 ∷ 32 ∷ []) ∷ []) ∷ []) (done 2 2)
 unfolding together gives fxy
@@ -106,11 +114,13 @@ text_of_255_shorter = refl
 
 -- More octets than the item has are a fault, but the data end first: fails where they are taken, or
 -- where the fault comes before the end.
+-- rule: compressed-text-past-width
 text_octets_over_the_width : together 2 (operator (fxy 2 5 2) bare) (0 ∷ 0 ∷ 12 ∷ 0 ∷ 0 ∷ 0 ∷ 0 ∷ 0 ∷ 0 ∷ [])
     ≡ gives [] (field_fault 34050 increment 72 1)
 unfolding together gives fxy
 text_octets_over_the_width = refl
 
+-- rule: fault-30-before-34
 text_octets_past_the_data : together 2 (operator (fxy 2 5 2) bare) (0 ∷ 0 ∷ 12 ∷ [])
     ≡ gives [] (field_fault 34050 data_end 24 1)
 unfolding together gives fxy
@@ -118,6 +128,7 @@ text_octets_past_the_data = refl
 
 -- A factor may have increments if all its counts are the same, and one of all ones is a count.
 -- Fails where increments are a fault, where the base alone counts, or where all ones is missing.
+-- rule: compressed-factors
 factor_with_increments : together 2 (delayed (fxy 0 31 1) (element (fxy 0 1 1) bare) bare) (1 ∷ 12 ∷ 145 ∷ 64 ∷ 11 ∷ 0 ∷ [])
     ≡ gives ((7937, shown_number (pos 2) (pos 0) ∷ shown_number (pos 2) (pos 0) ∷ []) ∷ (257, shown_number (pos 10) (pos 0) ∷ shown_number (pos 10) (pos 0) ∷ []) ∷ (257, shown_number (pos 11) (pos 0) ∷ shown_number (pos 11) (pos 0) ∷ []) ∷ []) (done 2 7)
 unfolding together gives fxy
@@ -140,6 +151,7 @@ factor_data_end : together 2 (delayed (fxy 0 31 1) (element (fxy 0 1 1) bare) ba
 unfolding together gives fxy
 factor_data_end = refl
 
+-- rule: fault-34-before-33
 factor_past_the_width : together 2 (delayed (fxy 0 31 1) (element (fxy 0 1 1) bare) bare) (255 ∷ 5 ∷ [])
     ≡ gives [] (field_fault 7937 increment 16 2)
 unfolding together gives fxy
@@ -170,6 +182,7 @@ reference_of_all_ones_together = refl
 -- More than 134217728 values are too many, counted before an item is read and after the faults of
 -- the walk. Fails where the data end first, where a refused width or a text in a definition comes
 -- later, or where the bound is another.
+-- rule: compressed-fault-order
 too_many_before_the_data_end : stop_at (packed 65535) (nat_lt max_values (2049 * 65535)) (next_item table (element (fxy 0 12 101) bare) []).next [] ≡ Some (too_many 3173)
 unfolding table next_item fxy
 too_many_before_the_data_end = refl
@@ -178,6 +191,7 @@ not_yet_too_many : stop_at (packed 2) (nat_lt max_values (2048 * 65535)) (next_i
 unfolding table next_item fxy
 not_yet_too_many = refl
 
+-- rule: compressed-fault-order
 width_before_too_many : stop_at (packed 65535) true (next_item table (operator (fxy 2 1 121) (element (fxy 0 1 1) bare)) []).next [] ≡ Some (walk_stop (refusal.Width 257))
 unfolding table next_item fxy
 width_before_too_many = refl
@@ -190,12 +204,14 @@ none_too_many_at_the_end : stop_at (packed 65535) true (next_item table (element
 unfolding table next_item fxy
 none_too_many_at_the_end = refl
 
+-- rule: too-many-values
 just_not_too_many : nat_lt max_values (4096 * 32768) ≡ false
 just_not_too_many = refl
 
 just_too_many : nat_lt max_values (4096 * 32768 + 1) ≡ true
 just_too_many = refl
 
+-- rule: too-many-values
 refused_as_too_many : IsPackedRefused 134217729 (next_item table (element (fxy 0 12 101) bare)) [] (too_many 3173) 0 1
 unfolding table next_item fxy
 refused_as_too_many = (0, (next_item table (element (fxy 0 12 101) bare) []).next, [], record { items = []; some = omega arith; reads = refl; few = omega arith; count = refl; next_is = refl; place = refl; turns_are = refl }, refl)
@@ -211,6 +227,7 @@ refused_at_its_item = (0, (next_item table (element (fxy 0 1 1) bare) []).next, 
 
 -- With no subset nothing is read, and nothing is refused: fails where the items are read all the
 -- same.
+-- rule: no-subsets
 no_subset_together : IsPackedReading 0 (next_item table (element (fxy 0 1 1) bare)) [] (bits_of (20 ∷ [])) (bits_of (20 ∷ []))
 no_subset_together = (refl, refl)
 

@@ -11,6 +11,7 @@ unfolding one gives fxy
 text_missing = refl
 
 -- A text of class 31 may be missing: fails where the class makes it a text of 255.
+-- rule: class-31-never-missing
 text_of_class_31 : one (element (fxy 0 31 250) bare) (255 ∷ [])
     ≡ gives ((8186, shown_missing) ∷ []) (done 0 2)
 unfolding one gives fxy
@@ -31,6 +32,7 @@ inserted_width_alone = refl
 
 -- A later text width replaces the earlier one, and zero ends it: fails where the widths add up, or
 -- where 2 08 000 is ignored.
+-- rule: cancel-2-07-and-2-08
 text_width_cancelled : one (operator (fxy 2 8 5) (operator (fxy 2 8 3) (element (fxy 0 1 15) (operator (fxy 2 8 0) (element (fxy 0 1 15) bare))))) (88 ∷ 89 ∷ 90 ∷ 48 ∷ 49 ∷ 50 ∷ 51 ∷ 52 ∷ 53 ∷ 54 ∷ 55 ∷ 56 ∷ 57 ∷ 65 ∷ 66 ∷ 67 ∷ 68 ∷ 69 ∷ 70 ∷ 71 ∷ 72 ∷ 73 ∷ 74 ∷ [])
     ≡ gives ((271, shown_text (88 ∷ 89 ∷ 90 ∷ [])) ∷ (271, shown_text (48 ∷ 49 ∷ 50 ∷ 51 ∷ 52 ∷ 53 ∷ 54 ∷ 55 ∷ 56 ∷ 57 ∷ 65 ∷ 66 ∷ 67 ∷ 68 ∷ 69 ∷ 70 ∷ 71 ∷ 72 ∷ 73 ∷ 74 ∷ [])) ∷ []) (done 0 6)
 unfolding one gives fxy

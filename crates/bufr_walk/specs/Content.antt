@@ -24,6 +24,7 @@ octets_in zero bits = []
 octets_in (suc n) bits = number_of (take 8 bits) ∷ octets_in n (drop 8 bits)
 
 -- a number whose first bit is its sign
+-- rule: new-reference, reads-minus-zero
 abbrev pub signed_by : List Bool → ℤ
 signed_by [] = pos 0
 signed_by (sign ∷ bits) = if sign then neg_ℤ (pos (number_of bits)) else pos (number_of bits)
@@ -35,11 +36,13 @@ said_by kind.Coded width bits = number (number_of bits)
 said_by kind.Numeric width bits = number (number_of bits)
 
 -- the content of a field that is no reference; all ones is missing where that is allowed
+-- rule: missing
 abbrev pub value_in : FieldSpec → List Bool → Content
 value_in spec bits =
     if are_all_ones bits && spec.may_be_missing then missing else said_by spec.kind spec.width bits
 
 -- the content of a field, by role
+-- rule: missing-inserted-text
 abbrev pub content_by : Role → FieldSpec → List Bool → Content
 content_by role.Element spec bits = value_in spec bits
 content_by role.Inserted spec bits = value_in spec bits
@@ -56,6 +59,7 @@ sign_bit (pos n) = false
 sign_bit (negsuc n) = true
 
 -- the bits that write a content; zero has the plus sign
+-- rule: writes-plus-zero
 abbrev pub bits_for : ℕ → Content → List Bool
 bits_for width (number raw) = bits_in raw width
 bits_for width (text octets) = bits_of octets
@@ -95,6 +99,7 @@ pub data ShownValue : Type 0 where
   shown_reference : (value : ℤ) → ShownValue
 
 -- the value that an item shows
+-- rule: value
 abbrev pub shown : FieldSpec → Content → ShownValue
 shown spec (number raw) = shown_number (pos raw +ℤ spec.reference) spec.scale
 shown spec (text octets) = shown_text octets

@@ -56,6 +56,7 @@ operated (Err why) go = stop (refused why)
 operated (Ok settings) go = later 1 (go settings)
 
 -- what comes next in these turns, after items that returned `told`
+-- rule: defining-fixed-groups, 2-03-255-alone
 abbrev pub ahead : List Row → Turns → OperatorModel → List Taken → NextTurn
 ahead table finish s told = stop at_end
 ahead table open_end s told = stop astray

@@ -15,6 +15,7 @@ abbrev pub spot : (subset fxy bit : ℕ) → Spot
 spot subset fxy bit = record { subset = subset; fxy = fxy; bit = bit }
 
 -- the fault of a stop, in a subset, after `bit` bits
+-- rule: stream-fault-place
 abbrev pub walk_fault_of : Stop → (subset bit : ℕ) → WalkFault
 walk_fault_of (walk_stop (refusal.Width fxy)) subset bit = fault.Width (spot subset fxy bit)
 walk_fault_of (walk_stop (refusal.Defining fxy)) subset bit = fault.Defining (spot subset fxy bit)

@@ -31,6 +31,7 @@ pub record OperatorModel : Type 0 where
   pub new_references : List Redefined
 
 -- no operator is in force, as at the beginning of each subset
+-- rule: operators-end-with-subset
 abbrev pub begin : OperatorModel
 begin =
     record {
@@ -48,6 +49,7 @@ abbrev pub is_defining : OperatorModel → Bool
 is_defining s = nat_lt 0 s.new_reference_width
 
 -- 2 03 Y: 255 ends the definition of references, 0 drops those that were defined, else one begins
+-- rule: 2-03-y, 2-03-000, 2-03-y-again, 2-03-255-alone
 abbrev pub with_references : ℕ → OperatorModel → OperatorModel
 with_references y s =
     if y == 255 then record s { new_reference_width = 0 }
@@ -55,6 +57,7 @@ with_references y s =
     else record s { new_reference_width = y }
 
 -- the operator 2 X Y changes the operands; a text of the template (2 05 Y) changes nothing
+-- rule: later-operator-replaces
 abbrev pub with_operator : (x y : ℕ) → OperatorModel → OperatorModel
 with_operator x y s =
     if x == 1 then record s { width_change = y }
@@ -67,12 +70,14 @@ with_operator x y s =
 
 -- the operators in force after an operator; while references are being defined only their end is
 -- allowed
+-- rule: defining-no-other-operator, fault-32-before-31
 abbrev pub after_operator : OperatorModel → ℕ → Result OperatorModel TurnRefusal
 after_operator s fxy =
     if is_defining s && not (x_of fxy == 3 && y_of fxy == 255) then Err (refusal.Defining fxy)
     else Ok (with_operator (x_of fxy) (y_of fxy) s)
 
 -- the references, with that of an element in place of the one before
+-- rule: last-reference-counts
 abbrev pub with_reference : (fxy : ℕ) → (reference : ℤ) → List Redefined → List Redefined
 with_reference fxy reference [] = record { fxy = fxy; reference = reference } ∷ []
 with_reference fxy reference (r ∷ more) =
@@ -81,6 +86,7 @@ with_reference fxy reference (r ∷ more) =
     else r ∷ with_reference fxy reference more
 
 -- the operators in force after a field: a given width ends, and a reference is kept
+-- rule: 2-06-y-used-up
 abbrev pub after_field : OperatorModel → ℕ → Taken → OperatorModel
 after_field s fxy taken.Plain = record s { local_width = 0 }
 after_field s fxy (taken.Count n) = record s { local_width = 0 }

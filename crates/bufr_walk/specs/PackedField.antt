@@ -27,6 +27,8 @@ and_contents (Ok c) (Err why) = Err why
 and_contents (Ok c) (Ok cs) = Ok (c ∷ cs)
 
 -- the number of one subset: the base plus its increment of k bits
+-- rule: compressed-missing-increment, compressed-past-width, compressed-sum-of-ones
+-- rule: compressed-class-31
 abbrev pub increased : (may_be_missing : Bool) (width base k increment : ℕ)
     → Result Content FieldFault
 increased m width base k i =
@@ -48,6 +50,7 @@ all_increased m width base k (i ∷ is) =
     and_contents (increased m width base k (number_of i)) (all_increased m width base k is)
 
 -- the text of one subset: k octets, followed by spaces up to its width
+-- rule: compressed-text, compressed-text-missing
 abbrev pub padded_text : (octets k : ℕ) → List Bool → Content
 padded_text octets k bits =
     if are_all_ones bits then missing else text (octets_in k bits ++ replicate (octets - k) 32)
@@ -60,6 +63,7 @@ increment_bits_of _ kind.Coded k = k
 increment_bits_of _ kind.Numeric k = k
 
 -- the numbers of the subsets: all are missing where the base is
+-- rule: compressed-all-missing
 abbrev pub numbers_of : FieldSpec → (k : ℕ) → List Bool → List (List Bool)
     → Result (List Content) FieldFault
 numbers_of spec k base is =
@@ -67,12 +71,14 @@ numbers_of spec k base is =
     else all_increased spec.may_be_missing spec.width (number_of base) k is
 
 -- the texts of the subsets, where k is above 0
+-- rule: compressed-text-past-width
 abbrev pub texts_of : FieldSpec → (k : ℕ) → List (List Bool) → Result (List Content) FieldFault
 texts_of spec k is =
     if nat_lt (spec.width / 8) k then Err increment
     else Ok (map (padded_text (spec.width / 8) k) is)
 
 -- the contents of the subsets, where k is above 0, by kind
+-- rule: compressed-text-base
 abbrev pub varied_by : Kind → FieldSpec → (k : ℕ) → List Bool → List (List Bool)
     → Result (List Content) FieldFault
 varied_by kind.Character spec k base is = texts_of spec k is
@@ -90,11 +96,13 @@ all_same [] = true
 all_same (c ∷ cs) = list_all (same_count c) cs
 
 -- the contents of a factor, which are the same in all subsets
+-- rule: compressed-factors, fault-34-before-33
 abbrev pub if_equal : Result (List Content) FieldFault → Result (List Content) FieldFault
 if_equal (Err why) = Err why
 if_equal (Ok cs) = if all_same cs then Ok cs else Err unequal_factor
 
 -- the contents of an item with k above 0
+-- rule: compressed-references
 abbrev pub varied : Role → FieldSpec → (k : ℕ) → List Bool → List (List Bool)
     → Result (List Content) FieldFault
 varied role.Reference spec k base is = Err increment
@@ -102,6 +110,7 @@ varied role.Factor spec k base is = if_equal (varied_by spec.kind spec k base is
 varied _ spec k base is = varied_by spec.kind spec k base is
 
 -- the contents of an item, for each subset: without increments all have the base
+-- rule: compressed-equal
 abbrev pub contents_of : FieldSpec → (k : ℕ) → List Bool → List (List Bool)
     → Result (List Content) FieldFault
 contents_of spec k base is =
@@ -114,6 +123,7 @@ with_behind (Err why) bits = Err why
 with_behind (Ok cs) bits = Ok (found cs bits)
 
 -- an item whose k is known
+-- rule: compressed-item, compressed-increments-there, fault-30-before-34
 abbrev pub item_by : FieldSpec → (subsets k : ℕ) → List Bool → Result (FieldRead (List Content))
     FieldFault
 item_by spec n k bits =
@@ -124,6 +134,7 @@ item_by spec n k bits =
     (drop (n * step) behind)
 
 -- the item that begins the bits, for n subsets
+-- rule: compressed-item
 abbrev pub packed_field : (subsets : ℕ) → FieldSpec → List Bool
     → Result (FieldRead (List Content)) FieldFault
 packed_field n spec bits =

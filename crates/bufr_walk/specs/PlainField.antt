@@ -21,6 +21,7 @@ abbrev pub found : {C : Type 0} → C → List Bool → FieldRead C
 found content behind = record { content = content; behind = behind }
 
 -- the field that begins the bits
+-- rule: field-past-end
 abbrev pub plain_field : FieldSpec → List Bool → Result (FieldRead Content) FieldFault
 plain_field spec bits =
     if nat_lt (length bits) spec.width then Err data_end

@@ -66,6 +66,7 @@ turns_in course [] = 0
 turns_in course (items ∷ subsets) = turns_after plain course items + turns_in course subsets
 
 -- subsets one after another, each from the beginning of the template
+-- rule: operators-end-with-subset, subsets-without-padding
 abbrev pub ReadsSubsets : Course → List (List (Item Content)) → (bits behind : List Bool) → Type 0
 ReadsSubsets course [] bits behind = bits ≡ behind
 ReadsSubsets course (items ∷ subsets) bits behind =
@@ -73,6 +74,7 @@ ReadsSubsets course (items ∷ subsets) bits behind =
     × ReadsSubsets course subsets mid behind
 
 -- the most values of a compressed message
+-- rule: too-many-values
 abbrev pub max_values : ℕ
 max_values = 134217728
 
@@ -81,6 +83,7 @@ abbrev pub items_at_once : ℕ
 items_at_once = 64
 
 -- compressed data: one pass for all subsets; with no subset nothing is read
+-- rule: no-subsets
 abbrev pub IsPackedReading : (subsets : ℕ) → Course → List (Item (List Content))
     → (bits behind : List Bool) → Type 0
 IsPackedReading zero course items bits behind = (items ≡ []) × (bits ≡ behind)
@@ -112,6 +115,7 @@ items_kept (apart subsets) = 0
 items_kept (together items) = length items
 
 -- the items of the data, and how many bits they take
+-- rule: bits-left-over
 abbrev pub IsReading : Course → Data → Values → (used : ℕ) → Type 0
 IsReading course d (apart subsets) used =
     (d.compressed ≡ false) × (used ≤ length d.bits)

@@ -23,6 +23,7 @@ field_stop_of fxy (Ok f) = None
 field_stop_of fxy (Err why) = Some (field_stop fxy why)
 
 -- the stop at what comes next, if there is one
+-- rule: compressed-fault-order
 abbrev pub stop_at : {C : Type 0} → DataCoding C → (many : Bool) → Next → List Bool → Option Stop
 stop_at form many (refused why) bits = Some (walk_stop why)
 stop_at form true (take_next spec) bits = Some (too_many spec.fxy)
@@ -64,6 +65,7 @@ IsPlainRefused subsets course bits stop subset before turns =
     × (stop_at plain false next left ≡ Some stop)
 
 -- whether the values would be too many with one item more
+-- rule: too-many-values
 abbrev pub would_be_many : (subsets items_before : ℕ) → Bool
 would_be_many subsets items_before = nat_lt max_values ((items_before + 1) * subsets)
 

@@ -49,6 +49,7 @@ pub(crate) fn raw_at(bits: &BitSlice<'_>, at: u64, width: u32) -> RawNumber
 }
 
 /// A number with its sign.
+// rule: reads-minus-zero
 fn signed(sign: u64, size: u64) -> i64
     requires { size < 2 ^ 62 }
     ensures { result ≡ (if sign == 1 then neg_ℤ (pos size) else pos size) }
@@ -59,6 +60,7 @@ fn signed(sign: u64, size: u64) -> i64
 
 /// The number whose first bit is its sign.
 #[tactic(auto, using(crate::proofs::PlainLemmas::signed_parts, crate::proofs::PlainLemmas::small_power))]
+// rule: new-reference
 pub(crate) fn signed_at(bits: &BitSlice<'_>, at: u64, width: u32) -> i64
     requires some { 1 ≤ width }
     requires few { width ≤ 63 }

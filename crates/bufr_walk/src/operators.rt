@@ -114,6 +114,7 @@ fn make_room(new_references: &mut BTreeMap<u16, i64>, fxy: Fxy) -> Result<(), Al
 
 /// Keeps a reference of an element, for which there is room, in place of the one before.
 #[tactic(auto, using(crate::proofs::SpecLemmas::known_more))]
+// rule: last-reference-counts
 fn redefine(new_references: &mut BTreeMap<u16, i64>, fxy: Fxy, reference: i64)
     requires { IsSome (get nat_cmp new_references.old fxy) }
     ensures { known_by new_references.new.entries
@@ -128,6 +129,7 @@ fn redefine(new_references: &mut BTreeMap<u16, i64>, fxy: Fxy, reference: i64)
 /// The reference that the data defined for an element, or that of Table B.
 #[tactic(auto, using(crate::proofs::SpecLemmas::reference_found))]
 #[inline(always)]
+// rule: new-reference-of-quantities
 fn reference_of(new_references: &BTreeMap<u16, i64>, fxy: Fxy, entry: &Entry<'_>) -> i64
     ensures { result ≡ current_reference (known_by new_references.now.entries) fxy
         entry.now.reference }
@@ -141,6 +143,7 @@ fn reference_of(new_references: &BTreeMap<u16, i64>, fxy: Fxy, entry: &Entry<'_>
 
 /// The width of a quantity with the changes in force (2 01 Y, 2 07 Y), in bits.
 #[inline(always)]
+// rule: 2-01-y, 2-07-y, cancel-2-01-and-2-02, cancel-2-07-and-2-08
 fn operator_width(width: u32, precision_increase: u8, width_change: u8) -> u32
     requires { width ≤ 2040 }
     ensures { result ≡ operator_width width (extra_bits precision_increase) width_change }
@@ -155,6 +158,7 @@ fn operator_width(width: u32, precision_increase: u8, width_change: u8) -> u32
 
 /// The change of a quantity's scale by Y - 128, where 2 02 Y is in force.
 #[inline(always)]
+// rule: 2-02-y, cancel-2-01-and-2-02
 fn scale_change_of(scale_change: u8) -> i16
     ensures value { result ≡ scale_change_of scale_change }
     ensures few { unsigned_abs result ≤ 128 }
@@ -191,6 +195,7 @@ fn power_of_ten(precision_increase: u8) -> u64
 /// The reference of a quantity with the digits in force (2 07 Y).
 #[tactic(auto, using(crate::proofs::SpecLemmas::product_small))]
 #[inline(always)]
+// rule: 2-07-y, 2-07-y-of-a-new-reference
 fn scaled(reference: i64, precision_increase: u8) -> i128
     requires { precision_increase ≤ 18 }
     ensures value { result ≡ reference *ℤ pos (10 ^ precision_increase) }
@@ -206,6 +211,7 @@ fn scaled(reference: i64, precision_increase: u8) -> i128
 
 /// A number in a quantity's unit.
 #[inline(always)]
+// rule: class-31-never-missing, 2-01-2-02-2-07-add-up
 fn numeric_spec(
     operands: OperatorOperands,
     reference: i64,
@@ -240,6 +246,7 @@ fn numeric_spec(
 
 /// A figure of a code table.
 #[inline(always)]
+// rule: class-31-never-missing, new-reference-of-figures, figures-unchanged
 fn coded_spec(reference: i64, fxy: Fxy, entry: &Entry<'_>) -> Result<Spec, TurnRefusal>
     requires row { IsRow (row_of_entry fxy entry.now) }
     ensures { (operands : OperatorOperands) (known : List Redefined)
@@ -261,6 +268,7 @@ fn coded_spec(reference: i64, fxy: Fxy, entry: &Entry<'_>) -> Result<Spec, TurnR
 
 /// The width of a text element, in bits (2 08 Y).
 #[inline(always)]
+// rule: 2-08-y, cancel-2-07-and-2-08
 fn text_width(width: u32, character_octets: u8) -> u32
     ensures { result ≡ (if character_octets == 0 then width else 8 * character_octets) }
 {
@@ -299,6 +307,7 @@ fn spec_by_kind(
 
 /// An element whose reference is being defined (2 03 Y).
 #[inline(always)]
+// rule: defining-no-text
 fn new_reference_spec(new_reference_width: u8, fxy: Fxy, kind: Kind) -> Result<Spec, TurnRefusal>
     ensures { (s : OperatorModel) → s.new_reference_width ≡ new_reference_width → result
         ≡ new_reference_spec kind s fxy }
@@ -320,6 +329,7 @@ fn new_reference_spec(new_reference_width: u8, fxy: Fxy, kind: Kind) -> Result<S
 
 /// An unsigned number of a given width.
 #[inline(always)]
+// rule: 2-06-y-other-width, 2-06-y-of-class-31
 fn unsigned_of(fxy: Fxy, width: u8) -> Result<Spec, TurnRefusal>
     ensures { result ≡ unsigned_of fxy width }
 {
@@ -337,6 +347,7 @@ fn unsigned_of(fxy: Fxy, width: u8) -> Result<Spec, TurnRefusal>
 
 /// An element whose width is given (2 06 Y).
 #[inline(always)]
+// rule: 2-06-y, 2-06-y-width-of-table-b
 fn local_width_spec(local_width: u8, fxy: Fxy, entry: &Entry<'_>) -> Result<Spec, TurnRefusal>
     requires row { IsRow (row_of_entry fxy entry.now) }
     ensures { (s : OperatorModel) → s.local_width ≡ local_width
@@ -420,6 +431,7 @@ impl OperatorState {
 
     /// The specification of an element. (WMO-No. 306, Volume I.2, FM 94: Tables B and C)
     #[inline(always)]
+    // rule: fault-32-before-31
     pub(crate) fn element(&self, table: &TableB, fxy: Fxy) -> Result<Spec, TurnRefusal>
         ensures { result ≡ element_spec table.now self.now fxy }
     {
@@ -447,6 +459,7 @@ impl OperatorState {
 
     /// The specification of the factor of a delayed replication.
     #[inline(always)]
+    // rule: factor-by-entry, defining-no-delayed-group
     pub(crate) fn factor(&self, table: &TableB, fxy: Fxy) -> Result<Spec, TurnRefusal>
         ensures { result ≡ factor_spec table.now self.now fxy }
     {
@@ -462,6 +475,7 @@ impl OperatorState {
     /// The specification of a text of the template (2 05 Y).
     #[tactic(auto, using(crate::proofs::SpecLemmas::inserted_width))]
     #[inline(always)]
+    // rule: 2-05-y, defining-no-inserted-text
     pub(crate) fn inserted(&self, fxy: Fxy) -> Result<Spec, TurnRefusal>
         requires legal { is_legal_operator fxy ≡ true }
         requires text { is_inserted_text fxy ≡ true }
@@ -475,6 +489,8 @@ impl OperatorState {
 
     /// Applies an operator. While references are being defined only their end is allowed. (WMO-No.
     /// 306, Volume I.2, FM 94: Table C)
+    // rule: 2-03-y, 2-03-000, later-operator-replaces, 2-03-y-again, defining-no-other-operator
+    // rule: 2-03-255-alone, fault-32-before-31
     pub(crate) fn apply(&mut self, fxy: Fxy) -> Result<(), TurnRefusal>
         requires { is_legal_operator fxy ≡ true }
         ensures ok { OnOk result (after_operator self.old fxy ≡ Ok self.new) }
@@ -537,6 +553,7 @@ impl OperatorState {
     /// Takes a field that is no reference.
     #[inline(always)]
     #[tactic(auto, using(crate::proofs::FieldWays::no_reference))]
+    // rule: 2-06-y-used-up
     pub(crate) fn take_other<S: Fields>(
         &mut self,
         fxy: Fxy,

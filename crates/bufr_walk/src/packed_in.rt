@@ -62,6 +62,7 @@ impl PackedFault {
 }
 
 /// Whether an increment of `k` bits is valid: it is missing, or the sum stays within the width.
+// rule: compressed-past-width, compressed-class-31
 fn stays_within(base: Base, k: u32, increment: u64) -> bool
     requires k { k ≤ 63 }
     requires width { base.width ≤ 63 }
@@ -126,6 +127,7 @@ fn all_fit(base: Base, k: u32) -> bool
 
 /// Whether the increments of numbers are valid; a base of all ones makes all of them valid.
 #[tactic(auto, using(crate::proofs::PackedLoops::numbers_fit))]
+// rule: compressed-all-missing
 fn numbers_hold(bits: &BitSlice<'_>, at: u64, subsets: u16, spec: &Spec, k: u32) -> bool
     requires increment { k ≤ 63 }
     requires number { is_character spec.now.kind ≡ false }
@@ -144,6 +146,7 @@ fn numbers_hold(bits: &BitSlice<'_>, at: u64, subsets: u16, spec: &Spec, k: u32)
 }
 
 /// Whether the increments of an item, or the count of octets of a text, are valid.
+// rule: compressed-text-past-width, compressed-text-base
 fn holds(bits: &BitSlice<'_>, at: u64, subsets: u16, spec: &Spec, k: u32) -> bool
     requires increment { k ≤ 63 }
     requires within { is_character spec.now.kind ≡ false
@@ -200,6 +203,7 @@ fn plain_at(
 }
 
 /// What a factor with increments returns to the walk: the count that all subsets have.
+// rule: compressed-factors, fault-34-before-33
 fn factor_at(
     bits: &BitSlice<'_>,
     at: u64,
@@ -231,6 +235,7 @@ fn factor_at(
 }
 
 /// What an item whose `k` is known returns to the walk.
+// rule: compressed-equal, compressed-references
 fn item_told_at(
     bits: &BitSlice<'_>,
     at: u64,
@@ -280,6 +285,7 @@ fn number_there(bits: &BitSlice<'_>, at: u64, spec: &Spec) -> u64
 }
 
 /// The item that begins with bit `at`.
+// rule: compressed-item, compressed-increments-there, fault-30-before-34
 fn item_bits_at(
     bits: &BitSlice<'_>,
     at: u64,
@@ -395,6 +401,7 @@ impl<'a> PackedIn<'a> {
     }
 
     /// The next item, which is not passed.
+    // rule: too-many-values, compressed-fault-order
     fn look(&self, spec: &Spec) -> Result<ItemBits, PackedFault>
         ensures seen { MatchResult result (λ s. IsLooked self.now spec.now s)
             (λ e. IsUnlooked self.now spec.now e) }

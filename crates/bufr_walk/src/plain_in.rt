@@ -79,6 +79,7 @@ impl<'a> PlainIn<'a> {
     /// [`DataEnd`] where the data end inside the field.
     #[tactic(auto, using(crate::proofs::PlainLemmas::taken_here, crate::proofs::PlainLemmas::ends_here, crate::proofs::PlainLemmas::bits_length))]
     #[inline(always)]
+    // rule: field-past-end
     pub(crate) fn peek(&self, spec: &Spec) -> Result<Taken, DataEnd>
         ensures found { MatchResult result (λ t. PlainTakes self.now spec.now (Ok t)
             (past self.now spec.now)) (λ e. PlainTakes self.now spec.now (Err e) self.now) }
@@ -131,6 +132,7 @@ impl<'a> PlainIn<'a> {
 
     /// Whether the bits of the next field are all ones.
     #[tactic(auto, using(crate::proofs::PlainLemmas::bits_length))]
+    // rule: missing, missing-inserted-text
     pub(crate) fn is_ones(&self, spec: &Spec) -> bool
         requires { self.now.at + spec.now.width ≤ length self.now.bits }
         ensures { result ≡ are_all_ones (take spec.now.width (rest_of self.now)) }
@@ -176,6 +178,7 @@ impl<'a> PlainIn<'a> {
 
     /// The value of the next field, which is no text.
     #[tactic(auto, using(crate::proofs::ShownLemmas::reference_shown, crate::proofs::ShownLemmas::missing_shown, crate::proofs::ShownLemmas::number_shown, crate::proofs::PlainLemmas::bits_length))]
+    // rule: value
     pub(crate) fn number_value<'t>(&self, spec: &Spec) -> Value<'t>
         requires within { self.now.at + spec.now.width ≤ length self.now.bits }
         requires number { is_character spec.now.kind ≡ false }

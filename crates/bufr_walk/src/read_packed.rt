@@ -48,6 +48,7 @@ fn fault_at(why: WalkStop<PackedFault>, bit: u64) -> WalkFault
 }
 
 /// Reads all items, each for all subsets; where there are no subsets nothing is read.
+// rule: no-subsets
 pub(crate) fn read_packed(
     alloc: Global,
     bits: BitSlice<'_>,

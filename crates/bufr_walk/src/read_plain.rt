@@ -34,6 +34,7 @@ fn plain_fault(why: WalkStop<DataEnd>, subset: u16, bit: u64) -> WalkFault
 }
 
 /// Reads the subset of this number, from 1.
+// rule: operators-end-with-subset
 fn read_subset(
     alloc: Global,
     template: &Template,
@@ -67,6 +68,7 @@ fn read_subset(
 }
 
 /// Reads all subsets, and returns how many bits they take.
+// rule: subsets-without-padding, bits-left-over
 pub(crate) fn read_plain(
     alloc: Global,
     bits: BitSlice<'_>,

@@ -27,6 +27,7 @@ use bufr_tables::TableB;
 
 /// The sum of a base and an increment of `k` bits; `None` where the value is missing.
 #[inline(always)]
+// rule: compressed-missing-increment, compressed-sum-of-ones, compressed-class-31
 fn increased(base: Base, k: u32, increment: u64) -> Option<u64>
     requires k { k ≤ 63 }
     requires width { base.width ≤ 63 }
@@ -89,6 +90,7 @@ fn base_of(bits: &BitSlice<'_>, subsets: u16, item: &IndexedItem) -> Option<Base
 
 /// The number of one subset, counted from 0; `None` where it is missing.
 #[inline(always)]
+// rule: compressed-all-missing
 fn number_in(
     bits: &BitSlice<'_>,
     subsets: u16,
@@ -181,6 +183,7 @@ fn text_span(bits: &BitSlice<'_>, subsets: u16, item: &IndexedItem, subset: u16)
 }
 
 /// Copies the octets of a text, followed by spaces.
+// rule: compressed-text
 fn copy_text(bits: &BitSlice<'_>, span: TextSpan, count: usize, text: &mut [u8; 255])
     requires count { count ≤ 255 }
     requires few { span.octets ≤ count }
@@ -194,6 +197,7 @@ fn copy_text(bits: &BitSlice<'_>, span: TextSpan, count: usize, text: &mut [u8; 
 
 /// A text that was copied, as it is shown.
 #[tactic(auto, using(crate::proofs::PackedTexts::missing_text, crate::proofs::PackedTexts::whole_text))]
+// rule: compressed-text-missing
 fn text_value<'t>(
     bits: &BitSlice<'_>,
     spec: &Spec,
@@ -261,6 +265,7 @@ fn show_number<V: Visitor>(
 }
 
 /// Shows the base of a kept item with no increments, which all subsets have.
+// rule: compressed-equal
 fn show_base<V: Visitor>(
     bits: &BitSlice<'_>,
     subsets: u16,

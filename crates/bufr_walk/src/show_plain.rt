@@ -31,6 +31,7 @@ use bufr_tables::{Entry, TableB, Template};
 use std::alloc::Global;
 
 /// The row of Table B of the field's element, where the field is read by it.
+// rule: text-no-comment
 pub(crate) fn entry_for<'t>(table: &'t TableB, spec: &Spec) -> Option<Entry<'t>>
     ensures { HasRow table.now spec.now result }
 {

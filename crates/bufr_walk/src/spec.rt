@@ -134,6 +134,7 @@ impl Spec {
     /// A number, where its width is 1 to 63.
     #[tactic(auto, using(crate::proofs::SpecLemmas::number_good))]
     #[inline(always)]
+    // rule: widths
     pub(crate) fn number(
         fxy: Fxy,
         role: Role,

@@ -254,6 +254,7 @@ fn take_factor<S: Fields>(
 
 /// Makes one step, and returns the place after it, or `None` at the end.
 #[inline(always)]
+// rule: defining-fixed-groups, fault-62-first
 fn turn<S: Fields>(
     cells: &[Cell],
     table: &TableB,

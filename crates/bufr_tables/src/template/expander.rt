@@ -58,6 +58,7 @@ impl Expander<'_> {
 
     /// Expands one descriptor, and tells how many of those behind it it takes.
     #[cycle(expansion)]
+    // rule: descriptor-kinds
     fn part(
         &self,
         fxy: Fxy,
@@ -81,6 +82,7 @@ impl Expander<'_> {
     }
 
     /// An element: known to Table B, or of a width that the operator before it gives.
+    // rule: 2-06-y-unknown-element
     fn element(
         &self,
         fxy: Fxy,
@@ -127,6 +129,7 @@ impl Expander<'_> {
 
     /// A group of Y passes.
     #[cycle(expansion)]
+    // rule: fixed-replication
     fn fixed(
         &self,
         fxy: Fxy,
@@ -147,6 +150,7 @@ impl Expander<'_> {
 
     /// A group of as many passes as its factor tells, which stands before the X descriptors.
     #[cycle(expansion)]
+    // rule: delayed-replication
     fn delayed(
         &self,
         fxy: Fxy,
@@ -176,6 +180,8 @@ impl Expander<'_> {
 
     /// A group whose body is the next X descriptors; some node of it takes bits.
     #[cycle(expansion)]
+    // rule: replication-before-expansion, replication-nested, replication-in-one-list
+    // rule: groups-take-bits
     fn group_of(
         &self,
         fxy: Fxy,
@@ -231,6 +237,7 @@ impl Expander<'_> {
 }
 
 /// An operator; one that gives a width stands before an element.
+// rule: 2-06-y-before-an-element
 fn operator(fxy: Fxy, after: &[Fxy], growing: &mut TemplateBuilder) -> Result<usize, TemplateFault>
     ensures gives { GivesPart (builder_model growing.old)
         (operator_part (places_so_far (builder_model growing.old)) fxy after.now)
