@@ -28,9 +28,10 @@ accepted-among : accepted_messages ls_piece stream ≡ one_block_number ∷ slic
 unfolding scan_from sections_of section_end digits
 accepted-among = refl
 
--- two messages of edition 3 among three may grow by two octets each
+-- A message of edition 3 whose section 3 is odd, and one whose section 4 is, may grow by two octets
+-- each; one with even sections, and one of edition 4, may not.
 -- rule: encode-may-grow
-grown : longer_by (edition_3 ∷ one_block_number ∷ edition_3 ∷ []) ≡ 4
+grown : longer_by (slice_set edition_3 28 9 ∷ one_block_number ∷ slice_set edition_3 38 5 ∷ edition_3 ∷ []) ≡ 4
 grown = refl
 
 -- an event's text is its offset

@@ -11,11 +11,10 @@ use Rattle.bufr_tables.specs.TemplateTables.{tables_of}
 use Rattle.bufr_tables.specs.Tree.{Tree}
 use Rattle.bufr_tables.specs.declared.template.fault.TemplateFault.{TemplateFault}
 use Rattle.bufr_tables.proofs.SoundLemmas.{tree_fine}
-use Rattle.bufr_frame.specs.Layout.{max_extra_octets, max_octets}
+use Rattle.bufr_frame.specs.Layout.{max_octets}
 use Rattle.bufr_frame.specs.Scan.{StreamEvent, FrameAt, StrayAt, scan, scan_from}
-use Rattle.bufr_frame.specs.Sections.{Sections, edition_of, sections_of}
+use Rattle.bufr_frame.specs.Sections.{Sections, sections_of}
 use Rattle.bufr_frame.specs.declared.fault.SectionFault.{SectionFault}
-use Rattle.bufr_frame.proofs.AgainLemmas.{sections-ended}
 use Rattle.bufr_frame.proofs.FrameLemmas.{IsSmall, framed_octets, frames-within, small-frames}
 use Rattle.bufr_frame.proofs.ScanLemmas.{scan_from-nil}
 use Rattle.bufr_walk.specs.Reading.{Values, apart, together}
@@ -219,8 +218,6 @@ module _ (b : List Row) (d : List Sequence) (piece : StreamEvent → Piece) (giv
       let read = rows-read records b rows in
       let legal = (tree_fine (tables_of b d) s.descriptors template a.expands).legal in
       let w = encoded_again b d m s template values used line (good-rows b read) legal a in
-      let edition : s.head.edition ≡ edition_of m = ap (λ (x : Sections). x.head.edition) (sections-ended m s a.sections).is in
-      let no_longer : length w.octets ≤ length m + max_extra_octets (edition_of m) = subst (λ e. length w.octets ≤ length m + max_extra_octets e) edition w.same.no_longer in
       let here : (at : ℕ) → piece (FrameAt at w.octets) ≡ OnOutput (dump_text_of s items) = λ at. same-piece m s template values used at w.octets a w.same in
       let rest = map (told_piece AsWritten b d) (parse_lines (line + length (dump_lines s items)) Between (lines_of text)) in
       record {
@@ -228,7 +225,7 @@ module _ (b : List Row) (d : List Sequence) (piece : StreamEvent → Piece) (giv
         readings = (record { sections = s; template = template; values = values; used = used; accepted = a; same = w.same }, r.readings);
         told = ap (map (told_piece AsWritten b d)) (text-spells s items line text (dumpable b d m s template values used read legal a))
             ∙ ap (λ x. encoded x ∷ rest) w.is ∙ ap (λ l. OnOutput w.octets ∷ l) r.told;
-        no_longer = omega (arith, length-append w.octets (concat r.messages), no_longer, r.no_longer);
+        no_longer = omega (arith, length-append w.octets (concat r.messages), w.same.no_longer, r.no_longer);
         scanned = λ at. w.same.framed at (concat r.messages) ∙ ap (λ l. FrameAt at w.octets ∷ l) (r.scanned (at + length w.octets));
         again = λ at. ap (λ p. p ∷ map piece (placed (at + length w.octets) r.messages)) (here at) ∙ ap (λ l. OnOutput (dump_text_of s items) ∷ l) (r.again (at + length w.octets));
         listed = λ at. ap (λ p. accepted_in (FrameAt at w.octets) p ++ accepted_of piece (placed (at + length w.octets) r.messages)) (here at) ∙ ap (λ l. w.octets ∷ l) (r.listed (at + length w.octets));

@@ -3,16 +3,15 @@
 use Rattle.std.specs.Prelude.{◌≡◌, ℕ, ◌+◌, ◌≤◌, List, [], ◌∷◌, length, map, flat_map, count_by}
 use Rattle.std.specs.List.{AllByRecursion, AllZip, concat, filter}
 use Rattle.bufr_bits.specs.Script.{taken_of}
-use Rattle.bufr_frame.specs.Layout.{max_extra_octets}
 use Rattle.bufr_frame.specs.Scan.{StreamEvent, FrameAt, StrayAt, scan}
-use Rattle.bufr_frame.specs.Sections.{Sections, edition_of}
+use Rattle.bufr_frame.specs.Sections.{Sections}
 use Rattle.bufr_tables.specs.TableB.{Row}
 use Rattle.bufr_tables.specs.TableD.{Sequence}
 use Rattle.bufr_tables.specs.Tree.{Tree}
 use Rattle.bufr_walk.specs.Reading.{Values}
 use Rattle.bufr_text.specs.Canonical.{IsCanonical}
 use Rattle.bufr_text.specs.Documents.{documents_of}
-use Rattle.bufr_text.specs.RoundTrip.{IsAccepted, HasSameReading}
+use Rattle.bufr_text.specs.RoundTrip.{IsAccepted, HasSameReading, extra_octets}
 use Rattle.bufr_text.specs.declared.form.Form.TheVariants.{AsWritten}
 use Rattle.bufr_cli.specs.DumpPieces.{IsDumpPiece}
 use Rattle.bufr_cli.specs.EncodePieces.{encode_pieces}
@@ -55,14 +54,14 @@ abbrev pub accepted_messages : (StreamEvent → Piece) → List ℕ → List (Li
 accepted_messages piece s = flat_map (λ here. accepted_in here (piece here)) (scan s)
 
 -- By how many octets these messages may grow when they are written again: up to two for each of
--- edition 3, whose sections 3 and 4 are made even.
+-- edition 3 that has an odd section 3 or 4.
 -- rule: encode-may-grow
 abbrev pub longer_by : List (List ℕ) → ℕ
 longer_by [] = 0
-longer_by (m ∷ ms) = max_extra_octets (edition_of m) + longer_by ms
+longer_by (m ∷ ms) = extra_octets m + longer_by ms
 
 -- Of two messages the first is accepted, and the second has the same reading and is no longer, but
--- that in edition 3 up to two octets make sections 3 and 4 even.
+-- that in edition 3 up to two octets make odd sections even.
 pub record IsBuiltAgain (b : List Row) (d : List Sequence) (m written : List ℕ) : Type 0 where
   pub sections : Sections
   pub template : Tree
@@ -85,8 +84,8 @@ pub record RoundTrips (b : List Row) (d : List Sequence) (piece : StreamEvent �
   pub no_line : flat_map errors_of (rebuilding b d piece s) ≡ []
   pub as_many : count_by is_accepted (rebuilding b d piece s)
       ≡ count_by is_accepted (dump_pieces piece s)
-  -- what it writes is these messages and nothing else, is longer than the stream by no more than
-  -- its messages of edition 3 may grow, and each has the reading of the one that was dumped
+  -- What it writes is these messages and nothing else. It is longer than the stream by no more than
+  -- its messages of edition 3 with odd sections may grow. Each has the reading of its original.
   pub messages : rebuilt b d piece s ≡ concat (accepted_messages piece (rebuilt b d piece s))
   pub no_longer : length (rebuilt b d piece s) ≤ length s + longer_by (accepted_messages piece s)
   pub readings : AllZip (IsBuiltAgain b d) (accepted_messages piece s)

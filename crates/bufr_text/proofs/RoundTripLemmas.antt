@@ -1,6 +1,6 @@
 -- The document of an accepted message is encoded to a message with the same reading.
-use Rattle.std.proofs.Common.{◌≡◌, ℕ, zero, suc, ◌+◌, ◌-◌, ◌*◌, ◌/◌, ◌%◌, ◌≤◌, Bool, true, false, List, [], ◌∷◌, ◌++◌, length, drop, map, Option, Some, None, Ok, Err, refl, sym, ◌∙◌, ap, subst, arith, append_assoc}
-use Rattle.std.specs.Prelude.{◌==◌, nat_lt, is_some, unwrap_or, if◌then◌else◌}
+use Rattle.std.proofs.Common.{◌≡◌, ◌≢◌, ℕ, zero, suc, ◌+◌, ◌-◌, ◌*◌, ◌/◌, ◌%◌, ◌≤◌, Bool, true, false, List, [], ◌∷◌, ◌++◌, length, drop, map, Option, Some, None, Ok, Err, refl, sym, ◌∙◌, ap, subst, arith, append_assoc}
+use Rattle.std.specs.Prelude.{◌==◌, ◌&&◌, ◌||◌, nat_lt, is_some, unwrap_or, if◌then◌else◌}
 use Rattle.std.proofs.lemmas.Bool.Decides.{nat_tests}
 use Rattle.std.proofs.lemmas.List.{length-append, length-replicate, drop_at}
 use Rattle.bufr_bits.specs.Bits.{bits_of, padding}
@@ -11,11 +11,13 @@ use Rattle.bufr_tables.specs.TableD.{Sequence}
 use Rattle.bufr_tables.specs.TemplateTables.{tables_of}
 use Rattle.bufr_tables.specs.Tree.{Tree}
 use Rattle.bufr_tables.specs.Legal.{IsLegal}
-use Rattle.bufr_frame.specs.Layout.{MessageParts, with_even_length, max_extra_octets, parts_of, message_octets, message_size, max_octets, sections_from}
+use Rattle.bufr_frame.specs.Layout.{MessageParts, with_even_length, max_extra_octets, parts_in, parts_of, message_octets, message_size, max_octets, sections_from}
 use Rattle.bufr_frame.specs.Layout as layout
-use Rattle.bufr_frame.specs.Sections.{Sections, sections_of}
+use Rattle.bufr_frame.specs.Octets.{u24_at}
+use Rattle.bufr_frame.specs.Plain.{section3_begins, section4_begins}
+use Rattle.bufr_frame.specs.Sections.{Sections, sections_of, edition_of}
 use Rattle.bufr_frame.proofs.LayoutLemmas.{read-back}
-use Rattle.bufr_frame.proofs.AgainLemmas.{sections-ended, no-longer, not-too-long}
+use Rattle.bufr_frame.proofs.AgainLemmas.{sections-ended, least-when-even, no-longer, not-too-long}
 use Rattle.bufr_frame.proofs.EvenLemmas.{evened-bits, size-least}
 use Rattle.bufr_frame.proofs.FitLemmas.{fitting-writable}
 use Rattle.bufr_walk.specs.Content.{Content, number, text, missing, reference, shown}
@@ -38,7 +40,7 @@ use Rattle.bufr_text.specs.Document.{Document}
 use Rattle.bufr_text.specs.Dump.{DumpItem, bit, dump_value_of, item_entries, subset_entries, document_of, dump_text_of, lines_before}
 use Rattle.bufr_text.specs.DumpItems.{value_of, items_apart, compressed_dump_items, compressed_dump_subsets}
 use Rattle.bufr_text.specs.Encoding.{too_long, refused_at, ◌>>=◌, told_of_template, told_of_items, data_bits, octets_of_bits, parts_of_document, message_of, encoding_in, encoding_of}
-use Rattle.bufr_text.specs.RoundTrip.{IsAccepted, dump_items_in, SaySame, HasSameReading, IsEncodedAgain}
+use Rattle.bufr_text.specs.RoundTrip.{IsAccepted, dump_items_in, extra_octets, SaySame, HasSameReading, IsEncodedAgain}
 use Rattle.bufr_text.specs.Header.{head_from_values, compressed_in}
 use Rattle.bufr_text.proofs.DumpableLemmas.{octets_are, sections_given}
 use Rattle.bufr_text.proofs.FramedLemmas.{octets_small, framed}
@@ -214,6 +216,31 @@ filled table template s (together items) used at rows legal read =
 
 -- ---- the message
 
+-- a message written again is longer only where its edition makes an odd section even
+at-most-even : (m : List ℕ) (s : Sections) → sections_of m ≡ Ok s → message_size s.head.edition (parts_in s) ≤ length m + extra_octets m
+at-most-even m s is = by (edition_of m == 3) (u24_at m (section3_begins m) % 2 == 1) (u24_at m (section4_begins m) % 2 == 1) refl refl refl
+  where
+    edition : s.head.edition ≡ edition_of m
+    edition = ap (λ (x : Sections). x.head.edition) (sections-ended m s is).is
+
+    two : (edition_of m == 3) ≡ true → message_size s.head.edition (parts_in s) ≤ length m + 2
+    two f =
+        let most : max_extra_octets s.head.edition ≡ 2 = ap max_extra_octets edition ∙ ap (λ x. if x then 2 else 0) f in
+        omega (arith, no-longer m s is, most)
+
+    by : (a b c : Bool) → (edition_of m == 3) ≡ a → (u24_at m (section3_begins m) % 2 == 1) ≡ b → (u24_at m (section4_begins m) % 2 == 1) ≡ c
+        → message_size s.head.edition (parts_in s) ≤ length m + (if a && (b || c) then 2 else 0)
+    by false b c f g h =
+        let none : max_extra_octets s.head.edition ≡ 0 = ap max_extra_octets edition ∙ ap (λ x. if x then 2 else 0) f in
+        omega (arith, no-longer m s is, none)
+    by true false false f g h =
+        let third : u24_at m (section3_begins m) % 2 ≢ 1 = grind (arith, nat_tests, g) in
+        let fourth : u24_at m (section4_begins m) % 2 ≢ 1 = grind (arith, nat_tests, h) in
+        let three : edition_of m ≡ 3 = grind (arith, nat_tests, f) in
+        omega (arith, least-when-even m s is three (omega (arith, third)) (omega (arith, fourth)))
+    by true true c f g h = two f
+    by true false true f g h = two f
+
 pub encoded_again : (table : List Row) (sequences : List Sequence) (m : List ℕ) (s : Sections) (template : Tree) (values : Values) (used at : ℕ) → AreGoodRows table → IsLegal template
     → IsAccepted table sequences m s template values used → IsEncodedAgain table sequences m s template values (document_of at s (dump_items_in table template s values))
 unfolding parts_with
@@ -226,7 +253,7 @@ encoded_again table sequences m s template values used at rows legal a =
     let same = parts_back at s items payload in
     let edition = s.head.edition in
     let short = payload_short f.out s.payload f.short in
-    let least : message_size edition parts ≤ length m + max_extra_octets edition = size_least s payload (length m + max_extra_octets edition) short (no-longer m s a.sections) in
+    let least : message_size edition parts ≤ length m + extra_octets m = size_least s payload (length m + extra_octets m) short (at-most-even m s a.sections) in
     let most : message_size edition parts ≤ max_octets = size_least s payload max_octets short (not-too-long m s a.sections a.few) in
     let few : message_size edition (parts_of_document d payload) ≤ max_octets = subst (λ (p : MessageParts). message_size edition p ≤ max_octets) (sym same) most in
     let fills : data_bits (compressed_in d) (next_item table template) (subsets_of d.entries) ≡ Ok f.out = fills_as (compressed_in d) s.compressed (next_item table template) (subsets_of d.entries) f.out (bit_back s.compressed) f.fills in

@@ -1,15 +1,17 @@
 -- A message that is accepted, and the message that its dump text is encoded to.
 -- Cited by public contracts.
-use Rattle.std.specs.Prelude.{◌≡◌, ℕ, ◌+◌, ◌≤◌, List, ◌∷◌, ◌++◌, length, Ok}
+use Rattle.std.specs.Prelude.{◌≡◌, ℕ, ◌+◌, ◌%◌, ◌≤◌, ◌==◌, ◌&&◌, ◌||◌, Bool, List, ◌∷◌, ◌++◌, length, if◌then◌else◌, Ok}
 use Rattle.std.specs.List.{AllByRecursion}
 use Rattle.bufr_tables.specs.Expansion.{tree_of}
 use Rattle.bufr_tables.specs.TableB.{Row}
 use Rattle.bufr_tables.specs.TableD.{Sequence}
 use Rattle.bufr_tables.specs.TemplateTables.{tables_of}
 use Rattle.bufr_tables.specs.Tree.{Tree}
-use Rattle.bufr_frame.specs.Layout.{max_extra_octets, max_octets}
+use Rattle.bufr_frame.specs.Layout.{max_octets}
+use Rattle.bufr_frame.specs.Octets.{u24_at}
+use Rattle.bufr_frame.specs.Plain.{section3_begins, section4_begins}
 use Rattle.bufr_frame.specs.Scan.{FrameAt, scan_from}
-use Rattle.bufr_frame.specs.Sections.{Sections, sections_of}
+use Rattle.bufr_frame.specs.Sections.{Sections, sections_of, edition_of}
 use Rattle.bufr_walk.specs.Course.{next_item}
 use Rattle.bufr_walk.specs.Outcome.{read_by, data_of}
 use Rattle.bufr_walk.specs.Reading.{Values, IsReading}
@@ -48,11 +50,23 @@ pub record SaySame (form : Form) (a b : Sections) : Type 0 where
   pub observed : b.observed ≡ a.observed
   pub compressed : b.compressed ≡ compressed_by form a.compressed
 
+-- whether section 3 or 4 of a message of edition 3 has an odd number of octets
+abbrev pub has_odd_section : List ℕ → Bool
+has_odd_section m =
+    edition_of m == 3
+    && (u24_at m (section3_begins m) % 2 == 1 || u24_at m (section4_begins m) % 2 == 1)
+
+-- how many octets more a message may have when it is written again: in edition 3 up to two make
+-- odd sections even
+-- rule: becomes-canonical
+abbrev pub extra_octets : (m : List ℕ) → ℕ
+extra_octets m = if has_odd_section m then 2 else 0
+
 -- octets are a message with the same reading as the message m of sections s, and are no longer, but
--- that in edition 3 up to two octets make sections 3 and 4 even
+-- that in edition 3 up to two octets make odd sections even
 pub record HasSameReading (table : List Row) (m : List ℕ) (s : Sections) (template : Tree)
     (values : Values) (written : List ℕ) : Type 0 where
-  pub no_longer : length written ≤ length m + max_extra_octets s.head.edition
+  pub no_longer : length written ≤ length m + extra_octets m
   pub few : length written ≤ max_octets
   pub octets : AllByRecursion IsOctet written
   -- in a stream it is one message, whatever is behind it
