@@ -4,6 +4,7 @@ ghost use Rattle.bufr_frame.specs.Events.{events_of, IsEvent};
 ghost use Rattle.bufr_frame.specs.Runs.{read_failures_after, MakesReads};
 ghost use Rattle.bufr_cli.specs.Pieces.{ls_piece, ls_pieces};
 ghost use Rattle.bufr_cli.specs.Counting.{BlamesWriter};
+ghost use Rattle.bufr_cli.specs.Devices.{writers_of};
 ghost use Rattle.bufr_cli.specs.Running.{RunsEvents, WritesPieces, ReadsFewer, Tallies};
 ghost use Rattle.bufr_cli.specs.WritingPieces.{StopsPiece, TellsPieces};
 
@@ -21,8 +22,8 @@ fn list_event<W: Sink, E: Sink>(event: Event<'_>, w: &mut W, e: &mut E) -> Resul
     ensures tells { TellsPieces (W.taken w.old) (W.taken w.new) (E.taken e.old) (E.taken e.new)
         (map ls_piece (events_of event.entry)) result }
     ensures stops { StopsPiece false result }
-    ensures counts { BlamesWriter W.failures W.empty_writes w.old w.new E.failures E.empty_writes
-        e.old e.new result }
+    ensures counts { BlamesWriter (writers_of W.Sink w.old E.Sink e.old)
+        (writers_of W.Sink w.new E.Sink e.new) result }
     ensures output_flushes { W.flushes w.new ≡ W.flushes w.old }
     ensures errors_flushes { E.flushes e.new ≡ E.flushes e.old }
 {
@@ -107,8 +108,8 @@ pub fn run_ls<R: Source, W: Sink, E: Sink>(
     // Each fault comes only where its device failed in this call.
     ensures reader { R.failures r.new ≡ read_failures_after (R.failures r.old) result }
     ensures reads { MakesReads (R.reads r.old) (R.reads r.new) result }
-    ensures writers { BlamesWriter W.failures W.empty_writes w.old w.new E.failures E.empty_writes
-        e.old e.new result }
+    ensures writers { BlamesWriter (writers_of W.Sink w.old E.Sink e.old)
+        (writers_of W.Sink w.new E.Sink e.new) result }
 {
     run_events(alloc, &mut LsRun, r, w, e)
 }
