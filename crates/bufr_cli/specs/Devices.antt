@@ -1,6 +1,6 @@
 -- What an input and the writers have counted at one time. (a choice of this project)
 -- Cited by public contracts.
-use Rattle.std.specs.Prelude.{ℕ, Bool, List, Option}
+use Rattle.std.specs.Prelude.{ℕ, Bool, true, List, Option}
 use Rattle.bufr_bits.specs.declared.device.Sink as sink
 use Rattle.bufr_bits.specs.declared.device.Source as source
 
@@ -44,3 +44,13 @@ writer_of ghosts w =
 abbrev pub writers_of : {W E : Type 0} → sink.Ghosts W → W → sink.Ghosts E → E → Writers
 writers_of output w errors e =
     record { output = writer_of output w; errors = writer_of errors e }
+
+-- two writers that took this, where it is known, and counted nothing
+abbrev pub holding : (output errors : Option (List ℕ)) → Writers
+holding output errors =
+    record {
+      output = record
+          { taken = output; failures = 0; empty_writes = 0; flushes = 0; all_flushed = true };
+      errors = record
+          { taken = errors; failures = 0; empty_writes = 0; flushes = 0; all_flushed = true };
+    }

@@ -18,7 +18,7 @@ use Rattle.bufr_cli.specs.EncodePieces.{encode_pieces}
 use Rattle.bufr_cli.specs.EncodeRun.{RunsEncode}
 use Rattle.bufr_cli.specs.Ending.{EndsRun, Promise}
 use Rattle.bufr_cli.specs.Pieces.{Piece, ls_piece, ls_pieces}
-use Rattle.bufr_cli.specs.Running.{GivesPieces, ReadsFewer, RunsEvents}
+use Rattle.bufr_cli.specs.Running.{GivesPieces, RunsEvents}
 use Rattle.bufr_cli.specs.declared.outcome.Outcome.{Outcome}
 use Rattle.bufr_cli.specs.declared.outcome.Outcome.TheVariants.{Ran, CannotOpen, TableB, TableD, Run}
 use Rattle.bufr_cli.specs.declared.job.Job.{Job}
@@ -49,14 +49,9 @@ input_octets inputs (Some name) = inputs.named name.now
 abbrev pub ls_promise : Promise
 ls_promise =
     record {
-      whole = λ before after tally s. WritesAndCounts before.output.taken after.output.taken
-          before.errors.taken after.errors.taken tally (ls_pieces s);
+      whole = λ before after tally s. WritesAndCounts before after tally (ls_pieces s);
       run = λ from to before after ran. (bs : List ℕ)
-          × RunsEvents (map ls_piece) from.left to.left before.output.taken after.output.taken
-          before.errors.taken after.errors.taken
-          ((after.output.flushes ≡ before.output.flushes)
-          × (after.errors.flushes ≡ before.errors.flushes))
-          (ReadsFewer from.reads to.reads) bs ran;
+          × RunsEvents (map ls_piece) from to before after bs ran;
     }
 
 -- what a dump by these tables promises, of each function that gives the pieces
@@ -65,28 +60,19 @@ dump_promise b d =
     record {
       whole = λ before after tally s. (piece : StreamEvent → Piece)
           → GivesPieces (IsDumpPiece b d) piece
-          → WritesAndCounts before.output.taken after.output.taken
-          before.errors.taken after.errors.taken tally (map piece (scan s));
+          → WritesAndCounts before after tally (map piece (scan s));
       run = λ from to before after ran. (bs : List ℕ)
           × ((piece : StreamEvent → Piece) → GivesPieces (IsDumpPiece b d) piece
-          → RunsEvents (map piece) from.left to.left before.output.taken after.output.taken
-          before.errors.taken after.errors.taken
-          ((after.output.flushes ≡ before.output.flushes)
-          × (after.errors.flushes ≡ before.errors.flushes))
-          (ReadsFewer from.reads to.reads) bs ran);
+          → RunsEvents (map piece) from to before after bs ran);
     }
 
 -- what an encoding by these tables promises
 abbrev pub encode_promise : Form → List Row → List Sequence → Promise
 encode_promise form b d =
     record {
-      whole = λ before after tally s. Encodes form b d before.output.taken after.output.taken
-          before.errors.taken after.errors.taken tally s;
+      whole = Encodes form b d;
       run = λ from to before after ran. (bs : List ℕ)
-          × RunsEncode (encode_pieces form b d) from.left to.left
-          before.output.taken after.output.taken before.errors.taken after.errors.taken
-          ((after.output.flushes ≡ before.output.flushes)
-          × (after.errors.flushes ≡ before.errors.flushes)) bs ran;
+          × RunsEncode (encode_pieces form b d) from to before after bs ran;
     }
 
 -- what a command promises, whose tables were read

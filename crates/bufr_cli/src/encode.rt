@@ -1,16 +1,17 @@
 //! `bufr encode`: writes the messages that a text spells.
 ghost use Rattle.std.specs.Prelude.{◌≡◌, ◌≢◌, ℕ, List, [], ◌∷◌, Ok, Err, true, IfErr, IfOk, OnOk, IfSome};
 ghost use Rattle.bufr_frame.specs.Runs.{read_failures_after};
-ghost use Rattle.bufr_text.specs.Documents.{Complete, documents_of};
+ghost use Rattle.bufr_text.specs.Documents.{Complete};
 ghost use Rattle.bufr_text.specs.Encoding.{encoding_in};
 ghost use Rattle.bufr_text.specs.EncodingFault.{IsDocumentRefusal, told_refusal};
 ghost use Rattle.bufr_text.specs.declared.form.Form.TheVariants.{AsWritten};
 ghost use Rattle.bufr_cli.specs.EncodePieces.{encode_pieces, told_piece};
-ghost use Rattle.bufr_cli.specs.EncodeRun.{RunsEncode};
+ghost use Rattle.bufr_cli.specs.EncodeRun.{EncodesSoFar, RunsEncode};
 ghost use Rattle.bufr_cli.specs.EncodeTelling.{TellsNext};
 ghost use Rattle.bufr_cli.specs.Counting.{BlamesWriter};
-ghost use Rattle.bufr_cli.specs.Devices.{writers_of};
-ghost use Rattle.bufr_cli.specs.Running.{WritesPieces, ReadsAtMost, Tallies};
+ghost use Rattle.bufr_cli.specs.Devices.{input_of, writers_of};
+ghost use Rattle.bufr_cli.specs.Running.{ReadsAtMost};
+ghost use Rattle.bufr_cli.specs.Whole.{Encodes};
 ghost use Rattle.bufr_cli.specs.WritingPieces.{StopsPiece, TellsPieces};
 
 use crate::document_line::{write_document_fault, write_read_fault};
@@ -54,7 +55,8 @@ fn encode_one<W: Sink, E: Sink>(
     w: &mut W,
     e: &mut E,
 ) -> Result<Verdict, RunFault>
-    ensures tells { TellsPieces (W.taken w.old) (W.taken w.new) (E.taken e.old) (E.taken e.new)
+    ensures tells { TellsPieces (writers_of W.Sink w.old E.Sink e.old)
+        (writers_of W.Sink w.new E.Sink e.new)
         (told_piece form templates.old.table_b templates.old.table_d (Complete document.now) ∷ [])
         result }
     ensures stops { StopsPiece true result }
@@ -94,7 +96,8 @@ fn encode_next<W: Sink, E: Sink>(
     ensures reader { reader.new ≡ reader.old }
     ensures table_b { templates.new.table_b ≡ templates.old.table_b }
     ensures table_d { templates.new.table_d ≡ templates.old.table_d }
-    ensures tells { TellsNext (W.taken w.old) (W.taken w.new) (E.taken e.old) (E.taken e.new)
+    ensures tells { TellsNext (writers_of W.Sink w.old E.Sink e.old)
+        (writers_of W.Sink w.new E.Sink e.new)
         (told_piece form templates.old.table_b templates.old.table_d) next result }
     ensures counts { BlamesWriter (writers_of W.Sink w.old E.Sink e.old)
         (writers_of W.Sink w.new E.Sink e.new) result }
@@ -127,10 +130,9 @@ fn encode_documents<R: Source, W: Sink, E: Sink>(
     table_d: &TableD,
     form: Form,
 ) -> Result<Tally, RunFault>
-    ensures run { (bs : List ℕ) × RunsEncode (encode_pieces form table_b.now table_d.now)
-        (R.left r.old) (R.left r.new) (W.taken w.old) (W.taken w.new)
-        (E.taken e.old) (E.taken e.new)
-        (Unit {0}) bs result }
+    ensures run { (bs : List ℕ) × EncodesSoFar (encode_pieces form table_b.now table_d.now)
+        (input_of R.Source r.old) (input_of R.Source r.new)
+        (writers_of W.Sink w.old E.Sink e.old) (writers_of W.Sink w.new E.Sink e.new) bs result }
     ensures reader { R.failures r.new ≡ read_failures_after (R.failures r.old) result }
     ensures reads { ReadsAtMost (R.reads r.old) (R.reads r.new) result }
     ensures writers { BlamesWriter (writers_of W.Sink w.old E.Sink e.old)
@@ -188,18 +190,16 @@ pub fn run_encode_form<R: Source, W: Sink, E: Sink>(
     form: Form,
 ) -> Result<Tally, RunFault>
     // At `Ok` the writers hold exactly the pieces of the whole input, and the tally counts them.
-    ensures whole { IfOk result (λ tally. IfSome (R.left r.old) (λ s.
-        WritesPieces (W.taken w.old) (W.taken w.new) (E.taken e.old) (E.taken e.new)
-        (encode_pieces form table_b.now table_d.now (documents_of s))
-        × Tallies tally (encode_pieces form table_b.now table_d.now (documents_of s)))) }
+    ensures whole { IfOk result (λ tally. IfSome (R.left r.old)
+        (Encodes form table_b.now table_d.now (writers_of W.Sink w.old E.Sink e.old)
+        (writers_of W.Sink w.new E.Sink e.new) tally)) }
     // The errors are flushed only where the output was before.
     ensures order { E.flushes e.new ≢ E.flushes e.old → W.all_flushed w.new ≡ true }
     ensures flushed { OnOk result ((W.all_flushed w.new ≡ true) × (E.all_flushed e.new ≡ true)) }
     // The same over the octets that were read, and what a fault leaves.
     ensures run { (bs : List ℕ) × RunsEncode (encode_pieces form table_b.now table_d.now)
-        (R.left r.old) (R.left r.new) (W.taken w.old) (W.taken w.new)
-        (E.taken e.old) (E.taken e.new)
-        ((W.flushes w.new ≡ W.flushes w.old) × (E.flushes e.new ≡ E.flushes e.old)) bs result }
+        (input_of R.Source r.old) (input_of R.Source r.new)
+        (writers_of W.Sink w.old E.Sink e.old) (writers_of W.Sink w.new E.Sink e.new) bs result }
 
     // Each fault comes only where its device failed in this call.
     ensures reader { R.failures r.new ≡ read_failures_after (R.failures r.old) result }
@@ -238,18 +238,16 @@ pub fn run_encode<R: Source, W: Sink, E: Sink>(
     table_d: &TableD,
 ) -> Result<Tally, RunFault>
     // At `Ok` the writers hold exactly the pieces of the whole input, and the tally counts them.
-    ensures whole { IfOk result (λ tally. IfSome (R.left r.old) (λ s.
-        WritesPieces (W.taken w.old) (W.taken w.new) (E.taken e.old) (E.taken e.new)
-        (encode_pieces AsWritten table_b.now table_d.now (documents_of s))
-        × Tallies tally (encode_pieces AsWritten table_b.now table_d.now (documents_of s)))) }
+    ensures whole { IfOk result (λ tally. IfSome (R.left r.old)
+        (Encodes AsWritten table_b.now table_d.now (writers_of W.Sink w.old E.Sink e.old)
+        (writers_of W.Sink w.new E.Sink e.new) tally)) }
     // The errors are flushed only where the output was before.
     ensures order { E.flushes e.new ≢ E.flushes e.old → W.all_flushed w.new ≡ true }
     ensures flushed { OnOk result ((W.all_flushed w.new ≡ true) × (E.all_flushed e.new ≡ true)) }
     // The same over the octets that were read, and what a fault leaves.
     ensures run { (bs : List ℕ) × RunsEncode (encode_pieces AsWritten table_b.now table_d.now)
-        (R.left r.old) (R.left r.new) (W.taken w.old) (W.taken w.new)
-        (E.taken e.old) (E.taken e.new)
-        ((W.flushes w.new ≡ W.flushes w.old) × (E.flushes e.new ≡ E.flushes e.old)) bs result }
+        (input_of R.Source r.old) (input_of R.Source r.new)
+        (writers_of W.Sink w.old E.Sink e.old) (writers_of W.Sink w.new E.Sink e.new) bs result }
 
     // Each fault comes only where its device failed in this call.
     ensures reader { R.failures r.new ≡ read_failures_after (R.failures r.old) result }

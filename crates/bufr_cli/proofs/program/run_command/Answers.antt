@@ -15,7 +15,7 @@ returns-in-Dump-clause-whole g c =
     let P : Command → Type 0 = λ command. IfOk c.run_dump.result (λ tally. IfSome (g.R.Source.left c.args.r.now) ((promise_of command).whole (writers_of g.W.Sink c.args.w.now g.E.Sink c.args.e.now) (writers_of g.W.Sink c.run_dump.new.w g.E.Sink c.run_dump.new.e) tally)) in
     subst P (sym c.in-Dump.is)
     (ok-any c.run_dump.result _ (GivesPieces (IsDumpPiece c.in-Dump.table_b.now c.in-Dump.table_d.now))
-    (λ piece tally s. WritesAndCounts (g.W.Sink.taken c.args.w.now) (g.W.Sink.taken c.run_dump.new.w) (g.E.Sink.taken c.args.e.now) (g.E.Sink.taken c.run_dump.new.e) tally (map piece (scan s)))
+    (λ piece tally s. WritesAndCounts (writers_of g.W.Sink c.args.w.now g.E.Sink c.args.e.now) (writers_of g.W.Sink c.run_dump.new.w g.E.Sink c.run_dump.new.e) tally (map piece (scan s)))
     c.run_dump.ensures.whole)
 
 pub returns-in-Dump-clause-run : goal.returns-in-Dump-clause-run
