@@ -1,13 +1,13 @@
 -- What the process does with its words. (a choice of this project)
 -- Cited by public contracts.
-use Rattle.std.specs.Prelude.{◌≡◌, ◌⊎◌, ℕ, Bool, List, Option, None, codes}
+use Rattle.std.specs.Prelude.{◌≡◌, ◌⊎◌, ℕ, List, None, codes}
 use Rattle.std.specs.Borrow.{Bor}
-use Rattle.clap.specs.Words.{fault_of, subcommand_of}
 use Rattle.bufr_frame.specs.declared.fault.RunFault.TheVariants.{Memory}
-use Rattle.bufr_text.specs.Writing.{GrowsByPrefix}
 use Rattle.bufr_cli.specs.Calling.{RunsProgram}
+use Rattle.bufr_cli.specs.Devices.{Writers}
+use Rattle.bufr_cli.specs.Ending.{WritesLine}
 use Rattle.bufr_cli.specs.Finish.{last_line, status_of}
-use Rattle.bufr_cli.specs.Line.{bufr_app}
+use Rattle.bufr_cli.specs.Program.{known}
 use Rattle.bufr_cli.specs.declared.outcome.Outcome.{Outcome}
 use Rattle.bufr_cli.specs.declared.outcome.Outcome.TheVariants.{Usage, Run}
 
@@ -18,15 +18,12 @@ IsWordless outcome =
     × (text.now ≡ codes "error: an argument is not UTF-8\n"))
 
 -- What the process does with its words, whichever they are: what a call of the program with them
--- comes to, of whose inputs nothing is known; or they cannot be had, and that is told by a last
--- line (or a front of it) and the status, with no output.
+-- comes to, of whose inputs nothing is known; or they cannot be had, and the last line and the
+-- status say so, with no output.
 -- rule: argument-not-utf-8
-pub data RunsArguments (output output' errors errors' : Option (List ℕ)) (handed : Bool)
-    (status : ℕ) : Type 0 where
-  Calls : (words : List (List ℕ)) → RunsProgram (fault_of bufr_app words)
-      (subcommand_of bufr_app words)
-      None (λ _. None) output output' errors errors' handed status
-      → RunsArguments output output' errors errors' handed status
-  NoWords : (outcome : Outcome) → IsWordless outcome → output' ≡ output
-      → GrowsByPrefix errors errors' (last_line outcome) → status ≡ status_of outcome
-      → RunsArguments output output' errors errors' handed status
+pub data RunsArguments (before after : Writers) (status : ℕ) : Type 0 where
+  Calls : (words : List (List ℕ)) → RunsProgram words (known None (λ _. None)) before after status
+      → RunsArguments before after status
+  NoWords : (outcome : Outcome) → IsWordless outcome → after.output ≡ before.output
+      → WritesLine before.errors after.errors (last_line outcome) → status ≡ status_of outcome
+      → RunsArguments before after status

@@ -11,6 +11,7 @@
 #![tactic(auto)]
 
 ghost use Rattle.bufr.specs.Calling.{IsWordless, RunsArguments};
+ghost use Rattle.bufr_cli.specs.Devices.{writers_of};
 
 mod process;
 
@@ -58,8 +59,8 @@ fn argument_fault(error: &Error) -> Outcome<'static>
 
 /// Runs the words of the command line.
 fn run_words<W: Sink, E: Sink>(rt: &HostRuntime, w: &mut W, e: &mut E) -> u8
-    ensures { RunsArguments (W.taken w.old) (W.taken w.new) (E.taken e.old) (E.taken e.new)
-        (W.all_flushed w.new) result }
+    ensures { RunsArguments (writers_of W.Sink w.old E.Sink e.old)
+        (writers_of W.Sink w.new E.Sink e.new) result }
 {
     let words: Result<Vec<String>, _> = match std::env::args(rt) {
         Ok(words) => words.collect(rt.alloc()),

@@ -22,12 +22,12 @@ use Rattle.bufr_text.specs.declared.form.Form.{Form}
 use Rattle.bufr_text.specs.declared.fault.ReadFault.TheVariants.{Line, SubsetCount, HeaderRange, Run}
 use Rattle.bufr_cli.specs.DocumentLine.{refused_line}
 use Rattle.bufr_cli.specs.EncodePieces.{told_piece, encode_pieces, up_to_refused}
-use Rattle.bufr_cli.specs.EncodeRun.{EncodeDone, EncodeStopped, RunsEncode, read_documents}
-use Rattle.bufr_cli.specs.EncodeTelling.{TellsNext}
+use Rattle.bufr_cli.specs.EncodeRun.{EncodeDone, EncodeStopped, LeavesDocuments, read_documents}
+use Rattle.bufr_cli.specs.EncodeTelling.{LeavesNext}
 use Rattle.bufr_cli.specs.Pieces.{Piece, OnOutput, OnErrors, errors_of, is_accepted, is_refused, output_of}
 use Rattle.bufr_cli.specs.Counting.{Blames}
 use Rattle.bufr_cli.specs.Running.{ReadsAtMost, Tallies, WritesPieces, WrittenInPart}
-use Rattle.bufr_cli.specs.WritingPieces.{TellsPieces, StopsPiece, counted_accepted, counted_refused, tally_after}
+use Rattle.bufr_cli.specs.WritingPieces.{LeavesPieces, StopsPiece, counted_accepted, counted_refused, tally_after}
 use Rattle.bufr_cli.specs.declared.tally.Tally.{Tally}
 use Rattle.bufr_cli.specs.declared.tally.Verdict.{Verdict}
 use Rattle.bufr_cli.specs.declared.tally.Verdict.TheVariants as verdict
@@ -38,14 +38,14 @@ use Rattle.bufr_cli.proofs.DumpLemmas.{errors-told, line-stopped}
 
 -- the encoding of a document was stopped
 pub next-stopped : (w w' e e' : Option (List ℕ)) (piece : ParseResult → Piece) (next : Result (Option Document) ReadFault) (document : Document) (write_event : Result Verdict RunFault) (f : RunFault) (r : Result (Option Verdict) RunFault)
-    → next ≡ Ok (Some document) → TellsPieces w w' e e' (piece (Complete document) ∷ []) write_event → StopsPiece true write_event → write_event ≡ Err f → r ≡ Err f → TellsNext w w' e e' piece next r
+    → next ≡ Ok (Some document) → LeavesPieces w w' e e' (piece (Complete document) ∷ []) write_event → StopsPiece true write_event → write_event ≡ Err f → r ≡ Err f → LeavesNext w w' e e' piece next r
 next-stopped w w' e e' piece next document write_event f r is tells stops fails same =
-    let P : Result (Option Verdict) RunFault → Type 0 = λ x. TellsNext w w' e e' piece next x in
-    let T : Result Verdict RunFault → Type 0 = λ x. TellsPieces w w' e e' (piece (Complete document) ∷ []) x in
+    let P : Result (Option Verdict) RunFault → Type 0 = λ x. LeavesNext w w' e e' piece next x in
+    let T : Result Verdict RunFault → Type 0 = λ x. LeavesPieces w w' e e' (piece (Complete document) ∷ []) x in
     let S : Result Verdict RunFault → Type 0 = λ x. StopsPiece true x in
     subst P (sym same) (by f (subst T fails tells) (subst S fails stops))
   where
-    by : (g : RunFault) → TellsPieces w w' e e' (piece (Complete document) ∷ []) (Err g) → StopsPiece true (Err g) → TellsNext w w' e e' piece next (Err g)
+    by : (g : RunFault) → LeavesPieces w w' e e' (piece (Complete document) ∷ []) (Err g) → StopsPiece true (Err g) → LeavesNext w w' e e' piece next (Err g)
     by Read tells' stops' = absurd stops'
     by InputTooLong tells' stops' = absurd stops'
     by Write tells' stops' = (Complete document, ap parse_results is, tells')
@@ -54,19 +54,19 @@ next-stopped w w' e e' piece next document write_event f r is tells stops fails 
 -- the line of a fault of the text was stopped
 pub line-cut : {X : Type 0} (w e e' : Option (List ℕ)) (form : Form) (b : List Row) (d : List Sequence) (next : Result (Option Document) ReadFault) (fault : ReadFault) (first : Result X RunFault) (f : RunFault) (r : Result (Option Verdict) RunFault)
     → next ≡ Err fault → ((run : RunFault) → fault ≡ Run run → ⊥) → ((line : ℕ) (why : TextLineFault) → parse_results (Err fault) ≡ Refused line why ∷ [] → Writes e e' (refused_line line why) first)
-    → first ≡ Err f → r ≡ Err f → TellsNext w w e e' (told_piece form b d) next r
+    → first ≡ Err f → r ≡ Err f → LeavesNext w w e e' (told_piece form b d) next r
 line-cut {X = X} w e e' form b d next fault first f r is some writes fails same =
     by fault is some writes
   where
-    told : (line : ℕ) (why : TextLineFault) → parse_results next ≡ Refused line why ∷ [] → Writes e e' (refused_line line why) first → TellsNext w w e e' (told_piece form b d) next r
+    told : (line : ℕ) (why : TextLineFault) → parse_results next ≡ Refused line why ∷ [] → Writes e e' (refused_line line why) first → LeavesNext w w e e' (told_piece form b d) next r
     told line why tells written =
         let W : Result X RunFault → Type 0 = λ x. Writes e e' (refused_line line why) x in
-        let P : Result (Option Verdict) RunFault → Type 0 = λ x. TellsNext w w e e' (told_piece form b d) next x in
+        let P : Result (Option Verdict) RunFault → Type 0 = λ x. LeavesNext w w e e' (told_piece form b d) next x in
         let write : f ≡ Write = (subst W fails written).0 in
         subst P (sym (same ∙ ap Err write)) (Refused line why, tells, line-stopped w e e' (refused_line line why) first Write (Err Write) (OnErrors (refused_line line why)) refl written (fails ∙ ap Err write) refl)
 
     by : (g : ReadFault) → next ≡ Err g → ((run : RunFault) → g ≡ Run run → ⊥) → ((line : ℕ) (why : TextLineFault) → parse_results (Err g) ≡ Refused line why ∷ [] → Writes e e' (refused_line line why) first)
-        → TellsNext w w e e' (told_piece form b d) next r
+        → LeavesNext w w e e' (told_piece form b d) next r
     by (Line line) is' some' writes' = told line NotAllowed (ap parse_results is') (writes' line NotAllowed refl)
     by (SubsetCount line) is' some' writes' = told line documents.SubsetCount (ap parse_results is') (writes' line documents.SubsetCount refl)
     by (HeaderRange line) is' some' writes' = told line documents.HeaderRange (ap parse_results is') (writes' line documents.HeaderRange refl)
@@ -75,7 +75,7 @@ line-cut {X = X} w e e' form b d next fault first f r is some writes fails same 
 -- the line of a fault of the text was written
 pub line-written : (w e e' : Option (List ℕ)) (form : Form) (b : List Row) (d : List Sequence) (next : Result (Option Document) ReadFault) (fault : ReadFault)
     → next ≡ Err fault → ((run : RunFault) → fault ≡ Run run → ⊥) → ((line : ℕ) (why : TextLineFault) → parse_results (Err fault) ≡ Refused line why ∷ [] → Appends e e' (refused_line line why))
-    → TellsNext w w e e' (told_piece form b d) next (Ok (Some verdict.Refused))
+    → LeavesNext w w e e' (told_piece form b d) next (Ok (Some verdict.Refused))
 line-written w e e' form b d next (Line line) is some writes =
     (Refused line NotAllowed, ap parse_results is, errors-told w e e' (refused_line line NotAllowed) (OnErrors (refused_line line NotAllowed)) refl (writes line NotAllowed refl))
 line-written w e e' form b d next (SubsetCount line) is some writes =
@@ -85,7 +85,7 @@ line-written w e e' form b d next (HeaderRange line) is some writes =
 line-written w e e' form b d next (Run run) is some writes = absurd (some run refl)
 
 -- the reading ended
-pub run-ended : (w e : Option (List ℕ)) (piece : ParseResult → Piece) (next : Result (Option Document) ReadFault) (fault : RunFault) → next ≡ Err (Run fault) → (next ≡ Err (Run Write) → ⊥) → TellsNext w w e e piece next (Err fault)
+pub run-ended : (w e : Option (List ℕ)) (piece : ParseResult → Piece) (next : Result (Option Document) ReadFault) (fault : RunFault) → next ≡ Err (Run fault) → (next ≡ Err (Run Write) → ⊥) → LeavesNext w w e e piece next (Err fault)
 run-ended w e piece next Read is some = (is, refl, refl)
 run-ended w e piece next InputTooLong is some = (is, refl, refl)
 run-ended w e piece next Memory is some = inl (is, refl, refl)
@@ -344,7 +344,7 @@ ran-few form b d left mid reads reads' w w' e e' s tally ran =
 module _ (form : Form) (b : List Row) (d : List Sequence) (left mid left' : Option (List ℕ)) (reads reads1 reads2 : ℕ) (w w1 e e1 : Option (List ℕ)) (s s' : ReaderModel) (tally : Tally) (next : Result (Option Document) ReadFault)
     (ran : EncodedSoFar form b d left mid reads reads1 w w1 e e1 s tally) (so : ReturnsNextDocument mid left' s s' next) (counts : CountsTextReads reads1 reads2 s s') where
   -- one more document
-  pub turn : (w2 e2 : Option (List ℕ)) (tally' : Tally) → TellsNext w1 w2 e1 e2 (told_piece form b d) next (Ok (Some verdict.Accepted)) → tally' ≡ tally_after tally verdict.Accepted
+  pub turn : (w2 e2 : Option (List ℕ)) (tally' : Tally) → LeavesNext w1 w2 e1 e2 (told_piece form b d) next (Ok (Some verdict.Accepted)) → tally' ≡ tally_after tally verdict.Accepted
       → EncodedSoFar form b d left left' reads reads2 w w2 e e2 s' tally'
   turn w2 e2 tally' (x, is, (written, accepted, refused)) after =
       let more = one-more form b d ran.told x in
@@ -387,7 +387,7 @@ module _ (form : Form) (b : List Row) (d : List Sequence) (left mid left' : Opti
       }
 
   -- a document was refused
-  pub done-refused : (w2 e2 : Option (List ℕ)) (tally' : Tally) → TellsNext w1 w2 e1 e2 (told_piece form b d) next (Ok (Some verdict.Refused)) → tally' ≡ tally_after tally verdict.Refused
+  pub done-refused : (w2 e2 : Option (List ℕ)) (tally' : Tally) → LeavesNext w1 w2 e1 e2 (told_piece form b d) next (Ok (Some verdict.Refused)) → tally' ≡ tally_after tally verdict.Refused
       → EncodeDone (encode_pieces form b d) left left' w w2 e e2 (ran.octets ++ so.octets) tally'
   done-refused w2 e2 tally' (x, is, (written, accepted, refused)) after =
       let bs = ran.octets ++ so.octets in
@@ -417,27 +417,27 @@ module _ (form : Form) (b : List Row) (d : List Sequence) (left mid left' : Opti
       }
 
   -- the end of the text, told by an answer
-  pub done-last : (w2 e2 : Option (List ℕ)) (write_event : Result (Option Verdict) RunFault) → TellsNext w1 w2 e1 e2 (told_piece form b d) next write_event → write_event ≡ Ok None
+  pub done-last : (w2 e2 : Option (List ℕ)) (write_event : Result (Option Verdict) RunFault) → LeavesNext w1 w2 e1 e2 (told_piece form b d) next write_event → write_event ≡ Ok None
       → (bs : List ℕ) × EncodeDone (encode_pieces form b d) left left' w w2 e e2 bs tally
   done-last w2 e2 write_event tells is =
-      let T : Result (Option Verdict) RunFault → Type 0 = λ x. TellsNext w1 w2 e1 e2 (told_piece form b d) next x in
+      let T : Result (Option Verdict) RunFault → Type 0 = λ x. LeavesNext w1 w2 e1 e2 (told_piece form b d) next x in
       let end = subst T is tells in
       let W : Option (List ℕ) → Type 0 = λ x. EncodeDone (encode_pieces form b d) left left' w x e e1 (ran.octets ++ so.octets) tally in
       let E : Option (List ℕ) → Type 0 = λ x. EncodeDone (encode_pieces form b d) left left' w w2 e x (ran.octets ++ so.octets) tally in
       (ran.octets ++ so.octets, subst E (sym end.2) (subst W (sym end.1) (done-end end.0)))
 
   -- a document was refused, told by an answer
-  pub done-at-refused : (w2 e2 : Option (List ℕ)) (write_event : Result (Option Verdict) RunFault) (v : Verdict) (tally' : Tally) → TellsNext w1 w2 e1 e2 (told_piece form b d) next write_event → write_event ≡ Ok (Some v) → v ≡ verdict.Refused
+  pub done-at-refused : (w2 e2 : Option (List ℕ)) (write_event : Result (Option Verdict) RunFault) (v : Verdict) (tally' : Tally) → LeavesNext w1 w2 e1 e2 (told_piece form b d) next write_event → write_event ≡ Ok (Some v) → v ≡ verdict.Refused
       → tally' ≡ tally_after tally v → (bs : List ℕ) × EncodeDone (encode_pieces form b d) left left' w w2 e e2 bs tally'
   done-at-refused w2 e2 write_event v tally' tells is refused after =
-      let T : Result (Option Verdict) RunFault → Type 0 = λ x. TellsNext w1 w2 e1 e2 (told_piece form b d) next x in
+      let T : Result (Option Verdict) RunFault → Type 0 = λ x. LeavesNext w1 w2 e1 e2 (told_piece form b d) next x in
       (ran.octets ++ so.octets, done-refused w2 e2 tally' (subst T (is ∙ ap (λ (x : Verdict). Ok (Some x)) refused) tells) (after ∙ ap (tally_after tally) refused))
 
   -- one more document, told by an answer
-  pub turn-on : (w2 e2 : Option (List ℕ)) (write_event : Result (Option Verdict) RunFault) (v : Verdict) (tally' : Tally) → TellsNext w1 w2 e1 e2 (told_piece form b d) next write_event → write_event ≡ Ok (Some v) → (v ≡ verdict.Refused → ⊥)
+  pub turn-on : (w2 e2 : Option (List ℕ)) (write_event : Result (Option Verdict) RunFault) (v : Verdict) (tally' : Tally) → LeavesNext w1 w2 e1 e2 (told_piece form b d) next write_event → write_event ≡ Ok (Some v) → (v ≡ verdict.Refused → ⊥)
       → tally' ≡ tally_after tally v → EncodedSoFar form b d left left' reads reads2 w w2 e e2 s' tally'
   turn-on w2 e2 write_event v tally' tells is some after =
-      let T : Result (Option Verdict) RunFault → Type 0 = λ x. TellsNext w1 w2 e1 e2 (told_piece form b d) next x in
+      let T : Result (Option Verdict) RunFault → Type 0 = λ x. LeavesNext w1 w2 e1 e2 (told_piece form b d) next x in
       let accepted = accepted-else v some in
       turn w2 e2 tally' (subst T (is ∙ ap (λ (x : Verdict). Ok (Some x)) accepted) tells) (after ∙ ap (tally_after tally) accepted)
 
@@ -454,8 +454,8 @@ module _ (form : Form) (b : List Row) (d : List Sequence) (left mid left' : Opti
       }
 
   -- a writer failed, or memory was refused, in the piece of what was told
-  stops-piece : (w2 e2 : Option (List ℕ)) (f : RunFault) (x : ParseResult) → parse_results next ≡ x ∷ [] → TellsPieces w1 w2 e1 e2 (told_piece form b d x ∷ []) (Err f)
-      → RunsEncode (encode_pieces form b d) left left' w w2 e e2 (Unit {0}) (ran.octets ++ so.octets) (Err Memory)
+  stops-piece : (w2 e2 : Option (List ℕ)) (f : RunFault) (x : ParseResult) → parse_results next ≡ x ∷ [] → LeavesPieces w1 w2 e1 e2 (told_piece form b d x ∷ []) (Err f)
+      → LeavesDocuments (encode_pieces form b d) left left' w w2 e e2 (Unit {0}) (ran.octets ++ so.octets) (Err Memory)
   stops-piece w2 e2 f x is tells =
       let bs = ran.octets ++ so.octets in
       let call = call-then left mid left' new_reader s s' ran.told (x ∷ []) ran.octets so.octets ran.call (told-call mid left' s s' next x so is) in
@@ -510,10 +510,10 @@ module _ (form : Form) (b : List Row) (d : List Sequence) (left mid left' : Opti
           open-accepts (map (told_piece form b d) ran.told) ran.open',
         )
 
-    pub stops-memory : (bs : List ℕ) × RunsEncode (encode_pieces form b d) left left' w w2 e e2 (Unit {0}) bs (Err Memory)
+    pub stops-memory : (bs : List ℕ) × LeavesDocuments (encode_pieces form b d) left left' w w2 e e2 (Unit {0}) bs (Err Memory)
     stops-memory = by s.ended refl
       where
-        by : (ended : Bool) → s.ended ≡ ended → (bs : List ℕ) × RunsEncode (encode_pieces form b d) left left' w w2 e e2 (Unit {0}) bs (Err Memory)
+        by : (ended : Bool) → s.ended ≡ ended → (bs : List ℕ) × LeavesDocuments (encode_pieces form b d) left left' w w2 e e2 (Unit {0}) bs (Err Memory)
         by true ended =
             let end = ran.call.end (λ start. absurd (false≢true start)) ended in
             let part = told-part (documents_of ran.octets) (parse (stand s) []) (ap documents_of (sym (append-nil ran.octets)) ∙ told-first left mid s ran.told ran.octets [] ran.call (λ _. refl)) in (
@@ -545,11 +545,11 @@ module _ (form : Form) (b : List Row) (d : List Sequence) (left mid left' : Opti
             )
 
   -- the run was stopped
-  pub stops : (w2 e2 : Option (List ℕ)) (write_event : Result (Option Verdict) RunFault) (f : RunFault) (r : Result Tally RunFault) → TellsNext w1 w2 e1 e2 (told_piece form b d) next write_event → write_event ≡ Err f → r ≡ Err f
-      → (bs : List ℕ) × RunsEncode (encode_pieces form b d) left left' w w2 e e2 (Unit {0}) bs r
+  pub stops : (w2 e2 : Option (List ℕ)) (write_event : Result (Option Verdict) RunFault) (f : RunFault) (r : Result Tally RunFault) → LeavesNext w1 w2 e1 e2 (told_piece form b d) next write_event → write_event ≡ Err f → r ≡ Err f
+      → (bs : List ℕ) × LeavesDocuments (encode_pieces form b d) left left' w w2 e e2 (Unit {0}) bs r
   stops w2 e2 write_event f r tells fails same =
-      let P : Result Tally RunFault → Type 0 = λ x. (bs : List ℕ) × RunsEncode (encode_pieces form b d) left left' w w2 e e2 (Unit {0}) bs x in
-      let T : Result (Option Verdict) RunFault → Type 0 = λ x. TellsNext w1 w2 e1 e2 (told_piece form b d) next x in
+      let P : Result Tally RunFault → Type 0 = λ x. (bs : List ℕ) × LeavesDocuments (encode_pieces form b d) left left' w w2 e e2 (Unit {0}) bs x in
+      let T : Result (Option Verdict) RunFault → Type 0 = λ x. LeavesNext w1 w2 e1 e2 (told_piece form b d) next x in
       subst P (sym same) (by f (subst T fails tells))
     where
       reads-so : (g : RunFault) → next ≡ Err (Run g) → ReadsDocument mid left' s s' (Err (Run g)) so.octets
@@ -558,7 +558,7 @@ module _ (form : Form) (b : List Row) (d : List Sequence) (left mid left' : Opti
       ends-so : (g : RunFault) → next ≡ Err (Run g) → LeavesReader s' (Err (Run g))
       ends-so g is = let E : Result (Option Document) ReadFault → Type 0 = λ x. LeavesReader s' x in subst E is so.ends
 
-      by : (g : RunFault) → TellsNext w1 w2 e1 e2 (told_piece form b d) next (Err g) → (bs : List ℕ) × RunsEncode (encode_pieces form b d) left left' w w2 e e2 (Unit {0}) bs (Err g)
+      by : (g : RunFault) → LeavesNext w1 w2 e1 e2 (told_piece form b d) next (Err g) → (bs : List ℕ) × LeavesDocuments (encode_pieces form b d) left left' w w2 e e2 (Unit {0}) bs (Err g)
       by Read (is, same_w, same_e) = (
         ran.octets ++ so.octets,
         stops-read w2 e2 same_w same_e (call-then left mid left' new_reader s s' ran.told [] ran.octets so.octets ran.call (reads-so Read is)) (ends-so Read is).1,
@@ -579,9 +579,9 @@ reads-made reads reads' s r counts long =
 
 -- a run that is stopped because its input is too long made all reads
 pub stop-reads : (left left' : Option (List ℕ)) (s s' : ReaderModel) (w w' e e' : Option (List ℕ)) (piece : ParseResult → Piece) (next : Result (Option Document) ReadFault) (write_event : Result (Option Verdict) RunFault) (f : RunFault) (r : Result Tally RunFault)
-    → ReturnsNextDocument left left' s s' next → TellsNext w w' e e' piece next write_event → write_event ≡ Err f → r ≡ Err f → r ≡ Err InputTooLong → s'.reads ≡ max_reads
+    → ReturnsNextDocument left left' s s' next → LeavesNext w w' e e' piece next write_event → write_event ≡ Err f → r ≡ Err f → r ≡ Err InputTooLong → s'.reads ≡ max_reads
 stop-reads left left' s s' w w' e e' piece next write_event f r so tells fails same long =
-    let T : Result (Option Verdict) RunFault → Type 0 = λ x. TellsNext w w' e e' piece next x in
+    let T : Result (Option Verdict) RunFault → Type 0 = λ x. LeavesNext w w' e e' piece next x in
     let E : Result (Option Document) ReadFault → Type 0 = λ x. LeavesReader s' x in
     let long' : write_event ≡ Err InputTooLong = cc in
     let stopped = subst T long' tells in
@@ -598,21 +598,21 @@ told-keeps count (Err (Run run)) x is = absurd (omega (arith, ap length is))
 
 -- the failures of the reader, where a document or a line was told
 pub verdict-keeps : (w w' e e' : Option (List ℕ)) (piece : ParseResult → Piece) (count : ℕ) (next : Result (Option Document) ReadFault) (write_event : Result (Option Verdict) RunFault) (v : Verdict)
-    → TellsNext w w' e e' piece next write_event → write_event ≡ Ok (Some v) → failures_by count next ≡ count
+    → LeavesNext w w' e e' piece next write_event → write_event ≡ Ok (Some v) → failures_by count next ≡ count
 verdict-keeps w w' e e' piece count next write_event v tells is =
-    let T : Result (Option Verdict) RunFault → Type 0 = λ x. TellsNext w w' e e' piece next x in
+    let T : Result (Option Verdict) RunFault → Type 0 = λ x. LeavesNext w w' e e' piece next x in
     let here = subst T is tells in
     told-keeps count next here.0 here.1
 
 -- the failures of the reader, where the run was stopped
 pub stop-failures : (w w' e e' : Option (List ℕ)) (piece : ParseResult → Piece) (next : Result (Option Document) ReadFault) (write_event : Result (Option Verdict) RunFault) (f : RunFault) (r : Result Tally RunFault) (before after : ℕ)
-    → TellsNext w w' e e' piece next write_event → write_event ≡ Err f → r ≡ Err f → after ≡ failures_by before next → after ≡ read_failures_after before r
+    → LeavesNext w w' e e' piece next write_event → write_event ≡ Err f → r ≡ Err f → after ≡ failures_by before next → after ≡ read_failures_after before r
 stop-failures w w' e e' piece next write_event f r before after tells fails same is =
     let P : Result Tally RunFault → Type 0 = λ x. after ≡ read_failures_after before x in
-    let T : Result (Option Verdict) RunFault → Type 0 = λ x. TellsNext w w' e e' piece next x in
+    let T : Result (Option Verdict) RunFault → Type 0 = λ x. LeavesNext w w' e e' piece next x in
     subst P (sym same) (by f (subst T fails tells))
   where
-    by : (g : RunFault) → TellsNext w w' e e' piece next (Err g) → after ≡ read_failures_after {X = Tally} before (Err g)
+    by : (g : RunFault) → LeavesNext w w' e e' piece next (Err g) → after ≡ read_failures_after {X = Tally} before (Err g)
     by Read (stopped, _, _) = is ∙ ap (failures_by before) stopped
     by InputTooLong (stopped, _, _) = is ∙ ap (failures_by before) stopped
     by Write (x, one, _) = is ∙ told-keeps before next x one
@@ -621,13 +621,13 @@ stop-failures w w' e e' piece next write_event f r before after tells fails same
 
 -- a fault before the flushes
 pub stays-unflushed : (pieces_of : List ParseResult → List Piece) (left left' w w' e e' : Option (List ℕ)) (unflushed : Type 0) → unflushed → (first : Result Tally RunFault) (f : RunFault) (r : Result Tally RunFault) → first ≡ Err f → r ≡ Err f
-    → ((bs : List ℕ) × RunsEncode pieces_of left left' w w' e e' (Unit {0}) bs first) → (bs : List ℕ) × RunsEncode pieces_of left left' w w' e e' unflushed bs r
+    → ((bs : List ℕ) × LeavesDocuments pieces_of left left' w w' e e' (Unit {0}) bs first) → (bs : List ℕ) × LeavesDocuments pieces_of left left' w w' e e' unflushed bs r
 stays-unflushed pieces_of left left' w w' e e' unflushed kept first f r fails same (bs, so) =
-    let P : Result Tally RunFault → Type 0 = λ x. RunsEncode pieces_of left left' w w' e e' unflushed bs x in
-    let F : Result Tally RunFault → Type 0 = λ x. RunsEncode pieces_of left left' w w' e e' (Unit {0}) bs x in
+    let P : Result Tally RunFault → Type 0 = λ x. LeavesDocuments pieces_of left left' w w' e e' unflushed bs x in
+    let F : Result Tally RunFault → Type 0 = λ x. LeavesDocuments pieces_of left left' w w' e e' (Unit {0}) bs x in
     (bs, subst P (sym same) (by f (subst F fails so)))
   where
-    by : (g : RunFault) → RunsEncode pieces_of left left' w w' e e' (Unit {0}) bs (Err g) → RunsEncode pieces_of left left' w w' e e' unflushed bs (Err g)
+    by : (g : RunFault) → LeavesDocuments pieces_of left left' w w' e e' (Unit {0}) bs (Err g) → LeavesDocuments pieces_of left left' w w' e e' unflushed bs (Err g)
     by Read before = before
     by InputTooLong before = before
     by Memory (cut, accepted) = (record { read = cut.read; ended = cut.ended; end = cut.end; written = cut.written; flushed = λ not. absurd (not kept) }, accepted)
@@ -641,10 +641,10 @@ written-kept w w1 w2 e e1 e2 pieces kept_w kept_e before = record {
 
 -- all was written, and then flushed
 module _ (pieces_of : List ParseResult → List Piece) (left left' w w1 w2 e e1 e2 : Option (List ℕ)) (first : Result Tally RunFault) (tally : Tally) (is : first ≡ Ok tally) (kept_w : Keeps w1 w2) (kept_e : Keeps e1 e2)
-    (before : (bs : List ℕ) × RunsEncode pieces_of left left' w w1 e e1 (Unit {0}) bs first) where
+    (before : (bs : List ℕ) × LeavesDocuments pieces_of left left' w w1 e e1 (Unit {0}) bs first) where
   pub encode-flushed : (bs : List ℕ) × EncodeDone pieces_of left left' w w2 e e2 bs tally
   encode-flushed =
-      let F : Result Tally RunFault → Type 0 = λ x. RunsEncode pieces_of left left' w w1 e e1 (Unit {0}) before.0 x in
+      let F : Result Tally RunFault → Type 0 = λ x. LeavesDocuments pieces_of left left' w w1 e e1 (Unit {0}) before.0 x in
       let done = subst F is before.1 in (
         before.0,
         record {
@@ -658,12 +658,12 @@ module _ (pieces_of : List ParseResult → List Piece) (left left' w w1 w2 e e1 
       )
 
   -- a flush failed
-  pub stop-encode-flush : (unflushed : Type 0) (f : RunFault) (r : Result Tally RunFault) → f ≡ Write → r ≡ Err f → (bs : List ℕ) × RunsEncode pieces_of left left' w w2 e e2 unflushed bs r
+  pub stop-encode-flush : (unflushed : Type 0) (f : RunFault) (r : Result Tally RunFault) → f ≡ Write → r ≡ Err f → (bs : List ℕ) × LeavesDocuments pieces_of left left' w w2 e e2 unflushed bs r
   stop-encode-flush unflushed f r write same =
       let bs = encode-flushed.0 in
       let done = encode-flushed.1 in
       let all = pieces_of (read_documents done.ended bs) in
-      let P : Result Tally RunFault → Type 0 = λ x. RunsEncode pieces_of left left' w w2 e e2 unflushed bs x in (
+      let P : Result Tally RunFault → Type 0 = λ x. LeavesDocuments pieces_of left left' w w2 e e2 unflushed bs x in (
         bs,
         subst P (sym (same ∙ ap Err write)) (record {
           read = done.read;
@@ -690,7 +690,7 @@ nothing-more bs (c ∷ t) is = absurd (omega (arith, ap length is, length-append
 
 -- of an input that is known the pieces are those of all its documents
 pub encode-known : (pieces_of : List ParseResult → List Piece) (left left' w w' e e' : Option (List ℕ)) (unflushed : Type 0) (r : Result Tally RunFault)
-    → ((bs : List ℕ) × RunsEncode pieces_of left left' w w' e e' unflushed bs r) → IfOk r (λ tally. IfSome left (λ s. WritesPieces w w' e e' (pieces_of (documents_of s)) × Tallies tally (pieces_of (documents_of s))))
+    → ((bs : List ℕ) × LeavesDocuments pieces_of left left' w w' e e' unflushed bs r) → IfOk r (λ tally. IfSome left (λ s. WritesPieces w w' e e' (pieces_of (documents_of s)) × Tallies tally (pieces_of (documents_of s))))
 encode-known pieces_of left left' w w' e e' unflushed (Err f) so = tt
 encode-known pieces_of None left' w w' e e' unflushed (Ok tally) so = tt
 encode-known pieces_of (Some s) None w w' e e' unflushed (Ok tally) (bs, done) = absurd done.read

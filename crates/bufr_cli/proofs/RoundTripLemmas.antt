@@ -33,6 +33,7 @@ use Rattle.bufr_text.specs.declared.form.Form.TheVariants.{AsWritten}
 use Rattle.bufr_cli.specs.EncodePieces.{encoded, told_piece, up_to_refused}
 use Rattle.bufr_cli.specs.Pieces.{Piece, OnOutput, OnErrors, output_of, errors_of, is_accepted, is_refused}
 use Rattle.bufr_cli.specs.RoundTrip.{accepted_in, accepted_messages, dump_pieces, dumped, longer_by, event_octets, rebuilding, rebuilt, text_pieces, IsBuiltAgain, IsWholeRound, IsCanonicalMessage, RoundTrips}
+use Rattle.bufr_cli.specs.Devices.{holding}
 use Rattle.bufr_cli.specs.Whole.{Dumps, Encodes}
 use Rattle.bufr_cli.specs.Running.{GivesPieces, Tallies}
 use Rattle.bufr_cli.specs.declared.tally.Tally.{Tally}
@@ -333,7 +334,7 @@ same-pieces b d p q gives given (here ∷ es) =
 
 -- three runs of the program
 pub three-runs : (records : List Record) (b : List Row) (d : List Sequence) (stream text messages lines again faults : List ℕ) (e e' : Option (List ℕ)) (first second third : Tally) → AreRows records b → AllByRecursion IsOctet stream
-    → Dumps b d (Some []) (Some text) e e' first stream → Encodes AsWritten b d (Some []) (Some messages) (Some []) (Some lines) second text → Dumps b d (Some []) (Some again) (Some []) (Some faults) third messages
+    → Dumps b d (holding (Some []) e) (holding (Some text) e') first stream → Encodes AsWritten b d (holding (Some []) (Some [])) (holding (Some messages) (Some lines)) second text → Dumps b d (holding (Some []) (Some [])) (holding (Some again) (Some faults)) third messages
     → IsWholeRound b d stream text messages lines again faults first second third
 three-runs records b d stream text messages lines again faults e e' first second third rows octets (piece, gives, (wrote, counts)) (encodes, counted) (other, given, (dumps, counts')) =
     let same : dump_pieces other messages ≡ dump_pieces piece messages = same-pieces b d other piece given gives (scan messages) in

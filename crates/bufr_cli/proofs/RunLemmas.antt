@@ -22,8 +22,8 @@ use Rattle.bufr_frame.proofs.FindingLemmas.{Advances-none, Follows-none, ReadsAn
 use Rattle.bufr_text.specs.Writing.{Writes, GrowsByPrefix, Stays, Fails}
 use Rattle.bufr_cli.specs.Pieces.{Piece, OnErrors, output_of, errors_of, is_accepted, is_refused}
 use Rattle.bufr_cli.specs.Counting.{Blames}
-use Rattle.bufr_cli.specs.Running.{WritesPieces, Tallies, RunsEvents, RunDone, RunStopped, RunCut, ReadsFewer, read_events, GivesPieces}
-use Rattle.bufr_cli.specs.WritingPieces.{TellsPieces, StopsPiece, RunReads, counted_accepted, counted_refused, tally_after}
+use Rattle.bufr_cli.specs.Running.{WritesPieces, Tallies, LeavesEvents, RunDone, RunStopped, RunCut, ReadsFewer, read_events, GivesPieces}
+use Rattle.bufr_cli.specs.WritingPieces.{LeavesPieces, StopsPiece, RunReads, counted_accepted, counted_refused, tally_after}
 use Rattle.bufr_cli.specs.declared.tally.Tally.{Tally}
 use Rattle.bufr_cli.specs.declared.tally.Verdict.{Verdict}
 
@@ -32,7 +32,7 @@ grows-nil w = record { front = []; back = []; parts = refl; gains = Appends-nil 
 
 -- a fault line stopped
 pub errors-stop : {X : Type 0} (w e e' : Option (List ℕ)) (text : List ℕ) (first : Result X RunFault) (r : Result Verdict RunFault) (f : RunFault)
-    → first ≡ Err f → r ≡ Err f → Writes e e' text first → TellsPieces w w e e' (OnErrors text ∷ []) r
+    → first ≡ Err f → r ≡ Err f → Writes e e' text first → LeavesPieces w w e e' (OnErrors text ∷ []) r
 errors-stop w e e' text first r f is same writes =
     let here = rw is at writes in
     let P : List ℕ → Type 0 = λ t. GrowsByPrefix e e' t in
@@ -115,7 +115,7 @@ count-append p xs ys = grind (arith, common_steps)
 
 -- the pieces of one more event were written and counted
 told-then : (piece : StreamEvent → Piece) (w w1 w2 e e1 e2 : Option (List ℕ)) (tally tally' : Tally) (verdict : Verdict) (events here : List StreamEvent)
-    → ToldSoFar w w1 e e1 tally (map piece events) → TellsPieces w1 w2 e1 e2 (map piece here) (Ok verdict) → tally' ≡ tally_after tally verdict
+    → ToldSoFar w w1 e e1 tally (map piece events) → LeavesPieces w1 w2 e1 e2 (map piece here) (Ok verdict) → tally' ≡ tally_after tally verdict
     → ToldSoFar w w2 e e2 tally' (map piece (events ++ here))
 told-then piece w w1 w2 e e1 e2 tally tally' verdict events here before tells counts =
     let W : List Piece → Type 0 = λ l. WritesPieces w w2 e e2 l in
@@ -135,7 +135,7 @@ some-none p is = cc
 
 -- a piece was stopped by a writer, or by want of memory
 cut-by : (pieces_of : List StreamEvent → List Piece) (left left' w w' e e' : Option (List ℕ)) (unflushed early : Type 0) (bs : List ℕ) (takes : Bool) (f : RunFault) → StopsPiece takes (Err f)
-    → (cut : RunCut pieces_of left left' w w' e e' unflushed bs) → (cut.written.next ≡ None → ⊥) → RunsEvents pieces_of left left' w w' e e' unflushed early bs (Err f)
+    → (cut : RunCut pieces_of left left' w w' e e' unflushed bs) → (cut.written.next ≡ None → ⊥) → LeavesEvents pieces_of left left' w w' e e' unflushed early bs (Err f)
 cut-by pieces_of left left' w w' e e' unflushed early bs takes Read stops cut some = absurd stops
 cut-by pieces_of left left' w w' e e' unflushed early bs takes Write stops cut some = cut
 cut-by pieces_of left left' w w' e e' unflushed early bs takes InputTooLong stops cut some = absurd stops
@@ -145,7 +145,7 @@ module _ (is_piece : StreamEvent → Piece → Type 0) (left mid left' : Option 
     (ran : Ran is_piece left mid reads reads1 w w1 e e1 s tally) (next : ReturnsNextEvent mid left' reads1 reads2 s s' result) where
   -- an event was told and counted
   pub turn : (w2 e2 : Option (List ℕ)) (verdict : Verdict) (tally' : Tally) (event : Event) → result ≡ Ok event → IsEvent event
-      → ((piece : StreamEvent → Piece) → GivesPieces is_piece piece → TellsPieces w1 w2 e1 e2 (map piece (events_of event)) (Ok verdict))
+      → ((piece : StreamEvent → Piece) → GivesPieces is_piece piece → LeavesPieces w1 w2 e1 e2 (map piece (events_of event)) (Ok verdict))
       → tally' ≡ tally_after tally verdict → tally'.accepted + tally'.refused ≡ tally.accepted + tally.refused + 1
       → Ran is_piece left left' reads reads2 w w2 e e2 s' tally'
   turn w2 e2 verdict tally' event is some tells counts one =
@@ -163,7 +163,7 @@ module _ (is_piece : StreamEvent → Piece → Type 0) (left mid left' : Option 
 
   -- the finder stopped
   pub stop-next : (unflushed : Type 0) → unflushed → (f : RunFault) (r : Result Tally RunFault) → result ≡ Err f → r ≡ Err f
-      → (bs : List ℕ) × ((piece : StreamEvent → Piece) → GivesPieces is_piece piece → RunsEvents (map piece) left left' w w1 e e1 unflushed (ReadsFewer reads reads2) bs r)
+      → (bs : List ℕ) × ((piece : StreamEvent → Piece) → GivesPieces is_piece piece → LeavesEvents (map piece) left left' w w1 e e1 unflushed (ReadsFewer reads reads2) bs r)
   stop-next unflushed kept f r is same =
       let steps = rw is at next.steps in
       let ends = rw is at next.ends in
@@ -171,7 +171,7 @@ module _ (is_piece : StreamEvent → Piece → Type 0) (left mid left' : Option 
       let step = ReadsAndPasses-then left mid left' s s' ran.octets steps.0 ran.events [] ran.step steps.1 in (
         bs,
         λ piece gives.
-            let P : Result Tally RunFault → Type 0 = λ x. RunsEvents (map piece) left left' w w1 e e1 unflushed (ReadsFewer reads reads2) bs x in
+            let P : Result Tally RunFault → Type 0 = λ x. LeavesEvents (map piece) left left' w w1 e e1 unflushed (ReadsFewer reads reads2) bs x in
             subst P (sym same) (by piece (ran.wrote piece gives).written bs step f (ends.1 ran.sound)),
       )
     where
@@ -213,7 +213,7 @@ module _ (is_piece : StreamEvent → Piece → Type 0) (left mid left' : Option 
       }
 
       by : (piece : StreamEvent → Piece) → WritesPieces w w1 e e1 (map piece ran.events) → (bs : List ℕ) → ReadsAndPasses left left' new_finder s' bs (ran.events ++ []) → (g : RunFault) → StopsFinder s' g
-          → RunsEvents (map piece) left left' w w1 e e1 unflushed (ReadsFewer reads reads2) bs (Err g)
+          → LeavesEvents (map piece) left left' w w1 e e1 unflushed (ReadsFewer reads reads2) bs (Err g)
       by piece written bs step Read so = stopped piece written bs step Read so
       by piece written bs step InputTooLong so = stopped piece written bs step InputTooLong so.0
       by piece written bs step Write so = absurd so
@@ -221,8 +221,8 @@ module _ (is_piece : StreamEvent → Piece → Type 0) (left mid left' : Option 
 
   -- the telling of an event was stopped
   pub stop-tell : (unflushed : Type 0) → unflushed → (w2 e2 : Option (List ℕ)) (event : Event) (takes : Bool) (write_event : Result Verdict RunFault) (f : RunFault) (r : Result Tally RunFault) → result ≡ Ok event → IsEvent event
-      → ((piece : StreamEvent → Piece) → GivesPieces is_piece piece → TellsPieces w1 w2 e1 e2 (map piece (events_of event)) write_event) → StopsPiece takes write_event → write_event ≡ Err f → r ≡ Err f
-      → (bs : List ℕ) × ((piece : StreamEvent → Piece) → GivesPieces is_piece piece → RunsEvents (map piece) left left' w w2 e e2 unflushed (ReadsFewer reads reads2) bs r)
+      → ((piece : StreamEvent → Piece) → GivesPieces is_piece piece → LeavesPieces w1 w2 e1 e2 (map piece (events_of event)) write_event) → StopsPiece takes write_event → write_event ≡ Err f → r ≡ Err f
+      → (bs : List ℕ) × ((piece : StreamEvent → Piece) → GivesPieces is_piece piece → LeavesEvents (map piece) left left' w w2 e e2 unflushed (ReadsFewer reads reads2) bs r)
   stop-tell unflushed kept w2 e2 event takes write_event f r is some tells stops fails same =
       let steps = rw is at next.steps in
       let bs = ran.octets ++ steps.0 in
@@ -232,11 +232,11 @@ module _ (is_piece : StreamEvent → Piece → Type 0) (left mid left' : Option 
       let one = told-one event some in (
         bs,
         λ piece gives.
-            let S : Result Verdict RunFault → Type 0 = λ x. TellsPieces w1 w2 e1 e2 (map piece (events_of event)) x in
+            let S : Result Verdict RunFault → Type 0 = λ x. LeavesPieces w1 w2 e1 e2 (map piece (events_of event)) x in
             let lines = subst S fails (tells piece gives) in
             let O : List StreamEvent → Type 0 = λ l. GrowsByPrefix w1 w2 (flat_map output_of (map piece l)) in
             let E : List StreamEvent → Type 0 = λ l. GrowsByPrefix e1 e2 (flat_map errors_of (map piece l)) in
-            let P : Result Tally RunFault → Type 0 = λ x. RunsEvents (map piece) left left' w w2 e e2 unflushed (ReadsFewer reads reads2) bs x in
+            let P : Result Tally RunFault → Type 0 = λ x. LeavesEvents (map piece) left left' w w2 e e2 unflushed (ReadsFewer reads reads2) bs x in
             subst P (sym same) (cut-by (map piece) left left' w w2 e e2 unflushed (ReadsFewer reads reads2) bs takes f (rw fails at stops) (record {
               read = step.read;
               ended = s'.ended;
@@ -283,11 +283,11 @@ module _ (is_piece : StreamEvent → Piece → Type 0) (left mid left' : Option 
 
     -- a flush failed
     pub stop-flush : (unflushed : Type 0) (f : RunFault) (r : Result Tally RunFault) → f ≡ Write → r ≡ Err f
-        → (bs : List ℕ) × ((piece : StreamEvent → Piece) → GivesPieces is_piece piece → RunsEvents (map piece) left left' w w2 e e2 unflushed (ReadsFewer reads reads2) bs r)
+        → (bs : List ℕ) × ((piece : StreamEvent → Piece) → GivesPieces is_piece piece → LeavesEvents (map piece) left left' w w2 e e2 unflushed (ReadsFewer reads reads2) bs r)
     stop-flush unflushed f r write same = (
       flushed.0,
       λ piece gives.
-          let P : Result Tally RunFault → Type 0 = λ x. RunsEvents (map piece) left left' w w2 e e2 unflushed (ReadsFewer reads reads2) flushed.0 x in
+          let P : Result Tally RunFault → Type 0 = λ x. LeavesEvents (map piece) left left' w w2 e e2 unflushed (ReadsFewer reads reads2) flushed.0 x in
           let done = flushed.1 piece gives in
           let all = map piece (scan flushed.0) in
           subst P (sym (same ∙ ap Err write)) (record {
@@ -311,7 +311,7 @@ module _ (is_piece : StreamEvent → Piece → Type 0) (left mid left' : Option 
 
 -- the octets that a reader tells are those that were read to its end
 pub all-known : (pieces_of : List StreamEvent → List Piece) (left left' w w' e e' : Option (List ℕ)) (unflushed early : Type 0) (r : Result Tally RunFault)
-    → ((bs : List ℕ) × RunsEvents pieces_of left left' w w' e e' unflushed early bs r) → IfOk r (λ tally. IfSome left (λ s. WritesPieces w w' e e' (pieces_of (scan s)) × Tallies tally (pieces_of (scan s))))
+    → ((bs : List ℕ) × LeavesEvents pieces_of left left' w w' e e' unflushed early bs r) → IfOk r (λ tally. IfSome left (λ s. WritesPieces w w' e e' (pieces_of (scan s)) × Tallies tally (pieces_of (scan s))))
 all-known pieces_of left left' w w' e e' unflushed early (Ok tally) (bs, done) =
     Consumes-whole left left' bs (λ s. WritesPieces w w' e e' (pieces_of (scan s)) × Tallies tally (pieces_of (scan s))) done.read done.end (done.written, done.tallies)
 all-known pieces_of left left' w w' e e' unflushed early (Err f) so = tt

@@ -1,38 +1,51 @@
 -- What a call of the program comes to. (a choice of this project)
 -- Cited by public contracts.
-use Rattle.std.specs.Prelude.{◌≡◌, ℕ, Bool, true, List, Option}
-use Rattle.std.specs.Io.KnownBytes.{Appends, Keeps}
-use Rattle.clap.specs.Words.{Kinds, Row, Text}
-use Rattle.bufr_frame.specs.declared.fault.RunFault.{RunFault}
-use Rattle.bufr_frame.specs.declared.fault.RunFault.TheVariants.{Memory}
+use Rattle.std.specs.Prelude.{◌≡◌, ℕ, true, List, string_bytes}
+use Rattle.std.specs.Io.KnownBytes.{Appends}
+use Rattle.clap.specs.Words.{Text, fault_of, subcommand_of}
+use Rattle.bufr_frame.specs.declared.fault.RunFault.TheVariants as fault
 use Rattle.bufr_text.specs.Writing.{GrowsByPrefix}
+use Rattle.bufr_cli.specs.Counting.{HasFailed, IsSame}
+use Rattle.bufr_cli.specs.Devices.{Writers}
+use Rattle.bufr_cli.specs.Ending.{WritesLine}
 use Rattle.bufr_cli.specs.Finish.{last_line, run_line, status_of}
-use Rattle.bufr_cli.specs.Line.{AsksHelp, IsJobOf, IsMistaken}
-use Rattle.bufr_cli.specs.Program.{RunsJob}
+use Rattle.bufr_cli.specs.Line.{IsJobOf, SaysWhy, bufr_app}
+use Rattle.bufr_cli.specs.Program.{Known, RunsJob}
 use Rattle.bufr_cli.specs.declared.outcome.Outcome.{Outcome}
 use Rattle.bufr_cli.specs.declared.job.Job.{Job}
+use Rattle.bufr_cli.specs.declared.job.LineFault.{LineFault}
+use Rattle.bufr_cli.specs.declared.job.LineFault.TheVariants.{Help, Usage, Memory}
 
--- Of words whose parse may fail by these kinds and meets this subcommand: its job was done, and its
--- outcome told by a last line (or a front of it) and the status; or help was asked for, written and
--- handed on, or a front of it was written; or the words are mistaken; or memory ran out before
--- there was a job.
+-- What comes of help that was asked for: it was written and handed on; or the output failed at it,
+-- and the last line says so.
+pub data WritesHelp (text : List ℕ) (before after : Writers) (status : ℕ) : Type 0 where
+  InWhole : Appends before.output.taken after.output.taken text
+      → after.output.all_flushed ≡ true → IsSame before.output after.output
+      → after.errors ≡ before.errors → status ≡ 0 → WritesHelp text before after status
+  InPart : GrowsByPrefix before.output.taken after.output.taken text
+      → HasFailed before.output after.output
+      → WritesLine before.errors after.errors (run_line fault.Write) → status ≡ 2
+      → WritesHelp text before after status
+
+-- what comes of a line without a job: nothing goes to the output but help
+abbrev pub AnswersFault : LineFault → (before after : Writers) → (status : ℕ) → Type 0
+AnswersFault (Help text) before after status = WritesHelp (string_bytes text) before after status
+AnswersFault (Usage text) before after status =
+    (after.output ≡ before.output) × WritesLine before.errors after.errors (string_bytes text)
+    × (status ≡ 2)
+AnswersFault Memory before after status =
+    (after.output ≡ before.output)
+    × WritesLine before.errors after.errors (run_line fault.Memory) × (status ≡ 2)
+
+-- Of the words of a line: its job was done, and then the last line and the status say how it came
+-- out; or there is no job, and that was answered.
 -- rule: status-of-help
-pub data RunsProgram (kinds : Kinds) (subcommand : Option (Text × List Row))
-    (standard : Option (List ℕ))
-    (named : List ℕ → Option (List ℕ))
-    (output output' errors errors' : Option (List ℕ)) (handed : Bool) (status : ℕ) : Type 0 where
-  Does : (job : Job) → IsJobOf subcommand job → (outcome : Outcome) → (between : Option (List ℕ))
-      → RunsJob standard named job output output' errors between outcome
-      → GrowsByPrefix between errors' (last_line outcome) → status ≡ status_of outcome
-      → RunsProgram kinds subcommand standard named output output' errors errors' handed status
-  Helps : AsksHelp kinds → (text : List ℕ) → Appends output output' text → handed ≡ true
-      → Keeps errors errors' → status ≡ 0
-      → RunsProgram kinds subcommand standard named output output' errors errors' handed status
-  HelpsInPart : AsksHelp kinds → (text : List ℕ) → GrowsByPrefix output output' text
-      → (fault : RunFault) → GrowsByPrefix errors errors' (run_line fault) → status ≡ 2
-      → RunsProgram kinds subcommand standard named output output' errors errors' handed status
-  Refuses : IsMistaken kinds subcommand → Keeps output output' → (text : List ℕ)
-      → GrowsByPrefix errors errors' text → status ≡ 2
-      → RunsProgram kinds subcommand standard named output output' errors errors' handed status
-  WantsMemory : Keeps output output' → GrowsByPrefix errors errors' (run_line Memory) → status ≡ 2
-      → RunsProgram kinds subcommand standard named output output' errors errors' handed status
+pub data RunsProgram (words : List Text) (inputs : Known) (before after : Writers)
+    (status : ℕ) : Type 0 where
+  Does : (job : Job) → IsJobOf (subcommand_of bufr_app words) job → (outcome : Outcome)
+      → (between : Writers) → RunsJob inputs job before between outcome
+      → after.output ≡ between.output
+      → WritesLine between.errors after.errors (last_line outcome) → status ≡ status_of outcome
+      → RunsProgram words inputs before after status
+  Answers : (why : LineFault) → SaysWhy (fault_of bufr_app words) (subcommand_of bufr_app words) why
+      → AnswersFault why before after status → RunsProgram words inputs before after status

@@ -5,8 +5,9 @@ use Rattle.std.specs.Io.KnownBytes.{Consumes}
 use Rattle.bufr_frame.specs.declared.fault.RunFault.{RunFault}
 use Rattle.bufr_frame.specs.declared.fault.RunFault.TheVariants.{Read, Write, InputTooLong, Memory}
 use Rattle.bufr_text.specs.Documents.{ParseResult, documents_of, open_documents_of}
+use Rattle.bufr_cli.specs.Devices.{Input, Writers}
 use Rattle.bufr_cli.specs.Pieces.{Piece, is_refused}
-use Rattle.bufr_cli.specs.Running.{WritesPieces, WrittenInPart, Tallies}
+use Rattle.bufr_cli.specs.Running.{AreUnflushed, WritesPieces, WrittenInPart, Tallies}
 use Rattle.bufr_cli.specs.declared.tally.Tally.{Tally}
 
 -- what the octets that were read spell: to their end, where it was reached
@@ -51,17 +52,31 @@ pub record EncodeCut (pieces_of : List ParseResult → List Piece)
       → WritesPieces output output' errors errors' (pieces_of (documents_of (bs ++ t)))
 
 -- what a run leaves that reads these octets; where memory is wanted no document before was refused
-abbrev pub RunsEncode : (pieces_of : List ParseResult → List Piece)
+abbrev pub LeavesDocuments : (pieces_of : List ParseResult → List Piece)
     → (left left' output output' errors errors' : Option (List ℕ))
     → (unflushed : Type 0) → List ℕ → Result Tally RunFault → Type 0
-RunsEncode pieces_of left left' output output' errors errors' unflushed bs (Ok tally) =
+LeavesDocuments pieces_of left left' output output' errors errors' unflushed bs (Ok tally) =
     EncodeDone pieces_of left left' output output' errors errors' bs tally
-RunsEncode pieces_of left left' output output' errors errors' unflushed bs (Err Read) =
+LeavesDocuments pieces_of left left' output output' errors errors' unflushed bs (Err Read) =
     EncodeStopped pieces_of left left' output output' errors errors' bs
-RunsEncode pieces_of left left' output output' errors errors' unflushed bs (Err InputTooLong) =
+LeavesDocuments pieces_of left left' output output' errors errors' unflushed bs (Err InputTooLong) =
     EncodeStopped pieces_of left left' output output' errors errors' bs
-RunsEncode pieces_of left left' output output' errors errors' unflushed bs (Err Memory) =
+LeavesDocuments pieces_of left left' output output' errors errors' unflushed bs (Err Memory) =
     (cut : EncodeCut pieces_of left left' output output' errors errors' unflushed bs)
     × (count_by is_refused cut.written.given ≡ 0)
-RunsEncode pieces_of left left' output output' errors errors' unflushed bs (Err Write) =
+LeavesDocuments pieces_of left left' output output' errors errors' unflushed bs (Err Write) =
     EncodeCut pieces_of left left' output output' errors errors' unflushed bs
+
+-- what a run leaves of its input and of its writers that reads these octets
+abbrev pub RunsEncode : (pieces_of : List ParseResult → List Piece) → (from to : Input)
+    → (before after : Writers) → List ℕ → Result Tally RunFault → Type 0
+RunsEncode pieces_of from to before after bs result =
+    LeavesDocuments pieces_of from.left to.left before.output.taken after.output.taken
+    before.errors.taken after.errors.taken (AreUnflushed before after) bs result
+
+-- the same before anything is flushed
+abbrev pub EncodesSoFar : (pieces_of : List ParseResult → List Piece) → (from to : Input)
+    → (before after : Writers) → List ℕ → Result Tally RunFault → Type 0
+EncodesSoFar pieces_of from to before after bs result =
+    LeavesDocuments pieces_of from.left to.left before.output.taken after.output.taken
+    before.errors.taken after.errors.taken (Unit {0}) bs result

@@ -8,27 +8,35 @@ use Rattle.bufr_text.specs.Documents.{ParseResult}
 use Rattle.bufr_text.specs.Reader.{parse_results}
 use Rattle.bufr_text.specs.declared.fault.ReadFault.{ReadFault}
 use Rattle.bufr_text.specs.declared.fault.ReadFault.TheVariants.{Run}
+use Rattle.bufr_cli.specs.Devices.{Writers}
 use Rattle.bufr_cli.specs.Pieces.{Piece}
-use Rattle.bufr_cli.specs.WritingPieces.{TellsPieces}
+use Rattle.bufr_cli.specs.WritingPieces.{LeavesPieces}
 use Rattle.bufr_cli.specs.declared.tally.Verdict.{Verdict}
 
 -- the piece of what the reader told was written and counted, or a front of it; at the end of the
 -- text there is none
-abbrev pub TellsNext : (output output' errors errors' : Option (List ℕ)) → (ParseResult → Piece)
+abbrev pub LeavesNext : (output output' errors errors' : Option (List ℕ)) → (ParseResult → Piece)
     → Result (Option Document) ReadFault → Result (Option Verdict) RunFault → Type 0
-TellsNext output output' errors errors' piece next (Ok None) =
+LeavesNext output output' errors errors' piece next (Ok None) =
     (next ≡ Ok None) × (output' ≡ output) × (errors' ≡ errors)
-TellsNext output output' errors errors' piece next (Ok (Some verdict)) =
+LeavesNext output output' errors errors' piece next (Ok (Some verdict)) =
     (x : ParseResult) × (parse_results next ≡ x ∷ [])
-    × TellsPieces output output' errors errors' (piece x ∷ []) (Ok verdict)
-TellsNext output output' errors errors' piece next (Err Read) =
+    × LeavesPieces output output' errors errors' (piece x ∷ []) (Ok verdict)
+LeavesNext output output' errors errors' piece next (Err Read) =
     (next ≡ Err (Run Read)) × (output' ≡ output) × (errors' ≡ errors)
-TellsNext output output' errors errors' piece next (Err InputTooLong) =
+LeavesNext output output' errors errors' piece next (Err InputTooLong) =
     (next ≡ Err (Run InputTooLong)) × (output' ≡ output) × (errors' ≡ errors)
-TellsNext output output' errors errors' piece next (Err Write) =
+LeavesNext output output' errors errors' piece next (Err Write) =
     (x : ParseResult) × (parse_results next ≡ x ∷ [])
-    × TellsPieces output output' errors errors' (piece x ∷ []) (Err Write)
-TellsNext output output' errors errors' piece next (Err Memory) =
+    × LeavesPieces output output' errors errors' (piece x ∷ []) (Err Write)
+LeavesNext output output' errors errors' piece next (Err Memory) =
     ((next ≡ Err (Run Memory)) × (output' ≡ output) × (errors' ≡ errors))
     ⊎ ((x : ParseResult) × (parse_results next ≡ x ∷ [])
-    × TellsPieces output output' errors errors' (piece x ∷ []) (Err Memory))
+    × LeavesPieces output output' errors errors' (piece x ∷ []) (Err Memory))
+
+-- the same of two writers
+abbrev pub TellsNext : (before after : Writers) → (ParseResult → Piece)
+    → Result (Option Document) ReadFault → Result (Option Verdict) RunFault → Type 0
+TellsNext before after piece next result =
+    LeavesNext before.output.taken after.output.taken before.errors.taken after.errors.taken
+    piece next result

@@ -2,6 +2,8 @@
 pub mod Corrected
 -- which writer a fault is of, by what the writers count
 pub mod Counting
+-- what an input and the writers have counted at one time
+pub mod Devices
 -- the fault lines of a document, each with the line of the text
 pub mod DocumentLine
 -- what `dump` writes for an event: its text, or the line of the fault that comes first
@@ -26,6 +28,8 @@ pub mod WritingPieces
 pub mod Whole
 -- what a call of the program comes to: a job done and told, help, a mistaken line
 pub mod Calling
+-- how a run of the program ended, and what is flushed after it
+pub mod Ending
 -- the last line of a call, and its exit status
 pub mod Finish
 -- the command line, as clap reads it: commands, options, which job is meant, which fault

@@ -1,6 +1,6 @@
 -- The command line of `bufr`, as clap reads it. (a choice of this project)
 -- Cited by public contracts.
-use Rattle.std.specs.Prelude.{◌≡◌, ◌≢◌, ◌⊎◌, ℕ, List, Option, Some, None, true, codes, option_map}
+use Rattle.std.specs.Prelude.{◌≡◌, ◌≢◌, ◌⊎◌, ℕ, List, ◌++◌, Option, Some, None, true, codes, option_map}
 use Rattle.clap.specs.Words.{App, IsAmong, Kinds, Row, Rule, Text, first_of, new_app, new_rule, with_rule, with_subcommand}
 use Rattle.clap.specs.declared.error.kind.ErrorKind.{ErrorKind}
 use Rattle.clap.specs.declared.error.kind.ErrorKind.TheVariants.{DisplayHelp, DisplayVersion, OutOfMemory}
@@ -102,6 +102,14 @@ abbrev pub IsWhyNoJob : Text → List Row → NoJob → Type 0
 IsWhyNoJob name rows UnknownCommand = (command : Subcommand) → ¬ (name ≡ name_of command)
 IsWhyNoJob name rows MissingTable = ((name ≡ codes "dump") ⊎ (name ≡ codes "encode")) × LacksTables rows
 IsWhyNoJob name rows UnknownForm = (name ≡ codes "encode") × LacksForm rows
+
+-- the usage text of a subcommand that gives no job
+abbrev pub no_job_text : NoJob → Text
+no_job_text UnknownCommand = codes "error: no command\n"
+no_job_text MissingTable = codes "error: -B or -D is missing\n"
+no_job_text UnknownForm =
+    codes "error: invalid value for '--form <WORD>'\n"
+    ++ codes "  [possible values: plain, compressed]\n\nFor more information, try '--help'.\n"
 
 -- the tables that a command reads
 abbrev pub tables_asked : Subcommand → Option TableNames

@@ -8,6 +8,7 @@ use Rattle.bufr_frame.specs.Scan.{StreamEvent, scan, open_scan}
 use Rattle.bufr_frame.specs.declared.fault.RunFault.{RunFault}
 use Rattle.bufr_frame.specs.declared.fault.RunFault.TheVariants.{Read, Write, InputTooLong, Memory}
 use Rattle.bufr_text.specs.Writing.{GrowsByPrefix}
+use Rattle.bufr_cli.specs.Devices.{Input, Writers}
 use Rattle.bufr_cli.specs.Pieces.{Piece, output_of, errors_of, is_accepted, is_refused}
 use Rattle.bufr_cli.specs.declared.tally.Tally.{Tally}
 
@@ -77,22 +78,35 @@ ReadsFewer reads reads' = (n : ℕ) × (n < max_reads) × (reads' ≡ counted re
 
 -- what a run leaves that reads these octets; memory is wanted where a piece was to be written, or
 -- early, before all of the reads were made
--- rule: fault-70
-abbrev pub RunsEvents : (pieces_of : List StreamEvent → List Piece)
+abbrev pub LeavesEvents : (pieces_of : List StreamEvent → List Piece)
     → (left left' output output' errors errors' : Option (List ℕ))
     → (unflushed early : Type 0) → List ℕ → Result Tally RunFault → Type 0
-RunsEvents pieces_of left left' output output' errors errors' unflushed early bs (Ok tally) =
+LeavesEvents pieces_of left left' output output' errors errors' unflushed early bs (Ok tally) =
     RunDone pieces_of left left' output output' errors errors' bs tally
-RunsEvents pieces_of left left' output output' errors errors' unflushed early bs (Err Read) =
+LeavesEvents pieces_of left left' output output' errors errors' unflushed early bs (Err Read) =
     RunStopped pieces_of left left' output output' errors errors' bs
-RunsEvents pieces_of left left' output output' errors errors' unflushed early bs
+LeavesEvents pieces_of left left' output output' errors errors' unflushed early bs
     (Err InputTooLong) =
     RunStopped pieces_of left left' output output' errors errors' bs
-RunsEvents pieces_of left left' output output' errors errors' unflushed early bs (Err Memory) =
+LeavesEvents pieces_of left left' output output' errors errors' unflushed early bs (Err Memory) =
     (cut : RunCut pieces_of left left' output output' errors errors' unflushed bs)
     × (cut.written.next ≡ None → early)
-RunsEvents pieces_of left left' output output' errors errors' unflushed early bs (Err Write) =
+LeavesEvents pieces_of left left' output output' errors errors' unflushed early bs (Err Write) =
     RunCut pieces_of left left' output output' errors errors' unflushed bs
+
+-- no writer was flushed
+abbrev pub AreUnflushed : (before after : Writers) → Type 0
+AreUnflushed before after =
+    (after.output.flushes ≡ before.output.flushes) × (after.errors.flushes ≡ before.errors.flushes)
+
+-- what a run leaves of its input and of its writers that reads these octets
+-- rule: fault-70
+abbrev pub RunsEvents : (pieces_of : List StreamEvent → List Piece) → (from to : Input)
+    → (before after : Writers) → List ℕ → Result Tally RunFault → Type 0
+RunsEvents pieces_of from to before after bs result =
+    LeavesEvents pieces_of from.left to.left before.output.taken after.output.taken
+    before.errors.taken after.errors.taken (AreUnflushed before after)
+    (ReadsFewer from.reads to.reads) bs result
 
 -- a run's pieces, each what its event is to put on the writers
 abbrev pub GivesPieces : (StreamEvent → Piece → Type 0) → (StreamEvent → Piece) → Type 0

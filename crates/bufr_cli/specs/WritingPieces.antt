@@ -4,6 +4,7 @@ use Rattle.std.specs.Prelude.{◌≡◌, ℕ, ◌+◌, Bool, true, false, List, 
 use Rattle.bufr_frame.specs.Runs.{MakesReads}
 use Rattle.bufr_frame.specs.declared.fault.RunFault.{RunFault}
 use Rattle.bufr_frame.specs.declared.fault.RunFault.TheVariants.{Read, Write, InputTooLong, Memory}
+use Rattle.bufr_cli.specs.Devices.{Writers}
 use Rattle.bufr_cli.specs.Pieces.{Piece, output_of, errors_of, is_accepted, is_refused}
 use Rattle.bufr_cli.specs.Running.{WritesPieces, ReadsAtMost}
 use Rattle.bufr_text.specs.Writing.{GrowsByPrefix}
@@ -28,16 +29,23 @@ tally_after tally verdict =
       refused = tally.refused + counted_refused verdict;
     }
 
--- pieces were written and counted, or a front of them, where a writer failed or memory was refused
-abbrev pub TellsPieces : (output output' errors errors' : Option (List ℕ)) → List Piece
+-- the texts of pieces were written and counted, or a front of them, where a writer failed or memory
+-- was refused
+abbrev pub LeavesPieces : (output output' errors errors' : Option (List ℕ)) → List Piece
     → Result Verdict RunFault → Type 0
-TellsPieces output output' errors errors' pieces (Ok verdict) =
+LeavesPieces output output' errors errors' pieces (Ok verdict) =
     WritesPieces output output' errors errors' pieces
     × (counted_accepted verdict ≡ count_by is_accepted pieces)
     × (counted_refused verdict ≡ count_by is_refused pieces)
-TellsPieces output output' errors errors' pieces (Err fault) =
+LeavesPieces output output' errors errors' pieces (Err fault) =
     GrowsByPrefix output output' (flat_map output_of pieces)
     × GrowsByPrefix errors errors' (flat_map errors_of pieces)
+
+-- the same of two writers
+abbrev pub TellsPieces : (before after : Writers) → List Piece → Result Verdict RunFault → Type 0
+TellsPieces before after pieces result =
+    LeavesPieces before.output.taken after.output.taken before.errors.taken after.errors.taken
+    pieces result
 
 -- a piece is stopped by a writer, or by want of memory where its text takes memory
 abbrev pub StopsPiece : (takes_memory : Bool) → Result Verdict RunFault → Type 0

@@ -10,6 +10,7 @@ ghost use Rattle.bufr_text.specs.EncodingFault.{number_of_document_fault, told_r
 ghost use Rattle.bufr_text.specs.Writing.{Writes};
 ghost use Rattle.bufr_cli.specs.DocumentLine.{document_line, item_fault_line, refusal_line, refused_line, walk_text};
 ghost use Rattle.bufr_cli.specs.Counting.{OnlyWrites};
+ghost use Rattle.bufr_cli.specs.Devices.{writer_of};
 
 use crate::fault_line::{name_of_template_fault, write_fault};
 use bufr_bits::Sink;
@@ -34,7 +35,7 @@ fn write_line<E: Sink>(
     requires short { length text.now + length digits.now ≤ 22 }
     ensures writes { Writes (E.taken e.old) (E.taken e.new)
         (document_line line number (text.now ∷ digits.now ∷ [])) result }
-    ensures counts { OnlyWrites E.failures E.empty_writes E.flushes e.old e.new result }
+    ensures counts { OnlyWrites (writer_of E.Sink e.old) (writer_of E.Sink e.new) result }
 {
     let mut laid = [0; LINE];
     let end = lay_text(b"\n", &mut laid, LINE);
@@ -54,7 +55,7 @@ fn write_descriptor_line<E: Sink>(
     requires short { length text.now ≤ 16 }
     ensures writes { Writes (E.taken e.old) (E.taken e.new)
         (document_line line number (text.now ∷ fxy_text fxy ∷ [])) result }
-    ensures counts { OnlyWrites E.failures E.empty_writes E.flushes e.old e.new result }
+    ensures counts { OnlyWrites (writer_of E.Sink e.old) (writer_of E.Sink e.new) result }
 {
     let digits = fxy.text();
     write_line(line, number, text, &digits, e)
@@ -71,7 +72,7 @@ fn write_expected<E: Sink>(
     requires { number ≡ number_of_document_fault (DocumentFault.WrongDescriptor line expected) }
     ensures writes { Writes (E.taken e.old) (E.taken e.new)
         (item_fault_line line (other_than expected)) result }
-    ensures counts { OnlyWrites E.failures E.empty_writes E.flushes e.old e.new result }
+    ensures counts { OnlyWrites (writer_of E.Sink e.old) (writer_of E.Sink e.new) result }
 {
     match expected {
         Expected::Item(fxy) => write_descriptor_line(line, number, b"expected ", fxy, e),
@@ -91,7 +92,7 @@ fn write_template<E: Sink>(
     requires numbered { number ≡ number_of_document_fault (DocumentFault.Template line fault.now) }
     ensures writes { Writes (E.taken e.old) (E.taken e.new)
         (refusal_line line (by_template fault.now)) result }
-    ensures counts { OnlyWrites E.failures E.empty_writes E.flushes e.old e.new result }
+    ensures counts { OnlyWrites (writer_of E.Sink e.old) (writer_of E.Sink e.new) result }
 {
     let (name, fxy) = name_of_template_fault(fault);
     let mut laid = [0; LINE];
@@ -114,7 +115,7 @@ fn write_walk_parts<E: Sink>(
 ) -> Result<(), RunFault>
     ensures writes { Writes (E.taken e.old) (E.taken e.new)
         (document_line line number (walk_text why fxy)) result }
-    ensures counts { OnlyWrites E.failures E.empty_writes E.flushes e.old e.new result }
+    ensures counts { OnlyWrites (writer_of E.Sink e.old) (writer_of E.Sink e.new) result }
 {
     let mut laid = [0; LINE];
     let end = lay_text(b"\n", &mut laid, LINE);
@@ -134,7 +135,7 @@ fn write_walk<E: Sink>(
     requires { number ≡ number_of_document_fault (DocumentFault.Walk line refusal) }
     ensures writes { Writes (E.taken e.old) (E.taken e.new)
         (item_fault_line line (walk_told refusal)) result }
-    ensures counts { OnlyWrites E.failures E.empty_writes E.flushes e.old e.new result }
+    ensures counts { OnlyWrites (writer_of E.Sink e.old) (writer_of E.Sink e.new) result }
 {
     let why = refusal.number();
     match &refusal {
@@ -156,7 +157,7 @@ pub fn write_document_fault<E: Sink>(fault: DocumentFault, e: &mut E) -> Result<
     requires template { (line : ℕ) → fault ≢ DocumentFault.Template line TemplateFault.Memory }
     ensures writes { IfSome (told_refusal fault) (λ refused.
         Writes (E.taken e.old) (E.taken e.new) (refusal_line refused.line refused.why) result) }
-    ensures counts { OnlyWrites E.failures E.empty_writes E.flushes e.old e.new result }
+    ensures counts { OnlyWrites (writer_of E.Sink e.old) (writer_of E.Sink e.new) result }
 {
     let number = fault.number();
     match &fault {
@@ -191,7 +192,7 @@ pub fn write_read_fault<E: Sink>(fault: ReadFault, e: &mut E) -> Result<(), RunF
         ∷ []
         → Writes (E.taken e.old) (E.taken e.new) (refused_line line why) result }
     ensures err { IfErr result (λ why. why ≡ RunFault.Write) }
-    ensures counts { OnlyWrites E.failures E.empty_writes E.flushes e.old e.new result }
+    ensures counts { OnlyWrites (writer_of E.Sink e.old) (writer_of E.Sink e.new) result }
 {
     let number = fault.number();
     match fault {

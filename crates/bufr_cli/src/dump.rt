@@ -2,13 +2,15 @@
 ghost use Rattle.std.specs.Prelude.{◌≡◌, ◌≢◌, ℕ, List, [], ◌∷◌, true, Ok, IfErr, IfOk, OnOk, IfSome, map};
 ghost use Rattle.bufr_frame.specs.Events.{events_of, IsEvent};
 ghost use Rattle.bufr_frame.specs.Runs.{read_failures_after};
-ghost use Rattle.bufr_frame.specs.Scan.{StreamEvent, FrameAt, StrayAt, scan};
+ghost use Rattle.bufr_frame.specs.Scan.{StreamEvent, scan};
 ghost use Rattle.bufr_walk.specs.Course.{next_item};
 ghost use Rattle.bufr_walk.specs.Outcome.{data_of, IsFault, IsReadingOf};
 ghost use Rattle.bufr_cli.specs.DumpPieces.{IsDataPiece, IsDumpPiece, IsMessagePiece};
 ghost use Rattle.bufr_cli.specs.Pieces.{Piece};
 ghost use Rattle.bufr_cli.specs.Counting.{BlamesWriter};
-ghost use Rattle.bufr_cli.specs.Running.{RunsEvents, WritesPieces, GivesPieces, ReadsAtMost, ReadsFewer, Tallies};
+ghost use Rattle.bufr_cli.specs.Devices.{input_of, writers_of};
+ghost use Rattle.bufr_cli.specs.Running.{RunsEvents, GivesPieces, ReadsAtMost};
+ghost use Rattle.bufr_cli.specs.Whole.{WritesAndCounts};
 ghost use Rattle.bufr_cli.specs.WritingPieces.{StopsPiece, TellsPieces};
 
 use crate::fault_line::{write_section_fault, write_stray, write_template_fault, write_walk_fault};
@@ -70,11 +72,11 @@ fn dump_data<W: Sink, E: Sink>(
     ensures same { cache.new ≡ cache.old }
     ensures tells { (piece : Piece)
         → IsDataPiece table.now offset message.now template.now piece
-        → TellsPieces (W.taken w.old) (W.taken w.new) (E.taken e.old) (E.taken e.new)
-        (piece ∷ []) result }
+        → TellsPieces (writers_of W.Sink w.old E.Sink e.old)
+        (writers_of W.Sink w.new E.Sink e.new) (piece ∷ []) result }
     ensures stops { StopsPiece true result }
-    ensures counts { BlamesWriter W.failures W.empty_writes w.old w.new E.failures E.empty_writes
-        e.old e.new result }
+    ensures counts { BlamesWriter (writers_of W.Sink w.old E.Sink e.old)
+        (writers_of W.Sink w.new E.Sink e.new) result }
     ensures output_flushes { W.flushes w.new ≡ W.flushes w.old }
     ensures errors_flushes { E.flushes e.new ≡ E.flushes e.old }
 {
@@ -108,11 +110,11 @@ fn dump_selected<W: Sink, E: Sink>(
     ensures same { cache.new ≡ cache.old }
     ensures tells { (piece : Piece)
         → IsMessagePiece templates.now.table_b templates.now.table_d offset (Ok message.now) piece
-        → TellsPieces (W.taken w.old) (W.taken w.new) (E.taken e.old) (E.taken e.new)
-        (piece ∷ []) result }
+        → TellsPieces (writers_of W.Sink w.old E.Sink e.old)
+        (writers_of W.Sink w.new E.Sink e.new) (piece ∷ []) result }
     ensures stops { StopsPiece true result }
-    ensures counts { BlamesWriter W.failures W.empty_writes w.old w.new E.failures E.empty_writes
-        e.old e.new result }
+    ensures counts { BlamesWriter (writers_of W.Sink w.old E.Sink e.old)
+        (writers_of W.Sink w.new E.Sink e.new) result }
     ensures output_flushes { W.flushes w.new ≡ W.flushes w.old }
     ensures errors_flushes { E.flushes e.new ≡ E.flushes e.old }
 {
@@ -139,13 +141,13 @@ fn dump_message<W: Sink, E: Sink>(
 ) -> Result<Verdict, RunFault>
     ensures tells { (piece : Piece)
         → IsMessagePiece templates.old.table_b templates.old.table_d offset (Ok message.now) piece
-        → TellsPieces (W.taken w.old) (W.taken w.new) (E.taken e.old) (E.taken e.new)
-        (piece ∷ []) result }
+        → TellsPieces (writers_of W.Sink w.old E.Sink e.old)
+        (writers_of W.Sink w.new E.Sink e.new) (piece ∷ []) result }
     ensures stops { StopsPiece true result }
     ensures table_b { templates.new.table_b ≡ templates.old.table_b }
     ensures table_d { templates.new.table_d ≡ templates.old.table_d }
-    ensures counts { BlamesWriter W.failures W.empty_writes w.old w.new E.failures E.empty_writes
-        e.old e.new result }
+    ensures counts { BlamesWriter (writers_of W.Sink w.old E.Sink e.old)
+        (writers_of W.Sink w.new E.Sink e.new) result }
     ensures output_flushes { W.flushes w.new ≡ W.flushes w.old }
     ensures errors_flushes { E.flushes e.new ≡ E.flushes e.old }
 {
@@ -169,13 +171,13 @@ fn dump_event<W: Sink, E: Sink>(
     requires { IsEvent event }
     ensures tells { (piece : StreamEvent → Piece)
         → GivesPieces (IsDumpPiece templates.old.table_b templates.old.table_d) piece
-        → TellsPieces (W.taken w.old) (W.taken w.new) (E.taken e.old) (E.taken e.new)
-        (map piece (events_of event.entry)) result }
+        → TellsPieces (writers_of W.Sink w.old E.Sink e.old)
+        (writers_of W.Sink w.new E.Sink e.new) (map piece (events_of event.entry)) result }
     ensures stops { StopsPiece true result }
     ensures table_b { templates.new.table_b ≡ templates.old.table_b }
     ensures table_d { templates.new.table_d ≡ templates.old.table_d }
-    ensures counts { BlamesWriter W.failures W.empty_writes w.old w.new E.failures E.empty_writes
-        e.old e.new result }
+    ensures counts { BlamesWriter (writers_of W.Sink w.old E.Sink e.old)
+        (writers_of W.Sink w.new E.Sink e.new) result }
     ensures output_flushes { W.flushes w.new ≡ W.flushes w.old }
     ensures errors_flushes { E.flushes e.new ≡ E.flushes e.old }
 {
@@ -256,25 +258,22 @@ pub fn run_dump<R: Source, W: Sink, E: Sink>(
     ensures whole { (piece : StreamEvent → Piece)
         → GivesPieces (IsDumpPiece table_b.now table_d.now)
         piece → IfOk result (λ tally. IfSome (R.left r.old) (λ s.
-        WritesPieces (W.taken w.old) (W.taken w.new) (E.taken e.old) (E.taken e.new)
-        (map piece (scan s))
-        × Tallies tally (map piece (scan s)))) }
+        WritesAndCounts (writers_of W.Sink w.old E.Sink e.old)
+        (writers_of W.Sink w.new E.Sink e.new) tally (map piece (scan s)))) }
     // The errors are flushed only where the output was before.
     ensures order { E.flushes e.new ≢ E.flushes e.old → W.all_flushed w.new ≡ true }
     ensures flushed { OnOk result ((W.all_flushed w.new ≡ true) × (E.all_flushed e.new ≡ true)) }
     // The same over the octets that were read, and what a fault leaves.
     ensures run { (bs : List ℕ)
         × ((piece : StreamEvent → Piece) → GivesPieces (IsDumpPiece table_b.now table_d.now) piece
-        → RunsEvents (map piece) (R.left r.old) (R.left r.new) (W.taken w.old) (W.taken w.new)
-        (E.taken e.old) (E.taken e.new)
-        ((W.flushes w.new ≡ W.flushes w.old) × (E.flushes e.new ≡ E.flushes e.old))
-        (ReadsFewer (R.reads r.old) (R.reads r.new)) bs result) }
+        → RunsEvents (map piece) (input_of R.Source r.old) (input_of R.Source r.new)
+        (writers_of W.Sink w.old E.Sink e.old) (writers_of W.Sink w.new E.Sink e.new) bs result) }
 
     // Each fault comes only where its device failed in this call.
     ensures reader { R.failures r.new ≡ read_failures_after (R.failures r.old) result }
     ensures reads { ReadsAtMost (R.reads r.old) (R.reads r.new) result }
-    ensures writers { BlamesWriter W.failures W.empty_writes w.old w.new E.failures E.empty_writes
-        e.old e.new result }
+    ensures writers { BlamesWriter (writers_of W.Sink w.old E.Sink e.old)
+        (writers_of W.Sink w.new E.Sink e.new) result }
 {
     let mut dumping = DumpRun {
         alloc,

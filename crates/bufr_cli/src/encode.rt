@@ -1,15 +1,17 @@
 //! `bufr encode`: writes the messages that a text spells.
 ghost use Rattle.std.specs.Prelude.{◌≡◌, ◌≢◌, ℕ, List, [], ◌∷◌, Ok, Err, true, IfErr, IfOk, OnOk, IfSome};
 ghost use Rattle.bufr_frame.specs.Runs.{read_failures_after};
-ghost use Rattle.bufr_text.specs.Documents.{Complete, documents_of};
+ghost use Rattle.bufr_text.specs.Documents.{Complete};
 ghost use Rattle.bufr_text.specs.Encoding.{encoding_in};
 ghost use Rattle.bufr_text.specs.EncodingFault.{IsDocumentRefusal, told_refusal};
 ghost use Rattle.bufr_text.specs.declared.form.Form.TheVariants.{AsWritten};
 ghost use Rattle.bufr_cli.specs.EncodePieces.{encode_pieces, told_piece};
-ghost use Rattle.bufr_cli.specs.EncodeRun.{RunsEncode};
+ghost use Rattle.bufr_cli.specs.EncodeRun.{EncodesSoFar, RunsEncode};
 ghost use Rattle.bufr_cli.specs.EncodeTelling.{TellsNext};
 ghost use Rattle.bufr_cli.specs.Counting.{BlamesWriter};
-ghost use Rattle.bufr_cli.specs.Running.{WritesPieces, ReadsAtMost, Tallies};
+ghost use Rattle.bufr_cli.specs.Devices.{input_of, writers_of};
+ghost use Rattle.bufr_cli.specs.Running.{ReadsAtMost};
+ghost use Rattle.bufr_cli.specs.Whole.{Encodes};
 ghost use Rattle.bufr_cli.specs.WritingPieces.{StopsPiece, TellsPieces};
 
 use crate::document_line::{write_document_fault, write_read_fault};
@@ -53,14 +55,15 @@ fn encode_one<W: Sink, E: Sink>(
     w: &mut W,
     e: &mut E,
 ) -> Result<Verdict, RunFault>
-    ensures tells { TellsPieces (W.taken w.old) (W.taken w.new) (E.taken e.old) (E.taken e.new)
+    ensures tells { TellsPieces (writers_of W.Sink w.old E.Sink e.old)
+        (writers_of W.Sink w.new E.Sink e.new)
         (told_piece form templates.old.table_b templates.old.table_d (Complete document.now) ∷ [])
         result }
     ensures stops { StopsPiece true result }
     ensures table_b { templates.new.table_b ≡ templates.old.table_b }
     ensures table_d { templates.new.table_d ≡ templates.old.table_d }
-    ensures counts { BlamesWriter W.failures W.empty_writes w.old w.new E.failures E.empty_writes
-        e.old e.new result }
+    ensures counts { BlamesWriter (writers_of W.Sink w.old E.Sink e.old)
+        (writers_of W.Sink w.new E.Sink e.new) result }
     ensures output_flushes { W.flushes w.new ≡ W.flushes w.old }
     ensures errors_flushes { E.flushes e.new ≡ E.flushes e.old }
 {
@@ -94,10 +97,11 @@ fn encode_next<W: Sink, E: Sink>(
     ensures reader { reader.new ≡ reader.old }
     ensures table_b { templates.new.table_b ≡ templates.old.table_b }
     ensures table_d { templates.new.table_d ≡ templates.old.table_d }
-    ensures tells { TellsNext (W.taken w.old) (W.taken w.new) (E.taken e.old) (E.taken e.new)
+    ensures tells { TellsNext (writers_of W.Sink w.old E.Sink e.old)
+        (writers_of W.Sink w.new E.Sink e.new)
         (told_piece form templates.old.table_b templates.old.table_d) next result }
-    ensures counts { BlamesWriter W.failures W.empty_writes w.old w.new E.failures E.empty_writes
-        e.old e.new result }
+    ensures counts { BlamesWriter (writers_of W.Sink w.old E.Sink e.old)
+        (writers_of W.Sink w.new E.Sink e.new) result }
     ensures output_flushes { W.flushes w.new ≡ W.flushes w.old }
     ensures errors_flushes { E.flushes e.new ≡ E.flushes e.old }
 {
@@ -128,14 +132,13 @@ fn encode_documents<R: Source, W: Sink, E: Sink>(
     table_d: &TableD,
     form: Form,
 ) -> Result<Tally, RunFault>
-    ensures run { (bs : List ℕ) × RunsEncode (encode_pieces form table_b.now table_d.now)
-        (R.left r.old) (R.left r.new) (W.taken w.old) (W.taken w.new)
-        (E.taken e.old) (E.taken e.new)
-        (Unit {0}) bs result }
+    ensures run { (bs : List ℕ) × EncodesSoFar (encode_pieces form table_b.now table_d.now)
+        (input_of R.Source r.old) (input_of R.Source r.new)
+        (writers_of W.Sink w.old E.Sink e.old) (writers_of W.Sink w.new E.Sink e.new) bs result }
     ensures reader { R.failures r.new ≡ read_failures_after (R.failures r.old) result }
     ensures reads { ReadsAtMost (R.reads r.old) (R.reads r.new) result }
-    ensures writers { BlamesWriter W.failures W.empty_writes w.old w.new E.failures E.empty_writes
-        e.old e.new result }
+    ensures writers { BlamesWriter (writers_of W.Sink w.old E.Sink e.old)
+        (writers_of W.Sink w.new E.Sink e.new) result }
     ensures output_flushes { W.flushes w.new ≡ W.flushes w.old }
     ensures errors_flushes { E.flushes e.new ≡ E.flushes e.old }
 {
@@ -189,24 +192,22 @@ pub fn run_encode_form<R: Source, W: Sink, E: Sink>(
     form: Form,
 ) -> Result<Tally, RunFault>
     // At `Ok` the writers hold exactly the pieces of the whole input, and the tally counts them.
-    ensures whole { IfOk result (λ tally. IfSome (R.left r.old) (λ s.
-        WritesPieces (W.taken w.old) (W.taken w.new) (E.taken e.old) (E.taken e.new)
-        (encode_pieces form table_b.now table_d.now (documents_of s))
-        × Tallies tally (encode_pieces form table_b.now table_d.now (documents_of s)))) }
+    ensures whole { IfOk result (λ tally. IfSome (R.left r.old)
+        (Encodes form table_b.now table_d.now (writers_of W.Sink w.old E.Sink e.old)
+        (writers_of W.Sink w.new E.Sink e.new) tally)) }
     // The errors are flushed only where the output was before.
     ensures order { E.flushes e.new ≢ E.flushes e.old → W.all_flushed w.new ≡ true }
     ensures flushed { OnOk result ((W.all_flushed w.new ≡ true) × (E.all_flushed e.new ≡ true)) }
     // The same over the octets that were read, and what a fault leaves.
     ensures run { (bs : List ℕ) × RunsEncode (encode_pieces form table_b.now table_d.now)
-        (R.left r.old) (R.left r.new) (W.taken w.old) (W.taken w.new)
-        (E.taken e.old) (E.taken e.new)
-        ((W.flushes w.new ≡ W.flushes w.old) × (E.flushes e.new ≡ E.flushes e.old)) bs result }
+        (input_of R.Source r.old) (input_of R.Source r.new)
+        (writers_of W.Sink w.old E.Sink e.old) (writers_of W.Sink w.new E.Sink e.new) bs result }
 
     // Each fault comes only where its device failed in this call.
     ensures reader { R.failures r.new ≡ read_failures_after (R.failures r.old) result }
     ensures reads { ReadsAtMost (R.reads r.old) (R.reads r.new) result }
-    ensures writers { BlamesWriter W.failures W.empty_writes w.old w.new E.failures E.empty_writes
-        e.old e.new result }
+    ensures writers { BlamesWriter (writers_of W.Sink w.old E.Sink e.old)
+        (writers_of W.Sink w.new E.Sink e.new) result }
 {
     let tally = encode_documents(alloc, r, w, e, table_b, table_d, form)?;
     flush(w)?;
@@ -239,24 +240,22 @@ pub fn run_encode<R: Source, W: Sink, E: Sink>(
     table_d: &TableD,
 ) -> Result<Tally, RunFault>
     // At `Ok` the writers hold exactly the pieces of the whole input, and the tally counts them.
-    ensures whole { IfOk result (λ tally. IfSome (R.left r.old) (λ s.
-        WritesPieces (W.taken w.old) (W.taken w.new) (E.taken e.old) (E.taken e.new)
-        (encode_pieces AsWritten table_b.now table_d.now (documents_of s))
-        × Tallies tally (encode_pieces AsWritten table_b.now table_d.now (documents_of s)))) }
+    ensures whole { IfOk result (λ tally. IfSome (R.left r.old)
+        (Encodes AsWritten table_b.now table_d.now (writers_of W.Sink w.old E.Sink e.old)
+        (writers_of W.Sink w.new E.Sink e.new) tally)) }
     // The errors are flushed only where the output was before.
     ensures order { E.flushes e.new ≢ E.flushes e.old → W.all_flushed w.new ≡ true }
     ensures flushed { OnOk result ((W.all_flushed w.new ≡ true) × (E.all_flushed e.new ≡ true)) }
     // The same over the octets that were read, and what a fault leaves.
     ensures run { (bs : List ℕ) × RunsEncode (encode_pieces AsWritten table_b.now table_d.now)
-        (R.left r.old) (R.left r.new) (W.taken w.old) (W.taken w.new)
-        (E.taken e.old) (E.taken e.new)
-        ((W.flushes w.new ≡ W.flushes w.old) × (E.flushes e.new ≡ E.flushes e.old)) bs result }
+        (input_of R.Source r.old) (input_of R.Source r.new)
+        (writers_of W.Sink w.old E.Sink e.old) (writers_of W.Sink w.new E.Sink e.new) bs result }
 
     // Each fault comes only where its device failed in this call.
     ensures reader { R.failures r.new ≡ read_failures_after (R.failures r.old) result }
     ensures reads { ReadsAtMost (R.reads r.old) (R.reads r.new) result }
-    ensures writers { BlamesWriter W.failures W.empty_writes w.old w.new E.failures E.empty_writes
-        e.old e.new result }
+    ensures writers { BlamesWriter (writers_of W.Sink w.old E.Sink e.old)
+        (writers_of W.Sink w.new E.Sink e.new) result }
 {
     run_encode_form(alloc, r, w, e, table_b, table_d, Form::AsWritten)
 }

@@ -7,6 +7,7 @@ ghost use Rattle.bufr_frame.specs.Numbers.{number_of_cause, number_of_section_fa
 ghost use Rattle.bufr_text.specs.Writing.{Writes, joined, joined_onto};
 ghost use Rattle.bufr_cli.specs.FaultLine.{fault_line, cause_text, section_fault_text, template_fault_text, walk_fault_text, spot_text};
 ghost use Rattle.bufr_cli.specs.Counting.{OnlyWrites};
+ghost use Rattle.bufr_cli.specs.Devices.{writer_of};
 
 use bufr_bits::Sink;
 use bufr_frame::{Cause, RunFault, SectionFault};
@@ -37,7 +38,7 @@ pub(crate) fn write_fault<E: Sink>(
     ensures writes { Writes (E.taken e.old) (E.taken e.new) (joined_onto
         (word.now ∷ decimal place ∷ codes ": " ∷ decimal number ∷ codes " " ∷ [])
         (drop end line.old)) result }
-    ensures counts { OnlyWrites E.failures E.empty_writes E.flushes e.old e.new result }
+    ensures counts { OnlyWrites (writer_of E.Sink e.old) (writer_of E.Sink e.new) result }
 {
     let end = lay_text(b" ", line, end);
     let end = lay_named(b": ", u16::from(number), line, end);
@@ -67,7 +68,7 @@ fn stray_text(cause: Cause) -> &'static [u8]
 pub fn write_stray<E: Sink>(offset: u64, cause: Cause, e: &mut E) -> Result<(), RunFault>
     ensures writes { Writes (E.taken e.old) (E.taken e.new)
         (fault_line offset (number_of_cause cause) (cause_text cause ∷ [])) result }
-    ensures counts { OnlyWrites E.failures E.empty_writes E.flushes e.old e.new result }
+    ensures counts { OnlyWrites (writer_of E.Sink e.old) (writer_of E.Sink e.new) result }
 {
     let mut line = [0; LINE];
     let end = lay_text(b"\n", &mut line, LINE);
@@ -113,7 +114,7 @@ pub fn write_section_fault<E: Sink>(
 ) -> Result<(), RunFault>
     ensures writes { Writes (E.taken e.old) (E.taken e.new)
         (fault_line offset (number_of_section_fault fault) (section_fault_text fault)) result }
-    ensures counts { OnlyWrites E.failures E.empty_writes E.flushes e.old e.new result }
+    ensures counts { OnlyWrites (writer_of E.Sink e.old) (writer_of E.Sink e.new) result }
 {
     let mut line = [0; LINE];
     let end = lay_section_fault(fault, &mut line);
@@ -156,7 +157,7 @@ pub fn write_template_fault<E: Sink>(
     ensures writes { Writes (E.taken e.old) (E.taken e.new)
         (fault_line offset (number_of_template_fault fault.now) (template_fault_text fault.now))
         result }
-    ensures counts { OnlyWrites E.failures E.empty_writes E.flushes e.old e.new result }
+    ensures counts { OnlyWrites (writer_of E.Sink e.old) (writer_of E.Sink e.new) result }
 {
     let (name, fxy) = name_of_template_fault(fault);
     let mut line = [0; LINE];
@@ -214,7 +215,7 @@ pub fn write_walk_fault<E: Sink>(offset: u64, fault: &WalkFault, e: &mut E) -> R
     requires { fault.now ≢ WalkFault.Memory }
     ensures writes { Writes (E.taken e.old) (E.taken e.new)
         (fault_line offset (number_of_walk_fault fault.now) (walk_fault_text fault.now)) result }
-    ensures counts { OnlyWrites E.failures E.empty_writes E.flushes e.old e.new result }
+    ensures counts { OnlyWrites (writer_of E.Sink e.old) (writer_of E.Sink e.new) result }
 {
     let (name, spot) = name_of_walk_fault(fault);
     let mut line = [0; SPOT_LINE];

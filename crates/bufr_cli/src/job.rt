@@ -4,7 +4,7 @@ ghost use Rattle.clap.specs.declared.builder.command.Command.TheViews.{out-Comma
 ghost use Rattle.clap.specs.Values.{kind_of};
 ghost use Rattle.clap.specs.Words.{app_of, fault_of, first_of, found_of, new_app, new_rule, rows_of, rule_of, subcommand_of, with_subcommand};
 ghost use Rattle.bufr_text.specs.declared.form.Form.{Form};
-ghost use Rattle.bufr_cli.specs.Line.{bufr_app, encode_app, form_rule, ls_app, name_of, table_rule, tables_app, top_app, word_of};
+ghost use Rattle.bufr_cli.specs.Line.{bufr_app, encode_app, form_rule, ls_app, name_of, no_job_text, table_rule, tables_app, top_app, word_of};
 ghost use Rattle.bufr_cli.specs.Line.{AreNamed, HasTables, IsJobOf, IsWhyNoJob, LacksForm, LacksTables, SaysWhy, TellsKind};
 
 use bufr_text::Form;
@@ -423,7 +423,9 @@ enum NoJob {
 
 impl NoJob {
     /// The usage text.
-    fn text(self) -> &'static str {
+    fn text(self) -> &'static str
+        ensures { result.now ≡ no_job_text self }
+    {
         match self {
             NoJob::UnknownCommand => "error: no command\n",
             NoJob::MissingTable => "error: -B or -D is missing\n",

@@ -3,6 +3,7 @@
 ghost use Rattle.std.specs.List.{AllByRecursion, concat};
 ghost use Rattle.std.specs.Prelude.{◌≡◌, List, ℕ, [], Option, Some};
 ghost use Rattle.bufr_cli.specs.Corrected.{IsDumpedInOneSpelling};
+ghost use Rattle.bufr_cli.specs.Devices.{holding};
 ghost use Rattle.bufr_cli.specs.DumpPieces.{IsDumpPiece};
 ghost use Rattle.bufr_cli.specs.Pieces.{Piece};
 ghost use Rattle.bufr_cli.specs.RoundTrip.{RoundTrips, IsWholeRound, IsCanonicalMessage, accepted_messages, rebuilt};
@@ -66,10 +67,11 @@ pub fn runs_close_the_round()
         (stream text messages lines again faults : List ℕ) (e e' : Option (List ℕ))
         (first second third : Tally)
         → AreRows records table_b → AllByRecursion IsOctet stream
-        → Dumps table_b table_d (Some []) (Some text) e e' first stream
-        → Encodes AsWritten table_b table_d (Some []) (Some messages) (Some [])
-        (Some lines) second text
-        → Dumps table_b table_d (Some []) (Some again) (Some []) (Some faults) third messages
+        → Dumps table_b table_d (holding (Some []) e) (holding (Some text) e') first stream
+        → Encodes AsWritten table_b table_d (holding (Some []) (Some []))
+        (holding (Some messages) (Some lines)) second text
+        → Dumps table_b table_d (holding (Some []) (Some []))
+        (holding (Some again) (Some faults)) third messages
         → IsWholeRound table_b table_d stream text messages lines again faults first second third }
 {}
 

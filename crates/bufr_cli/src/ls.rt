@@ -4,7 +4,9 @@ ghost use Rattle.bufr_frame.specs.Events.{events_of, IsEvent};
 ghost use Rattle.bufr_frame.specs.Runs.{read_failures_after, MakesReads};
 ghost use Rattle.bufr_cli.specs.Pieces.{ls_piece, ls_pieces};
 ghost use Rattle.bufr_cli.specs.Counting.{BlamesWriter};
-ghost use Rattle.bufr_cli.specs.Running.{RunsEvents, WritesPieces, ReadsFewer, Tallies};
+ghost use Rattle.bufr_cli.specs.Devices.{input_of, writers_of};
+ghost use Rattle.bufr_cli.specs.Running.{RunsEvents};
+ghost use Rattle.bufr_cli.specs.Whole.{WritesAndCounts};
 ghost use Rattle.bufr_cli.specs.WritingPieces.{StopsPiece, TellsPieces};
 
 use crate::fault_line::{write_section_fault, write_stray};
@@ -19,11 +21,11 @@ use std::alloc::Global;
 // rule: one-fault-a-message
 fn list_event<W: Sink, E: Sink>(event: Event<'_>, w: &mut W, e: &mut E) -> Result<Verdict, RunFault>
     requires { IsEvent event }
-    ensures tells { TellsPieces (W.taken w.old) (W.taken w.new) (E.taken e.old) (E.taken e.new)
-        (map ls_piece (events_of event.entry)) result }
+    ensures tells { TellsPieces (writers_of W.Sink w.old E.Sink e.old)
+        (writers_of W.Sink w.new E.Sink e.new) (map ls_piece (events_of event.entry)) result }
     ensures stops { StopsPiece false result }
-    ensures counts { BlamesWriter W.failures W.empty_writes w.old w.new E.failures E.empty_writes
-        e.old e.new result }
+    ensures counts { BlamesWriter (writers_of W.Sink w.old E.Sink e.old)
+        (writers_of W.Sink w.new E.Sink e.new) result }
     ensures output_flushes { W.flushes w.new ≡ W.flushes w.old }
     ensures errors_flushes { E.flushes e.new ≡ E.flushes e.old }
 {
@@ -94,23 +96,21 @@ pub fn run_ls<R: Source, W: Sink, E: Sink>(
 ) -> Result<Tally, RunFault>
     // At `Ok` the writers hold exactly the lines of the whole input, and the tally counts them.
     ensures whole { IfOk result (λ tally. IfSome (R.left r.old) (λ s.
-        WritesPieces (W.taken w.old) (W.taken w.new) (E.taken e.old) (E.taken e.new) (ls_pieces s)
-        × Tallies tally (ls_pieces s))) }
+        WritesAndCounts (writers_of W.Sink w.old E.Sink e.old)
+        (writers_of W.Sink w.new E.Sink e.new) tally (ls_pieces s))) }
     // The errors are flushed only where the output was before.
     ensures order { E.flushes e.new ≢ E.flushes e.old → W.all_flushed w.new ≡ true }
     ensures flushed { OnOk result ((W.all_flushed w.new ≡ true) × (E.all_flushed e.new ≡ true)) }
     // The same over the octets that were read, and what a fault leaves.
-    ensures run { (bs : List ℕ) × RunsEvents (map ls_piece) (R.left r.old) (R.left r.new)
-        (W.taken w.old)
-        (W.taken w.new) (E.taken e.old) (E.taken e.new)
-        ((W.flushes w.new ≡ W.flushes w.old) × (E.flushes e.new ≡ E.flushes e.old))
-        (ReadsFewer (R.reads r.old) (R.reads r.new)) bs result }
+    ensures run { (bs : List ℕ) × RunsEvents (map ls_piece) (input_of R.Source r.old)
+        (input_of R.Source r.new) (writers_of W.Sink w.old E.Sink e.old)
+        (writers_of W.Sink w.new E.Sink e.new) bs result }
 
     // Each fault comes only where its device failed in this call.
     ensures reader { R.failures r.new ≡ read_failures_after (R.failures r.old) result }
     ensures reads { MakesReads (R.reads r.old) (R.reads r.new) result }
-    ensures writers { BlamesWriter W.failures W.empty_writes w.old w.new E.failures E.empty_writes
-        e.old e.new result }
+    ensures writers { BlamesWriter (writers_of W.Sink w.old E.Sink e.old)
+        (writers_of W.Sink w.new E.Sink e.new) result }
 {
     run_events(alloc, &mut LsRun, r, w, e)
 }

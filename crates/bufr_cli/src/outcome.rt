@@ -4,6 +4,7 @@ ghost use Rattle.std.specs.Io.KnownBytes.{Appends};
 ghost use Rattle.bufr_text.specs.Writing.{GrowsByPrefix, Writes, part_text};
 ghost use Rattle.bufr_cli.specs.Finish.{last_line, numbered, run_fault_text, run_line, status_of, table_line};
 ghost use Rattle.bufr_cli.specs.Counting.{CountsCalls, IsSame};
+ghost use Rattle.bufr_cli.specs.Devices.{writer_of};
 
 use crate::tally::Tally;
 use bufr_bits::Sink;
@@ -57,7 +58,7 @@ fn status(outcome: &Outcome<'_>) -> u8
 fn write_cannot_open<E: Sink>(name: &str, e: &mut E) -> Result<(), RunFault>
     ensures writes { Writes (E.taken e.old) (E.taken e.new)
         (last_line (Outcome.CannotOpen name.entry)) result }
-    ensures counts { CountsCalls E.failures E.empty_writes e.old e.new result }
+    ensures counts { CountsCalls (writer_of E.Sink e.old) (writer_of E.Sink e.new) result }
 {
     let parts = [
         Part::Text(b"bufr: cannot open "),
@@ -71,7 +72,7 @@ fn write_cannot_open<E: Sink>(name: &str, e: &mut E) -> Result<(), RunFault>
 // rule: fault-70, fault-71, fault-72, fault-73
 fn write_run_fault<E: Sink>(fault: RunFault, e: &mut E) -> Result<(), RunFault>
     ensures writes { Writes (E.taken e.old) (E.taken e.new) (run_line fault) result }
-    ensures counts { CountsCalls E.failures E.empty_writes e.old e.new result }
+    ensures counts { CountsCalls (writer_of E.Sink e.old) (writer_of E.Sink e.new) result }
 {
     let parts = [
         Part::Text(b"bufr: "),
@@ -94,7 +95,7 @@ fn write_numbered<'a, E: Sink>(
 ) -> Result<(), RunFault>
     ensures writes { Writes (E.taken e.old) (E.taken e.new)
         (numbered table.entry.now number (text.entry.now ∷ part_text value.entry ∷ [])) result }
-    ensures counts { CountsCalls E.failures E.empty_writes e.old e.new result }
+    ensures counts { CountsCalls (writer_of E.Sink e.old) (writer_of E.Sink e.new) result }
 {
     let parts = [
         Part::Text(table),
@@ -112,7 +113,7 @@ fn write_numbered<'a, E: Sink>(
 fn write_table_fault<E: Sink>(table: &[u8], fault: &TableFault, e: &mut E) -> Result<(), RunFault>
     ensures writes { Writes (E.taken e.old) (E.taken e.new)
         (table_line table.now fault.now) result }
-    ensures counts { CountsCalls E.failures E.empty_writes e.old e.new result }
+    ensures counts { CountsCalls (writer_of E.Sink e.old) (writer_of E.Sink e.new) result }
 {
     let number = fault.number();
     match fault {
@@ -138,7 +139,7 @@ fn write_table_fault<E: Sink>(table: &[u8], fault: &TableFault, e: &mut E) -> Re
 // rule: status-of-usage
 fn write_last<E: Sink>(outcome: &Outcome<'_>, e: &mut E) -> Result<(), RunFault>
     ensures writes { Writes (E.taken e.old) (E.taken e.new) (last_line outcome.now) result }
-    ensures counts { CountsCalls E.failures E.empty_writes e.old e.new result }
+    ensures counts { CountsCalls (writer_of E.Sink e.old) (writer_of E.Sink e.new) result }
 {
     match outcome {
         Outcome::Ran(_) => Ok(()),
@@ -159,7 +160,7 @@ pub fn finish<E: Sink>(outcome: &Outcome<'_>, e: &mut E) -> u8
     // nothing.
     ensures front { GrowsByPrefix (E.taken e.old) (E.taken e.new) (last_line outcome.now) }
     ensures whole { E.failures e.old < 2 ^ 64 - 1 → E.empty_writes e.old < 2 ^ 64 - 1
-        → IsSame E.failures E.empty_writes e.old e.new
+        → IsSame (writer_of E.Sink e.old) (writer_of E.Sink e.new)
         → Appends (E.taken e.old) (E.taken e.new) (last_line outcome.now) }
 {
     let _ = write_last(outcome, e);

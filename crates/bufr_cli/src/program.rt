@@ -1,17 +1,15 @@
 //! The program below `main`: what it does with a command line, its inputs and its writers.
 ghost use Rattle.std.specs.Prelude.{◌≡◌, ℕ, true, List, Option, None, Ok, IfOk, IfErr, IfSome, OnOk, map};
-ghost use Rattle.std.specs.Io.KnownBytes.{Keeps};
-ghost use Rattle.clap.specs.Words.{fault_of, subcommand_of};
-ghost use Rattle.bufr_frame.specs.declared.fault.RunFault.{RunFault};
 ghost use Rattle.bufr_tables.specs.Chain.{ReadsTableD};
 ghost use Rattle.bufr_tables.specs.Records.{Record, records_of};
 ghost use Rattle.bufr_tables.specs.TableB.{AreRows, table_b_of};
 ghost use Rattle.bufr_text.specs.Writing.{Writes};
-ghost use Rattle.bufr_cli.specs.Calling.{RunsProgram};
-ghost use Rattle.bufr_cli.specs.Line.{bufr_app};
+ghost use Rattle.bufr_cli.specs.Calling.{AnswersFault, RunsProgram};
+ghost use Rattle.bufr_cli.specs.Counting.{BlamesWriter, CountsCalls};
+ghost use Rattle.bufr_cli.specs.Devices.{input_of, writer_of, writers_of};
+ghost use Rattle.bufr_cli.specs.Ending.{AreFlushed, BlamesInput, EndsRun, FlushesRest};
 ghost use Rattle.bufr_cli.specs.Program.{AreTables, AreUnread, DumpOutcome, EncodeOutcome, FileOutcome, IsClosed, RunsJob, RunOutcome};
-ghost use Rattle.bufr_cli.specs.Program.{TableBOutcome, TableDOutcome, WritesNothing, ran_outcome};
-ghost use Rattle.bufr_cli.specs.declared.tally.Tally.{Tally};
+ghost use Rattle.bufr_cli.specs.Program.{TableBOutcome, TableDOutcome, known, promise_of, ran_outcome};
 
 use crate::dump::run_dump;
 use crate::encode::run_encode_form;
@@ -20,7 +18,7 @@ use crate::ls::run_ls;
 use crate::outcome::{Outcome, finish};
 use crate::tally::Tally;
 use crate::whole_input::read_all;
-use bufr_bits::{Device, Sink};
+use bufr_bits::{Device, Sink, Source};
 use bufr_frame::RunFault;
 use bufr_tables::{TableB, TableD};
 use bufr_text::{Form, write_all};
@@ -77,24 +75,33 @@ pub fn run<'a, S: AsStr, I: Inputs, W: Sink, E: Sink>(
     w: &mut W,
     e: &mut E,
 ) -> u8
-    // What the words ask for was done and told, or help (all of it handed on), or why not; the
-    // status says which.
-    ensures { RunsProgram (fault_of bufr_app (map S.text words.entry.now))
-        (subcommand_of bufr_app (map S.text words.entry.now))
-        (I.standard_octets inputs.now) (I.file_octets inputs.now) (W.taken w.old) (W.taken w.new)
-        (E.taken e.old) (E.taken e.new) (W.all_flushed w.new) result }
+    // What the words ask for was done, or help was written and handed on, or the errors say why
+    // not; the status says which.
+    ensures { RunsProgram (map S.text words.entry.now)
+        (known (I.standard_octets inputs.now) (I.file_octets inputs.now))
+        (writers_of W.Sink w.old E.Sink e.old) (writers_of W.Sink w.new E.Sink e.new) result }
 {
     match parse_line(alloc, words) {
         Ok(job) => {
             let outcome = run_job(alloc, job, inputs, w, e);
             finish(&outcome, e)
         }
-        Err(LineFault::Help(text)) => match write_and_flush(text.as_bytes(), w) {
+        Err(fault) => answer_fault(fault, w, e),
+    }
+}
+
+/// Writes the help that was asked for, or why there is no job, and answers the exit status.
+fn answer_fault<W: Sink, E: Sink>(fault: LineFault, w: &mut W, e: &mut E) -> u8
+    ensures { AnswersFault fault (writers_of W.Sink w.old E.Sink e.old)
+        (writers_of W.Sink w.new E.Sink e.new) result }
+{
+    match fault {
+        LineFault::Help(text) => match write_and_flush(text.as_bytes(), w) {
             Ok(()) => 0,
             Err(fault) => finish(&Outcome::Run(fault), e),
         },
-        Err(LineFault::Usage(text)) => finish(&Outcome::Usage(text.as_str()), e),
-        Err(LineFault::Memory) => finish(&Outcome::Run(RunFault::Memory), e),
+        LineFault::Usage(text) => finish(&Outcome::Usage(text.as_str()), e),
+        LineFault::Memory => finish(&Outcome::Run(RunFault::Memory), e),
     }
 }
 
@@ -103,6 +110,7 @@ pub fn run<'a, S: AsStr, I: Inputs, W: Sink, E: Sink>(
 fn write_and_flush<W: Sink>(text: &[u8], w: &mut W) -> Result<(), RunFault>
     ensures writes { Writes (W.taken w.old) (W.taken w.new) text.now result }
     ensures handed { OnOk result (W.all_flushed w.new ≡ true) }
+    ensures counts { CountsCalls (writer_of W.Sink w.old) (writer_of W.Sink w.new) result }
 {
     write_all(text, w)?;
     match w.flush() {
@@ -119,12 +127,12 @@ fn run_job<'a, I: Inputs, W: Sink, E: Sink>(
     w: &mut W,
     e: &mut E,
 ) -> Outcome<'a>
-    ensures { RunsJob (I.standard_octets inputs.now) (I.file_octets inputs.now) job.entry
-        (W.taken w.old) (W.taken w.new) (E.taken e.old) (E.taken e.new) result }
+    ensures { RunsJob (known (I.standard_octets inputs.now) (I.file_octets inputs.now)) job.entry
+        (writers_of W.Sink w.old E.Sink e.old) (writers_of W.Sink w.new E.Sink e.new) result }
 {
     let Job { command, file } = job;
     match command {
-        Subcommand::Ls => run_input(alloc, &Lister, file, inputs, w, e),
+        Subcommand::Ls => run_input(alloc, Command::Ls, file, inputs, w, e),
         Subcommand::Dump(names) => dump_job(alloc, names, file, inputs, w, e),
         Subcommand::Encode(names, form) => encode_job(alloc, names, form, file, inputs, w, e),
     }
@@ -140,16 +148,14 @@ fn dump_job<'a, I: Inputs, W: Sink, E: Sink>(
     w: &mut W,
     e: &mut E,
 ) -> Outcome<'a>
-    ensures { DumpOutcome (I.standard_octets inputs.now) (I.file_octets inputs.now) names.entry
-        file.entry (W.taken w.old) (W.taken w.new) (E.taken e.old) (E.taken e.new) result }
+    ensures { DumpOutcome (known (I.standard_octets inputs.now) (I.file_octets inputs.now))
+        names.entry file.entry (writers_of W.Sink w.old E.Sink e.old)
+        (writers_of W.Sink w.new E.Sink e.new) result }
 {
     match read_tables(alloc, names, inputs) {
         Ok(tables) => {
-            let dumper = Dumper {
-                table_b: &tables.table_b,
-                table_d: &tables.table_d,
-            };
-            run_input(alloc, &dumper, file, inputs, w, e)
+            let command = Command::Dump(&tables.table_b, &tables.table_d);
+            run_input(alloc, command, file, inputs, w, e)
         }
         Err(outcome) => outcome,
     }
@@ -166,17 +172,14 @@ fn encode_job<'a, I: Inputs, W: Sink, E: Sink>(
     w: &mut W,
     e: &mut E,
 ) -> Outcome<'a>
-    ensures { EncodeOutcome (I.standard_octets inputs.now) (I.file_octets inputs.now) names.entry
-        form file.entry (W.taken w.old) (W.taken w.new) (E.taken e.old) (E.taken e.new) result }
+    ensures { EncodeOutcome (known (I.standard_octets inputs.now) (I.file_octets inputs.now))
+        names.entry form file.entry (writers_of W.Sink w.old E.Sink e.old)
+        (writers_of W.Sink w.new E.Sink e.new) result }
 {
     match read_tables(alloc, names, inputs) {
         Ok(tables) => {
-            let encoder = Encoder {
-                form,
-                table_b: &tables.table_b,
-                table_d: &tables.table_d,
-            };
-            run_input(alloc, &encoder, file, inputs, w, e)
+            let command = Command::Encode(form, &tables.table_b, &tables.table_d);
+            run_input(alloc, command, file, inputs, w, e)
         }
         Err(outcome) => outcome,
     }
@@ -316,69 +319,100 @@ fn outcome_of<'a>(ran: Result<Tally, RunFault>) -> Outcome<'a>
     }
 }
 
-/// What a command does with an input.
-trait Runner {
-    /// What holds of both writers, before and after, of the counts and of the input's octets where
-    /// the run went through.
-    ghost went_through: { Self → Option (List ℕ) → Option (List ℕ) → Option (List ℕ)
-        → Option (List ℕ) → Tally → List ℕ → Type 0 };
-
-    /// What holds of both writers, before and after, of the input's octets, where they are known,
-    /// and of the fault where one ended it.
-    ghost was_ended: { Self → Option (List ℕ) → Option (List ℕ) → Option (List ℕ) → Option (List ℕ)
-        → Option (List ℕ) → RunFault → Type 0 };
-
-    /// Runs over an input, and hands on what was written.
-    ///
-    /// # Errors
-    ///
-    /// Those of the command's run, and [`RunFault::Memory`] before anything is read.
-    fn run<R: Read + Drop, W: Sink, E: Sink>(
-        &self,
-        alloc: Global,
-        input: R,
-        w: &mut W,
-        e: &mut E,
-    ) -> Result<Tally, RunFault>
-        ensures whole { IfOk result (λ tally. IfSome (R.remaining input)
-            (went_through self.now (W.taken w.old) (W.taken w.new) (E.taken e.old)
-            (E.taken e.new) tally)) }
-        ensures ended { IfErr result
-            (was_ended self.now (W.taken w.old) (W.taken w.new) (E.taken e.old) (E.taken e.new)
-            (R.remaining input)) };
+/// A command with the tables that it needs.
+#[derive(Drop)]
+enum Command<'t> {
+    /// Lists the messages of an input.
+    Ls,
+    /// Dumps the messages of an input by these tables.
+    Dump(&'t TableB, &'t TableD),
+    /// Encodes the documents of an input in this form, by these tables.
+    Encode(Form, &'t TableB, &'t TableD),
 }
 
-/// Runs over a file, or over standard input.
+/// Runs a command over a file, or over standard input.
 // rule: dash-is-a-name
-fn run_input<'a, T: Runner, I: Inputs, W: Sink, E: Sink>(
+fn run_input<'a, I: Inputs, W: Sink, E: Sink>(
     alloc: Global,
-    runner: &T,
+    command: Command<'_>,
     file: Option<&'a str>,
     inputs: &I,
     w: &mut W,
     e: &mut E,
 ) -> Outcome<'a>
-    ensures { RunOutcome
-        (T.went_through runner.now (W.taken w.old) (W.taken w.new) (E.taken e.old) (E.taken e.new))
-        (T.was_ended runner.now (W.taken w.old) (W.taken w.new) (E.taken e.old) (E.taken e.new))
-        (WritesNothing (W.taken w.old) (W.taken w.new) (E.taken e.old) (E.taken e.new))
-        (I.standard_octets inputs.now) (I.file_octets inputs.now) file.entry result }
+    ensures { RunOutcome (promise_of command.entry)
+        (known (I.standard_octets inputs.now) (I.file_octets inputs.now)) file.entry
+        (writers_of W.Sink w.old E.Sink e.old) (writers_of W.Sink w.new E.Sink e.new) result }
 {
     match file {
-        None => outcome_of(runner.run(alloc, inputs.standard(), w, e)),
+        None => outcome_of(run_reader(alloc, command, inputs.standard(), w, e)),
         Some(name) => match open_file(name, inputs) {
-            Ok(input) => outcome_of(runner.run(alloc, input, w, e)),
+            Ok(input) => outcome_of(run_reader(alloc, command, input, w, e)),
             Err(outcome) => outcome,
         },
     }
 }
 
-/// Hands on what a run has written that a fault ended, and answers as the run did. Behind a fault
-/// of a write nothing is tried again; a run that went through has handed on all.
+/// Runs a command over what a reader gives, and flushes the rest.
+///
+/// # Errors
+///
+/// Those of [`run_command`], and [`RunFault::Memory`] before anything is read.
+fn run_reader<R: Read + Drop, W: Sink, E: Sink>(
+    alloc: Global,
+    command: Command<'_>,
+    input: R,
+    w: &mut W,
+    e: &mut E,
+) -> Result<Tally, RunFault>
+    ensures { EndsRun (promise_of command.entry) (R.remaining input)
+        (writers_of W.Sink w.old E.Sink e.old) (writers_of W.Sink w.new E.Sink e.new) result }
+{
+    let Ok(input) = BufReader::with_capacity(alloc, BUFFERED, input) else {
+        return Err(RunFault::Memory);
+    };
+    let mut input = Device::new(input);
+    let ran = run_command(alloc, command, &mut input, w, e);
+    flush_rest(ran, w)
+}
+
+/// Runs a command over an input.
+///
+/// # Errors
+///
+/// Those of the command's run.
+fn run_command<R: Source, W: Sink, E: Sink>(
+    alloc: Global,
+    command: Command<'_>,
+    r: &mut R,
+    w: &mut W,
+    e: &mut E,
+) -> Result<Tally, RunFault>
+    ensures whole { IfOk result (λ tally. IfSome (R.left r.old) ((promise_of command.entry).whole
+        (writers_of W.Sink w.old E.Sink e.old) (writers_of W.Sink w.new E.Sink e.new) tally)) }
+    ensures run { (promise_of command.entry).run (input_of R.Source r.old)
+        (input_of R.Source r.new) (writers_of W.Sink w.old E.Sink e.old)
+        (writers_of W.Sink w.new E.Sink e.new) result }
+    ensures flushed { OnOk result (AreFlushed (writers_of W.Sink w.new E.Sink e.new)) }
+    // Each fault comes only where its device failed in this call.
+    ensures input { BlamesInput (input_of R.Source r.old) (input_of R.Source r.new) result }
+    ensures writers { BlamesWriter (writers_of W.Sink w.old E.Sink e.old)
+        (writers_of W.Sink w.new E.Sink e.new) result }
+{
+    match command {
+        Command::Ls => run_ls(alloc, r, w, e),
+        Command::Dump(table_b, table_d) => run_dump(alloc, r, w, e, table_b, table_d),
+        Command::Encode(form, table_b, table_d) => {
+            run_encode_form(alloc, r, w, e, table_b, table_d, form)
+        }
+    }
+}
+
+/// Hands on what a run has written that a fault ended, and answers as the run did. After a fault of
+/// a write nothing is tried again; a run that went through has handed on all.
 fn flush_rest<W: Sink>(ran: Result<Tally, RunFault>, w: &mut W) -> Result<Tally, RunFault>
     ensures same { result ≡ ran }
-    ensures ok { OnOk ran (W.taken w.new ≡ W.taken w.old) }
-    ensures kept { Keeps (W.taken w.old) (W.taken w.new) }
+    ensures rest { FlushesRest (writer_of W.Sink w.old) (writer_of W.Sink w.new) ran }
 {
     match ran {
         Ok(_) | Err(RunFault::Write) => {}
@@ -387,96 +421,4 @@ fn flush_rest<W: Sink>(ran: Result<Tally, RunFault>, w: &mut W) -> Result<Tally,
         }
     }
     ran
-}
-
-/// Lists the messages of an input.
-struct Lister;
-
-impl Runner for Lister {
-    ghost use Rattle.std.specs.Prelude.{map};
-    ghost use Rattle.bufr_cli.specs.Pieces.{ls_piece, ls_pieces};
-    ghost use Rattle.bufr_cli.specs.Program.{RunLeft};
-    ghost use Rattle.bufr_cli.specs.Whole.{WritesAndCounts};
-
-    ghost went_through = { λ _ w w' e e' tally s. WritesAndCounts w w' e e' tally (ls_pieces s) };
-
-    ghost was_ended = { λ _. RunLeft (map ls_piece) };
-
-    fn run<R: Read + Drop, W: Sink, E: Sink>(
-        &self,
-        alloc: Global,
-        input: R,
-        w: &mut W,
-        e: &mut E,
-    ) -> Result<Tally, RunFault> {
-        let Ok(input) = BufReader::with_capacity(alloc, BUFFERED, input) else {
-            return Err(RunFault::Memory);
-        };
-        let mut input = Device::new(input);
-        let ran = run_ls(alloc, &mut input, w, e);
-        flush_rest(ran, w)
-    }
-}
-
-/// Dumps the messages of an input by these tables.
-#[derive(Drop)]
-struct Dumper<'b, 'd> {
-    table_b: &'b TableB,
-    table_d: &'d TableD,
-}
-
-impl<'b, 'd> Runner for Dumper<'b, 'd> {
-    ghost use Rattle.bufr_cli.specs.Program.{DumpLeftByAny, DumpsByAny};
-
-    ghost went_through = { λ d. DumpsByAny d.table_b.now d.table_d.now };
-
-    ghost was_ended = { λ d. DumpLeftByAny d.table_b.now d.table_d.now };
-
-    fn run<R: Read + Drop, W: Sink, E: Sink>(
-        &self,
-        alloc: Global,
-        input: R,
-        w: &mut W,
-        e: &mut E,
-    ) -> Result<Tally, RunFault> {
-        let Ok(input) = BufReader::with_capacity(alloc, BUFFERED, input) else {
-            return Err(RunFault::Memory);
-        };
-        let mut input = Device::new(input);
-        let ran = run_dump(alloc, &mut input, w, e, self.table_b, self.table_d);
-        flush_rest(ran, w)
-    }
-}
-
-/// Encodes the documents of an input by these tables, in this form.
-#[derive(Drop)]
-struct Encoder<'b, 'd> {
-    form: Form,
-    table_b: &'b TableB,
-    table_d: &'d TableD,
-}
-
-impl<'b, 'd> Runner for Encoder<'b, 'd> {
-    ghost use Rattle.bufr_cli.specs.Program.{EncodeLeft};
-    ghost use Rattle.bufr_cli.specs.Whole.{Encodes};
-
-    ghost went_through = { λ x. Encodes x.form x.table_b.now x.table_d.now };
-
-    ghost was_ended = { λ x. EncodeLeft x.form x.table_b.now x.table_d.now };
-
-    fn run<R: Read + Drop, W: Sink, E: Sink>(
-        &self,
-        alloc: Global,
-        input: R,
-        w: &mut W,
-        e: &mut E,
-    ) -> Result<Tally, RunFault> {
-        let Ok(input) = BufReader::with_capacity(alloc, BUFFERED, input) else {
-            return Err(RunFault::Memory);
-        };
-        let mut input = Device::new(input);
-        let (b, d) = (self.table_b, self.table_d);
-        let ran = run_encode_form(alloc, &mut input, w, e, b, d, self.form);
-        flush_rest(ran, w)
-    }
 }

@@ -7,7 +7,8 @@ ghost use Rattle.bufr_frame.specs.Runs.{read_failures_after};
 ghost use Rattle.bufr_frame.specs.Scan.{StreamEvent};
 ghost use Rattle.bufr_cli.specs.Pieces.{Piece};
 ghost use Rattle.bufr_cli.specs.Counting.{BlamesWriter, CountsCalls};
-ghost use Rattle.bufr_cli.specs.Running.{RunsEvents, GivesPieces, ReadsFewer};
+ghost use Rattle.bufr_cli.specs.Devices.{input_of, writer_of, writers_of};
+ghost use Rattle.bufr_cli.specs.Running.{RunsEvents, GivesPieces};
 ghost use Rattle.bufr_cli.specs.WritingPieces.{RunReads, StopsPiece, TellsPieces};
 
 use crate::tally::{Tally, Verdict};
@@ -38,14 +39,15 @@ pub trait EventWriter {
     ) -> Result<Verdict, RunFault>
         requires { IsEvent event }
         ensures tells { (piece : StreamEvent → Piece) → GivesPieces (is_piece self.old) piece
-            → TellsPieces (W.taken w.old) (W.taken w.new) (E.taken e.old) (E.taken e.new)
+            → TellsPieces (writers_of W.Sink w.old E.Sink e.old)
+            (writers_of W.Sink w.new E.Sink e.new)
             (map piece (events_of event.entry)) result }
         ensures stops { StopsPiece (takes_memory self.old) result }
         ensures same { (piece : StreamEvent → Piece) → GivesPieces (is_piece self.old) piece
             → GivesPieces (is_piece self.new) piece }
         ensures memory { takes_memory self.new ≡ takes_memory self.old }
-        ensures counts { BlamesWriter W.failures W.empty_writes w.old w.new E.failures
-            E.empty_writes e.old e.new result }
+        ensures counts { BlamesWriter (writers_of W.Sink w.old E.Sink e.old)
+            (writers_of W.Sink w.new E.Sink e.new) result }
         ensures output_flushes { W.flushes w.new ≡ W.flushes w.old }
         ensures errors_flushes { E.flushes e.new ≡ E.flushes e.old };
 }
@@ -56,7 +58,7 @@ pub(crate) fn flush<W: Sink>(w: &mut W) -> Result<(), RunFault>
     ensures flushes { W.flushes w.new ≡ counted (W.flushes w.old) 1 }
     ensures all_flushed { OnOk result (W.all_flushed w.new ≡ true) }
     ensures err { IfErr result (λ fault. fault ≡ RunFault.Write) }
-    ensures counts { CountsCalls W.failures W.empty_writes w.old w.new result }
+    ensures counts { CountsCalls (writer_of W.Sink w.old) (writer_of W.Sink w.new) result }
 {
     match w.flush() {
         Ok(()) => Ok(()),
@@ -83,14 +85,12 @@ pub fn run_events<T: EventWriter, R: Source, W: Sink, E: Sink>(
     ensures flushed { OnOk result ((W.all_flushed w.new ≡ true) × (E.all_flushed e.new ≡ true)) }
     ensures run { (bs : List ℕ)
         × ((piece : StreamEvent → Piece) → GivesPieces (T.is_piece teller.old) piece
-        → RunsEvents (map piece) (R.left r.old) (R.left r.new) (W.taken w.old) (W.taken w.new)
-        (E.taken e.old) (E.taken e.new)
-        ((W.flushes w.new ≡ W.flushes w.old) × (E.flushes e.new ≡ E.flushes e.old))
-        (ReadsFewer (R.reads r.old) (R.reads r.new)) bs result) }
+        → RunsEvents (map piece) (input_of R.Source r.old) (input_of R.Source r.new)
+        (writers_of W.Sink w.old E.Sink e.old) (writers_of W.Sink w.new E.Sink e.new) bs result) }
     ensures reader { R.failures r.new ≡ read_failures_after (R.failures r.old) result }
     ensures reads { RunReads (T.takes_memory teller.old) (R.reads r.old) (R.reads r.new) result }
-    ensures writers { BlamesWriter W.failures W.empty_writes w.old w.new E.failures E.empty_writes
-        e.old e.new result }
+    ensures writers { BlamesWriter (writers_of W.Sink w.old E.Sink e.old)
+        (writers_of W.Sink w.new E.Sink e.new) result }
 {
     let mut finder = Finder::new(alloc);
     let mut tally = Tally {
