@@ -1,5 +1,5 @@
 -- How many digits a number has.
-use Rattle.std.proofs.Common.{◌≡◌, ◌∙◌, ℕ, ◌+◌, ◌/◌, ◌^◌, ◌<◌, ◌≤◌, length, ap, arith, length-append}
+use Rattle.std.proofs.Common.{◌≡◌, ◌∙◌, ℕ, ◌+◌, ◌/◌, ◌^◌, ◌<◌, ◌≤◌, List, [], ◌∷◌, length, take, slice_set, ap, sym, arith, length-append}
 use Rattle.std.specs.Prelude.{decimal}
 use Rattle.std.proofs.lemmas.Fmt.{decimal_digit, decimal_step, length-decimal-le}
 
@@ -32,3 +32,8 @@ four_more_digits n long fits =
 
 pub at_most_20_digits : (n : ℕ) → n < 2 ^ 64 → length (decimal n) ≤ 20
 at_most_20_digits n fits = length-decimal-le 20 n (omega arith) (omega (arith, fits)) fits
+
+-- one digit fills one octet
+pub one_digit_filled : (free : List ℕ) (n : ℕ) → n < 10 → 1 ≤ length free → take 1 (slice_set free 0 (48 + n)) ≡ decimal n
+one_digit_filled [] n few some = absurd (omega arith)
+one_digit_filled (x ∷ free) n few some = sym (decimal_digit n few)

@@ -1,11 +1,12 @@
 -- The line of a message, from what a message answers.
-use Rattle.std.proofs.Common.{◌≡◌, ◌∙◌, ℕ, List, [], ◌∷◌, ◌++◌, ap, sym, refl, length, Option, Some, None, append_assoc}
-use Rattle.std.specs.Prelude.{is_some, option_map}
+use Rattle.std.proofs.Common.{◌≡◌, ◌∙◌, ℕ, ◌+◌, ◌-◌, ◌/◌, ◌%◌, ◌^◌, ◌<◌, ◌≤◌, List, [], ◌∷◌, ◌++◌, ap, sym, refl, inl, inr, arith, eq-zero-or-pos, length, length-append, Option, Some, None, append_assoc}
+use Rattle.std.specs.Prelude.{decimal, is_some, option_map, replicate}
+use Rattle.std.proofs.lemmas.Fmt.{decimal_digit, decimal_step, decimal_nonempty}
 use Rattle.bufr_frame.specs.Sections.{Sections}
 use Rattle.bufr_frame.specs.declared.head.Head.{Head}
 use Rattle.bufr_text.specs.Lines.{LineModel, Pushes}
 use Rattle.bufr_text.specs.LsLine.{category_texts, counts_texts, ls_line, origin_texts, tables_texts, time_texts}
-use Rattle.bufr_text.specs.Writing.{joined}
+use Rattle.bufr_text.specs.Writing.{joined, zero_padded}
 use Rattle.bufr_text.proofs.PushLemmas.{◌⨾◌, retold}
 
 pub is_some-map : {X Y : Type 0} (f : X → Y) (o : Option X) → is_some (option_map f o) ≡ is_some o
@@ -15,6 +16,27 @@ is_some-map f None = refl
 joined-append : (xs ys : List (List ℕ)) → joined xs ++ joined ys ≡ joined (xs ++ ys)
 joined-append [] ys = refl
 joined-append (x ∷ xs) ys = append_assoc x (joined xs) (joined ys) ∙ ap (λ l. x ++ l) (joined-append xs ys)
+
+-- no zero comes before two digits or more
+pub padded_long : (n : ℕ) → 10 ≤ n → n < 2 ^ 64 → zero_padded 2 n ≡ decimal n
+padded_long n long fits =
+    let some = decimal_nonempty (n / 10) (omega arith) in
+    let size : length (decimal n) ≡ length (decimal (n / 10)) + 1 = ap length (decimal_step n long fits) ∙ length-append _ _ in
+    let none : 2 - length (decimal n) ≡ 0 = omega (arith, size, some) in
+    ap (λ k. replicate k 48 ++ decimal n) none
+
+-- two digits
+pub padded_pair : (n : ℕ) → n < 100 → zero_padded 2 n ≡ (48 + n / 10) ∷ (48 + n % 10) ∷ []
+padded_pair n few = elim (eq-zero-or-pos (n - 9)) [
+  | inl z ↦
+      let one : n < 10 = omega (arith, z) in
+      let tens : n / 10 ≡ 0 = omega arith in
+      let ones : n % 10 ≡ n = omega arith in
+      ap (λ d. replicate (2 - length d) 48 ++ d) (decimal_digit n one) ∙ ap (λ k. (48 + k) ∷ (48 + n) ∷ []) (sym tens) ∙ ap (λ k. (48 + n / 10) ∷ (48 + k) ∷ []) (sym ones)
+  | inr g ↦
+      let two : 10 ≤ n = omega (arith, g) in
+      padded_long n two (omega arith) ∙ decimal_step n two (omega arith) ∙ ap (λ d. d ++ (48 + n % 10) ∷ []) (decimal_digit (n / 10) (omega arith))
+]
 
 -- texts were pushed, and then others
 joined_then : {a b c : LineModel} (xs ys : List (List ℕ)) → Pushes a (joined xs) b → Pushes b (joined ys) c → Pushes a (joined (xs ++ ys)) c

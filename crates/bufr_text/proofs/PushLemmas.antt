@@ -109,19 +109,19 @@ retold {a = a} {b = b} pushes is =
     let P : List ℕ → Type 0 = λ l. Pushes a l b in
     subst P is pushes
 
--- nothing was held, and a text was written
-moves_written : (a b : LineModel) (text : List ℕ) (r : Result Unit RunFault) → a.held ≡ [] → b.held ≡ [] → Writes a.taken b.taken text r → Moves a.taken b.taken (a.held ++ text) b.held r
-moves_written a b text (Ok x) none empty writes = rw (none, empty) (record { front = text; parts = sym (append-nil text); gains = writes })
-moves_written a b text (Err f) none empty writes = rw none writes
+-- what was held and a text were written
+moves_written : (a b : LineModel) (text : List ℕ) (r : Result Unit RunFault) → b.held ≡ [] → Writes a.taken b.taken (a.held ++ text) r → Moves a.taken b.taken (a.held ++ text) b.held r
+moves_written a b text (Ok x) empty writes = rw empty (record { front = a.held ++ text; parts = sym (append-nil (a.held ++ text)); gains = writes })
+moves_written a b text (Err f) empty writes = writes
 
 from_ok : (a b : LineModel) (text : List ℕ) (r : Result Unit RunFault) → true ≡ is_ok r → MovesOn a text b → PushesFrom r a text b
 from_ok a b text (Ok x) ok moves = moves
 from_ok a b text (Err f) ok moves = absurd (cc)
 
-pub writes_pushes : {a b : LineModel} {text : List ℕ} → true ≡ is_ok a.status → a.held ≡ [] → b.held ≡ [] → Writes a.taken b.taken text b.status → CountsWrites a.failures b.failures a.empty_writes b.empty_writes b.status
+pub writes_pushes : {a b : LineModel} {text : List ℕ} → true ≡ is_ok a.status → b.held ≡ [] → Writes a.taken b.taken (a.held ++ text) b.status → CountsWrites a.failures b.failures a.empty_writes b.empty_writes b.status
     → b.flushes ≡ a.flushes → b.sink ≡ a.sink → Pushes a text b
-writes_pushes {a = a} {b = b} {text = text} ok none empty writes counts flushes sink = record {
-  from = from_ok a b text a.status ok (record { moves = moves_written a b text b.status none empty writes; counts = counts });
+writes_pushes {a = a} {b = b} {text = text} ok empty writes counts flushes sink = record {
+  from = from_ok a b text a.status ok (record { moves = moves_written a b text b.status empty writes; counts = counts });
   flushes = flushes;
   sink = sink;
 }

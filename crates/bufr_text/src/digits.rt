@@ -27,12 +27,16 @@ pub(crate) fn count_digits(value: u64) -> usize
     count + 4
 }
 
-/// Fills a prefix with the digits of a number and returns how many; `None` where there is no room.
+/// Fills a prefix with the digits of a number (most have one) and returns how many; `None` where there is no room.
 #[inline(always)]
 pub(crate) fn fill_decimal(value: u64, free: &mut [u8]) -> Option<usize>
     ensures within { IfSome result (λ len. len ≤ length free.new) }
     ensures text { IfSome result (λ len. take len free.new ≡ decimal value) }
 {
+    if value < 10 && !free.is_empty() {
+        free[0] = b'0' + value as u8;
+        return Some(1);
+    }
     let len = count_digits(value);
     if len > free.len() {
         return None;

@@ -39,15 +39,42 @@ impl<'b, 'w, W: Sink> Model for LineWriter<'b, 'w, W> {
     ghost invariant = { λ a. a.len ≤ length a.octets.now };
 }
 
-/// Writes the octets before an index.
-fn write_prefix<W: Sink>(octets: &mut [u8], at: usize, w: &mut W) -> Result<(), RunFault>
+/// Writes the octets before an index, and then a text.
+#[inline(never)]
+fn write_after<W: Sink>(
+    octets: &mut [u8],
+    at: usize,
+    text: &[u8],
+    w: &mut W,
+) -> Result<(), RunFault>
     requires { at ≤ length octets.old }
-    ensures writes { Writes (W.taken w.old) (W.taken w.new) (take at octets.old) result }
+    ensures writes { Writes (W.taken w.old) (W.taken w.new) (take at octets.old ++ text.now)
+        result }
     ensures counts { CountsWrites (W.failures w.old) (W.failures w.new) (W.empty_writes w.old)
         (W.empty_writes w.new) result }
     ensures flushes { W.flushes w.new ≡ W.flushes w.old }
 {
-    write_all(&octets[..at], w)
+    write_all(&octets[..at], w)?;
+    write_all(text, w)
+}
+
+/// Writes the octets before an index, and then a number.
+#[inline(never)]
+fn write_decimal_after<W: Sink>(
+    octets: &mut [u8],
+    at: usize,
+    value: u64,
+    w: &mut W,
+) -> Result<(), RunFault>
+    requires { at ≤ length octets.old }
+    ensures writes { Writes (W.taken w.old) (W.taken w.new) (take at octets.old ++ decimal value)
+        result }
+    ensures counts { CountsWrites (W.failures w.old) (W.failures w.new) (W.empty_writes w.old)
+        (W.empty_writes w.new) result }
+    ensures flushes { W.flushes w.new ≡ W.flushes w.old }
+{
+    let mut buffer = Buffer::new();
+    write_after(octets, at, buffer.format(value).as_bytes(), w)
 }
 
 impl<'b, 'w, W: Sink> LineWriter<'b, 'w, W> {
@@ -69,16 +96,26 @@ impl<'b, 'w, W: Sink> LineWriter<'b, 'w, W> {
         }
     }
 
-    /// Writes what is held. Where a write fails, it is let go.
-    pub fn hand_on(&mut self)
-        ensures pushes { Pushes self.old [] self.new }
+    /// Writes what is held and a text after it. Where a write fails, both are let go.
+    #[inline(always)]
+    fn push_through(&mut self, octets: &[u8])
+        ensures pushes { Pushes self.old octets.now self.new }
         ensures none { self.new.held ≡ [] }
     {
         let len = self.len;
         self.len = 0;
         if self.status.is_ok() {
-            self.status = write_prefix(self.octets, len, self.w);
+            self.status = write_after(self.octets, len, octets, self.w);
         }
+    }
+
+    /// Writes what is held. Where a write fails, it is let go.
+    #[inline(always)]
+    pub fn hand_on(&mut self)
+        ensures pushes { Pushes self.old [] self.new }
+        ensures none { self.new.held ≡ [] }
+    {
+        self.push_through(b"");
     }
 
     /// Pushes octets.
@@ -87,21 +124,23 @@ impl<'b, 'w, W: Sink> LineWriter<'b, 'w, W> {
         ensures { Pushes self.old octets.now self.new }
     {
         if octets.len() <= self.octets.len() - self.len {
-            self.octets[self.len..self.len + octets.len()].copy_from_slice(octets);
-            self.len += octets.len();
+            let end = self.len + octets.len();
+            self.octets[self.len..end].copy_from_slice(octets);
+            self.len = end;
         } else {
             self.push_through(octets);
         }
     }
 
-    /// Pushes octets that do not fit after those that are held.
-    #[inline(never)]
-    fn push_through(&mut self, octets: &[u8])
-        ensures { Pushes self.old octets.now self.new }
+    /// Writes what is held and a number after it. Where a write fails, both are let go.
+    #[inline(always)]
+    fn push_decimal_through(&mut self, value: u64)
+        ensures { Pushes self.old (decimal value) self.new }
     {
-        self.hand_on();
+        let len = self.len;
+        self.len = 0;
         if self.status.is_ok() {
-            self.status = write_all(octets, self.w);
+            self.status = write_decimal_after(self.octets, len, value, self.w);
         }
     }
 
@@ -112,20 +151,12 @@ impl<'b, 'w, W: Sink> LineWriter<'b, 'w, W> {
     {
         match fill_decimal(value, &mut self.octets[self.len..]) {
             Some(len) => self.len += len,
-            None => self.push_wide_decimal(u128::from(value)),
+            None => self.push_decimal_through(value),
         }
     }
 
-    /// Pushes a number that may be 2^64 or more, as plain decimal digits.
-    #[inline(never)]
-    pub fn push_wide_decimal(&mut self, value: u128)
-        ensures { Pushes self.old (decimal value) self.new }
-    {
-        let mut buffer = Buffer::new();
-        self.push(buffer.format(value).as_bytes());
-    }
-
     /// Pushes digits `0`.
+    #[inline(always)]
     pub(crate) fn push_zeros(&mut self, count: usize)
         ensures { Pushes self.old (replicate count 48) self.new }
     {

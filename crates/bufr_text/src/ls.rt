@@ -1,14 +1,14 @@
 //! The line that lists a message.
-ghost use Rattle.std.specs.Prelude.{◌≡◌, is_some, length};
+ghost use Rattle.std.specs.Prelude.{◌≡◌, ◌∷◌, is_some, length};
 ghost use Rattle.bufr_text.specs.Lines.{Pushes};
 ghost use Rattle.bufr_text.specs.LsLine.{category_texts, counts_texts, ls_line, origin_texts, tables_texts, time_texts};
-ghost use Rattle.bufr_text.specs.Writing.{Writes, CountsWrites, joined};
+ghost use Rattle.bufr_text.specs.Writing.{Writes, CountsWrites, joined, zero_padded};
 
 use crate::line_writer::LineWriter;
 use bufr_bits::Sink;
 use bufr_frame::{Head, Message, RunFault};
 
-/// The octets in which the line is put together. The longest line has 275.
+/// The octets in which the line is put together. The longest line has 251.
 const LINE: usize = 320;
 
 /// Pushes where a message begins and where it comes from.
@@ -56,6 +56,18 @@ fn push_tables<W: Sink>(line: &mut LineWriter<'_, '_, W>, head: &Head)
     line.push_decimal(u64::from(head.local_version));
 }
 
+/// Pushes an octet and a number in at least two digits.
+#[inline(always)]
+fn push_pair<W: Sink>(line: &mut LineWriter<'_, '_, W>, before: u8, value: u8)
+    ensures { Pushes line.old (before ∷ zero_padded 2 value) line.new }
+{
+    if value < 100 {
+        return line.push(&[before, b'0' + value / 10, b'0' + value % 10]);
+    }
+    line.push(&[before]);
+    line.push_decimal(u64::from(value));
+}
+
 /// Pushes the time that section 1 says.
 #[inline(always)]
 fn push_time<W: Sink>(line: &mut LineWriter<'_, '_, W>, head: &Head)
@@ -63,16 +75,11 @@ fn push_time<W: Sink>(line: &mut LineWriter<'_, '_, W>, head: &Head)
 {
     line.push(b" time=");
     line.push_padded(u64::from(head.year), 4);
-    line.push(b"-");
-    line.push_padded(u64::from(head.month), 2);
-    line.push(b"-");
-    line.push_padded(u64::from(head.day), 2);
-    line.push(b"T");
-    line.push_padded(u64::from(head.hour), 2);
-    line.push(b":");
-    line.push_padded(u64::from(head.minute), 2);
-    line.push(b":");
-    line.push_padded(u64::from(head.second), 2);
+    push_pair(line, b'-', head.month);
+    push_pair(line, b'-', head.day);
+    push_pair(line, b'T', head.hour);
+    push_pair(line, b':', head.minute);
+    push_pair(line, b':', head.second);
 }
 
 /// Pushes how many subsets and descriptors a message has, and its flags.
