@@ -1,7 +1,10 @@
 //! Digits that fill a prefix of some octets, where there is room for them.
-ghost use Rattle.std.specs.Prelude.{◌≡◌, ◌≤◌, decimal, length, take, IfSome};
+ghost use Rattle.std.specs.Prelude.{◌≡◌, ◌≤◌, ◌++◌, decimal, length, take, IfSome};
 
 use itoa::write_digits;
+
+/// The digits of the longest number.
+const DIGITS: usize = 20;
 
 /// How many digits a number has.
 #[tactic(auto, using(crate::proofs::DigitLemmas::one_digit, crate::proofs::DigitLemmas::two_digits, crate::proofs::DigitLemmas::three_digits, crate::proofs::DigitLemmas::four_digits, crate::proofs::DigitLemmas::four_more_digits, crate::proofs::DigitLemmas::at_most_20_digits))]
@@ -41,6 +44,26 @@ pub(crate) fn fill_decimal(value: u64, free: &mut [u8]) -> Option<usize>
     if len > free.len() {
         return None;
     }
+    write_digits(value, free, len);
+    Some(len)
+}
+
+/// Fills a prefix with a name and the digits of a number after it, and returns how many octets
+/// these are; `None` where there is no room for each number of its type.
+#[inline(always)]
+pub(crate) fn fill_named(name: &[u8], value: u64, free: &mut [u8]) -> Option<usize>
+    ensures within { IfSome result (λ len. len ≤ length free.new) }
+    ensures text { IfSome result (λ len. take len free.new ≡ name.now ++ decimal value) }
+{
+    if name.len() + DIGITS > free.len() {
+        return None;
+    }
+    free[..name.len()].copy_from_slice(name);
+    if value < 10 {
+        free[name.len()] = b'0' + value as u8;
+        return Some(name.len() + 1);
+    }
+    let len = name.len() + count_digits(value);
     write_digits(value, free, len);
     Some(len)
 }

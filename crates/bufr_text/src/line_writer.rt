@@ -3,7 +3,7 @@ ghost use Rattle.std.specs.Prelude.{◌≡◌, ◌≤◌, ◌++◌, [], Ok, leng
 ghost use Rattle.bufr_text.specs.Lines.{Pushes};
 ghost use Rattle.bufr_text.specs.Writing.{Writes, CountsWrites, flag, zero_padded};
 
-use crate::digits::{count_digits, fill_decimal};
+use crate::digits::{count_digits, fill_decimal, fill_named};
 use crate::part::write_all;
 use bufr_bits::Sink;
 use bufr_frame::RunFault;
@@ -153,6 +153,26 @@ impl<'b, 'w, W: Sink> LineWriter<'b, 'w, W> {
             Some(len) => self.len += len,
             None => self.push_decimal_through(value),
         }
+    }
+
+    /// Pushes a name and a number after it.
+    #[inline(always)]
+    pub fn push_named(&mut self, name: &[u8], value: u64)
+        ensures { Pushes self.old (name.now ++ decimal value) self.new }
+    {
+        match fill_named(name, value, &mut self.octets[self.len..]) {
+            Some(len) => self.len += len,
+            None => self.push_named_through(name, value),
+        }
+    }
+
+    /// Writes what is held, a name and a number after it. Where a write fails, they are let go.
+    #[inline(always)]
+    fn push_named_through(&mut self, name: &[u8], value: u64)
+        ensures { Pushes self.old (name.now ++ decimal value) self.new }
+    {
+        self.push_through(name);
+        self.push_decimal_through(value);
     }
 
     /// Pushes digits `0`.

@@ -16,16 +16,11 @@ const LINE: usize = 320;
 fn push_origin<W: Sink>(line: &mut LineWriter<'_, '_, W>, offset: u64, size: u64, head: &Head)
     ensures { Pushes line.old (joined (origin_texts offset size head.now)) line.new }
 {
-    line.push(b"offset=");
-    line.push_decimal(offset);
-    line.push(b" length=");
-    line.push_decimal(size);
-    line.push(b" edition=");
-    line.push_decimal(u64::from(head.edition));
-    line.push(b" centre=");
-    line.push_decimal(u64::from(head.centre));
-    line.push(b"/");
-    line.push_decimal(u64::from(head.subcentre));
+    line.push_named(b"offset=", offset);
+    line.push_named(b" length=", size);
+    line.push_named(b" edition=", u64::from(head.edition));
+    line.push_named(b" centre=", u64::from(head.centre));
+    line.push_named(b"/", u64::from(head.subcentre));
 }
 
 /// Pushes what kind of data a message has.
@@ -33,14 +28,10 @@ fn push_origin<W: Sink>(line: &mut LineWriter<'_, '_, W>, offset: u64, size: u64
 fn push_category<W: Sink>(line: &mut LineWriter<'_, '_, W>, head: &Head)
     ensures { Pushes line.old (joined (category_texts head.now)) line.new }
 {
-    line.push(b" update=");
-    line.push_decimal(u64::from(head.update));
-    line.push(b" category=");
-    line.push_decimal(u64::from(head.category));
-    line.push(b"/");
-    line.push_decimal(u64::from(head.subcategory));
-    line.push(b"/");
-    line.push_decimal(u64::from(head.local_subcategory));
+    line.push_named(b" update=", u64::from(head.update));
+    line.push_named(b" category=", u64::from(head.category));
+    line.push_named(b"/", u64::from(head.subcategory));
+    line.push_named(b"/", u64::from(head.local_subcategory));
 }
 
 /// Pushes by which tables the data are written.
@@ -48,12 +39,9 @@ fn push_category<W: Sink>(line: &mut LineWriter<'_, '_, W>, head: &Head)
 fn push_tables<W: Sink>(line: &mut LineWriter<'_, '_, W>, head: &Head)
     ensures { Pushes line.old (joined (tables_texts head.now)) line.new }
 {
-    line.push(b" tables=");
-    line.push_decimal(u64::from(head.master));
-    line.push(b"/");
-    line.push_decimal(u64::from(head.master_version));
-    line.push(b"/");
-    line.push_decimal(u64::from(head.local_version));
+    line.push_named(b" tables=", u64::from(head.master));
+    line.push_named(b"/", u64::from(head.master_version));
+    line.push_named(b"/", u64::from(head.local_version));
 }
 
 /// Pushes an octet and a number in at least two digits.
@@ -89,16 +77,14 @@ fn push_counts<W: Sink>(line: &mut LineWriter<'_, '_, W>, message: &Message<'_>)
         message.now.compressed (is_some message.now.section2) (length message.now.descriptors)))
         line.new }
 {
-    line.push(b" subsets=");
-    line.push_decimal(u64::from(message.subsets()));
+    line.push_named(b" subsets=", u64::from(message.subsets()));
     line.push(b" observed=");
     line.push_flag(message.observed());
     line.push(b" compressed=");
     line.push_flag(message.compressed());
     line.push(b" optional=");
     line.push_flag(message.section2().is_some());
-    line.push(b" descriptors=");
-    line.push_decimal(message.descriptors().len() as u64);
+    line.push_named(b" descriptors=", message.descriptors().len() as u64);
     line.push(b"\n");
 }
 

@@ -7,5 +7,5 @@ pub returns : goal.returns
 returns g c =
     let count = c.len.ensures ∙ ap length c.descriptors.ensures in
     rw (← c.subsets.ensures, ← c.observed.ensures, ← c.compressed.ensures, ← c.section2.ensures, is_some-map, ← c.is_some.ensures, ← count, ← c.from.ensures)
-    (c.push.ensures ⨾ (c.push_decimal.ensures ⨾ (c.push-2.ensures ⨾ (c.push_flag.ensures ⨾ (c.push-3.ensures ⨾ (c.push_flag-2.ensures
-    ⨾ (c.push-4.ensures ⨾ (c.push_flag-3.ensures ⨾ (c.push-5.ensures ⨾ (c.push_decimal-2.ensures ⨾ (c.push-6.ensures ⨾ nothing_pushed)))))))))))
+    (c.push_named.ensures ⨾ (c.push.ensures ⨾ (c.push_flag.ensures ⨾ (c.push-2.ensures ⨾ (c.push_flag-2.ensures
+    ⨾ (c.push-3.ensures ⨾ (c.push_flag-3.ensures ⨾ (c.push_named-2.ensures ⨾ (c.push-4.ensures ⨾ nothing_pushed)))))))))
