@@ -1,6 +1,6 @@
 -- How many digits a number has.
-use Rattle.std.proofs.Common.{◌≡◌, ◌∙◌, ℕ, ◌+◌, ◌/◌, ◌^◌, ◌<◌, ◌≤◌, List, [], ◌∷◌, ◌++◌, length, take, drop, slice_set, ap, sym, arith, length-append, length-drop}
-use Rattle.std.proofs.lemmas.List.{take-append-drop, take_more_set}
+use Rattle.std.proofs.Common.{◌≡◌, ◌∙◌, ℕ, ◌+◌, ◌/◌, ◌^◌, ◌<◌, ◌≤◌, List, [], ◌∷◌, ◌++◌, length, take, drop, ap, sym, arith, length-append}
+use Rattle.std.proofs.lemmas.List.{take-append-drop}
 use Rattle.std.proofs.Math.Seq.{take-append_seam, take-append-add}
 use Rattle.std.specs.Prelude.{decimal}
 use Rattle.std.proofs.lemmas.Fmt.{decimal_digit, decimal_step, length-decimal-le}
@@ -35,23 +35,7 @@ four_more_digits n long fits =
 pub at_most_20_digits : (n : ℕ) → n < 2 ^ 64 → length (decimal n) ≤ 20
 at_most_20_digits n fits = length-decimal-le 20 n (omega arith) (omega (arith, fits)) fits
 
--- one digit fills one octet
-pub one_digit_filled : (free : List ℕ) (n : ℕ) → n < 10 → 1 ≤ length free → take 1 (slice_set free 0 (48 + n)) ≡ decimal n
-one_digit_filled [] n few some = absurd (omega arith)
-one_digit_filled (x ∷ free) n few some = sym (decimal_digit n few)
-
--- a name and a digit fill a front
-pub named_digit : (name copied free : List ℕ) (value : ℕ) → value < 10 → copied ≡ name → length name + 20 ≤ length free
-    → take (length name + 1) (slice_set (copied ++ drop (length name) free) (length name) (48 + value)) ≡ name ++ decimal value
-named_digit name copied free value few same room =
-    let rest = drop (length name) free in
-    let long : length name < length (name ++ rest) = omega (arith, length-append name rest, length-drop (length name) free, room) in
-    ap (λ l. take (length name + 1) (slice_set (l ++ rest) (length name) (48 + value))) same
-    ∙ take_more_set (name ++ rest) (length name) (48 + value) long
-    ∙ ap (λ l. l ++ (48 + value) ∷ []) (take-append_seam name rest)
-    ∙ ap (λ l. name ++ l) (sym (decimal_digit value few))
-
--- and a name and more digits
+-- a name and digits fill a front
 pub named_digits : (name copied free line : List ℕ) (value count start : ℕ) → copied ≡ name → count ≡ length (decimal value) → start + length (decimal value) ≡ length name + count
     → drop start line ≡ decimal value ++ drop (length name + count) (copied ++ drop (length name) free) → take start line ≡ take start (copied ++ drop (length name) free) → take (length name + count) line ≡ name ++ decimal value
 named_digits name copied free line value count start same digits sum written before =

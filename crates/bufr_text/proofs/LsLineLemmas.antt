@@ -1,5 +1,5 @@
 -- The line of a message, from what a message answers.
-use Rattle.std.proofs.Common.{◌≡◌, ◌∙◌, ℕ, ◌+◌, ◌-◌, ◌/◌, ◌%◌, ◌^◌, ◌<◌, ◌≤◌, List, [], ◌∷◌, ◌++◌, ap, sym, refl, inl, inr, arith, eq-zero-or-pos, length, length-append, Option, Some, None, append_assoc}
+use Rattle.std.proofs.Common.{◌≡◌, ◌∙◌, ℕ, ◌+◌, ◌-◌, ◌/◌, ◌^◌, ◌<◌, ◌≤◌, List, [], ◌∷◌, ◌++◌, ap, sym, refl, arith, length, length-append, Option, Some, None, append_assoc}
 use Rattle.std.specs.Prelude.{decimal, is_some, option_map, replicate}
 use Rattle.std.proofs.lemmas.Fmt.{decimal_digit, decimal_step, decimal_nonempty}
 use Rattle.bufr_frame.specs.Sections.{Sections}
@@ -25,18 +25,9 @@ padded_long n long fits =
     let none : 2 - length (decimal n) ≡ 0 = omega (arith, size, some) in
     ap (λ k. replicate k 48 ++ decimal n) none
 
--- two digits
-pub padded_pair : (n : ℕ) → n < 100 → zero_padded 2 n ≡ (48 + n / 10) ∷ (48 + n % 10) ∷ []
-padded_pair n few = elim (eq-zero-or-pos (n - 9)) [
-  | inl z ↦
-      let one : n < 10 = omega (arith, z) in
-      let tens : n / 10 ≡ 0 = omega arith in
-      let ones : n % 10 ≡ n = omega arith in
-      ap (λ d. replicate (2 - length d) 48 ++ d) (decimal_digit n one) ∙ ap (λ k. (48 + k) ∷ (48 + n) ∷ []) (sym tens) ∙ ap (λ k. (48 + n / 10) ∷ (48 + k) ∷ []) (sym ones)
-  | inr g ↦
-      let two : 10 ≤ n = omega (arith, g) in
-      padded_long n two (omega arith) ∙ decimal_step n two (omega arith) ∙ ap (λ d. d ++ (48 + n % 10) ∷ []) (decimal_digit (n / 10) (omega arith))
-]
+-- one zero comes before one digit
+pub padded_digit : (n : ℕ) → n < 10 → zero_padded 2 n ≡ 48 ∷ (48 + n) ∷ []
+padded_digit n few = ap (λ d. replicate (2 - length d) 48 ++ d) (decimal_digit n few)
 
 -- texts were pushed, and then others
 joined_then : {a b c : LineModel} (xs ys : List (List ℕ)) → Pushes a (joined xs) b → Pushes b (joined ys) c → Pushes a (joined (xs ++ ys)) c

@@ -1,5 +1,5 @@
 //! Digits that fill a prefix of some octets, where there is room for them.
-ghost use Rattle.std.specs.Prelude.{◌≡◌, ◌≤◌, ◌++◌, decimal, length, take, IfSome};
+ghost use Rattle.std.specs.Prelude.{◌≡◌, ◌≤◌, ◌+◌, ◌++◌, decimal, length, take, IfSome};
 
 use itoa::write_digits;
 
@@ -30,26 +30,24 @@ pub(crate) fn count_digits(value: u64) -> usize
     count + 4
 }
 
-/// Fills a prefix with the digits of a number (most have one) and returns how many; `None` where there is no room.
+/// Fills a prefix with a name and the digits of a number after it, of which there are so many, and
+/// returns how many octets these are.
 #[inline(always)]
-pub(crate) fn fill_decimal(value: u64, free: &mut [u8]) -> Option<usize>
-    ensures within { IfSome result (λ len. len ≤ length free.new) }
-    ensures text { IfSome result (λ len. take len free.new ≡ decimal value) }
+fn fill_digits(name: &[u8], value: u64, digits: usize, free: &mut [u8]) -> usize
+    requires digits { digits ≡ length (decimal value) }
+    requires room { length name.now + digits ≤ length free.old }
+    ensures within { result ≤ length free.new }
+    ensures text { take result free.new ≡ name.now ++ decimal value }
 {
-    if value < 10 && !free.is_empty() {
-        free[0] = b'0' + value as u8;
-        return Some(1);
-    }
-    let len = count_digits(value);
-    if len > free.len() {
-        return None;
-    }
+    free[..name.len()].copy_from_slice(name);
+    let len = name.len() + digits;
     write_digits(value, free, len);
-    Some(len)
+    len
 }
 
 /// Fills a prefix with a name and the digits of a number after it, and returns how many octets
 /// these are; `None` where there is no room for each number of its type.
+#[tactic(auto, using(crate::proofs::DigitLemmas::one_digit, crate::proofs::DigitLemmas::two_digits, crate::proofs::DigitLemmas::at_most_20_digits))]
 #[inline(always)]
 pub(crate) fn fill_named(name: &[u8], value: u64, free: &mut [u8]) -> Option<usize>
     ensures within { IfSome result (λ len. len ≤ length free.new) }
@@ -58,12 +56,12 @@ pub(crate) fn fill_named(name: &[u8], value: u64, free: &mut [u8]) -> Option<usi
     if name.len() + DIGITS > free.len() {
         return None;
     }
-    free[..name.len()].copy_from_slice(name);
+    // most numbers have one digit or two
     if value < 10 {
-        free[name.len()] = b'0' + value as u8;
-        return Some(name.len() + 1);
+        return Some(fill_digits(name, value, 1, free));
     }
-    let len = name.len() + count_digits(value);
-    write_digits(value, free, len);
-    Some(len)
+    if value < 100 {
+        return Some(fill_digits(name, value, 2, free));
+    }
+    Some(fill_digits(name, value, count_digits(value), free))
 }

@@ -3,7 +3,7 @@ ghost use Rattle.std.specs.Prelude.{◌≡◌, ◌≤◌, ◌++◌, [], Ok, leng
 ghost use Rattle.bufr_text.specs.Lines.{Pushes};
 ghost use Rattle.bufr_text.specs.Writing.{Writes, CountsWrites, flag, zero_padded};
 
-use crate::digits::{count_digits, fill_decimal, fill_named};
+use crate::digits::{count_digits, fill_named};
 use crate::part::write_all;
 use bufr_bits::Sink;
 use bufr_frame::RunFault;
@@ -39,6 +39,17 @@ impl<'b, 'w, W: Sink> Model for LineWriter<'b, 'w, W> {
     ghost invariant = { λ a. a.len ≤ length a.octets.now };
 }
 
+/// Writes the octets before an index.
+fn write_prefix<W: Sink>(octets: &mut [u8], at: usize, w: &mut W) -> Result<(), RunFault>
+    requires { at ≤ length octets.old }
+    ensures writes { Writes (W.taken w.old) (W.taken w.new) (take at octets.old) result }
+    ensures counts { CountsWrites (W.failures w.old) (W.failures w.new) (W.empty_writes w.old)
+        (W.empty_writes w.new) result }
+    ensures flushes { W.flushes w.new ≡ W.flushes w.old }
+{
+    write_all(&octets[..at], w)
+}
+
 /// Writes the octets before an index, and then a text.
 #[inline(never)]
 fn write_after<W: Sink>(
@@ -54,7 +65,7 @@ fn write_after<W: Sink>(
         (W.empty_writes w.new) result }
     ensures flushes { W.flushes w.new ≡ W.flushes w.old }
 {
-    write_all(&octets[..at], w)?;
+    write_prefix(octets, at, w)?;
     write_all(text, w)
 }
 
@@ -115,7 +126,11 @@ impl<'b, 'w, W: Sink> LineWriter<'b, 'w, W> {
         ensures pushes { Pushes self.old [] self.new }
         ensures none { self.new.held ≡ [] }
     {
-        self.push_through(b"");
+        let len = self.len;
+        self.len = 0;
+        if self.status.is_ok() {
+            self.status = write_prefix(self.octets, len, self.w);
+        }
     }
 
     /// Pushes octets.
@@ -149,10 +164,7 @@ impl<'b, 'w, W: Sink> LineWriter<'b, 'w, W> {
     pub fn push_decimal(&mut self, value: u64)
         ensures { Pushes self.old (decimal value) self.new }
     {
-        match fill_decimal(value, &mut self.octets[self.len..]) {
-            Some(len) => self.len += len,
-            None => self.push_decimal_through(value),
-        }
+        self.push_named(b"", value);
     }
 
     /// Pushes a name and a number after it.

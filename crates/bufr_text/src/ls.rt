@@ -49,11 +49,10 @@ fn push_tables<W: Sink>(line: &mut LineWriter<'_, '_, W>, head: &Head)
 fn push_pair<W: Sink>(line: &mut LineWriter<'_, '_, W>, before: u8, value: u8)
     ensures { Pushes line.old (before ∷ zero_padded 2 value) line.new }
 {
-    if value < 100 {
-        return line.push(&[before, b'0' + value / 10, b'0' + value % 10]);
+    if value < 10 {
+        return line.push(&[before, b'0', b'0' + value]);
     }
-    line.push(&[before]);
-    line.push_decimal(u64::from(value));
+    line.push_named(&[before], u64::from(value));
 }
 
 /// Pushes the time that section 1 says.
