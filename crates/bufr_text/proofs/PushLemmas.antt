@@ -8,7 +8,7 @@ use Rattle.std.specs.Result.{is_ok}
 use Rattle.std.specs.Io.KnownBytes.{Appends}
 use Rattle.std.proofs.KnownBytes.{Appends-trans, Appends-nil}
 use Rattle.bufr_frame.specs.declared.fault.RunFault.{RunFault}
-use Rattle.bufr_text.specs.Writing.{Writes, GrowsByPrefix, CountsWrites}
+use Rattle.bufr_text.specs.Writing.{Writes, CountsWrites}
 use Rattle.bufr_text.specs.Lines.{LineModel, MovesPrefix, Moves, MovesOn, StaysFailed, PushesFrom, Pushes}
 
 parts_then : (held s t p q held1 held2 : List ℕ) → held ++ s ≡ p ++ held1 → held1 ++ t ≡ q ++ held2 → held ++ (s ++ t) ≡ (p ++ q) ++ held2
