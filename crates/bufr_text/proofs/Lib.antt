@@ -4,6 +4,7 @@ pub mod CanonicalLemmas
 pub mod CleanLemmas
 pub mod ClosingLemmas
 pub mod DescribingLemmas
+pub mod DigitLemmas
 mod DumpExamples
 pub mod DumpLemmas
 pub mod DumpableLemmas
@@ -40,6 +41,7 @@ pub mod NormalLemmas
 pub mod NumberLemmas
 pub mod OpenLemmas
 pub mod ProperLemmas
+pub mod PushLemmas
 pub mod PutLemmas
 pub mod ReadBackLemmas
 pub mod ReaderLemmas

@@ -32,6 +32,12 @@ front-more a b s t first = record {
   gains = first.gains;
 }
 
+-- the first could not be written
+pub Writes-stop : {X Y : Type 0} (a b : Option (List ℕ)) (s t : List ℕ) (first : Result X RunFault) (r : Result Y RunFault) (f : RunFault) → Writes a b s first → first ≡ Err f → r ≡ Err f → Writes a b (s ++ t) r
+Writes-stop a b s t first r f writes is same =
+    let here = rw is at writes in
+    rw same (here.0, front-more a b s t here.1)
+
 -- a front of the octets was written, and the rest is left
 pub record WrittenSoFar (old now : Option (List ℕ)) (octets rest : List ℕ) : Type 0 where
   pub front : List ℕ

@@ -16,6 +16,8 @@ pub mod Faults
 -- ---- how texts are written
 -- what a writer gains, whole or in part, and what it counts
 pub mod Writing
+-- what a writer of lines holds, and what a text does to it
+pub mod Lines
 -- what a dump leaves on its writer, and the steps that are made for it
 pub mod DumpWritten
 -- private: a writer of a dump, and what one call of a showing does to it

@@ -1,6 +1,6 @@
 //! Parts of a line, laid from its end to its beginning, so that digits are written where they stay.
 ghost use Rattle.std.specs.Prelude.{◌≡◌, ◌≤◌, ◌+◌, ◌++◌, decimal, drop, length, replicate};
-ghost use Rattle.bufr_text.specs.Writing.{flag, zero_padded};
+ghost use Rattle.bufr_text.specs.Writing.{flag};
 
 use itoa::write_digits;
 
@@ -23,7 +23,6 @@ pub fn lay_text(text: &[u8], line: &mut [u8], end: usize) -> usize
 
 /// Lays `1` or `0` before `end`, and answers where it stands.
 #[inline(always)]
-// rule: listing-flags
 pub(crate) fn lay_flag(on: bool, line: &mut [u8], end: usize) -> usize
     requires room { 1 ≤ end }
     requires within { end ≤ length line.old }
@@ -84,35 +83,4 @@ pub(crate) fn lay_zeros(count: usize, line: &mut [u8], end: usize) -> usize
         line[start] = b'0';
     }
     start
-}
-
-/// Lays a number in at least `least` digits before `end`, and answers where it begins.
-#[inline(always)]
-// rule: listing-time
-pub(crate) fn lay_padded(value: u64, least: usize, line: &mut [u8], end: usize) -> usize
-    requires few { least ≤ 4 }
-    requires room { 24 ≤ end }
-    requires within { end ≤ length line.old }
-    ensures most { end ≤ result + 24 }
-    ensures start { result ≤ end }
-    ensures laid { drop result line.new ≡ zero_padded least value ++ drop end line.old }
-{
-    let start = lay_decimal(value, line, end);
-    lay_zeros(least.saturating_sub(end - start), line, start)
-}
-
-/// Lays a number in at least two digits before `end`, and answers where it begins.
-#[inline(always)]
-#[tactic(auto, using(crate::proofs::LaidLemmas::padded_pair, crate::proofs::LaidLemmas::padded_long))]
-pub(crate) fn lay_pair(value: u8, line: &mut [u8], end: usize) -> usize
-    requires room { 5 ≤ end }
-    requires within { end ≤ length line.old }
-    ensures most { end ≤ result + 5 }
-    ensures start { result ≤ end }
-    ensures laid { drop result line.new ≡ zero_padded 2 value ++ drop end line.old }
-{
-    if value < 100 {
-        return lay_text(&[b'0' + value / 10, b'0' + value % 10], line, end);
-    }
-    lay_short(u16::from(value), line, end)
 }

@@ -4,6 +4,7 @@
 
 mod buffer;
 mod descriptors;
+mod digits;
 mod document;
 mod dump;
 mod dump_reader;
@@ -20,6 +21,7 @@ mod key;
 mod laid;
 pub mod law;
 mod line;
+mod line_writer;
 mod ls;
 mod number;
 mod part;
@@ -39,6 +41,7 @@ pub use encode_fault::{DocumentFault, WalkRefusal};
 pub use fault::ReadFault;
 pub use form::Form;
 pub use laid::{lay_decimal, lay_named, lay_text};
+pub use line_writer::LineWriter;
 pub use ls::write_ls;
 pub use part::{Part, write_all, write_parts};
 pub use slice::suffix;

@@ -1,107 +1,90 @@
 //! The line that lists a message.
-ghost use Rattle.std.specs.Prelude.{◌≡◌, ◌≤◌, ◌+◌, drop, is_some, length};
-ghost use Rattle.bufr_text.specs.Writing.{Writes, CountsWrites, joined_onto};
+ghost use Rattle.std.specs.Prelude.{◌≡◌, ◌∷◌, is_some, length};
+ghost use Rattle.bufr_text.specs.Lines.{Pushes};
 ghost use Rattle.bufr_text.specs.LsLine.{category_texts, counts_texts, ls_line, origin_texts, tables_texts, time_texts};
+ghost use Rattle.bufr_text.specs.Writing.{Writes, CountsWrites, joined, zero_padded};
 
-use crate::laid::{LINE, lay_decimal, lay_flag, lay_named, lay_padded, lay_pair, lay_text};
-use crate::part::write_all;
-use crate::slice::suffix;
+use crate::line_writer::LineWriter;
 use bufr_bits::Sink;
 use bufr_frame::{Head, Message, RunFault};
 
-/// Lays how many subsets and descriptors a message has, and its flags.
+/// The octets in which the line is put together. The longest line has 251.
+const LINE: usize = 320;
+
+/// Pushes where a message begins and where it comes from.
 #[inline(always)]
-fn lay_counts(message: &Message<'_>, line: &mut [u8], end: usize) -> usize
-    requires room { 83 ≤ end }
-    requires within { end ≤ length line.old }
-    ensures most { end ≤ result + 83 }
-    ensures start { result ≤ end }
-    ensures laid { drop result line.new ≡ joined_onto
-        (counts_texts message.now.subsets message.now.observed message.now.compressed
-        (is_some message.now.section2) (length message.now.descriptors))
-        (drop end line.old) }
+fn push_origin<W: Sink>(line: &mut LineWriter<'_, '_, W>, offset: u64, size: u64, head: &Head)
+    ensures { Pushes line.old (joined (origin_texts offset size head.now)) line.new }
 {
-    let end = lay_text(b"\n", line, end);
-    let end = lay_decimal(message.descriptors().len() as u64, line, end);
-    let end = lay_text(b" descriptors=", line, end);
-    let end = lay_flag(message.section2().is_some(), line, end);
-    let end = lay_text(b" optional=", line, end);
-    let end = lay_flag(message.compressed(), line, end);
-    let end = lay_text(b" compressed=", line, end);
-    let end = lay_flag(message.observed(), line, end);
-    let end = lay_text(b" observed=", line, end);
-    lay_named(b" subsets=", message.subsets(), line, end)
+    line.push_named(b"offset=", offset);
+    line.push_named(b" length=", size);
+    line.push_named(b" edition=", u64::from(head.edition));
+    line.push_named(b" centre=", u64::from(head.centre));
+    line.push_named(b"/", u64::from(head.subcentre));
 }
 
-/// Lays the time that section 1 says.
+/// Pushes what kind of data a message has.
 #[inline(always)]
-fn lay_time(head: &Head, line: &mut [u8], end: usize) -> usize
-    requires room { 60 ≤ end }
-    requires within { end ≤ length line.old }
-    ensures most { end ≤ result + 60 }
-    ensures start { result ≤ end }
-    ensures laid { drop result line.new ≡ joined_onto (time_texts head.now) (drop end line.old) }
+fn push_category<W: Sink>(line: &mut LineWriter<'_, '_, W>, head: &Head)
+    ensures { Pushes line.old (joined (category_texts head.now)) line.new }
 {
-    let end = lay_pair(head.second, line, end);
-    let end = lay_text(b":", line, end);
-    let end = lay_pair(head.minute, line, end);
-    let end = lay_text(b":", line, end);
-    let end = lay_pair(head.hour, line, end);
-    let end = lay_text(b"T", line, end);
-    let end = lay_pair(head.day, line, end);
-    let end = lay_text(b"-", line, end);
-    let end = lay_pair(head.month, line, end);
-    let end = lay_text(b"-", line, end);
-    let end = lay_padded(head.year as u64, 4, line, end);
-    lay_text(b" time=", line, end)
+    line.push_named(b" update=", u64::from(head.update));
+    line.push_named(b" category=", u64::from(head.category));
+    line.push_named(b"/", u64::from(head.subcategory));
+    line.push_named(b"/", u64::from(head.local_subcategory));
 }
 
-/// Lays by which tables the data are written.
+/// Pushes by which tables the data are written.
 #[inline(always)]
-fn lay_tables(head: &Head, line: &mut [u8], end: usize) -> usize
-    requires room { 25 ≤ end }
-    requires within { end ≤ length line.old }
-    ensures most { end ≤ result + 25 }
-    ensures start { result ≤ end }
-    ensures laid { drop result line.new ≡ joined_onto (tables_texts head.now) (drop end line.old) }
+fn push_tables<W: Sink>(line: &mut LineWriter<'_, '_, W>, head: &Head)
+    ensures { Pushes line.old (joined (tables_texts head.now)) line.new }
 {
-    let end = lay_named(b"/", u16::from(head.local_version), line, end);
-    let end = lay_named(b"/", u16::from(head.master_version), line, end);
-    lay_named(b" tables=", u16::from(head.master), line, end)
+    line.push_named(b" tables=", u64::from(head.master));
+    line.push_named(b"/", u64::from(head.master_version));
+    line.push_named(b"/", u64::from(head.local_version));
 }
 
-/// Lays what kind of data a message has.
+/// Pushes an octet and a number in at least two digits.
 #[inline(always)]
-fn lay_category(head: &Head, line: &mut [u8], end: usize) -> usize
-    requires room { 40 ≤ end }
-    requires within { end ≤ length line.old }
-    ensures most { end ≤ result + 40 }
-    ensures start { result ≤ end }
-    ensures laid { drop result line.new
-        ≡ joined_onto (category_texts head.now) (drop end line.old) }
+fn push_pair<W: Sink>(line: &mut LineWriter<'_, '_, W>, before: u8, value: u8)
+    ensures { Pushes line.old (before ∷ zero_padded 2 value) line.new }
 {
-    let end = lay_named(b"/", u16::from(head.local_subcategory), line, end);
-    let end = lay_named(b"/", u16::from(head.subcategory), line, end);
-    let end = lay_named(b" category=", u16::from(head.category), line, end);
-    lay_named(b" update=", u16::from(head.update), line, end)
+    if value < 10 {
+        return line.push(&[before, b'0', b'0' + value]);
+    }
+    line.push_named(&[before], u64::from(value));
 }
 
-/// Lays where a message stands and where it comes from.
+/// Pushes the time that section 1 says.
 #[inline(always)]
-fn lay_origin(offset: u64, size: u64, head: &Head, line: &mut [u8], end: usize) -> usize
-    requires room { 88 ≤ end }
-    requires within { end ≤ length line.old }
-    ensures start { result ≤ end }
-    ensures laid { drop result line.new
-        ≡ joined_onto (origin_texts offset size head.now) (drop end line.old) }
+fn push_time<W: Sink>(line: &mut LineWriter<'_, '_, W>, head: &Head)
+    ensures { Pushes line.old (joined (time_texts head.now)) line.new }
 {
-    let end = lay_named(b"/", head.subcentre, line, end);
-    let end = lay_named(b" centre=", head.centre, line, end);
-    let end = lay_named(b" edition=", u16::from(head.edition), line, end);
-    let end = lay_decimal(size, line, end);
-    let end = lay_text(b" length=", line, end);
-    let end = lay_decimal(offset, line, end);
-    lay_text(b"offset=", line, end)
+    line.push(b" time=");
+    line.push_padded(u64::from(head.year), 4);
+    push_pair(line, b'-', head.month);
+    push_pair(line, b'-', head.day);
+    push_pair(line, b'T', head.hour);
+    push_pair(line, b':', head.minute);
+    push_pair(line, b':', head.second);
+}
+
+/// Pushes how many subsets and descriptors a message has, and its flags.
+#[inline(always)]
+fn push_counts<W: Sink>(line: &mut LineWriter<'_, '_, W>, message: &Message<'_>)
+    ensures { Pushes line.old (joined (counts_texts message.now.subsets message.now.observed
+        message.now.compressed (is_some message.now.section2) (length message.now.descriptors)))
+        line.new }
+{
+    line.push_named(b" subsets=", u64::from(message.subsets()));
+    line.push(b" observed=");
+    line.push_flag(message.observed());
+    line.push(b" compressed=");
+    line.push_flag(message.compressed());
+    line.push(b" optional=");
+    line.push_flag(message.section2().is_some());
+    line.push_named(b" descriptors=", message.descriptors().len() as u64);
+    line.push(b"\n");
 }
 
 /// Writes the line of a message that begins at `offset`, in octets from 0. It takes no memory.
@@ -121,11 +104,15 @@ pub fn write_ls<W: Sink>(offset: u64, message: &Message<'_>, w: &mut W) -> Resul
     ensures flushes { W.flushes w.new ≡ W.flushes w.old }
 {
     let head = message.head();
-    let mut line = [0; LINE];
-    let end = lay_counts(message, &mut line, LINE);
-    let end = lay_time(&head, &mut line, end);
-    let end = lay_tables(&head, &mut line, end);
-    let end = lay_category(&head, &mut line, end);
-    let start = lay_origin(offset, message.length(), &head, &mut line, end);
-    write_all(suffix(&line, start), w)
+    let mut block = [0; LINE];
+    let mut line = LineWriter::new(&mut block, w);
+    push_origin(&mut line, offset, message.length(), &head);
+    push_category(&mut line, &head);
+    push_tables(&mut line, &head);
+    push_time(&mut line, &head);
+    push_counts(&mut line, message);
+    line.hand_on();
+    let outcome = line.status();
+    let _ = line.into_sink();
+    outcome
 }

@@ -1,11 +1,10 @@
-use Rattle.std.proofs.Common.{ℕ, List, rules, subst}
-use Rattle.bufr_text.specs.Writing.{Writes}
-use Rattle.bufr_text.proofs.LsLineLemmas.{line-laid}
+use Rattle.std.proofs.Common.{rules}
+use Rattle.bufr_text.proofs.PushLemmas.{all_written}
+use Rattle.bufr_text.proofs.LsLineLemmas.{line-pushed}
 use Rattle.bufr_text.proofs.ls.write_ls.Goals as goal
 
 pub returns-clause-writes : goal.returns-clause-writes
 returns-clause-writes g c =
-    let P : List ℕ → Type 0 = λ t. Writes (g.W.Sink.taken c.args.w.now) (g.W.Sink.taken c.write_all.new.w) t c.write_all.result in
-    subst P (line-laid c.args.offset c.args.message.now c.length.result c.head-head.result _ _ _ _ _ _ _ c.length.ensures c.head-head.ensures
-    c.suffix.ensures c.lay_origin-start.ensures.laid c.lay_category-end.ensures.laid c.lay_tables-end.ensures.laid c.lay_time-end.ensures.laid c.lay_counts-end.ensures.laid (search rules))
-    c.write_all.ensures.writes
+    let before = c.new-line.ensures in
+    all_written tt (line-pushed c.args.offset c.args.message.now c.length.ensures c.head-head.ensures c.push_origin.ensures c.push_category.ensures c.push_tables.ensures c.push_time.ensures c.push_counts.ensures)
+    c.hand_on.ensures.pushes before.status before.held c.hand_on.ensures.none before.taken (search rules) c.status-outcome.ensures

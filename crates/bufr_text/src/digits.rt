@@ -1,0 +1,67 @@
+//! Digits that fill a prefix of some octets, where there is room for them.
+ghost use Rattle.std.specs.Prelude.{◌≡◌, ◌≤◌, ◌+◌, ◌++◌, decimal, length, take, IfSome};
+
+use itoa::write_digits;
+
+/// The digits of the longest number.
+const DIGITS: usize = 20;
+
+/// How many digits a number has.
+#[tactic(auto, using(crate::proofs::DigitLemmas::one_digit, crate::proofs::DigitLemmas::two_digits, crate::proofs::DigitLemmas::three_digits, crate::proofs::DigitLemmas::four_digits, crate::proofs::DigitLemmas::four_more_digits, crate::proofs::DigitLemmas::at_most_20_digits))]
+#[inline(always)]
+pub(crate) fn count_digits(value: u64) -> usize
+    ensures { result ≡ length (decimal value) }
+{
+    let mut left = value;
+    let mut count = 0;
+    while left >= 10_000 {
+        left /= 10_000;
+        count += 4;
+    }
+    if left < 10 {
+        return count + 1;
+    }
+    if left < 100 {
+        return count + 2;
+    }
+    if left < 1_000 {
+        return count + 3;
+    }
+    count + 4
+}
+
+/// Fills a prefix with a name and the digits of a number after it, of which there are so many, and
+/// returns how many octets these are.
+#[inline(always)]
+fn fill_digits(name: &[u8], value: u64, digits: usize, free: &mut [u8]) -> usize
+    requires digits { digits ≡ length (decimal value) }
+    requires room { length name.now + digits ≤ length free.old }
+    ensures within { result ≤ length free.new }
+    ensures text { take result free.new ≡ name.now ++ decimal value }
+{
+    free[..name.len()].copy_from_slice(name);
+    let len = name.len() + digits;
+    write_digits(value, free, len);
+    len
+}
+
+/// Fills a prefix with a name and the digits of a number after it, and returns how many octets
+/// these are; `None` where there is no room for each number of its type.
+#[tactic(auto, using(crate::proofs::DigitLemmas::one_digit, crate::proofs::DigitLemmas::two_digits, crate::proofs::DigitLemmas::at_most_20_digits))]
+#[inline(always)]
+pub(crate) fn fill_named(name: &[u8], value: u64, free: &mut [u8]) -> Option<usize>
+    ensures within { IfSome result (λ len. len ≤ length free.new) }
+    ensures text { IfSome result (λ len. take len free.new ≡ name.now ++ decimal value) }
+{
+    if name.len() + DIGITS > free.len() {
+        return None;
+    }
+    // most numbers have one digit or two
+    if value < 10 {
+        return Some(fill_digits(name, value, 1, free));
+    }
+    if value < 100 {
+        return Some(fill_digits(name, value, 2, free));
+    }
+    Some(fill_digits(name, value, count_digits(value), free))
+}

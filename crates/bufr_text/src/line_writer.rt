@@ -1,0 +1,241 @@
+//! A writer of lines: octets laid forward into a block of memory, and handed on to a sink.
+ghost use Rattle.std.specs.Prelude.{◌≡◌, ◌≤◌, ◌++◌, [], Ok, length, take, decimal, replicate};
+ghost use Rattle.bufr_text.specs.Lines.{Pushes};
+ghost use Rattle.bufr_text.specs.Writing.{Writes, CountsWrites, flag, zero_padded};
+
+use crate::digits::{count_digits, fill_named};
+use crate::part::write_all;
+use bufr_bits::Sink;
+use bufr_frame::RunFault;
+use itoa::Buffer;
+use std::marker::Model;
+
+/// A writer of lines over a block of memory and a sink. What does not fit the block is handed on
+/// first, so the block may have any size. The first fault is kept, and nothing is written after it.
+#[derive(Drop)]
+pub struct LineWriter<'b, 'w, W: Sink> {
+    octets: &'b mut [u8],
+    len: usize,
+    w: &'w mut W,
+    status: Result<(), RunFault>,
+}
+
+impl<'b, 'w, W: Sink> Model for LineWriter<'b, 'w, W> {
+    ghost use Rattle.std.specs.Prelude.{◌≤◌, length, take};
+    ghost use Rattle.bufr_text.specs.Lines.{LineModel};
+
+    ghost Value = { LineModel };
+
+    ghost view = { λ a. record {
+      taken = W.taken a.w.now;
+      failures = W.failures a.w.now;
+      empty_writes = W.empty_writes a.w.now;
+      flushes = W.flushes a.w.now;
+      held = take a.len a.octets.now;
+      status = a.status;
+      sink = a.w.ghost_name;
+    } };
+
+    ghost invariant = { λ a. a.len ≤ length a.octets.now };
+}
+
+/// Writes the octets before an index.
+fn write_prefix<W: Sink>(octets: &mut [u8], at: usize, w: &mut W) -> Result<(), RunFault>
+    requires { at ≤ length octets.old }
+    ensures writes { Writes (W.taken w.old) (W.taken w.new) (take at octets.old) result }
+    ensures counts { CountsWrites (W.failures w.old) (W.failures w.new) (W.empty_writes w.old)
+        (W.empty_writes w.new) result }
+    ensures flushes { W.flushes w.new ≡ W.flushes w.old }
+{
+    write_all(&octets[..at], w)
+}
+
+/// Writes the octets before an index, and then a text.
+#[inline(never)]
+fn write_after<W: Sink>(
+    octets: &mut [u8],
+    at: usize,
+    text: &[u8],
+    w: &mut W,
+) -> Result<(), RunFault>
+    requires { at ≤ length octets.old }
+    ensures writes { Writes (W.taken w.old) (W.taken w.new) (take at octets.old ++ text.now)
+        result }
+    ensures counts { CountsWrites (W.failures w.old) (W.failures w.new) (W.empty_writes w.old)
+        (W.empty_writes w.new) result }
+    ensures flushes { W.flushes w.new ≡ W.flushes w.old }
+{
+    write_prefix(octets, at, w)?;
+    write_all(text, w)
+}
+
+/// Writes the octets before an index, and then a number.
+#[inline(never)]
+fn write_decimal_after<W: Sink>(
+    octets: &mut [u8],
+    at: usize,
+    value: u64,
+    w: &mut W,
+) -> Result<(), RunFault>
+    requires { at ≤ length octets.old }
+    ensures writes { Writes (W.taken w.old) (W.taken w.new) (take at octets.old ++ decimal value)
+        result }
+    ensures counts { CountsWrites (W.failures w.old) (W.failures w.new) (W.empty_writes w.old)
+        (W.empty_writes w.new) result }
+    ensures flushes { W.flushes w.new ≡ W.flushes w.old }
+{
+    let mut buffer = Buffer::new();
+    write_after(octets, at, buffer.format(value).as_bytes(), w)
+}
+
+impl<'b, 'w, W: Sink> LineWriter<'b, 'w, W> {
+    /// The writer over a block and a sink that holds nothing.
+    pub fn new(octets: &'b mut [u8], w: &'w mut W) -> LineWriter<'b, 'w, W>
+        ensures held { result.held ≡ [] }
+        ensures taken { result.taken ≡ W.taken w.old }
+        ensures failures { result.failures ≡ W.failures w.old }
+        ensures empty { result.empty_writes ≡ W.empty_writes w.old }
+        ensures flushes { result.flushes ≡ W.flushes w.old }
+        ensures status { result.status ≡ Ok tt }
+        ensures sink { result.sink ≡ w.entry.ghost_name }
+    {
+        LineWriter {
+            octets,
+            len: 0,
+            w,
+            status: Ok(()),
+        }
+    }
+
+    /// Writes what is held and a text after it. Where a write fails, both are let go.
+    #[inline(always)]
+    fn push_through(&mut self, octets: &[u8])
+        ensures pushes { Pushes self.old octets.now self.new }
+        ensures none { self.new.held ≡ [] }
+    {
+        let len = self.len;
+        self.len = 0;
+        if self.status.is_ok() {
+            self.status = write_after(self.octets, len, octets, self.w);
+        }
+    }
+
+    /// Writes what is held. Where a write fails, it is let go.
+    #[inline(always)]
+    pub fn hand_on(&mut self)
+        ensures pushes { Pushes self.old [] self.new }
+        ensures none { self.new.held ≡ [] }
+    {
+        let len = self.len;
+        self.len = 0;
+        if self.status.is_ok() {
+            self.status = write_prefix(self.octets, len, self.w);
+        }
+    }
+
+    /// Pushes octets.
+    #[inline(always)]
+    pub fn push(&mut self, octets: &[u8])
+        ensures { Pushes self.old octets.now self.new }
+    {
+        if octets.len() <= self.octets.len() - self.len {
+            let end = self.len + octets.len();
+            self.octets[self.len..end].copy_from_slice(octets);
+            self.len = end;
+        } else {
+            self.push_through(octets);
+        }
+    }
+
+    /// Writes what is held and a number after it. Where a write fails, both are let go.
+    #[inline(always)]
+    fn push_decimal_through(&mut self, value: u64)
+        ensures { Pushes self.old (decimal value) self.new }
+    {
+        let len = self.len;
+        self.len = 0;
+        if self.status.is_ok() {
+            self.status = write_decimal_after(self.octets, len, value, self.w);
+        }
+    }
+
+    /// Pushes a number, as plain decimal digits.
+    #[inline(always)]
+    pub fn push_decimal(&mut self, value: u64)
+        ensures { Pushes self.old (decimal value) self.new }
+    {
+        self.push_named(b"", value);
+    }
+
+    /// Pushes a name and a number after it.
+    #[inline(always)]
+    pub fn push_named(&mut self, name: &[u8], value: u64)
+        ensures { Pushes self.old (name.now ++ decimal value) self.new }
+    {
+        match fill_named(name, value, &mut self.octets[self.len..]) {
+            Some(len) => self.len += len,
+            None => self.push_named_through(name, value),
+        }
+    }
+
+    /// Writes what is held, a name and a number after it. Where a write fails, they are let go.
+    #[inline(always)]
+    fn push_named_through(&mut self, name: &[u8], value: u64)
+        ensures { Pushes self.old (name.now ++ decimal value) self.new }
+    {
+        self.push_through(name);
+        self.push_decimal_through(value);
+    }
+
+    /// Pushes digits `0`.
+    #[inline(always)]
+    pub(crate) fn push_zeros(&mut self, count: usize)
+        ensures { Pushes self.old (replicate count 48) self.new }
+    {
+        for _done in 0..count {
+            self.push(b"0");
+        }
+    }
+
+    /// Pushes a number in at least so many digits, zeros before them.
+    #[inline(always)]
+    // rule: listing-time
+    pub fn push_padded(&mut self, value: u64, digits: usize)
+        ensures { Pushes self.old (zero_padded digits value) self.new }
+    {
+        self.push_zeros(digits.saturating_sub(count_digits(value)));
+        self.push_decimal(value);
+    }
+
+    /// Pushes `1` or `0`.
+    #[inline(always)]
+    // rule: listing-flags
+    pub fn push_flag(&mut self, on: bool)
+        ensures { Pushes self.old (flag on) self.new }
+    {
+        self.push(if on { b"1" } else { b"0" });
+    }
+
+    /// Whether all that was pushed so far was written or is held.
+    ///
+    /// # Errors
+    ///
+    /// [`RunFault::Write`] where the sink failed or took nothing; nothing was written since.
+    #[inline(always)]
+    pub fn status(&self) -> Result<(), RunFault>
+        ensures { result ≡ self.now.status }
+    {
+        self.status
+    }
+
+    /// The sink, which took all but what is held.
+    pub fn into_sink(self) -> &'w mut W
+        ensures taken { W.taken result.now ≡ self.entry.taken }
+        ensures failures { W.failures result.now ≡ self.entry.failures }
+        ensures empty { W.empty_writes result.now ≡ self.entry.empty_writes }
+        ensures flushes { W.flushes result.now ≡ self.entry.flushes }
+        ensures sink { result.ghost_name ≡ self.entry.sink }
+    {
+        self.w
+    }
+}
