@@ -151,16 +151,16 @@ temperatures_canonical = record {
 -- ---- edition 3
 
 -- a block number in sections of an even number of octets: one is left over in section 3, and one is
--- behind the data
-edition_3 : (left_over behind : ℕ) → List ℕ
-edition_3 left_over behind = codes "BUFR" ++ 0 ∷ 0 ∷ 46 ∷ 3
+-- after the data
+edition_3 : (left_over last : ℕ) → List ℕ
+edition_3 left_over last = codes "BUFR" ++ 0 ∷ 0 ∷ 46 ∷ 3
     ∷ 0 ∷ 0 ∷ 0x12 ∷ 0 ∷ 0 ∷ 0x62 ∷ 0 ∷ 0 ∷ 0 ∷ 0 ∷ 0x0E ∷ 0 ∷ 0x18 ∷ 1 ∷ 2 ∷ 3 ∷ 4 ∷ 0
     ∷ 0 ∷ 0 ∷ 10 ∷ 0 ∷ 0 ∷ 1 ∷ 0x80 ∷ 1 ∷ 1 ∷ left_over
-    ∷ 0 ∷ 0 ∷ 6 ∷ 0 ∷ 0x14 ∷ behind
+    ∷ 0 ∷ 0 ∷ 6 ∷ 0 ∷ 0x14 ∷ last
     ∷ codes "7777"
 
-sections_of_3 : (behind : ℕ) → Sections
-sections_of_3 behind = record {
+sections_of_3 : (last : ℕ) → Sections
+sections_of_3 last = record {
   head = record { edition = 3; master = 0; centre = 98; subcentre = 0; update = 0; category = 0; subcategory = 0; local_subcategory = 0; master_version = 14; local_version = 0; year = 24; month = 1; day = 2; hour = 3; minute = 4; second = 0 };
   local1 = 0 ∷ [];
   section2 = None;
@@ -168,11 +168,11 @@ sections_of_3 behind = record {
   subsets = 1;
   observed = true;
   compressed = false;
-  payload = 0x14 ∷ behind ∷ [];
+  payload = 0x14 ∷ last ∷ [];
   size = 46;
 }
 
--- Whatever is behind the data, and left over in section 3, the message is accepted.
+-- With another octet than zero after the data, and left over in section 3, it is accepted.
 edition_3_accepted : IsAccepted the_table [] (edition_3 1 1) (sections_of_3 1) (element 257 bare) block_number 7
 unfolding the_table edition_3 sections_of_3 block_number sections_of section_end tree_of level part_of inner_of next_item bits_of bits_in
 edition_3_accepted = record {
@@ -205,14 +205,14 @@ edition_3_canonical : IsCanonical (edition_3 0 0) (sections_of_3 0) block_number
 unfolding edition_3 sections_of_3 block_number bits_of bits_in
 edition_3_canonical = record { plain = edition_3_plain; least = refl; bits = (λ h. h, tt) }
 
--- The octet that is left over in section 3 is zero, and so is the one behind the data.
+-- The octet that is left over in section 3 is zero, and so is the one after the data.
 left_over_is_not_plain : IsPlain (edition_3 1 0) → ⊥
 unfolding edition_3
 left_over_is_not_plain p = let e : suc zero ≡ zero = p.left_over refl in cc
 
-octet_behind_is_not_canonical : IsCanonical (edition_3 0 1) (sections_of_3 1) block_number 7 → ⊥
+octet_after_is_not_canonical : IsCanonical (edition_3 0 1) (sections_of_3 1) block_number 7 → ⊥
 unfolding sections_of_3 bits_of
-octet_behind_is_not_canonical c = let with_one : List ℕ = 0x14 ∷ 1 ∷ [] in let with_zero : List ℕ = 0x14 ∷ 0 ∷ [] in let e : with_one ≡ with_zero = c.least in cc
+octet_after_is_not_canonical c = let with_one : List ℕ = 0x14 ∷ 1 ∷ [] in let with_zero : List ℕ = 0x14 ∷ 0 ∷ [] in let e : with_one ≡ with_zero = c.least in cc
 
 -- An odd section 3 is not plain.
 odd_is_not_plain : IsPlain (slice_set (edition_3 0 0) 28 9) → ⊥
