@@ -128,10 +128,10 @@ def fits(whole: Left, number: int, left: Left) -> bool:
     """Whether a run with this call refused left what it should."""
     if left[:3] == whole[:3]:
         return True
-    front = left.errors[: -len(WANT)]
-    told = left.status == 2 and left.errors.endswith(WANT) and left.calls >= number
-    lines = whole.errors.startswith(front) and front[-1:] in (b"", b"\n")
-    return told and lines and is_left(left.output, whole.output)
+    prefix = left.errors[: -len(WANT)]
+    reported = left.status == 2 and left.errors.endswith(WANT) and left.calls >= number
+    lines = whole.errors.startswith(prefix) and prefix[-1:] in (b"", b"\n")
+    return reported and lines and is_left(left.output, whole.output)
 
 
 def is_left(output: bytes, whole: bytes) -> bool:

@@ -1,6 +1,7 @@
 -- Messages that are accepted, canonical or not: what the laws on messages that are encoded again
 -- ask for.
-use Rattle.std.proofs.Common.{◌≡◌, ℕ, zero, suc, ◌<◌, false, true, List, [], ◌∷◌, ◌++◌, drop, None, refl, arith, codes, pos}
+use Rattle.std.proofs.Common.{◌≡◌, ◌∙◌, ℕ, zero, suc, ◌<◌, false, true, List, [], ◌∷◌, ◌++◌, drop, length, None, Ok, Err, refl, ap, arith, codes, pos}
+use Rattle.std.specs.Prelude.{◌&&◌, ◌||◌, ◌-◌, ◌==◌, if◌then◌else◌, nat_lt, not, slice_set}
 use Rattle.std.specs.List.{All, AllByRecursion}
 use Rattle.bufr_bits.specs.Bits.{bits_of, bits_in}
 use Rattle.bufr_tables.specs.declared.kind.Kind.TheVariants as kind
@@ -8,7 +9,11 @@ use Rattle.bufr_tables.specs.Expansion.{part_of, level, inner_of, tree_of}
 use Rattle.bufr_tables.specs.TableB.{Row}
 use Rattle.bufr_tables.specs.Tree.{element, bare}
 use Rattle.bufr_frame.specs.declared.head.Head.{Head}
-use Rattle.bufr_frame.specs.Sections.{Sections, sections_of, section_end}
+use Rattle.bufr_frame.specs.declared.fault.SectionFault.TheVariants.{Edition3Long, SectionsEnd}
+use Rattle.bufr_frame.specs.Layout.{max_octets, size_from}
+use Rattle.bufr_frame.specs.Octets.{three_octets, u24_at}
+use Rattle.bufr_frame.specs.Plain.{IsPlain}
+use Rattle.bufr_frame.specs.Sections.{Sections, sections_of, section_end, parts, parts_if_end_matches, edition_of, is_long_edition_3, is_padded}
 use Rattle.bufr_walk.specs.declared.spec.Role.TheVariants as role
 use Rattle.bufr_walk.specs.Content.{number, missing}
 use Rattle.bufr_walk.specs.Course.{next_item}
@@ -145,3 +150,105 @@ temperatures_canonical = record {
   least = refl;
   bits = (bits_of (0x70 ∷ 0x8F ∷ 5 ∷ []), [], refl, refl, refl);
 }
+
+-- ---- edition 3
+
+-- a block number in sections of an even number of octets: one is left over in section 3, and one is
+-- after the data
+edition_3 : (left_over last : ℕ) → List ℕ
+edition_3 left_over last = codes "BUFR" ++ 0 ∷ 0 ∷ 46 ∷ 3
+    ∷ 0 ∷ 0 ∷ 0x12 ∷ 0 ∷ 0 ∷ 0x62 ∷ 0 ∷ 0 ∷ 0 ∷ 0 ∷ 0x0E ∷ 0 ∷ 0x18 ∷ 1 ∷ 2 ∷ 3 ∷ 4 ∷ 0
+    ∷ 0 ∷ 0 ∷ 10 ∷ 0 ∷ 0 ∷ 1 ∷ 0x80 ∷ 1 ∷ 1 ∷ left_over
+    ∷ 0 ∷ 0 ∷ 6 ∷ 0 ∷ 0x14 ∷ last
+    ∷ codes "7777"
+
+sections_of_3 : (last : ℕ) → Sections
+sections_of_3 last = record {
+  head = record { edition = 3; master = 0; centre = 98; subcentre = 0; update = 0; category = 0; subcategory = 0; local_subcategory = 0; master_version = 14; local_version = 0; year = 24; month = 1; day = 2; hour = 3; minute = 4; second = 0 };
+  local1 = 0 ∷ [];
+  section2 = None;
+  descriptors = 257 ∷ [];
+  subsets = 1;
+  observed = true;
+  compressed = false;
+  payload = 0x14 ∷ last ∷ [];
+  size = 46;
+}
+
+-- With another octet than zero after the data, and left over in section 3, it is accepted.
+edition_3_accepted : IsAccepted the_table [] (edition_3 1 1) (sections_of_3 1) (element 257 bare) block_number 7
+unfolding the_table edition_3 sections_of_3 block_number sections_of section_end tree_of level part_of inner_of next_item bits_of bits_in
+edition_3_accepted = record {
+  octets = search arith;
+  few = omega arith;
+  sections = refl;
+  expands = refl;
+  read = (refl, omega arith, ((drop 7 (bits_of (0x14 ∷ 1 ∷ [])), ((drop 7 (bits_of (0x14 ∷ 1 ∷ [])), refl, refl, refl), refl), refl), refl));
+}
+
+edition_3_plain : IsPlain (edition_3 0 0)
+unfolding edition_3
+edition_3_plain = record {
+  octets = all_of (edition_3 0 0) (search arith);
+  word = refl;
+  size = refl;
+  flags = refl;
+  section2 = λ e. absurd cc;
+  section3 = refl;
+  whole = λ e. absurd cc;
+  data_flags = refl;
+  section4 = refl;
+  end = refl;
+  even3 = λ e. refl;
+  left_over = λ e. refl;
+  even4 = λ e. refl;
+}
+
+-- rule: canonical
+edition_3_canonical : IsCanonical (edition_3 0 0) (sections_of_3 0) block_number 7
+unfolding edition_3 sections_of_3 block_number bits_of bits_in
+edition_3_canonical = record { plain = edition_3_plain; least = refl; bits = (λ h. h, tt) }
+
+-- The octet that is left over in section 3 is zero, and so is the one after the data.
+-- rule: canonical
+left_over_is_not_plain : IsPlain (edition_3 1 0) → ⊥
+unfolding edition_3
+left_over_is_not_plain p = let e : suc zero ≡ zero = p.left_over refl in cc
+
+octet_after_is_not_canonical : IsCanonical (edition_3 0 1) (sections_of_3 1) block_number 7 → ⊥
+unfolding sections_of_3 bits_of
+octet_after_is_not_canonical c = let with_one : List ℕ = 0x14 ∷ 1 ∷ [] in let with_zero : List ℕ = 0x14 ∷ 0 ∷ [] in let e : with_one ≡ with_zero = c.least in cc
+
+-- An odd section 3 is not plain.
+odd_is_not_plain : IsPlain (slice_set (edition_3 0 0) 28 9) → ⊥
+unfolding edition_3
+odd_is_not_plain p = let e : suc zero ≡ zero = p.even3 refl in cc
+
+-- ---- the greatest length
+
+-- Three octets state it, and so many octets for local use make a message that long.
+greatest_stated : three_octets max_octets ≡ 255 ∷ 255 ∷ 255 ∷ []
+greatest_stated = refl
+
+greatest_read : u24_at (255 ∷ 255 ∷ 255 ∷ []) 0 ≡ max_octets
+greatest_read = refl
+
+-- rule: greatest-length
+greatest_written : size_from 4 16777170 None 0 0 ≡ max_octets
+greatest_written = refl
+
+-- With 16,777,214 octets a message of edition 3 is refused for its odd section 3: made even, it
+-- might be longer than can be stated. With one octet less, or even sections, it is not.
+-- rule: edition-3-length
+long_refused : (m : List ℕ) → edition_of m ≡ 3 → length m ≡ 16777214 → parts_if_end_matches m 26 26 35 16777210 ≡ Err Edition3Long
+long_refused m of_3 long =
+    ap (λ n. if not (16777210 == (n - 4)) then Err SectionsEnd else if nat_lt 16777213 n && (is_padded (edition_of m) 9 || is_padded (edition_of m) 16777175) then Err Edition3Long else Ok (parts m 26 26 35 16777210)) long
+    ∙ ap (λ n. if is_padded n 9 || is_padded n 16777175 then Err Edition3Long else Ok (parts m 26 26 35 16777210)) of_3
+
+shorter_not_long : (m : List ℕ) → edition_of m ≡ 3 → length m ≡ 16777213 → is_long_edition_3 m 26 35 16777209 ≡ false
+shorter_not_long m of_3 long = ap (λ n. nat_lt 16777213 n && (is_padded (edition_of m) 9 || is_padded (edition_of m) 16777174)) long
+
+even_not_long : (m : List ℕ) → edition_of m ≡ 3 → length m ≡ 16777214 → is_long_edition_3 m 26 36 16777210 ≡ false
+even_not_long m of_3 long =
+    ap (λ n. nat_lt 16777213 n && (is_padded (edition_of m) 10 || is_padded (edition_of m) 16777174)) long
+    ∙ ap (λ n. is_padded n 10 || is_padded n 16777174) of_3
