@@ -31,11 +31,10 @@ pub fn an_event_has_one_piece()
         → IsDumpPiece table_b table_d here p → IsDumpPiece table_b table_d here q → p ≡ q }
 {}
 
-/// For every stream of octets and all tables that were read: of the text that `dump` writes,
-/// `encode` refuses nothing; the messages that it builds have, one by one, the same readings as
-/// those that were dumped, and are no longer, but for up to two octets for each message of edition
-/// 3, whose sections 3 and 4 are made even; and dumped again they are the same text, octet for
-/// octet.
+/// Law: for every stream of octets and all tables that were read, `encode` refuses nothing of the
+/// text that `dump` writes. The messages that it builds have, one by one, the same readings as those
+/// that were dumped. They are no longer, but for up to two octets for each message of edition 3 with
+/// an odd section 3 or 4. Dumped again they are the same text, octet for octet.
 // rule: encode-may-grow
 pub fn dumped_streams_are_built_again()
     ensures { (records : List Record) (table_b : List Row) (table_d : List Sequence)
