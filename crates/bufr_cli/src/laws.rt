@@ -32,9 +32,9 @@ pub fn an_event_has_one_piece()
 {}
 
 /// Law: for every stream of octets and all tables that were read, `encode` refuses nothing of the
-/// text that `dump` writes. The messages that it builds have, one by one, the same readings as those
-/// that were dumped. They are no longer, but for up to two octets for each message of edition 3 with
-/// an odd section 3 or 4. Dumped again they are the same text, octet for octet.
+/// text that `dump` writes. The messages that it builds have, one by one, the same readings as
+/// those that were dumped. They are no longer, but for up to two octets for each message of
+/// edition 3 with an odd section 3 or 4. Dumped again they are the same text, octet for octet.
 // rule: encode-may-grow
 pub fn dumped_streams_are_built_again()
     ensures { (records : List Record) (table_b : List Row) (table_d : List Sequence)
