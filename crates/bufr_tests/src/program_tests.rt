@@ -438,6 +438,24 @@ fn tries_no_write_again(rt: HostRuntime) {
     assert_same(&rt, &text_on(&rt, &e), &WRITE_FAILED, &"errors");
 }
 
+/// Lists a torn file by way of the program's own writer over a vector, which is dropped at the end.
+fn list_torn(rt: &impl Runtime, taken: &mut Vec<u8>, e: &mut ScriptOut) -> u8 {
+    let held = BufWriter::with_capacity(rt.alloc(), 1000, taken);
+    let mut w = Device::new(Buffered::new(ok(rt, held)));
+    call(rt.alloc(), &["bufr", "ls", "torn.bufr"], &ONE, &mut w, e)
+}
+
+/// What the program's own writer holds at a fault of the input is handed on before it is dropped.
+#[test]
+fn hands_on_what_it_holds(rt: HostRuntime) {
+    let mut taken = Vec::new(rt.alloc());
+    let mut e = writer(&rt, 4096, (4096, End::Fail));
+    let status = list_torn(&rt, &mut taken, &mut e);
+    assert_same(&rt, &status, &2, &"status");
+    assert_same(&rt, &taken.as_slice(), &line_of_one(&rt, "0").as_bytes(), &"output");
+    assert_same(&rt, &text_on(&rt, &e), &"bufr: 70 read failed\n", &"errors");
+}
+
 /// The octets of a message that comes in parts, from a reader that may fail.
 fn all_of_one(rt: &impl Runtime, fails_at: Option<usize>) -> Result<Vec<u8>, RunFault> {
     let mut r = ScriptIn::new(ONE_BLOCK_NUMBER, 7, fails_at);
