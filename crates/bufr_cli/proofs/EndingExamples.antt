@@ -66,6 +66,6 @@ no-write-fault promise octets (WasEnded fault is from to known between run input
     let F : RunFault → Type 0 = λ f. FlushesRest {X = Tally} between.output idle.output (Err f) in
     idle-writers-do-not-fail between (subst F same rest) errors (subst W same writers)
 
--- a table that is not read is told as no fault of a write
+-- a table that is not read is no fault of a write
 no-write-fault-of-a-table : IsReadFault Write → ⊥
 no-write-fault-of-a-table so = so

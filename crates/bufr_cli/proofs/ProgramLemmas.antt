@@ -53,7 +53,7 @@ read-fault left left' Write bs so = so
 read-fault left left' InputTooLong bs so = tt
 read-fault left left' Memory bs so = tt
 
--- help that was written in part is told as a fault of a write
+-- help that was written in part ends with the line of a fault of a write
 pub help-in-part : (text : List ℕ) (before after : Writers) (status : ℕ) (fault : RunFault) → Writes {X = Unit {0}} before.output.taken after.output.taken text (Err fault) → CountsCalls {X = Unit {0}} before.output after.output (Err fault)
     → WritesLine before.errors after.errors (run_line fault) → status ≡ 2 → WritesHelp text before after status
 help-in-part text before after status fault writes counts line is =

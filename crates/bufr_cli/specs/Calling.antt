@@ -37,8 +37,8 @@ AnswersFault Memory before after status =
     (after.output ≡ before.output)
     × WritesLine before.errors after.errors (run_line fault.Memory) × (status ≡ 2)
 
--- Of the words of a line: its job was done, and then the last line and the status say how it came
--- out; or there is no job, and that was answered.
+-- What a call with these words comes to: their job was done, and then the last line and the status
+-- say how it came out; or there is no job, and that was answered.
 -- rule: status-of-help
 pub data RunsProgram (words : List Text) (inputs : Known) (before after : Writers)
     (status : ℕ) : Type 0 where

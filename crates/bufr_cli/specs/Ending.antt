@@ -1,5 +1,4 @@
--- How a run of the program ended, and what is done with the writers after it. (a choice of this
--- project)
+-- How a run of the program ended, and what is flushed after it. (a choice of this project)
 -- Cited by public contracts.
 use Rattle.std.specs.Prelude.{◌≡◌, ◌⊎◌, ◌<◌, ◌-◌, ◌^◌, ℕ, true, List, Option, Result, Ok, Err, IfSome}
 use Rattle.std.specs.Io.KnownBytes.{Appends, Keeps}
@@ -34,8 +33,7 @@ FlushesRest before after (Err Memory) = IsFlushed before after
 abbrev pub AreFlushed : (after : Writers) → Type 0
 AreFlushed after = (after.output.all_flushed ≡ true) × (after.errors.all_flushed ≡ true)
 
--- what the errors gain of a line: a front, and all of it where no call of theirs failed or took
--- nothing
+-- a writer gains a prefix of a line, and all of it where no call of it failed or took nothing
 abbrev pub WritesLine : (before after : Writer) → (line : List ℕ) → Type 0
 WritesLine before after line =
     GrowsByPrefix before.taken after.taken line
@@ -48,15 +46,15 @@ BlamesInput before after result =
     (after.failures ≡ read_failures_after before.failures result)
     × ReadsAtMost before.reads after.reads result
 
--- What a command promises of its run: of the octets of an input that it went through, and of each
--- answer by what was read and written.
+-- What a command promises: of the octets of an input that its run went through, and of each answer
+-- by what was read and written.
 pub record Promise : Type 1 where
   pub whole : (before after : Writers) → Tally → List ℕ → Type 0
   pub run : (from to : Input) → (before after : Writers) → Result Tally RunFault → Type 0
 
 -- How a run of a command ended over an input with these octets, where they are known. Memory was
--- wanted before anything was read; or it went through, and all is handed on; or a fault ended it.
--- The fault comes from what the input or a writer has counted, and then the rest is flushed.
+-- wanted before anything was read; or the run went through, and all is handed on; or a fault ended
+-- it. The input or a writer has counted that fault, and then the rest is flushed.
 pub data EndsRun (promise : Promise) (octets : Option (List ℕ)) (before after : Writers)
     (ran : Result Tally RunFault) : Type 0 where
   WantsMemory : ran ≡ Err Memory → after ≡ before → EndsRun promise octets before after ran

@@ -29,7 +29,7 @@ tally_after tally verdict =
       refused = tally.refused + counted_refused verdict;
     }
 
--- the texts of pieces were written and counted, or a front of them, where a writer failed or memory
+-- the texts of pieces were written and counted, or a prefix of them, where a writer failed or memory
 -- was refused
 abbrev pub LeavesPieces : (output output' errors errors' : Option (List ℕ)) → List Piece
     → Result Verdict RunFault → Type 0
