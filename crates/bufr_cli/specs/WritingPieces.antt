@@ -29,8 +29,8 @@ tally_after tally verdict =
       refused = tally.refused + counted_refused verdict;
     }
 
--- the texts of pieces were written and counted, or a prefix of them, where a writer failed or memory
--- was refused
+-- the texts of pieces were written and counted, or a prefix of them, where a writer failed or
+-- memory was refused
 abbrev pub LeavesPieces : (output output' errors errors' : Option (List ℕ)) → List Piece
     → Result Verdict RunFault → Type 0
 LeavesPieces output output' errors errors' pieces (Ok verdict) =
