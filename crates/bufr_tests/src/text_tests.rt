@@ -11,7 +11,7 @@ use crate::support::{
 use bufr_bits::{Device, End, ScriptOut, Sink};
 use bufr_frame::{Message, RunFault};
 use bufr_tables::{Fxy, TableB, Template};
-use bufr_text::{Part, write_all, write_dump, write_ls, write_parts};
+use bufr_text::{LineWriter, Part, write_all, write_dump, write_ls, write_parts};
 use bufr_walk::{Steps, read_message};
 use std::cell::Cell;
 
@@ -96,6 +96,38 @@ fn writes_long_parts(rt: HostRuntime) {
     let long = [0x61; 300];
     let parts = [Part::Text(b"<"), Part::Text(&long), Part::Text(b">")];
     assert_parts(&rt, &parts, &joined(&rt, &[b"ten octets <", &long, b">"]));
+}
+
+/// Pushes a text of each kind to a block of `room` octets, at most 64.
+fn push_each(rt: &impl Runtime, room: usize, w: &mut ScriptOut) {
+    let mut block = [0; 64];
+    let Some(octets) = block.get_mut(..room) else {
+        return;
+    };
+    let mut line = LineWriter::new(octets, w);
+    line.push(b"a ");
+    line.push_named(b"b=", 7);
+    line.push_named(b" c=", 1_024);
+    line.push_padded(6, 3);
+    line.push_flag(true);
+    line.push_decimal(u64::MAX);
+    line.hand_on();
+    ok(rt, line.status());
+}
+
+/// A line is the same over a block of any size.
+#[test]
+fn pushes_a_line_at_each_room(rt: HostRuntime) {
+    for room in 0..64 {
+        let mut w = writer(&rt, 3, (4096, End::Fail));
+        push_each(&rt, room, &mut w);
+        assert_same(
+            &rt,
+            &w.taken(),
+            &b"a b=7 c=1024006118446744073709551615".as_slice(),
+            &room,
+        );
+    }
 }
 
 /// Table B, and the template of a message.
