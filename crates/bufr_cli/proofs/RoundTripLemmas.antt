@@ -32,11 +32,10 @@ use Rattle.bufr_cli.specs.DumpPieces.{IsDataPiece, IsTemplatePiece, IsMessagePie
 use Rattle.bufr_text.specs.declared.form.Form.TheVariants.{AsWritten}
 use Rattle.bufr_cli.specs.EncodePieces.{encoded, told_piece, up_to_refused}
 use Rattle.bufr_cli.specs.Pieces.{Piece, OnOutput, OnErrors, output_of, errors_of, is_accepted, is_refused}
-use Rattle.bufr_cli.specs.RoundTrip.{accepted_in, accepted_messages, dump_pieces, dumped, longer_by, event_octets, rebuilding, rebuilt, text_pieces, IsBuiltAgain, IsWholeRound, IsCanonicalMessage, RoundTrips}
+use Rattle.bufr_cli.specs.RoundTrip.{accepted_in, accepted_messages, dump_pieces, dumped, longer_by, event_octets, rebuilding, rebuilt, text_pieces, IsBuiltAgain, IsWholeRound, IsCanonicalMessage, RoundTrips, Written}
 use Rattle.bufr_cli.specs.Devices.{holding}
 use Rattle.bufr_cli.specs.Whole.{Dumps, Encodes}
 use Rattle.bufr_cli.specs.Running.{GivesPieces, Tallies}
-use Rattle.bufr_cli.specs.declared.tally.Tally.{Tally}
 use Rattle.bufr_cli.proofs.DumpLemmas.{one-piece}
 
 -- the numbers of a slice of octets
@@ -300,16 +299,16 @@ module _ (b : List Row) (d : List Sequence) (piece : StreamEvent → Piece) (giv
 
   -- the first dumps a stream, the second encodes what the first wrote, the third dumps what the
   -- second wrote
-  pub whole-round : (records : List Record) (stream text messages lines again faults : List ℕ) (first second third : Tally) → AreRows records b → AllByRecursion IsOctet stream
-      → text ≡ dumped piece stream → Tallies first (dump_pieces piece stream)
-      → messages ≡ flat_map output_of (text_pieces b d text) → lines ≡ flat_map errors_of (text_pieces b d text) → Tallies second (text_pieces b d text)
-      → again ≡ dumped piece messages → faults ≡ flat_map errors_of (dump_pieces piece messages) → Tallies third (dump_pieces piece messages)
-      → IsWholeRound b d stream text messages lines again faults first second third
-  whole-round records stream text messages lines again faults first second third rows octets is_text first_counts is_messages is_lines second_counts is_again is_faults third_counts =
+  pub whole-round : (records : List Record) (stream : List ℕ) (text messages again : Written) → AreRows records b → AllByRecursion IsOctet stream
+      → text.output ≡ dumped piece stream → Tallies text.tally (dump_pieces piece stream)
+      → messages.output ≡ flat_map output_of (text_pieces b d text.output) → messages.errors ≡ flat_map errors_of (text_pieces b d text.output) → Tallies messages.tally (text_pieces b d text.output)
+      → again.output ≡ dumped piece messages.output → again.errors ≡ flat_map errors_of (dump_pieces piece messages.output) → Tallies again.tally (dump_pieces piece messages.output)
+      → IsWholeRound b d stream text messages again
+  whole-round records stream text messages again rows octets is_text first_counts is_messages is_lines second_counts is_again is_faults third_counts =
       let t = round-trips records stream rows octets in
-      let built : text_pieces b d text ≡ rebuilding b d piece stream = ap (text_pieces b d) is_text in
-      let are : messages ≡ rebuilt b d piece stream = is_messages ∙ ap (flat_map output_of) built in
-      let pieces : dump_pieces piece messages ≡ filter is_accepted (dump_pieces piece stream) = ap (dump_pieces piece) are ∙ t.same_pieces in
+      let built : text_pieces b d text.output ≡ rebuilding b d piece stream = ap (text_pieces b d) is_text in
+      let are : messages.output ≡ rebuilt b d piece stream = is_messages ∙ ap (flat_map output_of) built in
+      let pieces : dump_pieces piece messages.output ≡ filter is_accepted (dump_pieces piece stream) = ap (dump_pieces piece) are ∙ t.same_pieces in
       let R : List ℕ → Type 0 = λ l. AllZip (IsBuiltAgain b d) (accepted_messages piece stream) (accepted_messages piece l) in
       record {
         same_text = is_again ∙ ap (flat_map output_of) pieces ∙ accepted-output (dump_pieces piece stream) ∙ sym is_text;
@@ -333,11 +332,11 @@ same-pieces b d p q gives given (here ∷ es) =
     ap (λ x. x ∷ map p es) (one-piece b d here (p here) (q here) (gives here) (given here)) ∙ ap (λ l. q here ∷ l) (same-pieces b d p q gives given es)
 
 -- three runs of the program
-pub three-runs : (records : List Record) (b : List Row) (d : List Sequence) (stream text messages lines again faults : List ℕ) (e e' : Option (List ℕ)) (first second third : Tally) → AreRows records b → AllByRecursion IsOctet stream
-    → Dumps b d (holding (Some []) e) (holding (Some text) e') first stream → Encodes AsWritten b d (holding (Some []) (Some [])) (holding (Some messages) (Some lines)) second text → Dumps b d (holding (Some []) (Some [])) (holding (Some again) (Some faults)) third messages
-    → IsWholeRound b d stream text messages lines again faults first second third
-three-runs records b d stream text messages lines again faults e e' first second third rows octets (piece, gives, (wrote, counts)) (encodes, counted) (other, given, (dumps, counts')) =
-    let same : dump_pieces other messages ≡ dump_pieces piece messages = same-pieces b d other piece given gives (scan messages) in
-    let T : List Piece → Type 0 = λ ps. Tallies third ps in
-    whole-round b d piece gives records stream text messages lines again faults first second third rows octets
+pub three-runs : (records : List Record) (b : List Row) (d : List Sequence) (stream : List ℕ) (text messages again : Written) (e e' : Option (List ℕ)) → AreRows records b → AllByRecursion IsOctet stream
+    → Dumps b d (holding (Some []) e) (holding (Some text.output) e') text.tally stream → Encodes AsWritten b d (holding (Some []) (Some [])) (holding (Some messages.output) (Some messages.errors)) messages.tally text.output → Dumps b d (holding (Some []) (Some [])) (holding (Some again.output) (Some again.errors)) again.tally messages.output
+    → IsWholeRound b d stream text messages again
+three-runs records b d stream text messages again e e' rows octets (piece, gives, (wrote, counts)) (encodes, counted) (other, given, (dumps, counts')) =
+    let same : dump_pieces other messages.output ≡ dump_pieces piece messages.output = same-pieces b d other piece given gives (scan messages.output) in
+    let T : List Piece → Type 0 = λ ps. Tallies again.tally ps in
+    whole-round b d piece gives records stream text messages again rows octets
     wrote.output counts encodes.output encodes.errors counted (dumps.output ∙ ap (flat_map output_of) same) (dumps.errors ∙ ap (flat_map errors_of) same) (subst T same counts')

@@ -105,35 +105,44 @@ pub record RunsInMemory (ran : RunInMemory) (pieces : List Piece) : Type 0 where
   pub errors : taken_of ran.errors ≡ flat_map errors_of pieces
   pub tallies : Tallies ran.tally pieces
 
--- A stream was dumped to a text, the text encoded to messages with these fault lines, and the
--- messages dumped again to a text with these faults: the two texts are the same, nothing was
--- refused but by the first run, and the messages have, one by one, the readings of those that were
--- dumped.
-pub record IsWholeRound (b : List Row) (d : List Sequence)
-    (stream text messages lines again faults : List ℕ) (first second third : Tally) : Type 0 where
-  pub same_text : again ≡ text
-  pub as_many : second.accepted ≡ first.accepted
-  pub none_refused : second.refused ≡ 0
-  pub no_line : lines ≡ []
-  pub none_refused_again : third.refused ≡ 0
-  pub no_fault : faults ≡ []
+-- What a run wrote: its output, its fault lines and its counts.
+pub record Written : Type 0 where
+  pub output : List ℕ
+  pub errors : List ℕ
+  pub tally : Tally
+
+-- A stream was dumped to a text, the text encoded to messages, and the messages dumped again. The
+-- two texts are the same, nothing was refused but by the first run, and the messages have, one by
+-- one, the readings of those that were dumped.
+pub record IsWholeRound (b : List Row) (d : List Sequence) (stream : List ℕ)
+    (text messages again : Written) : Type 0 where
+  pub same_text : again.output ≡ text.output
+  pub as_many : messages.tally.accepted ≡ text.tally.accepted
+  pub none_refused : messages.tally.refused ≡ 0
+  pub no_line : messages.errors ≡ []
+  pub none_refused_again : again.tally.refused ≡ 0
+  pub no_fault : again.errors ≡ []
   -- what `dump` writes for each event, by which the accepted messages are known
   pub piece : StreamEvent → Piece
   pub gives : GivesPieces (IsDumpPiece b d) piece
   -- the messages that were written, and nothing else, each with the reading of the one that was
   -- dumped
-  pub are_messages : messages ≡ concat (accepted_messages piece messages)
+  pub are_messages : messages.output ≡ concat (accepted_messages piece messages.output)
   pub readings : AllZip (IsBuiltAgain b d) (accepted_messages piece stream)
-      (accepted_messages piece messages)
-  pub no_longer : length messages ≤ length stream + longer_by (accepted_messages piece stream)
+      (accepted_messages piece messages.output)
+  pub no_longer :
+      length messages.output ≤ length stream + longer_by (accepted_messages piece stream)
   -- where those that were dumped are as an encoder writes them, these are the same, octet for octet
   pub canonical : AllByRecursion (IsCanonicalMessage b d) (accepted_messages piece stream)
-      → messages ≡ concat (accepted_messages piece stream)
+      → messages.output ≡ concat (accepted_messages piece stream)
+
+-- what a run into memory wrote
+abbrev pub written_by : RunInMemory → Written
+written_by ran =
+    record { output = taken_of ran.output; errors = taken_of ran.errors; tally = ran.tally }
 
 -- the same of three runs into memory
 abbrev pub IsWholeRoundOf : List Row → List Sequence → (stream : List ℕ) → Round → Type 0
 IsWholeRoundOf b d stream round =
-    IsWholeRound b d stream (taken_of round.text.output) (taken_of round.messages.output)
-    (taken_of round.messages.errors)
-    (taken_of round.again.output) (taken_of round.again.errors) round.text.tally
-    round.messages.tally round.again.tally
+    IsWholeRound b d stream (written_by round.text) (written_by round.messages)
+    (written_by round.again)

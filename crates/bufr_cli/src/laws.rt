@@ -6,10 +6,9 @@ ghost use Rattle.bufr_cli.specs.Corrected.{IsDumpedInOneSpelling};
 ghost use Rattle.bufr_cli.specs.Devices.{holding};
 ghost use Rattle.bufr_cli.specs.DumpPieces.{IsDumpPiece};
 ghost use Rattle.bufr_cli.specs.Pieces.{Piece};
-ghost use Rattle.bufr_cli.specs.RoundTrip.{RoundTrips, IsWholeRound, IsCanonicalMessage, accepted_messages, rebuilt};
+ghost use Rattle.bufr_cli.specs.RoundTrip.{RoundTrips, IsWholeRound, IsCanonicalMessage, Written, accepted_messages, rebuilt};
 ghost use Rattle.bufr_cli.specs.Running.{GivesPieces};
 ghost use Rattle.bufr_cli.specs.Whole.{Dumps, Encodes};
-ghost use Rattle.bufr_cli.specs.declared.tally.Tally.{Tally};
 ghost use Rattle.bufr_frame.specs.Scan.{StreamEvent};
 ghost use Rattle.bufr_tables.specs.Records.{Record};
 ghost use Rattle.bufr_tables.specs.TableB.{Row, AreRows};
@@ -63,15 +62,15 @@ pub fn canonical_streams_are_built_as_they_are()
 /// messages are the same octet for octet.
 pub fn runs_close_the_round()
     ensures { (records : List Record) (table_b : List Row) (table_d : List Sequence)
-        (stream text messages lines again faults : List ℕ) (e e' : Option (List ℕ))
-        (first second third : Tally)
+        (stream : List ℕ) (text messages again : Written) (e e' : Option (List ℕ))
         → AreRows records table_b → AllByRecursion IsOctet stream
-        → Dumps table_b table_d (holding (Some []) e) (holding (Some text) e') first stream
+        → Dumps table_b table_d (holding (Some []) e) (holding (Some text.output) e') text.tally
+        stream
         → Encodes AsWritten table_b table_d (holding (Some []) (Some []))
-        (holding (Some messages) (Some lines)) second text
+        (holding (Some messages.output) (Some messages.errors)) messages.tally text.output
         → Dumps table_b table_d (holding (Some []) (Some []))
-        (holding (Some again) (Some faults)) third messages
-        → IsWholeRound table_b table_d stream text messages lines again faults first second third }
+        (holding (Some again.output) (Some again.errors)) again.tally messages.output
+        → IsWholeRound table_b table_d stream text messages again }
 {}
 
 /// For every text, in every form and by all tables that were read: what `encode` builds of it is

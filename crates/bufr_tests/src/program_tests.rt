@@ -471,14 +471,16 @@ impl<'a> Write for Full<'a> {
     }
 }
 
-/// The status of a call over the program's own writer on a full one, which is flushed and dropped.
+/// The status of a call over the program's own writer that holds so many octets, on a full one.
+/// The writer is flushed and dropped.
 fn status_if_full(
     rt: &impl Runtime,
     words: &[&'static str],
     inputs: &Library<'_>,
+    capacity: usize,
     calls: &Cell<usize>,
 ) -> u8 {
-    let full = BufWriter::with_capacity(rt.alloc(), 1000, Full { calls });
+    let full = BufWriter::with_capacity(rt.alloc(), capacity, Full { calls });
     let mut w = Device::new(Buffered::new(ok(rt, full)));
     let mut e = writer(rt, 4096, (4096, End::Fail));
     let status = call(rt.alloc(), words, inputs, &mut w, &mut e);
@@ -487,7 +489,19 @@ fn status_if_full(
     status
 }
 
-/// Asserts that a command of these arguments makes one call of a full writer.
+/// Asserts that a command makes one call of a full writer, through one that holds so many octets.
+fn assert_one_call(
+    rt: &impl Runtime,
+    words: &[&'static str],
+    inputs: &Library<'_>,
+    capacity: usize,
+) {
+    let calls = Cell::new(0);
+    let status = status_if_full(rt, words, inputs, capacity, &calls);
+    assert_same(rt, &(status, calls.get()), &(2, 1), &capacity);
+}
+
+/// Asserts the same of a command, where its output is held and where it is not.
 fn assert_tried_once(
     rt: &impl Runtime,
     command: &'static str,
@@ -496,9 +510,8 @@ fn assert_tried_once(
 ) {
     let words = line_of(rt, command, arguments);
     let inputs = Library { one: b"", standard };
-    let calls = Cell::new(0);
-    let status = status_if_full(rt, words.as_slice(), &inputs, &calls);
-    assert_same(rt, &(status, calls.get()), &(2, 1), &command);
+    assert_one_call(rt, words.as_slice(), &inputs, 10);
+    assert_one_call(rt, words.as_slice(), &inputs, 1000);
 }
 
 /// A write that failed is not tried again: not by the run, a flush, nor the drop of the writer.

@@ -11,5 +11,5 @@ returns-clause-round c = λ records rows.
     let text = c.in_ok-text.ensures found.0 found.1 in
     let messages = rw c.taken.ensures at c.in_ok-messages.ensures in
     let again = rw c.taken-2.ensures at c.in_ok-again.ensures found.0 found.1 in
-    whole-round c.args.table_b.now c.args.table_d.now found.0 found.1 records c.args.stream.now _ _ _ _ _ _ _ _ rows (octets-all c.args.stream.now small)
+    whole-round c.args.table_b.now c.args.table_d.now found.0 found.1 records c.args.stream.now _ _ _ rows (octets-all c.args.stream.now small)
     text.output text.tallies messages.output messages.errors messages.tallies again.output again.errors again.tallies
