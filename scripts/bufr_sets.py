@@ -201,13 +201,18 @@ def run(words: list, given: BinaryIO, output: Optional[BinaryIO], errors: Binary
     return child
 
 
+def stop() -> None:
+    """Ends what runs."""
+    for child in Running.programs:
+        child.kill()
+
+
 def leave(number: int, _frame) -> None:
     """Ends what runs, and then this script by that signal."""
     if Running.is_starting:
         Running.signals.append(number)
         return
-    for child in Running.programs:
-        child.kill()
+    stop()
     signal.signal(number, signal.SIG_DFL)
     os.kill(os.getpid(), number)
 
