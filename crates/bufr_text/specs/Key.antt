@@ -1,8 +1,8 @@
 -- The keys of the header as the code has them.
 -- Cited by private steps only.
-use Rattle.std.specs.Prelude.{ℕ, ◌-◌, nat_le, Bool, ◌&&◌, List, [], ◌∷◌, ◌++◌, length, take, drop}
+use Rattle.std.specs.Prelude.{ℕ, ◌+◌, ◌-◌, nat_le, Bool, ◌&&◌, List, [], ◌∷◌, ◌++◌, decimal, length, take, drop}
 use Rattle.std.specs.Str.{bytes_eq}
-use Rattle.bufr_text.specs.Line.{Key}
+use Rattle.bufr_text.specs.Line.{Key, key_in, keys}
 
 -- what stands before the value of a key: a line feed, its name and a space
 abbrev pub lead_of : Key → List ℕ
@@ -11,3 +11,9 @@ lead_of key = 10 ∷ (key.name ++ 32 ∷ [])
 -- what stands between the first octet and the last is this name
 abbrev pub is_named : (lead name : List ℕ) → Bool
 is_named lead name = nat_le 2 (length lead) && bytes_eq name (take (length lead - 2) (drop 1 lead))
+
+-- the values of the keys from one on, each after what stands before it
+unfoldable pub header_text : (key : ℕ) → List ℕ → List ℕ
+header_text key [] = []
+header_text key (value ∷ more) =
+    lead_of (key_in keys key) ++ (decimal value ++ header_text (key + 1) more)

@@ -1,5 +1,7 @@
 //! Digits that fill a prefix of some octets, where there is room for them.
 ghost use Rattle.std.specs.Prelude.{◌≡◌, ◌≤◌, ◌+◌, ◌++◌, decimal, length, take, IfSome};
+ghost use Rattle.bufr_bits.specs.DecimalText.{pointed};
+ghost use Rattle.bufr_text.specs.Writing.{zero_padded};
 
 use itoa::write_digits;
 
@@ -64,4 +66,39 @@ pub(crate) fn fill_named(name: &[u8], value: u64, free: &mut [u8]) -> Option<usi
         return Some(fill_digits(name, value, 2, free));
     }
     Some(fill_digits(name, value, count_digits(value), free))
+}
+
+/// Fills all octets with the last digits of a number, and returns the number that the digits
+/// before them write.
+#[inline(always)]
+fn fill_fraction(value: u64, digits: &mut [u8]) -> u64
+    ensures { decimal result ++ digits.new ≡ zero_padded (length digits.old + 1) value }
+{
+    let mut left = value;
+    let mut at = digits.len();
+    while at > 0 {
+        at -= 1;
+        digits[at] = b'0' + (left % 10) as u8;
+        left /= 10;
+    }
+    left
+}
+
+/// Fills a prefix with the digits of a number and a point before the last `places` of them, and
+/// returns how many octets these are; `None` where there is no room.
+#[inline(always)]
+pub(crate) fn fill_pointed(value: u64, places: u16, free: &mut [u8]) -> Option<usize>
+    ensures within { IfSome result (λ len. len ≤ length free.new) }
+    ensures text { IfSome result (λ len. take len free.new ≡ pointed places (decimal value)) }
+{
+    let places = usize::from(places);
+    let len = count_digits(value).max(places + 1) + 1;
+    if len > free.len() {
+        return None;
+    }
+    let whole = fill_fraction(value, &mut free[len - places..len]);
+    let point = len - places - 1;
+    free[point] = b'.';
+    write_digits(whole, free, point);
+    Some(len)
 }

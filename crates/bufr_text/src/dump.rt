@@ -5,16 +5,15 @@ ghost use Rattle.bufr_walk.specs.Calls.{Call, calls_of, item_call, subset_call, 
 ghost use Rattle.bufr_walk.specs.Outcome.{course_of};
 ghost use Rattle.bufr_walk.specs.Reading.{IsReading, Values};
 ghost use Rattle.bufr_walk.specs.ViewModel.{seen};
-ghost use Rattle.bufr_text.specs.Dump.{dump_text_of};
+ghost use Rattle.bufr_text.specs.Dump.{dump_text_of, head_lines, text_of_lines};
 ghost use Rattle.bufr_text.specs.DumpItems.{dump_items_of};
 ghost use Rattle.bufr_text.specs.Pen.{run_fault_of};
 ghost use Rattle.bufr_text.specs.DumpWritten.{CountsFaults, ReadsMessage, WritesPrefix, WritesStretches, call_line, call_stretch, stretches_of};
 
-use crate::head_lines::write_head_lines;
-use crate::item_line::make_item_line;
-use crate::laid::{lay_named, lay_text};
+use crate::head_lines::push_head_lines;
+use crate::item_line::push_item;
+use crate::line_writer::LineWriter;
 use crate::part::write_all;
-use crate::slice::suffix;
 use bufr_bits::Sink;
 use bufr_frame::{Message, RunFault};
 use bufr_walk::{ItemView, Reading, ShowFault, SpecCache, Steps, Visitor};
@@ -25,7 +24,7 @@ use std::alloc::Global;
 const LINE: usize = 1024;
 
 /// The octets of the longest line that begins a subset.
-const SUBSET_LINE: usize = 13;
+const SUBSET_LINE: usize = 28;
 
 /// Writes the line that begins a subset.
 // rule: text-subset
@@ -36,10 +35,14 @@ fn write_subset<W: Sink>(number: u16, w: &mut W) -> Result<(), RunFault>
         (W.empty_writes w.new) result }
     ensures flushes { W.flushes w.new ≡ W.flushes w.old }
 {
-    let mut line = [0; SUBSET_LINE];
-    let end = lay_text(b"\n", &mut line, SUBSET_LINE);
-    let start = lay_named(b"subset ", number, &mut line, end);
-    write_all(suffix(&line, start), w)
+    let mut block = [0; SUBSET_LINE];
+    let mut line = LineWriter::new(&mut block, w);
+    line.push_named(b"subset ", u64::from(number));
+    line.push(b"\n");
+    line.hand_on();
+    let outcome = line.status();
+    let _ = line.into_sink();
+    outcome
 }
 
 /// Writes the line of an item, put together in `line`.
@@ -52,8 +55,32 @@ fn write_item<W: Sink>(item: &ItemView<'_>, line: &mut Vec<u8>, w: &mut W) -> Re
         (W.empty_writes w.new) result }
     ensures flushes { W.flushes w.new ≡ W.flushes w.old }
 {
-    let start = make_item_line(item, line)?;
-    write_all(suffix(line.as_slice(), start), w)
+    let mut lines = LineWriter::new(line.as_mut_slice(), w);
+    push_item(&mut lines, item);
+    lines.hand_on();
+    let outcome = lines.status();
+    let _ = lines.into_sink();
+    outcome
+}
+
+/// Writes the lines before the subsets, put together in `line`.
+fn write_head_lines<W: Sink>(
+    message: &Message<'_>,
+    line: &mut Vec<u8>,
+    w: &mut W,
+) -> Result<(), RunFault>
+    ensures writes { WritesPrefix (W.taken w.old) (W.taken w.new)
+        (text_of_lines (head_lines message.now)) result }
+    ensures counts { CountsFaults (W.failures w.old) (W.failures w.new) (W.empty_writes w.old)
+        (W.empty_writes w.new) result }
+    ensures flushes { W.flushes w.new ≡ W.flushes w.old }
+{
+    let mut lines = LineWriter::new(line.as_mut_slice(), w);
+    push_head_lines(&mut lines, message);
+    lines.hand_on();
+    let outcome = lines.status();
+    let _ = lines.into_sink();
+    outcome
 }
 
 /// Who is shown a reading to write its lines.
@@ -236,7 +263,7 @@ pub fn write_dump_by<W: Sink>(
     ensures bounded { steps.new ≤ places reading.now.template * reading.now.bits }
 {
     *steps = Steps::new();
-    let mut line = Vec::with_capacity(alloc, LINE)?;
+    let mut line = vec![in alloc; 0; LINE]?;
     write_head_lines(message, &mut line, w)?;
     write_subsets(alloc, reading, cache, &mut line, w, steps)?;
     write_all(b"end\n", w)

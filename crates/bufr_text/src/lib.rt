@@ -29,8 +29,10 @@ mod progress;
 mod put;
 mod quoted;
 pub mod readback_law;
+mod scaled;
 mod slice;
 mod step;
+mod texts;
 
 pub use bufr_fill::DraftEntry;
 pub use document::Document;

@@ -1,9 +1,10 @@
 //! A writer of lines: octets laid forward into a block of memory, and handed on to a sink.
 ghost use Rattle.std.specs.Prelude.{◌≡◌, ◌≤◌, ◌++◌, [], Ok, length, take, decimal, replicate};
+ghost use Rattle.bufr_bits.specs.DecimalText.{pointed};
 ghost use Rattle.bufr_text.specs.Lines.{Pushes};
 ghost use Rattle.bufr_text.specs.Writing.{Writes, CountsWrites, flag, zero_padded};
 
-use crate::digits::{count_digits, fill_named};
+use crate::digits::{count_digits, fill_named, fill_pointed};
 use crate::part::write_all;
 use bufr_bits::Sink;
 use bufr_frame::RunFault;
@@ -133,6 +134,16 @@ impl<'b, 'w, W: Sink> LineWriter<'b, 'w, W> {
         }
     }
 
+    /// Writes what is held where that is at least so many octets, at the end of a line.
+    #[inline(always)]
+    pub fn end_line(&mut self, least: usize)
+        ensures { Pushes self.old [] self.new }
+    {
+        if self.len >= least {
+            self.hand_on();
+        }
+    }
+
     /// Pushes octets.
     #[inline(always)]
     pub fn push(&mut self, octets: &[u8])
@@ -185,6 +196,26 @@ impl<'b, 'w, W: Sink> LineWriter<'b, 'w, W> {
     {
         self.push_through(name);
         self.push_decimal_through(value);
+    }
+
+    /// Pushes a number that may be 2^64 or more, as plain decimal digits.
+    #[inline(never)]
+    pub fn push_wide_decimal(&mut self, value: u128)
+        ensures { Pushes self.old (decimal value) self.new }
+    {
+        let mut buffer = Buffer::new();
+        self.push(buffer.format(value).as_bytes());
+    }
+
+    /// Pushes a number with a point before the last `places` of its digits.
+    #[inline(always)]
+    pub(crate) fn push_pointed(&mut self, value: u64, places: u16)
+        ensures { Pushes self.old (pointed places (decimal value)) self.new }
+    {
+        match fill_pointed(value, places, &mut self.octets[self.len..]) {
+            Some(len) => self.len += len,
+            None => self.push_wide_pointed(u128::from(value), places),
+        }
     }
 
     /// Pushes digits `0`.
