@@ -1,9 +1,15 @@
--- How many digits a number has.
-use Rattle.std.proofs.Common.{◌≡◌, ◌∙◌, ℕ, ◌+◌, ◌/◌, ◌^◌, ◌<◌, ◌≤◌, List, ◌++◌, length, take, drop, ap, sym, arith, length-append}
-use Rattle.std.proofs.lemmas.List.{take-append-drop}
-use Rattle.std.proofs.Math.Seq.{take-append_seam, take-append-add}
-use Rattle.std.specs.Prelude.{decimal}
-use Rattle.std.proofs.lemmas.Fmt.{decimal_digit, decimal_step, length-decimal-le}
+-- How many digits a number has, numbers in at least so many digits, and with a point before the
+-- last of them.
+use Rattle.std.proofs.Common.{◌≡◌, ◌∙◌, ℕ, zero, suc, ◌+◌, ◌-◌, ◌/◌, ◌%◌, ◌^◌, ◌<◌, ◌≤◌, List, [], ◌∷◌, ◌++◌, length, max, take, drop, refl, ap, sym, inl, inr, arith, length-append, length-drop, append_assoc}
+use Rattle.std.proofs.lemmas.Bool.{cases_lt}
+use Rattle.std.proofs.lemmas.List.{drop-set, length-replicate, length-set, length-take-le, take-append-drop}
+use Rattle.std.proofs.Math.ListN.{set}
+use Rattle.std.proofs.Math.Seq.{take-append_seam, take-append-add, drop-append_seam}
+use borrow.Rule.Slice.PartMut.{put_mid, post_of}
+use Rattle.bufr_bits.specs.DecimalText.{pointed}
+use Rattle.std.specs.Prelude.{decimal, replicate}
+use Rattle.std.proofs.lemmas.Fmt.{decimal_digit, decimal_step, decimal_nonempty, length-decimal-le}
+use Rattle.bufr_text.specs.Writing.{zero_padded}
 
 pub one_digit : (n : ℕ) → n < 10 → length (decimal n) ≡ 1
 one_digit n few = ap length (decimal_digit n few)
@@ -35,7 +41,7 @@ four_more_digits n long fits =
 pub at_most_20_digits : (n : ℕ) → n < 2 ^ 64 → length (decimal n) ≤ 20
 at_most_20_digits n fits = length-decimal-le 20 n (omega arith) (omega (arith, fits)) fits
 
--- a name and digits fill a front
+-- a name and digits fill a prefix
 pub named_digits : (name copied free line : List ℕ) (value count start : ℕ) → copied ≡ name → count ≡ length (decimal value) → start + length (decimal value) ≡ length name + count
     → drop start line ≡ decimal value ++ drop (length name + count) (copied ++ drop (length name) free) → take start line ≡ take start (copied ++ drop (length name) free) → take (length name + count) line ≡ name ++ decimal value
 named_digits name copied free line value count start same digits sum written before =
@@ -46,3 +52,117 @@ named_digits name copied free line value count start same digits sum written bef
     let whole : line ≡ name ++ (decimal value ++ behind) = sym (take-append-drop start line) ∙ ap (λ l. l ++ drop start line) front ∙ ap (λ l. name ++ l) written in
     ap (take (length name + count)) whole ∙ take-append-add name (decimal value ++ behind) count
     ∙ ap (λ n. name ++ take n (decimal value ++ behind)) digits ∙ ap (λ l. name ++ l) (take-append_seam (decimal value) behind)
+
+zeros_more : (count : ℕ) → replicate {A = ℕ} count 48 ++ 48 ∷ [] ≡ replicate (suc count) 48
+zeros_more zero = refl
+zeros_more (suc count) = ap (λ (t : List ℕ). 48 ∷ t) (zeros_more count)
+
+step_long : (m n : ℕ) → 10 ≤ n → n < 2 ^ 64 → zero_padded (m + 1) n ≡ zero_padded m (n / 10) ++ (48 + n % 10) ∷ []
+step_long m n long fits =
+    let step = decimal_step n long fits in
+    let size : length (decimal n) ≡ length (decimal (n / 10)) + 1 = ap length step ∙ length-append _ _ in
+    let gap : m + 1 - length (decimal n) ≡ m - length (decimal (n / 10)) = omega (arith, size) in
+    ap (λ k. replicate k 48 ++ decimal n) gap
+    ∙ ap (λ t. replicate (m - length (decimal (n / 10))) 48 ++ t) step
+    ∙ sym (append_assoc (replicate (m - length (decimal (n / 10))) 48) (decimal (n / 10)) ((48 + n % 10) ∷ []))
+
+step_short : (k n : ℕ) → n < 10 → zero_padded (suc k + 1) n ≡ zero_padded (suc k) (n / 10) ++ (48 + n % 10) ∷ []
+step_short k n few =
+    let none : n / 10 ≡ 0 = omega arith in
+    let same : n % 10 ≡ n = omega arith in
+    let zeros : suc k + 1 - 1 ≡ suc k = omega arith in
+    let fewer : suc k - 1 ≡ k = omega arith in
+    ap (λ d. replicate (suc k + 1 - length d) 48 ++ d) (decimal_digit n few)
+    ∙ ap (λ j. replicate j 48 ++ (48 + n) ∷ []) zeros
+    ∙ ap (λ t. t ++ (48 + n) ∷ []) (sym (zeros_more k))
+    ∙ ap (λ j. (replicate j 48 ++ 48 ∷ []) ++ (48 + n) ∷ []) (sym fewer)
+    ∙ ap (λ d. (replicate (suc k - length d) 48 ++ d) ++ (48 + n) ∷ []) (sym (decimal_digit 0 (omega arith)))
+    ∙ ap (λ j. zero_padded (suc k) j ++ (48 + n) ∷ []) (sym none)
+    ∙ ap (λ j. zero_padded (suc k) (n / 10) ++ (48 + j) ∷ []) (sym same)
+
+-- the last digit of two or more
+zero_padded_step : (m n : ℕ) → 1 ≤ m → n < 2 ^ 64 → zero_padded (m + 1) n ≡ zero_padded m (n / 10) ++ (48 + n % 10) ∷ []
+zero_padded_step zero n some fits = absurd (omega arith)
+zero_padded_step (suc k) n some fits = elim (cases_lt n 10) [ inl few ↦ step_short k n few | inr long ↦ step_long (suc k) n long fits ]
+
+-- one digit asks for no zero
+zero_padded_one : (n : ℕ) → n < 2 ^ 64 → zero_padded 1 n ≡ decimal n
+zero_padded_one n fits =
+    let some = decimal_nonempty n fits in
+    let none : 1 - length (decimal n) ≡ 0 = omega (arith, some) in
+    ap (λ k. replicate k 48 ++ decimal n) none
+
+-- with one more of the last digits
+pub fraction_more : (at left : ℕ) (after line all : List ℕ) → 0 < at → left < 2 ^ 64 → after ≡ (48 + left % 10) ∷ line
+    → zero_padded (at + 1) left ++ line ≡ all → zero_padded (at - 1 + 1) (left / 10) ++ after ≡ all
+fraction_more at left after line all some fits is so =
+    let now : at - 1 + 1 ≡ at = omega arith in
+    ap (λ k. zero_padded k (left / 10) ++ after) now
+    ∙ ap (λ t. zero_padded at (left / 10) ++ t) is
+    ∙ sym (append_assoc (zero_padded at (left / 10)) ((48 + left % 10) ∷ []) line)
+    ∙ ap (λ t. t ++ line) (sym (zero_padded_step at left (omega arith) fits))
+    ∙ so
+
+-- and with all of them
+pub fraction_done : (at left : ℕ) (line all : List ℕ) → at ≤ 0 → left < 2 ^ 64 → zero_padded (at + 1) left ++ drop at line ≡ all → decimal left ++ line ≡ all
+fraction_done at left line all none fits so =
+    let is : at ≡ 0 = omega arith in
+    ap (λ t. t ++ line) (sym (zero_padded_one left fits)) ∙ ap (λ k. zero_padded (k + 1) left ++ drop k line) (sym is) ∙ so
+
+-- how long a number is with zeros in front
+pub length_zero_padded : (digits n : ℕ) → length (zero_padded digits n) ≡ digits - length (decimal n) + length (decimal n)
+length_zero_padded digits n =
+    length-append (replicate (digits - length (decimal n)) 48) (decimal n) ∙ ap (λ k. k + length (decimal n)) (length-replicate _ _)
+
+-- a point before the last of some octets
+point_before : (whole fraction all : List ℕ) (places : ℕ) → whole ++ fraction ≡ all → length fraction ≡ places
+    → whole ++ 46 ∷ fraction ≡ take (length all - places) all ++ 46 ∷ drop (length all - places) all
+point_before whole fraction all places split long =
+    let F : ℕ → List ℕ → List ℕ = λ k l. take k l ++ 46 ∷ drop k l in
+    let size : length (whole ++ fraction) - places ≡ length whole = omega (arith, length-append whole fraction, long) in
+    let seam : F (length whole) (whole ++ fraction) ≡ whole ++ 46 ∷ fraction = ap (λ l. l ++ 46 ∷ drop (length whole) (whole ++ fraction)) (take-append_seam whole fraction) ∙ ap (λ l. whole ++ 46 ∷ l) (drop-append_seam whole fraction) in
+    sym seam ∙ ap (λ k. F k (whole ++ fraction)) (sym size) ∙ ap (λ l. F (length l - places) l) split
+
+-- the last digits of a number fill the octets behind its point
+pub record FractionFilled (value whole places a : ℕ) (fraction : List ℕ) : Type 0 where
+  pub split : decimal whole ++ fraction ≡ zero_padded (places + 1) value
+  pub long : length fraction ≡ places
+  pub before : length (decimal whole) + 1 ≡ a
+
+pub fraction_filled : (value whole places digits most : ℕ) (free fraction : List ℕ) → digits ≡ length (decimal value) → most ≡ max digits (places + 1) → most + 1 ≤ length free
+    → length fraction ≡ length (take (most + 1 - (most + 1 - places)) (drop (most + 1 - places) free))
+    → decimal whole ++ fraction ≡ zero_padded (length (take (most + 1 - (most + 1 - places)) (drop (most + 1 - places) free)) + 1) value
+    → FractionFilled value whole places (most + 1 - places) fraction
+fraction_filled value whole places digits most free fraction count larger within same filled =
+    let a = most + 1 - places in
+    let room : most + 1 - a ≤ length (drop a free) = omega (arith, larger, within, length-drop a free) in
+    let part : length (take (most + 1 - a) (drop a free)) ≡ places = length-take-le (most + 1 - a) (drop a free) room ∙ omega (arith, larger) in
+    let split : decimal whole ++ fraction ≡ zero_padded (places + 1) value = filled ∙ ap (λ n. zero_padded (n + 1) value) part in
+    record {
+      split = split;
+      long = same ∙ part;
+      before = omega (arith, ap length split, length-append (decimal whole) fraction, length_zero_padded (places + 1) value, same, part, larger, count);
+    }
+
+-- the place of the point is within the octets
+pub point_within : (a k point : ℕ) (free fraction : List ℕ) → a ≤ length free → point ≤ a → point ≤ length (set (put_mid a k free fraction) point 46)
+point_within a k point free fraction within before =
+    let ahead : length (take a free) ≡ a = length-take-le a free within in
+    omega (arith, length-set (put_mid a k free fraction) point 46, length-append (take a free) (fraction ++ post_of a k free), ahead, before)
+
+-- a number with a point before its last digits, which fills a prefix
+pub pointed_filled : (value whole places point a k len start : ℕ) (free fraction line : List ℕ) → decimal whole ++ fraction ≡ zero_padded (places + 1) value → length fraction ≡ places → length (decimal whole) ≡ point
+    → a ≡ point + 1 → len ≡ a + places → len ≤ length free → start + length (decimal whole) ≡ point
+    → drop start line ≡ decimal whole ++ drop point (set (put_mid a k free fraction) point 46) → take len line ≡ pointed places (decimal value)
+pointed_filled value whole places point a k len start free fraction line split long size next sum within first written =
+    let zero_start : start ≡ 0 = omega (arith, size, first) in
+    let rest = post_of a k free in
+    let mid = put_mid a k free fraction in
+    let ahead : length (take a free) ≡ a = length-take-le a free (omega (arith, within, sum)) in
+    let mid_long : length mid ≡ a + (length fraction + length rest) = length-append (take a free) (fraction ++ rest) ∙ ap (λ n. n + length (fraction ++ rest)) ahead ∙ ap (λ n. a + n) (length-append fraction rest) in
+    let behind : drop a mid ≡ fraction ++ rest = ap (λ n. drop n mid) (sym ahead) ∙ drop-append_seam (take a free) (fraction ++ rest) in
+    let pointed_rest : drop point (set mid point 46) ≡ 46 ∷ (fraction ++ rest) = drop-set mid point 46 (omega (arith, mid_long, next)) ∙ ap (λ n. 46 ∷ drop n mid) (sym next) ∙ ap (λ l. 46 ∷ l) behind in
+    let text : List ℕ = decimal whole ++ 46 ∷ fraction in
+    let is : line ≡ text ++ rest = ap (λ n. drop n line) (sym zero_start) ∙ written ∙ ap (λ l. decimal whole ++ l) pointed_rest ∙ sym (append_assoc (decimal whole) (46 ∷ fraction) rest) in
+    let text_long : len ≡ length text = omega (arith, length-append (decimal whole) (46 ∷ fraction), size, long, next, sum) in
+    ap (take len) is ∙ ap (λ n. take n (text ++ rest)) text_long ∙ take-append_seam text rest ∙ point_before (decimal whole) fraction (zero_padded (places + 1) value) places split long

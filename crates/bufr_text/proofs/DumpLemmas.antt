@@ -11,7 +11,6 @@ use Rattle.bufr_text.specs.Grammar.{runs_behind, runs_of}
 use Rattle.bufr_text.specs.Dump.{text_of_lines}
 use Rattle.bufr_text.specs.DumpWritten.{WritesPrefix, CountsFaults}
 use Rattle.bufr_text.specs.Writing.{Writes, GrowsByPrefix}
-use Rattle.bufr_text.proofs.WritingLemmas.{WrittenSoFar}
 
 -- a front of a text is one of a longer text
 pub front-longer : (a b : Option (List ℕ)) (s t : List ℕ) → GrowsByPrefix a b s → GrowsByPrefix a b (s ++ t)
@@ -63,32 +62,6 @@ CountsFaults-of X Y f f' e e' Write counts = counts
 CountsFaults-of X Y f f' e e' Memory counts = counts
 CountsFaults-of X Y f f' e e' Read counts = absurd counts
 CountsFaults-of X Y f f' e e' InputTooLong counts = absurd counts
-
--- Part of a text was written, and the rest is left; then a stretch of the rest.
-module _ (a b c : Option (List ℕ)) (whole rest here more : List ℕ) (before : WrittenSoFar a b whole rest) (next : rest ≡ here ++ more) where
-  so-far-whole : whole ≡ before.front ++ (here ++ more)
-  so-far-whole = before.parts ∙ ap (λ l. before.front ++ l) next
-
-  -- it was written
-  pub so-far-on : Appends b c here → WrittenSoFar a c whole more
-  so-far-on gains = record {
-    front = before.front ++ here;
-    parts = so-far-whole ∙ sym (append_assoc before.front here more);
-    gains = Appends-trans a b c before.front here before.gains gains;
-  }
-
-  -- it was not written whole
-  pub so-far-stop : {X Y : Type 0} (first : Result X RunFault) (r : Result Y RunFault) (f g : RunFault) → first ≡ Err f → r ≡ Err g → WritesPrefix b c here first → WritesPrefix a c whole r
-  so-far-stop first r f g is same writes =
-      let fails = rw is at writes in
-      let P : List ℕ → Type 0 = λ t. GrowsByPrefix a c t in
-      rw same (subst P (sym so-far-whole) (front-behind a b c before.front (here ++ more) before.gains (front-longer b c here more fails)))
-
--- nothing is left
-pub so-far-end : (a b : Option (List ℕ)) (whole rest : List ℕ) → WrittenSoFar a b whole rest → rest ≡ [] → Appends a b whole
-so-far-end a b whole rest before none =
-    let P : List ℕ → Type 0 = λ t. Appends a b t in
-    subst P (sym (before.parts ∙ ap (λ l. before.front ++ l) none ∙ append-nil before.front)) before.gains
 
 -- a list in runs: the first and the others
 runs-skip : (skip less : ℕ) (xs : List ℕ) → runs_behind skip (suc less) xs ≡ runs_behind 0 (suc less) (drop skip xs)

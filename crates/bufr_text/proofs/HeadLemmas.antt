@@ -1,91 +1,57 @@
 -- The lines before the subsets.
-use Rattle.std.proofs.Common.{◌≡◌, ◌∙◌, ℕ, ◌+◌, Bool, true, false, List, [], ◌∷◌, ◌++◌, take, drop, map, refl, sym, ap, subst, Err, Option, Some, None, append_assoc, codes}
-use Rattle.std.specs.Prelude.{Result, decimal, is_some, option_map, unwrap_or}
-use Rattle.std.specs.Fmt.{digits}
+use Rattle.std.proofs.Common.{◌≡◌, ◌∙◌, ℕ, zero, suc, ◌+◌, ◌-◌, ◌<◌, Bool, true, false, List, [], ◌∷◌, ◌++◌, length, take, drop, map, refl, sym, ap, arith, Option, Some, None, append_assoc, codes}
+use Rattle.std.specs.Prelude.{decimal, is_some, option_map, unwrap_or}
+use Rattle.core.specs.Int.{from_bool}
 use Rattle.bufr_frame.specs.Sections.{Sections}
-use Rattle.bufr_frame.specs.declared.head.Head.{Head}
-use Rattle.bufr_text.specs.Line.{keys, key_in}
-use Rattle.bufr_frame.specs.declared.fault.RunFault.{RunFault}
-use Rattle.std.specs.Io.KnownBytes.{Appends}
+use Rattle.bufr_tables.specs.Fxy.{fxy_text}
 use Rattle.std.proofs.lemmas.Grind.{flat_map-append}
 use Rattle.bufr_text.specs.Dump.{bit, header_of, header_lines, local1_line, section2_line, descriptors_line, head_lines, text_of_lines}
-use Rattle.bufr_text.specs.DumpWritten.{WritesPrefix}
-use Rattle.bufr_text.specs.Grammar.{runs_behind, runs_of}
-use Rattle.bufr_text.specs.Laid.{category_texts, counts_texts, date_texts, origin_texts}
-use Rattle.bufr_text.specs.Writing.{flag, joined_onto}
-use Rattle.bufr_text.proofs.DumpLemmas.{WritesFront-then, WritesFront-stop}
+use Rattle.bufr_text.specs.Grammar.{descriptors_text, runs_behind, runs_of}
+use Rattle.bufr_text.specs.Key.{header_text, lead_of}
+use Rattle.bufr_text.specs.Line.{keys, key_in}
 
 line-on : (name value more : List ℕ) → ((name ++ 32 ∷ value) ++ 10 ∷ []) ++ more ≡ name ++ (32 ∷ (value ++ 10 ∷ more))
 line-on name value more = append_assoc (name ++ 32 ∷ value) (10 ∷ []) more ∙ append_assoc name (32 ∷ value) (10 ∷ more)
 
--- header lines as one text
-unfoldable header_text : (key : ℕ) → List ℕ → List ℕ
-header_text key [] = []
-header_text key (value ∷ more) = (key_in keys key).name ++ (32 ∷ (decimal value ++ 10 ∷ header_text (key + 1) more))
+key-on : (name value more : List ℕ) → name ++ (32 ∷ (value ++ (more ++ 10 ∷ []))) ≡ ((name ++ 32 ∷ []) ++ (value ++ more)) ++ 10 ∷ []
+key-on name value more =
+    sym (append_assoc (name ++ 32 ∷ []) (value ++ more) (10 ∷ [])
+    ∙ ap (λ l. (name ++ 32 ∷ []) ++ l) (append_assoc value more (10 ∷ []))
+    ∙ append_assoc name (32 ∷ []) (value ++ (more ++ 10 ∷ [])))
 
-header-text : (key : ℕ) (values : List ℕ) → text_of_lines (header_lines key values) ≡ header_text key values
+-- lines of keys, with the line feed before each in place of the one after it
+header-lines : (key : ℕ) (values : List ℕ) → 10 ∷ text_of_lines (header_lines key values) ≡ header_text key values ++ 10 ∷ []
 unfolding header_lines header_text
-header-text key [] = refl
-header-text key (value ∷ more) =
-    line-on (key_in keys key).name (decimal value) (text_of_lines (header_lines (key + 1) more))
-    ∙ ap (λ l. (key_in keys key).name ++ (32 ∷ (decimal value ++ 10 ∷ l))) (header-text (key + 1) more)
+header-lines key [] = refl
+header-lines key (value ∷ more) =
+    let name : List ℕ = (key_in keys key).name in
+    ap (λ (l : List ℕ). 10 ∷ l) (line-on name (decimal value) (text_of_lines (header_lines (key + 1) more))
+    ∙ ap (λ l. name ++ (32 ∷ (decimal value ++ l))) (header-lines (key + 1) more)
+    ∙ key-on name (decimal value) (header_text (key + 1) more))
 
--- the first lines
-abbrev origin_text : Head → List ℕ
-origin_text h = joined_onto (origin_texts h) (joined_onto (category_texts h) [])
+header-append : (key : ℕ) (xs ys : List ℕ) → header_text key xs ++ header_text (key + length xs) ys ≡ header_text key (xs ++ ys)
+unfolding header_text
+header-append key [] ys = let none : key + 0 ≡ key = omega arith in ap (λ k. header_text k ys) none
+header-append key (x ∷ xs) ys =
+    let lead : List ℕ = lead_of (key_in keys key) in
+    let next : key + suc (length xs) ≡ key + 1 + length xs = omega arith in
+    append_assoc lead (decimal x ++ header_text (key + 1) xs) (header_text (key + suc (length xs)) ys)
+    ∙ ap (λ l. lead ++ l) (append_assoc (decimal x) (header_text (key + 1) xs) (header_text (key + suc (length xs)) ys)
+    ∙ ap (λ l. decimal x ++ l) (ap (λ k. header_text (key + 1) xs ++ header_text k ys) next ∙ header-append (key + 1) xs ys))
 
-origin-is : (s : Sections) (h : Head) → h ≡ s.head → origin_text h ≡ text_of_lines (codes "message" ∷ header_lines 0 (take 10 (header_of s)))
-unfolding keys header_text
-origin-is s h same =
-    ap origin_text same
-    ∙ sym (ap (λ l. codes "message\n" ++ l) (header-text 0 (take 10 (header_of s))))
+-- the line `message`, and the lines of the keys
+pub header-is : (s : Sections) → codes "message" ++ (header_text 0 (take 10 (header_of s)) ++ header_text 10 (drop 10 (header_of s)) ++ codes "\n") ≡ text_of_lines (codes "message" ∷ header_lines 0 (header_of s))
+header-is s =
+    ap (λ l. codes "message" ++ l) (ap (λ l. l ++ codes "\n") (header-append 0 (take 10 (header_of s)) (drop 10 (header_of s))) ∙ sym (header-lines 0 (header_of s)))
 
--- the first lines, laid from their end
-pub origin-laid : (s : Sections) (h : Head) (line two one rest : List ℕ) → h ≡ s.head → line ≡ two → two ≡ joined_onto (origin_texts h) one → one ≡ joined_onto (category_texts h) rest → rest ≡ []
-    → line ≡ text_of_lines (codes "message" ∷ header_lines 0 (take 10 (header_of s)))
-origin-laid s h line two one rest head whole origin category none =
-    whole ∙ origin ∙ ap (joined_onto (origin_texts h)) (category ∙ ap (joined_onto (category_texts h)) none) ∙ origin-is s h head
-
-flag-is : (on : Bool) → flag on ≡ decimal (bit on)
-unfolding digits
+-- a flag as a number
+pub flag-is : (on : Bool) → from_bool on ≡ bit on
 flag-is true = refl
 flag-is false = refl
 
-is_some-map : {X Y : Type 0} (f : X → Y) (o : Option X) → is_some (option_map f o) ≡ is_some o
+pub is_some-map : {X Y : Type 0} (f : X → Y) (o : Option X) → is_some (option_map f o) ≡ is_some o
 is_some-map f (Some x) = refl
 is_some-map f None = refl
-
--- the last lines
-abbrev date_text : Head → (observed compressed optional : List ℕ) → (subsets : ℕ) → List ℕ
-date_text h observed compressed optional subsets = joined_onto (date_texts h) (joined_onto (counts_texts observed compressed optional subsets) [])
-
-date-is : (s : Sections) → date_text s.head (flag s.observed) (flag s.compressed) (flag (is_some s.section2)) s.subsets ≡ text_of_lines (header_lines 10 (drop 10 (header_of s)))
-unfolding keys header_text
-date-is s =
-    ap (λ x. date_text s.head x (flag s.compressed) (flag (is_some s.section2)) s.subsets) (flag-is s.observed)
-    ∙ ap (λ x. date_text s.head (decimal (bit s.observed)) x (flag (is_some s.section2)) s.subsets) (flag-is s.compressed)
-    ∙ ap (λ x. date_text s.head (decimal (bit s.observed)) (decimal (bit s.compressed)) x s.subsets) (flag-is (is_some s.section2))
-    ∙ sym (header-text 10 (drop 10 (header_of s)))
-
--- the flags and the number of subsets, from what a message answers
-pub counts-are : {X : Type 0} (f : X → List ℕ) (s : Sections) (observed compressed optional : Bool) (section2 : Option X) (subsets : ℕ) (behind : List ℕ)
-    → observed ≡ s.observed → compressed ≡ s.compressed → option_map f section2 ≡ s.section2 → optional ≡ is_some section2 → subsets ≡ s.subsets
-    → joined_onto (counts_texts (flag observed) (flag compressed) (flag optional) subsets) behind
-    ≡ joined_onto (counts_texts (flag s.observed) (flag s.compressed) (flag (is_some s.section2)) s.subsets) behind
-counts-are f s observed compressed optional section2 subsets behind first second sections third count =
-    let there : optional ≡ is_some s.section2 = third ∙ sym (is_some-map f section2) ∙ ap is_some sections in
-    ap (λ x. joined_onto (counts_texts (flag x) (flag compressed) (flag optional) subsets) behind) first
-    ∙ ap (λ x. joined_onto (counts_texts (flag s.observed) (flag x) (flag optional) subsets) behind) second
-    ∙ ap (λ x. joined_onto (counts_texts (flag s.observed) (flag s.compressed) (flag x) subsets) behind) there
-    ∙ ap (λ x. joined_onto (counts_texts (flag s.observed) (flag s.compressed) (flag (is_some s.section2)) x) behind) count
-
--- the last lines, laid from their end
-pub date-laid : (s : Sections) (h : Head) (line two one rest : List ℕ) → h ≡ s.head → line ≡ two → two ≡ joined_onto (date_texts h) one
-    → one ≡ joined_onto (counts_texts (flag s.observed) (flag s.compressed) (flag (is_some s.section2)) s.subsets) rest → rest ≡ []
-    → line ≡ text_of_lines (header_lines 10 (drop 10 (header_of s)))
-date-laid s h line two one rest head whole date counts none =
-    let C = counts_texts (flag s.observed) (flag s.compressed) (flag (is_some s.section2)) s.subsets in
-    whole ∙ date ∙ ap (joined_onto (date_texts h)) (counts ∙ ap (joined_onto C) none) ∙ ap (λ x. joined_onto (date_texts x) (joined_onto C [])) head ∙ date-is s
 
 text-append : (xs ys : List (List ℕ)) → text_of_lines (xs ++ ys) ≡ text_of_lines xs ++ text_of_lines ys
 text-append xs ys = flat_map-append (λ line. line ++ 10 ∷ []) xs ys
@@ -97,65 +63,41 @@ no-section2 f o section2 is none =
     let there : section2 ≡ None = sym is ∙ ap (option_map f) none in
     ap (λ s. text_of_lines (map section2_line (runs_of 32 (unwrap_or s [])))) there
 
--- The texts that stand before the subsets, one after another.
-module _ (s : Sections) where
-  abbrev pub origin : List ℕ
-  origin = text_of_lines (codes "message" ∷ header_lines 0 (take 10 (header_of s)))
+-- one more descriptor of a line of at most eight
+pub descriptors-next : (left left' : List ℕ) (done w : ℕ) → done < 8 → left ≡ w ∷ left' → descriptors_text (take (8 - done) left) ≡ (32 ∷ fxy_text w) ++ descriptors_text (take (8 - (done + 1)) left')
+unfolding descriptors_text
+descriptors-next left left' done w few is =
+    let e : 8 - done ≡ suc (8 - (done + 1)) = omega arith in
+    ap (λ l. descriptors_text (take (8 - done) l)) is ∙ ap (λ n. descriptors_text (take n (w ∷ left'))) e
 
-  abbrev pub date : List ℕ
-  date = text_of_lines (header_lines 10 (drop 10 (header_of s)))
+pub left-next : (left left' all : List ℕ) (done w : ℕ) → done < 8 → left ≡ w ∷ left' → drop (8 - done) left ≡ all → drop (8 - (done + 1)) left' ≡ all
+left-next left left' all done w few is whole =
+    let e : 8 - done ≡ suc (8 - (done + 1)) = omega arith in
+    sym (ap (λ n. drop n (w ∷ left')) e) ∙ sym (ap (λ l. drop (8 - done) l) is) ∙ whole
 
-  abbrev pub local1 : List ℕ
-  local1 = text_of_lines (map local1_line (runs_of 32 s.local1))
+-- no descriptor is left, or the line takes no more
+pub descriptors-none : (n : ℕ) (left : List ℕ) → left ≡ [] → descriptors_text (take n left) ≡ []
+unfolding descriptors_text
+descriptors-none n left none = ap (λ l. descriptors_text (take n l)) none ∙ take-none n
+  where
+    take-none : (n : ℕ) → descriptors_text (take n []) ≡ []
+    take-none zero = refl
+    take-none (suc n) = refl
 
-  abbrev pub section2 : List ℕ
-  section2 = text_of_lines (map section2_line (runs_of 32 (unwrap_or s.section2 [])))
+pub descriptors-full : (n : ℕ) (left : List ℕ) → n ≡ 0 → descriptors_text (take n left) ≡ []
+unfolding descriptors_text
+descriptors-full n left full = ap (λ k. descriptors_text (take k left)) full
 
-  abbrev pub descriptors : List ℕ
-  descriptors = text_of_lines (map descriptors_line (runs_of 8 s.descriptors))
-
-  head-text : origin ++ (date ++ (local1 ++ (section2 ++ descriptors))) ≡ text_of_lines (head_lines s)
-  unfolding header_lines
-  head-text =
-      let here : List (List ℕ) = codes "message" ∷ header_lines 0 (take 10 (header_of s)) in
-      let there : List (List ℕ) = header_lines 10 (drop 10 (header_of s)) in
-      let first = map local1_line (runs_of 32 s.local1) in
-      let second = map section2_line (runs_of 32 (unwrap_or s.section2 [])) in
-      let third = map descriptors_line (runs_of 8 s.descriptors) in
-      ap (λ l. origin ++ (date ++ (local1 ++ l))) (sym (text-append second third))
-      ∙ ap (λ l. origin ++ (date ++ l)) (sym (text-append first (second ++ third)))
-      ∙ ap (λ l. origin ++ l) (sym (text-append there (first ++ (second ++ third))))
-      ∙ sym (text-append here (there ++ (first ++ (second ++ third))))
-
-  module _ {X : Type 0} (a : Option (List ℕ)) (r : Result X RunFault) where
-    whole : (z : Option (List ℕ)) → WritesPrefix a z (origin ++ (date ++ (local1 ++ (section2 ++ descriptors)))) r → WritesPrefix a z (text_of_lines (head_lines s)) r
-    whole z writes = let P : List ℕ → Type 0 = λ t. WritesPrefix a z t r in subst P head-text writes
-
-    pub stop-origin : {Y : Type 0} (b : Option (List ℕ)) (first : Result Y RunFault) (f g : RunFault) → first ≡ Err f → r ≡ Err g → WritesPrefix a b origin first → WritesPrefix a b (text_of_lines (head_lines s)) r
-    stop-origin b first f g is same writes = whole b (WritesFront-stop a b origin (date ++ (local1 ++ (section2 ++ descriptors))) first r f g is same writes)
-
-    pub stop-date : {Y : Type 0} (b c : Option (List ℕ)) (first : Result Y RunFault) (f g : RunFault) → Appends a b origin → first ≡ Err f → r ≡ Err g → WritesPrefix b c date first → WritesPrefix a c (text_of_lines (head_lines s)) r
-    stop-date b c first f g one is same writes =
-        whole c (WritesFront-then a b c origin (date ++ (local1 ++ (section2 ++ descriptors))) r one
-        (WritesFront-stop b c date (local1 ++ (section2 ++ descriptors)) first r f g is same writes))
-
-    pub stop-local1 : {Y : Type 0} (b c d : Option (List ℕ)) (first : Result Y RunFault) (f g : RunFault) → Appends a b origin → Appends b c date → first ≡ Err f → r ≡ Err g → WritesPrefix c d local1 first → WritesPrefix a d (text_of_lines (head_lines s)) r
-    stop-local1 b c d first f g one two is same writes =
-        whole d (WritesFront-then a b d origin (date ++ (local1 ++ (section2 ++ descriptors))) r one
-        (WritesFront-then b c d date (local1 ++ (section2 ++ descriptors)) r two
-        (WritesFront-stop c d local1 (section2 ++ descriptors) first r f g is same writes)))
-
-    pub stop-section2 : {Y : Type 0} (b c d e : Option (List ℕ)) (first : Result Y RunFault) (f g : RunFault) → Appends a b origin → Appends b c date → Appends c d local1 → first ≡ Err f → r ≡ Err g → WritesPrefix d e section2 first
-        → WritesPrefix a e (text_of_lines (head_lines s)) r
-    stop-section2 b c d e first f g one two three is same writes =
-        whole e (WritesFront-then a b e origin (date ++ (local1 ++ (section2 ++ descriptors))) r one
-        (WritesFront-then b c e date (local1 ++ (section2 ++ descriptors)) r two
-        (WritesFront-then c d e local1 (section2 ++ descriptors) r three
-        (WritesFront-stop d e section2 descriptors first r f g is same writes))))
-
-    pub head-end : (b c d e z : Option (List ℕ)) → Appends a b origin → Appends b c date → Appends c d local1 → Appends d e section2 → WritesPrefix e z descriptors r → WritesPrefix a z (text_of_lines (head_lines s)) r
-    head-end b c d e z one two three four writes =
-        whole z (WritesFront-then a b z origin (date ++ (local1 ++ (section2 ++ descriptors))) r one
-        (WritesFront-then b c z date (local1 ++ (section2 ++ descriptors)) r two
-        (WritesFront-then c d z local1 (section2 ++ descriptors) r three
-        (WritesFront-then d e z section2 descriptors r four writes))))
+-- the lines before the subsets, one kind after another
+pub head-is : (s : Sections)
+    → text_of_lines (codes "message" ∷ header_lines 0 (header_of s)) ++ (text_of_lines (map local1_line (runs_of 32 s.local1))
+    ++ (text_of_lines (map section2_line (runs_of 32 (unwrap_or s.section2 []))) ++ text_of_lines (map descriptors_line (runs_of 8 s.descriptors))))
+    ≡ text_of_lines (head_lines s)
+head-is s =
+    let header : List (List ℕ) = codes "message" ∷ header_lines 0 (header_of s) in
+    let local1 = map local1_line (runs_of 32 s.local1) in
+    let section2 = map section2_line (runs_of 32 (unwrap_or s.section2 [])) in
+    let descriptors = map descriptors_line (runs_of 8 s.descriptors) in
+    ap (λ l. text_of_lines header ++ (text_of_lines local1 ++ l)) (sym (text-append section2 descriptors))
+    ∙ ap (λ l. text_of_lines header ++ l) (sym (text-append local1 (section2 ++ descriptors)))
+    ∙ sym (text-append header (local1 ++ (section2 ++ descriptors)))

@@ -25,9 +25,7 @@ pub mod GrammarLemmas
 pub mod HeadLemmas
 pub mod HeaderLemmas
 pub mod ItemLemmas
-pub mod ItemLineLemmas
 pub mod KeyLemmas
-pub mod LaidLemmas
 pub mod LawLemmas
 mod LineExamples
 pub mod LineLemmas
@@ -42,7 +40,6 @@ pub mod NumberLemmas
 pub mod OpenLemmas
 pub mod ProperLemmas
 pub mod PushLemmas
-pub mod PutLemmas
 pub mod ReadBackLemmas
 pub mod ReaderLemmas
 pub mod ReadingLemmas
@@ -50,6 +47,7 @@ pub mod RowsLemmas
 pub mod RoundTripLemmas
 mod RuleExamples
 pub mod RunsLemmas
+pub mod ScaleLemmas
 pub mod ShowingLemmas
 pub mod SpecWords
 pub mod SoundLemmas
@@ -58,6 +56,7 @@ pub mod SpelledProper
 mod SpellingExamples
 pub mod SpellingLemmas
 pub mod TakingLemmas
+pub mod TextLemmas
 pub mod TokenLemmas
 mod TurnsExamples
 pub mod TurnsLemmas

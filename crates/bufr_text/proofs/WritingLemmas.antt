@@ -5,6 +5,7 @@ use Rattle.std.specs.Io.KnownBytes.{Appends}
 use Rattle.std.proofs.KnownBytes.{Appends-trans}
 use Rattle.std.proofs.lemmas.List.{take-append-drop, take_more}
 use Rattle.bufr_frame.specs.declared.fault.RunFault.{RunFault}
+use Rattle.bufr_text.specs.Lines.{MovesPrefix}
 use Rattle.bufr_text.specs.Writing.{Writes, GrowsByPrefix, part_text}
 use Rattle.bufr_text.specs.declared.part.Part.{Part}
 use Rattle.std.proofs.Math.Seq.{drop-cons}
@@ -38,19 +39,13 @@ Writes-stop a b s t first r f writes is same =
     let here = rw is at writes in
     rw same (here.0, front-more a b s t here.1)
 
--- a front of the octets was written, and the rest is left
-pub record WrittenSoFar (old now : Option (List ℕ)) (octets rest : List ℕ) : Type 0 where
-  pub front : List ℕ
-  pub parts : octets ≡ front ++ rest
-  pub gains : Appends old now front
-
 -- one more write of the rest
-pub more-written : (a b c : Option (List ℕ)) (octets rest rest' : List ℕ) (n : ℕ) → WrittenSoFar a b octets rest → n ≤ length rest → Appends b c (take n rest) → rest' ≡ drop n rest
-    → WrittenSoFar a c octets rest'
+pub more-written : (a b c : Option (List ℕ)) (octets rest rest' : List ℕ) (n : ℕ) → MovesPrefix a b octets rest → n ≤ length rest → Appends b c (take n rest) → rest' ≡ drop n rest
+    → MovesPrefix a c octets rest'
 more-written a b c octets rest rest' n before within more is = record {
-  front = before.front ++ take n rest;
-  parts = before.parts ∙ ap (λ l. before.front ++ l) (sym (take-append-drop n rest) ∙ ap (λ l. take n rest ++ l) (sym is)) ∙ sym (append_assoc before.front (take n rest) rest');
-  gains = Appends-trans a b c before.front (take n rest) before.gains more;
+  prefix = before.prefix ++ take n rest;
+  parts = before.parts ∙ ap (λ l. before.prefix ++ l) (sym (take-append-drop n rest) ∙ ap (λ l. take n rest ++ l) (sym is)) ∙ sym (append_assoc before.prefix (take n rest) rest');
+  gains = Appends-trans a b c before.prefix (take n rest) before.gains more;
 }
 
 -- the texts of the parts up to one, and its own

@@ -1,8 +1,6 @@
 -- ---- texts and their words
 -- words and values that lines are made of, and how each is read back
 pub mod Grammar
--- private: a line laid from its end, octet by octet
-pub mod Laid
 -- the line that lists a message
 pub mod LsLine
 -- the dump text of a message, line by line

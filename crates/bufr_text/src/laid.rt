@@ -1,6 +1,5 @@
 //! Parts of a line, laid from its end to its beginning, so that digits are written where they stay.
-ghost use Rattle.std.specs.Prelude.{◌≡◌, ◌≤◌, ◌+◌, ◌++◌, decimal, drop, length, replicate};
-ghost use Rattle.bufr_text.specs.Writing.{flag};
+ghost use Rattle.std.specs.Prelude.{◌≡◌, ◌≤◌, ◌+◌, ◌++◌, decimal, drop, length};
 
 use itoa::write_digits;
 
@@ -19,17 +18,6 @@ pub fn lay_text(text: &[u8], line: &mut [u8], end: usize) -> usize
     let start = end - text.len();
     line[start..end].copy_from_slice(text);
     start
-}
-
-/// Lays `1` or `0` before `end`, and answers where it stands.
-#[inline(always)]
-pub(crate) fn lay_flag(on: bool, line: &mut [u8], end: usize) -> usize
-    requires room { 1 ≤ end }
-    requires within { end ≤ length line.old }
-    ensures start { result + 1 ≡ end }
-    ensures laid { drop result line.new ≡ flag on ++ drop end line.old }
-{
-    lay_text(if on { b"1" } else { b"0" }, line, end)
 }
 
 /// Lays a number before `end`, and answers where it begins.
@@ -67,20 +55,4 @@ pub fn lay_named(name: &[u8], value: u16, line: &mut [u8], end: usize) -> usize
 {
     let start = lay_short(value, line, end);
     lay_text(name, line, start)
-}
-
-/// Lays digits `0` before `end`, and answers where they begin.
-#[inline(always)]
-pub(crate) fn lay_zeros(count: usize, line: &mut [u8], end: usize) -> usize
-    requires room { count ≤ end }
-    requires within { end ≤ length line.old }
-    ensures start { result + count ≡ end }
-    ensures laid { drop result line.new ≡ replicate count 48 ++ drop end line.old }
-{
-    let mut start = end;
-    'zeros: while end < start + count {
-        start -= 1;
-        line[start] = b'0';
-    }
-    start
 }

@@ -26,7 +26,6 @@ mod ls;
 mod number;
 mod part;
 mod progress;
-mod put;
 mod quoted;
 pub mod readback_law;
 mod scaled;

@@ -1,0 +1,5 @@
+use Rattle.bufr_text.proofs.PushLemmas.{◌⨾◌}
+use Rattle.bufr_text.proofs.head_lines.push_descriptor_line.Goals as goal
+
+pub returns-clause-pushes : goal.returns-clause-pushes
+returns-clause-pushes g c = c.push.ensures ⨾ c.push_descriptors.ensures.pushes ⨾ c.push-2.ensures

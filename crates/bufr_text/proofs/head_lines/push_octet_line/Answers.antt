@@ -1,0 +1,5 @@
+use Rattle.bufr_text.proofs.PushLemmas.{◌⨾◌}
+use Rattle.bufr_text.proofs.head_lines.push_octet_line.Goals as goal
+
+pub returns : goal.returns
+returns g c = c.push.ensures ⨾ c.push_hex.ensures ⨾ c.push-2.ensures
