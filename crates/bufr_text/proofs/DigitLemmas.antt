@@ -46,12 +46,12 @@ pub named_digits : (name copied free line : List ℕ) (value count start : ℕ) 
     → drop start line ≡ decimal value ++ drop (length name + count) (copied ++ drop (length name) free) → take start line ≡ take start (copied ++ drop (length name) free) → take (length name + count) line ≡ name ++ decimal value
 named_digits name copied free line value count start same digits sum written before =
     let rest = drop (length name) free in
-    let behind = drop (length name + count) (copied ++ rest) in
+    let after = drop (length name + count) (copied ++ rest) in
     let is : start ≡ length name = omega (arith, sum, digits) in
-    let front : take start line ≡ name = before ∙ ap (λ l. take start (l ++ rest)) same ∙ ap (λ n. take n (name ++ rest)) is ∙ take-append_seam name rest in
-    let whole : line ≡ name ++ (decimal value ++ behind) = sym (take-append-drop start line) ∙ ap (λ l. l ++ drop start line) front ∙ ap (λ l. name ++ l) written in
-    ap (take (length name + count)) whole ∙ take-append-add name (decimal value ++ behind) count
-    ∙ ap (λ n. name ++ take n (decimal value ++ behind)) digits ∙ ap (λ l. name ++ l) (take-append_seam (decimal value) behind)
+    let prefix : take start line ≡ name = before ∙ ap (λ l. take start (l ++ rest)) same ∙ ap (λ n. take n (name ++ rest)) is ∙ take-append_seam name rest in
+    let whole : line ≡ name ++ (decimal value ++ after) = sym (take-append-drop start line) ∙ ap (λ l. l ++ drop start line) prefix ∙ ap (λ l. name ++ l) written in
+    ap (take (length name + count)) whole ∙ take-append-add name (decimal value ++ after) count
+    ∙ ap (λ n. name ++ take n (decimal value ++ after)) digits ∙ ap (λ l. name ++ l) (take-append_seam (decimal value) after)
 
 zeros_more : (count : ℕ) → replicate {A = ℕ} count 48 ++ 48 ∷ [] ≡ replicate (suc count) 48
 zeros_more zero = refl
@@ -109,7 +109,7 @@ fraction_done at left line all none fits so =
     let is : at ≡ 0 = omega arith in
     ap (λ t. t ++ line) (sym (zero_padded_one left fits)) ∙ ap (λ k. zero_padded (k + 1) left ++ drop k line) (sym is) ∙ so
 
--- how long a number is with zeros in front
+-- how long a number is with zeros before it
 pub length_zero_padded : (digits n : ℕ) → length (zero_padded digits n) ≡ digits - length (decimal n) + length (decimal n)
 length_zero_padded digits n =
     length-append (replicate (digits - length (decimal n)) 48) (decimal n) ∙ ap (λ k. k + length (decimal n)) (length-replicate _ _)
@@ -123,7 +123,7 @@ point_before whole fraction all places split long =
     let seam : F (length whole) (whole ++ fraction) ≡ whole ++ 46 ∷ fraction = ap (λ l. l ++ 46 ∷ drop (length whole) (whole ++ fraction)) (take-append_seam whole fraction) ∙ ap (λ l. whole ++ 46 ∷ l) (drop-append_seam whole fraction) in
     sym seam ∙ ap (λ k. F k (whole ++ fraction)) (sym size) ∙ ap (λ l. F (length l - places) l) split
 
--- the last digits of a number fill the octets behind its point
+-- the last digits of a number fill the octets after its point
 pub record FractionFilled (value whole places a : ℕ) (fraction : List ℕ) : Type 0 where
   pub split : decimal whole ++ fraction ≡ zero_padded (places + 1) value
   pub long : length fraction ≡ places
@@ -160,8 +160,8 @@ pointed_filled value whole places point a k len start free fraction line split l
     let mid = put_mid a k free fraction in
     let ahead : length (take a free) ≡ a = length-take-le a free (omega (arith, within, sum)) in
     let mid_long : length mid ≡ a + (length fraction + length rest) = length-append (take a free) (fraction ++ rest) ∙ ap (λ n. n + length (fraction ++ rest)) ahead ∙ ap (λ n. a + n) (length-append fraction rest) in
-    let behind : drop a mid ≡ fraction ++ rest = ap (λ n. drop n mid) (sym ahead) ∙ drop-append_seam (take a free) (fraction ++ rest) in
-    let pointed_rest : drop point (set mid point 46) ≡ 46 ∷ (fraction ++ rest) = drop-set mid point 46 (omega (arith, mid_long, next)) ∙ ap (λ n. 46 ∷ drop n mid) (sym next) ∙ ap (λ l. 46 ∷ l) behind in
+    let after : drop a mid ≡ fraction ++ rest = ap (λ n. drop n mid) (sym ahead) ∙ drop-append_seam (take a free) (fraction ++ rest) in
+    let pointed_rest : drop point (set mid point 46) ≡ 46 ∷ (fraction ++ rest) = drop-set mid point 46 (omega (arith, mid_long, next)) ∙ ap (λ n. 46 ∷ drop n mid) (sym next) ∙ ap (λ l. 46 ∷ l) after in
     let text : List ℕ = decimal whole ++ 46 ∷ fraction in
     let is : line ≡ text ++ rest = ap (λ n. drop n line) (sym zero_start) ∙ written ∙ ap (λ l. decimal whole ++ l) pointed_rest ∙ sym (append_assoc (decimal whole) (46 ∷ fraction) rest) in
     let text_long : len ≡ length text = omega (arith, length-append (decimal whole) (46 ∷ fraction), size, long, next, sum) in

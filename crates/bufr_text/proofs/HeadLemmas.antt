@@ -1,6 +1,6 @@
 -- The lines before the subsets.
-use Rattle.std.proofs.Common.{◌≡◌, ◌∙◌, ℕ, zero, suc, ◌+◌, ◌-◌, ◌<◌, Bool, true, false, List, [], ◌∷◌, ◌++◌, length, take, drop, map, refl, sym, ap, arith, Option, Some, None, append_assoc, codes}
-use Rattle.std.specs.Prelude.{decimal, is_some, option_map, unwrap_or}
+use Rattle.std.proofs.Common.{◌≡◌, ◌∙◌, ℕ, zero, suc, ◌+◌, ◌-◌, ◌<◌, Bool, true, false, List, [], ◌∷◌, ◌++◌, length, take, drop, map, refl, sym, ap, arith, Option, None, append_assoc, codes}
+use Rattle.std.specs.Prelude.{decimal, option_map, unwrap_or}
 use Rattle.core.specs.Int.{from_bool}
 use Rattle.bufr_frame.specs.Sections.{Sections}
 use Rattle.bufr_tables.specs.Fxy.{fxy_text}
@@ -48,10 +48,6 @@ header-is s =
 pub flag-is : (on : Bool) → from_bool on ≡ bit on
 flag-is true = refl
 flag-is false = refl
-
-pub is_some-map : {X Y : Type 0} (f : X → Y) (o : Option X) → is_some (option_map f o) ≡ is_some o
-is_some-map f (Some x) = refl
-is_some-map f None = refl
 
 text-append : (xs ys : List (List ℕ)) → text_of_lines (xs ++ ys) ≡ text_of_lines xs ++ text_of_lines ys
 text-append xs ys = flat_map-append (λ line. line ++ 10 ∷ []) xs ys

@@ -79,7 +79,7 @@ pub ◌⨾◌ : {a b c : LineModel} {s t : List ℕ} → Pushes a s b → Pushes
   sink = second.sink ∙ first.sink;
 }
 
--- a text was laid after what is held
+-- a text is held after what was held
 holds_from : (a b : LineModel) (text : List ℕ) (r : Result Unit RunFault) → a.status ≡ r → b.status ≡ a.status → b.taken ≡ a.taken → b.failures ≡ a.failures → b.empty_writes ≡ a.empty_writes → b.held ≡ a.held ++ text → PushesFrom r a text b
 holds_from a b text (Ok x) is same taken failures empty held = record {
   moves = rw (same, is) (record { prefix = []; parts = sym held; gains = rw taken (Appends-nil a.taken) });

@@ -12,7 +12,7 @@ lead_of key = 10 ∷ (key.name ++ 32 ∷ [])
 abbrev pub is_named : (lead name : List ℕ) → Bool
 is_named lead name = nat_le 2 (length lead) && bytes_eq name (take (length lead - 2) (drop 1 lead))
 
--- the values of the keys from one on, each after what stands before it
+-- the values of the keys from one on, each after its lead
 unfoldable pub header_text : (key : ℕ) → List ℕ → List ℕ
 header_text key [] = []
 header_text key (value ∷ more) =

@@ -24,7 +24,7 @@ fn push_number<W: Sink>(lines: &mut LineWriter<'_, '_, W>, fxy: Fxy, value: i128
     lines.push_scaled(value, scale);
 }
 
-/// Pushes a descriptor and what stands for a value.
+/// Pushes a descriptor and the text of a value.
 #[inline(always)]
 // rule: text-missing, text-reference
 fn push_form<W: Sink>(lines: &mut LineWriter<'_, '_, W>, fxy: Fxy, value: Value<'_>)

@@ -1,4 +1,5 @@
-//! A writer of lines: octets laid forward into a block of memory, and handed on to a sink.
+//! A writer of lines: octets put into a block of memory, one text after another, and handed on to a
+//! sink.
 ghost use Rattle.std.specs.Prelude.{◌≡◌, ◌≤◌, ◌++◌, [], Ok, length, take, decimal, replicate};
 ghost use Rattle.bufr_bits.specs.DecimalText.{pointed};
 ghost use Rattle.bufr_text.specs.Lines.{Pushes};
@@ -136,7 +137,7 @@ impl<'b, 'w, W: Sink> LineWriter<'b, 'w, W> {
 
     /// Writes what is held where that is at least so many octets, at the end of a line.
     #[inline(always)]
-    pub fn end_line(&mut self, least: usize)
+    pub(crate) fn end_line(&mut self, least: usize)
         ensures { Pushes self.old [] self.new }
     {
         if self.len >= least {
@@ -200,7 +201,7 @@ impl<'b, 'w, W: Sink> LineWriter<'b, 'w, W> {
 
     /// Pushes a number that may be 2^64 or more, as plain decimal digits.
     #[inline(never)]
-    pub fn push_wide_decimal(&mut self, value: u128)
+    pub(crate) fn push_wide_decimal(&mut self, value: u128)
         ensures { Pushes self.old (decimal value) self.new }
     {
         let mut buffer = Buffer::new();

@@ -90,7 +90,7 @@ impl<'b, 'w, W: Sink> LineWriter<'b, 'w, W> {
 
     /// Pushes a number at a scale.
     #[inline(always)]
-    pub fn push_scaled(&mut self, value: i128, scale: i16)
+    pub(crate) fn push_scaled(&mut self, value: i128, scale: i16)
         ensures { Pushes self.old (decimal_text_of value scale) self.new }
     {
         self.push_sign(value);

@@ -17,6 +17,7 @@ fn hex_digit(n: u8) -> u8
 
 impl<'b, 'w, W: Sink> LineWriter<'b, 'w, W> {
     /// Pushes two hexadecimal digits for an octet.
+    // rule: text-hexadecimal
     fn push_hex_pair(&mut self, octet: u8)
         ensures { Pushes self.old (hex_pair octet) self.new }
     {
@@ -24,7 +25,7 @@ impl<'b, 'w, W: Sink> LineWriter<'b, 'w, W> {
     }
 
     /// Pushes two hexadecimal digits for each octet.
-    pub fn push_hex(&mut self, octets: &[u8])
+    pub(crate) fn push_hex(&mut self, octets: &[u8])
         ensures { Pushes self.old (hex_text octets.now) self.new }
     {
         for octet in octets {
@@ -32,8 +33,9 @@ impl<'b, 'w, W: Sink> LineWriter<'b, 'w, W> {
         }
     }
 
-    /// Pushes an octet that does not stand for itself.
+    /// Pushes the escape of an octet.
     #[inline(never)]
+    // rule: text-escapes
     fn push_escape(&mut self, octet: u8)
         requires { is_unescaped octet ≡ false }
         ensures { Pushes self.old (escaped octet) self.new }
@@ -56,7 +58,8 @@ impl<'b, 'w, W: Sink> LineWriter<'b, 'w, W> {
     }
 
     /// Pushes the octets of a text, and the quote that closes it.
-    pub fn push_quoted(&mut self, octets: &[u8])
+    // rule: text-quoted, text-inserted
+    pub(crate) fn push_quoted(&mut self, octets: &[u8])
         ensures { Pushes self.old (quoted octets.now) self.new }
     {
         for octet in octets {

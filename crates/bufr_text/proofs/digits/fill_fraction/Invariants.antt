@@ -2,7 +2,7 @@ use Rattle.std.proofs.Common.{◌≡◌, ◌≤◌, ◌+◌, ◌++◌, drop, len
 use Rattle.bufr_text.specs.Writing.{zero_padded}
 use Rattle.bufr_text.proofs.digits.fill_fraction.Given as goal
 
--- the digits of what is left, and then those that stand, are those of the number
+-- the digits of what is left, and then those that are written, are those of the number
 abbrev pub invariant-loop-at : goal.invariant-loop-at
 invariant-loop-at l = record {
   within : l.at ≤ length l.digits;
