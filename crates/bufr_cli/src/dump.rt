@@ -1,8 +1,9 @@
 //! `bufr dump`: writes the messages of a stream as text.
-ghost use Rattle.std.specs.Prelude.{◌≡◌, ◌≢◌, ℕ, List, [], ◌∷◌, true, Ok, IfErr, IfOk, OnOk, IfSome, map};
+ghost use Rattle.std.specs.Prelude.{◌≡◌, ◌≢◌, ◌≤◌, ℕ, List, [], ◌∷◌, true, Ok, IfErr, IfOk, OnOk, IfSome, length, map};
 ghost use Rattle.bufr_frame.specs.Events.{events_of, IsEvent};
 ghost use Rattle.bufr_frame.specs.Runs.{read_failures_after};
 ghost use Rattle.bufr_frame.specs.Scan.{StreamEvent, scan};
+ghost use Rattle.bufr_frame.specs.Sections.{sections_of};
 ghost use Rattle.bufr_walk.specs.Course.{next_item};
 ghost use Rattle.bufr_walk.specs.Outcome.{data_of, IsFault, IsReadingOf};
 ghost use Rattle.bufr_cli.specs.DumpPieces.{IsDataPiece, IsDumpPiece, IsMessagePiece};
@@ -19,9 +20,10 @@ use crate::tally::{Tally, Verdict};
 use bufr_bits::{Sink, Source};
 use bufr_frame::{Event, Message, RunFault};
 use bufr_tables::{Fxy, TableB, TableD, Template};
-use bufr_text::write_dump_by;
-use bufr_walk::{Reading, SpecCache, Steps, TemplateCache, WalkFault, read_by};
+use bufr_text::{DumpMemory, write_dump_by};
+use bufr_walk::{Reading, Steps, TemplateCache, WalkFault, read_by};
 use std::alloc::{AllocError, Global};
+use std::mem;
 
 /// The descriptors of a message.
 fn descriptors_of(alloc: Global, message: &Message<'_>) -> Result<Vec<Fxy>, AllocError>
@@ -38,38 +40,43 @@ fn descriptors_of(alloc: Global, message: &Message<'_>) -> Result<Vec<Fxy>, Allo
 /// Reads the data of a message. It says less than the call that it makes, so that what is proved of
 /// a run does not carry the bounds on steps.
 fn read_data<'a>(
-    alloc: Global,
+    memory: &mut DumpMemory<'_>,
     message: &Message<'a>,
     template: &'a Template,
     table: &'a TableB,
-    cache: &mut SpecCache<'_>,
     steps: &mut Steps,
 ) -> Result<Reading<'a>, WalkFault>
-    requires { cache.old ≡ table.now }
-    ensures same { cache.new ≡ cache.old }
+    requires { memory.old.specs ≡ table.now }
+    ensures same { memory.new.specs ≡ memory.old.specs }
     ensures reading { IfOk result
         (λ r. IsReadingOf table.now template.now (data_of message.now) r steps.new) }
     ensures fault { IfErr result
         (λ why. IsFault (next_item table.now template.now) (data_of message.now) why steps.new) }
 {
-    read_by(alloc, message, template, table, cache, steps)
+    read_by(
+        memory.alloc,
+        message,
+        template,
+        table,
+        &mut memory.specs,
+        steps,
+    )
 }
 
 /// Writes the text of a message by its template and the specs that are cached, or the line of the
 /// fault that its data are refused for.
 // rule: refused-messages-write-nothing
 fn dump_data<W: Sink, E: Sink>(
-    alloc: Global,
     offset: u64,
     message: &Message<'_>,
     template: &Template,
     table: &TableB,
-    cache: &mut SpecCache<'_>,
+    memory: &mut DumpMemory<'_>,
     w: &mut W,
     e: &mut E,
 ) -> Result<Verdict, RunFault>
-    requires { cache.old ≡ table.now }
-    ensures same { cache.new ≡ cache.old }
+    requires { memory.old.specs ≡ table.now }
+    ensures same { memory.new.specs ≡ memory.old.specs }
     ensures tells { (piece : Piece)
         → IsDataPiece table.now offset message.now template.now piece
         → TellsPieces (writers_of W.Sink w.old E.Sink e.old)
@@ -81,9 +88,9 @@ fn dump_data<W: Sink, E: Sink>(
     ensures errors_flushes { E.flushes e.new ≡ E.flushes e.old }
 {
     let mut steps = Steps::new();
-    match read_data(alloc, message, template, table, cache, &mut steps) {
+    match read_data(memory, message, template, table, &mut steps) {
         Ok(reading) => {
-            write_dump_by(alloc, message, &reading, cache, &mut steps, w)?;
+            write_dump_by(memory, message, &reading, &mut steps, w)?;
             Ok(Verdict::Accepted)
         }
         Err(WalkFault::Memory) => Err(RunFault::Memory),
@@ -97,17 +104,16 @@ fn dump_data<W: Sink, E: Sink>(
 /// Writes the text of a message by the template that was selected for it, or the line of the fault
 /// that its descriptors or its data are refused for.
 fn dump_selected<W: Sink, E: Sink>(
-    alloc: Global,
     offset: u64,
     message: &Message<'_>,
     templates: &TemplateCache<'_>,
-    cache: &mut SpecCache<'_>,
+    memory: &mut DumpMemory<'_>,
     w: &mut W,
     e: &mut E,
 ) -> Result<Verdict, RunFault>
     requires list { templates.now.list ≡ message.now.descriptors }
-    requires cached { cache.old ≡ templates.now.table_b }
-    ensures same { cache.new ≡ cache.old }
+    requires cached { memory.old.specs ≡ templates.now.table_b }
+    ensures same { memory.new.specs ≡ memory.old.specs }
     ensures tells { (piece : Piece)
         → IsMessagePiece templates.now.table_b templates.now.table_d offset (Ok message.now) piece
         → TellsPieces (writers_of W.Sink w.old E.Sink e.old)
@@ -120,7 +126,7 @@ fn dump_selected<W: Sink, E: Sink>(
 {
     let table = templates.table_b();
     match templates.answer() {
-        Ok(template) => dump_data(alloc, offset, message, template, table, cache, w, e),
+        Ok(template) => dump_data(offset, message, template, table, memory, w, e),
         Err(fault) => {
             write_template_fault(offset, fault, e)?;
             Ok(Verdict::Refused)
@@ -128,82 +134,110 @@ fn dump_selected<W: Sink, E: Sink>(
     }
 }
 
+/// What a run keeps from message to message: the last templates with the specs of their cells,
+/// since messages repeat their descriptors and few of these can make a template of many places; and
+/// the memory of its dumps.
+#[derive(Drop)]
+struct DumpRun<'a> {
+    templates: TemplateCache<'a>,
+    memory: DumpMemory<'a>,
+}
+
 /// Writes the text of a message, or the line of the fault that its descriptors or its data are
 /// refused for.
 // rule: list-before-data
 fn dump_message<W: Sink, E: Sink>(
-    alloc: Global,
     offset: u64,
     message: &Message<'_>,
-    templates: &mut TemplateCache<'_>,
+    run: &mut DumpRun<'_>,
     w: &mut W,
     e: &mut E,
 ) -> Result<Verdict, RunFault>
     ensures tells { (piece : Piece)
-        → IsMessagePiece templates.old.table_b templates.old.table_d offset (Ok message.now) piece
+        → IsMessagePiece run.old.templates.table_b run.old.templates.table_d offset
+        (Ok message.now) piece
         → TellsPieces (writers_of W.Sink w.old E.Sink e.old)
         (writers_of W.Sink w.new E.Sink e.new) (piece ∷ []) result }
     ensures stops { StopsPiece true result }
-    ensures table_b { templates.new.table_b ≡ templates.old.table_b }
-    ensures table_d { templates.new.table_d ≡ templates.old.table_d }
+    ensures table_b { run.new.templates.table_b ≡ run.old.templates.table_b }
+    ensures table_d { run.new.templates.table_d ≡ run.old.templates.table_d }
     ensures counts { BlamesWriter (writers_of W.Sink w.old E.Sink e.old)
         (writers_of W.Sink w.new E.Sink e.new) result }
     ensures output_flushes { W.flushes w.new ≡ W.flushes w.old }
     ensures errors_flushes { E.flushes e.new ≡ E.flushes e.old }
 {
-    let descriptors = descriptors_of(alloc, message)?;
-    templates.select(&descriptors)?;
-    let mut cache = templates.take_specs();
-    let outcome = dump_selected(alloc, offset, message, templates, &mut cache, w, e);
-    templates.put_specs(cache);
+    let descriptors = descriptors_of(run.memory.alloc, message)?;
+    run.templates.select(&descriptors)?;
+    let mut specs = run.templates.take_specs();
+    mem::swap(&mut run.memory.specs, &mut specs);
+    let outcome = dump_selected(offset, message, &run.templates, &mut run.memory, w, e);
+    mem::swap(&mut run.memory.specs, &mut specs);
+    run.templates.put_specs(specs);
     outcome
+}
+
+/// Writes the text of the message in these octets, or its fault line. An event that is none does
+/// not pay for the room of a message.
+#[inline(never)]
+fn dump_frame<W: Sink, E: Sink>(
+    offset: u64,
+    octets: &[u8],
+    run: &mut DumpRun<'_>,
+    w: &mut W,
+    e: &mut E,
+) -> Result<Verdict, RunFault>
+    requires { 12 ≤ length octets.now }
+    ensures tells { (piece : Piece)
+        → IsMessagePiece run.old.templates.table_b run.old.templates.table_d offset
+        (sections_of octets.now) piece
+        → TellsPieces (writers_of W.Sink w.old E.Sink e.old)
+        (writers_of W.Sink w.new E.Sink e.new) (piece ∷ []) result }
+    ensures stops { StopsPiece true result }
+    ensures table_b { run.new.templates.table_b ≡ run.old.templates.table_b }
+    ensures table_d { run.new.templates.table_d ≡ run.old.templates.table_d }
+    ensures counts { BlamesWriter (writers_of W.Sink w.old E.Sink e.old)
+        (writers_of W.Sink w.new E.Sink e.new) result }
+    ensures output_flushes { W.flushes w.new ≡ W.flushes w.old }
+    ensures errors_flushes { E.flushes e.new ≡ E.flushes e.old }
+{
+    match Message::parse(octets) {
+        Ok(message) => dump_message(offset, &message, run, w, e),
+        Err(fault) => {
+            write_section_fault(offset, fault, e)?;
+            Ok(Verdict::Refused)
+        }
+    }
 }
 
 /// Writes the text of an event's message, or its fault line.
 // rule: one-fault-a-message
 fn dump_event<W: Sink, E: Sink>(
-    alloc: Global,
     event: Event<'_>,
-    templates: &mut TemplateCache<'_>,
+    run: &mut DumpRun<'_>,
     w: &mut W,
     e: &mut E,
 ) -> Result<Verdict, RunFault>
     requires { IsEvent event }
     ensures tells { (piece : StreamEvent → Piece)
-        → GivesPieces (IsDumpPiece templates.old.table_b templates.old.table_d) piece
+        → GivesPieces (IsDumpPiece run.old.templates.table_b run.old.templates.table_d) piece
         → TellsPieces (writers_of W.Sink w.old E.Sink e.old)
         (writers_of W.Sink w.new E.Sink e.new) (map piece (events_of event.entry)) result }
     ensures stops { StopsPiece true result }
-    ensures table_b { templates.new.table_b ≡ templates.old.table_b }
-    ensures table_d { templates.new.table_d ≡ templates.old.table_d }
+    ensures table_b { run.new.templates.table_b ≡ run.old.templates.table_b }
+    ensures table_d { run.new.templates.table_d ≡ run.old.templates.table_d }
     ensures counts { BlamesWriter (writers_of W.Sink w.old E.Sink e.old)
         (writers_of W.Sink w.new E.Sink e.new) result }
     ensures output_flushes { W.flushes w.new ≡ W.flushes w.old }
     ensures errors_flushes { E.flushes e.new ≡ E.flushes e.old }
 {
     match event {
-        Event::Frame(offset, octets) => match Message::parse(octets) {
-            Ok(message) => dump_message(alloc, offset, &message, templates, w, e),
-            Err(fault) => {
-                write_section_fault(offset, fault, e)?;
-                Ok(Verdict::Refused)
-            }
-        },
+        Event::Frame(offset, octets) => dump_frame(offset, octets, run, w, e),
         Event::Stray(offset, cause) => {
             write_stray(offset, cause, e)?;
             Ok(Verdict::Refused)
         }
         Event::Done => unreachable!(),
     }
-}
-
-/// Tells events by the texts of their messages. The last templates are kept, with the specs of
-/// their cells: messages repeat their descriptors, and few of these can make a template of many
-/// places.
-#[derive(Drop)]
-struct DumpRun<'a> {
-    alloc: Global,
-    templates: TemplateCache<'a>,
 }
 
 impl<'a> EventWriter for DumpRun<'a> {
@@ -220,7 +254,7 @@ impl<'a> EventWriter for DumpRun<'a> {
         w: &mut W,
         e: &mut E,
     ) -> Result<Verdict, RunFault> {
-        dump_event(self.alloc, event, &mut self.templates, w, e)
+        dump_event(event, self, w, e)
     }
 }
 
@@ -245,7 +279,7 @@ impl<'a> EventWriter for DumpRun<'a> {
 ///
 /// [`RunFault::Read`] and [`RunFault::InputTooLong`] as [`bufr_frame::Finder::next`] gives them;
 /// the texts of all that was certain were written then. [`RunFault::Write`] where a writer failed
-/// or took nothing, and [`RunFault::Memory`]: a front of the texts was written.
+/// or took nothing, and [`RunFault::Memory`]: a prefix of the texts was written.
 pub fn run_dump<R: Source, W: Sink, E: Sink>(
     alloc: Global,
     r: &mut R,
@@ -276,8 +310,8 @@ pub fn run_dump<R: Source, W: Sink, E: Sink>(
         (writers_of W.Sink w.new E.Sink e.new) result }
 {
     let mut dumping = DumpRun {
-        alloc,
         templates: TemplateCache::new(alloc, table_b, table_d),
+        memory: DumpMemory::new(alloc, table_b),
     };
     run_events(alloc, &mut dumping, r, w, e)
 }

@@ -1,8 +1,9 @@
 //! `bufr ls`: lists the messages of a stream.
-ghost use Rattle.std.specs.Prelude.{◌≡◌, ◌≢◌, ℕ, List, true, false, IfOk, OnOk, IfSome, map};
+ghost use Rattle.std.specs.Prelude.{◌≡◌, ◌≢◌, ◌≤◌, ℕ, List, [], ◌∷◌, true, false, IfOk, OnOk, IfSome, length, map};
 ghost use Rattle.bufr_frame.specs.Events.{events_of, IsEvent};
 ghost use Rattle.bufr_frame.specs.Runs.{read_failures_after, MakesReads};
-ghost use Rattle.bufr_cli.specs.Pieces.{ls_piece, ls_pieces};
+ghost use Rattle.bufr_frame.specs.Sections.{sections_of};
+ghost use Rattle.bufr_cli.specs.Pieces.{ls_or_fault, ls_piece, ls_pieces};
 ghost use Rattle.bufr_cli.specs.Counting.{BlamesWriter};
 ghost use Rattle.bufr_cli.specs.Devices.{input_of, writers_of};
 ghost use Rattle.bufr_cli.specs.Running.{RunsEvents};
@@ -17,6 +18,37 @@ use bufr_frame::{Event, Message, RunFault};
 use bufr_text::write_ls;
 use std::alloc::Global;
 
+/// Writes the line of the message in these octets. An event that is none does not pay for the room
+/// of a message.
+#[inline(never)]
+fn list_frame<W: Sink, E: Sink>(
+    offset: u64,
+    octets: &[u8],
+    w: &mut W,
+    e: &mut E,
+) -> Result<Verdict, RunFault>
+    requires { 12 ≤ length octets.now }
+    ensures tells { TellsPieces (writers_of W.Sink w.old E.Sink e.old)
+        (writers_of W.Sink w.new E.Sink e.new)
+        (ls_or_fault offset (sections_of octets.now) ∷ []) result }
+    ensures stops { StopsPiece false result }
+    ensures counts { BlamesWriter (writers_of W.Sink w.old E.Sink e.old)
+        (writers_of W.Sink w.new E.Sink e.new) result }
+    ensures output_flushes { W.flushes w.new ≡ W.flushes w.old }
+    ensures errors_flushes { E.flushes e.new ≡ E.flushes e.old }
+{
+    match Message::parse(octets) {
+        Ok(message) => {
+            write_ls(offset, &message, w)?;
+            Ok(Verdict::Accepted)
+        }
+        Err(fault) => {
+            write_section_fault(offset, fault, e)?;
+            Ok(Verdict::Refused)
+        }
+    }
+}
+
 /// Writes the line of an event.
 // rule: one-fault-a-message
 fn list_event<W: Sink, E: Sink>(event: Event<'_>, w: &mut W, e: &mut E) -> Result<Verdict, RunFault>
@@ -30,16 +62,7 @@ fn list_event<W: Sink, E: Sink>(event: Event<'_>, w: &mut W, e: &mut E) -> Resul
     ensures errors_flushes { E.flushes e.new ≡ E.flushes e.old }
 {
     match event {
-        Event::Frame(offset, octets) => match Message::parse(octets) {
-            Ok(message) => {
-                write_ls(offset, &message, w)?;
-                Ok(Verdict::Accepted)
-            }
-            Err(fault) => {
-                write_section_fault(offset, fault, e)?;
-                Ok(Verdict::Refused)
-            }
-        },
+        Event::Frame(offset, octets) => list_frame(offset, octets, w, e),
         Event::Stray(offset, cause) => {
             write_stray(offset, cause, e)?;
             Ok(Verdict::Refused)

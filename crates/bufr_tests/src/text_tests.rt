@@ -1,12 +1,12 @@
 //! The line of `ls` and the dump text of a message.
 
 use crate::messages::{
-    HEAD, LOCAL_USE, ONE_BLOCK_NUMBER, Worked, delayed_twice, line_of_one, text_of_one,
-    worked_messages,
+    HEAD, LOCAL_USE, ONE_BLOCK_NUMBER, PLAIN, Worked, delayed_twice, line_of_one, message_of,
+    text_of_one, worked_messages,
 };
 use crate::runs::{Watched, writer};
 use crate::support::{
-    Runtime, assert_same, assert_that, build, from_hex, joined, ok, some, table_b, table_d,
+    Runtime, assert_same, assert_that, build, from_hex, joined, ok, repeated, some, table_b, table_d,
 };
 use bufr_bits::{Device, End, ScriptOut, Sink};
 use bufr_frame::{Message, RunFault};
@@ -256,19 +256,28 @@ fn stops_dumping_where_the_writer_ends(rt: HostRuntime) {
     }
 }
 
-/// The worked message, the room of the writer, and the steps up to the line where it stops.
+/// A message of 2,000 block numbers, whose text has more than the 65,536 octets of a block.
+fn long_message(rt: &impl Runtime) -> Vec<u8> {
+    let payload = joined(rt, &[b"\x07\xD0", &repeated(rt, b"\0", 1750)]);
+    message_of(rt, 1, PLAIN, "101000 031002 001001", &payload)
+}
+
+/// A worked message or the long one, the room of the writer, and the steps up to where it stops.
 const STOPS: &[(&str, usize, u64)] = &[
     ("delayed_twice", 65_536, 7),
-    ("delayed_twice", 200, 0),
-    ("delayed_twice", 280, 2),
-    ("delayed_twice", 370, 5),
+    ("delayed_twice", 200, 7),
+    ("long", 65_536, 3270),
+    ("long", 131_072, 4003),
     ("compressed_missing", 65_536, 0),
 ];
 
-/// The steps of the dump of a worked message to a writer with this room.
+/// The steps of the dump of a message to a writer with this room.
 fn steps_to(rt: &impl Runtime, name: &str, room: usize) -> u64 {
-    let message = some(rt, row_named(name)).message(rt);
-    dump_to(rt, &message, &mut writer(rt, 4096, (room, End::Fail))).1
+    let message = match row_named(name) {
+        Some(row) => row.message(rt),
+        None => long_message(rt),
+    };
+    dump_to(rt, &message, &mut writer(rt, 131_072, (room, End::Fail))).1
 }
 
 /// The worked message of this name.
@@ -276,8 +285,8 @@ fn row_named(name: &str) -> Option<&'static Worked> {
     worked_messages().iter().find(|row| row.name == name)
 }
 
-/// Before the subset there is no step; an operator, a factor, an item and an end of a pass are
-/// steps. Compressed data are shown without one.
+/// An operator, a factor, an item and an end of a pass are steps. A text goes out in blocks, so the
+/// writer stops the dump at the end of one. Compressed data are shown without a step.
 #[test]
 fn counts_steps_of_a_dump(rt: HostRuntime) {
     for (name, room, steps) in STOPS {
@@ -285,17 +294,23 @@ fn counts_steps_of_a_dump(rt: HostRuntime) {
     }
 }
 
-/// No line is torn: two writes for the header, and one for each line after it.
-#[test]
-// rule: one-write-a-line
-fn dumps_whole_lines(rt: HostRuntime) {
+/// Asserts how many writes the text of a message takes, and that each ends a line.
+fn assert_writes(rt: &impl Runtime, message: &[u8], count: usize) {
     let (octets, writes, torn) = (Cell::new(0), Cell::new(0), Cell::new(false));
     let mut w = Device::new(Watched {
         octets: &octets,
         writes: &writes,
         torn: &torn,
     });
-    let (outcome, _) = dump_to(&rt, &delayed_twice(&rt), &mut w);
-    assert_same(&rt, &outcome, &Ok(()), &"dumped");
-    assert_same(&rt, &(writes.get(), torn.get()), &(8, false), &"writes");
+    let (outcome, _) = dump_to(rt, message, &mut w);
+    assert_same(rt, &outcome, &Ok(()), &count);
+    assert_same(rt, &(writes.get(), torn.get()), &(count, false), &"writes");
+}
+
+/// No line is torn: a text goes out in one write, or in writes of whole lines.
+#[test]
+// rule: one-write-a-line
+fn dumps_whole_lines(rt: HostRuntime) {
+    assert_writes(&rt, &delayed_twice(&rt), 1);
+    assert_writes(&rt, &long_message(&rt), 2);
 }

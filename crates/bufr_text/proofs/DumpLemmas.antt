@@ -1,71 +1,10 @@
--- What was written of a dump text, line by line.
-use Rattle.std.proofs.Common.{◌≡◌, ◌∙◌, ℕ, zero, suc, ◌-◌, ◌<◌, ◌≤◌, Bool, true, false, List, [], ◌∷◌, ◌++◌, length, take, drop, map, refl, sym, ap, subst, inl, inr, arith, Option, Ok, Err, append_assoc, append-nil}
-use Rattle.std.specs.Prelude.{Result, min, ◌⊎◌, IsTrue, ◌↔◌}
-use Rattle.std.specs.Io.KnownBytes.{Appends}
-use Rattle.std.proofs.KnownBytes.{Appends-nil, Appends-trans}
+-- The lines of octets and of descriptors, one after another.
+use Rattle.std.proofs.Common.{◌≡◌, ◌∙◌, ℕ, zero, suc, ◌-◌, ◌<◌, ◌≤◌, Bool, true, false, List, [], ◌∷◌, ◌++◌, length, take, drop, map, refl, sym, ap, inl, inr, arith}
+use Rattle.std.specs.Prelude.{min, ◌⊎◌, IsTrue, ◌↔◌}
 use Rattle.std.proofs.lemmas.Bool.{cases_lt}
 use Rattle.std.proofs.lemmas.List.{take_all, drop_all}
-use Rattle.bufr_frame.specs.declared.fault.RunFault.{RunFault}
-use Rattle.bufr_frame.specs.declared.fault.RunFault.TheVariants.{Read, Write, InputTooLong, Memory}
 use Rattle.bufr_text.specs.Grammar.{runs_behind, runs_of}
 use Rattle.bufr_text.specs.Dump.{text_of_lines}
-use Rattle.bufr_text.specs.DumpWritten.{WritesPrefix, CountsFaults}
-use Rattle.bufr_text.specs.Writing.{Writes, CountsWrites, GrowsByPrefix}
-
--- a front of a text is one of a longer text
-pub front-longer : (a b : Option (List ℕ)) (s t : List ℕ) → GrowsByPrefix a b s → GrowsByPrefix a b (s ++ t)
-front-longer a b s t first = record {
-  front = first.front;
-  back = first.back ++ t;
-  parts = ap (λ l. l ++ t) first.parts ∙ append_assoc first.front first.back t;
-  gains = first.gains;
-}
-
--- a text was written, and then a front of another one
-pub front-behind : (a b c : Option (List ℕ)) (s t : List ℕ) → Appends a b s → GrowsByPrefix b c t → GrowsByPrefix a c (s ++ t)
-front-behind a b c s t first second = record {
-  front = s ++ second.front;
-  back = second.back;
-  parts = ap (λ l. s ++ l) second.parts ∙ sym (append_assoc s second.front second.back);
-  gains = Appends-trans a b c s second.front first second.gains;
-}
-
--- nothing was written
-pub front-none : (a : Option (List ℕ)) (text : List ℕ) → GrowsByPrefix a a text
-front-none a text = record { front = []; back = text; parts = refl; gains = Appends-nil a }
-
--- the first was written, and then the second
-pub WritesFront-then : {X : Type 0} (a b c : Option (List ℕ)) (s t : List ℕ) (r : Result X RunFault) → Appends a b s → WritesPrefix b c t r → WritesPrefix a c (s ++ t) r
-WritesFront-then a b c s t (Ok x) first second = Appends-trans a b c s t first second
-WritesFront-then a b c s t (Err f) first second = front-behind a b c s t first second
-
--- the first was not written whole
-pub WritesFront-stop : {X Y : Type 0} (a b : Option (List ℕ)) (s t : List ℕ) (first : Result X RunFault) (r : Result Y RunFault) (f g : RunFault) → first ≡ Err f → r ≡ Err g → WritesPrefix a b s first → WritesPrefix a b (s ++ t) r
-WritesFront-stop a b s t first r f g is same writes =
-    let here = rw is at writes in
-    rw same (front-longer a b s t here)
-
--- a write that failed is all that can be wrong
-pub WritesFront-writes : {X : Type 0} (a b : Option (List ℕ)) (text : List ℕ) (r : Result X RunFault) → Writes a b text r → WritesPrefix a b text r
-WritesFront-writes a b text (Ok x) writes = writes
-WritesFront-writes a b text (Err f) writes = writes.1
-
-pub CountsFaults-writes : {X : Type 0} (a b : Option (List ℕ)) (text : List ℕ) (f f' e e' : ℕ) (r : Result X RunFault) → Writes a b text r → CountsWrites f f' e e' r → CountsFaults f f' e e' r
-CountsFaults-writes a b text f f' e e' (Ok x) writes counts = counts
-CountsFaults-writes a b text f f' e e' (Err fault) writes counts = rw writes.0 counts
-
--- nothing was counted, and then a call was made
-pub CountsFaults-then : {X : Type 0} (f f' f'' e e' e'' : ℕ) (r : Result X RunFault) → f' ≡ f → e' ≡ e → CountsFaults f' f'' e' e'' r → CountsFaults f f'' e e'' r
-CountsFaults-then f f' f'' e e' e'' r failures empty counts =
-    let P : ℕ → ℕ → Type 0 = λ x y. CountsFaults x f'' y e'' r in
-    subst (λ x. P x e) failures (subst (λ y. P f' y) empty counts)
-
--- whatever the answer would be at Ok
-pub CountsFaults-of : (X Y : Type 0) (f f' e e' : ℕ) (fault : RunFault) → CountsFaults {X = X} f f' e e' (Err fault) → CountsFaults {X = Y} f f' e e' (Err fault)
-CountsFaults-of X Y f f' e e' Write counts = counts
-CountsFaults-of X Y f f' e e' Memory counts = counts
-CountsFaults-of X Y f f' e e' Read counts = absurd counts
-CountsFaults-of X Y f f' e e' InputTooLong counts = absurd counts
 
 -- a list in runs: the first and the others
 runs-skip : (skip less : ℕ) (xs : List ℕ) → runs_behind skip (suc less) xs ≡ runs_behind 0 (suc less) (drop skip xs)
@@ -111,10 +50,6 @@ octet-lines-next f less m rest run behind some is front back =
     lines-next f less rest some
     ∙ ap (λ l. (f l ++ 10 ∷ []) ++ text_of_lines (map f (runs_of (suc less) (drop (suc less) rest)))) (sym (front ∙ cut.0))
     ∙ ap (λ l. (f run ++ 10 ∷ []) ++ text_of_lines (map f (runs_of (suc less) l))) (sym (back ∙ cut.1))
-
--- nothing was written before memory ran out
-pub WritesFront-none : {X : Type 0} (a : Option (List ℕ)) (text : List ℕ) (r : Result X RunFault) (f : RunFault) → r ≡ Err f → WritesPrefix a a text r
-WritesFront-none a text r f is = rw is (front-none a text)
 
 -- whether anything is left
 pub some-left : (b : Bool) (xs : List ℕ) → IsTrue b ↔ (xs ≡ []) → b ≡ false → 0 < length xs

@@ -1,33 +1,32 @@
--- The calls that show a reading, and what they write.
+-- The calls that show a reading, and what they push.
 use Rattle.std.proofs.Common.{◌≡◌, ◌∙◌, ℕ, zero, suc, ◌+◌, List, [], ◌∷◌, ◌++◌, map, refl, sym, ap, subst, inl, inr, Option, Ok, Err, append_assoc, append-nil, codes}
-use Rattle.std.specs.Prelude.{Result}
-use Rattle.std.specs.Io.KnownBytes.{Appends}
-use Rattle.std.proofs.KnownBytes.{Appends-nil, Appends-trans}
+use Rattle.std.specs.Prelude.{Result, flat_map}
 use Rattle.std.proofs.lemmas.Grind.{flat_map-append}
 use Rattle.bufr_frame.specs.Sections.{Sections}
 use Rattle.bufr_frame.specs.declared.fault.RunFault.{RunFault}
+use Rattle.bufr_frame.specs.declared.fault.RunFault.TheVariants.{Write, Memory}
 use Rattle.bufr_tables.specs.TableB.{Row}
 use Rattle.bufr_walk.specs.declared.fault.ShowFault.{ShowFault}
 use Rattle.bufr_walk.specs.declared.fault.ShowFault.TheVariants as show
-use Rattle.bufr_walk.specs.Calls.{Call, item_call, Timed, view_of, content_at, item_calls, subset_calls, compressed_item_calls, compressed_subset_calls, calls_of, turns_shown}
+use Rattle.bufr_walk.specs.Calls.{item_call, Timed, view_of, content_at, item_calls, subset_calls, compressed_item_calls, compressed_subset_calls, calls_of, turns_shown}
+use Rattle.bufr_walk.specs.CallsInTurn.{Shows, EndsAt}
 use Rattle.bufr_walk.specs.Content.{Content}
 use Rattle.bufr_walk.specs.Course.{Course}
 use Rattle.bufr_walk.specs.Outcome as outcome
 use Rattle.bufr_walk.specs.Reading.{Item, Values, apart, together, plain, after, turns_after}
-use Rattle.bufr_walk.specs.CallsInTurn.{Shows, EndsAt}
 use Rattle.bufr_walk.specs.Ticks.{ticked}
-use Rattle.bufr_text.specs.Dump.{item_text, subset_line, subset_lines, text_of_lines, dump_lines, head_lines, header_lines, header_of, local1_line, section2_line, descriptors_line, dump_text_of}
-use Rattle.bufr_text.specs.Dump as dump
+use Rattle.bufr_text.specs.Dump.{item_text, subset_line, subset_lines, text_of_lines, head_lines, dump_text_of}
 use Rattle.bufr_text.specs.DumpItems.{items_apart, dump_items_of}
 use Rattle.bufr_text.specs.DumpItems as dumped
-use Rattle.bufr_text.specs.DumpWritten.{Stretch, stretch, call_line, call_stretch, stretches_of, stretches_text, WritesUpTo, WritesStretches, WritesPrefix, CountsFaults}
-use Rattle.bufr_text.specs.Pen.{SinkModel, InksCall, outcome_of}
-use Rattle.bufr_text.specs.Writing.{GrowsByPrefix}
-use Rattle.bufr_text.proofs.DumpLemmas.{front-none, front-longer, front-behind, CountsFaults-then, CountsFaults-of}
+use Rattle.bufr_text.specs.DumpWritten.{CountsFaults, MakesSteps, StepsWithin, WritesPrefix}
+use Rattle.bufr_text.specs.Lines.{LineModel, Moves, MovesOn, PushesFrom, Pushes}
+use Rattle.bufr_text.specs.Pen.{call_line, Ends, IsFirstFault, PushesCall, PushesPrefix, subsets_text}
+use Rattle.bufr_text.specs.Writing.{CountsWrites, GrowsByPrefix, Writes}
+use Rattle.bufr_text.proofs.PushLemmas.{◌⨾◌, all_written, nothing_pushed, retold}
 
 -- the text of calls
 abbrev pub calls_text : List Timed → List ℕ
-calls_text calls = stretches_text (map call_stretch calls)
+calls_text calls = flat_map (λ t. call_line t.call ++ 10 ∷ []) calls
 
 calls-append : (xs ys : List Timed) → calls_text (xs ++ ys) ≡ calls_text xs ++ calls_text ys
 calls-append [] ys = refl
@@ -76,160 +75,184 @@ reading-text r (apart subsets) = subsets-text r.table (outcome.course_of r) 0 1 
 reading-text r (together items) = all-together-text r.table r.source.subsets 0 items
 
 -- the lines before the subsets, the subsets and the last line
-dump-text-is : (s : Sections) (subsets : List (List dump.DumpItem)) → text_of_lines (head_lines s) ++ (text_of_lines (subset_lines 1 subsets) ++ codes "end\n") ≡ dump_text_of s subsets
-dump-text-is s subsets =
+pub dump-text-is : (s : Sections) (r : outcome.Read) (values : Values) → text_of_lines (head_lines s) ++ subsets_text r values ≡ dump_text_of s (dump_items_of r values)
+dump-text-is s r values =
+    let subsets = dump_items_of r values in
     ap (λ l. text_of_lines (head_lines s) ++ l) (sym (text-append (subset_lines 1 subsets) (codes "end" ∷ [])))
     ∙ sym (text-append (head_lines s) (subset_lines 1 subsets ++ codes "end" ∷ []))
 
-stretches-append : (xs ys : List Stretch) → stretches_text (xs ++ ys) ≡ stretches_text xs ++ stretches_text ys
-stretches-append xs ys = flat_map-append (λ p. p.text) xs ys
+-- a write had failed: whatever comes after it is as if it were pushed
+stuck_from : (a : LineModel) (t : List ℕ) (f : RunFault) (r : Result Unit RunFault) → a.status ≡ r → r ≡ Err f → PushesFrom r a t a
+stuck_from a t f (Ok x) same is = absurd (cc)
+stuck_from a t f (Err g) same is = record { status = same; taken = refl; failures = refl; empty_writes = refl }
 
--- the stretches of a dump text are its text
-pub stretches-text : (s : Sections) (r : outcome.Read) (values : Values) → stretches_text (stretches_of s r values) ≡ dump_text_of s (dump_items_of r values)
-stretches-text s r values =
-    ap (λ l. text_of_lines (head_lines s) ++ l)
-    (stretches-append (map call_stretch (calls_of r values)) (stretch (turns_shown r values) (codes "end\n") ∷ []) ∙ ap (λ l. l ++ codes "end\n") (reading-text r values))
-    ∙ dump-text-is s (dump_items_of r values)
+pub fails_pushes : {a b : LineModel} {s : List ℕ} (t : List ℕ) (f : RunFault) → Pushes a s b → b.status ≡ Err f → Pushes a (s ++ t) b
+fails_pushes {b = b} t f pushes is =
+    let on : Pushes b t b = record { from = stuck_from b t f b.status refl is; flushes = refl; sink = refl } in
+    pushes ⨾ on
 
--- stretches that were written are a front of their text
-pub stretches-front : {X : Type 0} (a b : Option (List ℕ)) (stretches : List Stretch) (turns : ℕ) (r : Result X RunFault) (steps : ℕ) → WritesStretches a b stretches turns r steps → WritesPrefix a b (stretches_text stretches) r
-stretches-front a b stretches turns (Ok x) steps writes = writes.0
-stretches-front a b stretches turns (Err f) steps stops =
-    let text : stretches_text stretches ≡ stretches_text stops.given ++ (stops.next.text ++ stretches_text stops.rest) =
-    ap stretches_text stops.order ∙ stretches-append stops.given (stops.next ∷ stops.rest) in
-    let P : List ℕ → Type 0 = λ t. GrowsByPrefix a b t in
-    subst P (sym text) (front-behind a stops.between b (stretches_text stops.given) (stops.next.text ++ stretches_text stops.rest) stops.whole (front-longer stops.between b stops.next.text (stretches_text stops.rest) stops.front))
+-- What the calls of a showing push: all their lines, or a prefix where memory ran out.
+abbrev pub PushesCalls : LineModel → List ℕ → Result (Unit {0}) (ShowFault RunFault) → LineModel → Type 0
+PushesCalls a text (Ok x) b = Pushes a text b
+PushesCalls a text (Err (show.Visitor f)) b = Pushes a text b × (b.status ≡ Err f)
+PushesCalls a text (Err show.Memory) b = PushesPrefix a text b
 
--- the dump text or a front of it, from its stretches
-pub dump-writes : {X : Type 0} (s : Sections) (read : outcome.Read) (values : Values) (a b : Option (List ℕ)) (r : Result X RunFault) (steps : ℕ) → WritesStretches a b (stretches_of s read values) (turns_shown read values) r steps
-    → WritesPrefix a b (dump_text_of s (dump_items_of read values)) r
-dump-writes s read values a b r steps writes =
-    let P : List ℕ → Type 0 = λ t. WritesPrefix a b t r in
-    subst P (stretches-text s read values) (stretches-front a b (stretches_of s read values) (turns_shown read values) r steps writes)
-
--- What calls leave.
-pub record Left (p : SinkModel) (calls : List Timed) (turns : ℕ) (r : Result (Unit {0}) (ShowFault RunFault)) (p' : SinkModel) (steps : ℕ) : Type 0 where
-  pub writes : WritesStretches p.taken p'.taken (map call_stretch calls) turns (outcome_of r) steps
-  pub counts : CountsFaults p.failures p'.failures p.empty p'.empty (outcome_of r)
-  pub flushes : p'.flushes ≡ p.flushes
-  pub line : p'.line ≡ p.line
-  pub writer : p'.writer ≡ p.writer
-
--- one call more in front
-left-writes : (p mid p' : SinkModel) (t : Timed) (calls : List Timed) (turns : ℕ) (r : Result (Unit {0}) (ShowFault RunFault)) (steps : ℕ) → Appends p.taken mid.taken (call_line t.call ++ 10 ∷ [])
-    → WritesStretches mid.taken p'.taken (map call_stretch calls) turns (outcome_of r) steps → WritesStretches p.taken p'.taken (map call_stretch (t ∷ calls)) turns (outcome_of r) steps
-left-writes p mid p' t calls turns (Ok x) steps one two = (Appends-trans p.taken mid.taken p'.taken (call_line t.call ++ 10 ∷ []) (calls_text calls) one two.0, two.1)
-left-writes p mid p' t calls turns (Err why) steps one two = record {
-  given = call_stretch t ∷ two.given;
-  next = two.next;
-  rest = two.rest;
-  order = ap (λ l. call_stretch t ∷ l) two.order;
-  between = two.between;
-  whole = Appends-trans p.taken mid.taken two.between (call_line t.call ++ 10 ∷ []) (stretches_text two.given) one two.whole;
-  front = two.front;
-  made = two.made;
+-- one call more before them
+calls-on : (a mid b : LineModel) (line text : List ℕ) (r : Result (Unit {0}) (ShowFault RunFault)) → Pushes a line mid → PushesCalls mid text r b → PushesCalls a (line ++ text) r b
+calls-on a mid b line text (Ok x) one more = one ⨾ more
+calls-on a mid b line text (Err (show.Visitor f)) one more = (one ⨾ more.0, more.1)
+calls-on a mid b line text (Err show.Memory) one more = record {
+  prefix = line ++ more.prefix;
+  suffix = more.suffix;
+  parts = ap (λ l. line ++ l) more.parts ∙ sym (append_assoc line more.prefix more.suffix);
+  pushes = one ⨾ more.pushes;
 }
 
-left-on : (p mid p' : SinkModel) (t : Timed) (calls : List Timed) (turns : ℕ) (r : Result (Unit {0}) (ShowFault RunFault)) (steps : ℕ) → InksCall {X = Unit {0}} p t.call (Ok tt) mid → Left mid calls turns r p' steps → Left p (t ∷ calls) turns r p' steps
-left-on p mid p' t calls turns r steps one two = record {
-  writes = left-writes p mid p' t calls turns r steps one.writes two.writes;
-  counts = CountsFaults-then p.failures mid.failures p'.failures p.empty mid.empty p'.empty (outcome_of r) one.counts.0 one.counts.1 two.counts;
-  flushes = two.flushes ∙ one.flushes;
-  line = two.line ∙ one.line;
-  writer = two.writer ∙ one.writer;
+-- the call that ends them
+calls-end : (a b : LineModel) (t : Timed) (text : List ℕ) (why : ShowFault RunFault) → EndsAt PushesCall a t.call why b → PushesCalls a ((call_line t.call ++ 10 ∷ []) ++ text) (Err why) b
+calls-end a b t text (show.Visitor f) here = (fails_pushes text f here.pushes (sym here.status), sym here.status)
+calls-end a b t text show.Memory here =
+    let whole = (call_line t.call ++ 10 ∷ []) ++ text in
+    let P : LineModel → Type 0 = λ z. PushesPrefix a whole z in
+    subst P (sym here.0) (record { prefix = []; suffix = whole; parts = refl; pushes = nothing_pushed })
+
+pub calls-pushed : (a : LineModel) (calls : List Timed) (turns : ℕ) (r : Result (Unit {0}) (ShowFault RunFault)) (b : LineModel) (steps : ℕ) → Shows PushesCall a calls turns r b steps → PushesCalls a (calls_text calls) r b
+calls-pushed a [] turns (Ok x) b steps (same, made) =
+    let P : LineModel → Type 0 = λ z. Pushes a [] z in
+    subst P (sym same) nothing_pushed
+calls-pushed a [] turns (Err why) b steps none = absurd none
+calls-pushed a (t ∷ calls) turns (Ok x) b steps (mid, one, more) = calls-on a mid b (call_line t.call ++ 10 ∷ []) (calls_text calls) (Ok x) one.pushes (calls-pushed mid calls turns (Ok x) b steps more)
+calls-pushed a (t ∷ calls) turns (Err why) b steps (inl (here, made)) = calls-end a b t (calls_text calls) why here
+calls-pushed a (t ∷ calls) turns (Err why) b steps (inr (mid, one, more)) = calls-on a mid b (call_line t.call ++ 10 ∷ []) (calls_text calls) (Err why) one.pushes (calls-pushed mid calls turns (Err why) b steps more)
+
+-- the steps of the calls of a showing
+pub calls-steps : (a : LineModel) (calls : List Timed) (turns : ℕ) (r : Result (Unit {0}) (ShowFault RunFault)) (b : LineModel) (steps : ℕ) → Shows PushesCall a calls turns r b steps → MakesSteps calls turns r steps
+calls-steps a [] turns (Ok x) b steps (same, made) = made
+calls-steps a [] turns (Err why) b steps none = absurd none
+calls-steps a (t ∷ calls) turns (Ok x) b steps (mid, one, more) = calls-steps mid calls turns (Ok x) b steps more
+calls-steps a (t ∷ calls) turns (Err why) b steps (inl (here, made)) = inl made
+calls-steps a (t ∷ calls) turns (Err why) b steps (inr (mid, one, more)) = inr (calls-steps mid calls turns (Err why) b steps more)
+
+-- all turns are among those of a showing that was given up
+pub all-steps : (calls : List Timed) (turns steps : ℕ) → steps ≡ ticked 0 turns → StepsWithin calls turns steps
+all-steps [] turns steps made = made
+all-steps (t ∷ calls) turns steps made = inr (all-steps calls turns steps made)
+
+pub steps-of : {X E : Type 0} (calls : List Timed) (turns steps : ℕ) (r : Result X E) → steps ≡ ticked 0 turns → MakesSteps calls turns r steps
+steps-of calls turns steps (Ok x) made = made
+steps-of calls turns steps (Err fault) made = all-steps calls turns steps made
+
+-- no step was made yet
+compressed-none : (table : List Row) (subsets : ℕ) (items : List (Item (List Content))) → StepsWithin (compressed_subset_calls table subsets 0 items) 0 0
+compressed-none table zero items = refl
+compressed-none table (suc n) items = inl refl
+
+pub no-steps : (r : outcome.Read) (values : Values) → StepsWithin (calls_of r values) (turns_shown r values) 0
+no-steps r (apart []) = refl
+no-steps r (apart (items ∷ subsets)) = inl refl
+no-steps r (together items) = compressed-none r.table r.source.subsets items
+
+pub none-made : {X E : Type 0} (r : outcome.Read) (values : Values) (steps : ℕ) (result : Result X E) (fault : E) → result ≡ Err fault → steps ≡ 0 → MakesSteps (calls_of r values) (turns_shown r values) result steps
+none-made r values steps result fault is none = rw (is, none) (no-steps r values)
+
+-- a prefix of a text was pushed, and with it one of a longer text
+prefix-longer : {a b : LineModel} {s : List ℕ} (t : List ℕ) → PushesPrefix a s b → PushesPrefix a (s ++ t) b
+prefix-longer t first = record {
+  prefix = first.prefix;
+  suffix = first.suffix ++ t;
+  parts = ap (λ l. l ++ t) first.parts ∙ append_assoc first.prefix first.suffix t;
+  pushes = first.pushes;
 }
 
--- a call was not written whole
-stops-here : (old new : Option (List ℕ)) (t : Timed) (calls : List Timed) (steps : ℕ) → GrowsByPrefix old new (call_line t.call ++ 10 ∷ []) → steps ≡ ticked 0 t.turns → WritesUpTo old new (map call_stretch (t ∷ calls)) steps
-stops-here old new t calls steps front made = record {
-  given = [];
-  next = call_stretch t;
-  rest = map call_stretch calls;
-  order = refl;
-  between = old;
-  whole = Appends-nil old;
-  front = front;
-  made = made;
-}
+module _ (a b : LineModel) (r : outcome.Read) (values : Values) where
+  text-is : subsets_text r values ≡ calls_text (calls_of r values) ++ codes "end\n"
+  text-is = ap (λ l. l ++ codes "end\n") (sym (reading-text r values))
 
-module _ {S : Type 0} (pen_of : S → SinkModel) where
-  abbrev Sees : S → Call → Result (Unit {0}) RunFault → S → Type 0
-  Sees s call r s' = InksCall (pen_of s) call r (pen_of s')
+  -- all calls were made, and then the last line was pushed and handed on
+  pub ends-whole : {c d : LineModel} (q : Result Unit RunFault) → Pushes a (calls_text (calls_of r values)) b → Pushes b (codes "end\n") c → Pushes c [] d → d.held ≡ [] → q ≡ d.status → Ends a (subsets_text r values) q d
+  ends-whole {c = c} {d = d} q calls last handed none is = by q is
+    where
+      whole : Pushes a (subsets_text r values) d
+      whole = retold (calls ⨾ last ⨾ handed) (append-nil (calls_text (calls_of r values) ++ codes "end\n") ∙ sym text-is)
 
-  left-end : (s s' : S) (t : Timed) (calls : List Timed) (turns : ℕ) (why : ShowFault RunFault) (steps : ℕ) → EndsAt Sees s t.call why s' → steps ≡ ticked 0 t.turns → Left (pen_of s) (t ∷ calls) turns (Err why) (pen_of s') steps
-  left-end s s' t calls turns (show.Visitor e) steps here made = record {
-    writes = stops-here (pen_of s).taken (pen_of s').taken t calls steps here.writes made;
-    counts = CountsFaults-of (Unit {0}) (Unit {0}) (pen_of s).failures (pen_of s').failures (pen_of s).empty (pen_of s').empty e here.counts;
-    flushes = here.flushes;
-    line = here.line;
-    writer = here.writer;
-  }
-  left-end s s' t calls turns show.Memory steps here made =
-      let P : S → Type 0 = λ z. Left (pen_of s) (t ∷ calls) turns (Err show.Memory) (pen_of z) steps in
-      subst P (sym here.0) (record {
-        writes = stops-here (pen_of s).taken (pen_of s).taken t calls steps (front-none (pen_of s).taken (call_line t.call ++ 10 ∷ [])) made;
-        counts = (refl, refl);
-        flushes = refl;
-        line = refl;
-        writer = refl;
-      })
+      by : (q : Result Unit RunFault) → q ≡ d.status → Ends a (subsets_text r values) q d
+      by (Ok x) is = (whole, none, sym is)
+      by (Err f) is = (
+        record { prefix = subsets_text r values; suffix = []; parts = sym (append-nil (subsets_text r values)); pushes = whole },
+        rw (sym is) refl,
+      )
 
-  -- what the calls of a showing leave
-  pub left : (s : S) (calls : List Timed) (turns : ℕ) (r : Result (Unit {0}) (ShowFault RunFault)) (s' : S) (steps : ℕ) → Shows Sees s calls turns r s' steps → Left (pen_of s) calls turns r (pen_of s') steps
-  left s [] turns (Ok x) s' steps (same, made) =
-      let P : S → Type 0 = λ z. Left (pen_of s) [] turns (Ok x) (pen_of z) steps in
-      subst P (sym same) (record { writes = (Appends-nil (pen_of s).taken, made); counts = (refl, refl); flushes = refl; line = refl; writer = refl })
-  left s [] turns (Err why) s' steps none = absurd none
-  left s (t ∷ calls) turns (Ok x) s' steps (mid, one, more) =
-      left-on (pen_of s) (pen_of mid) (pen_of s') t calls turns (Ok x) steps one (left mid calls turns (Ok x) s' steps more)
-  left s (t ∷ calls) turns (Err why) s' steps (inl (here, made)) = left-end s s' t calls turns why steps here made
-  left s (t ∷ calls) turns (Err why) s' steps (inr (mid, one, more)) =
-      left-on (pen_of s) (pen_of mid) (pen_of s') t calls turns (Err why) steps one (left mid calls turns (Err why) s' steps more)
+  -- a prefix of the calls was made
+  pub ends-first : (first : RunFault) → PushesPrefix a (calls_text (calls_of r values)) b → IsFirstFault b.status first → Ends a (subsets_text r values) (Err first) b
+  ends-first first within is =
+      let P : List ℕ → Type 0 = λ l. PushesPrefix a l b in
+      (subst P (sym text-is) (prefix-longer (codes "end\n") within), is)
 
--- The whole dump: the lines before the subsets, the calls, and the last line.
-module _ (a b : Option (List ℕ)) (head last : Stretch) (middle : List Stretch) (turns : ℕ) where
-  -- the first stretch was not written whole
-  pub dump-stop-head : {X : Type 0} (r : Result X RunFault) (f : RunFault) (steps : ℕ) → r ≡ Err f → GrowsByPrefix a b head.text → steps ≡ ticked 0 head.turns → WritesStretches a b (head ∷ (middle ++ last ∷ [])) turns r steps
-  dump-stop-head r f steps is front made = rw is (record {
-    given = [];
-    next = head;
-    rest = middle ++ last ∷ [];
-    order = refl;
-    between = a;
-    whole = Appends-nil a;
-    front = front;
-    made = made;
-  })
+  -- a write failed
+  pub ends-failed : (fault : RunFault) → Pushes a (calls_text (calls_of r values)) b → b.status ≡ Err fault → Ends a (subsets_text r values) (Err fault) b
+  ends-failed fault calls is =
+      let all : PushesPrefix a (calls_text (calls_of r values)) b = record {
+        prefix = calls_text (calls_of r values);
+        suffix = [];
+        parts = sym (append-nil (calls_text (calls_of r values)));
+        pushes = calls;
+      } in
+      ends-first fault all (rw is refl)
 
-  -- a call was not written whole
-  pub dump-stop-middle : {X Y : Type 0} (c : Option (List ℕ)) (first : Result X RunFault) (r : Result Y RunFault) (f g : RunFault) (steps : ℕ) → Appends a b head.text → first ≡ Err f → r ≡ Err g → WritesStretches b c middle turns first steps → WritesStretches a c (head ∷ (middle ++ last ∷ [])) turns r steps
-  dump-stop-middle c first r f g steps whole is same stops =
-      let here = rw is at stops in
-      rw same (record {
-        given = head ∷ here.given;
-        next = here.next;
-        rest = here.rest ++ last ∷ [];
-        order = ap (λ l. head ∷ l) (ap (λ l. l ++ last ∷ []) here.order ∙ append_assoc here.given (here.next ∷ here.rest) (last ∷ []));
-        between = here.between;
-        whole = Appends-trans a b here.between head.text (stretches_text here.given) whole here.whole;
-        front = here.front;
-        made = here.made;
-      })
+-- what a writer that held nothing wrote
+prefix-moved : (a b : LineModel) (text : List ℕ) (r : Result Unit RunFault) → Moves a.taken b.taken (a.held ++ text) b.held r → GrowsByPrefix a.taken b.taken (a.held ++ text)
+prefix-moved a b text (Ok x) moves = record { front = moves.prefix; back = b.held; parts = moves.parts; gains = moves.gains }
+prefix-moved a b text (Err f) moves = moves.1
 
-  -- all but the last stretch were written, and then that one, or a front of it
-  pub dump-end : {X : Type 0} (c d : Option (List ℕ)) (r : Result X RunFault) (steps : ℕ) → Appends a b head.text → Appends b c (stretches_text middle) → WritesPrefix c d last.text r → steps ≡ ticked 0 turns → last.turns ≡ turns → WritesStretches a d (head ∷ (middle ++ last ∷ [])) turns r steps
-  dump-end c d (Ok x) steps whole calls writes made is =
-      let all : head.text ++ (stretches_text middle ++ last.text) ≡ stretches_text (head ∷ (middle ++ last ∷ [])) =
-      ap (λ l. head.text ++ l) (ap (λ l. stretches_text middle ++ l) (sym (append-nil last.text)) ∙ sym (stretches-append middle (last ∷ []))) in
-      let P : List ℕ → Type 0 = λ t. Appends a d t in
-      (subst P all (Appends-trans a b d head.text (stretches_text middle ++ last.text) whole (Appends-trans b c d (stretches_text middle) last.text calls writes)), made)
-  dump-end c d (Err f) steps whole calls writes made is = record {
-    given = head ∷ middle;
-    next = last;
-    rest = [];
-    order = refl;
-    between = c;
-    whole = Appends-trans a b c head.text (stretches_text middle) whole calls;
-    front = writes;
-    made = made ∙ ap (λ n. ticked 0 n) (sym is);
-  }
+-- what a dump leaves of the sink
+pub record LeavesSink {X : Type 0} (a : LineModel) (text : List ℕ) (r : Result X RunFault) (c : LineModel) : Type 0 where
+  pub writes : WritesPrefix a.taken c.taken text r
+  pub counts : CountsFaults a.failures c.failures a.empty_writes c.empty_writes r
+  pub flushes : c.flushes ≡ a.flushes
+
+counts-fault : (f f' e e' : ℕ) (status : Result Unit RunFault) (fault : RunFault) → IsFirstFault status fault → ((g : RunFault) → status ≡ Err g → g ≡ Write) → CountsWrites f f' e e' status → CountsFaults {X = Unit} f f' e e' (Err fault)
+counts-fault f f' e e' (Ok x) fault is only counts = rw is counts
+counts-fault f f' e e' (Err g) fault is only counts = rw (is, only g refl) counts
+
+only-write : (a b : LineModel) (text held : List ℕ) (r : Result Unit RunFault) → Moves a.taken b.taken text held r → (g : RunFault) → r ≡ Err g → g ≡ Write
+only-write a b text held (Ok x) moves g is = absurd (cc)
+only-write a b text held (Err f) moves g is = let same : f ≡ g = cc in sym same ∙ moves.0
+
+module _ {a b c : LineModel} {head : List ℕ} (rest : List ℕ) (ok : a.status ≡ Ok tt) (none : a.held ≡ []) (first : Pushes a head b) where
+  leaves-all : Pushes b rest c → c.held ≡ [] → c.status ≡ Ok tt → LeavesSink {X = Unit} a (head ++ rest) (Ok tt) c
+  leaves-all more empty fine =
+      let whole = first ⨾ more in
+      let from = rw ok at whole.from in
+      record {
+        writes = all_written {r = Ok tt} tt whole nothing_pushed ok none empty refl refl (sym fine);
+        counts = rw fine at from.counts;
+        flushes = whole.flushes;
+      }
+
+  leaves-prefix : (fault : RunFault) → PushesPrefix b rest c → IsFirstFault c.status fault → LeavesSink {X = Unit} a (head ++ rest) (Err fault) c
+  leaves-prefix fault more is =
+      let whole = first ⨾ more.pushes in
+      let from = rw ok at whole.from in
+      let grown = rw none at (prefix-moved a c (head ++ more.prefix) c.status from.moves) in
+      let parts : head ++ rest ≡ (head ++ more.prefix) ++ more.suffix = ap (λ l. head ++ l) more.parts ∙ sym (append_assoc head more.prefix more.suffix) in
+      record {
+        writes = record {
+          front = grown.front;
+          back = grown.back ++ more.suffix;
+          parts = parts ∙ ap (λ l. l ++ more.suffix) grown.parts ∙ append_assoc grown.front grown.back more.suffix;
+          gains = grown.gains;
+        };
+        counts = counts-fault a.failures c.failures a.empty_writes c.empty_writes c.status fault is (only-write a c (a.held ++ (head ++ more.prefix)) c.held c.status from.moves) from.counts;
+        flushes = whole.flushes;
+      }
+
+  pub leaves : (r : Result Unit RunFault) → Ends b rest r c → LeavesSink a (head ++ rest) r c
+  leaves (Ok x) ends = leaves-all ends.0 ends.1 ends.2
+  leaves (Err fault) ends = leaves-prefix fault ends.0 ends.1
+
+-- the dump text of a message, by a writer of lines over a sink
+pub all-written-of : {a c : LineModel} {old new : Option (List ℕ)} (s : Sections) (read : outcome.Read) (values : Values) (r : Result Unit RunFault) → LeavesSink a (text_of_lines (head_lines s) ++ subsets_text read values) r c → a.taken ≡ old → new ≡ c.taken
+    → WritesPrefix old new (dump_text_of s (dump_items_of read values)) r
+all-written-of {a = a} {c = c} s read values r left was is =
+    let P : List ℕ → Type 0 = λ l. WritesPrefix a.taken c.taken l r in
+    rw (← was, is) (subst P (dump-text-is s read values) left.writes)

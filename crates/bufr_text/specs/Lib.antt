@@ -18,7 +18,7 @@ pub mod Writing
 pub mod Lines
 -- what a dump leaves on its writer, and the steps that are made for it
 pub mod DumpWritten
--- private: a writer of a dump, and what one call of a showing does to it
+-- private: what the calls of a showing push to a writer of lines
 pub mod Pen
 -- ---- what lines spell
 -- what a line says, apart from where it stands; the keys of the header

@@ -1,52 +1,46 @@
--- A writer of a dump, and what one call of a showing does to it.
+-- What the calls of a showing push to a writer of lines. (a choice of this project)
 -- Cited by private steps only.
-use Rattle.std.specs.Prelude.{◌≡◌, ℕ, List, [], ◌∷◌, ◌++◌, Option, Result, Ok, Err}
+use Rattle.std.specs.Prelude.{◌≡◌, ℕ, List, [], ◌∷◌, ◌++◌, Result, Ok, Err, codes}
 use Rattle.bufr_frame.specs.declared.fault.RunFault.{RunFault}
 use Rattle.bufr_frame.specs.declared.fault.RunFault.TheVariants.{Memory}
-use Rattle.bufr_walk.specs.declared.fault.ShowFault.{ShowFault}
-use Rattle.bufr_walk.specs.declared.fault.ShowFault.TheVariants as show
-use Rattle.bufr_walk.specs.Calls.{Call}
-use Rattle.bufr_text.specs.DumpWritten.{WritesPrefix, CountsFaults, call_line}
+use Rattle.bufr_walk.specs.Calls.{Call, subset_call, item_call}
+use Rattle.bufr_walk.specs.Outcome.{Read}
+use Rattle.bufr_walk.specs.Reading.{Values}
+use Rattle.bufr_text.specs.Dump.{subset_line, subset_lines, item_text, text_of_lines}
+use Rattle.bufr_text.specs.DumpItems.{dump_item_of, dump_items_of}
+use Rattle.bufr_text.specs.Lines.{LineModel, Pushes}
 
--- what a writer took and counted, and by which names it and the line are held
-pub record SinkModel : Type 0 where
-  pub taken : Option (List ℕ)
-  pub failures : ℕ
-  pub empty : ℕ
-  pub flushes : ℕ
-  pub line : ℕ
-  pub writer : ℕ
+-- the line of a call
+abbrev pub call_line : Call → List ℕ
+call_line (subset_call number) = subset_line number
+call_line (item_call v) = item_text (dump_item_of v)
 
-abbrev pub sink_model : Option (List ℕ) → (failures empty flushes line writer : ℕ) → SinkModel
-sink_model taken failures empty flushes line writer =
-    record {
-      taken = taken;
-      failures = failures;
-      empty = empty;
-      flushes = flushes;
-      line = line;
-      writer = writer;
-    }
+-- the line of a call was pushed, and the answer is whether a write has failed by then
+pub record PushesCall (before : LineModel) (call : Call) (answer : Result Unit RunFault)
+    (after : LineModel) : Type 0 where
+  pub pushes : Pushes before (call_line call ++ 10 ∷ []) after
+  pub status : answer ≡ after.status
 
--- a text was written, or a front of it
-pub record Inks {X : Type 0} (p : SinkModel) (text : List ℕ) (r : Result X RunFault)
-    (p' : SinkModel) : Type 0 where
-  pub writes : WritesPrefix p.taken p'.taken text r
-  pub counts : CountsFaults p.failures p'.failures p.empty p'.empty r
-  pub flushes : p'.flushes ≡ p.flushes
-  pub line : p'.line ≡ p.line
-  pub writer : p'.writer ≡ p.writer
+-- a prefix of a text was pushed
+pub record PushesPrefix (before : LineModel) (text : List ℕ) (after : LineModel) : Type 0 where
+  pub prefix : List ℕ
+  pub suffix : List ℕ
+  pub parts : text ≡ prefix ++ suffix
+  pub pushes : Pushes before prefix after
 
--- the line of a call was written, or a front of it
-abbrev pub InksCall : {X : Type 0} → SinkModel → Call → Result X RunFault → SinkModel → Type 0
-InksCall p call r p' = Inks p (call_line call ++ 10 ∷ []) r p'
+-- the first fault: that of a write, else want of memory
+abbrev pub IsFirstFault : Result Unit RunFault → RunFault → Type 0
+IsFirstFault (Ok x) fault = fault ≡ Memory
+IsFirstFault (Err first) fault = fault ≡ first
 
--- the fault of a run that a showing ends with
-abbrev pub run_fault_of : ShowFault RunFault → RunFault
-run_fault_of (show.Visitor fault) = fault
-run_fault_of show.Memory = Memory
+-- at Ok a text was pushed and handed on, at a fault a prefix was pushed
+abbrev pub Ends : LineModel → List ℕ → Result Unit RunFault → LineModel → Type 0
+Ends before text (Ok x) after =
+    Pushes before text after × (after.held ≡ []) × (after.status ≡ Ok x)
+Ends before text (Err fault) after =
+    PushesPrefix before text after × IsFirstFault after.status fault
 
--- how a run answers for a showing
-abbrev pub outcome_of : {X : Type 0} → Result X (ShowFault RunFault) → Result X RunFault
-outcome_of (Ok x) = Ok x
-outcome_of (Err why) = Err (run_fault_of why)
+-- the lines of a reading's subsets, and the last line
+abbrev pub subsets_text : Read → Values → List ℕ
+subsets_text r values =
+    text_of_lines (subset_lines 1 (dump_items_of r values)) ++ codes "end\n"

@@ -1,185 +1,122 @@
 //! The text that dumps a message.
-ghost use Rattle.std.specs.Prelude.{◌≡◌, ◌≤◌, ◌*◌, ◌++◌, [], ◌∷◌, map};
+ghost use Rattle.std.specs.Prelude.{◌≡◌, ◌≤◌, ◌*◌};
 ghost use Rattle.bufr_tables.specs.Tree.{places};
-ghost use Rattle.bufr_walk.specs.Calls.{Call, calls_of, item_call, subset_call, turns_shown};
+ghost use Rattle.bufr_walk.specs.Calls.{calls_of, turns_shown};
 ghost use Rattle.bufr_walk.specs.Outcome.{course_of};
 ghost use Rattle.bufr_walk.specs.Reading.{IsReading, Values};
-ghost use Rattle.bufr_walk.specs.ViewModel.{seen};
-ghost use Rattle.bufr_text.specs.Dump.{dump_text_of, head_lines, text_of_lines};
+ghost use Rattle.bufr_text.specs.Dump.{dump_text_of};
 ghost use Rattle.bufr_text.specs.DumpItems.{dump_items_of};
-ghost use Rattle.bufr_text.specs.Pen.{run_fault_of};
-ghost use Rattle.bufr_text.specs.DumpWritten.{CountsFaults, ReadsMessage, WritesPrefix, WritesStretches, call_line, call_stretch, stretches_of};
+ghost use Rattle.bufr_text.specs.DumpWritten.{CountsFaults, MakesSteps, ReadsMessage, WritesPrefix};
+ghost use Rattle.bufr_text.specs.Pen.{Ends, subsets_text};
 
 use crate::head_lines::push_head_lines;
 use crate::item_line::push_item;
-use crate::line_writer::LineWriter;
-use crate::part::write_all;
+use crate::line_writer::{LineWriter, PAGE};
 use bufr_bits::Sink;
 use bufr_frame::{Message, RunFault};
+use bufr_tables::TableB;
 use bufr_walk::{ItemView, Reading, ShowFault, SpecCache, Steps, Visitor};
-use std::alloc::Global;
+use std::alloc::{AllocError, Global};
 
-/// The octets of memory that a line is put together in at first. A longer line takes more; most are
-/// far shorter, and an allocator hands out so few quickly.
-const LINE: usize = 1024;
+/// The octets of the longest line: a name and a unit of 512 each, and a text of 255 that takes four
+/// for each.
+const LINE: usize = 2_560;
 
-/// The octets of the longest line that begins a subset.
-const SUBSET_LINE: usize = 28;
-
-/// Writes the line that begins a subset.
-// rule: text-subset
-fn write_subset<W: Sink>(number: u16, w: &mut W) -> Result<(), RunFault>
-    ensures writes { WritesPrefix (W.taken w.old) (W.taken w.new)
-        (call_line (subset_call number) ++ 10 ∷ []) result }
-    ensures counts { CountsFaults (W.failures w.old) (W.failures w.new) (W.empty_writes w.old)
-        (W.empty_writes w.new) result }
-    ensures flushes { W.flushes w.new ≡ W.flushes w.old }
-{
-    let mut block = [0; SUBSET_LINE];
-    let mut line = LineWriter::new(&mut block, w);
-    line.push_named(b"subset ", u64::from(number));
-    line.push(b"\n");
-    line.hand_on();
-    let outcome = line.status();
-    let _ = line.into_sink();
-    outcome
+/// What dumps by one table keep from message to message: the specs that are cached, and a block of
+/// memory in which lines are gathered.
+///
+/// ```
+/// let mut memory = DumpMemory::new(alloc, &table_b);
+/// write_dump_by(&mut memory, &message, &reading, &mut steps, &mut w)?;
+/// ```
+#[derive(Drop)]
+pub struct DumpMemory<'t> {
+    /// Where it takes memory.
+    pub alloc: Global,
+    /// The specs of the cells of a template.
+    pub specs: SpecCache<'t>,
+    /// Nothing, or the block.
+    block: Vec<u8>,
 }
 
-/// Writes the line of an item, put together in `line`.
-#[inline(always)]
-// rule: one-write-a-line
-fn write_item<W: Sink>(item: &ItemView<'_>, line: &mut Vec<u8>, w: &mut W) -> Result<(), RunFault>
-    ensures writes { WritesPrefix (W.taken w.old) (W.taken w.new)
-        (call_line (item_call (seen item.now)) ++ 10 ∷ []) result }
-    ensures counts { CountsFaults (W.failures w.old) (W.failures w.new) (W.empty_writes w.old)
-        (W.empty_writes w.new) result }
-    ensures flushes { W.flushes w.new ≡ W.flushes w.old }
-{
-    let mut lines = LineWriter::new(line.as_mut_slice(), w);
-    push_item(&mut lines, item);
-    lines.hand_on();
-    let outcome = lines.status();
-    let _ = lines.into_sink();
-    outcome
+impl<'t> DumpMemory<'t> {
+    ghost use Rattle.std.specs.Prelude.{◌≡◌};
+
+    /// No spec, and no block yet. Takes no memory.
+    pub fn new(alloc: Global, table: &'t TableB) -> DumpMemory<'t>
+        ensures { result.specs ≡ table.now }
+    {
+        DumpMemory {
+            alloc,
+            specs: SpecCache::new(alloc, table),
+            block: Vec::new(alloc),
+        }
+    }
 }
 
-/// Writes the lines before the subsets, put together in `line`.
-fn write_head_lines<W: Sink>(
-    message: &Message<'_>,
-    line: &mut Vec<u8>,
-    w: &mut W,
-) -> Result<(), RunFault>
-    ensures writes { WritesPrefix (W.taken w.old) (W.taken w.new)
-        (text_of_lines (head_lines message.now)) result }
-    ensures counts { CountsFaults (W.failures w.old) (W.failures w.new) (W.empty_writes w.old)
-        (W.empty_writes w.new) result }
-    ensures flushes { W.flushes w.new ≡ W.flushes w.old }
-{
-    let mut lines = LineWriter::new(line.as_mut_slice(), w);
-    push_head_lines(&mut lines, message);
-    lines.hand_on();
-    let outcome = lines.status();
-    let _ = lines.into_sink();
-    outcome
+/// Takes the block where it is not taken yet.
+fn take_block(block: &mut Vec<u8>) -> Result<(), AllocError> {
+    if block.is_empty() {
+        block.resize(PAGE + LINE, 0)?;
+    }
+    Ok(())
 }
 
-/// Who is shown a reading to write its lines.
-struct DumpVisitor<'l, 'w, W: Sink> {
-    line: &'l mut Vec<u8>,
-    w: &'w mut W,
-}
-
-impl<'l, 'w, W: Sink> Visitor for DumpVisitor<'l, 'w, W> {
-    ghost use Rattle.bufr_text.specs.Pen.{InksCall, sink_model};
+impl<'b, 'w, W: Sink> Visitor for LineWriter<'b, 'w, W> {
+    ghost use Rattle.bufr_text.specs.Pen.{PushesCall};
 
     type Fault = RunFault;
 
-    ghost sees = { λ s call r t. InksCall
-        (sink_model (W.taken s.w.now) (W.failures s.w.now) (W.empty_writes s.w.now)
-        (W.flushes s.w.now)
-        s.line.ghost_name s.w.ghost_name)
-        call r
-        (sink_model (W.taken t.w.now) (W.failures t.w.now) (W.empty_writes t.w.now)
-        (W.flushes t.w.now)
-        t.line.ghost_name t.w.ghost_name) };
+    ghost sees = { λ s call r t. PushesCall s call r t };
 
+    // rule: text-subset
     fn subset(&mut self, number: u16) -> Result<(), RunFault> {
-        write_subset(number, self.w)
+        self.push_named(b"subset ", u64::from(number));
+        self.push(b"\n");
+        self.end_line(PAGE);
+        self.status()
     }
 
     #[inline(always)]
+    // rule: one-write-a-line
     fn item(&mut self, item: &ItemView<'_>) -> Result<(), RunFault> {
-        write_item(item, self.line, self.w)
+        push_item(self, item);
+        self.end_line(PAGE);
+        self.status()
     }
 }
 
-/// The fault of a run that a showing ended with.
-fn fault_of(why: ShowFault<RunFault>) -> RunFault
-    ensures { result ≡ run_fault_of why }
-{
-    match why {
-        ShowFault::Visitor(fault) => fault,
-        ShowFault::Memory => RunFault::Memory,
-    }
-}
-
-/// Shows a reading to who writes its lines.
-fn show_lines<W: Sink>(
+/// Pushes the lines of the subsets and the last line, and hands on what is held.
+fn push_subsets<W: Sink>(
     alloc: Global,
     reading: &Reading<'_>,
-    cache: &mut SpecCache<'_>,
-    dumping: &mut DumpVisitor<'_, '_, W>,
+    specs: &mut SpecCache<'_>,
+    lines: &mut LineWriter<'_, '_, W>,
     steps: &mut Steps,
 ) -> Result<(), RunFault>
-    requires read { (values : Values)
-        × IsReading (course_of reading.now) reading.now.source values reading.now.bits }
-    requires cached { cache.old ≡ reading.now.table }
-    ensures same { cache.new ≡ cache.old }
-    ensures line { dumping.new.line.ghost_name ≡ dumping.old.line.ghost_name }
-    ensures writer { dumping.new.w.ghost_name ≡ dumping.old.w.ghost_name }
-    ensures writes { (values : Values)
-        → IsReading (course_of reading.now) reading.now.source values reading.now.bits →
-        WritesStretches (W.taken dumping.old.w.now) (W.taken dumping.new.w.now)
-        (map call_stretch (calls_of reading.now values))
-        (turns_shown reading.now values) result steps.new }
-    ensures counts { CountsFaults (W.failures dumping.old.w.now) (W.failures dumping.new.w.now)
-        (W.empty_writes dumping.old.w.now) (W.empty_writes dumping.new.w.now) result }
-    ensures flushes { W.flushes dumping.new.w.now ≡ W.flushes dumping.old.w.now }
+    requires { specs.old ≡ reading.now.table }
+    ensures same { specs.new ≡ specs.old }
+    ensures ends { (values : Values)
+        → IsReading (course_of reading.now) reading.now.source values reading.now.bits
+        → Ends lines.old (subsets_text reading.now values) result lines.new }
+    ensures steps { (values : Values)
+        → IsReading (course_of reading.now) reading.now.source values reading.now.bits
+        → MakesSteps (calls_of reading.now values) (turns_shown reading.now values)
+        result steps.new }
     ensures bounded { steps.new ≤ places reading.now.template * reading.now.bits }
 {
-    match reading.show_by(alloc, cache, dumping, steps) {
-        Ok(()) => Ok(()),
-        Err(why) => Err(fault_of(why)),
+    match reading.show_by(alloc, specs, lines, steps) {
+        Ok(()) => {
+            lines.push(b"end\n");
+            lines.hand_on();
+            lines.status()
+        }
+        Err(ShowFault::Visitor(fault)) => Err(fault),
+        Err(ShowFault::Memory) => {
+            lines.status()?;
+            Err(RunFault::Memory)
+        }
     }
-}
-
-/// Writes the lines of the subsets and their items.
-fn write_subsets<W: Sink>(
-    alloc: Global,
-    reading: &Reading<'_>,
-    cache: &mut SpecCache<'_>,
-    line: &mut Vec<u8>,
-    w: &mut W,
-    steps: &mut Steps,
-) -> Result<(), RunFault>
-    requires read { (values : Values)
-        × IsReading (course_of reading.now) reading.now.source values reading.now.bits }
-    requires cached { cache.old ≡ reading.now.table }
-    ensures same { cache.new ≡ cache.old }
-    ensures writes { (values : Values)
-        → IsReading (course_of reading.now) reading.now.source values reading.now.bits →
-        WritesStretches (W.taken w.old) (W.taken w.new)
-        (map call_stretch (calls_of reading.now values))
-        (turns_shown reading.now values) result steps.new }
-    ensures counts { CountsFaults (W.failures w.old) (W.failures w.new) (W.empty_writes w.old)
-        (W.empty_writes w.new) result }
-    ensures flushes { W.flushes w.new ≡ W.flushes w.old }
-    ensures bounded { steps.new ≤ places reading.now.template * reading.now.bits }
-{
-    let mut dumping = DumpVisitor { line, w };
-    let outcome = show_lines(alloc, reading, cache, &mut dumping, steps);
-    let DumpVisitor { line: _, w: _ } = dumping;
-    outcome
 }
 
 /// Writes the dump text of a message: the line `message`; twenty lines of a key and a number; its
@@ -188,8 +125,8 @@ fn write_subsets<W: Sink>(
 /// subset its number and a line
 /// for each item; and the line `end`. An item that was read by an entry of Table B has the entry's
 /// name and unit as a
-/// comment. Where the writer takes all that it is given, no line goes to it in two writes. The
-/// steps are set to the
+/// comment. Lines are gathered: a write ends at the end of a line, after at least 65,536 octets or
+/// at the end of the text. The steps are set to the
 /// turns that the reading is walked for, as [`Reading::show`] counts them.
 ///
 /// ```
@@ -199,7 +136,7 @@ fn write_subsets<W: Sink>(
 ///
 /// # Errors
 ///
-/// [`RunFault::Write`] where the writer fails or takes nothing, and [`RunFault::Memory`]; a front
+/// [`RunFault::Write`] where the writer fails or takes nothing, and [`RunFault::Memory`]; a prefix
 /// of the text was taken.
 pub fn write_dump<W: Sink>(
     alloc: Global,
@@ -209,62 +146,68 @@ pub fn write_dump<W: Sink>(
     w: &mut W,
 ) -> Result<(), RunFault>
     requires { ReadsMessage message.now reading.now }
-    // At `Ok` the writer took the dump text of the reading's items, at a fault a front of it.
+    // At `Ok` the writer took the dump text of the reading's items, at a fault a prefix of it.
     ensures writes { (values : Values)
         → IsReading (course_of reading.now) reading.now.source values reading.now.bits →
         WritesPrefix (W.taken w.old) (W.taken w.new)
         (dump_text_of message.now (dump_items_of reading.now values)) result }
-    // The same line by line, with the steps up to the line where it stopped.
-    ensures lines { (values : Values)
+    // At `Ok` the steps are all turns of the reading, at a fault those before an item or all.
+    ensures steps { (values : Values)
         → IsReading (course_of reading.now) reading.now.source values reading.now.bits →
-        WritesStretches (W.taken w.old) (W.taken w.new)
-        (stretches_of message.now reading.now values)
-        (turns_shown reading.now values) result steps.new }
+        MakesSteps (calls_of reading.now values) (turns_shown reading.now values)
+        result steps.new }
     ensures counts { CountsFaults (W.failures w.old) (W.failures w.new) (W.empty_writes w.old)
         (W.empty_writes w.new) result }
     ensures flushes { W.flushes w.new ≡ W.flushes w.old }
     ensures bounded { steps.new ≤ places reading.now.template * reading.now.bits }
 {
-    let mut cache = SpecCache::new(alloc, reading.table());
-    write_dump_by(alloc, message, reading, &mut cache, steps, w)
+    let mut memory = DumpMemory::new(alloc, reading.table());
+    write_dump_by(&mut memory, message, reading, steps, w)
 }
 
-/// Writes the dump text of a message as [`write_dump`] does, by the specs that are cached.
+/// Writes the dump text of a message as [`write_dump`] does, by what is kept from message to
+/// message.
 ///
 /// # Errors
 ///
 /// Those of [`write_dump`].
 // rule: text-lines-in-order
 pub fn write_dump_by<W: Sink>(
-    alloc: Global,
+    memory: &mut DumpMemory<'_>,
     message: &Message<'_>,
     reading: &Reading<'_>,
-    cache: &mut SpecCache<'_>,
     steps: &mut Steps,
     w: &mut W,
 ) -> Result<(), RunFault>
     requires reads { ReadsMessage message.now reading.now }
-    requires cached { cache.old ≡ reading.now.table }
-    ensures same { cache.new ≡ cache.old }
-    // At `Ok` the writer took the dump text of the reading's items, at a fault a front of it.
+    requires cached { memory.old.specs ≡ reading.now.table }
+    ensures same { memory.new.specs ≡ memory.old.specs }
+    // At `Ok` the writer took the dump text of the reading's items, at a fault a prefix of it.
     ensures writes { (values : Values)
         → IsReading (course_of reading.now) reading.now.source values reading.now.bits →
         WritesPrefix (W.taken w.old) (W.taken w.new)
         (dump_text_of message.now (dump_items_of reading.now values)) result }
-    // The same line by line, with the steps up to the line where it stopped.
-    ensures lines { (values : Values)
+    // At `Ok` the steps are all turns of the reading, at a fault those before an item or all.
+    ensures steps { (values : Values)
         → IsReading (course_of reading.now) reading.now.source values reading.now.bits →
-        WritesStretches (W.taken w.old) (W.taken w.new)
-        (stretches_of message.now reading.now values)
-        (turns_shown reading.now values) result steps.new }
+        MakesSteps (calls_of reading.now values) (turns_shown reading.now values)
+        result steps.new }
     ensures counts { CountsFaults (W.failures w.old) (W.failures w.new) (W.empty_writes w.old)
         (W.empty_writes w.new) result }
     ensures flushes { W.flushes w.new ≡ W.flushes w.old }
     ensures bounded { steps.new ≤ places reading.now.template * reading.now.bits }
 {
     *steps = Steps::new();
-    let mut line = vec![in alloc; 0; LINE]?;
-    write_head_lines(message, &mut line, w)?;
-    write_subsets(alloc, reading, cache, &mut line, w, steps)?;
-    write_all(b"end\n", w)
+    take_block(&mut memory.block)?;
+    let mut lines = LineWriter::new(memory.block.as_mut_slice(), w);
+    push_head_lines(&mut lines, message);
+    let outcome = push_subsets(
+        memory.alloc,
+        reading,
+        &mut memory.specs,
+        &mut lines,
+        steps,
+    );
+    let _ = lines.into_sink();
+    outcome
 }

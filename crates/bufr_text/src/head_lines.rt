@@ -7,7 +7,7 @@ ghost use Rattle.bufr_text.specs.Key.{header_text};
 ghost use Rattle.bufr_text.specs.Lines.{Pushes};
 
 use crate::key::KEYS;
-use crate::line_writer::LineWriter;
+use crate::line_writer::{LineWriter, PAGE};
 use bufr_bits::Sink;
 use bufr_frame::{Message, Words};
 use bufr_tables::Fxy;
@@ -71,6 +71,7 @@ fn push_octet_line<W: Sink>(lines: &mut LineWriter<'_, '_, W>, word: &[u8], octe
     lines.push(word);
     lines.push_hex(octets);
     lines.push(b"\n");
+    lines.end_line(PAGE);
 }
 
 /// Pushes lines of a word and octets, 32 on each line but the last.
@@ -123,6 +124,7 @@ fn push_descriptor_line<W: Sink>(lines: &mut LineWriter<'_, '_, W>, words: &mut 
     lines.push(b"descriptors");
     push_descriptors(lines, words);
     lines.push(b"\n");
+    lines.end_line(PAGE);
 }
 
 /// Pushes the lines of the descriptors, eight on each line but the last.

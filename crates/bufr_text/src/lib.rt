@@ -35,7 +35,7 @@ mod texts;
 
 pub use bufr_fill::DraftEntry;
 pub use document::Document;
-pub use dump::{write_dump, write_dump_by};
+pub use dump::{DumpMemory, write_dump, write_dump_by};
 pub use dump_reader::DumpReader;
 pub use encode::{encode_by, encode_document, encode_form};
 pub use encode_fault::{DocumentFault, WalkRefusal};

@@ -12,6 +12,10 @@ use bufr_frame::RunFault;
 use itoa::Buffer;
 use std::marker::Model;
 
+/// How many octets are handed on at once, at the end of a line. The program's output holds as many:
+/// it passes so many on without a copy.
+pub(crate) const PAGE: usize = 65_536;
+
 /// A writer of lines over a block of memory and a sink. What does not fit the block is handed on
 /// first, so the block may have any size. The first fault is kept, and nothing is written after it.
 #[derive(Drop)]
