@@ -134,9 +134,9 @@ fn dump_selected<W: Sink, E: Sink>(
     }
 }
 
-/// What a run keeps from message to message: the last templates with the specs of their cells,
-/// since messages repeat their descriptors and few of these can make a template of many places; and
-/// the memory of its dumps.
+/// What a run keeps from message to message: the last templates with the specs of their cells, and
+/// the memory of its dumps. Messages repeat their descriptors, and few of these can make a template
+/// of many places.
 #[derive(Drop)]
 struct DumpRun<'a> {
     templates: TemplateCache<'a>,

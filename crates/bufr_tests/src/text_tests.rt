@@ -6,7 +6,8 @@ use crate::messages::{
 };
 use crate::runs::{Watched, writer};
 use crate::support::{
-    Runtime, assert_same, assert_that, build, from_hex, joined, ok, repeated, some, table_b, table_d,
+    Runtime, assert_same, assert_that, build, from_hex, joined, ok, repeated, some, table_b,
+    table_d,
 };
 use bufr_bits::{Device, End, ScriptOut, Sink};
 use bufr_frame::{Message, RunFault};
@@ -266,7 +267,7 @@ fn long_message(rt: &impl Runtime) -> Vec<u8> {
 const STOPS: &[(&str, usize, u64)] = &[
     ("delayed_twice", 65_536, 7),
     ("delayed_twice", 200, 7),
-    ("long", 65_536, 3270),
+    ("long", 65_536, 3345),
     ("long", 131_072, 4003),
     ("compressed_missing", 65_536, 0),
 ];

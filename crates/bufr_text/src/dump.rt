@@ -201,13 +201,7 @@ pub fn write_dump_by<W: Sink>(
     take_block(&mut memory.block)?;
     let mut lines = LineWriter::new(memory.block.as_mut_slice(), w);
     push_head_lines(&mut lines, message);
-    let outcome = push_subsets(
-        memory.alloc,
-        reading,
-        &mut memory.specs,
-        &mut lines,
-        steps,
-    );
+    let outcome = push_subsets(memory.alloc, reading, &mut memory.specs, &mut lines, steps);
     let _ = lines.into_sink();
     outcome
 }
