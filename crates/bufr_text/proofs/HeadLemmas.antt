@@ -1,7 +1,7 @@
 -- The lines before the subsets.
 use Rattle.std.proofs.Common.{◌≡◌, ◌∙◌, ℕ, zero, suc, ◌+◌, ◌-◌, ◌<◌, Bool, true, false, List, [], ◌∷◌, ◌++◌, length, take, drop, map, refl, sym, ap, arith, Option, None, append_assoc, codes}
 use Rattle.std.specs.Prelude.{decimal, option_map, unwrap_or}
-use Rattle.core.specs.Int.{from_bool}
+use Rattle.std.specs.Int.{from_bool}
 use Rattle.bufr_frame.specs.Sections.{Sections}
 use Rattle.bufr_tables.specs.Fxy.{fxy_text}
 use Rattle.std.proofs.lemmas.Grind.{flat_map-append}
