@@ -10,7 +10,7 @@ use Rattle.bufr_frame.specs.declared.fault.RunFault.TheVariants.{Read, Write, In
 use Rattle.bufr_text.specs.Grammar.{runs_behind, runs_of}
 use Rattle.bufr_text.specs.Dump.{text_of_lines}
 use Rattle.bufr_text.specs.DumpWritten.{WritesPrefix, CountsFaults}
-use Rattle.bufr_text.specs.Writing.{Writes, GrowsByPrefix}
+use Rattle.bufr_text.specs.Writing.{Writes, CountsWrites, GrowsByPrefix}
 
 -- a front of a text is one of a longer text
 pub front-longer : (a b : Option (List ℕ)) (s t : List ℕ) → GrowsByPrefix a b s → GrowsByPrefix a b (s ++ t)
@@ -49,6 +49,10 @@ WritesFront-stop a b s t first r f g is same writes =
 pub WritesFront-writes : {X : Type 0} (a b : Option (List ℕ)) (text : List ℕ) (r : Result X RunFault) → Writes a b text r → WritesPrefix a b text r
 WritesFront-writes a b text (Ok x) writes = writes
 WritesFront-writes a b text (Err f) writes = writes.1
+
+pub CountsFaults-writes : {X : Type 0} (a b : Option (List ℕ)) (text : List ℕ) (f f' e e' : ℕ) (r : Result X RunFault) → Writes a b text r → CountsWrites f f' e e' r → CountsFaults f f' e e' r
+CountsFaults-writes a b text f f' e e' (Ok x) writes counts = counts
+CountsFaults-writes a b text f f' e e' (Err fault) writes counts = rw writes.0 counts
 
 -- nothing was counted, and then a call was made
 pub CountsFaults-then : {X : Type 0} (f f' f'' e e' e'' : ℕ) (r : Result X RunFault) → f' ≡ f → e' ≡ e → CountsFaults f' f'' e' e'' r → CountsFaults f f'' e e'' r

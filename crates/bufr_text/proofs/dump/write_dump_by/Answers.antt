@@ -1,9 +1,9 @@
-use Rattle.std.proofs.Common.{codes, refl, map}
+use Rattle.std.proofs.Common.{◌∙◌, codes, refl, map}
 use Rattle.std.proofs.lemmas.Result.{err_from_is_err_and}
 use Rattle.bufr_walk.specs.Calls.{calls_of, turns_shown}
 use Rattle.bufr_text.specs.Dump.{head_lines, text_of_lines}
 use Rattle.bufr_text.specs.DumpWritten.{stretch, call_stretch}
-use Rattle.bufr_text.proofs.DumpLemmas.{front-none, WritesFront-writes}
+use Rattle.bufr_text.proofs.DumpLemmas.{CountsFaults-then, CountsFaults-writes, front-none, WritesFront-writes}
 use Rattle.bufr_text.proofs.ShowingLemmas.{dump-stop-head, dump-stop-middle, dump-end, dump-writes}
 use Rattle.bufr_text.proofs.dump.write_dump_by.Goals as goal
 
@@ -33,6 +33,13 @@ returns-in_err-write_subsets-clause-lines g c = λ values read.
 pub returns-in_err-write_subsets-clause-writes : goal.returns-in_err-write_subsets-clause-writes
 returns-in_err-write_subsets-clause-writes g c = λ values read.
     dump-writes c.args.message.now c.args.reading.now values (g.W.Sink.taken c.args.w.now) (g.W.Sink.taken c.write_subsets.new.w) c.from_residual-in_err-write_subsets.result c.write_subsets.new.steps (returns-in_err-write_subsets-clause-lines g c values read)
+
+pub returns-clause-counts : goal.returns-clause-counts
+returns-clause-counts g c =
+    let head = c.in_ok-write_head_lines.ensures.counts in
+    let subsets = c.in_ok-write_subsets.ensures.counts in
+    CountsFaults-then _ _ _ _ _ _ c.write_all.result (subsets.0 ∙ head.0) (subsets.1 ∙ head.1)
+    (CountsFaults-writes _ _ _ _ _ _ _ c.write_all.result c.write_all.ensures.writes c.write_all.ensures.counts)
 
 pub returns-clause-lines : goal.returns-clause-lines
 returns-clause-lines g c = λ values read.
