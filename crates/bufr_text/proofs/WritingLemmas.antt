@@ -25,8 +25,8 @@ module _ (a b c : Option (List ℕ)) (s t : List ℕ) where
     },
   )
 
-front-more : (a b : Option (List ℕ)) (s t : List ℕ) → GrowsByPrefix a b s → GrowsByPrefix a b (s ++ t)
-front-more a b s t first = record {
+prefix-more : (a b : Option (List ℕ)) (s t : List ℕ) → GrowsByPrefix a b s → GrowsByPrefix a b (s ++ t)
+prefix-more a b s t first = record {
   front = first.front;
   back = first.back ++ t;
   parts = ap (λ l. l ++ t) first.parts ∙ append_assoc first.front first.back t;
@@ -37,7 +37,7 @@ front-more a b s t first = record {
 pub Writes-stop : {X Y : Type 0} (a b : Option (List ℕ)) (s t : List ℕ) (first : Result X RunFault) (r : Result Y RunFault) (f : RunFault) → Writes a b s first → first ≡ Err f → r ≡ Err f → Writes a b (s ++ t) r
 Writes-stop a b s t first r f writes is same =
     let here = rw is at writes in
-    rw same (here.0, front-more a b s t here.1)
+    rw same (here.0, prefix-more a b s t here.1)
 
 -- one more write of the rest
 pub more-written : (a b c : Option (List ℕ)) (octets rest rest' : List ℕ) (n : ℕ) → MovesPrefix a b octets rest → n ≤ length rest → Appends b c (take n rest) → rest' ≡ drop n rest
@@ -68,7 +68,7 @@ module _ (a b c : Option (List ℕ)) (parts : List Part) (i : ℕ) (d : Part) (w
       let P : List ℕ → Type 0 = λ l. GrowsByPrefix a c l in
       let fails : Result X RunFault = Err f in
       let grown = (Writes-then a b c (flat_map part_text (take i parts)) t fails before here).1 in
-      rw same (here.0, subst P (sym text-at) (front-more a c (flat_map part_text (take i parts) ++ t) (flat_map part_text (drop (suc i) parts)) grown))
+      rw same (here.0, subst P (sym text-at) (prefix-more a c (flat_map part_text (take i parts) ++ t) (flat_map part_text (drop (suc i) parts)) grown))
 
   -- a part was written
   pub parts-on : Appends b c (part_text (get_or parts i d)) → Appends a c (flat_map part_text (take (i + 1) parts))
