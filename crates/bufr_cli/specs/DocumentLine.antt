@@ -1,20 +1,21 @@
 -- The lines that tell the faults of a document. (a choice of this project)
 -- Cited by public contracts.
-use Rattle.std.specs.Prelude.{ℕ, true, false, List, [], ◌∷◌, ◌++◌, codes, decimal}
+use Rattle.std.specs.Prelude.{ℕ, true, false, List, [], ◌∷◌, ◌++◌, Option, Some, None, codes, decimal}
 use Rattle.bufr_tables.specs.Fxy.{fxy_text}
 use Rattle.bufr_tables.specs.FaultNumber.{number_of_template_fault}
 use Rattle.bufr_walk.specs.declared.spec.TurnRefusal.TheVariants as walk
 use Rattle.bufr_fill.specs.Fault.{DraftFaultKind, wrong_descriptor, wrong_number, out_of_range, text_long, missing_forbidden, unequal_factors, uneven_increment, item_too_many, walk_refused, too_many_values, no_count}
 use Rattle.bufr_text.specs.Documents.{TextLineFault, NotAllowed, SubsetCount, HeaderRange}
-use Rattle.bufr_text.specs.Encoding.{DocumentRefusal, by_template, by_item, too_long}
+use Rattle.bufr_text.specs.Encoding.{DocumentRefusal, RefusedAt, by_template, by_item, too_long}
 use Rattle.bufr_text.specs.Writing.{joined}
-use Rattle.bufr_cli.specs.FaultLine.{template_fault_text}
+use Rattle.bufr_text.specs.declared.fault.ReadFault.{ReadFault}
+use Rattle.bufr_text.specs.declared.fault.ReadFault.TheVariants as read
+use Rattle.bufr_cli.specs.FaultLine.{place_texts, template_fault_text}
 
 -- the line of a fault at a line of the text, from 1: its number and its text
 abbrev pub document_line : (line number : ℕ) → List (List ℕ) → List ℕ
 document_line line number text =
-    joined (codes "line " ∷ decimal line ∷ codes ": " ∷ decimal number ∷ codes " "
-    ∷ (text ++ codes "\n" ∷ []))
+    joined (place_texts (codes "line ") line number ++ (text ++ codes "\n" ∷ []))
 
 -- a line that is refused
 -- rule: fault-lines-of-reading
@@ -22,6 +23,13 @@ abbrev pub refused_line : (line : ℕ) → TextLineFault → List ℕ
 refused_line line NotAllowed = document_line line 50 (codes "line" ∷ [])
 refused_line line SubsetCount = document_line line 57 (codes "subset count" ∷ [])
 refused_line line HeaderRange = document_line line 61 (codes "header range" ∷ [])
+
+-- the line of a fault of the reading; that of a device or of memory has none
+abbrev pub line_of_read_fault : ReadFault → List ℕ
+line_of_read_fault (read.Line line) = refused_line line NotAllowed
+line_of_read_fault (read.SubsetCount line) = refused_line line SubsetCount
+line_of_read_fault (read.HeaderRange line) = refused_line line HeaderRange
+line_of_read_fault (read.Run fault) = []
 
 -- the walk that is refused: the number that a message's data would be refused by, and the
 -- descriptor
@@ -55,3 +63,8 @@ refusal_line line (by_template why) =
     ∷ template_fault_text why)
 refusal_line line (by_item why) = item_fault_line line why
 refusal_line line too_long = document_line line 60 (codes "too long" ∷ [])
+
+-- the line of a refusal, where there is one
+abbrev pub line_of_refusal : Option RefusedAt → List ℕ
+line_of_refusal (Some refused) = refusal_line refused.line refused.why
+line_of_refusal None = []

@@ -62,9 +62,13 @@ walk_fault_text (walk.Increment spot) = spot_text (codes "increment") spot
 walk_fault_text (walk.TooManyValues spot) = spot_text (codes "too many values") spot
 walk_fault_text walk.Memory = []
 
+-- the beginning of a line: a word, the place that it counts, and the fault's number
+abbrev pub place_texts : (word : List ℕ) (place number : ℕ) → List (List ℕ)
+place_texts word place number =
+    word ∷ decimal place ∷ codes ": " ∷ decimal number ∷ codes " " ∷ []
+
 -- the line of a fault at the offset of `BUFR`: its number and its text
 -- rule: stream-fault-line
 abbrev pub fault_line : (offset number : ℕ) → List (List ℕ) → List ℕ
 fault_line offset number text =
-    joined (codes "offset " ∷ decimal offset ∷ codes ": " ∷ decimal number ∷ codes " "
-    ∷ (text ++ codes "\n" ∷ []))
+    joined (place_texts (codes "offset ") offset number ++ (text ++ codes "\n" ∷ []))

@@ -1,147 +1,102 @@
-//! The lines that tell the faults of a document.
-ghost use Rattle.std.specs.Prelude.{◌≡◌, ◌≢◌, ◌≤◌, ◌+◌, ℕ, [], ◌∷◌, Err, IfErr, IfSome, length};
-ghost use Rattle.bufr_fill.specs.DraftFaults.{other_than};
+//! The lines that report the faults of a document.
+ghost use Rattle.std.specs.Prelude.{◌≡◌, ◌≢◌, ℕ, [], ◌∷◌, Err, IfErr, IfSome};
 ghost use Rattle.bufr_tables.specs.Fxy.{fxy_text};
-ghost use Rattle.bufr_tables.specs.FaultNumber.{number_of_template_fault};
 ghost use Rattle.bufr_text.specs.Documents.{TextLineFault, Refused};
 ghost use Rattle.bufr_text.specs.Reader.{parse_results};
-ghost use Rattle.bufr_text.specs.Encoding.{by_template};
 ghost use Rattle.bufr_text.specs.EncodingFault.{number_of_document_fault, told_refusal, walk_told};
+ghost use Rattle.bufr_text.specs.Lines.{Pushes};
 ghost use Rattle.bufr_text.specs.Writing.{Writes};
-ghost use Rattle.bufr_cli.specs.DocumentLine.{document_line, item_fault_line, refusal_line, refused_line, walk_text};
+ghost use Rattle.bufr_cli.specs.DocumentLine.{document_line, item_fault_line, line_of_read_fault, line_of_refusal, refusal_line, refused_line};
 ghost use Rattle.bufr_cli.specs.Counting.{OnlyWrites};
 ghost use Rattle.bufr_cli.specs.Devices.{writer_of};
 
-use crate::fault_line::{name_of_template_fault, write_fault};
+use crate::fault_line::{push_descriptor, push_place, push_template_fault};
 use bufr_bits::Sink;
 use bufr_fill::Expected;
 use bufr_frame::RunFault;
 use bufr_tables::{Fxy, TemplateFault};
-use bufr_text::{DocumentFault, ReadFault, WalkRefusal, lay_named, lay_text};
+use bufr_text::{DocumentFault, LineWriter, ReadFault, WalkRefusal};
 
-/// The octets in which a line is laid from its end: 33 for what stands before its text, where each
-/// number of its type has room, and 39 for the longest text, of a template fault.
+/// The octets in which a line is put together. The longest, of a template's fault, has 66.
 const LINE: usize = 72;
 
-/// Writes a fault line: the line of the text, from 1, the fault's number, and its text in two
-/// parts.
-fn write_line<E: Sink>(
-    line: u64,
-    number: u8,
-    text: &[u8],
-    digits: &[u8],
-    e: &mut E,
-) -> Result<(), RunFault>
-    requires short { length text.now + length digits.now ≤ 22 }
-    ensures writes { Writes (E.taken e.old) (E.taken e.new)
-        (document_line line number (text.now ∷ digits.now ∷ [])) result }
-    ensures counts { OnlyWrites (writer_of E.Sink e.old) (writer_of E.Sink e.new) result }
+/// Pushes a fault line: the line of the text, from 1, the fault's number and its text.
+fn push_line<E: Sink>(line: &mut LineWriter<'_, '_, E>, place: u64, number: u8, text: &[u8])
+    ensures { Pushes line.old (document_line place number (text.now ∷ [])) line.new }
 {
-    let mut laid = [0; LINE];
-    let end = lay_text(b"\n", &mut laid, LINE);
-    let end = lay_text(digits, &mut laid, end);
-    let end = lay_text(text, &mut laid, end);
-    write_fault(b"line ", line, number, &mut laid, end, e)
+    push_place(line, b"line ", place, number);
+    line.push(text);
+    line.push(b"\n");
 }
 
-/// Writes a fault line that names a descriptor.
-fn write_descriptor_line<E: Sink>(
-    line: u64,
+/// Pushes a fault line whose text ends with a descriptor.
+fn push_descriptor_line<E: Sink>(
+    line: &mut LineWriter<'_, '_, E>,
+    place: u64,
     number: u8,
     text: &[u8],
     fxy: Fxy,
-    e: &mut E,
-) -> Result<(), RunFault>
-    requires short { length text.now ≤ 16 }
-    ensures writes { Writes (E.taken e.old) (E.taken e.new)
-        (document_line line number (text.now ∷ fxy_text fxy ∷ [])) result }
-    ensures counts { OnlyWrites (writer_of E.Sink e.old) (writer_of E.Sink e.new) result }
+)
+    ensures { Pushes line.old (document_line place number (text.now ∷ fxy_text fxy ∷ [])) line.new }
 {
-    let digits = fxy.text();
-    write_line(line, number, text, &digits, e)
+    push_place(line, b"line ", place, number);
+    push_descriptor(line, text, fxy);
+    line.push(b"\n");
 }
 
-/// Writes the line of a document in whose `line` another item, or none, stands where this is
-/// expected.
-fn write_expected<E: Sink>(
-    line: u64,
+/// Pushes the line of a document whose walk over the template is refused.
+fn push_walk<E: Sink>(
+    line: &mut LineWriter<'_, '_, E>,
+    place: u64,
     number: u8,
-    expected: Expected,
-    e: &mut E,
-) -> Result<(), RunFault>
-    requires { number ≡ number_of_document_fault (DocumentFault.WrongDescriptor line expected) }
-    ensures writes { Writes (E.taken e.old) (E.taken e.new)
-        (item_fault_line line (other_than expected)) result }
-    ensures counts { OnlyWrites (writer_of E.Sink e.old) (writer_of E.Sink e.new) result }
+    refusal: WalkRefusal,
+)
+    requires { number ≡ number_of_document_fault (DocumentFault.Walk place refusal) }
+    ensures { Pushes line.old (item_fault_line place (walk_told refusal)) line.new }
 {
-    match expected {
-        Expected::Item(fxy) => write_descriptor_line(line, number, b"expected ", fxy, e),
-        Expected::Reference(fxy) => write_descriptor_line(line, number, b"expected R ", fxy, e),
-        Expected::EndOfSubset => write_line(line, number, b"expected end of subset", b"", e),
+    push_place(line, b"line ", place, number);
+    line.push_named(b"walk ", u64::from(refusal.number()));
+    match &refusal {
+        WalkRefusal::Width(fxy) | WalkRefusal::Defining(fxy) | WalkRefusal::TooManyValues(fxy) => {
+            push_descriptor(line, b" descriptor ", *fxy);
+            line.push(b"\n");
+        }
     }
 }
 
-/// Writes the line of a document whose descriptors make no template.
-fn write_template<E: Sink>(
-    line: u64,
-    number: u8,
-    fault: &TemplateFault,
-    e: &mut E,
-) -> Result<(), RunFault>
-    requires some { fault.now ≢ TemplateFault.Memory }
-    requires numbered { number ≡ number_of_document_fault (DocumentFault.Template line fault.now) }
-    ensures writes { Writes (E.taken e.old) (E.taken e.new)
-        (refusal_line line (by_template fault.now)) result }
-    ensures counts { OnlyWrites (writer_of E.Sink e.old) (writer_of E.Sink e.new) result }
+/// Pushes the line of a document that cannot be encoded.
+fn push_document_fault<E: Sink>(line: &mut LineWriter<'_, '_, E>, fault: DocumentFault)
+    requires some { fault ≢ DocumentFault.Memory }
+    requires template { (line : ℕ) → fault ≢ DocumentFault.Template line TemplateFault.Memory }
+    ensures { Pushes line.old (line_of_refusal (told_refusal fault)) line.new }
 {
-    let (name, fxy) = name_of_template_fault(fault);
-    let mut laid = [0; LINE];
-    let end = lay_text(b"\n", &mut laid, LINE);
-    let end = lay_text(&fxy.text(), &mut laid, end);
-    let end = lay_text(name, &mut laid, end);
-    let end = lay_text(b" ", &mut laid, end);
-    let end = lay_named(b"template ", u16::from(fault.number()), &mut laid, end);
-    write_fault(b"line ", line, number, &mut laid, end, e)
-}
-
-/// Writes the line of a document whose walk is refused, by the walk's own number, `why`, and a
-/// descriptor.
-fn write_walk_parts<E: Sink>(
-    line: u64,
-    number: u8,
-    why: u8,
-    fxy: Fxy,
-    e: &mut E,
-) -> Result<(), RunFault>
-    ensures writes { Writes (E.taken e.old) (E.taken e.new)
-        (document_line line number (walk_text why fxy)) result }
-    ensures counts { OnlyWrites (writer_of E.Sink e.old) (writer_of E.Sink e.new) result }
-{
-    let mut laid = [0; LINE];
-    let end = lay_text(b"\n", &mut laid, LINE);
-    let end = lay_text(&fxy.text(), &mut laid, end);
-    let end = lay_text(b" descriptor ", &mut laid, end);
-    let end = lay_named(b"walk ", u16::from(why), &mut laid, end);
-    write_fault(b"line ", line, number, &mut laid, end, e)
-}
-
-/// Writes the line of a document whose walk over the template is refused.
-fn write_walk<E: Sink>(
-    line: u64,
-    number: u8,
-    refusal: WalkRefusal,
-    e: &mut E,
-) -> Result<(), RunFault>
-    requires { number ≡ number_of_document_fault (DocumentFault.Walk line refusal) }
-    ensures writes { Writes (E.taken e.old) (E.taken e.new)
-        (item_fault_line line (walk_told refusal)) result }
-    ensures counts { OnlyWrites (writer_of E.Sink e.old) (writer_of E.Sink e.new) result }
-{
-    let why = refusal.number();
-    match &refusal {
-        WalkRefusal::Width(fxy) => write_walk_parts(line, number, why, *fxy, e),
-        WalkRefusal::Defining(fxy) => write_walk_parts(line, number, why, *fxy, e),
-        WalkRefusal::TooManyValues(fxy) => write_walk_parts(line, number, why, *fxy, e),
+    let number = fault.number();
+    match &fault {
+        DocumentFault::WrongDescriptor(place, expected) => match expected {
+            Expected::Item(fxy) => push_descriptor_line(line, *place, number, b"expected ", *fxy),
+            Expected::Reference(fxy) => {
+                push_descriptor_line(line, *place, number, b"expected R ", *fxy)
+            }
+            Expected::EndOfSubset => push_line(line, *place, number, b"expected end of subset"),
+        },
+        DocumentFault::Number(place) => push_line(line, *place, number, b"number"),
+        DocumentFault::OutOfRange(place) => push_line(line, *place, number, b"out of range"),
+        DocumentFault::TextLong(place) => push_line(line, *place, number, b"text long"),
+        DocumentFault::MissingForbidden(place) => {
+            push_line(line, *place, number, b"missing forbidden")
+        }
+        DocumentFault::Template(place, why) => {
+            push_place(line, b"line ", *place, number);
+            line.push_named(b"template ", u64::from(why.number()));
+            line.push(b" ");
+            push_template_fault(line, why);
+            line.push(b"\n");
+        }
+        DocumentFault::UnequalFactor(place) => push_line(line, *place, number, b"unequal factor"),
+        DocumentFault::Increment(place) => push_line(line, *place, number, b"increment"),
+        DocumentFault::TooLong(place) => push_line(line, *place, number, b"too long"),
+        DocumentFault::Walk(place, why) => push_walk(line, *place, number, *why),
+        DocumentFault::Memory => unreachable!(),
     }
 }
 
@@ -150,7 +105,7 @@ fn write_walk<E: Sink>(
 ///
 /// # Errors
 ///
-/// [`RunFault::Write`] where the writer fails or takes nothing; a front of the line was taken.
+/// [`RunFault::Write`] where the writer fails or takes nothing; a prefix of the line was taken.
 // rule: fault-lines-of-encoding
 pub fn write_document_fault<E: Sink>(fault: DocumentFault, e: &mut E) -> Result<(), RunFault>
     requires some { fault ≢ DocumentFault.Memory }
@@ -159,23 +114,26 @@ pub fn write_document_fault<E: Sink>(fault: DocumentFault, e: &mut E) -> Result<
         Writes (E.taken e.old) (E.taken e.new) (refusal_line refused.line refused.why) result) }
     ensures counts { OnlyWrites (writer_of E.Sink e.old) (writer_of E.Sink e.new) result }
 {
+    let mut block = [0; LINE];
+    let mut line = LineWriter::new(&mut block, e);
+    push_document_fault(&mut line, fault);
+    line.hand_on();
+    let outcome = line.status();
+    let _ = line.into_sink();
+    outcome
+}
+
+/// Pushes the line of a text line that is refused.
+fn push_read_fault<E: Sink>(line: &mut LineWriter<'_, '_, E>, fault: ReadFault)
+    requires { (run : RunFault) → fault ≢ ReadFault.Run run }
+    ensures { Pushes line.old (line_of_read_fault fault) line.new }
+{
     let number = fault.number();
-    match &fault {
-        DocumentFault::WrongDescriptor(line, expected) => write_expected(
-            *line, number, *expected, e,
-        ),
-        DocumentFault::Number(line) => write_line(*line, number, b"number", b"", e),
-        DocumentFault::OutOfRange(line) => write_line(*line, number, b"out of range", b"", e),
-        DocumentFault::TextLong(line) => write_line(*line, number, b"text long", b"", e),
-        DocumentFault::MissingForbidden(line) => {
-            write_line(*line, number, b"missing forbidden", b"", e)
-        }
-        DocumentFault::Template(line, why) => write_template(*line, number, why, e),
-        DocumentFault::UnequalFactor(line) => write_line(*line, number, b"unequal factor", b"", e),
-        DocumentFault::Increment(line) => write_line(*line, number, b"increment", b"", e),
-        DocumentFault::TooLong(line) => write_line(*line, number, b"too long", b"", e),
-        DocumentFault::Walk(line, why) => write_walk(*line, number, *why, e),
-        DocumentFault::Memory => unreachable!(),
+    match fault {
+        ReadFault::Line(place) => push_line(line, place, number, b"line"),
+        ReadFault::SubsetCount(place) => push_line(line, place, number, b"subset count"),
+        ReadFault::HeaderRange(place) => push_line(line, place, number, b"header range"),
+        ReadFault::Run(_) => unreachable!(),
     }
 }
 
@@ -184,7 +142,7 @@ pub fn write_document_fault<E: Sink>(fault: DocumentFault, e: &mut E) -> Result<
 ///
 /// # Errors
 ///
-/// [`RunFault::Write`] where the writer fails or takes nothing; a front of the line was taken.
+/// [`RunFault::Write`] where the writer fails or takes nothing; a prefix of the line was taken.
 // rule: fault-lines-of-reading
 pub fn write_read_fault<E: Sink>(fault: ReadFault, e: &mut E) -> Result<(), RunFault>
     requires { (run : RunFault) → fault ≢ ReadFault.Run run }
@@ -194,11 +152,11 @@ pub fn write_read_fault<E: Sink>(fault: ReadFault, e: &mut E) -> Result<(), RunF
     ensures err { IfErr result (λ why. why ≡ RunFault.Write) }
     ensures counts { OnlyWrites (writer_of E.Sink e.old) (writer_of E.Sink e.new) result }
 {
-    let number = fault.number();
-    match fault {
-        ReadFault::Line(line) => write_line(line, number, b"line", b"", e),
-        ReadFault::SubsetCount(line) => write_line(line, number, b"subset count", b"", e),
-        ReadFault::HeaderRange(line) => write_line(line, number, b"header range", b"", e),
-        ReadFault::Run(_) => unreachable!(),
-    }
+    let mut block = [0; LINE];
+    let mut line = LineWriter::new(&mut block, e);
+    push_read_fault(&mut line, fault);
+    line.hand_on();
+    let outcome = line.status();
+    let _ = line.into_sink();
+    outcome
 }

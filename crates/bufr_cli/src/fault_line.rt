@@ -1,56 +1,51 @@
-//! The lines that tell the faults of a stream, of a message, of its template and of its data.
-ghost use Rattle.std.specs.Prelude.{◌≡◌, ◌≢◌, ◌≤◌, ◌+◌, ◌++◌, [], ◌∷◌, codes, decimal, drop, length};
+//! The lines that report the faults of a stream, of a message, of its template and of its data.
+ghost use Rattle.std.specs.Prelude.{◌≡◌, ◌≢◌, [], ◌∷◌};
 ghost use Rattle.bufr_tables.specs.Fxy.{fxy_text};
 ghost use Rattle.bufr_tables.specs.FaultNumber.{number_of_template_fault};
 ghost use Rattle.bufr_walk.specs.Fault.{number_of_walk_fault};
 ghost use Rattle.bufr_frame.specs.Numbers.{number_of_cause, number_of_section_fault};
-ghost use Rattle.bufr_text.specs.Writing.{Writes, joined, joined_onto};
-ghost use Rattle.bufr_cli.specs.FaultLine.{fault_line, cause_text, section_fault_text, template_fault_text, walk_fault_text, spot_text};
+ghost use Rattle.bufr_text.specs.Lines.{Pushes};
+ghost use Rattle.bufr_text.specs.Writing.{Writes, joined};
+ghost use Rattle.bufr_cli.specs.FaultLine.{fault_line, place_texts, cause_text, section_fault_text, template_fault_text, walk_fault_text, spot_text};
 ghost use Rattle.bufr_cli.specs.Counting.{OnlyWrites};
 ghost use Rattle.bufr_cli.specs.Devices.{writer_of};
 
 use bufr_bits::Sink;
 use bufr_frame::{Cause, RunFault, SectionFault};
 use bufr_tables::{Fxy, TemplateFault};
-use bufr_text::{lay_decimal, lay_named, lay_text, suffix, write_all};
+use bufr_text::LineWriter;
 use bufr_walk::{Spot, WalkFault};
 
-/// The octets in which a line is laid from its end: 35 for what stands before its text, where each
-/// number of its type has room, and 29 for the longest text with its line feed.
-const LINE: usize = 64;
+/// The octets in which a line is put together. The longest, of a fault of the data, has 107.
+const LINE: usize = 112;
 
-/// The same for a fault of the data, whose text says where it stands in 75 octets at most.
-const SPOT_LINE: usize = 110;
-
-/// Writes the fault line whose text, with its line feed, stands in `line` from `end` on: before it
-/// come a word, the place that this counts, and the fault's number.
+/// Pushes the beginning of a fault line: a word, the place that it counts, and the fault's number.
 // rule: stream-fault-line
-pub(crate) fn write_fault<E: Sink>(
+pub(crate) fn push_place<E: Sink>(
+    line: &mut LineWriter<'_, '_, E>,
     word: &[u8],
     place: u64,
     number: u8,
-    line: &mut [u8],
-    end: usize,
-    e: &mut E,
-) -> Result<(), RunFault>
-    requires room { length word.now + 28 ≤ end }
-    requires within { end ≤ length line.old }
-    ensures writes { Writes (E.taken e.old) (E.taken e.new) (joined_onto
-        (word.now ∷ decimal place ∷ codes ": " ∷ decimal number ∷ codes " " ∷ [])
-        (drop end line.old)) result }
-    ensures counts { OnlyWrites (writer_of E.Sink e.old) (writer_of E.Sink e.new) result }
+)
+    ensures { Pushes line.old (joined (place_texts word.now place number)) line.new }
 {
-    let end = lay_text(b" ", line, end);
-    let end = lay_named(b": ", u16::from(number), line, end);
-    let end = lay_decimal(place, line, end);
-    let start = lay_text(word, line, end);
-    write_all(suffix(line, start), e)
+    line.push(word);
+    line.push_decimal(place);
+    line.push_named(b": ", u64::from(number));
+    line.push(b" ");
+}
+
+/// Pushes a text and a descriptor after it.
+pub(crate) fn push_descriptor<E: Sink>(line: &mut LineWriter<'_, '_, E>, text: &[u8], fxy: Fxy)
+    ensures { Pushes line.old (joined (text.now ∷ fxy_text fxy ∷ [])) line.new }
+{
+    line.push(text);
+    line.push(&fxy.text());
 }
 
 /// The text of a stray word.
 fn stray_text(cause: Cause) -> &'static [u8]
-    ensures text { result.now ≡ cause_text cause }
-    ensures short { length result.now ≤ 12 }
+    ensures { result.now ≡ cause_text cause }
 {
     match cause {
         Cause::Cut => b"cut",
@@ -63,40 +58,40 @@ fn stray_text(cause: Cause) -> &'static [u8]
 ///
 /// # Errors
 ///
-/// [`RunFault::Write`] where the writer fails or takes nothing; a front of the line was taken.
+/// [`RunFault::Write`] where the writer fails or takes nothing; a prefix of the line was taken.
 // rule: fault-1, fault-2, fault-3
 pub fn write_stray<E: Sink>(offset: u64, cause: Cause, e: &mut E) -> Result<(), RunFault>
     ensures writes { Writes (E.taken e.old) (E.taken e.new)
         (fault_line offset (number_of_cause cause) (cause_text cause ∷ [])) result }
     ensures counts { OnlyWrites (writer_of E.Sink e.old) (writer_of E.Sink e.new) result }
 {
-    let mut line = [0; LINE];
-    let end = lay_text(b"\n", &mut line, LINE);
-    let end = lay_text(stray_text(cause), &mut line, end);
-    write_fault(b"offset ", offset, cause.number(), &mut line, end, e)
+    let mut block = [0; LINE];
+    let mut line = LineWriter::new(&mut block, e);
+    push_place(&mut line, b"offset ", offset, cause.number());
+    line.push(stray_text(cause));
+    line.push(b"\n");
+    line.hand_on();
+    let outcome = line.status();
+    let _ = line.into_sink();
+    outcome
 }
 
-/// Lays the text of a section fault at the end of the octets, and answers where it begins.
-fn lay_section_fault(fault: SectionFault, line: &mut [u8]) -> usize
-    requires room { 29 ≤ length line.old }
-    ensures most { length line.old ≤ result + 29 }
-    ensures start { result ≤ length line.old }
-    ensures laid { drop result line.new ≡ joined (section_fault_text fault ++ codes "\n" ∷ []) }
+/// Pushes the text of a section fault.
+fn push_section_fault<E: Sink>(line: &mut LineWriter<'_, '_, E>, fault: SectionFault)
+    ensures { Pushes line.old (joined (section_fault_text fault)) line.new }
 {
-    let end = line.len();
-    let end = lay_text(b"\n", line, end);
     match fault {
-        SectionFault::Edition(edition) => lay_named(b"edition ", u16::from(edition), line, end),
+        SectionFault::Edition(edition) => line.push_named(b"edition ", u64::from(edition)),
         SectionFault::SectionShort(section) => {
-            let end = lay_text(b" short", line, end);
-            lay_named(b"section ", u16::from(section), line, end)
+            line.push_named(b"section ", u64::from(section));
+            line.push(b" short");
         }
         SectionFault::SectionPast(section) => {
-            let end = lay_text(b" past the end", line, end);
-            lay_named(b"section ", u16::from(section), line, end)
+            line.push_named(b"section ", u64::from(section));
+            line.push(b" past the end");
         }
-        SectionFault::SectionsEnd => lay_text(b"sections do not meet the end", line, end),
-        SectionFault::Edition3Long => lay_text(b"edition 3 length", line, end),
+        SectionFault::SectionsEnd => line.push(b"sections do not meet the end"),
+        SectionFault::Edition3Long => line.push(b"edition 3 length"),
     }
 }
 
@@ -105,7 +100,7 @@ fn lay_section_fault(fault: SectionFault, line: &mut [u8]) -> usize
 ///
 /// # Errors
 ///
-/// [`RunFault::Write`] where the writer fails or takes nothing; a front of the line was taken.
+/// [`RunFault::Write`] where the writer fails or takes nothing; a prefix of the line was taken.
 // rule: fault-10, fault-11, fault-12, fault-13, fault-14
 pub fn write_section_fault<E: Sink>(
     offset: u64,
@@ -116,27 +111,32 @@ pub fn write_section_fault<E: Sink>(
         (fault_line offset (number_of_section_fault fault) (section_fault_text fault)) result }
     ensures counts { OnlyWrites (writer_of E.Sink e.old) (writer_of E.Sink e.new) result }
 {
-    let mut line = [0; LINE];
-    let end = lay_section_fault(fault, &mut line);
-    write_fault(b"offset ", offset, fault.number(), &mut line, end, e)
+    let mut block = [0; LINE];
+    let mut line = LineWriter::new(&mut block, e);
+    push_place(&mut line, b"offset ", offset, fault.number());
+    push_section_fault(&mut line, fault);
+    line.push(b"\n");
+    line.hand_on();
+    let outcome = line.status();
+    let _ = line.into_sink();
+    outcome
 }
 
-/// What a template fault says of its descriptor.
-pub(crate) fn name_of_template_fault(fault: &TemplateFault) -> (&'static [u8], Fxy)
+/// Pushes the text of a template fault.
+pub(crate) fn push_template_fault<E: Sink>(line: &mut LineWriter<'_, '_, E>, fault: &TemplateFault)
     requires { fault.now ≢ TemplateFault.Memory }
-    ensures text { template_fault_text fault.now ≡ result.0.now ∷ fxy_text result.1 ∷ [] }
-    ensures short { length result.0.now ≤ 17 }
+    ensures { Pushes line.old (joined (template_fault_text fault.now)) line.new }
 {
     match fault {
-        TemplateFault::UnknownElement(fxy) => (b"unknown element ", *fxy),
-        TemplateFault::UnknownSequence(fxy) => (b"unknown sequence ", *fxy),
-        TemplateFault::Operator(fxy) => (b"operator ", *fxy),
-        TemplateFault::GroupShape(fxy) => (b"group shape ", *fxy),
-        TemplateFault::NoFactor(fxy) => (b"no factor ", *fxy),
-        TemplateFault::EmptyGroup(fxy) => (b"empty group ", *fxy),
-        TemplateFault::Depth(fxy) => (b"depth ", *fxy),
-        TemplateFault::TemplateSize(fxy) => (b"template size ", *fxy),
-        TemplateFault::LocalShape(fxy) => (b"local shape ", *fxy),
+        TemplateFault::UnknownElement(fxy) => push_descriptor(line, b"unknown element ", *fxy),
+        TemplateFault::UnknownSequence(fxy) => push_descriptor(line, b"unknown sequence ", *fxy),
+        TemplateFault::Operator(fxy) => push_descriptor(line, b"operator ", *fxy),
+        TemplateFault::GroupShape(fxy) => push_descriptor(line, b"group shape ", *fxy),
+        TemplateFault::NoFactor(fxy) => push_descriptor(line, b"no factor ", *fxy),
+        TemplateFault::EmptyGroup(fxy) => push_descriptor(line, b"empty group ", *fxy),
+        TemplateFault::Depth(fxy) => push_descriptor(line, b"depth ", *fxy),
+        TemplateFault::TemplateSize(fxy) => push_descriptor(line, b"template size ", *fxy),
+        TemplateFault::LocalShape(fxy) => push_descriptor(line, b"local shape ", *fxy),
         TemplateFault::Memory => unreachable!(),
     }
 }
@@ -146,7 +146,7 @@ pub(crate) fn name_of_template_fault(fault: &TemplateFault) -> (&'static [u8], F
 ///
 /// # Errors
 ///
-/// [`RunFault::Write`] where the writer fails or takes nothing; a front of the line was taken.
+/// [`RunFault::Write`] where the writer fails or takes nothing; a prefix of the line was taken.
 // rule: fault-20, fault-21, fault-22, fault-23, fault-24, fault-25, fault-26, fault-27, fault-28
 pub fn write_template_fault<E: Sink>(
     offset: u64,
@@ -159,49 +159,42 @@ pub fn write_template_fault<E: Sink>(
         result }
     ensures counts { OnlyWrites (writer_of E.Sink e.old) (writer_of E.Sink e.new) result }
 {
-    let (name, fxy) = name_of_template_fault(fault);
-    let mut line = [0; LINE];
-    let end = lay_text(b"\n", &mut line, LINE);
-    let end = lay_text(&fxy.text(), &mut line, end);
-    let end = lay_text(name, &mut line, end);
-    write_fault(b"offset ", offset, fault.number(), &mut line, end, e)
+    let mut block = [0; LINE];
+    let mut line = LineWriter::new(&mut block, e);
+    push_place(&mut line, b"offset ", offset, fault.number());
+    push_template_fault(&mut line, fault);
+    line.push(b"\n");
+    line.hand_on();
+    let outcome = line.status();
+    let _ = line.into_sink();
+    outcome
 }
 
-/// What a fault of the data is called, and where it stands.
-fn name_of_walk_fault(fault: &WalkFault) -> (&'static [u8], Spot)
+/// Pushes the name of a fault of the data, and where in the data it is.
+// rule: stream-fault-place
+fn push_spot<E: Sink>(line: &mut LineWriter<'_, '_, E>, name: &[u8], spot: Spot)
+    ensures { Pushes line.old (joined (spot_text name.now spot)) line.new }
+{
+    line.push(name);
+    line.push_named(b" at subset ", u64::from(spot.subset));
+    push_descriptor(line, b" descriptor ", spot.fxy);
+    line.push_named(b" bit ", spot.bit);
+}
+
+/// Pushes the text of a fault of the data.
+fn push_walk_fault<E: Sink>(line: &mut LineWriter<'_, '_, E>, fault: &WalkFault)
     requires { fault.now ≢ WalkFault.Memory }
-    ensures text { walk_fault_text fault.now ≡ spot_text result.0.now result.1 }
-    ensures short { length result.0.now ≤ 15 }
+    ensures { Pushes line.old (joined (walk_fault_text fault.now)) line.new }
 {
     match fault {
-        WalkFault::DataEnd(spot) => (b"data end", *spot),
-        WalkFault::Width(spot) => (b"width", *spot),
-        WalkFault::Defining(spot) => (b"defining", *spot),
-        WalkFault::UnequalFactor(spot) => (b"unequal factor", *spot),
-        WalkFault::Increment(spot) => (b"increment", *spot),
-        WalkFault::TooManyValues(spot) => (b"too many values", *spot),
+        WalkFault::DataEnd(spot) => push_spot(line, b"data end", *spot),
+        WalkFault::Width(spot) => push_spot(line, b"width", *spot),
+        WalkFault::Defining(spot) => push_spot(line, b"defining", *spot),
+        WalkFault::UnequalFactor(spot) => push_spot(line, b"unequal factor", *spot),
+        WalkFault::Increment(spot) => push_spot(line, b"increment", *spot),
+        WalkFault::TooManyValues(spot) => push_spot(line, b"too many values", *spot),
         WalkFault::Memory => unreachable!(),
     }
-}
-
-/// Lays a name and where in the data it stands at the end of the octets, and answers where they
-/// begin.
-// rule: stream-fault-place
-fn lay_spot(name: &[u8], spot: Spot, line: &mut [u8]) -> usize
-    requires short { length name.now ≤ 15 }
-    requires room { 75 ≤ length line.old }
-    ensures most { length line.old ≤ result + 75 }
-    ensures start { result ≤ length line.old }
-    ensures laid { drop result line.new ≡ joined (spot_text name.now spot ++ codes "\n" ∷ []) }
-{
-    let end = line.len();
-    let end = lay_text(b"\n", line, end);
-    let end = lay_decimal(spot.bit, line, end);
-    let end = lay_text(b" bit ", line, end);
-    let end = lay_text(&spot.fxy.text(), line, end);
-    let end = lay_text(b" descriptor ", line, end);
-    let end = lay_named(b" at subset ", spot.subset, line, end);
-    lay_text(name, line, end)
 }
 
 /// Writes the line of a message at `offset`, in octets from 0, whose data cannot be read. Want of
@@ -209,7 +202,7 @@ fn lay_spot(name: &[u8], spot: Spot, line: &mut [u8]) -> usize
 ///
 /// # Errors
 ///
-/// [`RunFault::Write`] where the writer fails or takes nothing; a front of the line was taken.
+/// [`RunFault::Write`] where the writer fails or takes nothing; a prefix of the line was taken.
 // rule: fault-30, fault-31, fault-32, fault-33, fault-34, fault-35
 pub fn write_walk_fault<E: Sink>(offset: u64, fault: &WalkFault, e: &mut E) -> Result<(), RunFault>
     requires { fault.now ≢ WalkFault.Memory }
@@ -217,8 +210,13 @@ pub fn write_walk_fault<E: Sink>(offset: u64, fault: &WalkFault, e: &mut E) -> R
         (fault_line offset (number_of_walk_fault fault.now) (walk_fault_text fault.now)) result }
     ensures counts { OnlyWrites (writer_of E.Sink e.old) (writer_of E.Sink e.new) result }
 {
-    let (name, spot) = name_of_walk_fault(fault);
-    let mut line = [0; SPOT_LINE];
-    let end = lay_spot(name, spot, &mut line);
-    write_fault(b"offset ", offset, fault.number(), &mut line, end, e)
+    let mut block = [0; LINE];
+    let mut line = LineWriter::new(&mut block, e);
+    push_place(&mut line, b"offset ", offset, fault.number());
+    push_walk_fault(&mut line, fault);
+    line.push(b"\n");
+    line.hand_on();
+    let outcome = line.status();
+    let _ = line.into_sink();
+    outcome
 }

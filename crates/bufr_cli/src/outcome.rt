@@ -1,16 +1,21 @@
 //! The end of a run: its last line and its exit status.
-ghost use Rattle.std.specs.Prelude.{◌≡◌, ◌<◌, ◌-◌, ◌^◌, ◌∷◌, []};
+ghost use Rattle.std.specs.Prelude.{◌≡◌, ◌<◌, ◌-◌, ◌^◌, ◌∷◌, [], codes, decimal};
 ghost use Rattle.std.specs.Io.KnownBytes.{Appends};
-ghost use Rattle.bufr_text.specs.Writing.{GrowsByPrefix, Writes, part_text};
-ghost use Rattle.bufr_cli.specs.Finish.{last_line, numbered, run_fault_text, run_line, status_of, table_line};
-ghost use Rattle.bufr_cli.specs.Counting.{CountsCalls, IsSame};
+ghost use Rattle.bufr_text.specs.Lines.{Pushes};
+ghost use Rattle.bufr_text.specs.Writing.{GrowsByPrefix, joined};
+ghost use Rattle.bufr_cli.specs.Finish.{last_line, run_fault_text, run_line, status_of, table_line};
+ghost use Rattle.bufr_cli.specs.Counting.{IsSame};
 ghost use Rattle.bufr_cli.specs.Devices.{writer_of};
 
 use crate::tally::Tally;
 use bufr_bits::Sink;
 use bufr_frame::RunFault;
 use bufr_tables::TableFault;
-use bufr_text::{Part, write_all, write_parts};
+use bufr_text::LineWriter;
+
+/// The octets in which a line is put together: that of a FILE whose name has up to 300 octets. What
+/// is longer goes out in several writes.
+const LINE: usize = 320;
 
 /// How a call of the program came out.
 #[derive(Clone, Copy, Debug)]
@@ -53,101 +58,71 @@ fn status(outcome: &Outcome<'_>) -> u8
     }
 }
 
-/// Writes that the file of this name cannot be opened.
-// rule: status-of-open
-fn write_cannot_open<E: Sink>(name: &str, e: &mut E) -> Result<(), RunFault>
-    ensures writes { Writes (E.taken e.old) (E.taken e.new)
-        (last_line (Outcome.CannotOpen name.entry)) result }
-    ensures counts { CountsCalls (writer_of E.Sink e.old) (writer_of E.Sink e.new) result }
+/// Pushes what a fault is of, its number, and a text.
+fn push_numbered<E: Sink>(line: &mut LineWriter<'_, '_, E>, name: &[u8], number: u8, text: &[u8])
+    ensures { Pushes line.old (joined (name.now ∷ decimal number ∷ codes " " ∷ text.now ∷ []))
+        line.new }
 {
-    let parts = [
-        Part::Text(b"bufr: cannot open "),
-        Part::Text(name.as_bytes()),
-        Part::Text(b"\n"),
-    ];
-    write_parts(&parts, e)
+    line.push(name);
+    line.push_decimal(u64::from(number));
+    line.push(b" ");
+    line.push(text);
 }
 
-/// Writes the number and the text of a fault that ended the run.
+/// Pushes the line of a fault that ended the run.
 // rule: fault-70, fault-71, fault-72, fault-73
-fn write_run_fault<E: Sink>(fault: RunFault, e: &mut E) -> Result<(), RunFault>
-    ensures writes { Writes (E.taken e.old) (E.taken e.new) (run_line fault) result }
-    ensures counts { CountsCalls (writer_of E.Sink e.old) (writer_of E.Sink e.new) result }
+fn push_run_fault<E: Sink>(line: &mut LineWriter<'_, '_, E>, fault: RunFault)
+    ensures { Pushes line.old (run_line fault) line.new }
 {
-    let parts = [
-        Part::Text(b"bufr: "),
-        Part::Decimal(u64::from(fault.number())),
-        Part::Text(b" "),
-        Part::Text(text_of_run_fault(fault)),
-        Part::Text(b"\n"),
-    ];
-    write_parts(&parts, e)
+    push_numbered(line, b"bufr: ", fault.number(), text_of_run_fault(fault));
+    line.push(b"\n");
 }
 
-/// Writes the line of a fault of a table: which table, the fault's number, and its text, a value
-/// behind a text.
-fn write_numbered<'a, E: Sink>(
-    table: &'a [u8],
-    number: u8,
-    text: &'a [u8],
-    value: Part<'a>,
-    e: &mut E,
-) -> Result<(), RunFault>
-    ensures writes { Writes (E.taken e.old) (E.taken e.new)
-        (numbered table.entry.now number (text.entry.now ∷ part_text value.entry ∷ [])) result }
-    ensures counts { CountsCalls (writer_of E.Sink e.old) (writer_of E.Sink e.new) result }
-{
-    let parts = [
-        Part::Text(table),
-        Part::Decimal(u64::from(number)),
-        Part::Text(b" "),
-        Part::Text(text),
-        value,
-        Part::Text(b"\n"),
-    ];
-    write_parts(&parts, e)
-}
-
-/// Writes the line of a table that cannot be read.
+/// Pushes the line of a table that cannot be read.
 // rule: status-of-table, fault-73
-fn write_table_fault<E: Sink>(table: &[u8], fault: &TableFault, e: &mut E) -> Result<(), RunFault>
-    ensures writes { Writes (E.taken e.old) (E.taken e.new)
-        (table_line table.now fault.now) result }
-    ensures counts { CountsCalls (writer_of E.Sink e.old) (writer_of E.Sink e.new) result }
+fn push_table_fault<E: Sink>(line: &mut LineWriter<'_, '_, E>, table: &[u8], fault: &TableFault)
+    ensures { Pushes line.old (table_line table.now fault.now) line.new }
 {
     let number = fault.number();
     match fault {
-        TableFault::Header => write_numbered(table, number, b"header", Part::Text(b""), e),
+        TableFault::Header => push_numbered(line, table, number, b"header\n"),
         TableFault::Row(record) => {
-            write_numbered(table, number, b"row ", Part::Decimal(*record), e)
+            push_numbered(line, table, number, b"row ");
+            line.push_decimal(*record);
+            line.push(b"\n");
         }
         TableFault::Duplicate(fxy) => {
-            let digits = fxy.text();
-            write_numbered(table, number, b"duplicate ", Part::Text(&digits), e)
+            push_numbered(line, table, number, b"duplicate ");
+            line.push(&fxy.text());
+            line.push(b"\n");
         }
         TableFault::Cycle(fxy) => {
-            let digits = fxy.text();
-            write_numbered(table, number, b"cycle ", Part::Text(&digits), e)
+            push_numbered(line, table, number, b"cycle ");
+            line.push(&fxy.text());
+            line.push(b"\n");
         }
-        TableFault::TableSize => write_numbered(table, number, b"table size", Part::Text(b""), e),
-        TableFault::Csv => write_numbered(table, number, b"csv", Part::Text(b""), e),
-        TableFault::Memory => write_run_fault(RunFault::Memory, e),
+        TableFault::TableSize => push_numbered(line, table, number, b"table size\n"),
+        TableFault::Csv => push_numbered(line, table, number, b"csv\n"),
+        TableFault::Memory => push_run_fault(line, RunFault::Memory),
     }
 }
 
-/// Writes the line that goes before status 2, or the usage text, or nothing.
-// rule: status-of-usage
-fn write_last<E: Sink>(outcome: &Outcome<'_>, e: &mut E) -> Result<(), RunFault>
-    ensures writes { Writes (E.taken e.old) (E.taken e.new) (last_line outcome.now) result }
-    ensures counts { CountsCalls (writer_of E.Sink e.old) (writer_of E.Sink e.new) result }
+/// Pushes the line that goes before status 2, or the usage text, or nothing.
+// rule: status-of-usage, status-of-open
+fn push_last<E: Sink>(line: &mut LineWriter<'_, '_, E>, outcome: &Outcome<'_>)
+    ensures { Pushes line.old (last_line outcome.now) line.new }
 {
     match outcome {
-        Outcome::Ran(_) => Ok(()),
-        Outcome::Usage(text) => write_all(text.as_bytes(), e),
-        Outcome::CannotOpen(name) => write_cannot_open(name, e),
-        Outcome::TableB(fault) => write_table_fault(b"table B: ", fault, e),
-        Outcome::TableD(fault) => write_table_fault(b"table D: ", fault, e),
-        Outcome::Run(fault) => write_run_fault(*fault, e),
+        Outcome::Ran(_) => {}
+        Outcome::Usage(text) => line.push(text.as_bytes()),
+        Outcome::CannotOpen(name) => {
+            line.push(b"bufr: cannot open ");
+            line.push(name.as_bytes());
+            line.push(b"\n");
+        }
+        Outcome::TableB(fault) => push_table_fault(line, b"table B: ", fault),
+        Outcome::TableD(fault) => push_table_fault(line, b"table D: ", fault),
+        Outcome::Run(fault) => push_run_fault(line, *fault),
     }
 }
 
@@ -156,13 +131,17 @@ fn write_last<E: Sink>(outcome: &Outcome<'_>, e: &mut E) -> Result<(), RunFault>
 /// for all else. A write that fails leaves the status as it is. It takes no memory.
 pub fn finish<E: Sink>(outcome: &Outcome<'_>, e: &mut E) -> u8
     ensures status { result ≡ status_of outcome.now }
-    // A front of the line is written, and all of it where no call of the writer failed or took
+    // A prefix of the line is written, and all of it where no call of the writer failed or took
     // nothing.
     ensures front { GrowsByPrefix (E.taken e.old) (E.taken e.new) (last_line outcome.now) }
     ensures whole { E.failures e.old < 2 ^ 64 - 1 → E.empty_writes e.old < 2 ^ 64 - 1
         → IsSame (writer_of E.Sink e.old) (writer_of E.Sink e.new)
         → Appends (E.taken e.old) (E.taken e.new) (last_line outcome.now) }
 {
-    let _ = write_last(outcome, e);
+    let mut block = [0; LINE];
+    let mut line = LineWriter::new(&mut block, e);
+    push_last(&mut line, outcome);
+    line.hand_on();
+    let _ = line.into_sink();
     status(outcome)
 }

@@ -12,7 +12,7 @@ use crate::support::{
 use bufr_bits::{Device, End, ScriptOut, Sink};
 use bufr_frame::{Message, RunFault};
 use bufr_tables::{Fxy, TableB, Template};
-use bufr_text::{LineWriter, Part, write_all, write_dump, write_ls, write_parts};
+use bufr_text::{LineWriter, write_all, write_dump, write_ls};
 use bufr_walk::{Steps, read_message};
 use std::cell::Cell;
 
@@ -62,43 +62,6 @@ fn stops_listing_where_the_writer_ends(rt: HostRuntime) {
     }
 }
 
-fn write_octets(rt: &impl Runtime, octets: &[u8], w: &mut ScriptOut) {
-    ok(rt, write_all(octets, w))
-}
-
-fn write_each(rt: &impl Runtime, parts: &[Part<'_>], w: &mut ScriptOut) {
-    ok(rt, write_parts(parts, w))
-}
-
-/// Asserts what is written of octets, then of parts.
-fn assert_parts(rt: &impl Runtime, parts: &[Part<'_>], want: &[u8]) {
-    let mut w = writer(rt, 3, (4096, End::Fail));
-    write_octets(rt, b"ten octets ", &mut w);
-    write_each(rt, parts, &mut w);
-    assert_same(rt, &w.taken(), &want, &"written");
-}
-
-#[test]
-// rule: listing-time
-fn writes_parts(rt: HostRuntime) {
-    let parts = [
-        Part::Text(b"a "),
-        Part::Decimal(1_024),
-        Part::Text(b" "),
-        Part::Decimal(u64::MAX),
-        Part::Decimal(0),
-    ];
-    assert_parts(&rt, &parts, b"ten octets a 1024 184467440737095516150");
-}
-
-/// A text that is longer than a line's buffer is written in its order.
-#[test]
-fn writes_long_parts(rt: HostRuntime) {
-    let long = [0x61; 300];
-    let parts = [Part::Text(b"<"), Part::Text(&long), Part::Text(b">")];
-    assert_parts(&rt, &parts, &joined(&rt, &[b"ten octets <", &long, b">"]));
-}
-
 /// Pushes a text of each kind to a block of `room` octets, at most 64.
 fn push_each(rt: &impl Runtime, room: usize, w: &mut ScriptOut) {
     let mut block = [0; 64];
@@ -118,6 +81,7 @@ fn push_each(rt: &impl Runtime, room: usize, w: &mut ScriptOut) {
 
 /// A line is the same over a block of any size.
 #[test]
+// rule: listing-time
 fn pushes_a_line_at_each_room(rt: HostRuntime) {
     for room in 0..64 {
         let mut w = writer(&rt, 3, (4096, End::Fail));
@@ -129,6 +93,29 @@ fn pushes_a_line_at_each_room(rt: HostRuntime) {
             &room,
         );
     }
+}
+
+/// Pushes a text, and the greatest number after it, to a block of 64 octets.
+fn push_long(rt: &impl Runtime, text: &[u8], w: &mut ScriptOut) {
+    let mut block = [0; 64];
+    let mut line = LineWriter::new(&mut block, w);
+    line.push(b"<");
+    line.push(text);
+    line.push(b">");
+    line.push_decimal(u64::MAX);
+    line.hand_on();
+    ok(rt, line.status());
+}
+
+/// A text that is longer than the block is written in its order, after what was written before.
+#[test]
+fn pushes_a_text_longer_than_the_block(rt: HostRuntime) {
+    let text = [0x61; 300];
+    let mut w = writer(&rt, 3, (4096, End::Fail));
+    ok(&rt, write_all(b"ten octets ", &mut w));
+    push_long(&rt, &text, &mut w);
+    let want = joined(&rt, &[b"ten octets <", &text, b">18446744073709551615"]);
+    assert_same(&rt, &w.taken(), &want.as_slice(), &"written");
 }
 
 /// Table B, and the template of a message.

@@ -13,7 +13,7 @@ pub is_some-map : {X Y : Type 0} (f : X → Y) (o : Option X) → is_some (optio
 is_some-map f (Some x) = refl
 is_some-map f None = refl
 
-joined-append : (xs ys : List (List ℕ)) → joined xs ++ joined ys ≡ joined (xs ++ ys)
+pub joined-append : (xs ys : List (List ℕ)) → joined xs ++ joined ys ≡ joined (xs ++ ys)
 joined-append [] ys = refl
 joined-append (x ∷ xs) ys = append_assoc x (joined xs) (joined ys) ∙ ap (λ l. x ++ l) (joined-append xs ys)
 
@@ -30,7 +30,7 @@ pub padded_digit : (n : ℕ) → n < 10 → zero_padded 2 n ≡ 48 ∷ (48 + n) 
 padded_digit n few = ap (λ d. replicate (2 - length d) 48 ++ d) (decimal_digit n few)
 
 -- texts were pushed, and then others
-joined_then : {a b c : LineModel} (xs ys : List (List ℕ)) → Pushes a (joined xs) b → Pushes b (joined ys) c → Pushes a (joined (xs ++ ys)) c
+pub joined_then : {a b c : LineModel} (xs ys : List (List ℕ)) → Pushes a (joined xs) b → Pushes b (joined ys) c → Pushes a (joined (xs ++ ys)) c
 joined_then xs ys first second = retold (first ⨾ second) (joined-append xs ys)
 
 -- the stretches of the line, one after another

@@ -1,15 +1,12 @@
 -- Texts that are written one after another.
-use Rattle.std.proofs.Common.{suc, get_or, ◌≡◌, ℕ, ◌+◌, ◌<◌, ◌≤◌, List, [], ◌∷◌, ◌++◌, length, take, drop, sym, ◌∙◌, ap, subst, Option, Ok, Err, append_assoc, append-nil}
-use Rattle.std.specs.Prelude.{Result, flat_map}
+use Rattle.std.proofs.Common.{◌≡◌, ℕ, ◌≤◌, List, ◌++◌, length, take, drop, sym, ◌∙◌, ap, Option, Ok, Err, append_assoc}
+use Rattle.std.specs.Prelude.{Result}
 use Rattle.std.specs.Io.KnownBytes.{Appends}
 use Rattle.std.proofs.KnownBytes.{Appends-trans}
-use Rattle.std.proofs.lemmas.List.{take-append-drop, take_more}
+use Rattle.std.proofs.lemmas.List.{take-append-drop}
 use Rattle.bufr_frame.specs.declared.fault.RunFault.{RunFault}
 use Rattle.bufr_text.specs.Lines.{MovesPrefix}
-use Rattle.bufr_text.specs.Writing.{Writes, GrowsByPrefix, part_text}
-use Rattle.bufr_text.specs.declared.part.Part.{Part}
-use Rattle.std.proofs.Math.Seq.{drop-cons}
-use Rattle.std.proofs.lemmas.Grind.{flat_map-append}
+use Rattle.bufr_text.specs.Writing.{Writes, GrowsByPrefix}
 
 module _ (a b c : Option (List ℕ)) (s t : List ℕ) where
   -- the first was written, and then the second
@@ -47,31 +44,3 @@ more-written a b c octets rest rest' n before within more is = record {
   parts = before.parts ∙ ap (λ l. before.prefix ++ l) (sym (take-append-drop n rest) ∙ ap (λ l. take n rest ++ l) (sym is)) ∙ sym (append_assoc before.prefix (take n rest) rest');
   gains = Appends-trans a b c before.prefix (take n rest) before.gains more;
 }
-
--- the texts of the parts up to one, and its own
-flat_map-take : (f : Part → List ℕ) (i : ℕ) (parts : List Part) (d : Part) → i < length parts → flat_map f (take (i + 1) parts) ≡ flat_map f (take i parts) ++ f (get_or parts i d)
-flat_map-take f i parts d h = ap (flat_map f) (take_more parts i d h) ∙ flat_map-append f (take i parts) (get_or parts i d ∷ []) ∙ ap (λ l. flat_map f (take i parts) ++ l) (append-nil (f (get_or parts i d)))
-
-module _ (a b c : Option (List ℕ)) (parts : List Part) (i : ℕ) (d : Part) (within : i < length parts) (before : Appends a b (flat_map part_text (take i parts))) where
-  -- the parts before one, that one and the others
-  text-at : flat_map part_text parts ≡ (flat_map part_text (take i parts) ++ part_text (get_or parts i d)) ++ flat_map part_text (drop (suc i) parts)
-  text-at =
-      let split : parts ≡ take i parts ++ (get_or parts i d ∷ drop (suc i) parts) = sym (take-append-drop i parts) ∙ ap (λ l. take i parts ++ l) (drop-cons parts i d within) in
-      ap (flat_map part_text) split ∙ flat_map-append part_text (take i parts) (get_or parts i d ∷ drop (suc i) parts)
-      ∙ sym (append_assoc (flat_map part_text (take i parts)) (part_text (get_or parts i d)) (flat_map part_text (drop (suc i) parts)))
-
-  -- a part could not be written
-  pub parts-stop : {X Y : Type 0} (first : Result X RunFault) (r : Result Y RunFault) (f : RunFault) → Writes b c (part_text (get_or parts i d)) first → first ≡ Err f → r ≡ Err f → Writes a c (flat_map part_text parts) r
-  parts-stop {X = X} first r f writes is same =
-      let here = rw is at writes in
-      let t = part_text (get_or parts i d) in
-      let P : List ℕ → Type 0 = λ l. GrowsByPrefix a c l in
-      let fails : Result X RunFault = Err f in
-      let grown = (Writes-then a b c (flat_map part_text (take i parts)) t fails before here).1 in
-      rw same (here.0, subst P (sym text-at) (prefix-more a c (flat_map part_text (take i parts) ++ t) (flat_map part_text (drop (suc i) parts)) grown))
-
-  -- a part was written
-  pub parts-on : Appends b c (part_text (get_or parts i d)) → Appends a c (flat_map part_text (take (i + 1) parts))
-  parts-on more =
-      let P : List ℕ → Type 0 = λ l. Appends a c l in
-      subst P (sym (flat_map-take part_text i parts d within)) (Appends-trans a b c (flat_map part_text (take i parts)) (part_text (get_or parts i d)) before more)

@@ -5,8 +5,6 @@ use Rattle.std.specs.Io.KnownBytes.{Appends}
 use Rattle.bufr_bits.specs.Counts.{counted}
 use Rattle.bufr_frame.specs.declared.fault.RunFault.{RunFault}
 use Rattle.bufr_frame.specs.declared.fault.RunFault.TheVariants.{Write}
-use Rattle.bufr_text.specs.declared.part.Part.{Part}
-use Rattle.bufr_text.specs.declared.part.Part.TheVariants.{Text, Decimal}
 
 -- known octets grow by the front of a text
 pub record GrowsByPrefix (old new : Option (List ℕ)) (text : List ℕ) : Type 0 where
@@ -46,11 +44,6 @@ zero_padded least n = replicate (least - length (decimal n)) 48 ++ decimal n
 -- rule: listing-flags
 abbrev pub flag : Bool → List ℕ
 flag on = if on then codes "1" else codes "0"
-
--- the octets of a part of a text
-abbrev pub part_text : Part → List ℕ
-part_text (Text octets) = octets.now
-part_text (Decimal value) = decimal value
 
 -- texts, one after another
 abbrev pub joined : List (List ℕ) → List ℕ

@@ -9,7 +9,7 @@ pub(crate) const LINE: usize = 320;
 
 /// Lays a text before `end`, and answers where it begins.
 #[inline(always)]
-pub fn lay_text(text: &[u8], line: &mut [u8], end: usize) -> usize
+pub(crate) fn lay_text(text: &[u8], line: &mut [u8], end: usize) -> usize
     requires room { length text.now ≤ end }
     requires within { end ≤ length line.old }
     ensures start { result + length text.now ≡ end }
@@ -22,7 +22,7 @@ pub fn lay_text(text: &[u8], line: &mut [u8], end: usize) -> usize
 
 /// Lays a number before `end`, and answers where it begins.
 #[inline(always)]
-pub fn lay_decimal(value: u64, line: &mut [u8], end: usize) -> usize
+pub(crate) fn lay_decimal(value: u64, line: &mut [u8], end: usize) -> usize
     requires room { 20 ≤ end }
     requires within { end ≤ length line.old }
     ensures most { end ≤ result + 20 }
@@ -46,7 +46,7 @@ pub(crate) fn lay_short(value: u16, line: &mut [u8], end: usize) -> usize
 
 /// Lays a number behind its name before `end`, and answers where the name begins.
 #[inline(always)]
-pub fn lay_named(name: &[u8], value: u16, line: &mut [u8], end: usize) -> usize
+pub(crate) fn lay_named(name: &[u8], value: u16, line: &mut [u8], end: usize) -> usize
     requires room { length name.now + 5 ≤ end }
     requires within { end ≤ length line.old }
     ensures most { end ≤ result + (length name.now + 5) }

@@ -18,7 +18,7 @@ pub(crate) fn ahead<'a>(text: &'a [u8], place: usize) -> &'a [u8]
 }
 
 /// What is behind a place.
-pub fn suffix<'a>(text: &'a [u8], place: usize) -> &'a [u8]
+pub(crate) fn suffix<'a>(text: &'a [u8], place: usize) -> &'a [u8]
     requires { place ≤ length text.now }
     ensures { result.now ≡ drop place text.now }
 {

@@ -1,0 +1,7 @@
+use Rattle.bufr_text.proofs.PushLemmas.{◌⨾◌, nothing_pushed}
+use Rattle.bufr_cli.proofs.outcome.push_numbered.Goals as goal
+
+pub returns : goal.returns
+returns g c =
+    rw (← c.from.ensures)
+    (c.push.ensures ⨾ (c.push_decimal.ensures ⨾ (c.push-2.ensures ⨾ (c.push-3.ensures ⨾ nothing_pushed))))
