@@ -2,6 +2,7 @@
 -- value), and the room for the line of an item.
 -- Cited by private steps only.
 use Rattle.std.specs.Prelude.{ℕ, ◌+◌, ◌*◌, List, [], ◌∷◌, Option, Some, None, codes, decimal, length, unsigned_abs}
+use Rattle.bufr_tables.specs.Entry.{row_of_entry}
 use Rattle.bufr_tables.specs.declared.table_b.Entry.{Entry}
 use Rattle.bufr_frame.specs.declared.head.Head.{Head}
 use Rattle.bufr_walk.specs.declared.visitor.Value.{Value}
@@ -47,7 +48,7 @@ most_value (value.Reference r) = 52
 -- how many octets a comment takes at most
 abbrev pub most_comment : Option Entry → ℕ
 most_comment None = 0
-most_comment (Some e) = length e.name.now + length e.unit.now + 7
+most_comment (Some e) = length (row_of_entry e).name + length (row_of_entry e).unit + 7
 
 -- how many octets the line of an item takes at most
 abbrev pub most_item : ItemView → ℕ

@@ -249,22 +249,21 @@ fn lay_form(fxy: Fxy, value: Value<'_>, line: &mut [u8], end: usize) -> usize
 /// answers where they begin.
 #[inline(always)]
 // rule: text-comment
-fn lay_comment(fxy: Fxy, entry: Option<Entry<'_>>, line: &mut [u8], end: usize) -> usize
+fn lay_comment(entry: Option<Entry<'_>>, line: &mut [u8], end: usize) -> usize
     requires room { most_comment entry ≤ end }
     requires within { end ≤ length line.old }
     ensures most { end ≤ result + most_comment entry.entry }
     ensures start { result ≤ end }
     ensures laid { drop result line.new ≡ comment_text
-        (option_map comment_of (option_map (row_of_entry fxy) entry.entry)) ++ drop end line.old }
+        (option_map comment_of (option_map row_of_entry entry.entry)) ++ drop end line.old }
 {
-    let _ = fxy;
     let Some(entry) = entry else {
         return end;
     };
     let end = lay_text(b"]", line, end);
-    let end = lay_text(entry.unit, line, end);
+    let end = lay_text(entry.unit(), line, end);
     let end = lay_text(b" [", line, end);
-    let end = lay_text(entry.name, line, end);
+    let end = lay_text(entry.name(), line, end);
     lay_text(b"  # ", line, end)
 }
 
@@ -277,7 +276,7 @@ fn lay_item(item: &ItemView<'_>, line: &mut [u8]) -> usize
 {
     let len = line.len();
     let end = lay_text(b"\n", line, len);
-    let end = lay_comment(item.fxy, item.entry, line, end);
+    let end = lay_comment(item.entry, line, end);
     lay_form(item.fxy, item.value, line, end)
 }
 
@@ -301,9 +300,9 @@ fn most_comment(entry: Option<Entry<'_>>) -> Option<usize>
 {
     match entry {
         Some(entry) => entry
-            .name
+            .name()
             .len()
-            .checked_add(entry.unit.len())?
+            .checked_add(entry.unit().len())?
             .checked_add(7),
         None => Some(0),
     }
