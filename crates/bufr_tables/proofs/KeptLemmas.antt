@@ -1,16 +1,15 @@
 -- What Table B keeps of its elements.
-use Rattle.std.proofs.Common.{◌≡◌, ◌≢◌, ℕ, ◌-◌, ◌/◌, ◌<◌, ◌≤◌, false, List, [], ◌∷◌, ◌++◌, length, drop, map, Some, None, refl, ap, ◌∙◌, arith, get_or, length-append, rules, tests}
+use Rattle.std.proofs.Common.{◌≡◌, ◌≢◌, ℕ, ◌-◌, ◌/◌, ◌<◌, ◌≤◌, false, List, [], ◌∷◌, ◌++◌, length, drop, map, Some, None, refl, ap, sym, ◌+◌, ◌∙◌, arith, get_or, length-append, rules, tests}
 use Rattle.std.specs.Prelude.{◌==◌, slice_range}
 use Rattle.std.specs.List.{AllByRecursion}
-use Rattle.std.proofs.lemmas.Bool.{eqb-true}
 use Rattle.std.proofs.lemmas.List.{take-append-le, drop-append-le, length-drop, map-append}
 use Rattle.bufr_tables.specs.Directory.{place_of}
-use Rattle.bufr_tables.proofs.DirectoryLemmas.{find-absent, find-found, find-passes, place-absent}
-use Rattle.bufr_tables.specs.Entry.{row_of_entry}
+use Rattle.bufr_tables.proofs.DirectoryLemmas.{find-absent, find-found, place-absent}
 use Rattle.bufr_tables.specs.Fxy.{f_of, key_of}
-use Rattle.bufr_tables.specs.Kept.{ExtendsBlock, IsRowInside, IsStored, row_kept, rows_kept}
-use Rattle.bufr_tables.specs.TableB.{Row, entry_of}
-use Rattle.bufr_tables.specs.declared.table_b.Entry.{Entry}
+use Rattle.bufr_tables.specs.Kept.{ExtendsBlock, IsStored, row_parsed, rows_kept}
+use Rattle.bufr_tables.specs.RowKept.{IsRowKept, row_kept}
+use Rattle.bufr_tables.specs.TableB.{Row, entry_of, row_comment}
+use Rattle.bufr_tables.specs.declared.table_b.ParsedRow.{ParsedRow}
 use Rattle.bufr_tables.specs.declared.table_b.Stored.{Stored}
 
 abbrev pub fxys_of : List Stored → List ℕ
@@ -46,24 +45,34 @@ pub range-append : (xs ys : List ℕ) (i j : ℕ) → i ≤ j → j ≤ length x
 range-append xs ys i j before inside =
     rw (drop-append-le i xs ys (omega arith), take-append-le (j - i) (drop i xs) ys (omega (arith, length-drop i xs))) refl
 
-pub rows_kept-append : (octets more : List ℕ) (stored : List Stored) → AllByRecursion (IsRowInside (length octets)) stored → rows_kept (octets ++ more) stored ≡ rows_kept octets stored
-rows_kept-append octets more [] inside = refl
-rows_kept-append octets more (s ∷ stored) inside =
-    let name = range-append octets more s.start s.middle inside.0.0 (omega (arith, inside.0.1, inside.0.2)) in
-    let unit = range-append octets more s.middle s.end inside.0.1 inside.0.2 in
-    let rest = rows_kept-append octets more stored inside.1 in
+row_kept-append : (octets more : List ℕ) (s : Stored) → IsRowKept octets s → row_kept (octets ++ more) s ≡ row_kept octets s
+row_kept-append octets more s kept =
+    let name = range-append octets more (s.start + 4) s.middle kept.name (omega (arith, kept.unit, kept.inside)) in
+    let unit = range-append octets more (s.middle + 2) (s.end - 2) (omega (arith, kept.unit)) (omega (arith, kept.inside)) in
     cc
 
-pub inside-more : (n m : ℕ) (stored : List Stored) → n ≤ m → AllByRecursion (IsRowInside n) stored → AllByRecursion (IsRowInside m) stored
-inside-more n m [] more inside = tt
-inside-more n m (s ∷ stored) more inside = ((inside.0.0, inside.0.1, omega (arith, inside.0.2)), inside-more n m stored more inside.1)
+kept-append : (octets more : List ℕ) (s : Stored) → IsRowKept octets s → IsRowKept (octets ++ more) s
+kept-append octets more s kept = record {
+  name = kept.name;
+  unit = kept.unit;
+  inside = omega (arith, kept.inside, length-append octets more);
+  comment = range-append octets more s.start s.end (omega (arith, kept.name, kept.unit)) kept.inside ∙ kept.comment ∙ ap row_comment (sym (row_kept-append octets more s kept));
+}
 
-pub inside-push : (P : Stored → Type 0) (stored : List Stored) (s : Stored) → AllByRecursion P stored → P s → AllByRecursion P (stored ++ s ∷ [])
-inside-push P [] s all here = (here, tt)
-inside-push P (t ∷ stored) s all here = (all.0, inside-push P stored s all.1 here)
+pub rows_kept-append : (octets more : List ℕ) (stored : List Stored) → AllByRecursion (IsRowKept octets) stored → rows_kept (octets ++ more) stored ≡ rows_kept octets stored
+rows_kept-append octets more [] kept = refl
+rows_kept-append octets more (s ∷ stored) kept =
+    let first = row_kept-append octets more s kept.0 in
+    let rest = rows_kept-append octets more stored kept.1 in
+    cc
 
-pub entry-fxy : (rows : List Row) (fxy : ℕ) (row : Row) → entry_of rows fxy ≡ Some row → row.fxy ≡ fxy
-entry-fxy rows fxy row found = eqb-true row.fxy fxy (find-passes Row (λ r. r.fxy == fxy) rows row found)
+all-kept : (octets more : List ℕ) (stored : List Stored) → AllByRecursion (IsRowKept octets) stored → AllByRecursion (IsRowKept (octets ++ more)) stored
+all-kept octets more [] kept = tt
+all-kept octets more (s ∷ stored) kept = (kept-append octets more s kept.0, all-kept octets more stored kept.1)
+
+pub all-push : (P : Stored → Type 0) (stored : List Stored) (s : Stored) → AllByRecursion P stored → P s → AllByRecursion P (stored ++ s ∷ [])
+all-push P [] s all here = (here, tt)
+all-push P (t ∷ stored) s all here = (all.0, all-push P stored s all.1 here)
 
 -- an element is its X and Y
 pub element-key : (fxy : ℕ) → fxy < 16384 → key_of fxy ≡ fxy
@@ -77,19 +86,16 @@ entry-not_element octets stored fxy elements other = entry-other octets stored f
     large n h = omega arith
 
 -- the row that is found is that of the element at its place
-pub entry-row : (octets : List ℕ) (stored : List Stored) (fxy place : ℕ) (s : Stored) (entry : Entry) → place_of (fxys_of stored) fxy ≡ Some place
-    → s ≡ get_or stored place s → row_of_entry s.fxy entry ≡ row_kept octets s → Some (row_of_entry fxy entry) ≡ entry_of (rows_kept octets stored) fxy
-entry-row octets stored fxy place s entry found at is =
-    let row : entry_of (rows_kept octets stored) fxy ≡ Some (row_kept octets s) = rw (← at) at (entry-found octets stored fxy place s found) in
-    let same : s.fxy ≡ fxy = entry-fxy (rows_kept octets stored) fxy (row_kept octets s) row in
-    rw (row, ← is, same) refl
+pub entry-row : (octets : List ℕ) (stored : List Stored) (fxy place : ℕ) (s : Stored) → place_of (fxys_of stored) fxy ≡ Some place
+    → s ≡ get_or stored place s → Some (row_kept octets s) ≡ entry_of (rows_kept octets stored) fxy
+entry-row octets stored fxy place s found at = rw (entry-found octets stored fxy place s found, ← at) refl
 
 -- the rows with one more element
-pub rows_kept-push : (old new : List ℕ) (stored : List Stored) (s : Stored) (fxy : ℕ) (entry : Entry) → AllByRecursion (IsRowInside (length old)) stored → ExtendsBlock old new
-    → IsStored new fxy entry s → rows_kept new (stored ++ s ∷ []) ≡ rows_kept old stored ++ row_of_entry fxy entry ∷ []
-rows_kept-push old new stored s fxy entry inside grows is =
+pub rows_kept-push : (old new : List ℕ) (stored : List Stored) (s : Stored) (row : ParsedRow) → AllByRecursion (IsRowKept old) stored → ExtendsBlock old new
+    → IsStored new row s → rows_kept new (stored ++ s ∷ []) ≡ rows_kept old stored ++ row_parsed row ∷ []
+rows_kept-push old new stored s row kept grows is =
     map-append (row_kept new) stored (s ∷ [])
-    ∙ rw (is.row, grows.1) (ap (λ (rows : List Row). rows ++ row_of_entry fxy entry ∷ []) (rows_kept-append old grows.0 stored inside))
+    ∙ rw (is.same, grows.1) (ap (λ (rows : List Row). rows ++ row_parsed row ∷ []) (rows_kept-append old grows.0 stored kept))
 
-pub inside-grown : (old new : List ℕ) (stored : List Stored) → AllByRecursion (IsRowInside (length old)) stored → ExtendsBlock old new → AllByRecursion (IsRowInside (length new)) stored
-inside-grown old new stored inside grows = inside-more (length old) (length new) stored (rw grows.1 (omega (arith, length-append old grows.0))) inside
+pub kept-grown : (old new : List ℕ) (stored : List Stored) → AllByRecursion (IsRowKept old) stored → ExtendsBlock old new → AllByRecursion (IsRowKept new) stored
+kept-grown old new stored kept grows = rw grows.1 (all-kept old grows.0 stored kept)

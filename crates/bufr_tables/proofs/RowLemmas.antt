@@ -1,6 +1,6 @@
 -- The limits of each row of Table B.
 use Rattle.std.proofs.Common.{◌≡◌, ℕ, nat_eq, Bool, true, false, ℤ, List, [], ◌∷◌, ◌++◌, sym, subst, refl, Some, None, Option}
-use Rattle.std.specs.Prelude.{IfSome, if◌then◌else◌, length, option_map}
+use Rattle.std.specs.Prelude.{IfSome, if◌then◌else◌, option_map}
 use Rattle.std.specs.List.{AllByRecursion}
 use Rattle.std.proofs.lemmas.Option.{option_and_then_some}
 use Rattle.bufr_tables.specs.Kind.{kind_of}
@@ -8,9 +8,9 @@ use Rattle.bufr_tables.specs.Number.{i64_of}
 use Rattle.bufr_tables.specs.Records.{Record, field_of}
 use Rattle.bufr_tables.specs.Steps.{only_if}
 use Rattle.bufr_tables.specs.declared.kind.Kind.{Kind}
-use Rattle.bufr_tables.specs.Entry.{row_of_entry}
-use Rattle.bufr_tables.specs.declared.table_b.Entry.{Entry}
-use Rattle.bufr_tables.specs.Kept.{ExtendsBlock, IsRowInside, rows_kept}
+use Rattle.bufr_tables.specs.declared.table_b.ParsedRow.{ParsedRow}
+use Rattle.bufr_tables.specs.Kept.{ExtendsBlock, row_parsed, rows_kept}
+use Rattle.bufr_tables.specs.RowKept.{IsRowKept}
 use Rattle.bufr_tables.specs.declared.table_b.Stored.{Stored}
 use Rattle.bufr_tables.proofs.KeptLemmas.{rows_kept-append}
 use Rattle.bufr_tables.specs.TableB.{IsRow, Row, allows_scale, allows_width, element_of, entry_of, is_name, natural_part, plain_of, row_of, scale_of, width_of}
@@ -55,9 +55,9 @@ row-limits r row is =
       factor = test;
     }))))))))
 
-pub written-limits : (r : Record) (o : Option (ℕ × Entry)) → option_map (λ p. row_of_entry p.0 p.1) o ≡ row_of r → IfSome o (λ p. IsRow (row_of_entry p.0 p.1))
+pub written-limits : (r : Record) (o : Option ParsedRow) → option_map row_parsed o ≡ row_of r → IfSome o (λ row. IsRow (row_parsed row))
 written-limits r None is = tt
-written-limits r (Some p) is = row-limits r (row_of_entry p.0 p.1) (sym is)
+written-limits r (Some row) is = row-limits r (row_parsed row) (sym is)
 
 -- one row more within the limits
 pub rows-push : (rows : List Row) (row : Row) → AllByRecursion IsRow rows → IsRow row → AllByRecursion IsRow (rows ++ row ∷ [])
@@ -65,8 +65,8 @@ rows-push [] row all here = (here, tt)
 rows-push (first ∷ rows) row all here = (all.0, rows-push rows row all.1 here)
 
 -- octets behind the block leave the rows within the limits
-pub limits-grown : (old new : List ℕ) (stored : List Stored) → AllByRecursion (IsRowInside (length old)) stored → ExtendsBlock old new → AllByRecursion IsRow (rows_kept old stored) → AllByRecursion IsRow (rows_kept new stored)
-limits-grown old new stored inside grows all = rw (grows.1, rows_kept-append old grows.0 stored inside) all
+pub limits-grown : (old new : List ℕ) (stored : List Stored) → AllByRecursion (IsRowKept old) stored → ExtendsBlock old new → AllByRecursion IsRow (rows_kept old stored) → AllByRecursion IsRow (rows_kept new stored)
+limits-grown old new stored kept grows all = rw (grows.1, rows_kept-append old grows.0 stored kept) all
 
 -- the row that is found is one of them
 pub found-limits : (rows : List Row) (fxy : ℕ) (row : Row) → AllByRecursion IsRow rows → entry_of rows fxy ≡ Some row → IsRow row

@@ -18,8 +18,10 @@ pub mod Steps
 pub mod Table
 -- Table B: its rows, their limits, its faults, what it says of an element
 pub mod TableB
--- the row of Table B that an entry is
+-- the row of Table B that an entry is, and when two rows are the same
 pub mod Entry
+-- how a row of Table B is kept
+pub mod RowKept
 -- how Table B is kept
 pub mod Kept
 -- Table D: its sequences, its faults, the members of a sequence

@@ -26,6 +26,10 @@ pub record Row : Type 0 where
   pub reference : ℤ
   pub width : ℕ
 
+-- the comment at the end of an item's line: `  # NAME [UNIT]` and a line feed
+abbrev pub row_comment : Row → List ℕ
+row_comment row = codes "  # " ++ row.name ++ codes " [" ++ row.unit ++ codes "]\n"
+
 -- the fields of the header
 -- rule: fault-40
 abbrev pub columns_b : List (List ℕ)

@@ -3,9 +3,9 @@ ghost use Rattle.std.specs.Prelude.{◌≡◌, ◌≢◌, ◌<◌, [], ◌∷◌
 ghost use Rattle.std.specs.List.{list_all};
 ghost use Rattle.csv.specs.Records.{fields_of};
 ghost use Rattle.bufr_tables.specs.declared.fault.TableFault.TheVariants.{Memory};
-ghost use Rattle.bufr_tables.specs.Entry.{row_of_entry};
-ghost use Rattle.bufr_tables.specs.Kept.{ExtendsBlock, IsRowInside, IsStored, row_kept};
+ghost use Rattle.bufr_tables.specs.Kept.{ExtendsBlock, IsStored, row_parsed};
 ghost use Rattle.bufr_tables.specs.Records.{records_of};
+ghost use Rattle.bufr_tables.specs.RowKept.{IsRowKept};
 ghost use Rattle.bufr_tables.specs.Steps.{ReturnsUnlessMemory};
 ghost use Rattle.bufr_tables.specs.TableB.{AreRows, IsRow, Row, element_of, entry_of, is_valid_factor, factor_width, is_printed, plain_of, row_of, scale_of, table_b_of, width_of, with_record_b};
 
@@ -17,30 +17,151 @@ use crate::number::integer;
 use crate::records::{RecordReader, field};
 use csv::ByteRecord;
 use std::alloc::{AllocError, Global};
+use std::fmt;
 use std::marker::Model;
 
 /// The fields of the header.
 const HEADER: [&[u8]; 6] = [b"fxy", b"name", b"unit", b"scale", b"reference", b"width"];
 
-/// What Table B says of an element.
+/// An element as the table keeps it. The octets of its comment, `  # NAME [UNIT]` and a line feed,
+/// go from `start` to `end`, and those of its name end at `middle`.
+#[derive(Clone, Copy)]
+struct Stored {
+    fxy: Fxy,
+    start: usize,
+    middle: usize,
+    end: usize,
+    kind: Kind,
+    scale: i16,
+    reference: i64,
+    width: u32,
+}
+
+/// What Table B says of an element: a handle on the row of a table.
 ///
-/// [`TableB::get`] promises the limits that stand here. The factors of delayed replications,
-/// 031000, 031001 and 031002, are no text and have 1, 8 and 16 bits, scale 0 and reference 0.
-#[derive(Clone, Copy, Debug, PartialEq, Eq)]
+/// [`TableB::get`] promises the limits that the methods state. The factors of delayed replications,
+/// 031000, 031001 and 031002, are no text and have 1, 8 and 16 bits, scale 0 and reference 0. Two
+/// entries are equal where their rows are.
+#[derive(Clone, Copy)]
 pub struct Entry<'a> {
+    /// The texts of all rows.
+    octets: &'a [u8],
+    stored: &'a Stored,
+    ghost kept: { IsRowKept octets.now stored.now },
+}
+
+impl<'a> Entry<'a> {
+    ghost use Rattle.std.specs.Prelude.{◌≡◌};
+    ghost use Rattle.bufr_tables.specs.Entry.{row_of_entry};
+    ghost use Rattle.bufr_tables.specs.TableB.{row_comment};
+
+    /// The descriptor of the element.
+    #[inline(always)]
+    pub fn fxy(&self) -> Fxy
+        ensures { result ≡ (row_of_entry self.now).fxy }
+    {
+        self.stored.fxy
+    }
+
     /// The name: at most 512 octets, none of them a control character of ASCII. They are not taken
     /// for UTF-8.
-    pub name: &'a [u8],
+    #[inline(always)]
+    pub fn name(&self) -> &'a [u8]
+        ensures { result.now ≡ (row_of_entry self.now).name }
+    {
+        let stored = self.stored;
+        &self.octets[stored.start + 4..stored.middle]
+    }
+
     /// The unit, within the same limits.
-    pub unit: &'a [u8],
+    #[inline(always)]
+    pub fn unit(&self) -> &'a [u8]
+        ensures { result.now ≡ (row_of_entry self.now).unit }
+    {
+        let stored = self.stored;
+        &self.octets[stored.middle + 2..stored.end - 2]
+    }
+
+    /// The comment at the end of an item's line: `  # NAME [UNIT]` and a line feed.
+    #[inline(always)]
+    pub fn comment(&self) -> &'a [u8]
+        ensures { result.now ≡ row_comment (row_of_entry self.now) }
+    {
+        let stored = self.stored;
+        &self.octets[stored.start..stored.end]
+    }
+
     /// What the values are, as the unit says.
-    pub kind: Kind,
+    #[inline(always)]
+    pub fn kind(&self) -> Kind
+        ensures { result ≡ (row_of_entry self.now).kind }
+    {
+        self.stored.kind
+    }
+
     /// The scale, from -127 to 127: a value is (raw + reference) / 10^scale.
-    pub scale: i16,
+    #[inline(always)]
+    pub fn scale(&self) -> i16
+        ensures { result ≡ (row_of_entry self.now).scale }
+    {
+        self.stored.scale
+    }
+
     /// The reference value.
-    pub reference: i64,
+    #[inline(always)]
+    pub fn reference(&self) -> i64
+        ensures { result ≡ (row_of_entry self.now).reference }
+    {
+        self.stored.reference
+    }
+
     /// The width in bits: 1 to 63, and for text 8 to 2,040 in whole octets.
-    pub width: u32,
+    #[inline(always)]
+    pub fn width(&self) -> u32
+        ensures { result ≡ (row_of_entry self.now).width }
+    {
+        self.stored.width
+    }
+}
+
+impl<'a> PartialEq for Entry<'a> {
+    ghost use Rattle.std.specs.Cmp.{on_per, partial_equiv_from_equiv};
+    ghost use Rattle.std.specs.Ordering.{on};
+    ghost use Rattle.bufr_tables.specs.Entry.{is_same_row, row_of_entry, same_row_equiv};
+
+    ghost eq = { on row_of_entry is_same_row };
+
+    ghost laws = { on_per row_of_entry (partial_equiv_from_equiv same_row_equiv) };
+
+    fn eq(&self, other: &Self) -> bool {
+        let (row, others) = (self.stored, other.stored);
+        let numbers = (row.fxy, row.scale, row.reference, row.width);
+        self.name() == other.name()
+            && self.unit() == other.unit()
+            && row.kind == others.kind
+            && numbers == (others.fxy, others.scale, others.reference, others.width)
+    }
+}
+
+impl<'a> Eq for Entry<'a> {
+    ghost use Rattle.std.specs.Cmp.{on_equiv};
+    ghost use Rattle.bufr_tables.specs.Entry.{row_of_entry, same_row_equiv};
+
+    ghost laws = { on_equiv row_of_entry same_row_equiv };
+}
+
+impl<'a> fmt::Debug for Entry<'a> {
+    fn fmt<W: fmt::Write>(&self, f: &mut fmt::Formatter<W>) -> fmt::Result {
+        f.debug_struct("Entry")
+            .field("fxy", &self.fxy())
+            .field("name", &self.name())
+            .field("unit", &self.unit())
+            .field("kind", &self.kind())
+            .field("scale", &self.scale())
+            .field("reference", &self.reference())
+            .field("width", &self.width())
+            .finish()
+    }
 }
 
 /// The descriptor of an element.
@@ -127,24 +248,33 @@ fn factor_width(fxy: Fxy) -> Option<u32>
     }
 }
 
-/// Whether a factor of delayed replications may have this entry; another element may have any.
-fn is_valid_factor(fxy: Fxy, entry: &Entry) -> bool
-    ensures { result ≡ is_valid_factor (factor_width fxy) (row_of_entry fxy entry.now) }
-{
-    let Some(width) = factor_width(fxy) else {
-        return true;
-    };
-    entry.width == width
-        && entry.scale == 0
-        && entry.reference == 0
-        && entry.kind != Kind::Character
+/// The row that a record writes.
+#[derive(Clone, Copy)]
+struct ParsedRow<'a> {
+    fxy: Fxy,
+    name: &'a [u8],
+    unit: &'a [u8],
+    kind: Kind,
+    scale: i16,
+    reference: i64,
+    width: u32,
 }
 
-/// The element that a record writes, where it writes one.
+/// Whether a factor of delayed replications may have this row; another element may have any.
+fn is_valid_factor(row: &ParsedRow) -> bool
+    ensures { result ≡ is_valid_factor (factor_width row.now.fxy) (row_parsed row.now) }
+{
+    let Some(width) = factor_width(row.fxy) else {
+        return true;
+    };
+    row.width == width && row.scale == 0 && row.reference == 0 && row.kind != Kind::Character
+}
+
+/// The row that a record writes, where it writes one.
 #[tactic(auto, unfolding(crate::specs::TableB::row_of))]
-fn parse_row(fields: &ByteRecord) -> Option<(Fxy, Entry<'_>)>
-    ensures value { option_map (λ p. row_of_entry p.0 p.1) result ≡ row_of (fields_of fields.now) }
-    ensures element { IfSome result (λ p. p.0 < 16384) }
+fn parse_row(fields: &ByteRecord) -> Option<ParsedRow<'_>>
+    ensures value { option_map row_parsed result ≡ row_of (fields_of fields.now) }
+    ensures element { IfSome result (λ row. row.fxy < 16384) }
 {
     let fxy = read_element(field(fields, 0))?;
     let name = read_plain(field(fields, 1))?;
@@ -153,7 +283,8 @@ fn parse_row(fields: &ByteRecord) -> Option<(Fxy, Entry<'_>)>
     let reference = integer(field(fields, 4))?;
     let kind = Kind::of(unit);
     let width = read_width(kind, field(fields, 5))?;
-    let entry = Entry {
+    let row = ParsedRow {
+        fxy,
         name,
         unit,
         kind,
@@ -161,34 +292,20 @@ fn parse_row(fields: &ByteRecord) -> Option<(Fxy, Entry<'_>)>
         reference,
         width,
     };
-    if !is_valid_factor(fxy, &entry) {
+    if !is_valid_factor(&row) {
         return None;
     }
-    Some((fxy, entry))
+    Some(row)
 }
 
-/// The same element, which is within the limits of a row.
+/// The same row, which is within the limits of a row.
 // rule: fault-41-of-table-b
-fn row(fields: &ByteRecord) -> Option<(Fxy, Entry<'_>)>
-    ensures value { option_map (λ p. row_of_entry p.0 p.1) result ≡ row_of (fields_of fields.now) }
-    ensures element { IfSome result (λ p. p.0 < 16384) }
-    ensures limits { IfSome result (λ p. IsRow (row_of_entry p.0 p.1)) }
+fn row(fields: &ByteRecord) -> Option<ParsedRow<'_>>
+    ensures value { option_map row_parsed result ≡ row_of (fields_of fields.now) }
+    ensures element { IfSome result (λ row. row.fxy < 16384) }
+    ensures limits { IfSome result (λ row. IsRow (row_parsed row)) }
 {
     parse_row(fields)
-}
-
-/// An element as the table keeps it: its name goes from `start` to `middle`, and its unit on to
-/// `end`.
-#[derive(Clone, Copy)]
-struct Stored {
-    fxy: Fxy,
-    start: usize,
-    middle: usize,
-    end: usize,
-    kind: Kind,
-    scale: i16,
-    reference: i64,
-    width: u32,
 }
 
 /// Table B: the elements, by their descriptors.
@@ -203,7 +320,7 @@ struct Stored {
 /// ```
 #[derive(Drop)]
 pub struct TableB {
-    /// Names and units, one after another.
+    /// The comments of the elements, one after another.
     octets: Vec<u8>,
     stored: Vec<Stored>,
     /// The descriptors of `stored`.
@@ -224,6 +341,15 @@ impl Model for TableB {
 }
 
 impl TableB {
+    ghost use Rattle.std.specs.Prelude.{◌≡◌, ◌≢◌, ◌<◌, [], ◌∷◌, ◌++◌, None, OnOk, IfErr, IfOk, IfSome, option_map, Ok, Err};
+    ghost use Rattle.csv.specs.Records.{fields_of};
+    ghost use Rattle.bufr_tables.specs.declared.fault.TableFault.TheVariants.{Memory};
+    ghost use Rattle.bufr_tables.specs.Entry.{row_of_entry};
+    ghost use Rattle.bufr_tables.specs.Kept.{row_parsed};
+    ghost use Rattle.bufr_tables.specs.Records.{records_of};
+    ghost use Rattle.bufr_tables.specs.Steps.{ReturnsUnlessMemory};
+    ghost use Rattle.bufr_tables.specs.TableB.{AreRows, IsRow, entry_of, table_b_of, with_record_b};
+
     /// Reads Table B from the octets of a CSV file.
     ///
     /// Its header is `fxy,name,unit,scale,reference,width`. Each further record is one element:
@@ -257,8 +383,8 @@ impl TableB {
     /// What the table says of an element, if it has it, within the limits that [`Entry`] states.
     #[inline(always)]
     pub fn get(&self, fxy: Fxy) -> Option<Entry<'_>>
-        ensures value { option_map (row_of_entry fxy) result ≡ entry_of self.now fxy }
-        ensures limits { IfSome result (λ e. IsRow (row_of_entry fxy e)) }
+        ensures value { option_map row_of_entry result ≡ entry_of self.now fxy }
+        ensures limits { IfSome result (λ e. IsRow (row_of_entry e)) }
     {
         let directory = &self.directory;
         if fxy.f() != 0 {
@@ -267,7 +393,7 @@ impl TableB {
         let place = directory.place(fxy.key())?;
         let octets = self.octets.as_slice();
         let stored = &self.stored[place];
-        Some(entry_kept(octets, stored))
+        Some(Entry { octets, stored })
     }
 
     /// Adds the element of record `number`.
@@ -282,64 +408,51 @@ impl TableB {
         if fields.len() != 6 {
             return Err(TableFault::Csv);
         }
-        let Some((fxy, entry)) = row(fields) else {
+        let Some(row) = row(fields) else {
             return Err(TableFault::Row(number));
         };
-        if self.get(fxy).is_some() {
-            return Err(TableFault::Duplicate(fxy));
+        if self.get(row.fxy).is_some() {
+            return Err(TableFault::Duplicate(row.fxy));
         }
-        self.push(fxy, &entry)?;
+        self.push(&row)?;
         Ok(())
     }
 
     /// Adds an element that the table lacks.
-    fn push(&mut self, fxy: Fxy, entry: &Entry) -> Result<(), AllocError>
-        requires element { fxy < 16384 }
-        requires absent { entry_of self.old fxy ≡ None }
-        requires limits { IsRow (row_of_entry fxy entry.now) }
-        ensures ok { OnOk result (self.new ≡ self.old ++ row_of_entry fxy entry.now ∷ []) }
+    fn push(&mut self, row: &ParsedRow) -> Result<(), AllocError>
+        requires element { row.now.fxy < 16384 }
+        requires absent { entry_of self.old row.now.fxy ≡ None }
+        requires limits { IsRow (row_parsed row.now) }
+        ensures ok { OnOk result (self.new ≡ self.old ++ row_parsed row.now ∷ []) }
     {
-        let stored = store(&mut self.octets, fxy, entry)?;
+        let stored = store(&mut self.octets, row)?;
         self.stored.push(stored)?;
-        self.directory.add(fxy.key());
+        self.directory.add(row.fxy.key());
         Ok(())
     }
 }
 
-/// Puts the name and the unit of an entry behind a block of octets.
-fn store(octets: &mut Vec<u8>, fxy: Fxy, entry: &Entry) -> Result<Stored, AllocError>
+/// Pushes the comment of a row onto a block of octets.
+fn store(octets: &mut Vec<u8>, row: &ParsedRow) -> Result<Stored, AllocError>
     ensures grows { ExtendsBlock octets.old.items octets.new.items }
-    ensures ok { IfOk result (λ s. IsStored octets.new.items fxy entry.now s) }
+    ensures ok { IfOk result (λ s. IsStored octets.new.items row.now s) }
 {
     let start = octets.len();
-    octets.extend_from_slice(entry.name)?;
+    octets.extend_from_slice(b"  # ")?;
+    octets.extend_from_slice(row.name)?;
     let middle = octets.len();
-    octets.extend_from_slice(entry.unit)?;
+    octets.extend_from_slice(b" [")?;
+    octets.extend_from_slice(row.unit)?;
+    octets.extend_from_slice(b"]\n")?;
     let end = octets.len();
     Ok(Stored {
-        fxy,
+        fxy: row.fxy,
         start,
         middle,
         end,
-        kind: entry.kind,
-        scale: entry.scale,
-        reference: entry.reference,
-        width: entry.width,
+        kind: row.kind,
+        scale: row.scale,
+        reference: row.reference,
+        width: row.width,
     })
-}
-
-/// The entry of an element that is kept in this block of octets.
-#[inline(always)]
-fn entry_kept<'a>(octets: &'a [u8], stored: &Stored) -> Entry<'a>
-    requires { IsRowInside (length octets.now) stored.now }
-    ensures { row_of_entry stored.now.fxy result ≡ row_kept octets.now stored.now }
-{
-    Entry {
-        name: &octets[stored.start..stored.middle],
-        unit: &octets[stored.middle..stored.end],
-        kind: stored.kind,
-        scale: stored.scale,
-        reference: stored.reference,
-        width: stored.width,
-    }
 }

@@ -1,7 +1,9 @@
 //! Descriptors, and the reading of tables.
 
 use crate::messages::{HEADER_B, HEADER_D};
-use crate::support::{Runtime, assert_same, joined, ok, read_b, read_d, some, table_b, table_d};
+use crate::support::{
+    Runtime, assert_same, assert_that, joined, ok, read_b, read_d, some, table_b, table_d,
+};
 use bufr_tables::{Entry, Fxy, Kind, TableB, TableD, TableFault};
 
 /// Six digits, and the word of the descriptor that they write.
@@ -75,20 +77,30 @@ const NO_ELEMENTS: &[u16] = &[0x3fff, 0x4c65, 0x8c65, 0xcc65];
 fn elements(rt: HostRuntime) {
     let table = table_b(&rt);
     for (word, name, unit, kind, (scale, reference, width)) in ELEMENTS {
-        let (kind, scale, reference, width) = (*kind, *scale, *reference, *width);
-        let want = Entry {
-            name,
-            unit,
-            kind,
-            scale,
-            reference,
-            width,
-        };
-        assert_same(&rt, &entry_of(&table, *word), &Some(want), word);
+        let entry = some(&rt, entry_of(&table, *word));
+        let texts = (entry.fxy().word(), entry.name(), entry.unit());
+        assert_same(&rt, &texts, &(*word, *name, *unit), word);
+        let numbers = (
+            entry.kind(),
+            entry.scale(),
+            entry.reference(),
+            entry.width(),
+        );
+        assert_same(&rt, &numbers, &(*kind, *scale, *reference, *width), word);
     }
     for word in NO_ELEMENTS {
         assert_same(&rt, &entry_of(&table, *word), &None, word);
     }
+}
+
+#[test]
+fn entries(rt: HostRuntime) {
+    let (table, again) = (table_b(&rt), table_b(&rt));
+    let found = entry_of(&table, 0x0c65);
+    let comment: &[u8] = b"  # AIR TEMPERATURE [K]\n";
+    assert_same(&rt, &some(&rt, found).comment(), &comment, &"comment");
+    assert_same(&rt, &entry_of(&again, 0x0c65), &found, &"another table");
+    assert_that(&rt, entry_of(&table, 0x0101) != found, &"another element");
 }
 
 /// A sequence that the table lacks, and descriptors that are no sequences.
@@ -277,7 +289,7 @@ fn kinds_of_units(rt: HostRuntime) {
     for (unit, kind) in KINDS {
         let text = joined(&rt, &[HEADER_B, b"001001,A,", unit, b",0,0,8\n"]);
         let table = ok(&rt, read_b(rt.alloc(), &text));
-        assert_same(&rt, &some(&rt, entry_of(&table, 0x0101)).kind, kind, unit);
+        assert_same(&rt, &some(&rt, entry_of(&table, 0x0101)).kind(), kind, unit);
     }
 }
 

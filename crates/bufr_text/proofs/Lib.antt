@@ -3,6 +3,7 @@ pub mod CallLemmas
 pub mod CanonicalLemmas
 pub mod CleanLemmas
 pub mod ClosingLemmas
+pub mod CommentLemmas
 pub mod DescribingLemmas
 pub mod DigitLemmas
 mod DumpExamples

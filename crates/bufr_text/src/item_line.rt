@@ -49,21 +49,17 @@ fn push_form<W: Sink>(lines: &mut LineWriter<'_, '_, W>, fxy: Fxy, value: Value<
     }
 }
 
-/// Pushes the name and the unit of the entry of Table B by which an item was read.
+/// Pushes the comment of the entry of Table B by which an item was read, and a line feed.
 #[inline(always)]
 // rule: text-comment
-fn push_comment<W: Sink>(lines: &mut LineWriter<'_, '_, W>, fxy: Fxy, entry: Option<Entry<'_>>)
+fn push_comment<W: Sink>(lines: &mut LineWriter<'_, '_, W>, entry: Option<Entry<'_>>)
     ensures { Pushes lines.old
-        (comment_text (option_map comment_of (option_map (row_of_entry fxy) entry.entry)))
+        (comment_text (option_map comment_of (option_map row_of_entry entry.entry)) ++ 10 ∷ [])
         lines.new }
 {
-    let _ = fxy;
-    if let Some(entry) = entry {
-        lines.push(b"  # ");
-        lines.push(entry.name);
-        lines.push(b" [");
-        lines.push(entry.unit);
-        lines.push(b"]");
+    match entry {
+        Some(entry) => lines.push(entry.comment()),
+        None => lines.push(b"\n"),
     }
 }
 
@@ -73,6 +69,5 @@ pub(crate) fn push_item<W: Sink>(lines: &mut LineWriter<'_, '_, W>, item: &ItemV
     ensures { Pushes lines.old (item_text (dump_item_of (seen item.now)) ++ 10 ∷ []) lines.new }
 {
     push_form(lines, item.fxy, item.value);
-    push_comment(lines, item.fxy, item.entry);
-    lines.push(b"\n");
+    push_comment(lines, item.entry);
 }

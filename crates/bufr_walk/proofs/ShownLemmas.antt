@@ -104,9 +104,9 @@ text_shown spec bits octets h k e is =
     ∙ sym (ap (shown spec) (value_by spec.role spec bits (text_role spec.role spec.kind spec.may_be_missing h.role k) ∙ ap (λ b. if b then missing else said_by spec.kind spec.width bits) (and_false (are_all_ones bits) spec.may_be_missing e) ∙ said_text spec.kind spec.width bits k))
 
 -- the view of a field
-pub view_seen : (fxy : ℕ) (e : Option Entry) (v : Value) (table : List Row) (spec : FieldSpec) (content : Content) → fxy ≡ spec.fxy → option_map (row_of_entry spec.fxy) e ≡ (if spec.listed then entry_of table spec.fxy else None) → seen_value v ≡ shown spec content → view fxy (option_map (row_of_entry fxy) e) (seen_value v) ≡ view_of table spec content
+pub view_seen : (fxy : ℕ) (e : Option Entry) (v : Value) (table : List Row) (spec : FieldSpec) (content : Content) → fxy ≡ spec.fxy → option_map row_of_entry e ≡ (if spec.listed then entry_of table spec.fxy else None) → seen_value v ≡ shown spec content → view fxy (option_map row_of_entry e) (seen_value v) ≡ view_of table spec content
 view_seen fxy e v table spec content f g h =
-    ap (λ d. view d (option_map (row_of_entry d) e) (seen_value v)) f ∙ ap (λ r. view spec.fxy r (seen_value v)) g ∙ ap (view spec.fxy (if spec.listed then entry_of table spec.fxy else None)) h
+    ap (λ d. view d (option_map row_of_entry e) (seen_value v)) f ∙ ap (λ r. view spec.fxy r (seen_value v)) g ∙ ap (view spec.fxy (if spec.listed then entry_of table spec.fxy else None)) h
 
 -- a reference that was found is shown as one
 pub reference_kept : (spec : FieldSpec) (bits : List Bool) → spec.role ≡ role.Reference → IsReferenceValue (shown spec (content_in spec bits))

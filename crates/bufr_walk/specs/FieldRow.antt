@@ -9,5 +9,4 @@ use Rattle.bufr_walk.specs.FieldSpec.{FieldSpec}
 -- the row of Table B of a field's element, where the field is read by it
 abbrev pub HasRow : List Row → FieldSpec → Option Entry → Type 0
 HasRow table spec found =
-    option_map (row_of_entry spec.fxy) found
-    ≡ (if spec.listed then entry_of table spec.fxy else None)
+    option_map row_of_entry found ≡ (if spec.listed then entry_of table spec.fxy else None)

@@ -17,4 +17,4 @@ seen_value (value.Reference r) = shown_reference r
 
 -- the model of the view of an item
 abbrev pub seen : ItemView → View
-seen v = view v.fxy (option_map (row_of_entry v.fxy) v.entry) (seen_value v.value)
+seen v = view v.fxy (option_map row_of_entry v.entry) (seen_value v.value)

@@ -130,15 +130,15 @@ fn redefine(new_references: &mut BTreeMap<u16, i64>, fxy: Fxy, reference: i64)
 #[tactic(auto, using(crate::proofs::SpecLemmas::reference_found))]
 #[inline(always)]
 // rule: new-reference-of-quantities
-fn reference_of(new_references: &BTreeMap<u16, i64>, fxy: Fxy, entry: &Entry<'_>) -> i64
-    ensures { result ≡ current_reference (known_by new_references.now.entries) fxy
-        entry.now.reference }
+fn reference_of(new_references: &BTreeMap<u16, i64>, entry: &Entry<'_>) -> i64
+    ensures { result ≡ current_reference (known_by new_references.now.entries)
+        (row_of_entry entry.now).fxy (row_of_entry entry.now).reference }
 {
     if new_references.is_empty() {
-        return entry.reference;
+        return entry.reference();
     }
-    let local_width = new_references.get(&fxy.word()).copied();
-    local_width.unwrap_or(entry.reference)
+    let local_width = new_references.get(&entry.fxy().word()).copied();
+    local_width.unwrap_or(entry.reference())
 }
 
 /// The width of a quantity with the changes in force (2 01 Y, 2 07 Y), in bits.
@@ -215,31 +215,32 @@ fn scaled(reference: i64, precision_increase: u8) -> i128
 fn numeric_spec(
     operands: OperatorOperands,
     reference: i64,
-    fxy: Fxy,
     entry: &Entry<'_>,
 ) -> Result<Spec, TurnRefusal>
-    requires row { IsRow (row_of_entry fxy entry.now) }
+    requires row { IsRow (row_of_entry entry.now) }
     requires operands { AreOperands operands }
-    ensures { (known : List Redefined) → reference ≡ current_reference known fxy entry.now.reference
+    ensures { (known : List Redefined)
+        → reference ≡ current_reference known (row_of_entry entry.now).fxy
+        (row_of_entry entry.now).reference
         → result ≡ if_valid_width (numeric_spec (operator_model operands known)
-        (row_of_entry fxy entry.now)) }
+        (row_of_entry entry.now)) }
 {
     Spec::number(
-        fxy,
+        entry.fxy(),
         Role::Element,
         Kind::Numeric,
         operator_width(
-            entry.width,
+            entry.width(),
             operands.precision_increase,
             operands.width_change,
         ),
         scale_change(
-            entry.scale,
+            entry.scale(),
             scale_change_of(operands.scale_change),
             operands.precision_increase,
         ),
         scaled(reference, operands.precision_increase),
-        fxy.x() != 31,
+        entry.fxy().x() != 31,
         true,
     )
 }
@@ -247,21 +248,22 @@ fn numeric_spec(
 /// A figure of a code table.
 #[inline(always)]
 // rule: class-31-never-missing, new-reference-of-figures, figures-unchanged
-fn coded_spec(reference: i64, fxy: Fxy, entry: &Entry<'_>) -> Result<Spec, TurnRefusal>
-    requires row { IsRow (row_of_entry fxy entry.now) }
+fn coded_spec(reference: i64, entry: &Entry<'_>) -> Result<Spec, TurnRefusal>
+    requires row { IsRow (row_of_entry entry.now) }
     ensures { (operands : OperatorOperands) (known : List Redefined)
-        → reference ≡ current_reference known fxy entry.now.reference
+        → reference ≡ current_reference known (row_of_entry entry.now).fxy
+        (row_of_entry entry.now).reference
         → result ≡ if_valid_width (coded_spec (operator_model operands known)
-        (row_of_entry fxy entry.now)) }
+        (row_of_entry entry.now)) }
 {
     Spec::number(
-        fxy,
+        entry.fxy(),
         Role::Element,
         Kind::Coded,
-        entry.width,
-        entry.scale,
+        entry.width(),
+        entry.scale(),
         i128::from(reference),
-        fxy.x() != 31,
+        entry.fxy().x() != 31,
         true,
     )
 }
@@ -284,22 +286,23 @@ fn text_width(width: u32, character_octets: u8) -> u32
 fn spec_by_kind(
     operands: OperatorOperands,
     reference: i64,
-    fxy: Fxy,
     entry: &Entry<'_>,
 ) -> Result<Spec, TurnRefusal>
-    requires row { IsRow (row_of_entry fxy entry.now) }
+    requires row { IsRow (row_of_entry entry.now) }
     requires operands { AreOperands operands }
-    ensures { (known : List Redefined) → reference ≡ current_reference known fxy entry.now.reference
-        → result ≡ spec_by_kind entry.now.kind (operator_model operands known)
-        (row_of_entry fxy entry.now) }
+    ensures { (known : List Redefined)
+        → reference ≡ current_reference known (row_of_entry entry.now).fxy
+        (row_of_entry entry.now).reference
+        → result ≡ spec_by_kind (row_of_entry entry.now).kind (operator_model operands known)
+        (row_of_entry entry.now) }
 {
-    match entry.kind {
-        Kind::Numeric => numeric_spec(operands, reference, fxy, entry),
-        Kind::Coded => coded_spec(reference, fxy, entry),
+    match entry.kind() {
+        Kind::Numeric => numeric_spec(operands, reference, entry),
+        Kind::Coded => coded_spec(reference, entry),
         Kind::Character => Ok(Spec::text(
             Role::Element,
-            fxy,
-            text_width(entry.width, operands.character_octets),
+            entry.fxy(),
+            text_width(entry.width(), operands.character_octets),
             true,
         )),
     }
@@ -349,12 +352,12 @@ fn unsigned_of(fxy: Fxy, width: u8) -> Result<Spec, TurnRefusal>
 #[inline(always)]
 // rule: 2-06-y, 2-06-y-width-of-table-b
 fn local_width_spec(local_width: u8, fxy: Fxy, entry: &Entry<'_>) -> Result<Spec, TurnRefusal>
-    requires row { IsRow (row_of_entry fxy entry.now) }
+    requires row { IsRow (row_of_entry entry.now) }
     ensures { (s : OperatorModel) → s.local_width ≡ local_width
-        → result ≡ local_width_spec (Some (row_of_entry fxy entry.now)) s fxy }
+        → result ≡ local_width_spec (Some (row_of_entry entry.now)) s fxy }
 {
-    if entry.width == u32::from(local_width) {
-        spec_by_kind(no_operators(), entry.reference, fxy, entry)
+    if entry.width() == u32::from(local_width) {
+        spec_by_kind(no_operators(), entry.reference(), entry)
     } else {
         unsigned_of(fxy, local_width)
     }
@@ -363,16 +366,16 @@ fn local_width_spec(local_width: u8, fxy: Fxy, entry: &Entry<'_>) -> Result<Spec
 /// A factor by its row.
 #[inline(always)]
 fn factor_by(fxy: Fxy, entry: &Entry<'_>) -> Result<Spec, TurnRefusal>
-    requires row { IsRow (row_of_entry fxy entry.now) }
-    ensures { result ≡ factor_by (Some (row_of_entry fxy entry.now)) fxy }
+    requires row { IsRow (row_of_entry entry.now) }
+    ensures { result ≡ factor_by (Some (row_of_entry entry.now)) fxy }
 {
     Spec::number(
         fxy,
         Role::Factor,
         Kind::Numeric,
-        entry.width,
-        entry.scale,
-        i128::from(entry.reference),
+        entry.width(),
+        entry.scale(),
+        i128::from(entry.reference()),
         false,
         true,
     )
@@ -441,10 +444,10 @@ impl OperatorState {
                 if operands.local_width > 0 {
                     local_width_spec(operands.local_width, fxy, &entry)
                 } else if operands.new_reference_width > 0 {
-                    new_reference_spec(operands.new_reference_width, fxy, entry.kind)
+                    new_reference_spec(operands.new_reference_width, fxy, entry.kind())
                 } else {
-                    let reference = reference_of(&self.new_references, fxy, &entry);
-                    spec_by_kind(operands, reference, fxy, &entry)
+                    let reference = reference_of(&self.new_references, &entry);
+                    spec_by_kind(operands, reference, &entry)
                 }
             }
             None => {

@@ -72,7 +72,7 @@ pub(crate) fn show_plain_value<V: Visitor>(
 ) -> Result<(), V::Fault>
     requires { IsPlainNumber spec.now }
     ensures { (table : List Row) (content : Content)
-        → Some (row_of_entry spec.now.fxy entry.entry) ≡ entry_of table spec.now.fxy
+        → Some (row_of_entry entry.entry) ≡ entry_of table spec.now.fxy
         → seen_value value.entry ≡ shown spec.now content
         → V.sees visitor.old (item_call (view_of table spec.now content)) result visitor.new }
 {

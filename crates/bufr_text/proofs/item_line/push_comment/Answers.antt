@@ -1,6 +1,8 @@
-use Rattle.bufr_text.proofs.PushLemmas.{◌⨾◌, nothing_pushed}
+use Rattle.std.proofs.Common.{sym}
+use Rattle.bufr_tables.specs.Entry.{row_of_entry}
+use Rattle.bufr_text.proofs.CommentLemmas.{comment-ready}
+use Rattle.bufr_text.proofs.PushLemmas.{retold}
 use Rattle.bufr_text.proofs.item_line.push_comment.Goals as goal
 
 pub returns-in-Some : goal.returns-in-Some
-returns-in-Some g c =
-    rw c.in-Some.is (c.push.ensures ⨾ (c.push-in-Some.ensures ⨾ (c.push-in-Some-2.ensures ⨾ (c.push-in-Some-3.ensures ⨾ (c.push-in-Some-4.ensures ⨾ nothing_pushed)))))
+returns-in-Some g c = rw c.in-Some.is (retold c.push-in-Some.ensures (c.comment.ensures ∙ comment-ready (row_of_entry c.in-Some.entry)))
