@@ -39,7 +39,6 @@ pub mod TextSteps
 pub mod CellSteps
 pub mod NumberSteps
 pub mod TextLeast
-pub mod GrowthSteps
 pub mod AcrossSteps
 pub mod PlainWalks
 pub mod TableRows

@@ -2,6 +2,7 @@
 use Rattle.std.proofs.Common.{◌≡◌, ℕ, zero, suc, ◌+◌, ◌-◌, ◌*◌, ◌/◌, ◌%◌, ◌<◌, ◌≤◌, ◌&&◌, max, Bool, true, false, List, [], ◌∷◌, ◌++◌, length, take, drop, get_or, replicate, Option, Some, None, refl, sym, ◌∙◌, ap, arith, add-one, append_assoc, ℤ}
 use Rattle.std.specs.Prelude.{nat_lt, if◌then◌else◌, min}
 use Rattle.std.specs.List.{flat_map}
+use Rattle.std.proofs.Math.Nat.{mul-le-mul_right}
 use Rattle.std.proofs.Math.Seq.{drop-cons}
 use Rattle.std.proofs.lemmas.Bool.Decides.{nat_tests}
 use Rattle.std.proofs.lemmas.List.{append-nil}
@@ -151,6 +152,16 @@ flat_more f count old now new ds i z h inv is =
 pub flat_done : (f : Content → List Bool) (count : ℕ) (old now : List Bool) (ds : List FieldContent) (i : ℕ) → length ds ≤ i
     → now ++ flat_map f (contents_drawn count (drop i ds)) ≡ old ++ flat_map f (contents_drawn count ds) → now ≡ old ++ flat_map f (contents_drawn count ds)
 flat_done f count old now ds i h inv = sym (append-nil now) ∙ ap (λ xs. now ++ flat_map f (contents_drawn count xs)) (sym (drop_all ds i h)) ∙ inv
+
+-- n numbers of k bits, of which i were put: there is room for the next, and for those after it
+pub room_here : (n i k room : ℕ) → i < n → n * k ≤ room + i * k → k ≤ room
+room_here n i k room h e = let most = mul-le-mul_right k h in omega (arith, most, e)
+
+pub room_next : (n i k room next : ℕ) → n * k ≤ room + i * k → room ≤ next + k → n * k ≤ next + (i + 1) * k
+room_next n i k room next e h = omega (arith, e, h)
+
+pub few_bits : (n k most : ℕ) → k ≤ most → n * k ≤ most * n
+few_bits n k most h = let most = mul-le-mul_right n h in omega (arith, most)
 
 -- whether those that are left are the same as one
 pub alike_more : (count : ℕ) (c : Content) (ds : List FieldContent) (i : ℕ) (d : FieldContent) (b : Bool) → i < length ds → d ≡ get_or ds i d → are_same c (contents_drawn count ds) ≡ are_same c (contents_drawn count (drop i ds)) → same c (content_drawn count d) ≡ true

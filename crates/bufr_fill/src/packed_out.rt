@@ -24,8 +24,7 @@ use std::marker::Model;
 /// (WMO-No. 306, Volume I.2, FM 94: section 4, compression)
 ///
 /// A contract sees it as the subsets, how many items of each were taken, and the bits of these
-/// items. A fault, [`DraftFault::Memory`] too, changes none of them: what was written of the item
-/// is removed again.
+/// items. A fault, [`DraftFault::Memory`] too, changes none of them.
 #[derive(Drop)]
 pub struct PackedOut<'s> {
     entries: &'s Entries,
@@ -48,10 +47,10 @@ impl<'s> Model for PackedOut<'s> {
     ghost view = { λ s. record {
       subsets = subsets_of s.entries.now;
       place = s.place;
-      bits = s.out;
+      bits = s.out.bits;
     } };
 
-    ghost invariant = { λ s. IsPackedOut s.entries.now s.ends.items s.place (length s.out) };
+    ghost invariant = { λ s. IsPackedOut s.entries.now s.ends.items s.place (length s.out.bits) };
 }
 
 /// The indices of the entries that end subsets.
@@ -86,8 +85,8 @@ fn put_drawn(
         ≡ Ok (contents_drawn (spec.now.width / 8) drawn.now) }
     requires all { AllDrawn spec.now drawn.now }
     requires many { length drawn.now ≡ length ends.now }
-    requires room { length out.old + (2046 + 504 * length ends.now) + 2040 ≤ 2 ^ 63 }
-    ensures put { PutAcross out.old out.new spec.now
+    requires room { length out.old.bits + (2046 + 504 * length ends.now) ≤ 2 ^ 63 }
+    ensures put { PutAcross out.old.bits out.new.bits spec.now
         (item_row place (subsets_of entries.now))
         (2046 + 504 * length ends.now) result }
     ensures shape { IfOk result (λ t. IsFor spec.now t) }
@@ -118,8 +117,8 @@ fn pack_next<'a>(
     requires some { 0 < length ends.now }
     requires values { place * length ends.now ≤ max_values }
     requires near { place ≤ 2 ^ 45 }
-    requires room { length out.old + (2046 + 504 * length ends.now) + 2040 ≤ 2 ^ 63 }
-    ensures put { PutAcross out.old out.new spec.now
+    requires room { length out.old.bits + (2046 + 504 * length ends.now) ≤ 2 ^ 63 }
+    ensures put { PutAcross out.old.bits out.new.bits spec.now
         (item_row place (subsets_of entries.now))
         (2046 + 504 * length ends.now) result }
     ensures shape { IfOk result (λ t. IsFor spec.now t) }
@@ -217,7 +216,6 @@ impl<'s> Fields for PackedOut<'s> {
     ghost refuses = { λ s spec e next h. ap (λ c. length c.bits) h.1 };
 
     fn take(&mut self, spec: &Spec) -> Result<Taken, DraftFault> {
-        let bits = self.out.len_bits();
         match pack_next(
             self.entries,
             &self.ends,
@@ -227,15 +225,11 @@ impl<'s> Fields for PackedOut<'s> {
             &mut self.drawn,
             &mut self.out,
         ) {
-            Ok(told) => {
+            Ok(taken) => {
                 self.place += 1;
-                Ok(told)
+                Ok(taken)
             }
-            Err(why) => {
-                // Memory may have run out inside the item.
-                self.out.truncate(bits);
-                Err(why)
-            }
+            Err(why) => Err(why),
         }
     }
 
