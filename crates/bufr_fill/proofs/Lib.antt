@@ -37,6 +37,7 @@ pub mod Places
 pub mod PackSteps
 pub mod TextSteps
 pub mod CellSteps
+pub mod RangeSteps
 pub mod NumberSteps
 pub mod TextLeast
 pub mod AcrossSteps

@@ -4,7 +4,7 @@ ghost use Rattle.bufr_walk.specs.FieldSpec.{IsFor};
 ghost use Rattle.bufr_walk.specs.Reading.{max_values};
 ghost use Rattle.bufr_fill.specs.Encoding.{item_row, cells_at, contents_here};
 ghost use Rattle.bufr_fill.specs.Entries.{subsets_of};
-ghost use Rattle.bufr_fill.specs.PackedRows.{AllDrawn, contents_drawn};
+ghost use Rattle.bufr_fill.specs.PackedRows.{AllDrawn, contents_drawn, IsRangeOf};
 ghost use Rattle.bufr_fill.specs.Packs.{PutAcross};
 ghost use Rattle.bufr_fill.specs.PackedOut.{ends_of};
 
@@ -12,7 +12,7 @@ use crate::entries::{Entries, EntryRef};
 use crate::fault::DraftFault;
 use crate::field_value::FieldContent;
 use crate::packed_rows::{all_at_end, first_line, read_row, unlike_line};
-use crate::packing::{PackingFault, pack};
+use crate::packing::{NumberRange, PackingFault, pack};
 use crate::put::taken_of;
 use bufr_bits::BitWriter;
 use bufr_walk::{Fields, MAX_VALUES, Spec, Taken};
@@ -74,6 +74,7 @@ fn put_drawn(
     place: usize,
     spec: &Spec,
     drawn: &[FieldContent<'_>],
+    range: NumberRange,
     out: &mut BitWriter,
 ) -> Result<Taken, DraftFault>
     requires ends { ends.now ≡ ends_of 0 entries.now }
@@ -84,6 +85,7 @@ fn put_drawn(
     requires given { contents_here spec.now (cells_at place (subsets_of entries.now))
         ≡ Ok (contents_drawn (spec.now.width / 8) drawn.now) }
     requires all { AllDrawn spec.now drawn.now }
+    requires range { IsRangeOf range drawn.now }
     requires many { length drawn.now ≡ length ends.now }
     requires room { length out.old.bits + (2046 + 504 * length ends.now) ≤ 2 ^ 63 }
     ensures put { PutAcross out.old.bits out.new.bits spec.now
@@ -91,7 +93,7 @@ fn put_drawn(
         (2046 + 504 * length ends.now) result }
     ensures shape { IfOk result (λ t. IsFor spec.now t) }
 {
-    match pack(out, drawn, spec) {
+    match pack(out, drawn, range, spec) {
         Ok(()) => Ok(taken_of(drawn[0], spec)),
         Err(PackingFault::Unequal) => Err(DraftFault::UnequalFactor(unlike_line(
             entries, ends, place, spec, drawn,
@@ -129,7 +131,7 @@ fn pack_next<'a>(
         return Err(DraftFault::TooManyValues(line, spec.fxy()));
     }
     match read_row(entries, ends, place, spec, found, drawn) {
-        Ok(()) => put_drawn(entries, ends, place, spec, drawn, out),
+        Ok(range) => put_drawn(entries, ends, place, spec, drawn, range, out),
         Err(why) => Err(why),
     }
 }

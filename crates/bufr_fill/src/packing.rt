@@ -1,11 +1,12 @@
 //! The packing of the contents of one item for all subsets.
-ghost use Rattle.std.specs.Prelude.{ℕ, ◌≡◌, ◌≤◌, ◌<◌, ◌+◌, ◌-◌, ◌*◌, ◌/◌, ◌^◌, ◌++◌, ◌∷◌, [], true, false, length, map, take, replicate, nat_lt, OnOk, OnErr, unwrap_or};
+ghost use Rattle.std.specs.Prelude.{ℕ, List, ◌≡◌, ◌≤◌, ◌<◌, ◌+◌, ◌-◌, ◌*◌, ◌/◌, ◌^◌, ◌++◌, ◌∷◌, [], true, false, length, map, take, replicate, nat_lt, OnOk, OnErr, unwrap_or};
 ghost use Rattle.std.specs.List.{list_all, flat_map};
 ghost use Rattle.bufr_bits.specs.Bits.{bits_in, bits_of};
 ghost use Rattle.bufr_tables.specs.TableB.{is_character};
 ghost use Rattle.bufr_walk.specs.FieldSpec.{is_reference};
 ghost use Rattle.bufr_fill.specs.FieldContent.{content_drawn, spaced, IsDrawn};
-ghost use Rattle.bufr_fill.specs.PackedRows.{AllDrawn, contents_drawn};
+ghost use Rattle.bufr_fill.specs.PackedRows.{AllDrawn, contents_drawn, IsRangeOf, IsIncrementWidth};
+ghost use Rattle.bufr_fill.specs.declared.field_value.FieldContent.{FieldContent};
 ghost use Rattle.bufr_fill.specs.Packing.{raw_limit, same, same_octets, are_same, lowest, first_from, least_k, has_bits, has_octets, increment_bits, octet_bits, packed_bits, numbers_over, packed_numbers, packed_texts, packed_by, packed_unlike, packing};
 ghost use Rattle.bufr_fill.specs.Packs.{over_of, spread, lesser, number_in, trimmed, need, need_of, most_need, octet_in, PacksItem, FitsIncrement, AreShort, least_from};
 ghost use Rattle.bufr_walk.specs.Content.{bits_for};
@@ -82,12 +83,21 @@ pub(crate) fn is_same(one: FieldContent<'_>, other: FieldContent<'_>, spec: &Spe
 
 /// Whether all contents are the same as one.
 #[tactic(auto, using(crate::proofs::PackSteps::drawn_at, crate::proofs::PackSteps::alike_more, crate::proofs::PackSteps::alike_not, crate::proofs::PackSteps::alike_done))]
-fn are_alike(first: FieldContent<'_>, drawn: &[FieldContent<'_>], spec: &Spec) -> bool
+fn are_alike(
+    first: FieldContent<'_>,
+    drawn: &[FieldContent<'_>],
+    range: NumberRange,
+    spec: &Spec,
+) -> bool
     requires first { IsDrawn spec.now first }
     requires drawn { AllDrawn spec.now drawn.now }
+    requires range { IsRangeOf range drawn.now }
     ensures { result ≡ are_same (content_drawn (spec.now.width / 8) first.entry)
         (contents_drawn (spec.now.width / 8) drawn.now) }
 {
+    if range.least.unwrap_or(0) != range.greatest {
+        return false;
+    }
     for other in drawn {
         if !is_same(first, *other, spec) {
             return false;
@@ -97,6 +107,7 @@ fn are_alike(first: FieldContent<'_>, drawn: &[FieldContent<'_>], spec: &Spec) -
 }
 
 /// The lesser of a number, if there is one, and of a content, if that is a number.
+#[inline(always)]
 fn min_number(found: Option<u64>, drawn: FieldContent<'_>) -> Option<u64>
     ensures { result ≡ lesser found (number_in drawn.entry) }
 {
@@ -107,40 +118,50 @@ fn min_number(found: Option<u64>, drawn: FieldContent<'_>) -> Option<u64>
     }
 }
 
-/// The least of the numbers, if there is one.
-#[tactic(auto, using(crate::proofs::PackSteps::lowest_more, crate::proofs::PackSteps::lowest_done))]
-fn lowest_of(drawn: &[FieldContent<'_>]) -> Option<u64>
-    ensures { (count : ℕ) → result ≡ lowest (contents_drawn count drawn.now) }
-{
-    let mut found: Option<u64> = None;
-    for d in drawn {
-        found = min_number(found, *d);
-    }
-    found
-}
-
-/// The increment of a content over a base.
-fn increment_over(drawn: FieldContent<'_>, base: u64) -> u64
-    ensures { result ≡ over_of base drawn.entry }
+/// The number of a content, or 0.
+#[inline(always)]
+fn number_or_0(drawn: FieldContent<'_>) -> u64
+    ensures { result ≡ over_of 0 drawn.entry }
 {
     match drawn {
-        FieldContent::Number(raw) => raw.saturating_sub(base),
-        FieldContent::Text(_) => 0,
-        FieldContent::Missing => 0,
-        FieldContent::Reference(_) => 0,
+        FieldContent::Number(raw) => raw,
+        FieldContent::Text(_) | FieldContent::Missing | FieldContent::Reference(_) => 0,
     }
 }
 
-/// The greatest increment over a base.
-#[tactic(auto, using(crate::proofs::PackSteps::spread_more, crate::proofs::PackSteps::spread_done))]
-fn max_increment(drawn: &[FieldContent<'_>], base: u64) -> u64
-    ensures { result ≡ spread base drawn.now }
-{
-    let mut most: u64 = 0;
-    for d in drawn {
-        most = increment_over(*d, base).max(most);
+/// The least of the numbers of an item, if there is one, and the greatest, or 0.
+#[derive(Clone, Copy)]
+pub(crate) struct NumberRange {
+    least: Option<u64>,
+    greatest: u64,
+}
+
+impl NumberRange {
+    ghost use Rattle.std.specs.Prelude.{List, [], ◌∷◌, ◌++◌};
+    ghost use Rattle.bufr_fill.specs.declared.field_value.FieldContent.{FieldContent};
+    ghost use Rattle.bufr_fill.specs.PackedRows.{IsRangeOf};
+
+    /// The range of no contents.
+    pub(crate) fn new() -> NumberRange
+        ensures { IsRangeOf result [] }
+    {
+        NumberRange {
+            least: None,
+            greatest: 0,
+        }
     }
-    most
+
+    /// The range with one more content.
+    #[inline(always)]
+    pub(crate) fn with(self, drawn: FieldContent<'_>) -> NumberRange
+        ensures { (contents : List FieldContent) → IsRangeOf self contents
+            → IsRangeOf result (contents ++ drawn.entry ∷ []) }
+    {
+        NumberRange {
+            least: min_number(self.least, drawn),
+            greatest: number_or_0(drawn).max(self.greatest),
+        }
+    }
 }
 
 /// The least `k` from 1 to 63 whose bits write an increment, without all ones where that is
@@ -190,18 +211,18 @@ fn put_increments(out: &mut BitWriter, drawn: &[FieldContent<'_>], base: u64, k:
     }
 }
 
-/// The least `k` whose bits write the increments of numbers over a base.
-fn increment_width(drawn: &[FieldContent<'_>], base: u64, spec: &Spec) -> u32
+/// The least `k` whose bits write the increments of numbers of this range.
+fn increment_width(range: NumberRange, spec: &Spec) -> u32
     requires number { is_character spec.now.kind ≡ false }
     requires element { is_reference spec.now.role ≡ false }
-    requires drawn { AllDrawn spec.now drawn.now }
-    ensures value { result ≡ least_from spec.now.may_be_missing (spread base drawn.now) 1 }
-    ensures narrow { result ≤ 63 }
-    ensures short { AreShort base result drawn.now }
+    ensures { (contents : List FieldContent) → AllDrawn spec.now contents
+        → IsRangeOf range contents
+        → IsIncrementWidth spec.now (unwrap_or range.least 0) contents result }
 {
     // For the proof alone: a number has at most 63 bits.
     let _width = spec.width();
-    least_bits(max_increment(drawn, base), spec.may_be_missing())
+    let most = range.greatest.saturating_sub(range.least.unwrap_or(0));
+    least_bits(most, spec.may_be_missing())
 }
 
 /// Writes numbers that differ: the least of them, `k`, and the increments over it.
@@ -209,18 +230,20 @@ fn increment_width(drawn: &[FieldContent<'_>], base: u64, spec: &Spec) -> u32
 fn pack_numbers(
     out: &mut BitWriter,
     drawn: &[FieldContent<'_>],
+    range: NumberRange,
     spec: &Spec,
 ) -> Result<(), PackingFault>
     requires number { is_character spec.now.kind ≡ false }
     requires element { is_reference spec.now.role ≡ false }
     requires drawn { AllDrawn spec.now drawn.now }
+    requires range { IsRangeOf range drawn.now }
     requires room { length out.old.bits + (69 + 63 * length drawn.now) ≤ 2 ^ 63 }
     ensures { PacksItem out.old.bits out.new.bits (packed_by spec.now.kind spec.now
         (contents_drawn (spec.now.width / 8) drawn.now)) (69 + 63 * length drawn.now) result }
 {
     let width = spec.width();
-    let base = lowest_of(drawn).unwrap_or(0);
-    let k = increment_width(drawn, base, spec);
+    let base = range.least.unwrap_or(0);
+    let k = increment_width(range, spec);
     out.reserve(u64::from(width) + 6 + drawn.len() as u64 * u64::from(k))?;
     out.put(base, width);
     out.put(u64::from(k), 6);
@@ -382,9 +405,11 @@ fn pack_alike(out: &mut BitWriter, first: FieldContent<'_>, spec: &Spec) -> Resu
 fn pack_unlike(
     out: &mut BitWriter,
     drawn: &[FieldContent<'_>],
+    range: NumberRange,
     spec: &Spec,
 ) -> Result<(), PackingFault>
     requires drawn { AllDrawn spec.now drawn.now }
+    requires range { IsRangeOf range drawn.now }
     requires room { length out.old.bits + (2046 + 504 * length drawn.now) ≤ 2 ^ 63 }
     ensures { PacksItem out.old.bits out.new.bits (packed_unlike spec.now.role spec.now
         (contents_drawn (spec.now.width / 8) drawn.now)) (2046 + 504 * length drawn.now) result }
@@ -396,7 +421,7 @@ fn pack_unlike(
             if spec.is_text() {
                 pack_texts(out, drawn, spec)
             } else {
-                pack_numbers(out, drawn, spec)
+                pack_numbers(out, drawn, range, spec)
             }
         }
     }
@@ -408,18 +433,20 @@ fn pack_unlike(
 pub(crate) fn pack(
     out: &mut BitWriter,
     drawn: &[FieldContent<'_>],
+    range: NumberRange,
     spec: &Spec,
 ) -> Result<(), PackingFault>
     requires some { 1 ≤ length drawn.now }
     requires drawn { AllDrawn spec.now drawn.now }
+    requires range { IsRangeOf range drawn.now }
     requires room { length out.old.bits + (2046 + 504 * length drawn.now) ≤ 2 ^ 63 }
     ensures { PacksItem out.old.bits out.new.bits (packing spec.now
         (contents_drawn (spec.now.width / 8) drawn.now)) (2046 + 504 * length drawn.now) result }
 {
-    if are_alike(drawn[0], drawn, spec) {
+    if are_alike(drawn[0], drawn, range, spec) {
         pack_alike(out, drawn[0], spec)?;
         Ok(())
     } else {
-        pack_unlike(out, drawn, spec)
+        pack_unlike(out, drawn, range, spec)
     }
 }

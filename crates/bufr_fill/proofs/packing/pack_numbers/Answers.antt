@@ -2,7 +2,7 @@ use Rattle.std.proofs.Common.{◌*◌, ◌/◌, ◌++◌, ◌<◌, ◌^◌, ap, 
 use Rattle.std.specs.Prelude.{unwrap_or}
 use Rattle.std.specs.List.{flat_map}
 use Rattle.bufr_bits.specs.Bits.{bits_in}
-use Rattle.bufr_fill.specs.PackedRows.{contents_drawn}
+use Rattle.bufr_fill.specs.PackedRows.{contents_drawn, IsIncrementWidth}
 use Rattle.bufr_fill.specs.Packing.{increment_bits, packed_bits, lowest}
 use Rattle.bufr_fill.proofs.NumberSteps.{base_under, numbers_packed, parts_put, parts_length}
 use Rattle.bufr_fill.proofs.PackSteps.{few_bits}
@@ -10,26 +10,35 @@ use Rattle.bufr_fill.proofs.packing.pack_numbers.Goals as goal
 
 pub overflow_mul-drawn : goal.overflow_mul-drawn
 overflow_mul-drawn c =
-    let few = few_bits (length c.args.drawn.now) c.from-2.result 63 (omega (arith, c.from-2.ensures, c.increment_width-k.ensures.narrow)) in
+    let few = few_bits (length c.args.drawn.now) c.from-2.result 63 (omega (arith, c.from-2.ensures, (subst (λ b. IsIncrementWidth c.args.spec.now b c.args.drawn.now c.increment_width-k.result) (sym c.unwrap_or-base.ensures) (c.increment_width-k.ensures c.args.drawn.now c.requires.drawn c.requires.range)).narrow)) in
     omega (arith, few, c.requires.room)
 
 pub overflow_add-from-2 : goal.overflow_add-from-2
 overflow_add-from-2 c =
-    let few = few_bits (length c.args.drawn.now) c.from-2.result 63 (omega (arith, c.from-2.ensures, c.increment_width-k.ensures.narrow)) in
+    let few = few_bits (length c.args.drawn.now) c.from-2.result 63 (omega (arith, c.from-2.ensures, (subst (λ b. IsIncrementWidth c.args.spec.now b c.args.drawn.now c.increment_width-k.result) (sym c.unwrap_or-base.ensures) (c.increment_width-k.ensures c.args.drawn.now c.requires.drawn c.requires.range)).narrow)) in
     let narrow = c.width-width.ensures.narrow c.requires.number in
     omega (arith, few, c.from.ensures, narrow, c.requires.room)
 
 pub reserve-requires : goal.reserve-requires
 reserve-requires c =
-    let few = few_bits (length c.args.drawn.now) c.from-2.result 63 (omega (arith, c.from-2.ensures, c.increment_width-k.ensures.narrow)) in
+    let few = few_bits (length c.args.drawn.now) c.from-2.result 63 (omega (arith, c.from-2.ensures, (subst (λ b. IsIncrementWidth c.args.spec.now b c.args.drawn.now c.increment_width-k.result) (sym c.unwrap_or-base.ensures) (c.increment_width-k.ensures c.args.drawn.now c.requires.drawn c.requires.range)).narrow)) in
     let narrow = c.width-width.ensures.narrow c.requires.number in
     omega (arith, few, c.from.ensures, narrow, c.requires.room)
 
 pub put-requires-clause-value : goal.put-requires-clause-value
 put-requires-clause-value c =
-    subst (λ n. n < 2 ^ c.width-width.result) (sym (c.unwrap_or-base.ensures ∙ ap (λ o. unwrap_or o 0) (c.lowest_of.ensures (c.args.spec.now.width / 8))))
+    subst (λ n. n < 2 ^ c.width-width.result) (sym (c.unwrap_or-base.ensures ∙ ap (λ o. unwrap_or o 0) (c.requires.range.least (c.args.spec.now.width / 8))))
     (subst (λ w. unwrap_or (lowest (contents_drawn (c.args.spec.now.width / 8) c.args.drawn.now)) 0 < 2 ^ w) (sym c.width-width.ensures.value)
     (base_under c.args.spec.now c.requires.number c.requires.element (c.args.spec.now.width / 8) c.args.drawn.now c.width-width.ensures.some c.requires.drawn))
+
+pub put-requires-2-clause-value : goal.put-requires-2-clause-value
+put-requires-2-clause-value c = omega (arith, c.from-3.ensures, (subst (λ b. IsIncrementWidth c.args.spec.now b c.args.drawn.now c.increment_width-k.result) (sym c.unwrap_or-base.ensures) (c.increment_width-k.ensures c.args.drawn.now c.requires.drawn c.requires.range)).narrow)
+
+pub put_increments-requires-clause-narrow : goal.put_increments-requires-clause-narrow
+put_increments-requires-clause-narrow c = (subst (λ b. IsIncrementWidth c.args.spec.now b c.args.drawn.now c.increment_width-k.result) (sym c.unwrap_or-base.ensures) (c.increment_width-k.ensures c.args.drawn.now c.requires.drawn c.requires.range)).narrow
+
+pub put_increments-requires-clause-short : goal.put_increments-requires-clause-short
+put_increments-requires-clause-short c = (subst (λ b. IsIncrementWidth c.args.spec.now b c.args.drawn.now c.increment_width-k.result) (sym c.unwrap_or-base.ensures) (c.increment_width-k.ensures c.args.drawn.now c.requires.drawn c.requires.range)).short
 
 pub put_increments-requires-clause-room : goal.put_increments-requires-clause-room
 put_increments-requires-clause-room c =
@@ -47,9 +56,9 @@ returns c =
     (c.put-2.ensures.bits ∙ ap (λ n. c.put.new.self.bits ++ bits_in n 6) c.from-3.ensures)
     (c.put_increments.ensures.bits count) in
     let narrow = c.width-width.ensures.narrow c.requires.number in
-    let few = few_bits (length c.args.drawn.now) k 63 c.increment_width-k.ensures.narrow in (
+    let few = few_bits (length c.args.drawn.now) k 63 (subst (λ b. IsIncrementWidth c.args.spec.now b c.args.drawn.now c.increment_width-k.result) (sym c.unwrap_or-base.ensures) (c.increment_width-k.ensures c.args.drawn.now c.requires.drawn c.requires.range)).narrow in (
       packed_bits (bits_in base c.args.spec.now.width) k (flat_map (increment_bits base k) (contents_drawn count c.args.drawn.now)),
-      numbers_packed c.args.spec.now count c.args.drawn.now base k c.requires.number (c.unwrap_or-base.ensures ∙ ap (λ o. unwrap_or o 0) (c.lowest_of.ensures count)) c.increment_width-k.ensures.value,
+      numbers_packed c.args.spec.now count c.args.drawn.now base k c.requires.number (c.unwrap_or-base.ensures ∙ ap (λ o. unwrap_or o 0) (c.requires.range.least count)) (subst (λ b. IsIncrementWidth c.args.spec.now b c.args.drawn.now c.increment_width-k.result) (sym c.unwrap_or-base.ensures) (c.increment_width-k.ensures c.args.drawn.now c.requires.drawn c.requires.range)).value,
       put,
       parts_length c.args.out.now.bits c.put_increments.new.out.bits _ _ put
           (omega (arith, ap length c.in_ok-reserve.ensures.bits, c.put.ensures.len, c.put-2.ensures.len, c.put_increments.ensures.len, narrow, few)),
