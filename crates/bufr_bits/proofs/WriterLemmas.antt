@@ -1,8 +1,8 @@
 -- The bits of a writer after each of its calls.
-use Rattle.std.proofs.Common.{◌≡◌, ℕ, suc, ◌+◌, ◌-◌, ◌*◌, ◌/◌, ◌%◌, ◌^◌, ◌<◌, ◌≤◌, Bool, false, List, [], ◌∷◌, ◌++◌, length, take, replicate, get_or, drop, refl, sym, ap, ◌∙◌, subst, arith, append_assoc, append-nil, length-append, length-take-le, take-append-drop, take_at, drop-cons, pow_mono}
+use Rattle.std.proofs.Common.{◌≡◌, ℕ, ◌+◌, ◌-◌, ◌*◌, ◌/◌, ◌%◌, ◌^◌, ◌<◌, ◌≤◌, Bool, false, List, [], ◌∷◌, ◌++◌, length, take, replicate, get_or, refl, sym, ap, ◌∙◌, subst, arith, append_assoc, append-nil, length-append, take_at, pow_mono}
 use Rattle.std.proofs.lemmas.Nat.{shr_split, mod_below, mod_low, pow-add, pow_pos, shl_whole, shr_below, shr_le}
 use Rattle.std.proofs.Math.Nat.{mul-le-mul_right}
-use Rattle.std.proofs.lemmas.List.{take_more, take_all, length-replicate}
+use Rattle.std.proofs.lemmas.List.{take_more, length-replicate}
 use Rattle.std.specs.Int.{bytes_high_first}
 use Rattle.bufr_bits.specs.Bits.{bits_of_octet, bits_of, bits_in, padding}
 use Rattle.bufr_bits.proofs.BitLemmas.{length-bits_of, take-bits_of}
@@ -153,53 +153,3 @@ after_step start xs ys octets last count after kept next more i inside small so_
 pub nothing_after : (xs : List ℕ) (last count : ℕ) → bits_of xs ++ bits_in last count ≡ bits_of xs ++ bits_in last count ++ bits_of []
 unfolding bits_of
 nothing_after xs last count = sym (append-nil (bits_of xs ++ bits_in last count))
-
--- ---- the first of the bits
--- bits that are cut after a prefix of them
-cut_after : (prefix kept after : List Bool) (n : ℕ) → length (prefix ++ kept) ≡ n → take n (prefix ++ (kept ++ after)) ≡ prefix ++ kept
-cut_after prefix kept after n e = ap (take n) (sym (append_assoc prefix kept after)) ∙ take_at (prefix ++ kept) after n e
-
-pub cut_in_last : (xs : List ℕ) (last count kept : ℕ) → kept ≤ count → take (8 * length xs + kept) (bits_of xs ++ bits_in last count) ≡ bits_of xs ++ bits_in (last / 2 ^ (count - kept)) kept
-cut_in_last xs last count kept few =
-    let cut = count - kept in
-    let sum : count ≡ kept + cut = omega arith in
-    ap (λ (bs : List Bool). take (8 * length xs + kept) (bits_of xs ++ bs)) (ap (bits_in last) sum ∙ bits_in-split last kept cut) ∙ cut_after (bits_of xs) (bits_in (last / 2 ^ cut) kept) (bits_in last cut) (8 * length xs + kept) (length-written xs (last / 2 ^ cut) kept)
-
--- some of the last bits are kept
-pub cut_last : (xs : List ℕ) (last count kept n : ℕ) (bits : List Bool) → bits_of xs ++ bits_in last count ≡ bits → kept ≤ count → n ≡ 8 * length xs + kept → bits_of xs ++ bits_in (last / 2 ^ (count - kept)) kept ≡ take n bits
-cut_last xs last count kept n bits v few e = sym (ap (take n) (sym v) ∙ ap (λ (k : ℕ). take k (bits_of xs ++ bits_in last count)) e ∙ cut_in_last xs last count kept few)
-
--- all are kept
-pub cut_none : (xs : List ℕ) (last count n : ℕ) (bits : List Bool) → bits_of xs ++ bits_in last count ≡ bits → 8 * length xs + count ≤ n → bits ≡ take n bits
-cut_none xs last count n bits v all =
-    let long : length bits ≡ 8 * length xs + count = ap length (sym v) ∙ length-written xs last count in
-    sym (take_all n bits (omega arith))
-
-cut_in_octet : (xs : List ℕ) (after : List Bool) (whole kept d : ℕ) → whole < length xs → kept < 8 → get_or xs whole d < 256 → take (8 * whole + kept) (bits_of xs ++ after) ≡ bits_of (take whole xs) ++ bits_in (get_or xs whole d / 2 ^ (8 - kept)) kept
-unfolding bits_of
-cut_in_octet xs after whole kept d inside few small =
-    let x = get_or xs whole d in
-    let rest = drop (suc whole) xs in
-    let cut = 8 - kept in
-    let sum : 8 ≡ kept + cut = omega arith in
-    let same : x % 256 ≡ x = omega arith in
-    let octet : bits_of_octet x ≡ bits_in (x / 2 ^ cut) kept ++ bits_in x cut = ap bits_of_octet (sym same) ∙ sym (bits_in-octet x) ∙ ap (bits_in x) sum ∙ bits_in-split x kept cut in
-    let parts : xs ≡ take whole xs ++ x ∷ rest = sym (take-append-drop whole xs) ∙ ap (λ (ys : List ℕ). take whole xs ++ ys) (drop-cons xs whole d inside) in
-    let long : length (take whole xs) ≡ whole = length-take-le whole xs (omega arith) in
-    let bits : bits_of xs ++ after ≡ bits_of (take whole xs) ++ (bits_in (x / 2 ^ cut) kept ++ (bits_in x cut ++ (bits_of rest ++ after))) =
-    ap (λ (ys : List ℕ). bits_of ys ++ after) parts ∙ ap (λ (bs : List Bool). bs ++ after) (bits_of-append (take whole xs) (x ∷ rest)) ∙ append_assoc (bits_of (take whole xs)) (bits_of_octet x ++ bits_of rest) after ∙ ap (λ (bs : List Bool). bits_of (take whole xs) ++ bs) (append_assoc (bits_of_octet x) (bits_of rest) after ∙ ap (λ (bs : List Bool). bs ++ (bits_of rest ++ after)) octet ∙ append_assoc (bits_in (x / 2 ^ cut) kept) (bits_in x cut) (bits_of rest ++ after)) in
-    ap (take (8 * whole + kept)) bits ∙ cut_after (bits_of (take whole xs)) (bits_in (x / 2 ^ cut) kept) (bits_in x cut ++ (bits_of rest ++ after)) (8 * whole + kept) (length-written (take whole xs) (x / 2 ^ cut) kept ∙ ap (λ (m : ℕ). 8 * m + kept) long)
-
--- some of the octets are kept, and some bits of the next
-pub cut_octet : (xs ys : List ℕ) (last count octet n d : ℕ) (bits : List Bool) → bits_of xs ++ bits_in last count ≡ bits → ys ≡ take (n / 8) xs → octet ≡ get_or xs (n / 8) d → n < 8 * length xs → octet < 256 → bits_of ys ++ bits_in (octet / 2 ^ (8 - n % 8)) (n % 8) ≡ take n bits
-cut_octet xs ys last count octet n d bits v y o inside small =
-    let whole = n / 8 in
-    let kept = n % 8 in
-    let place : n ≡ 8 * whole + kept = omega arith in
-    sym (ap (take n) (sym v) ∙ ap (λ (k : ℕ). take k (bits_of xs ++ bits_in last count)) place ∙ cut_in_octet xs (bits_in last count) whole kept d (omega arith) (omega arith) (subst (λ (m : ℕ). m < 256) o small) ∙ ap (λ (m : ℕ). bits_of (take whole xs) ++ bits_in (m / 2 ^ (8 - kept)) kept) (sym o) ∙ ap (λ (zs : List ℕ). bits_of zs ++ bits_in (octet / 2 ^ (8 - kept)) kept) (sym y))
-
--- what is left of an octet, or of a few bits, fits in the bits that are kept
-pub cut_low : (n kept width : ℕ) → kept ≤ width → n < 2 ^ width → n / 2 ^ (width - kept) < 2 ^ kept
-cut_low n kept width few small =
-    let sum : width ≡ kept + (width - kept) = omega arith in
-    shr_below n kept (width - kept) (subst (λ (w : ℕ). n < 2 ^ w) sum small)

@@ -1,13 +1,13 @@
 //! Bits that are written one after another, most significant first.
-ghost use Rattle.std.specs.Prelude.{◌≡◌, ◌≤◌, ◌<◌, ◌+◌, ◌*◌, ◌/◌, ◌%◌, ◌^◌, ◌++◌, [], Bool, List, ℕ, length, take, slice_index, vec_len, vec_capacity, OnOk, OnErr};
+ghost use Rattle.std.specs.Prelude.{◌≡◌, ◌≤◌, ◌<◌, ◌+◌, ◌*◌, ◌/◌, ◌%◌, ◌^◌, ◌++◌, [], Bool, List, ℕ, length, slice_index, vec_len, vec_capacity, OnOk, OnErr};
 ghost use Rattle.bufr_bits.specs.Bits.{bits_of, bits_in, bits_at, number_of, padding};
 
 use crate::append::put;
 use std::alloc::{AllocError, Global};
 use std::marker::Model;
 
-/// Bits that are written one after another. A contract sees the list of the bits; there are at
-/// most 2^63 of them.
+/// Bits that are written one after another, at most 2^63 of them. A contract sees the bits, and for
+/// how many more there is room.
 ///
 /// ```
 /// let mut bits = BitWriter::new(rt.alloc());
@@ -29,11 +29,14 @@ pub struct BitWriter {
 impl Model for BitWriter {
     ghost use Rattle.std.specs.Prelude.{◌≤◌, ◌<◌, ◌+◌, ◌*◌, ◌/◌, ◌^◌, ◌++◌, List, Bool, vec_len, vec_capacity};
     ghost use Rattle.bufr_bits.specs.Bits.{bits_of, bits_in};
-    ghost use Rattle.bufr_bits.specs.Writing.{IsWriting};
+    ghost use Rattle.bufr_bits.specs.Writing.{BitWriterModel, IsWriting, room_after};
 
-    ghost Value = { List Bool };
+    ghost Value = { BitWriterModel };
 
-    ghost view = { λ w. bits_of w.octets.items ++ bits_in w.last w.count };
+    ghost view = { λ w. record {
+      bits = bits_of w.octets.items ++ bits_in w.last w.count;
+      room = room_after (vec_len w.octets) (vec_capacity w.octets) w.count;
+    } };
 
     ghost invariant = { λ w. IsWriting (vec_len w.octets) (vec_capacity w.octets) w.last w.count
         w.free };
@@ -42,7 +45,7 @@ impl Model for BitWriter {
 impl BitWriter {
     /// A writer of no bits yet. It takes no memory.
     pub fn new(alloc: Global) -> BitWriter
-        ensures { result ≡ [] }
+        ensures { result.bits ≡ [] }
     {
         BitWriter {
             octets: Vec::new(alloc),
@@ -54,9 +57,94 @@ impl BitWriter {
 
     /// How many bits were written.
     pub fn len_bits(&self) -> u64
-        ensures { result ≡ length self.now }
+        ensures { result ≡ length self.now.bits }
     {
         8 * self.octets.len() as u64 + u64::from(self.count)
+    }
+
+    /// Makes room for so many more bits. With these there are at most 2^63 bits.
+    ///
+    /// # Errors
+    ///
+    /// [`AllocError`] where the writer could not grow.
+    #[inline(always)]
+    pub fn reserve(&mut self, bits: u64) -> Result<(), AllocError>
+        requires { length self.old.bits + bits ≤ 2 ^ 63 }
+        ensures bits { self.new.bits ≡ self.old.bits }
+        ensures room { OnOk result (bits ≤ self.new.room) }
+    {
+        if bits <= u64::from(self.free) {
+            return Ok(());
+        }
+        self.grow(bits)
+    }
+
+    /// The same, where the bits after the octets do not have the room.
+    fn grow(&mut self, bits: u64) -> Result<(), AllocError>
+        requires { length self.old.bits + bits ≤ 2 ^ 63 }
+        ensures bits { self.new.bits ≡ self.old.bits }
+        ensures room { OnOk result (bits ≤ self.new.room) }
+    {
+        self.octets.reserve((bits / 8) as usize + 16)?;
+        self.free = 63 - self.count;
+        Ok(())
+    }
+
+    /// Appends the `width` bits that write `value`, most significant first, where there is room for
+    /// them. The width is at most 63, and the value is below 2^`width`.
+    #[inline(always)]
+    pub fn put(&mut self, value: u64, width: u32)
+        requires width { width ≤ 63 }
+        requires value { value < 2 ^ width }
+        requires room { width ≤ self.old.room }
+        ensures bits { self.new.bits ≡ self.old.bits ++ bits_in value width }
+        ensures len { length self.new.bits ≡ length self.old.bits + width }
+        ensures room { self.old.room ≤ self.new.room + width }
+    {
+        if width > self.free {
+            self.put_over(value, width);
+        } else {
+            self.last = (self.last << width) + value;
+            self.count += width;
+            self.free -= width;
+        }
+    }
+
+    /// The same, where the bits fill a number of 64 bits.
+    #[inline(never)]
+    fn put_over(&mut self, value: u64, width: u32)
+        requires width { width ≤ 63 }
+        requires value { value < 2 ^ width }
+        requires room { width ≤ self.old.room }
+        ensures bits { self.new.bits ≡ self.old.bits ++ bits_in value width }
+        ensures len { length self.new.bits ≡ length self.old.bits + width }
+        ensures room { self.old.room ≤ self.new.room + width }
+    {
+        let (last, count) = put_bits(&mut self.octets, self.last, self.count, value, width);
+        self.free = free_after(&self.octets, count);
+        self.last = last;
+        self.count = count;
+    }
+
+    /// Appends the bits of octets, where there is room for them.
+    pub fn put_octets(&mut self, octets: &[u8])
+        requires { 8 * length octets.now ≤ self.old.room }
+        ensures bits { self.new.bits ≡ self.old.bits ++ bits_of octets.now }
+        ensures len { length self.new.bits ≡ length self.old.bits + 8 * length octets.now }
+        ensures room { self.old.room ≤ self.new.room + 8 * length octets.now }
+    {
+        if self.count % 8 == 0 {
+            put_last(&mut self.octets, self.last, self.count);
+            put(&mut self.octets, octets);
+            self.free = free_after(&self.octets, 0);
+            self.last = 0;
+            self.count = 0;
+        } else {
+            let (last, count) = append_shifted(&mut self.octets, self.last, self.count, octets);
+            self.free = free_after(&self.octets, count);
+            self.last = last;
+            self.count = count;
+        }
     }
 
     /// Appends the `width` bits that write `value`, most significant first. The width is at most
@@ -64,40 +152,35 @@ impl BitWriter {
     ///
     /// # Errors
     ///
-    /// [`AllocError`] where the writer could not grow; it is then unchanged.
+    /// [`AllocError`] where the writer could not grow; its bits are then unchanged.
     #[inline(always)]
     pub fn push(&mut self, value: u64, width: u32) -> Result<(), AllocError>
         requires width { width ≤ 63 }
         requires value { value < 2 ^ width }
-        requires room { length self.old + width ≤ 2 ^ 63 }
-        ensures ok { OnOk result (self.new ≡ self.old ++ bits_in value width) }
-        ensures len { OnOk result (length self.new ≡ length self.old + width) }
-        ensures err { OnErr result (self.new ≡ self.old) }
+        requires room { length self.old.bits + width ≤ 2 ^ 63 }
+        ensures ok { OnOk result (self.new.bits ≡ self.old.bits ++ bits_in value width) }
+        ensures len { OnOk result (length self.new.bits ≡ length self.old.bits + width) }
+        ensures err { OnErr result (self.new.bits ≡ self.old.bits) }
     {
         if width > self.free {
             return self.push_over(value, width);
         }
-        self.last = (self.last << width) + value;
-        self.count += width;
-        self.free -= width;
+        self.put(value, width);
         Ok(())
     }
 
-    /// The same, where room is made first or the bits fill a number of 64 bits.
+    /// The same, where the bits fill a number of 64 bits.
     #[inline(never)]
     fn push_over(&mut self, value: u64, width: u32) -> Result<(), AllocError>
         requires width { width ≤ 63 }
         requires value { value < 2 ^ width }
-        requires room { length self.old + width ≤ 2 ^ 63 }
-        ensures ok { OnOk result (self.new ≡ self.old ++ bits_in value width) }
-        ensures len { OnOk result (length self.new ≡ length self.old + width) }
-        ensures err { OnErr result (self.new ≡ self.old) }
+        requires room { length self.old.bits + width ≤ 2 ^ 63 }
+        ensures ok { OnOk result (self.new.bits ≡ self.old.bits ++ bits_in value width) }
+        ensures len { OnOk result (length self.new.bits ≡ length self.old.bits + width) }
+        ensures err { OnErr result (self.new.bits ≡ self.old.bits) }
     {
-        self.octets.reserve(16)?;
-        let (last, count) = put_bits(&mut self.octets, self.last, self.count, value, width);
-        self.last = last;
-        self.count = count;
-        self.free = 63 - count;
+        self.grow(u64::from(width))?;
+        self.put_over(value, width);
         Ok(())
     }
 
@@ -105,55 +188,23 @@ impl BitWriter {
     ///
     /// # Errors
     ///
-    /// [`AllocError`] where the writer could not grow; it is then unchanged.
+    /// [`AllocError`] where the writer could not grow; its bits are then unchanged.
     pub fn push_octets(&mut self, octets: &[u8]) -> Result<(), AllocError>
-        requires { length self.old + 8 * length octets.now ≤ 2 ^ 63 }
-        ensures ok { OnOk result (self.new ≡ self.old ++ bits_of octets.now) }
-        ensures len { OnOk result (length self.new ≡ length self.old + 8 * length octets.now) }
-        ensures err { OnErr result (self.new ≡ self.old) }
+        requires { length self.old.bits + 8 * length octets.now ≤ 2 ^ 63 }
+        ensures ok { OnOk result (self.new.bits ≡ self.old.bits ++ bits_of octets.now) }
+        ensures len { OnOk result
+            (length self.new.bits ≡ length self.old.bits + 8 * length octets.now) }
+        ensures err { OnErr result (self.new.bits ≡ self.old.bits) }
     {
-        self.octets.reserve(octets.len() + 16)?;
-        if self.count % 8 == 0 {
-            put_last(&mut self.octets, self.last, self.count);
-            put(&mut self.octets, octets);
-            self.last = 0;
-            self.count = 0;
-            self.free = 63;
-        } else {
-            let (last, count) = append_shifted(&mut self.octets, self.last, self.count, octets);
-            self.last = last;
-            self.count = count;
-            self.free = 63 - count;
-        }
+        self.reserve(8 * octets.len() as u64)?;
+        self.put_octets(octets);
         Ok(())
-    }
-
-    /// Keeps the first `bits` of the bits, or all of them where there are no more. It takes no
-    /// memory.
-    pub fn truncate(&mut self, bits: u64)
-        ensures bits { self.new ≡ take bits self.old }
-    {
-        let before = 8 * self.octets.len() as u64;
-        if bits >= before {
-            if bits - before < u64::from(self.count) {
-                let kept = (bits - before) as u32;
-                self.last >>= self.count - kept;
-                self.count = kept;
-            }
-            return;
-        }
-        let whole = (bits / 8) as usize;
-        let kept = (bits % 8) as u32;
-        self.last = u64::from(self.octets[whole]) >> (8 - kept);
-        self.octets.truncate(whole);
-        self.count = kept;
-        self.free = 0;
     }
 
     /// The octets of the bits, with zero bits up to the next octet. It takes no memory.
     pub fn into_octets(self) -> Vec<u8>
-        ensures bits { bits_of result.items ≡ self ++ padding (length self) }
-        ensures len { vec_len result ≡ (length self + 7) / 8 }
+        ensures bits { bits_of result.items ≡ self.bits ++ padding (length self.bits) }
+        ensures len { vec_len result ≡ (length self.bits + 7) / 8 }
     {
         let BitWriter {
             mut octets,
@@ -166,6 +217,17 @@ impl BitWriter {
     }
 }
 
+/// How many more bits a number with `count` of them takes, where the octets have room for them.
+fn free_after(octets: &Vec<u8>, count: u32) -> u32
+    requires few { count < 64 }
+    requires room { 8 * vec_len octets.now + count ≤ 8 * vec_capacity octets.now }
+    ensures few { count + result < 64 }
+    ensures room { 8 * vec_len octets.now + count + result ≤ 8 * vec_capacity octets.now }
+{
+    let room = 8 * (octets.capacity() - octets.len()).min(8) as u32;
+    room.min(63) - count
+}
+
 /// Appends bits to those kept in a number, and returns those that are kept then. Where there are
 /// 64 of them, they go out as eight octets.
 fn put_bits(out: &mut Vec<u8>, last: u64, count: u32, value: u64, width: u32) -> (u64, u32)
@@ -173,13 +235,12 @@ fn put_bits(out: &mut Vec<u8>, last: u64, count: u32, value: u64, width: u32) ->
     requires low { last < 2 ^ count }
     requires width { width ≤ 63 }
     requires value { value < 2 ^ width }
-    requires room { vec_len out.old + 8 ≤ vec_capacity out.old }
+    requires room { 8 * vec_len out.old + count + width ≤ 8 * vec_capacity out.old }
     ensures bits { bits_of out.new.items ++ bits_in result.0 result.1
         ≡ bits_of out.old.items ++ bits_in last count ++ bits_in value width }
     ensures few { result.1 < 64 }
     ensures low { result.0 < 2 ^ result.1 }
     ensures len { 8 * vec_len out.new + result.1 ≡ 8 * vec_len out.old + count + width }
-    ensures eight { vec_len out.new ≤ vec_len out.old + 8 }
     ensures capacity { vec_capacity out.old ≤ vec_capacity out.new }
 {
     let free = 64 - count;
@@ -196,7 +257,8 @@ fn put_bits(out: &mut Vec<u8>, last: u64, count: u32, value: u64, width: u32) ->
 fn append_shifted(out: &mut Vec<u8>, last: u64, count: u32, octets: &[u8]) -> (u64, u32)
     requires few { count < 64 }
     requires low { last < 2 ^ count }
-    requires room { vec_len out.old + length octets.now + 16 ≤ vec_capacity out.old }
+    requires room { 8 * vec_len out.old + count + 8 * length octets.now
+        ≤ 8 * vec_capacity out.old }
     ensures bits { bits_of out.new.items ++ bits_in result.0 result.1
         ≡ bits_of out.old.items ++ bits_in last count ++ bits_of octets.now }
     ensures few { result.1 < 64 }

@@ -1,5 +1,5 @@
 -- One item of all subsets, as the code writes it.
-use Rattle.std.proofs.Common.{◌≡◌, ℕ, ◌+◌, ◌*◌, ◌<◌, ◌≤◌, ◌&&◌, Bool, true, false, List, [], ◌∷◌, length, get_or, Option, Some, None, Ok, Err, refl, sym, ◌∙◌, ap, arith}
+use Rattle.std.proofs.Common.{◌≡◌, ℕ, ◌+◌, ◌*◌, ◌<◌, ◌≤◌, ◌&&◌, Bool, true, false, List, [], ◌∷◌, length, get_or, Option, Some, None, Ok, Err, sym, ◌∙◌, ap, arith}
 use Rattle.std.specs.Prelude.{nat_lt, if◌then◌else◌}
 use Rattle.std.proofs.lemmas.Bool.Decides.{nat_tests}
 use Rattle.bufr_walk.specs.declared.spec.Taken.{Taken}
@@ -17,9 +17,7 @@ use Rattle.bufr_fill.specs.Encoding.{item_row, cells_at, contents_here, first_li
 use Rattle.bufr_fill.specs.PackedRows.{contents_drawn}
 use Rattle.bufr_fill.specs.Packing.{packing, packed_bits, packed_unlike, are_same}
 use Rattle.bufr_fill.specs.PlainOut.{IfDraftFault}
-use Rattle.bufr_fill.specs.Packs.{PutFault}
 use Rattle.bufr_fill.proofs.LeastLemmas.{content_self}
-use Rattle.bufr_fill.proofs.GrowthSteps.{grows_not}
 
 few_test : (a b : ℕ) → b ≤ a → nat_lt a b ≡ false
 few_test a b h = grind (arith, nat_tests)
@@ -40,9 +38,9 @@ module _ (spec : FieldSpec) (place : ℕ) (subsets : List Subset) where
         ap (λ b. if b then Err (at_line (first_line (cells_at place subsets)) (too_many_values spec.fxy)) else (contents_here spec (cells_at place subsets) >>= λ cs. packed_to cs (cells_at place subsets) (packing spec cs)))
         (few_test max_values ((place + 1) * length (cells_at place subsets)) few)
 
-    pub put_fault : (o : Option FaultAt) (old : List Bool) → IfDraftFault o (λ f. contents_here spec (cells_at place subsets) ≡ Err f) → PutFault o old old spec (item_row place subsets)
-    put_fault None old h = grows_not old old refl
-    put_fault (Some f) old h = (across_is ∙ ap (λ r. r >>= λ cs. packed_to cs (cells_at place subsets) (packing spec cs)) h, refl)
+    pub put_fault : (o : Option FaultAt) → IfDraftFault o (λ f. contents_here spec (cells_at place subsets) ≡ Err f) → IfDraftFault o (λ f. pack_across spec (item_row place subsets) ≡ Err f)
+    put_fault None h = tt
+    put_fault (Some f) h = across_is ∙ ap (λ r. r >>= λ cs. packed_to cs (cells_at place subsets) (packing spec cs)) h
 
     given : (cs : List Content) → contents_here spec (cells_at place subsets) ≡ Ok cs → pack_across spec (item_row place subsets) ≡ packed_to cs (cells_at place subsets) (packing spec cs)
     given cs h = across_is ∙ ap (λ r. r >>= λ cs. packed_to cs (cells_at place subsets) (packing spec cs)) h

@@ -37,9 +37,9 @@ pub mod Places
 pub mod PackSteps
 pub mod TextSteps
 pub mod CellSteps
+pub mod RangeSteps
 pub mod NumberSteps
 pub mod TextLeast
-pub mod GrowthSteps
 pub mod AcrossSteps
 pub mod PlainWalks
 pub mod TableRows

@@ -1,5 +1,5 @@
 -- Numbers are packed by the least base and the least k.
-use Rattle.std.proofs.Common.{◌≡◌, ℕ, zero, suc, ◌+◌, ◌-◌, ◌^◌, ◌<◌, ◌≤◌, ◌&&◌, max, Bool, true, false, List, [], ◌∷◌, ◌++◌, length, Option, Some, None, Ok, refl, sym, ◌∙◌, ap, arith, pow_mono, append_assoc}
+use Rattle.std.proofs.Common.{◌≡◌, ℕ, zero, suc, ◌+◌, ◌-◌, ◌^◌, ◌<◌, ◌≤◌, ◌&&◌, max, Bool, true, false, List, [], ◌∷◌, ◌++◌, length, Option, Some, None, Ok, refl, sym, ◌∙◌, ap, arith, pow_mono, append_assoc, subst}
 use Rattle.std.specs.Prelude.{nat_lt, if◌then◌else◌, unwrap_or}
 use Rattle.std.specs.List.{list_all, flat_map}
 use Rattle.std.proofs.lemmas.Bool.Decides.{nat_tests}
@@ -108,6 +108,14 @@ first_same p q (suc fuel) from h =
 pub least_is : (m : Bool) (base count : ℕ) (ds : List FieldContent) → least_k (has_bits m base) (contents_drawn count ds) ≡ least_from m (spread base ds) 1
 unfolding least_from
 least_is m base count ds = first_same (λ k. list_all (has_bits m base k) (contents_drawn count ds)) (λ k. nat_lt (spread base ds) (raw_limit m k)) (64 - 1) 1 (λ k h. all_have m base k count ds h)
+
+-- the least k of numbers has at most 63 bits, and writes each increment
+pub k_narrow : (spec : FieldSpec) → is_character spec.kind ≡ false → is_reference spec.role ≡ false → (base : ℕ) (ds : List FieldContent) (k : ℕ) → 1 ≤ spec.width → spec.width ≤ 63 → AllDrawn spec ds → k ≡ least_from spec.may_be_missing (spread base ds) 1 → k ≤ 63
+k_narrow spec number element base ds k some narrow all e = omega (arith, e, narrow, least_most spec.may_be_missing (spread base ds) spec.width some narrow (spread_under spec number element base ds some all))
+
+pub k_short : (spec : FieldSpec) → is_character spec.kind ≡ false → is_reference spec.role ≡ false → (base : ℕ) (ds : List FieldContent) (k : ℕ) → 1 ≤ spec.width → spec.width ≤ 63 → AllDrawn spec ds → k ≡ least_from spec.may_be_missing (spread base ds) 1 → AreShort base k ds
+k_short spec number element base ds k some narrow all e =
+    subst (λ n. AreShort base n ds) (sym e) (all_short spec.may_be_missing base (least_from spec.may_be_missing (spread base ds) 1) ds (least_fits spec.may_be_missing (spread base ds) spec.width some narrow (spread_under spec number element base ds some all)))
 
 kind_packed : (kd : Kind) (spec : FieldSpec) (cs : List Content) → is_character kd ≡ false → packed_by kd spec cs ≡ Ok (numbers_over spec.may_be_missing spec.width (unwrap_or (lowest cs) 0) cs)
 kind_packed kind.Character spec cs h = absurd cc

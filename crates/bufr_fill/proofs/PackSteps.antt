@@ -1,20 +1,20 @@
 -- Steps of the code that packs the contents of an item.
-use Rattle.std.proofs.Common.{◌≡◌, ℕ, zero, suc, ◌+◌, ◌-◌, ◌*◌, ◌/◌, ◌%◌, ◌<◌, ◌≤◌, ◌&&◌, max, Bool, true, false, List, [], ◌∷◌, ◌++◌, length, take, drop, get_or, replicate, Option, Some, None, refl, sym, ◌∙◌, ap, arith, add-one, append_assoc, ℤ}
-use Rattle.std.specs.Prelude.{nat_lt, if◌then◌else◌, min}
+use Rattle.std.proofs.Common.{◌≡◌, ℕ, zero, suc, ◌+◌, ◌-◌, ◌*◌, ◌/◌, ◌%◌, ◌<◌, ◌≤◌, ◌&&◌, max, Bool, true, false, List, [], ◌∷◌, ◌++◌, length, take, drop, get_or, replicate, refl, sym, ◌∙◌, ap, arith, add-one, append_assoc, ℤ}
+use Rattle.std.specs.Prelude.{nat_lt, if◌then◌else◌}
 use Rattle.std.specs.List.{flat_map}
+use Rattle.std.proofs.Math.Nat.{mul-le-mul_right}
 use Rattle.std.proofs.Math.Seq.{drop-cons}
 use Rattle.std.proofs.lemmas.Bool.Decides.{nat_tests}
 use Rattle.std.proofs.lemmas.List.{append-nil}
 use Rattle.std.proofs.lemmas.List.{take-replicate}
 use Rattle.bufr_bits.specs.Bits.{bits_of}
 use Rattle.bufr_fill.specs.declared.field_value.FieldContent.{FieldContent}
-use Rattle.bufr_fill.specs.declared.field_value.FieldContent.TheVariants as drawn
 use Rattle.bufr_walk.specs.FieldSpec.{FieldSpec}
 use Rattle.bufr_walk.specs.Content.{Content, reference}
 use Rattle.bufr_fill.specs.FieldContent.{content_drawn, IsDrawn}
 use Rattle.bufr_fill.specs.PackedRows.{AllDrawn, contents_drawn}
-use Rattle.bufr_fill.specs.Packing.{same, are_same, smaller, lowest, raw_limit, first_from}
-use Rattle.bufr_fill.specs.Packs.{over_of, spread, lesser, number_in, need_of, most_need, FitsIncrement, AreShort, least_from}
+use Rattle.bufr_fill.specs.Packing.{same, are_same, raw_limit, first_from}
+use Rattle.bufr_fill.specs.Packs.{need_of, most_need, FitsIncrement, AreShort, least_from}
 use Rattle.bufr_fill.proofs.LeastLemmas.{content_same, content_self}
 
 -- references that are equal, and those that are not
@@ -40,43 +40,6 @@ drop_all [] zero h = refl
 drop_all [] (suc n) h = refl
 drop_all (x ∷ xs) zero h = absurd (omega (arith, h))
 drop_all (x ∷ xs) (suc n) h = drop_all xs n (omega (arith, h))
-
--- the least number so far, and of those that are left
-lesser_one : (count : ℕ) (o : Option ℕ) (d : FieldContent) (ds : List FieldContent) → lesser (lesser o (number_in d)) (lowest (contents_drawn count ds)) ≡ lesser o (lowest (content_drawn count d ∷ contents_drawn count ds))
-lesser_one count None (drawn.Number n) ds = refl
-lesser_one count None (drawn.Text t) ds = refl
-lesser_one count None drawn.Missing ds = refl
-lesser_one count None (drawn.Reference v) ds = refl
-lesser_one count (Some m) (drawn.Number n) ds = by (lowest (contents_drawn count ds))
-  where
-    by : (o : Option ℕ) → Some (smaller (min m n) o) ≡ Some (smaller m (Some (smaller n o)))
-    by None = refl
-    by (Some l) = let e : min (min m n) l ≡ min m (min n l) = omega arith in ap Some e
-lesser_one count (Some m) (drawn.Text t) ds = refl
-lesser_one count (Some m) drawn.Missing ds = refl
-lesser_one count (Some m) (drawn.Reference v) ds = refl
-
-pub lowest_more : (ds : List FieldContent) (i : ℕ) (d : FieldContent) (o next : Option ℕ) → i < length ds → d ≡ get_or ds i d → ((count : ℕ) → lesser o (lowest (contents_drawn count (drop i ds))) ≡ lowest (contents_drawn count ds)) → next ≡ lesser o (number_in d)
-    → (count : ℕ) → lesser next (lowest (contents_drawn count (drop (i + 1) ds))) ≡ lowest (contents_drawn count ds)
-lowest_more ds i d o next h e inv is count =
-    ap (λ x. lesser x (lowest (contents_drawn count (drop (i + 1) ds)))) is
-    ∙ lesser_one count o d (drop (i + 1) ds)
-    ∙ ap (λ xs. lesser o (lowest (contents_drawn count xs))) (sym (at_place ds i d h e))
-    ∙ inv count
-
-lesser_none : (o : Option ℕ) → lesser o None ≡ o
-lesser_none None = refl
-lesser_none (Some n) = refl
-
-pub lowest_done : (ds : List FieldContent) (i : ℕ) (o : Option ℕ) → length ds ≤ i → ((count : ℕ) → lesser o (lowest (contents_drawn count (drop i ds))) ≡ lowest (contents_drawn count ds)) → (count : ℕ) → o ≡ lowest (contents_drawn count ds)
-lowest_done ds i o h inv count = sym (lesser_none o) ∙ ap (λ xs. lesser o (lowest (contents_drawn count xs))) (sym (drop_all ds i h)) ∙ inv count
-
--- the greatest increment so far, and of those that are left
-pub spread_more : (base : ℕ) (ds : List FieldContent) (i : ℕ) (d : FieldContent) (most one : ℕ) → i < length ds → d ≡ get_or ds i d → max most (spread base (drop i ds)) ≡ spread base ds → one ≡ over_of base d → max (max one most) (spread base (drop (i + 1) ds)) ≡ spread base ds
-spread_more base ds i d most one h e inv is = omega (arith, ap (spread base) (at_place ds i d h e), inv, is)
-
-pub spread_done : (base : ℕ) (ds : List FieldContent) (i most : ℕ) → length ds ≤ i → max most (spread base (drop i ds)) ≡ spread base ds → most ≡ spread base ds
-spread_done base ds i most h inv = omega (arith, ap (spread base) (drop_all ds i h), inv)
 
 -- the octets needed so far, and by those that are left
 pub need_more : (ds : List FieldContent) (i : ℕ) (d : FieldContent) (most one : ℕ) → i < length ds → d ≡ get_or ds i d → max most (most_need (drop i ds)) ≡ most_need ds → one ≡ need_of d → max (max one most) (most_need (drop (i + 1) ds)) ≡ most_need ds
@@ -151,6 +114,16 @@ flat_more f count old now new ds i z h inv is =
 pub flat_done : (f : Content → List Bool) (count : ℕ) (old now : List Bool) (ds : List FieldContent) (i : ℕ) → length ds ≤ i
     → now ++ flat_map f (contents_drawn count (drop i ds)) ≡ old ++ flat_map f (contents_drawn count ds) → now ≡ old ++ flat_map f (contents_drawn count ds)
 flat_done f count old now ds i h inv = sym (append-nil now) ∙ ap (λ xs. now ++ flat_map f (contents_drawn count xs)) (sym (drop_all ds i h)) ∙ inv
+
+-- n numbers of k bits, of which i were put: there is room for the next, and for those after it
+pub room_here : (n i k room : ℕ) → i < n → n * k ≤ room + i * k → k ≤ room
+room_here n i k room h e = let most = mul-le-mul_right k h in omega (arith, most, e)
+
+pub room_next : (n i k room next : ℕ) → n * k ≤ room + i * k → room ≤ next + k → n * k ≤ next + (i + 1) * k
+room_next n i k room next e h = omega (arith, e, h)
+
+pub few_bits : (n k most : ℕ) → k ≤ most → n * k ≤ most * n
+few_bits n k most h = let most = mul-le-mul_right n h in omega (arith, most)
 
 -- whether those that are left are the same as one
 pub alike_more : (count : ℕ) (c : Content) (ds : List FieldContent) (i : ℕ) (d : FieldContent) (b : Bool) → i < length ds → d ≡ get_or ds i d → are_same c (contents_drawn count ds) ≡ are_same c (contents_drawn count (drop i ds)) → same c (content_drawn count d) ≡ true

@@ -1,9 +1,10 @@
 -- The rows of all subsets, as the code reads them.
 -- Cited by private steps only.
-use Rattle.std.specs.Prelude.{ℕ, zero, suc, ◌≡◌, ◌++◌, List, [], ◌∷◌, length, drop, map, slice_get, Option, Some, None, Result, Ok, Err}
+use Rattle.std.specs.Prelude.{ℕ, zero, suc, ◌≡◌, ◌≤◌, ◌++◌, List, [], ◌∷◌, length, drop, map, slice_get, Option, Some, None, Result, Ok, Err}
 use Rattle.bufr_fill.specs.declared.fault.DraftFault.{DraftFault}
 use Rattle.bufr_fill.specs.declared.field_value.FieldContent.{FieldContent}
 use Rattle.bufr_fill.specs.declared.entries.EntryRef.{EntryRef}
+use Rattle.bufr_fill.specs.declared.packing.NumberRange.{NumberRange}
 use Rattle.bufr_walk.specs.FieldSpec.{FieldSpec}
 use Rattle.bufr_walk.specs.Content.{Content}
 use Rattle.bufr_fill.specs.Draft.{Draft}
@@ -12,6 +13,8 @@ use Rattle.bufr_fill.specs.Fault.{FaultAt}
 use Rattle.bufr_fill.specs.FieldContent.{content_drawn, IsDrawn}
 use Rattle.bufr_fill.specs.Encoding.{RowCell, cells_at, content_here, contents_here, first_unlike}
 use Rattle.bufr_fill.specs.PlainOut.{IfDraftFault}
+use Rattle.bufr_fill.specs.Packing.{lowest}
+use Rattle.bufr_fill.specs.Packs.{spread, least_from, AreShort}
 use Rattle.bufr_fill.specs.Kept.{entry_found}
 use Rattle.bufr_fill.specs.DraftFaults.{draft_fault}
 
@@ -85,12 +88,24 @@ pub record IsGathering (count : ℕ) (spec : FieldSpec) (cells : List RowCell) (
   pub all : AllDrawn spec drawn
   pub many : length drawn ≡ number
 
--- all cells were converted, or the first fault was returned
+-- the least number among contents, if there is one, and the greatest, or 0
+pub record IsRangeOf (range : NumberRange) (drawn : List FieldContent) : Type 0 where
+  pub least : (count : ℕ) → range.least ≡ lowest (contents_drawn count drawn)
+  pub greatest : range.greatest ≡ spread 0 drawn
+
+-- the least k whose bits write the increments of numbers over a base
+pub record IsIncrementWidth (spec : FieldSpec) (base : ℕ) (drawn : List FieldContent)
+    (k : ℕ) : Type 0 where
+  pub value : k ≡ least_from spec.may_be_missing (spread base drawn) 1
+  pub narrow : k ≤ 63
+  pub short : AreShort base k drawn
+
+-- all cells were converted, and the range of their numbers returned, or the first fault
 abbrev pub ReturnsRow : (count : ℕ) → FieldSpec → List RowCell → List FieldContent
-    → Result (Unit {0}) DraftFault → Type 0
-ReturnsRow count spec cells drawn (Ok _) =
+    → Result NumberRange DraftFault → Type 0
+ReturnsRow count spec cells drawn (Ok range) =
     (contents_here spec cells ≡ Ok (contents_drawn count drawn)) × AllDrawn spec drawn
-    × (length drawn ≡ length cells)
+    × (length drawn ≡ length cells) × IsRangeOf range drawn
 ReturnsRow count spec cells drawn (Err e) =
     IfDraftFault (draft_fault e) (λ f. contents_here spec cells ≡ Err f)
 

@@ -11,8 +11,8 @@ use Rattle.bufr_walk.specs.declared.spec.Taken.{Taken}
 use Rattle.bufr_fill.specs.declared.fault.DraftFault.{DraftFault}
 use Rattle.bufr_walk.specs.FieldSpec.{FieldSpec}
 use Rattle.bufr_fill.specs.Encoding.{ItemRow, pack_across}
-use Rattle.bufr_fill.specs.Fault.{FaultAt}
 use Rattle.bufr_fill.specs.PackedOut.{IsPutAcross}
+use Rattle.bufr_fill.specs.PlainOut.{IfDraftFault}
 use Rattle.bufr_fill.specs.DraftFaults.{draft_fault}
 use Rattle.bufr_walk.specs.PlainField.{FieldFault, increment, unequal_factor}
 
@@ -67,12 +67,7 @@ octet_in [] i = 32
 octet_in (o ∷ os) zero = o
 octet_in (o ∷ os) (suc i) = octet_in os i
 
--- the bits before are a prefix of those after
-abbrev pub ExtendsBits : (old new : List Bool) → Type 0
-ExtendsBits old new = (more : List Bool) × (new ≡ old ++ more)
-
--- an item was packed in at most `most` bits, or it cannot be; where memory ran out some of its
--- bits may follow the earlier ones
+-- an item was packed in at most `most` bits, or it cannot be, or memory ran out
 abbrev pub PacksItem : (old new : List Bool) → (expected : Result (List Bool) FieldFault)
     → (most : ℕ) → Result (Unit {0}) PackingFault → Type 0
 PacksItem old new expected most (Ok _) =
@@ -81,7 +76,7 @@ PacksItem old new expected most (Ok _) =
 PacksItem old new expected most (Err unpacked.Unequal) =
     (expected ≡ Err unequal_factor) × (new ≡ old)
 PacksItem old new expected most (Err unpacked.Uneven) = (expected ≡ Err increment) × (new ≡ old)
-PacksItem old new expected most (Err unpacked.Memory) = ExtendsBits old new
+PacksItem old new expected most (Err unpacked.Memory) = new ≡ old
 
 -- a content's increment over a base fits k bits
 abbrev pub FitsIncrement : (base k : ℕ) → FieldContent → Type 0
@@ -93,20 +88,15 @@ abbrev pub AreShort : (base k : ℕ) → List FieldContent → Type 0
 AreShort base k [] = Unit {0}
 AreShort base k (d ∷ ds) = FitsIncrement base k d × AreShort base k ds
 
--- the fault of an item of all subsets that was not written; where memory ran out some of its bits
--- may be
-abbrev pub PutFault : Option FaultAt → (old new : List Bool) → FieldSpec → ItemRow → Type 0
-PutFault None old new spec a = ExtendsBits old new
-PutFault (Some f) old new spec a = (pack_across spec a ≡ Err f) × (new ≡ old)
-
 -- the item of all subsets in a row was written, in at most `most` bits
 pub record IsPutWithin (old new : List Bool) (spec : FieldSpec) (a : ItemRow) (most : ℕ)
     (t : Taken) : Type 0 where
   pub put : IsPutAcross old new spec a t
   pub few : length put.item ≤ most
 
--- such an item was written, or it is at fault, or memory ran out
+-- such an item was written, or it is at fault, or memory ran out; a fault changes nothing
 abbrev pub PutAcross : (old new : List Bool) → FieldSpec → ItemRow → (most : ℕ)
     → Result Taken DraftFault → Type 0
 PutAcross old new spec a most (Ok t) = IsPutWithin old new spec a most t
-PutAcross old new spec a most (Err e) = PutFault (draft_fault e) old new spec a
+PutAcross old new spec a most (Err e) =
+    IfDraftFault (draft_fault e) (λ f. pack_across spec a ≡ Err f) × (new ≡ old)

@@ -4,7 +4,7 @@ ghost use Rattle.bufr_walk.specs.FieldSpec.{IsFor};
 ghost use Rattle.bufr_walk.specs.Reading.{max_values};
 ghost use Rattle.bufr_fill.specs.Encoding.{item_row, cells_at, contents_here};
 ghost use Rattle.bufr_fill.specs.Entries.{subsets_of};
-ghost use Rattle.bufr_fill.specs.PackedRows.{AllDrawn, contents_drawn};
+ghost use Rattle.bufr_fill.specs.PackedRows.{AllDrawn, contents_drawn, IsRangeOf};
 ghost use Rattle.bufr_fill.specs.Packs.{PutAcross};
 ghost use Rattle.bufr_fill.specs.PackedOut.{ends_of};
 
@@ -12,7 +12,7 @@ use crate::entries::{Entries, EntryRef};
 use crate::fault::DraftFault;
 use crate::field_value::FieldContent;
 use crate::packed_rows::{all_at_end, first_line, read_row, unlike_line};
-use crate::packing::{PackingFault, pack};
+use crate::packing::{NumberRange, PackingFault, pack};
 use crate::put::taken_of;
 use bufr_bits::BitWriter;
 use bufr_walk::{Fields, MAX_VALUES, Spec, Taken};
@@ -24,8 +24,7 @@ use std::marker::Model;
 /// (WMO-No. 306, Volume I.2, FM 94: section 4, compression)
 ///
 /// A contract sees it as the subsets, how many items of each were taken, and the bits of these
-/// items. A fault, [`DraftFault::Memory`] too, changes none of them: what was written of the item
-/// is removed again.
+/// items. A fault, [`DraftFault::Memory`] too, changes none of them.
 #[derive(Drop)]
 pub struct PackedOut<'s> {
     entries: &'s Entries,
@@ -48,10 +47,10 @@ impl<'s> Model for PackedOut<'s> {
     ghost view = { λ s. record {
       subsets = subsets_of s.entries.now;
       place = s.place;
-      bits = s.out;
+      bits = s.out.bits;
     } };
 
-    ghost invariant = { λ s. IsPackedOut s.entries.now s.ends.items s.place (length s.out) };
+    ghost invariant = { λ s. IsPackedOut s.entries.now s.ends.items s.place (length s.out.bits) };
 }
 
 /// The indices of the entries that end subsets.
@@ -75,6 +74,7 @@ fn put_drawn(
     place: usize,
     spec: &Spec,
     drawn: &[FieldContent<'_>],
+    range: NumberRange,
     out: &mut BitWriter,
 ) -> Result<Taken, DraftFault>
     requires ends { ends.now ≡ ends_of 0 entries.now }
@@ -85,14 +85,15 @@ fn put_drawn(
     requires given { contents_here spec.now (cells_at place (subsets_of entries.now))
         ≡ Ok (contents_drawn (spec.now.width / 8) drawn.now) }
     requires all { AllDrawn spec.now drawn.now }
+    requires range { IsRangeOf range drawn.now }
     requires many { length drawn.now ≡ length ends.now }
-    requires room { length out.old + (2046 + 504 * length ends.now) + 2040 ≤ 2 ^ 63 }
-    ensures put { PutAcross out.old out.new spec.now
+    requires room { length out.old.bits + (2046 + 504 * length ends.now) ≤ 2 ^ 63 }
+    ensures put { PutAcross out.old.bits out.new.bits spec.now
         (item_row place (subsets_of entries.now))
         (2046 + 504 * length ends.now) result }
     ensures shape { IfOk result (λ t. IsFor spec.now t) }
 {
-    match pack(out, drawn, spec) {
+    match pack(out, drawn, range, spec) {
         Ok(()) => Ok(taken_of(drawn[0], spec)),
         Err(PackingFault::Unequal) => Err(DraftFault::UnequalFactor(unlike_line(
             entries, ends, place, spec, drawn,
@@ -118,8 +119,8 @@ fn pack_next<'a>(
     requires some { 0 < length ends.now }
     requires values { place * length ends.now ≤ max_values }
     requires near { place ≤ 2 ^ 45 }
-    requires room { length out.old + (2046 + 504 * length ends.now) + 2040 ≤ 2 ^ 63 }
-    ensures put { PutAcross out.old out.new spec.now
+    requires room { length out.old.bits + (2046 + 504 * length ends.now) ≤ 2 ^ 63 }
+    ensures put { PutAcross out.old.bits out.new.bits spec.now
         (item_row place (subsets_of entries.now))
         (2046 + 504 * length ends.now) result }
     ensures shape { IfOk result (λ t. IsFor spec.now t) }
@@ -130,7 +131,7 @@ fn pack_next<'a>(
         return Err(DraftFault::TooManyValues(line, spec.fxy()));
     }
     match read_row(entries, ends, place, spec, found, drawn) {
-        Ok(()) => put_drawn(entries, ends, place, spec, drawn, out),
+        Ok(range) => put_drawn(entries, ends, place, spec, drawn, range, out),
         Err(why) => Err(why),
     }
 }
@@ -217,7 +218,6 @@ impl<'s> Fields for PackedOut<'s> {
     ghost refuses = { λ s spec e next h. ap (λ c. length c.bits) h.1 };
 
     fn take(&mut self, spec: &Spec) -> Result<Taken, DraftFault> {
-        let bits = self.out.len_bits();
         match pack_next(
             self.entries,
             &self.ends,
@@ -227,15 +227,11 @@ impl<'s> Fields for PackedOut<'s> {
             &mut self.drawn,
             &mut self.out,
         ) {
-            Ok(told) => {
+            Ok(taken) => {
                 self.place += 1;
-                Ok(told)
+                Ok(taken)
             }
-            Err(why) => {
-                // Memory may have run out inside the item.
-                self.out.truncate(bits);
-                Err(why)
-            }
+            Err(why) => Err(why),
         }
     }
 

@@ -11,7 +11,7 @@ use crate::draft::{DraftEntry, DraftItem};
 use crate::entries::{Entries, EntryRef};
 use crate::fault::{DraftFault, Expected, Wrong};
 use crate::field_value::{FieldContent, field_content, wrong_item};
-use crate::packing::is_same;
+use crate::packing::{NumberRange, is_same};
 use bufr_walk::Spec;
 use std::alloc::AllocError;
 
@@ -113,31 +113,33 @@ fn entries_of_row<'a>(
     Ok(())
 }
 
-/// Converts a row to the contents of a field.
+/// Converts a row to the contents of a field, and returns the range of the numbers among them.
 fn contents_of_row<'a>(
     found: &[EntryRef<'a>],
     spec: &Spec,
     drawn: &mut Vec<FieldContent<'a>>,
-) -> Result<(), DraftFault>
+) -> Result<NumberRange, DraftFault>
     ensures { (cells : List RowCell) → AreFound cells found.now →
         ReturnsRow (spec.now.width / 8) spec.now cells drawn.new.items result }
 {
     drawn.clear();
+    let mut range = NumberRange::new();
     for one in found {
         let content = match draw_found(*one, spec) {
             Ok(content) => content,
             Err(why) => return Err(why),
         };
+        range = range.with(content);
         match drawn.push(content) {
             Ok(()) => {}
             Err(_) => return Err(DraftFault::Memory),
         }
     }
-    Ok(())
+    Ok(range)
 }
 
-/// Converts the row at an index to the contents of a field; `ends` has the indices of the entries
-/// that end the subsets.
+/// Converts the row at an index to the contents of a field, and returns the range of the numbers
+/// among them; `ends` has the indices of the entries that end the subsets.
 pub(crate) fn read_row<'a>(
     entries: &'a Entries,
     ends: &[usize],
@@ -145,7 +147,7 @@ pub(crate) fn read_row<'a>(
     spec: &Spec,
     found: &mut Vec<EntryRef<'a>>,
     drawn: &mut Vec<FieldContent<'a>>,
-) -> Result<(), DraftFault>
+) -> Result<NumberRange, DraftFault>
     requires ends { ends.now ≡ ends_of 0 entries.now }
     requires few { length entries.now ≤ 2 ^ 45 }
     requires near { place ≤ 2 ^ 45 }

@@ -1,17 +1,18 @@
 //! The packing of the contents of one item for all subsets.
-ghost use Rattle.std.specs.Prelude.{ℕ, ◌≡◌, ◌≤◌, ◌<◌, ◌+◌, ◌-◌, ◌*◌, ◌/◌, ◌^◌, ◌++◌, ◌∷◌, [], true, false, length, map, take, replicate, nat_lt, OnOk, unwrap_or};
+ghost use Rattle.std.specs.Prelude.{ℕ, List, ◌≡◌, ◌≤◌, ◌<◌, ◌+◌, ◌-◌, ◌*◌, ◌/◌, ◌^◌, ◌++◌, ◌∷◌, [], true, false, length, map, take, replicate, nat_lt, OnOk, OnErr, unwrap_or};
 ghost use Rattle.std.specs.List.{list_all, flat_map};
 ghost use Rattle.bufr_bits.specs.Bits.{bits_in, bits_of};
 ghost use Rattle.bufr_tables.specs.TableB.{is_character};
 ghost use Rattle.bufr_walk.specs.FieldSpec.{is_reference};
 ghost use Rattle.bufr_fill.specs.FieldContent.{content_drawn, spaced, IsDrawn};
-ghost use Rattle.bufr_fill.specs.PackedRows.{AllDrawn, contents_drawn};
+ghost use Rattle.bufr_fill.specs.PackedRows.{AllDrawn, contents_drawn, IsRangeOf, IsIncrementWidth};
+ghost use Rattle.bufr_fill.specs.declared.field_value.FieldContent.{FieldContent};
 ghost use Rattle.bufr_fill.specs.Packing.{raw_limit, same, same_octets, are_same, lowest, first_from, least_k, has_bits, has_octets, increment_bits, octet_bits, packed_bits, numbers_over, packed_numbers, packed_texts, packed_by, packed_unlike, packing};
-ghost use Rattle.bufr_fill.specs.Packs.{over_of, spread, lesser, number_in, trimmed, need, need_of, most_need, octet_in, ExtendsBits, PacksItem, FitsIncrement, AreShort, least_from};
+ghost use Rattle.bufr_fill.specs.Packs.{over_of, spread, lesser, number_in, trimmed, need, need_of, most_need, octet_in, PacksItem, FitsIncrement, AreShort, least_from};
 ghost use Rattle.bufr_walk.specs.Content.{bits_for};
 
 use crate::field_value::{FieldContent, is_all_255, raw_limit};
-use crate::put::{push_drawn, push_full, with_spaces};
+use crate::put::{put_content, put_full, with_spaces};
 use bufr_bits::BitWriter;
 use bufr_walk::{Role, Spec};
 use std::alloc::AllocError;
@@ -22,7 +23,7 @@ pub(crate) enum PackingFault {
     Unequal,
     /// Its references differ, or its texts only after octet 63.
     Uneven,
-    /// Memory ran out, perhaps inside the item.
+    /// Memory ran out.
     Memory,
 }
 
@@ -82,12 +83,21 @@ pub(crate) fn is_same(one: FieldContent<'_>, other: FieldContent<'_>, spec: &Spe
 
 /// Whether all contents are the same as one.
 #[tactic(auto, using(crate::proofs::PackSteps::drawn_at, crate::proofs::PackSteps::alike_more, crate::proofs::PackSteps::alike_not, crate::proofs::PackSteps::alike_done))]
-fn are_alike(first: FieldContent<'_>, drawn: &[FieldContent<'_>], spec: &Spec) -> bool
+fn are_alike(
+    first: FieldContent<'_>,
+    drawn: &[FieldContent<'_>],
+    range: NumberRange,
+    spec: &Spec,
+) -> bool
     requires first { IsDrawn spec.now first }
     requires drawn { AllDrawn spec.now drawn.now }
+    requires range { IsRangeOf range drawn.now }
     ensures { result ≡ are_same (content_drawn (spec.now.width / 8) first.entry)
         (contents_drawn (spec.now.width / 8) drawn.now) }
 {
+    if range.least.unwrap_or(0) != range.greatest {
+        return false;
+    }
     for other in drawn {
         if !is_same(first, *other, spec) {
             return false;
@@ -97,6 +107,7 @@ fn are_alike(first: FieldContent<'_>, drawn: &[FieldContent<'_>], spec: &Spec) -
 }
 
 /// The lesser of a number, if there is one, and of a content, if that is a number.
+#[inline(always)]
 fn min_number(found: Option<u64>, drawn: FieldContent<'_>) -> Option<u64>
     ensures { result ≡ lesser found (number_in drawn.entry) }
 {
@@ -107,40 +118,50 @@ fn min_number(found: Option<u64>, drawn: FieldContent<'_>) -> Option<u64>
     }
 }
 
-/// The least of the numbers, if there is one.
-#[tactic(auto, using(crate::proofs::PackSteps::lowest_more, crate::proofs::PackSteps::lowest_done))]
-fn lowest_of(drawn: &[FieldContent<'_>]) -> Option<u64>
-    ensures { (count : ℕ) → result ≡ lowest (contents_drawn count drawn.now) }
-{
-    let mut found: Option<u64> = None;
-    for d in drawn {
-        found = min_number(found, *d);
-    }
-    found
-}
-
-/// The increment of a content over a base.
-fn increment_over(drawn: FieldContent<'_>, base: u64) -> u64
-    ensures { result ≡ over_of base drawn.entry }
+/// The number of a content, or 0.
+#[inline(always)]
+fn number_or_0(drawn: FieldContent<'_>) -> u64
+    ensures { result ≡ over_of 0 drawn.entry }
 {
     match drawn {
-        FieldContent::Number(raw) => raw.saturating_sub(base),
-        FieldContent::Text(_) => 0,
-        FieldContent::Missing => 0,
-        FieldContent::Reference(_) => 0,
+        FieldContent::Number(raw) => raw,
+        FieldContent::Text(_) | FieldContent::Missing | FieldContent::Reference(_) => 0,
     }
 }
 
-/// The greatest increment over a base.
-#[tactic(auto, using(crate::proofs::PackSteps::spread_more, crate::proofs::PackSteps::spread_done))]
-fn max_increment(drawn: &[FieldContent<'_>], base: u64) -> u64
-    ensures { result ≡ spread base drawn.now }
-{
-    let mut most: u64 = 0;
-    for d in drawn {
-        most = increment_over(*d, base).max(most);
+/// The least of the numbers of an item, if there is one, and the greatest, or 0.
+#[derive(Clone, Copy)]
+pub(crate) struct NumberRange {
+    least: Option<u64>,
+    greatest: u64,
+}
+
+impl NumberRange {
+    ghost use Rattle.std.specs.Prelude.{List, [], ◌∷◌, ◌++◌};
+    ghost use Rattle.bufr_fill.specs.declared.field_value.FieldContent.{FieldContent};
+    ghost use Rattle.bufr_fill.specs.PackedRows.{IsRangeOf};
+
+    /// The range of no contents.
+    pub(crate) fn new() -> NumberRange
+        ensures { IsRangeOf result [] }
+    {
+        NumberRange {
+            least: None,
+            greatest: 0,
+        }
     }
-    most
+
+    /// The range with one more content.
+    #[inline(always)]
+    pub(crate) fn with(self, drawn: FieldContent<'_>) -> NumberRange
+        ensures { (contents : List FieldContent) → IsRangeOf self contents
+            → IsRangeOf result (contents ++ drawn.entry ∷ []) }
+    {
+        NumberRange {
+            least: min_number(self.least, drawn),
+            greatest: number_or_0(drawn).max(self.greatest),
+        }
+    }
 }
 
 /// The least `k` from 1 to 63 whose bits write an increment, without all ones where that is
@@ -177,25 +198,31 @@ fn increment_of(drawn: FieldContent<'_>, base: u64, k: u32) -> u64
 
 /// Writes the increments over a base, each in `k` bits.
 #[tactic(auto, using(crate::proofs::PackSteps::short_at, crate::proofs::PackSteps::flat_done))]
-fn push_increments(
-    out: &mut BitWriter,
-    drawn: &[FieldContent<'_>],
-    base: u64,
-    k: u32,
-) -> Result<(), AllocError>
+fn put_increments(out: &mut BitWriter, drawn: &[FieldContent<'_>], base: u64, k: u32)
     requires narrow { k ≤ 63 }
     requires short { AreShort base k drawn.now }
-    requires room { length out.old + 63 * length drawn.now ≤ 2 ^ 63 }
-    ensures bits { (count : ℕ) → OnOk result
-        (out.new ≡ out.old ++ flat_map (increment_bits base k) (contents_drawn count drawn.now)) }
-    ensures most { OnOk result (length out.new ≤ length out.old + 63 * length drawn.now) }
-    ensures least { OnOk result (length out.old ≤ length out.new) }
-    ensures grown { ExtendsBits out.old out.new }
+    requires room { length drawn.now * k ≤ out.old.room }
+    ensures bits { (count : ℕ) → out.new.bits
+        ≡ out.old.bits ++ flat_map (increment_bits base k) (contents_drawn count drawn.now) }
+    ensures len { length out.new.bits ≡ length out.old.bits + length drawn.now * k }
 {
     for d in drawn {
-        out.push(increment_of(*d, base, k), k)?;
+        out.put(increment_of(*d, base, k), k);
     }
-    Ok(())
+}
+
+/// The least `k` whose bits write the increments of numbers of this range.
+fn increment_width(range: NumberRange, spec: &Spec) -> u32
+    requires number { is_character spec.now.kind ≡ false }
+    requires element { is_reference spec.now.role ≡ false }
+    ensures { (contents : List FieldContent) → AllDrawn spec.now contents
+        → IsRangeOf range contents
+        → IsIncrementWidth spec.now (unwrap_or range.least 0) contents result }
+{
+    // For the proof alone: a number has at most 63 bits.
+    let _width = spec.width();
+    let most = range.greatest.saturating_sub(range.least.unwrap_or(0));
+    least_bits(most, spec.may_be_missing())
 }
 
 /// Writes numbers that differ: the least of them, `k`, and the increments over it.
@@ -203,21 +230,24 @@ fn push_increments(
 fn pack_numbers(
     out: &mut BitWriter,
     drawn: &[FieldContent<'_>],
+    range: NumberRange,
     spec: &Spec,
 ) -> Result<(), PackingFault>
     requires number { is_character spec.now.kind ≡ false }
     requires element { is_reference spec.now.role ≡ false }
     requires drawn { AllDrawn spec.now drawn.now }
-    requires room { length out.old + (69 + 63 * length drawn.now) ≤ 2 ^ 63 }
-    ensures { PacksItem out.old out.new (packed_by spec.now.kind spec.now
+    requires range { IsRangeOf range drawn.now }
+    requires room { length out.old.bits + (69 + 63 * length drawn.now) ≤ 2 ^ 63 }
+    ensures { PacksItem out.old.bits out.new.bits (packed_by spec.now.kind spec.now
         (contents_drawn (spec.now.width / 8) drawn.now)) (69 + 63 * length drawn.now) result }
 {
-    let may_be_missing = spec.may_be_missing();
-    let base = lowest_of(drawn).unwrap_or(0);
-    let k = least_bits(max_increment(drawn, base), may_be_missing);
-    out.push(base, spec.width())?;
-    out.push(u64::from(k), 6)?;
-    push_increments(out, drawn, base, k)?;
+    let width = spec.width();
+    let base = range.least.unwrap_or(0);
+    let k = increment_width(range, spec);
+    out.reserve(u64::from(width) + 6 + drawn.len() as u64 * u64::from(k))?;
+    out.put(base, width);
+    out.put(u64::from(k), 6);
+    put_increments(out, drawn, base, k);
     Ok(())
 }
 
@@ -280,64 +310,50 @@ fn octets_needed(drawn: &[FieldContent<'_>], spec: &Spec) -> usize
 
 /// Writes the first octets of a text that spaces follow, or ones where the text is missing.
 #[tactic(auto, using(crate::proofs::PackSteps::eighth_most))]
-fn push_front(
-    out: &mut BitWriter,
-    drawn: FieldContent<'_>,
-    k: usize,
-    spec: &Spec,
-) -> Result<(), AllocError>
+fn put_prefix(out: &mut BitWriter, drawn: FieldContent<'_>, k: usize, spec: &Spec)
     requires few { k ≤ spec.now.width / 8 }
     requires drawn { IsDrawn spec.now drawn }
-    requires room { length out.old + 2040 ≤ 2 ^ 63 }
-    ensures bits { OnOk result
-        (out.new ≡ out.old ++ octet_bits k (content_drawn (spec.now.width / 8) drawn.entry)) }
-    ensures len { OnOk result (length out.new ≡ length out.old + 8 * k) }
-    ensures grown { ExtendsBits out.old out.new }
+    requires room { 8 * k ≤ out.old.room }
+    ensures bits { out.new.bits
+        ≡ out.old.bits ++ octet_bits k (content_drawn (spec.now.width / 8) drawn.entry) }
+    ensures len { length out.new.bits ≡ length out.old.bits + 8 * k }
+    ensures room { out.old.room ≤ out.new.room + 8 * k }
 {
     // For the proof alone: a text has at most 255 octets.
     let _width = spec.width();
     match drawn {
-        FieldContent::Text(octets) => out.push_octets(&with_spaces(octets)[..k]),
-        FieldContent::Number(_) => push_full(out, k),
-        FieldContent::Missing => push_full(out, k),
-        FieldContent::Reference(_) => push_full(out, k),
+        FieldContent::Text(octets) => out.put_octets(&with_spaces(octets)[..k]),
+        FieldContent::Number(_) => put_full(out, k),
+        FieldContent::Missing => put_full(out, k),
+        FieldContent::Reference(_) => put_full(out, k),
     }
 }
 
 /// Writes the first `k` octets of each text.
-fn push_fronts(
-    out: &mut BitWriter,
-    drawn: &[FieldContent<'_>],
-    k: usize,
-    spec: &Spec,
-) -> Result<(), AllocError>
+fn put_prefixes(out: &mut BitWriter, drawn: &[FieldContent<'_>], k: usize, spec: &Spec)
     requires few { k ≤ spec.now.width / 8 }
-    requires short { k ≤ 63 }
     requires drawn { AllDrawn spec.now drawn.now }
-    requires room { length out.old + 504 * length drawn.now + 2040 ≤ 2 ^ 63 }
-    ensures bits { OnOk result (out.new
-        ≡ out.old ++ flat_map (octet_bits k) (contents_drawn (spec.now.width / 8) drawn.now)) }
-    ensures most { OnOk result (length out.new ≤ length out.old + 504 * length drawn.now) }
-    ensures least { OnOk result (length out.old ≤ length out.new) }
-    ensures grown { ExtendsBits out.old out.new }
+    requires room { length drawn.now * (8 * k) ≤ out.old.room }
+    ensures bits { out.new.bits ≡ out.old.bits
+        ++ flat_map (octet_bits k) (contents_drawn (spec.now.width / 8) drawn.now) }
+    ensures len { length out.new.bits ≡ length out.old.bits + length drawn.now * (8 * k) }
 {
     for d in drawn {
-        push_front(out, *d, k, spec)?;
+        put_prefix(out, *d, k, spec);
     }
-    Ok(())
 }
 
 /// Writes zeros as wide as a text.
 #[tactic(auto, using(crate::proofs::PackSteps::zero_bits))]
-fn push_zeros(out: &mut BitWriter, spec: &Spec) -> Result<(), AllocError>
+fn put_zeros(out: &mut BitWriter, spec: &Spec)
     requires text { is_character spec.now.kind ≡ true }
-    requires room { length out.old + 2040 ≤ 2 ^ 63 }
-    ensures bits { OnOk result (out.new ≡ out.old ++ replicate spec.now.width false) }
-    ensures len { OnOk result (length out.new ≡ length out.old + spec.now.width) }
-    ensures grown { ExtendsBits out.old out.new }
+    requires room { spec.now.width ≤ out.old.room }
+    ensures bits { out.new.bits ≡ out.old.bits ++ replicate spec.now.width false }
+    ensures len { length out.new.bits ≡ length out.old.bits + spec.now.width }
+    ensures room { out.old.room ≤ out.new.room + spec.now.width }
 {
     let zeros = [0u8; 255];
-    out.push_octets(&zeros[..(spec.width() / 8) as usize])
+    out.put_octets(&zeros[..(spec.width() / 8) as usize]);
 }
 
 /// Writes texts that differ: a base of zero bits, `k`, and the first `k` octets of each.
@@ -350,19 +366,19 @@ fn pack_texts(
     requires text { is_character spec.now.kind ≡ true }
     requires element { is_reference spec.now.role ≡ false }
     requires drawn { AllDrawn spec.now drawn.now }
-    requires room { length out.old + (2046 + 504 * length drawn.now) + 2040 ≤ 2 ^ 63 }
-    ensures { PacksItem out.old out.new (packed_by spec.now.kind spec.now
+    requires room { length out.old.bits + (2046 + 504 * length drawn.now) ≤ 2 ^ 63 }
+    ensures { PacksItem out.old.bits out.new.bits (packed_by spec.now.kind spec.now
         (contents_drawn (spec.now.width / 8) drawn.now)) (2046 + 504 * length drawn.now) result }
 {
-    // For the proof alone: a text has at most 255 octets.
-    let _width = spec.width();
+    let width = spec.width();
     let k = octets_needed(drawn, spec);
     if k > 63 {
         return Err(PackingFault::Uneven);
     }
-    push_zeros(out, spec)?;
-    out.push(k as u64, 6)?;
-    push_fronts(out, drawn, k, spec)?;
+    out.reserve(u64::from(width) + 6 + drawn.len() as u64 * (8 * k as u64))?;
+    put_zeros(out, spec);
+    out.put(k as u64, 6);
+    put_prefixes(out, drawn, k, spec);
     Ok(())
 }
 
@@ -370,16 +386,17 @@ fn pack_texts(
 // rule: packs-equal, packs-all-missing
 fn pack_alike(out: &mut BitWriter, first: FieldContent<'_>, spec: &Spec) -> Result<(), AllocError>
     requires first { IsDrawn spec.now first }
-    requires room { length out.old + 2046 + 2040 ≤ 2 ^ 63 }
-    ensures bits { OnOk result (out.new ≡ out.old
+    requires room { length out.old.bits + 2046 ≤ 2 ^ 63 }
+    ensures bits { OnOk result (out.new.bits ≡ out.old.bits
         ++ (bits_for spec.now.width (content_drawn (spec.now.width / 8) first.entry)
         ++ (bits_in 0 6 ++ []))) }
-    ensures some { OnOk result (length out.old < length out.new) }
-    ensures most { OnOk result (length out.new ≤ length out.old + 2046) }
-    ensures grown { ExtendsBits out.old out.new }
+    ensures some { OnOk result (length out.old.bits < length out.new.bits) }
+    ensures most { OnOk result (length out.new.bits ≤ length out.old.bits + 2046) }
+    ensures err { OnErr result (out.new.bits ≡ out.old.bits) }
 {
-    push_drawn(out, first, spec)?;
-    out.push(0, 6)?;
+    out.reserve(u64::from(spec.width()) + 6)?;
+    put_content(out, first, spec);
+    out.put(0, 6);
     Ok(())
 }
 
@@ -388,11 +405,13 @@ fn pack_alike(out: &mut BitWriter, first: FieldContent<'_>, spec: &Spec) -> Resu
 fn pack_unlike(
     out: &mut BitWriter,
     drawn: &[FieldContent<'_>],
+    range: NumberRange,
     spec: &Spec,
 ) -> Result<(), PackingFault>
     requires drawn { AllDrawn spec.now drawn.now }
-    requires room { length out.old + (2046 + 504 * length drawn.now) + 2040 ≤ 2 ^ 63 }
-    ensures { PacksItem out.old out.new (packed_unlike spec.now.role spec.now
+    requires range { IsRangeOf range drawn.now }
+    requires room { length out.old.bits + (2046 + 504 * length drawn.now) ≤ 2 ^ 63 }
+    ensures { PacksItem out.old.bits out.new.bits (packed_unlike spec.now.role spec.now
         (contents_drawn (spec.now.width / 8) drawn.now)) (2046 + 504 * length drawn.now) result }
 {
     match spec.role() {
@@ -402,7 +421,7 @@ fn pack_unlike(
             if spec.is_text() {
                 pack_texts(out, drawn, spec)
             } else {
-                pack_numbers(out, drawn, spec)
+                pack_numbers(out, drawn, range, spec)
             }
         }
     }
@@ -414,18 +433,20 @@ fn pack_unlike(
 pub(crate) fn pack(
     out: &mut BitWriter,
     drawn: &[FieldContent<'_>],
+    range: NumberRange,
     spec: &Spec,
 ) -> Result<(), PackingFault>
     requires some { 1 ≤ length drawn.now }
     requires drawn { AllDrawn spec.now drawn.now }
-    requires room { length out.old + (2046 + 504 * length drawn.now) + 2040 ≤ 2 ^ 63 }
-    ensures { PacksItem out.old out.new (packing spec.now
+    requires range { IsRangeOf range drawn.now }
+    requires room { length out.old.bits + (2046 + 504 * length drawn.now) ≤ 2 ^ 63 }
+    ensures { PacksItem out.old.bits out.new.bits (packing spec.now
         (contents_drawn (spec.now.width / 8) drawn.now)) (2046 + 504 * length drawn.now) result }
 {
-    if are_alike(drawn[0], drawn, spec) {
+    if are_alike(drawn[0], drawn, range, spec) {
         pack_alike(out, drawn[0], spec)?;
         Ok(())
     } else {
-        pack_unlike(out, drawn, spec)
+        pack_unlike(out, drawn, range, spec)
     }
 }

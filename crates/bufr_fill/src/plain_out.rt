@@ -5,7 +5,7 @@ use crate::draft::DraftEntry;
 use crate::entries::Entries;
 use crate::fault::{DraftFault, Expected, Wrong};
 use crate::field_value::{FieldContent, field_content, wrong_item};
-use crate::put::{push_drawn, taken_of};
+use crate::put::{push_content, taken_of};
 use bufr_bits::BitWriter;
 use bufr_walk::{Fields, Spec, Taken};
 use std::alloc::Global;
@@ -34,9 +34,9 @@ impl<'s> Model for PlainOut<'s> {
 
     ghost Value = { PlainOutModel };
 
-    ghost view = { λ s. plain_out_model (drop s.place s.entries.now) s.out };
+    ghost view = { λ s. plain_out_model (drop s.place s.entries.now) s.out.bits };
 
-    ghost invariant = { λ s. IsPlainOut s.place (length s.entries.now) (length s.out) };
+    ghost invariant = { λ s. IsPlainOut s.place (length s.entries.now) (length s.out.bits) };
 }
 
 impl<'s> PlainOut<'s> {
@@ -130,7 +130,7 @@ impl<'s> Fields for PlainOut<'s> {
             Ok(drawn) => drawn,
             Err(why) => return Err(why.at(item.line)),
         };
-        match push_drawn(&mut self.out, drawn, spec) {
+        match push_content(&mut self.out, drawn, spec) {
             Ok(()) => {
                 self.place += 1;
                 Ok(taken_of(drawn, spec))

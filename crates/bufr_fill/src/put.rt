@@ -24,16 +24,16 @@ pub(crate) fn with_spaces(octets: &[u8]) -> [u8; 255]
 
 /// Writes a text, followed by spaces up to `count` octets.
 #[tactic(auto, using(crate::proofs::PutLemmas::spaced_front))]
-fn push_text(out: &mut BitWriter, octets: &[u8], count: usize) -> Result<(), AllocError>
+fn put_text(out: &mut BitWriter, octets: &[u8], count: usize)
     requires within { length octets.now ≤ count }
     requires most { count ≤ 255 }
-    requires room { length out.old + 2040 ≤ 2 ^ 63 }
-    ensures ok { OnOk result
-        (out.new ≡ out.old ++ bits_of (octets.now ++ replicate (count - length octets.now) 32)) }
-    ensures len { OnOk result (length out.new ≡ length out.old + 8 * count) }
-    ensures err { OnErr result (out.new ≡ out.old) }
+    requires room { 8 * count ≤ out.old.room }
+    ensures bits { out.new.bits
+        ≡ out.old.bits ++ bits_of (octets.now ++ replicate (count - length octets.now) 32) }
+    ensures len { length out.new.bits ≡ length out.old.bits + 8 * count }
+    ensures room { out.old.room ≤ out.new.room + 8 * count }
 {
-    out.push_octets(&with_spaces(octets)[..count])
+    out.put_octets(&with_spaces(octets)[..count]);
 }
 
 /// The bits of a sign and a magnitude, as a number.
@@ -57,56 +57,76 @@ fn signed_bits(value: i64, width: u32) -> u64
 
 /// Writes `count` octets of ones.
 #[tactic(auto, using(crate::proofs::PutLemmas::full_bits))]
-pub(crate) fn push_full(out: &mut BitWriter, count: usize) -> Result<(), AllocError>
+pub(crate) fn put_full(out: &mut BitWriter, count: usize)
     requires most { count ≤ 255 }
-    requires room { length out.old + 2040 ≤ 2 ^ 63 }
-    ensures ok { OnOk result (out.new ≡ out.old ++ replicate (8 * count) true) }
-    ensures len { OnOk result (length out.new ≡ length out.old + 8 * count) }
-    ensures err { OnErr result (out.new ≡ out.old) }
+    requires room { 8 * count ≤ out.old.room }
+    ensures bits { out.new.bits ≡ out.old.bits ++ replicate (8 * count) true }
+    ensures len { length out.new.bits ≡ length out.old.bits + 8 * count }
+    ensures room { out.old.room ≤ out.new.room + 8 * count }
 {
     let ones = [255u8; 255];
-    out.push_octets(&ones[..count])
+    out.put_octets(&ones[..count]);
 }
 
 /// Writes a missing value.
 #[tactic(auto, using(crate::proofs::PutLemmas::eighths_ones, crate::proofs::DrawnLemmas::ones_bits))]
-fn push_missing(out: &mut BitWriter, spec: &Spec) -> Result<(), AllocError>
-    requires room { length out.old + 2040 ≤ 2 ^ 63 }
-    ensures ok { OnOk result (out.new ≡ out.old ++ replicate spec.now.width true) }
-    ensures len { OnOk result (length out.new ≡ length out.old + spec.now.width) }
-    ensures err { OnErr result (out.new ≡ out.old) }
+fn put_missing(out: &mut BitWriter, spec: &Spec)
+    requires room { spec.now.width ≤ out.old.room }
+    ensures bits { out.new.bits ≡ out.old.bits ++ replicate spec.now.width true }
+    ensures len { length out.new.bits ≡ length out.old.bits + spec.now.width }
+    ensures room { out.old.room ≤ out.new.room + spec.now.width }
 {
     let width = spec.width();
     if spec.is_text() {
-        push_full(out, (width / 8) as usize)
+        put_full(out, (width / 8) as usize);
     } else {
-        out.push((1u64 << width) - 1, width)
+        out.put((1u64 << width) - 1, width);
     }
 }
 
 /// Writes the content of a field, in the field's bits.
 #[inline(always)]
 #[tactic(auto, using(crate::proofs::DrawLemmas::drawn_narrow))]
-pub(crate) fn push_drawn(
+pub(crate) fn put_content(out: &mut BitWriter, drawn: FieldContent<'_>, spec: &Spec)
+    requires drawn { IsDrawn spec.now drawn }
+    requires room { spec.now.width ≤ out.old.room }
+    ensures bits { out.new.bits
+        ≡ out.old.bits ++ bits_for spec.now.width (content_drawn (spec.now.width / 8) drawn.entry) }
+    ensures len { length out.new.bits ≡ length out.old.bits + spec.now.width }
+    ensures room { out.old.room ≤ out.new.room + spec.now.width }
+{
+    let width = spec.width();
+    match drawn {
+        FieldContent::Number(raw) => out.put(raw, width),
+        FieldContent::Text(octets) => put_text(out, octets, (width / 8) as usize),
+        FieldContent::Missing => put_missing(out, spec),
+        FieldContent::Reference(value) => out.put(signed_bits(value, width), width),
+    }
+}
+
+/// Makes room for the content of a field, and writes it in the field's bits.
+#[inline(always)]
+#[tactic(auto, using(crate::proofs::DrawLemmas::drawn_narrow))]
+pub(crate) fn push_content(
     out: &mut BitWriter,
     drawn: FieldContent<'_>,
     spec: &Spec,
 ) -> Result<(), AllocError>
     requires drawn { IsDrawn spec.now drawn }
-    requires room { length out.old + 2040 ≤ 2 ^ 63 }
-    ensures ok { OnOk result (out.new
-        ≡ out.old ++ bits_for spec.now.width (content_drawn (spec.now.width / 8) drawn.entry)) }
-    ensures some { OnOk result (length out.old < length out.new) }
-    ensures most { OnOk result (length out.new ≤ length out.old + 2040) }
-    ensures err { OnErr result (out.new ≡ out.old) }
+    requires room { length out.old.bits + 2040 ≤ 2 ^ 63 }
+    ensures ok { OnOk result (out.new.bits ≡ out.old.bits
+        ++ bits_for spec.now.width (content_drawn (spec.now.width / 8) drawn.entry)) }
+    ensures some { OnOk result (length out.old.bits < length out.new.bits) }
+    ensures most { OnOk result (length out.new.bits ≤ length out.old.bits + 2040) }
+    ensures err { OnErr result (out.new.bits ≡ out.old.bits) }
 {
     let width = spec.width();
-    match drawn {
-        FieldContent::Number(raw) => out.push(raw, width),
-        FieldContent::Text(octets) => push_text(out, octets, (width / 8) as usize),
-        FieldContent::Missing => push_missing(out, spec),
-        FieldContent::Reference(value) => out.push(signed_bits(value, width), width),
+    if let FieldContent::Number(raw) = drawn {
+        return out.push(raw, width);
     }
+    out.reserve(u64::from(width))?;
+    put_content(out, drawn, spec);
+    Ok(())
 }
 
 /// The count of a factor's content.

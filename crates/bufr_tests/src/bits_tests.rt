@@ -122,28 +122,19 @@ fn push_octets(rt: &impl Runtime, writer: &mut BitWriter, octets: &[u8])
     ok(rt, writer.push_octets(octets));
 }
 
-/// Nineteen bits cut at a length, if they are longer, and a one after them.
-fn cut_at(rt: &impl Runtime, bits: u32) -> Vec<u8> {
-    let mut writer = BitWriter::new(rt.alloc());
-    push_octets(rt, &mut writer, &[0xA5, 0xFF]);
-    push_lowest(rt, &mut writer, 5, 3);
-    writer.truncate(u64::from(bits));
-    assert_same(rt, &writer.len_bits(), &u64::from(bits.min(19)), &bits);
-    push_lowest(rt, &mut writer, 1, 1);
-    writer.into_octets()
-}
-
-/// The last octet is padded with zeros.
+/// Bits for which there is room are those of a push.
 #[test]
-fn bits_are_truncated(rt: HostRuntime) {
-    for bits in 0..22u32 {
-        let octets = cut_at(&rt, bits);
-        assert!(rt; octets.len() < 4);
-        let left = bits.min(19);
-        let number = (0x5_2FFD >> (19 - left)) * 2 + 1;
-        assert_number(&rt, &octets, 0, left + 1, Some(number));
-        assert_number(&rt, &octets, u64::from(left + 1), 7 - left % 8, Some(0));
+fn bits_are_put_where_there_is_room(rt: HostRuntime) {
+    let mut writer = BitWriter::new(rt.alloc());
+    if writer.reserve(91).is_ok() {
+        writer.put(0x5_2FFD, 20);
+        writer.put_octets(&[0xA5]);
+        writer.put(1, 63);
     }
+    let octets = writer.into_octets();
+    assert_number(&rt, &octets, 0, 28, Some(0x52_FFDA5));
+    assert_number(&rt, &octets, 28, 63, Some(1));
+    assert_number(&rt, &octets, 91, 5, Some(0));
 }
 
 /// Of these the lowest bits are pushed at each width.

@@ -19,7 +19,7 @@ returns-then-place-ends-gt-MAX_VALUES-clause-put c =
 pub returns-in-Err-clause-put : goal.returns-in-Err-clause-put
 returns-in-Err-clause-put c =
     let few = subst (λ n. (c.args.place + 1) * n ≤ max_values) (sym (count_cells c.args.place c.args.entries.now c.args.ends.now c.requires.ends)) c.if-place-ends-gt-MAX_VALUES.false in
-    put_fault c.args.spec.now c.args.place (subsets_of c.args.entries.now) few (draft_fault c.in-Err.why) c.args.out.now c.in-Err.ensures
+    (put_fault c.args.spec.now c.args.place (subsets_of c.args.entries.now) few (draft_fault c.in-Err.why) c.in-Err.ensures, refl)
 
 pub put_drawn-requires-clause-many : goal.put_drawn-requires-clause-many
 put_drawn-requires-clause-many c =

@@ -30,8 +30,8 @@ pub returns-in-Err-Unequal-clause-put : goal.returns-in-Err-Unequal-clause-put
 returns-in-Err-Unequal-clause-put c =
     let few = subst (λ n. (c.args.place + 1) * n ≤ max_values) (sym (count_cells c.args.place c.args.entries.now c.args.ends.now c.requires.ends)) c.requires.values in
     let cs = contents_drawn (c.args.spec.now.width / 8) c.args.drawn.now in
-    let p : PacksItem c.args.out.now c.pack.new.out (packing c.args.spec.now cs) (2046 + 504 * length c.args.drawn.now) (Err unpacked.Unequal) =
-    subst (λ f. PacksItem c.args.out.now c.pack.new.out (packing c.args.spec.now cs) (2046 + 504 * length c.args.drawn.now) (Err f)) c.in-Err-Unequal.field-0-is c.in-Err-Unequal.ensures in (
+    let p : PacksItem c.args.out.now.bits c.pack.new.out.bits (packing c.args.spec.now cs) (2046 + 504 * length c.args.drawn.now) (Err unpacked.Unequal) =
+    subst (λ f. PacksItem c.args.out.now.bits c.pack.new.out.bits (packing c.args.spec.now cs) (2046 + 504 * length c.args.drawn.now) (Err f)) c.in-Err-Unequal.field-0-is c.in-Err-Unequal.ensures in (
       put_unequal c.args.spec.now c.args.place (subsets_of c.args.entries.now) few cs c.requires.given p.0 ∙ ap (λ n. Err (at_line n unequal_factors)) (sym c.unlike_line.ensures),
       p.1,
     )
@@ -40,8 +40,8 @@ pub returns-in-Err-Uneven-clause-put : goal.returns-in-Err-Uneven-clause-put
 returns-in-Err-Uneven-clause-put c =
     let few = subst (λ n. (c.args.place + 1) * n ≤ max_values) (sym (count_cells c.args.place c.args.entries.now c.args.ends.now c.requires.ends)) c.requires.values in
     let cs = contents_drawn (c.args.spec.now.width / 8) c.args.drawn.now in
-    let p : PacksItem c.args.out.now c.pack.new.out (packing c.args.spec.now cs) (2046 + 504 * length c.args.drawn.now) (Err unpacked.Uneven) =
-    subst (λ f. PacksItem c.args.out.now c.pack.new.out (packing c.args.spec.now cs) (2046 + 504 * length c.args.drawn.now) (Err f)) c.in-Err-Uneven.field-0-is c.in-Err-Uneven.ensures in (
+    let p : PacksItem c.args.out.now.bits c.pack.new.out.bits (packing c.args.spec.now cs) (2046 + 504 * length c.args.drawn.now) (Err unpacked.Uneven) =
+    subst (λ f. PacksItem c.args.out.now.bits c.pack.new.out.bits (packing c.args.spec.now cs) (2046 + 504 * length c.args.drawn.now) (Err f)) c.in-Err-Uneven.field-0-is c.in-Err-Uneven.ensures in (
       put_uneven c.args.spec.now c.args.place (subsets_of c.args.entries.now) few cs c.requires.given p.0 ∙ ap (λ n. Err (at_line n uneven_increment)) (sym c.first_line.ensures),
       p.1,
     )

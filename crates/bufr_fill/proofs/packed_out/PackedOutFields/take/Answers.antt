@@ -1,21 +1,12 @@
-use Rattle.std.proofs.Common.{◌≡◌, ℕ, ◌≤◌, ◌+◌, ◌*◌, Bool, List, ◌++◌, length, take, Option, Some, None, Err, ap, ◌∙◌, sym, subst, arith, length-append}
-use Rattle.std.proofs.Math.Seq.{take-append_seam, take-length}
-use Rattle.bufr_walk.specs.FieldSpec.{FieldSpec}
+use Rattle.std.proofs.Common.{◌≡◌, ℕ, ◌≤◌, ◌+◌, ◌*◌, Bool, List, ◌++◌, length, ap, ◌∙◌, subst, arith, length-append}
 use Rattle.bufr_walk.specs.Reading.{max_values}
-use Rattle.bufr_fill.specs.Encoding.{ItemRow, item_row, pack_across}
+use Rattle.bufr_fill.specs.Encoding.{item_row}
 use Rattle.bufr_fill.specs.Entries.{Subset, subsets_of}
-use Rattle.bufr_fill.specs.Fault.{FaultAt}
 use Rattle.bufr_fill.specs.PackedOut.{PackedOutModel, IsFaultAcross, IsPutAcross}
-use Rattle.bufr_fill.specs.Packs.{PutFault}
 use Rattle.bufr_fill.specs.PlainOut.{IfDraftFault}
 use Rattle.bufr_fill.specs.DraftFaults.{draft_fault}
 use Rattle.bufr_fill.proofs.Places.{ends_few}
 use Rattle.bufr_fill.proofs.packed_out.PackedOutFields.take.Goals as goal
-
--- a fault, where the bits are cut back to those before
-cut_back : (o : Option FaultAt) (spec : FieldSpec) (a : ItemRow) (old new cut : List Bool) (count : ℕ) → count ≡ length old → cut ≡ take count new → PutFault o old new spec a → IfDraftFault o (λ f. pack_across spec a ≡ Err f) × (cut ≡ old)
-cut_back None spec a old new cut count e t h = (tt, t ∙ ap (λ n. take n new) e ∙ ap (take (length old)) h.1 ∙ take-append_seam old h.0)
-cut_back (Some f) spec a old new cut count e t h = (h.0, t ∙ ap (λ n. take n new) e ∙ ap (take (length old)) h.1 ∙ take-length old)
 
 abbrev with_bits : List Subset → ℕ → List Bool → PackedOutModel
 with_bits subsets place bits = record { subsets = subsets; place = place; bits = bits }
@@ -35,34 +26,21 @@ invariant_of-self c =
       few = c.self.invariant.few;
       ends_are = c.self.invariant.ends_are;
       some = c.self.invariant.some;
-      room = room_for d.out c.pack_next.new.out c.in-Ok.ensures.put.put.item d.place (length d.ends.items) c.in-Ok.ensures.put.put.bits c.self.invariant.room
+      room = room_for d.out.bits c.pack_next.new.out.bits c.in-Ok.ensures.put.put.item d.place (length d.ends.items) c.in-Ok.ensures.put.put.bits c.self.invariant.room
           (subst (λ (ends : List ℕ). length c.in-Ok.ensures.put.put.item ≤ 2046 + 504 * length ends) c.deref.ensures.value c.in-Ok.ensures.put.few) c.self.invariant.some;
       values = subst (λ (ends : List ℕ). (d.place + 1) * length ends ≤ max_values) c.deref.ensures.value c.in-Ok.ensures.values;
     }
 
 pub returns-in-Ok-clause-step : goal.returns-in-Ok-clause-step
 returns-in-Ok-clause-step c = record {
-  put = subst (λ (s : PackedOutModel). IsPutAcross s.bits c.pack_next.new.out c.args.spec.now (item_row s.place s.subsets) c.in-Ok.told) c.self.view_is c.in-Ok.ensures.put.put;
+  put = subst (λ (s : PackedOutModel). IsPutAcross s.bits c.pack_next.new.out.bits c.args.spec.now (item_row s.place s.subsets) c.in-Ok.taken) c.self.view_is c.in-Ok.ensures.put.put;
   place = ap (λ (s : PackedOutModel). s.place + 1) c.self.view_is;
   subsets = ap (λ (s : PackedOutModel). s.subsets) c.self.view_is;
 }
 
-pub invariant_of-self-in-Err : goal.invariant_of-self-in-Err
-invariant_of-self-in-Err c =
-    let d = c.self.inside in
-    let h = cut_back (draft_fault c.in-Err.why) c.args.spec.now (item_row d.place (subsets_of d.entries.now)) d.out c.pack_next.new.out c.truncate.new.self c.len_bits-bits.result c.len_bits-bits.ensures c.truncate.ensures.bits c.in-Err.ensures.put in
-    record {
-      few = c.self.invariant.few;
-      ends_are = c.self.invariant.ends_are;
-      some = c.self.invariant.some;
-      room = subst (λ (bits : List Bool). length bits ≤ 2550 * (d.place * length d.ends.items)) (sym h.1) c.self.invariant.room;
-      values = c.self.invariant.values;
-    }
-
 pub returns-in-Err-clause-step : goal.returns-in-Err-clause-step
 returns-in-Err-clause-step c =
-    let d = c.self.inside in
-    let h = cut_back (draft_fault c.in-Err.why) c.args.spec.now (item_row d.place (subsets_of d.entries.now)) d.out c.pack_next.new.out c.truncate.new.self c.len_bits-bits.result c.len_bits-bits.ensures c.truncate.ensures.bits c.in-Err.ensures.put in (
-      subst (λ (s : PackedOutModel). IfDraftFault (draft_fault c.in-Err.why) (IsFaultAcross c.args.spec.now s)) c.self.view_is h.0,
-      ap (with_bits (subsets_of d.entries.now) d.place) h.1 ∙ c.self.view_is,
+    let d = c.self.inside in (
+      subst (λ (s : PackedOutModel). IfDraftFault (draft_fault c.in-Err.why) (IsFaultAcross c.args.spec.now s)) c.self.view_is c.in-Err.ensures.put.0,
+      ap (with_bits (subsets_of d.entries.now) d.place) c.in-Err.ensures.put.1 ∙ c.self.view_is,
     )

@@ -1,0 +1,35 @@
+use Rattle.std.proofs.Common.{ℕ, ◌+◌, ◌++◌, arith, length, length-append, ap, ◌∙◌}
+use Rattle.bufr_bits.specs.Bits.{bits_in}
+use Rattle.bufr_bits.specs.Writing.{BitWriterModel}
+use Rattle.bufr_bits.proofs.PushLemmas.{length-bits_in}
+use Rattle.bufr_bits.proofs.WriterLemmas.{both_fit, both_low, both_bits}
+use Rattle.bufr_bits.proofs.bit_writer.BitWriter.put.Goals as goal
+
+pub overflow_add-self : goal.overflow_add-self
+overflow_add-self c =
+    let few = c.self.invariant.few in
+    let free = c.if-width-self.false in
+    let fits = both_fit c.self.inside.last c.self.inside.count c.args.value c.args.width (omega arith) c.self.invariant.low c.requires.value in
+    omega (arith, fits)
+
+pub invariant_of-self : goal.invariant_of-self
+invariant_of-self c =
+    let few = c.self.invariant.few in
+    let free = c.if-width-self.false in
+    let room = c.self.invariant.room in
+    let left = ap (λ (w : BitWriterModel). w.room) c.self.view_is in
+    record {
+      few = omega arith;
+      low = both_low c.self.inside.last c.self.inside.count c.args.value c.args.width (omega arith) c.self.invariant.low c.requires.value;
+      fits = omega (arith, left, c.requires.room, c.self.invariant.fits);
+      room = omega arith;
+    }
+
+pub returns-else-width-self-clause-bits : goal.returns-else-width-self-clause-bits
+returns-else-width-self-clause-bits c =
+    let few = c.self.invariant.few in
+    let free = c.if-width-self.false in
+    both_bits c.self.inside.octets.items c.self.inside.last c.self.inside.count c.args.value c.args.width (omega arith) c.self.invariant.low c.requires.value ∙ ap (λ (w : BitWriterModel). w.bits ++ bits_in c.args.value c.args.width) c.self.view_is
+
+pub returns-else-width-self-clause-len : goal.returns-else-width-self-clause-len
+returns-else-width-self-clause-len c = ap length (returns-else-width-self-clause-bits c) ∙ length-append c.args.self.now.bits (bits_in c.args.value c.args.width) ∙ ap (λ (m : ℕ). length c.args.self.now.bits + m) (length-bits_in c.args.value c.args.width)

@@ -1,0 +1,10 @@
+use Rattle.std.proofs.Common.{◌≡◌, ◌+◌, ◌*◌, arith, length, ap, sym, ◌∙◌}
+use Rattle.bufr_bits.specs.Writing.{BitWriterModel}
+use Rattle.bufr_bits.proofs.WriterLemmas.{length-written}
+use Rattle.bufr_bits.proofs.bit_writer.BitWriter.reserve.Goals as goal
+
+pub returns-then-bits-from-clause-room : goal.returns-then-bits-from-clause-room
+returns-then-bits-from-clause-room c =
+    let long : length c.args.self.now.bits ≡ 8 * length c.self.inside.octets.items + c.self.inside.count = ap length (sym (ap (λ (w : BitWriterModel). w.bits) c.self.view_is)) ∙ length-written c.self.inside.octets.items c.self.inside.last c.self.inside.count in
+    let room = ap (λ (w : BitWriterModel). w.room) c.self.view_is in
+    omega (arith, c.self.invariant.room, c.requires, c.if-bits-from.true, c.from.ensures, room, long, c.self.inside.octets.ok.0)
