@@ -1,4 +1,4 @@
-use Rattle.std.proofs.Common.{sym}
+use Rattle.std.proofs.Common.{◌∙◌}
 use Rattle.bufr_tables.specs.Entry.{row_of_entry}
 use Rattle.bufr_text.proofs.CommentLemmas.{comment-ready}
 use Rattle.bufr_text.proofs.PushLemmas.{retold}
