@@ -44,7 +44,7 @@ record AreBuilt (b : List Row) (d : List Sequence) (piece : StreamEvent → Piec
   written : flat_map output_of (up_to_refused pieces) ≡ concat messages
   as_many : length (filter is_accepted (up_to_refused pieces)) ≡ length messages
   scanned : (at : ℕ) → scan_from 0 at (concat messages) ≡ placed at messages
-  told : (at : ℕ) → map piece (placed at messages) ≡ map OnOutput texts
+  results : (at : ℕ) → map piece (placed at messages) ≡ map OnOutput texts
   again : (line : ℕ) → map (told_piece AsWritten b d) (parse_lines line Between (lines_of (concat texts))) ≡ map OnOutput messages
 
 -- nothing is built
@@ -55,7 +55,7 @@ none-built b d piece = record {
   written = refl;
   as_many = refl;
   scanned = λ at. scan_from-nil 0 at;
-  told = λ at. refl;
+  results = λ at. refl;
   again = λ line. ap (map (told_piece AsWritten b d)) (nothing-spelled line);
 }
 
@@ -67,7 +67,7 @@ fault-ends b d piece line more = record {
   written = refl;
   as_many = refl;
   scanned = λ at. scan_from-nil 0 at;
-  told = λ at. refl;
+  results = λ at. refl;
   again = λ line. ap (map (told_piece AsWritten b d)) (nothing-spelled line);
 }
 
@@ -107,7 +107,7 @@ module _ (form : Form) (records : List Record) (b : List Row) (d : List Sequence
       written = ap (λ l. octets ++ l) r.written;
       as_many = ap suc r.as_many;
       scanned = λ at. read.framed at (concat r.messages) ∙ ap (λ l. FrameAt at octets ∷ l) (r.scanned (at + length octets));
-      told = λ at. ap (λ p. p ∷ map piece (placed (at + length octets) r.messages)) (piece-is at) ∙ ap (λ l. OnOutput (normal_text form b d document) ∷ l) (r.told (at + length octets));
+      results = λ at. ap (λ p. p ∷ map piece (placed (at + length octets) r.messages)) (piece-is at) ∙ ap (λ l. OnOutput (normal_text form b d document) ∷ l) (r.results (at + length octets));
       again = λ line. spells line (concat texts) ∙ ap (λ l. OnOutput octets ∷ l) (r.again (line + length (dump_lines read.sections items)));
     }
 
@@ -117,7 +117,7 @@ module _ (form : Form) (records : List Record) (b : List Row) (d : List Sequence
   document-more document (Ok octets) pieces texts proper is r = one-more document octets proper is (encoded_read form records b d rows document proper octets is) pieces texts r
   document-more document (Err refused) pieces texts proper is r = fault-ends b d piece _ pieces
 
-  are-built : (told : List ParseResult) → AreProper told → AreBuilt b d piece (map (told_piece form b d) told) (normal_texts form b d told)
+  are-built : (results : List ParseResult) → AreProper results → AreBuilt b d piece (map (told_piece form b d) results) (normal_texts form b d results)
   unfolding normal_texts
   are-built [] proper = none-built b d piece
   are-built (Complete document ∷ more) proper =
@@ -129,9 +129,9 @@ module _ (form : Form) (records : List Record) (b : List Row) (d : List Sequence
   one-spelling text =
       let texts = normal_texts form b d (documents_of text) in
       let r = are-built (documents_of text) (spelled-proper 1 Between (lines_of text) (omega arith) tt) in
-      let pieces : dump_pieces piece (built form b d text) ≡ map OnOutput texts = ap (map piece) (ap scan r.written ∙ r.scanned 0) ∙ r.told 0 in
+      let pieces : dump_pieces piece (built form b d text) ≡ map OnOutput texts = ap (map piece) (ap scan r.written ∙ r.scanned 0) ∙ r.results 0 in
       let same_text : dumped piece (built form b d text) ≡ concat texts = ap (flat_map output_of) pieces ∙ outputs-octets texts in
-      let many : length r.messages ≡ length texts = sym (placed-count piece 0 r.messages) ∙ ap length (r.told 0) ∙ length-map texts OnOutput in
+      let many : length r.messages ≡ length texts = sym (placed-count piece 0 r.messages) ∙ ap length (r.results 0) ∙ length-map texts OnOutput in
       record {
         pieces = pieces;
         same_text = same_text;

@@ -175,7 +175,7 @@ accepted_of piece es = flat_map (λ here. accepted_in here (piece here)) es
 record Built (b : List Row) (d : List Sequence) (piece : StreamEvent → Piece) (text : List ℕ) (accepted : List (List ℕ)) (pieces : List Piece) (most line : ℕ) : Type 0 where
   messages : List (List ℕ)
   readings : AllZip (IsBuiltAgain b d) accepted messages
-  told : map (told_piece AsWritten b d) (parse_lines line Between (lines_of text)) ≡ map OnOutput messages
+  results : map (told_piece AsWritten b d) (parse_lines line Between (lines_of text)) ≡ map OnOutput messages
   no_longer : length (concat messages) ≤ most + longer_by accepted
   scanned : (at : ℕ) → scan_from 0 at (concat messages) ≡ placed at messages
   again : (at : ℕ) → map piece (placed at messages) ≡ filter is_accepted pieces
@@ -201,7 +201,7 @@ module _ (b : List Row) (d : List Sequence) (piece : StreamEvent → Piece) (giv
   built-fault here text' text accepted pieces most more line le r = record {
     messages = r.messages;
     readings = r.readings;
-    told = r.told;
+    results = r.results;
     no_longer = omega (arith, r.no_longer, le);
     scanned = r.scanned;
     again = r.again;
@@ -223,8 +223,8 @@ module _ (b : List Row) (d : List Sequence) (piece : StreamEvent → Piece) (giv
       record {
         messages = w.octets ∷ r.messages;
         readings = (record { sections = s; template = template; values = values; used = used; accepted = a; same = w.same }, r.readings);
-        told = ap (map (told_piece AsWritten b d)) (text-spells s items line text (dumpable b d m s template values used read legal a))
-            ∙ ap (λ x. encoded x ∷ rest) w.is ∙ ap (λ l. OnOutput w.octets ∷ l) r.told;
+        results = ap (map (told_piece AsWritten b d)) (text-spells s items line text (dumpable b d m s template values used read legal a))
+            ∙ ap (λ x. encoded x ∷ rest) w.is ∙ ap (λ l. OnOutput w.octets ∷ l) r.results;
         no_longer = omega (arith, length-append w.octets (concat r.messages), w.same.no_longer, r.no_longer);
         scanned = λ at. w.same.framed at (concat r.messages) ∙ ap (λ l. FrameAt at w.octets ∷ l) (r.scanned (at + length w.octets));
         again = λ at. ap (λ p. p ∷ map piece (placed (at + length w.octets) r.messages)) (here at) ∙ ap (λ l. OnOutput (dump_text_of s items) ∷ l) (r.again (at + length w.octets));
@@ -253,7 +253,7 @@ module _ (b : List Row) (d : List Sequence) (piece : StreamEvent → Piece) (giv
   built records [] line rows small = record {
     messages = [];
     readings = tt;
-    told = ap (map (told_piece AsWritten b d)) (nothing-spelled line);
+    results = ap (map (told_piece AsWritten b d)) (nothing-spelled line);
     no_longer = omega arith;
     scanned = λ at. scan_from-nil 0 at;
     again = λ at. refl;
@@ -268,7 +268,7 @@ module _ (b : List Row) (d : List Sequence) (piece : StreamEvent → Piece) (giv
   round-trips records s rows octets =
       let r = built records (scan s) 1 rows (small-frames 0 0 s octets) in
       let ms = r.messages in
-      let pieces : rebuilding b d piece s ≡ map OnOutput ms = ap up_to_refused r.told ∙ outputs-whole ms in
+      let pieces : rebuilding b d piece s ≡ map OnOutput ms = ap up_to_refused r.results ∙ outputs-whole ms in
       let are : rebuilt b d piece s ≡ concat ms = ap (flat_map output_of) pieces ∙ outputs-octets ms in
       let events : scan (rebuilt b d piece s) ≡ placed 0 ms = ap scan are ∙ r.scanned 0 in
       let texts : dump_pieces piece (rebuilt b d piece s) ≡ filter is_accepted (dump_pieces piece s) = ap (map piece) events ∙ r.again 0 in
@@ -293,7 +293,7 @@ module _ (b : List Row) (d : List Sequence) (piece : StreamEvent → Piece) (giv
       → rebuilt b d piece s ≡ concat (accepted_messages piece s)
   canonical-kept records s rows octets all =
       let r = built records (scan s) 1 rows (small-frames 0 0 s octets) in
-      ap (flat_map output_of) (ap up_to_refused r.told ∙ outputs-whole r.messages) ∙ outputs-octets r.messages ∙ ap concat (r.kept all)
+      ap (flat_map output_of) (ap up_to_refused r.results ∙ outputs-whole r.messages) ∙ outputs-octets r.messages ∙ ap concat (r.kept all)
 
   -- ---- three runs
 

@@ -29,4 +29,4 @@ up_to_refused (OnErrors text ∷ more) = OnErrors text ∷ []
 
 -- what `encode` writes for what a text spells
 abbrev pub encode_pieces : Form → List Row → List Sequence → List ParseResult → List Piece
-encode_pieces form b d told = up_to_refused (map (told_piece form b d) told)
+encode_pieces form b d results = up_to_refused (map (told_piece form b d) results)

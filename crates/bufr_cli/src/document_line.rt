@@ -37,11 +37,11 @@ fn write_line<E: Sink>(
         (document_line line number (text.now ∷ digits.now ∷ [])) result }
     ensures counts { OnlyWrites (writer_of E.Sink e.old) (writer_of E.Sink e.new) result }
 {
-    let mut laid = [0; LINE];
-    let end = lay_text(b"\n", &mut laid, LINE);
-    let end = lay_text(digits, &mut laid, end);
-    let end = lay_text(text, &mut laid, end);
-    write_fault(b"line ", line, number, &mut laid, end, e)
+    let mut written = [0; LINE];
+    let end = lay_text(b"\n", &mut written, LINE);
+    let end = lay_text(digits, &mut written, end);
+    let end = lay_text(text, &mut written, end);
+    write_fault(b"line ", line, number, &mut written, end, e)
 }
 
 /// Writes a fault line that names a descriptor.
@@ -95,13 +95,13 @@ fn write_template<E: Sink>(
     ensures counts { OnlyWrites (writer_of E.Sink e.old) (writer_of E.Sink e.new) result }
 {
     let (name, fxy) = name_of_template_fault(fault);
-    let mut laid = [0; LINE];
-    let end = lay_text(b"\n", &mut laid, LINE);
-    let end = lay_text(&fxy.text(), &mut laid, end);
-    let end = lay_text(name, &mut laid, end);
-    let end = lay_text(b" ", &mut laid, end);
-    let end = lay_named(b"template ", u16::from(fault.number()), &mut laid, end);
-    write_fault(b"line ", line, number, &mut laid, end, e)
+    let mut written = [0; LINE];
+    let end = lay_text(b"\n", &mut written, LINE);
+    let end = lay_text(&fxy.text(), &mut written, end);
+    let end = lay_text(name, &mut written, end);
+    let end = lay_text(b" ", &mut written, end);
+    let end = lay_named(b"template ", u16::from(fault.number()), &mut written, end);
+    write_fault(b"line ", line, number, &mut written, end, e)
 }
 
 /// Writes the line of a document whose walk is refused, by the walk's own number, `why`, and a
@@ -117,12 +117,12 @@ fn write_walk_parts<E: Sink>(
         (document_line line number (walk_text why fxy)) result }
     ensures counts { OnlyWrites (writer_of E.Sink e.old) (writer_of E.Sink e.new) result }
 {
-    let mut laid = [0; LINE];
-    let end = lay_text(b"\n", &mut laid, LINE);
-    let end = lay_text(&fxy.text(), &mut laid, end);
-    let end = lay_text(b" descriptor ", &mut laid, end);
-    let end = lay_named(b"walk ", u16::from(why), &mut laid, end);
-    write_fault(b"line ", line, number, &mut laid, end, e)
+    let mut written = [0; LINE];
+    let end = lay_text(b"\n", &mut written, LINE);
+    let end = lay_text(&fxy.text(), &mut written, end);
+    let end = lay_text(b" descriptor ", &mut written, end);
+    let end = lay_named(b"walk ", u16::from(why), &mut written, end);
+    write_fault(b"line ", line, number, &mut written, end, e)
 }
 
 /// Writes the line of a document whose walk over the template is refused.

@@ -70,7 +70,7 @@ fn dump_data<W: Sink, E: Sink>(
 ) -> Result<Verdict, RunFault>
     requires { cache.old ≡ table.now }
     ensures same { cache.new ≡ cache.old }
-    ensures tells { (piece : Piece)
+    ensures reports { (piece : Piece)
         → IsDataPiece table.now offset message.now template.now piece
         → TellsPieces (writers_of W.Sink w.old E.Sink e.old)
         (writers_of W.Sink w.new E.Sink e.new) (piece ∷ []) result }
@@ -108,7 +108,7 @@ fn dump_selected<W: Sink, E: Sink>(
     requires list { templates.now.list ≡ message.now.descriptors }
     requires cached { cache.old ≡ templates.now.table_b }
     ensures same { cache.new ≡ cache.old }
-    ensures tells { (piece : Piece)
+    ensures reports { (piece : Piece)
         → IsMessagePiece templates.now.table_b templates.now.table_d offset (Ok message.now) piece
         → TellsPieces (writers_of W.Sink w.old E.Sink e.old)
         (writers_of W.Sink w.new E.Sink e.new) (piece ∷ []) result }
@@ -139,7 +139,7 @@ fn dump_message<W: Sink, E: Sink>(
     w: &mut W,
     e: &mut E,
 ) -> Result<Verdict, RunFault>
-    ensures tells { (piece : Piece)
+    ensures reports { (piece : Piece)
         → IsMessagePiece templates.old.table_b templates.old.table_d offset (Ok message.now) piece
         → TellsPieces (writers_of W.Sink w.old E.Sink e.old)
         (writers_of W.Sink w.new E.Sink e.new) (piece ∷ []) result }
@@ -169,7 +169,7 @@ fn dump_event<W: Sink, E: Sink>(
     e: &mut E,
 ) -> Result<Verdict, RunFault>
     requires { IsEvent event }
-    ensures tells { (piece : StreamEvent → Piece)
+    ensures reports { (piece : StreamEvent → Piece)
         → GivesPieces (IsDumpPiece templates.old.table_b templates.old.table_d) piece
         → TellsPieces (writers_of W.Sink w.old E.Sink e.old)
         (writers_of W.Sink w.new E.Sink e.new) (map piece (events_of event.entry)) result }

@@ -55,7 +55,7 @@ fn encode_one<W: Sink, E: Sink>(
     w: &mut W,
     e: &mut E,
 ) -> Result<Verdict, RunFault>
-    ensures tells { TellsPieces (writers_of W.Sink w.old E.Sink e.old)
+    ensures reports { TellsPieces (writers_of W.Sink w.old E.Sink e.old)
         (writers_of W.Sink w.new E.Sink e.new)
         (told_piece form templates.old.table_b templates.old.table_d (Complete document.now) ∷ [])
         result }
@@ -97,7 +97,7 @@ fn encode_next<W: Sink, E: Sink>(
     ensures reader { reader.new ≡ reader.old }
     ensures table_b { templates.new.table_b ≡ templates.old.table_b }
     ensures table_d { templates.new.table_d ≡ templates.old.table_d }
-    ensures tells { TellsNext (writers_of W.Sink w.old E.Sink e.old)
+    ensures reports { TellsNext (writers_of W.Sink w.old E.Sink e.old)
         (writers_of W.Sink w.new E.Sink e.new)
         (told_piece form templates.old.table_b templates.old.table_d) next result }
     ensures counts { BlamesWriter (writers_of W.Sink w.old E.Sink e.old)

@@ -81,7 +81,7 @@ fn lay_section_fault(fault: SectionFault, line: &mut [u8]) -> usize
     requires room { 29 ≤ length line.old }
     ensures most { length line.old ≤ result + 29 }
     ensures start { result ≤ length line.old }
-    ensures laid { drop result line.new ≡ joined (section_fault_text fault ++ codes "\n" ∷ []) }
+    ensures written { drop result line.new ≡ joined (section_fault_text fault ++ codes "\n" ∷ []) }
 {
     let end = line.len();
     let end = lay_text(b"\n", line, end);
@@ -192,7 +192,7 @@ fn lay_spot(name: &[u8], spot: Spot, line: &mut [u8]) -> usize
     requires room { 75 ≤ length line.old }
     ensures most { length line.old ≤ result + 75 }
     ensures start { result ≤ length line.old }
-    ensures laid { drop result line.new ≡ joined (spot_text name.now spot ++ codes "\n" ∷ []) }
+    ensures written { drop result line.new ≡ joined (spot_text name.now spot ++ codes "\n" ∷ []) }
 {
     let end = line.len();
     let end = lay_text(b"\n", line, end);

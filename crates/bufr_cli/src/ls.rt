@@ -21,7 +21,7 @@ use std::alloc::Global;
 // rule: one-fault-a-message
 fn list_event<W: Sink, E: Sink>(event: Event<'_>, w: &mut W, e: &mut E) -> Result<Verdict, RunFault>
     requires { IsEvent event }
-    ensures tells { TellsPieces (writers_of W.Sink w.old E.Sink e.old)
+    ensures reports { TellsPieces (writers_of W.Sink w.old E.Sink e.old)
         (writers_of W.Sink w.new E.Sink e.new) (map ls_piece (events_of event.entry)) result }
     ensures stops { StopsPiece false result }
     ensures counts { BlamesWriter (writers_of W.Sink w.old E.Sink e.old)

@@ -38,7 +38,7 @@ pub trait EventWriter {
         e: &mut E,
     ) -> Result<Verdict, RunFault>
         requires { IsEvent event }
-        ensures tells { (piece : StreamEvent → Piece) → GivesPieces (is_piece self.old) piece
+        ensures reports { (piece : StreamEvent → Piece) → GivesPieces (is_piece self.old) piece
             → TellsPieces (writers_of W.Sink w.old E.Sink e.old)
             (writers_of W.Sink w.new E.Sink e.new)
             (map piece (events_of event.entry)) result }

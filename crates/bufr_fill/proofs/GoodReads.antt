@@ -45,13 +45,13 @@ told_within role.Reference spec (number raw) good hr h = absurd h
 told_within role.Reference spec (text os) good hr h = absurd h
 told_within role.Reference spec missing good hr h = absurd h
 
-module _ {C : Type 0} (form : DataCoding C) (tells : (spec : FieldSpec) (c : C) (bits mid : List Bool) → IsSpec spec → form.field spec bits ≡ Ok (found c mid) → IsWithin (form.tells spec c)) where
-  pub specs_of_reads : (course : Course) (items : List (Item C)) (bits behind : List Bool) → IsGoodCourse course → ReadsItems form course items bits behind → AllSpecs items
-  specs_of_reads course [] bits behind good h = tt
-  specs_of_reads course (i ∷ items) bits behind good h =
+module _ {C : Type 0} (form : DataCoding C) (gives : (spec : FieldSpec) (c : C) (bits mid : List Bool) → IsSpec spec → form.field spec bits ≡ Ok (found c mid) → IsWithin (form.gives spec c)) where
+  pub specs_of_reads : (course : Course) (items : List (Item C)) (bits suffix : List Bool) → IsGoodCourse course → ReadsItems form course items bits suffix → AllSpecs items
+  specs_of_reads course [] bits suffix good h = tt
+  specs_of_reads course (i ∷ items) bits suffix good h =
       let here : IsSpec i.spec = good [] i.spec tt h.1 in
-      let within : IsWithin (tells_of form i) = tells i.spec i.content bits h.0 here h.2 in
-      (here, specs_of_reads (after form course i) items h.0 behind (λ answer_of spec w e. good (tells_of form i ∷ answer_of) spec (within, w) e) h.3)
+      let within : IsWithin (tells_of form i) = gives i.spec i.content bits h.0 here h.2 in
+      (here, specs_of_reads (after form course i) items h.0 suffix (λ answer_of spec w e. good (tells_of form i ∷ answer_of) spec (within, w) e) h.3)
 
 plain_tells : (spec : FieldSpec) (c : Content) (bits mid : List Bool) → IsSpec spec → plain_field spec bits ≡ Ok (found c mid) → IsWithin (answer_of spec c)
 plain_tells spec c bits mid good e = told_within spec.role spec c good good.role (plain_read spec good bits mid c e).0
@@ -60,9 +60,9 @@ packed_tells : (n : ℕ) (spec : FieldSpec) (cs : List Content) (bits mid : List
 packed_tells n spec [] bits mid good e = tt
 packed_tells n spec (c ∷ cs) bits mid good e = told_within spec.role spec c good good.role (packed_again n spec good c cs bits mid e).2.fits.0
 
-pub plain_specs : (course : Course) (subsets : List (List (Item Content))) (bits behind : List Bool) → IsGoodCourse course → ReadsSubsets course subsets bits behind → EachSpecs subsets
-plain_specs course [] bits behind good h = tt
-plain_specs course (items ∷ subsets) bits behind good h = (specs_of_reads plain plain_tells course items bits h.0 good h.1.0, plain_specs course subsets h.0 behind good h.2)
+pub plain_specs : (course : Course) (subsets : List (List (Item Content))) (bits suffix : List Bool) → IsGoodCourse course → ReadsSubsets course subsets bits suffix → EachSpecs subsets
+plain_specs course [] bits suffix good h = tt
+plain_specs course (items ∷ subsets) bits suffix good h = (specs_of_reads plain plain_tells course items bits h.0 good h.1.0, plain_specs course subsets h.0 suffix good h.2)
 
-pub packed_specs : (n : ℕ) (course : Course) (items : List (Item (List Content))) (bits behind : List Bool) → IsGoodCourse course → ReadsItems (packed n) course items bits behind → AllSpecs items
-packed_specs n course items bits behind good h = specs_of_reads (packed n) (packed_tells n) course items bits behind good h
+pub packed_specs : (n : ℕ) (course : Course) (items : List (Item (List Content))) (bits suffix : List Bool) → IsGoodCourse course → ReadsItems (packed n) course items bits suffix → AllSpecs items
+packed_specs n course items bits suffix good h = specs_of_reads (packed n) (packed_tells n) course items bits suffix good h

@@ -63,7 +63,7 @@ pub stays : (course : Course) (s : PackedOutModel) (items : List TakenField) (s'
 stays course s [] s' h p = record { subsets = ap (λ (x : PackedOutModel). x.subsets) h; within = omega (arith, p, ap (λ (x : PackedOutModel). x.place) h, ap (λ (x : PackedOutModel). longest x.subsets) h) }
 stays course s (i ∷ items) s' h p =
     let near = within s h.0 i.spec i.taken h.2 in
-    let rest = stays (λ told. course (i.taken ∷ told)) h.0 items s' h.3 (omega (arith, near, h.2.place, ap longest h.2.subsets)) in
+    let rest = stays (λ answers. course (i.taken ∷ answers)) h.0 items s' h.3 (omega (arith, near, h.2.place, ap longest h.2.subsets)) in
     record { subsets = rest.subsets ∙ h.2.subsets; within = rest.within }
 
 module _ (course : Course) (s : Subset) (more : List Subset) where
@@ -106,7 +106,7 @@ module _ (course : Course) (s : Subset) (more : List Subset) where
           ∙ ap (λ o. Err (at_line (line_in o s.end_line) (walk_refused why))) (sym (none_past s.items place (omega (arith, l, h))))
       by (suc k) l =
           ap (λ k. fill filler c (rows k place (s ∷ more))) l
-          ∙ ap (λ x. fill_one filler x (item_row place (s ∷ more)) (λ t. fill filler (λ told. c (t ∷ told)) (rows k (place + 1) (s ∷ more)))) e
+          ∙ ap (λ x. fill_one filler x (item_row place (s ∷ more)) (λ t. fill filler (λ answers. c (t ∷ answers)) (rows k (place + 1) (s ∷ more)))) e
 
   -- where an item is at fault
   fault_here : (c : Course) (place : ℕ) (spec : FieldSpec) (f : FaultAt) → (c []).next ≡ take_next spec → place ≤ longest (s ∷ more) → pack_across spec (item_row place (s ∷ more)) ≡ Err f → fill_from c place ≡ Err f
@@ -136,7 +136,7 @@ module _ (course : Course) (s : Subset) (more : List Subset) where
   over_here c place f e p =
       let b = ends_before place (s ∷ more) f p in
       ap (fill filler c) (row_first (longest (s ∷ more)) place (s ∷ more) b.0)
-      ∙ ap (λ x. fill_one filler x (item_row place (s ∷ more)) (λ t. fill filler (λ told. c (t ∷ told)) (rows (longest (s ∷ more) - (place + 1)) (place + 1) (s ∷ more)))) e
+      ∙ ap (λ x. fill_one filler x (item_row place (s ∷ more)) (λ t. fill filler (λ answers. c (t ∷ answers)) (rows (longest (s ∷ more) - (place + 1)) (place + 1) (s ∷ more)))) e
       ∙ ap Err (sym b.1)
 
   later : (items : List TakenField) (mid : PackedOutModel) → Came items mid → (f : FaultAt) → fill_from (course_after course items) mid.place ≡ Err f → packed_data course (s ∷ more) ≡ Err f

@@ -285,9 +285,9 @@ module _ (end_line : ℕ) (many : Bool) where
       let forth : suc p ≡ p + 1 = omega arith in
       subst (λ k. Either n course all (rows k p ss) end_line many) (sym (longest_tails spec (i ∷ items) rs h))
       (onto n course spec i.content cs all (item_row p ss) more f.0.1 f.0.0 h refl refl (packing spec (i.content ∷ cs)) refl gives (λ w q.
-      let tells = tell_from spec (answer_of spec i.content) cs (λ j l. packed_alike spec i.content cs w (suc j) q (omega (arith, l))) in
+      let gives = tell_from spec (answer_of spec i.content) cs (λ j l. packed_alike spec i.content cs w (suc j) q (omega (arith, l))) in
       let d' = subst (λ k. DumpedAt k (tails all) ss) forth (dumped_next spec p all ss h d) in
-      let f' = follow_next course spec (answer_of spec i.content) all h (refl, tells) f in
+      let f' = follow_next course spec (answer_of spec i.content) all h (refl, gives) f in
       let same : length (tails rs) ≡ length rs = length-tails rs in
       subst (λ k. Either (suc k) (λ told_so. course (answer_of spec i.content ∷ told_so)) (tails all) more end_line many) same
       (from_place (λ told_so. course (answer_of spec i.content ∷ told_so)) items (tails rs) ss (p + 1) f' d' (
@@ -295,18 +295,18 @@ module _ (end_line : ℕ) (many : Bool) where
 
 -- ---- from a reading
 
-follows_plain : (course : Course) (items : List (Item Content)) (bits behind : List Bool) → AllSpecs items → ReadsPass plain course items bits behind → Follows course items × (length items + length behind ≤ length bits)
-follows_plain course [] bits behind specs r = (r.1, omega (arith, ap length r.0))
-follows_plain course (i ∷ items) bits behind specs r =
-    let rest = follows_plain (after plain course i) items r.0.0 behind specs.1 (r.0.3, r.1) in
+follows_plain : (course : Course) (items : List (Item Content)) (bits suffix : List Bool) → AllSpecs items → ReadsPass plain course items bits suffix → Follows course items × (length items + length suffix ≤ length bits)
+follows_plain course [] bits suffix specs r = (r.1, omega (arith, ap length r.0))
+follows_plain course (i ∷ items) bits suffix specs r =
+    let rest = follows_plain (after plain course i) items r.0.0 suffix specs.1 (r.0.3, r.1) in
     let read = plain_read i.spec specs.0 bits r.0.0 i.content r.0.2 in
     ((r.0.1, specs.0, read.0, rest.0), omega (arith, rest.1, read.1, width_least i.spec.kind i.spec.width (specs.0).width))
 
-pub all_plain : (course : Course) (subsets : List (List (Item Content))) (bits behind : List Bool) → EachSpecs subsets → ReadsSubsets course subsets bits behind → AllFollow course subsets × (total subsets + length behind ≤ length bits)
-all_plain course [] bits behind specs r = (tt, omega (arith, ap length r))
-all_plain course (items ∷ subsets) bits behind specs r =
+pub all_plain : (course : Course) (subsets : List (List (Item Content))) (bits suffix : List Bool) → EachSpecs subsets → ReadsSubsets course subsets bits suffix → AllFollow course subsets × (total subsets + length suffix ≤ length bits)
+all_plain course [] bits suffix specs r = (tt, omega (arith, ap length r))
+all_plain course (items ∷ subsets) bits suffix specs r =
     let first = follows_plain course items bits r.0 specs.0 r.1 in
-    let rest = all_plain course subsets r.0 behind specs.1 r.2 in
+    let rest = all_plain course subsets r.0 suffix specs.1 r.2 in
     ((first.0, rest.0), omega (arith, first.1, rest.1))
 
 lengths : (items : List (Item Content)) (ds : List Draft) → AreDrafts IsDumped items ds → length ds ≡ length items
@@ -324,17 +324,17 @@ dumped_at (items ∷ subsets) (s ∷ ss) h =
     ((h.0, rest.0), omega (arith, rest.1, lengths items s.items h.0))
 
 -- data that were read subset after subset are written together, where their contents can be
-pub together : (course : Course) (subsets : List (List (Item Content))) (drafts : List Subset) (bits behind : List Bool) → length bits ≤ max_values → EachSpecs subsets → AreDumped subsets drafts → ReadsSubsets course subsets bits behind → IsTogetherOrNot course subsets drafts
-together course [] [] bits behind few specs dumped r = inl (record { items = []; same = refl; out = []; is = refl; again = λ more. (refl, refl) })
-together course [] (s ∷ ss) bits behind few specs dumped r = absurd dumped
-together course (items ∷ subsets) [] bits behind few specs dumped r = absurd dumped
-together course (items ∷ subsets) (s ∷ ss) bits behind few specs dumped r = by (from_place s.end_line many course items subsets (s ∷ ss) 0 all.0 at.0 (omega (arith, all.1, few)))
+pub together : (course : Course) (subsets : List (List (Item Content))) (drafts : List Subset) (bits suffix : List Bool) → length bits ≤ max_values → EachSpecs subsets → AreDumped subsets drafts → ReadsSubsets course subsets bits suffix → IsTogetherOrNot course subsets drafts
+together course [] [] bits suffix few specs dumped r = inl (record { items = []; same = refl; out = []; is = refl; again = λ more. (refl, refl) })
+together course [] (s ∷ ss) bits suffix few specs dumped r = absurd dumped
+together course (items ∷ subsets) [] bits suffix few specs dumped r = absurd dumped
+together course (items ∷ subsets) (s ∷ ss) bits suffix few specs dumped r = by (from_place s.end_line many course items subsets (s ∷ ss) 0 all.0 at.0 (omega (arith, all.1, few)))
   where
     many : Bool
     many = are_many (longest (s ∷ ss)) (length (s ∷ ss))
 
-    all : AllFollow course (items ∷ subsets) × (total (items ∷ subsets) + length behind ≤ length bits)
-    all = all_plain course (items ∷ subsets) bits behind specs r
+    all : AllFollow course (items ∷ subsets) × (total (items ∷ subsets) + length suffix ≤ length bits)
+    all = all_plain course (items ∷ subsets) bits suffix specs r
 
     at : DumpedAt 0 (items ∷ subsets) (s ∷ ss) × (longest (s ∷ ss) ≡ longest_left (items ∷ subsets))
     at = dumped_at (items ∷ subsets) (s ∷ ss) dumped

@@ -71,7 +71,7 @@ fills end many s spec t s' h = record {
   item = written_item h.put.contents h.put.item;
   here = row_first (longest s.subsets) s.place s.subsets (within s s' spec t h) ∙ ap (λ k. item_row s.place s.subsets ∷ rows (longest s.subsets - k) k s.subsets) (sym h.place) ∙ ap (λ ss. item_row s.place s.subsets ∷ rows (longest ss - s'.place) s'.place ss) (sym h.subsets);
   fills = h.put.is;
-  tells = h.put.tells;
+  gives = h.put.gives;
   bits = h.put.bits;
 }
 

@@ -29,13 +29,13 @@ pub cut : (from : ℕ) (xs : List DraftEntry) (e : ℕ) (rest : List ℕ) → en
 cut from [] e rest h = absurd cc
 cut from (Ends line ∷ more) e rest h =
     let at : from ≡ e = cc in
-    let behind : ends_of (from + 1) more ≡ rest = cc in
+    let suffix : ends_of (from + 1) more ≡ rest = cc in
     record {
       items = [];
       line = line;
       place = omega (arith, at);
       subsets = refl;
-      rest_is = sym behind ∙ ap (λ n. ends_of n more) (next from ∙ ap suc at);
+      rest_is = sym suffix ∙ ap (λ n. ends_of n more) (next from ∙ ap suc at);
       within = omega arith;
       there = λ j. first j;
     }

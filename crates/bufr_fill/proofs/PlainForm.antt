@@ -135,27 +135,27 @@ fit_at spec (c ∷ cs) (suc j) f h = fit_at spec cs j f.1 (omega (arith, h))
 -- what holds of the content of one subset of an item that was read
 record IsOneOf (spec : FieldSpec) (cs : List Content) (j : ℕ) : Type 0 where
   fits : Fits spec (content_at j cs)
-  tells : answer_of spec (content_at j cs) ≡ told_first spec cs
+  gives : answer_of spec (content_at j cs) ≡ told_first spec cs
 
 one_of : (n : ℕ) (spec : FieldSpec) (cs : List Content) (j : ℕ) (bits mid : List Bool) → IsSpec spec → j < n → packed_field n spec bits ≡ Ok (found cs mid) → IsOneOf spec cs j
 one_of n spec [] j bits mid good h e = absurd (omega (arith, h, packed_count n spec good [] bits mid e))
 one_of n spec (c ∷ cs) j bits mid good h e =
     let p = packed_again n spec good c cs bits mid e in
     let within : j < length (c ∷ cs) = omega (arith, h, packed_count n spec good (c ∷ cs) bits mid e) in
-    record { fits = fit_at spec (c ∷ cs) j p.2.fits within; tells = packed_alike spec c cs p.2.out j p.2.is within }
+    record { fits = fit_at spec (c ∷ cs) j p.2.fits within; gives = packed_alike spec c cs p.2.out j p.2.is within }
 
 -- the items of one subset follow one another
-follows_packed : (n j : ℕ) (course : Course) (items : List (Item (List Content))) (bits behind : List Bool) → j < n → AllSpecs items → ReadsPass (packed n) course items bits behind → Follows course (items_of_subset j items)
-follows_packed n j course [] bits behind h specs r = r.1
-follows_packed n j course (i ∷ items) bits behind h specs r =
+follows_packed : (n j : ℕ) (course : Course) (items : List (Item (List Content))) (bits suffix : List Bool) → j < n → AllSpecs items → ReadsPass (packed n) course items bits suffix → Follows course (items_of_subset j items)
+follows_packed n j course [] bits suffix h specs r = r.1
+follows_packed n j course (i ∷ items) bits suffix h specs r =
     let one = one_of n i.spec i.content j bits r.0.0 specs.0 h r.0.2 in
-    let rest = follows_packed n j (after (packed n) course i) items r.0.0 behind h specs.1 (r.0.3, r.1) in
-    (r.0.1, specs.0, one.fits, subst (λ (t : Taken). Follows (λ answer_of. course (t ∷ answer_of)) (items_of_subset j items)) (sym one.tells) rest)
+    let rest = follows_packed n j (after (packed n) course i) items r.0.0 suffix h specs.1 (r.0.3, r.1) in
+    (r.0.1, specs.0, one.fits, subst (λ (t : Taken). Follows (λ answer_of. course (t ∷ answer_of)) (items_of_subset j items)) (sym one.gives) rest)
 
-all_follow : (n j left : ℕ) (course : Course) (items : List (Item (List Content))) (bits behind : List Bool) → j + left ≤ n → AllSpecs items → ReadsPass (packed n) course items bits behind → AllFollow course (subsets_from left j items)
-all_follow n j zero course items bits behind h specs r = tt
-all_follow n j (suc left) course items bits behind h specs r =
-    (follows_packed n j course items bits behind (omega (arith, h)) specs r, all_follow n (suc j) left course items bits behind (omega (arith, h)) specs r)
+all_follow : (n j left : ℕ) (course : Course) (items : List (Item (List Content))) (bits suffix : List Bool) → j + left ≤ n → AllSpecs items → ReadsPass (packed n) course items bits suffix → AllFollow course (subsets_from left j items)
+all_follow n j zero course items bits suffix h specs r = tt
+all_follow n j (suc left) course items bits suffix h specs r =
+    (follows_packed n j course items bits suffix (omega (arith, h)) specs r, all_follow n (suc j) left course items bits suffix (omega (arith, h)) specs r)
 
 dumped_from : (j n : ℕ) (items : List (Item (List Content))) (ss : List Subset) → length ss ≡ n → AreDumpedFrom j items ss → AreDumped (subsets_from n j items) ss
 dumped_from j zero items [] e h = tt
@@ -167,12 +167,12 @@ length-subsets_from : (n j : ℕ) (items : List (Item (List Content))) → lengt
 length-subsets_from zero j items = refl
 length-subsets_from (suc n) j items = ap suc (length-subsets_from n (suc j) items)
 
-pub follow_reading : (n : ℕ) (course : Course) (items : List (Item (List Content))) (bits behind : List Bool) → AllSpecs items → IsPackedReading n course items bits behind → AllFollow course (subsets_from n 0 items)
-follow_reading zero course items bits behind specs r = tt
-follow_reading (suc n) course items bits behind specs r = all_follow (suc n) 0 (suc n) course items bits behind (omega arith) specs r.0
+pub follow_reading : (n : ℕ) (course : Course) (items : List (Item (List Content))) (bits suffix : List Bool) → AllSpecs items → IsPackedReading n course items bits suffix → AllFollow course (subsets_from n 0 items)
+follow_reading zero course items bits suffix specs r = tt
+follow_reading (suc n) course items bits suffix specs r = all_follow (suc n) 0 (suc n) course items bits suffix (omega arith) specs r.0
 
 -- compressed data are written subset after subset
-pub apart : (n : ℕ) (course : Course) (items : List (Item (List Content))) (drafts : List Subset) (bits behind : List Bool) → length drafts ≡ n → AllSpecs items → AreDumpedFrom 0 items drafts → IsPackedReading n course items bits behind → IsWrittenApart n course items drafts
-apart n course items drafts bits behind count specs dumped r =
-    let w = plain_subsets course (subsets_from n 0 items) drafts (follow_reading n course items bits behind specs r) (dumped_from 0 n items drafts count dumped) in
+pub apart : (n : ℕ) (course : Course) (items : List (Item (List Content))) (drafts : List Subset) (bits suffix : List Bool) → length drafts ≡ n → AllSpecs items → AreDumpedFrom 0 items drafts → IsPackedReading n course items bits suffix → IsWrittenApart n course items drafts
+apart n course items drafts bits suffix count specs dumped r =
+    let w = plain_subsets course (subsets_from n 0 items) drafts (follow_reading n course items bits suffix specs r) (dumped_from 0 n items drafts count dumped) in
     record { out = w.out; is = w.is; again = λ more. (w.again more, length-subsets_from n 0 items) }

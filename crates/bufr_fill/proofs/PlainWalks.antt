@@ -21,7 +21,7 @@ fills end s spec t s' h = record {
   item = written_item h.content (bits_for spec.width h.content);
   here = ap items_left h.here;
   fills = ap (plainly h.draft.line spec) h.is;
-  tells = h.tells;
+  gives = h.gives;
   bits = h.bits;
 }
 
@@ -42,13 +42,13 @@ fault_of_items course left spec f next h = unfilled (plain_filler (end_left left
 pub at_refused : (course : Course) (left : List DraftEntry) (why : refusal.the_data) → (course []).next ≡ refused why → fill (plain_filler (end_left left)) course (items_left left) ≡ Err (at_line (line_at left) (walk_refused why))
 at_refused course [] why h = ap (fill_none (plain_filler 0)) h
 at_refused course (Ends line ∷ left) why h = ap (fill_none (plain_filler line)) h
-at_refused course (Holds d ∷ left) why h = ap (λ n. fill_one (plain_filler (end_left left)) n d (λ t. fill (plain_filler (end_left left)) (λ told. course (t ∷ told)) (items_left left))) h
+at_refused course (Holds d ∷ left) why h = ap (λ n. fill_one (plain_filler (end_left left)) n d (λ t. fill (plain_filler (end_left left)) (λ answers. course (t ∷ answers)) (items_left left))) h
 
 left_over : (course : Course) (left : List DraftEntry) (f : FaultAt) → (course []).next ≡ at_end → 1 ≤ length left → behind_end left ≡ Err f → fill (plain_filler (end_left left)) course (items_left left) ≡ Err f
 left_over course [] f h some e = absurd (omega (arith, some))
 left_over course (Ends line ∷ left) f h some e = absurd cc e
 left_over course (Holds d ∷ left) f h some e =
-    ap (λ n. fill_one (plain_filler (end_left left)) n d (λ t. fill (plain_filler (end_left left)) (λ told. course (t ∷ told)) (items_left left))) h ∙ same e
+    ap (λ n. fill_one (plain_filler (end_left left)) n d (λ t. fill (plain_filler (end_left left)) (λ answers. course (t ∷ answers)) (items_left left))) h ∙ same e
   where
     same : behind_end (Holds d ∷ left) ≡ Err f → ◌≡◌ {A = Result (List Bool) FaultAt} (Err (at_line d.line item_too_many)) (Err f)
     same e = let x : at_line d.line item_too_many ≡ f = cc in ap Err x

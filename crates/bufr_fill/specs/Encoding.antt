@@ -152,7 +152,7 @@ none_across end_line many spec =
 abbrev pub packed_filler : (end_line : ℕ) (many : Bool) → Filler ItemRow (List Content) FaultAt
 packed_filler end_line many = record {
   fills = pack_across;
-  tells = told_first;
+  gives = told_first;
   none_left = none_across end_line many;
   left_over = λ a. at_line (first_there a.cells) item_too_many;
   refused_at = λ a why. at_line (first_line a.cells) (walk_refused why);

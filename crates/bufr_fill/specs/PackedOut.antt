@@ -51,7 +51,7 @@ pub record IsPutAcross (old new : List Bool) (spec : FieldSpec) (a : ItemRow)
   pub contents : List Content
   pub item : List Bool
   pub is : pack_across spec a ≡ Ok (written_item contents item)
-  pub tells : t ≡ told_first spec contents
+  pub gives : t ≡ told_first spec contents
   pub bits : new ≡ old ++ item
   pub forth : length old < length new
 

@@ -35,7 +35,7 @@ pub record IsFilled (s : PlainOutModel) (spec : FieldSpec) (t : Taken)
   pub content : Content
   pub here : s.left ≡ Holds draft ∷ s'.left
   pub is : content_of spec draft ≡ Ok content
-  pub tells : t ≡ answer_of spec content
+  pub gives : t ≡ answer_of spec content
   pub bits : s'.bits ≡ s.bits ++ bits_for spec.width content
   pub forth : length s.bits < length s'.bits
 

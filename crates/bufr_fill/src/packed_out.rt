@@ -227,9 +227,9 @@ impl<'s> Fields for PackedOut<'s> {
             &mut self.drawn,
             &mut self.out,
         ) {
-            Ok(told) => {
+            Ok(answer) => {
                 self.place += 1;
-                Ok(told)
+                Ok(answer)
             }
             Err(why) => {
                 // Memory may have run out inside the item.

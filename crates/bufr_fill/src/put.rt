@@ -133,7 +133,7 @@ fn reference_in(drawn: FieldContent<'_>) -> i64
 #[inline(always)]
 #[tactic(auto, using(crate::proofs::DrawLemmas::told_count, crate::proofs::DrawLemmas::told_reference, crate::proofs::DrawLemmas::told_element, crate::proofs::DrawLemmas::told_inserted))]
 pub(crate) fn taken_of(drawn: FieldContent<'_>, spec: &Spec) -> Taken
-    ensures tells { result ≡ answer_of spec.now (content_drawn (spec.now.width / 8) drawn.entry) }
+    ensures gives { result ≡ answer_of spec.now (content_drawn (spec.now.width / 8) drawn.entry) }
     ensures shape { IsFor spec.now result }
 {
     match spec.role() {

@@ -246,7 +246,7 @@ module _ (table : List Sequence) (place : ℕ) (was : IsPassed table place) wher
         before = take place table;
         sequence = get_or table place d;
         after = drop (place + 1) table;
-        stands = sym (take-append-drop place table) ∙ ap (λ (rest : List Sequence). take place table ++ rest) (drop_more table place d inside);
+        split = sym (take-append-drop place table) ∙ ap (λ (rest : List Sequence). take place table ++ rest) (drop_more table place d inside);
         named = sym (get_or-map (λ (s : Sequence). s.fxy) table place d 0 inside) ∙ sym at;
         reaches = chain;
         first = λ k e below. earlier k e (omega (arith, length-take-le place table (omega arith)));

@@ -12,62 +12,62 @@ read_lay bare at tail x xs h = h
 read_lay (element fxy more) at tail x xs h = ap (prepend_cell (cell.Element fxy) (factor_first (cells_of more (at + 1) tail))) (read_lay more (at + 1) tail x xs h)
 read_lay (operator fxy more) at tail x xs h = ap (prepend_cell (cell.Operator fxy) (factor_first (cells_of more (at + 1) tail))) (read_lay more (at + 1) tail x xs h)
 read_lay (fixed n body more) at tail x xs h =
-    let behind : List Cell = cell.PassEnd ∷ cells_of more (at + 2 + size body) tail in
-    ap (prepend_cell (cell.Fixed n (at + 2 + size body)) (factor_first (cells_of body (at + 1) behind))) (read_lay body (at + 1) behind bare (join more x ∷ xs) (ap (λ ts. bare ∷ ts) (read_lay more (at + 2 + size body) tail x xs h)))
+    let suffix : List Cell = cell.PassEnd ∷ cells_of more (at + 2 + size body) tail in
+    ap (prepend_cell (cell.Fixed n (at + 2 + size body)) (factor_first (cells_of body (at + 1) suffix))) (read_lay body (at + 1) suffix bare (join more x ∷ xs) (ap (λ ts. bare ∷ ts) (read_lay more (at + 2 + size body) tail x xs h)))
     ∙ ap (λ b. fixed n b (join more x) ∷ xs) (join-bare body)
 read_lay (delayed fxy body more) at tail x xs h =
-    let behind : List Cell = cell.PassEnd ∷ cells_of more (at + 3 + size body) tail in
-    ap (prepend_cell (cell.Delayed (at + 3 + size body)) fxy) (read_lay body (at + 2) behind bare (join more x ∷ xs) (ap (λ ts. bare ∷ ts) (read_lay more (at + 3 + size body) tail x xs h)))
+    let suffix : List Cell = cell.PassEnd ∷ cells_of more (at + 3 + size body) tail in
+    ap (prepend_cell (cell.Delayed (at + 3 + size body)) fxy) (read_lay body (at + 2) suffix bare (join more x ∷ xs) (ap (λ ts. bare ∷ ts) (read_lay more (at + 3 + size body) tail x xs h)))
     ∙ ap (λ b. delayed fxy b (join more x) ∷ xs) (join-bare body)
 
 pub raised_lay : (t : Tree) → trees_of_cells (cells_of t 0 (cell.Finish ∷ [])) ≡ t
 raised_lay t = ap first_tree (read_lay t 0 (cell.Finish ∷ []) bare [] refl) ∙ join-bare t
 
 pub raised_laid : (cells : List Cell) (t : Tree) → AreCellsOf cells t → trees_of_cells cells ≡ t
-raised_laid cells t h = ap trees_of_cells h.laid ∙ raised_lay t
+raised_laid cells t h = ap trees_of_cells h.flattened ∙ raised_lay t
 
 pub kept_raised : (cells : List Cell) (depth_told : ℕ) (t : Tree) → IsTemplate cells depth_told t → IsTemplate cells depth_told (trees_of_cells cells)
 kept_raised cells depth_told t h = subst (IsTemplate cells depth_told) (sym (raised_laid cells t h.is_laid)) h
 
-pub length-lay : (t : Tree) (at : ℕ) (tail : List Cell) → length (cells_of t at tail) ≡ size t + length tail
-length-lay bare at tail = omega arith
-length-lay (element fxy more) at tail = omega (arith, length-lay more (at + 1) tail)
-length-lay (operator fxy more) at tail = omega (arith, length-lay more (at + 1) tail)
-length-lay (fixed n body more) at tail =
-    omega (arith, length-lay body (at + 1) (cell.PassEnd ∷ cells_of more (at + 2 + size body) tail), length-lay more (at + 2 + size body) tail)
-length-lay (delayed fxy body more) at tail =
-    omega (arith, length-lay body (at + 2) (cell.PassEnd ∷ cells_of more (at + 3 + size body) tail), length-lay more (at + 3 + size body) tail)
+pub length-cells : (t : Tree) (at : ℕ) (tail : List Cell) → length (cells_of t at tail) ≡ size t + length tail
+length-cells bare at tail = omega arith
+length-cells (element fxy more) at tail = omega (arith, length-cells more (at + 1) tail)
+length-cells (operator fxy more) at tail = omega (arith, length-cells more (at + 1) tail)
+length-cells (fixed n body more) at tail =
+    omega (arith, length-cells body (at + 1) (cell.PassEnd ∷ cells_of more (at + 2 + size body) tail), length-cells more (at + 2 + size body) tail)
+length-cells (delayed fxy body more) at tail =
+    omega (arith, length-cells body (at + 2) (cell.PassEnd ∷ cells_of more (at + 3 + size body) tail), length-cells more (at + 3 + size body) tail)
 
-pub length-laid : (cells : List Cell) (t : Tree) → AreCellsOf cells t → length cells ≡ places t
-length-laid cells t h = omega (arith, ap length h.laid, length-lay t 0 (cell.Finish ∷ []))
+pub length-flattened : (cells : List Cell) (t : Tree) → AreCellsOf cells t → length cells ≡ places t
+length-flattened cells t h = omega (arith, ap length h.flattened, length-cells t 0 (cell.Finish ∷ []))
 
 pub length-kept : (cells : List Cell) (depth_told : ℕ) (t : Tree) → IsTemplate cells depth_told t → length cells ≡ places t
-length-kept cells depth_told t h = length-laid cells t h.is_laid
+length-kept cells depth_told t h = length-flattened cells t h.is_laid
 
 -- a body, then the rest, then the tail
-lay_group : (body : Tree) (at : ℕ) (rest tail behind : List Cell) → ((t : List Cell) → cells_of body at t ≡ cells_of body at [] ++ t) → behind ≡ rest ++ tail → cells_of body at (cell.PassEnd ∷ behind) ≡ cells_of body at (cell.PassEnd ∷ rest) ++ tail
-lay_group body at rest tail behind h e =
-    h (cell.PassEnd ∷ behind) ∙ ap (λ l. cells_of body at [] ++ (cell.PassEnd ∷ l)) e ∙ sym (append_assoc (cells_of body at []) (cell.PassEnd ∷ rest) tail)
+lay_group : (body : Tree) (at : ℕ) (rest tail suffix : List Cell) → ((t : List Cell) → cells_of body at t ≡ cells_of body at [] ++ t) → suffix ≡ rest ++ tail → cells_of body at (cell.PassEnd ∷ suffix) ≡ cells_of body at (cell.PassEnd ∷ rest) ++ tail
+lay_group body at rest tail suffix h e =
+    h (cell.PassEnd ∷ suffix) ∙ ap (λ l. cells_of body at [] ++ (cell.PassEnd ∷ l)) e ∙ sym (append_assoc (cells_of body at []) (cell.PassEnd ∷ rest) tail)
     ∙ ap (λ l. l ++ tail) (sym (h (cell.PassEnd ∷ rest)))
 
-pub lay-tail : (t : Tree) (at : ℕ) (tail : List Cell) → cells_of t at tail ≡ cells_of t at [] ++ tail
-lay-tail bare at tail = refl
-lay-tail (element fxy more) at tail = ap (λ l. cell.Element fxy ∷ l) (lay-tail more (at + 1) tail)
-lay-tail (operator fxy more) at tail = ap (λ l. cell.Operator fxy ∷ l) (lay-tail more (at + 1) tail)
-lay-tail (fixed n body more) at tail =
+pub cells-tail : (t : Tree) (at : ℕ) (tail : List Cell) → cells_of t at tail ≡ cells_of t at [] ++ tail
+cells-tail bare at tail = refl
+cells-tail (element fxy more) at tail = ap (λ l. cell.Element fxy ∷ l) (cells-tail more (at + 1) tail)
+cells-tail (operator fxy more) at tail = ap (λ l. cell.Operator fxy ∷ l) (cells-tail more (at + 1) tail)
+cells-tail (fixed n body more) at tail =
     ap (λ l. cell.Fixed n (at + 2 + size body) ∷ l)
-    (lay_group body (at + 1) (cells_of more (at + 2 + size body) []) tail (cells_of more (at + 2 + size body) tail) (lay-tail body (at + 1)) (lay-tail more (at + 2 + size body) tail))
-lay-tail (delayed fxy body more) at tail =
+    (lay_group body (at + 1) (cells_of more (at + 2 + size body) []) tail (cells_of more (at + 2 + size body) tail) (cells-tail body (at + 1)) (cells-tail more (at + 2 + size body) tail))
+cells-tail (delayed fxy body more) at tail =
     ap (λ l. cell.Delayed (at + 3 + size body) ∷ cell.Factor fxy ∷ l)
-    (lay_group body (at + 2) (cells_of more (at + 3 + size body) []) tail (cells_of more (at + 3 + size body) tail) (lay-tail body (at + 2)) (lay-tail more (at + 3 + size body) tail))
+    (lay_group body (at + 2) (cells_of more (at + 3 + size body) []) tail (cells_of more (at + 3 + size body) tail) (cells-tail body (at + 2)) (cells-tail more (at + 3 + size body) tail))
 
-pub lay-join : (a b : Tree) (at : ℕ) (tail : List Cell) → cells_of (join a b) at tail ≡ cells_of a at (cells_of b (at + size a) tail)
-lay-join bare b at tail = ap (λ k. cells_of b k tail) (omega arith)
-lay-join (element fxy more) b at tail = ap (λ l. cell.Element fxy ∷ l) (lay-join more b (at + 1) tail ∙ ap (λ k. cells_of more (at + 1) (cells_of b k tail)) (omega arith))
-lay-join (operator fxy more) b at tail = ap (λ l. cell.Operator fxy ∷ l) (lay-join more b (at + 1) tail ∙ ap (λ k. cells_of more (at + 1) (cells_of b k tail)) (omega arith))
-lay-join (fixed n body more) b at tail =
+pub cells-join : (a b : Tree) (at : ℕ) (tail : List Cell) → cells_of (join a b) at tail ≡ cells_of a at (cells_of b (at + size a) tail)
+cells-join bare b at tail = ap (λ k. cells_of b k tail) (omega arith)
+cells-join (element fxy more) b at tail = ap (λ l. cell.Element fxy ∷ l) (cells-join more b (at + 1) tail ∙ ap (λ k. cells_of more (at + 1) (cells_of b k tail)) (omega arith))
+cells-join (operator fxy more) b at tail = ap (λ l. cell.Operator fxy ∷ l) (cells-join more b (at + 1) tail ∙ ap (λ k. cells_of more (at + 1) (cells_of b k tail)) (omega arith))
+cells-join (fixed n body more) b at tail =
     ap (λ l. cell.Fixed n (at + 2 + size body) ∷ cells_of body (at + 1) (cell.PassEnd ∷ l))
-    (lay-join more b (at + 2 + size body) tail ∙ ap (λ k. cells_of more (at + 2 + size body) (cells_of b k tail)) (omega arith))
-lay-join (delayed fxy body more) b at tail =
+    (cells-join more b (at + 2 + size body) tail ∙ ap (λ k. cells_of more (at + 2 + size body) (cells_of b k tail)) (omega arith))
+cells-join (delayed fxy body more) b at tail =
     ap (λ l. cell.Delayed (at + 3 + size body) ∷ cell.Factor fxy ∷ cells_of body (at + 2) (cell.PassEnd ∷ l))
-    (lay-join more b (at + 3 + size body) tail ∙ ap (λ k. cells_of more (at + 3 + size body) (cells_of b k tail)) (omega arith))
+    (cells-join more b (at + 3 + size body) tail ∙ ap (λ k. cells_of more (at + 3 + size body) (cells_of b k tail)) (omega arith))

@@ -195,4 +195,4 @@ sequences-law (first ∷ rest) table is = by (has_fields columns_d first) refl i
     by false e is = cc is
     by true e is =
         let add = rows-add 2 [] rest table is distinct-none in
-        record { first = first; rest = rest; stands = refl; named = e; rows = add.rows; written = add.written; members = add.members }
+        record { first = first; rest = rest; split = refl; named = e; rows = add.rows; written = add.written; members = add.members }

@@ -9,7 +9,7 @@ use Rattle.bufr_tables.specs.Cells.{cells_of, trees_of_cells, AreCellsOf, IsTemp
 use Rattle.bufr_tables.specs.Expansion.{Tables, ◌>>=◌, unless, level, inner_of, first_of, tree_of, max_open}
 use Rattle.bufr_tables.specs.Growth.{BuilderModel, growth, places_so_far, push_tree, PushesTree, IsFaultOrMemory}
 use Rattle.bufr_tables.proofs.SoundLemmas.{tree_fine}
-use Rattle.bufr_tables.proofs.Laying.{lay-tail, length-lay, raised_laid, kept_raised}
+use Rattle.bufr_tables.proofs.Laying.{cells-tail, length-cells, raised_laid, kept_raised}
 use Rattle.bufr_tables.proofs.GrowthLemmas.{same_growth}
 
 -- what is left of the definition behind the list
@@ -57,12 +57,12 @@ whole-ok tables list start new es puts full =
       depth_is = ap (λ (g : BuilderModel). g.deep) tree_is;
     }
 
-whole-laid : (tables : Tables) (list : List ℕ) (new : BuilderModel) (cells : List Cell) (whole : IsWhole tables list new) → cells ≡ new.cells ++ cell.Finish ∷ [] → length new.cells + new.groups < 65535 → AreCellsOf cells whole.tree
-whole-laid tables list new cells whole e within =
+whole-flattened : (tables : Tables) (list : List ℕ) (new : BuilderModel) (cells : List Cell) (whole : IsWhole tables list new) → cells ≡ new.cells ++ cell.Finish ∷ [] → length new.cells + new.groups < 65535 → AreCellsOf cells whole.tree
+whole-flattened tables list new cells whole e within =
     let fine = tree_fine tables list whole.tree whole.is_defined in
     record {
-      laid = e ∙ ap (λ l. l ++ cell.Finish ∷ []) whole.cells_are ∙ sym (lay-tail whole.tree 0 (cell.Finish ∷ []));
-      within = omega (arith, whole.groups_are, ap length whole.cells_are, length-lay whole.tree 0 []);
+      flattened = e ∙ ap (λ l. l ++ cell.Finish ∷ []) whole.cells_are ∙ sym (cells-tail whole.tree 0 (cell.Finish ∷ []));
+      within = omega (arith, whole.groups_are, ap length whole.cells_are, length-cells whole.tree 0 []);
       shallow = fine.shallow;
       sound = fine.sound;
       legal = fine.legal;
@@ -76,8 +76,8 @@ pub record IsBuilt (tables : Tables) (list : List ℕ) (cells : List Cell) (dept
 -- with the end of the template behind the cells
 pub whole-built : (tables : Tables) (list : List ℕ) (new : BuilderModel) (cells : List Cell) → IsWhole tables list new → cells ≡ new.cells ++ cell.Finish ∷ [] → length new.cells + new.groups < 65535 → IsBuilt tables list cells new.deep
 whole-built tables list new cells whole e within =
-    let laid = whole-laid tables list new cells whole e within in
+    let flattened = whole-flattened tables list new cells whole e within in
     record {
-      is_kept = kept_raised cells new.deep whole.tree (record { is_laid = laid; depth_is = whole.depth_is });
-      is_defined = whole.is_defined ∙ ap Ok (sym (raised_laid cells whole.tree laid));
+      is_kept = kept_raised cells new.deep whole.tree (record { is_laid = flattened; depth_is = whole.depth_is });
+      is_defined = whole.is_defined ∙ ap Ok (sym (raised_laid cells whole.tree flattened));
     }

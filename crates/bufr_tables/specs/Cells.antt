@@ -52,7 +52,7 @@ trees_of_cells cells = first_tree (read_cells cells)
 
 -- cells are the layout of a tree as a walk relies on it
 pub record AreCellsOf (cells : List Cell) (tree : Tree) : Type 0 where
-  pub laid : cells ≡ cells_of tree 0 (cell.Finish ∷ [])
+  pub flattened : cells ≡ cells_of tree 0 (cell.Finish ∷ [])
   pub within : places tree ≤ 65535
   pub shallow : depth tree ≤ 32
   pub sound : IsSound tree

@@ -147,7 +147,7 @@ table_b_of records = table_of columns_b with_record_b [] records
 pub record AreRows (records : List Record) (table : List Row) : Type 0 where
   pub first : Record
   pub rest : List Record
-  pub stands : records ≡ first ∷ rest
+  pub split : records ≡ first ∷ rest
   pub named : has_fields columns_b first ≡ true
   pub rows : map row_of rest ≡ map Some table
   pub distinct : IsDistinct nat_eq (map (λ row. row.fxy) table)

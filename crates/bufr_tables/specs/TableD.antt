@@ -100,7 +100,7 @@ members_in (row ∷ rows) fxy =
 pub record AreSequences (records : List Record) (table : List Sequence) : Type 0 where
   pub first : Record
   pub rest : List Record
-  pub stands : records ≡ first ∷ rest
+  pub split : records ≡ first ∷ rest
   pub named : has_fields columns_d first ≡ true
   pub rows : List Member
   pub written : map member_of rest ≡ map Some rows

@@ -20,4 +20,4 @@ pub record IsAnswer (tables : Tables) (list : List ℕ)
     (answer : Result Tree TemplateFault) : Type 0 where
   pub is_defined : tree_of tables list ≡ answer
   pub within : IfOk answer (λ template. places template ≤ 65535)
-  pub told : IfErr answer (λ why. why ≢ Memory)
+  pub reported : IfErr answer (λ why. why ≢ Memory)

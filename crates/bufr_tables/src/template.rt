@@ -160,7 +160,7 @@ impl Template {
     /// group are [`Cell::Fixed`], or [`Cell::Delayed`] and [`Cell::Factor`], then those of its
     /// body, then [`Cell::PassEnd`]; the last cell is [`Cell::Finish`]. Takes no memory.
     pub fn cells(&self) -> &[Cell]
-        ensures laid { AreCellsOf result.now self.now }
+        ensures flattened { AreCellsOf result.now self.now }
         ensures count { length result.now ≡ places_of self.now }
     {
         self.cells.as_slice()

@@ -40,9 +40,9 @@ pub named_digits : (name copied free line : List ℕ) (value count start : ℕ) 
     → drop start line ≡ decimal value ++ drop (length name + count) (copied ++ drop (length name) free) → take start line ≡ take start (copied ++ drop (length name) free) → take (length name + count) line ≡ name ++ decimal value
 named_digits name copied free line value count start same digits sum written before =
     let rest = drop (length name) free in
-    let behind = drop (length name + count) (copied ++ rest) in
+    let suffix = drop (length name + count) (copied ++ rest) in
     let is : start ≡ length name = omega (arith, sum, digits) in
-    let front : take start line ≡ name = before ∙ ap (λ l. take start (l ++ rest)) same ∙ ap (λ n. take n (name ++ rest)) is ∙ take-append_seam name rest in
-    let whole : line ≡ name ++ (decimal value ++ behind) = sym (take-append-drop start line) ∙ ap (λ l. l ++ drop start line) front ∙ ap (λ l. name ++ l) written in
-    ap (take (length name + count)) whole ∙ take-append-add name (decimal value ++ behind) count
-    ∙ ap (λ n. name ++ take n (decimal value ++ behind)) digits ∙ ap (λ l. name ++ l) (take-append_seam (decimal value) behind)
+    let prefix : take start line ≡ name = before ∙ ap (λ l. take start (l ++ rest)) same ∙ ap (λ n. take n (name ++ rest)) is ∙ take-append_seam name rest in
+    let whole : line ≡ name ++ (decimal value ++ suffix) = sym (take-append-drop start line) ∙ ap (λ l. l ++ drop start line) prefix ∙ ap (λ l. name ++ l) written in
+    ap (take (length name + count)) whole ∙ take-append-add name (decimal value ++ suffix) count
+    ∙ ap (λ n. name ++ take n (decimal value ++ suffix)) digits ∙ ap (λ l. name ++ l) (take-append_seam (decimal value) suffix)

@@ -14,37 +14,37 @@ use Rattle.bufr_text.specs.Writing.{Writes, GrowsByPrefix}
 use Rattle.bufr_text.proofs.WritingLemmas.{WrittenSoFar}
 
 -- a front of a text is one of a longer text
-pub front-longer : (a b : Option (List ℕ)) (s t : List ℕ) → GrowsByPrefix a b s → GrowsByPrefix a b (s ++ t)
-front-longer a b s t first = record {
-  front = first.front;
+pub prefix-longer : (a b : Option (List ℕ)) (s t : List ℕ) → GrowsByPrefix a b s → GrowsByPrefix a b (s ++ t)
+prefix-longer a b s t first = record {
+  prefix = first.prefix;
   back = first.back ++ t;
-  parts = ap (λ l. l ++ t) first.parts ∙ append_assoc first.front first.back t;
+  parts = ap (λ l. l ++ t) first.parts ∙ append_assoc first.prefix first.back t;
   gains = first.gains;
 }
 
 -- a text was written, and then a front of another one
-pub front-behind : (a b c : Option (List ℕ)) (s t : List ℕ) → Appends a b s → GrowsByPrefix b c t → GrowsByPrefix a c (s ++ t)
-front-behind a b c s t first second = record {
-  front = s ++ second.front;
+pub prefix-after : (a b c : Option (List ℕ)) (s t : List ℕ) → Appends a b s → GrowsByPrefix b c t → GrowsByPrefix a c (s ++ t)
+prefix-after a b c s t first second = record {
+  prefix = s ++ second.prefix;
   back = second.back;
-  parts = ap (λ l. s ++ l) second.parts ∙ sym (append_assoc s second.front second.back);
-  gains = Appends-trans a b c s second.front first second.gains;
+  parts = ap (λ l. s ++ l) second.parts ∙ sym (append_assoc s second.prefix second.back);
+  gains = Appends-trans a b c s second.prefix first second.gains;
 }
 
 -- nothing was written
-pub front-none : (a : Option (List ℕ)) (text : List ℕ) → GrowsByPrefix a a text
-front-none a text = record { front = []; back = text; parts = refl; gains = Appends-nil a }
+pub prefix-none : (a : Option (List ℕ)) (text : List ℕ) → GrowsByPrefix a a text
+prefix-none a text = record { prefix = []; back = text; parts = refl; gains = Appends-nil a }
 
 -- the first was written, and then the second
 pub WritesFront-then : {X : Type 0} (a b c : Option (List ℕ)) (s t : List ℕ) (r : Result X RunFault) → Appends a b s → WritesPrefix b c t r → WritesPrefix a c (s ++ t) r
 WritesFront-then a b c s t (Ok x) first second = Appends-trans a b c s t first second
-WritesFront-then a b c s t (Err f) first second = front-behind a b c s t first second
+WritesFront-then a b c s t (Err f) first second = prefix-after a b c s t first second
 
 -- the first was not written whole
 pub WritesFront-stop : {X Y : Type 0} (a b : Option (List ℕ)) (s t : List ℕ) (first : Result X RunFault) (r : Result Y RunFault) (f g : RunFault) → first ≡ Err f → r ≡ Err g → WritesPrefix a b s first → WritesPrefix a b (s ++ t) r
 WritesFront-stop a b s t first r f g is same writes =
     let here = rw is at writes in
-    rw same (front-longer a b s t here)
+    rw same (prefix-longer a b s t here)
 
 -- a write that failed is all that can be wrong
 pub WritesFront-writes : {X : Type 0} (a b : Option (List ℕ)) (text : List ℕ) (r : Result X RunFault) → Writes a b text r → WritesPrefix a b text r
@@ -66,15 +66,15 @@ CountsFaults-of X Y f f' e e' InputTooLong counts = absurd counts
 
 -- Part of a text was written, and the rest is left; then a stretch of the rest.
 module _ (a b c : Option (List ℕ)) (whole rest here more : List ℕ) (before : WrittenSoFar a b whole rest) (next : rest ≡ here ++ more) where
-  so-far-whole : whole ≡ before.front ++ (here ++ more)
-  so-far-whole = before.parts ∙ ap (λ l. before.front ++ l) next
+  so-far-whole : whole ≡ before.prefix ++ (here ++ more)
+  so-far-whole = before.parts ∙ ap (λ l. before.prefix ++ l) next
 
   -- it was written
   pub so-far-on : Appends b c here → WrittenSoFar a c whole more
   so-far-on gains = record {
-    front = before.front ++ here;
-    parts = so-far-whole ∙ sym (append_assoc before.front here more);
-    gains = Appends-trans a b c before.front here before.gains gains;
+    prefix = before.prefix ++ here;
+    parts = so-far-whole ∙ sym (append_assoc before.prefix here more);
+    gains = Appends-trans a b c before.prefix here before.gains gains;
   }
 
   -- it was not written whole
@@ -82,13 +82,13 @@ module _ (a b c : Option (List ℕ)) (whole rest here more : List ℕ) (before :
   so-far-stop first r f g is same writes =
       let fails = rw is at writes in
       let P : List ℕ → Type 0 = λ t. GrowsByPrefix a c t in
-      rw same (subst P (sym so-far-whole) (front-behind a b c before.front (here ++ more) before.gains (front-longer b c here more fails)))
+      rw same (subst P (sym so-far-whole) (prefix-after a b c before.prefix (here ++ more) before.gains (prefix-longer b c here more fails)))
 
 -- nothing is left
 pub so-far-end : (a b : Option (List ℕ)) (whole rest : List ℕ) → WrittenSoFar a b whole rest → rest ≡ [] → Appends a b whole
 so-far-end a b whole rest before none =
     let P : List ℕ → Type 0 = λ t. Appends a b t in
-    subst P (sym (before.parts ∙ ap (λ l. before.front ++ l) none ∙ append-nil before.front)) before.gains
+    subst P (sym (before.parts ∙ ap (λ l. before.prefix ++ l) none ∙ append-nil before.prefix)) before.gains
 
 -- a list in runs: the first and the others
 runs-skip : (skip less : ℕ) (xs : List ℕ) → runs_behind skip (suc less) xs ≡ runs_behind 0 (suc less) (drop skip xs)
@@ -127,17 +127,17 @@ cut-run n m xs is = by (cases_lt (length xs) n)
         (ap (λ k. take k xs) same, ap (λ k. drop k xs) same)
 
 -- the lines of octets behind a word: the first and the others
-pub octet-lines-next : (f : List ℕ → List ℕ) (less m : ℕ) (rest run behind : List ℕ) → 0 < length rest → m ≡ min (length rest) (suc less) → run ≡ take m rest → behind ≡ drop m rest
-    → text_of_lines (map f (runs_of (suc less) rest)) ≡ (f run ++ 10 ∷ []) ++ text_of_lines (map f (runs_of (suc less) behind))
-octet-lines-next f less m rest run behind some is front back =
+pub octet-lines-next : (f : List ℕ → List ℕ) (less m : ℕ) (rest run suffix : List ℕ) → 0 < length rest → m ≡ min (length rest) (suc less) → run ≡ take m rest → suffix ≡ drop m rest
+    → text_of_lines (map f (runs_of (suc less) rest)) ≡ (f run ++ 10 ∷ []) ++ text_of_lines (map f (runs_of (suc less) suffix))
+octet-lines-next f less m rest run suffix some is prefix back =
     let cut = cut-run (suc less) m rest is in
     lines-next f less rest some
-    ∙ ap (λ l. (f l ++ 10 ∷ []) ++ text_of_lines (map f (runs_of (suc less) (drop (suc less) rest)))) (sym (front ∙ cut.0))
+    ∙ ap (λ l. (f l ++ 10 ∷ []) ++ text_of_lines (map f (runs_of (suc less) (drop (suc less) rest)))) (sym (prefix ∙ cut.0))
     ∙ ap (λ l. (f run ++ 10 ∷ []) ++ text_of_lines (map f (runs_of (suc less) l))) (sym (back ∙ cut.1))
 
 -- nothing was written before memory ran out
 pub WritesFront-none : {X : Type 0} (a : Option (List ℕ)) (text : List ℕ) (r : Result X RunFault) (f : RunFault) → r ≡ Err f → WritesPrefix a a text r
-WritesFront-none a text r f is = rw is (front-none a text)
+WritesFront-none a text r f is = rw is (prefix-none a text)
 
 -- whether anything is left
 pub some-left : (b : Bool) (xs : List ℕ) → IsTrue b ↔ (xs ≡ []) → b ≡ false → 0 < length xs

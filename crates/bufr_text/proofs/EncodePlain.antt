@@ -42,7 +42,7 @@ mul_most n a b h =
 
 -- a walk stays in its subset
 record Keeps (s s' : PlainOutModel) : Type 0 where
-  behind : left_behind s'.left ≡ left_behind s.left
+  suffix : left_behind s'.left ≡ left_behind s.left
   end : end_left s'.left ≡ end_left s.left
   count : length (subsets_of s'.left) ≡ length (subsets_of s.left)
 
@@ -51,11 +51,11 @@ onto_same d [] = refl
 onto_same d (s ∷ ss) = refl
 
 keeps : (course : Course) (s : PlainOutModel) (items : List TakenField) (s' : PlainOutModel) → Takes (oks PlainFills) course s items s' → Keeps s s'
-keeps course s [] s' h = record { behind = ap (λ (p : PlainOutModel). left_behind p.left) h; end = ap (λ (p : PlainOutModel). end_left p.left) h; count = ap (λ (p : PlainOutModel). length (subsets_of p.left)) h }
+keeps course s [] s' h = record { suffix = ap (λ (p : PlainOutModel). left_behind p.left) h; end = ap (λ (p : PlainOutModel). end_left p.left) h; count = ap (λ (p : PlainOutModel). length (subsets_of p.left)) h }
 keeps course s (i ∷ items) s' h =
-    let k = keeps (λ told. course (i.taken ∷ told)) h.0 items s' h.3 in
+    let k = keeps (λ results. course (i.taken ∷ results)) h.0 items s' h.3 in
     record {
-      behind = k.behind ∙ sym (ap left_behind h.2.here);
+      suffix = k.suffix ∙ sym (ap left_behind h.2.here);
       end = k.end ∙ sym (ap end_left h.2.here);
       count = k.count ∙ sym (ap (λ x. length (subsets_of x)) h.2.here ∙ onto_same h.2.draft (subsets_of h.0.left));
     }
@@ -108,7 +108,7 @@ subset_written n course s c mid c' s' w passed same few =
       bits = filled.0;
       is = filled.2 ∙ ap (and_behind (plain_filler end) filled.0) none.0 ∙ ap Ok (append-nil filled.0);
       written = same ∙ filled.1;
-      left = sym none.1 ∙ k.behind;
+      left = sym none.1 ∙ k.suffix;
       made = all_turns course s c mid c' w;
       few = subst (λ x. c' ≤ c + n * x) e few;
     }
@@ -125,12 +125,12 @@ refused_later course s mid items f h x =
 pub subset_over : (n : ℕ) (course : Course) (s : PlainOutModel) (c : ℕ) (mid : PlainOutModel) (c' : ℕ) (e : DraftFault) (why : DocumentFault) → Walked PlainFills course s c (Ok tt) mid c' → 1 ≤ length (subsets_of s.left)
     → (f : FaultAt) × (draft_fault e ≡ Some f) × (behind_end mid.left ≡ Err f) → told_refusal why ≡ option_map told_of_draft (draft_fault e) → c' ≤ c + n * (length mid.bits - length s.bits)
     → IsNoSubset n course s c why c'
-subset_over n course s c mid c' e why w some fault told few =
+subset_over n course s c mid c' e why w some fault results few =
     let k = keeps course s w.0 mid w.1 in
     let is = refused_later course s mid w.0 fault.0 w.1 (subst (λ n. IsFaultNext n mid.left fault.0) (sym w.2) (some_left mid.left (omega (arith, some, k.count)), fault.2)) in
     let count = counts (end_left s.left) course s w.0 mid w.1 in
     record {
-      refuses = refuses_so (draft_fault e) (told_refusal why) (fill_next course s.left) told (λ f h. is ∙ ap Err (same fault.0 f (sym fault.1 ∙ h)));
+      refuses = refuses_so (draft_fault e) (told_refusal why) (fill_next course s.left) results (λ f h. is ∙ ap Err (same fault.0 f (sym fault.1 ∙ h)));
       made = all_made (told_refusal why) c (turns_next course s.left) c' (all_turns course s c mid c' w);
       few = omega (arith, few, mul_most n (length mid.bits - length s.bits) (count_next course s.left + 1) (omega (arith, count)));
     }
@@ -167,15 +167,15 @@ still (refused r) mid stop s' h = h.1
 pub subset_stopped : (n : ℕ) (course : Course) (s : PlainOutModel) (c : ℕ) (s' : PlainOutModel) (c' line : ℕ) (stop : WalkStop DraftFault) (why : DocumentFault) → AddsTurns course → Walked PlainFills course s c (Err stop) s' c' → line ≡ line_at s'.left
     → told_refusal why ≡ option_map told_of_draft (told_stop line stop) → c' ≤ c + n * (length s'.bits - length s.bits + 1)
     → IsNoSubset n course s c why c'
-subset_stopped n course s c s' c' line stop why g w at told few =
+subset_stopped n course s c s' c' line stop why g w at results few =
     let next = (course (answers_of w.0)).next in
     let filler = plain_filler (end_left s.left) in
     let all = turns_next course s.left in
     let left = turns_left course s w.0 w.1 w.2 in
     let count = counts (end_left s.left) course s w.0 w.1 w.2 in
     record {
-      refuses = refuses_so (told_stop line stop) (told_refusal why) (fill_next course s.left) told (λ f t. refused_later course s w.1 w.0 f w.2 (told_next line next w.1 stop s' f w.3 at t));
-      made = makes_so (told_stop line stop) (told_refusal why) c all c' told
+      refuses = refuses_so (told_stop line stop) (told_refusal why) (fill_next course s.left) results (λ f t. refused_later course s w.1 w.0 f w.2 (told_next line next w.1 stop s' f w.3 at t));
+      made = makes_so (told_stop line stop) (told_refusal why) c all c' results
           (omega (arith, w.4, ticked_at_most c (course (answers_of w.0)).turns all (some_turns filler course w.0 (items_left w.1.left) all g left)))
           (λ f t. w.4 ∙ ap (ticked c) (last_turns filler course w.0 (items_left w.1.left) next all left refl (fault_is_last (end_left s.left) next w.1.left f (told_next line next w.1 stop s' f w.3 at t))));
       few = omega (arith, few, mul_most n (length s'.bits - length s.bits + 1) (count_next course s.left + 1) (omega (arith, count, ap (λ (p : PlainOutModel). length p.bits) (still next w.1 stop s' w.3))));
@@ -223,29 +223,29 @@ unfolding put_before
 one_more n course all done s steps s' steps' h some p =
     let first = subset (items_left s.left) (end_left s.left) in
     let c = cut s.left some in
-    let behind : subsets_of (left_behind s.left) ≡ subsets_of s'.left = ap subsets_of (sym p.left) in
+    let suffix : subsets_of (left_behind s.left) ≡ subsets_of s'.left = ap subsets_of (sym p.left) in
     let long = ap length p.written ∙ length-append s.bits p.bits in
     record {
       is = h.is ∙ ap (λ x. put_before s.bits (plain_data course x)) c
           ∙ ap (put_before s.bits) (then_rest (fill_next course s.left) p.is (subsets_of (left_behind s.left)))
           ∙ twice s.bits p.bits (plain_data course (subsets_of (left_behind s.left)))
           ∙ ap (λ b. put_before b (plain_data course (subsets_of (left_behind s.left)))) (sym p.written)
-          ∙ ap (λ x. put_before s'.bits (plain_data course x)) behind;
+          ∙ ap (λ x. put_before s'.bits (plain_data course x)) suffix;
       count =
           let a = ap (count_plain course) c in
           let b = ap (λ r. count_after r (count_plain course (subsets_of (left_behind s.left)))) p.is in
           let d = all_counted (plain_filler (end_left s.left)) course (items_left s.left) p.bits p.is in
-          let e = ap (count_plain course) behind in
+          let e = ap (count_plain course) suffix in
           omega (arith, h.count, a, b, d, e, long);
       made = h.made + turns_next course s.left;
       ticks = p.made ∙ ap (λ x. ticked x (turns_next course s.left)) h.ticks ∙ ticked_more h.made (turns_next course s.left);
       turns =
           let a = ap (turns_plain course) c in
           let b = ap (λ r. count_after r (turns_plain course (subsets_of (left_behind s.left)))) p.is in
-          let e = ap (turns_plain course) behind in
+          let e = ap (turns_plain course) suffix in
           omega (arith, h.turns, a, b, e);
       few = omega (arith, h.few, p.few, split n (length s.bits) (length p.bits), ap (λ x. n * x) long);
-      rest = omega (arith, h.rest, ap length c, ap length behind);
+      rest = omega (arith, h.rest, ap length c, ap length suffix);
     }
   where
     twice : (a b : List Bool) (r : Result (List Bool) FaultAt) → put_before a (put_before b r) ≡ put_before (a ++ b) r

@@ -46,7 +46,7 @@ use Rattle.bufr_text.specs.EncodingFault.{IsDocumentRefusal, told_refusal}
 use Rattle.bufr_text.specs.Form.{compressed_by}
 use Rattle.bufr_text.specs.InForm.{each_subset, HasReadingIn, IsForForm, IsFormed, IsFaultIn, EncodesForm}
 use Rattle.bufr_text.proofs.DumpableLemmas.{octets_are, sections_given}
-use Rattle.bufr_text.proofs.RoundTripLemmas.{all_apart, all_together, bit_back, section2_back, padded, payload_bits, size_is, enough, behind, encoded_again}
+use Rattle.bufr_text.proofs.RoundTripLemmas.{all_apart, all_together, bit_back, section2_back, padded, payload_bits, size_is, enough, suffix, encoded_again}
 use Rattle.bufr_text.proofs.EncodeWhole.{as_written, no_data}
 use Rattle.bufr_text.proofs.FramedLemmas.{octets_small, framed}
 use Rattle.bufr_text.proofs.RowsLemmas.{rows-read, good-rows}
@@ -77,7 +77,7 @@ pub plain_reading : (course : Course) (subsets : List (List (reading.Item Conten
 plain_reading course subsets n out w octets more e = (
   refl,
   enough out more (bits_of octets) e,
-  subst (λ b. IsPlainReading n course subsets b (drop (length out) (bits_of octets))) (sym e) (subst (λ b. IsPlainReading n course subsets (out ++ more) b) (sym (behind out more (bits_of octets) e)) (w more)),
+  subst (λ b. IsPlainReading n course subsets b (drop (length out) (bits_of octets))) (sym e) (subst (λ b. IsPlainReading n course subsets (out ++ more) b) (sym (suffix out more (bits_of octets) e)) (w more)),
 )
 
 pub packed_reading : (course : Course) (items : List (reading.Item (List Content))) (n : ℕ) (out : List Bool) → ((more : List Bool) → IsPackedReading n course items (out ++ more) more) → (octets : List ℕ) (more : List Bool) → bits_of octets ≡ out ++ more
@@ -85,7 +85,7 @@ pub packed_reading : (course : Course) (items : List (reading.Item (List Content
 packed_reading course items n out w octets more e = (
   refl,
   enough out more (bits_of octets) e,
-  subst (λ b. IsPackedReading n course items b (drop (length out) (bits_of octets))) (sym e) (subst (λ b. IsPackedReading n course items (out ++ more) b) (sym (behind out more (bits_of octets) e)) (w more)),
+  subst (λ b. IsPackedReading n course items b (drop (length out) (bits_of octets))) (sym e) (subst (λ b. IsPackedReading n course items (out ++ more) b) (sym (suffix out more (bits_of octets) e)) (w more)),
 )
 
 -- the bits that are written for a message's values in a form, and what is read from them
@@ -189,7 +189,7 @@ module _ (form : Form) (table : List Row) (sequences : List Sequence) (m : List 
       record {
         few = omega (arith, few, long);
         octets = octets_small s.head parts given.head given.local1 given.section2 given.descriptors given.few (octets_are payload (octets_in-are ((length f.out + 7) / 8) (f.out ++ padding (length f.out)) (padded f.out))) few;
-        framed = λ at behind. framed s.head parts at behind long;
+        framed = λ at suffix. framed s.head parts at suffix long;
         sections = sections_from s.head parts;
         are = back;
         same = record { head = refl; local1 = refl; section2 = refl; descriptors = refl; subsets = refl; observed = refl; compressed = refl };

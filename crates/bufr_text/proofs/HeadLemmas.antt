@@ -41,9 +41,9 @@ origin-is s h same =
     ∙ sym (ap (λ l. codes "message\n" ++ l) (header-text 0 (take 10 (header_of s))))
 
 -- the first lines, laid from their end
-pub origin-laid : (s : Sections) (h : Head) (line two one rest : List ℕ) → h ≡ s.head → line ≡ two → two ≡ joined_onto (origin_texts h) one → one ≡ joined_onto (category_texts h) rest → rest ≡ []
+pub origin-written : (s : Sections) (h : Head) (line two one rest : List ℕ) → h ≡ s.head → line ≡ two → two ≡ joined_onto (origin_texts h) one → one ≡ joined_onto (category_texts h) rest → rest ≡ []
     → line ≡ text_of_lines (codes "message" ∷ header_lines 0 (take 10 (header_of s)))
-origin-laid s h line two one rest head whole origin category none =
+origin-written s h line two one rest head whole origin category none =
     whole ∙ origin ∙ ap (joined_onto (origin_texts h)) (category ∙ ap (joined_onto (category_texts h)) none) ∙ origin-is s h head
 
 flag-is : (on : Bool) → flag on ≡ decimal (bit on)
@@ -68,22 +68,22 @@ date-is s =
     ∙ sym (header-text 10 (drop 10 (header_of s)))
 
 -- the flags and the number of subsets, from what a message answers
-pub counts-are : {X : Type 0} (f : X → List ℕ) (s : Sections) (observed compressed optional : Bool) (section2 : Option X) (subsets : ℕ) (behind : List ℕ)
+pub counts-are : {X : Type 0} (f : X → List ℕ) (s : Sections) (observed compressed optional : Bool) (section2 : Option X) (subsets : ℕ) (suffix : List ℕ)
     → observed ≡ s.observed → compressed ≡ s.compressed → option_map f section2 ≡ s.section2 → optional ≡ is_some section2 → subsets ≡ s.subsets
-    → joined_onto (counts_texts (flag observed) (flag compressed) (flag optional) subsets) behind
-    ≡ joined_onto (counts_texts (flag s.observed) (flag s.compressed) (flag (is_some s.section2)) s.subsets) behind
-counts-are f s observed compressed optional section2 subsets behind first second sections third count =
+    → joined_onto (counts_texts (flag observed) (flag compressed) (flag optional) subsets) suffix
+    ≡ joined_onto (counts_texts (flag s.observed) (flag s.compressed) (flag (is_some s.section2)) s.subsets) suffix
+counts-are f s observed compressed optional section2 subsets suffix first second sections third count =
     let there : optional ≡ is_some s.section2 = third ∙ sym (is_some-map f section2) ∙ ap is_some sections in
-    ap (λ x. joined_onto (counts_texts (flag x) (flag compressed) (flag optional) subsets) behind) first
-    ∙ ap (λ x. joined_onto (counts_texts (flag s.observed) (flag x) (flag optional) subsets) behind) second
-    ∙ ap (λ x. joined_onto (counts_texts (flag s.observed) (flag s.compressed) (flag x) subsets) behind) there
-    ∙ ap (λ x. joined_onto (counts_texts (flag s.observed) (flag s.compressed) (flag (is_some s.section2)) x) behind) count
+    ap (λ x. joined_onto (counts_texts (flag x) (flag compressed) (flag optional) subsets) suffix) first
+    ∙ ap (λ x. joined_onto (counts_texts (flag s.observed) (flag x) (flag optional) subsets) suffix) second
+    ∙ ap (λ x. joined_onto (counts_texts (flag s.observed) (flag s.compressed) (flag x) subsets) suffix) there
+    ∙ ap (λ x. joined_onto (counts_texts (flag s.observed) (flag s.compressed) (flag (is_some s.section2)) x) suffix) count
 
 -- the last lines, laid from their end
-pub date-laid : (s : Sections) (h : Head) (line two one rest : List ℕ) → h ≡ s.head → line ≡ two → two ≡ joined_onto (date_texts h) one
+pub date-written : (s : Sections) (h : Head) (line two one rest : List ℕ) → h ≡ s.head → line ≡ two → two ≡ joined_onto (date_texts h) one
     → one ≡ joined_onto (counts_texts (flag s.observed) (flag s.compressed) (flag (is_some s.section2)) s.subsets) rest → rest ≡ []
     → line ≡ text_of_lines (header_lines 10 (drop 10 (header_of s)))
-date-laid s h line two one rest head whole date counts none =
+date-written s h line two one rest head whole date counts none =
     let C = counts_texts (flag s.observed) (flag s.compressed) (flag (is_some s.section2)) s.subsets in
     whole ∙ date ∙ ap (joined_onto (date_texts h)) (counts ∙ ap (joined_onto C) none) ∙ ap (λ x. joined_onto (date_texts x) (joined_onto C [])) head ∙ date-is s
 

@@ -8,17 +8,17 @@ use Rattle.bufr_bits.specs.DecimalText.{decimal_text_of, unsigned_text, pointed}
 use Rattle.bufr_text.specs.Grammar.{escaped, quoted}
 
 -- with one more octet of a text in quotes
-pub quoted-more : (octets laid line behind : List ℕ) (left : ℕ) → left < length octets → line ≡ quoted (drop (left + 1) octets) ++ behind → laid ≡ escaped (get_or octets left 0) ++ line → laid ≡ quoted (drop left octets) ++ behind
+pub quoted-more : (octets written line suffix : List ℕ) (left : ℕ) → left < length octets → line ≡ quoted (drop (left + 1) octets) ++ suffix → written ≡ escaped (get_or octets left 0) ++ line → written ≡ quoted (drop left octets) ++ suffix
 unfolding quoted
-quoted-more octets laid line behind left within so more =
+quoted-more octets written line suffix left within so more =
     more ∙ ap (λ l. escaped (get_or octets left 0) ++ l) so
-    ∙ sym (append_assoc (escaped (get_or octets left 0)) (quoted (drop (left + 1) octets)) behind)
-    ∙ ap (λ l. quoted l ++ behind) (sym (drop_more octets left 0 within))
+    ∙ sym (append_assoc (escaped (get_or octets left 0)) (quoted (drop (left + 1) octets)) suffix)
+    ∙ ap (λ l. quoted l ++ suffix) (sym (drop_more octets left 0 within))
 
 -- of a text in quotes nothing but the quote that closes it
-pub quoted-none : (octets line behind : List ℕ) (left : ℕ) → left ≡ length octets → line ≡ 34 ∷ behind → line ≡ quoted (drop left octets) ++ behind
+pub quoted-none : (octets line suffix : List ℕ) (left : ℕ) → left ≡ length octets → line ≡ 34 ∷ suffix → line ≡ quoted (drop left octets) ++ suffix
 unfolding quoted
-quoted-none octets line behind left none is = is ∙ ap (λ l. quoted l ++ behind) (sym (drop_all left octets (omega (arith, none))))
+quoted-none octets line suffix left none is = is ∙ ap (λ l. quoted l ++ suffix) (sym (drop_all left octets (omega (arith, none))))
 
 none-below : (n : ℕ) → int_lt (pos n) (pos 0) ≡ false
 none-below n = grind (arith, nat_tests)
@@ -48,21 +48,21 @@ unsigned-plain (suc n) (negsuc m) places count h e z =
     ap (λ (k : ℕ). decimal (suc n) ++ replicate k 48) more
 
 -- the same, laid before what is behind
-pub laid-pointed : (laid digits behind : List ℕ) (n : ℕ) (scale : ℤ) (places : ℕ) → int_lt (pos 0) scale ≡ true → places ≡ unsigned_abs scale → digits ≡ decimal n → laid ≡ pointed places digits ++ behind → laid ≡ unsigned_text n scale ++ behind
-laid-pointed laid digits behind n scale places h e d is = is ∙ ap (λ t. pointed places t ++ behind) d ∙ ap (λ t. t ++ behind) (unsigned-pointed n scale places h e)
+pub written-pointed : (written digits suffix : List ℕ) (n : ℕ) (scale : ℤ) (places : ℕ) → int_lt (pos 0) scale ≡ true → places ≡ unsigned_abs scale → digits ≡ decimal n → written ≡ pointed places digits ++ suffix → written ≡ unsigned_text n scale ++ suffix
+written-pointed written digits suffix n scale places h e d is = is ∙ ap (λ t. pointed places t ++ suffix) d ∙ ap (λ t. t ++ suffix) (unsigned-pointed n scale places h e)
 
-pub laid-plain : (laid line digits behind : List ℕ) (n : ℕ) (scale : ℤ) (places count : ℕ) → int_lt (pos 0) scale ≡ false → places ≡ unsigned_abs scale → count ≡ (if n == 0 then 0 else places) → digits ≡ decimal n
-    → line ≡ replicate count 48 ++ behind → laid ≡ digits ++ line → laid ≡ unsigned_text n scale ++ behind
-laid-plain laid line digits behind n scale places count h e z d zeros is =
-    is ∙ ap (λ t. t ++ line) d ∙ ap (λ t. decimal n ++ t) zeros ∙ sym (append_assoc (decimal n) (replicate count 48) behind) ∙ ap (λ t. t ++ behind) (unsigned-plain n scale places count h e z)
+pub written-plain : (written line digits suffix : List ℕ) (n : ℕ) (scale : ℤ) (places count : ℕ) → int_lt (pos 0) scale ≡ false → places ≡ unsigned_abs scale → count ≡ (if n == 0 then 0 else places) → digits ≡ decimal n
+    → line ≡ replicate count 48 ++ suffix → written ≡ digits ++ line → written ≡ unsigned_text n scale ++ suffix
+written-plain written line digits suffix n scale places count h e z d zeros is =
+    is ∙ ap (λ t. t ++ line) d ∙ ap (λ t. decimal n ++ t) zeros ∙ sym (append_assoc (decimal n) (replicate count 48) suffix) ∙ ap (λ t. t ++ suffix) (unsigned-plain n scale places count h e z)
 
 -- behind its sign
-pub laid-negative : (laid line behind : List ℕ) (v scale : ℤ) (size : ℕ) → int_lt v (pos 0) ≡ true → size ≡ unsigned_abs v → line ≡ unsigned_text size scale ++ behind → laid ≡ 45 ∷ line → laid ≡ decimal_text_of v scale ++ behind
+pub written-negative : (written line suffix : List ℕ) (v scale : ℤ) (size : ℕ) → int_lt v (pos 0) ≡ true → size ≡ unsigned_abs v → line ≡ unsigned_text size scale ++ suffix → written ≡ 45 ∷ line → written ≡ decimal_text_of v scale ++ suffix
 unfolding decimal_text_of
-laid-negative laid line behind (pos n) scale size h e below is = absurd (true≢false (sym h ∙ none-below n))
-laid-negative laid line behind (negsuc n) scale size h e below is = is ∙ ap (λ t. 45 ∷ t) (below ∙ ap (λ k. unsigned_text k scale ++ behind) e)
+written-negative written line suffix (pos n) scale size h e below is = absurd (true≢false (sym h ∙ none-below n))
+written-negative written line suffix (negsuc n) scale size h e below is = is ∙ ap (λ t. 45 ∷ t) (below ∙ ap (λ k. unsigned_text k scale ++ suffix) e)
 
-pub laid-positive : (laid behind : List ℕ) (v scale : ℤ) (size : ℕ) → int_lt v (pos 0) ≡ false → size ≡ unsigned_abs v → laid ≡ unsigned_text size scale ++ behind → laid ≡ decimal_text_of v scale ++ behind
+pub written-positive : (written suffix : List ℕ) (v scale : ℤ) (size : ℕ) → int_lt v (pos 0) ≡ false → size ≡ unsigned_abs v → written ≡ unsigned_text size scale ++ suffix → written ≡ decimal_text_of v scale ++ suffix
 unfolding decimal_text_of
-laid-positive laid behind (pos n) scale size h e is = is ∙ ap (λ k. unsigned_text k scale ++ behind) e
-laid-positive laid behind (negsuc n) scale size h e is = absurd cc
+written-positive written suffix (pos n) scale size h e is = is ∙ ap (λ k. unsigned_text k scale ++ suffix) e
+written-positive written suffix (negsuc n) scale size h e is = absurd cc

@@ -12,9 +12,9 @@ use Rattle.bufr_text.specs.Line as line
 use Rattle.bufr_text.proofs.HeaderLemmas.{not-3}
 
 -- what stands before the value of a key has the key's name and no other
-front-all : (xs : List ℕ) (c : ℕ) → take (length xs) (xs ++ c ∷ []) ≡ xs
-front-all [] c = refl
-front-all (x ∷ xs) c = ap (λ l. x ∷ l) (front-all xs c)
+prefix-all : (xs : List ℕ) (c : ℕ) → take (length xs) (xs ++ c ∷ []) ≡ xs
+prefix-all [] c = refl
+prefix-all (x ∷ xs) c = ap (λ l. x ∷ l) (prefix-all xs c)
 
 named : (key : line.Key) (name : List ℕ) → is_named (lead_of key) name ≡ bytes_eq name key.name
 named key name =
@@ -22,7 +22,7 @@ named key name =
     let count : length (lead_of key) - 2 ≡ length key.name = omega (arith, length-append key.name (32 ∷ [])) in
     ap (λ b. b && bytes_eq name (take (length (lead_of key) - 2) (key.name ++ 32 ∷ []))) long
     ∙ ap (λ n. bytes_eq name (take n (key.name ++ 32 ∷ []))) count
-    ∙ ap (bytes_eq name) (front-all key.name 32)
+    ∙ ap (bytes_eq name) (prefix-all key.name 32)
 
 -- the place of a key is that of what stands before its value
 module _ {Row : Type 0} (lead : Row → List ℕ) (name : List ℕ) where

@@ -48,13 +48,13 @@ padded_one n fits =
     ap (λ k. replicate k 48 ++ decimal n) none
 
 -- with one more of the last digits laid
-pub fraction_more : (places place left : ℕ) (laid line all : List ℕ) → place < places → left < 2 ^ 64 → laid ≡ (48 + left % 10) ∷ line
-    → zero_padded (places + 1 - place) left ++ line ≡ all → zero_padded (places + 1 - (place + 1)) (left / 10) ++ laid ≡ all
-fraction_more places place left laid line all below fits is so =
+pub fraction_more : (places place left : ℕ) (written line all : List ℕ) → place < places → left < 2 ^ 64 → written ≡ (48 + left % 10) ∷ line
+    → zero_padded (places + 1 - place) left ++ line ≡ all → zero_padded (places + 1 - (place + 1)) (left / 10) ++ written ≡ all
+fraction_more places place left written line all below fits is so =
     let m = places - place in
     let now : places + 1 - (place + 1) ≡ m = omega arith in
     let before : places + 1 - place ≡ m + 1 = omega arith in
-    ap (λ k. zero_padded k (left / 10) ++ laid) now
+    ap (λ k. zero_padded k (left / 10) ++ written) now
     ∙ ap (λ t. zero_padded m (left / 10) ++ t) is
     ∙ sym (append_assoc (zero_padded m (left / 10)) ((48 + left % 10) ∷ []) line)
     ∙ ap (λ t. t ++ line) (sym (padded_step m left (omega arith) fits))
@@ -68,19 +68,19 @@ fraction_done places place left line all last fits so =
     ap (λ t. t ++ line) (sym (padded_one left fits)) ∙ ap (λ k. zero_padded k left ++ line) (sym one) ∙ so
 
 -- a point before the last of some octets
-point_before : (whole line octets behind : List ℕ) (places : ℕ) → whole ++ line ≡ octets ++ behind → length line ≡ places + length behind
-    → whole ++ 46 ∷ line ≡ (take (length octets - places) octets ++ 46 ∷ drop (length octets - places) octets) ++ behind
-point_before whole line octets behind places same long =
+point_before : (whole line octets suffix : List ℕ) (places : ℕ) → whole ++ line ≡ octets ++ suffix → length line ≡ places + length suffix
+    → whole ++ 46 ∷ line ≡ (take (length octets - places) octets ++ 46 ∷ drop (length octets - places) octets) ++ suffix
+point_before whole line octets suffix places same long =
     let k = length octets - places in
-    let sizes : length whole + length line ≡ length octets + length behind = sym (length-append whole line) ∙ ap length same ∙ length-append octets behind in
+    let sizes : length whole + length line ≡ length octets + length suffix = sym (length-append whole line) ∙ ap length same ∙ length-append octets suffix in
     let is : k ≡ length whole = omega (arith, sizes, long) in
     let within : k ≤ length octets = omega arith in
-    let front : take k octets ≡ whole = sym (take-append-le k octets behind within) ∙ ap (take k) (sym same) ∙ ap (λ j. take j (whole ++ line)) is ∙ take-append_seam whole line in
-    let back : drop k octets ++ behind ≡ line = sym (drop-append-le k octets behind within) ∙ ap (drop k) (sym same) ∙ ap (λ j. drop j (whole ++ line)) is ∙ drop-append_seam whole line in
-    sym (append_assoc (take k octets) (46 ∷ drop k octets) behind ∙ ap (λ t. t ++ 46 ∷ (drop k octets ++ behind)) front ∙ ap (λ t. whole ++ 46 ∷ t) back)
+    let prefix : take k octets ≡ whole = sym (take-append-le k octets suffix within) ∙ ap (take k) (sym same) ∙ ap (λ j. take j (whole ++ line)) is ∙ take-append_seam whole line in
+    let back : drop k octets ++ suffix ≡ line = sym (drop-append-le k octets suffix within) ∙ ap (drop k) (sym same) ∙ ap (λ j. drop j (whole ++ line)) is ∙ drop-append_seam whole line in
+    sym (append_assoc (take k octets) (46 ∷ drop k octets) suffix ∙ ap (λ t. t ++ 46 ∷ (drop k octets ++ suffix)) prefix ∙ ap (λ t. whole ++ 46 ∷ t) back)
 
 -- a number with a point before its last digits
-pub point_laid : (n whole places : ℕ) (laid pointed_line line behind : List ℕ) → laid ≡ decimal whole ++ pointed_line → pointed_line ≡ 46 ∷ line
-    → decimal whole ++ line ≡ zero_padded (places + 1) n ++ behind → length line ≡ places + length behind → laid ≡ pointed places (decimal n) ++ behind
-point_laid n whole places laid pointed_line line behind is point so long =
-    is ∙ ap (λ t. decimal whole ++ t) point ∙ point_before (decimal whole) line (zero_padded (places + 1) n) behind places so long
+pub point_laid : (n whole places : ℕ) (written pointed_line line suffix : List ℕ) → written ≡ decimal whole ++ pointed_line → pointed_line ≡ 46 ∷ line
+    → decimal whole ++ line ≡ zero_padded (places + 1) n ++ suffix → length line ≡ places + length suffix → written ≡ pointed places (decimal n) ++ suffix
+point_laid n whole places written pointed_line line suffix is point so long =
+    is ∙ ap (λ t. decimal whole ++ t) point ∙ point_before (decimal whole) line (zero_padded (places + 1) n) suffix places so long

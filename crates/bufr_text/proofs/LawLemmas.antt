@@ -19,7 +19,7 @@ use Rattle.bufr_text.specs.Bounds.{IsOctet, IsDescriptorWord, IsItem, IsDumpable
 use Rattle.bufr_text.proofs.CleanLemmas.{IsLineOf, header-line, local1-line, section2-line, descriptors-line, subset-line, item-line, message-line, end-line}
 use Rattle.bufr_text.proofs.RunsLemmas.{IsRun, runs-are, concat-runs}
 use Rattle.bufr_text.proofs.LinesLemmas.{IsAbove, lines-back}
-use Rattle.bufr_text.proofs.SpelledLemmas.{InRange, goes, header-run, local1-run, section2-run, descriptors-run, subsets-laid, laid}
+use Rattle.bufr_text.proofs.SpelledLemmas.{InRange, goes, header-run, local1-run, section2-run, descriptors-run, subsets-written, written}
 
 -- the header's values are within their ranges
 up_to : (least most v : ℕ) → least ≤ v → v ≤ most → (nat_le least v && nat_le v most) ≡ true
@@ -98,8 +98,8 @@ all-lines-run s subsets at more given =
     ∙ header-run s.head.edition s.head.master (header-tail s) at (at + 1) A refl (header-fits s given.head given.few)
     ∙ local1-run a d1 (at + 1 + 1 + 19) B (runs-are IsOctet 31 s.local1 given.local1)
     ∙ section2-run b 0 d2 (at + 1 + 1 + 19 + length a) C (omega arith) (λ some. optional-there s.section2 some) (runs-are IsOctet 31 (unwrap_or s.section2 []) given.section2)
-    ∙ descriptors-run c (laid 0 b 1) d3 (at + 1 + 1 + 19 + length a + length b) D (runs-are IsDescriptorWord 7 s.descriptors given.descriptors)
-    ∙ subsets-laid subsets (laid (laid 0 b 1) c 2) d4 (at + 1 + 1 + 19 + length a + length b + length c) more refl given.counted (omega (arith, given.few)) given.items
+    ∙ descriptors-run c (written 0 b 1) d3 (at + 1 + 1 + 19 + length a + length b) D (runs-are IsDescriptorWord 7 s.descriptors given.descriptors)
+    ∙ subsets-written subsets (written (written 0 b 1) c 2) d4 (at + 1 + 1 + 19 + length a + length b + length c) more refl given.counted (omega (arith, given.few)) given.items
 
 header-lines-count : (k : ℕ) (values : List ℕ) → length (header_lines k values) ≡ length values
 unfolding header_lines

@@ -11,7 +11,7 @@ use Rattle.bufr_text.specs.Grammar.{prefix_while, suffix_while, without_prefix, 
 use Rattle.bufr_text.specs.Line.{Opens, Header, Local1, Section2, Descriptors, Begins, Item, Closes, key_in, keys, made, place_from, number_value, value_read, worded, line_of}
 use Rattle.bufr_text.specs.Dump.{header_line, local1_line, section2_line, descriptors_line, subset_line, comment_text, Comment}
 use Rattle.bufr_text.specs.Bounds.{IsOctet, IsDescriptorWord}
-use Rattle.bufr_text.proofs.GrammarLemmas.{stops, front-of, behind-of, hex_back, fxy_read_back, descriptors_back, number_back, quoted_back}
+use Rattle.bufr_text.proofs.GrammarLemmas.{stops, prefix-of, after-of, hex_back, fxy_read_back, descriptors_back, number_back, quoted_back}
 use Rattle.bufr_text.proofs.TokenLemmas.{IsToken}
 
 in_bounds : (xs : List ℕ) (most : ℕ) → 0 < length xs → length xs ≤ most → (nat_lt 0 (length xs) && nat_le (length xs) most) ≡ true
@@ -97,7 +97,7 @@ value-number [] rest most token s = absurd (omega (arith, token.some))
 value-number (c ∷ more) rest most token s =
     let one : is_number_octet c ≡ true = and_first (is_number_octet c) (list_all is_number_octet more) token.octets in
     let no_quote : (c == 34) ≡ false = grind (arith, nat_tests, one) in
-    rw (no_quote, one, front-of is_number_octet (c ∷ more) rest token.octets s, behind-of is_number_octet (c ∷ more) rest token.octets s) refl
+    rw (no_quote, one, prefix-of is_number_octet (c ∷ more) rest token.octets s, after-of is_number_octet (c ∷ more) rest token.octets s) refl
 
 pub value-text : (octets rest : List ℕ) → AllByRecursion IsOctet octets → value_read (34 ∷ quoted octets ++ rest) ≡ Some (text_form octets, rest)
 unfolding value_read
@@ -130,7 +130,7 @@ pub reference-value : (token rest : List ℕ) (most : ℕ) → IsToken token mos
 reference-value [] rest most token s = absurd (omega (arith, token.some))
 reference-value (c ∷ more) rest most token s =
     let one : is_number_octet c ≡ true = and_first (is_number_octet c) (list_all is_number_octet more) token.octets in
-    rw (one, front-of is_number_octet (c ∷ more) rest token.octets s, behind-of is_number_octet (c ∷ more) rest token.octets s) refl
+    rw (one, prefix-of is_number_octet (c ∷ more) rest token.octets s, after-of is_number_octet (c ∷ more) rest token.octets s) refl
 
 pub reference-of : (fxy : ℕ) (text rest : List ℕ) (form : DraftValue) → fxy < 65536 → number_value reference_token text ≡ Some (form, rest) → is_passed_behind rest ≡ true → line_of (codes "R " ++ fxy_text fxy ++ 32 ∷ text) ≡ Item fxy form
 unfolding line_of worded prefix_while suffix_while without_prefix

@@ -66,8 +66,8 @@ items_are table course [] [] f said = refl
 items_are table course [] (d ∷ ds) f said = absurd said
 items_are table course (i ∷ items) [] f said = absurd said
 items_are table course (i ∷ items) (d ∷ ds) f said =
-    ap (λ n. line_and table n d (λ t. normal_items table (λ told. course (t ∷ told)) ds)) f.0
-    ∙ ap (λ r. normal_line table i.spec d ∷ normal_items table (λ told. course (draft_answer i.spec r ∷ told)) ds) said.0
+    ap (λ n. line_and table n d (λ t. normal_items table (λ results. course (t ∷ results)) ds)) f.0
+    ∙ ap (λ r. normal_line table i.spec d ∷ normal_items table (λ results. course (draft_answer i.spec r ∷ results)) ds) said.0
     ∙ ap (λ x. x ∷ normal_items table (after plain course i) ds) (line_is table i.spec d i.content said.0)
     ∙ ap (λ xs. item_text (dump_item_of (view_of table i.spec i.content)) ∷ xs) (items_are table (after plain course i) items ds f.3 said.1)
 

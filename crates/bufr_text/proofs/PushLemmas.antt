@@ -18,17 +18,17 @@ parts_then held s t p q held1 held2 first second =
 module _ (a b c : LineModel) (s t : List ℕ) where
   moves_then : {X : Type 0} (r : Result X RunFault) → MovesPrefix a.taken b.taken (a.held ++ s) b.held → Moves b.taken c.taken (b.held ++ t) c.held r → Moves a.taken c.taken (a.held ++ (s ++ t)) c.held r
   moves_then (Ok y) first second = record {
-    front = first.front ++ second.front;
-    parts = parts_then a.held s t first.front second.front b.held c.held first.parts second.parts;
-    gains = Appends-trans a.taken b.taken c.taken first.front second.front first.gains second.gains;
+    prefix = first.prefix ++ second.prefix;
+    parts = parts_then a.held s t first.prefix second.prefix b.held c.held first.parts second.parts;
+    gains = Appends-trans a.taken b.taken c.taken first.prefix second.prefix first.gains second.gains;
   }
   moves_then (Err f) first second = (
     second.0,
     record {
-      front = first.front ++ second.1.front;
+      prefix = first.prefix ++ second.1.prefix;
       back = second.1.back;
-      parts = parts_then a.held s t first.front second.1.front b.held second.1.back first.parts second.1.parts;
-      gains = Appends-trans a.taken b.taken c.taken first.front second.1.front first.gains second.1.gains;
+      parts = parts_then a.held s t first.prefix second.1.prefix b.held second.1.back first.parts second.1.parts;
+      gains = Appends-trans a.taken b.taken c.taken first.prefix second.1.prefix first.gains second.1.gains;
     },
   )
 
@@ -41,9 +41,9 @@ module _ (a b c : LineModel) (s t : List ℕ) where
         moves = rw (second.status, second.taken) (
           moves.0,
           record {
-            front = moves.1.front;
+            prefix = moves.1.prefix;
             back = moves.1.back ++ t;
-            parts = sym (append_assoc a.held s t) ∙ ap (λ l. l ++ t) moves.1.parts ∙ append_assoc moves.1.front moves.1.back t;
+            parts = sym (append_assoc a.held s t) ∙ ap (λ l. l ++ t) moves.1.parts ∙ append_assoc moves.1.prefix moves.1.back t;
             gains = moves.1.gains;
           },
         );
@@ -82,7 +82,7 @@ pub ◌⨾◌ : {a b c : LineModel} {s t : List ℕ} → Pushes a s b → Pushes
 -- a text was laid after what is held
 holds_from : (a b : LineModel) (text : List ℕ) (r : Result Unit RunFault) → a.status ≡ r → b.status ≡ a.status → b.taken ≡ a.taken → b.failures ≡ a.failures → b.empty_writes ≡ a.empty_writes → b.held ≡ a.held ++ text → PushesFrom r a text b
 holds_from a b text (Ok x) is same taken failures empty held = record {
-  moves = rw (same, is) (record { front = []; parts = sym held; gains = rw taken (Appends-nil a.taken) });
+  moves = rw (same, is) (record { prefix = []; parts = sym held; gains = rw taken (Appends-nil a.taken) });
   counts = rw (same, is) (failures, empty);
 }
 holds_from a b text (Err f) is same taken failures empty held = record {
@@ -111,7 +111,7 @@ retold {a = a} {b = b} pushes is =
 
 -- what was held and a text were written
 moves_written : (a b : LineModel) (text : List ℕ) (r : Result Unit RunFault) → b.held ≡ [] → Writes a.taken b.taken (a.held ++ text) r → Moves a.taken b.taken (a.held ++ text) b.held r
-moves_written a b text (Ok x) empty writes = rw empty (record { front = a.held ++ text; parts = sym (append-nil (a.held ++ text)); gains = writes })
+moves_written a b text (Ok x) empty writes = rw empty (record { prefix = a.held ++ text; parts = sym (append-nil (a.held ++ text)); gains = writes })
 moves_written a b text (Err f) empty writes = writes
 
 from_ok : (a b : LineModel) (text : List ℕ) (r : Result Unit RunFault) → true ≡ is_ok r → MovesOn a text b → PushesFrom r a text b
@@ -130,7 +130,7 @@ writes_pushes {a = a} {b = b} {text = text} ok empty writes counts flushes sink 
 all_moved : (a b : LineModel) (text : List ℕ) (r : Result Unit RunFault) → a.held ≡ [] → b.held ≡ [] → Moves a.taken b.taken (a.held ++ text) b.held r → Writes a.taken b.taken text r
 all_moved a b text (Ok x) none empty moves =
     let P : List ℕ → Type 0 = λ l. Appends a.taken b.taken l in
-    subst P (sym (append-nil moves.front) ∙ ap (λ l. moves.front ++ l) (sym empty) ∙ sym moves.parts ∙ ap (λ l. l ++ text) none) moves.gains
+    subst P (sym (append-nil moves.prefix) ∙ ap (λ l. moves.prefix ++ l) (sym empty) ∙ sym moves.parts ∙ ap (λ l. l ++ text) none) moves.gains
 all_moved a b text (Err f) none empty moves = rw none at moves
 
 pub all_written : {a b c : LineModel} {text : List ℕ} {r : Result Unit RunFault} {old new : Option (List ℕ)} (x : Unit) → Pushes a text b → Pushes b [] c → a.status ≡ Ok x → a.held ≡ [] → c.held ≡ []

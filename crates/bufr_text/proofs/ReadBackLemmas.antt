@@ -96,7 +96,7 @@ module _ (form : Form) (records : List Record) (table : List Row) (sequences : L
           expands = expands;
           read = subst (λ n. IsReading (next_item table template) (record { compressed = compressed_as form d; subsets = n; bits = bits_of (with_even_length head.edition 4 payload) }) f.values (length bits)) proper.counted (f.read (with_even_length head.edition 4 payload) (padding (length bits) ++ padded_bits.0) written);
         };
-        framed = λ at behind. framed head parts at behind long;
+        framed = λ at suffix. framed head parts at suffix long;
         head = refl;
         local1 = refl;
         section2 = refl;

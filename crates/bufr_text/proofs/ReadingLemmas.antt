@@ -20,19 +20,19 @@ stays-stopped at (Item fxy form) = refl
 stays-stopped at Closes = refl
 stays-stopped at Wrong = refl
 
-pub stopped-tells : (at : ℕ) (lines : List (List ℕ)) → parse_lines at Stopped lines ≡ []
+pub stopped-reports : (at : ℕ) (lines : List (List ℕ)) → parse_lines at Stopped lines ≡ []
 unfolding parse_lines
-stopped-tells at [] = refl
-stopped-tells at (line ∷ lines) = rw (stays-stopped at (line_within_limit line)) (stopped-tells (at + 1) lines)
+stopped-reports at [] = refl
+stopped-reports at (line ∷ lines) = rw (stays-stopped at (line_within_limit line)) (stopped-reports (at + 1) lines)
 
-pub stopped-tells-openly : (at : ℕ) (lines : List (List ℕ)) (rest : List ℕ) → parse_open_lines at Stopped lines rest ≡ []
+pub stopped-reports-openly : (at : ℕ) (lines : List (List ℕ)) (rest : List ℕ) → parse_open_lines at Stopped lines rest ≡ []
 unfolding parse_open_lines
-stopped-tells-openly at [] rest = by-length (nat_lt 4096 (length rest))
+stopped-reports-openly at [] rest = by-length (nat_lt 4096 (length rest))
   where
     by-length : (b : Bool) → (if b then told_at at (turn at Stopped Wrong) else []) ≡ []
     by-length true = ap (told_at at) (stays-stopped at Wrong)
     by-length false = refl
-stopped-tells-openly at (line ∷ lines) rest = rw (stays-stopped at (line_within_limit line)) (stopped-tells-openly (at + 1) lines rest)
+stopped-reports-openly at (line ∷ lines) rest = rw (stays-stopped at (line_within_limit line)) (stopped-reports-openly (at + 1) lines rest)
 
 -- a line that is held whole
 no-feed-first : (c : ℕ) → not (c == 10) ≡ true → (c == 10) ≡ false
@@ -143,7 +143,7 @@ openly-long : (at : ℕ) (place : ParserState) (held : List ℕ) (s : Split) →
 unfolding LongSplit parse_open_lines
 openly-long at place held s r long (more, rest, lines, inl e) =
     let over : nat_lt 4096 (length (held ++ more)) ≡ true = grind (arith, nat_tests, length-append held more, long) in
-    ap (openly-from at place) e ∙ rw (over, wrong-faults at place r) (ap (λ (z : List ParseResult). Refused at NotAllowed ∷ z) (stopped-tells-openly (at + 1) lines rest))
+    ap (openly-from at place) e ∙ rw (over, wrong-faults at place r) (ap (λ (z : List ParseResult). Refused at NotAllowed ∷ z) (stopped-reports-openly (at + 1) lines rest))
 openly-long at place held s r long (more, rest, lines, inr e) =
     let over : nat_lt 4096 (length (held ++ more)) ≡ true = grind (arith, nat_tests, length-append held more, long) in
     ap (openly-from at place) e ∙ rw (over, wrong-faults at place r) refl
@@ -152,7 +152,7 @@ refuses-openly : (at : ℕ) (place : ParserState) (held t : List ℕ) → Reads 
     → openly-from at place (split_of (held ++ t)) ≡ Refused at NotAllowed ∷ openly-from at Stopped (split_of (held ++ t))
 refuses-openly at place held t r h long =
     openly-long at place held (split_of (held ++ t)) r long (long-split held t h (omega (arith, long)))
-    ∙ ap (λ (z : List ParseResult). Refused at NotAllowed ∷ z) (sym (stopped-tells-openly at (split_of (held ++ t)).whole (split_of (held ++ t)).rest))
+    ∙ ap (λ (z : List ParseResult). Refused at NotAllowed ∷ z) (sym (stopped-reports-openly at (split_of (held ++ t)).whole (split_of (held ++ t)).rest))
 
 pub refuses-long : (at : ℕ) (place : ParserState) (held : List ℕ) (ended : Bool) → Reads place → has_no_feed held ≡ true → 4096 < length held
     → ContinuesParse (record { at = at; place = place; held = held; ended = ended }) (record { at = at; place = Stopped; held = held; ended = ended }) (Refused at NotAllowed ∷ [])
@@ -163,8 +163,8 @@ refuses-long at place held ended r h long = record {
       let (more, rest, e) = long-first held t h (omega (arith, long)) in
       let over : nat_lt 4096 (length (held ++ more)) ≡ true = grind (arith, nat_tests, length-append held more, long) in
       ap (parse_lines at place) e
-      ∙ rw (over, wrong-faults at place r) (ap (λ (z : List ParseResult). Refused at NotAllowed ∷ z) (stopped-tells (at + 1) rest))
-      ∙ ap (λ (z : List ParseResult). Refused at NotAllowed ∷ z) (sym (stopped-tells at (lines_of (held ++ t))));
+      ∙ rw (over, wrong-faults at place r) (ap (λ (z : List ParseResult). Refused at NotAllowed ∷ z) (stopped-reports (at + 1) rest))
+      ∙ ap (λ (z : List ParseResult). Refused at NotAllowed ∷ z) (sym (stopped-reports at (lines_of (held ++ t))));
 }
 
 cc-no : true ≡ false → ⊥
@@ -186,7 +186,7 @@ ends-inside at place = record {
   whole = λ t none.
       ap (λ (z : List ℕ). parse_lines at place (lines_of z)) (none refl)
       ∙ sym (append-nil (told_at_end at place))
-      ∙ ap (λ (z : List ParseResult). told_at_end at place ++ z) (sym (stopped-tells at (lines_of t)));
+      ∙ ap (λ (z : List ParseResult). told_at_end at place ++ z) (sym (stopped-reports at (lines_of t)));
 }
 
 -- where no whole line is held and the rest is short, nothing is told before the end is known

@@ -171,8 +171,8 @@ record IsFilled (table : List Row) (template : Tree) (s : Sections) (values : Va
 pub enough : (out octets : List Bool) (bits : List Bool) → bits ≡ out ++ octets → length out ≤ length bits
 enough out octets bits e = omega (arith, ap length e, length-append out octets)
 
-pub behind : (out more bits : List Bool) → bits ≡ out ++ more → drop (length out) bits ≡ more
-behind out more bits e = ap (drop (length out)) e ∙ drop_at out more (length out) refl
+pub suffix : (out more bits : List Bool) → bits ≡ out ++ more → drop (length out) bits ≡ more
+suffix out more bits e = ap (drop (length out)) e ∙ drop_at out more (length out) refl
 
 pub fills_as : (b c : Bool) (course : Course) (drafts : List Subset) (out : List Bool) → b ≡ c → data_bits c course drafts ≡ Ok out → data_bits b course drafts ≡ Ok out
 fills_as b c course drafts out e h = ap (λ x. data_bits x course drafts) e ∙ h
@@ -192,7 +192,7 @@ filled table template s (apart subsets) used at rows legal read =
         enough w.out tail (bits_of octets) e,
         (
           subst (λ b. ReadsSubsets course subsets b (drop (length w.out) (bits_of octets))) (sym e)
-              (subst (λ b. ReadsSubsets course subsets (w.out ++ tail) b) (sym (behind w.out tail (bits_of octets) e)) (w.again tail)),
+              (subst (λ b. ReadsSubsets course subsets (w.out ++ tail) b) (sym (suffix w.out tail (bits_of octets) e)) (w.again tail)),
           read.2.1,
         ),
       );
@@ -210,7 +210,7 @@ filled table template s (together items) used at rows legal read =
         read.0,
         enough w.out tail (bits_of octets) e,
         subst (λ b. IsPackedReading s.subsets course items b (drop (length w.out) (bits_of octets))) (sym e)
-            (subst (λ b. IsPackedReading s.subsets course items (w.out ++ tail) b) (sym (behind w.out tail (bits_of octets) e)) (w.again tail)),
+            (subst (λ b. IsPackedReading s.subsets course items (w.out ++ tail) b) (sym (suffix w.out tail (bits_of octets) e)) (w.again tail)),
       );
     }
 
@@ -270,7 +270,7 @@ encoded_again table sequences m s template values used at rows legal a =
         no_longer = omega (arith, least, long);
         few = omega (arith, most, long);
         octets = octets_small s.head parts given.head given.local1 given.section2 given.descriptors given.few (octets_are payload (octets_in-are ((length f.out + 7) / 8) (f.out ++ padding (length f.out)) (padded f.out))) most;
-        framed = λ at behind. framed s.head parts at behind long;
+        framed = λ at suffix. framed s.head parts at suffix long;
         sections = sections_from s.head parts;
         are = back;
         same = record { head = refl; local1 = refl; section2 = refl; descriptors = refl; subsets = refl; observed = refl; compressed = refl };

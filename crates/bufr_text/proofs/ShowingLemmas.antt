@@ -23,7 +23,7 @@ use Rattle.bufr_text.specs.DumpItems as dumped
 use Rattle.bufr_text.specs.DumpWritten.{Stretch, stretch, call_line, call_stretch, stretches_of, stretches_text, WritesUpTo, WritesStretches, WritesPrefix, CountsFaults}
 use Rattle.bufr_text.specs.Pen.{SinkModel, InksCall, outcome_of}
 use Rattle.bufr_text.specs.Writing.{GrowsByPrefix}
-use Rattle.bufr_text.proofs.DumpLemmas.{front-none, front-longer, front-behind, CountsFaults-then, CountsFaults-of}
+use Rattle.bufr_text.proofs.DumpLemmas.{prefix-none, prefix-longer, prefix-after, CountsFaults-then, CountsFaults-of}
 
 -- the text of calls
 abbrev pub calls_text : List Timed → List ℕ
@@ -48,11 +48,11 @@ together-text table j (i ∷ items) =
     ap (λ l. (call_line (item_call (view_of table i.spec (content_at j i.content))) ++ 10 ∷ []) ++ l) (together-text table j items)
 
 -- a subset, and those behind it
-subset-text : (number : ℕ) (calls more : List Timed) (lines behind : List (List ℕ)) → calls_text calls ≡ text_of_lines lines → calls_text more ≡ text_of_lines behind
-    → (subset_line number ++ 10 ∷ []) ++ calls_text (calls ++ more) ≡ text_of_lines (subset_line number ∷ (lines ++ behind))
-subset-text number calls more lines behind here there =
+subset-text : (number : ℕ) (calls more : List Timed) (lines suffix : List (List ℕ)) → calls_text calls ≡ text_of_lines lines → calls_text more ≡ text_of_lines suffix
+    → (subset_line number ++ 10 ∷ []) ++ calls_text (calls ++ more) ≡ text_of_lines (subset_line number ∷ (lines ++ suffix))
+subset-text number calls more lines suffix here there =
     ap (λ l. (subset_line number ++ 10 ∷ []) ++ l)
-    (calls-append calls more ∙ ap (λ l. l ++ calls_text more) here ∙ ap (λ l. text_of_lines lines ++ l) there ∙ sym (text-append lines behind))
+    (calls-append calls more ∙ ap (λ l. l ++ calls_text more) here ∙ ap (λ l. text_of_lines lines ++ l) there ∙ sym (text-append lines suffix))
 
 subsets-text : (table : List Row) (course : Course) (before number : ℕ) (subsets : List (List (Item Content))) → calls_text (subset_calls table course before number subsets) ≡ text_of_lines (subset_lines number (map (items_apart table) subsets))
 unfolding subset_lines
@@ -92,20 +92,20 @@ stretches-text s r values =
     ∙ dump-text-is s (dump_items_of r values)
 
 -- stretches that were written are a front of their text
-pub stretches-front : {X : Type 0} (a b : Option (List ℕ)) (stretches : List Stretch) (turns : ℕ) (r : Result X RunFault) (steps : ℕ) → WritesStretches a b stretches turns r steps → WritesPrefix a b (stretches_text stretches) r
-stretches-front a b stretches turns (Ok x) steps writes = writes.0
-stretches-front a b stretches turns (Err f) steps stops =
+pub stretches-prefix : {X : Type 0} (a b : Option (List ℕ)) (stretches : List Stretch) (turns : ℕ) (r : Result X RunFault) (steps : ℕ) → WritesStretches a b stretches turns r steps → WritesPrefix a b (stretches_text stretches) r
+stretches-prefix a b stretches turns (Ok x) steps writes = writes.0
+stretches-prefix a b stretches turns (Err f) steps stops =
     let text : stretches_text stretches ≡ stretches_text stops.given ++ (stops.next.text ++ stretches_text stops.rest) =
     ap stretches_text stops.order ∙ stretches-append stops.given (stops.next ∷ stops.rest) in
     let P : List ℕ → Type 0 = λ t. GrowsByPrefix a b t in
-    subst P (sym text) (front-behind a stops.between b (stretches_text stops.given) (stops.next.text ++ stretches_text stops.rest) stops.whole (front-longer stops.between b stops.next.text (stretches_text stops.rest) stops.front))
+    subst P (sym text) (prefix-after a stops.between b (stretches_text stops.given) (stops.next.text ++ stretches_text stops.rest) stops.whole (prefix-longer stops.between b stops.next.text (stretches_text stops.rest) stops.prefix))
 
 -- the dump text or a front of it, from its stretches
 pub dump-writes : {X : Type 0} (s : Sections) (read : outcome.Read) (values : Values) (a b : Option (List ℕ)) (r : Result X RunFault) (steps : ℕ) → WritesStretches a b (stretches_of s read values) (turns_shown read values) r steps
     → WritesPrefix a b (dump_text_of s (dump_items_of read values)) r
 dump-writes s read values a b r steps writes =
     let P : List ℕ → Type 0 = λ t. WritesPrefix a b t r in
-    subst P (stretches-text s read values) (stretches-front a b (stretches_of s read values) (turns_shown read values) r steps writes)
+    subst P (stretches-text s read values) (stretches-prefix a b (stretches_of s read values) (turns_shown read values) r steps writes)
 
 -- What calls leave.
 pub record Left (p : SinkModel) (calls : List Timed) (turns : ℕ) (r : Result (Unit {0}) (ShowFault RunFault)) (p' : SinkModel) (steps : ℕ) : Type 0 where
@@ -126,7 +126,7 @@ left-writes p mid p' t calls turns (Err why) steps one two = record {
   order = ap (λ l. call_stretch t ∷ l) two.order;
   between = two.between;
   whole = Appends-trans p.taken mid.taken two.between (call_line t.call ++ 10 ∷ []) (stretches_text two.given) one two.whole;
-  front = two.front;
+  prefix = two.prefix;
   made = two.made;
 }
 
@@ -141,14 +141,14 @@ left-on p mid p' t calls turns r steps one two = record {
 
 -- a call was not written whole
 stops-here : (old new : Option (List ℕ)) (t : Timed) (calls : List Timed) (steps : ℕ) → GrowsByPrefix old new (call_line t.call ++ 10 ∷ []) → steps ≡ ticked 0 t.turns → WritesUpTo old new (map call_stretch (t ∷ calls)) steps
-stops-here old new t calls steps front made = record {
+stops-here old new t calls steps prefix made = record {
   given = [];
   next = call_stretch t;
   rest = map call_stretch calls;
   order = refl;
   between = old;
   whole = Appends-nil old;
-  front = front;
+  prefix = prefix;
   made = made;
 }
 
@@ -167,7 +167,7 @@ module _ {S : Type 0} (pen_of : S → SinkModel) where
   left-end s s' t calls turns show.Memory steps here made =
       let P : S → Type 0 = λ z. Left (pen_of s) (t ∷ calls) turns (Err show.Memory) (pen_of z) steps in
       subst P (sym here.0) (record {
-        writes = stops-here (pen_of s).taken (pen_of s).taken t calls steps (front-none (pen_of s).taken (call_line t.call ++ 10 ∷ [])) made;
+        writes = stops-here (pen_of s).taken (pen_of s).taken t calls steps (prefix-none (pen_of s).taken (call_line t.call ++ 10 ∷ [])) made;
         counts = (refl, refl);
         flushes = refl;
         line = refl;
@@ -190,14 +190,14 @@ module _ {S : Type 0} (pen_of : S → SinkModel) where
 module _ (a b : Option (List ℕ)) (head last : Stretch) (middle : List Stretch) (turns : ℕ) where
   -- the first stretch was not written whole
   pub dump-stop-head : {X : Type 0} (r : Result X RunFault) (f : RunFault) (steps : ℕ) → r ≡ Err f → GrowsByPrefix a b head.text → steps ≡ ticked 0 head.turns → WritesStretches a b (head ∷ (middle ++ last ∷ [])) turns r steps
-  dump-stop-head r f steps is front made = rw is (record {
+  dump-stop-head r f steps is prefix made = rw is (record {
     given = [];
     next = head;
     rest = middle ++ last ∷ [];
     order = refl;
     between = a;
     whole = Appends-nil a;
-    front = front;
+    prefix = prefix;
     made = made;
   })
 
@@ -212,7 +212,7 @@ module _ (a b : Option (List ℕ)) (head last : Stretch) (middle : List Stretch)
         order = ap (λ l. head ∷ l) (ap (λ l. l ++ last ∷ []) here.order ∙ append_assoc here.given (here.next ∷ here.rest) (last ∷ []));
         between = here.between;
         whole = Appends-trans a b here.between head.text (stretches_text here.given) whole here.whole;
-        front = here.front;
+        prefix = here.prefix;
         made = here.made;
       })
 
@@ -230,6 +230,6 @@ module _ (a b : Option (List ℕ)) (head last : Stretch) (middle : List Stretch)
     order = refl;
     between = c;
     whole = Appends-trans a b c head.text (stretches_text middle) whole calls;
-    front = writes;
+    prefix = writes;
     made = made ∙ ap (λ n. ticked 0 n) (sym is);
   }

@@ -53,7 +53,7 @@ first-stays [] ys some = absurd (omega (arith, some))
 first-stays (x ∷ xs) ys some = refl
 
 edition-stays : (edition k : ℕ) (d : Document) (value : ℕ) → 0 < k → k ≡ length d.header → edition_in d ≡ edition → edition_in (with_value d value) ≡ edition
-edition-stays edition k d value behind is same = first-stays d.header (value ∷ []) (omega (arith, behind, is)) ∙ same
+edition-stays edition k d value suffix is same = first-stays d.header (value ∷ []) (omega (arith, suffix, is)) ∙ same
 
 ranged : (edition k value : ℕ) (d : Document) → edition_in d ≡ edition → in_range edition k value ≡ true → in_range (edition_in d) k value ≡ true
 ranged edition k value d same range = ap (λ (n : ℕ). in_range n k value) same ∙ range
@@ -61,14 +61,14 @@ ranged edition k value d same range = ap (λ (n : ℕ). in_range n k value) same
 run-on : (edition k : ℕ) (value : ℕ) (values : List ℕ) (d : Document) (at : ℕ) (more : List (List ℕ)) → 0 < k → k + length values ≡ 19 → k ≡ length d.header → edition_in d ≡ edition → InRange edition k (value ∷ values)
     → parse_lines at (Heading d) (header_lines k (value ∷ values) ++ more) ≡ parse_lines (at + 1 + length values) (Laying 0 (with_header d (d.header ++ value ∷ values))) more
 unfolding header_lines turn
-run-on edition k value [] d at more behind count is same (range, small, rest) =
+run-on edition k value [] d at more suffix count is same (range, small, rest) =
     let last : k ≡ 19 = omega (arith, count) in
     let is_last : (k == 19) ≡ true = grind (arith, nat_tests, last) in
     goes at (Heading d) (Laying 0 (with_value d value)) _ (Header k value) more (header-line k value (omega (arith, last)) small) (rw (same-key k d is, ranged edition k value d same range, is_last) refl)
     ∙ ap (λ n. parse_lines n (Laying 0 (with_value d value)) more) (omega arith)
-run-on edition k value (v ∷ values) d at more behind count is same (range, small, rest) =
+run-on edition k value (v ∷ values) d at more suffix count is same (range, small, rest) =
     goes at (Heading d) (Heading (with_value d value)) _ (Header k value) (header_lines (k + 1) (v ∷ values) ++ more) (header-line k value (omega (arith, count)) small) (rw (same-key k d is, ranged edition k value d same range, not-last k (omega (arith, count))) refl)
-    ∙ run-on edition (k + 1) v values (with_value d value) (at + 1) more (omega arith) (omega (arith, count)) (omega (arith, length-append d.header (value ∷ []), is)) (edition-stays edition k d value behind is same) rest
+    ∙ run-on edition (k + 1) v values (with_value d value) (at + 1) more (omega arith) (omega (arith, count)) (omega (arith, length-append d.header (value ∷ []), is)) (edition-stays edition k d value suffix is same) rest
     ∙ ap (λ (t : List ℕ). parse_lines (at + 1 + 1 + length values) (Laying 0 (with_header d t)) more) (append_assoc d.header (value ∷ []) (v ∷ values))
     ∙ ap (λ n. parse_lines n (Laying 0 (with_header d (d.header ++ value ∷ v ∷ values))) more) (omega arith)
 
@@ -96,18 +96,18 @@ local1-run (run ∷ runs) d at more (here, all) =
     ∙ ap (λ n. parse_lines n (Laying 0 (with_local1 d (concat (run ∷ runs)))) more) (omega arith)
 
 -- section 2; where it has lines, local use can follow no more
-pub laid : (part : ℕ) → List (List ℕ) → (next : ℕ) → ℕ
-laid part [] next = part
-laid part (run ∷ runs) next = next
+pub written : (part : ℕ) → List (List ℕ) → (next : ℕ) → ℕ
+written part [] next = part
+written part (run ∷ runs) next = next
 
-laid-again : (runs : List (List ℕ)) (next : ℕ) → laid next runs next ≡ next
-unfolding laid
-laid-again [] next = refl
-laid-again (run ∷ runs) next = refl
+written-again : (runs : List (List ℕ)) (next : ℕ) → written next runs next ≡ next
+unfolding written
+written-again [] next = refl
+written-again (run ∷ runs) next = refl
 
 pub section2-run : (runs : List (List ℕ)) (part : ℕ) (d : Document) (at : ℕ) (more : List (List ℕ)) → part ≤ 1 → (0 < length runs → optional_in d ≡ 1) → AllByRecursion (IsRun IsOctet 32) runs
-    → parse_lines at (Laying part d) (map section2_line runs ++ more) ≡ parse_lines (at + length runs) (Laying (laid part runs 1) (with_section2 d (concat runs))) more
-unfolding turn laid
+    → parse_lines at (Laying part d) (map section2_line runs ++ more) ≡ parse_lines (at + length runs) (Laying (written part runs 1) (with_section2 d (concat runs))) more
+unfolding turn written
 section2-run [] part d at more early optional all =
     ap (λ (t : List ℕ). parse_lines at (Laying part (record d { section2 = t })) more) (sym (append-nil d.section2)) ∙ ap (λ n. parse_lines n (Laying part (with_section2 d [])) more) (omega arith)
 section2-run (run ∷ runs) part d at more early optional (here, all) =
@@ -115,19 +115,19 @@ section2-run (run ∷ runs) part d at more early optional (here, all) =
     let there : (optional_in d == 1) ≡ true = grind (arith, nat_tests, optional (omega arith)) in
     goes at (Laying part d) (Laying 1 (with_section2 d run)) _ (Section2 run) (map section2_line runs ++ more) (section2-line run here.all here.some here.few) (rw (first, there) refl)
     ∙ section2-run runs 1 (with_section2 d run) (at + 1) more (omega arith) (λ some. optional (omega arith)) all
-    ∙ ap (λ (p : ℕ). parse_lines (at + 1 + length runs) (Laying p (with_section2 (with_section2 d run) (concat runs))) more) (laid-again runs 1)
+    ∙ ap (λ (p : ℕ). parse_lines (at + 1 + length runs) (Laying p (with_section2 (with_section2 d run) (concat runs))) more) (written-again runs 1)
     ∙ ap (λ (t : List ℕ). parse_lines (at + 1 + length runs) (Laying 1 (record d { section2 = t })) more) (append_assoc d.section2 run (concat runs))
     ∙ ap (λ n. parse_lines n (Laying 1 (with_section2 d (concat (run ∷ runs)))) more) (omega arith)
 
 pub descriptors-run : (runs : List (List ℕ)) (part : ℕ) (d : Document) (at : ℕ) (more : List (List ℕ)) → AllByRecursion (IsRun IsDescriptorWord 8) runs
-    → parse_lines at (Laying part d) (map descriptors_line runs ++ more) ≡ parse_lines (at + length runs) (Laying (laid part runs 2) (with_descriptors d (concat runs))) more
-unfolding turn laid
+    → parse_lines at (Laying part d) (map descriptors_line runs ++ more) ≡ parse_lines (at + length runs) (Laying (written part runs 2) (with_descriptors d (concat runs))) more
+unfolding turn written
 descriptors-run [] part d at more all =
     ap (λ (t : List ℕ). parse_lines at (Laying part (record d { descriptors = t })) more) (sym (append-nil d.descriptors)) ∙ ap (λ n. parse_lines n (Laying part (with_descriptors d [])) more) (omega arith)
 descriptors-run (run ∷ runs) part d at more (here, all) =
     goes at (Laying part d) (Laying 2 (with_descriptors d run)) _ (Descriptors run) (map descriptors_line runs ++ more) (descriptors-line run here.all here.some here.few) refl
     ∙ descriptors-run runs 2 (with_descriptors d run) (at + 1) more all
-    ∙ ap (λ (p : ℕ). parse_lines (at + 1 + length runs) (Laying p (with_descriptors (with_descriptors d run) (concat runs))) more) (laid-again runs 2)
+    ∙ ap (λ (p : ℕ). parse_lines (at + 1 + length runs) (Laying p (with_descriptors (with_descriptors d run) (concat runs))) more) (written-again runs 2)
     ∙ ap (λ (t : List ℕ). parse_lines (at + 1 + length runs) (Laying 2 (record d { descriptors = t })) more) (append_assoc d.descriptors run (concat runs))
     ∙ ap (λ n. parse_lines n (Laying 2 (with_descriptors d (concat (run ∷ runs)))) more) (omega arith)
 
@@ -181,16 +181,16 @@ subsets-run (items ∷ subsets) n d at more stated few (here, all) =
     ∙ ap (λ k. Complete (with_entries d (Ends at ∷ subset_entries at (items ∷ subsets))) ∷ parse_lines k Between more) (omega (arith, subset-lines-count (n + 1) items subsets))
 
 -- the subsets and the end, where they stand behind the parts before them
-pub subsets-laid : (subsets : List (List dump.DumpItem)) (part : ℕ) (d : Document) (at : ℕ) (more : List (List ℕ)) → d.entries ≡ [] → length subsets ≡ subsets_in d → subsets_in d < 65536 → AllByRecursion (λ items. AllByRecursion IsItem items) subsets
+pub subsets-written : (subsets : List (List dump.DumpItem)) (part : ℕ) (d : Document) (at : ℕ) (more : List (List ℕ)) → d.entries ≡ [] → length subsets ≡ subsets_in d → subsets_in d < 65536 → AllByRecursion (λ items. AllByRecursion IsItem items) subsets
     → parse_lines at (Laying part d) (subset_lines 1 subsets ++ codes "end" ∷ more)
     ≡ Complete (with_entries d (subset_entries at subsets)) ∷ parse_lines (at + length (subset_lines 1 subsets) + 1) Between more
 unfolding turn subset_entries subset_lines
-subsets-laid [] part d at more none stated few all =
+subsets-written [] part d at more none stated few all =
     let closed : (0 == subsets_in d) ≡ true = grind (arith, nat_tests, stated) in
     gives at (Laying part d) d _ Closes more end-line (rw closed refl)
     ∙ ap (λ (t : List DraftEntry). Complete (record d { entries = t }) ∷ parse_lines (at + 1) Between more) (sym (append-nil d.entries))
     ∙ ap (λ k. Complete (with_entries d []) ∷ parse_lines k Between more) (omega arith)
-subsets-laid (items ∷ subsets) part d at more none stated few (here, all) =
+subsets-written (items ∷ subsets) part d at more none stated few (here, all) =
     let allowed : nat_le 1 (subsets_in d) ≡ true = grind (arith, nat_tests, stated) in
     let own = item_entries (at + 1) items in
     let later = subset_entries (at + 1 + length items) subsets in

@@ -11,7 +11,7 @@ use Rattle.bufr_text.specs.Documents.{ParserState, Between, Heading, Laying, Fil
 use Rattle.bufr_text.specs.Line.{Line, Passed, Opens, Header, Local1, Section2, Descriptors, Begins, Item, Closes, Wrong}
 use Rattle.bufr_text.specs.Spelling.{NumberedLine, numbered_line, onto_heard, numbered_lines, header_says, Element, SubsetHeard, subsets_heard, first_at, entries_heard, IsDocument, AreTold}
 use Rattle.bufr_text.specs.Step.{IsBare}
-use Rattle.bufr_text.proofs.ReadingLemmas.{stopped-tells}
+use Rattle.bufr_text.proofs.ReadingLemmas.{stopped-reports}
 
 abbrev says : List NumberedLine → List Line
 says lines = map (λ l. l.says) lines
@@ -92,13 +92,13 @@ entries-more (part ∷ done) last end =
 -- The lines before the subsets, as far as they were read.
 record IsBegun (d : Document) (own : List NumberedLine) : Type 0 where
   header : List NumberedLine
-  laid : List NumberedLine
+  written : List NumberedLine
   local1 : List (List ℕ)
   section2 : List (List ℕ)
   descriptors : List (List ℕ)
-  are : own ≡ (numbered_line d.line Opens ∷ header) ++ laid
+  are : own ≡ (numbered_line d.line Opens ∷ header) ++ written
   in_order : says header ≡ header_says 0 d.header
-  parts : says laid ≡ map Local1 local1 ++ (map Section2 section2 ++ map Descriptors descriptors)
+  parts : says written ≡ map Local1 local1 ++ (map Section2 section2 ++ map Descriptors descriptors)
   local1_is : d.local1 ≡ concat local1
   section2_is : d.section2 ≡ concat section2
   descriptors_are : d.descriptors ≡ concat descriptors
@@ -120,11 +120,11 @@ record IsLaying (part : ℕ) (d : Document) (own : List NumberedLine) : Type 0 w
 
 -- the subsets that were ended, and the one that is being read
 record IsFilling (subset : ℕ) (d : Document) (own : List NumberedLine) : Type 0 where
-  front : List NumberedLine
-  with_open_group : IsBegun d front
+  prefix : List NumberedLine
+  with_open_group : IsBegun d prefix
   done : List SubsetHeard
   last : SubsetHeard
-  are : own ≡ front ++ subsets_heard 1 (done ++ last ∷ [])
+  are : own ≡ prefix ++ subsets_heard 1 (done ++ last ∷ [])
   counted : subset ≡ length done + 1
   entries : d.entries ≡ entries_heard done last.at ++ map item_entry last.items
 
@@ -176,7 +176,7 @@ heading-open at key value d own is =
     by true same = record {
       with_open_group = record {
         header = is.header ++ numbered_line at (Header key value) ∷ [];
-        laid = [];
+        written = [];
         local1 = [];
         section2 = [];
         descriptors = [];
@@ -200,28 +200,28 @@ heading-open at key value d own is =
     }
 
 -- one more line of the parts before the subsets
-laid-more : (d : Document) (own : List NumberedLine) (b : IsBegun d own) (x : NumberedLine) → own ++ x ∷ [] ≡ (numbered_line d.line Opens ∷ b.header) ++ (b.laid ++ x ∷ [])
-laid-more d own b x = ap (λ (t : List NumberedLine). t ++ x ∷ []) b.are ∙ append_assoc (numbered_line d.line Opens ∷ b.header) b.laid (x ∷ [])
+written-more : (d : Document) (own : List NumberedLine) (b : IsBegun d own) (x : NumberedLine) → own ++ x ∷ [] ≡ (numbered_line d.line Opens ∷ b.header) ++ (b.written ++ x ∷ [])
+written-more d own b x = ap (λ (t : List NumberedLine). t ++ x ∷ []) b.are ∙ append_assoc (numbered_line d.line Opens ∷ b.header) b.written (x ∷ [])
 
-says-more : (laid : List NumberedLine) (x : NumberedLine) (lines : List Line) → says laid ≡ lines → says (laid ++ x ∷ []) ≡ lines ++ x.says ∷ []
-says-more laid x lines is = map-append (λ (l : NumberedLine). l.says) laid (x ∷ []) ∙ ap (λ (t : List Line). t ++ x.says ∷ []) is
+says-more : (written : List NumberedLine) (x : NumberedLine) (lines : List Line) → says written ≡ lines → says (written ++ x ∷ []) ≡ lines ++ x.says ∷ []
+says-more written x lines is = map-append (λ (l : NumberedLine). l.says) written (x ∷ []) ∙ ap (λ (t : List Line). t ++ x.says ∷ []) is
 
 local1-open : (at : ℕ) (d : Document) (octets : List ℕ) (own : List NumberedLine) → IsLaying 0 d own → IsLaying 0 (with_local1 d octets) (own ++ numbered_line at (Local1 octets) ∷ [])
 local1-open at d octets own is =
     let b = is.with_open_group in
     let none2 = is.before_section2 refl in
     let none3 = is.before_descriptors (omega arith) in
-    let before : says b.laid ≡ map Local1 b.local1 = b.parts ∙ ap (λ (t : List (List ℕ)). map Local1 b.local1 ++ (map Section2 t ++ map Descriptors b.descriptors)) none2 ∙ ap (λ (t : List (List ℕ)). map Local1 b.local1 ++ map Descriptors t) none3 ∙ append-nil (map Local1 b.local1) in
+    let before : says b.written ≡ map Local1 b.local1 = b.parts ∙ ap (λ (t : List (List ℕ)). map Local1 b.local1 ++ (map Section2 t ++ map Descriptors b.descriptors)) none2 ∙ ap (λ (t : List (List ℕ)). map Local1 b.local1 ++ map Descriptors t) none3 ∙ append-nil (map Local1 b.local1) in
     record {
       with_open_group = record {
         header = b.header;
-        laid = b.laid ++ numbered_line at (Local1 octets) ∷ [];
+        written = b.written ++ numbered_line at (Local1 octets) ∷ [];
         local1 = b.local1 ++ octets ∷ [];
         section2 = [];
         descriptors = [];
-        are = laid-more d own b (numbered_line at (Local1 octets));
+        are = written-more d own b (numbered_line at (Local1 octets));
         in_order = b.in_order;
-        parts = says-more b.laid (numbered_line at (Local1 octets)) (map Local1 b.local1) before ∙ sym (map-append Local1 b.local1 (octets ∷ [])) ∙ sym (append-nil (map Local1 (b.local1 ++ octets ∷ [])));
+        parts = says-more b.written (numbered_line at (Local1 octets)) (map Local1 b.local1) before ∙ sym (map-append Local1 b.local1 (octets ∷ [])) ∙ sym (append-nil (map Local1 (b.local1 ++ octets ∷ [])));
         local1_is = ap (λ (t : List ℕ). t ++ octets) b.local1_is ∙ sym (concat-more b.local1 octets);
         section2_is = b.section2_is ∙ ap (λ (t : List (List ℕ)). concat t) none2;
         descriptors_are = b.descriptors_are ∙ ap (λ (t : List (List ℕ)). concat t) none3;
@@ -237,17 +237,17 @@ section2-open at part d octets own early flag is =
     let b = is.with_open_group in
     let none3 = is.before_descriptors early in
     let first = map Local1 b.local1 in
-    let before : says b.laid ≡ first ++ map Section2 b.section2 = b.parts ∙ ap (λ (t : List (List ℕ)). first ++ (map Section2 b.section2 ++ map Descriptors t)) none3 ∙ ap (λ (t : List Line). first ++ t) (append-nil (map Section2 b.section2)) in
+    let before : says b.written ≡ first ++ map Section2 b.section2 = b.parts ∙ ap (λ (t : List (List ℕ)). first ++ (map Section2 b.section2 ++ map Descriptors t)) none3 ∙ ap (λ (t : List Line). first ++ t) (append-nil (map Section2 b.section2)) in
     record {
       with_open_group = record {
         header = b.header;
-        laid = b.laid ++ numbered_line at (Section2 octets) ∷ [];
+        written = b.written ++ numbered_line at (Section2 octets) ∷ [];
         local1 = b.local1;
         section2 = b.section2 ++ octets ∷ [];
         descriptors = [];
-        are = laid-more d own b (numbered_line at (Section2 octets));
+        are = written-more d own b (numbered_line at (Section2 octets));
         in_order = b.in_order;
-        parts = says-more b.laid (numbered_line at (Section2 octets)) (first ++ map Section2 b.section2) before ∙ append_assoc first (map Section2 b.section2) (Section2 octets ∷ [])
+        parts = says-more b.written (numbered_line at (Section2 octets)) (first ++ map Section2 b.section2) before ∙ append_assoc first (map Section2 b.section2) (Section2 octets ∷ [])
             ∙ ap (λ (t : List Line). first ++ t) (sym (map-append Section2 b.section2 (octets ∷ [])) ∙ sym (append-nil (map Section2 (b.section2 ++ octets ∷ []))));
         local1_is = b.local1_is;
         section2_is = ap (λ (t : List ℕ). t ++ octets) b.section2_is ∙ sym (concat-more b.section2 octets);
@@ -267,13 +267,13 @@ descriptors-open at part d words own is =
     record {
       with_open_group = record {
         header = b.header;
-        laid = b.laid ++ numbered_line at (Descriptors words) ∷ [];
+        written = b.written ++ numbered_line at (Descriptors words) ∷ [];
         local1 = b.local1;
         section2 = b.section2;
         descriptors = b.descriptors ++ words ∷ [];
-        are = laid-more d own b (numbered_line at (Descriptors words));
+        are = written-more d own b (numbered_line at (Descriptors words));
         in_order = b.in_order;
-        parts = says-more b.laid (numbered_line at (Descriptors words)) (first ++ (second ++ map Descriptors b.descriptors)) b.parts ∙ append_assoc first (second ++ map Descriptors b.descriptors) (Descriptors words ∷ [])
+        parts = says-more b.written (numbered_line at (Descriptors words)) (first ++ (second ++ map Descriptors b.descriptors)) b.parts ∙ append_assoc first (second ++ map Descriptors b.descriptors) (Descriptors words ∷ [])
             ∙ ap (λ (t : List Line). first ++ t) (append_assoc second (map Descriptors b.descriptors) (Descriptors words ∷ []) ∙ ap (λ (t : List Line). second ++ t) (sym (map-append Descriptors b.descriptors (words ∷ []))));
         local1_is = b.local1_is;
         section2_is = b.section2_is;
@@ -293,7 +293,7 @@ first-open : (at part subset : ℕ) (d : Document) (own : List NumberedLine) →
 first-open at part subset d own is =
     if-open (own ++ numbered_line at (Begins subset) ∷ []) ((subset == 0 + 1) && nat_le subset (subsets_in d)) (WalkGoes (Filling subset d)) (Faults SubsetCount) (λ e.
     let number : subset ≡ 1 = is-next subset 0 (subsets_in d) e in record {
-      front = own;
+      prefix = own;
       with_open_group = is.with_open_group;
       done = [];
       last = bare_subset at;
@@ -310,10 +310,10 @@ none-open at part d own is =
       local1 = b.local1;
       section2 = b.section2;
       descriptors = b.descriptors;
-      laid = b.laid;
+      written = b.written;
       subsets = [];
       end = at;
-      are = laid-more d own b (numbered_line at Closes);
+      are = written-more d own b (numbered_line at Closes);
       in_order = b.in_order;
       parts = b.parts;
       local1_is = b.local1_is;
@@ -327,7 +327,7 @@ none-open at part d own is =
 begun-still : (d : Document) (entry : DraftEntry) (own : List NumberedLine) → IsBegun d own → IsBegun (with_entry d entry) own
 begun-still d entry own b = record {
   header = b.header;
-  laid = b.laid;
+  written = b.written;
   local1 = b.local1;
   section2 = b.section2;
   descriptors = b.descriptors;
@@ -349,23 +349,23 @@ next-open at subset next d own is =
     let parts = is.done ++ is.last ∷ [] in
     if-open (own ++ numbered_line at (Begins next) ∷ []) ((next == subset + 1) && nat_le next (subsets_in d)) (WalkGoes (Filling next (with_entry d (Ends at)))) (Faults SubsetCount) (λ e.
     let number : next ≡ 1 + length parts = omega (arith, is-next next subset (subsets_in d) e, is.counted, length-append is.done (is.last ∷ [])) in record {
-      front = is.front;
-      with_open_group = begun-still d (Ends at) is.front is.with_open_group;
+      prefix = is.prefix;
+      with_open_group = begun-still d (Ends at) is.prefix is.with_open_group;
       done = parts;
       last = bare_subset at;
-      are = ap (λ (t : List NumberedLine). t ++ numbered_line at (Begins next) ∷ []) is.are ∙ append_assoc is.front (subsets_heard 1 parts) (numbered_line at (Begins next) ∷ [])
-          ∙ ap (λ (t : List NumberedLine). is.front ++ t) (ap (λ (n : ℕ). subsets_heard 1 parts ++ numbered_line at (Begins n) ∷ []) number ∙ sym (part-more 1 parts at));
+      are = ap (λ (t : List NumberedLine). t ++ numbered_line at (Begins next) ∷ []) is.are ∙ append_assoc is.prefix (subsets_heard 1 parts) (numbered_line at (Begins next) ∷ [])
+          ∙ ap (λ (t : List NumberedLine). is.prefix ++ t) (ap (λ (n : ℕ). subsets_heard 1 parts ++ numbered_line at (Begins n) ∷ []) number ∙ sym (part-more 1 parts at));
       counted = omega (arith, number);
       entries = ended-entries at subset d own is ∙ sym (append-nil (entries_heard parts at));
     }) (λ e. tt)
 
 item-open : (at subset : ℕ) (d : Document) (own : List NumberedLine) (i : Element) → i.at ≡ at → IsFilling subset d own → IsFilling subset (with_entry d (item_entry i)) (own ++ item_line i ∷ [])
 item-open at subset d own i here is = record {
-  front = is.front;
-  with_open_group = begun-still d (item_entry i) is.front is.with_open_group;
+  prefix = is.prefix;
+  with_open_group = begun-still d (item_entry i) is.prefix is.with_open_group;
   done = is.done;
   last = with_item is.last i;
-  are = ap (λ (t : List NumberedLine). t ++ item_line i ∷ []) is.are ∙ append_assoc is.front (subsets_heard 1 (is.done ++ is.last ∷ [])) (item_line i ∷ []) ∙ ap (λ (t : List NumberedLine). is.front ++ t) (sym (item-more 1 is.done is.last i));
+  are = ap (λ (t : List NumberedLine). t ++ item_line i ∷ []) is.are ∙ append_assoc is.prefix (subsets_heard 1 (is.done ++ is.last ∷ [])) (item_line i ∷ []) ∙ ap (λ (t : List NumberedLine). is.prefix ++ t) (sym (item-more 1 is.done is.last i));
   counted = is.counted;
   entries = ap (λ (t : List DraftEntry). t ++ item_entry i ∷ []) is.entries ∙ append_assoc (entries_heard is.done is.last.at) (map item_entry is.last.items) (item_entry i ∷ [])
       ∙ ap (λ (t : List DraftEntry). entries_heard is.done is.last.at ++ t) (sym (map-append item_entry is.last.items (i ∷ [])));
@@ -380,12 +380,12 @@ end-open at subset d own is =
       local1 = b.local1;
       section2 = b.section2;
       descriptors = b.descriptors;
-      laid = b.laid;
+      written = b.written;
       subsets = parts;
       end = at;
-      are = ap (λ (t : List NumberedLine). t ++ numbered_line at Closes ∷ []) (is.are ∙ ap (λ (t : List NumberedLine). t ++ subsets_heard 1 parts) b.are ∙ append_assoc (numbered_line d.line Opens ∷ b.header) b.laid (subsets_heard 1 parts))
-          ∙ append_assoc (numbered_line d.line Opens ∷ b.header) (b.laid ++ subsets_heard 1 parts) (numbered_line at Closes ∷ [])
-          ∙ ap (λ (t : List NumberedLine). (numbered_line d.line Opens ∷ b.header) ++ t) (append_assoc b.laid (subsets_heard 1 parts) (numbered_line at Closes ∷ []));
+      are = ap (λ (t : List NumberedLine). t ++ numbered_line at Closes ∷ []) (is.are ∙ ap (λ (t : List NumberedLine). t ++ subsets_heard 1 parts) b.are ∙ append_assoc (numbered_line d.line Opens ∷ b.header) b.written (subsets_heard 1 parts))
+          ∙ append_assoc (numbered_line d.line Opens ∷ b.header) (b.written ++ subsets_heard 1 parts) (numbered_line at Closes ∷ [])
+          ∙ ap (λ (t : List NumberedLine). (numbered_line d.line Opens ∷ b.header) ++ t) (append_assoc b.written (subsets_heard 1 parts) (numbered_line at Closes ∷ []));
       in_order = b.in_order;
       parts = b.parts;
       local1_is = b.local1_is;
@@ -456,24 +456,24 @@ on : (at : ℕ) (line : List ℕ) (more : List (List ℕ)) (own : List NumberedL
 unfolding numbered_lines
 on at line more own = append_assoc own (one at (line_within_limit line)) (numbered_lines (at + 1) more) ∙ ap (λ (t : List NumberedLine). own ++ t) (sym (onto-one at (line_within_limit line) (numbered_lines (at + 1) more)))
 
-end-told : (at : ℕ) (place : ParserState) (own : List NumberedLine) → IsOpen place own → AreTold (own ++ []) (told_at_end at place)
-end-told at Between own is = append-nil own ∙ is
-end-told at (Heading d) own is = refl
-end-told at (Laying part d) own is = refl
-end-told at (Filling subset d) own is = refl
-end-told at Stopped own is = absurd is
+end-reported : (at : ℕ) (place : ParserState) (own : List NumberedLine) → IsOpen place own → AreTold (own ++ []) (told_at_end at place)
+end-reported at Between own is = append-nil own ∙ is
+end-reported at (Heading d) own is = refl
+end-reported at (Laying part d) own is = refl
+end-reported at (Filling subset d) own is = refl
+end-reported at Stopped own is = absurd is
 
-told-on : (at : ℕ) (line : List ℕ) (more : List (List ℕ)) (own : List NumberedLine) (here : LineEffect) → IsOpenBehind here (own ++ one at (line_within_limit line))
+reported-on : (at : ℕ) (line : List ℕ) (more : List (List ℕ)) (own : List NumberedLine) (here : LineEffect) → IsOpenBehind here (own ++ one at (line_within_limit line))
     → ((next : ParserState) (own' : List NumberedLine) → IsOpen next own' → AreTold (own' ++ numbered_lines (at + 1) more) (parse_lines (at + 1) next more))
     → AreTold (own ++ numbered_lines at (line ∷ more)) (told_at at here ++ parse_lines (at + 1) (place_after here) more)
-told-on at line more own (WalkGoes next) opens rest = subst (λ (t : List NumberedLine). AreTold t (parse_lines (at + 1) next more)) (on at line more own) (rest next (own ++ one at (line_within_limit line)) opens)
-told-on at line more own (Gives d) is rest = (own ++ one at (line_within_limit line), numbered_lines (at + 1) more, sym (on at line more own), is, rest Between [] refl)
-told-on at line more own (Faults fault) is rest = stopped-tells (at + 1) more
+reported-on at line more own (WalkGoes next) opens rest = subst (λ (t : List NumberedLine). AreTold t (parse_lines (at + 1) next more)) (on at line more own) (rest next (own ++ one at (line_within_limit line)) opens)
+reported-on at line more own (Gives d) is rest = (own ++ one at (line_within_limit line), numbered_lines (at + 1) more, sym (on at line more own), is, rest Between [] refl)
+reported-on at line more own (Faults fault) is rest = stopped-reports (at + 1) more
 
-lines-told : (at : ℕ) (place : ParserState) (lines : List (List ℕ)) (own : List NumberedLine) → IsOpen place own → AreTold (own ++ numbered_lines at lines) (parse_lines at place lines)
+lines-reported : (at : ℕ) (place : ParserState) (lines : List (List ℕ)) (own : List NumberedLine) → IsOpen place own → AreTold (own ++ numbered_lines at lines) (parse_lines at place lines)
 unfolding parse_lines numbered_lines
-lines-told at place [] own is = end-told at place own is
-lines-told at place (line ∷ more) own is = told-on at line more own (turn at place (line_within_limit line)) (turn-opens at place (line_within_limit line) own is) (λ next own' opens. lines-told (at + 1) next more own' opens)
+lines-reported at place [] own is = end-reported at place own is
+lines-reported at place (line ∷ more) own is = reported-on at line more own (turn at place (line_within_limit line)) (turn-opens at place (line_within_limit line) own is) (λ next own' opens. lines-reported (at + 1) next more own' opens)
 
-pub text-told : (text : List ℕ) → AreTold (numbered_lines 1 (lines_of text)) (documents_of text)
-text-told text = lines-told 1 Between (lines_of text) [] refl
+pub text-reported : (text : List ℕ) → AreTold (numbered_lines 1 (lines_of text)) (documents_of text)
+text-reported text = lines-reported 1 Between (lines_of text) [] refl

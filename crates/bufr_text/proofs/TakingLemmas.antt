@@ -14,7 +14,7 @@ use Rattle.bufr_text.specs.declared.progress.TakeResult.TheVariants as taken
 use Rattle.bufr_text.specs.declared.step.LineEffect.TheVariants as turn
 use Rattle.bufr_text.specs.declared.step.ParserState.{ParserState}
 use Rattle.bufr_text.specs.declared.step.LineRefusal.{LineRefusal}
-use Rattle.bufr_text.proofs.HeaderLemmas.{turn-stands}
+use Rattle.bufr_text.proofs.HeaderLemmas.{turn-holds}
 use Rattle.bufr_text.proofs.SoundLemmas.{said-sound}
 use Rattle.bufr_text.proofs.ClosingLemmas.{gives-end}
 use Rattle.bufr_text.proofs.ReadingLemmas.{takes-line, goes-further}
@@ -29,7 +29,7 @@ line-taken : (new : Progress) (held : List ℕ) (from n : ℕ) (t : documents.Li
 line-taken new held from n t ended feed e =
     let place = place_with new.place new.parts in
     let line = take n (drop from held) in
-    let P : documents.LineEffect → List ℕ → List ℕ → Type 0 = λ t before behind. ContinuesParse (record { at = new.at; place = place; held = before; ended = ended }) (record { at = new.at + 1; place = place_after t; held = behind; ended = ended }) (told_at new.at t) in
+    let P : documents.LineEffect → List ℕ → List ℕ → Type 0 = λ t before suffix. ContinuesParse (record { at = new.at; place = place; held = before; ended = ended }) (record { at = new.at + 1; place = place_after t; held = suffix; ended = ended }) (told_at new.at t) in
     let here = takes-line new.at place line (drop (n + 1) (drop from held)) ended feed.1 in
     subst (λ (b : List ℕ). P t (drop from held) b) (drop-on (n + 1) from held)
     (subst (λ (b : List ℕ). P t b (drop (n + 1) (drop from held))) (sym feed.2)
@@ -67,8 +67,8 @@ passes-feed at at' held from n p feed =
     subst P (drop-on (n + 1) from held) (passes-line at at' held (drop from held) (take n (drop from held)) (drop (n + 1) (drop from held)) p feed.1 feed.2)
 
 -- what holds behind a turn
-stands-behind : (new : Progress) (t : documents.LineEffect) (line : List ℕ) → IsParserState new.at (place_with new.place new.parts) → 0 < new.at → t ≡ documents.turn new.at (place_with new.place new.parts) (line_within_limit line) → StandsAfter new.at t
-stands-behind new t line s some e = subst (StandsAfter new.at) (sym e) (turn-stands new.at (place_with new.place new.parts) (line_within_limit line) some (said-sound line) s)
+holds-after : (new : Progress) (t : documents.LineEffect) (line : List ℕ) → IsParserState new.at (place_with new.place new.parts) → 0 < new.at → t ≡ documents.turn new.at (place_with new.place new.parts) (line_within_limit line) → StandsAfter new.at t
+holds-after new t line s some e = subst (StandsAfter new.at) (sym e) (turn-holds new.at (place_with new.place new.parts) (line_within_limit line) some (said-sound line) s)
 
 further : (a b c : ReaderPosition) (x : List documents.ParseResult) → b.ended ≡ c.ended → ContinuesParse a b [] → ContinuesParse b c x → ContinuesParse a c x
 further a b c x same f g = goes-further a b c [] x (λ e. sym same ∙ e) f g
@@ -79,7 +79,7 @@ pub taking-goes : (old new : Progress) (held : List ℕ) (from n : ℕ) (place :
 taking-goes old new held from n place d is feed e = record {
   goes = λ ended. further (stand_of old held ended) (stand_of new (drop from held) ended) (stand_of (record { place = place; at = new.at + 1; parts = d }) (drop (from + (n + 1)) held) ended) [] refl (is.goes ended) (line-taken new held from n (turned (turn.WalkGoes place) d) ended feed e);
   within = omega (arith, feed.0, length-drop from held);
-  stands = stands-behind new (turned (turn.WalkGoes place) d) (take n (drop from held)) is.stands is.some e;
+  holds = holds-after new (turned (turn.WalkGoes place) d) (take n (drop from held)) is.holds is.some e;
   some = omega arith;
   near = omega (arith, is.near);
   passes = passes-feed old.at new.at held from n is.passes feed;
@@ -95,11 +95,11 @@ taking-gives old new held from n last is feed at e = record {
   within = omega (arith, feed.0, length-drop from held);
   near = omega (arith, is.near, at);
   passes = subst (λ (k : ℕ). TakesWholeLines old.at held k (drop (from + (n + 1)) held)) (sym at) (passes-feed old.at new.at held from n is.passes feed);
-  stands = (let after = stands-behind new (turned turn.Gives last.parts) (take n (drop from held)) is.stands is.some e in (after.0, omega (arith, after.1, at)));
+  holds = (let after = holds-after new (turned turn.Gives last.parts) (take n (drop from held)) is.holds is.some e in (after.0, omega (arith, after.1, at)));
   closes = λ gives. record {
     line = new.at;
     last = take n (drop from held);
-    front = (let P : List ℕ → Type 0 = λ t. TakesWholeLines old.at held new.at (take n (drop from held) ++ 10 ∷ t) in let Q : List ℕ → Type 0 = λ t. TakesWholeLines old.at held new.at t in subst P (drop-on (n + 1) from held) (subst Q feed.2 is.passes));
+    prefix = (let P : List ℕ → Type 0 = λ t. TakesWholeLines old.at held new.at (take n (drop from held) ++ 10 ∷ t) in let Q : List ℕ → Type 0 = λ t. TakesWholeLines old.at held new.at t in subst P (drop-on (n + 1) from held) (subst Q feed.2 is.passes));
     single = feed.1;
     closes = gives-end new.at (place_with new.place new.parts) (line_within_limit (take n (drop from held))) last.parts e;
     counted = at;
@@ -117,6 +117,6 @@ taking-refuses old new held from n line refusal last is feed at here e = record 
   within = omega (arith, feed.0, length-drop from held);
   near = omega (arith, is.near, at);
   passes = subst (λ (k : ℕ). TakesWholeLines old.at held k (drop (from + (n + 1)) held)) (sym at) (passes-feed old.at new.at held from n is.passes feed);
-  stands = tt;
+  holds = tt;
   closes = λ gives. absurd cc;
 }

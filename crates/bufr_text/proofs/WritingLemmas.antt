@@ -17,18 +17,18 @@ module _ (a b c : Option (List ℕ)) (s t : List ℕ) where
   Writes-then (Err f) first second = (
     second.0,
     record {
-      front = s ++ second.1.front;
+      prefix = s ++ second.1.prefix;
       back = second.1.back;
-      parts = ap (λ l. s ++ l) second.1.parts ∙ sym (append_assoc s second.1.front second.1.back);
-      gains = Appends-trans a b c s second.1.front first second.1.gains;
+      parts = ap (λ l. s ++ l) second.1.parts ∙ sym (append_assoc s second.1.prefix second.1.back);
+      gains = Appends-trans a b c s second.1.prefix first second.1.gains;
     },
   )
 
-front-more : (a b : Option (List ℕ)) (s t : List ℕ) → GrowsByPrefix a b s → GrowsByPrefix a b (s ++ t)
-front-more a b s t first = record {
-  front = first.front;
+prefix-more : (a b : Option (List ℕ)) (s t : List ℕ) → GrowsByPrefix a b s → GrowsByPrefix a b (s ++ t)
+prefix-more a b s t first = record {
+  prefix = first.prefix;
   back = first.back ++ t;
-  parts = ap (λ l. l ++ t) first.parts ∙ append_assoc first.front first.back t;
+  parts = ap (λ l. l ++ t) first.parts ∙ append_assoc first.prefix first.back t;
   gains = first.gains;
 }
 
@@ -36,21 +36,21 @@ front-more a b s t first = record {
 pub Writes-stop : {X Y : Type 0} (a b : Option (List ℕ)) (s t : List ℕ) (first : Result X RunFault) (r : Result Y RunFault) (f : RunFault) → Writes a b s first → first ≡ Err f → r ≡ Err f → Writes a b (s ++ t) r
 Writes-stop a b s t first r f writes is same =
     let here = rw is at writes in
-    rw same (here.0, front-more a b s t here.1)
+    rw same (here.0, prefix-more a b s t here.1)
 
 -- a front of the octets was written, and the rest is left
 pub record WrittenSoFar (old now : Option (List ℕ)) (octets rest : List ℕ) : Type 0 where
-  pub front : List ℕ
-  pub parts : octets ≡ front ++ rest
-  pub gains : Appends old now front
+  pub prefix : List ℕ
+  pub parts : octets ≡ prefix ++ rest
+  pub gains : Appends old now prefix
 
 -- one more write of the rest
 pub more-written : (a b c : Option (List ℕ)) (octets rest rest' : List ℕ) (n : ℕ) → WrittenSoFar a b octets rest → n ≤ length rest → Appends b c (take n rest) → rest' ≡ drop n rest
     → WrittenSoFar a c octets rest'
 more-written a b c octets rest rest' n before within more is = record {
-  front = before.front ++ take n rest;
-  parts = before.parts ∙ ap (λ l. before.front ++ l) (sym (take-append-drop n rest) ∙ ap (λ l. take n rest ++ l) (sym is)) ∙ sym (append_assoc before.front (take n rest) rest');
-  gains = Appends-trans a b c before.front (take n rest) before.gains more;
+  prefix = before.prefix ++ take n rest;
+  parts = before.parts ∙ ap (λ l. before.prefix ++ l) (sym (take-append-drop n rest) ∙ ap (λ l. take n rest ++ l) (sym is)) ∙ sym (append_assoc before.prefix (take n rest) rest');
+  gains = Appends-trans a b c before.prefix (take n rest) before.gains more;
 }
 
 -- the texts of the parts up to one, and its own
@@ -73,7 +73,7 @@ module _ (a b c : Option (List ℕ)) (parts : List Part) (i : ℕ) (d : Part) (w
       let P : List ℕ → Type 0 = λ l. GrowsByPrefix a c l in
       let fails : Result X RunFault = Err f in
       let grown = (Writes-then a b c (flat_map part_text (take i parts)) t fails before here).1 in
-      rw same (here.0, subst P (sym text-at) (front-more a c (flat_map part_text (take i parts) ++ t) (flat_map part_text (drop (suc i) parts)) grown))
+      rw same (here.0, subst P (sym text-at) (prefix-more a c (flat_map part_text (take i parts) ++ t) (flat_map part_text (drop (suc i) parts)) grown))
 
   -- a part was written
   pub parts-on : Appends b c (part_text (get_or parts i d)) → Appends a c (flat_map part_text (take (i + 1) parts))

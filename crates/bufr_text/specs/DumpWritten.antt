@@ -75,7 +75,7 @@ pub record WritesUpTo (old new : Option (List ℕ)) (stretches : List Stretch)
   pub order : stretches ≡ given ++ (next ∷ rest)
   pub between : Option (List ℕ)
   pub whole : Appends old between (stretches_text given)
-  pub front : GrowsByPrefix between new next.text
+  pub prefix : GrowsByPrefix between new next.text
   pub made : steps ≡ ticked 0 next.turns
 
 -- all stretches were written in so many turns, or some first ones

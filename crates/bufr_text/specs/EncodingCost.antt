@@ -26,18 +26,18 @@ module _ {D C E : Type 0} (filler : Filler D C E) where
   -- the bits of an item that can be written, and of those behind it
   abbrev pub counted_one : Result (WrittenItem C) E → (FieldSpec → C → Taken) → FieldSpec
       → (Taken → ℕ) → ℕ
-  counted_one (Err why) tells spec rest = 0
-  counted_one (Ok w) tells spec rest = length w.bits + rest (tells spec w.content)
+  counted_one (Err why) reports spec rest = 0
+  counted_one (Ok w) reports spec rest = length w.bits + rest (reports spec w.content)
 
   abbrev pub counted_at : Next → D → (Taken → ℕ) → ℕ
-  counted_at (take_next spec) d rest = counted_one (filler.fills spec d) filler.tells spec rest
+  counted_at (take_next spec) d rest = counted_one (filler.fills spec d) filler.reports spec rest
   counted_at _ d rest = 0
 
   -- how many bits the drafts are, up to the first that is refused
   abbrev pub count_filled : Course → List D → ℕ
   count_filled course [] = 0
   count_filled course (d ∷ ds) =
-      counted_at (course []).next d (λ t. count_filled (λ told. course (t ∷ told)) ds)
+      counted_at (course []).next d (λ t. count_filled (λ results. course (t ∷ results)) ds)
 
 -- those behind one subset count where it is not refused
 abbrev pub count_after : Result (List Bool) FaultAt → (more : ℕ) → ℕ
@@ -89,7 +89,7 @@ module _ {D C E : Type 0} (filler : Filler D C E) where
   -- many
   abbrev pub turned_one : Result (WrittenItem C) E → FieldSpec → (here : ℕ) → (Taken → ℕ) → ℕ
   turned_one (Err why) spec here more = here
-  turned_one (Ok w) spec here more = more (filler.tells spec w.content)
+  turned_one (Ok w) spec here more = more (filler.reports spec w.content)
 
   -- a draft too many is told at the end of the template, which is a turn too
   abbrev pub turned_at : Next → (here : ℕ) → D → (Taken → ℕ) → ℕ
@@ -103,7 +103,7 @@ module _ {D C E : Type 0} (filler : Filler D C E) where
   turns_filled course [] = (course []).turns
   turns_filled course (d ∷ ds) =
       turned_at (course []).next (course []).turns d
-      (λ t. turns_filled (λ told. course (t ∷ told)) ds)
+      (λ t. turns_filled (λ results. course (t ∷ results)) ds)
 
 -- one pass for each subset, up to one that is refused
 abbrev pub turns_plain : Course → List Subset → ℕ

@@ -9,7 +9,7 @@ use Rattle.bufr_text.specs.Document.{Document}
 use Rattle.bufr_text.specs.Documents as documents
 use Rattle.bufr_text.specs.Documents.{ParserState, Between, Stopped, ParseResult, Complete, Refused}
 use Rattle.bufr_text.specs.Reading.{has_no_feed, ContinuesParse, TakesWholeLines, TakesEndLine, parse}
-use Rattle.bufr_text.specs.Reader.{ReaderModel, stand, AddsNext}
+use Rattle.bufr_text.specs.Reader.{ReaderModel, position_of, AddsNext}
 use Rattle.bufr_text.specs.Step.{place_with, IsParserState}
 use Rattle.bufr_text.specs.declared.progress.Progress.{Progress}
 use Rattle.bufr_text.specs.declared.step.LineRefusal.{LineRefusal}
@@ -33,13 +33,13 @@ ends_by_feed (c ∷ d ∷ more) = ends_by_feed (d ∷ more)
 
 -- The progress of a reader that goes on: each line had an octet at least.
 pub record IsProgress (progress : Progress) (held reads : ℕ) : Type 0 where
-  pub stands : IsParserState progress.at (place_with progress.place progress.parts)
+  pub holds : IsParserState progress.at (place_with progress.place progress.parts)
   pub some : 0 < progress.at
   pub near : progress.at + held ≤ 4096 * reads + 1
 
 -- Lines were taken and tell something.
-pub record ParsesHeldLines (old new : ReaderModel) (told : List ParseResult) : Type 0 where
-  pub goes : ContinuesParse (stand old) (stand new) told
+pub record ParsesHeldLines (old new : ReaderModel) (results : List ParseResult) : Type 0 where
+  pub goes : ContinuesParse (position_of old) (position_of new) results
   pub passes : TakesWholeLines old.at old.held new.at new.held
 
 -- Lines were taken and tell nothing, and the next one adds to the document.
@@ -116,7 +116,7 @@ stopped s (Run fault) = record s { fault = Some (Run fault) }
 
 -- what the end comes to, where no line is held
 abbrev pub HandlesEnd : ReaderModel → ReaderModel → Result (Option Document) ReadFault → Type 0
-HandlesEnd old new (Ok None) = (new ≡ old) × (new.held ≡ []) × (parse (stand new) [] ≡ [])
+HandlesEnd old new (Ok None) = (new ≡ old) × (new.held ≡ []) × (parse (position_of new) [] ≡ [])
 HandlesEnd old new (Ok (Some document)) = ⊥
 HandlesEnd old new (Err (Line line)) =
     ParsesHeldLines old new (Refused line documents.NotAllowed ∷ [])

@@ -19,9 +19,9 @@ pub record LineModel : Type 0 where
 
 -- a front of the text was written, and the rest is held
 pub record MovesPrefix (before after : Option (List ℕ)) (text held : List ℕ) : Type 0 where
-  pub front : List ℕ
-  pub parts : text ≡ front ++ held
-  pub gains : Appends before after front
+  pub prefix : List ℕ
+  pub parts : text ≡ prefix ++ held
+  pub gains : Appends before after prefix
 
 -- of what was held and the text a front was written; the rest is held, or lost where the sink
 -- failed

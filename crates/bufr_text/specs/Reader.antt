@@ -31,8 +31,8 @@ pub record ReaderModel : Type 0 where
 abbrev pub new_reader : ReaderModel
 new_reader = record { at = 1; place = Between; held = []; ended = false; fault = None; reads = 0 }
 
-abbrev pub stand : ReaderModel → ReaderPosition
-stand s = record { at = s.at; place = s.place; held = s.held; ended = s.ended }
+abbrev pub position_of : ReaderModel → ReaderPosition
+position_of s = record { at = s.at; place = s.place; held = s.held; ended = s.ended }
 
 -- the same with octets behind those that are held
 abbrev pub position_after : ReaderModel → List ℕ → ReaderPosition
@@ -65,12 +65,12 @@ KeepsUnread old new bs = (taken : List ℕ) × (unfed old ++ bs ≡ taken ++ unf
 -- Octets were read, and what was held spells with them what was told and then what is held now.
 -- What was taken are whole lines.
 pub record ReadsLines (left left' : Option (List ℕ)) (old new : ReaderModel)
-    (told : List ParseResult)
+    (results : List ParseResult)
     (bs : List ℕ) : Type 0 where
   pub read : Consumes left left' bs
   pub order : old.reads ≤ new.reads
   pub few : length bs ≤ 4096 * (new.reads - old.reads)
-  pub goes : ContinuesParse (position_after old bs) (stand new) told
+  pub goes : ContinuesParse (position_after old bs) (position_of new) results
   pub lines : (feed : List ℕ) × IsMissingFeed old.ended new.ended feed
       × TakesWholeLines old.at ((old.held ++ bs) ++ feed) new.at new.held
   -- where the end was reached now and no line feed was lacking, nothing is held
@@ -105,11 +105,11 @@ pub record ReadsOnlyIfNoLine (left : Option (List ℕ)) (old : ReaderModel) (rea
 
 -- while the end is not known, no whole line is held, and nothing more is told of what is held
 abbrev pub HasNoWholeLine : ReaderModel → Type 0
-HasNoWholeLine s = (s.ended ≡ false) × (parse_open (stand s) [] ≡ []) × (has_no_feed s.held ≡ true)
+HasNoWholeLine s = (s.ended ≡ false) × (parse_open (position_of s) [] ≡ []) × (has_no_feed s.held ≡ true)
 
 -- the end was reached and nothing is left
 abbrev pub HasNoMoreLines : ReaderModel → Type 0
-HasNoMoreLines s = (s.ended ≡ true) × (s.held ≡ []) × (parse (stand s) [] ≡ [])
+HasNoMoreLines s = (s.ended ≡ true) × (s.held ≡ []) × (parse (position_of s) [] ≡ [])
 
 -- how a call leaves the reader: at the end nothing is left; an input is too long only after 2^32
 -- reads; memory was wanted only where a whole line is held, or before the first read

@@ -29,9 +29,9 @@ parse_open s t =
 
 -- The held octets spell what was told and then what is still held, whatever comes behind; behind
 -- the end nothing does.
-pub record ContinuesParse (old new : ReaderPosition) (told : List ParseResult) : Type 0 where
-  pub whole : (t : List ℕ) → (new.ended ≡ true → t ≡ []) → parse old t ≡ told ++ parse new t
-  pub openly : new.ended ≡ false → (t : List ℕ) → parse_open old t ≡ told ++ parse_open new t
+pub record ContinuesParse (old new : ReaderPosition) (results : List ParseResult) : Type 0 where
+  pub whole : (t : List ℕ) → (new.ended ≡ true → t ≡ []) → parse old t ≡ results ++ parse new t
+  pub openly : new.ended ≡ false → (t : List ℕ) → parse_open old t ≡ results ++ parse_open new t
 
 -- Lines were taken: what was held is these lines, each with its line feed, and then what is still
 -- held.
@@ -46,7 +46,7 @@ pub record TakesEndLine (at : ℕ) (held : List ℕ) (at' : ℕ) (rest : List �
   -- the number of the `end` line
   pub line : ℕ
   pub last : List ℕ
-  pub front : TakesWholeLines at held line (last ++ 10 ∷ rest)
+  pub prefix : TakesWholeLines at held line (last ++ 10 ∷ rest)
   pub single : has_no_feed last ≡ true
   pub closes : line_within_limit last ≡ Closes
   pub counted : at' ≡ line + 1

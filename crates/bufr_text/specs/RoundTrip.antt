@@ -70,8 +70,8 @@ pub record HasSameReading (table : List Row) (m : List ℕ) (s : Sections) (temp
   pub few : length written ≤ max_octets
   pub octets : AllByRecursion IsOctet written
   -- in a stream it is one message, whatever is behind it
-  pub framed : (at : ℕ) (behind : List ℕ) → scan_from 0 at (written ++ behind)
-      ≡ FrameAt at written ∷ scan_from 0 (at + length written) behind
+  pub framed : (at : ℕ) (suffix : List ℕ) → scan_from 0 at (written ++ suffix)
+      ≡ FrameAt at written ∷ scan_from 0 (at + length written) suffix
   pub sections : Sections
   pub are : sections_of written ≡ Ok sections
   pub same : SaySame AsWritten s sections

@@ -14,7 +14,7 @@ use Rattle.bufr_text.specs.Proper.{IsProper}
 use Rattle.bufr_text.specs.declared.step.ParsedLine.{ParsedLine}
 use Rattle.bufr_text.specs.declared.step.ParsedLine.TheVariants as said
 use Rattle.bufr_text.specs.declared.step.LineGroup.{LineGroup}
-use Rattle.bufr_text.specs.declared.step.LineGroup.TheVariants as laid
+use Rattle.bufr_text.specs.declared.step.LineGroup.TheVariants as written
 use Rattle.bufr_text.specs.declared.step.ParserState.{ParserState}
 use Rattle.bufr_text.specs.declared.step.ParserState.TheVariants as place
 use Rattle.bufr_text.specs.declared.step.LineRefusal.{LineRefusal}
@@ -37,9 +37,9 @@ meaning said.Wrong = line.Wrong
 
 -- how far the parts before the subsets have come
 abbrev pub part_number : LineGroup → ℕ
-part_number laid.Local1 = 0
-part_number laid.Section2 = 1
-part_number laid.Descriptors = 2
+part_number written.Local1 = 0
+part_number written.Section2 = 1
+part_number written.Descriptors = 2
 
 -- where the reading stands, with the document as far as it was read
 abbrev pub place_with : ParserState → spec.Document → documents.ParserState

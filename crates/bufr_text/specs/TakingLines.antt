@@ -58,7 +58,7 @@ pub record TakesLines (old new : Progress) (held : List ℕ) (place : ℕ)
       (stand_behind step new (drop place held) ended) (step_results step new.parts)
   pub all : step ≡ taken.More → has_no_feed (drop place held) ≡ true
   pub within : place ≤ length held
-  pub stands : StandsBehind step new
+  pub holds : StandsBehind step new
   pub near : new.at ≤ old.at + place
   pub passes : TakesWholeLines old.at held new.at (drop place held)
   pub closes : step ≡ taken.Gives → TakesEndLine old.at held new.at (drop place held)
@@ -68,7 +68,7 @@ pub record IsTaking (old new : Progress) (held : List ℕ) (place : ℕ) : Type 
   pub goes : (ended : Bool)
       → ContinuesParse (stand_of old held ended) (stand_of new (drop place held) ended) []
   pub within : place ≤ length held
-  pub stands : IsParserState new.at (place_with new.place new.parts)
+  pub holds : IsParserState new.at (place_with new.place new.parts)
   pub some : 0 < new.at
   pub near : new.at ≤ old.at + place
   pub passes : TakesWholeLines old.at held new.at (drop place held)
@@ -80,6 +80,6 @@ pub record WantsAt (old : Progress) (held : List ℕ) : Type 0 where
   pub taking : IsTaking old progress held place
   pub line : List ℕ
   pub rest : List ℕ
-  pub stands : drop place held ≡ line ++ 10 ∷ rest
+  pub holds : drop place held ≡ line ++ 10 ∷ rest
   pub single : has_no_feed line ≡ true
   pub adds_to : adds (place_with progress.place progress.parts) (line_within_limit line) ≡ true

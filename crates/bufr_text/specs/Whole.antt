@@ -19,4 +19,4 @@ IsProperlyTold (Refused line fault) = Unit {0}
 
 -- all documents that are told are proper
 abbrev pub AreProper : List ParseResult → Type 0
-AreProper told = AllByRecursion IsProperlyTold told
+AreProper results = AllByRecursion IsProperlyTold results

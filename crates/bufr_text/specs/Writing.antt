@@ -10,10 +10,10 @@ use Rattle.bufr_text.specs.declared.part.Part.TheVariants.{Text, Decimal}
 
 -- known octets grow by the front of a text
 pub record GrowsByPrefix (old new : Option (List ℕ)) (text : List ℕ) : Type 0 where
-  pub front : List ℕ
+  pub prefix : List ℕ
   pub back : List ℕ
-  pub parts : text ≡ front ++ back
-  pub gains : Appends old new front
+  pub parts : text ≡ prefix ++ back
+  pub gains : Appends old new prefix
 
 -- the text was written, or the front of it where the writer failed
 abbrev pub Writes : {X : Type 0} → Option (List ℕ) → Option (List ℕ) → List ℕ
@@ -58,6 +58,6 @@ joined [] = []
 joined (text ∷ more) = text ++ joined more
 
 -- texts, one after another, and what is behind them
-abbrev pub joined_onto : List (List ℕ) → (behind : List ℕ) → List ℕ
-joined_onto [] behind = behind
-joined_onto (text ∷ more) behind = text ++ joined_onto more behind
+abbrev pub joined_onto : List (List ℕ) → (suffix : List ℕ) → List ℕ
+joined_onto [] suffix = suffix
+joined_onto (text ∷ more) suffix = text ++ joined_onto more suffix

@@ -24,7 +24,7 @@ fn lay_origin(head: &Head, line: &mut [u8], end: usize) -> usize
     requires room { 76 ≤ end }
     requires within { end ≤ length line.old }
     ensures start { result ≤ end }
-    ensures laid { drop result line.new ≡ joined_onto (origin_texts head.now) (drop end line.old) }
+    ensures written { drop result line.new ≡ joined_onto (origin_texts head.now) (drop end line.old) }
 {
     let end = lay_named(KEYS[4].0, u16::from(head.update), line, end);
     let end = lay_named(KEYS[3].0, head.subcentre, line, end);
@@ -41,7 +41,7 @@ fn lay_category(head: &Head, line: &mut [u8], end: usize) -> usize
     requires within { end ≤ length line.old }
     ensures most { end ≤ result + 96 }
     ensures start { result ≤ end }
-    ensures laid { drop result line.new
+    ensures written { drop result line.new
         ≡ joined_onto (category_texts head.now) (drop end line.old) }
 {
     let end = lay_text(b"\n", line, end);
@@ -75,7 +75,7 @@ fn lay_counts(message: &Message<'_>, line: &mut [u8], end: usize) -> usize
     requires within { end ≤ length line.old }
     ensures most { end ≤ result + 62 }
     ensures start { result ≤ end }
-    ensures laid { drop result line.new ≡ joined_onto
+    ensures written { drop result line.new ≡ joined_onto
         (counts_texts (flag message.now.observed) (flag message.now.compressed)
         (flag (is_some message.now.section2)) message.now.subsets)
         (drop end line.old) }
@@ -96,7 +96,7 @@ fn lay_date(head: &Head, line: &mut [u8], end: usize) -> usize
     requires room { 69 ≤ end }
     requires within { end ≤ length line.old }
     ensures start { result ≤ end }
-    ensures laid { drop result line.new ≡ joined_onto (date_texts head.now) (drop end line.old) }
+    ensures written { drop result line.new ≡ joined_onto (date_texts head.now) (drop end line.old) }
 {
     let end = lay_named(KEYS[15].0, u16::from(head.second), line, end);
     let end = lay_named(KEYS[14].0, u16::from(head.minute), line, end);

@@ -26,7 +26,7 @@ fn lay_escape(octet: u8, line: &mut [u8], end: usize) -> usize
     requires within { end ≤ length line.old }
     ensures most { end ≤ result + 4 }
     ensures start { result ≤ end }
-    ensures laid { drop result line.new ≡ escaped octet ++ drop end line.old }
+    ensures written { drop result line.new ≡ escaped octet ++ drop end line.old }
 {
     if octet == b'"' || octet == b'\\' {
         return lay_text(&[b'\\', octet], line, end);
@@ -42,7 +42,7 @@ fn lay_octet(octet: u8, line: &mut [u8], end: usize) -> usize
     requires within { end ≤ length line.old }
     ensures most { end ≤ result + 4 }
     ensures start { result ≤ end }
-    ensures laid { drop result line.new ≡ escaped octet ++ drop end line.old }
+    ensures written { drop result line.new ≡ escaped octet ++ drop end line.old }
 {
     if is_unescaped(octet) {
         return lay_text(&[octet], line, end);
@@ -58,7 +58,7 @@ fn lay_quoted(octets: &[u8], line: &mut [u8], end: usize) -> usize
     requires within { end ≤ length line.old }
     ensures most { end ≤ result + (4 * length octets.now + 1) }
     ensures start { result ≤ end }
-    ensures laid { drop result line.new ≡ quoted octets.now ++ drop end line.old }
+    ensures written { drop result line.new ≡ quoted octets.now ++ drop end line.old }
 {
     let mut start = lay_text(b"\"", line, end);
     let mut left = octets.len();
@@ -76,7 +76,7 @@ fn lay_pointed(digits: &[u8], places: usize, line: &mut [u8], end: usize) -> usi
     requires within { end ≤ length line.old }
     ensures most { end ≤ result + (length digits.now + places + 2) }
     ensures start { result ≤ end }
-    ensures laid { drop result line.new ≡ pointed places digits.now ++ drop end line.old }
+    ensures written { drop result line.new ≡ pointed places digits.now ++ drop end line.old }
 {
     if digits.len() <= places {
         let end = lay_text(digits, line, end);
@@ -102,7 +102,7 @@ fn zeros_behind(size: u128, power: usize) -> usize
 fn lay_fraction(value: u64, places: usize, line: &mut [u8], end: usize) -> u64
     requires room { places ≤ end }
     requires within { end ≤ length line.old }
-    ensures laid { decimal result ++ drop (end - places) line.new
+    ensures written { decimal result ++ drop (end - places) line.new
         ≡ zero_padded (places + 1) value ++ drop end line.old }
 {
     let mut left = value;
@@ -120,7 +120,7 @@ fn lay_with_point(value: u64, places: usize, line: &mut [u8], end: usize) -> usi
     requires within { end ≤ length line.old }
     ensures most { end ≤ result + (places + 21) }
     ensures start { result ≤ end }
-    ensures laid { drop result line.new ≡ pointed places (decimal value) ++ drop end line.old }
+    ensures written { drop result line.new ≡ pointed places (decimal value) ++ drop end line.old }
 {
     let whole = lay_fraction(value, places, line, end);
     let start = lay_text(b".", line, end - places);
@@ -133,7 +133,7 @@ fn lay_narrow(size: u64, scale: i16, line: &mut [u8], end: usize) -> usize
     requires within { end ≤ length line.old }
     ensures most { end ≤ result + (42 + unsigned_abs scale) }
     ensures start { result ≤ end }
-    ensures laid { drop result line.new ≡ unsigned_text size scale ++ drop end line.old }
+    ensures written { drop result line.new ≡ unsigned_text size scale ++ drop end line.old }
 {
     let places = scale.unsigned_abs() as usize;
     if scale > 0 {
@@ -150,7 +150,7 @@ fn lay_wide(size: u128, scale: i16, line: &mut [u8], end: usize) -> usize
     requires within { end ≤ length line.old }
     ensures most { end ≤ result + (42 + unsigned_abs scale) }
     ensures start { result ≤ end }
-    ensures laid { drop result line.new ≡ unsigned_text size scale ++ drop end line.old }
+    ensures written { drop result line.new ≡ unsigned_text size scale ++ drop end line.old }
 {
     let places = scale.unsigned_abs() as usize;
     let mut buffer = Buffer::new();
@@ -168,7 +168,7 @@ fn lay_unsigned(size: u128, scale: i16, line: &mut [u8], end: usize) -> usize
     requires within { end ≤ length line.old }
     ensures most { end ≤ result + (42 + unsigned_abs scale) }
     ensures start { result ≤ end }
-    ensures laid { drop result line.new ≡ unsigned_text size scale ++ drop end line.old }
+    ensures written { drop result line.new ≡ unsigned_text size scale ++ drop end line.old }
 {
     // nearly all numbers are below 2^64
     match u64::try_from(size) {
@@ -183,7 +183,7 @@ fn lay_number(v: i128, scale: i16, line: &mut [u8], end: usize) -> usize
     requires within { end ≤ length line.old }
     ensures most { end ≤ result + (43 + unsigned_abs scale) }
     ensures start { result ≤ end }
-    ensures laid { drop result line.new ≡ decimal_text_of v scale ++ drop end line.old }
+    ensures written { drop result line.new ≡ decimal_text_of v scale ++ drop end line.old }
 {
     let start = lay_unsigned(v.unsigned_abs(), scale, line, end);
     if v < 0 {
@@ -198,7 +198,7 @@ fn lay_fxy(fxy: Fxy, line: &mut [u8], end: usize) -> usize
     requires room { 6 ≤ end }
     requires within { end ≤ length line.old }
     ensures start { result + 6 ≡ end }
-    ensures laid { drop result line.new ≡ fxy_text fxy ++ drop end line.old }
+    ensures written { drop result line.new ≡ fxy_text fxy ++ drop end line.old }
 {
     lay_text(&fxy.text(), line, end)
 }
@@ -210,7 +210,7 @@ fn lay_numeric(fxy: Fxy, v: i128, scale: i16, line: &mut [u8], end: usize) -> us
     requires within { end ≤ length line.old }
     ensures most { end ≤ result + (50 + unsigned_abs scale) }
     ensures start { result ≤ end }
-    ensures laid { drop result line.new
+    ensures written { drop result line.new
         ≡ fxy_text fxy ++ 32 ∷ (decimal_text_of v scale ++ drop end line.old) }
 {
     let end = lay_number(v, scale, line, end);
@@ -224,7 +224,7 @@ fn lay_form(fxy: Fxy, value: Value<'_>, line: &mut [u8], end: usize) -> usize
     requires room { most_value value ≤ end }
     requires within { end ≤ length line.old }
     ensures start { result ≤ end }
-    ensures laid { drop result line.new
+    ensures written { drop result line.new
         ≡ form_text fxy (dump_value_of (value_of (seen_value value.entry))) ++ drop end line.old }
 {
     match value {
@@ -254,7 +254,7 @@ fn lay_comment(fxy: Fxy, entry: Option<Entry<'_>>, line: &mut [u8], end: usize) 
     requires within { end ≤ length line.old }
     ensures most { end ≤ result + most_comment entry.entry }
     ensures start { result ≤ end }
-    ensures laid { drop result line.new ≡ comment_text
+    ensures written { drop result line.new ≡ comment_text
         (option_map comment_of (option_map (row_of_entry fxy) entry.entry)) ++ drop end line.old }
 {
     let _ = fxy;
@@ -273,7 +273,7 @@ fn lay_comment(fxy: Fxy, entry: Option<Entry<'_>>, line: &mut [u8], end: usize) 
 fn lay_item(item: &ItemView<'_>, line: &mut [u8]) -> usize
     requires room { most_item item.now ≤ length line.old }
     ensures start { result ≤ length line.old }
-    ensures laid { drop result line.new ≡ item_text (dump_item_of (seen item.now)) ++ 10 ∷ [] }
+    ensures written { drop result line.new ≡ item_text (dump_item_of (seen item.now)) ++ 10 ∷ [] }
 {
     let len = line.len();
     let end = lay_text(b"\n", line, len);
@@ -328,7 +328,7 @@ fn most_item(item: &ItemView<'_>) -> Option<usize>
 #[inline(always)]
 pub(crate) fn make_item_line(item: &ItemView<'_>, line: &mut Vec<u8>) -> Result<usize, AllocError>
     ensures start { IfOk result (λ start. start ≤ length line.new.items) }
-    ensures laid { IfOk result
+    ensures written { IfOk result
         (λ start. drop start line.new.items ≡ item_text (dump_item_of (seen item.now)) ++ 10 ∷ []) }
 {
     let most = most_item(item).ok_or(AllocError)?;

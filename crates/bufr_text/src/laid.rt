@@ -14,7 +14,7 @@ pub fn lay_text(text: &[u8], line: &mut [u8], end: usize) -> usize
     requires room { length text.now ≤ end }
     requires within { end ≤ length line.old }
     ensures start { result + length text.now ≡ end }
-    ensures laid { drop result line.new ≡ text.now ++ drop end line.old }
+    ensures written { drop result line.new ≡ text.now ++ drop end line.old }
 {
     let start = end - text.len();
     line[start..end].copy_from_slice(text);
@@ -27,7 +27,7 @@ pub(crate) fn lay_flag(on: bool, line: &mut [u8], end: usize) -> usize
     requires room { 1 ≤ end }
     requires within { end ≤ length line.old }
     ensures start { result + 1 ≡ end }
-    ensures laid { drop result line.new ≡ flag on ++ drop end line.old }
+    ensures written { drop result line.new ≡ flag on ++ drop end line.old }
 {
     lay_text(if on { b"1" } else { b"0" }, line, end)
 }
@@ -39,7 +39,7 @@ pub fn lay_decimal(value: u64, line: &mut [u8], end: usize) -> usize
     requires within { end ≤ length line.old }
     ensures most { end ≤ result + 20 }
     ensures start { result ≤ end }
-    ensures laid { drop result line.new ≡ decimal value ++ drop end line.old }
+    ensures written { drop result line.new ≡ decimal value ++ drop end line.old }
 {
     write_digits(value, line, end)
 }
@@ -51,7 +51,7 @@ pub(crate) fn lay_short(value: u16, line: &mut [u8], end: usize) -> usize
     requires within { end ≤ length line.old }
     ensures most { end ≤ result + 5 }
     ensures start { result ≤ end }
-    ensures laid { drop result line.new ≡ decimal value ++ drop end line.old }
+    ensures written { drop result line.new ≡ decimal value ++ drop end line.old }
 {
     write_digits(u64::from(value), line, end)
 }
@@ -63,7 +63,7 @@ pub fn lay_named(name: &[u8], value: u16, line: &mut [u8], end: usize) -> usize
     requires within { end ≤ length line.old }
     ensures most { end ≤ result + (length name.now + 5) }
     ensures start { result ≤ end }
-    ensures laid { drop result line.new ≡ name.now ++ (decimal value ++ drop end line.old) }
+    ensures written { drop result line.new ≡ name.now ++ (decimal value ++ drop end line.old) }
 {
     let start = lay_short(value, line, end);
     lay_text(name, line, start)
@@ -75,7 +75,7 @@ pub(crate) fn lay_zeros(count: usize, line: &mut [u8], end: usize) -> usize
     requires room { count ≤ end }
     requires within { end ≤ length line.old }
     ensures start { result + count ≡ end }
-    ensures laid { drop result line.new ≡ replicate count 48 ++ drop end line.old }
+    ensures written { drop result line.new ≡ replicate count 48 ++ drop end line.old }
 {
     let mut start = end;
     'zeros: while end < start + count {

@@ -6,7 +6,7 @@ ghost use Rattle.bufr_text.specs.Dump.{DumpItem, document_of, dump_lines, dump_t
 ghost use Rattle.bufr_text.specs.Bounds.{IsDumpable};
 ghost use Rattle.bufr_text.specs.Document.{Document};
 ghost use Rattle.bufr_text.specs.Reading.{TakesWholeLines, parse, parse_open};
-ghost use Rattle.bufr_text.specs.Reader.{ReaderModel, new_reader, unfed, stand, IsMissingFeed, ReadsLines, ReturnsNextDocument, HasNoMoreLines, HasNoWholeLine};
+ghost use Rattle.bufr_text.specs.Reader.{ReaderModel, new_reader, unfed, position_of, IsMissingFeed, ReadsLines, ReturnsNextDocument, HasNoMoreLines, HasNoWholeLine};
 ghost use Rattle.bufr_text.specs.Spelling.{AreTold, numbered_lines};
 ghost use Rattle.bufr_text.specs.Whole.{AreProper};
 ghost use Rattle.bufr_text.specs.declared.fault.ReadFault.{ReadFault};
@@ -49,52 +49,52 @@ pub fn open_documents_are_front()
 /// from what each did.
 pub fn calls_compose()
     ensures { (left mid left' : Option (List ℕ)) (old s s' : ReaderModel)
-        (told told' : List ParseResult) (bs bs' : List ℕ)
-        → ReadsLines left mid old s told bs → ReadsLines mid left' s s' told' bs'
-        → ReadsLines left left' old s' (told ++ told') (bs ++ bs') }
+        (results results' : List ParseResult) (bs bs' : List ℕ)
+        → ReadsLines left mid old s results bs → ReadsLines mid left' s s' results' bs'
+        → ReadsLines left left' old s' (results ++ results') (bs ++ bs') }
 {}
 
 /// What calls told from the beginning are the first documents of the octets read, whatever comes
 /// behind; behind the end nothing does.
 pub fn documents_told_are_the_first()
-    ensures { (left left' : Option (List ℕ)) (s : ReaderModel) (told : List ParseResult)
+    ensures { (left left' : Option (List ℕ)) (s : ReaderModel) (results : List ParseResult)
         (bs t : List ℕ)
-        → ReadsLines left left' new_reader s told bs → (s.ended ≡ true → t ≡ [])
-        → documents_of (bs ++ t) ≡ told ++ parse (stand s) t }
+        → ReadsLines left left' new_reader s results bs → (s.ended ≡ true → t ≡ [])
+        → documents_of (bs ++ t) ≡ results ++ parse (position_of s) t }
 {}
 
 /// What calls told from the beginning while the end is not known are the first open documents of
 /// the octets read, whatever comes behind.
 pub fn documents_told_are_the_first_open()
-    ensures { (left left' : Option (List ℕ)) (s : ReaderModel) (told : List ParseResult)
+    ensures { (left left' : Option (List ℕ)) (s : ReaderModel) (results : List ParseResult)
         (bs t : List ℕ)
-        → ReadsLines left left' new_reader s told bs → s.ended ≡ false
-        → open_documents_of (bs ++ t) ≡ told ++ parse_open (stand s) t }
+        → ReadsLines left left' new_reader s results bs → s.ended ≡ false
+        → open_documents_of (bs ++ t) ≡ results ++ parse_open (position_of s) t }
 {}
 
 /// What calls told up to the end are the documents of the octets read.
 pub fn documents_told_are_the_documents()
-    ensures { (left left' : Option (List ℕ)) (s : ReaderModel) (told : List ParseResult)
+    ensures { (left left' : Option (List ℕ)) (s : ReaderModel) (results : List ParseResult)
         (bs : List ℕ)
-        → ReadsLines left left' new_reader s told bs → HasNoMoreLines s → documents_of bs ≡ told }
+        → ReadsLines left left' new_reader s results bs → HasNoMoreLines s → documents_of bs ≡ results }
 {}
 
 /// What calls told up to a failed read, or up to the last read that is made, are the open documents
 /// of the octets read.
 pub fn documents_told_are_the_open_documents()
-    ensures { (left left' : Option (List ℕ)) (s : ReaderModel) (told : List ParseResult)
+    ensures { (left left' : Option (List ℕ)) (s : ReaderModel) (results : List ParseResult)
         (bs : List ℕ)
-        → ReadsLines left left' new_reader s told bs → HasNoWholeLine s → open_documents_of bs
-        ≡ told }
+        → ReadsLines left left' new_reader s results bs → HasNoWholeLine s → open_documents_of bs
+        ≡ results }
 {}
 
 /// The octets that calls read are the lines that they took, and behind those exactly what is held:
 /// as many lines were taken as line numbers were passed. Where the end was reached, a last line
 /// that lacks its line feed was given one, which is none of the octets that are said to be held.
 pub fn octets_behind_the_lines_are_held()
-    ensures { (left left' : Option (List ℕ)) (s : ReaderModel) (told : List ParseResult)
+    ensures { (left left' : Option (List ℕ)) (s : ReaderModel) (results : List ParseResult)
         (bs : List ℕ)
-        → ReadsLines left left' new_reader s told bs → (feed : List ℕ)
+        → ReadsLines left left' new_reader s results bs → (feed : List ℕ)
         × IsMissingFeed false s.ended feed
         × TakesWholeLines 1 (bs ++ feed) s.at s.held
         × ((taken : List ℕ) × (bs ≡ taken ++ unfed s)) }

@@ -48,7 +48,7 @@ pub fn write_all<W: Sink>(octets: &[u8], w: &mut W) -> Result<(), RunFault>
 fn lay_part(part: Part<'_>, line: &mut [u8], end: usize) -> Option<usize>
     requires { end ≤ length line.old }
     ensures start { IfSome result (λ start. start ≤ end) }
-    ensures laid { IfSome result
+    ensures written { IfSome result
         (λ start. drop start line.new ≡ part_text part.entry ++ drop end line.old) }
 {
     match part {
@@ -61,7 +61,7 @@ fn lay_part(part: Part<'_>, line: &mut [u8], end: usize) -> Option<usize>
 /// Lays parts, one behind another, at the end of the octets, and answers where they begin.
 fn lay_parts(parts: &[Part<'_>], line: &mut [u8]) -> Option<usize>
     ensures start { IfSome result (λ start. start ≤ length line.old) }
-    ensures laid { IfSome result (λ start. drop start line.new ≡ flat_map part_text parts.now) }
+    ensures written { IfSome result (λ start. drop start line.new ≡ flat_map part_text parts.now) }
 {
     let mut start = line.len();
     let mut left = parts.len();

@@ -72,4 +72,4 @@ one_more now specs specs1 specs2 places places1 places2 item place view have sam
     let before : indexed_items specs2 places ≡ now = ap (λ ss. indexed_items ss places) grown ∙ same_items specs put.more places have ∙ view in
     ap (indexed_items specs2) all ∙ map-append (item_at_location specs2) places (last ∷ [])
     ∙ ap (λ xs. xs ++ item_at_location specs2 last ∷ []) before
-    ∙ ap (λ s. now ++ record { spec = s; at = item.at; base = item.base; step = item.step } ∷ []) put.stands.is
+    ∙ ap (λ s. now ++ record { spec = s; at = item.at; base = item.base; step = item.step } ∷ []) put.fits.is

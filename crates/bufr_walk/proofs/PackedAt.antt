@@ -96,12 +96,12 @@ at_map f (suc n) s (suc j) bits h = at_map f n s j (drop s bits) (omega arith) �
     next s j = omega arith
 
 -- with no increments
-pub base_at : (a : FieldSpec) (k n j : ℕ) (base behind : List Bool) (cs : List Content) → k ≡ 0 → j < n → contents_of a k base (increments n (increment_bits_of a.role a.kind k) behind) ≡ Ok cs → content_at j cs ≡ content_in a base
-base_at a k n j base behind cs e h are =
+pub base_at : (a : FieldSpec) (k n j : ℕ) (base suffix : List Bool) (cs : List Content) → k ≡ 0 → j < n → contents_of a k base (increments n (increment_bits_of a.role a.kind k) suffix) ≡ Ok cs → content_at j cs ≡ content_in a base
+base_at a k n j base suffix cs e h are =
     let s = increment_bits_of a.role a.kind k in
-    let all : ◌≡◌ {A = Result (List Content) FieldFault} (Ok (map (λ i. content_in a base) (increments n s behind))) (Ok cs) = sym (ap (λ x. if x == 0 then Ok (map (λ i. content_in a base) (increments n s behind)) else varied a.role a x base (increments n s behind)) e) ∙ are in
-    let same : map (λ i. content_in a base) (increments n s behind) ≡ cs = cc in
-    ap (content_at j) (sym same) ∙ at_map (λ i. content_in a base) n s j behind h
+    let all : ◌≡◌ {A = Result (List Content) FieldFault} (Ok (map (λ i. content_in a base) (increments n s suffix))) (Ok cs) = sym (ap (λ x. if x == 0 then Ok (map (λ i. content_in a base) (increments n s suffix)) else varied a.role a x base (increments n s suffix)) e) ∙ are in
+    let same : map (λ i. content_in a base) (increments n s suffix) ≡ cs = cc in
+    ap (content_at j) (sym same) ∙ at_map (λ i. content_in a base) n s j suffix h
 
 ok_if : (b : Bool) (xs cs : List Content) → ◌≡◌ {A = Result (List Content) FieldFault} (if b then Ok xs else Err increment) (Ok cs) → xs ≡ cs
 ok_if true xs cs h = cc
@@ -116,36 +116,36 @@ equal_ok true xs cs h = by (all_same xs) h
 equal_ok false xs cs h = absurd cc
 
 -- with increments
-pub varied_contents : (a : FieldSpec) (k n : ℕ) (base behind : List Bool) (cs : List Content) → 1 ≤ k → contents_of a k base (increments n (increment_bits_of a.role a.kind k) behind) ≡ Ok cs → map (content_from a.kind a k base) (increments n (kind_step a.kind k) behind) ≡ cs
-varied_contents a k n base behind cs some are = by a.role refl
+pub varied_contents : (a : FieldSpec) (k n : ℕ) (base suffix : List Bool) (cs : List Content) → 1 ≤ k → contents_of a k base (increments n (increment_bits_of a.role a.kind k) suffix) ≡ Ok cs → map (content_from a.kind a k base) (increments n (kind_step a.kind k) suffix) ≡ cs
+varied_contents a k n base suffix cs some are = by a.role refl
   where
-    whole : varied_by a.kind a k base (increments n (kind_step a.kind k) behind) ≡ (if holds_by a.kind a k n base behind then Ok (map (content_from a.kind a k base) (increments n (kind_step a.kind k) behind)) else Err increment)
-    whole = varied_are a.kind a k n base behind (holds_by a.kind a k n base behind) refl
+    whole : varied_by a.kind a k base (increments n (kind_step a.kind k) suffix) ≡ (if holds_by a.kind a k n base suffix then Ok (map (content_from a.kind a k base) (increments n (kind_step a.kind k) suffix)) else Err increment)
+    whole = varied_are a.kind a k n base suffix (holds_by a.kind a k n base suffix) refl
 
-    by : (r : Role) → a.role ≡ r → map (content_from a.kind a k base) (increments n (kind_step a.kind k) behind) ≡ cs
-    by role.Element q = ok_if (holds_by a.kind a k n base behind) (map (content_from a.kind a k base) (increments n (kind_step a.kind k) behind)) cs (sym (element_are a k n base behind some q ∙ whole) ∙ are)
-    by role.Inserted q = ok_if (holds_by a.kind a k n base behind) (map (content_from a.kind a k base) (increments n (kind_step a.kind k) behind)) cs (sym (inserted_are a k n base behind some q ∙ whole) ∙ are)
-    by role.Factor q = equal_ok (holds_by a.kind a k n base behind) (map (content_from a.kind a k base) (increments n (kind_step a.kind k) behind)) cs (sym (factor_are a k n base behind some q ∙ ap if_equal whole) ∙ are)
+    by : (r : Role) → a.role ≡ r → map (content_from a.kind a k base) (increments n (kind_step a.kind k) suffix) ≡ cs
+    by role.Element q = ok_if (holds_by a.kind a k n base suffix) (map (content_from a.kind a k base) (increments n (kind_step a.kind k) suffix)) cs (sym (element_are a k n base suffix some q ∙ whole) ∙ are)
+    by role.Inserted q = ok_if (holds_by a.kind a k n base suffix) (map (content_from a.kind a k base) (increments n (kind_step a.kind k) suffix)) cs (sym (inserted_are a k n base suffix some q ∙ whole) ∙ are)
+    by role.Factor q = equal_ok (holds_by a.kind a k n base suffix) (map (content_from a.kind a k base) (increments n (kind_step a.kind k) suffix)) cs (sym (factor_are a k n base suffix some q ∙ ap if_equal whole) ∙ are)
     by role.Reference q =
-        let w = wrong_reference a k n base behind a.fxy refl some q in
+        let w = wrong_reference a k n base suffix a.fxy refl some q in
         let no : ◌≡◌ {A = Result (List Content) FieldFault} (Err w.why) (Ok cs) = sym w.is ∙ are in
         absurd cc
 
-pub varied_at : (a : FieldSpec) (k n j : ℕ) (base behind : List Bool) (cs : List Content) → 1 ≤ k → j < n → contents_of a k base (increments n (increment_bits_of a.role a.kind k) behind) ≡ Ok cs
-    → content_at j cs ≡ content_from a.kind a k base (take (kind_step a.kind k) (drop (j * kind_step a.kind k) behind))
-varied_at a k n j base behind cs some h are =
-    ap (content_at j) (sym (varied_contents a k n base behind cs some are)) ∙ at_map (content_from a.kind a k base) n (kind_step a.kind k) j behind h
+pub varied_at : (a : FieldSpec) (k n j : ℕ) (base suffix : List Bool) (cs : List Content) → 1 ≤ k → j < n → contents_of a k base (increments n (increment_bits_of a.role a.kind k) suffix) ≡ Ok cs
+    → content_at j cs ≡ content_from a.kind a k base (take (kind_step a.kind k) (drop (j * kind_step a.kind k) suffix))
+varied_at a k n j base suffix cs some h are =
+    ap (content_at j) (sym (varied_contents a k n base suffix cs some are)) ∙ at_map (content_from a.kind a k base) n (kind_step a.kind k) j suffix h
 
 -- the bits of one subset by role and kind; a redefined reference has none
-step_is : (a : FieldSpec) (k n : ℕ) (base behind : List Bool) (cs : List Content) → 1 ≤ k → contents_of a k base (increments n (increment_bits_of a.role a.kind k) behind) ≡ Ok cs → increment_bits_of a.role a.kind k ≡ kind_step a.kind k
-step_is a k n base behind cs some are = by a.role refl
+step_is : (a : FieldSpec) (k n : ℕ) (base suffix : List Bool) (cs : List Content) → 1 ≤ k → contents_of a k base (increments n (increment_bits_of a.role a.kind k) suffix) ≡ Ok cs → increment_bits_of a.role a.kind k ≡ kind_step a.kind k
+step_is a k n base suffix cs some are = by a.role refl
   where
     by : (r : Role) → a.role ≡ r → increment_bits_of a.role a.kind k ≡ kind_step a.kind k
     by role.Element q = ap (λ r. increment_bits_of r a.kind k) q ∙ step_element a.kind k
     by role.Inserted q = ap (λ r. increment_bits_of r a.kind k) q ∙ step_inserted a.kind k
     by role.Factor q = ap (λ r. increment_bits_of r a.kind k) q ∙ step_factor a.kind k
     by role.Reference q =
-        let w = wrong_reference a k n base behind a.fxy refl some q in
+        let w = wrong_reference a k n base suffix a.fxy refl some q in
         let no : ◌≡◌ {A = Result (List Content) FieldFault} (Err w.why) (Ok cs) = sym w.is ∙ are in
         absurd cc
 
@@ -183,15 +183,15 @@ pub varied_content : (bits : List Bool) (n : ℕ) (e : IndexedItem) (j : ℕ) �
 varied_content bits n e j h some below = let p = kept_parts bits n e h in varied_at e.spec e.step n j _ _ _ some below p.are
 
 -- the same of numbers and of texts
-number_kind : (kd : Kind) (a : FieldSpec) (k j : ℕ) (base behind : List Bool) → is_character kd ≡ false → content_from kd a k base (take (kind_step kd k) (drop (j * kind_step kd k) behind)) ≡ number_from a k base (take k (drop (j * k) behind))
-number_kind kind.Character a k j base behind h = absurd cc
-number_kind kind.Coded a k j base behind h = refl
-number_kind kind.Numeric a k j base behind h = refl
+number_kind : (kd : Kind) (a : FieldSpec) (k j : ℕ) (base suffix : List Bool) → is_character kd ≡ false → content_from kd a k base (take (kind_step kd k) (drop (j * kind_step kd k) suffix)) ≡ number_from a k base (take k (drop (j * k) suffix))
+number_kind kind.Character a k j base suffix h = absurd cc
+number_kind kind.Coded a k j base suffix h = refl
+number_kind kind.Numeric a k j base suffix h = refl
 
-text_kind : (kd : Kind) (a : FieldSpec) (k j : ℕ) (base behind : List Bool) → is_character kd ≡ true → content_from kd a k base (take (kind_step kd k) (drop (j * kind_step kd k) behind)) ≡ padded_text (a.width / 8) k (take (8 * k) (drop (j * (8 * k)) behind))
-text_kind kind.Character a k j base behind h = refl
-text_kind kind.Coded a k j base behind h = absurd cc
-text_kind kind.Numeric a k j base behind h = absurd cc
+text_kind : (kd : Kind) (a : FieldSpec) (k j : ℕ) (base suffix : List Bool) → is_character kd ≡ true → content_from kd a k base (take (kind_step kd k) (drop (j * kind_step kd k) suffix)) ≡ padded_text (a.width / 8) k (take (8 * k) (drop (j * (8 * k)) suffix))
+text_kind kind.Character a k j base suffix h = refl
+text_kind kind.Coded a k j base suffix h = absurd cc
+text_kind kind.Numeric a k j base suffix h = absurd cc
 
 number_step : (kd : Kind) (k : ℕ) → is_character kd ≡ false → kind_step kd k ≡ k
 number_step kind.Character k h = absurd cc

@@ -60,9 +60,9 @@ stand_behind bits n kept i k h e w = and_second (stands_at bits n k) (list_all (
 pub pad_none : (xs : List ℕ) (n : ℕ) → xs ≡ xs ++ replicate (n - n) 32
 pad_none xs n = let none : 0 ≡ n - n = omega arith in sym (append-nil xs) ∙ ap (λ k. xs ++ replicate k 32) none
 
-pub pad_more : (text front : List ℕ) (place from : ℕ) → place < length text → from ≤ place → take place text ≡ front ++ replicate (place - from) 32 → take (place + 1) (set text place 32) ≡ front ++ replicate (place + 1 - from) 32
-pad_more text front place from h order e =
+pub pad_more : (text prefix : List ℕ) (place from : ℕ) → place < length text → from ≤ place → take place text ≡ prefix ++ replicate (place - from) 32 → take (place + 1) (set text place 32) ≡ prefix ++ replicate (place + 1 - from) 32
+pad_more text prefix place from h order e =
     let space : ℕ = 32 in
     let more : place - from + 1 ≡ place + 1 - from = omega arith in
-    take_more_set text place 32 h ∙ ap (λ xs. xs ++ 32 ∷ []) e ∙ append_assoc front (replicate (place - from) 32) (32 ∷ [])
-    ∙ ap (λ xs. front ++ xs) (replicate-append-replicate (place - from) 1 32 ∙ ap (λ n. replicate n 32) more)
+    take_more_set text place 32 h ∙ ap (λ xs. xs ++ 32 ∷ []) e ∙ append_assoc prefix (replicate (place - from) 32) (32 ∷ [])
+    ∙ ap (λ xs. prefix ++ xs) (replicate-append-replicate (place - from) 1 32 ∙ ap (λ n. replicate n 32) more)

@@ -65,11 +65,11 @@ module _ (bits : List Bool) (at n : ℕ) (a : FieldSpec) where
         fault = ap wrong.DataEnd g;
       }
 
-  pub seen_here : (seen : ItemBits) (size : ℕ) → 1 ≤ a.width → seen.end ≡ at + size → at + size ≤ length bits → seen.step ≡ number_of (take 6 (drop (at + a.width) bits)) → size ≡ a.width + 6 + n * increment_bits_of a.role a.kind seen.step → IsTold a seen.step n (take a.width (drop at bits)) (drop (at + (a.width + 6)) bits) seen.told → (is_character a.kind ≡ false → seen.base ≡ number_of (take a.width (drop at bits))) → IsSeen bits at n a seen
-  seen_here seen size some end_is within is size_is told based = record {
-    contents = told.contents;
-    field = field_is seen.step size within is size_is ∙ ap (λ r. with_behind r (drop (at + size) bits)) told.are ∙ ap (λ j. Ok (found told.contents (drop j bits))) (sym end_is);
-    tells = told.tells;
+  pub seen_here : (seen : ItemBits) (size : ℕ) → 1 ≤ a.width → seen.end ≡ at + size → at + size ≤ length bits → seen.step ≡ number_of (take 6 (drop (at + a.width) bits)) → size ≡ a.width + 6 + n * increment_bits_of a.role a.kind seen.step → IsTold a seen.step n (take a.width (drop at bits)) (drop (at + (a.width + 6)) bits) seen.answer → (is_character a.kind ≡ false → seen.base ≡ number_of (take a.width (drop at bits))) → IsSeen bits at n a seen
+  seen_here seen size some end_is within is size_is answers based = record {
+    contents = answers.contents;
+    field = field_is seen.step size within is size_is ∙ ap (λ r. with_behind r (drop (at + size) bits)) answers.are ∙ ap (λ j. Ok (found answers.contents (drop j bits))) (sym end_is);
+    gives = answers.gives;
     step = is;
     base = based;
     within = omega arith;

@@ -80,7 +80,7 @@ taken_here s octets spec t e h within is = record {
   content = content_in spec (take spec.width (rest_of s));
   some = some_width spec h;
   field = there (nat_lt (length (rest_of s)) spec.width) (not_short (length (rest_of s)) spec.width (omega (arith, length-drop s.at s.bits, ap length e, length-bits_of octets)));
-  tells = is ∙ ap (λ bs. answer_of spec (content_in spec (take spec.width (drop s.at bs)))) (sym e);
+  gives = is ∙ ap (λ bs. answer_of spec (content_in spec (take spec.width (drop s.at bs)))) (sym e);
   next = refl;
 }
   where

@@ -20,7 +20,7 @@ use Rattle.bufr_walk.proofs.SomeSteps.{IsSane}
 
 -- a field that was found takes bits, and its answer fits its role
 pub record Forth {C : Type 0} (form : DataCoding C) (spec : FieldSpec) (bits : List Bool) (c : C) (mid : List Bool) : Type 0 where
-  pub tells : IsFor spec (form.tells spec c)
+  pub gives : IsFor spec (form.gives spec c)
   pub size : ℕ
   pub some : 1 ≤ size
   pub within : size ≤ length bits
@@ -77,8 +77,8 @@ module _ {C : Type 0} (form : DataCoding C) (many : ℕ → Bool) (forth : (spec
           at_once course from bits (stopped (field_stop spec.fxy why)) (ap (λ x. outcome_of form (many (from + 0)) x bits) e ∙ ap (λ b. outcome_of form b (take_next spec) bits) m ∙ ap (λ r. stopped_by (field_stop_of spec.fxy r)) q)
       at_field spec e false m (Ok f) q go =
           let k = sane.1 spec e in
-          let w = forth spec bits f.content f.behind k.0 q in
-          one_more course from bits f.behind spec f.content m e q w (go (after form course (record { spec = spec; content = f.content })) f.behind (k.1 (form.tells spec f.content) w.tells) (omega (arith, lt, w.some, w.within, length-drop w.size bits, ap length w.left_is)))
+          let w = forth spec bits f.content f.suffix k.0 q in
+          one_more course from bits f.suffix spec f.content m e q w (go (after form course (record { spec = spec; content = f.content })) f.suffix (k.1 (form.gives spec f.content) w.gives) (omega (arith, lt, w.some, w.within, length-drop w.size bits, ap length w.left_is)))
 
       by : (next : Next) → (course []).next ≡ next → ((c : Course) (bs : List Bool) → IsSane n c → length bs < n → SomeOutcome form many c (from + 1) bs) → SomeOutcome form many course from bits
       by at_end e go = at_once course from bits ended (ap (λ x. outcome_of form (many (from + 0)) x bits) e)
@@ -99,7 +99,7 @@ same_found : {C : Type 0} (a b : FieldRead C) → ◌≡◌ {A = Result (FieldRe
 same_found a b e = cc
 
 behind_is : {C : Type 0} (a b : C) (l m : List Bool) → ◌≡◌ {A = Result (FieldRead C) FieldFault} (Ok (found a l)) (Ok (found b m)) → m ≡ l
-behind_is {C} a b l m e = sym (ap (λ (z : FieldRead C). z.behind) (same_found (found a l) (found b m) e))
+behind_is {C} a b l m e = sym (ap (λ (z : FieldRead C). z.suffix) (same_found (found a l) (found b m) e))
 
 contents_are : {C : Type 0} (a b : C) (l m : List Bool) → ◌≡◌ {A = Result (FieldRead C) FieldFault} (Ok (found a l)) (Ok (found b m)) → a ≡ b
 contents_are {C} a b l m e = ap (λ (z : FieldRead C). z.content) (same_found (found a l) (found b m) e)
@@ -109,7 +109,7 @@ plain_forth spec bits c mid some e = by (nat_lt (length bits) spec.width) refl e
   where
     by : (b : Bool) → nat_lt (length bits) spec.width ≡ b → (if b then Err data_end else Ok (found (content_in spec (take spec.width bits)) (drop spec.width bits))) ≡ Ok (found c mid) → Forth plain spec bits c mid
     by true p q = absurd cc
-    by false p q = record { tells = told_for spec.role c; size = spec.width; some = some; within = not_less (length bits) spec.width p; left_is = behind_is (content_in spec (take spec.width bits)) c (drop spec.width bits) mid q }
+    by false p q = record { gives = told_for spec.role c; size = spec.width; some = some; within = not_less (length bits) spec.width p; left_is = behind_is (content_in spec (take spec.width bits)) c (drop spec.width bits) mid q }
 
 -- some subsets have some contents
 none_more : (r : Result Content FieldFault) (more : Result (List Content) FieldFault) → and_contents r more ≡ Ok [] → ⊥
@@ -162,7 +162,7 @@ module _ (n : ℕ) (spec : FieldSpec) (bits : List Bool) (cs : List Content) (mi
   at_contents k step h g (Ok xs) q z =
       let is : xs ≡ cs = contents_are xs cs (drop (suc n * step) (drop (spec.width + 6) bits)) mid z in
       record {
-        tells = first_for spec cs (λ none. no_contents spec k (take spec.width bits) (take step (drop (spec.width + 6) bits)) (increments n step (drop step (drop (spec.width + 6) bits))) (q ∙ ap Ok (is ∙ none)));
+        gives = first_for spec cs (λ none. no_contents spec k (take spec.width bits) (take step (drop (spec.width + 6) bits)) (increments n step (drop step (drop (spec.width + 6) bits))) (q ∙ ap Ok (is ∙ none)));
         size = spec.width + 6 + suc n * step;
         some = positive spec.width (suc n * step);
         within = within (spec.width + 6) (suc n * step) (length bits) (length (drop (spec.width + 6) bits)) h g (length-drop (spec.width + 6) bits);

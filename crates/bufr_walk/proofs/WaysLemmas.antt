@@ -81,5 +81,5 @@ module _ {S E : Type 0} (takes : S → FieldSpec → Result Taken E → S → Ty
   came_stops {c = c} why x w = record { turns = x.turns + w.turns; ticks = w.ticks ∙ ap (λ k. ticked k w.turns) x.ticks ∙ ticked_twice c x.turns w.turns; way = λ rest. goes_stops takes (x.way rest) (w.way rest) }
 
   -- one turn with no field
-  pub came_turn : (over left : Rest → Rest) (s : OperatorModel) (f : S) (c c' : ℕ) → c' ≡ ticked c 1 → ((rest : Rest) (counts : List ℕ) (told : List Taken) → ahead table (over rest counts) s told ≡ later 1 (ahead table (left rest counts) s told)) → HasWalked takes table over left s f c s f c'
+  pub came_turn : (over left : Rest → Rest) (s : OperatorModel) (f : S) (c c' : ℕ) → c' ≡ ticked c 1 → ((rest : Rest) (counts : List ℕ) (answers : List Taken) → ahead table (over rest counts) s answers ≡ later 1 (ahead table (left rest counts) s answers)) → HasWalked takes table over left s f c s f c'
   came_turn over left s f c c' tick e = record { turns = 1; ticks = tick; way = λ rest. goes_turn takes _ _ f (λ more. e rest (counts_of more) more) }

@@ -128,10 +128,10 @@ abbrev pub item_by : FieldSpec → (subsets k : ℕ) → List Bool → Result (F
     FieldFault
 item_by spec n k bits =
     let step = increment_bits_of spec.role spec.kind k in
-    let behind = drop (spec.width + 6) bits in
-    if nat_lt (length behind) (n * step) then Err data_end
-    else with_behind (contents_of spec k (take spec.width bits) (increments n step behind))
-    (drop (n * step) behind)
+    let suffix = drop (spec.width + 6) bits in
+    if nat_lt (length suffix) (n * step) then Err data_end
+    else with_behind (contents_of spec k (take spec.width bits) (increments n step suffix))
+    (drop (n * step) suffix)
 
 -- the item that begins the bits, for n subsets
 -- rule: compressed-item

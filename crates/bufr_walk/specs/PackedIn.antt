@@ -81,7 +81,7 @@ pub record IsPackedIn (bits : List Bool) (at subsets : ℕ) (kept : List Indexed
   pub some : 1 ≤ subsets
   pub few : length kept * subsets ≤ max_values
   pub held : 7 * length kept ≤ at
-  pub stand : list_all (stands_at bits subsets) kept ≡ true
+  pub fit : list_all (stands_at bits subsets) kept ≡ true
 
 -- the fault of a field with this descriptor
 abbrev pub wrong_of : (fxy : ℕ) → FieldFault → PackedFault
@@ -96,7 +96,7 @@ pub record IsPackedTaken (s : PackedCursor) (spec : FieldSpec) (t : Taken)
   pub few : (length s.items + 1) * s.subsets ≤ max_values
   pub field : packed_field s.subsets spec (remaining_bits s)
       ≡ Ok (found contents (remaining_bits s'))
-  pub tells : t ≡ told_first spec contents
+  pub gives : t ≡ told_first spec contents
   pub bits : s'.bits ≡ s.bits
   pub subsets : s'.subsets ≡ s.subsets
   pub items : s'.items ≡ s.items ++ item_with_contents spec contents ∷ []

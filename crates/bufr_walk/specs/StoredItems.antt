@@ -32,7 +32,7 @@ content_kept bits n e j = content_at j (contents_found (packed_field n e.spec (d
 
 -- a kept item has increments, and the subset, counted from 0, has one of them
 pub record HasIncrement (bits : List Bool) (n : ℕ) (e : IndexedItem) (j : ℕ) : Type 0 where
-  pub stands : stands_at bits n e ≡ true
+  pub fits : stands_at bits n e ≡ true
   pub below : j < n
   pub some : 1 ≤ e.step
 

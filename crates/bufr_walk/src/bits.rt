@@ -134,7 +134,7 @@ pub(crate) fn copy_octets(bits: &BitSlice<'_>, at: u64, count: usize, text: &mut
 }
 
 /// The first octets of a text.
-pub(crate) fn front(text: &[u8; 255], count: usize) -> &[u8]
+pub(crate) fn prefix(text: &[u8; 255], count: usize) -> &[u8]
     requires { count ≤ 255 }
     ensures { result.now ≡ take count text.now }
 {

@@ -214,9 +214,9 @@ impl<'a> Fields for PlainIn<'a> {
 
     #[inline(always)]
     fn take(&mut self, spec: &Spec) -> Result<Taken, DataEnd> {
-        let told = self.peek(spec)?;
+        let answer = self.peek(spec)?;
         self.at += u64::from(spec.width());
-        Ok(told)
+        Ok(answer)
     }
 
     fn bits(&self) -> u64 {

@@ -14,7 +14,7 @@ ghost use Rattle.bufr_tables.specs.Expander.{tables_in, inner_in, list_in, group
 use super::fault::TemplateFault;
 use super::growing::TemplateBuilder;
 use super::passes::Passes;
-use super::shapes::{before, begins_with_element, behind};
+use super::shapes::{before, begins_with_element, suffix};
 use crate::fxy::Fxy;
 use crate::sequences::TableD;
 use crate::table_b::TableB;
@@ -51,7 +51,7 @@ impl Expander<'_> {
         while let Some((fxy, after)) = rest.split_first() {
             let taken = self.part(*fxy, after, width_given, room, growing)?;
             width_given = fxy.gives_width();
-            rest = behind(after, taken);
+            rest = suffix(after, taken);
         }
         Ok(())
     }

@@ -19,7 +19,7 @@ returns-in-Ok-clause-put c =
         contents = contents_drawn (c.args.spec.now.width / 8) c.args.drawn.now;
         item = c.in-Ok.ensures.0;
         is = put_ok c.args.spec.now c.args.place (subsets_of c.args.entries.now) few (contents_drawn (c.args.spec.now.width / 8) c.args.drawn.now) c.in-Ok.ensures.0 c.requires.given c.in-Ok.ensures.1;
-        tells = tells_first c.args.spec.now (c.args.spec.now.width / 8) c.args.drawn.now (drawn.Number 0) c.taken_of.result (omega (arith, c.requires.many, c.requires.some)) c.taken_of.ensures.tells;
+        gives = tells_first c.args.spec.now (c.args.spec.now.width / 8) c.args.drawn.now (drawn.Number 0) c.taken_of.result (omega (arith, c.requires.many, c.requires.some)) c.taken_of.ensures.gives;
         bits = c.in-Ok.ensures.2;
         forth = c.in-Ok.ensures.4;
       };

@@ -3,7 +3,7 @@ use Rattle.std.proofs.lemmas.Result.{err_from_is_err_and}
 use Rattle.bufr_walk.specs.Calls.{calls_of, turns_shown}
 use Rattle.bufr_text.specs.Dump.{head_lines, text_of_lines}
 use Rattle.bufr_text.specs.DumpWritten.{stretch, call_stretch}
-use Rattle.bufr_text.proofs.DumpLemmas.{front-none, WritesFront-writes}
+use Rattle.bufr_text.proofs.DumpLemmas.{prefix-none, WritesFront-writes}
 use Rattle.bufr_text.proofs.ShowingLemmas.{dump-stop-head, dump-stop-middle, dump-end, dump-writes}
 use Rattle.bufr_text.proofs.dump.write_dump_by.Goals as goal
 
@@ -11,7 +11,7 @@ pub returns-in_err-line-clause-lines : goal.returns-in_err-line-clause-lines
 returns-in_err-line-clause-lines g c = λ values read.
     let p = err_from_is_err_and c.from_residual.result c.from_residual.ensures.1 in
     dump-stop-head (g.W.Sink.taken c.args.w.now) (g.W.Sink.taken c.args.w.now) (stretch 0 (text_of_lines (head_lines c.args.message.now))) (stretch (turns_shown c.args.reading.now values) (codes "end\n")) (map call_stretch (calls_of c.args.reading.now values)) (turns_shown c.args.reading.now values)
-    c.from_residual.result p.0 c.new.result p.1 (front-none (g.W.Sink.taken c.args.w.now) (text_of_lines (head_lines c.args.message.now))) c.new.ensures
+    c.from_residual.result p.0 c.new.result p.1 (prefix-none (g.W.Sink.taken c.args.w.now) (text_of_lines (head_lines c.args.message.now))) c.new.ensures
 
 pub returns-in_err-write_head_lines-clause-lines : goal.returns-in_err-write_head_lines-clause-lines
 returns-in_err-write_head_lines-clause-lines g c = λ values read.

@@ -19,6 +19,6 @@ returns c =
     let l = c.places in
     let last : l.place ≡ c.args.places = omega arith in
     record {
-      laid = fraction_done c.args.places l.place l.left (drop (c.args.end - c.args.places) l.line) _ last (omega (arith, l.auto.left-fits))
+      written = fraction_done c.args.places l.place l.left (drop (c.args.end - c.args.places) l.line) _ last (omega (arith, l.auto.left-fits))
           (ap (λ k. zero_padded (c.args.places + 1 - l.place) l.left ++ drop (c.args.end - k) l.line) (sym last) ∙ l.invariant);
     }

@@ -11,7 +11,7 @@ octets-init c =
       omega (arith, first, room),
       omega (arith, first),
       omega (arith, first),
-      quoted-none c.args.octets.now _ _ _ refl c.lay_text-start.ensures.laid,
+      quoted-none c.args.octets.now _ _ _ refl c.lay_text-start.ensures.written,
     )
 
 pub octets-preserved : goal.octets-preserved
@@ -25,5 +25,5 @@ octets-preserved c =
       omega (arith, most),
       omega (arith, start),
       omega (arith, most),
-      quoted-more c.args.octets.now _ _ _ (l.left - 1) (omega arith) (so.4 ∙ ap (λ k. quoted (drop k c.args.octets.now) ++ drop c.args.end c.args.line.now) (sym on)) c.lay_octet-start.ensures.laid,
+      quoted-more c.args.octets.now _ _ _ (l.left - 1) (omega arith) (so.4 ∙ ap (λ k. quoted (drop k c.args.octets.now) ++ drop c.args.end c.args.line.now) (sym on)) c.lay_octet-start.ensures.written,
     )

@@ -27,10 +27,10 @@ returns-in-Ok-clause-seen c =
     let bits = bits_of (octets_of c.args.bits.now) in
     let all = bits_length (octets_of c.args.bits.now) in
     let wide : c.from-width.result ≡ c.args.spec.now.width = c.from-width.ensures ∙ c.width.ensures.value in
-    seen_here bits c.args.at c.args.subsets c.args.spec.now (record { told = c.in-Ok.told; step = c.number_at-k.result; base = c.number_there.result; end = c.args.at + (c.from-width.result + 6 + c.from.result * c.from-2.result) }) (c.from-width.result + 6 + c.from.result * c.from-2.result) c.width.ensures.some refl
+    seen_here bits c.args.at c.args.subsets c.args.spec.now (record { answers = c.in-Ok.answer; step = c.number_at-k.result; base = c.number_there.result; end = c.args.at + (c.from-width.result + 6 + c.from.result * c.from-2.result) }) (c.from-width.result + 6 + c.from.result * c.from-2.result) c.width.ensures.some refl
     (omega (arith, all, c.len_bits.ensures, c.if-left-size.false, c.requires.within))
     (c.number_at-k.ensures.value ∙ ap (λ w. number_of (take 6 (drop (c.args.at + w) bits))) wide)
-    (size_same _ _ _ _ _ _ wide c.from.ensures (c.from-2.ensures ∙ c.increment_bits_of.ensures.value)) c.in-Ok.ensures.told c.number_there.ensures
+    (size_same _ _ _ _ _ _ wide c.from.ensures (c.from-2.ensures ∙ c.increment_bits_of.ensures.value)) c.in-Ok.ensures.answer c.number_there.ensures
 
 pub returns-in-Err-clause-seen : goal.returns-in-Err-clause-seen
 returns-in-Err-clause-seen c =
@@ -40,4 +40,4 @@ returns-in-Err-clause-seen c =
     unseen_here bits c.args.at c.args.subsets c.args.spec.now c.number_at-k.result (c.from-width.result + 6 + c.from.result * c.from-2.result) _
     (omega (arith, all, c.len_bits.ensures, c.if-left-size.false, c.requires.within))
     (c.number_at-k.ensures.value ∙ ap (λ w. number_of (take 6 (drop (c.args.at + w) bits))) wide)
-    (size_same _ _ _ _ _ _ wide c.from.ensures (c.from-2.ensures ∙ c.increment_bits_of.ensures.value)) c.in-Err.ensures.told
+    (size_same _ _ _ _ _ _ wide c.from.ensures (c.from-2.ensures ∙ c.increment_bits_of.ensures.value)) c.in-Err.ensures.answer

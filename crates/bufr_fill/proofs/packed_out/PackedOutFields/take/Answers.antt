@@ -42,7 +42,7 @@ invariant_of-self c =
 
 pub returns-in-Ok-clause-step : goal.returns-in-Ok-clause-step
 returns-in-Ok-clause-step c = record {
-  put = subst (λ (s : PackedOutModel). IsPutAcross s.bits c.pack_next.new.out c.args.spec.now (item_row s.place s.subsets) c.in-Ok.told) c.self.view_is c.in-Ok.ensures.put.put;
+  put = subst (λ (s : PackedOutModel). IsPutAcross s.bits c.pack_next.new.out c.args.spec.now (item_row s.place s.subsets) c.in-Ok.answer) c.self.view_is c.in-Ok.ensures.put.put;
   place = ap (λ (s : PackedOutModel). s.place + 1) c.self.view_is;
   subsets = ap (λ (s : PackedOutModel). s.subsets) c.self.view_is;
 }

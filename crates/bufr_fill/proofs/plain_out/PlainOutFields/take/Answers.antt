@@ -15,7 +15,7 @@ invariant_of-self c =
 pub returns-in-Ok-push_drawn-clause-step : goal.returns-in-Ok-push_drawn-clause-step
 returns-in-Ok-push_drawn-clause-step c =
     filled_here c.self.inside.entries.now c.self.inside.place c.in-Some-Item.item c.args.spec.now c.in-Ok.drawn c.taken_of.result c.self.inside.out c.push_drawn.new.out c.args.self.now
-    c.self.view_is (sym c.in-Some-Item.ensures ∙ ap (λ e. Some (entry_in e)) c.in-Some-Item.field-0-is) (sym (ap (drawn_told _) c.in-Ok.is) ∙ c.field_content.ensures.is) c.taken_of.ensures.tells c.in-Ok-push_drawn.ensures.ok c.in-Ok-push_drawn.ensures.some
+    c.self.view_is (sym c.in-Some-Item.ensures ∙ ap (λ e. Some (entry_in e)) c.in-Some-Item.field-0-is) (sym (ap (drawn_told _) c.in-Ok.is) ∙ c.field_content.ensures.is) c.taken_of.ensures.gives c.in-Ok-push_drawn.ensures.ok c.in-Ok-push_drawn.ensures.some
 
 pub returns-in-Some-End-clause-step : goal.returns-in-Some-End-clause-step
 returns-in-Some-End-clause-step c =

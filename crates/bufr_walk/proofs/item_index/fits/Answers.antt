@@ -3,7 +3,7 @@ use denote.Enum.Bare.{same_true}
 use Rattle.bufr_tables.specs.contracts.kind.Kind as kind
 use Rattle.bufr_walk.specs.contracts.spec.Role as role
 use Rattle.bufr_walk.proofs.KeptItemsLemmas.{same_field, stands_there}
-use Rattle.bufr_walk.proofs.item_index.stands.Goals as goal
+use Rattle.bufr_walk.proofs.item_index.fits.Goals as goal
 
 pub returns-then-place-specs : goal.returns-then-place-specs
 returns-then-place-specs c h =
